@@ -17,7 +17,7 @@ use Rattle.mm_spec.specs.Opened.{counted}
 use Rattle.mm_spec.specs.declared.Fault.{Fault}
 use Rattle.mm_spec.specs.declared.Word.{Word}
 use Rattle.mm_spec.proofs.OpenedLaw.{counted_got, counted_then, counted_length}
-use Rattle.mm_outline.specs.Parts.{AreWithin, HasEnd, IsOutline, as_tokens, between, made, nth_word}
+use Rattle.mm_outline.specs.Parts.{AreWithin, HasEnd, IsOutline, as_tokens, between, statement_between, nth_word}
 use Rattle.mm_outline.specs.Parts.{statement_of, token_of}
 use Rattle.mm_outline.specs.Statements.{statements}
 use Rattle.mm_outline.specs.declared.parts.Kind.{Kind}
@@ -35,7 +35,7 @@ use Rattle.mm_database.proofs.KindsLaw.{theorem_at}
 module _ (text : List ℕ) (ws : List Word) where
   label_made : (o : Kind) (k m e : ℕ)
       → as_tokens text (label_word ws (record { kind = o; keyword = k; middle = m; end = e }))
-      ≡ label_tokens (made text ws o k m e)
+      ≡ label_tokens (statement_between text ws o k m e)
   label_made kind.Theorem k m e = refl
   label_made kind.Open k m e = refl
   label_made kind.Close k m e = refl
@@ -51,7 +51,7 @@ module _ (text : List ℕ) (ws : List Word) where
       let n : e - (m + 1) ≡ 0 = omega arith in ap (λ n. as_tokens text (take n (drop (m + 1) ws))) n
 
   proof_made : (o : Kind) (k m e : ℕ) → HasEnd o k m e
-      → between text ws (m + 1) e ≡ proof_of (made text ws o k m e)
+      → between text ws (m + 1) e ≡ proof_of (statement_between text ws o k m e)
   proof_made kind.Theorem k m e h = refl
   proof_made kind.Open k m e h = none_between m e h.1
   proof_made kind.Close k m e h = none_between m e h.1
@@ -63,7 +63,7 @@ module _ (text : List ℕ) (ws : List Word) where
   proof_made kind.Axiom k m e h = none_between m e h
 
   last_made : (o : Kind) (k m e : ℕ) → HasEnd o k m e
-      → (nth_word ws e).start ≡ last_place (made text ws o k m e)
+      → (nth_word ws e).start ≡ last_place (statement_between text ws o k m e)
   last_made kind.Theorem k m e h = refl
   last_made kind.Open k m e h = ap (λ i. (nth_word ws i).start) (sym (h.0 ∙ h.1))
   last_made kind.Close k m e h = ap (λ i. (nth_word ws i).start) (sym (h.0 ∙ h.1))

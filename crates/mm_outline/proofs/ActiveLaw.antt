@@ -9,12 +9,12 @@ use Rattle.mm_spec.specs.declared.Word.{Word}
 use Rattle.mm_outline.specs.declared.parts.Kind.{Kind}
 use Rattle.mm_outline.specs.declared.parts.Kind.TheVariants as kind
 use Rattle.mm_outline.specs.declared.parts.Outline.{Outline}
-use Rattle.mm_outline.specs.Parts.{statement_of, made}
+use Rattle.mm_outline.specs.Parts.{statement_of, statement_between}
 use Rattle.mm_outline.specs.Blocks.{BlockLists, IsBlocks, end_of}
 use Rattle.mm_outline.specs.Statements.{statements, active_kind}
 
 kind_is : (text : List ℕ) (ws : List Word) (k : Kind) (w m e : ℕ) (b : Bool)
-    → active_kind k b ≡ is_active_kind (made text ws k w m e) b
+    → active_kind k b ≡ is_active_kind (statement_between text ws k w m e) b
 kind_is text ws kind.Constants w m e b = refl
 kind_is text ws kind.Axiom w m e b = refl
 kind_is text ws kind.Theorem w m e b = refl
@@ -35,17 +35,17 @@ pub active_is : (text : List ℕ) (ws : List Word) (os : List Outline) (b : Bloc
     → IsBlocks (statements text ws os) b → (j k : ℕ) → j < length os → k ≤ length os → (d : Outline)
     → (nat_lt j k && active_kind (get_or os j d).kind (nat_le k (end_of b j)))
     ≡ is_active (statements text ws os) j k
-active_is text ws os b x j k h l d = by (cases_lt j k)
+active_is text ws os b x j k h l d = by_order (cases_lt j k)
   where
-    by : (j < k) ⊎ (k ≤ j)
+    by_order : (j < k) ⊎ (k ≤ j)
         → (nat_lt j k && active_kind (get_or os j d).kind (nat_le k (end_of b j)))
         ≡ is_active (statements text ws os) j k
-    by (inr n) =
+    by_order (inr n) =
         ap (λ t. t && active_kind (get_or os j d).kind (nat_le k (end_of b j))) (le-ltb j k n)
         ∙ sym (ap
         (λ t. t && is_active_some (slice_get (statements text ws os) j)
         (stays (statements text ws os) j k)) (le-ltb j k n))
-    by (inl n) =
+    by_order (inl n) =
         let o = get_or os j d in
         ap (λ t. nat_lt j k && t)
         (kind_is text ws o.kind o.keyword o.middle o.end (nat_le k (end_of b j))

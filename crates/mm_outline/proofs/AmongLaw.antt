@@ -22,9 +22,9 @@ module _ (db : List Statement) (f : Statement → List Bytes) (w : Bytes) where
       → is_in w (flat_map f (flat_map (statement_at db) (filter p (range_with_len a n))))
       ≡ list_any (λ j. p j && has_word db f w j) (range_with_len a n)
   among_active p zero a = refl
-  among_active p (suc n) a = by (p a) (among_active p n (a + 1))
+  among_active p (suc n) a = by_test (p a) (among_active p n (a + 1))
     where
-      by : (b : Bool)
+      by_test : (b : Bool)
           → is_in w (flat_map f (flat_map (statement_at db) (filter p (range_with_len (a + 1) n))))
           ≡ list_any (λ j. p j && has_word db f w j) (range_with_len (a + 1) n)
           → is_in w
@@ -33,14 +33,14 @@ module _ (db : List Statement) (f : Statement → List Bytes) (w : Bytes) where
           (cond b (a ∷ filter p (range_with_len (a + 1) n)) (filter p (range_with_len (a + 1) n)))))
           ≡ ((b && has_word db f w a)
           || list_any (λ j. p j && has_word db f w j) (range_with_len (a + 1) n))
-      by true r =
+      by_test true r =
           ap (is_in w)
           (flat_map-append f (statement_at db a)
           (flat_map (statement_at db) (filter p (range_with_len (a + 1) n))))
           ∙ list_any-append _ (flat_map f (statement_at db a))
           (flat_map f (flat_map (statement_at db) (filter p (range_with_len (a + 1) n))))
           ∙ ap (λ b. has_word db f w a || b) r
-      by false r = r
+      by_test false r = r
 
 any_map : (w : Bytes) (ts : List Typing)
     → list_any (λ t. bytes_eq w t.variable) ts ≡ is_in w (map (λ t. t.variable) ts)

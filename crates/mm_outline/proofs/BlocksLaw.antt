@@ -12,7 +12,7 @@ use Rattle.mm_spec.specs.Statement.{Statement, is_opening, is_closing}
 use Rattle.mm_spec.specs.Scope.{depth, stays}
 use Rattle.mm_spec.proofs.ActivityLaw.{stays_more}
 use Rattle.mm_spec.proofs.ShapeLaw.{count_end}
-use Rattle.mm_outline.specs.Blocks.{BlockLists, block_lists, never, top, end_of}
+use Rattle.mm_outline.specs.Blocks.{BlockLists, block_lists, never, innermost, end_of}
 use Rattle.mm_outline.specs.Blocks.{IsBlocks}
 
 -- ---- what stays the same after one statement more
@@ -86,36 +86,36 @@ module _ (db : List Statement) (s : Statement) where
 module _ (db : List Statement) (s : Statement) (b : BlockLists) (x : IsBlocks db b)
     (few : length db < never) where
   t : ℕ
-  t = top b.open_blocks
+  t = innermost b.open_blocks
 
   abbrev of_more : List ℕ
-  of_more = b.of ++ top b.open_blocks ∷ []
+  of_more = b.of ++ innermost b.open_blocks ∷ []
 
   of_front : (j : ℕ) → j < length db → get_or of_more j 0 ≡ get_or b.of j 0
   of_front j h =
-      get_or_append_left b.of (top b.open_blocks ∷ []) 0 j (let c = x.count in omega (arith, c, h))
+      get_or_append_left b.of (innermost b.open_blocks ∷ []) 0 j (let c = x.count in omega (arith, c, h))
 
-  of_last : get_or of_more (length db) 0 ≡ top b.open_blocks
+  of_last : get_or of_more (length db) 0 ≡ innermost b.open_blocks
   of_last =
-      subst (λ n. get_or of_more n 0 ≡ top b.open_blocks) x.count
-      (get_or-append_seam b.of (top b.open_blocks) [] 0)
+      subst (λ n. get_or of_more n 0 ≡ innermost b.open_blocks) x.count
+      (get_or-append_seam b.of (innermost b.open_blocks) [] 0)
 
   -- where a statement is: an old one or the new one
   either : {P : ℕ → Type 0} (j : ℕ) → j < length (more db s) → ((i : ℕ) → i < length db → P i)
       → P (length db) → P j
-  either {P = P} j h old new = by (cases_lt j (length db))
+  either {P = P} j h old new = by_order (cases_lt j (length db))
     where
-      by : (j < length db) ⊎ (length db ≤ j) → P j
-      by (inl l) = old j l
-      by (inr l) = let e : length db ≡ j = omega (arith, length_more db s) in subst P e new
+      by_order : (j < length db) ⊎ (length db ≤ j) → P j
+      by_order (inl l) = old j l
+      by_order (inr l) = let e : length db ≡ j = omega (arith, length_more db s) in subst P e new
 
-  top_opened : top b.open_blocks < length b.ends
+  top_opened : innermost b.open_blocks < length b.ends
   top_opened = let k = x.stack in x.opened (length b.open_blocks - 1) (omega (arith, k))
 
-  top_still : get_or b.ends (top b.open_blocks) 0 ≡ never
+  top_still : get_or b.ends (innermost b.open_blocks) 0 ≡ never
   top_still = let k = x.stack in x.still (length b.open_blocks - 1) (omega (arith, k))
 
-  top_at : top b.open_blocks ≡ get_or b.open_blocks (depth db (length db)) 0
+  top_at : innermost b.open_blocks ≡ get_or b.open_blocks (depth db (length db)) 0
   top_at =
       let k = x.stack in
       let e : length b.open_blocks - 1 ≡ depth db (length db) = omega (arith, k) in
@@ -147,14 +147,14 @@ module _ (db : List Statement) (s : Statement) (b : BlockLists) (x : IsBlocks db
       still : (l : ℕ) → l < length opens → get_or ends (get_or opens l 0) 0 ≡ never
       rising : (l m : ℕ) → l < m → m < length opens → get_or opens l 0 < get_or opens m 0
       becomes : (j : ℕ) → j < length db → Becomes j
-      new : IsOpen (top b.open_blocks) (depth db (length db))
-          ⊎ IsClosed (top b.open_blocks) (depth db (length db))
+      new : IsOpen (innermost b.open_blocks) (depth db (length db))
+          ⊎ IsClosed (innermost b.open_blocks) (depth db (length db))
 
     grown : Grows → IsBlocks (more db s) (block_lists of_more ends opens)
     grown g = record {
       count =
           let c = x.count in
-          omega (arith, c, length_more db s, length-append b.of (top b.open_blocks ∷ []));
+          omega (arith, c, length_more db s, length-append b.of (innermost b.open_blocks ∷ []));
       few = let m = g.few-more in omega (arith, m, length_more db s);
       nested = g.nested;
       stack = rw (length_more db s) g.stack;
@@ -181,8 +181,8 @@ module _ (db : List Statement) (s : Statement) (b : BlockLists) (x : IsBlocks db
         n : ℕ
         n = length db
 
-        at-new : IsOpen (top b.open_blocks) (depth db (length db))
-            ⊎ IsClosed (top b.open_blocks) (depth db (length db))
+        at-new : IsOpen (innermost b.open_blocks) (depth db (length db))
+            ⊎ IsClosed (innermost b.open_blocks) (depth db (length db))
             → get_or ends (get_or of_more (length db) 0) 0 ≡ never
             → (depth (more db s) (length db) ≤ depth (more db s) (length (more db s)))
             × (get_or opens (depth (more db s) (length db)) 0 ≡ get_or of_more (length db) 0)
@@ -190,25 +190,25 @@ module _ (db : List Statement) (s : Statement) (b : BlockLists) (x : IsBlocks db
             rw (length_more db s, depth_front db s (length db) (le_refl (length db)), of_last)
             (o.1, o.2)
         at-new (inr c) e =
-            absurd (let f : get_or ends (top b.open_blocks) 0
+            absurd (let f : get_or ends (innermost b.open_blocks) 0
             ≡ never = ap (λ k. get_or ends k 0) (sym of_last) ∙ e in omega (arith, f, c.0, few))
 
         at-old : (j : ℕ) → j < length db → get_or ends (get_or of_more j 0) 0 ≡ never
             → (depth (more db s) j ≤ depth (more db s) (length (more db s)))
             × (get_or opens (depth (more db s) j) 0 ≡ get_or of_more j 0)
-        at-old j h e = by (g.becomes j h) (ap (λ k. get_or ends k 0) (sym (of_front j h)) ∙ e)
+        at-old j h e = by_becomes (g.becomes j h) (ap (λ k. get_or ends k 0) (sym (of_front j h)) ∙ e)
           where
-            by : Becomes j → get_or ends (get_or b.of j 0) 0 ≡ never
+            by_becomes : Becomes j → get_or ends (get_or b.of j 0) 0 ≡ never
                 → (depth (more db s) j ≤ depth (more db s) (length (more db s)))
                 × (get_or opens (depth (more db s) j) 0 ≡ get_or of_more j 0)
-            by (inl (f, inl o)) e =
+            by_becomes (inl (f, inl o)) e =
                 rw (length_more db s, depth_front db s j (omega (arith, h)), of_front j h)
                 (o.1, o.2)
-            by (inl (f, inr c)) e = absurd (omega (arith, c.0, few, e))
-            by (inr p) e = absurd (omega (arith, p.0, p.1, few, e))
+            by_becomes (inl (f, inr c)) e = absurd (omega (arith, c.0, few, e))
+            by_becomes (inr p) e = absurd (omega (arith, p.0, p.1, few, e))
 
-        bounds-new : IsOpen (top b.open_blocks) (depth db (length db))
-            ⊎ IsClosed (top b.open_blocks) (depth db (length db))
+        bounds-new : IsOpen (innermost b.open_blocks) (depth db (length db))
+            ⊎ IsClosed (innermost b.open_blocks) (depth db (length db))
             → (get_or ends (get_or of_more (length db) 0) 0 ≡ never)
             ⊎ (get_or ends (get_or of_more (length db) 0) 0 < length (more db s))
         bounds-new (inl o) = inl (ap (λ k. get_or ends k 0) of_last ∙ o.0)
@@ -217,18 +217,18 @@ module _ (db : List Statement) (s : Statement) (b : BlockLists) (x : IsBlocks db
         bounds-old : (j : ℕ) → j < length db
             → (get_or ends (get_or of_more j 0) 0 ≡ never)
             ⊎ (get_or ends (get_or of_more j 0) 0 < length (more db s))
-        bounds-old j h = by (g.becomes j h)
+        bounds-old j h = by_becomes (g.becomes j h)
           where
-            by : Becomes j
+            by_becomes : Becomes j
                 → (get_or ends (get_or of_more j 0) 0 ≡ never)
                 ⊎ (get_or ends (get_or of_more j 0) 0 < length (more db s))
-            by (inl (f, inl o)) = inl (ap (λ k. get_or ends k 0) (of_front j h) ∙ o.0)
-            by (inl (f, inr c)) = inr (rw (of_front j h) (omega (arith, c.0, length_more db s)))
-            by (inr p) = inr (rw (of_front j h) (omega (arith, p.0, p.1, length_more db s)))
+            by_becomes (inl (f, inl o)) = inl (ap (λ k. get_or ends k 0) (of_front j h) ∙ o.0)
+            by_becomes (inl (f, inr c)) = inr (rw (of_front j h) (omega (arith, c.0, length_more db s)))
+            by_becomes (inr p) = inr (rw (of_front j h) (omega (arith, p.0, p.1, length_more db s)))
 
         ended : (j k : ℕ) → j < k → k ≤ length (more db s)
             → stays (more db s) j k ≡ nat_le k (end_of (block_lists of_more ends opens) j)
-        ended j k h l = by (cases_lt (length db) k)
+        ended j k h l = by_order (cases_lt (length db) k)
           where
             old : j < length db → k ≤ length db → Becomes j
                 → nat_le k (end_of b j) ≡ nat_le k (get_or ends (get_or b.of j 0) 0)
@@ -263,17 +263,17 @@ module _ (db : List Statement) (s : Statement) (b : BlockLists) (x : IsBlocks db
                 ∙ sym (lt-leb (length db + 1) (get_or ends (get_or b.of j 0) 0)
                 (omega (arith, p.0, p.1)))
 
-            fresh : IsOpen (top b.open_blocks) (depth db (length db))
-                ⊎ IsClosed (top b.open_blocks) (depth db (length db))
+            fresh : IsOpen (innermost b.open_blocks) (depth db (length db))
+                ⊎ IsClosed (innermost b.open_blocks) (depth db (length db))
                 → nat_le (depth db (length db)) (depth (more db s) (length db + 1))
-                ≡ nat_le (length db + 1) (get_or ends (top b.open_blocks) 0)
+                ≡ nat_le (length db + 1) (get_or ends (innermost b.open_blocks) 0)
             fresh (inl o) =
                 le-leb (depth db (length db)) (depth (more db s) (length db + 1)) o.1
-                ∙ sym (le-leb (length db + 1) (get_or ends (top b.open_blocks) 0)
+                ∙ sym (le-leb (length db + 1) (get_or ends (innermost b.open_blocks) 0)
                 (omega (arith, o.0, few)))
             fresh (inr c) =
                 lt-leb (depth db (length db)) (depth (more db s) (length db + 1)) c.1
-                ∙ sym (lt-leb (length db + 1) (get_or ends (top b.open_blocks) 0)
+                ∙ sym (lt-leb (length db + 1) (get_or ends (innermost b.open_blocks) 0)
                 (omega (arith, c.0)))
 
             at-last : (j < length db) ⊎ (length db ≤ j) → k ≡ length db + 1
@@ -289,14 +289,14 @@ module _ (db : List Statement) (s : Statement) (b : BlockLists) (x : IsBlocks db
                 (stays_new db s ∙ fresh g.new
                 ∙ ap (λ q. nat_le (length db + 1) (get_or ends q 0)) (sym of_last))
 
-            by : (length db < k) ⊎ (k ≤ length db)
+            by_order : (length db < k) ⊎ (k ≤ length db)
                 → stays (more db s) j k ≡ nat_le k (end_of (block_lists of_more ends opens) j)
-            by (inl m) =
+            by_order (inl m) =
                 let e : k ≡ length db + 1 = omega (arith, l, m, length_more db s) in
                 subst
                 (λ k. stays (more db s) j k ≡ nat_le k (end_of (block_lists of_more ends opens) j))
                 (sym e) (at-last (cases_lt j (length db)) e)
-            by (inr m) =
+            by_order (inr m) =
                 let i : j < length db = omega arith in
                 stays_front db s j k h m ∙ x.ended j k h m ∙ old i m (g.becomes j i)
                 ∙ ap (λ q. nat_le k (get_or ends q 0)) (sym (of_front j i))
@@ -337,7 +337,7 @@ module _ (db : List Statement) (s : Statement) (b : BlockLists) (x : IsBlocks db
   )
 
   pub blocks_plain : is_opening s ≡ false → is_closing s ≡ false
-      → IsBlocks (db ++ s ∷ []) (block_lists (b.of ++ top b.open_blocks ∷ []) b.ends b.open_blocks)
+      → IsBlocks (db ++ s ∷ []) (block_lists (b.of ++ innermost b.open_blocks ∷ []) b.ends b.open_blocks)
   blocks_plain o c =
       let d = depth_plain o c in
       let m = brackets_counted false false o c in
@@ -349,20 +349,20 @@ module _ (db : List Statement) (s : Statement) (b : BlockLists) (x : IsBlocks db
         opened = x.opened;
         still = x.still;
         rising = x.rising;
-        becomes = λ j h. by j h (x.bounds j h);
+        becomes = λ j h. by_end j h (x.bounds j h);
         new = inl (top_still, omega (arith, d), sym top_at);
       })
     where
-      by : (j : ℕ) → j < length db → (end_of b j ≡ never) ⊎ (end_of b j < length db)
+      by_end : (j : ℕ) → j < length db → (end_of b j ≡ never) ⊎ (end_of b j < length db)
           → Becomes b.ends b.open_blocks j
-      by j h (inl e) =
+      by_end j h (inl e) =
           let y = x.at j h e in
           inl (e, inl (e, let l = y.0 in let d = depth_plain o c in omega (arith, d, l), y.1))
-      by j h (inr l) = inr (l, refl)
+      by_end j h (inr l) = inr (l, refl)
 
   pub blocks_opening : is_opening s ≡ true → is_closing s ≡ false
       → IsBlocks (db ++ s ∷ [])
-      (block_lists (b.of ++ top b.open_blocks ∷ []) (b.ends ++ never ∷ [])
+      (block_lists (b.of ++ innermost b.open_blocks ∷ []) (b.ends ++ never ∷ [])
       (b.open_blocks ++ length b.ends ∷ []))
   blocks_opening o c =
       let d = depth_opening o c in
@@ -382,10 +382,10 @@ module _ (db : List Statement) (s : Statement) (b : BlockLists) (x : IsBlocks db
             (λ i. ends-front (get_or b.open_blocks l 0) (x.opened l i) ∙ x.still l i)
             (get_or-append_seam b.ends never [] 0);
         rising = rising;
-        becomes = λ j h. by j h (x.bounds j h);
+        becomes = λ j h. by_end j h (x.bounds j h);
         new =
             inl (
-              ends-front (top b.open_blocks) top_opened
+              ends-front (innermost b.open_blocks) top_opened
                   ∙ top_still,
               omega (arith, d),
               opens-front (depth db (length db))
@@ -414,12 +414,12 @@ module _ (db : List Statement) (s : Statement) (b : BlockLists) (x : IsBlocks db
       one_of : (P : ℕ → Type 0) (l : ℕ) → l < length (b.open_blocks ++ length b.ends ∷ [])
           → (l < length b.open_blocks → P (get_or b.open_blocks l 0)) → P (length b.ends)
           → P (get_or (b.open_blocks ++ length b.ends ∷ []) l 0)
-      one_of P l h old new = go (cases_lt l (length b.open_blocks))
+      one_of P l h old new = by_order (cases_lt l (length b.open_blocks))
         where
-          go : (l < length b.open_blocks) ⊎ (length b.open_blocks ≤ l)
+          by_order : (l < length b.open_blocks) ⊎ (length b.open_blocks ≤ l)
               → P (get_or (b.open_blocks ++ length b.ends ∷ []) l 0)
-          go (inl i) = subst P (sym (opens-front l i)) (old i)
-          go (inr i) =
+          by_order (inl i) = subst P (sym (opens-front l i)) (old i)
+          by_order (inr i) =
               let e : length b.open_blocks ≡ l =
               omega (arith, h, length-append b.open_blocks (length b.ends ∷ [])) in
               subst P (sym
@@ -435,9 +435,9 @@ module _ (db : List Statement) (s : Statement) (b : BlockLists) (x : IsBlocks db
           one_of (λ q. get_or (b.open_blocks ++ length b.ends ∷ []) l 0 < q) m k
           (λ j. rw (opens-front l i) (x.rising l m h j)) (rw (opens-front l i) (x.opened l i))
 
-      by : (j : ℕ) → j < length db → (end_of b j ≡ never) ⊎ (end_of b j < length db)
+      by_end : (j : ℕ) → j < length db → (end_of b j ≡ never) ⊎ (end_of b j < length db)
           → Becomes ends opens j
-      by j h (inl e) =
+      by_end j h (inl e) =
           let y = x.at j h e in
           let d = depth_opening o c in
           let k = x.stack in
@@ -451,11 +451,11 @@ module _ (db : List Statement) (s : Statement) (b : BlockLists) (x : IsBlocks db
               opens-front (depth db j) (omega (arith, k, l)) ∙ y.1,
             ),
           )
-      by j h (inr l) = inr (l, ends-front (get_or b.of j 0) (x.known j h))
+      by_end j h (inr l) = inr (l, ends-front (get_or b.of j 0) (x.known j h))
 
   pub blocks_closing : is_opening s ≡ false → is_closing s ≡ true → 0 < depth db (length db)
       → IsBlocks (db ++ s ∷ [])
-      (block_lists (b.of ++ top b.open_blocks ∷ []) (set b.ends (top b.open_blocks) (length b.of))
+      (block_lists (b.of ++ innermost b.open_blocks ∷ []) (set b.ends (innermost b.open_blocks) (length b.of))
       (take (length b.open_blocks - 1) b.open_blocks))
   blocks_closing o c deep =
       let d = depth_closing o c in
@@ -464,34 +464,34 @@ module _ (db : List Statement) (s : Statement) (b : BlockLists) (x : IsBlocks db
       grown ends opens (record {
         nested = let e = depth_end db s in omega (arith, m.0, m.1, e, deep);
         stack = omega (arith, k, d, shorter, deep);
-        longer = omega (arith, length-set b.ends (top b.open_blocks) (length b.of));
+        longer = omega (arith, length-set b.ends (innermost b.open_blocks) (length b.of));
         few-more =
-            let m = x.few in omega (arith, m, length-set b.ends (top b.open_blocks) (length b.of));
+            let m = x.few in omega (arith, m, length-set b.ends (innermost b.open_blocks) (length b.of));
         opened =
             λ l h. let i : l < length b.open_blocks = omega (arith, h, shorter) in
             rw (opens-front l h)
             (let z = x.opened l i in
-            omega (arith, z, length-set b.ends (top b.open_blocks) (length b.of)));
+            omega (arith, z, length-set b.ends (innermost b.open_blocks) (length b.of)));
         still =
             λ l h. let i : l < length b.open_blocks = omega (arith, h, shorter) in
             ap (λ q. get_or ends q 0) (opens-front l h)
-            ∙ get_or-set_other b.ends (top b.open_blocks) (get_or b.open_blocks l 0) (length b.of) 0
+            ∙ get_or-set_other b.ends (innermost b.open_blocks) (get_or b.open_blocks l 0) (length b.of) 0
             (other l h)
             ∙ x.still l i;
         rising =
             λ l q h i. let j : l < length opens = omega (arith, h, i) in
             rw (opens-front l j, opens-front q i) (x.rising l q h (omega (arith, i, shorter)));
-        becomes = λ j h. by j h (x.bounds j h);
+        becomes = λ j h. by_end j h (x.bounds j h);
         new =
             inr (
-              get_or-set_same b.ends (top b.open_blocks) (length b.of) 0 top_opened
+              get_or-set_same b.ends (innermost b.open_blocks) (length b.of) 0 top_opened
                   ∙ x.count,
               omega (arith, d, deep),
             );
       })
     where
       ends : List ℕ
-      ends = set b.ends (top b.open_blocks) (length b.of)
+      ends = set b.ends (innermost b.open_blocks) (length b.of)
 
       opens : List ℕ
       opens = take (length b.open_blocks - 1) b.open_blocks
@@ -505,25 +505,25 @@ module _ (db : List Statement) (s : Statement) (b : BlockLists) (x : IsBlocks db
           get_or-take (length b.open_blocks - 1) b.open_blocks l 0 (omega (arith, h, shorter))
 
       other : (l : ℕ) → l < length (take (length b.open_blocks - 1) b.open_blocks)
-          → get_or b.open_blocks l 0 ≢ top b.open_blocks
+          → get_or b.open_blocks l 0 ≢ innermost b.open_blocks
       other l h e =
           let r = x.rising l (length b.open_blocks - 1) (omega (arith, h, shorter))
           (let k = x.stack in omega (arith, k)) in
           omega (arith, r, e)
 
-      by : (j : ℕ) → j < length db → (end_of b j ≡ never) ⊎ (end_of b j < length db)
+      by_end : (j : ℕ) → j < length db → (end_of b j ≡ never) ⊎ (end_of b j < length db)
           → Becomes ends opens j
-      by j h (inl e) = go (cases_eq (get_or b.of j 0) (top b.open_blocks)) (x.at j h e)
+      by_end j h (inl e) = by_case (cases_eq (get_or b.of j 0) (innermost b.open_blocks)) (x.at j h e)
         where
-          go : (get_or b.of j 0 ≡ top b.open_blocks) ⊎ (get_or b.of j 0 ≢ top b.open_blocks)
+          by_case : (get_or b.of j 0 ≡ innermost b.open_blocks) ⊎ (get_or b.of j 0 ≢ innermost b.open_blocks)
               → (depth db j ≤ depth db (length db))
               × (get_or b.open_blocks (depth db j) 0 ≡ get_or b.of j 0) → Becomes ends opens j
-          go (inl q) y =
+          by_case (inl q) y =
               inl (
                 e,
                 inr (
                   ap (λ k. get_or ends k 0) q
-                      ∙ get_or-set_same b.ends (top b.open_blocks) (length b.of) 0 top_opened
+                      ∙ get_or-set_same b.ends (innermost b.open_blocks) (length b.of) 0 top_opened
                       ∙ x.count,
                   last (cases_lt (depth db j) (depth db (length db))),
                 ),
@@ -536,7 +536,7 @@ module _ (db : List Statement) (s : Statement) (b : BlockLists) (x : IsBlocks db
                   let r = x.rising (depth db j) (depth db (length db)) l (omega (arith, k)) in
                   omega (arith, r, y.1, q, top_at))
               last (inr l) = let d = depth_closing o c in omega (arith, d, deep, l)
-          go (inr q) y =
+          by_case (inr q) y =
               let k = x.stack in
               let d = depth_closing o c in
               let ne : depth db j ≢ depth db (length db) =
@@ -546,7 +546,7 @@ module _ (db : List Statement) (s : Statement) (b : BlockLists) (x : IsBlocks db
               inl (
                 e,
                 inl (
-                  get_or-set_other b.ends (top b.open_blocks) (get_or b.of j 0) (length b.of) 0 q
+                  get_or-set_other b.ends (innermost b.open_blocks) (get_or b.of j 0) (length b.of) 0 q
                       ∙ e,
                   omega (arith, d, below),
                   opens-front (depth db j)
@@ -554,10 +554,10 @@ module _ (db : List Statement) (s : Statement) (b : BlockLists) (x : IsBlocks db
                       ∙ y.1,
                 ),
               )
-      by j h (inr l) =
+      by_end j h (inr l) =
           inr (
             l,
-            get_or-set_other b.ends (top b.open_blocks) (get_or b.of j 0) (length b.of) 0
+            get_or-set_other b.ends (innermost b.open_blocks) (get_or b.of j 0) (length b.of) 0
                 (λ q. let e : end_of b j ≡ never = ap (λ k. get_or b.ends k 0) q ∙ top_still in
                 omega (arith, e, l, few)),
           )

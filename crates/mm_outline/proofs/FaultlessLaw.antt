@@ -47,7 +47,7 @@ module _ (n : Names) where
       → (is_in v.word n.active_variables ≡ true) × (is_typed n v.word ≡ false)
       × (is_typed_otherwise n c.word v.word ≡ false)
   floating_new keyword c v h =
-      by (is_in c.word n.constants) (is_in v.word n.active_variables) refl h
+      by_is_in (is_in c.word n.constants) (is_in v.word n.active_variables) refl h
     where
       codes : Bool → Bool → List Fault
       codes =
@@ -58,12 +58,12 @@ module _ (n : Names) where
             | false ↦ fault keyword BadFloating ∷ []
           ]
 
-      by : (a b : Bool) → is_in v.word n.active_variables ≡ b → codes a b ≡ []
+      by_is_in : (a b : Bool) → is_in v.word n.active_variables ≡ b → codes a b ≡ []
           → (is_in v.word n.active_variables ≡ true) × (is_typed n v.word ≡ false)
           × (is_typed_otherwise n c.word v.word ≡ false)
-      by false b e h = absurd (cc)
-      by true false e h = absurd (cc)
-      by true true e h =
+      by_is_in false b e h = absurd (cc)
+      by_is_in true false e h = absurd (cc)
+      by_is_in true true e h =
           let none =
           append_none (when (is_typed n v.word) TypedBefore)
           (when (is_typed_otherwise n c.word v.word) OtherTypecode)

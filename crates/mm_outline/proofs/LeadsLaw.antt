@@ -57,12 +57,12 @@ Goes text ws d from part i =
     (tokens_from text ws i)
 
 module _ (text : List ℕ) (ws : List Word) (d from i : ℕ) (part : Part) where
-  abbrev pub Turned : Transition → Type 0
-  Turned o =
+  abbrev pub LeadsOn : Transition → Type 0
+  LeadsOn o =
       o ≡ table.transition (progress text ws d part i) (class (token_at text ws i).word)
       (token_at text ws i)
 
-  pub goes_go : Goes text ws d from part i → i < length ws → (q : Progress) → Turned (table.go q)
+  pub goes_go : Goes text ws d from part i → i < length ws → (q : Progress) → LeadsOn (table.go q)
       → Leads (start d) (tokens_from text ws from) [] q (tokens_from text ws (i + 1))
   goes_go g h q e =
       leads_then g
@@ -70,7 +70,7 @@ module _ (text : List ℕ) (ws : List Word) (d from i : ℕ) (part : Part) where
       (sym (tokens_from_one text ws i h)) (leads_go e))
 
   pub goes_done : Goes text ws d from part i → i < length ws → (s : Statement) (n : ℕ)
-      → Turned (table.done n s)
+      → LeadsOn (table.done n s)
       → Leads (start d) (tokens_from text ws from) (s ∷ []) (start n) (tokens_from text ws (i + 1))
   goes_done g h s n e =
       leads_then g
@@ -78,7 +78,7 @@ module _ (text : List ℕ) (ws : List Word) (d from i : ℕ) (part : Part) where
       (tokens_from text ws (i + 1)))
       (sym (tokens_from_one text ws i h)) (leads_done e))
 
-  pub goes_stop : Goes text ws d from part i → i < length ws → Turned table.stop → (f : Fault)
+  pub goes_stop : Goes text ws d from part i → i < length ws → LeadsOn table.stop → (f : Fault)
       → f ≡ fault (token_at text ws i).at (shape_code (is_start part) (token_at text ws i).word)
       → (statements_from (start d) (tokens_from text ws from) ≡ [])
       × (stop_from (start d) (tokens_from text ws from) ≡ Some f)

@@ -4,8 +4,8 @@ use Rattle.std.proofs.Common.{length, sym, ap, ◌∙◌, subst, arith}
 use Rattle.mm_spec.specs.Text.{has_dollar}
 use Rattle.mm_spec.specs.Laws.Table as table
 use Rattle.mm_spec.specs.declared.Word.{Word}
-use Rattle.mm_outline.specs.Parts.{progress, token_at, IsPart, make, make_proved}
-use Rattle.mm_outline.specs.Parts.{label_before, place}
+use Rattle.mm_outline.specs.Parts.{progress, token_at, IsPartBefore, statement_with, theorem_with}
+use Rattle.mm_outline.specs.Parts.{label_before, start_of}
 use Rattle.mm_outline.specs.NextStatement.{Leads, tokens_from}
 use Rattle.mm_outline.specs.declared.parts.Part.{Part}
 use Rattle.mm_outline.specs.declared.parts.Part.TheVariants.{Start, Labelled, Words, Formula, Proof}
@@ -19,7 +19,7 @@ TakesWords (Labelled l) = ⊥
 TakesWords _ = Unit {0}
 
 -- it stays where it is further on
-pub part_later : (part : Part) (i j : ℕ) → TakesWords part → i ≤ j → IsPart part i → IsPart part j
+pub part_later : (part : Part) (i j : ℕ) → TakesWords part → i ≤ j → IsPartBefore part i → IsPartBefore part j
 part_later Start i j t h p = absurd t
 part_later (Labelled l) i j t h p = absurd t
 part_later (Words k w) i j t h p = (p.0, p.1, omega arith)
@@ -28,7 +28,7 @@ part_later (Proof w e) i j t h p = (p.0, p.1, omega arith)
 
 module _ (text : List ℕ) (ws : List Word) (d : ℕ) where
   -- one plain word
-  one : (part : Part) (i : ℕ) → TakesWords part → IsPart part i → i < length ws
+  one : (part : Part) (i : ℕ) → TakesWords part → IsPartBefore part i → i < length ws
       → has_dollar (token_at text ws i).word ≡ false
       → table.go (progress text ws d part (i + 1))
       ≡ table.transition (progress text ws d part i) (table.class (token_at text ws i).word)
@@ -36,26 +36,26 @@ module _ (text : List ℕ) (ws : List Word) (d : ℕ) where
   one Start i t p h e = absurd t
   one (Labelled l) i t p h e = absurd t
   one (Words k w) i t p h e =
-      ap (λ xs. table.go (table.words d (make text ws k w) xs))
+      ap (λ xs. table.go (table.words d (statement_with text ws k w) xs))
       (between_more text ws (w + 1) i (omega arith) h)
       ∙ ap (λ b. table.transition (progress text ws d (Words k w) i)
       (elim b [ true ↦ table.keyword (token_at text ws i).word | false ↦ table.plain ])
       (token_at text ws i)) (sym e)
   one (Formula w) i t p h e =
-      ap (λ xs. table.go (table.formula d (label_before text ws w) (place text ws w) xs))
+      ap (λ xs. table.go (table.formula d (label_before text ws w) (start_of text ws w) xs))
       (between_more text ws (w + 1) i (omega arith) h)
       ∙ ap (λ b. table.transition (progress text ws d (Formula w) i)
       (elim b [ true ↦ table.keyword (token_at text ws i).word | false ↦ table.plain ])
       (token_at text ws i)) (sym e)
   one (Proof w q) i t p h e =
-      ap (λ xs. table.go (table.words d (make_proved text ws w q) xs))
+      ap (λ xs. table.go (table.words d (theorem_with text ws w q) xs))
       (between_more text ws (q + 1) i (omega arith) h)
       ∙ ap (λ b. table.transition (progress text ws d (Proof w q) i)
       (elim b [ true ↦ table.keyword (token_at text ws i).word | false ↦ table.plain ])
       (token_at text ws i)) (sym e)
 
   -- n plain words
-  pub passed : (part : Part) (n i : ℕ) → TakesWords part → IsPart part i → i + n ≤ length ws
+  pub passed : (part : Part) (n i : ℕ) → TakesWords part → IsPartBefore part i → i + n ≤ length ws
       → ((k : ℕ) → i ≤ k → k < i + n → has_dollar (token_at text ws k).word ≡ false)
       → Leads (progress text ws d part i) (tokens_from text ws i) []
       (progress text ws d part (i + n))
@@ -82,7 +82,7 @@ module _ (text : List ℕ) (ws : List Word) (d : ℕ) where
       (subst (λ us. Leads (progress text ws d part i) us [] (progress text ws d part (i + 1))
       (tokens_from text ws (i + 1))) (sym (tokens_from_one text ws i there)) first) rest)
 
-  pub passed_upto : (part : Part) (i j : ℕ) → TakesWords part → IsPart part i → i ≤ j
+  pub passed_upto : (part : Part) (i j : ℕ) → TakesWords part → IsPartBefore part i → i ≤ j
       → j ≤ length ws → ((k : ℕ) → i ≤ k → k < j → has_dollar (token_at text ws k).word ≡ false)
       → Leads (progress text ws d part i) (tokens_from text ws i) [] (progress text ws d part j)
       (tokens_from text ws j)

@@ -38,24 +38,24 @@ module _ (Q : List Word → List Word → Type 0) (none : (ws : List Word) → Q
   tokens_kept : (text : List ℕ) (c : Option ℕ) (ws : List Word) → Q ws (reading text c ws).tokens
   tokens_kept text c [] = subst (λ r. Q [] r.tokens) (sym (reading_end text c)) (none [])
   tokens_kept text c (w ∷ ws) =
-      by (role_of (is_some c) (bytes_of text w)) refl (λ d. tokens_kept text d ws)
+      by_role (role_of (is_some c) (bytes_of text w)) refl (λ d. tokens_kept text d ws)
     where
-      by : (r : Role) → role_of (is_some c) (bytes_of text w) ≡ r
+      by_role : (r : Role) → role_of (is_some c) (bytes_of text w) ≡ r
           → ((d : Option ℕ) → Q ws (reading text d ws).tokens)
           → Q (w ∷ ws) (reading text c (w ∷ ws)).tokens
-      by Token e rest =
+      by_role Token e rest =
           subst (λ r. Q (w ∷ ws) r.tokens) (sym (reading_one text c w ws e))
           (taken w ws (reading text c ws).tokens (rest c))
-      by Opening e rest =
+      by_role Opening e rest =
           subst (λ r. Q (w ∷ ws) r.tokens) (sym (reading_opening text c w ws e))
           (skipped w ws (reading text (Some w.start) ws).tokens (rest (Some w.start)))
-      by Closing e rest =
+      by_role Closing e rest =
           subst (λ r. Q (w ∷ ws) r.tokens) (sym (reading_closing text c w ws e))
           (skipped w ws (reading text None ws).tokens (rest None))
-      by Comment e rest =
+      by_role Comment e rest =
           subst (λ r. Q (w ∷ ws) r.tokens) (sym (reading_comment text c w ws e))
           (skipped w ws (reading text c ws).tokens (rest c))
-      by Faulty e rest =
+      by_role Faulty e rest =
           subst (λ r. Q (w ∷ ws) r.tokens) (sym (reading_faulty text c w ws e)) (none (w ∷ ws))
 
 -- the tokens are some of the words, in their order
@@ -110,11 +110,11 @@ words_few text =
 -- what holds of the tokens of all texts, by those of the texts that are short
 by_limit : (P : List Word → Type 0) (text : List ℕ) → P []
     → P (reading text None (words_of text)).tokens → P (tokens_of text)
-by_limit P text none some = by (cases_lt text_limit (length text))
+by_limit P text none some = by_order (cases_lt text_limit (length text))
   where
-    by : (text_limit < length text) ⊎ (length text ≤ text_limit) → P (tokens_of text)
-    by (inl h) = subst P (sym (tokens_of_long text h)) none
-    by (inr h) = subst P (sym (tokens_of_read text (reading text None (words_of text)) h refl)) some
+    by_order : (text_limit < length text) ⊎ (length text ≤ text_limit) → P (tokens_of text)
+    by_order (inl h) = subst P (sym (tokens_of_long text h)) none
+    by_order (inr h) = subst P (sym (tokens_of_read text (reading text None (words_of text)) h refl)) some
 
 -- each token is a word of the text
 pub tokens_are_words : (text : List ℕ) → All (IsWord text) (tokens_of text)
@@ -146,13 +146,13 @@ dollar_first b w e = and_first (length w == 2) (slice_index w 0 == 0x24) (slice_
 any_first : (w bs : List ℕ) → list_any (λ b. is_dollar_and b w) bs ≡ true
     → (slice_index w 0 == 0x24) ≡ true
 any_first w [] e = absurd (cc)
-any_first w (b ∷ bs) e = by (is_dollar_and b w) refl (λ h. any_first w bs h) e
+any_first w (b ∷ bs) e = by_dollar_and (is_dollar_and b w) refl (λ h. any_first w bs h) e
   where
-    by : (x : Bool) → is_dollar_and b w ≡ x
+    by_dollar_and : (x : Bool) → is_dollar_and b w ≡ x
         → (list_any (λ b. is_dollar_and b w) bs ≡ true → (slice_index w 0 == 0x24) ≡ true)
         → (x || list_any (λ b. is_dollar_and b w) bs) ≡ true → (slice_index w 0 == 0x24) ≡ true
-    by true h rest e = dollar_first b w h
-    by false h rest e = rest e
+    by_dollar_and true h rest e = dollar_first b w h
+    by_dollar_and false h rest e = rest e
 
 keyword_first : (w : List ℕ) → is_keyword w ≡ true → (slice_index w 0 == 0x24) ≡ true
 unfolding is_keyword
@@ -161,22 +161,22 @@ keyword_first w e = any_first w (codes "cvfedap=.{}[]") e
 no_dollar_first : (w : List ℕ) → 0 < length w → has_dollar w ≡ false
     → (slice_index w 0 == 0x24) ≡ false
 no_dollar_first [] h e = absurd (omega arith)
-no_dollar_first (x ∷ w) h e = by (x == 0x24) e
+no_dollar_first (x ∷ w) h e = by_test (x == 0x24) e
   where
-    by : (b : Bool) → (b || has_dollar w) ≡ false → b ≡ false
-    by true e = absurd (cc)
-    by false e = refl
+    by_test : (b : Bool) → (b || has_dollar w) ≡ false → b ≡ false
+    by_test true e = absurd (cc)
+    by_test false e = refl
 
 token_tells : (w : List ℕ) → 0 < length w → is_token w ≡ true
     → has_dollar w ≡ (slice_index w 0 == 0x24)
 unfolding is_token
-token_tells w h e = by (has_dollar w) refl (is_clean w) e
+token_tells w h e = by_dollar (has_dollar w) refl (is_clean w) e
   where
-    by : (d : Bool) → has_dollar w ≡ d → (c : Bool) → (c && (not d || is_keyword w)) ≡ true
+    by_dollar : (d : Bool) → has_dollar w ≡ d → (c : Bool) → (c && (not d || is_keyword w)) ≡ true
         → d ≡ (slice_index w 0 == 0x24)
-    by false n c e = sym (no_dollar_first w h n)
-    by true n true e = sym (keyword_first w e)
-    by true n false e = absurd (cc)
+    by_dollar false n c e = sym (no_dollar_first w h n)
+    by_dollar true n true e = sym (keyword_first w e)
+    by_dollar true n false e = absurd (cc)
 
 -- each token that is read is one
 tokens_tokens : (text : List ℕ) (c : Option ℕ) (ws : List Word)
@@ -185,24 +185,24 @@ tokens_tokens text c [] =
     subst (λ r. All (λ w. is_token (bytes_of text w) ≡ true) r.tokens) (sym (reading_end text c))
     (All-nil (λ w. is_token (bytes_of text w) ≡ true))
 tokens_tokens text c (w ∷ ws) =
-    by (role_of (is_some c) (bytes_of text w)) refl (λ d. tokens_tokens text d ws)
+    by_role (role_of (is_some c) (bytes_of text w)) refl (λ d. tokens_tokens text d ws)
   where
     P : Word → Type 0
     P w = is_token (bytes_of text w) ≡ true
 
-    by : (r : Role) → role_of (is_some c) (bytes_of text w) ≡ r
+    by_role : (r : Role) → role_of (is_some c) (bytes_of text w) ≡ r
         → ((d : Option ℕ) → All P (reading text d ws).tokens)
         → All P (reading text c (w ∷ ws)).tokens
-    by Token e rest =
+    by_role Token e rest =
         subst (λ r. All P r.tokens) (sym (reading_one text c w ws e))
         (All-cons P w (reading text c ws).tokens (read_as_token (is_some c) (bytes_of text w) e)
         (rest c))
-    by Opening e rest =
+    by_role Opening e rest =
         subst (λ r. All P r.tokens) (sym (reading_opening text c w ws e)) (rest (Some w.start))
-    by Closing e rest =
+    by_role Closing e rest =
         subst (λ r. All P r.tokens) (sym (reading_closing text c w ws e)) (rest None)
-    by Comment e rest = subst (λ r. All P r.tokens) (sym (reading_comment text c w ws e)) (rest c)
-    by Faulty e rest = subst (λ r. All P r.tokens) (sym (reading_faulty text c w ws e)) (All-nil P)
+    by_role Comment e rest = subst (λ r. All P r.tokens) (sym (reading_comment text c w ws e)) (rest c)
+    by_role Faulty e rest = subst (λ r. All P r.tokens) (sym (reading_faulty text c w ws e)) (All-nil P)
 
 -- the first byte of each token tells whether it has a `$`
 pub tokens_tell : (text : List ℕ) → AreTokens text (tokens_of text)
@@ -233,19 +233,19 @@ tokens_few text =
     (let a = length_kept text None (words_of text) in let b = words_few text in omega (arith, a, b))
 
 pub tokens_small : (text : List ℕ) → length (tokens_of text) < 2 ^ 31
-tokens_small text = by (cases_lt text_limit (length text))
+tokens_small text = by_order (cases_lt text_limit (length text))
   where
-    by : (text_limit < length text) ⊎ (length text ≤ text_limit) → length (tokens_of text) < 2 ^ 31
-    by (inl h) =
+    by_order : (text_limit < length text) ⊎ (length text ≤ text_limit) → length (tokens_of text) < 2 ^ 31
+    by_order (inl h) =
         let e : length (tokens_of text) ≡ 0 = ap length (tokens_of_long text h) in omega (arith, e)
-    by (inr h) = let n = tokens_few text in omega (arith, h, n)
+    by_order (inr h) = let n = tokens_few text in omega (arith, h, n)
 
 -- a text without a lexical fault is short
 pub short_text : (text : List ℕ) → lexical_fault text ≡ None → length text ≤ text_limit
-short_text text e = by (cases_lt text_limit (length text))
+short_text text e = by_order (cases_lt text_limit (length text))
   where
-    by : (text_limit < length text) ⊎ (length text ≤ text_limit) → length text ≤ text_limit
-    by (inl h) =
+    by_order : (text_limit < length text) ⊎ (length text ≤ text_limit) → length text ≤ text_limit
+    by_order (inl h) =
         absurd (let f : Some (record { at = 0; code = TextTooLong })
         ≡ None = sym (lexical_fault_long text h) ∙ e in cc)
-    by (inr h) = h
+    by_order (inr h) = h

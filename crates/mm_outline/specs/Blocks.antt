@@ -22,18 +22,18 @@ never = 4294967295
 abbrev pub no_blocks : BlockLists
 no_blocks = block_lists [] (never ∷ []) (0 ∷ [])
 
-abbrev pub top : List ℕ → ℕ
-top opens = slice_index opens (length opens - 1)
+abbrev pub innermost : List ℕ → ℕ
+innermost opens = slice_index opens (length opens - 1)
 
 abbrev pub pushed : Kind → BlockLists → BlockLists
 pushed Open b =
-    block_lists (b.of ++ top b.open_blocks ∷ []) (b.ends ++ never ∷ [])
+    block_lists (b.of ++ innermost b.open_blocks ∷ []) (b.ends ++ never ∷ [])
     (b.open_blocks ++ length b.ends ∷ [])
 pushed Close b =
-    block_lists (b.of ++ top b.open_blocks ∷ [])
-    (slice_set b.ends (top b.open_blocks) (length b.of))
+    block_lists (b.of ++ innermost b.open_blocks ∷ [])
+    (slice_set b.ends (innermost b.open_blocks) (length b.of))
     (take (length b.open_blocks - 1) b.open_blocks)
-pushed _ b = block_lists (b.of ++ top b.open_blocks ∷ []) b.ends b.open_blocks
+pushed _ b = block_lists (b.of ++ innermost b.open_blocks ∷ []) b.ends b.open_blocks
 
 abbrev pub end_of : BlockLists → ℕ → ℕ
 end_of b j = get_or b.ends (get_or b.of j 0) 0

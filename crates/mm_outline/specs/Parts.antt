@@ -16,8 +16,8 @@ use Rattle.mm_outline.specs.declared.parts.Kind.TheVariants as kind
 use Rattle.mm_outline.specs.declared.parts.Outline.{Outline}
 use Rattle.mm_outline.specs.declared.parts.Part.{Part}
 use Rattle.mm_outline.specs.declared.parts.Part.TheVariants.{Start, Labelled, Words, Formula, Proof}
-use Rattle.mm_outline.specs.declared.parts.Turn.{Turn}
-use Rattle.mm_outline.specs.declared.parts.Turn.TheVariants.{Stop, Go, Done}
+use Rattle.mm_outline.specs.declared.parts.Transition.{Transition}
+use Rattle.mm_outline.specs.declared.parts.Transition.TheVariants.{Stop, Continue, Complete}
 
 abbrev pub class_of : Class → table.Class
 class_of Constant = table.constant
@@ -68,65 +68,65 @@ is_labelled_kind kind.Axiom = true
 is_labelled_kind kind.Theorem = true
 is_labelled_kind _ = false
 
-abbrev pub less_one : ℕ → ℕ
-less_one zero = zero
-less_one (suc d) = d
+abbrev pub one_less : ℕ → ℕ
+one_less zero = zero
+one_less (suc d) = d
 
 -- how many blocks are open after a statement, if d are open before it
 abbrev pub depth_after : Kind → ℕ → ℕ
 depth_after kind.Open d = suc d
-depth_after kind.Close d = less_one d
+depth_after kind.Close d = one_less d
 depth_after _ d = d
 
 module _ (text : List ℕ) (ws : List Word) where
-  -- the label's token and the keyword's place
+  -- the label's token and the keyword's start_of
   abbrev pub label_before : ℕ → Token
   label_before keyword = token_at text ws (keyword - 1)
 
-  abbrev pub place : ℕ → ℕ
-  place i = (nth_word ws i).start
+  abbrev pub start_of : ℕ → ℕ
+  start_of i = (nth_word ws i).start
 
   -- the statement with these words and this end
-  abbrev pub make : Kind → ℕ → List Token → ℕ → Statement
-  make kind.Constants k xs d = statement.constants (place k) xs d
-  make kind.Variables k xs d = statement.variables (place k) xs d
-  make kind.Disjoint k xs d = statement.disjoint (place k) xs d
-  make kind.Floating k xs d = statement.floating (label_before k) (place k) xs d
-  make kind.Essential k xs d = statement.essential (label_before k) (place k) xs d
-  make kind.Axiom k xs d = statement.axiomatic (label_before k) (place k) xs d
-  make kind.Theorem k xs d = statement.provable (label_before k) (place k) xs d [] d
-  make kind.Open k xs d = statement.opening (place k)
-  make kind.Close k xs d = statement.closing (place k)
+  abbrev pub statement_with : Kind → ℕ → List Token → ℕ → Statement
+  statement_with kind.Constants k xs d = statement.constants (start_of k) xs d
+  statement_with kind.Variables k xs d = statement.variables (start_of k) xs d
+  statement_with kind.Disjoint k xs d = statement.disjoint (start_of k) xs d
+  statement_with kind.Floating k xs d = statement.floating (label_before k) (start_of k) xs d
+  statement_with kind.Essential k xs d = statement.essential (label_before k) (start_of k) xs d
+  statement_with kind.Axiom k xs d = statement.axiomatic (label_before k) (start_of k) xs d
+  statement_with kind.Theorem k xs d = statement.provable (label_before k) (start_of k) xs d [] d
+  statement_with kind.Open k xs d = statement.opening (start_of k)
+  statement_with kind.Close k xs d = statement.closing (start_of k)
 
-  abbrev pub make_proved : ℕ → ℕ → List Token → ℕ → Statement
-  make_proved k e ps d =
-      statement.provable (label_before k) (place k) (between text ws (k + 1) e) (place e) ps d
+  abbrev pub theorem_with : ℕ → ℕ → List Token → ℕ → Statement
+  theorem_with k e ps d =
+      statement.provable (label_before k) (start_of k) (between text ws (k + 1) e) (start_of e) ps d
 
-  abbrev pub made : Kind → ℕ → ℕ → ℕ → Statement
-  made kind.Theorem k e d = make_proved k e (between text ws (e + 1) d) (place d)
-  made kind k e d = make kind k (between text ws (k + 1) e) (place e)
+  abbrev pub statement_between : Kind → ℕ → ℕ → ℕ → Statement
+  statement_between kind.Theorem k e d = theorem_with k e (between text ws (e + 1) d) (start_of d)
+  statement_between kind k e d = statement_with kind k (between text ws (k + 1) e) (start_of e)
 
   -- the statement of an outline
   abbrev pub statement_of : Outline → Statement
-  statement_of o = made o.kind o.keyword o.middle o.end
+  statement_of o = statement_between o.kind o.keyword o.middle o.end
 
   -- what has been read before token i
   abbrev pub progress : ℕ → Part → ℕ → table.Progress
   progress d Start i = table.start d
   progress d (Labelled l) i = table.labelled d (token_at text ws l)
-  progress d (Words kind k) i = table.words d (make kind k) (between text ws (k + 1) i)
-  progress d (Formula k) i = table.formula d (label_before k) (place k) (between text ws (k + 1) i)
-  progress d (Proof k e) i = table.words d (make_proved k e) (between text ws (e + 1) i)
+  progress d (Words kind k) i = table.words d (statement_with kind k) (between text ws (k + 1) i)
+  progress d (Formula k) i = table.formula d (label_before k) (start_of k) (between text ws (k + 1) i)
+  progress d (Proof k e) i = table.words d (theorem_with k e) (between text ws (e + 1) i)
 
-  abbrev pub turn_of : ℕ → ℕ → Turn → table.Transition
-  turn_of d i Stop = table.stop
-  turn_of d i (Go part) = table.go (progress d part (i + 1))
-  turn_of d i (Done o) = table.done (depth_after o.kind d) (statement_of o)
+  abbrev pub transition_of : ℕ → ℕ → Transition → table.Transition
+  transition_of d i Stop = table.stop
+  transition_of d i (Continue part) = table.go (progress d part (i + 1))
+  transition_of d i (Complete o) = table.done (depth_after o.kind d) (statement_of o)
 
 -- P holds if nothing has been read
-abbrev pub AtStart : Part → Type 0 → Type 0
-AtStart Start P = P
-AtStart _ P = Unit {0}
+abbrev pub IfAtStart : Part → Type 0 → Type 0
+IfAtStart Start P = P
+IfAtStart _ P = Unit {0}
 
 -- the kind of a statement that has words, and no `$=`
 abbrev pub HasWords : Kind → Type 0
@@ -143,12 +143,12 @@ HasLabel kind.Theorem k = 0 < k
 HasLabel _ k = Unit {0}
 
 -- where the parts of a statement are, before token i
-abbrev pub IsPart : Part → ℕ → Type 0
-IsPart Start i = Unit {0}
-IsPart (Labelled l) i = l + 1 ≡ i
-IsPart (Words kind k) i = HasWords kind × HasLabel kind k × (k < i)
-IsPart (Formula k) i = (0 < k) × (k < i)
-IsPart (Proof k e) i = (0 < k) × (k < e) × (e < i)
+abbrev pub IsPartBefore : Part → ℕ → Type 0
+IsPartBefore Start i = Unit {0}
+IsPartBefore (Labelled l) i = l + 1 ≡ i
+IsPartBefore (Words kind k) i = HasWords kind × HasLabel kind k × (k < i)
+IsPartBefore (Formula k) i = (0 < k) × (k < i)
+IsPartBefore (Proof k e) i = (0 < k) × (k < e) × (e < i)
 
 -- a statement other than `${` and `$}` has its `$=`, or without one its end, after its keyword
 abbrev pub IsKeywordBefore : Kind → ℕ → ℕ → Type 0
@@ -170,7 +170,7 @@ IsOutline o =
     × (o.middle ≤ o.end) × HasEnd o.kind o.keyword o.middle o.end
 
 -- what holds after a turn at token i
-abbrev pub Holds : ℕ → Turn → Type 0
-Holds i Stop = Unit {0}
-Holds i (Go part) = IsPart part (i + 1)
-Holds i (Done o) = IsOutline o × (o.end ≡ i)
+abbrev pub IsTransitionAt : ℕ → Transition → Type 0
+IsTransitionAt i Stop = Unit {0}
+IsTransitionAt i (Continue part) = IsPartBefore part (i + 1)
+IsTransitionAt i (Complete o) = IsOutline o × (o.end ≡ i)

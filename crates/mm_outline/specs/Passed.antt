@@ -1,7 +1,7 @@
 -- Words of a statement that are passed over at once.
 use Rattle.std.specs.Prelude.{ℕ, ◌≤◌, List, [], length}
 use Rattle.mm_spec.specs.declared.Word.{Word}
-use Rattle.mm_outline.specs.Parts.{IsPart, progress}
+use Rattle.mm_outline.specs.Parts.{IsPartBefore, progress}
 use Rattle.mm_outline.specs.NextStatement.{Leads, tokens_from}
 use Rattle.mm_outline.specs.declared.parts.Part.{Part}
 
@@ -11,7 +11,7 @@ use Rattle.mm_outline.specs.declared.parts.Part.{Part}
 pub record ArePassed (text : List ℕ) (ws : List Word) (part : Part) (from to : ℕ) : Type 0 where
   pub later : from ≤ to
   pub within : to ≤ length ws
-  pub is_part : IsPart part to
+  pub is_part : IsPartBefore part to
   pub leads : (d : ℕ)
       → Leads (progress text ws d part from) (tokens_from text ws from) []
       (progress text ws d part to) (tokens_from text ws to)

@@ -6,10 +6,10 @@ ghost use Rattle.mm_spec.specs.Statement.{shape_code};
 ghost use Rattle.mm_outline.specs.NextStatement.{IsNextStatement};
 ghost use Rattle.mm_outline.specs.NextStatement.{is_start as spec_is_start};
 ghost use Rattle.mm_spec.specs.Laws.Table.{class, transition};
-ghost use Rattle.mm_outline.specs.Parts.{IsPart, Holds, AtStart, class_of, outline, progress};
+ghost use Rattle.mm_outline.specs.Parts.{IsPartBefore, IsTransitionAt, IfAtStart, class_of, outline, progress};
 ghost use Rattle.mm_outline.specs.Parts.{is_labelled_kind};
-ghost use Rattle.mm_outline.specs.Parts.{token_at, turn_of};
-ghost use Rattle.mm_outline.specs.declared.parts.Turn.TheVariants.{Done};
+ghost use Rattle.mm_outline.specs.Parts.{token_at, transition_of};
+ghost use Rattle.mm_outline.specs.declared.parts.Transition.TheVariants.{Complete};
 ghost use Rattle.mm_outline.specs.Passed.{ArePassed};
 ghost use Rattle.mm_outline.specs.Tokens.{AreTokens};
 
@@ -65,15 +65,15 @@ pub enum Part {
 
 /// What a token does.
 #[derive(Clone, Copy)]
-pub enum Turn {
+pub enum Transition {
     Stop,
-    Go(Part),
-    Done(Outline),
+    Continue(Part),
+    Complete(Outline),
 }
 
 /// What a token of the class `class` does at `at`.
 #[tactic(auto, using(crate::proofs::TurnsLaw::between_more))]
-fn turn_for(
+fn transition_for(
     _text: &[u8],
     _tokens: &[Word],
     deep: u32,
@@ -81,78 +81,78 @@ fn turn_for(
     class: Class,
     is_label: bool,
     at: u32,
-) -> Turn
+) -> Transition
     requires inside { at < length _tokens.now }
-    requires part { IsPart part at }
-    requires label { AtStart part
+    requires part { IsPartBefore part at }
+    requires label { IfAtStart part
         (is_label ≡ spec_is_label (token_at _text.now _tokens.now at).word) }
-    ensures same { turn_of _text.now _tokens.now deep at result
+    ensures same { transition_of _text.now _tokens.now deep at result
         ≡ transition (progress _text.now _tokens.now deep part at) (class_of class)
         (token_at _text.now _tokens.now at) }
-    ensures holds { Holds at result }
+    ensures holds { IsTransitionAt at result }
 {
     match part {
         Part::Start => match class {
-            Class::Constant => Turn::Go(Part::Words(Kind::Constants, at)),
-            Class::Variable => Turn::Go(Part::Words(Kind::Variables, at)),
-            Class::Disjoint => Turn::Go(Part::Words(Kind::Disjoint, at)),
-            Class::Open => single(Kind::Open, at),
+            Class::Constant => Transition::Continue(Part::Words(Kind::Constants, at)),
+            Class::Variable => Transition::Continue(Part::Words(Kind::Variables, at)),
+            Class::Disjoint => Transition::Continue(Part::Words(Kind::Disjoint, at)),
+            Class::Open => one_token_statement(Kind::Open, at),
             Class::Close => {
                 if deep > 0 {
-                    single(Kind::Close, at)
+                    one_token_statement(Kind::Close, at)
                 } else {
-                    Turn::Stop
+                    Transition::Stop
                 }
             }
             Class::Plain => {
                 if is_label {
-                    Turn::Go(Part::Labelled(at))
+                    Transition::Continue(Part::Labelled(at))
                 } else {
-                    Turn::Stop
+                    Transition::Stop
                 }
             }
-            _ => Turn::Stop,
+            _ => Transition::Stop,
         },
         Part::Labelled(_) => match class {
-            Class::Floating => Turn::Go(Part::Words(Kind::Floating, at)),
-            Class::Essential => Turn::Go(Part::Words(Kind::Essential, at)),
-            Class::Axiom => Turn::Go(Part::Words(Kind::Axiom, at)),
-            Class::Theorem => Turn::Go(Part::Formula(at)),
-            _ => Turn::Stop,
+            Class::Floating => Transition::Continue(Part::Words(Kind::Floating, at)),
+            Class::Essential => Transition::Continue(Part::Words(Kind::Essential, at)),
+            Class::Axiom => Transition::Continue(Part::Words(Kind::Axiom, at)),
+            Class::Theorem => Transition::Continue(Part::Formula(at)),
+            _ => Transition::Stop,
         },
         Part::Words(kind, keyword) => match class {
-            Class::Plain => Turn::Go(part),
-            Class::Dot => Turn::Done(Outline {
+            Class::Plain => Transition::Continue(part),
+            Class::Dot => Transition::Complete(Outline {
                 kind,
                 keyword,
                 middle: at,
                 end: at,
             }),
-            _ => Turn::Stop,
+            _ => Transition::Stop,
         },
         Part::Formula(keyword) => match class {
-            Class::Plain => Turn::Go(part),
-            Class::Equals => Turn::Go(Part::Proof(keyword, at)),
-            _ => Turn::Stop,
+            Class::Plain => Transition::Continue(part),
+            Class::Equals => Transition::Continue(Part::Proof(keyword, at)),
+            _ => Transition::Stop,
         },
         Part::Proof(keyword, equals) => match class {
-            Class::Plain => Turn::Go(part),
-            Class::Dot => Turn::Done(Outline {
+            Class::Plain => Transition::Continue(part),
+            Class::Dot => Transition::Complete(Outline {
                 kind: Kind::Theorem,
                 keyword,
                 middle: equals,
                 end: at,
             }),
-            _ => Turn::Stop,
+            _ => Transition::Stop,
         },
     }
 }
 
 /// A statement of one token.
-fn single(kind: Kind, at: u32) -> Turn
-    ensures { result ≡ Done (outline kind at at at) }
+fn one_token_statement(kind: Kind, at: u32) -> Transition
+    ensures { result ≡ Complete (outline kind at at at) }
 {
-    Turn::Done(Outline {
+    Transition::Complete(Outline {
         kind,
         keyword: at,
         middle: at,
@@ -162,7 +162,7 @@ fn single(kind: Kind, at: u32) -> Turn
 
 /// Whether the word is a label, in a place where a label is expected.
 fn is_label_at(part: Part, word: &[u8]) -> bool
-    ensures { AtStart part (result ≡ spec_is_label word.now) }
+    ensures { IfAtStart part (result ≡ spec_is_label word.now) }
 {
     match part {
         Part::Start => is_label(word),
@@ -171,20 +171,20 @@ fn is_label_at(part: Part, word: &[u8]) -> bool
 }
 
 /// What the token at `at` does.
-fn take_turn(text: &[u8], tokens: &[Word], deep: u32, part: Part, at: u32) -> Turn
+fn transition_at(text: &[u8], tokens: &[Word], deep: u32, part: Part, at: u32) -> Transition
     requires tokens { AreTokens text.now tokens.now }
     requires inside { at < length tokens.now }
-    requires part { IsPart part at }
-    ensures same { turn_of text.now tokens.now deep at result
+    requires part { IsPartBefore part at }
+    ensures same { transition_of text.now tokens.now deep at result
         ≡ transition (progress text.now tokens.now deep part at)
         (class (token_at text.now tokens.now at).word) (token_at text.now tokens.now at) }
-    ensures holds { Holds at result }
+    ensures holds { IsTransitionAt at result }
 {
     let token = tokens[at as usize];
     let word = token.bytes(text);
     let class = classify(word);
     let is_label = is_label_at(part, word);
-    turn_for(text, tokens, deep, part, class, is_label, at)
+    transition_for(text, tokens, deep, part, class, is_label, at)
 }
 
 /// What is found where a statement should begin: a complete statement, a token that is not
@@ -260,7 +260,7 @@ fn pass_words(text: &[u8], tokens: &[Word], part: Part, at: u32) -> u32
     requires tokens { AreTokens text.now tokens.now }
     requires limit { length tokens.now < 2 ^ 31 }
     requires inside { at ≤ length tokens.now }
-    requires part { IsPart part at }
+    requires part { IsPartBefore part at }
     ensures { ArePassed text.now tokens.now part at result }
 {
     match part {
@@ -279,13 +279,13 @@ pub fn next_statement(text: &[u8], tokens: &[Word], deep: u32, from: u32) -> Nex
     let mut part = Part::Start;
     let mut at = from;
     while at < tokens.len() as u32 {
-        match take_turn(text, tokens, deep, part, at) {
-            Turn::Stop => return NextStatement::Stopped(unexpected(text, tokens, part, at)),
-            Turn::Go(next) => {
+        match transition_at(text, tokens, deep, part, at) {
+            Transition::Stop => return NextStatement::Stopped(unexpected(text, tokens, part, at)),
+            Transition::Continue(next) => {
                 part = next;
                 at = pass_words(text, tokens, next, at + 1);
             }
-            Turn::Done(outline) => return NextStatement::Whole(outline),
+            Transition::Complete(outline) => return NextStatement::Whole(outline),
         }
     }
     NextStatement::Ended(part)

@@ -12,7 +12,7 @@ use Rattle.mm_spec.specs.Scope.{Names, names_before, depth, active_statements, v
 use Rattle.mm_spec.specs.Scope.{constants_of, label_words, typings_of}
 use Rattle.mm_spec.specs.Lawful.{least, scope_faults, at, at_each, when, is_empty, constant_codes}
 use Rattle.mm_spec.specs.Lawful.{variable_codes, label_faults, floating_faults}
-use Rattle.mm_spec.specs.declared.Word as place
+use Rattle.mm_spec.specs.declared.Word as spec
 use Rattle.mm_spec.specs.declared.Code.TheVariants.{ConstantInBlock, EmptyDeclaration}
 use Rattle.std.specs.Prelude.{nat_lt}
 use Rattle.std.proofs.Math.Bool.{or-false, or-true}
@@ -21,7 +21,7 @@ use Rattle.mm_outline.specs.Blocks.{BlockLists, IsBlocks, never, pushed}
 use Rattle.mm_scope.specs.WordEntry.{WordEntry, entry_of, declared_entry, typed_entry}
 use Rattle.mm_scope.specs.WordEntry.{IsEntryOf, is_other, is_constant_entry, is_variable_entry}
 use Rattle.mm_scope.specs.WordEntry.{entry_after, label_after}
-use Rattle.mm_outline.specs.Parts.{made}
+use Rattle.mm_outline.specs.Parts.{statement_between}
 use Rattle.mm_scope.specs.Keeps.{KnowsStatements}
 use Rattle.mm_database.specs.declared.names.Symbol.{Symbol}
 use Rattle.mm_outline.specs.declared.parts.Kind.{Kind}
@@ -57,7 +57,7 @@ module _ (db : List Statement) (few : length db < never) (w : Bytes) where
   constant_after : (k : ℕ) (xs : List Token) (e : ℕ) (x : Option WordEntry) → IsEntryOf db w x
       → at_each (constant_codes n) [] xs ≡ []
       → IsEntryOf (db ++ constants k xs e ∷ []) w (entry_after (length db) (constants k xs e) w x)
-  constant_after k xs e x kn law = by (is_in w (words xs)) refl
+  constant_after k xs e x kn law = by_is_in (is_in w (words xs)) refl
     where
       fresh : (x : Option WordEntry) → IsEntryOf db w x → is_constant_entry x ≡ false
           → is_variable_entry x ≡ false → is_in w (words xs) ≡ true
@@ -66,24 +66,24 @@ module _ (db : List Statement) (few : length db < never) (w : Bytes) where
           known_constant db (constants k xs e) w kn (in_nil (words xs) true h) refl refl (length db)
       fresh (Some o) kn c v h = absurd (true≢false (sym (ap not v) ∙ c))
 
-      by : (b : Bool) → is_in w (words xs) ≡ b
+      by_is_in : (b : Bool) → is_in w (words xs) ≡ b
           → IsEntryOf (db ++ constants k xs e ∷ []) w
           (if b then declared_entry false (length db) w x else x)
-      by false h = known_same db (constants k xs e) w x kn (in_nil (words xs) false h) refl refl
-      by true h =
+      by_is_in false h = known_same db (constants k xs e) w x kn (in_nil (words xs) false h) refl refl
+      by_is_in true h =
           let new = constant_new n xs law w h in
           fresh x kn (no_constant x kn new.0) (no_variable x kn new.1) h
 
   variable_after : (k : ℕ) (xs : List Token) (e : ℕ) (x : Option WordEntry) → IsEntryOf db w x
       → at_each (variable_codes n) [] xs ≡ []
       → IsEntryOf (db ++ variables k xs e ∷ []) w (entry_after (length db) (variables k xs e) w x)
-  variable_after k xs e x kn law = by (is_in w (words xs)) refl
+  variable_after k xs e x kn law = by_is_in (is_in w (words xs)) refl
     where
-      by : (b : Bool) → is_in w (words xs) ≡ b
+      by_is_in : (b : Bool) → is_in w (words xs) ≡ b
           → IsEntryOf (db ++ variables k xs e ∷ []) w
           (if b then declared_entry true (length db) w x else x)
-      by false h = known_same db (variables k xs e) w x kn refl (in_nil (words xs) false h) refl
-      by true h =
+      by_is_in false h = known_same db (variables k xs e) w x kn refl (in_nil (words xs) false h) refl
+      by_is_in true h =
           let new = variable_new n xs law w h in
           known_variable db (variables k xs e) w x kn (no_constant x kn new.0) new.1 refl
           (in_nil (words xs) true h) refl
@@ -92,7 +92,7 @@ module _ (db : List Statement) (few : length db < never) (w : Bytes) where
       → IsEntryOf db w x → floating_faults n k (c ∷ v ∷ []) ≡ []
       → IsEntryOf (db ++ floating l k (c ∷ v ∷ []) e ∷ []) w
       (entry_after (length db) (floating l k (c ∷ v ∷ []) e) w x)
-  floating_after l k c v e x kn law = by (bytes_eq v.word w) refl
+  floating_after l k c v e x kn law = by_equality (bytes_eq v.word w) refl
     where
       typed : (x : Option WordEntry) → IsEntryOf db w x → v.word ≡ w
           → IsEntryOf (db ++ floating l k (c ∷ v ∷ []) e ∷ []) w (typed_entry (length db) c.word x)
@@ -110,13 +110,13 @@ module _ (db : List Statement) (few : length db < never) (w : Bytes) where
           ∙ ap (λ u. list_any (is_other c.word u) n.all_typings) (sym same) ∙ new.2)
           refl refl (ap (λ u. record { typecode = c.word; variable = u } ∷ []) same)
 
-      by : (b : Bool) → bytes_eq v.word w ≡ b
+      by_equality : (b : Bool) → bytes_eq v.word w ≡ b
           → IsEntryOf (db ++ floating l k (c ∷ v ∷ []) e ∷ []) w
           (if b then typed_entry (length db) c.word x else x)
-      by false h =
+      by_equality false h =
           known_same db (floating l k (c ∷ v ∷ []) e) w x kn refl refl
           (ap (λ b. b || false) (bytes_eq_sym w v.word ∙ h))
-      by true h = typed x kn ((bytes_eq-Decides v.word w).0 h)
+      by_equality true h = typed x kn ((bytes_eq-Decides v.word w).0 h)
 
   -- what is known of the word after a lawful statement
   pub known_after : (s : Statement) (d : ℕ) (x : Option WordEntry) → IsEntryOf db w x
@@ -156,79 +156,79 @@ module _ (db : List Statement) (few : length db < never) (w : Bytes) where
       → is_in w (flat_map label_words db) ≡ is_some o
       → is_in w (flat_map label_words (db ++ s ∷ [])) ≡ is_some (label_after m (label_of s) w o)
   labelled_after s m o e =
-      in_more db s w label_words ∙ ap (λ b. b || is_in w (label_words s ++ [])) e ∙ by (label_of s)
+      in_more db s w label_words ∙ ap (λ b. b || is_in w (label_words s ++ [])) e ∙ by_token (label_of s)
     where
       one : (l : Token) (b : Bool) → bytes_eq w l.word ≡ b
           → (is_some o || (b || false)) ≡ is_some (if b then Some m else o)
       one l true h = or-true (is_some o)
       one l false h = or-false (is_some o)
 
-      by : (q : Option Token)
+      by_token : (q : Option Token)
           → (is_some o || is_in w (elim q [ None ↦ [] | Some l ↦ l.word ∷ [] ] ++ []))
           ≡ is_some (label_after m q w o)
-      by None = or-false (is_some o)
-      by (Some l) =
+      by_token None = or-false (is_some o)
+      by_token (Some l) =
           one l (bytes_eq w l.word) refl
           ∙ ap (λ b. is_some (if b then Some m else o)) (bytes_eq_sym w l.word)
 
-module _ (text : List ℕ) (ws : List place.Word) (db : List Statement) (b : BlockLists)
+module _ (text : List ℕ) (ws : List spec.Word) (db : List Statement) (b : BlockLists)
     (x : IsBlocks db b) (few : length db < never) where
   -- the blocks after a statement
   blocks_after : (k : Kind) (p m e : ℕ)
-      → (is_closing (made text ws k p m e) ≡ true → 0 < depth db (length db))
-      → IsBlocks (db ++ made text ws k p m e ∷ []) (pushed k b)
+      → (is_closing (statement_between text ws k p m e) ≡ true → 0 < depth db (length db))
+      → IsBlocks (db ++ statement_between text ws k p m e ∷ []) (pushed k b)
   blocks_after kind.Open p m e deep =
-      blocks_opening db (made text ws kind.Open p m e) b x few refl refl
+      blocks_opening db (statement_between text ws kind.Open p m e) b x few refl refl
   blocks_after kind.Close p m e deep =
-      blocks_closing db (made text ws kind.Close p m e) b x few refl refl (deep refl)
+      blocks_closing db (statement_between text ws kind.Close p m e) b x few refl refl (deep refl)
   blocks_after kind.Constants p m e deep =
-      blocks_plain db (made text ws kind.Constants p m e) b x few refl refl
+      blocks_plain db (statement_between text ws kind.Constants p m e) b x few refl refl
   blocks_after kind.Variables p m e deep =
-      blocks_plain db (made text ws kind.Variables p m e) b x few refl refl
+      blocks_plain db (statement_between text ws kind.Variables p m e) b x few refl refl
   blocks_after kind.Disjoint p m e deep =
-      blocks_plain db (made text ws kind.Disjoint p m e) b x few refl refl
+      blocks_plain db (statement_between text ws kind.Disjoint p m e) b x few refl refl
   blocks_after kind.Floating p m e deep =
-      blocks_plain db (made text ws kind.Floating p m e) b x few refl refl
+      blocks_plain db (statement_between text ws kind.Floating p m e) b x few refl refl
   blocks_after kind.Essential p m e deep =
-      blocks_plain db (made text ws kind.Essential p m e) b x few refl refl
+      blocks_plain db (statement_between text ws kind.Essential p m e) b x few refl refl
   blocks_after kind.Axiom p m e deep =
-      blocks_plain db (made text ws kind.Axiom p m e) b x few refl refl
+      blocks_plain db (statement_between text ws kind.Axiom p m e) b x few refl refl
   blocks_after kind.Theorem p m e deep =
-      blocks_plain db (made text ws kind.Theorem p m e) b x few refl refl
+      blocks_plain db (statement_between text ws kind.Theorem p m e) b x few refl refl
 
 -- what is kept after one lawful statement more
-pub keeps_after : (text : List ℕ) (ws : List place.Word) (db : List Statement)
+pub keeps_after : (text : List ℕ) (ws : List spec.Word) (db : List Statement)
     → (look : List ℕ → Option Symbol) (labels : List ℕ → Option ℕ) (b : BlockLists)
     → KnowsStatements db look labels b → length db < never → (k : Kind) (p m e : ℕ)
     → least (scope_faults (names_before db (length db)) (depth db (length db))
-    (made text ws k p m e))
+    (statement_between text ws k p m e))
     ≡ None
-    → (is_closing (made text ws k p m e) ≡ true → 0 < depth db (length db)) → (c : BlockLists)
+    → (is_closing (statement_between text ws k p m e) ≡ true → 0 < depth db (length db)) → (c : BlockLists)
     → c ≡ pushed k b → (number : ℕ) → number ≡ length b.of
     → (new : List ℕ → Option Symbol)
     → ((w : List ℕ)
-    → entry_of (new w) ≡ entry_after number (made text ws k p m e) w (entry_of (look w)))
+    → entry_of (new w) ≡ entry_after number (statement_between text ws k p m e) w (entry_of (look w)))
     → (names : List ℕ → Option ℕ)
     → ((w : List ℕ)
-    → names w ≡ label_after number (label_of (made text ws k p m e)) w (labels w))
-    → KnowsStatements (db ++ made text ws k p m e ∷ []) new names c
+    → names w ≡ label_after number (label_of (statement_between text ws k p m e)) w (labels w))
+    → KnowsStatements (db ++ statement_between text ws k p m e ∷ []) new names c
 keeps_after text ws db look labels b x few k p m e law deep c same number is new after names known =
-    let s = made text ws k p m e in
+    let s = statement_between text ws k p m e in
     let n : number ≡ length db = is ∙ x.blocks.count in
     record {
       blocks =
-          subst (IsBlocks (db ++ made text ws k p m e ∷ [])) (sym same)
+          subst (IsBlocks (db ++ statement_between text ws k p m e ∷ [])) (sym same)
           (blocks_after text ws db b x.blocks few k p m e deep);
       symbols =
-          λ w. subst (IsEntryOf (db ++ made text ws k p m e ∷ []) w)
-          (sym (after w ∙ ap (λ i. entry_after i (made text ws k p m e) w (entry_of (look w))) n))
-          (known_after db few w (made text ws k p m e) (depth db (length db)) (entry_of (look w))
+          λ w. subst (IsEntryOf (db ++ statement_between text ws k p m e ∷ []) w)
+          (sym (after w ∙ ap (λ i. entry_after i (statement_between text ws k p m e) w (entry_of (look w))) n))
+          (known_after db few w (statement_between text ws k p m e) (depth db (length db)) (entry_of (look w))
           (x.symbols w)
           (least_none
-          (scope_faults (names_before db (length db)) (depth db (length db)) (made text ws k p m e))
+          (scope_faults (names_before db (length db)) (depth db (length db)) (statement_between text ws k p m e))
           law));
       labels_known =
-          λ w. labelled_after db few w (made text ws k p m e) number (labels w) (x.labels_known w)
+          λ w. labelled_after db few w (statement_between text ws k p m e) number (labels w) (x.labels_known w)
           ∙ ap is_some (sym (known w));
       labels_are =
           labels_after db s labels names x.labels_are

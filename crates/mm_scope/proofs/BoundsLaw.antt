@@ -112,15 +112,15 @@ front f xs ys =
 
 first_shorter : (e ws : List Bytes) → length (first_occurrences e ws) ≤ length ws
 first_shorter e [] = omega arith
-first_shorter e (w ∷ ws) = by (is_in w e) (first_shorter e ws) (first_shorter (w ∷ e) ws)
+first_shorter e (w ∷ ws) = by_is_in (is_in w e) (first_shorter e ws) (first_shorter (w ∷ e) ws)
   where
-    by : (b : Bool) → length (first_occurrences e ws) ≤ length ws
+    by_is_in : (b : Bool) → length (first_occurrences e ws) ≤ length ws
         → length (first_occurrences (w ∷ e) ws) ≤ length ws
         → length {A = Bytes}
         (elim b [ true ↦ first_occurrences e ws | false ↦ w ∷ first_occurrences (w ∷ e) ws ])
         ≤ suc (length ws)
-    by true p q = omega (arith, p)
-    by false p q = omega (arith, q)
+    by_is_in true p q = omega (arith, p)
+    by_is_in false p q = omega (arith, q)
 
 -- statements that stand in front of a list of statements, which are the first of the tokens
 module _ (ts rest : List Token) (list : List Statement) (splits : ts ≡ flat_map spelled list ++ rest)

@@ -35,7 +35,7 @@ module _ (text : List ℕ) (ws : List Word) (from i : ℕ) (later : from ≤ i)
       ≡ (if is_in w (words (between text ws from (i + 1))) then declared_entry v n w
       (entry_of (old w)) else entry_of (old w))
   declared_step v n s old cur new u e k w =
-      ap entry_of (u w) ∙ by (bytes_eq here w) refl
+      ap entry_of (u w) ∙ by_equality (bytes_eq here w) refl
       ∙ ap (λ b. if b then declared_entry v n w (entry_of (old w)) else entry_of (old w))
       (sym (in_more text ws from i later inside w))
     where
@@ -44,17 +44,17 @@ module _ (text : List ℕ) (ws : List Word) (from i : ℕ) (later : from ≤ i)
       again true o = twice v n w o
       again false o = refl
 
-      by : (b : Bool) → bytes_eq here w ≡ b
+      by_equality : (b : Bool) → bytes_eq here w ≡ b
           → entry_of (if b then Some s else cur w)
           ≡ (if is_in w so_far
           || (bytes_eq here w || false) then declared_entry v n w (entry_of (old w)) else entry_of
           (old w))
-      by true h =
+      by_equality true h =
           let same : here ≡ w = (bytes_eq-Decides here w).0 h in
           e ∙ ap (λ x. declared_entry v n x (entry_of (cur x))) same
           ∙ ap (declared_entry v n w) (k w) ∙ again (is_in w so_far) (entry_of (old w))
           ∙ ap (λ b. if b then declared_entry v n w (entry_of (old w)) else entry_of (old w))
           (sym (ap (λ b. is_in w so_far || (b || false)) h ∙ or-true (is_in w so_far)))
-      by false h =
+      by_equality false h =
           k w ∙ ap (λ b. if b then declared_entry v n w (entry_of (old w)) else entry_of (old w))
           (sym (ap (λ b. is_in w so_far || (b || false)) h ∙ or-false (is_in w so_far)))

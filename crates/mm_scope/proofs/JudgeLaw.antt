@@ -14,7 +14,7 @@ use Rattle.mm_spec.specs.Text.{Bytes, Token, fault, is_in, words}
 use Rattle.mm_spec.specs.declared.Fault.{Fault}
 use Rattle.mm_spec.specs.Scope.{Names}
 use Rattle.mm_spec.specs.Lawful.{at, at_each, floating_faults, is_empty, least, lesser}
-use Rattle.mm_spec.specs.declared.Word as place
+use Rattle.mm_spec.specs.declared.Word as spec
 use Rattle.mm_outline.specs.Parts.{between, token_at, token_of, nth_word}
 use Rattle.mm_outline.proofs.TurnsLaw.{between_more, between_none}
 use Rattle.mm_spec.specs.declared.Code.{Code}
@@ -60,7 +60,7 @@ at_each_snoc : (codes : List Bytes → Bytes → List Code) (e : List Bytes) (xs
 at_each_snoc codes e [] t = append-nil (at t.at (codes e t.word))
 at_each_snoc codes e (x ∷ xs) t = simp (at_each_snoc codes (x.word ∷ e) xs t, append_assoc)
 
-module _ (text : List ℕ) (ws : List place.Word) (from i : ℕ) where
+module _ (text : List ℕ) (ws : List spec.Word) (from i : ℕ) where
   -- the words before the one at i
   abbrev pub earlier : List Bytes
   earlier = before_next [] (between text ws from i)
@@ -101,7 +101,7 @@ module _ (text : List ℕ) (ws : List place.Word) (from i : ℕ) where
       → (w : Bytes) → is_some (new w) ≡ is_in w (words (between text ws from (i + 1)))
   seen_more h l old new u e w = rw (u w, in_more h l w, sym (e w)) (grind arith)
 
-pub between_first : (text : List ℕ) (ws : List place.Word) (i j : ℕ) → i < j → j ≤ length ws
+pub between_first : (text : List ℕ) (ws : List spec.Word) (i j : ℕ) → i < j → j ≤ length ws
     → between text ws i j ≡ token_at text ws i ∷ between text ws (i + 1) j
 between_first text ws i j h l =
     let within : i < length ws = omega arith in
@@ -115,13 +115,13 @@ pub no_two : (n : Names) (keyword : ℕ) (xs : List Token) → length xs ≢ 2
     → Some (fault keyword BadFloating) ≡ least (floating_faults n keyword xs)
 no_two n keyword xs h = grind (arith, common_steps)
 
-pub length_between : (text : List ℕ) (ws : List place.Word) (i j : ℕ) → i ≤ j → j ≤ length ws
+pub length_between : (text : List ℕ) (ws : List spec.Word) (i j : ℕ) → i ≤ j → j ≤ length ws
     → length (between text ws i j) ≡ j - i
 length_between text ws i j h l =
     length-map (take (j - i) (drop i ws)) (token_of text)
     ∙ length-take-le (j - i) (drop i ws) (omega (arith, length-drop i ws))
 
-pub no_two_between : (n : Names) (keyword : ℕ) (text : List ℕ) (ws : List place.Word) (k j : ℕ)
+pub no_two_between : (n : Names) (keyword : ℕ) (text : List ℕ) (ws : List spec.Word) (k j : ℕ)
     → k < j → j ≤ length ws → j - k ≢ 3
     → Some (fault keyword BadFloating)
     ≡ least (floating_faults n keyword (between text ws (k + 1) j))
@@ -129,7 +129,7 @@ no_two_between n keyword text ws k j h l ne =
     no_two n keyword (between text ws (k + 1) j)
     (λ e. ne (let m = length_between text ws (k + 1) j (omega arith) l in omega (arith, m, e, h)))
 
-pub two_between : (text : List ℕ) (ws : List place.Word) (k j : ℕ) → j ≤ length ws → j - k ≡ 3
+pub two_between : (text : List ℕ) (ws : List spec.Word) (k j : ℕ) → j ≤ length ws → j - k ≡ 3
     → between text ws (k + 1) j ≡ token_at text ws (k + 1) ∷ token_at text ws (k + 2) ∷ []
 two_between text ws k j l e =
     grind (
@@ -144,7 +144,7 @@ empty_count n [] = refl
 empty_count n (x ∷ xs) = grind arith
 
 -- whether there are no words
-pub none_between : (n : Names) (text : List ℕ) (ws : List place.Word) (k j : ℕ) → k < j
+pub none_between : (n : Names) (text : List ℕ) (ws : List spec.Word) (k j : ℕ) → k < j
     → j ≤ length ws
     → nat_eq (j - k - 1) 0 ≡ is_empty n (between text ws (k + 1) j)
 none_between n text ws k j h l =

@@ -56,31 +56,31 @@ module _ (db : List Statement) (b : BlockLists) (x : IsBlocks db b) (few : lengt
       → is_in w (flat_map variables_of (active_statements db (length db)))
       ≡ judge.is_active_variable (is_open_in b) o
   variable_active None k = none_active db variables_of w k.variable
-  variable_active (Some s) k = by s.is_variable refl
+  variable_active (Some s) k = by_test s.is_variable refl
     where
-      by : (v : Bool) → s.is_variable ≡ v
+      by_test : (v : Bool) → s.is_variable ≡ v
           → is_in w (flat_map variables_of (active_statements db (length db)))
           ≡ (v && is_open_in b s.declared)
-      by true e =
+      by_test true e =
           let l = k.declared e in
           latest_is db variables_of w s.declared l
           ∙ latest_open db b x few variables_of w (declares_local w) s.declared l
-      by false e = none_active db variables_of w (k.variable ∙ e)
+      by_test false e = none_active db variables_of w (k.variable ∙ e)
 
   typed_active : (o : Option Symbol) → IsEntryOf db w (entry_of o)
       → is_in w (flat_map typed_words (active_statements db (length db)))
       ≡ is_typed_here (is_open_in b) o
   typed_active None k = none_active db typed_words w (k.untyped refl)
-  typed_active (Some s) k = by (cases_eq s.typed never)
+  typed_active (Some s) k = by_case (cases_eq s.typed never)
     where
-      by : (s.typed ≡ never) ⊎ (s.typed ≢ never)
+      by_case : (s.typed ≡ never) ⊎ (s.typed ≢ never)
           → is_in w (flat_map typed_words (active_statements db (length db)))
           ≡ is_open_in b s.typed
-      by (inl e) =
+      by_case (inl e) =
           none_active db typed_words w (k.untyped e)
           ∙ sym (ap (is_open_in b) e
           ∙ never_open b (let c = x.count in omega (arith, c, few)))
-      by (inr n) =
+      by_case (inr n) =
           let l = k.typed n in
           latest_is db typed_words w s.typed l
           ∙ latest_open db b x few typed_words w (types_local w) s.typed l

@@ -65,13 +65,13 @@ module _ (db : List Statement) (s : Statement) (find new : List ℕ → Option �
       ⊎ ((is_labelled w s ≡ false) × (new w ≡ find w))
   here w None e h = inr (ap (λ o. elim o [ None ↦ false | Some l ↦ bytes_eq l.word w ]) e, h)
   here w (Some l) e h =
-      by (bytes_eq l.word w) (ap (λ o. elim o [ None ↦ false | Some l ↦ bytes_eq l.word w ]) e) h
+      by_equality (bytes_eq l.word w) (ap (λ o. elim o [ None ↦ false | Some l ↦ bytes_eq l.word w ]) e) h
     where
-      by : (b : Bool) → is_labelled w s ≡ b → new w ≡ (if b then Some (length db) else find w)
+      by_equality : (b : Bool) → is_labelled w s ≡ b → new w ≡ (if b then Some (length db) else find w)
           → ((is_labelled w s ≡ true) × (new w ≡ Some (length db)))
           ⊎ ((is_labelled w s ≡ false) × (new w ≡ find w))
-      by true p q = inl (p, q)
-      by false p q = inr (p, q)
+      by_equality true p q = inl (p, q)
+      by_equality false p q = inr (p, q)
 
   pub labels_after : ((w : Bytes) → new w ≡ label_after (length db) (label_of s) w (find w))
       → ((w : Bytes) → is_labelled w s ≡ true → find w ≡ None) → AreLabels (db ++ s ∷ []) new
@@ -138,16 +138,16 @@ pub label_unused : (db : List Statement) (find : List ℕ → Option ℕ)
     → ((w : Bytes) → is_in w (flat_map label_words db) ≡ is_some (find w)) → (d : ℕ) (s : Statement)
     → scope_faults (names_before db (length db)) d s ≡ [] → (w : Bytes) → is_labelled w s ≡ true
     → find w ≡ None
-label_unused db find known d s law w e = by (label_of s) refl e
+label_unused db find known d s law w e = by_token (label_of s) refl e
   where
     none_of : (o : Option ℕ) → is_some o ≡ false → o ≡ None
     none_of None q = refl
     none_of (Some k) q = absurd (true≢false q)
 
-    by : (o : Option Token) → label_of s ≡ o
+    by_token : (o : Option Token) → label_of s ≡ o
         → (elim o [ None ↦ false | Some l ↦ bytes_eq l.word w ]) ≡ true → find w ≡ None
-    by None q f = absurd (true≢false (sym f))
-    by (Some l) q f =
+    by_token None q f = absurd (true≢false (sym f))
+    by_token (Some l) q f =
         let same = (bytes_eq-Decides l.word w).0 f in
         none_of (find w)
         (sym (known w)

@@ -21,7 +21,7 @@ module _ (db : List Statement) (f : Statement → List Bytes) (w : Bytes) where
       → is_in w (flat_map f (active_statements db (length db))) ≡ is_active db last (length db)
   latest_is last x =
       among_active db f w (λ j. is_active db j (length db)) (length db) 0
-      ∙ by (is_active db last (length db)) refl
+      ∙ by_active (is_active db last (length db)) refl
     where
       q : ℕ → Bool
       q = λ j. is_active db j (length db) && has_word db f w j
@@ -33,14 +33,14 @@ module _ (db : List Statement) (f : Statement → List Bytes) (w : Bytes) where
       none e j l true false h k = refl
       none e j l false b h k = refl
 
-      by : (b : Bool) → is_active db last (length db) ≡ b
+      by_active : (b : Bool) → is_active db last (length db) ≡ b
           → list_any (λ j. is_active db j (length db) && has_word db f w j)
           (range_with_len 0 (length db))
           ≡ b
-      by true e =
+      by_active true e =
           range_any (λ j. is_active db j (length db) && has_word db f w j) (length db) 0 last
           (omega arith) (let l = x.before in omega (arith, l)) (ap₂ (λ a b. a && b) e x.there)
-      by false e =
+      by_active false e =
           any_false (λ j. is_active db j (length db) && has_word db f w j) (length db) 0
           (λ j l. let m : j < length db = omega arith in
           none e j m (is_active db j (length db)) (has_word db f w j) refl refl)
@@ -58,7 +58,7 @@ module _ (db : List Statement) (s : Statement) where
       → is_active db j (length db) ≡ true
   active_mono j h e =
       ap₂ (λ x y. x && y) (lt-ltb j (length db) h)
-      (by (slice_get db j) (stays db j (length db))
+      (by_statement (slice_get db j) (stays db j (length db))
       (nat_le (depth db j) (depth (db ++ s ∷ []) (length db + 1)))
       (ap (λ z. z
       && is_active_some (slice_get db j)
@@ -68,10 +68,10 @@ module _ (db : List Statement) (s : Statement) where
       (sym (get_front db (s ∷ []) j h)) (sym (stays_last db s j h))
       ∙ e))
     where
-      by : (o : Option Statement) (a b : Bool) → is_active_some o (a && b) ≡ true
+      by_statement : (o : Option Statement) (a b : Bool) → is_active_some o (a && b) ≡ true
           → is_active_some o a ≡ true
-      by None a b e = e
-      by (Some t) a b e = kind_mono (is_global t) (is_local t) a b e
+      by_statement None a b e = e
+      by_statement (Some t) a b e = kind_mono (is_global t) (is_local t) a b e
 
   module _ (f : Statement → List Bytes) (w : Bytes) where
     has-front : (j : ℕ) → j < length db → has_word (db ++ s ∷ []) f w j ≡ has_word db f w j
@@ -90,16 +90,16 @@ module _ (db : List Statement) (s : Statement) where
       before = let l = x.before in omega (arith, l, length-append db (s ∷ []));
       there = has-front last x.before ∙ x.there;
       alone =
-          λ j h k e. by j h k
+          λ j h k e. by_order j h k
           (ap (is_active (db ++ s ∷ []) j) (sym (length-append db (s ∷ []))) ∙ e)
           (cases_lt j (length db));
     }
       where
-        by : (j : ℕ) → j < length (db ++ s ∷ []) → has_word (db ++ s ∷ []) f w j ≡ true
+        by_order : (j : ℕ) → j < length (db ++ s ∷ []) → has_word (db ++ s ∷ []) f w j ≡ true
             → is_active (db ++ s ∷ []) j (length db + 1) ≡ true → (j < length db) ⊎ (length db ≤ j)
             → j ≡ last
-        by j h k e (inl l) = x.alone j l (sym (has-front j l) ∙ k) (active_mono j l e)
-        by j h k e (inr l) =
+        by_order j h k e (inl l) = x.alone j l (sym (has-front j l) ∙ k) (active_mono j l e)
+        by_order j h k e (inr l) =
             absurd (let same : j ≡ length db = omega (arith, h, l, length-append db (s ∷ [])) in
             true≢false (sym k ∙ ap (has_word (db ++ s ∷ []) f w) same ∙ has-new ∙ n))
 
@@ -111,18 +111,18 @@ module _ (db : List Statement) (s : Statement) where
       before = omega (arith, length-append db (s ∷ []));
       there = has-new ∙ t;
       alone =
-          λ j h k e. by j h k
+          λ j h k e. by_order j h k
           (ap (is_active (db ++ s ∷ []) j) (sym (length-append db (s ∷ []))) ∙ e)
           (cases_lt j (length db));
     }
       where
-        by : (j : ℕ) → j < length (db ++ s ∷ []) → has_word (db ++ s ∷ []) f w j ≡ true
+        by_order : (j : ℕ) → j < length (db ++ s ∷ []) → has_word (db ++ s ∷ []) f w j ≡ true
             → is_active (db ++ s ∷ []) j (length db + 1) ≡ true → (j < length db) ⊎ (length db ≤ j)
             → j ≡ length db
-        by j h k e (inl l) =
+        by_order j h k e (inl l) =
             absurd (true≢false
             (sym (range_any (λ i. is_active db i (length db) && has_word db f w i) (length db) 0 j
             (omega arith) (omega arith)
             (ap₂ (λ a b. a && b) (active_mono j l e) (sym (has-front j l) ∙ k)))
             ∙ sym (among_active db f w (λ i. is_active db i (length db)) (length db) 0) ∙ n))
-        by j h k e (inr l) = omega (arith, h, l, length-append db (s ∷ []))
+        by_order j h k e (inr l) = omega (arith, h, l, length-append db (s ∷ []))

@@ -14,7 +14,7 @@ use Rattle.mm_spec.specs.Statement.{essential, axiomatic, provable, opening, clo
 use Rattle.mm_spec.specs.Scope.{constants_of, variables_of}
 use Rattle.mm_spec.specs.Lawful.{scope_fault}
 use Rattle.mm_spec.specs.Frame.{first_occurrences, symbol_names, index_of, formula_of}
-use Rattle.mm_spec.specs.declared.Word as place
+use Rattle.mm_spec.specs.declared.Word as spec
 use Rattle.mm_database.specs.Numbered.{AreNumbered}
 use Rattle.mm_outline.specs.Parts.{between, token_at}
 use Rattle.mm_outline.proofs.TurnsLaw.{between_more, between_none}
@@ -32,27 +32,27 @@ use Rattle.mm_scope.proofs.BoundsLaw.{symbol_known}
 -- the names of what is declared, with one word more
 pub names_declared : (d : List Bytes) (w : Bytes)
     → with_name w (first_occurrences [] d) ≡ first_occurrences [] (d ++ w ∷ [])
-names_declared d w = by (is_in w (first_occurrences [] d)) ∙ sym (first_added d w)
+names_declared d w = by_is_in (is_in w (first_occurrences [] d)) ∙ sym (first_added d w)
   where
-    by : (b : Bool)
+    by_is_in : (b : Bool)
         → (if b then first_occurrences [] d else (first_occurrences [] d ++ w ∷ []))
         ≡ first_occurrences [] d ++ if_new b w
-    by true = sym (append-nil (first_occurrences [] d))
-    by false = refl
+    by_is_in true = sym (append-nil (first_occurrences [] d))
+    by_is_in false = refl
 
 -- ---- more names after
 
 pub place_front : (w : Bytes) (ns more : List Bytes) → is_in w ns ≡ true
     → index_of w (ns ++ more) ≡ index_of w ns
 place_front w [] more h = absurd (true≢false (sym h))
-place_front w (n ∷ ns) more h = by (bytes_eq w n) refl (place_front w ns more)
+place_front w (n ∷ ns) more h = by_equality (bytes_eq w n) refl (place_front w ns more)
   where
-    by : (b : Bool) → bytes_eq w n ≡ b
+    by_equality : (b : Bool) → bytes_eq w n ≡ b
         → (is_in w ns ≡ true → index_of w (ns ++ more) ≡ index_of w ns)
         → ◌≡◌ {A = ℕ} (elim b [ true ↦ 0 | false ↦ suc (index_of w (ns ++ more)) ])
         (elim b [ true ↦ 0 | false ↦ suc (index_of w ns) ])
-    by true e r = refl
-    by false e r = ap suc (r (sym (ap (λ b. b || is_in w ns) e) ∙ h))
+    by_equality true e r = refl
+    by_equality false e r = ap suc (r (sym (ap (λ b. b || is_in w ns) e) ∙ h))
 
 -- what more words add
 more_names : (d ws : List Bytes)
@@ -154,7 +154,7 @@ formulas_numbered db = record {
 
 -- ---- words numbered one by one
 
-pub numbers_more : (text : List ℕ) (ws : List place.Word) (ns : List Bytes) (from i : ℕ) → from ≤ i
+pub numbers_more : (text : List ℕ) (ws : List spec.Word) (ns : List Bytes) (from i : ℕ) → from ≤ i
     → i < length ws
     → numbers_in ns (between text ws from (i + 1))
     ≡ numbers_in ns (between text ws from i) ++ index_of (token_at text ws i).word ns ∷ []
@@ -165,18 +165,18 @@ numbers_more text ws ns from i l h =
     ∙ map-append (λ (w : Bytes). index_of w ns) (words (between text ws from i))
     ((token_at text ws i).word ∷ [])
 
-pub numbers_none : (text : List ℕ) (ws : List place.Word) (ns : List Bytes) (from : ℕ)
+pub numbers_none : (text : List ℕ) (ws : List spec.Word) (ns : List Bytes) (from : ℕ)
     → [] ≡ numbers_in ns (between text ws from from)
 numbers_none text ws ns from = ap (numbers_in ns) (between_none text ws from)
 
-pub words_more : (text : List ℕ) (ws : List place.Word) (from i : ℕ) → from ≤ i → i < length ws
+pub words_more : (text : List ℕ) (ws : List spec.Word) (from i : ℕ) → from ≤ i → i < length ws
     → words (between text ws from i) ++ (token_at text ws i).word ∷ []
     ≡ words (between text ws from (i + 1))
 words_more text ws from i l h =
     sym (ap words (between_more text ws from i l h)
     ∙ map-append (λ (t : Token). t.word) (between text ws from i) (token_at text ws i ∷ []))
 
-pub names_more : (text : List ℕ) (ws : List place.Word) (from i : ℕ) → from ≤ i → i < length ws
+pub names_more : (text : List ℕ) (ws : List spec.Word) (from i : ℕ) → from ≤ i → i < length ws
     → (d : List Bytes)
     → with_name (token_at text ws i).word
     (first_occurrences [] (d ++ words (between text ws from i)))

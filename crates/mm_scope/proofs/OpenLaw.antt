@@ -20,14 +20,14 @@ open_is db b x few j h =
     slice_get-get_or b.of j 0 (let c = x.count in omega (arith, c, h)) in
     let end : slice_get b.ends (get_or b.of j 0) ≡ Some (end_of b j) =
     slice_get-get_or b.ends (get_or b.of j 0) 0 (x.known j h) in
-    x.ended j (length db) h (le_refl (length db)) ∙ by (x.bounds j h) ∙ ap is_never (sym end)
+    x.ended j (length db) h (le_refl (length db)) ∙ by_case (x.bounds j h) ∙ ap is_never (sym end)
     ∙ ap (λ o. is_never (end_in b.ends o)) (sym of)
   where
-    by : (end_of b j ≡ never) ⊎ (end_of b j < length db)
+    by_case : (end_of b j ≡ never) ⊎ (end_of b j < length db)
         → nat_le (length db) (end_of b j) ≡ nat_eq (end_of b j) never
-    by (inl e) =
+    by_case (inl e) =
         le-leb (length db) (end_of b j) (omega (arith, e, few)) ∙ sym (eq-eqb (end_of b j) never e)
-    by (inr l) =
+    by_case (inr l) =
         lt-leb (length db) (end_of b j) l
         ∙ sym (ne_eqb (end_of b j) never (λ e. absurd (omega (arith, e, l, few))))
 
@@ -61,14 +61,14 @@ types_local w (closing k) b h = absurd (true≢false (sym h))
 pub latest_open : (db : List Statement) (b : BlockLists) → IsBlocks db b → length db < never
     → (f : Statement → List Bytes) (w : List ℕ) → IsLocal f w → (last : ℕ) → Latest db f w last
     → is_active db last (length db) ≡ is_open_in b last
-latest_open db b x few f w local last l = by (slice_get db last) refl
+latest_open db b x few f w local last l = by_statement (slice_get db last) refl
   where
-    by : (o : Option Statement) → slice_get db last ≡ o
+    by_statement : (o : Option Statement) → slice_get db last ≡ o
         → is_active db last (length db) ≡ is_open_in b last
-    by None e =
+    by_statement None e =
         absurd (true≢false
         (sym l.there ∙ ap (λ o. is_in w (flat_map f (elim o [ None ↦ [] | Some t ↦ t ∷ [] ]))) e))
-    by (Some s) e =
+    by_statement (Some s) e =
         ap₂ (λ t o. t && is_active_some o (stays db last (length db)))
         (lt-ltb last (length db) l.before) e
         ∙ local s (stays db last (length db))

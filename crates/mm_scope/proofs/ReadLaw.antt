@@ -17,7 +17,7 @@ use Rattle.mm_spec.specs.declared.Fault.{Fault}
 use Rattle.mm_spec.proofs.LocalLaw.{scope_fault_front, scope_fault_next}
 use Rattle.mm_spec.proofs.LongestLaw.{is_longest}
 use Rattle.mm_spec.proofs.StopsLaw.{text_fault, text_fault_is, no_text_fault, first_of, fault_at_end}
-use Rattle.mm_outline.specs.Parts.{as_tokens, progress, made, depth_after, less_one}
+use Rattle.mm_outline.specs.Parts.{as_tokens, progress, statement_between, depth_after, one_less}
 use Rattle.mm_outline.specs.Blocks.{BlockLists, IsBlocks, never}
 use Rattle.mm_outline.proofs.BlocksLaw.{depth_end, depth_plain, depth_opening, depth_closing}
 use Rattle.mm_outline.specs.declared.parts.Kind.{Kind}
@@ -101,11 +101,11 @@ module _ (text : List ℕ) (ws : List Word) (len : ℕ) (lexical : Option Fault)
   end_is : (part : Part) (i : ℕ) (o : Option Fault)
       → first_of o (fault_at_end len (progress text ws deep part i)) ≡ end_fault_of o len part deep
   end_is part i (Some f) = refl
-  end_is Start i None = by deep
+  end_is Start i None = by_number deep
     where
-      by : (d : ℕ) → fault_at_end len (start d) ≡ end_fault_of None len Start d
-      by zero = refl
-      by (suc d) = refl
+      by_number : (d : ℕ) → fault_at_end len (start d) ≡ end_fault_of None len Start d
+      by_number zero = refl
+      by_number (suc d) = refl
   end_is (Labelled l) i None = refl
   end_is (Words k w) i None = refl
   end_is (Formula w) i None = refl
@@ -161,7 +161,7 @@ inside_block text ws db deep at r s d us l e =
     not_both (axiomatic l k xs d) e = refl
     not_both (provable l k xs q ps d) e = refl
 
-less_one_is : (d : ℕ) → d - 1 ≡ less_one d
+less_one_is : (d : ℕ) → d - 1 ≡ one_less d
 less_one_is zero = omega arith
 less_one_is (suc d) = omega arith
 
@@ -174,34 +174,34 @@ after_le _ d at end h l = omega arith
 depth_is : (text : List ℕ) (ws : List Word) (db : List Statement) (b : BlockLists) → IsBlocks db b
     → length db < never → (k : Kind) (w m e : ℕ)
     → depth_after k (depth db (length db))
-    ≡ depth (db ++ made text ws k w m e ∷ []) (length db + 1)
+    ≡ depth (db ++ statement_between text ws k w m e ∷ []) (length db + 1)
 depth_is text ws db b x few kind.Open w m e =
-    (let y = depth_opening db (made text ws kind.Open w m e) b x few refl refl in omega (arith, y))
+    (let y = depth_opening db (statement_between text ws kind.Open w m e) b x few refl refl in omega (arith, y))
 depth_is text ws db b x few kind.Close w m e =
-    sym (depth_closing db (made text ws kind.Close w m e) b x few refl refl
+    sym (depth_closing db (statement_between text ws kind.Close w m e) b x few refl refl
     ∙ less_one_is (depth db (length db)))
 depth_is text ws db b x few kind.Constants w m e =
-    sym (depth_plain db (made text ws kind.Constants w m e) b x few refl refl)
+    sym (depth_plain db (statement_between text ws kind.Constants w m e) b x few refl refl)
 depth_is text ws db b x few kind.Variables w m e =
-    sym (depth_plain db (made text ws kind.Variables w m e) b x few refl refl)
+    sym (depth_plain db (statement_between text ws kind.Variables w m e) b x few refl refl)
 depth_is text ws db b x few kind.Disjoint w m e =
-    sym (depth_plain db (made text ws kind.Disjoint w m e) b x few refl refl)
+    sym (depth_plain db (statement_between text ws kind.Disjoint w m e) b x few refl refl)
 depth_is text ws db b x few kind.Floating w m e =
-    sym (depth_plain db (made text ws kind.Floating w m e) b x few refl refl)
+    sym (depth_plain db (statement_between text ws kind.Floating w m e) b x few refl refl)
 depth_is text ws db b x few kind.Essential w m e =
-    sym (depth_plain db (made text ws kind.Essential w m e) b x few refl refl)
+    sym (depth_plain db (statement_between text ws kind.Essential w m e) b x few refl refl)
 depth_is text ws db b x few kind.Axiom w m e =
-    sym (depth_plain db (made text ws kind.Axiom w m e) b x few refl refl)
+    sym (depth_plain db (statement_between text ws kind.Axiom w m e) b x few refl refl)
 depth_is text ws db b x few kind.Theorem w m e =
-    sym (depth_plain db (made text ws kind.Theorem w m e) b x few refl refl)
+    sym (depth_plain db (statement_between text ws kind.Theorem w m e) b x few refl refl)
 
 pub reading_more : (text : List ℕ) (ws : List Word) (db : List Statement) (deep at : ℕ)
     → IsReadTo text ws db deep at → length ws < 2 ^ 31 → (b : BlockLists) → IsBlocks db b
     → (k : Kind) (w m e : ℕ) → at ≤ e → e < length ws
-    → Leads (start deep) (tokens_from text ws at) (made text ws k w m e ∷ [])
+    → Leads (start deep) (tokens_from text ws at) (statement_between text ws k w m e ∷ [])
     (start (depth_after k deep)) (tokens_from text ws (e + 1))
-    → None ≡ least (scope_faults (names_before db (length db)) deep (made text ws k w m e))
-    → IsReadTo text ws (db ++ made text ws k w m e ∷ []) (depth_after k deep) (e + 1)
+    → None ≡ least (scope_faults (names_before db (length db)) deep (statement_between text ws k w m e))
+    → IsReadTo text ws (db ++ statement_between text ws k w m e ∷ []) (depth_after k deep) (e + 1)
 reading_more text ws db deep at r small b x k w m e later within l f = record {
   leads = leads_then r.leads l;
   within = omega (arith, within);
@@ -216,24 +216,24 @@ reading_more text ws db deep at r small b x k w m e later within l f = record {
 }
   where
     s : Statement
-    s = made text ws k w m e
+    s = statement_between text ws k w m e
 
-    long : length (db ++ made text ws k w m e ∷ []) ≡ length db + 1
-    long = length-append db (made text ws k w m e ∷ [])
+    long : length (db ++ statement_between text ws k w m e ∷ []) ≡ length db + 1
+    long = length-append db (statement_between text ws k w m e ∷ [])
 
-    lawful : (j : ℕ) → j < length (db ++ made text ws k w m e ∷ [])
-        → scope_fault (db ++ made text ws k w m e ∷ []) j ≡ None
-    lawful j h = by (cases_lt j (length db))
+    lawful : (j : ℕ) → j < length (db ++ statement_between text ws k w m e ∷ [])
+        → scope_fault (db ++ statement_between text ws k w m e ∷ []) j ≡ None
+    lawful j h = by_order (cases_lt j (length db))
       where
-        by : (j < length db) ⊎ (length db ≤ j)
-            → scope_fault (db ++ made text ws k w m e ∷ []) j ≡ None
-        by (inl i) = scope_fault_front db (made text ws k w m e ∷ []) j i ∙ r.lawful j i
-        by (inr i) =
+        by_order : (j < length db) ⊎ (length db ≤ j)
+            → scope_fault (db ++ statement_between text ws k w m e ∷ []) j ≡ None
+        by_order (inl i) = scope_fault_front db (statement_between text ws k w m e ∷ []) j i ∙ r.lawful j i
+        by_order (inr i) =
             let same : length db ≡ j = omega (arith, h, i, long) in
-            subst (λ j. scope_fault (db ++ made text ws k w m e ∷ []) j ≡ None) same
-            (scope_fault_next db (made text ws k w m e) []
+            subst (λ j. scope_fault (db ++ statement_between text ws k w m e ∷ []) j ≡ None) same
+            (scope_fault_next db (statement_between text ws k w m e) []
             ∙ ap (λ d. least
-            (scope_faults (names_before db (length db)) d (made text ws k w m e)))
+            (scope_faults (names_before db (length db)) d (statement_between text ws k w m e)))
             (sym r.deep_is)
             ∙ sym f)
 

@@ -37,18 +37,18 @@ module _ (text : List ℕ) (ws : List Word) (k j : ℕ) (l : j ≤ length ws) wh
       → entry_of (new w) ≡ typed_after n (between text ws (k + 1) j) w (entry_of (old w))
   typed_now e n old mid new same u w =
       let next : k + 1 + 1 ≡ k + 2 = omega arith in
-      u w ∙ by (bytes_eq (token_at text ws (k + 1 + 1)).word w) refl
+      u w ∙ by_equality (bytes_eq (token_at text ws (k + 1 + 1)).word w) refl
       ∙ ap (λ m. if bytes_eq (token_at text ws m).word w then typed_entry n
       (token_at text ws (k + 1)).word (entry_of (old w)) else entry_of (old w)) next
       ∙ ap (λ xs. typed_after n xs w (entry_of (old w))) (sym (two_between text ws k j l e))
     where
-      by : (b : Bool) → bytes_eq (token_at text ws (k + 1 + 1)).word w ≡ b
+      by_equality : (b : Bool) → bytes_eq (token_at text ws (k + 1 + 1)).word w ≡ b
           → (if b then typed_entry n (token_at text ws (k + 1)).word
           (entry_of (mid (token_at text ws (k + 1 + 1)).word)) else entry_of (mid w))
           ≡ (if b then typed_entry n (token_at text ws (k + 1)).word
           (entry_of (old w)) else entry_of (old w))
-      by true h =
+      by_equality true h =
           ap (λ v. typed_entry n (token_at text ws (k + 1)).word (entry_of (mid v)))
           ((bytes_eq-Decides (token_at text ws (k + 1 + 1)).word w).0 h)
           ∙ ap (λ o. typed_entry n (token_at text ws (k + 1)).word (entry_of o)) (same w)
-      by false h = ap entry_of (same w)
+      by_equality false h = ap entry_of (same w)

@@ -22,14 +22,14 @@ use Rattle.mm_scope.proofs.LatestLaw.{latest_stays, latest_new}
 none_other : (c w : Bytes) (ts : List Typing) → is_in w (map (λ t. t.variable) ts ++ []) ≡ false
     → list_any (is_other c w) (ts ++ []) ≡ false
 none_other c w [] e = refl
-none_other c w (t ∷ ts) e = by (bytes_eq w t.variable) e (none_other c w ts)
+none_other c w (t ∷ ts) e = by_equality (bytes_eq w t.variable) e (none_other c w ts)
   where
-    by : (b : Bool) → (b || is_in w (map (λ t. t.variable) ts ++ [])) ≡ false
+    by_equality : (b : Bool) → (b || is_in w (map (λ t. t.variable) ts ++ [])) ≡ false
         → (is_in w (map (λ t. t.variable) ts ++ []) ≡ false
         → list_any (is_other c w) (ts ++ []) ≡ false)
         → ((b && not (bytes_eq c t.typecode)) || list_any (is_other c w) (ts ++ [])) ≡ false
-    by true e r = absurd (true≢false e)
-    by false e r = r e
+    by_equality true e r = absurd (true≢false e)
+    by_equality false e r = r e
 
 module _ (db : List Statement) (s : Statement) (w : Bytes) where
   pub in_more : (f : Statement → List Bytes)
@@ -168,11 +168,11 @@ module _ (db : List Statement) (s : Statement) (w : Bytes) where
           → (not t && not (bytes_eq c e.typecode)) ≡ false
           → ((not t && not (bytes_eq d e.typecode)) || not (bytes_eq d c)) ≡ not (bytes_eq d c)
       old d true h q = refl
-      old d false h q = by (bytes_eq c e.typecode) refl q
+      old d false h q = by_equality (bytes_eq c e.typecode) refl q
         where
-          by : (b : Bool) → bytes_eq c e.typecode ≡ b → not b ≡ false
+          by_equality : (b : Bool) → bytes_eq c e.typecode ≡ b → not b ≡ false
               → (not (bytes_eq d e.typecode) || not (bytes_eq d c)) ≡ not (bytes_eq d c)
-          by true z q =
+          by_equality true z q =
               ap (λ y. not (bytes_eq d y) || not (bytes_eq d c))
               (sym ((bytes_eq-Decides c e.typecode).0 z))
               ∙ twice (not (bytes_eq d c))
@@ -180,7 +180,7 @@ module _ (db : List Statement) (s : Statement) (w : Bytes) where
               twice : (y : Bool) → (y || y) ≡ y
               twice true = refl
               twice false = refl
-          by false z q = absurd (true≢false q)
+          by_equality false z q = absurd (true≢false q)
 
       other : (d : Bytes)
           → list_any (is_other d w) (flat_map typings_of (db ++ s ∷ []))

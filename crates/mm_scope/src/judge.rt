@@ -5,7 +5,7 @@ ghost use Rattle.std.specs.Prelude.{◌+◌, ◌-◌, ℕ, List, is_some, Some, 
 ghost use Rattle.mm_spec.specs.Text.{is_in, words};
 ghost use Rattle.mm_database.specs.Names.{find};
 ghost use Rattle.mm_scope.specs.Formulas.{judged, numbers_in};
-ghost use Rattle.mm_spec.specs.Lawful.{at, at_each, least, when as spec_when, symbol_codes};
+ghost use Rattle.mm_spec.specs.Lawful.{at, at_each, least, when, symbol_codes};
 ghost use Rattle.mm_spec.specs.Lawful.{formula_faults, floating_faults, label_faults, scope_faults};
 ghost use Rattle.mm_spec.specs.Scope.{Names as DeclaredNames};
 ghost use Rattle.mm_spec.specs.declared.Fault.{Fault as SpecFault};
@@ -45,14 +45,14 @@ impl<'a, A: Allocator + Copy> Scope<'a, A> {
             ≡ numbers.old.items
             ++ numbers_in (names_in self.now) (between text.now tokens.now from to)) }
     {
-        let mut best = None;
+        let mut least_found = None;
         for at in from..to {
             let token = tokens[at as usize];
             let (number, known) = self.names.numbered(token.bytes(text));
             numbers.push(Sym::new(number as u32))?;
-            best = lesser(best, found(token.start, self.symbol_code(known)));
+            least_found = lesser(least_found, fault_with_code(token.start, self.symbol_code(known)));
         }
-        Ok(best)
+        Ok(least_found)
     }
 
     /// Returns the first fault of the symbols of a `$c`, `$v` or `$d`.
@@ -74,15 +74,15 @@ impl<'a, A: Allocator + Copy> Scope<'a, A> {
     {
         let is_short = to - from <= MAX_WORDS_COMPARED;
         let mut seen = IndexMap::new(alloc);
-        let mut best = None;
+        let mut least_found = None;
         for at in from..to {
             let repeated = is_repeated(&mut seen, is_short, text, tokens, from, at)?;
             let token = tokens[at as usize];
             let word = token.bytes(text);
             let code = self.declared_code(kind, word, repeated);
-            best = lesser(best, found(token.start, code));
+            least_found = lesser(least_found, fault_with_code(token.start, code));
         }
-        Ok(best)
+        Ok(least_found)
     }
 
     /// Returns the first fault of a formula, which ends at the token `to`, and appends the numbers
@@ -109,12 +109,12 @@ impl<'a, A: Allocator + Copy> Scope<'a, A> {
             ++ numbers_in (names_in self.now) (between text.now tokens.now from to)) }
     {
         if from == to {
-            return Ok(found(tokens[to as usize].start, Some(Code::BadTypecode)));
+            return Ok(fault_with_code(tokens[to as usize].start, Some(Code::BadTypecode)));
         }
         let token = tokens[from as usize];
         let (number, known) = self.names.numbered(token.bytes(text));
         numbers.push(Sym::new(number as u32))?;
-        let typecode = found(token.start, Self::typecode_code(known));
+        let typecode = fault_with_code(token.start, Self::typecode_code(known));
         let rest = self.symbols_fault(text, tokens, from + 1, to, numbers)?;
         Ok(lesser(typecode, rest))
     }
@@ -127,7 +127,7 @@ impl<'a, A: Allocator + Copy> Scope<'a, A> {
             (λ n. label_faults n (token_at text.now tokens.now at)) result }
     {
         let token = tokens[at as usize];
-        found(token.start, self.label_code(token.bytes(text)))
+        fault_with_code(token.start, self.label_code(token.bytes(text)))
     }
 
     /// Returns the fault of the symbols of a `$f`.
@@ -140,15 +140,15 @@ impl<'a, A: Allocator + Copy> Scope<'a, A> {
             (between text.now tokens.now (keyword + 1) to)) result }
     {
         if to - keyword != 3 {
-            return found(tokens[keyword as usize].start, Some(Code::BadFloating));
+            return fault_with_code(tokens[keyword as usize].start, Some(Code::BadFloating));
         }
         let first = tokens[keyword as usize + 1];
         let second = tokens[keyword as usize + 2];
         let typecode = first.bytes(text);
         let variable = second.bytes(text);
         match self.typing_code(typecode, variable) {
-            Some(code) => found(second.start, code),
-            None => found(tokens[keyword as usize].start, Some(Code::BadFloating)),
+            Some(code) => fault_with_code(second.start, code),
+            None => fault_with_code(tokens[keyword as usize].start, Some(Code::BadFloating)),
         }
     }
 
@@ -170,11 +170,11 @@ impl<'a, A: Allocator + Copy> Scope<'a, A> {
         let count = outline.middle - outline.keyword - 1;
         match outline.kind {
             Kind::Constants => {
-                let deep = found(first, when(deep > 0, Code::ConstantInBlock));
-                lesser(deep, found(end, when(count == 0, Code::EmptyDeclaration)))
+                let deep = fault_with_code(first, code_if(deep > 0, Code::ConstantInBlock));
+                lesser(deep, fault_with_code(end, code_if(count == 0, Code::EmptyDeclaration)))
             }
-            Kind::Variables => found(end, when(count == 0, Code::EmptyDeclaration)),
-            _ => found(end, when(count < 2, Code::TooFewVariables)),
+            Kind::Variables => fault_with_code(end, code_if(count == 0, Code::EmptyDeclaration)),
+            _ => fault_with_code(end, code_if(count < 2, Code::TooFewVariables)),
         }
     }
 
@@ -274,15 +274,15 @@ impl<'a, A: Allocator + Copy> Scope<'a, A> {
 }
 
 /// Returns the code if the test holds.
-fn when(holds: bool, code: Code) -> Option<Code>
-    ensures { (place : ℕ) → fault_at place result ≡ least (at place (spec_when holds code)) }
+fn code_if(holds: bool, code: Code) -> Option<Code>
+    ensures { (place : ℕ) → fault_at place result ≡ least (at place (when holds code)) }
 {
     if holds { Some(code) } else { None }
 }
 
 /// Returns the fault with the code at a place, if any.
 #[inline(always)]
-fn found(at: u32, code: Option<Code>) -> Option<Fault>
+fn fault_with_code(at: u32, code: Option<Code>) -> Option<Fault>
     ensures { result ≡ fault_at at code }
 {
     match code {

@@ -54,6 +54,9 @@ const SPECIAL = new RegExp(
     "g",
 );
 
+/** A page of the site that metamath.exe makes of a database (`~ mmtheorems.html#here`): it isn't here, so it is named. */
+const SITE_PAGE = /^mm[\w.-]*\.html(?:#\S*)?$/;
+
 /** The tags within `<HTML>` that are kept, and the elements that the page makes of them. */
 const ELEMENTS = new Map(
     Object.entries({
@@ -236,8 +239,8 @@ class Reader {
      */
     label(whole, label) {
         if (/^https?:/i.test(label)) this.children.push({ type: "address", address: label.replace(/~~/g, "~") });
-        else if (/^[\w.-]+$/.test(label)) this.children.push({ type: "label", label });
-        else this.text(whole);
+        else if (/^[\w.-]+$/.test(label) && !SITE_PAGE.test(label)) this.children.push({ type: "label", label });
+        else this.text(SITE_PAGE.test(label) ? label : whole);
     }
 
     /**

@@ -1,8 +1,9 @@
-"""Two browsers behind one interface: Chromium by selenium, Firefox by Marionette."""
+"""Three browsers behind one interface: Chromium and WebKitGTK by selenium, Firefox by Marionette."""
 
 import importlib
 import os
 import shutil
+import subprocess
 import tempfile
 import time
 from abc import ABC, abstractmethod
@@ -258,6 +259,92 @@ class Firefox(Browser):
         self.marionette.close()
 
 
+# The browser that WebKitGTK comes with, in the folder of its version.
+MINI_BROWSERS = "*/webkit2gtk-*/MiniBrowser"
+
+
+def mini_browser() -> Path | None:
+    """WebKitGTK's browser, where Debian's package puts it."""
+    return next(iter(sorted(Path("/usr/lib").glob(MINI_BROWSERS))), None)
+
+
+class Screen:
+    """A screen that nobody sees, for a browser that needs one."""
+
+    def __init__(self) -> None:
+        words = ["Xvfb", "-displayfd", "1", "-screen", "0", "1600x1200x24", "-nolisten", "tcp"]
+        self.process = subprocess.Popen(
+            words, stdout=subprocess.PIPE, stderr=subprocess.DEVNULL, text=True
+        )
+        assert self.process.stdout is not None
+        self.name = f":{self.process.stdout.readline().strip()}"
+
+    def close(self) -> None:
+        """Takes it away."""
+        self.process.terminate()
+        self.process.wait()
+
+
+class WebKit(Browser):
+    """WebKitGTK's own browser, by its driver. Its console can't be read, and it can't be told to be
+    light or dark."""
+
+    name = "webkitgtk"
+
+    def __init__(self) -> None:
+        self.screen = Screen()
+        options = importlib.import_module("selenium.webdriver.webkitgtk.options").Options()
+        options.binary_location = str(mini_browser())
+        options.add_argument("--automation")
+        before = os.environ.get("DISPLAY")
+        os.environ["DISPLAY"] = self.screen.name
+        try:
+            path = shutil.which("WebKitWebDriver")
+            self.driver = webdriver.WebKitGTK(executable_path=path, options=options)
+        finally:
+            os.environ.pop("DISPLAY")
+            if before is not None:
+                os.environ["DISPLAY"] = before
+        self.driver.set_script_timeout(500)
+        self.size(1280, 900)
+
+    @staticmethod
+    def is_here() -> bool:
+        """Whether the browser, its driver and a screen are installed."""
+        found = shutil.which("WebKitWebDriver") and shutil.which("Xvfb") and mini_browser()
+        return webdriver is not None and bool(found)
+
+    def go(self, address: str) -> None:
+        self.driver.get(address)
+
+    def run(self, script: str, *words: Any) -> Any:
+        return self.driver.execute_script(script, *words)
+
+    def call(self, function: str, *words: Any) -> Any:
+        return self.driver.execute_async_script(waiting(function), *words)
+
+    def press(self, *keys: str) -> None:
+        webdriver.ActionChains(self.driver).send_keys(*keys).perform()
+
+    def choose(self, selector: str, paths: list[Path]) -> None:
+        field = self.driver.find_element("css selector", selector)
+        field.send_keys("\n".join(map(str, paths)))
+
+    def size(self, width: int, height: int) -> bool:
+        self.driver.set_window_rect(width=width, height=height)
+        return bool(self.run("return window.innerWidth") == width)
+
+    def look(self, scheme: str, media: str = "") -> None:
+        pass
+
+    def messages(self) -> list[str]:
+        return []
+
+    def close(self) -> None:
+        self.driver.quit()
+        self.screen.close()
+
+
 def waiting(function: str) -> str:
     """A script that calls a function and waits for its answer."""
     return (
@@ -276,4 +363,6 @@ def missing() -> str | None:
     return None
 
 
-KINDS: dict[str, type[Chromium] | type[Firefox]] = {"chromium": Chromium, "firefox": Firefox}
+KINDS: dict[str, type[Browser]] = {"chromium": Chromium, "firefox": Firefox}
+# The page that verifies is also tried in WebKitGTK, where that is installed.
+VERIFYING_KINDS: dict[str, type[Browser]] = {**KINDS, "webkitgtk": WebKit}

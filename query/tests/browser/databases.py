@@ -25,6 +25,7 @@ $( First </script><script>window.taken=1</script> and {EVIL_SYMBOL} and ` <i> ` 
    ~ constructor . Second _emphasis_ [Author] p. 3. <HTML><script>window.taken=1</script><b
    onclick=window.taken=1>bold</b><a href="javascript:window.taken=1">link</a><style>* {{ display:
    none }}</style><table><td>cell</HTML> ~ javascript:window.taken=1 ~ http://example.org/?a="b"
+   See ~ mmset.html#evil for more.
    (Contributed by <b>Eve</b>, 1-Jan-2020.) (New usage is discouraged.) $)
 constructor $a |- ( p -> ( q -> p ) ) $.
 ${{ ..-.. $e |- p $. 1 $e |- ( p -> q ) $. toString $a |- q $. $}}

@@ -11,7 +11,7 @@ import tempfile
 from pathlib import Path
 
 from query.tests.browser import browsers, verifying, whole
-from query.tests.browser.browsers import Browser
+from query.tests.browser.browsers import Browser, WebKit
 from query.tests.browser.counting import checks
 from query.tests.browser.truth import DATABASES, PROGRAM
 from query.tests.browser.verifying import Room
@@ -25,7 +25,7 @@ def options_of(told: str) -> argparse.Namespace:
     parser.add_argument("module", metavar="MODULE", nargs="?", type=Path)
     parser.add_argument("--small", action="store_true")
     parser.add_argument("--measure", action="store_true")
-    parser.add_argument("--only", choices=list(browsers.KINDS))
+    parser.add_argument("--only", choices=list(browsers.VERIFYING_KINDS))
     parser.add_argument("--seed", type=int, default=random.randrange(10**6))
     parser.add_argument("--theorems", type=int, default=300)
     parser.add_argument("--axioms", type=int, default=50)
@@ -73,7 +73,13 @@ def main(told: str) -> None:
     os.environ["MMDEPEND"] = PROGRAM
     signal.signal(signal.SIGTERM, lambda *_: sys.exit(143))  # so that the browsers end, too
     print(f"seed {options.seed}", flush=True)
-    kinds = [kind for name, kind in browsers.KINDS.items() if options.only in (None, name)]
+    kinds = [
+        kind
+        for name, kind in browsers.VERIFYING_KINDS.items()
+        if options.only in (None, name) and (name != "webkitgtk" or WebKit.is_here())
+    ]
+    if WebKit not in kinds:
+        print("WebKitGTK is left out: apt-get install webkit2gtk-driver xvfb", flush=True)
     with contextlib.ExitStack() as stack:
         folder = Path(stack.enter_context(tempfile.TemporaryDirectory()))
         if options.keep:

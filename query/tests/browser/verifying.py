@@ -19,7 +19,7 @@ from pathlib import Path
 from query.faults import FAULTS
 from query.options import Options
 from query.tests.blocks import blocks_of
-from query.tests.browser.browsers import Browser, Chromium, Firefox, Keys
+from query.tests.browser.browsers import Browser, Chromium, Keys
 from query.tests.browser.counting import count, figure, same
 from query.tests.browser.databases import EVIL, EVIL_TYPESETTING, NEWER, OLDER, OPEN
 from query.tests.browser.scripts import CONTRAST, GATHER, NAMES, TARGETS
@@ -563,7 +563,7 @@ def check_database(browser: Browser, room: Room, name: str) -> Truth | None:
     return Truth(path)
 
 
-def measure(kind: type[Chromium] | type[Firefox], room: Room, name: str) -> None:
+def measure(kind: type[Browser], room: Room, name: str) -> None:
     """Seconds and memory, from the choice until the first theorem is shown, each time in a new
     browser."""
     path = DATABASES / f"{name}.mm"

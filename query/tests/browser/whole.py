@@ -96,6 +96,7 @@ def check_evil_comment(browser: Browser, words: list[str]) -> None:
         "First </script><script>window.taken=1</script> and",
         "Second emphasis",
         "<style>",
+        "See mmset.html#evil for more.",
     ):
         count(part in view["comment"], f"{browser.name}: a comment shows {part}", view["comment"])
     kept = browser.run(

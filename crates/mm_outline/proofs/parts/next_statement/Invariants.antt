@@ -1,12 +1,12 @@
 use Rattle.std.proofs.Common.{◌≤◌, ◌-◌, [], length}
 use Rattle.mm_spec.specs.Laws.Table.{start}
-use Rattle.mm_outline.specs.Parts.{IsPart, progress}
+use Rattle.mm_outline.specs.Parts.{IsPartBefore, progress}
 use Rattle.mm_outline.specs.NextStatement.{Leads, tokens_from}
 use Rattle.mm_outline.proofs.parts.next_statement.Given as goal
 
 abbrev pub invariant-loop-at : goal.invariant-loop-at
 invariant-loop-at l = record {
-  part : IsPart l.part l.at;
+  part : IsPartBefore l.part l.at;
   later : l.from ≤ l.at;
   within : l.at ≤ length l.tokens;
   leads : Leads (start l.deep) (tokens_from l.text l.tokens l.from) []

@@ -7,7 +7,7 @@ use Rattle.mm_outline.proofs.parts.pass_words.Goals as goal
 pub returns-in_default : goal.returns-in_default
 returns-in_default c =
     let found = c.next_keyword.ensures in
-    let takes = by c.args.part refl in
+    let takes = by_part c.args.part refl in
     record {
       later = found.later;
       within = found.within;
@@ -18,9 +18,9 @@ returns-in_default c =
           c.next_keyword.result takes c.requires.part found.later found.within found.plain;
     }
   where
-    by : (p : Part) → c.args.part ≡ p → TakesWords p
-    by Start e = c.in_default.not-Start e
-    by (Labelled l) e = c.in_default.not-Labelled l e
-    by (Words k w) e = tt
-    by (Formula w) e = tt
-    by (Proof w q) e = tt
+    by_part : (p : Part) → c.args.part ≡ p → TakesWords p
+    by_part Start e = c.in_default.not-Start e
+    by_part (Labelled l) e = c.in_default.not-Labelled l e
+    by_part (Words k w) e = tt
+    by_part (Formula w) e = tt
+    by_part (Proof w q) e = tt

@@ -1,6 +1,6 @@
 use Rattle.std.proofs.Common.{◌<◌, ◌≤◌, ◌∙◌, sym, ap, arith, length, subst}
 use Rattle.mm_database.specs.Names.{find}
-use Rattle.mm_outline.specs.Parts.{made, IsKeywordBefore}
+use Rattle.mm_outline.specs.Parts.{statement_between, IsKeywordBefore}
 use Rattle.mm_scope.specs.WordEntry.{entry_of}
 use Rattle.mm_scope.specs.WordEntry.{entry_after}
 use Rattle.mm_scope.proofs.TypedLaw.{typed_not, typed_now}
@@ -20,7 +20,7 @@ returns-in_ok-give_type-in-Floating-clause-symbols g c = λ w.
     (find c.give_type.new.self.names.symbols)
     (λ w. ap (λ m. find m w) c.in_ok-give_label-in-Floating.ensures.symbols)
     c.in_ok-give_type-in-Floating.ensures.symbols w
-    ∙ ap (λ kd. entry_after c.args.number (made text ws kd o.keyword o.middle o.end) w
+    ∙ ap (λ kd. entry_after c.args.number (statement_between text ws kd o.keyword o.middle o.end) w
     (entry_of (find c.args.self.now.names.symbols w))) (sym c.in-Floating.is)
 
 pub returns-else-outline-eq3-clause-symbols : goal.returns-else-outline-eq3-clause-symbols
@@ -37,5 +37,5 @@ returns-else-outline-eq3-clause-symbols g c = λ w.
     ap (λ m. entry_of (find m w)) c.in_ok-give_label-in-Floating.ensures.symbols
     ∙ sym (typed_not text ws o.keyword o.middle inside c.args.number w
     (entry_of (find c.args.self.now.names.symbols w)) below c.if-outline-eq3.false)
-    ∙ ap (λ kd. entry_after c.args.number (made text ws kd o.keyword o.middle o.end) w
+    ∙ ap (λ kd. entry_after c.args.number (statement_between text ws kd o.keyword o.middle o.end) w
     (entry_of (find c.args.self.now.names.symbols w))) (sym c.in-Floating.is)

@@ -23,9 +23,9 @@ loop-at-preserved g c =
       least = λ n k.
           let codes = listed_codes n c.args.kind in
           let is = c.bytes-word.ensures in
-          c.lesser-best.ensures (at_each codes [] (between text ws from i))
+          c.lesser-least_found.ensures (at_each codes [] (between text ws from i))
           (at t.at (codes e t.word)) (c.loop-at.invariant.least n k)
-          (c.found.ensures
+          (c.fault_with_code.ensures
           ∙ c.declared_code-code.ensures e (c.in_ok-repeated.ensures.repeated
           ∙ in_earlier text ws from i t.word ∙ ap (λ w. is_in w e) (sym is)) t.at n k
           ∙ ap (λ w. least (at t.at (codes e w))) is)

@@ -1,6 +1,6 @@
 use Rattle.std.proofs.Common.{◌∙◌, ◌-◌, ◌+◌, sym, ap}
 use Rattle.mm_spec.specs.Lawful.{least, scope_faults, floating_faults, label_faults}
-use Rattle.mm_outline.specs.Parts.{token_at, nth_word, between, made}
+use Rattle.mm_outline.specs.Parts.{token_at, nth_word, between, statement_between}
 use Rattle.mm_scope.proofs.scope.Scope.fault.Goals as goal
 
 pub returns-in-Floating-clause-fault : goal.returns-in-Floating-clause-fault
@@ -11,5 +11,5 @@ returns-in-Floating-clause-fault g c = λ n k.
     c.lesser.ensures (label_faults n (token_at text ws (o.keyword - 1)))
     (floating_faults n (nth_word ws o.keyword).start (between text ws (o.keyword + 1) o.middle))
     (c.label_fault-label.ensures n k) (c.floating_fault.ensures n k)
-    ∙ ap (λ kd. least (scope_faults n c.args.deep (made text ws kd o.keyword o.middle o.end)))
+    ∙ ap (λ kd. least (scope_faults n c.args.deep (statement_between text ws kd o.keyword o.middle o.end)))
     (sym c.in-Floating.is)

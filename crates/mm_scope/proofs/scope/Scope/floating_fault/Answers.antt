@@ -10,7 +10,7 @@ pub returns-then-to-keyword-ne3 : goal.returns-then-to-keyword-ne3
 returns-then-to-keyword-ne3 g c = λ n k.
     let order = c.requires.order in
     let within = c.requires.within in
-    c.found.ensures
+    c.fault_with_code.ensures
     ∙ no_two_between n
     (nth_word c.args.tokens.now c.args.keyword).start c.args.text.now c.args.tokens.now
     c.args.keyword c.args.to order (omega (arith, within)) c.if-to-keyword-ne3.true
@@ -23,7 +23,7 @@ returns-in-Some g c = λ n k.
     let at = (nth_word ws c.args.keyword).start in
     let a = token_at text ws (c.args.keyword + 1) in
     let b = token_at text ws (c.args.keyword + 2) in
-    c.found-in-Some.ensures
+    c.fault_with_code-in-Some.ensures
     ∙ ap (typing_fault at b.at) (sym c.in-Some.is)
     ∙ c.typing_code.ensures at a.at b.at n k
     ∙ ap₂ (λ c v. least (floating_faults n at (token a.at c ∷ token b.at v ∷ [])))
@@ -40,7 +40,7 @@ returns-in-None g c = λ n k.
     let at = (nth_word ws c.args.keyword).start in
     let a = token_at text ws (c.args.keyword + 1) in
     let b = token_at text ws (c.args.keyword + 2) in
-    c.found-in-None.ensures
+    c.fault_with_code-in-None.ensures
     ∙ ap (typing_fault at b.at) (sym c.in-None.is)
     ∙ c.typing_code.ensures at a.at b.at n k
     ∙ ap₂ (λ c v. least (floating_faults n at (token a.at c ∷ token b.at v ∷ [])))

@@ -2,7 +2,7 @@ use Rattle.std.proofs.Common.{[], ◌++◌, ◌+◌, ◌∙◌, sym, ap, arith}
 use Rattle.std.proofs.Common.{nat_lt}
 use Rattle.mm_spec.specs.Lawful.{at, at_each, is_empty, least, scope_faults, when}
 use Rattle.mm_spec.specs.declared.Code.TheVariants.{ConstantInBlock, EmptyDeclaration}
-use Rattle.mm_outline.specs.Parts.{between, made, nth_word}
+use Rattle.mm_outline.specs.Parts.{between, statement_between, nth_word}
 use Rattle.mm_scope.specs.Knows.{listed_codes}
 use Rattle.mm_scope.proofs.JudgeLaw.{none_between}
 use Rattle.mm_scope.proofs.scope.Scope.list_fault.Goals as goal
@@ -20,11 +20,11 @@ returns-in-Constants g c = λ n.
     let block = at first (when (nat_lt 0 c.args.deep) ConstantInBlock) in
     let none = at end (when (is_empty n xs) EmptyDeclaration) in (
       block ++ none,
-      c.lesser.ensures block none (c.found-deep.ensures ∙ c.when.ensures first)
-          (c.found.ensures ∙ c.when-in-Constants.ensures end
+      c.lesser.ensures block none (c.fault_with_code-deep.ensures ∙ c.code_if.ensures first)
+          (c.fault_with_code.ensures ∙ c.code_if-in-Constants.ensures end
           ∙ ap (λ b. least (at end (when b EmptyDeclaration)))
           (none_between n text ws o.keyword o.middle c.requires.order (omega (arith, within, later)))),
-      ap (λ kd. scope_faults n c.args.deep (made text ws kd o.keyword o.middle o.end))
+      ap (λ kd. scope_faults n c.args.deep (statement_between text ws kd o.keyword o.middle o.end))
           c.in-Constants.is
           ∙ ap (λ kd. (block ++ none) ++ at_each (listed_codes n kd) [] xs) (sym c.in-Constants.is),
     )
@@ -40,10 +40,10 @@ returns-in-Variables g c = λ n.
     let end = (nth_word ws o.middle).start in
     let none = at end (when (is_empty n xs) EmptyDeclaration) in (
       none,
-      c.found-in-Variables.ensures ∙ c.when-in-Variables.ensures end
+      c.fault_with_code-in-Variables.ensures ∙ c.code_if-in-Variables.ensures end
           ∙ ap (λ b. least (at end (when b EmptyDeclaration)))
           (none_between n text ws o.keyword o.middle c.requires.order (omega (arith, within, later))),
-      ap (λ kd. scope_faults n c.args.deep (made text ws kd o.keyword o.middle o.end))
+      ap (λ kd. scope_faults n c.args.deep (statement_between text ws kd o.keyword o.middle o.end))
           c.in-Variables.is
           ∙ ap (λ kd. none ++ at_each (listed_codes n kd) [] xs) (sym c.in-Variables.is),
     )

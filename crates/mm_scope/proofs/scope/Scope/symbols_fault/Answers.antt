@@ -30,10 +30,10 @@ loop-at-preserved g c =
     record {
       least = λ n k.
           let t = token_at text ws c.loop-at.at in
-          c.lesser-best.ensures
+          c.lesser-least_found.ensures
           (at_each (symbol_codes n) [] (between text ws c.args.from c.loop-at.at))
           (at t.at (symbol_codes n [] t.word)) (c.loop-at.invariant.least n k)
-          (c.found.ensures
+          (c.fault_with_code.ensures
           ∙ c.symbol_code.ensures t.word
           (sym (c.numbered-number.ensures.symbol ∙ ap (find s.names.symbols) c.bytes.ensures))
           t.at n k)

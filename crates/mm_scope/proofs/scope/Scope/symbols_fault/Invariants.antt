@@ -10,7 +10,7 @@ use Rattle.mm_scope.proofs.scope.Scope.symbols_fault.Given as goal
 abbrev pub invariant-loop-at : goal.invariant-loop-at
 invariant-loop-at g l = record {
   least : (n : Names) → AreNamesOf l.self n
-      → l.best ≡ least (at_each (symbol_codes n) [] (between l.text l.tokens l.from l.at));
+      → l.least_found ≡ least (at_each (symbol_codes n) [] (between l.text l.tokens l.from l.at));
   numbered : l.numbers.items
       ≡ l.initial.numbers.items
       ++ numbers_in (names_of l.self.names.symbols) (between l.text l.tokens l.from l.at);

@@ -1,18 +1,18 @@
 use Rattle.std.proofs.Common.{◌≡◌, ap, subst, ◌∙◌}
 use Rattle.mm_spec.specs.Text.{is_label}
 use Rattle.mm_spec.specs.Laws.Table as table
-use Rattle.mm_outline.specs.Parts.{AtStart, progress, token_at}
-use Rattle.mm_outline.proofs.parts.take_turn.Goals as goal
+use Rattle.mm_outline.specs.Parts.{IfAtStart, progress, token_at}
+use Rattle.mm_outline.proofs.parts.transition_at.Goals as goal
 
-pub turn_for-requires-clause-label : goal.turn_for-requires-clause-label
-turn_for-requires-clause-label c =
-    subst (λ b. AtStart c.args.part (c.is_label_at-is_label.result ≡ is_label b)) c.bytes-word.ensures
+pub transition_for-requires-clause-label : goal.transition_for-requires-clause-label
+transition_for-requires-clause-label c =
+    subst (λ b. IfAtStart c.args.part (c.is_label_at-is_label.result ≡ is_label b)) c.bytes-word.ensures
     c.is_label_at-is_label.ensures
 
 pub returns-clause-same : goal.returns-clause-same
 returns-clause-same c =
     let text = c.args.text.now in
     let ws = c.args.tokens.now in
-    c.turn_for.ensures.same
+    c.transition_for.ensures.same
     ∙ ap (λ k. table.transition (progress text ws c.args.deep c.args.part c.args.at) k
     (token_at text ws c.args.at)) (c.classify-class.ensures ∙ ap table.class c.bytes-word.ensures)
