@@ -3,6 +3,7 @@
 import { visible } from "./visible.js";
 
 /** @typedef {import("./types.js").Chosen} Chosen */
+/** @typedef {import("./types.js").Contents} Contents */
 
 /** The program refuses longer texts, so no more than one byte more is unpacked. */
 const MOST_BYTES = 2_147_483_647;
@@ -40,10 +41,11 @@ async function beginning(file, name) {
  * The database that a file is, unpacked where it is compressed by gzip. Unfit where it is none, TooLong where it has
  * too many bytes.
  * @param {File} file
+ * @param {boolean} isShared whether workers can read what the browser holds
  * @param {(part: string) => void} tell is told what takes time
  * @returns {Promise<Chosen>}
  */
-export async function chosen(file, tell) {
+export async function chosen(file, isShared, tell) {
     const name = visible(file.name);
     const bytes = await beginning(file, name);
     const begins = (/** @type {number[]} */ signs) => signs.every((sign, at) => bytes[at] === sign);
@@ -54,10 +56,27 @@ export async function chosen(file, tell) {
     }
     if (begins(GZIP)) {
         tell(`Unpacking ${name}`);
-        return { name, file: await unpacked(file, name) };
+        return { name, file: await forWorkers(await unpacked(file, name), name, isShared) };
     }
     if (file.size > MOST_BYTES) throw new TooLong();
-    return { name, file };
+    return { name, file: await forWorkers(file, name, isShared) };
+}
+
+/**
+ * A text as workers can read it.
+ * @param {Blob} file
+ * @param {string} name
+ * @param {boolean} isShared
+ * @returns {Promise<Contents>}
+ */
+async function forWorkers(file, name, isShared) {
+    if (isShared) return file;
+    try {
+        return new Uint8Array(await file.arrayBuffer());
+    } catch (error) {
+        if (error instanceof RangeError) throw error;
+        throw new Unfit(`${name} can't be read. It may have been changed or removed.`);
+    }
 }
 
 /**

@@ -86,3 +86,20 @@ export class Helper {
         this.worker.terminate();
     }
 }
+
+/**
+ * Whether workers can read what the browser holds for the page. Those of WebKit can't where the page was opened from a
+ * disk.
+ * @param {string} address of the workers' script
+ */
+export async function canShare(address) {
+    const helper = new Helper(address, () => {});
+    try {
+        await helper.ask({ task: "look", blob: new Blob(["a"]) }, "seen");
+        return true;
+    } catch (error) {
+        return false;
+    } finally {
+        helper.end();
+    }
+}

@@ -5,7 +5,7 @@ import { byId, counted, element } from "../../query/page/web/elements.js";
 import { Model, isLater } from "../../query/page/web/model.js";
 import { present } from "../../query/page/web/page.js";
 import { TooLong, Unfit, chosen } from "./chosen.js";
-import { Stopped, addressOf } from "./helpers.js";
+import { Stopped, addressOf, canShare } from "./helpers.js";
 import { Saving } from "./saving.js";
 import { Verification } from "./verification.js";
 import { visible } from "./visible.js";
@@ -152,7 +152,8 @@ class Start {
         try {
             /** @type {Chosen[]} */
             const all = [];
-            for (const file of files) all.push(await chosen(file, (text) => this.tell(text, null)));
+            const { isShared } = this.tools;
+            for (const file of files) all.push(await chosen(file, isShared, (text) => this.tell(text, null)));
             if (turn !== this.turn) return;
             this.running = new Verification(this.tools, request, all, (text, part) => this.tell(text, part));
             const blocks = await this.running.run();
@@ -314,7 +315,8 @@ async function tools() {
     const blocks = new Blocks();
     const load = (/** @type {string} */ name) => blocks.load(name);
     const [script, module, tables] = await Promise.all(["worker", "module", "tables"].map(load));
-    return { address: addressOf(script), module, tables: JSON.parse(textOf(tables)) };
+    const address = addressOf(script);
+    return { address, module, tables: JSON.parse(textOf(tables)), isShared: await canShare(address) };
 }
 
 async function begin() {

@@ -1,10 +1,12 @@
 // Verifies a database, and one beside it where it is to be compared, and makes the blocks of the page.
 
+import { sizeOf } from "./contents.js";
 import { Helper } from "./helpers.js";
 
 /** @typedef {import("./making.js").Reports} Reports */
 /** @typedef {import("./reports.js").Request} Request */
 /** @typedef {import("./types.js").Chosen} Chosen */
+/** @typedef {import("./types.js").Contents} Contents */
 /** @typedef {import("./types.js").ReportName} ReportName */
 /** @typedef {import("./types.js").Tables} Tables */
 /** @typedef {import("./types.js").Told} Told */
@@ -15,6 +17,7 @@ import { Helper } from "./helpers.js";
  * @property {string} address of the workers' script
  * @property {Uint8Array} module
  * @property {Tables} tables
+ * @property {boolean} isShared whether workers can read what the browser holds
  */
 
 /**
@@ -49,7 +52,7 @@ export class Verification {
      * @returns {Promise<Map<string, Uint8Array>>}
      */
     async run() {
-        const size = this.files.reduce((sum, { file }) => sum + file.size, 0);
+        const size = this.files.reduce((sum, { file }) => sum + sizeOf(file), 0);
         const early = size <= MOST_BESIDE ? this.packTexts() : null;
         /** @type {Reports[]} */
         const reports = [];
@@ -121,7 +124,7 @@ export class Verification {
  * A report of the program, for a file that was accepted. Stopped where there is no answer.
  * @param {Tools} tools
  * @param {Request} request
- * @param {Blob} file
+ * @param {Contents} file
  * @param {ReportName} report
  * @param {1 | 2} form
  * @returns {Promise<Blob>}
@@ -130,7 +133,8 @@ export async function reportFor(tools, request, file, report, form) {
     const helper = new Helper(tools.address, () => {});
     try {
         const ask = { task: /** @type {const} */ ("save"), file, module: tools.module, request, report, form };
-        return (await helper.ask(ask, "saved")).report;
+        const told = await helper.ask(ask, "saved");
+        return told.report instanceof Blob ? told.report : new Blob([told.report], { type: "text/plain" });
     } finally {
         helper.end();
     }

@@ -2,6 +2,7 @@
 // blocks.
 
 import { compile, report } from "../library.js";
+import { sizeOf } from "./contents.js";
 import { faultOf, refusalOf } from "./faults.js";
 import { Making, NoAnswer } from "./making.js";
 
@@ -9,6 +10,7 @@ import { Making, NoAnswer } from "./making.js";
 /** @typedef {import("./reports.js").Request} Request */
 /** @typedef {import("./types.js").Ask} Ask */
 /** @typedef {import("./types.js").Chosen} Chosen */
+/** @typedef {import("./types.js").Contents} Contents */
 /** @typedef {import("./types.js").Told} Told */
 /** @typedef {import("./typesetting.js").Entities} Entities */
 
@@ -36,9 +38,10 @@ class Unread extends Error {}
 
 /**
  * The bytes of a file.
- * @param {Blob} file
+ * @param {Contents} file
  */
 async function bytesOf(file) {
+    if (file instanceof Uint8Array) return file;
     try {
         return new Uint8Array(await file.arrayBuffer());
     } catch (error) {
@@ -49,12 +52,13 @@ async function bytesOf(file) {
 
 /**
  * Puts a file into the array that `bytes` gives, part by part, and tells how far it is.
- * @param {Blob} file
+ * @param {Contents} file
  * @param {() => Uint8Array} bytes
  */
 async function fill(file, bytes) {
-    for (let place = 0; place < file.size; place += STEP) {
-        here.postMessage({ stage: "reading", part: place / file.size });
+    const size = sizeOf(file);
+    for (let place = 0; place < size; place += STEP) {
+        here.postMessage({ stage: "reading", part: place / size });
         const part = await bytesOf(file.slice(place, place + STEP));
         bytes().set(part, place);
     }
@@ -64,12 +68,12 @@ async function fill(file, bytes) {
 /**
  * Has the module write reports of a file. What it answers stays in its memory.
  * @param {Uint8Array} module
- * @param {Blob} file
+ * @param {Contents} file
  * @param {Wanted} request
  */
 async function reportOf(module, file, request) {
     const compiled = await compile(module);
-    const answer = await report(compiled, file.size, (bytes) => fill(file, bytes), request);
+    const answer = await report(compiled, sizeOf(file), (bytes) => fill(file, bytes), request);
     if (answer.status === Status.memory) throw new NoMemory();
     if (answer.status === Status.report) return answer;
     if (answer.status !== Status.refusal) throw new Error(`the module answers ${answer.status}`);
@@ -81,7 +85,7 @@ async function reportOf(module, file, request) {
 /**
  * Verifies a file, and tells what the page needs of it: matrix and citations, of all typecodes, since chains may lead
  * over other assertions than those of one typecode.
- * @param {{ file: Blob, module: Uint8Array, request: Request }} asked
+ * @param {{ file: Contents, module: Uint8Array, request: Request }} asked
  */
 async function verify({ file, module, request }) {
     /** @type {Wanted} */
@@ -101,7 +105,13 @@ async function verify({ file, module, request }) {
  */
 async function save({ file, module, request, report: name, form }) {
     const answer = await reportOf(module, file, { ...request, report: name, form });
-    if (answer) here.postMessage({ stage: "saved", report: new Blob([answer.report], { type: "text/plain" }) });
+    if (!answer) return;
+    if (file instanceof Blob) {
+        here.postMessage({ stage: "saved", report: new Blob([answer.report], { type: "text/plain" }) });
+    } else {
+        const bytes = answer.report.slice();
+        here.postMessage({ stage: "saved", report: bytes }, [bytes.buffer]);
+    }
 }
 
 /**
@@ -134,9 +144,19 @@ function tellBlocks(blocks) {
     here.postMessage({ stage: "packed", blocks }, [...blocks.values()].map((block) => block.buffer));
 }
 
+/**
+ * Looks whether what the browser holds can be read here.
+ * @param {Blob} blob
+ */
+async function look(blob) {
+    await bytesOf(blob);
+    here.postMessage({ stage: "seen" });
+}
+
 /** @param {Ask} asked */
 async function answer(asked) {
-    if (asked.task === "verify") await verify(asked);
+    if (asked.task === "look") await look(asked.blob);
+    else if (asked.task === "verify") await verify(asked);
     else if (asked.task === "save") await save(asked);
     else if (asked.task === "pack") await packTexts(asked);
     else packTheirReports(asked.reports);

@@ -19,7 +19,7 @@ from pathlib import Path
 from query.faults import FAULTS
 from query.options import Options
 from query.tests.blocks import blocks_of
-from query.tests.browser.browsers import Browser, Chromium, Keys
+from query.tests.browser.browsers import Browser, Chromium, Keys, WebKit
 from query.tests.browser.counting import count, figure, same
 from query.tests.browser.databases import EVIL, EVIL_TYPESETTING, NEWER, OLDER, OPEN
 from query.tests.browser.scripts import CONTRAST, GATHER, NAMES, TARGETS
@@ -33,7 +33,8 @@ LEAKING = HERE / "query" / "tests" / "library_leaking.js"
 REPORTS = ("all", "matrix", "counts", "usage", "citations")
 FAULTY = "$c a b $.\n\tx $a a\x0c b q $.\n"
 EVIL_NAME = '<b>&"evil".mm'
-# Of a quiet machine: seconds until the first view is shown, and bytes that the page has at most.
+# Of a quiet machine, in Chromium and Firefox: seconds until the first view is shown, and bytes that
+# the page has at most.
 MOST_SECONDS = {"set": 8.0, "iset": 1.5}
 MOST_MEMORY = 450_000_000
 # The theorem that is shown first.
@@ -586,7 +587,7 @@ def measure(kind: type[Browser], room: Room, name: str) -> None:
         finally:
             browser.close()
     what = f"{kind.name}: seconds until {label} of {name}.mm is shown"
-    figure(what, min(times), MOST_SECONDS[name], "s")
+    figure(what, min(times), None if kind is WebKit else MOST_SECONDS[name], "s")
     if kind is Chromium:
         figure(f"chromium: bytes of memory for {name}.mm", min(memories), MOST_MEMORY)
 
