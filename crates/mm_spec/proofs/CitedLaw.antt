@@ -24,7 +24,7 @@ label_stands : (c : Context) (a : ℕ) (forest : Trees) → AreDerivations c for
     → is_member (postfix forest) a ≡ true → c.rule a ≡ None → ⊥
 label_stands c a none d m n = true≢false (sym m)
 label_stands c a (more ts l f cs) d m n =
-    by (or_cases (is_member (postfix ts) a) (is_member (postfix cs ++ l ∷ []) a)
+    in_earlier_or_last (or_cases (is_member (postfix ts) a) (is_member (postfix cs ++ l ∷ []) a)
     (sym (member_append (postfix ts) (postfix cs ++ l ∷ []) a) ∙ m))
     (λ h. label_stands c a ts d.0 h n) (λ h. label_stands c a cs d.1 h n)
   where
@@ -42,10 +42,10 @@ label_stands c a (more ts l f cs) d m n =
     one (inl k) y = y k
     one (inr k) y = last (or_cases (a == l) false k)
 
-    by : (is_member (postfix ts) a ≡ true) ⊎ (is_member (postfix cs ++ l ∷ []) a ≡ true)
+    in_earlier_or_last : (is_member (postfix ts) a ≡ true) ⊎ (is_member (postfix cs ++ l ∷ []) a ≡ true)
         → (is_member (postfix ts) a ≡ true → ⊥) → (is_member (postfix cs) a ≡ true → ⊥) → ⊥
-    by (inl h) x y = x h
-    by (inr h) x y =
+    in_earlier_or_last (inl h) x y = x h
+    in_earlier_or_last (inr h) x y =
         one (or_cases (is_member (postfix cs) a) (is_member (l ∷ []) a)
         (sym (member_append (postfix cs) (l ∷ []) a) ∙ h)) y
 

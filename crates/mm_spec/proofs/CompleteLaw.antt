@@ -60,19 +60,19 @@ module _ (db : List Statement) (lawful : (k : ℕ) → k < length db → IsLawfu
   constant_apart w c v =
       let a = declared constants_of db w c in
       let b = declared variables_of db w v in
-      by a.0 b.0 a.1 b.1 a.2 b.2 a.3 b.3 (cases_order a.0 b.0)
+      by_order a.0 b.0 a.1 b.1 a.2 b.2 a.3 b.3 (cases_order a.0 b.0)
     where
-      by : (i j : ℕ) (s t : Statement) → slice_get db i ≡ Some s → slice_get db j ≡ Some t
+      by_order : (i j : ℕ) (s t : Statement) → slice_get db i ≡ Some s → slice_get db j ≡ Some t
           → is_in w (constants_of s) ≡ true → is_in w (variables_of t) ≡ true
           → (i ≡ j) ⊎ ((i < j) ⊎ (j < i)) → ⊥
-      by i j s t e f m n (inl h) =
+      by_order i j s t e f m n (inl h) =
           let same : s ≡ t = cc in
           no_kind t w (subst (λ x. is_in w (constants_of x) ≡ true) same m) n
-      by i j s t e f m n (inr (inl h)) =
+      by_order i j s t e f m n (inr (inl h)) =
           true≢false
           (sym (declares constants_of db j i s w e h m)
           ∙ new_variable (names_before db j) (depth db j) t w (faultless j t f) n)
-      by i j s t e f m n (inr (inr h)) =
+      by_order i j s t e f m n (inr (inr h)) =
           true≢false
           (sym (declares variables_of db i j t w f h n)
           ∙ new_constant (names_before db i) (depth db i) s w (faultless i s e) m)
@@ -123,14 +123,14 @@ module _ (db : List Statement) (lawful : (k : ℕ) → k < length db → IsLawfu
       let w =
       member_word (symbol_names db) (words (symbols_of s)) x
       (ap (λ g. is_member g x) (sym (formula_at_is db j s e)) ∙ m) in
-      by w.0 w.2 (variable_word db w.0 (ap (is_variable_number db) (sym w.2) ∙ v))
+      of_known_word w.0 w.2 (variable_word db w.0 (ap (is_variable_number db) (sym w.2) ∙ v))
       (statement_known (names_before db j) (depth db j) s f (faultless j s e) w.0 w.1)
     where
-      by : (w : Bytes) → x ≡ index_of w (symbol_names db)
+      of_known_word : (w : Bytes) → x ≡ index_of w (symbol_names db)
           → is_in w (flat_map variables_of db) ≡ true → IsKnown (names_before db j) w
           → (i : ℕ) × (is_active db i j ≡ true) × Types i x
-      by w is v (inl c) = absurd (constant_apart w (declared_before constants_of db j w c) v)
-      by w is v (inr t) =
+      of_known_word w is v (inl c) = absurd (constant_apart w (declared_before constants_of db j w c) v)
+      of_known_word w is v (inr t) =
           let q : Typing → Bool = λ (t : Typing). bytes_eq w t.variable in
           let a =
           found_active db j (λ i. list_any (λ s. list_any q (typings_of s)) (statement_at db i))
@@ -148,15 +148,15 @@ module _ (db : List Statement) (lawful : (k : ℕ) → k < length db → IsLawfu
   mandatory_typed k x s e f m =
       let more = flat_map (formula_at db) (active_of is_essential db k) in
       let p = member_filter (is_variable_number db) (formula_at db k ++ more) x m in
-      by p.0 (or_cases (is_member (formula_at db k) x) (is_member more x)
+      in_formula_or_essential p.0 (or_cases (is_member (formula_at db k) x) (is_member more x)
       (sym (list_any-append (λ y. x == y) (formula_at db k) more) ∙ p.1))
     where
-      by : is_variable_number db x ≡ true
+      in_formula_or_essential : is_variable_number db x ≡ true
           → (is_member (formula_at db k) x ≡ true)
           ⊎ (is_member (flat_map (formula_at db) (active_of is_essential db k)) x ≡ true)
           → (i : ℕ) × (is_active db i k ≡ true) × Types i x × (is_variable_number db x ≡ true)
-      by v (inl h) = let t = typed k x s e f h v in (t.0, t.1, t.2, v)
-      by v (inr h) =
+      in_formula_or_essential v (inl h) = let t = typed k x s e f h v in (t.0, t.1, t.2, v)
+      in_formula_or_essential v (inr h) =
           let kind : ℕ → Bool = λ (j : ℕ). list_any is_essential (statement_at db j) in
           let a =
           found_active db k (λ j. kind j && is_member (formula_at db j) x)
@@ -193,7 +193,7 @@ module _ (db : List Statement) (lawful : (k : ℕ) → k < length db → IsLawfu
       → is_member (formula_at db j) x ≡ true → is_variable_number db x ≡ true
       → is_member (mandatory_variables db k) x ≡ true
   of_hypothesis k j x a t h v =
-      by (or_cases (list_any is_essential (statement_at db j))
+      by_kind (or_cases (list_any is_essential (statement_at db j))
       (list_any is_floating (statement_at db j)
       && list_any (is_member (mandatory_variables db k)) (formula_at db j)) t)
     where
@@ -241,17 +241,17 @@ module _ (db : List Statement) (lawful : (k : ℕ) → k < length db → IsLawfu
               ap (is_member (mandatory_variables db k)) (alone y t)
               ∙ lone (is_member (mandatory_variables db k) y) g
 
-      by : (list_any is_essential (statement_at db j) ≡ true)
+      by_kind : (list_any is_essential (statement_at db j) ≡ true)
           ⊎ ((list_any is_floating (statement_at db j)
           && list_any (is_member (mandatory_variables db k)) (formula_at db j))
           ≡ true)
           → is_member (mandatory_variables db k) x ≡ true
-      by (inl g) =
+      by_kind (inl g) =
           let more = flat_map (formula_at db) (active_of is_essential db k) in
           filter_member (is_variable_number db) (formula_at db k ++ more) x v
           (list_any-append (λ y. x == y) (formula_at db k) more
           ∙ or_right (is_member (formula_at db k) x) (is_member more x) (among g))
-      by (inr g) =
+      by_kind (inr g) =
           let p =
           and_parts (list_any is_floating (statement_at db j))
           (list_any (is_member (mandatory_variables db k)) (formula_at db j)) g in
@@ -334,7 +334,7 @@ module _ (db : List Statement) (lawful : (k : ℕ) → k < length db → IsLawfu
 
   -- what lawful statements stand for asks for no variable that its hypotheses don't have
   pub lawful_complete : AreComplete db
-  lawful_complete m k = by (is_active db k m)
+  lawful_complete m k = by_activity (is_active db k m)
     where
       of : (s : Statement) → slice_get db k ≡ Some s → IsFine (context_at db m) (rule_of db k s)
       of (axiomatic l p xs d) e = complete m k (axiomatic l p xs d) e refl
@@ -352,14 +352,14 @@ module _ (db : List Statement) (lawful : (k : ℕ) → k < length db → IsLawfu
       at_k None e = tt
       at_k (Some s) e = of s e
 
-      by : (b : Bool)
+      by_activity : (b : Bool)
           → IsFine (context_at db m)
           (elim b [
             | false ↦ None
             | true ↦ elim (slice_get db k) [ None ↦ None | Some s ↦ rule_of db k s ]
           ])
-      by false = tt
-      by true = at_k (slice_get db k) refl
+      by_activity false = tt
+      by_activity true = at_k (slice_get db k) refl
 
 -- the frames of all that is read are complete: a lawful `$e`, `$a` or `$p` has an active `$f` for
 -- each of its variables

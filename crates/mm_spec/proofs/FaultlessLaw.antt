@@ -58,20 +58,20 @@ pub each_none : (codes : List Bytes → Bytes → List Code) (e : List Bytes) (t
     → (earlier : List Bytes) × (codes earlier w ≡ [])
 each_none codes e [] n w m = absurd (true≢false (sym m))
 each_none codes e (t ∷ ts) n w m =
-    by (or_cases (bytes_eq w t.word) (is_in w (words ts)) m)
+    at_first_or_later (or_cases (bytes_eq w t.word) (is_in w (words ts)) m)
     (λ h. each_none codes (t.word ∷ e) ts
     (append_none (at t.at (codes e t.word)) (at_each codes (t.word ∷ e) ts) n).1 w h)
   where
-    by : (bytes_eq w t.word ≡ true) ⊎ (is_in w (words ts) ≡ true)
+    at_first_or_later : (bytes_eq w t.word ≡ true) ⊎ (is_in w (words ts) ≡ true)
         → (is_in w (words ts) ≡ true → (earlier : List Bytes) × (codes earlier w ≡ []))
         → (earlier : List Bytes) × (codes earlier w ≡ [])
-    by (inl h) on = (
+    at_first_or_later (inl h) on = (
       e,
       ap (codes e) (same_word w t.word h)
           ∙ at_none t.at (codes e t.word)
           (append_none (at t.at (codes e t.word)) (at_each codes (t.word ∷ e) ts) n).0,
     )
-    by (inr h) on = on h
+    at_first_or_later (inr h) on = on h
 
 -- ---- what lawful statements declare
 
@@ -110,17 +110,17 @@ bits false false t h k = inl (sym h)
 formula_known : (n : Names) (xs : List Token) (end : ℕ) → formula_faults n xs end ≡ [] → (w : Bytes)
     → is_in w (words xs) ≡ true → IsKnown n w
 formula_known n [] end e w m = absurd (true≢false (sym m))
-formula_known n (t ∷ ts) end e w m = by (or_cases (bytes_eq w t.word) (is_in w (words ts)) m)
+formula_known n (t ∷ ts) end e w m = at_first_or_later (or_cases (bytes_eq w t.word) (is_in w (words ts)) m)
   where
-    by : (bytes_eq w t.word ≡ true) ⊎ (is_in w (words ts) ≡ true) → IsKnown n w
-    by (inl h) =
+    at_first_or_later : (bytes_eq w t.word ≡ true) ⊎ (is_in w (words ts) ≡ true) → IsKnown n w
+    at_first_or_later (inl h) =
         inl (ap (λ v. is_in v n.constants) (same_word w t.word h)
         ∙ not-false (is_in t.word n.constants)
         (when_none (not (is_in t.word n.constants)) BadTypecode
         (at_none t.at (when (not (is_in t.word n.constants)) BadTypecode)
         (append_none (at t.at (when (not (is_in t.word n.constants)) BadTypecode))
         (at_each (symbol_codes n) [] ts) e).0)))
-    by (inr h) =
+    at_first_or_later (inr h) =
         let x =
         each_none (symbol_codes n) [] ts
         (append_none (at t.at (when (not (is_in t.word n.constants)) BadTypecode))
@@ -161,13 +161,13 @@ pub record IsTyping (n : Names) (s : Statement) : Type 0 where
 pub floating_typing : (n : Names) (d : ℕ) (s : Statement) → is_floating s ≡ true
     → scope_faults n d s ≡ [] → IsTyping n s
 floating_typing n d (floating l k xs e) h f =
-    by xs (append_none (label_faults n l) (floating_faults n k xs) f).1
+    by_symbols xs (append_none (label_faults n l) (floating_faults n k xs) f).1
   where
-    by : (xs : List Token) → floating_faults n k xs ≡ [] → IsTyping n (floating l k xs e)
-    by [] g = absurd (cc)
-    by (c ∷ []) g = absurd (cc)
-    by (c ∷ v ∷ x ∷ xs) g = absurd (cc)
-    by (c ∷ v ∷ []) g =
+    by_symbols : (xs : List Token) → floating_faults n k xs ≡ [] → IsTyping n (floating l k xs e)
+    by_symbols [] g = absurd (cc)
+    by_symbols (c ∷ []) g = absurd (cc)
+    by_symbols (c ∷ v ∷ x ∷ xs) g = absurd (cc)
+    by_symbols (c ∷ v ∷ []) g =
         record {
           label = l;
           keyword = k;
@@ -195,13 +195,13 @@ typing_floats q _ e = absurd (true≢false (sym e))
 
 pub place_get : (w v : Bytes) (vs : List Bytes) → slice_get vs (index_of w vs) ≡ Some v → v ≡ w
 place_get w v [] e = absurd (cc)
-place_get w v (u ∷ us) e = by (bytes_eq w u) refl e (λ h. place_get w v us h)
+place_get w v (u ∷ us) e = by_equality (bytes_eq w u) refl e (λ h. place_get w v us h)
   where
-    by : (b : Bool) → bytes_eq w u ≡ b
+    by_equality : (b : Bool) → bytes_eq w u ≡ b
         → slice_get (u ∷ us) (elim b [ true ↦ 0 | false ↦ suc (index_of w us) ]) ≡ Some v
         → (slice_get us (index_of w us) ≡ Some v → v ≡ w) → v ≡ w
-    by true h e on = let s : w ≡ u = same_word w u h in cc
-    by false h e on = on e
+    by_equality true h e on = let s : w ≡ u = same_word w u h in cc
+    by_equality false h e on = on e
 
 pub variable_word : (db : List Statement) (w : Bytes)
     → is_variable_number db (index_of w (symbol_names db)) ≡ true
@@ -213,20 +213,20 @@ pub member_word : (names ws : List Bytes) (x : ℕ)
     → (w : Bytes) × (is_in w ws ≡ true) × (x ≡ index_of w names)
 member_word names [] x e = absurd (true≢false (sym e))
 member_word names (v ∷ ws) x e =
-    by (or_cases (x == index_of v names) (is_member (map (λ w. index_of w names) ws) x) e)
+    at_first_or_later (or_cases (x == index_of v names) (is_member (map (λ w. index_of w names) ws) x) e)
     (λ h. member_word names ws x h)
   where
-    by : ((x == index_of v names) ≡ true) ⊎ (is_member (map (λ w. index_of w names) ws) x ≡ true)
+    at_first_or_later : ((x == index_of v names) ≡ true) ⊎ (is_member (map (λ w. index_of w names) ws) x ≡ true)
         → (is_member (map (λ w. index_of w names) ws) x ≡ true
         → (w : Bytes) × (is_in w ws ≡ true) × (x ≡ index_of w names))
         → (w : Bytes) × (is_in w (v ∷ ws) ≡ true) × (x ≡ index_of w names)
-    by (inl h) on = (
+    at_first_or_later (inl h) on = (
       v,
       or_left (bytes_eq v v) (is_in v ws) ((bytes_eq-Decides v v).1 refl),
       eqb-true x
           (index_of v names) h,
     )
-    by (inr h) on = let r = on h in (r.0, or_right (bytes_eq r.0 v) (is_in r.0 ws) r.1, r.2)
+    at_first_or_later (inr h) on = let r = on h in (r.0, or_right (bytes_eq r.0 v) (is_in r.0 ws) r.1, r.2)
 
 -- ---- activity of what is local
 

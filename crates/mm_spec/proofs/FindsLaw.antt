@@ -38,48 +38,48 @@ any_range : (p : ℕ → Bool) (n a : ℕ) → list_any p (range_with_len a n) �
     → (i : ℕ) × (p i ≡ true)
 any_range p zero a e = absurd (true≢false (sym e))
 any_range p (suc n) a e =
-    by (or_cases (p a) (list_any p (range_with_len (a + 1) n)) e) (λ h. any_range p n (a + 1) h)
+    at_first_or_later (or_cases (p a) (list_any p (range_with_len (a + 1) n)) e) (λ h. any_range p n (a + 1) h)
   where
-    by : (p a ≡ true) ⊎ (list_any p (range_with_len (a + 1) n) ≡ true)
+    at_first_or_later : (p a ≡ true) ⊎ (list_any p (range_with_len (a + 1) n) ≡ true)
         → (list_any p (range_with_len (a + 1) n) ≡ true → (i : ℕ) × (p i ≡ true))
         → (i : ℕ) × (p i ≡ true)
-    by (inl h) on = (a, h)
-    by (inr h) on = on h
+    at_first_or_later (inl h) on = (a, h)
+    at_first_or_later (inr h) on = on h
 
 pub range_any : (p : ℕ → Bool) (n a i : ℕ) → a ≤ i → i < a + n → p i ≡ true
     → list_any p (range_with_len a n) ≡ true
 range_any p zero a i l h e = absurd (omega arith)
 range_any p (suc n) a i l h e =
-    by (eq-or-lt_of_le l) (λ s. range_any p n (a + 1) i (omega (arith, s)) (omega arith) e)
+    at_first_or_later (eq-or-lt_of_le l) (λ s. range_any p n (a + 1) i (omega (arith, s)) (omega arith) e)
   where
-    by : (a ≡ i) ⊎ (a < i) → (a < i → list_any p (range_with_len (a + 1) n) ≡ true)
+    at_first_or_later : (a ≡ i) ⊎ (a < i) → (a < i → list_any p (range_with_len (a + 1) n) ≡ true)
         → (p a || list_any p (range_with_len (a + 1) n)) ≡ true
-    by (inl s) on =
+    at_first_or_later (inl s) on =
         or_left (p a) (list_any p (range_with_len (a + 1) n)) (subst (λ x. p x ≡ true) (sym s) e)
-    by (inr s) on = or_right (p a) (list_any p (range_with_len (a + 1) n)) (on s)
+    at_first_or_later (inr s) on = or_right (p a) (list_any p (range_with_len (a + 1) n)) (on s)
 
 -- ---- members
 
 pub member_filter : (t : ℕ → Bool) (xs : List ℕ) (x : ℕ) → is_member (filter t xs) x ≡ true
     → (t x ≡ true) × (is_member xs x ≡ true)
-member_filter t xs x e = go xs (sym (any_filter t (λ y. x == y) xs) ∙ e)
+member_filter t xs x e = passes_and_is_member xs (sym (any_filter t (λ y. x == y) xs) ∙ e)
   where
-    go : (ys : List ℕ) → list_any (λ y. t y && (x == y)) ys ≡ true
+    passes_and_is_member : (ys : List ℕ) → list_any (λ y. t y && (x == y)) ys ≡ true
         → (t x ≡ true) × (is_member ys x ≡ true)
-    go [] h = absurd (true≢false (sym h))
-    go (y ∷ ys) h =
-        by (or_cases (t y && (x == y)) (list_any (λ y. t y && (x == y)) ys) h) (λ k. go ys k)
+    passes_and_is_member [] h = absurd (true≢false (sym h))
+    passes_and_is_member (y ∷ ys) h =
+        at_first_or_later (or_cases (t y && (x == y)) (list_any (λ y. t y && (x == y)) ys) h) (λ k. passes_and_is_member ys k)
       where
-        by : ((t y && (x == y)) ≡ true) ⊎ (list_any (λ y. t y && (x == y)) ys ≡ true)
+        at_first_or_later : ((t y && (x == y)) ≡ true) ⊎ (list_any (λ y. t y && (x == y)) ys ≡ true)
             → (list_any (λ y. t y && (x == y)) ys ≡ true → (t x ≡ true) × (is_member ys x ≡ true))
             → (t x ≡ true) × (((x == y) || is_member ys x) ≡ true)
-        by (inl k) on =
+        at_first_or_later (inl k) on =
             let p = and_parts (t y) (x == y) k in (
               subst (λ z. t z ≡ true) (sym (eqb-true x y p.1)) p.0,
               or_left (x == y)
                   (is_member ys x) p.1,
             )
-        by (inr k) on = let r = on k in (r.0, or_right (x == y) (is_member ys x) r.1)
+        at_first_or_later (inr k) on = let r = on k in (r.0, or_right (x == y) (is_member ys x) r.1)
 
 pub filter_member : (t : ℕ → Bool) (xs : List ℕ) (x : ℕ) → t x ≡ true → is_member xs x ≡ true
     → is_member (filter t xs) x ≡ true
@@ -159,15 +159,15 @@ pub declared : (f : Statement → List Bytes) (db : List Statement) (w : Bytes)
     → (i : ℕ) × (s : Statement) × (slice_get db i ≡ Some s) × (is_in w (f s) ≡ true)
 declared f [] w e = absurd (true≢false (sym e))
 declared f (x ∷ db) w e =
-    by (or_cases (is_in w (f x)) (is_in w (flat_map f db))
+    in_first_or_later (or_cases (is_in w (f x)) (is_in w (flat_map f db))
     (sym (list_any-append (bytes_eq w) (f x) (flat_map f db)) ∙ e)) (λ h. declared f db w h)
   where
-    by : (is_in w (f x) ≡ true) ⊎ (is_in w (flat_map f db) ≡ true)
+    in_first_or_later : (is_in w (f x) ≡ true) ⊎ (is_in w (flat_map f db) ≡ true)
         → (is_in w (flat_map f db) ≡ true
         → (i : ℕ) × (s : Statement) × (slice_get db i ≡ Some s) × (is_in w (f s) ≡ true))
         → (i : ℕ) × (s : Statement) × (slice_get (x ∷ db) i ≡ Some s) × (is_in w (f s) ≡ true)
-    by (inl h) on = (0, x, refl, h)
-    by (inr h) on = let r = on h in (suc r.0, r.1, r.2, r.3)
+    in_first_or_later (inl h) on = (0, x, refl, h)
+    in_first_or_later (inr h) on = let r = on h in (suc r.0, r.1, r.2, r.3)
 
 -- it is declared before each later place
 pub declares : (f : Statement → List Bytes) (db : List Statement) (k i : ℕ) (s : Statement)
@@ -187,12 +187,12 @@ declared_before f [] (suc k) w e = e
 declared_before f (x ∷ db) zero w e = absurd (true≢false (sym e))
 declared_before f (x ∷ db) (suc k) w e =
     list_any-append (bytes_eq w) (f x) (flat_map f db)
-    ∙ by (or_cases (is_in w (f x)) (is_in w (flat_map f (take k db)))
+    ∙ in_first_or_later (or_cases (is_in w (f x)) (is_in w (flat_map f (take k db)))
     (sym (list_any-append (bytes_eq w) (f x) (flat_map f (take k db))) ∙ e))
     (λ h. declared_before f db k w h)
   where
-    by : (is_in w (f x) ≡ true) ⊎ (is_in w (flat_map f (take k db)) ≡ true)
+    in_first_or_later : (is_in w (f x) ≡ true) ⊎ (is_in w (flat_map f (take k db)) ≡ true)
         → (is_in w (flat_map f (take k db)) ≡ true → is_in w (flat_map f db) ≡ true)
         → (is_in w (f x) || is_in w (flat_map f db)) ≡ true
-    by (inl h) on = or_left (is_in w (f x)) (is_in w (flat_map f db)) h
-    by (inr h) on = or_right (is_in w (f x)) (is_in w (flat_map f db)) (on h)
+    in_first_or_later (inl h) on = or_left (is_in w (f x)) (is_in w (flat_map f db)) h
+    in_first_or_later (inr h) on = or_right (is_in w (f x)) (is_in w (flat_map f db)) (on h)

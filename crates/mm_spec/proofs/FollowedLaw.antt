@@ -191,15 +191,15 @@ no_way_back (t ∷ ts) q e = cc
 -- tokens with which some list begins are followed
 pub begins_followed : (ts : List Token) → BeginStatements ts
     → (q : State) × (follow (Some (at_start 0)) ts ≡ Some q)
-begins_followed ts b = go (follow (Some (at_start 0)) ts) refl
+begins_followed ts b = by_state (follow (Some (at_start 0)) ts) refl
   where
     r : (e : ℕ) × (follow (Some (at_start 0)) (flat_map spelled b.0) ≡ Some (at_start e))
         × (e + count_by is_closing b.0 ≡ 0 + count_by is_opening b.0)
     r = statements_followed b.0 0 b.1.whole (λ n. let m = b.1.nested n in omega (arith, m))
 
-    go : (o : Option State) → follow (Some (at_start 0)) ts ≡ o → (q : State) × (o ≡ Some q)
-    go None e =
+    by_state : (o : Option State) → follow (Some (at_start 0)) ts ≡ o → (q : State) × (o ≡ Some q)
+    by_state None e =
         absurd (no_way_back b.2 (at_start r.0)
         (sym (ap (λ o. follow o b.2) e) ∙ sym (follow_append ts b.2 (Some (at_start 0)))
         ∙ ap (follow (Some (at_start 0))) (sym b.3) ∙ r.1))
-    go (Some q) e = (q, refl)
+    by_state (Some q) e = (q, refl)

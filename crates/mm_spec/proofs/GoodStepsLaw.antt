@@ -117,19 +117,19 @@ module _ (db : List Statement) (k : ℕ)
 
       good : (j : ℕ) → is_active db j k ≡ true → test j ≡ true → IsGoodLabel j
       good j a t =
-          by (or_cases (list_any is_essential (statement_at db j))
+          by_kind (or_cases (list_any is_essential (statement_at db j))
           (list_any is_floating (statement_at db j)
           && list_any (is_member (mandatory_variables db k)) (formula_at db j)) t)
         where
-          by : (list_any is_essential (statement_at db j) ≡ true)
+          by_kind : (list_any is_essential (statement_at db j) ≡ true)
               ⊎ ((list_any is_floating (statement_at db j)
               && list_any (is_member (mandatory_variables db k)) (formula_at db j))
               ≡ true)
               → IsGoodLabel j
-          by (inl h) =
+          by_kind (inl h) =
               let s = found_at db is_essential j h in
               good_label j s.0 a s.1 (essential_rule s.0 s.2)
-          by (inr h) =
+          by_kind (inr h) =
               let s =
               found_at db is_floating j
               (and_parts (list_any is_floating (statement_at db j))
@@ -160,19 +160,19 @@ module _ (db : List Statement) (k : ℕ)
       → (s : Step) × (step_of labels marks v ≡ s ∷ []) × IsGoodStep (context_at db k) count s
   number_good labels marks count many zero l m h z u = absurd (omega arith)
   number_good labels marks count many (suc n) l m h z u =
-      by (slice_get labels n) refl (slice_get marks (n - length labels)) refl
+      by_label_or_mark (slice_get labels n) refl (slice_get marks (n - length labels)) refl
     where
       out : Option ℕ → Option ℕ → List Step
       out a b =
           elim a [ Some j ↦ label j ∷ [] | None ↦ elim b [ Some i ↦ marked i ∷ [] | None ↦ [] ] ]
 
-      by : (a : Option ℕ) → slice_get labels n ≡ a → (b : Option ℕ)
+      by_label_or_mark : (a : Option ℕ) → slice_get labels n ≡ a → (b : Option ℕ)
           → slice_get marks (n - length labels) ≡ b
           → (s : Step) × (out a b ≡ s ∷ []) × IsGoodStep (context_at db k) count s
-      by (Some j) e b f = (label j, refl, each_get IsGoodLabel labels n j l e)
-      by None e (Some i) f =
+      by_label_or_mark (Some j) e b f = (label j, refl, each_get IsGoodLabel labels n j l e)
+      by_label_or_mark None e (Some i) f =
           (marked i, refl, each_get (λ i. i < count) marks (n - length labels) i m f)
-      by None e None f =
+      by_label_or_mark None e None f =
           let x = get_none labels n e in
           let y = get_none marks (n - length labels) f in
           absurd (omega arith)
@@ -183,7 +183,7 @@ module _ (db : List Statement) (k : ℕ)
       → AreGoodSteps (context_at db k) count (bare (group_steps labels marks count gs))
   groups_good [] labels marks many count l m h f = tt
   groups_good (g ∷ gs) labels marks many count l m h f =
-      by (is_last g.last.byte) refl (g.last.byte == 90) refl f
+      by_letter (is_last g.last.byte) refl (g.last.byte == 90) refl f
       (λ e. groups_good gs labels marks many (count + 1) l (later marks m) h e)
       (λ p e. groups_good gs labels (marks ++ (count - 1) ∷ []) many count l
       (each_append (λ i. i < count) marks ((count - 1) ∷ []) m (omega arith, tt)) h
@@ -227,7 +227,7 @@ module _ (db : List Statement) (k : ℕ)
       other true e = cc
       other false e = cc
 
-      by : (a : Bool) → is_last g.last.byte ≡ a → (b : Bool) → (g.last.byte == 90) ≡ b
+      by_letter : (a : Bool) → is_last g.last.byte ≡ a → (b : Bool) → (g.last.byte == 90) ≡ b
           → first a b ++ second b ≡ []
           → (group_faults many (length marks) (count + 1) gs ≡ []
           → AreGoodSteps (context_at db k) (count + 1)
@@ -236,12 +236,12 @@ module _ (db : List Statement) (k : ℕ)
           → AreGoodSteps (context_at db k) count
           (bare (group_steps labels (marks ++ (count - 1) ∷ []) count gs)))
           → AreGoodSteps (context_at db k) count (bare (out a))
-      by true p true q f on marking =
+      by_letter true p true q f on marking =
           let u =
           leb-true g.last.byte 84 (and_parts (nat_le 65 g.last.byte) (nat_le g.last.byte 84) p).1 in
           let v = eqb-true g.last.byte 90 q in
           absurd (omega arith)
-      by true p false q f on marking =
+      by_letter true p false q f on marking =
           let low =
           leb-true 65 g.last.byte (and_parts (nat_le 65 g.last.byte) (nat_le g.last.byte 84) p).0 in
           let none =
@@ -261,7 +261,7 @@ module _ (db : List Statement) (k : ℕ)
                 (λ n. AreGoodSteps (context_at db k) n
                 (bare (group_steps labels marks (count + 1) gs))) (sym one) next,
           )
-      by false p true q f on marking =
+      by_letter false p true q f on marking =
           let codes =
           at_none g.last.at
           (when (nat_lt 0 (length g.early)) OpenNumber ++ when (count == 0) MarkBeforeStep)
@@ -272,13 +272,13 @@ module _ (db : List Statement) (k : ℕ)
           (append_none (when (nat_lt 0 (length g.early)) OpenNumber)
           (when (count == 0) MarkBeforeStep) codes).1) in
           marking (omega arith) (append_none (first false true) (second true) f).1
-      by false p false q f on marking =
+      by_letter false p false q f on marking =
           absurd (other (g.last.byte == 63) (append_none (first false false) (second false) f).0)
 
   compressed_good : (end : ℕ) (p : Compressed) → compressed_faults db k end p ≡ []
       → AreGoodSteps (context_at db k) 0 (bare (compressed_steps db k p))
   compressed_good end p f =
-      by p.letters (append_none (flat_map (proof_label_faults db k) p.labels) (rest p.letters) f).1
+      by_letters p.letters (append_none (flat_map (proof_label_faults db k) p.labels) (rest p.letters) f).1
     where
       labels : List ℕ
       labels = mandatory_hypotheses db k ++ flat_map (λ t. usable db k t.word) p.labels
@@ -320,16 +320,16 @@ module _ (db : List Statement) (k : ℕ)
           (append_none (group_faults many 0 0 (groups [] (x ∷ xs)).0)
           (at end (when (nat_lt 0 (length (groups [] (x ∷ xs)).1)) OpenNumber)) e).0
 
-      by : (o : Option (List Token)) → rest o ≡ [] → AreGoodSteps (context_at db k) 0 (bare (out o))
-      by None e = tt
-      by (Some ts) e = lettered (letters_of ts) e
+      by_letters : (o : Option (List Token)) → rest o ≡ [] → AreGoodSteps (context_at db k) 0 (bare (out o))
+      by_letters None e = tt
+      by_letters (Some ts) e = lettered (letters_of ts) e
 
   -- ---- the proof of a theorem
 
   proof_good : (end : ℕ) (ts : List Token) → reading_faults db k end ts ≡ []
       → AreGoodSteps (context_at db k) 0 (bare (steps db k ts))
   proof_good end [] e = tt
-  proof_good end (t ∷ ts) e = by (bytes_eq t.word (codes "(")) e
+  proof_good end (t ∷ ts) e = by_bracket (bytes_eq t.word (codes "(")) e
     where
       faults : Bool → List Fault
       faults b =
@@ -345,9 +345,9 @@ module _ (db : List Statement) (k : ℕ)
             | false ↦ normal_steps db k (t ∷ ts)
           ]
 
-      by : (b : Bool) → faults b ≡ [] → AreGoodSteps (context_at db k) 0 (bare (out b))
-      by true e = compressed_good end (bracketed ts) e
-      by false e = normal_good (t ∷ ts) 0
+      by_bracket : (b : Bool) → faults b ≡ [] → AreGoodSteps (context_at db k) 0 (bare (out b))
+      by_bracket true e = compressed_good end (bracketed ts) e
+      by_bracket false e = normal_good (t ∷ ts) 0
 
   pub good_steps : reading_faults_at db k ≡ []
       → AreGoodSteps (context_at db k) 0 (bare (steps_at db k))

@@ -170,11 +170,11 @@ turn_holds (start d) part t open_block m h =
 turn_holds (start zero) part t close_block m h = tt
 turn_holds (start (suc d)) part t close_block m h =
     (ap₂ (λ p v. p ++ token t.at v ∷ []) (sym h) (sym m), refl, (λ e. omega arith), refl)
-turn_holds (start d) part t plain m h = by (is_label t.word) refl
+turn_holds (start d) part t plain m h = by_is_label (is_label t.word) refl
   where
-    by : (b : Bool) → is_label t.word ≡ b → TurnHolds d (part ++ t ∷ []) (label_turn b d t)
-    by true e = (refl, (e, ap (λ p. p ++ t ∷ []) h))
-    by false e = tt
+    by_is_label : (b : Bool) → is_label t.word ≡ b → TurnHolds d (part ++ t ∷ []) (label_turn b d t)
+    by_is_label true e = (refl, (e, ap (λ p. p ++ t ∷ []) h))
+    by_is_label false e = tt
 turn_holds (labelled d l) part t type_of m h = (
   refl,
   record {
@@ -268,22 +268,22 @@ read_on [] r list part b h =
     }
 read_on (t ∷ us) r list part b h =
     let x =
-    by (transition r (class t.word) t) (turn_holds r part t (class t.word) (meaning t.word) h)
+    by_transition (transition r (class t.word) t) (turn_holds r part t (class t.word) (meaning t.word) h)
     (λ q list' part' c k. read_on us q list' part' c k) in
     record { rest = x.0; depth = x.1; balanced = x.2; is = x.3 }
   where
-    by : (o : Transition) → TurnHolds (deep r) (part ++ t ∷ []) o
+    by_transition : (o : Transition) → TurnHolds (deep r) (part ++ t ∷ []) o
         → ((q : Progress) (list' : List Statement) (part' : List Token) → Balanced (deep q) list'
         → Holds q part' → Read list' q part' us)
         → (rest : List Token) × (depth : ℕ)
         × Balanced depth (list ++ after o (λ q. statements_from q us))
         × (part ++ t ∷ us ≡ flat_map spelled (after o (λ q. statements_from q us)) ++ rest)
-    by stop k on =
+    by_transition stop k on =
         (part ++ t ∷ us, deep r, subst (Balanced (deep r)) (sym (append-nil list)) b, refl)
-    by (go q) k on =
+    by_transition (go q) k on =
         let x = on q list (part ++ t ∷ []) (subst (λ n. Balanced n list) (sym k.0) b) k.1 in
         (x.rest, x.depth, x.balanced, sym (append_assoc part (t ∷ []) us) ∙ x.is)
-    by (done e s) k on =
+    by_transition (done e s) k on =
         let x =
         on (start e) (list ++ s ∷ []) []
         (subst (λ n. Balanced n (list ++ s ∷ [])) k.3 (one_more (deep r) list s b k.1 k.2)) refl in (

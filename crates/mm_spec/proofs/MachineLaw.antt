@@ -221,7 +221,7 @@ module _ (c : Context) where
       → Ran forest ls (run n ls (formulas forest))
   means [] forest n d good = (forest, d, sym (append-nil (postfix forest)), refl)
   means (l ∷ ls) forest n d good =
-      go (step c (c.rule l) (formulas forest)) (makes (c.rule l) (formulas forest) good.0)
+      by_result (step c (c.rule l) (formulas forest)) (makes (c.rule l) (formulas forest) good.0)
       (λ next h. means ls next (suc n) h good.1)
     where
       later : (next : Trees) → postfix next ≡ postfix forest ++ l ∷ []
@@ -240,10 +240,10 @@ module _ (c : Context) where
         fails = h.fails;
       }
 
-      go : (r : Result (List Formula) Reason) → Made (c.rule l) (formulas forest) r
+      by_result : (r : Result (List Formula) Reason) → Made (c.rule l) (formulas forest) r
           → ((next : Trees) → AreDerivations c next → Ran next ls (run (suc n) ls (formulas next)))
           → Ran forest (l ∷ ls) (proceed r n (run (suc n) ls))
-      go (Err x) made on =
+      by_result (Err x) made on =
           record {
             before = [];
             label = l;
@@ -254,7 +254,7 @@ module _ (c : Context) where
             labels = sym (append-nil (postfix forest));
             fails = made;
           }
-      go (Ok out) made on =
+      by_result (Ok out) made on =
           let next = grown forest l made.0 made.1 d made.2 made.3 in
           later next.0 next.2 (run (suc n) ls out)
           (subst (λ x. Ran next.0 ls (run (suc n) ls x)) (next.3 ∙ sym made.4)

@@ -28,15 +28,15 @@ member_filter p (x ∷ xs) i = grind (arith, common_steps, cases_eq, eq-eqb, ne_
 
 pub member_range : (n a i : ℕ) → a ≤ i → is_member (range_with_len a n) i ≡ nat_lt i (a + n)
 member_range zero a i h = sym (le-ltb i (a + 0) (omega arith))
-member_range (suc n) a i h = by (cases_eq i a) (λ l. member_range n (a + 1) i l)
+member_range (suc n) a i h = at_first_or_later (cases_eq i a) (λ l. member_range n (a + 1) i l)
   where
-    by : (i ≡ a) ⊎ (i ≢ a)
+    at_first_or_later : (i ≡ a) ⊎ (i ≢ a)
         → (a + 1 ≤ i → is_member (range_with_len (a + 1) n) i ≡ nat_lt i (a + 1 + n))
         → (nat_eq i a || is_member (range_with_len (a + 1) n) i) ≡ nat_lt i (a + suc n)
-    by (inl e) r =
+    at_first_or_later (inl e) r =
         ap (λ b. b || is_member (range_with_len (a + 1) n) i) (eq-eqb i a e)
         ∙ sym (lt-ltb i (a + suc n) (omega arith))
-    by (inr e) r =
+    at_first_or_later (inr e) r =
         ap (λ b. b || is_member (range_with_len (a + 1) n) i) (ne_eqb i a e) ∙ r (omega arith)
         ∙ (let s : a + 1 + n ≡ a + suc n = omega arith in ap (nat_lt i) s)
 

@@ -24,7 +24,7 @@ member_node : (ts : Trees) (a : ℕ) → is_member (postfix ts) a ≡ true
     → HasNode (λ l. each_place) each_place ts a
 member_node none a e = absurd (true≢false (sym e))
 member_node (more ts l f cs) a e =
-    by (or_cases (is_member (postfix ts) a) (is_member (postfix cs ++ l ∷ []) a)
+    in_earlier_or_last (or_cases (is_member (postfix ts) a) (is_member (postfix cs ++ l ∷ []) a)
     (sym (list_any-append (λ y. a == y) (postfix ts) (postfix cs ++ l ∷ [])) ∙ e))
     (λ h. member_node ts a h) (λ h. member_node cs a h)
   where
@@ -34,12 +34,12 @@ member_node (more ts l f cs) a e =
     inner (inl h) on = inr (refl, inr (on h))
     inner (inr h) on = inr (refl, inl (eqb-true a l (lone (a == l) h)))
 
-    by : (is_member (postfix ts) a ≡ true) ⊎ (is_member (postfix cs ++ l ∷ []) a ≡ true)
+    in_earlier_or_last : (is_member (postfix ts) a ≡ true) ⊎ (is_member (postfix cs ++ l ∷ []) a ≡ true)
         → (is_member (postfix ts) a ≡ true → HasNode (λ l. each_place) each_place ts a)
         → (is_member (postfix cs) a ≡ true → HasNode (λ l. each_place) each_place cs a)
         → HasNode (λ l. each_place) each_place (more ts l f cs) a
-    by (inl h) on in_children = inl (on h)
-    by (inr h) on in_children =
+    in_earlier_or_last (inl h) on in_children = inl (on h)
+    in_earlier_or_last (inr h) on in_children =
         inner (or_cases (is_member (postfix cs) a) (is_member (l ∷ []) a)
         (sym (list_any-append (λ y. a == y) (postfix cs) (l ∷ [])) ∙ h)) in_children
 
@@ -62,19 +62,19 @@ node_listed counts place (more ts l f cs) a (inr (t, h)) =
     ∙ or_right (is_member (node_labels counts place ts) a) _
     (subst (λ b. is_member
     (elim b [ true ↦ l ∷ node_labels counts (counts l) cs | false ↦ [] ]) a
-    ≡ true) (sym t) (by h (λ k. node_listed counts (counts l) cs a k)))
+    ≡ true) (sym t) (at_root_or_below h (λ k. node_listed counts (counts l) cs a k)))
   where
-    by : (a ≡ l) ⊎ HasNode counts (counts l) cs a
+    at_root_or_below : (a ≡ l) ⊎ HasNode counts (counts l) cs a
         → (HasNode counts (counts l) cs a → is_member (node_labels counts (counts l) cs) a ≡ true)
         → is_member (l ∷ node_labels counts (counts l) cs) a ≡ true
-    by (inl e) on = or_left (a == l) (is_member (node_labels counts (counts l) cs) a) (eq-eqb a l e)
-    by (inr k) on = or_right (a == l) (is_member (node_labels counts (counts l) cs) a) (on k)
+    at_root_or_below (inl e) on = or_left (a == l) (is_member (node_labels counts (counts l) cs) a) (eq-eqb a l e)
+    at_root_or_below (inr k) on = or_right (a == l) (is_member (node_labels counts (counts l) cs) a) (on k)
 
 listed_node : (counts : ℕ → ℕ → Bool) (place : ℕ → Bool) (ts : Trees) (a : ℕ)
     → is_member (node_labels counts place ts) a ≡ true → HasNode counts place ts a
 listed_node counts place none a e = absurd (true≢false (sym e))
 listed_node counts place (more ts l f cs) a e =
-    by (or_cases (is_member (node_labels counts place ts) a) (is_member (under (place (size ts))) a)
+    in_earlier_or_last (or_cases (is_member (node_labels counts place ts) a) (is_member (under (place (size ts))) a)
     (sym (list_any-append (λ y. a == y) (node_labels counts place ts) (under (place (size ts))))
     ∙ e)) (λ k. listed_node counts place ts a k) (λ k. listed_node counts (counts l) cs a k)
   where
@@ -93,13 +93,13 @@ listed_node counts place (more ts l f cs) a e =
         which (inl q) = inl (eqb-true a l q)
         which (inr q) = inr (on q)
 
-    by : (is_member (node_labels counts place ts) a ≡ true)
+    in_earlier_or_last : (is_member (node_labels counts place ts) a ≡ true)
         ⊎ (is_member (under (place (size ts))) a ≡ true)
         → (is_member (node_labels counts place ts) a ≡ true → HasNode counts place ts a)
         → (is_member (node_labels counts (counts l) cs) a ≡ true → HasNode counts (counts l) cs a)
         → HasNode counts place (more ts l f cs) a
-    by (inl k) on in_children = inl (on k)
-    by (inr k) on in_children = inner (place (size ts)) refl k in_children
+    in_earlier_or_last (inl k) on in_children = inl (on k)
+    in_earlier_or_last (inr k) on in_children = inner (place (size ts)) refl k in_children
 
 -- so it is decided whether there is such a node
 pub node_labels_are : (counts : ℕ → ℕ → Bool) (place : ℕ → Bool) (ts : Trees) (a : ℕ)

@@ -105,14 +105,14 @@ module _ (db : List Statement) where
   is_active_kept : is_active as_axioms ≡ is_active db
   is_active_kept = fun_ext (λ j. fun_ext (λ k.
       ap (λ o. nat_lt j k && is_active_some o (stays as_axioms j k)) (got_axiom db j)
-      ∙ ap (λ b. nat_lt j k && b) (by (slice_get db j) (stays as_axioms j k))
+      ∙ ap (λ b. nat_lt j k && b) (by_statement (slice_get db j) (stays as_axioms j k))
       ∙ ap (λ (s : ℕ → ℕ → Bool). nat_lt j k && is_active_some (slice_get db j) (s j k))
       stays_kept))
     where
-      by : (o : Option Statement) (b : Bool)
+      by_statement : (o : Option Statement) (b : Bool)
           → is_active_some (option_map as_axiom o) b ≡ is_active_some o b
-      by None b = refl
-      by (Some s) b = kept (λ s. is_active_kind s b) (λ l k xs e ps d. refl) s
+      by_statement None b = refl
+      by_statement (Some s) b = kept (λ s. is_active_kind s b) (λ l k xs e ps d. refl) s
 
   active_kept : active as_axioms ≡ active db
   active_kept =
@@ -219,11 +219,11 @@ module _ (db : List Statement) where
       ap (λ (t : ℕ → ℕ → Bool). if_active (t j k) (ruled_as j (slice_get as_axioms j)))
       is_active_kept
       ∙ ap (if_active (is_active db j k))
-      (ap (ruled_as j) (got_axiom db j) ∙ by j (slice_get db j))))
+      (ap (ruled_as j) (got_axiom db j) ∙ by_statement j (slice_get db j))))
     where
-      by : (j : ℕ) (o : Option Statement) → ruled_as j (option_map as_axiom o) ≡ ruled j o
-      by j None = refl
-      by j (Some s) = kept (rule_of as_axioms j) (λ l k xs e ps d. refl) s ∙ rule_same j s
+      by_statement : (j : ℕ) (o : Option Statement) → ruled_as j (option_map as_axiom o) ≡ ruled j o
+      by_statement j None = refl
+      by_statement j (Some s) = kept (rule_of as_axioms j) (λ l k xs e ps d. refl) s ∙ rule_same j s
 
   abbrev context : (ℕ → Bool) → (ℕ → ℕ → Bool) → (ℕ → Option Rule) → Context
   context v d r = record { is_variable = v; is_disjoint = d; rule = r }

@@ -16,18 +16,18 @@ use Rattle.mm_spec.specs.declared.Role.TheVariants.{Token, Opening, Closing, Com
 -- a word that is read as a token is one
 pub read_as_token : (b : Bool) (w : List ℕ) → role_of b w ≡ Token → is_token w ≡ true
 unfolding role_of
-read_as_token false w e = by (is_token w) (opens_comment w) e
+read_as_token false w e = by_tests (is_token w) (opens_comment w) e
   where
-    by : (t o : Bool) → (if t then Token else (if o then Opening else Faulty)) ≡ Token → t ≡ true
-    by true o e = refl
-    by false true e = absurd (cc)
-    by false false e = absurd (cc)
-read_as_token true w e = absurd (by (closes_comment w) (is_comment_word w) e)
+    by_tests : (t o : Bool) → (if t then Token else (if o then Opening else Faulty)) ≡ Token → t ≡ true
+    by_tests true o e = refl
+    by_tests false true e = absurd (cc)
+    by_tests false false e = absurd (cc)
+read_as_token true w e = absurd (by_tests (closes_comment w) (is_comment_word w) e)
   where
-    by : (c o : Bool) → (if c then Closing else (if o then Comment else Faulty)) ≡ Token → ⊥
-    by true o e = cc
-    by false true e = cc
-    by false false e = cc
+    by_tests : (c o : Bool) → (if c then Closing else (if o then Comment else Faulty)) ≡ Token → ⊥
+    by_tests true o e = cc
+    by_tests false true e = cc
+    by_tests false false e = cc
 
 with_tokens_push : (ts : List Word) (w : Word) (r : Reading)
     → with_tokens ts (with_tokens (w ∷ []) r) ≡ with_tokens (ts ++ w ∷ []) r
@@ -159,24 +159,24 @@ pub reading_append : (text : List ℕ) (c : Option ℕ) (xs ys : List Word)
     → reading text c (xs ++ ys) ≡ go_on text (reading text c xs) ys
 reading_append text c [] ys = sym (ap (λ (r : Reading). go_on text r ys) (reading_end text c))
 reading_append text c (x ∷ xs) ys =
-    by (role_of (is_some c) (bytes_of text x)) refl (λ d. reading_append text d xs ys)
+    by_role (role_of (is_some c) (bytes_of text x)) refl (λ d. reading_append text d xs ys)
   where
-    by : (r : Role) → role_of (is_some c) (bytes_of text x) ≡ r
+    by_role : (r : Role) → role_of (is_some c) (bytes_of text x) ≡ r
         → ((d : Option ℕ) → reading text d (xs ++ ys) ≡ go_on text (reading text d xs) ys) →
         reading text c (x ∷ (xs ++ ys)) ≡ go_on text (reading text c (x ∷ xs)) ys
-    by Token h ih = reading_one text c x (xs ++ ys) h ∙ ap (with_tokens (x ∷ [])) (ih c)
+    by_role Token h ih = reading_one text c x (xs ++ ys) h ∙ ap (with_tokens (x ∷ [])) (ih c)
         ∙ go_on_with_tokens text (x ∷ []) ys (reading text c xs).tokens (reading text c xs).fault
         (reading text c xs).comment
         ∙ sym (ap (λ (r : Reading). go_on text r ys) (reading_one text c x xs h))
-    by Opening h ih =
+    by_role Opening h ih =
         reading_opening text c x (xs ++ ys) h ∙ ih (Some x.start)
         ∙ sym (ap (λ (r : Reading). go_on text r ys) (reading_opening text c x xs h))
-    by Closing h ih =
+    by_role Closing h ih =
         reading_closing text c x (xs ++ ys) h ∙ ih None
         ∙ sym (ap (λ (r : Reading). go_on text r ys) (reading_closing text c x xs h))
-    by Comment h ih =
+    by_role Comment h ih =
         reading_comment text c x (xs ++ ys) h ∙ ih c
         ∙ sym (ap (λ (r : Reading). go_on text r ys) (reading_comment text c x xs h))
-    by Faulty h ih =
+    by_role Faulty h ih =
         reading_faulty text c x (xs ++ ys) h
         ∙ sym (ap (λ (r : Reading). go_on text r ys) (reading_faulty text c x xs h))

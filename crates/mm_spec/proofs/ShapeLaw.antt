@@ -46,10 +46,10 @@ lookup_meaning [] w h = tt
 lookup_meaning (e ∷ es) w h = grind (arith, common_steps, bytes_eq-Decides, lookup_meaning es w h.1)
 
 pub meaning : (w : Bytes) → Meaning (class w) w
-meaning w = go (has_dollar w) refl
+meaning w = by_dollar (has_dollar w) refl
   where
-    go : (b : Bool) → has_dollar w ≡ b → Meaning (elim b [ true ↦ keyword w | false ↦ plain ]) w
-    go true e =
+    by_dollar : (b : Bool) → has_dollar w ≡ b → Meaning (elim b [ true ↦ keyword w | false ↦ plain ]) w
+    by_dollar true e =
         lookup_meaning table w (
           (λ x. x),
           (
@@ -66,7 +66,7 @@ meaning w = go (has_dollar w) refl
             ),
           ),
         )
-    go false e = e
+    by_dollar false e = e
 
 -- a list after which so many blocks are open
 pub record Balanced (d : ℕ) (list : List Statement) : Type 0 where
@@ -106,14 +106,14 @@ one_more d list s b w h = record {
     nested : (n : ℕ)
         → count_by is_closing (take n (list ++ s ∷ []))
         ≤ count_by is_opening (take n (list ++ s ∷ []))
-    nested n = go (leb n (length list)) refl
+    nested n = within_or_after (leb n (length list)) refl
       where
-        go : (t : Bool) → leb n (length list) ≡ t
+        within_or_after : (t : Bool) → leb n (length list) ≡ t
             → count_by is_closing (take n (list ++ s ∷ []))
             ≤ count_by is_opening (take n (list ++ s ∷ []))
-        go true e =
+        within_or_after true e =
             rw (take-append-le n list (s ∷ []) (leb-true n (length list) e)) (b.are_statements.nested n)
-        go false e =
+        within_or_after false e =
             let long : length (list ++ s ∷ []) ≤ n =
             let l = leb-false n (length list) e in omega (arith, l, length-append list (s ∷ [])) in
             rw (take_all n (list ++ s ∷ []) long)
@@ -300,11 +300,11 @@ reads_next (at_start zero) ts x t close_block m = tt
 reads_next (at_start (suc d)) ts x t close_block m =
     closes (suc d) ts x.statements x.part (closing t.at) x.balanced x.is refl (λ e. omega arith) t
     (ap₂ (λ p v. p ++ token t.at v ∷ []) (sym x.is_part) (sym m)) d refl
-reads_next (at_start d) ts x t plain m = go (is_label t.word) refl
+reads_next (at_start d) ts x t plain m = by_is_label (is_label t.word) refl
   where
-    go : (b : Bool) → is_label t.word ≡ b → Reaches (label_at_start b d) (ts ++ t ∷ [])
-    go false e = tt
-    go true e =
+    by_is_label : (b : Bool) → is_label t.word ≡ b → Reaches (label_at_start b d) (ts ++ t ∷ [])
+    by_is_label false e = tt
+    by_is_label true e =
         goes_on (at_start d) (at_label d) ts x t refl (t, e, ap (λ p. p ++ t ∷ []) x.is_part)
 reads_next (at_label d) ts x t type_of m =
     opens_labelled d ts x t (codes "$f") m (floating x.is_part.0 t.at) (λ ws k. refl)
@@ -362,19 +362,19 @@ pub follow_reads : (us ts : List Token) (q : State) → Reads q ts
     → Reaches (follow (Some q) us) (ts ++ us)
 follow_reads [] ts q x = subst (Reads q) (sym (append-nil ts)) x
 follow_reads (u ∷ us) ts q x =
-    go (next q (class u.word) u.word) (reads_next q ts x u (class u.word) (meaning u.word))
+    by_state (next q (class u.word) u.word) (reads_next q ts x u (class u.word) (meaning u.word))
     (λ r y. follow_reads us (ts ++ u ∷ []) r y)
   where
     lost : (vs : List Token) (all : List Token) → Reaches (follow None vs) all
     lost [] all = tt
     lost (v ∷ vs) all = tt
 
-    go : (o : Option State) → Reaches o (ts ++ u ∷ [])
+    by_state : (o : Option State) → Reaches o (ts ++ u ∷ [])
         → ((r : State) → Reads r (ts ++ u ∷ [])
         → Reaches (follow (Some r) us) ((ts ++ u ∷ []) ++ us))
         → Reaches (follow o us) (ts ++ u ∷ us)
-    go None y on = lost us (ts ++ u ∷ us)
-    go (Some r) y on = subst (Reaches (follow (Some r) us)) (append_assoc ts (u ∷ []) us) (on r y)
+    by_state None y on = lost us (ts ++ u ∷ us)
+    by_state (Some r) y on = subst (Reaches (follow (Some r) us)) (append_assoc ts (u ∷ []) us) (on r y)
 
 -- what was read can be ended
 ended : (d : ℕ) (ts : List Token) (list : List Statement) (part : List Token) (s : Statement)

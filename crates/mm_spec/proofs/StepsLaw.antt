@@ -135,7 +135,7 @@ module _ (c : Context) where
       → RanSteps lists (postfix forest) steps (run_steps ends steps (formulas forest))
   means_steps [] lists ends forest d b good = (postfix forest, refl, forest, d, refl, refl)
   means_steps (s ∷ steps) lists ends forest d b good =
-      go (step_entries c s ends (formulas forest)) (grows lists ends forest s d b good.0)
+      by_result (step_entries c s ends (formulas forest)) (grows lists ends forest s d b good.0)
       (λ next f e h. means_steps steps (lists ++ postfix next ∷ []) (ends ++ f ∷ []) next e
       (after_more lists ends (postfix next) f b (next, e, refl, h))
       (subst (λ n. AreGoodSteps c n steps) (one_more f) good.1))
@@ -159,13 +159,13 @@ module _ (c : Context) where
         fails = h.fails;
       }
 
-      go : (r : Result (List Formula) Reason) → Grown lists forest s r
+      by_result : (r : Result (List Formula) Reason) → Grown lists forest s r
           → ((next : Trees) (f : Formula) → AreDerivations c next → HasLast next f
           → RanSteps (lists ++ postfix next ∷ []) (postfix next) steps
           (run_steps (ends ++ f ∷ []) steps (formulas next)))
           → RanSteps lists (postfix forest) (s ∷ steps)
           (proceed r (length ends) (λ out. run_steps (ends ++ top out ∷ []) steps out))
-      go (Err reason) h on =
+      by_result (Err reason) h on =
           record {
             before = [];
             first = s;
@@ -178,7 +178,7 @@ module _ (c : Context) where
             is = refl;
             fails = h;
           }
-      go (Ok out) h on =
+      by_result (Ok out) h on =
           later (postfix h.0) h.2 (run_steps (ends ++ top out ∷ []) steps out)
           (subst (λ x. RanSteps (lists ++ postfix h.0 ∷ []) (postfix h.0) steps
           (run_steps (ends ++ top out ∷ []) steps x)) h.3 (on h.0 (top out) h.1 h.4))

@@ -68,10 +68,10 @@ followed : (ts : List Token) (p : Bool) (r : Progress) → stop_from r ts ≡ No
 followed [] p r e = (p, refl)
 followed (t ∷ ts) p r e =
     let x =
-    by (proves p r (class t.word)) (transition r (class t.word) t) e (λ q b h. followed ts b q h) in
+    by_transition (proves p r (class t.word)) (transition r (class t.word) t) e (λ q b h. followed ts b q h) in
     (x.0, follow_one p r t ts ∙ x.1)
   where
-    by : (b : Bool) (o : Transition)
+    by_transition : (b : Bool) (o : Transition)
         → stop_after o (Some (fault t.at (shape_code (begins r) t.word))) (λ q. stop_from q ts)
         ≡ None
         → ((q : Progress) (b : Bool) → stop_from q ts ≡ None
@@ -79,9 +79,9 @@ followed (t ∷ ts) p r e =
         → (c : Bool)
         × (follow (state_after b o) ts
         ≡ Some (state_of c (rest_after o (λ q. rest_from q ts) r)))
-    by b stop e on = absurd (cc)
-    by b (go q) e on = on q b e
-    by b (done d s) e on = on (start d) b e
+    by_transition b stop e on = absurd (cc)
+    by_transition b (go q) e on = on q b e
+    by_transition b (done d s) e on = on (start d) b e
 
 -- the first that is not
 record Stop (r : Progress) (ts : List Token) (f : Fault) : Type 0 where
@@ -95,15 +95,15 @@ record Stop (r : Progress) (ts : List Token) (f : Fault) : Type 0 where
 
 stopped : (ts : List Token) (r : Progress) (f : Fault) → stop_from r ts ≡ Some f → Stop r ts f
 stopped [] r f e = absurd (cc)
-stopped (t ∷ ts) r f e = by (transition r (class t.word) t) refl e (λ q h. stopped ts q f h)
+stopped (t ∷ ts) r f e = by_transition (transition r (class t.word) t) refl e (λ q h. stopped ts q f h)
   where
     here : Option Fault
     here = Some (fault t.at (shape_code (begins r) t.word))
 
-    by : (o : Transition) → transition r (class t.word) t ≡ o
+    by_transition : (o : Transition) → transition r (class t.word) t ≡ o
         → stop_after o (Some (fault t.at (shape_code (begins r) t.word))) (λ q. stop_from q ts)
         ≡ Some f → ((q : Progress) → stop_from q ts ≡ Some f → Stop q ts f) → Stop r (t ∷ ts) f
-    by stop o e on =
+    by_transition stop o e on =
         record {
           before = [];
           first = t;
@@ -113,7 +113,7 @@ stopped (t ∷ ts) r f e = by (transition r (class t.word) t) refl e (λ q h. st
           stops = o;
           is = sym (same_Some (fault t.at (shape_code (begins r) t.word)) f e);
         }
-    by (go q) o e on = let x = on q e in record {
+    by_transition (go q) o e on = let x = on q e in record {
       before = t ∷ x.before;
       first = x.first;
       after = x.after;
@@ -130,7 +130,7 @@ stopped (t ∷ ts) r f e = by (transition r (class t.word) t) refl e (λ q h. st
           (λ a. fault x.first.at
           (shape_code (begins (rest_after a (λ q. rest_from q x.before) r)) x.first.word)) (sym o);
     }
-    by (done d s) o e on = let x = on (start d) e in record {
+    by_transition (done d s) o e on = let x = on (start d) e in record {
       before = t ∷ x.before;
       first = x.first;
       after = x.after;
@@ -190,7 +190,7 @@ shape_fault ts f e =
       begins = (begins_exact x.before).1 (state_of y.0 (rest_from (start 0) x.before), y.1);
       no_more = λ m. ended x.before x.first (rest_from (start 0) x.before) y.0 y.1 x.stops m;
       code =
-          by x.before x.first (rest_from (start 0) x.before) y.0 y.1 x.is
+          by_begins x.before x.first (rest_from (start 0) x.before) y.0 y.1 x.is
           (begins (rest_from (start 0) x.before)) refl;
     }
   where
@@ -205,14 +205,14 @@ shape_fault ts f e =
         ∙ sym (follow_append before (first ∷ []) (Some (at_start 0))) ∙ q.1 in
         absurd (cc)
 
-    by : (before : List Token) (first : Token) (r : Progress) (b : Bool)
+    by_begins : (before : List Token) (first : Token) (r : Progress) (b : Bool)
         → follow (Some (at_start 0)) before ≡ Some (state_of b r)
         → f ≡ fault first.at (shape_code (begins r) first.word) → (c : Bool) → begins r ≡ c
         → (IsBetween before × (f ≡ fault first.at (shape_code true first.word)))
         ⊎ ((¬ IsBetween before) × (f ≡ fault first.at (shape_code false first.word)))
-    by before first r b y e true h =
+    by_begins before first r b y e true h =
         inl (between before r b y h, e ∙ ap (λ c. fault first.at (shape_code c first.word)) h)
-    by before first r b y e false h =
+    by_begins before first r b y e false h =
         inr (not_between before r b y h, e ∙ ap (λ c. fault first.at (shape_code c first.word)) h)
 
 pub no_shape_fault : (ts : List Token) → stop_from (start 0) ts ≡ None
@@ -228,13 +228,13 @@ no_shape_fault ts e x =
   where
     front : (us vs : List Token) (q : State) → Some q ≡ follow (Some (at_start 0)) (us ++ vs)
         → BeginStatements us
-    front us vs q h = by (follow (Some (at_start 0)) us) refl
+    front us vs q h = by_state (follow (Some (at_start 0)) us) refl
       where
-        by : (o : Option State) → follow (Some (at_start 0)) us ≡ o → BeginStatements us
-        by None n =
+        by_state : (o : Option State) → follow (Some (at_start 0)) us ≡ o → BeginStatements us
+        by_state None n =
             absurd (no_way_back vs q
             (ap (λ o. follow o vs) (sym n) ∙ sym (follow_append us vs (Some (at_start 0))) ∙ sym h))
-        by (Some r) n = (begins_exact us).1 (r, n)
+        by_state (Some r) n = (begins_exact us).1 (r, n)
 
 -- ---- the end
 
@@ -276,7 +276,7 @@ fault_at_end len _ = Some (fault len OpenStatement)
 pub end_fault : (len : ℕ) (ts : List Token) (f : Fault) → stop_from (start 0) ts ≡ None
     → fault_at_end len (rest_from (start 0) ts) ≡ Some f → FileEndFault len ts f
 end_fault len ts f e h =
-    let y = followed ts false (start 0) e in by (rest_from (start 0) ts) y.0 y.1 h
+    let y = followed ts false (start 0) e in by_progress (rest_from (start 0) ts) y.0 y.1 h
   where
     part : (r : Progress) (b : Bool) → follow (Some (at_start 0)) ts ≡ Some (state_of b r)
         → begins r ≡ false → Some (fault len OpenStatement) ≡ Some f → FileEndFault len ts f
@@ -287,10 +287,10 @@ end_fault len ts f e h =
           code = inl (goes_on ts r b y n (is_longest ts), sym (same_Some (fault len OpenStatement) f h));
         }
 
-    by : (r : Progress) (b : Bool) → follow (Some (at_start 0)) ts ≡ Some (state_of b r)
+    by_progress : (r : Progress) (b : Bool) → follow (Some (at_start 0)) ts ≡ Some (state_of b r)
         → fault_at_end len r ≡ Some f → FileEndFault len ts f
-    by (start zero) b y h = absurd (cc)
-    by (start (suc d)) b y h =
+    by_progress (start zero) b y h = absurd (cc)
+    by_progress (start (suc d)) b y h =
         let x = ends ts (suc d) b y in
         let c = x.count in
         record {
@@ -299,14 +299,14 @@ end_fault len ts f e h =
           code = inr
               (x.rest (is_longest ts), omega (arith, c), sym (same_Some (fault len OpenBlock) f h));
         }
-    by (labelled d l) b y h = part (labelled d l) b y refl h
-    by (words d make ws) b y h = part (words d make ws) b y refl h
-    by (formula d l k ws) b y h = part (formula d l k ws) b y refl h
+    by_progress (labelled d l) b y h = part (labelled d l) b y refl h
+    by_progress (words d make ws) b y h = part (words d make ws) b y refl h
+    by_progress (formula d l k ws) b y h = part (formula d l k ws) b y refl h
 
 pub no_end_fault : (len : ℕ) (ts : List Token) → stop_from (start 0) ts ≡ None
     → fault_at_end len (rest_from (start 0) ts) ≡ None → (f : Fault) → ¬ FileEndFault len ts f
 no_end_fault len ts e h f x =
-    let y = followed ts false (start 0) e in by (rest_from (start 0) ts) y.0 y.1 h
+    let y = followed ts false (start 0) e in by_progress (rest_from (start 0) ts) y.0 y.1 h
   where
     same : (list : List Statement) (r : AreLongestStatements ts list) → statements_of ts ≡ list → Ends ts 0
         → (r.rest ≡ []) × (count_by is_closing list ≡ count_by is_opening list)
@@ -325,13 +325,13 @@ no_end_fault len ts e h f x =
     no list r x (inr c) =
         let s = (same list r (longest_unique ts list r) x).1 in let l = c.1 in omega (arith, s, l)
 
-    by : (r : Progress) (b : Bool) → follow (Some (at_start 0)) ts ≡ Some (state_of b r)
+    by_progress : (r : Progress) (b : Bool) → follow (Some (at_start 0)) ts ≡ Some (state_of b r)
         → fault_at_end len r ≡ None → ⊥
-    by (start zero) b y h = no x.statements x.are_statements (ends ts 0 b y) x.code
-    by (start (suc d)) b y h = cc
-    by (labelled d l) b y h = cc
-    by (words d make ws) b y h = cc
-    by (formula d l k ws) b y h = cc
+    by_progress (start zero) b y h = no x.statements x.are_statements (ends ts 0 b y) x.code
+    by_progress (start (suc d)) b y h = cc
+    by_progress (labelled d l) b y h = cc
+    by_progress (words d make ws) b y h = cc
+    by_progress (formula d l k ws) b y h = cc
 
 -- the fault of the text by the table
 abbrev pub first_of : Option Fault → Option Fault → Option Fault
