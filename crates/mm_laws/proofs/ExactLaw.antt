@@ -10,7 +10,8 @@ use Rattle.mm_spec.specs.Derivation.{AreDerivations}
 use Rattle.mm_spec.specs.Limits.{formula_limit}
 use Rattle.mm_spec.specs.Valid.{Reason, too_few, unmatched, not_disjoint, too_long, Fails}
 use Rattle.mm_spec.proofs.UnifyLaw.{same_equal, found_formula, found_disjoint}
-use Rattle.mm_spec.specs.Laws.Stack.{found, IsGood, step, apply, pick}
+use Rattle.mm_spec.specs.Laws.Stack.{substitution_from, IsCompleteRule, step, apply, unless_failed}
+use Rattle.mm_spec.specs.Laws.Stack.{unless_too_long}
 use Rattle.mm_spec.proofs.MachineLaw.{proceed, run, AreGood, runs_forest, good_parts, no_other, means}
 use Rattle.mm_spec.proofs.MachineLaw.{Ran, Stopped}
 
@@ -20,7 +21,7 @@ IsPostfixOfForest c labels = (forest : Trees) × AreDerivations c forest × (pos
 
 module _ (c : Context) where
   -- a step that fails stops the run, for that reason
-  pub stops : (r : Option Rule) (es : List Formula) (reason : Reason) → IsGood c r
+  pub stops : (r : Option Rule) (es : List Formula) (reason : Reason) → IsCompleteRule c r
       → Fails c r es reason → step c r es ≡ Err reason
   stops None es too_few good h = absurd h
   stops None es unmatched good h = absurd h
@@ -30,42 +31,45 @@ module _ (c : Context) where
   stops (Some (hypothesis g)) es unmatched good h = absurd h
   stops (Some (hypothesis g)) es not_disjoint good h = absurd h
   stops (Some (hypothesis g)) es too_long good h =
-      ap (λ b. pick true true true b (es ++ g ∷ [])) (lt-leb (length g) formula_limit h)
+      ap (λ b. unless_too_long b (es ++ g ∷ [])) (lt-leb (length g) formula_limit h)
   stops (Some (assertion a)) es too_few good h =
       ap (λ b. apply c a b (take (length es - length a.hypotheses) es)
       (drop (length es - length a.hypotheses) es))
       (lt-leb (length a.hypotheses) (length es) h)
   stops (Some (assertion a)) es unmatched good h =
       let ps = drop (length es - length a.hypotheses) es in
-      let σ = found c a.hypotheses ps in
+      let σ = substitution_from c a.hypotheses ps in
       let disjoint = list_all (λ p. are_all_disjoint c (σ p.low) (σ p.high)) a.pairs in
-      ap₂ (λ b m. pick b m disjoint (nat_le (length (substitute c σ a.formula)) formula_limit)
+      ap₂ (λ b m. unless_failed b m disjoint
+          (nat_le (length (substitute c σ a.formula)) formula_limit)
       (take (length es - length a.hypotheses) es ++ substitute c σ a.formula ∷ []))
       (le-leb (length a.hypotheses) (length es) h.0)
       (false_from_ne_true _ (λ e. h.1 σ (same_equal _ _ e)))
   stops (Some (assertion a)) es not_disjoint good h =
       let n = length es - length a.hypotheses in
       let ps = drop n es in
-      let σ = found c a.hypotheses ps in
-      let e : found c a.hypotheses (map (substitute c h.0) a.hypotheses) ≡ σ =
-      ap (found c a.hypotheses) (sym h.2) in
+      let σ = substitution_from c a.hypotheses ps in
+      let e : substitution_from c a.hypotheses (map (substitute c h.0) a.hypotheses) ≡ σ =
+      ap (substitution_from c a.hypotheses) (sym h.2) in
       let same_test = found_disjoint c a.hypotheses h.0 a.pairs good.pairs in
       let disjoint =
       subst (λ (s : Substitution). list_all (λ p. are_all_disjoint c (s p.low) (s p.high)) a.pairs
       ≡ list_all (λ p. are_all_disjoint c (h.0 p.low) (h.0 p.high)) a.pairs) e same_test in
-      ap₂ (λ b m. pick b m (list_all (λ p. are_all_disjoint c (σ p.low) (σ p.high)) a.pairs)
+      ap₂ (λ b m. unless_failed b m
+          (list_all (λ p. are_all_disjoint c (σ p.low) (σ p.high)) a.pairs)
       (nat_le (length (substitute c σ a.formula)) formula_limit)
       (take n es ++ substitute c σ a.formula ∷ []))
       (le-leb (length a.hypotheses) (length es) h.1) (no_other c a ps h.0 good h.2)
-      ∙ ap (λ k. pick true true k (nat_le (length (substitute c σ a.formula)) formula_limit)
+      ∙ ap (λ k. unless_failed true true k
+      (nat_le (length (substitute c σ a.formula)) formula_limit)
       (take n es ++ substitute c σ a.formula ∷ [])) (disjoint
       ∙ false_from_ne_true _ h.3)
   stops (Some (assertion a)) es too_long good h =
       let n = length es - length a.hypotheses in
       let ps = drop n es in
-      let σ = found c a.hypotheses ps in
-      let e : found c a.hypotheses (map (substitute c h.0) a.hypotheses) ≡ σ =
-      ap (found c a.hypotheses) (sym h.2) in
+      let σ = substitution_from c a.hypotheses ps in
+      let e : substitution_from c a.hypotheses (map (substitute c h.0) a.hypotheses) ≡ σ =
+      ap (substitution_from c a.hypotheses) (sym h.2) in
       let disjoint =
       subst (λ (s : Substitution). list_all (λ p. are_all_disjoint c (s p.low) (s p.high)) a.pairs
       ≡ list_all (λ p. are_all_disjoint c (h.0 p.low) (h.0 p.high)) a.pairs) e
@@ -73,11 +77,13 @@ module _ (c : Context) where
       let formula =
       subst (λ (s : Substitution). substitute c s a.formula ≡ substitute c h.0 a.formula) e
       (found_formula c a.hypotheses h.0 a.formula good.formula) in
-      ap₂ (λ b m. pick b m (list_all (λ p. are_all_disjoint c (σ p.low) (σ p.high)) a.pairs)
+      ap₂ (λ b m. unless_failed b m
+          (list_all (λ p. are_all_disjoint c (σ p.low) (σ p.high)) a.pairs)
       (nat_le (length (substitute c σ a.formula)) formula_limit)
       (take n es ++ substitute c σ a.formula ∷ []))
       (le-leb (length a.hypotheses) (length es) h.1) (no_other c a ps h.0 good h.2)
-      ∙ ap₂ (λ k s. pick true true k s (take n es ++ substitute c σ a.formula ∷ [])) (disjoint ∙ h.3)
+      ∙ ap₂ (λ k s. unless_failed true true k s (take n es ++ substitute c σ a.formula ∷ []))
+      (disjoint ∙ h.3)
       (ap (λ f. nat_le (length f) formula_limit) formula ∙ lt-leb _ _ h.4)
 
   -- a forest of derivations with these labels is what a run finds
@@ -119,6 +125,6 @@ module _ (c : Context) where
   pub stopped_no_forest : (ls : List ℕ) (reason : Reason) → AreGood c ls → Stopped c none ls reason
       → ¬ IsPostfixOfForest c ls
   stopped_no_forest ls reason good s h =
-      let found = row_run ls good h.0 h.1 h.2 in
+      let ran = row_run ls good h.0 h.1 h.2 in
       let stopped = stopped_run ls reason good s in
       cc

@@ -5,8 +5,8 @@ use Rattle.std.proofs.Common.{lit≤}
 use Rattle.std.specs.Fmt.{digits}
 use Rattle.std.specs.List.{range_with_len}
 use Rattle.mm_spec.specs.Text.{token, fault}
-use Rattle.mm_spec.specs.Statement.{Statement, constants, spelled}
-use Rattle.mm_spec.specs.Laws.Table.{start, stop_from}
+use Rattle.mm_spec.specs.Statement.{Statement, constants, spelling_of}
+use Rattle.mm_spec.specs.Laws.Table.{start, shape_fault_from}
 use Rattle.mm_spec.specs.Scope.{active}
 use Rattle.mm_spec.specs.Lawful.{scope_fault}
 use Rattle.mm_spec.specs.Derivation.{Trees, none, more, tree, AreDerivations, pair}
@@ -45,12 +45,12 @@ stops_at : statements (codes "$c a $. $} $c b $.") ≡ constants 0 (token 3 (cod
 unfolding statements
 stops_at = refl
 
-unopened : stop_from (start 0) (lexed (codes "$c a $. $} $c b $.")).tokens
+unopened : shape_fault_from (start 0) (lexed (codes "$c a $. $} $c b $.")).tokens
     ≡ Some (fault 8 UnopenedBlock)
 unfolding lexed
 unopened = refl
 
-spelled_b : flat_map spelled (statements text_b) ≡ (lexed text_b).tokens
+spelled_b : flat_map spelling_of (statements text_b) ≡ (lexed text_b).tokens
 unfolding statements
 spelled_b = refl
 

@@ -4,13 +4,13 @@ use Rattle.std.proofs.Common.{append_assoc}
 use Rattle.mm_spec.specs.Derivation.{Context, formulas, postfix}
 use Rattle.mm_spec.specs.Steps.{Step, label, marked}
 use Rattle.mm_spec.specs.Valid.{Reason, StepFails, Adds, Plain}
-use Rattle.mm_spec.specs.Laws.Complete.{IsFine}
+use Rattle.mm_spec.specs.Laws.Complete.{HasCompleteFrame}
 use Rattle.mm_spec.proofs.MachineLaw.{AreGood}
 use Rattle.mm_spec.proofs.StepsLaw.{forest_good, StoppedStep}
 use Rattle.mm_spec.proofs.CheckedLaw.{plain_unique}
 use Rattle.mm_laws.proofs.ExactLaw.{IsPostfixOfForest, stopped_no_forest}
 
-module _ (c : Context) (fine : (l : ℕ) → IsFine c (c.rule l)) where
+module _ (c : Context) (fine : (l : ℕ) → HasCompleteFrame c (c.rule l)) where
   -- the plain list only grows
   adds_more : (lists : List (List ℕ)) (old : List ℕ) (s : Step) (new : List ℕ)
       → Adds c lists old s new → (rest : List ℕ) × (new ≡ old ++ rest)

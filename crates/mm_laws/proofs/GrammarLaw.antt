@@ -10,8 +10,10 @@ use Rattle.mm_spec.specs.declared.Fault.{Fault}
 use Rattle.mm_spec.specs.declared.Role.{Role}
 use Rattle.mm_spec.specs.declared.Role.TheVariants as roles
 use Rattle.mm_spec.specs.Bytes.{is_printable}
-use Rattle.mm_spec.specs.Roles.{role_of, fault_of, is_clean, is_dollar_and, is_keyword, is_mark}
-use Rattle.mm_spec.specs.Roles.{has_mark, is_token, opens_comment, closes_comment, is_comment_word}
+use Rattle.mm_spec.specs.Roles.{role_of, fault_of, is_clean, is_dollar_and, is_keyword}
+use Rattle.mm_spec.specs.Roles.{is_comment_mark}
+use Rattle.mm_spec.specs.Roles.{has_comment_mark, is_token, opens_comment, closes_comment}
+use Rattle.mm_spec.specs.Roles.{is_comment_word}
 use Rattle.mm_spec.specs.Readings.{Reading, reading, with_tokens, bytes_of}
 use Rattle.mm_spec.specs.Laws.Readings.{go_on}
 use Rattle.mm_laws.specs.Grammar.{Lexeme, Single, Comment, Rest, IsLexeme, IsRest, AreCommentWords}
@@ -43,7 +45,7 @@ opening_is_no_token word h = rw (two_bytes 0x28 word h) refl
 
 closing_is_no_comment_word : (word : List ℕ) → closes_comment word ≡ true
     → is_comment_word word ≡ false
-unfolding is_comment_word is_clean has_mark is_mark is_printable
+unfolding is_comment_word is_clean has_comment_mark is_comment_mark is_printable
 closing_is_no_comment_word word h = rw (two_bytes 0x29 word h) refl
 
 comment_word_is_no_closing : (word : List ℕ) → is_comment_word word ≡ true
@@ -111,7 +113,7 @@ reading_comment_words text p (w ∷ ws) us (h, all) =
 
 reading_items : (text : List ℕ) (items : List Lexeme) → AllByRecursion (IsLexeme text) items →
     reading text None (flat_map words_in items)
-    ≡ record { tokens = flat_map tokens_in items; fault = None; comment = None }
+    ≡ record { tokens = flat_map tokens_in items; fault = None; open_comment = None }
 reading_items text [] all = reading_end text None
 reading_items text (Single w ∷ items) (h, all) =
     reading_one text None w _ (role_token _ h)
@@ -125,7 +127,7 @@ reading_items text (Comment o ws c ∷ items) (h, all) =
 
 reading_rest : (text : List ℕ) (rest : Rest) → IsRest text rest
     → reading text None (words_in_rest rest)
-    ≡ record { tokens = []; fault = None; comment = option_map (λ p. p.0.start) rest }
+    ≡ record { tokens = []; fault = None; open_comment = option_map (λ p. p.0.start) rest }
 reading_rest text None all = reading_end text None
 reading_rest text (Some (o, ws)) all =
     reading_opening text None o ws (role_opening _ all.0)
@@ -135,7 +137,7 @@ reading_rest text (Some (o, ws)) all =
 
 pub IsWellBegun_reading : (text : List ℕ) (ws ts : List Word) (c : Option ℕ)
     → IsWellBegun text ws ts c
-    → reading text None ws ≡ record { tokens = ts; fault = None; comment = c }
+    → reading text None ws ≡ record { tokens = ts; fault = None; open_comment = c }
 IsWellBegun_reading text ws ts c begun =
     ap (reading text None) begun.words
     ∙ reading_append text None (flat_map words_in begun.items) (words_in_rest begun.rest)
@@ -168,7 +170,7 @@ IsWellBegun_cons text item ws ts c is begun = record {
 }
 
 abbrev Begun : List ℕ → List Word → Reading → Type 0
-Begun text ws r = r.fault ≡ None → IsWellBegun text ws r.tokens r.comment
+Begun text ws r = r.fault ≡ None → IsWellBegun text ws r.tokens r.open_comment
 
 -- outside a comment; and inside one that these words opened
 record Both (text : List ℕ) (ws : List Word) : Type 0 where
@@ -223,7 +225,7 @@ both text (w ∷ ws) = record {
         (sym (reading_closing text (Some o.start) w ws role))
         (λ e. subst
         (λ (vs : List Word). IsWellBegun text (o ∷ vs) (reading text None ws).tokens
-        (reading text None ws).comment) (append_assoc us (w ∷ []) ws)
+        (reading text None ws).open_comment) (append_assoc us (w ∷ []) ws)
         (IsWellBegun_cons text (Comment o us w) ws _ _ (h, all, end) (ih.out e)))
     by_within o us h all (comment in_it role) ih =
         subst (Begun text (o ∷ (us ++ w ∷ ws)))
@@ -243,9 +245,10 @@ record Split (text : List ℕ) (c : Option ℕ) (ws : List Word) (f : Fault)
   w : Word
   after : List Word
   split : ws ≡ before ++ w ∷ after
-  begun : reading text c before ≡ record { tokens = r.tokens; fault = None; comment = r.comment }
-  role : role_of (is_some r.comment) (bytes_of text w) ≡ roles.Faulty
-  same : f ≡ fault_of (is_some r.comment) w.start (bytes_of text w)
+  begun : reading text c before
+      ≡ record { tokens = r.tokens; fault = None; open_comment = r.open_comment }
+  role : role_of (is_some r.open_comment) (bytes_of text w) ≡ roles.Faulty
+  same : f ≡ fault_of (is_some r.open_comment) w.start (bytes_of text w)
 
 abbrev SplitIf : List ℕ → Option ℕ → List Word → Fault → Reading → Type 0
 SplitIf text c ws f r = r.fault ≡ Some f → Split text c ws f r
@@ -307,8 +310,8 @@ split_at text c (x ∷ xs) f =
         })
 
 faulty_word : (text : List ℕ) (ws : List Word) (f : Fault) (r : Reading) → Split text None ws f r →
-    (w : Word) × IsFaulty text ws w r.tokens r.comment
-    × (f ≡ fault_of (is_some r.comment) w.start (bytes_of text w))
+    (w : Word) × IsFaulty text ws w r.tokens r.open_comment
+    × (f ≡ fault_of (is_some r.open_comment) w.start (bytes_of text w))
 faulty_word text ws f r s = (
   s.w,
   record {
@@ -318,16 +321,16 @@ faulty_word text ws f r s = (
     begun = subst (Begun text s.before) s.begun ((both text s.before).out) refl;
     faulty = λ ts c begun.
         let whole : reading text None (s.before ++ s.w ∷ [])
-        ≡ record { tokens = ts; fault = None; comment = c } = IsWellBegun_reading text _ ts c
+        ≡ record { tokens = ts; fault = None; open_comment = c } = IsWellBegun_reading text _ ts c
         begun in
         let on : reading text None (s.before ++ s.w ∷ [])
-        ≡ with_tokens r.tokens (reading text r.comment (s.w ∷ [])) =
+        ≡ with_tokens r.tokens (reading text r.open_comment (s.w ∷ [])) =
         reading_append text None s.before (s.w ∷ [])
         ∙ ap (λ (q : Reading). go_on text q (s.w ∷ [])) s.begun in
         let fault =
         ap (λ (q : Reading). q.fault)
         (sym whole ∙ on
-        ∙ ap (with_tokens r.tokens) (reading_faulty text r.comment s.w [] s.role)) in
+        ∙ ap (with_tokens r.tokens) (reading_faulty text r.open_comment s.w [] s.role)) in
         cc fault;
   },
   s.same,

@@ -13,7 +13,7 @@ use Rattle.mm_spec.specs.Valid.{IsEndCode}
 use Rattle.mm_spec.proofs.MachineLaw.{Failed}
 use Rattle.mm_spec.proofs.StepsLaw.{run_steps, StoppedStep, RanSteps, means_steps}
 use Rattle.mm_spec.specs.Laws.Stack.{AreGoodSteps}
-use Rattle.mm_spec.specs.Laws.Complete.{IsFine}
+use Rattle.mm_spec.specs.Laws.Complete.{HasCompleteFrame}
 use Rattle.mm_spec.proofs.CheckedLaw.{same_forest, plain_unique}
 use Rattle.mm_laws.proofs.ExcludedLaw.{excludes}
 use Rattle.mm_spec.specs.declared.Code.TheVariants.{NotOneEntry, OtherFormula}
@@ -60,7 +60,7 @@ split (s ∷ before) after first (p ∷ ps) e =
       same = ap₂ (λ x y. x ∷ y) (ap (first_of s) e) r.same;
     }
 
-module _ (c : Context) (fine : (l : ℕ) → IsFine c (c.rule l)) (ps : List PlacedStep)
+module _ (c : Context) (fine : (l : ℕ) → HasCompleteFrame c (c.rule l)) (ps : List PlacedStep)
     (formula : Formula) (end : ℕ) where
   pub data Judged : Type 0 where
     valid : (d : Trees) → Derives c (steps_of ps) formula d → Judged

@@ -9,7 +9,8 @@ use Rattle.std.proofs.lemmas.Bool.Decides.{same_from_decides}
 use Rattle.std.proofs.lemmas.List.{append_cancel_left}
 use Rattle.mm_spec.specs.Text.{Bytes, Token, fault}
 use Rattle.mm_spec.specs.declared.Fault.{Fault}
-use Rattle.mm_spec.specs.Statement.{Statement, spelled, BeginStatements, IsBetween, ShapeFault, AreLongestStatements}
+use Rattle.mm_spec.specs.Statement.{Statement, spelling_of, BeginStatements, IsBetween, ShapeFault}
+use Rattle.mm_spec.specs.Statement.{AreLongestStatements}
 use Rattle.mm_spec.specs.Statement.{FileEndFault, shape_code, is_closing, is_opening}
 use Rattle.mm_spec.specs.Lawful.{least, scope_fault}
 use Rattle.mm_spec.specs.Derivation.{Formula, Context, Rule, hypothesis, assertion, Trees, formulas}
@@ -30,9 +31,9 @@ use Rattle.mm_spec.specs.Output.{TextFault, StopsReading, IsRead, ProofFault, pr
 use Rattle.mm_spec.specs.Output.{is_theorem_at, AllAreValid, FirstProofFault, FirstFault}
 use Rattle.mm_spec.specs.Output.{HasNoFault, theorems, columns, open_columns, label_at, IsRowOf}
 use Rattle.mm_spec.specs.Output.{AreCited, IsCitingRowOf, IsReportOf, IsOutput}
-use Rattle.mm_spec.specs.Laws.Stack.{IsGood}
+use Rattle.mm_spec.specs.Laws.Stack.{IsCompleteRule}
 use Rattle.mm_laws.proofs.ExactLaw.{stops}
-use Rattle.mm_spec.specs.Laws.Complete.{IsFine, AreComplete}
+use Rattle.mm_spec.specs.Laws.Complete.{HasCompleteFrame, AreComplete}
 use Rattle.mm_spec.specs.Opened.{counted}
 use Rattle.mm_spec.proofs.CompleteLaw.{reads_complete}
 use Rattle.mm_spec.proofs.OpenedLaw.{counted_complete}
@@ -75,9 +76,9 @@ splits_of (a ∷ xs) (b ∷ ys) us vs x y e = go (splits_of xs ys us vs x y (ap 
 
 -- ---- faults of steps and of the end
 
-module _ (c : Context) (fine : (l : ℕ) → IsFine c (c.rule l)) where
-  good : (r : Option Rule) (es : List Formula) (a : Reason) → IsFine c r → Fails c r es a
-      → IsGood c r
+module _ (c : Context) (fine : (l : ℕ) → HasCompleteFrame c (c.rule l)) where
+  good : (r : Option Rule) (es : List Formula) (a : Reason) → HasCompleteFrame c r → Fails c r es a
+      → IsCompleteRule c r
   good None es a f h = nothing a h
     where
       nothing : (a : Reason) → Fails c None es a → ⊥
@@ -281,8 +282,9 @@ end_unique len ts f g s t = go s.code t.code
   where
     rest : s.are_statements.rest ≡ t.are_statements.rest
     rest =
-        append_cancel_left (flat_map spelled t.statements) s.are_statements.rest t.are_statements.rest
-        (sym (subst (λ r. ts ≡ flat_map spelled r ++ s.are_statements.rest)
+        append_cancel_left
+            (flat_map spelling_of t.statements) s.are_statements.rest t.are_statements.rest
+        (sym (subst (λ r. ts ≡ flat_map spelling_of r ++ s.are_statements.rest)
         (same_statements ts s.statements t.statements s.are_statements t.are_statements) s.are_statements.splits)
         ∙ t.are_statements.splits)
 

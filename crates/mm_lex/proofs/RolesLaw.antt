@@ -5,7 +5,8 @@ use Rattle.std.proofs.Common.{inl, inr, ◌⊎◌, codes}
 use Rattle.std.specs.List.{list_any, list_all}
 use Rattle.std.proofs.Common.{arith}
 use Rattle.std.proofs.lemmas.Bool.{or_parts, and_parts, eqb-true}
-use Rattle.mm_spec.specs.Roles.{has_mark, is_mark, is_dollar_and, is_token, is_comment_word}
+use Rattle.mm_spec.specs.Roles.{has_comment_mark, is_comment_mark, is_dollar_and, is_token}
+use Rattle.mm_spec.specs.Roles.{is_comment_word}
 use Rattle.mm_spec.specs.Roles.{role_of, is_clean, is_keyword}
 use Rattle.mm_spec.specs.Bytes.{is_printable}
 use Rattle.mm_spec.specs.Text.{has_dollar}
@@ -16,17 +17,19 @@ add_one_suc : (i : ℕ) → suc (i + 1) ≡ suc i + 1
 add_one_suc i = omega arith
 
 pub has_mark_more : (word : List ℕ) (i : ℕ) → i + 1 < length word
-    → has_mark (drop i word)
-    ≡ (is_mark (get_or word i 0) (get_or word (i + 1) 0) || has_mark (drop (i + 1) word))
-unfolding has_mark
+    → has_comment_mark (drop i word)
+    ≡ (is_comment_mark (get_or word i 0) (get_or word (i + 1) 0)
+    || has_comment_mark (drop (i + 1) word))
+unfolding has_comment_mark
 has_mark_more [] i h = absurd (omega arith)
 has_mark_more (a ∷ []) i h = absurd (omega arith)
 has_mark_more (a ∷ b ∷ word) zero h = refl
 has_mark_more (a ∷ b ∷ word) (suc i) h =
     rw (← add_one_suc i) (has_mark_more (b ∷ word) i (omega arith))
 
-pub has_mark_none : (word : List ℕ) (i : ℕ) → length word ≤ i + 1 → has_mark (drop i word) ≡ false
-unfolding has_mark
+pub has_mark_none : (word : List ℕ) (i : ℕ) → length word ≤ i + 1
+    → has_comment_mark (drop i word) ≡ false
+unfolding has_comment_mark
 has_mark_none [] zero h = refl
 has_mark_none [] (suc i) h = refl
 has_mark_none (a ∷ []) zero h = refl
@@ -35,14 +38,15 @@ has_mark_none (a ∷ word) (suc i) h = has_mark_none word i (omega arith)
 
 -- the loop's step, at the place i and the one before it
 pub has_mark_yes : (word : List ℕ) (i : ℕ) → 1 ≤ i → i < length word
-    → is_mark (get_or word (i - 1) 0) (get_or word i 0) ≡ true → has_mark (drop (i - 1) word) ≡ true
+    → is_comment_mark (get_or word (i - 1) 0) (get_or word i 0) ≡ true
+    → has_comment_mark (drop (i - 1) word) ≡ true
 has_mark_yes word i low h mark =
     let same : i - 1 + 1 ≡ i = omega arith in
     has_mark_more word (i - 1) (omega arith) ∙ rw (same, mark) refl
 
 pub has_mark_no : (word : List ℕ) (i : ℕ) → 1 ≤ i → i < length word
-    → is_mark (get_or word (i - 1) 0) (get_or word i 0) ≡ false
-    → has_mark (drop (i - 1) word) ≡ has_mark (drop (i + 1 - 1) word)
+    → is_comment_mark (get_or word (i - 1) 0) (get_or word i 0) ≡ false
+    → has_comment_mark (drop (i - 1) word) ≡ has_comment_mark (drop (i + 1 - 1) word)
 has_mark_no word i low h mark =
     let same : i - 1 + 1 ≡ i = omega arith in
     let next : i + 1 - 1 ≡ i = omega arith in
@@ -50,8 +54,8 @@ has_mark_no word i low h mark =
 
 -- ---- plain words
 
-pub no_mark : (word : List ℕ) → has_dollar word ≡ false → has_mark word ≡ false
-unfolding has_mark is_mark
+pub no_mark : (word : List ℕ) → has_dollar word ≡ false → has_comment_mark word ≡ false
+unfolding has_comment_mark is_comment_mark
 no_mark [] h = refl
 no_mark (a ∷ []) h = refl
 no_mark (a ∷ b ∷ word) h =

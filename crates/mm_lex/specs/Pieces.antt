@@ -44,7 +44,8 @@ resolved p (At q) = Some q
 
 -- what a side has read, if the comment from before the words began at the place p
 abbrev pub side_reading : ℕ → Side → Reading
-side_reading p s = record { tokens = s.tokens; fault = s.fault; comment = resolved p s.comment }
+side_reading p s =
+    record { tokens = s.tokens; fault = s.fault; open_comment = resolved p s.comment }
 
 -- The two sides are the readings of the words, outside a comment, and inside one that began
 -- anywhere before.

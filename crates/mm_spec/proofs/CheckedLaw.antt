@@ -5,9 +5,9 @@ use Rattle.mm_spec.specs.Steps.{Step, label, marked}
 use Rattle.mm_spec.specs.Valid.{IsLastTree, Adds, Plain}
 use Rattle.mm_spec.proofs.UniqueLaw.{unique}
 use Rattle.mm_spec.proofs.StepsLaw.{forest_good}
-use Rattle.mm_spec.specs.Laws.Complete.{IsFine}
+use Rattle.mm_spec.specs.Laws.Complete.{HasCompleteFrame}
 
-module _ (c : Context) (fine : (l : ℕ) → IsFine c (c.rule l)) where
+module _ (c : Context) (fine : (l : ℕ) → HasCompleteFrame c (c.rule l)) where
   -- forests with the same labels are one forest
   pub same_forest : (r s : Trees) → AreDerivations c r → AreDerivations c s → postfix r ≡ postfix s
       → r ≡ s

@@ -42,7 +42,8 @@ label_stands c a (more ts l f cs) d m n =
     one (inl k) y = y k
     one (inr k) y = last (or_cases (a == l) false k)
 
-    in_earlier_or_last : (is_member (postfix ts) a ≡ true) ⊎ (is_member (postfix cs ++ l ∷ []) a ≡ true)
+    in_earlier_or_last : (is_member (postfix ts) a ≡ true)
+        ⊎ (is_member (postfix cs ++ l ∷ []) a ≡ true)
         → (is_member (postfix ts) a ≡ true → ⊥) → (is_member (postfix cs) a ≡ true → ⊥) → ⊥
     in_earlier_or_last (inl h) x y = x h
     in_earlier_or_last (inr h) x y =

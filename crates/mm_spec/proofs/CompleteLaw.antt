@@ -20,7 +20,8 @@ use Rattle.mm_spec.specs.Frame.{is_floating, is_essential, active_of, mandatory_
 use Rattle.mm_spec.specs.Frame.{mandatory_hypotheses, frame_at, pairs_of, disjoint_at}
 use Rattle.mm_spec.specs.Derivation.{Formula, Pair, is_member}
 use Rattle.mm_spec.specs.Citation.{context_at, rule_of}
-use Rattle.mm_spec.specs.Laws.Complete.{binds, IsBound, AreBound, IsComplete, IsFine, AreComplete}
+use Rattle.mm_spec.specs.Laws.Complete.{binds, IsBound, AreBound, IsComplete, HasCompleteFrame}
+use Rattle.mm_spec.specs.Laws.Complete.{AreComplete}
 use Rattle.mm_spec.specs.Lexed.{LexedText}
 use Rattle.mm_spec.proofs.LocalLaw.{scope_fault_front}
 use Rattle.mm_spec.proofs.FindsLaw.{any_flat_map, any_map, any_filter, member_filter}
@@ -129,7 +130,8 @@ module _ (db : List Statement) (lawful : (k : ℕ) → k < length db → IsLawfu
       of_known_word : (w : Bytes) → x ≡ index_of w (symbol_names db)
           → is_in w (flat_map variables_of db) ≡ true → IsKnown (names_before db j) w
           → (i : ℕ) × (is_active db i j ≡ true) × Types i x
-      of_known_word w is v (inl c) = absurd (constant_apart w (declared_before constants_of db j w c) v)
+      of_known_word w is v (inl c) =
+          absurd (constant_apart w (declared_before constants_of db j w c) v)
       of_known_word w is v (inr t) =
           let q : Typing → Bool = λ (t : Typing). bytes_eq w t.variable in
           let a =
@@ -336,7 +338,8 @@ module _ (db : List Statement) (lawful : (k : ℕ) → k < length db → IsLawfu
   pub lawful_complete : AreComplete db
   lawful_complete m k = by_activity (is_active db k m)
     where
-      of : (s : Statement) → slice_get db k ≡ Some s → IsFine (context_at db m) (rule_of db k s)
+      of : (s : Statement) → slice_get db k ≡ Some s
+          → HasCompleteFrame (context_at db m) (rule_of db k s)
       of (axiomatic l p xs d) e = complete m k (axiomatic l p xs d) e refl
       of (provable l p xs q ps d) e = complete m k (provable l p xs q ps d) e refl
       of (floating l p xs d) e = tt
@@ -348,12 +351,12 @@ module _ (db : List Statement) (lawful : (k : ℕ) → k < length db → IsLawfu
       of (closing p) e = tt
 
       at_k : (o : Option Statement) → slice_get db k ≡ o
-          → IsFine (context_at db m) (elim o [ None ↦ None | Some s ↦ rule_of db k s ])
+          → HasCompleteFrame (context_at db m) (elim o [ None ↦ None | Some s ↦ rule_of db k s ])
       at_k None e = tt
       at_k (Some s) e = of s e
 
       by_activity : (b : Bool)
-          → IsFine (context_at db m)
+          → HasCompleteFrame (context_at db m)
           (elim b [
             | false ↦ None
             | true ↦ elim (slice_get db k) [ None ↦ None | Some s ↦ rule_of db k s ]

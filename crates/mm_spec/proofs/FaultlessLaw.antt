@@ -12,7 +12,7 @@ use Rattle.mm_spec.specs.Text.{Bytes, Token, Fault, fault, is_in, words}
 use Rattle.mm_spec.specs.Statement.{Statement, constants, variables, floating, essential, axiomatic}
 use Rattle.mm_spec.specs.Statement.{provable, symbols_of}
 use Rattle.mm_spec.specs.Scope.{Names, Typing, is_local, is_global, is_active}
-use Rattle.mm_spec.specs.Scope.{constants_of, variables_of, typings_of, stays}
+use Rattle.mm_spec.specs.Scope.{constants_of, variables_of, typings_of, is_block_open}
 use Rattle.mm_spec.specs.Lawful.{when, at, at_each, symbol_codes}
 use Rattle.mm_spec.specs.Lawful.{is_typed, formula_faults, label_faults, floating_faults}
 use Rattle.mm_spec.specs.Lawful.{scope_faults, least}
@@ -110,7 +110,8 @@ bits false false t h k = inl (sym h)
 formula_known : (n : Names) (xs : List Token) (end : ℕ) → formula_faults n xs end ≡ [] → (w : Bytes)
     → is_in w (words xs) ≡ true → IsKnown n w
 formula_known n [] end e w m = absurd (true≢false (sym m))
-formula_known n (t ∷ ts) end e w m = at_first_or_later (or_cases (bytes_eq w t.word) (is_in w (words ts)) m)
+formula_known n (t ∷ ts) end e w m =
+    at_first_or_later (or_cases (bytes_eq w t.word) (is_in w (words ts)) m)
   where
     at_first_or_later : (bytes_eq w t.word ≡ true) ⊎ (is_in w (words ts) ≡ true) → IsKnown n w
     at_first_or_later (inl h) =
@@ -213,10 +214,12 @@ pub member_word : (names ws : List Bytes) (x : ℕ)
     → (w : Bytes) × (is_in w ws ≡ true) × (x ≡ index_of w names)
 member_word names [] x e = absurd (true≢false (sym e))
 member_word names (v ∷ ws) x e =
-    at_first_or_later (or_cases (x == index_of v names) (is_member (map (λ w. index_of w names) ws) x) e)
+    at_first_or_later
+        (or_cases (x == index_of v names) (is_member (map (λ w. index_of w names) ws) x) e)
     (λ h. member_word names ws x h)
   where
-    at_first_or_later : ((x == index_of v names) ≡ true) ⊎ (is_member (map (λ w. index_of w names) ws) x ≡ true)
+    at_first_or_later : ((x == index_of v names) ≡ true)
+        ⊎ (is_member (map (λ w. index_of w names) ws) x ≡ true)
         → (is_member (map (λ w. index_of w names) ws) x ≡ true
         → (w : Bytes) × (is_in w ws ≡ true) × (x ≡ index_of w names))
         → (w : Bytes) × (is_in w (v ∷ ws) ≡ true) × (x ≡ index_of w names)
@@ -226,7 +229,8 @@ member_word names (v ∷ ws) x e =
       eqb-true x
           (index_of v names) h,
     )
-    at_first_or_later (inr h) on = let r = on h in (r.0, or_right (bytes_eq r.0 v) (is_in r.0 ws) r.1, r.2)
+    at_first_or_later (inr h) on =
+        let r = on h in (r.0, or_right (bytes_eq r.0 v) (is_in r.0 ws) r.1, r.2)
 
 -- ---- activity of what is local
 
@@ -243,7 +247,7 @@ essential_local (essential l k xs d) e = record { local = refl; global = refl }
 essential_local _ e = absurd (true≢false (sym e))
 
 local_is : (db : List Statement) (i k : ℕ) (s : Statement) → slice_get db i ≡ Some s → IsLocal s
-    → is_active db i k ≡ (nat_lt i k && stays db i k)
+    → is_active db i k ≡ (nat_lt i k && is_block_open db i k)
 local_is db i k s e l = grind (arith, common_steps)
 
 -- what is active at a statement that is still active, is active too

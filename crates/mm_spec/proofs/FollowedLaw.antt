@@ -8,11 +8,13 @@ use Rattle.std.proofs.lemmas.List.Sums.{sum_by-append}
 use Rattle.std.specs.List.{list_all}
 use Rattle.std.proofs.lemmas.Bool.{and_parts}
 use Rattle.mm_spec.specs.Text.{Bytes, Token, token, has_dollar, is_label, is_label_byte}
-use Rattle.mm_spec.specs.Laws.Table.{Class, constant, variable, disjoint_of, type_of, logical}
-use Rattle.mm_spec.specs.Laws.Table.{axiom_of, theorem_of, equals, dot, open_block, close_block}
+use Rattle.mm_spec.specs.Laws.Table.{Class, constant_keyword, variable_keyword, disjoint_keyword}
+use Rattle.mm_spec.specs.Laws.Table.{floating_keyword, essential_keyword}
+use Rattle.mm_spec.specs.Laws.Table.{axiom_keyword, theorem_keyword, equals, dot, open_block}
+use Rattle.mm_spec.specs.Laws.Table.{close_block}
 use Rattle.mm_spec.specs.Laws.Table.{plain, class}
 use Rattle.mm_spec.specs.Statement.{Statement, constants, variables, disjoint, floating, essential}
-use Rattle.mm_spec.specs.Statement.{axiomatic, provable, opening, closing, spelled, is_plain}
+use Rattle.mm_spec.specs.Statement.{axiomatic, provable, opening, closing, spelling_of, is_plain}
 use Rattle.mm_spec.specs.Statement.{is_complete, is_opening, is_closing, BeginStatements}
 
 -- where the reading stands, with so many blocks open
@@ -28,16 +30,16 @@ label_at_start true d = Some (at_label d)
 label_at_start false d = None
 
 abbrev pub next : State → Class → Bytes → Option State
-next (at_start d) constant w = Some (in_symbols d)
-next (at_start d) variable w = Some (in_symbols d)
-next (at_start d) disjoint_of w = Some (in_symbols d)
+next (at_start d) constant_keyword w = Some (in_symbols d)
+next (at_start d) variable_keyword w = Some (in_symbols d)
+next (at_start d) disjoint_keyword w = Some (in_symbols d)
 next (at_start d) open_block w = Some (at_start (suc d))
 next (at_start d) close_block w = start_block d
 next (at_start d) plain w = label_at_start (is_label w) d
-next (at_label d) type_of w = Some (in_symbols d)
-next (at_label d) logical w = Some (in_symbols d)
-next (at_label d) axiom_of w = Some (in_symbols d)
-next (at_label d) theorem_of w = Some (in_formula d)
+next (at_label d) floating_keyword w = Some (in_symbols d)
+next (at_label d) essential_keyword w = Some (in_symbols d)
+next (at_label d) axiom_keyword w = Some (in_symbols d)
+next (at_label d) theorem_keyword w = Some (in_formula d)
 next (in_symbols d) plain w = Some (in_symbols d)
 next (in_symbols d) dot w = Some (at_start d)
 next (in_formula d) plain w = Some (in_formula d)
@@ -98,7 +100,7 @@ depth_following (closing k) d = pred d
 depth_following _ d = d
 
 statement_followed : (s : Statement) (d : ℕ) → is_complete s ≡ true → (is_closing s ≡ true → 0 < d)
-    → follow (Some (at_start d)) (spelled s) ≡ Some (at_start (depth_following s d))
+    → follow (Some (at_start d)) (spelling_of s) ≡ Some (at_start (depth_following s d))
 statement_followed (constants k xs t) d e h = body d xs t (whole_body xs e)
 statement_followed (variables k xs t) d e h = body d xs t (whole_body xs e)
 statement_followed (disjoint k xs t) d e h = body d xs t (whole_body xs e)
@@ -149,7 +151,7 @@ count_one p s list = grind (arith, common_steps, sum_by-append, zero-add)
 
 pub statements_followed : (list : List Statement) (d : ℕ) → list_all is_complete list ≡ true
     → ((n : ℕ) → count_by is_closing (take n list) ≤ d + count_by is_opening (take n list))
-    → (e : ℕ) × (follow (Some (at_start d)) (flat_map spelled list) ≡ Some (at_start e))
+    → (e : ℕ) × (follow (Some (at_start d)) (flat_map spelling_of list) ≡ Some (at_start e))
     × (e + count_by is_closing list ≡ d + count_by is_opening list)
 statements_followed [] d w n = (d, refl, refl)
 statements_followed (s ∷ list) d w n =
@@ -159,8 +161,8 @@ statements_followed (s ∷ list) d w n =
     statements_followed list (depth_following s d) (and_parts (is_complete s) (list_all is_complete list) w).1
     (λ k. fewer (depth_following s d) (take k list) (n (suc k)) step) in (
       rest.0,
-      follow_append (spelled s) (flat_map spelled list) (Some (at_start d))
-          ∙ ap (λ q. follow q (flat_map spelled list))
+      follow_append (spelling_of s) (flat_map spelling_of list) (Some (at_start d))
+          ∙ ap (λ q. follow q (flat_map spelling_of list))
           (statement_followed s d (and_parts (is_complete s) (list_all is_complete list) w).0 first)
           ∙ rest.1,
       total rest.0 (depth_following s d) rest.2 step,
@@ -193,7 +195,7 @@ pub begins_followed : (ts : List Token) → BeginStatements ts
     → (q : State) × (follow (Some (at_start 0)) ts ≡ Some q)
 begins_followed ts b = by_state (follow (Some (at_start 0)) ts) refl
   where
-    r : (e : ℕ) × (follow (Some (at_start 0)) (flat_map spelled b.0) ≡ Some (at_start e))
+    r : (e : ℕ) × (follow (Some (at_start 0)) (flat_map spelling_of b.0) ≡ Some (at_start e))
         × (e + count_by is_closing b.0 ≡ 0 + count_by is_opening b.0)
     r = statements_followed b.0 0 b.1.whole (λ n. let m = b.1.nested n in omega (arith, m))
 

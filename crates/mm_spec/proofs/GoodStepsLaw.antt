@@ -24,11 +24,11 @@ use Rattle.mm_spec.specs.CompressedProof.{group_faults, letter_faults, compresse
 use Rattle.mm_spec.specs.CompressedProof.{compressed_steps}
 use Rattle.mm_spec.specs.Proof.{steps, reading_faults}
 use Rattle.mm_spec.specs.Citation.{rule_at, context_at, steps_at, reading_faults_at}
-use Rattle.mm_spec.specs.Laws.Complete.{IsFine}
+use Rattle.mm_spec.specs.Laws.Complete.{HasCompleteFrame}
 use Rattle.mm_spec.specs.declared.Code.TheVariants.{OpenBrackets, OpenNumber, MarkBeforeStep}
 use Rattle.mm_spec.specs.declared.Code.TheVariants.{NumberTooLarge, IncompleteProof}
 use Rattle.mm_spec.specs.declared.Code.TheVariants.{BadLetter}
-use Rattle.mm_spec.specs.Laws.Stack.{IsGood, AreGoodSteps, IsGoodStep}
+use Rattle.mm_spec.specs.Laws.Stack.{IsCompleteRule, AreGoodSteps, IsGoodStep}
 use Rattle.mm_spec.proofs.FindsLaw.{each_any, each_filter, found_at}
 use Rattle.mm_spec.proofs.FaultlessLaw.{append_none, at_none, when_none}
 use Rattle.mm_spec.proofs.ListLaw.{get_none}
@@ -90,9 +90,9 @@ each_usable db k [] e = omega arith
 each_usable db k (t ∷ ts) e = grind (arith, common_steps, append_none, length-append, each_usable db k ts (append_none (proof_label_faults db k t) (flat_map (proof_label_faults db k) ts) e).1)
 
 module _ (db : List Statement) (k : ℕ)
-    (fine : (l : ℕ) → IsFine (context_at db k) (rule_at db k l)) where
+    (fine : (l : ℕ) → HasCompleteFrame (context_at db k) (rule_at db k l)) where
   abbrev IsGoodLabel : ℕ → Type 0
-  IsGoodLabel j = IsGood (context_at db k) (rule_at db k j)
+  IsGoodLabel j = IsCompleteRule (context_at db k) (rule_at db k j)
 
   good_label : (j : ℕ) (s : Statement) → is_active db j k ≡ true → slice_get db j ≡ Some s
       → has_rule s ≡ true → IsGoodLabel j
@@ -278,7 +278,8 @@ module _ (db : List Statement) (k : ℕ)
   compressed_good : (end : ℕ) (p : Compressed) → compressed_faults db k end p ≡ []
       → AreGoodSteps (context_at db k) 0 (bare (compressed_steps db k p))
   compressed_good end p f =
-      by_letters p.letters (append_none (flat_map (proof_label_faults db k) p.labels) (rest p.letters) f).1
+      by_letters p.letters
+          (append_none (flat_map (proof_label_faults db k) p.labels) (rest p.letters) f).1
     where
       labels : List ℕ
       labels = mandatory_hypotheses db k ++ flat_map (λ t. usable db k t.word) p.labels
@@ -320,7 +321,8 @@ module _ (db : List Statement) (k : ℕ)
           (append_none (group_faults many 0 0 (groups [] (x ∷ xs)).0)
           (at end (when (nat_lt 0 (length (groups [] (x ∷ xs)).1)) OpenNumber)) e).0
 
-      by_letters : (o : Option (List Token)) → rest o ≡ [] → AreGoodSteps (context_at db k) 0 (bare (out o))
+      by_letters : (o : Option (List Token)) → rest o ≡ []
+          → AreGoodSteps (context_at db k) 0 (bare (out o))
       by_letters None e = tt
       by_letters (Some ts) e = lettered (letters_of ts) e
 

@@ -6,7 +6,7 @@ use Rattle.std.proofs.Common.{slice_get, nat_le, nat_lt, refl, ap₂, arith}
 use Rattle.std.proofs.lemmas.List.{take-append-le}
 use Rattle.std.specs.List.{list_all, range_with_len, filter}
 use Rattle.mm_spec.specs.Statement.{Statement}
-use Rattle.mm_spec.specs.Scope.{Names, names_before, depth, is_active, is_active_some}
+use Rattle.mm_spec.specs.Scope.{Names, names_before, depth, is_active, is_some_still_active}
 use Rattle.mm_spec.specs.Scope.{active_statements}
 use Rattle.mm_spec.specs.declared.Fault.{Fault}
 use Rattle.mm_spec.specs.Lawful.{scope_fault, scope_faults, least}
@@ -41,7 +41,7 @@ module _ (db more : List Statement) where
   pub is_active_front : (j k : ℕ) → j < k → k ≤ length db
       → is_active (db ++ more) j k ≡ is_active db j k
   is_active_front j k h l =
-      ap₂ (λ o b. nat_lt j k && is_active_some o b) (get_front db more j (omega arith))
+      ap₂ (λ o b. nat_lt j k && is_some_still_active o b) (get_front db more j (omega arith))
       (same_all (depth (db ++ more) j) (depth db j) (depth (db ++ more)) (depth db) (k - j) (j + 1)
       (depth_front j (omega arith)) (λ i m. depth_front i (omega arith)))
 

@@ -10,12 +10,15 @@ use Rattle.std.specs.List.{list_all}
 use Rattle.std.proofs.lemmas.Bool.{and_parts}
 use Rattle.mm_spec.specs.Text.{Token, token, has_dollar, is_label}
 use Rattle.mm_spec.specs.Statement.{Statement, constants, variables, disjoint, floating, essential}
-use Rattle.mm_spec.specs.Statement.{axiomatic, provable, opening, closing, spelled, is_plain}
+use Rattle.mm_spec.specs.Statement.{axiomatic, provable, opening, closing, spelling_of, is_plain}
 use Rattle.mm_spec.specs.Statement.{is_complete, is_opening, is_closing, AreStatements, AreLongestStatements}
-use Rattle.mm_spec.specs.Laws.Table.{Class, constant, variable, disjoint_of, type_of, logical}
-use Rattle.mm_spec.specs.Laws.Table.{axiom_of, theorem_of, equals, dot, open_block, close_block}
+use Rattle.mm_spec.specs.Laws.Table.{Class, constant_keyword, variable_keyword, disjoint_keyword}
+use Rattle.mm_spec.specs.Laws.Table.{floating_keyword, essential_keyword}
+use Rattle.mm_spec.specs.Laws.Table.{axiom_keyword, theorem_keyword, equals, dot, open_block}
+use Rattle.mm_spec.specs.Laws.Table.{close_block}
 use Rattle.mm_spec.specs.Laws.Table.{plain, class, Progress, start, labelled, words, formula, Transition}
-use Rattle.mm_spec.specs.Laws.Table.{stop, go, done, transition, after, label_turn, statements_from}
+use Rattle.mm_spec.specs.Laws.Table.{unexpected, continued, completed, transition, statements_after}
+use Rattle.mm_spec.specs.Laws.Table.{label_transition, statements_from}
 use Rattle.mm_spec.specs.Laws.Table.{statements_of}
 use Rattle.mm_spec.proofs.FollowedLaw.{blocks_counted, depth_following, plain_word, count_one}
 use Rattle.mm_spec.proofs.FollowedLaw.{label_plain}
@@ -53,7 +56,7 @@ read_body d make xs k ts e = grind (arith, common_steps, append_assoc, read_word
 
 statement_read : (s : Statement) (d : ℕ) (ts : List Token) → is_complete s ≡ true
     → (is_closing s ≡ true → 0 < d)
-    → statements_from (start d) (spelled s ++ ts) ≡ s ∷ statements_from
+    → statements_from (start d) (spelling_of s ++ ts) ≡ s ∷ statements_from
     (start (depth_following s d)) ts
 statement_read (constants k xs t) d ts e h =
     read_body d (constants k) xs t ts (and_parts (is_plain xs) true e).0
@@ -98,7 +101,7 @@ record Making (make : List Token → ℕ → Statement) (ws part : List Token) :
   front : List Token
   are_plain : is_plain ws ≡ true
   spells : (xs : List Token) (k : ℕ)
-      → spelled (make xs k) ≡ front ++ (xs ++ token k (codes "$.") ∷ [])
+      → spelling_of (make xs k) ≡ front ++ (xs ++ token k (codes "$.") ∷ [])
   whole : (xs : List Token) (k : ℕ) → is_plain xs ≡ true → is_complete (make xs k) ≡ true
   stays : (xs : List Token) (k d : ℕ) → depth_following (make xs k) d ≡ d
   flat : (xs : List Token) (k : ℕ) → is_closing (make xs k) ≡ false
@@ -118,10 +121,10 @@ Holds (formula d l k ws) part =
     (is_label l.word ≡ true) × (is_plain ws ≡ true) × (part ≡ l ∷ token k (codes "$p") ∷ ws)
 
 abbrev TurnHolds : ℕ → List Token → Transition → Type 0
-TurnHolds d part stop = Unit {0}
-TurnHolds d part (go r) = (deep r ≡ d) × Holds r part
-TurnHolds d part (done e s) =
-    (spelled s ≡ part) × (is_complete s ≡ true) × (is_closing s ≡ true → 0 < d) ×
+TurnHolds d part unexpected = Unit {0}
+TurnHolds d part (continued r) = (deep r ≡ d) × Holds r part
+TurnHolds d part (completed e s) =
+    (spelling_of s ≡ part) × (is_complete s ≡ true) × (is_closing s ≡ true → 0 < d) ×
     (depth_following s d ≡ e)
 
 never : (s : Statement) (d : ℕ) → is_closing s ≡ false → is_closing s ≡ true → 0 < d
@@ -129,7 +132,7 @@ never s d e f = absurd (true≢false (sym f ∙ e))
 
 turn_holds : (r : Progress) (part : List Token) (t : Token) (k : Class) → Meaning k t.word
     → Holds r part → TurnHolds (deep r) (part ++ t ∷ []) (transition r k t)
-turn_holds (start d) part t constant m h = (
+turn_holds (start d) part t constant_keyword m h = (
   refl,
   record {
     front = token t.at (codes "$c") ∷ [];
@@ -141,7 +144,7 @@ turn_holds (start d) part t constant m h = (
     is = ap₂ (λ p v. p ++ token t.at v ∷ []) h m;
   },
 )
-turn_holds (start d) part t variable m h = (
+turn_holds (start d) part t variable_keyword m h = (
   refl,
   record {
     front = token t.at (codes "$v") ∷ [];
@@ -153,7 +156,7 @@ turn_holds (start d) part t variable m h = (
     is = ap₂ (λ p v. p ++ token t.at v ∷ []) h m;
   },
 )
-turn_holds (start d) part t disjoint_of m h = (
+turn_holds (start d) part t disjoint_keyword m h = (
   refl,
   record {
     front = token t.at (codes "$d") ∷ [];
@@ -172,10 +175,11 @@ turn_holds (start (suc d)) part t close_block m h =
     (ap₂ (λ p v. p ++ token t.at v ∷ []) (sym h) (sym m), refl, (λ e. omega arith), refl)
 turn_holds (start d) part t plain m h = by_is_label (is_label t.word) refl
   where
-    by_is_label : (b : Bool) → is_label t.word ≡ b → TurnHolds d (part ++ t ∷ []) (label_turn b d t)
+    by_is_label : (b : Bool) → is_label t.word ≡ b
+        → TurnHolds d (part ++ t ∷ []) (label_transition b d t)
     by_is_label true e = (refl, (e, ap (λ p. p ++ t ∷ []) h))
     by_is_label false e = tt
-turn_holds (labelled d l) part t type_of m h = (
+turn_holds (labelled d l) part t floating_keyword m h = (
   refl,
   record {
     front = l ∷ token t.at (codes "$f") ∷ [];
@@ -187,7 +191,7 @@ turn_holds (labelled d l) part t type_of m h = (
     is = ap₂ (λ p v. p ++ token t.at v ∷ []) h.1 m;
   },
 )
-turn_holds (labelled d l) part t logical m h = (
+turn_holds (labelled d l) part t essential_keyword m h = (
   refl,
   record {
     front = l ∷ token t.at (codes "$e") ∷ [];
@@ -199,7 +203,7 @@ turn_holds (labelled d l) part t logical m h = (
     is = ap₂ (λ p v. p ++ token t.at v ∷ []) h.1 m;
   },
 )
-turn_holds (labelled d l) part t axiom_of m h = (
+turn_holds (labelled d l) part t axiom_keyword m h = (
   refl,
   record {
     front = l ∷ token t.at (codes "$a") ∷ [];
@@ -211,7 +215,7 @@ turn_holds (labelled d l) part t axiom_of m h = (
     is = ap₂ (λ p v. p ++ token t.at v ∷ []) h.1 m;
   },
 )
-turn_holds (labelled d l) part t theorem_of m h =
+turn_holds (labelled d l) part t theorem_keyword m h =
     (refl, (h.0, refl, ap₂ (λ p v. p ++ token t.at v ∷ []) h.1 m))
 turn_holds (formula d l k ws) part t plain m h =
     (refl, (h.0, plain_more ws t h.1 m, ap (λ p. p ++ t ∷ []) h.2))
@@ -255,7 +259,7 @@ record Read (list : List Statement) (r : Progress) (part us : List Token) : Type
   rest : List Token
   depth : ℕ
   balanced : Balanced depth (list ++ statements_from r us)
-  is : part ++ us ≡ flat_map spelled (statements_from r us) ++ rest
+  is : part ++ us ≡ flat_map spelling_of (statements_from r us) ++ rest
 
 read_on : (us : List Token) (r : Progress) (list : List Statement) (part : List Token)
     → Balanced (deep r) list → Holds r part → Read list r part us
@@ -268,7 +272,8 @@ read_on [] r list part b h =
     }
 read_on (t ∷ us) r list part b h =
     let x =
-    by_transition (transition r (class t.word) t) (turn_holds r part t (class t.word) (meaning t.word) h)
+    by_transition (transition r (class t.word) t)
+        (turn_holds r part t (class t.word) (meaning t.word) h)
     (λ q list' part' c k. read_on us q list' part' c k) in
     record { rest = x.0; depth = x.1; balanced = x.2; is = x.3 }
   where
@@ -276,14 +281,15 @@ read_on (t ∷ us) r list part b h =
         → ((q : Progress) (list' : List Statement) (part' : List Token) → Balanced (deep q) list'
         → Holds q part' → Read list' q part' us)
         → (rest : List Token) × (depth : ℕ)
-        × Balanced depth (list ++ after o (λ q. statements_from q us))
-        × (part ++ t ∷ us ≡ flat_map spelled (after o (λ q. statements_from q us)) ++ rest)
-    by_transition stop k on =
+        × Balanced depth (list ++ statements_after o (λ q. statements_from q us))
+        × (part ++ t ∷ us
+        ≡ flat_map spelling_of (statements_after o (λ q. statements_from q us)) ++ rest)
+    by_transition unexpected k on =
         (part ++ t ∷ us, deep r, subst (Balanced (deep r)) (sym (append-nil list)) b, refl)
-    by_transition (go q) k on =
+    by_transition (continued q) k on =
         let x = on q list (part ++ t ∷ []) (subst (λ n. Balanced n list) (sym k.0) b) k.1 in
         (x.rest, x.depth, x.balanced, sym (append_assoc part (t ∷ []) us) ∙ x.is)
-    by_transition (done e s) k on =
+    by_transition (completed e s) k on =
         let x =
         on (start e) (list ++ s ∷ []) []
         (subst (λ n. Balanced n (list ++ s ∷ [])) k.3 (one_more (deep r) list s b k.1 k.2)) refl in (
@@ -292,8 +298,8 @@ read_on (t ∷ us) r list part b h =
           subst (Balanced x.depth)
               (append_assoc list (s ∷ []) (statements_from (start e) us)) x.balanced,
           sym (append_assoc part (t ∷ []) us) ∙ ap₂ (λ y z. y ++ z) (sym k.0) x.is
-              ∙ sym (append_assoc (spelled s)
-              (flat_map spelled (statements_from (start e) us)) x.rest),
+              ∙ sym (append_assoc (spelling_of s)
+              (flat_map spelling_of (statements_from (start e) us)) x.rest),
         )
 
 -- ---- the longest list, and no other
@@ -319,7 +325,8 @@ total s list d e m h k = omega (arith, h, k, count_one is_closing s list, count_
 statements_read : (list : List Statement) (d : ℕ) (ts : List Token) → list_all is_complete list ≡ true
     → ((n : ℕ) → count_by is_closing (take n list) ≤ d + count_by is_opening (take n list))
     → (e : ℕ) × (e + count_by is_closing list ≡ d + count_by is_opening list)
-    × (statements_from (start d) (flat_map spelled list ++ ts) ≡ list ++ statements_from (start e) ts)
+    × (statements_from (start d) (flat_map spelling_of list ++ ts)
+    ≡ list ++ statements_from (start e) ts)
 statements_read [] d ts w n = (d, refl, refl)
 statements_read (s ∷ list) d ts w n =
     let first : is_closing s ≡ true → 0 < d = closes_one s d (n 1) in
@@ -329,15 +336,15 @@ statements_read (s ∷ list) d ts w n =
     (λ k. fewer s d (depth_following s d) (take k list) (n (suc k)) step) in (
       x.0,
       total s list d x.0 (depth_following s d) x.1 step,
-      ap (statements_from (start d)) (append_assoc (spelled s) (flat_map spelled list) ts)
-          ∙ statement_read s d (flat_map spelled list ++ ts)
+      ap (statements_from (start d)) (append_assoc (spelling_of s) (flat_map spelling_of list) ts)
+          ∙ statement_read s d (flat_map spelling_of list ++ ts)
           (and_parts (is_complete s) (list_all is_complete list) w).0 first
           ∙ ap (λ y. s ∷ y) x.2,
     )
 
 pub statements_read_at_start : (list : List Statement) (ts : List Token) → AreStatements list
     → (e : ℕ) × (e + count_by is_closing list ≡ 0 + count_by is_opening list)
-    × (statements_of (flat_map spelled list ++ ts) ≡ list ++ statements_from (start e) ts)
+    × (statements_of (flat_map spelling_of list ++ ts) ≡ list ++ statements_from (start e) ts)
 statements_read_at_start list ts r = statements_read list 0 ts r.whole (λ n. let m = r.nested n in omega (arith, m))
 
 -- the statements that are read are the longest list
@@ -354,15 +361,15 @@ is_longest ts =
         omega (arith, n, length-append (list ++ s ∷ []) more, length-append list (s ∷ []))
 
     no_more : (s : Statement) (more : List Token) → AreStatements (statements_of ts ++ s ∷ [])
-        → ¬ (read.rest ≡ spelled s ++ more)
+        → ¬ (read.rest ≡ spelling_of s ++ more)
     no_more s more r e =
         let list = statements_of ts in
         let x = statements_read_at_start (list ++ s ∷ []) more r in
-        let is : ts ≡ flat_map spelled (list ++ s ∷ []) ++ more =
-        read.is ∙ ap (λ y. flat_map spelled list ++ y) e
-        ∙ sym (append_assoc (flat_map spelled list) (spelled s) more)
-        ∙ ap (λ y. (flat_map spelled list ++ y) ++ more) (sym (append-nil (spelled s)))
-        ∙ ap (λ y. y ++ more) (sym (flat_map-append spelled list (s ∷ []))) in
+        let is : ts ≡ flat_map spelling_of (list ++ s ∷ []) ++ more =
+        read.is ∙ ap (λ y. flat_map spelling_of list ++ y) e
+        ∙ sym (append_assoc (flat_map spelling_of list) (spelling_of s) more)
+        ∙ ap (λ y. (flat_map spelling_of list ++ y) ++ more) (sym (append-nil (spelling_of s)))
+        ∙ ap (λ y. y ++ more) (sym (flat_map-append spelling_of list (s ∷ []))) in
         too_long list (statements_from (start x.0) more) s (ap statements_of is ∙ x.2)
 
 -- a front of a list is one
@@ -404,9 +411,9 @@ longest_unique ts list r =
     ∙ append-nil list
   where
     nothing : (more : List Statement) (rest : List Token) → AreStatements (list ++ more)
-        → r.rest ≡ flat_map spelled more ++ rest → more ≡ []
+        → r.rest ≡ flat_map spelling_of more ++ rest → more ≡ []
     nothing [] rest b is = refl
     nothing (s ∷ more) rest b is =
-        absurd (r.longest s (flat_map spelled more ++ rest)
+        absurd (r.longest s (flat_map spelling_of more ++ rest)
         (row_front (list ++ s ∷ []) more (subst AreStatements (sym (append_assoc list (s ∷ []) more)) b))
-        (is ∙ append_assoc (spelled s) (flat_map spelled more) rest))
+        (is ∙ append_assoc (spelling_of s) (flat_map spelling_of more) rest))

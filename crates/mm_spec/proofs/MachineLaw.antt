@@ -14,7 +14,8 @@ use Rattle.mm_spec.specs.Derivation.{Follows, Trees, none, more, formulas, postf
 use Rattle.mm_spec.specs.Limits.{formula_limit}
 use Rattle.mm_spec.specs.Valid.{Reason, Fails}
 use Rattle.mm_spec.proofs.UnifyLaw.{same_equal, equal_same, found_formula, found_all, found_disjoint}
-use Rattle.mm_spec.specs.Laws.Stack.{found, same, pick, apply, step, IsGood}
+use Rattle.mm_spec.specs.Laws.Stack.{substitution_from, are_equal, unless_failed, unless_too_long}
+use Rattle.mm_spec.specs.Laws.Stack.{apply, step, IsCompleteRule}
 use Rattle.mm_spec.specs.Laws.Complete.{IsComplete}
 
 -- where a run stopped, and why
@@ -44,7 +45,7 @@ module _ (c : Context) where
       length-append es ps ∙ ap (λ n. length es + n) (length-map hs (substitute c τ)) in
       let below : length es ≡ length (es ++ ps) - length hs = omega arith in
       let enough : length hs ≤ length (es ++ ps) = omega arith in
-      let σ = found c hs ps in
+      let σ = substitution_from c hs ps in
       let f : substitute c σ a.formula ≡ substitute c τ a.formula =
       found_formula c hs τ a.formula good.formula in
       let apply_at : List Formula → List Formula → Result (List Formula) Reason = apply c a true in
@@ -60,11 +61,12 @@ module _ (c : Context) where
       ∙ ap (λ g. Ok (es ++ g ∷ [])) f
     where
       tests : {p q r : Bool} {out : List Formula} → p ≡ true → q ≡ true → r ≡ true
-          → pick true p q r out ≡ Ok out
+          → unless_failed true p q r out ≡ Ok out
       tests {r = r} {out = out} x y z =
-          ap₂ (λ p q. pick true p q r out) x y ∙ ap (λ r. pick true true true r out) z
+          ap₂ (λ p q. unless_failed true p q r out) x y ∙ ap (λ r. unless_too_long r out) z
 
-  pub takes : (r : Option Rule) (es ps : List Formula) (f : Formula) → IsGood c r → Follows c r ps f
+  pub takes : (r : Option Rule) (es ps : List Formula) (f : Formula) → IsCompleteRule c r
+      → Follows c r ps f
       → step c r (es ++ ps) ≡ Ok (es ++ f ∷ [])
   takes None es ps f good h = absurd h
   takes (Some (hypothesis g)) es ps f good h = grind (arith, common_steps, append-nil, le-leb)
@@ -72,7 +74,7 @@ module _ (c : Context) where
 
   -- each label is good
   abbrev pub AreGood : List ℕ → Type 0
-  AreGood ls = AllByRecursion (λ l. IsGood c (c.rule l)) ls
+  AreGood ls = AllByRecursion (λ l. IsCompleteRule c (c.rule l)) ls
 
   pub good_parts : (xs ys : List ℕ) → AreGood (xs ++ ys) → AreGood xs × AreGood ys
   good_parts [] ys g = (tt, g)
@@ -152,21 +154,21 @@ module _ (c : Context) where
 
   makes_hypothesis : (g : Formula) (es : List Formula) (b : Bool)
       → nat_le (length g) formula_limit ≡ b
-      → Made (Some (hypothesis g)) es (pick true true true b (es ++ g ∷ []))
+      → Made (Some (hypothesis g)) es (unless_too_long b (es ++ g ∷ []))
   makes_hypothesis g es true e = grind (arith, common_steps, drop_of_length-le, leb-true, take_all)
   makes_hypothesis g es false e = leb-false (length g) formula_limit e
 
   -- premises that some substitution gives are given by the one that is found
   pub no_other : (a : Frame) (ps : List Formula) (τ : Substitution) → IsComplete c a
       → Matches c a ps τ
-      → same ps (map (substitute c (found c a.hypotheses ps)) a.hypotheses) ≡ true
+      → are_equal ps (map (substitute c (substitution_from c a.hypotheses ps)) a.hypotheses) ≡ true
   no_other a ps τ good e = grind (arith, common_steps, equal_same, found_all)
 
   makes_assertion : (a : Frame) (es : List Formula) → IsComplete c a
       → Made (Some (assertion a)) es (step c (Some (assertion a)) es)
   makes_assertion a es good = grind (arith, common_steps, leb-false, leb-true, no_other, same_equal)
 
-  pub makes : (r : Option Rule) (es : List Formula) → IsGood c r → Made r es (step c r es)
+  pub makes : (r : Option Rule) (es : List Formula) → IsCompleteRule c r → Made r es (step c r es)
   makes None es good = absurd good
   makes (Some (hypothesis g)) es good = makes_hypothesis g es (nat_le (length g) formula_limit) refl
   makes (Some (assertion a)) es good = makes_assertion a es good

@@ -7,7 +7,7 @@ use Rattle.std.proofs.lemmas.Bool.{or_cases, or_left, or_right}
 use Rattle.std.proofs.lemmas.List.Folds.{list_any-append}
 use Rattle.mm_spec.specs.Statement.{Statement}
 use Rattle.mm_spec.specs.Derivation.{Trees, none, more, postfix, is_member}
-use Rattle.mm_spec.specs.Nodes.{size, HasNode, each_place, child_counts, IsNodeLabel}
+use Rattle.mm_spec.specs.Nodes.{tree_count, HasNode, each_place, child_counts, IsNodeLabel}
 use Rattle.mm_spec.proofs.BoolLaw.{lone}
 
 -- ---- where each child counts, the labels are those of all nodes
@@ -34,7 +34,8 @@ member_node (more ts l f cs) a e =
     inner (inl h) on = inr (refl, inr (on h))
     inner (inr h) on = inr (refl, inl (eqb-true a l (lone (a == l) h)))
 
-    in_earlier_or_last : (is_member (postfix ts) a ≡ true) ⊎ (is_member (postfix cs ++ l ∷ []) a ≡ true)
+    in_earlier_or_last : (is_member (postfix ts) a ≡ true)
+        ⊎ (is_member (postfix cs ++ l ∷ []) a ≡ true)
         → (is_member (postfix ts) a ≡ true → HasNode (λ l. each_place) each_place ts a)
         → (is_member (postfix cs) a ≡ true → HasNode (λ l. each_place) each_place cs a)
         → HasNode (λ l. each_place) each_place (more ts l f cs) a
@@ -49,7 +50,7 @@ abbrev pub node_labels : (ℕ → ℕ → Bool) → (ℕ → Bool) → Trees →
 node_labels counts place none = []
 node_labels counts place (more ts l f cs) =
     node_labels counts place ts
-    ++ elim (place (size ts)) [ true ↦ l ∷ node_labels counts (counts l) cs | false ↦ [] ]
+    ++ elim (place (tree_count ts)) [ true ↦ l ∷ node_labels counts (counts l) cs | false ↦ [] ]
 
 node_listed : (counts : ℕ → ℕ → Bool) (place : ℕ → Bool) (ts : Trees) (a : ℕ)
     → HasNode counts place ts a → is_member (node_labels counts place ts) a ≡ true
@@ -67,21 +68,26 @@ node_listed counts place (more ts l f cs) a (inr (t, h)) =
     at_root_or_below : (a ≡ l) ⊎ HasNode counts (counts l) cs a
         → (HasNode counts (counts l) cs a → is_member (node_labels counts (counts l) cs) a ≡ true)
         → is_member (l ∷ node_labels counts (counts l) cs) a ≡ true
-    at_root_or_below (inl e) on = or_left (a == l) (is_member (node_labels counts (counts l) cs) a) (eq-eqb a l e)
-    at_root_or_below (inr k) on = or_right (a == l) (is_member (node_labels counts (counts l) cs) a) (on k)
+    at_root_or_below (inl e) on =
+        or_left (a == l) (is_member (node_labels counts (counts l) cs) a) (eq-eqb a l e)
+    at_root_or_below (inr k) on =
+        or_right (a == l) (is_member (node_labels counts (counts l) cs) a) (on k)
 
 listed_node : (counts : ℕ → ℕ → Bool) (place : ℕ → Bool) (ts : Trees) (a : ℕ)
     → is_member (node_labels counts place ts) a ≡ true → HasNode counts place ts a
 listed_node counts place none a e = absurd (true≢false (sym e))
 listed_node counts place (more ts l f cs) a e =
-    in_earlier_or_last (or_cases (is_member (node_labels counts place ts) a) (is_member (under (place (size ts))) a)
-    (sym (list_any-append (λ y. a == y) (node_labels counts place ts) (under (place (size ts))))
+    in_earlier_or_last
+        (or_cases (is_member (node_labels counts place ts) a)
+        (is_member (under (place (tree_count ts))) a)
+    (sym (list_any-append (λ y. a == y) (node_labels counts place ts)
+    (under (place (tree_count ts))))
     ∙ e)) (λ k. listed_node counts place ts a k) (λ k. listed_node counts (counts l) cs a k)
   where
     under : Bool → List ℕ
     under b = elim b [ true ↦ l ∷ node_labels counts (counts l) cs | false ↦ [] ]
 
-    inner : (b : Bool) → place (size ts) ≡ b → is_member (under b) a ≡ true
+    inner : (b : Bool) → place (tree_count ts) ≡ b → is_member (under b) a ≡ true
         → (is_member (node_labels counts (counts l) cs) a ≡ true → HasNode counts (counts l) cs a)
         → HasNode counts place (more ts l f cs) a
     inner false p k on = absurd (true≢false (sym k))
@@ -94,12 +100,12 @@ listed_node counts place (more ts l f cs) a e =
         which (inr q) = inr (on q)
 
     in_earlier_or_last : (is_member (node_labels counts place ts) a ≡ true)
-        ⊎ (is_member (under (place (size ts))) a ≡ true)
+        ⊎ (is_member (under (place (tree_count ts))) a ≡ true)
         → (is_member (node_labels counts place ts) a ≡ true → HasNode counts place ts a)
         → (is_member (node_labels counts (counts l) cs) a ≡ true → HasNode counts (counts l) cs a)
         → HasNode counts place (more ts l f cs) a
     in_earlier_or_last (inl k) on in_children = inl (on k)
-    in_earlier_or_last (inr k) on in_children = inner (place (size ts)) refl k in_children
+    in_earlier_or_last (inr k) on in_children = inner (place (tree_count ts)) refl k in_children
 
 -- so it is decided whether there is such a node
 pub node_labels_are : (counts : ℕ → ℕ → Bool) (place : ℕ → Bool) (ts : Trees) (a : ℕ)

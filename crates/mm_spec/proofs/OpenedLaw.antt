@@ -16,8 +16,8 @@ use Rattle.mm_spec.specs.Text.{Bytes, Token}
 use Rattle.mm_spec.specs.Statement.{Statement, constants, variables, disjoint, floating, essential}
 use Rattle.mm_spec.specs.Statement.{axiomatic, provable, opening, closing}
 use Rattle.mm_spec.specs.Opened.{as_axiom, counted}
-use Rattle.mm_spec.specs.Scope.{depth, is_active, is_active_kind, is_active_some, active}
-use Rattle.mm_spec.specs.Scope.{statement_at, label_words, stays}
+use Rattle.mm_spec.specs.Scope.{depth, is_active, is_still_active, is_some_still_active, active}
+use Rattle.mm_spec.specs.Scope.{statement_at, label_words, is_block_open}
 use Rattle.mm_spec.specs.Derivation.{Formula, Pair, Frame, Context, Rule, hypothesis, assertion}
 use Rattle.mm_spec.specs.Derivation.{is_member}
 use Rattle.mm_spec.specs.Frame.{symbol_names, formula_at}
@@ -26,7 +26,7 @@ use Rattle.mm_spec.specs.Frame.{is_disjoint_statement, active_of, mandatory_vari
 use Rattle.mm_spec.specs.Frame.{mandatory_hypotheses, mandatory_pairs, disjoint_at, pairs_of}
 use Rattle.mm_spec.specs.Frame.{frame_at}
 use Rattle.mm_spec.specs.Citation.{rule_of, rule_at, context_at, is_theorem}
-use Rattle.mm_spec.specs.Laws.Complete.{IsFine, AreComplete}
+use Rattle.mm_spec.specs.Laws.Complete.{HasCompleteFrame, AreComplete}
 use Rattle.mm_spec.specs.Output.{label_at}
 use Rattle.mm_spec.proofs.FindsLaw.{any_map, found_at, at_found}
 
@@ -95,7 +95,7 @@ module _ (db : List Statement) where
   depth_kept : depth as_axioms ≡ depth db
   depth_kept = grind (arith, common_steps, count_kept, fun_ext, take-map)
 
-  stays_kept : stays as_axioms ≡ stays db
+  stays_kept : is_block_open as_axioms ≡ is_block_open db
   stays_kept =
       fun_ext (λ j. fun_ext
       (λ k. ap
@@ -104,15 +104,15 @@ module _ (db : List Statement) where
 
   is_active_kept : is_active as_axioms ≡ is_active db
   is_active_kept = fun_ext (λ j. fun_ext (λ k.
-      ap (λ o. nat_lt j k && is_active_some o (stays as_axioms j k)) (got_axiom db j)
-      ∙ ap (λ b. nat_lt j k && b) (by_statement (slice_get db j) (stays as_axioms j k))
-      ∙ ap (λ (s : ℕ → ℕ → Bool). nat_lt j k && is_active_some (slice_get db j) (s j k))
+      ap (λ o. nat_lt j k && is_some_still_active o (is_block_open as_axioms j k)) (got_axiom db j)
+      ∙ ap (λ b. nat_lt j k && b) (by_statement (slice_get db j) (is_block_open as_axioms j k))
+      ∙ ap (λ (s : ℕ → ℕ → Bool). nat_lt j k && is_some_still_active (slice_get db j) (s j k))
       stays_kept))
     where
       by_statement : (o : Option Statement) (b : Bool)
-          → is_active_some (option_map as_axiom o) b ≡ is_active_some o b
+          → is_some_still_active (option_map as_axiom o) b ≡ is_some_still_active o b
       by_statement None b = refl
-      by_statement (Some s) b = kept (λ s. is_active_kind s b) (λ l k xs e ps d. refl) s
+      by_statement (Some s) b = kept (λ s. is_still_active s b) (λ l k xs e ps d. refl) s
 
   active_kept : active as_axioms ≡ active db
   active_kept =
@@ -276,8 +276,8 @@ module _ (w : Bool) (db : List Statement) where
   pub counted_depth : depth (counted w db) ≡ depth db
   counted_depth = either depth depth_kept w db
 
-  pub counted_stays : stays (counted w db) ≡ stays db
-  counted_stays = either stays stays_kept w db
+  pub counted_stays : is_block_open (counted w db) ≡ is_block_open db
+  counted_stays = either is_block_open stays_kept w db
 
   pub counted_active : is_active (counted w db) ≡ is_active db
   counted_active = either is_active is_active_kept w db
@@ -309,7 +309,8 @@ module _ (w : Bool) (db : List Statement) where
 
   pub counted_complete : AreComplete db → AreComplete (counted w db)
   counted_complete h k l =
-      subst (λ (c : ℕ → Context). IsFine (c k) ((c k).rule l)) (sym counted_context) (h k l)
+      subst (λ (c : ℕ → Context). HasCompleteFrame (c k) ((c k).rule l)) (sym counted_context)
+          (h k l)
 
 -- a theorem among them was read as it is
 pub theorem_read : (w : Bool) (db : List Statement) (j : ℕ) (l : Token) (k : ℕ) (xs : List Token)

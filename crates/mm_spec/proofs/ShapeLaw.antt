@@ -12,11 +12,13 @@ use Rattle.std.proofs.lemmas.List.Sums.{sum_by-append}
 use Rattle.std.proofs.lemmas.List.Folds.{list_all-append}
 use Rattle.std.specs.List.{AllByRecursion}
 use Rattle.mm_spec.specs.Text.{Bytes, Token, token, has_dollar, is_label}
-use Rattle.mm_spec.specs.Laws.Table.{Class, constant, variable, disjoint_of, type_of, logical}
-use Rattle.mm_spec.specs.Laws.Table.{axiom_of, theorem_of, equals, dot, open_block, close_block}
+use Rattle.mm_spec.specs.Laws.Table.{Class, constant_keyword, variable_keyword, disjoint_keyword}
+use Rattle.mm_spec.specs.Laws.Table.{floating_keyword, essential_keyword}
+use Rattle.mm_spec.specs.Laws.Table.{axiom_keyword, theorem_keyword, equals, dot, open_block}
+use Rattle.mm_spec.specs.Laws.Table.{close_block}
 use Rattle.mm_spec.specs.Laws.Table.{plain, other, ClassedWord, table, lookup, keyword, class}
 use Rattle.mm_spec.specs.Statement.{Statement, constants, variables, disjoint, floating, essential}
-use Rattle.mm_spec.specs.Statement.{axiomatic, provable, opening, closing, spelled, is_plain}
+use Rattle.mm_spec.specs.Statement.{axiomatic, provable, opening, closing, spelling_of, is_plain}
 use Rattle.mm_spec.specs.Statement.{is_complete, is_opening, is_closing, AreStatements, BeginStatements}
 use Rattle.mm_spec.proofs.FollowedLaw.{State, at_label, at_start, begins_followed, depth_following}
 use Rattle.mm_spec.proofs.FollowedLaw.{blocks_counted}
@@ -26,13 +28,13 @@ use Rattle.mm_spec.proofs.FollowedLaw.{next}
 -- ---- what is followed begins a list
 
 abbrev pub Meaning : Class → Bytes → Type 0
-Meaning constant w = w ≡ codes "$c"
-Meaning variable w = w ≡ codes "$v"
-Meaning disjoint_of w = w ≡ codes "$d"
-Meaning type_of w = w ≡ codes "$f"
-Meaning logical w = w ≡ codes "$e"
-Meaning axiom_of w = w ≡ codes "$a"
-Meaning theorem_of w = w ≡ codes "$p"
+Meaning constant_keyword w = w ≡ codes "$c"
+Meaning variable_keyword w = w ≡ codes "$v"
+Meaning disjoint_keyword w = w ≡ codes "$d"
+Meaning floating_keyword w = w ≡ codes "$f"
+Meaning essential_keyword w = w ≡ codes "$e"
+Meaning axiom_keyword w = w ≡ codes "$a"
+Meaning theorem_keyword w = w ≡ codes "$p"
 Meaning equals w = w ≡ codes "$="
 Meaning dot w = w ≡ codes "$."
 Meaning open_block w = w ≡ codes "${"
@@ -48,7 +50,8 @@ lookup_meaning (e ∷ es) w h = grind (arith, common_steps, bytes_eq-Decides, lo
 pub meaning : (w : Bytes) → Meaning (class w) w
 meaning w = by_dollar (has_dollar w) refl
   where
-    by_dollar : (b : Bool) → has_dollar w ≡ b → Meaning (elim b [ true ↦ keyword w | false ↦ plain ]) w
+    by_dollar : (b : Bool) → has_dollar w ≡ b
+        → Meaning (elim b [ true ↦ keyword w | false ↦ plain ]) w
     by_dollar true e =
         lookup_meaning table w (
           (λ x. x),
@@ -133,7 +136,7 @@ pub record Words (part : List Token) : Type 0 where
   pub are_plain : is_plain words ≡ true
   pub make : List Token → ℕ → Statement
   pub spells : (ws : List Token) (k : ℕ)
-      → spelled (make ws k) ≡ front ++ (ws ++ token k (codes "$.") ∷ [])
+      → spelling_of (make ws k) ≡ front ++ (ws ++ token k (codes "$.") ∷ [])
   pub whole : (ws : List Token) (k : ℕ) → is_plain ws ≡ true → is_complete (make ws k) ≡ true
   pub stays : (ws : List Token) (k d : ℕ) → depth_following (make ws k) d ≡ d
   pub flat : (ws : List Token) (k : ℕ) → is_closing (make ws k) ≡ false
@@ -166,7 +169,7 @@ pub record Reads (q : State) (ts : List Token) : Type 0 where
   pub balanced : Balanced (depth_of q) statements
   pub part : List Token
   pub is_part : IsPartAt q part
-  pub is : ts ≡ flat_map spelled statements ++ part
+  pub is : ts ≡ flat_map spelling_of statements ++ part
 
 pub plain_more : (ws : List Token) (t : Token) → is_plain ws ≡ true → has_dollar t.word ≡ false
     → is_plain (ws ++ t ∷ []) ≡ true
@@ -174,8 +177,8 @@ plain_more ws t e h = grind (arith, common_steps, list_all-append)
 
 -- a whole statement more
 closes : (d : ℕ) (ts : List Token) (list : List Statement) (part : List Token) (s : Statement)
-    → Balanced d list → ts ≡ flat_map spelled list ++ part → is_complete s ≡ true
-    → (is_closing s ≡ true → 0 < d) → (t : Token) → spelled s ≡ part ++ t ∷ [] → (e : ℕ)
+    → Balanced d list → ts ≡ flat_map spelling_of list ++ part → is_complete s ≡ true
+    → (is_closing s ≡ true → 0 < d) → (t : Token) → spelling_of s ≡ part ++ t ∷ [] → (e : ℕ)
     → depth_following s d ≡ e → Reads (at_start e) (ts ++ t ∷ [])
 closes d ts list part s b is w h t sp e at = record {
   statements = list ++ s ∷ [];
@@ -183,10 +186,10 @@ closes d ts list part s b is w h t sp e at = record {
   part = [];
   is_part = refl;
   is =
-      ap (λ x. x ++ t ∷ []) is ∙ append_assoc (flat_map spelled list) part (t ∷ [])
-      ∙ ap (λ x. flat_map spelled list ++ x) (sym sp ∙ sym (append-nil (spelled s)))
-      ∙ sym (flat_map-append spelled list (s ∷ []))
-      ∙ sym (append-nil (flat_map spelled (list ++ s ∷ [])));
+      ap (λ x. x ++ t ∷ []) is ∙ append_assoc (flat_map spelling_of list) part (t ∷ [])
+      ∙ ap (λ x. flat_map spelling_of list ++ x) (sym sp ∙ sym (append-nil (spelling_of s)))
+      ∙ sym (flat_map-append spelling_of list (s ∷ []))
+      ∙ sym (append-nil (flat_map spelling_of (list ++ s ∷ [])));
 }
 
 -- a token more in a statement
@@ -197,7 +200,8 @@ goes_on q r ts x t e p = record {
   balanced = subst (λ k. Balanced k x.statements) e x.balanced;
   part = x.part ++ t ∷ [];
   is_part = p;
-  is = ap (λ y. y ++ t ∷ []) x.is ∙ append_assoc (flat_map spelled x.statements) x.part (t ∷ []);
+  is =
+      ap (λ y. y ++ t ∷ []) x.is ∙ append_assoc (flat_map spelling_of x.statements) x.part (t ∷ []);
 }
 
 -- what is reached
@@ -209,7 +213,7 @@ Reaches (Some q) ts = Reads q ts
 opens : (d : ℕ) (ts : List Token) (x : Reads (at_start d) ts) (t : Token) (w : Bytes) → t.word ≡ w
     → (make : List Token → ℕ → Statement)
     → ((ws : List Token) (k : ℕ)
-    → spelled (make ws k) ≡ token t.at w ∷ (ws ++ token k (codes "$.") ∷ []))
+    → spelling_of (make ws k) ≡ token t.at w ∷ (ws ++ token k (codes "$.") ∷ []))
     → ((ws : List Token) (k : ℕ) → is_plain ws ≡ true → is_complete (make ws k) ≡ true)
     → ((ws : List Token) (k e : ℕ) → depth_following (make ws k) e ≡ e)
     → ((ws : List Token) (k : ℕ) → is_closing (make ws k) ≡ false)
@@ -230,7 +234,7 @@ opens d ts x t w m make sp wh st fl = goes_on (at_start d) (in_symbols d) ts x t
 opens_labelled : (d : ℕ) (ts : List Token) (x : Reads (at_label d) ts) (t : Token) (w : Bytes)
     → t.word ≡ w → (make : List Token → ℕ → Statement)
     → ((ws : List Token) (k : ℕ)
-    → spelled (make ws k) ≡ x.is_part.0 ∷ token t.at w ∷ (ws ++ token k (codes "$.") ∷ []))
+    → spelling_of (make ws k) ≡ x.is_part.0 ∷ token t.at w ∷ (ws ++ token k (codes "$.") ∷ []))
     → ((ws : List Token) (k : ℕ) → is_plain ws ≡ true → is_complete (make ws k) ≡ true)
     → ((ws : List Token) (k e : ℕ) → depth_following (make ws k) e ≡ e)
     → ((ws : List Token) (k : ℕ) → is_closing (make ws k) ≡ false)
@@ -264,11 +268,11 @@ words_more part p t h = record {
 }
 
 words_end : (d : ℕ) (ts : List Token) (list : List Statement) (part : List Token) (p : Words part)
-    → Balanced d list → ts ≡ flat_map spelled list ++ part → (t : Token) → t.word ≡ codes "$."
+    → Balanced d list → ts ≡ flat_map spelling_of list ++ part → (t : Token) → t.word ≡ codes "$."
     → Reads (at_start d) (ts ++ t ∷ [])
 words_end d ts list part p b is t m =
     let s = p.make p.words t.at in
-    let sp : spelled s ≡ part ++ t ∷ [] =
+    let sp : spelling_of s ≡ part ++ t ∷ [] =
     p.spells p.words t.at ∙ sym (append_assoc p.front p.words (token t.at (codes "$.") ∷ []))
     ∙ ap₂ (λ y v. y ++ token t.at v ∷ []) (sym p.is) (sym m) in
     closes d ts list part s b is (p.whole p.words t.at p.are_plain)
@@ -283,13 +287,13 @@ labelled_whole l ws e f = ap₂ (λ x y. x && y && true) e f
 
 reads_next : (q : State) (ts : List Token) (x : Reads q ts) (t : Token) (k : Class)
     → Meaning k t.word → Reaches (next q k t.word) (ts ++ t ∷ [])
-reads_next (at_start d) ts x t constant m =
+reads_next (at_start d) ts x t constant_keyword m =
     opens d ts x t (codes "$c") m (constants t.at) (λ ws k. refl)
     (λ ws k e. and_true (is_plain ws) e) (λ ws k e. refl) (λ ws k. refl)
-reads_next (at_start d) ts x t variable m =
+reads_next (at_start d) ts x t variable_keyword m =
     opens d ts x t (codes "$v") m (variables t.at) (λ ws k. refl)
     (λ ws k e. and_true (is_plain ws) e) (λ ws k e. refl) (λ ws k. refl)
-reads_next (at_start d) ts x t disjoint_of m =
+reads_next (at_start d) ts x t disjoint_keyword m =
     opens d ts x t (codes "$d") m (disjoint t.at) (λ ws k. refl)
     (λ ws k e. and_true (is_plain ws) e) (λ ws k e. refl) (λ ws k. refl)
 reads_next (at_start d) ts x t open_block m =
@@ -306,16 +310,16 @@ reads_next (at_start d) ts x t plain m = by_is_label (is_label t.word) refl
     by_is_label false e = tt
     by_is_label true e =
         goes_on (at_start d) (at_label d) ts x t refl (t, e, ap (λ p. p ++ t ∷ []) x.is_part)
-reads_next (at_label d) ts x t type_of m =
+reads_next (at_label d) ts x t floating_keyword m =
     opens_labelled d ts x t (codes "$f") m (floating x.is_part.0 t.at) (λ ws k. refl)
     (λ ws k e. labelled_whole x.is_part.0 ws x.is_part.1 e) (λ ws k e. refl) (λ ws k. refl)
-reads_next (at_label d) ts x t logical m =
+reads_next (at_label d) ts x t essential_keyword m =
     opens_labelled d ts x t (codes "$e") m (essential x.is_part.0 t.at) (λ ws k. refl)
     (λ ws k e. labelled_whole x.is_part.0 ws x.is_part.1 e) (λ ws k e. refl) (λ ws k. refl)
-reads_next (at_label d) ts x t axiom_of m =
+reads_next (at_label d) ts x t axiom_keyword m =
     opens_labelled d ts x t (codes "$a") m (axiomatic x.is_part.0 t.at) (λ ws k. refl)
     (λ ws k e. labelled_whole x.is_part.0 ws x.is_part.1 e) (λ ws k e. refl) (λ ws k. refl)
-reads_next (at_label d) ts x t theorem_of m = goes_on (at_label d) (in_formula d) ts x t refl
+reads_next (at_label d) ts x t theorem_keyword m = goes_on (at_label d) (in_formula d) ts x t refl
     (record {
       label = x.is_part.0;
       is_labelled = x.is_part.1;
@@ -374,23 +378,25 @@ follow_reads (u ∷ us) ts q x =
         → Reaches (follow (Some r) us) ((ts ++ u ∷ []) ++ us))
         → Reaches (follow o us) (ts ++ u ∷ us)
     by_state None y on = lost us (ts ++ u ∷ us)
-    by_state (Some r) y on = subst (Reaches (follow (Some r) us)) (append_assoc ts (u ∷ []) us) (on r y)
+    by_state (Some r) y on =
+        subst (Reaches (follow (Some r) us)) (append_assoc ts (u ∷ []) us) (on r y)
 
 -- what was read can be ended
 ended : (d : ℕ) (ts : List Token) (list : List Statement) (part : List Token) (s : Statement)
-    → Balanced d list → ts ≡ flat_map spelled list ++ part → is_complete s ≡ true
-    → (is_closing s ≡ true → 0 < d) → (rest : List Token) → spelled s ≡ part ++ rest → BeginStatements ts
+    → Balanced d list → ts ≡ flat_map spelling_of list ++ part → is_complete s ≡ true
+    → (is_closing s ≡ true → 0 < d) → (rest : List Token) → spelling_of s ≡ part ++ rest
+    → BeginStatements ts
 ended d ts list part s b is w h rest sp = (
   list ++ s ∷ [],
   (one_more d list s b w h).are_statements,
   rest,
-  flat_map-append spelled list (s ∷ [])
-      ∙ ap (λ x. flat_map spelled list ++ x) (append-nil (spelled s) ∙ sp)
-      ∙ sym (append_assoc (flat_map spelled list) part rest) ∙ ap (λ x. x ++ rest) (sym is),
+  flat_map-append spelling_of list (s ∷ [])
+      ∙ ap (λ x. flat_map spelling_of list ++ x) (append-nil (spelling_of s) ∙ sp)
+      ∙ sym (append_assoc (flat_map spelling_of list) part rest) ∙ ap (λ x. x ++ rest) (sym is),
 )
 
 words_ended : (d : ℕ) (ts : List Token) (list : List Statement) (part : List Token) → Words part
-    → Balanced d list → ts ≡ flat_map spelled list ++ part → BeginStatements ts
+    → Balanced d list → ts ≡ flat_map spelling_of list ++ part → BeginStatements ts
 words_ended d ts list part p b is =
     ended d ts list part (p.make p.words 0) b is (p.whole p.words 0 p.are_plain)
     (λ e. absurd (true≢false (sym e ∙ p.flat p.words 0))) (token 0 (codes "$.") ∷ [])
@@ -402,8 +408,9 @@ reads_begins (at_start d) ts x = (
   x.statements,
   x.balanced.are_statements,
   [],
-  sym (append-nil (flat_map spelled x.statements))
-      ∙ ap (λ p. flat_map spelled x.statements ++ p) (sym x.is_part) ∙ sym x.is ∙ sym (append-nil ts),
+  sym (append-nil (flat_map spelling_of x.statements))
+      ∙ ap (λ p. flat_map spelling_of x.statements ++ p) (sym x.is_part) ∙ sym x.is
+      ∙ sym (append-nil ts),
 )
 reads_begins (at_label d) ts x =
     ended d ts x.statements x.part (axiomatic x.is_part.0 0 [] 0) x.balanced x.is

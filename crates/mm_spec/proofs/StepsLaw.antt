@@ -8,9 +8,10 @@ use Rattle.mm_spec.specs.Derivation.{Formula, Rule, hypothesis, assertion, Conte
 use Rattle.mm_spec.specs.Derivation.{none, more, formulas, postfix, AreDerivations}
 use Rattle.mm_spec.specs.Steps.{Step, label, marked}
 use Rattle.mm_spec.specs.Valid.{Reason, StepFails, Adds, Plain}
-use Rattle.mm_spec.specs.Laws.Complete.{IsFine}
+use Rattle.mm_spec.specs.Laws.Complete.{HasCompleteFrame}
 use Rattle.mm_spec.proofs.MachineLaw.{Failed, proceed, AreGood, Made, makes, grown}
-use Rattle.mm_spec.specs.Laws.Stack.{IsGood, top, HasLast, Leaves, step_entries, IsGoodStep}
+use Rattle.mm_spec.specs.Laws.Stack.{IsCompleteRule, top, IsLastFormula, EndsInFormula}
+use Rattle.mm_spec.specs.Laws.Stack.{step_entries, IsGoodStep}
 use Rattle.mm_spec.specs.Laws.Stack.{AreGoodSteps}
 
 pub top_append : (fs : List Formula) (f : Formula) → top (fs ++ f ∷ []) ≡ f
@@ -19,8 +20,9 @@ top_append (g ∷ []) f = refl
 top_append (g ∷ h ∷ fs) f = top_append (h ∷ fs) f
 
 module _ (c : Context) where
-  follows_good : (r : Option Rule) (ps : List Formula) (f : Formula) → IsFine c r → Follows c r ps f
-      → IsGood c r
+  follows_good : (r : Option Rule) (ps : List Formula) (f : Formula) → HasCompleteFrame c r
+      → Follows c r ps f
+      → IsCompleteRule c r
   follows_good None ps f fine h = h
   follows_good (Some (hypothesis g)) ps f fine h = tt
   follows_good (Some (assertion a)) ps f fine h = fine
@@ -30,15 +32,17 @@ module _ (c : Context) where
   good_append (x ∷ xs) ys g h = (g.0, good_append xs ys g.1 h)
 
   -- in a forest of derivations each label stands for something
-  pub forest_good : ((l : ℕ) → IsFine c (c.rule l)) → (forest : Trees) → AreDerivations c forest
+  pub forest_good : ((l : ℕ) → HasCompleteFrame c (c.rule l)) → (forest : Trees)
+      → AreDerivations c forest
       → AreGood c (postfix forest)
   forest_good fine none d = tt
   forest_good fine (more ts l f cs) d = grind (arith, common_steps, follows_good, good_append, forest_good fine ts d.0, forest_good fine cs d.1)
 
-  after_at : (lists : List (List ℕ)) (ends : List Formula) (j : ℕ) → AllZip (Leaves c) lists ends
+  after_at : (lists : List (List ℕ)) (ends : List Formula) (j : ℕ)
+      → AllZip (EndsInFormula c) lists ends
       → j < length ends
       → (then : List ℕ) × (f : Formula) × (slice_get lists j ≡ Some then)
-      × (slice_get ends j ≡ Some f) × Leaves c then f
+      × (slice_get ends j ≡ Some f) × EndsInFormula c then f
   after_at [] [] j b h = absurd (omega arith)
   after_at [] (f ∷ fs) j b h = absurd b
   after_at (x ∷ xs) [] j b h = absurd b
@@ -46,8 +50,8 @@ module _ (c : Context) where
   after_at (x ∷ xs) (f ∷ fs) (suc j) b h = after_at xs fs j b.1 (omega arith)
 
   pub after_more : (lists : List (List ℕ)) (ends : List Formula) (x : List ℕ) (f : Formula)
-      → AllZip (Leaves c) lists ends → Leaves c x f
-      → AllZip (Leaves c) (lists ++ x ∷ []) (ends ++ f ∷ [])
+      → AllZip (EndsInFormula c) lists ends → EndsInFormula c x f
+      → AllZip (EndsInFormula c) (lists ++ x ∷ []) (ends ++ f ∷ [])
   after_more [] [] x f b h = (h, tt)
   after_more [] (g ∷ gs) x f b h = absurd b
   after_more (y ∷ ys) [] x f b h = absurd b
@@ -84,11 +88,11 @@ module _ (c : Context) where
   abbrev pub Grown : List (List ℕ) → Trees → Step → Result (List Formula) Reason → Type 0
   Grown lists forest s (Ok out) =
       (next : Trees) × AreDerivations c next × Adds c lists (postfix forest) s (postfix next)
-      × (formulas next ≡ out) × HasLast next (top out)
+      × (formulas next ≡ out) × IsLastFormula next (top out)
   Grown lists forest s (Err reason) = StepFails c s (formulas forest) reason
 
   last_top : (forest : Trees) (fs : List Formula) (f : Formula) → formulas forest ≡ fs ++ f ∷ []
-      → HasLast forest (top (formulas forest))
+      → IsLastFormula forest (top (formulas forest))
   last_top none [] f e = cc
   last_top none (g ∷ fs) f e = cc
   last_top (more ts l f cs) fs g e = sym (top_append (formulas ts) f)
@@ -100,7 +104,7 @@ module _ (c : Context) where
 
   -- a marked step adds a copy of the last tree of an earlier forest
   grows_marked : (lists : List (List ℕ)) (ends : List Formula) (forest : Trees) (j : ℕ)
-      → AreDerivations c forest → AllZip (Leaves c) lists ends → j < length ends
+      → AreDerivations c forest → AllZip (EndsInFormula c) lists ends → j < length ends
       → Grown lists forest (marked j) (step_entries c (marked j) ends (formulas forest))
   grows_marked lists ends forest j d b h =
       let at = after_at lists ends j b h in
@@ -109,7 +113,7 @@ module _ (c : Context) where
       (copy at.4.0 at.4.1 at.4.2 at.4.3)
     where
       copy : (then : Trees) → AreDerivations c then → postfix then ≡ (after_at lists ends j b h).0
-          → HasLast then (after_at lists ends j b h).1
+          → IsLastFormula then (after_at lists ends j b h).1
           → Grown lists forest (marked j) (Ok (formulas forest ++ (after_at lists ends j b h).1 ∷ []))
       copy none e p last = absurd last
       copy (more ts l f cs) e p last =
@@ -120,18 +124,20 @@ module _ (c : Context) where
             (d, e.1, e.2),
             (at.0, postfix cs ++ l ∷ [], at.2, (more ts l f cs, e, p, refl), refl),
             is,
-            subst (λ x. HasLast (more forest l f cs) (top x)) is (sym (top_append (formulas forest) f)),
+            subst (λ x. IsLastFormula (more forest l f cs) (top x)) is
+                (sym (top_append (formulas forest) f)),
           )
 
   pub grows : (lists : List (List ℕ)) (ends : List Formula) (forest : Trees) (s : Step)
-      → AreDerivations c forest → AllZip (Leaves c) lists ends → IsGoodStep c (length ends) s
+      → AreDerivations c forest → AllZip (EndsInFormula c) lists ends → IsGoodStep c (length ends) s
       → Grown lists forest s (step_entries c s ends (formulas forest))
   grows lists ends forest (label l) d b good = grind (arith, common_steps, grows_label, makes)
   grows lists ends forest (marked j) d b good = grows_marked lists ends forest j d b good
 
   -- what a run over steps means
   pub means_steps : (steps : List Step) (lists : List (List ℕ)) (ends : List Formula) (forest : Trees)
-      → AreDerivations c forest → AllZip (Leaves c) lists ends → AreGoodSteps c (length ends) steps
+      → AreDerivations c forest → AllZip (EndsInFormula c) lists ends
+      → AreGoodSteps c (length ends) steps
       → RanSteps lists (postfix forest) steps (run_steps ends steps (formulas forest))
   means_steps [] lists ends forest d b good = (postfix forest, refl, forest, d, refl, refl)
   means_steps (s ∷ steps) lists ends forest d b good =
@@ -160,7 +166,7 @@ module _ (c : Context) where
       }
 
       by_result : (r : Result (List Formula) Reason) → Grown lists forest s r
-          → ((next : Trees) (f : Formula) → AreDerivations c next → HasLast next f
+          → ((next : Trees) (f : Formula) → AreDerivations c next → IsLastFormula next f
           → RanSteps (lists ++ postfix next ∷ []) (postfix next) steps
           (run_steps (ends ++ f ∷ []) steps (formulas next)))
           → RanSteps lists (postfix forest) (s ∷ steps)

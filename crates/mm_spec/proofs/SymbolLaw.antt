@@ -32,7 +32,8 @@ pub data IsNamed (n : Names) (s : Statement) (w : Bytes) : Type 0 where
 formula_named : (n : Names) (s : Statement) (xs : List Token) (end : ℕ)
     → formula_faults n xs end ≡ [] → (w : Bytes) → is_in w (words xs) ≡ true → IsNamed n s w
 formula_named n s [] end e w m = absurd (true≢false (sym m))
-formula_named n s (t ∷ ts) end e w m = at_first_or_later (or_cases (bytes_eq w t.word) (is_in w (words ts)) m)
+formula_named n s (t ∷ ts) end e w m =
+    at_first_or_later (or_cases (bytes_eq w t.word) (is_in w (words ts)) m)
   where
     first : List Fault
     first = at t.at (when (not (is_in t.word n.constants)) BadTypecode)
@@ -58,7 +59,8 @@ formula_named n s (t ∷ ts) end e w m = at_first_or_later (or_cases (bytes_eq w
         (when (not (is_in w n.constants || is_in w n.active_variables)) UndeclaredSymbol)
         (when (is_in w n.active_variables && not (is_typed n w)) UntypedVariable) x.1).0)))
       where
-        constant_or_variable : (is_in w n.constants ≡ true) ⊎ (is_in w n.active_variables ≡ true) → IsNamed n s w
+        constant_or_variable : (is_in w n.constants ≡ true) ⊎ (is_in w n.active_variables ≡ true)
+            → IsNamed n s w
         constant_or_variable (inl c) = constant c
         constant_or_variable (inr v) = variable v
 
@@ -81,8 +83,10 @@ floating_named n s keyword (c ∷ v ∷ []) e w m =
         and_parts (is_in c.word n.constants) (is_in v.word n.active_variables)
         (both (is_in c.word n.constants && is_in v.word n.active_variables) _ e)
 
-    typecode_or_variable : (bytes_eq w c.word ≡ true) ⊎ ((bytes_eq w v.word || false) ≡ true) → IsNamed n s w
-    typecode_or_variable (inl h) = constant (ap (λ u. is_in u n.constants) (same_word w c.word h) ∙ parts.0)
+    typecode_or_variable : (bytes_eq w c.word ≡ true) ⊎ ((bytes_eq w v.word || false) ≡ true)
+        → IsNamed n s w
+    typecode_or_variable (inl h) =
+        constant (ap (λ u. is_in u n.constants) (same_word w c.word h) ∙ parts.0)
     typecode_or_variable (inr h) = at_variable (or_cases (bytes_eq w v.word) false h)
       where
         at_variable : (bytes_eq w v.word ≡ true) ⊎ (false ≡ true) → IsNamed n s w
@@ -135,7 +139,8 @@ module _ (db : List Statement) where
           → list_any (λ s. is_in w (declared_words s)) xs ≡ true
       in_some_statement [] e = e
       in_some_statement (x ∷ xs) e =
-          at_first_or_later (or_cases (is_in w (constants_of x)) (list_any (λ s. is_in w (constants_of s)) xs) e)
+          at_first_or_later
+              (or_cases (is_in w (constants_of x)) (list_any (λ s. is_in w (constants_of s)) xs) e)
           (λ k. in_some_statement xs k)
         where
           at_first_or_later : (is_in w (constants_of x) ≡ true)

@@ -5,7 +5,7 @@ use Rattle.std.proofs.lemmas.List.{length-map}
 use Rattle.mm_spec.specs.Derivation.{Formula, Rule, hypothesis, assertion, Context, substitute}
 use Rattle.mm_spec.specs.Derivation.{Follows, Trees, none, more, formulas, postfix, AreDerivations}
 use Rattle.mm_spec.proofs.UnifyLaw.{found_formula}
-use Rattle.mm_spec.specs.Laws.Stack.{found, IsGood}
+use Rattle.mm_spec.specs.Laws.Stack.{substitution_from, IsCompleteRule}
 use Rattle.mm_spec.proofs.MachineLaw.{AreGood, good_parts}
 
 -- two forests, one after the other
@@ -43,7 +43,7 @@ module _ (c : Context) where
   result : Option Rule → List Formula → Formula
   result None ps = []
   result (Some (hypothesis g)) ps = g
-  result (Some (assertion a)) ps = substitute c (found c a.hypotheses ps) a.formula
+  result (Some (assertion a)) ps = substitute c (substitution_from c a.hypotheses ps) a.formula
 
   follows_arity : (r : Option Rule) (ps : List Formula) (f : Formula) → Follows c r ps f
       → length ps ≡ arity r
@@ -53,13 +53,13 @@ module _ (c : Context) where
   follows_arity (Some (assertion a)) ps f h =
       ap length h.1 ∙ length-map a.hypotheses (substitute c h.0)
 
-  follows_result : (r : Option Rule) (ps : List Formula) (f : Formula) → IsGood c r
+  follows_result : (r : Option Rule) (ps : List Formula) (f : Formula) → IsCompleteRule c r
       → Follows c r ps f → result r ps ≡ f
   unfolding result
   follows_result None ps f good h = absurd h
   follows_result (Some (hypothesis g)) ps f good h = sym h.1
   follows_result (Some (assertion a)) ps f good h =
-      ap (λ x. substitute c (found c a.hypotheses x) a.formula) h.1
+      ap (λ x. substitute c (substitution_from c a.hypotheses x) a.formula) h.1
       ∙ found_formula c a.hypotheses h.0 a.formula good.formula ∙ sym h.3
 
   -- the forest that the labels make of a forest

@@ -9,18 +9,19 @@ use Rattle.mm_spec.specs.Frame.{is_essential, mandatory_hypotheses}
 use Rattle.mm_spec.specs.Derivation.{Trees, none, more}
 
 -- how many trees a forest has
-abbrev pub size : Trees → ℕ
-size none = 0
-size (more ts l f cs) = suc (size ts)
+abbrev pub tree_count : Trees → ℕ
+tree_count none = 0
+tree_count (more ts l f cs) = suc (tree_count ts)
 
--- Some node that counts has this label. The root at place n of the forest counts if `place n`;
--- child n of a node that counts and has label l counts if `counts l n`. Places are counted from 0.
+-- Some node that counts has this label. Root n of the forest, counted from 0, counts if
+-- `root_counts n`; child n of a node that counts and has label l counts if `counts l n`.
 abbrev pub HasNode : (ℕ → ℕ → Bool) → (ℕ → Bool) → Trees → ℕ → Type 0
-HasNode counts place none a = ⊥
-HasNode counts place (more ts l f cs) a =
-    HasNode counts place ts a
-    ⊎ (IsTrue (place (size ts)) × ((a ≡ l) ⊎ HasNode counts (counts l) cs a))
+HasNode counts root_counts none a = ⊥
+HasNode counts root_counts (more ts l f cs) a =
+    HasNode counts root_counts ts a
+    ⊎ (IsTrue (root_counts (tree_count ts)) × ((a ≡ l) ⊎ HasNode counts (counts l) cs a))
 
+-- each root counts
 abbrev pub each_place : ℕ → Bool
 each_place n = true
 

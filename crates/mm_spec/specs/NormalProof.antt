@@ -9,6 +9,7 @@ use Rattle.mm_spec.specs.Scope.{is_active, statement_at}
 use Rattle.mm_spec.specs.Steps.{PlacedStep, placed, label}
 use Rattle.mm_spec.specs.declared.Code.TheVariants.{EmptyProof, IncompleteProof, UnusableLabel}
 
+-- whether the statement has this label
 abbrev pub is_labelled : Bytes → Statement → Bool
 is_labelled w s = elim (label_of s) [ None ↦ false | Some l ↦ bytes_eq l.word w ]
 
