@@ -12,8 +12,9 @@ use Rattle.mm_spec.specs.Valid.{Reason, too_few, unmatched, not_disjoint, too_lo
 use Rattle.mm_spec.proofs.UnifyLaw.{same_equal, found_formula, found_disjoint}
 use Rattle.mm_spec.specs.Laws.Stack.{substitution_from, IsCompleteRule, step, apply, unless_failed}
 use Rattle.mm_spec.specs.Laws.Stack.{unless_too_long}
-use Rattle.mm_spec.proofs.MachineLaw.{proceed, run, AreGood, runs_forest, good_parts, no_other, means}
-use Rattle.mm_spec.proofs.MachineLaw.{Ran, Stopped}
+use Rattle.mm_spec.proofs.MachineLaw.{proceed, run, AreGood, runs_forest, good_parts, no_other}
+use Rattle.mm_spec.proofs.MachineLaw.{run_outcome}
+use Rattle.mm_spec.proofs.MachineLaw.{RunOutcome, StoppedRun}
 
 -- the labels are the postfix list of a forest of derivations
 abbrev pub IsPostfixOfForest : Context → List ℕ → Type 0
@@ -98,14 +99,15 @@ module _ (c : Context) where
       → IsPostfixOfForest c ls ↔ ((out : List Formula) × (run c 0 ls [] ≡ Ok out))
   exact_ok ls good = (
     λ h. (formulas h.0, row_run ls good h.0 h.1 h.2),
-    λ h. let m = subst (Ran c none ls) h.1
-        (means c ls none 0 tt good) in
+    λ h. let m = subst (RunOutcome c none ls) h.1
+        (run_outcome c ls none 0 tt good) in
         (m.0, m.1, m.2),
   )
 
   -- a run stops exactly where a label fails after a forest of derivations, and that tells the place
   -- and the reason
-  pub stopped_run : (ls : List ℕ) (reason : Reason) → AreGood c ls → (s : Stopped c none ls reason)
+  pub stopped_run : (ls : List ℕ) (reason : Reason) → AreGood c ls
+      → (s : StoppedRun c none ls reason)
       → run c 0 ls [] ≡ Err (record { at = length s.before; reason = reason })
   stopped_run ls reason good s =
       let g : AreGood c (s.before ++ s.label ∷ s.after) = subst (AreGood c) s.splits good in
@@ -122,7 +124,8 @@ module _ (c : Context) where
       ∙ ap (λ k. Err (record { at = k; reason = reason })) n
 
   -- with the label that fails, the labels are of no forest
-  pub stopped_no_forest : (ls : List ℕ) (reason : Reason) → AreGood c ls → Stopped c none ls reason
+  pub stopped_no_forest : (ls : List ℕ) (reason : Reason) → AreGood c ls
+      → StoppedRun c none ls reason
       → ¬ IsPostfixOfForest c ls
   stopped_no_forest ls reason good s h =
       let ran = row_run ls good h.0 h.1 h.2 in

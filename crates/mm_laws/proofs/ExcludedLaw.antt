@@ -6,7 +6,7 @@ use Rattle.mm_spec.specs.Steps.{Step, label, marked}
 use Rattle.mm_spec.specs.Valid.{Reason, StepFails, Adds, Plain}
 use Rattle.mm_spec.specs.Laws.Complete.{HasCompleteFrame}
 use Rattle.mm_spec.proofs.MachineLaw.{AreGood}
-use Rattle.mm_spec.proofs.StepsLaw.{forest_good, StoppedStep}
+use Rattle.mm_spec.proofs.StepsLaw.{forest_good, StoppedSteps}
 use Rattle.mm_spec.proofs.CheckedLaw.{plain_unique}
 use Rattle.mm_laws.proofs.ExactLaw.{IsPostfixOfForest, stopped_no_forest}
 
@@ -37,7 +37,7 @@ module _ (c : Context) (fine : (l : ℕ) → HasCompleteFrame c (c.rule l)) wher
 
   -- a step that fails leaves no forest for the whole
   pub excludes : (steps : List Step) (reason : Reason) (all : List ℕ)
-      → StoppedStep c [] [] steps reason → Plain c [] [] steps all → ¬ IsPostfixOfForest c all
+      → StoppedSteps c [] [] steps reason → Plain c [] [] steps all → ¬ IsPostfixOfForest c all
   excludes steps reason all s h forest = go s.first s.fails p.3
     where
       p : (mid : List ℕ) × (seen : List (List ℕ)) × Plain c [] [] s.before mid

@@ -10,8 +10,8 @@ use Rattle.mm_spec.specs.Derivation.{AreDerivations}
 use Rattle.mm_spec.specs.Steps.{Step, PlacedStep}
 use Rattle.mm_spec.specs.Valid.{code_of, Plain, IsPlain, Derives, StepFault, ProofEndFault}
 use Rattle.mm_spec.specs.Valid.{IsEndCode}
-use Rattle.mm_spec.proofs.MachineLaw.{Failed}
-use Rattle.mm_spec.proofs.StepsLaw.{run_steps, StoppedStep, RanSteps, means_steps}
+use Rattle.mm_spec.proofs.MachineLaw.{RunFailure}
+use Rattle.mm_spec.proofs.StepsLaw.{run_steps, StoppedSteps, StepsOutcome, steps_outcome}
 use Rattle.mm_spec.specs.Laws.Stack.{AreGoodSteps}
 use Rattle.mm_spec.specs.Laws.Complete.{HasCompleteFrame}
 use Rattle.mm_spec.proofs.CheckedLaw.{same_forest, plain_unique}
@@ -115,9 +115,9 @@ module _ (c : Context) (fine : (l : ℕ) → HasCompleteFrame c (c.rule l)) (ps 
   -- one of the three
   pub judged : AreGoodSteps c 0 (steps_of ps) → Judged
   judged good =
-      go (run_steps c [] (steps_of ps) []) (means_steps c (steps_of ps) [] [] none tt tt good)
+      go (run_steps c [] (steps_of ps) []) (steps_outcome c (steps_of ps) [] [] none tt tt good)
     where
-      go : (r : Result (List Formula) Failed) → RanSteps c [] [] (steps_of ps) r → Judged
+      go : (r : Result (List Formula) RunFailure) → StepsOutcome c [] [] (steps_of ps) r → Judged
       go (Ok out) m = at_end m.2 m.3 (subst (λ x. Plain c [] [] (steps_of ps) x) (sym m.4) m.1)
       go (Err e) m =
           let s = split m.before m.after m.first ps m.splits in
@@ -137,7 +137,7 @@ module _ (c : Context) (fine : (l : ℕ) → HasCompleteFrame c (c.rule l)) (ps 
             is = refl;
           })
 
-  pub stopped : (f : Fault) → (s : StepFault c ps f) → StoppedStep c [] [] (steps_of ps) s.reason
+  pub stopped : (f : Fault) → (s : StepFault c ps f) → StoppedSteps c [] [] (steps_of ps) s.reason
   stopped f s = record {
     before = steps_of s.before;
     first = s.first.step;

@@ -20,8 +20,8 @@ use Rattle.mm_spec.specs.Roles.{is_clean}
 use Rattle.mm_spec.specs.Text.{has_dollar}
 use Rattle.mm_spec.specs.declared.Word.{Word}
 use Rattle.mm_spec.proofs.WordRunsLaw.{begins_word_inside, words_between_none, words_between_skips}
-use Rattle.mm_spec.proofs.WordRunsLaw.{words_between_take, word_at_ink, word_at_nonempty}
-use Rattle.mm_spec.proofs.WordsLaw.{begins_word_boundary, begins_word_ink, IsWord_is}
+use Rattle.mm_spec.proofs.WordRunsLaw.{words_between_take, word_at_not_white, word_at_nonempty}
+use Rattle.mm_spec.proofs.WordsLaw.{begins_word_boundary, begins_word_not_white, IsWord_is}
 use Rattle.mm_spec.proofs.BitLaw.{shifted}
 use Rattle.mm_lex.specs.Plain.{plain_at, IsPlainWord}
 use Rattle.mm_lex.specs.Beginnings.{ArePlain, IsFirst, IsPassed}
@@ -331,7 +331,7 @@ module _ (text : List ℕ) (start end : ℕ) (begins : begins_word text start �
     (after : end < length text → white_at text end ≡ true) where
   pub found_word : IsWord text (record { start = start; end = end })
   found_word =
-      let ink = begins_word_ink text start begins in
+      let ink = begins_word_not_white text start begins in
       let some : start < end = ⊎_elim {C = start < end} (λ h. h)
       (λ h. let same : end ≡ start = omega (arith, order) in
       absurd (true≢false (sym (after (omega arith)) ∙ ap (white_at text) same ∙ ink)))
@@ -385,18 +385,18 @@ module _ (text : List ℕ) (from upto : ℕ) (within : upto < length text)
   ends_there : (i : ℕ) → i ≤ upto → (word_at text i).end ≤ upto
   ends_there i le =
       ⊎_elim {C = (word_at text i).end ≤ upto}
-      (λ over. absurd (true≢false (sym white ∙ word_at_ink text i upto le over)))
+      (λ over. absurd (true≢false (sym white ∙ word_at_not_white text i upto le over)))
       (λ h. h)
       (cases_lt upto (word_at text i).end)
 
   pub plain_words : ArePlain text from upto
   unfolding word_at
   plain_words i low high begins =
-      let ink = begins_word_ink text i begins in
+      let ink = begins_word_not_white text i begins in
       let end = ends_there i (omega arith) in
       let some = word_at_nonempty text i (omega arith) ink in
       plain_word text i (word_at text i).end (omega (arith, some)) (omega (arith, end))
-      (λ k a b. each k (omega arith) (omega (arith, end)) (word_at_ink text i k a b))
+      (λ k a b. each k (omega arith) (omega (arith, end)) (word_at_not_white text i k a b))
 
 -- what a block's masks tell of the bytes between two of its places
 module _ (text : List ℕ) (base white stops place special : ℕ) (fits : white < 2 ^ 64)

@@ -17,7 +17,8 @@ use Rattle.mm_spec.specs.declared.Word.{Word}
 use Rattle.mm_spec.specs.declared.Fault.{Fault}
 use Rattle.mm_spec.proofs.LocalLaw.{scope_fault_front, scope_fault_next}
 use Rattle.mm_spec.proofs.LongestLaw.{is_longest}
-use Rattle.mm_spec.proofs.StopsLaw.{text_fault, text_fault_is, no_text_fault, first_of, fault_at_end}
+use Rattle.mm_spec.proofs.StopsLaw.{text_fault, text_fault_is, no_text_fault, first_fault_of}
+use Rattle.mm_spec.proofs.StopsLaw.{fault_at_end}
 use Rattle.mm_outline.specs.Parts.{as_tokens, progress, made, depth_after, less_one}
 use Rattle.mm_outline.specs.Blocks.{BlockLists, IsBlocks, never}
 use Rattle.mm_outline.proofs.BlocksLaw.{depth_end, depth_plain, depth_opening, depth_closing}
@@ -95,13 +96,14 @@ module _ (text : List ℕ) (ws : List Word) (len : ℕ) (lexical : Option Fault)
       → IsRead len (lexed text ws lexical) db (Some f)
   read_stopped f n e =
       read_end n (Some f)
-      (ap (λ o. first_of o
-      (first_of lexical (fault_at_end len (progress_from (start 0) (as_tokens text ws)))))
+      (ap (λ o. first_fault_of o
+      (first_fault_of lexical (fault_at_end len (progress_from (start 0) (as_tokens text ws)))))
       (r.leads.stop
       ∙ e))
 
   end_is : (part : Part) (i : ℕ) (o : Option Fault)
-      → first_of o (fault_at_end len (progress text ws deep part i)) ≡ end_fault_of o len part deep
+      → first_fault_of o (fault_at_end len (progress text ws deep part i))
+      ≡ end_fault_of o len part deep
   end_is part i (Some f) = refl
   end_is Start i None = by deep
     where
@@ -120,7 +122,8 @@ module _ (text : List ℕ) (ws : List Word) (len : ℕ) (lexical : Option Fault)
       → IsRead len (lexed text ws lexical) db f
   read_ended part n s e f is =
       read_end n f
-      (ap₂ (λ o q. first_of o (first_of lexical (fault_at_end len q))) (r.leads.stop ∙ s)
+      (ap₂ (λ o q. first_fault_of o (first_fault_of lexical (fault_at_end len q)))
+      (r.leads.stop ∙ s)
       (r.leads.rest ∙ e)
       ∙ end_is part (length ws) lexical ∙ sym is)
 

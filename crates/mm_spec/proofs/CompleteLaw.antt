@@ -28,12 +28,13 @@ use Rattle.mm_spec.proofs.FindsLaw.{any_flat_map, any_map, any_filter, member_fi
 use Rattle.mm_spec.proofs.FindsLaw.{filter_member, each_member, each_map, each_any, each_filter}
 use Rattle.mm_spec.proofs.FindsLaw.{inside_of, formula_at_is, found_at, at_found, found_active}
 use Rattle.mm_spec.proofs.FindsLaw.{active_found, same_word, declared, declares, declared_before}
-use Rattle.mm_spec.proofs.FaultlessLaw.{least_none, no_kind, new_constant, new_variable}
+use Rattle.mm_spec.proofs.FaultlessLaw.{least_none, not_constant_and_variable, new_constant}
+use Rattle.mm_spec.proofs.FaultlessLaw.{new_variable}
 use Rattle.mm_spec.proofs.FaultlessLaw.{has_formula}
 use Rattle.mm_spec.proofs.FaultlessLaw.{IsKnown, statement_known, floating_typing, typing_floats}
 use Rattle.mm_spec.proofs.FaultlessLaw.{variable_word, member_word, floating_local, essential_local}
-use Rattle.mm_spec.proofs.FaultlessLaw.{still}
-use Rattle.mm_spec.proofs.BoolLaw.{lone, middle_parts}
+use Rattle.mm_spec.proofs.FaultlessLaw.{still_active}
+use Rattle.mm_spec.proofs.BoolLaw.{passes_alone, middle_parts}
 
 -- ---- frames
 
@@ -68,7 +69,7 @@ module _ (db : List Statement) (lawful : (k : ℕ) → k < length db → IsLawfu
           → (i ≡ j) ⊎ ((i < j) ⊎ (j < i)) → ⊥
       by_order i j s t e f m n (inl h) =
           let same : s ≡ t = cc in
-          no_kind t w (subst (λ x. is_in w (constants_of x) ≡ true) same m) n
+          not_constant_and_variable t w (subst (λ x. is_in w (constants_of x) ≡ true) same m) n
       by_order i j s t e f m n (inr (inl h)) =
           true≢false
           (sym (declares constants_of db j i s w e h m)
@@ -107,7 +108,7 @@ module _ (db : List Statement) (lawful : (k : ℕ) → k < length db → IsLawfu
           constant = constant_before i t.typecode.word t.constant;
         },
         λ v h. same_word v t.variable.word
-            (lone (bytes_eq v t.variable.word)
+            (passes_alone (bytes_eq v t.variable.word)
             (subst (λ x. list_any (λ u. bytes_eq v u.variable) (typings_of x) ≡ true) t.is h)),
       )
 
@@ -169,7 +170,7 @@ module _ (db : List Statement) (lawful : (k : ℕ) → k < length db → IsLawfu
           let t = found_at db is_essential a.0 p.0 in
           let y = typed a.0 x t.0 t.1 (essential_formula t.0 t.2) p.1 v in (
             y.0,
-            still db y.0 a.0 k y.2.statement t.0 y.2.stands
+            still_active db y.0 a.0 k y.2.statement t.0 y.2.stands
                 (floating_local y.2.statement y.2.floats) t.1
                 (essential_local t.0 t.2) y.1 a.1,
             y.2,
@@ -202,46 +203,46 @@ module _ (db : List Statement) (lawful : (k : ℕ) → k < length db → IsLawfu
       is_essential_at : ℕ → Bool
       is_essential_at i = list_any is_essential (statement_at db i)
 
-      among : list_any is_essential (statement_at db j) ≡ true
+      among_essential : list_any is_essential (statement_at db j) ≡ true
           → is_member (flat_map (formula_at db) (active_of is_essential db k)) x ≡ true
-      among g =
+      among_essential g =
           any_flat_map (λ y. x == y) (formula_at db) (active_of is_essential db k)
           ∙ any_filter is_essential_at (λ i. is_member (formula_at db i) x) (active db k)
           ∙ active_found db k (λ i. is_essential_at i && is_member (formula_at db i) x) j a
           (and_from (is_essential_at j) (is_member (formula_at db j) x) g h)
 
-      alone : (y : ℕ) → Types j y → x ≡ y
-      alone y t =
-          one (or_cases (x == t.typecode) ((x == y) || false)
+      is_its_variable : (y : ℕ) → Types j y → x ≡ y
+      is_its_variable y t =
+          typecode_or_variable (or_cases (x == t.typecode) ((x == y) || false)
           (ap (λ g. is_member g x) (sym t.is) ∙ h))
         where
-          one : ((x == t.typecode) ≡ true) ⊎ (((x == y) || false) ≡ true) → x ≡ y
-          one (inl g) =
+          typecode_or_variable : ((x == t.typecode) ≡ true) ⊎ (((x == y) || false) ≡ true) → x ≡ y
+          typecode_or_variable (inl g) =
               absurd (true≢false
               (sym v ∙ ap (is_variable_number db) (eqb-true x t.typecode g) ∙ t.constant))
-          one (inr g) = eqb-true x y (lone (x == y) g)
+          typecode_or_variable (inr g) = eqb-true x y (passes_alone (x == y) g)
 
-      typed_one : (y : ℕ) → Types j y
+      mandatory_if_typed : (y : ℕ) → Types j y
           → list_any (is_member (mandatory_variables db k)) (formula_at db j) ≡ true
           → is_member (mandatory_variables db k) x ≡ true
-      typed_one y t g =
-          one (or_cases (is_member (mandatory_variables db k) t.typecode)
+      mandatory_if_typed y t g =
+          typecode_or_variable (or_cases (is_member (mandatory_variables db k) t.typecode)
           (is_member (mandatory_variables db k) y || false)
           (ap (list_any (is_member (mandatory_variables db k))) (sym t.is) ∙ g))
         where
           more : List ℕ
           more = flat_map (formula_at db) (active_of is_essential db k)
 
-          one : (is_member (mandatory_variables db k) t.typecode ≡ true)
+          typecode_or_variable : (is_member (mandatory_variables db k) t.typecode ≡ true)
               ⊎ ((is_member (mandatory_variables db k) y || false) ≡ true)
               → is_member (mandatory_variables db k) x ≡ true
-          one (inl g) =
+          typecode_or_variable (inl g) =
               absurd (true≢false
               (sym (member_filter (is_variable_number db) (formula_at db k ++ more) t.typecode g).0
               ∙ t.constant))
-          one (inr g) =
-              ap (is_member (mandatory_variables db k)) (alone y t)
-              ∙ lone (is_member (mandatory_variables db k) y) g
+          typecode_or_variable (inr g) =
+              ap (is_member (mandatory_variables db k)) (is_its_variable y t)
+              ∙ passes_alone (is_member (mandatory_variables db k) y) g
 
       by_kind : (list_any is_essential (statement_at db j) ≡ true)
           ⊎ ((list_any is_floating (statement_at db j)
@@ -252,14 +253,14 @@ module _ (db : List Statement) (lawful : (k : ℕ) → k < length db → IsLawfu
           let more = flat_map (formula_at db) (active_of is_essential db k) in
           filter_member (is_variable_number db) (formula_at db k ++ more) x v
           (list_any-append (λ y. x == y) (formula_at db k) more
-          ∙ or_right (is_member (formula_at db k) x) (is_member more x) (among g))
+          ∙ or_right (is_member (formula_at db k) x) (is_member more x) (among_essential g))
       by_kind (inr g) =
           let p =
           and_parts (list_any is_floating (statement_at db j))
           (list_any (is_member (mandatory_variables db k)) (formula_at db j)) g in
           let s = found_at db is_floating j p.0 in
           let y = typing j s.0 s.1 s.2 in
-          typed_one (index_of y.0 (symbol_names db)) y.1 p.1
+          mandatory_if_typed (index_of y.0 (symbol_names db)) y.1 p.1
 
   -- both variables of a mandatory pair are
   pub of_pair : (k : ℕ) (p : Pair) → is_mandatory_pair db k p ≡ true
@@ -338,22 +339,22 @@ module _ (db : List Statement) (lawful : (k : ℕ) → k < length db → IsLawfu
   pub lawful_complete : AreComplete db
   lawful_complete m k = by_activity (is_active db k m)
     where
-      of : (s : Statement) → slice_get db k ≡ Some s
+      by_statement : (s : Statement) → slice_get db k ≡ Some s
           → HasCompleteFrame (context_at db m) (rule_of db k s)
-      of (axiomatic l p xs d) e = complete m k (axiomatic l p xs d) e refl
-      of (provable l p xs q ps d) e = complete m k (provable l p xs q ps d) e refl
-      of (floating l p xs d) e = tt
-      of (essential l p xs d) e = tt
-      of (constants p xs d) e = tt
-      of (variables p xs d) e = tt
-      of (disjoint p xs d) e = tt
-      of (opening p) e = tt
-      of (closing p) e = tt
+      by_statement (axiomatic l p xs d) e = complete m k (axiomatic l p xs d) e refl
+      by_statement (provable l p xs q ps d) e = complete m k (provable l p xs q ps d) e refl
+      by_statement (floating l p xs d) e = tt
+      by_statement (essential l p xs d) e = tt
+      by_statement (constants p xs d) e = tt
+      by_statement (variables p xs d) e = tt
+      by_statement (disjoint p xs d) e = tt
+      by_statement (opening p) e = tt
+      by_statement (closing p) e = tt
 
       at_k : (o : Option Statement) → slice_get db k ≡ o
           → HasCompleteFrame (context_at db m) (elim o [ None ↦ None | Some s ↦ rule_of db k s ])
       at_k None e = tt
-      at_k (Some s) e = of s e
+      at_k (Some s) e = by_statement s e
 
       by_activity : (b : Bool)
           → HasCompleteFrame (context_at db m)

@@ -14,7 +14,7 @@ use Rattle.mm_spec.specs.Statement.{Statement}
 use Rattle.mm_spec.specs.Scope.{is_active, active, statement_at}
 use Rattle.mm_spec.specs.Frame.{formula_of, formula_at}
 use Rattle.mm_spec.specs.Derivation.{is_member}
-use Rattle.mm_spec.proofs.BoolLaw.{lone}
+use Rattle.mm_spec.proofs.BoolLaw.{passes_alone}
 
 -- ---- tests of lists
 
@@ -44,8 +44,8 @@ any_range p (suc n) a e =
     at_first_or_later : (p a ≡ true) ⊎ (list_any p (range_with_len (a + 1) n) ≡ true)
         → (list_any p (range_with_len (a + 1) n) ≡ true → (i : ℕ) × (p i ≡ true))
         → (i : ℕ) × (p i ≡ true)
-    at_first_or_later (inl h) on = (a, h)
-    at_first_or_later (inr h) on = on h
+    at_first_or_later (inl h) of_the_rest = (a, h)
+    at_first_or_later (inr h) of_the_rest = of_the_rest h
 
 pub range_any : (p : ℕ → Bool) (n a i : ℕ) → a ≤ i → i < a + n → p i ≡ true
     → list_any p (range_with_len a n) ≡ true
@@ -56,9 +56,10 @@ range_any p (suc n) a i l h e =
   where
     at_first_or_later : (a ≡ i) ⊎ (a < i) → (a < i → list_any p (range_with_len (a + 1) n) ≡ true)
         → (p a || list_any p (range_with_len (a + 1) n)) ≡ true
-    at_first_or_later (inl s) on =
+    at_first_or_later (inl s) of_the_rest =
         or_left (p a) (list_any p (range_with_len (a + 1) n)) (subst (λ x. p x ≡ true) (sym s) e)
-    at_first_or_later (inr s) on = or_right (p a) (list_any p (range_with_len (a + 1) n)) (on s)
+    at_first_or_later (inr s) of_the_rest =
+        or_right (p a) (list_any p (range_with_len (a + 1) n)) (of_the_rest s)
 
 -- ---- members
 
@@ -76,13 +77,14 @@ member_filter t xs x e = passes_and_is_member xs (sym (any_filter t (λ y. x == 
         at_first_or_later : ((t y && (x == y)) ≡ true) ⊎ (list_any (λ y. t y && (x == y)) ys ≡ true)
             → (list_any (λ y. t y && (x == y)) ys ≡ true → (t x ≡ true) × (is_member ys x ≡ true))
             → (t x ≡ true) × (((x == y) || is_member ys x) ≡ true)
-        at_first_or_later (inl k) on =
+        at_first_or_later (inl k) of_the_rest =
             let p = and_parts (t y) (x == y) k in (
               subst (λ z. t z ≡ true) (sym (eqb-true x y p.1)) p.0,
               or_left (x == y)
                   (is_member ys x) p.1,
             )
-        at_first_or_later (inr k) on = let r = on k in (r.0, or_right (x == y) (is_member ys x) r.1)
+        at_first_or_later (inr k) of_the_rest =
+            let r = of_the_rest k in (r.0, or_right (x == y) (is_member ys x) r.1)
 
 pub filter_member : (t : ℕ → Bool) (xs : List ℕ) (x : ℕ) → t x ≡ true → is_member xs x ≡ true
     → is_member (filter t xs) x ≡ true
@@ -130,7 +132,7 @@ formula_at_is db i s e =
 pub found_at : (db : List Statement) (q : Statement → Bool) (i : ℕ)
     → list_any q (statement_at db i) ≡ true
     → (s : Statement) × (slice_get db i ≡ Some s) × (q s ≡ true)
-found_at db q i e = grind (arith, common_steps, lone)
+found_at db q i e = grind (arith, common_steps, passes_alone)
 
 pub at_found : (db : List Statement) (q : Statement → Bool) (i : ℕ) (s : Statement)
     → slice_get db i ≡ Some s → q s ≡ true → list_any q (statement_at db i) ≡ true
@@ -169,8 +171,8 @@ declared f (x ∷ db) w e =
         → (is_in w (flat_map f db) ≡ true
         → (i : ℕ) × (s : Statement) × (slice_get db i ≡ Some s) × (is_in w (f s) ≡ true))
         → (i : ℕ) × (s : Statement) × (slice_get (x ∷ db) i ≡ Some s) × (is_in w (f s) ≡ true)
-    in_first_or_later (inl h) on = (0, x, refl, h)
-    in_first_or_later (inr h) on = let r = on h in (suc r.0, r.1, r.2, r.3)
+    in_first_or_later (inl h) of_the_rest = (0, x, refl, h)
+    in_first_or_later (inr h) of_the_rest = let r = of_the_rest h in (suc r.0, r.1, r.2, r.3)
 
 -- it is declared before each later place
 pub declares : (f : Statement → List Bytes) (db : List Statement) (k i : ℕ) (s : Statement)
@@ -197,5 +199,6 @@ declared_before f (x ∷ db) (suc k) w e =
     in_first_or_later : (is_in w (f x) ≡ true) ⊎ (is_in w (flat_map f (take k db)) ≡ true)
         → (is_in w (flat_map f (take k db)) ≡ true → is_in w (flat_map f db) ≡ true)
         → (is_in w (f x) || is_in w (flat_map f db)) ≡ true
-    in_first_or_later (inl h) on = or_left (is_in w (f x)) (is_in w (flat_map f db)) h
-    in_first_or_later (inr h) on = or_right (is_in w (f x)) (is_in w (flat_map f db)) (on h)
+    in_first_or_later (inl h) of_the_rest = or_left (is_in w (f x)) (is_in w (flat_map f db)) h
+    in_first_or_later (inr h) of_the_rest =
+        or_right (is_in w (f x)) (is_in w (flat_map f db)) (of_the_rest h)

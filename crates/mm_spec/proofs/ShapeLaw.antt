@@ -27,6 +27,7 @@ use Rattle.mm_spec.proofs.FollowedLaw.{next}
 
 -- ---- what is followed begins a list
 
+-- what the class says of the word
 abbrev pub Meaning : Class → Bytes → Type 0
 Meaning constant_keyword w = w ≡ codes "$c"
 Meaning variable_keyword w = w ≡ codes "$v"
@@ -76,8 +77,9 @@ pub record Balanced (d : ℕ) (list : List Statement) : Type 0 where
   pub are_statements : AreStatements list
   pub count : d + count_by is_closing list ≡ count_by is_opening list
 
-pub none_yet : Balanced 0 []
-none_yet = record { are_statements = record { whole = refl; nested = none_closed }; count = refl }
+pub balanced_nothing : Balanced 0 []
+balanced_nothing =
+    record { are_statements = record { whole = refl; nested = none_closed }; count = refl }
   where
     none_closed : (n : ℕ) → count_by is_closing (take n []) ≤ count_by is_opening (take n [])
     none_closed zero = omega arith
@@ -87,9 +89,10 @@ pub count_end : (p : Statement → Bool) (list : List Statement) (s : Statement)
     → count_by p (list ++ s ∷ []) ≡ count_by p list + cond (p s) 1 0
 count_end p list s = grind (arith, common_steps, sum_by-append, zero-add)
 
-pub one_more : (d : ℕ) (list : List Statement) (s : Statement) → Balanced d list → is_complete s ≡ true
+pub balanced_more : (d : ℕ) (list : List Statement) (s : Statement) → Balanced d list
+    → is_complete s ≡ true
     → (is_closing s ≡ true → 0 < d) → Balanced (depth_following s d) (list ++ s ∷ [])
-one_more d list s b w h = record {
+balanced_more d list s b w h = record {
   are_statements =
       record {
         whole = list_all-append is_complete list (s ∷ [])
@@ -130,7 +133,7 @@ one_more d list s b w h = record {
             ))
 
 -- part of a statement: of one of several words after the keyword, of a formula and of a proof
-pub record Words (part : List Token) : Type 0 where
+pub record WordsPart (part : List Token) : Type 0 where
   pub front : List Token
   pub words : List Token
   pub are_plain : is_plain words ≡ true
@@ -138,8 +141,8 @@ pub record Words (part : List Token) : Type 0 where
   pub spells : (ws : List Token) (k : ℕ)
       → spelling_of (make ws k) ≡ front ++ (ws ++ token k (codes "$.") ∷ [])
   pub whole : (ws : List Token) (k : ℕ) → is_plain ws ≡ true → is_complete (make ws k) ≡ true
-  pub stays : (ws : List Token) (k d : ℕ) → depth_following (make ws k) d ≡ d
-  pub flat : (ws : List Token) (k : ℕ) → is_closing (make ws k) ≡ false
+  pub keeps_depth : (ws : List Token) (k d : ℕ) → depth_following (make ws k) d ≡ d
+  pub not_closing : (ws : List Token) (k : ℕ) → is_closing (make ws k) ≡ false
   pub is : part ≡ front ++ words
 
 pub record FormulaPart (part : List Token) : Type 0 where
@@ -157,13 +160,15 @@ depth_of (in_symbols d) = d
 depth_of (in_formula d) = d
 depth_of (in_proof d) = d
 
+-- the tokens are a part of a statement after which the reading stands in this state
 abbrev pub IsPartAt : State → List Token → Type 0
 IsPartAt (at_start d) part = part ≡ []
 IsPartAt (at_label d) part = (l : Token) × (is_label l.word ≡ true) × (part ≡ l ∷ [])
-IsPartAt (in_symbols d) part = Words part
+IsPartAt (in_symbols d) part = WordsPart part
 IsPartAt (in_formula d) part = FormulaPart part
-IsPartAt (in_proof d) part = Words part
+IsPartAt (in_proof d) part = WordsPart part
 
+-- the tokens are whole statements and a part of one, with which the reading stands in this state
 pub record Reads (q : State) (ts : List Token) : Type 0 where
   pub statements : List Statement
   pub balanced : Balanced (depth_of q) statements
@@ -182,7 +187,7 @@ closes : (d : ℕ) (ts : List Token) (list : List Statement) (part : List Token)
     → depth_following s d ≡ e → Reads (at_start e) (ts ++ t ∷ [])
 closes d ts list part s b is w h t sp e at = record {
   statements = list ++ s ∷ [];
-  balanced = subst (λ k. Balanced k (list ++ s ∷ [])) at (one_more d list s b w h);
+  balanced = subst (λ k. Balanced k (list ++ s ∷ [])) at (balanced_more d list s b w h);
   part = [];
   is_part = refl;
   is =
@@ -218,16 +223,17 @@ opens : (d : ℕ) (ts : List Token) (x : Reads (at_start d) ts) (t : Token) (w :
     → ((ws : List Token) (k e : ℕ) → depth_following (make ws k) e ≡ e)
     → ((ws : List Token) (k : ℕ) → is_closing (make ws k) ≡ false)
     → Reads (in_symbols d) (ts ++ t ∷ [])
-opens d ts x t w m make sp wh st fl = goes_on (at_start d) (in_symbols d) ts x t refl
+opens d ts x t w m make spells whole keeps_depth not_closing =
+    goes_on (at_start d) (in_symbols d) ts x t refl
     (record {
       front = token t.at w ∷ [];
       words = [];
       are_plain = refl;
       make = make;
-      spells = sp;
-      whole = wh;
-      stays = st;
-      flat = fl;
+      spells = spells;
+      whole = whole;
+      keeps_depth = keeps_depth;
+      not_closing = not_closing;
       is = ap₂ (λ p v. p ++ token t.at v ∷ []) x.is_part m;
     })
 
@@ -239,22 +245,23 @@ opens_labelled : (d : ℕ) (ts : List Token) (x : Reads (at_label d) ts) (t : To
     → ((ws : List Token) (k e : ℕ) → depth_following (make ws k) e ≡ e)
     → ((ws : List Token) (k : ℕ) → is_closing (make ws k) ≡ false)
     → Reads (in_symbols d) (ts ++ t ∷ [])
-opens_labelled d ts x t w m make sp wh st fl = goes_on (at_label d) (in_symbols d) ts x t refl
+opens_labelled d ts x t w m make spells whole keeps_depth not_closing =
+    goes_on (at_label d) (in_symbols d) ts x t refl
     (record {
       front = x.is_part.0 ∷ token t.at w ∷ [];
       words = [];
       are_plain = refl;
       make = make;
-      spells = sp;
-      whole = wh;
-      stays = st;
-      flat = fl;
+      spells = spells;
+      whole = whole;
+      keeps_depth = keeps_depth;
+      not_closing = not_closing;
       is = ap₂ (λ p v. p ++ token t.at v ∷ []) x.is_part.2 m;
     })
 
 -- a word more, and the end
-words_more : (part : List Token) (p : Words part) (t : Token) → has_dollar t.word ≡ false
-    → Words (part ++ t ∷ [])
+words_more : (part : List Token) (p : WordsPart part) (t : Token) → has_dollar t.word ≡ false
+    → WordsPart (part ++ t ∷ [])
 words_more part p t h = record {
   front = p.front;
   words = p.words ++ t ∷ [];
@@ -262,12 +269,13 @@ words_more part p t h = record {
   make = p.make;
   spells = p.spells;
   whole = p.whole;
-  stays = p.stays;
-  flat = p.flat;
+  keeps_depth = p.keeps_depth;
+  not_closing = p.not_closing;
   is = ap (λ y. y ++ t ∷ []) p.is ∙ append_assoc p.front p.words (t ∷ []);
 }
 
-words_end : (d : ℕ) (ts : List Token) (list : List Statement) (part : List Token) (p : Words part)
+words_end : (d : ℕ) (ts : List Token) (list : List Statement) (part : List Token)
+    (p : WordsPart part)
     → Balanced d list → ts ≡ flat_map spelling_of list ++ part → (t : Token) → t.word ≡ codes "$."
     → Reads (at_start d) (ts ++ t ∷ [])
 words_end d ts list part p b is t m =
@@ -276,7 +284,8 @@ words_end d ts list part p b is t m =
     p.spells p.words t.at ∙ sym (append_assoc p.front p.words (token t.at (codes "$.") ∷ []))
     ∙ ap₂ (λ y v. y ++ token t.at v ∷ []) (sym p.is) (sym m) in
     closes d ts list part s b is (p.whole p.words t.at p.are_plain)
-    (λ e. absurd (true≢false (sym e ∙ p.flat p.words t.at))) t sp d (p.stays p.words t.at d)
+    (λ e. absurd (true≢false (sym e ∙ p.not_closing p.words t.at))) t sp d
+    (p.keeps_depth p.words t.at d)
 
 pub and_true : (b : Bool) → b ≡ true → (b && true) ≡ true
 and_true b e = ap (λ x. x && true) e
@@ -353,8 +362,8 @@ reads_next (in_formula d) ts x t equals m =
           (sym (append_assoc p.words (token t.at (codes "$=") ∷ [])
           (ws ++ token k (codes "$.") ∷ [])));
       whole = λ ws k e. ap₂ (λ a b. a && b) (ap₂ (λ a b. a && b) p.is_labelled p.are_plain) e;
-      stays = λ ws k e. refl;
-      flat = λ ws k. refl;
+      keeps_depth = λ ws k e. refl;
+      not_closing = λ ws k. refl;
       is = ap₂ (λ y v. y ++ token t.at v ∷ []) p.is m ∙ sym (append-nil _);
     })
 reads_next (in_proof d) ts x t plain m =
@@ -369,17 +378,17 @@ follow_reads (u ∷ us) ts q x =
     by_state (next q (class u.word) u.word) (reads_next q ts x u (class u.word) (meaning u.word))
     (λ r y. follow_reads us (ts ++ u ∷ []) r y)
   where
-    lost : (vs : List Token) (all : List Token) → Reaches (follow None vs) all
-    lost [] all = tt
-    lost (v ∷ vs) all = tt
+    none_reaches : (vs : List Token) (all : List Token) → Reaches (follow None vs) all
+    none_reaches [] all = tt
+    none_reaches (v ∷ vs) all = tt
 
     by_state : (o : Option State) → Reaches o (ts ++ u ∷ [])
         → ((r : State) → Reads r (ts ++ u ∷ [])
         → Reaches (follow (Some r) us) ((ts ++ u ∷ []) ++ us))
         → Reaches (follow o us) (ts ++ u ∷ us)
-    by_state None y on = lost us (ts ++ u ∷ us)
-    by_state (Some r) y on =
-        subst (Reaches (follow (Some r) us)) (append_assoc ts (u ∷ []) us) (on r y)
+    by_state None y of_the_rest = none_reaches us (ts ++ u ∷ us)
+    by_state (Some r) y of_the_rest =
+        subst (Reaches (follow (Some r) us)) (append_assoc ts (u ∷ []) us) (of_the_rest r y)
 
 -- what was read can be ended
 ended : (d : ℕ) (ts : List Token) (list : List Statement) (part : List Token) (s : Statement)
@@ -388,18 +397,18 @@ ended : (d : ℕ) (ts : List Token) (list : List Statement) (part : List Token) 
     → BeginStatements ts
 ended d ts list part s b is w h rest sp = (
   list ++ s ∷ [],
-  (one_more d list s b w h).are_statements,
+  (balanced_more d list s b w h).are_statements,
   rest,
   flat_map-append spelling_of list (s ∷ [])
       ∙ ap (λ x. flat_map spelling_of list ++ x) (append-nil (spelling_of s) ∙ sp)
       ∙ sym (append_assoc (flat_map spelling_of list) part rest) ∙ ap (λ x. x ++ rest) (sym is),
 )
 
-words_ended : (d : ℕ) (ts : List Token) (list : List Statement) (part : List Token) → Words part
+words_ended : (d : ℕ) (ts : List Token) (list : List Statement) (part : List Token) → WordsPart part
     → Balanced d list → ts ≡ flat_map spelling_of list ++ part → BeginStatements ts
 words_ended d ts list part p b is =
     ended d ts list part (p.make p.words 0) b is (p.whole p.words 0 p.are_plain)
-    (λ e. absurd (true≢false (sym e ∙ p.flat p.words 0))) (token 0 (codes "$.") ∷ [])
+    (λ e. absurd (true≢false (sym e ∙ p.not_closing p.words 0))) (token 0 (codes "$.") ∷ [])
     (p.spells p.words 0 ∙ sym (append_assoc p.front p.words (token 0 (codes "$.") ∷ []))
     ∙ ap (λ y. y ++ token 0 (codes "$.") ∷ []) (sym p.is))
 
@@ -426,7 +435,8 @@ reads_begins (in_formula d) ts x = let p = x.is_part in
 reads_begins (in_proof d) ts x = words_ended d ts x.statements x.part x.is_part x.balanced x.is
 
 pub reads_none : Reads (at_start 0) []
-reads_none = record { statements = []; balanced = none_yet; part = []; is_part = refl; is = refl }
+reads_none =
+    record { statements = []; balanced = balanced_nothing; part = []; is_part = refl; is = refl }
 
 -- some list begins with the tokens exactly where the table goes through them
 pub begins_exact : (ts : List Token)

@@ -9,7 +9,8 @@ use Rattle.mm_spec.specs.Derivation.{none, more, formulas, postfix, AreDerivatio
 use Rattle.mm_spec.specs.Steps.{Step, label, marked}
 use Rattle.mm_spec.specs.Valid.{Reason, StepFails, Adds, Plain}
 use Rattle.mm_spec.specs.Laws.Complete.{HasCompleteFrame}
-use Rattle.mm_spec.proofs.MachineLaw.{Failed, proceed, AreGood, Made, makes, grown}
+use Rattle.mm_spec.proofs.MachineLaw.{RunFailure, proceed, AreGood, StepOutcome, step_outcome}
+use Rattle.mm_spec.proofs.MachineLaw.{forest_grown}
 use Rattle.mm_spec.specs.Laws.Stack.{IsCompleteRule, top, IsLastFormula, EndsInFormula}
 use Rattle.mm_spec.specs.Laws.Stack.{step_entries, IsGoodStep}
 use Rattle.mm_spec.specs.Laws.Stack.{AreGoodSteps}
@@ -58,14 +59,14 @@ module _ (c : Context) where
   after_more (y ∷ ys) (g ∷ gs) x f b h = (b.0, after_more ys gs x f b.1 h)
 
   -- the run over steps; ends are the formulas after the steps so far
-  abbrev pub run_steps : List Formula → List Step → List Formula → Result (List Formula) Failed
+  abbrev pub run_steps : List Formula → List Step → List Formula → Result (List Formula) RunFailure
   run_steps ends [] es = Ok es
   run_steps ends (s ∷ steps) es =
       proceed (step_entries c s ends es) (length ends)
       (λ out. run_steps (ends ++ top out ∷ []) steps out)
 
   -- a step that fails after a forest
-  pub record StoppedStep (lists : List (List ℕ)) (old : List ℕ) (steps : List Step)
+  pub record StoppedSteps (lists : List (List ℕ)) (old : List ℕ) (steps : List Step)
       (reason : Reason) : Type 0 where
     pub before : List Step
     pub first : Step
@@ -78,18 +79,19 @@ module _ (c : Context) where
     pub is : postfix forest ≡ labels
     pub fails : StepFails c first (formulas forest) reason
 
-  abbrev pub RanSteps : List (List ℕ) → List ℕ → List Step → Result (List Formula) Failed → Type 0
-  RanSteps lists old steps (Ok out) =
+  abbrev pub StepsOutcome : List (List ℕ) → List ℕ → List Step → Result (List Formula) RunFailure
+      → Type 0
+  StepsOutcome lists old steps (Ok out) =
       (all : List ℕ) × Plain c lists old steps all × (forest : Trees) × AreDerivations c forest
       × (postfix forest ≡ all) × (formulas forest ≡ out)
-  RanSteps lists old steps (Err e) = StoppedStep lists old steps e.reason
+  StepsOutcome lists old steps (Err e) = StoppedSteps lists old steps e.reason
 
   -- a step after a forest is one more tree, or fails
-  abbrev pub Grown : List (List ℕ) → Trees → Step → Result (List Formula) Reason → Type 0
-  Grown lists forest s (Ok out) =
+  abbrev pub GrownForest : List (List ℕ) → Trees → Step → Result (List Formula) Reason → Type 0
+  GrownForest lists forest s (Ok out) =
       (next : Trees) × AreDerivations c next × Adds c lists (postfix forest) s (postfix next)
       × (formulas next ≡ out) × IsLastFormula next (top out)
-  Grown lists forest s (Err reason) = StepFails c s (formulas forest) reason
+  GrownForest lists forest s (Err reason) = StepFails c s (formulas forest) reason
 
   last_top : (forest : Trees) (fs : List Formula) (f : Formula) → formulas forest ≡ fs ++ f ∷ []
       → IsLastFormula forest (top (formulas forest))
@@ -98,23 +100,26 @@ module _ (c : Context) where
   last_top (more ts l f cs) fs g e = sym (top_append (formulas ts) f)
 
   grows_label : (lists : List (List ℕ)) (forest : Trees) (l : ℕ) (r : Result (List Formula) Reason)
-      → AreDerivations c forest → Made c (c.rule l) (formulas forest) r → Grown lists forest (label l) r
-  grows_label lists forest l (Err reason) d made = made
-  grows_label lists forest l (Ok out) d made = grind (arith, common_steps, grown, last_top)
+      → AreDerivations c forest → StepOutcome c (c.rule l) (formulas forest) r
+      → GrownForest lists forest (label l) r
+  grows_label lists forest l (Err reason) d outcome = outcome
+  grows_label lists forest l (Ok out) d outcome =
+      grind (arith, common_steps, forest_grown, last_top)
 
   -- a marked step adds a copy of the last tree of an earlier forest
   grows_marked : (lists : List (List ℕ)) (ends : List Formula) (forest : Trees) (j : ℕ)
       → AreDerivations c forest → AllZip (EndsInFormula c) lists ends → j < length ends
-      → Grown lists forest (marked j) (step_entries c (marked j) ends (formulas forest))
+      → GrownForest lists forest (marked j) (step_entries c (marked j) ends (formulas forest))
   grows_marked lists ends forest j d b h =
       let at = after_at lists ends j b h in
-      subst (λ o. Grown lists forest (marked j)
+      subst (λ o. GrownForest lists forest (marked j)
       (elim o [ None ↦ Ok (formulas forest) | Some f ↦ Ok (formulas forest ++ f ∷ []) ])) (sym at.3)
       (copy at.4.0 at.4.1 at.4.2 at.4.3)
     where
       copy : (then : Trees) → AreDerivations c then → postfix then ≡ (after_at lists ends j b h).0
           → IsLastFormula then (after_at lists ends j b h).1
-          → Grown lists forest (marked j) (Ok (formulas forest ++ (after_at lists ends j b h).1 ∷ []))
+          → GrownForest lists forest (marked j)
+          (Ok (formulas forest ++ (after_at lists ends j b h).1 ∷ []))
       copy none e p last = absurd last
       copy (more ts l f cs) e p last =
           let at = after_at lists ends j b h in
@@ -130,27 +135,31 @@ module _ (c : Context) where
 
   pub grows : (lists : List (List ℕ)) (ends : List Formula) (forest : Trees) (s : Step)
       → AreDerivations c forest → AllZip (EndsInFormula c) lists ends → IsGoodStep c (length ends) s
-      → Grown lists forest s (step_entries c s ends (formulas forest))
-  grows lists ends forest (label l) d b good = grind (arith, common_steps, grows_label, makes)
+      → GrownForest lists forest s (step_entries c s ends (formulas forest))
+  grows lists ends forest (label l) d b good =
+      grind (arith, common_steps, grows_label, step_outcome)
   grows lists ends forest (marked j) d b good = grows_marked lists ends forest j d b good
 
   -- what a run over steps means
-  pub means_steps : (steps : List Step) (lists : List (List ℕ)) (ends : List Formula) (forest : Trees)
+  pub steps_outcome : (steps : List Step) (lists : List (List ℕ)) (ends : List Formula)
+      (forest : Trees)
       → AreDerivations c forest → AllZip (EndsInFormula c) lists ends
       → AreGoodSteps c (length ends) steps
-      → RanSteps lists (postfix forest) steps (run_steps ends steps (formulas forest))
-  means_steps [] lists ends forest d b good = (postfix forest, refl, forest, d, refl, refl)
-  means_steps (s ∷ steps) lists ends forest d b good =
+      → StepsOutcome lists (postfix forest) steps (run_steps ends steps (formulas forest))
+  steps_outcome [] lists ends forest d b good = (postfix forest, refl, forest, d, refl, refl)
+  steps_outcome (s ∷ steps) lists ends forest d b good =
       by_result (step_entries c s ends (formulas forest)) (grows lists ends forest s d b good.0)
-      (λ next f e h. means_steps steps (lists ++ postfix next ∷ []) (ends ++ f ∷ []) next e
+      (λ next f e h. steps_outcome steps (lists ++ postfix next ∷ []) (ends ++ f ∷ []) next e
       (after_more lists ends (postfix next) f b (next, e, refl, h))
       (subst (λ n. AreGoodSteps c n steps) (one_more f) good.1))
     where
       one_more : (f : Formula) → suc (length ends) ≡ length (ends ++ f ∷ [])
       one_more f = omega (arith, length-append ends (f ∷ []))
 
-      later : (new : List ℕ) → Adds c lists (postfix forest) s new → (r : Result (List Formula) Failed)
-          → RanSteps (lists ++ new ∷ []) new steps r → RanSteps lists (postfix forest) (s ∷ steps) r
+      later : (new : List ℕ) → Adds c lists (postfix forest) s new
+          → (r : Result (List Formula) RunFailure)
+          → StepsOutcome (lists ++ new ∷ []) new steps r
+          → StepsOutcome lists (postfix forest) (s ∷ steps) r
       later new adds (Ok out) h = (h.0, (new, adds, h.1), h.2, h.3, h.4, h.5)
       later new adds (Err e) h = record {
         before = s ∷ h.before;
@@ -165,13 +174,13 @@ module _ (c : Context) where
         fails = h.fails;
       }
 
-      by_result : (r : Result (List Formula) Reason) → Grown lists forest s r
+      by_result : (r : Result (List Formula) Reason) → GrownForest lists forest s r
           → ((next : Trees) (f : Formula) → AreDerivations c next → IsLastFormula next f
-          → RanSteps (lists ++ postfix next ∷ []) (postfix next) steps
+          → StepsOutcome (lists ++ postfix next ∷ []) (postfix next) steps
           (run_steps (ends ++ f ∷ []) steps (formulas next)))
-          → RanSteps lists (postfix forest) (s ∷ steps)
+          → StepsOutcome lists (postfix forest) (s ∷ steps)
           (proceed r (length ends) (λ out. run_steps (ends ++ top out ∷ []) steps out))
-      by_result (Err reason) h on =
+      by_result (Err reason) h of_the_rest =
           record {
             before = [];
             first = s;
@@ -184,7 +193,7 @@ module _ (c : Context) where
             is = refl;
             fails = h;
           }
-      by_result (Ok out) h on =
+      by_result (Ok out) h of_the_rest =
           later (postfix h.0) h.2 (run_steps (ends ++ top out ∷ []) steps out)
-          (subst (λ x. RanSteps (lists ++ postfix h.0 ∷ []) (postfix h.0) steps
-          (run_steps (ends ++ top out ∷ []) steps x)) h.3 (on h.0 (top out) h.1 h.4))
+          (subst (λ x. StepsOutcome (lists ++ postfix h.0 ∷ []) (postfix h.0) steps
+          (run_steps (ends ++ top out ∷ []) steps x)) h.3 (of_the_rest h.0 (top out) h.1 h.4))

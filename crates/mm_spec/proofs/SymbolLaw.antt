@@ -27,7 +27,7 @@ use Rattle.mm_spec.proofs.FaultlessLaw.{each_none}
 pub data IsNamed (n : Names) (s : Statement) (w : Bytes) : Type 0 where
   constant : is_in w n.constants ≡ true → IsNamed n s w
   variable : is_in w n.active_variables ≡ true → IsNamed n s w
-  own : is_in w (constants_of s ++ variables_of s) ≡ true → IsNamed n s w
+  own_symbol : is_in w (constants_of s ++ variables_of s) ≡ true → IsNamed n s w
 
 formula_named : (n : Names) (s : Statement) (xs : List Token) (end : ℕ)
     → formula_faults n xs end ≡ [] → (w : Bytes) → is_in w (words xs) ≡ true → IsNamed n s w
@@ -35,9 +35,6 @@ formula_named n s [] end e w m = absurd (true≢false (sym m))
 formula_named n s (t ∷ ts) end e w m =
     at_first_or_later (or_cases (bytes_eq w t.word) (is_in w (words ts)) m)
   where
-    first : List Fault
-    first = at t.at (when (not (is_in t.word n.constants)) BadTypecode)
-
     at_first_or_later : (bytes_eq w t.word ≡ true) ⊎ (is_in w (words ts) ≡ true) → IsNamed n s w
     at_first_or_later (inl h) =
         constant
@@ -72,34 +69,34 @@ floating_named n s keyword (c ∷ v ∷ x ∷ xs) e w m = absurd (cc)
 floating_named n s keyword (c ∷ v ∷ []) e w m =
     typecode_or_variable (or_cases (bytes_eq w c.word) (bytes_eq w v.word || false) m)
   where
-    both : (b : Bool) (fs : List Fault)
+    not_bad_floating : (b : Bool) (fs : List Fault)
         → ◌≡◌ {A = List Fault} (elim b [ true ↦ fs | false ↦ fault keyword BadFloating ∷ [] ]) []
         → b ≡ true
-    both true fs e = refl
-    both false fs e = absurd (cc)
+    not_bad_floating true fs e = refl
+    not_bad_floating false fs e = absurd (cc)
 
-    parts : (is_in c.word n.constants ≡ true) × (is_in v.word n.active_variables ≡ true)
-    parts =
+    are_declared : (is_in c.word n.constants ≡ true) × (is_in v.word n.active_variables ≡ true)
+    are_declared =
         and_parts (is_in c.word n.constants) (is_in v.word n.active_variables)
-        (both (is_in c.word n.constants && is_in v.word n.active_variables) _ e)
+        (not_bad_floating (is_in c.word n.constants && is_in v.word n.active_variables) _ e)
 
     typecode_or_variable : (bytes_eq w c.word ≡ true) ⊎ ((bytes_eq w v.word || false) ≡ true)
         → IsNamed n s w
     typecode_or_variable (inl h) =
-        constant (ap (λ u. is_in u n.constants) (same_word w c.word h) ∙ parts.0)
+        constant (ap (λ u. is_in u n.constants) (same_word w c.word h) ∙ are_declared.0)
     typecode_or_variable (inr h) = at_variable (or_cases (bytes_eq w v.word) false h)
       where
         at_variable : (bytes_eq w v.word ≡ true) ⊎ (false ≡ true) → IsNamed n s w
         at_variable (inl h) =
-            variable (ap (λ u. is_in u n.active_variables) (same_word w v.word h) ∙ parts.1)
+            variable (ap (λ u. is_in u n.active_variables) (same_word w v.word h) ∙ are_declared.1)
         at_variable (inr h) = absurd (true≢false (sym h))
 
 -- each symbol of a statement without a fault of scope
 pub named : (n : Names) (d : ℕ) (s : Statement) → scope_faults n d s ≡ [] → (w : Bytes)
     → is_in w (words (symbols_of s)) ≡ true → IsNamed n s w
 named n d (constants k xs e) f w m =
-    own (list_any-append (bytes_eq w) (words xs) [] ∙ or_left (is_in w (words xs)) false m)
-named n d (variables k xs e) f w m = own m
+    own_symbol (list_any-append (bytes_eq w) (words xs) [] ∙ or_left (is_in w (words xs)) false m)
+named n d (variables k xs e) f w m = own_symbol m
 named n d (disjoint k xs e) f w m =
     let x =
     each_none (disjoint_codes n) [] xs
@@ -148,13 +145,13 @@ module _ (db : List Statement) where
               → (list_any (λ s. is_in w (constants_of s)) xs ≡ true
               → list_any (λ s. is_in w (declared_words s)) xs ≡ true)
               → (is_in w (declared_words x) || list_any (λ s. is_in w (declared_words s)) xs) ≡ true
-          at_first_or_later (inl k) on =
+          at_first_or_later (inl k) of_the_rest =
               or_left (is_in w (declared_words x)) (list_any (λ s. is_in w (declared_words s)) xs)
               (list_any-append (bytes_eq w) (constants_of x) (variables_of x)
               ∙ or_left (is_in w (constants_of x)) (is_in w (variables_of x)) k)
-          at_first_or_later (inr k) on =
+          at_first_or_later (inr k) of_the_rest =
               or_right (is_in w (declared_words x)) (list_any (λ s. is_in w (declared_words s)) xs)
-              (on k)
+              (of_the_rest k)
 
   own_declared : (i : ℕ) (s : Statement) (w : Bytes) → slice_get db i ≡ Some s
       → is_in w (declared_words s) ≡ true → is_in w (flat_map declared_words db) ≡ true
@@ -187,4 +184,4 @@ module _ (db : List Statement) where
           own_declared f.0 g.0 w g.1
           (list_any-append (bytes_eq w) (constants_of g.0) (variables_of g.0)
           ∙ or_right (is_in w (constants_of g.0)) (is_in w (variables_of g.0)) g.2)
-      by_naming (own h) = own_declared k s w e h
+      by_naming (own_symbol h) = own_declared k s w e h

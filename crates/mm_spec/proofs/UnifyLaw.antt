@@ -20,12 +20,13 @@ same_equal (p ∷ ps) (q ∷ qs) e =
         (and_parts (bytes_eq p q) (are_equal ps qs) e).1)
 
 pub equal_same : (ps qs : List Formula) → ps ≡ qs → are_equal ps qs ≡ true
-equal_same ps qs e = subst (λ z. are_equal ps z ≡ true) e (self ps)
+equal_same ps qs e = subst (λ z. are_equal ps z ≡ true) e (equal_to_itself ps)
   where
-    self : (xs : List Formula) → are_equal xs xs ≡ true
-    self [] = refl
-    self (x ∷ xs) =
-        and_from (bytes_eq x x) (are_equal xs xs) ((bytes_eq-Decides x x).1 refl) (self xs)
+    equal_to_itself : (xs : List Formula) → are_equal xs xs ≡ true
+    equal_to_itself [] = refl
+    equal_to_itself (x ∷ xs) =
+        and_from (bytes_eq x x) (are_equal xs xs) ((bytes_eq-Decides x x).1 refl)
+            (equal_to_itself xs)
 
 module _ (c : Context) where
   binder_value : (σ : Substitution) (x : ℕ) (h : Formula) → binds c x h ≡ true

@@ -84,8 +84,8 @@ group_steps labels marks count (g ∷ gs) = elim (is_last g.last.byte) [
 ]
 
 -- The fault of a group: a number above all that have a meaning (E45), a `Z` within a number (E43)
--- or before the first one (E44), a `?` (E32), another byte (E42); the code of `Z` is 90, that of `?`
--- 63. `labels` says how many labels have numbers, `marks` how many `Z` come before the group, and
+-- or before the first one (E44), a `?` (E32), another byte (E42). The code of `Z` is 90, and that of
+-- `?` is 63. `labels` says how many labels have numbers, `marks` how many `Z` come before the group, and
 -- `count` how many other groups do.
 abbrev pub group_fault : ℕ → ℕ → ℕ → Group → List Fault
 group_fault labels marks count g = elim (is_last g.last.byte) [

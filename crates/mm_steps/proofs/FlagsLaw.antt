@@ -6,7 +6,7 @@ use Rattle.std.proofs.lemmas.List.{get_or-set_same, get_or-set_other, map-append
 use Rattle.std.proofs.lemmas.List.Folds.{list_any-append}
 use Rattle.std.proofs.lemmas.Bool.{or_right}
 use Rattle.mm_spec.specs.Steps.{marked}
-use Rattle.mm_spec.proofs.BoolLaw.{or_none}
+use Rattle.mm_spec.proofs.BoolLaw.{or_with_false}
 use Rattle.mm_steps.specs.declared.placed.Placed.{Placed}
 use Rattle.mm_steps.specs.Read.{is_marked, takes_up}
 use Rattle.mm_steps.specs.Flags.{step_by, placed_of, placed_steps, no_step, AreFlags}
@@ -68,4 +68,5 @@ flag_more ps qs p q j old more plain takes inside same flag i = by (i == j) refl
         ap (λ z. z.is_marked)
         (get_or-set_other qs j i q no_step (λ h. true≢false (sym (eq-eqb i j h) ∙ e)))
         ∙ ap (λ z. (get_or z i no_step).is_marked) more
-        ∙ unflagged ps p i plain ∙ old i ∙ sym (now ∙ or_none (is_marked (placed_steps ps) i) (i == j) e)
+        ∙ unflagged ps p i plain ∙ old i
+        ∙ sym (now ∙ or_with_false (is_marked (placed_steps ps) i) (i == j) e)

@@ -86,11 +86,12 @@ transition (words d make ws) plain t = continued (words d make (ws ++ t ∷ []))
 transition (words d make ws) dot t = completed d (make ws t.at)
 transition _ _ t = unexpected
 
--- the statement that a token ends, if it ends one, and those after the token, which `on` gives
+-- the statement that a token ends, if it ends one, and those after the token, which `of_the_rest`
+-- gives
 abbrev pub statements_after : Transition → (Progress → List Statement) → List Statement
-statements_after unexpected on = []
-statements_after (continued r) on = on r
-statements_after (completed d s) on = s ∷ on (start d)
+statements_after unexpected of_the_rest = []
+statements_after (continued r) of_the_rest = of_the_rest r
+statements_after (completed d s) of_the_rest = s ∷ of_the_rest (start d)
 
 -- the complete statements from there on
 abbrev pub statements_from : Progress → List Token → List Statement
@@ -106,11 +107,12 @@ abbrev pub is_between_statements : Progress → Bool
 is_between_statements (start d) = true
 is_between_statements _ = false
 
--- the fault f if the token is unexpected, otherwise that of the tokens after it, which `on` gives
+-- the fault f if the token is unexpected, otherwise that of the tokens after it, which `of_the_rest`
+-- gives
 abbrev pub shape_fault_after : Transition → Option Fault → (Progress → Option Fault) → Option Fault
-shape_fault_after unexpected f on = f
-shape_fault_after (continued r) f on = on r
-shape_fault_after (completed d s) f on = on (start d)
+shape_fault_after unexpected f of_the_rest = f
+shape_fault_after (continued r) f of_the_rest = of_the_rest r
+shape_fault_after (completed d s) f of_the_rest = of_the_rest (start d)
 
 -- the fault of the first token that is not expected
 abbrev pub shape_fault_from : Progress → List Token → Option Fault
@@ -121,11 +123,11 @@ shape_fault_from r (t ∷ ts) =
     (λ q. shape_fault_from q ts)
 
 -- what was read, r, if the token is unexpected, otherwise what the tokens after it add to it, which
--- `on` gives
+-- `of_the_rest` gives
 abbrev pub progress_after : Transition → (Progress → Progress) → Progress → Progress
-progress_after unexpected on r = r
-progress_after (continued q) on r = on q
-progress_after (completed d s) on r = on (start d)
+progress_after unexpected of_the_rest r = r
+progress_after (continued q) of_the_rest r = of_the_rest q
+progress_after (completed d s) of_the_rest r = of_the_rest (start d)
 
 -- what has been read after all tokens, or before the first one that is not expected
 abbrev pub progress_from : Progress → List Token → Progress
