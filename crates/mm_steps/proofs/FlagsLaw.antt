@@ -35,10 +35,10 @@ or_end true b = refl
 or_end false true = refl
 or_end false false = refl
 
-one_more : (ps : List Placed) (p : Placed) (i : ℕ)
+marked_by_one_more : (ps : List Placed) (p : Placed) (i : ℕ)
     → is_marked (placed_steps (ps ++ p ∷ [])) i
     ≡ (is_marked (placed_steps ps) i || takes_up i (step_by p.kind p.number))
-one_more ps p i =
+marked_by_one_more ps p i =
     ap (λ z. is_marked z i) (placed_steps_more ps p)
     ∙ list_any-append (λ s. takes_up i s.step) (placed_steps ps) (placed_of p ∷ [])
     ∙ or_end (is_marked (placed_steps ps) i) (takes_up i (step_by p.kind p.number))
@@ -48,25 +48,26 @@ pub flag_more : (ps qs : List Placed) (p q : Placed) (j : ℕ) → AreFlags ps �
     → p.is_marked ≡ false → step_by p.kind p.number ≡ marked j → j < length ps
     → placed_of q ≡ placed_of (get_or qs j no_step) → q.is_marked ≡ true
     → AreFlags (slice_set qs j q)
-flag_more ps qs p q j old more plain takes inside same flag i = by (i == j) refl
+flag_more ps qs p q j old more plain takes inside same flag i = by_equality (i == j) refl
   where
-    now : is_marked (placed_steps (slice_set qs j q)) i ≡ (is_marked (placed_steps ps) i || (i == j))
-    now =
+    marked_now : is_marked (placed_steps (slice_set qs j q)) i
+        ≡ (is_marked (placed_steps ps) i || (i == j))
+    marked_now =
         ap (λ z. is_marked z i) (placed_steps_set qs j q same) ∙ ap (λ z. is_marked (placed_steps z) i) more
-        ∙ one_more ps p i ∙ ap (λ s. is_marked (placed_steps ps) i || takes_up i s) takes
+        ∙ marked_by_one_more ps p i ∙ ap (λ s. is_marked (placed_steps ps) i || takes_up i s) takes
 
-    by : (b : Bool) → (i == j) ≡ b
+    by_equality : (b : Bool) → (i == j) ≡ b
         → (get_or (slice_set qs j q) i no_step).is_marked
         ≡ is_marked (placed_steps (slice_set qs j q)) i
-    by true e =
+    by_equality true e =
         ap (λ z. (get_or (slice_set qs j q) z no_step).is_marked) (eqb-true i j e)
         ∙ ap (λ z. z.is_marked)
         (get_or-set_same qs j q no_step
         (let n = ap length more in omega (arith, n, length-append ps (p ∷ []))))
-        ∙ flag ∙ sym (now ∙ or_right (is_marked (placed_steps ps) i) (i == j) e)
-    by false e =
+        ∙ flag ∙ sym (marked_now ∙ or_right (is_marked (placed_steps ps) i) (i == j) e)
+    by_equality false e =
         ap (λ z. z.is_marked)
         (get_or-set_other qs j i q no_step (λ h. true≢false (sym (eq-eqb i j h) ∙ e)))
         ∙ ap (λ z. (get_or z i no_step).is_marked) more
         ∙ unflagged ps p i plain ∙ old i
-        ∙ sym (now ∙ or_with_false (is_marked (placed_steps ps) i) (i == j) e)
+        ∙ sym (marked_now ∙ or_with_false (is_marked (placed_steps ps) i) (i == j) e)
