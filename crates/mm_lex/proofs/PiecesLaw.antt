@@ -100,16 +100,16 @@ module _ (text : List ℕ) (r : Reading) (w : Word) (b : Bool) (none : r.fault �
 
 pub go_on_append : (text : List ℕ) (r : Reading) (xs ys : List Word)
     → go_on text r (xs ++ ys) ≡ go_on text (go_on text r xs) ys
-go_on_append text r xs ys = by r.tokens r.fault r.open_comment
+go_on_append text r xs ys = by_fault r.tokens r.fault r.open_comment
   where
-    by : (ts : List Word) (f : Option Fault) (c : Option ℕ)
+    by_fault : (ts : List Word) (f : Option Fault) (c : Option ℕ)
         → go_on text (record { tokens = ts; fault = f; open_comment = c }) (xs ++ ys)
         ≡ go_on text (go_on text (record { tokens = ts; fault = f; open_comment = c }) xs) ys
-    by ts None c =
+    by_fault ts None c =
         ap (with_tokens ts) (reading_append text c xs ys)
         ∙ go_on_with_tokens text ts ys (reading text c xs).tokens (reading text c xs).fault
         (reading text c xs).open_comment
-    by ts (Some f) c = refl
+    by_fault ts (Some f) c = refl
 
 resolved_carried : (p x : ℕ) (c d : CommentState) → resolved p c ≡ Some x
     → resolved p (carried c d) ≡ resolved x d
@@ -124,7 +124,7 @@ pub go_on_inside : (text : List ℕ) (ws : List Word) (p : ℕ) (r next : Side) 
     record {
       tokens = items;
       fault = next.fault;
-      open_comment = resolved p (carried r.open_comment next.comment);
+      open_comment = resolved p (carried r.open_comment next.open_comment);
     }
     ≡ go_on text (side_reading p r) ws
 go_on_inside text ws p r next items readings none is_open e =
@@ -132,7 +132,7 @@ go_on_inside text ws p r next items readings none is_open e =
     let all : go_on text (side_reading p r) ws
     ≡ with_tokens r.tokens (reading text (resolved p r.open_comment) ws) = go_on_none text
     (side_reading p r) ws none in
-    rw (e, resolved_carried p opened.0 r.open_comment next.comment opened.1)
+    rw (e, resolved_carried p opened.0 r.open_comment next.open_comment opened.1)
     (sym (all ∙ ap (λ (c : Option ℕ). with_tokens r.tokens (reading text c ws)) opened.1
     ∙ ap (with_tokens r.tokens) (readings opened.0)))
 
@@ -150,7 +150,7 @@ pub go_on_outside : (text : List ℕ) (ws : List Word) (p : ℕ) (r next : Side)
     record {
       tokens = items;
       fault = next.fault;
-      open_comment = resolved p (carried r.open_comment next.comment);
+      open_comment = resolved p (carried r.open_comment next.open_comment);
     }
     ≡ go_on text (side_reading p r) ws
 go_on_outside text ws p r next items readings none is_open e =
@@ -160,20 +160,20 @@ go_on_outside text ws p r next items readings none is_open e =
     (side_reading p r) ws none in
     rw (
       e,
-      not_before (reading text None ws).open_comment next.comment
+      not_before (reading text None ws).open_comment next.open_comment
           (λ q. ap (λ (x : Reading). x.open_comment) (readings q)) r.open_comment,
     )
     (sym (all ∙ ap (λ (c : Option ℕ). with_tokens r.tokens (reading text c ws)) closed
     ∙ ap (with_tokens r.tokens) (readings p)))
 
 pub go_on_nil : (text : List ℕ) (r : Reading) → go_on text r [] ≡ r
-go_on_nil text r = by r.tokens r.fault r.open_comment
+go_on_nil text r = by_fault r.tokens r.fault r.open_comment
   where
-    by : (ts : List Word) (f : Option Fault) (c : Option ℕ)
+    by_fault : (ts : List Word) (f : Option Fault) (c : Option ℕ)
         → go_on text (record { tokens = ts; fault = f; open_comment = c }) []
         ≡ record { tokens = ts; fault = f; open_comment = c }
-    by ts None c = ap (with_tokens ts) (reading_end text c) ∙ rw append-nil refl
-    by ts (Some f) c = refl
+    by_fault ts None c = ap (with_tokens ts) (reading_end text c) ∙ rw append-nil refl
+    by_fault ts (Some f) c = refl
 
 -- one more word of those that are left
 
@@ -244,23 +244,24 @@ pub go_on_skips : (text : List ℕ) (all r : Reading) (w : Word) (vs : List Word
     → ArePlain text from upto → all ≡ go_on text r vs → vs ≡ w ∷ words_between text from to
     → all ≡ go_on text r (words_between text upto to)
 go_on_skips text all r w vs from upto to ignored plain le others e next =
-    e ∙ ap (go_on text r) next ∙ by r.tokens r.fault r.open_comment ignored
+    e ∙ ap (go_on text r) next ∙ by_fault r.tokens r.fault r.open_comment ignored
   where
-    by : (ts : List Word) (f : Option Fault) (c : Option ℕ) → (is_some f || is_some c) ≡ true →
+    by_fault : (ts : List Word) (f : Option Fault) (c : Option ℕ)
+        → (is_some f || is_some c) ≡ true →
         go_on text
         (record { tokens = ts; fault = f; open_comment = c })
         (w ∷ words_between text from to)
         ≡ go_on text (record { tokens = ts; fault = f; open_comment = c })
         (words_between text upto to)
-    by ts None None h = cc
-    by ts None (Some p) h =
+    by_fault ts None None h = cc
+    by_fault ts None (Some p) h =
         let same : from + (upto - from) ≡ upto = omega arith in
         ap (with_tokens ts)
         (reading_comment text (Some p) w (words_between text from to)
         (plain_comment (bytes_of text w) plain)
         ∙ reading_skips text p (upto - from) from to (λ i low high. others i low (omega arith))
         ∙ ap (λ (i : ℕ). reading text (Some p) (words_between text i to)) same)
-    by ts (Some f) c h = refl
+    by_fault ts (Some f) c h = refl
 
 -- three lists of words, one after another
 pub go_on_three : (text : List ℕ) (c : Option ℕ) (first mid last : Reading) (ws vs us : List Word)

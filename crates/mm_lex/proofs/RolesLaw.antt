@@ -110,35 +110,35 @@ either false y h = inr h
 
 keyword_clean : (word : List ℕ) → is_keyword word ≡ true → is_clean word ≡ true
 unfolding is_keyword
-keyword_clean word h = go (codes "cvfedap=.{}[]") every h
+keyword_clean word h = among_keywords (codes "cvfedap=.{}[]") keywords_are_clean h
   where
-    every : list_all (λ b. is_clean (36 ∷ b ∷ [])) (codes "cvfedap=.{}[]") ≡ true
-    every = clean_keywords
+    keywords_are_clean : list_all (λ b. is_clean (36 ∷ b ∷ [])) (codes "cvfedap=.{}[]") ≡ true
+    keywords_are_clean = clean_keywords
 
-    go : (bs : List ℕ) → list_all (λ b. is_clean (36 ∷ b ∷ [])) bs ≡ true
+    among_keywords : (bs : List ℕ) → list_all (λ b. is_clean (36 ∷ b ∷ [])) bs ≡ true
         → list_any (λ b. is_dollar_and b word) bs ≡ true → is_clean word ≡ true
-    go [] each any = absurd (cc)
-    go (b ∷ bs) each any =
+    among_keywords [] each any = absurd (cc)
+    among_keywords (b ∷ bs) each any =
         let all = and_parts (is_clean (36 ∷ b ∷ []))
         (list_all (λ b. is_clean (36 ∷ b ∷ [])) bs) each in
         elim (either (is_dollar_and b word) (list_any (λ b. is_dollar_and b word) bs) any) [
           | inl here ↦ dollar_clean b word all.0 here
-          | inr later ↦ go bs all.1 later
+          | inr later ↦ among_keywords bs all.1 later
         ]
 
 -- a keyword needs no further test
 token_is : (word : List ℕ)
     → (is_keyword word || (is_clean word && not (has_dollar word))) ≡ is_token word
 unfolding is_token
-token_is word = by (is_keyword word) (is_clean word) (has_dollar word) (keyword_clean word)
+token_is word = by_tests (is_keyword word) (is_clean word) (has_dollar word) (keyword_clean word)
   where
-    by : (k a d : Bool) → (k ≡ true → a ≡ true) → (k || (a && not d)) ≡ (a && (not d || k))
-    by true true true h = refl
-    by true true false h = refl
-    by true false d h = let e = h refl in absurd (cc)
-    by false true true h = refl
-    by false true false h = refl
-    by false false d h = refl
+    by_tests : (k a d : Bool) → (k ≡ true → a ≡ true) → (k || (a && not d)) ≡ (a && (not d || k))
+    by_tests true true true h = refl
+    by_tests true true false h = refl
+    by_tests true false d h = let e = h refl in absurd (cc)
+    by_tests false true true h = refl
+    by_tests false true false h = refl
+    by_tests false false d h = refl
 
 pub keyword_token : (word : List ℕ) → is_keyword word ≡ true → true ≡ is_token word
 keyword_token word k =

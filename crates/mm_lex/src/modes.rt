@@ -46,26 +46,26 @@ impl CommentState {
 pub struct ModeReading<A: Allocator> {
     pub tokens: Vec<Word, A>,
     pub fault: Option<Fault>,
-    pub comment: CommentState,
+    pub open_comment: CommentState,
 }
 
 impl<A: Allocator + Copy> ModeReading<A> {
-    pub fn new(alloc: A, comment: CommentState) -> ModeReading<A>
-        ensures { (p : ℕ) → side_reading p (side result) ≡ start (resolved p comment) }
+    pub fn new(alloc: A, open_comment: CommentState) -> ModeReading<A>
+        ensures { (p : ℕ) → side_reading p (side result) ≡ start (resolved p open_comment) }
     {
         ModeReading {
             tokens: Vec::new(alloc),
             fault: None,
-            comment,
+            open_comment,
         }
     }
 
     /// A reading of no words yet. Its list has room for `room` tokens if there is that much memory,
     /// so that it needn't be moved as it grows.
-    pub fn with_room(alloc: A, comment: CommentState, room: usize) -> ModeReading<A>
-        ensures { (p : ℕ) → side_reading p (side result) ≡ start (resolved p comment) }
+    pub fn with_room(alloc: A, open_comment: CommentState, room: usize) -> ModeReading<A>
+        ensures { (p : ℕ) → side_reading p (side result) ≡ start (resolved p open_comment) }
     {
-        let mut reading = ModeReading::new(alloc, comment);
+        let mut reading = ModeReading::new(alloc, open_comment);
         match reading.tokens.reserve(room) {
             Ok(()) => {}
             Err(_) => {}
@@ -77,9 +77,9 @@ impl<A: Allocator + Copy> ModeReading<A> {
     #[inline(always)]
     pub fn ignores_plain(&self) -> bool
         ensures { (p : ℕ)
-            → result ≡ (is_some self.now.fault || is_some (resolved p self.now.comment)) }
+            → result ≡ (is_some self.now.fault || is_some (resolved p self.now.open_comment)) }
     {
-        self.fault.is_some() || self.comment.is_open()
+        self.fault.is_some() || self.open_comment.is_open()
     }
 
     /// Reads one further word. If `plain` is true, the word is known to be plain.
@@ -97,12 +97,12 @@ impl<A: Allocator + Copy> ModeReading<A> {
         if self.fault.is_some() {
             return Ok(());
         }
-        let in_comment = self.comment.is_open();
+        let in_comment = self.open_comment.is_open();
         let bytes = word.bytes(text);
         match role(in_comment, plain, bytes) {
             Role::Token => self.tokens.push(word)?,
-            Role::Opening => self.comment = CommentState::At(word.start),
-            Role::Closing => self.comment = CommentState::Nowhere,
+            Role::Opening => self.open_comment = CommentState::At(word.start),
+            Role::Closing => self.open_comment = CommentState::Nowhere,
             Role::Comment => {}
             Role::Faulty => self.fault = Some(word_fault(in_comment, word.start, bytes)),
         }
@@ -135,7 +135,7 @@ impl<A: Allocator + Copy> ModeReading<A> {
                 if self.fault.is_some() {
                     return Ok(());
                 }
-            } else if self.comment.is_open() {
+            } else if self.open_comment.is_open() {
                 scanner.skip_plain();
             } else {
                 self.tokens.push(found.word)?;
@@ -159,14 +159,14 @@ impl<A: Allocator + Copy> ModeReading<A> {
         if self.fault.is_some() {
             return Ok(());
         }
-        let next = if self.comment.is_open() {
+        let next = if self.open_comment.is_open() {
             inside
         } else {
             outside
         };
         self.tokens.extend_from_slice(&next.tokens)?;
         self.fault = next.fault;
-        self.comment = next.comment.after(self.comment);
+        self.open_comment = next.open_comment.after(self.open_comment);
         Ok(())
     }
 }

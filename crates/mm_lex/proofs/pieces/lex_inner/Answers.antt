@@ -24,11 +24,11 @@ loop-scanner-preserved g c =
     same_next _ text c.loop-scanner.scanner.from c.next_word.new.self.from c.args.tail word
     before.same c.in-Some.ensures.words in
     record {
-      same = c.in-Some.ensures.text ∙ before.same;
-      out =
+      same_text = c.in-Some.ensures.text ∙ before.same;
+      outside_reading =
           λ p. go_on_next text _ (side_reading p (side c.loop-scanner.outside)) _ word _ _
           (before.out p) next (c.in_ok-read_word.ensures p);
-      inn =
+      inside_reading =
           λ p. go_on_next text _ (side_reading p (side c.loop-scanner.inside)) _ word _ _
           (before.inn p) next (c.in_ok-read_word-2.ensures p);
     }
@@ -50,13 +50,13 @@ loop-scanner-preserved-then-ignores_plain-2 g c =
     let others =
     subst (λ (t : List ℕ). ArePlain t here upto) same c.skip_plain.ensures.plain in
     record {
-      same = c.skip_plain.ensures.text ∙ same;
-      out =
+      same_text = c.skip_plain.ensures.text ∙ same;
+      outside_reading =
           λ p. go_on_skips text _ (side_reading p (side c.loop-scanner.outside)) word _ here upto
           c.args.tail
           (sym (c.ignores_plain.ensures p) ∙ c.if-ignores_plain.true) plain
           c.skip_plain.ensures.onward others (before.out p) next;
-      inn =
+      inside_reading =
           λ p. go_on_skips text _ (side_reading p (side c.loop-scanner.inside)) word _ here upto
           c.args.tail
           (sym (c.ignores_plain-then-ignores_plain.ensures p) ∙ c.if-ignores_plain-2.true) plain
@@ -71,12 +71,12 @@ new-scanner-requires g c =
 
 pub next_word-requires-clause-within : goal.next_word-requires-clause-within
 next_word-requires-clause-within g c =
-    subst (λ (t : List ℕ). c.args.tail ≤ length t) (sym c.loop-scanner.invariant.same)
+    subst (λ (t : List ℕ). c.args.tail ≤ length t) (sym c.loop-scanner.invariant.same_text)
     c.requires.within
 
 pub next_word-requires-clause-short : goal.next_word-requires-clause-short
 next_word-requires-clause-short g c =
-    subst (λ (t : List ℕ). length t ≤ TEXT_LIMIT) (sym c.loop-scanner.invariant.same)
+    subst (λ (t : List ℕ). length t ≤ TEXT_LIMIT) (sym c.loop-scanner.invariant.same_text)
     c.requires.short
 
 pub returns-clause-readings : goal.returns-clause-readings
@@ -112,7 +112,7 @@ returns-clause-readings g c =
           )
     ] in
     record {
-      out =
+      outside_reading =
           λ p. before.out p ∙ ap (go_on text (side_reading p (side c.loop-scanner.outside))) known.0
           ∙ sym (c.in_ok-read_rest.ensures p);
       within = known.1;

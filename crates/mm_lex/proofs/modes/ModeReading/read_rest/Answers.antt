@@ -35,9 +35,9 @@ loop-found-preserved-else-is_some-2 g c =
     same_next _ text c.loop-found.scanner.from c.next_word.new.self.from c.args.to word before.same
     c.in-Some.ensures.words in
     record {
-      same = c.in-Some.ensures.text ∙ before.same;
-      none = none_from _ (sym c.is_some-then-not-found.ensures ∙ c.if-is_some-2.false);
-      all =
+      same_text = c.in-Some.ensures.text ∙ before.same;
+      no_fault = none_from _ (sym c.is_some-then-not-found.ensures ∙ c.if-is_some-2.false);
+      same_reading =
           λ p. go_on_next text _ (side_reading p (side c.loop-found.self)) _ word _ _ (before.all p)
           next (c.in_ok-read_word.ensures p);
     }
@@ -59,9 +59,9 @@ loop-found-preserved-then-is_open g c =
     let others =
     subst (λ (t : List ℕ). ArePlain t here upto) same c.skip_plain.ensures.plain in
     record {
-      same = c.skip_plain.ensures.text ∙ same;
-      none = before.none;
-      all =
+      same_text = c.skip_plain.ensures.text ∙ same;
+      no_fault = before.none;
+      same_reading =
           λ p. go_on_skips text _ (side_reading p (side c.loop-found.self)) word _ here upto
           c.args.to (ignored_inside _ _ (sym (c.is_open.ensures p) ∙ c.if-is_open.true)) plain
           c.skip_plain.ensures.onward others (before.all p) next;
@@ -79,9 +79,9 @@ loop-found-preserved g c =
     subst (λ (t : List ℕ). IsPlainWord (bytes_of t word)) before.same
     (c.in-Some.ensures.plain (not-false _ c.if-not-found.false)) in
     record {
-      same = c.in-Some.ensures.text ∙ before.same;
-      none = before.none;
-      all =
+      same_text = c.in-Some.ensures.text ∙ before.same;
+      no_fault = before.none;
+      same_reading =
           λ p. go_on_next text _ (side_reading p (side c.loop-found.self)) _ word _ _ (before.all p)
           next (go_on_plain text (side_reading p (side c.loop-found.self)) word _ before.none
           (sym (c.is_open.ensures p) ∙ c.if-is_open.false) plain c.in_ok-push.ensures.items);

@@ -34,7 +34,7 @@ module _ (c : Then-self-stop-eq1) where
       c.in_ok-start.start c.in_ok-start.start b.base c.first_one-stop.result
       c.next_start.ensures.text c.in_ok-start.ensures.taken.in_block c.first_one-stop.ensures.up_to
       (λ k a h _. absurd (omega arith)) c.first_one-stop.ensures.zeros
-      (λ k lt inside _. b.ink k lt inside) i low high (omega (arith, (after c).0))
+      (λ k lt inside _. b.not_white k lt inside) i low high (omega (arith, (after c).0))
 
   plain : (i : ℕ) → c.in_ok-start.start ≤ i
       → i < c.next_start.new.self.base + c.first_one-stop.result

@@ -15,12 +15,12 @@ loop-stop-init c =
     let text = b.text.now in
     let found = c.first_one-stop in
     record {
-      same = refl;
+      same_text = refl;
       after = omega (arith, c.requires.taken.next);
-      none = λ i low high. absurd (omega (arith, c.requires.taken.next));
+      none_begins = λ i low high. absurd (omega (arith, c.requires.taken.next));
       order = omega (arith, found.ensures.from_here, c.requires.taken.in_block);
-      few = found.ensures.up_to;
-      solid =
+      stop_fits = found.ensures.up_to;
+      no_white =
           run_on (λ t i. white_at t i ≡ false) text text b.white c.args.start c.args.start b.base
           found.result refl c.requires.taken.in_block found.ensures.up_to
           (λ i low high _. absurd (omega arith)) found.ensures.zeros
@@ -43,7 +43,7 @@ loop-stop-preserved-then-plain c =
     let base : b.base ≡ c.loop-stop.scanner.base + c.loop-stop.stop =
     omega (arith, c.at-scanner.ensures.base, c.loop-stop-test.true) in
     record {
-      same = c.at-scanner.ensures.text;
+      same_text = c.at-scanner.ensures.text;
       after =
           omega (
             arith,
@@ -54,7 +54,7 @@ loop-stop-preserved-then-plain c =
             before.order,
             base,
           );
-      none =
+      none_begins =
           none_inside text c.args.start b.from
           (λ i low high. before.solid i low (omega (arith, base, c.at-scanner.ensures.from))
           (omega (
@@ -65,8 +65,8 @@ loop-stop-preserved-then-plain c =
             c.if-len-scanner-gt64.true,
           )));
       order = omega (arith, base, before.order);
-      few = found.ensures.up_to;
-      solid =
+      stop_fits = found.ensures.up_to;
+      no_white =
           run_on (λ t i. white_at t i ≡ false) b.text.now text b.white c.args.start b.base b.base
           found.result c.at-scanner.ensures.text (omega arith) found.ensures.up_to
           (λ i low high within. before.solid i low (omega (arith, base)) within)
@@ -90,7 +90,7 @@ loop-stop-preserved c =
     let base : b.base ≡ c.loop-stop.scanner.base + c.loop-stop.stop =
     omega (arith, c.at-scanner.ensures.base, c.loop-stop-test.true) in
     record {
-      same = c.at-scanner.ensures.text;
+      same_text = c.at-scanner.ensures.text;
       after =
           omega (
             arith,
@@ -101,7 +101,7 @@ loop-stop-preserved c =
             before.order,
             base,
           );
-      none =
+      none_begins =
           none_inside text c.args.start b.from
           (λ i low high. before.solid i low (omega (arith, base, c.at-scanner.ensures.from))
           (omega (
@@ -112,8 +112,8 @@ loop-stop-preserved c =
             c.if-len-scanner-gt64.true,
           )));
       order = omega (arith, base, before.order);
-      few = found.ensures.up_to;
-      solid =
+      stop_fits = found.ensures.up_to;
+      no_white =
           run_on (λ t i. white_at t i ≡ false) b.text.now text b.white c.args.start b.base b.base
           found.result c.at-scanner.ensures.text (omega arith) found.ensures.up_to
           (λ i low high within. before.solid i low (omega (arith, base)) within)
@@ -144,7 +144,8 @@ returns-clause-word c =
             w.loop-stop-test.true,
             w.if-len-scanner-gt64.false,
           ))
-      | else-loop-stop-test w ↦ omega (arith, c.loop-stop.invariant.few, w.loop-stop-test.false)
+      | else-loop-stop-test w ↦ omega
+          (arith, c.loop-stop.invariant.stop_fits, w.loop-stop-test.false)
     ] in
     let here : b.base + c.loop-stop.stop ≡ end = omega (arith, inside, c.min-end.ensures) in
     let one =
