@@ -38,7 +38,7 @@ module _ (c : Context) (fine : (l : ℕ) → HasCompleteFrame c (c.rule l)) wher
   -- a step that fails leaves no forest for the whole
   pub excludes : (steps : List Step) (reason : Reason) (all : List ℕ)
       → StoppedSteps c [] [] steps reason → Plain c [] [] steps all → ¬ IsPostfixOfForest c all
-  excludes steps reason all s h forest = go s.first s.fails p.3
+  excludes steps reason all s h forest = by_step s.first s.fails p.3
     where
       p : (mid : List ℕ) × (seen : List (List ℕ)) × Plain c [] [] s.before mid
           × Plain c seen mid (s.first ∷ s.after) all
@@ -46,10 +46,10 @@ module _ (c : Context) (fine : (l : ℕ) → HasCompleteFrame c (c.rule l)) wher
           plain_front s.before (s.first ∷ s.after) [] [] all
           (subst (λ x. Plain c [] [] x all) s.splits h)
 
-      go : (first : Step) → StepFails c first (formulas s.forest) reason
+      by_step : (first : Step) → StepFails c first (formulas s.forest) reason
           → Plain c p.1 p.0 (first ∷ s.after) all → ⊥
-      go (marked j) fails q = fails
-      go (label l) fails q =
+      by_step (marked j) fails q = fails
+      by_step (label l) fails q =
           let rest = plain_more s.after (p.1 ++ q.0 ∷ []) q.0 all q.2 in
           let whole : all ≡ p.0 ++ l ∷ rest.0 =
           rest.1 ∙ ap (λ z. z ++ rest.0) q.1 ∙ append_assoc p.0 (l ∷ []) rest.0 in

@@ -50,11 +50,11 @@ closing_is_no_comment_word word h = rw (two_bytes 0x29 word h) refl
 
 comment_word_is_no_closing : (word : List ℕ) → is_comment_word word ≡ true
     → closes_comment word ≡ false
-comment_word_is_no_closing word h = by (closes_comment word) refl
+comment_word_is_no_closing word h = by_closes (closes_comment word) refl
   where
-    by : (b : Bool) → closes_comment word ≡ b → closes_comment word ≡ false
-    by true e = absurd (true≢false (sym h ∙ closing_is_no_comment_word word e))
-    by false e = e
+    by_closes : (b : Bool) → closes_comment word ≡ b → closes_comment word ≡ false
+    by_closes true e = absurd (true≢false (sym h ∙ closing_is_no_comment_word word e))
+    by_closes false e = e
 
 -- what each class is read as
 role_token : (word : List ℕ) → is_token word ≡ true → role_of false word ≡ roles.Token
@@ -86,21 +86,21 @@ data Inside (word : List ℕ) : Type 0 where
 
 outside : (word : List ℕ) → Outside word
 unfolding role_of
-outside word = by (is_token word) (opens_comment word) refl refl
+outside word = by_tests (is_token word) (opens_comment word) refl refl
   where
-    by : (a b : Bool) → is_token word ≡ a → opens_comment word ≡ b → Outside word
-    by true b e h = token e (rw e refl)
-    by false true e h = opening h (rw (e, h) refl)
-    by false false e h = Outside.neither (rw (e, h) refl)
+    by_tests : (a b : Bool) → is_token word ≡ a → opens_comment word ≡ b → Outside word
+    by_tests true b e h = token e (rw e refl)
+    by_tests false true e h = opening h (rw (e, h) refl)
+    by_tests false false e h = Outside.neither (rw (e, h) refl)
 
 inside : (word : List ℕ) → Inside word
 unfolding role_of
-inside word = by (closes_comment word) (is_comment_word word) refl refl
+inside word = by_tests (closes_comment word) (is_comment_word word) refl refl
   where
-    by : (a b : Bool) → closes_comment word ≡ a → is_comment_word word ≡ b → Inside word
-    by true b e h = closing e (rw e refl)
-    by false true e h = comment h (rw (e, h) refl)
-    by false false e h = Inside.neither (rw (e, h) refl)
+    by_tests : (a b : Bool) → closes_comment word ≡ a → is_comment_word word ≡ b → Inside word
+    by_tests true b e h = closing e (rw e refl)
+    by_tests false true e h = comment h (rw (e, h) refl)
+    by_tests false false e h = Inside.neither (rw (e, h) refl)
 
 -- ---- a well-begun row is read as its tokens and its open comment
 
@@ -272,12 +272,12 @@ split_at : (text : List ℕ) (c : Option ℕ) (ws : List Word) (f : Fault)
     → SplitIf text c ws f (reading text c ws)
 split_at text c [] f = subst (SplitIf text c [] f) (sym (reading_end text c)) (λ e. absurd cc)
 split_at text c (x ∷ xs) f =
-    by (role_of (is_some c) (bytes_of text x)) refl (λ d. split_at text d xs f)
+    by_role (role_of (is_some c) (bytes_of text x)) refl (λ d. split_at text d xs f)
   where
-    by : (r : Role) → role_of (is_some c) (bytes_of text x) ≡ r
+    by_role : (r : Role) → role_of (is_some c) (bytes_of text x) ≡ r
         → ((d : Option ℕ) → SplitIf text d xs f (reading text d xs))
         → SplitIf text c (x ∷ xs) f (reading text c (x ∷ xs))
-    by roles.Token h ih = subst (SplitIf text c (x ∷ xs) f) (sym (reading_one text c x xs h)) (λ e.
+    by_role roles.Token h ih = subst (SplitIf text c (x ∷ xs) f) (sym (reading_one text c x xs h)) (λ e.
         let s = ih c e in record {
           before = x ∷ s.before;
           w = s.w;
@@ -287,17 +287,17 @@ split_at text c (x ∷ xs) f =
           role = s.role;
           same = s.same;
         })
-    by roles.Opening h ih =
+    by_role roles.Opening h ih =
         subst (SplitIf text c (x ∷ xs) f) (sym (reading_opening text c x xs h))
         (λ e. split_cons text c (Some x.start) x xs f _ (λ us. reading_opening text c x us h)
         (ih (Some x.start) e))
-    by roles.Closing h ih =
+    by_role roles.Closing h ih =
         subst (SplitIf text c (x ∷ xs) f) (sym (reading_closing text c x xs h))
         (λ e. split_cons text c None x xs f _ (λ us. reading_closing text c x us h) (ih None e))
-    by roles.Comment h ih =
+    by_role roles.Comment h ih =
         subst (SplitIf text c (x ∷ xs) f) (sym (reading_comment text c x xs h))
         (λ e. split_cons text c c x xs f _ (λ us. reading_comment text c x us h) (ih c e))
-    by roles.Faulty h ih =
+    by_role roles.Faulty h ih =
         subst (SplitIf text c (x ∷ xs) f) (sym (reading_faulty text c x xs h)) (λ e.
         record {
           before = [];

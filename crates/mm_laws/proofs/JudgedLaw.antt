@@ -95,13 +95,13 @@ module _ (c : Context) (fine : (l : ℕ) → HasCompleteFrame c (c.rule l)) (ps 
       two [] h g = refl
       two (x ∷ []) h g = refl
       two (x ∷ y ∷ xs) h g = refl
-  at_end (more none l g cs) d p = go (bytes_eq g formula) refl
+  at_end (more none l g cs) d p = by_formula (bytes_eq g formula) refl
     where
-      go : (b : Bool) → bytes_eq g formula ≡ b → Judged
-      go true e =
+      by_formula : (b : Bool) → bytes_eq g formula ≡ b → Judged
+      by_formula true e =
           valid (more none l g cs)
           (l, cs, ap (λ z. tree l z cs) ((bytes_eq-Decides g formula).0 e), d, p)
-      go false e =
+      by_formula false e =
           end_fault (fault end OtherFormula)
           (record {
             forest = more none l g cs;
@@ -115,11 +115,11 @@ module _ (c : Context) (fine : (l : ℕ) → HasCompleteFrame c (c.rule l)) (ps 
   -- one of the three
   pub judged : AreGoodSteps c 0 (steps_of ps) → Judged
   judged good =
-      go (run_steps c [] (steps_of ps) []) (steps_outcome c (steps_of ps) [] [] none tt tt good)
+      by_result (run_steps c [] (steps_of ps) []) (steps_outcome c (steps_of ps) [] [] none tt tt good)
     where
-      go : (r : Result (List Formula) RunFailure) → StepsOutcome c [] [] (steps_of ps) r → Judged
-      go (Ok out) m = at_end m.2 m.3 (subst (λ x. Plain c [] [] (steps_of ps) x) (sym m.4) m.1)
-      go (Err e) m =
+      by_result : (r : Result (List Formula) RunFailure) → StepsOutcome c [] [] (steps_of ps) r → Judged
+      by_result (Ok out) m = at_end m.2 m.3 (subst (λ x. Plain c [] [] (steps_of ps) x) (sym m.4) m.1)
+      by_result (Err e) m =
           let s = split m.before m.after m.first ps m.splits in
           step_fault (fault s.at (code_of e.reason))
           (record {

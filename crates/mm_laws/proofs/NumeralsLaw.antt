@@ -88,37 +88,37 @@ number_exists (suc k) h =
 
 snoc_view : (xs : List ℕ) → (xs ≡ []) ⊎ ((ys : List ℕ) × (y : ℕ) × (xs ≡ ys ++ y ∷ []))
 snoc_view [] = inl refl
-snoc_view (x ∷ xs) = by (snoc_view xs)
+snoc_view (x ∷ xs) = by_rest (snoc_view xs)
   where
-    by : (xs ≡ []) ⊎ ((ys : List ℕ) × (y : ℕ) × (xs ≡ ys ++ y ∷ []))
+    by_rest : (xs ≡ []) ⊎ ((ys : List ℕ) × (y : ℕ) × (xs ≡ ys ++ y ∷ []))
         → (x ∷ xs ≡ []) ⊎ ((ys : List ℕ) × (y : ℕ) × (x ∷ xs ≡ ys ++ y ∷ []))
-    by (inl e) = inr ([], x, ap (λ zs. x ∷ zs) e)
-    by (inr r) = inr (x ∷ r.0, r.1, ap (λ zs. x ∷ zs) r.2)
+    by_rest (inl e) = inr ([], x, ap (λ zs. x ∷ zs) e)
+    by_rest (inr r) = inr (x ∷ r.0, r.1, ap (λ zs. x ∷ zs) r.2)
 
 early_letters : (fuel n : ℕ) (es fs : List ℕ) → n < fuel → AreEarlyDigits es n → AreEarlyDigits fs n
     → es ≡ fs
 early_letters zero n es fs l h k = absurd (omega arith)
 early_letters (suc fuel) n es fs l h k =
-    by (snoc_view es) (snoc_view fs) (λ m a b u. early_letters fuel m a b u)
+    by_last_letters (snoc_view es) (snoc_view fs) (λ m a b u. early_letters fuel m a b u)
   where
-    by : (es ≡ []) ⊎ ((ys : List ℕ) × (y : ℕ) × (es ≡ ys ++ y ∷ []))
+    by_last_letters : (es ≡ []) ⊎ ((ys : List ℕ) × (y : ℕ) × (es ≡ ys ++ y ∷ []))
         → (fs ≡ []) ⊎ ((ys : List ℕ) × (y : ℕ) × (fs ≡ ys ++ y ∷ []))
         → ((m : ℕ) (a b : List ℕ) → m < fuel → AreEarlyDigits a m → AreEarlyDigits b m → a ≡ b)
         → es ≡ fs
-    by (inl e) (inl f) on = e ∙ sym f
-    by (inl e) (inr f) on =
+    by_last_letters (inl e) (inl f) on = e ∙ sym f
+    by_last_letters (inl e) (inr f) on =
         let none : n ≡ 0 = subst (λ xs. AreEarlyDigits xs n) e h in
         let r = early_unsnoc f.0 f.1 n (subst (λ xs. AreEarlyDigits xs n) f.2 k) in
         let least = r.3.least in
         let is = r.4 in
         absurd (omega arith)
-    by (inr e) (inl f) on =
+    by_last_letters (inr e) (inl f) on =
         let none : n ≡ 0 = subst (λ xs. AreEarlyDigits xs n) f k in
         let r = early_unsnoc e.0 e.1 n (subst (λ xs. AreEarlyDigits xs n) e.2 h) in
         let least = r.3.least in
         let is = r.4 in
         absurd (omega arith)
-    by (inr e) (inr f) on =
+    by_last_letters (inr e) (inr f) on =
         let r = early_unsnoc e.0 e.1 n (subst (λ xs. AreEarlyDigits xs n) e.2 h) in
         let q = early_unsnoc f.0 f.1 n (subst (λ xs. AreEarlyDigits xs n) f.2 k) in
         let r_least = r.3.least in

@@ -64,15 +64,15 @@ unfolding head_or tail_of
 splits_of [] [] us vs x y e = inl (refl, ap (head_or x) e)
 splits_of [] (b ∷ ys) us vs x y e = inr (inl (ys, ap (λ z. z ∷ ys) (sym (ap (head_or x) e))))
 splits_of (a ∷ xs) [] us vs x y e = inr (inr (xs, ap (λ z. z ∷ xs) (ap (head_or y) e)))
-splits_of (a ∷ xs) (b ∷ ys) us vs x y e = go (splits_of xs ys us vs x y (ap tail_of e))
+splits_of (a ∷ xs) (b ∷ ys) us vs x y e = with_first (splits_of xs ys us vs x y (ap tail_of e))
   where
     same : a ≡ b
     same = ap (head_or a) e
 
-    go : Splits xs x ys y → Splits (a ∷ xs) x (b ∷ ys) y
-    go (inl h) = inl (ap₂ (λ p q. p ∷ q) same h.0, h.1)
-    go (inr (inl h)) = inr (inl (h.0, ap₂ (λ p q. p ∷ q) (sym same) h.1))
-    go (inr (inr h)) = inr (inr (h.0, ap₂ (λ p q. p ∷ q) same h.1))
+    with_first : Splits xs x ys y → Splits (a ∷ xs) x (b ∷ ys) y
+    with_first (inl h) = inl (ap₂ (λ p q. p ∷ q) same h.0, h.1)
+    with_first (inr (inl h)) = inr (inl (h.0, ap₂ (λ p q. p ∷ q) (sym same) h.1))
+    with_first (inr (inr h)) = inr (inr (h.0, ap₂ (λ p q. p ∷ q) same h.1))
 
 -- ---- faults of steps and of the end
 
@@ -119,10 +119,10 @@ module _ (c : Context) (fine : (l : ℕ) → HasCompleteFrame c (c.rule l)) wher
   pub step_fault_unique : (ps : List PlacedStep) (f g : Fault) → StepFault c ps f → StepFault c ps g
       → f ≡ g
   step_fault_unique ps f g s t =
-      go (splits_of s.before t.before s.after t.after s.first t.first (sym s.splits ∙ t.splits))
+      by_split (splits_of s.before t.before s.after t.after s.first t.first (sym s.splits ∙ t.splits))
     where
-      go : Splits s.before s.first t.before t.first → f ≡ g
-      go (inl e) =
+      by_split : Splits s.before s.first t.before t.first → f ≡ g
+      by_split (inl e) =
           let plain = subst (λ x. IsPlain c (map (λ p. p.step) x) (postfix s.forest)) e.0 s.plain in
           let forest : s.forest ≡ t.forest =
           same_forest c fine s.forest t.forest s.derivations t.derivations
@@ -134,8 +134,8 @@ module _ (c : Context) (fine : (l : ℕ) → HasCompleteFrame c (c.rule l)) wher
           s.is ∙ ap₂ (λ p r. fault p.at (code_of r)) e.1
           (reason_unique t.first.step (formulas t.forest) s.reason t.reason fails t.fails)
           ∙ sym t.is
-      go (inr (inl h)) = absurd (no_later ps f s t.forest t.before h.0 t.derivations t.plain h.1)
-      go (inr (inr h)) = absurd (no_later ps g t s.forest s.before h.0 s.derivations s.plain h.1)
+      by_split (inr (inl h)) = absurd (no_later ps f s t.forest t.before h.0 t.derivations t.plain h.1)
+      by_split (inr (inr h)) = absurd (no_later ps g t s.forest s.before h.0 s.derivations s.plain h.1)
 
   code_unique : (xs : List Formula) (formula : Formula) (a b : Code) → IsEndCode c xs formula a
       → IsEndCode c xs formula b → a ≡ b
@@ -164,31 +164,31 @@ module _ (db : List Statement) (fine : AreComplete db) where
   proof_fault_unique k end f g (inl h) (inl i) = let e : Some f ≡ Some g = sym h ∙ i in cc
   proof_fault_unique k end f g (inl h) (inr i) = absurd (no_least (reading_faults_at db k) f i.0 h)
   proof_fault_unique k end f g (inr h) (inl i) = absurd (no_least (reading_faults_at db k) g h.0 i)
-  proof_fault_unique k end f g (inr h) (inr i) = go h.1 i.1
+  proof_fault_unique k end f g (inr h) (inr i) = by_kinds h.1 i.1
     where
-      go : StepFault (context_at db k) (steps_at db k) f
+      by_kinds : StepFault (context_at db k) (steps_at db k) f
           ⊎ proof.ProofEndFault (context_at db k) (steps_at db k) (formula_at db k) end f
           → StepFault (context_at db k) (steps_at db k) g
           ⊎ proof.ProofEndFault (context_at db k) (steps_at db k) (formula_at db k) end g → f ≡ g
-      go (inl s) (inl t) = step_fault_unique (context_at db k) (fine k) (steps_at db k) f g s t
-      go (inl s) (inr t) =
+      by_kinds (inl s) (inl t) = step_fault_unique (context_at db k) (fine k) (steps_at db k) f g s t
+      by_kinds (inl s) (inr t) =
           absurd (no_both_faults (context_at db k) (fine k) (steps_at db k)
           (formula_at db k) end f g s t)
-      go (inr s) (inl t) =
+      by_kinds (inr s) (inl t) =
           absurd (no_both_faults (context_at db k) (fine k) (steps_at db k)
           (formula_at db k) end g f t s)
-      go (inr s) (inr t) =
+      by_kinds (inr s) (inr t) =
           end_fault_unique (context_at db k) (fine k) (steps_at db k) (formula_at db k) end f g s t
 
   pub valid_no_fault : (k end : ℕ) (f : Fault) → IsValid db k → ProofFault db k end f → ⊥
   valid_no_fault k end f v (inl h) = no_least (reading_faults_at db k) f v.0 h
-  valid_no_fault k end f v (inr h) = go h.1
+  valid_no_fault k end f v (inr h) = by_kind h.1
     where
-      go : StepFault (context_at db k) (steps_at db k) f
+      by_kind : StepFault (context_at db k) (steps_at db k) f
           ⊎ proof.ProofEndFault (context_at db k) (steps_at db k) (formula_at db k) end f → ⊥
-      go (inl s) =
+      by_kind (inl s) =
           no_step_fault (context_at db k) (fine k) (steps_at db k) (formula_at db k) end v.1 v.2 f s
-      go (inr t) =
+      by_kind (inr t) =
           no_end_fault (context_at db k) (fine k) (steps_at db k) (formula_at db k) end v.1 v.2 f t
 
   earlier : (j k : ℕ) (f g : Fault) → j < k → FirstProofFault db j f → FirstProofFault db k g → ⊥
@@ -196,14 +196,14 @@ module _ (db : List Statement) (fine : AreComplete db) where
 
   first_proof_unique : (j k : ℕ) (f g : Fault) → FirstProofFault db j f → FirstProofFault db k g
       → f ≡ g
-  first_proof_unique j k f g h i = go (cases_order j k)
+  first_proof_unique j k f g h i = by_order (cases_order j k)
     where
-      go : (j ≡ k) ⊎ ((j < k) ⊎ (k < j)) → f ≡ g
-      go (inl e) =
+      by_order : (j ≡ k) ⊎ ((j < k) ⊎ (k < j)) → f ≡ g
+      by_order (inl e) =
           proof_fault_unique k (proof_end (slice_get db k)) f g
           (subst (λ n. ProofFault db n (proof_end (slice_get db n)) f) e h.2) i.2
-      go (inr (inl l)) = absurd (earlier j k f g l h i)
-      go (inr (inr l)) = absurd (earlier k j g f l i h)
+      by_order (inr (inl l)) = absurd (earlier j k f g l h i)
+      by_order (inr (inr l)) = absurd (earlier k j g f l i h)
 
 -- ---- rows of marks
 
@@ -250,7 +250,7 @@ begins_front before zs x b = (
 
 shape_unique : (ts : List Token) (f g : Fault) → ShapeFault ts f → ShapeFault ts g → f ≡ g
 shape_unique ts f g s t =
-    go (splits_of s.before t.before s.after t.after s.first t.first (sym s.splits ∙ t.splits))
+    by_split (splits_of s.before t.before s.after t.after s.first t.first (sym s.splits ∙ t.splits))
   where
     Code : List Token → Token → Fault → Type 0
     Code before first f =
@@ -264,13 +264,13 @@ shape_unique ts f g s t =
     codes before first (inr h) (inl k) = absurd (h.0 k.0)
     codes before first (inr h) (inr k) = h.1 ∙ sym k.1
 
-    go : Splits s.before s.first t.before t.first → f ≡ g
-    go (inl e) =
+    by_split : Splits s.before s.first t.before t.first → f ≡ g
+    by_split (inl e) =
         codes t.before t.first
         (subst (λ x. Code t.before x f) e.1 (subst (λ b. Code b s.first f) e.0 s.code)) t.code
-    go (inr (inl h)) =
+    by_split (inr (inl h)) =
         absurd (s.no_more (begins_front s.before h.0 s.first (subst BeginStatements h.1 t.begins)))
-    go (inr (inr h)) =
+    by_split (inr (inr h)) =
         absurd (t.no_more (begins_front t.before h.0 t.first (subst BeginStatements h.1 s.begins)))
 
 same_statements : (ts : List Token) (a b : List Statement) → AreLongestStatements ts a → AreLongestStatements ts b → a ≡ b
@@ -278,7 +278,7 @@ same_statements ts a b h k = sym (longest_unique ts a h) ∙ longest_unique ts b
 
 end_unique : (len : ℕ) (ts : List Token) (f g : Fault) → FileEndFault len ts f
     → FileEndFault len ts g → f ≡ g
-end_unique len ts f g s t = go s.code t.code
+end_unique len ts f g s t = by_kinds s.code t.code
   where
     rest : s.are_statements.rest ≡ t.are_statements.rest
     rest =
@@ -288,17 +288,17 @@ end_unique len ts f g s t = go s.code t.code
         (same_statements ts s.statements t.statements s.are_statements t.are_statements) s.are_statements.splits)
         ∙ t.are_statements.splits)
 
-    go : ((s.are_statements.rest ≢ []) × (f ≡ fault len OpenStatement))
+    by_kinds : ((s.are_statements.rest ≢ []) × (f ≡ fault len OpenStatement))
         ⊎ ((s.are_statements.rest ≡ []) × (count_by is_closing s.statements < count_by is_opening s.statements)
         × (f ≡ fault len OpenBlock))
         → ((t.are_statements.rest ≢ []) × (g ≡ fault len OpenStatement))
         ⊎ ((t.are_statements.rest ≡ []) × (count_by is_closing t.statements < count_by is_opening t.statements)
         × (g ≡ fault len OpenBlock))
         → f ≡ g
-    go (inl h) (inl k) = h.1 ∙ sym k.1
-    go (inl h) (inr k) = absurd (h.0 (rest ∙ k.0))
-    go (inr h) (inl k) = absurd (k.0 (sym rest ∙ h.0))
-    go (inr h) (inr k) = h.2 ∙ sym k.2
+    by_kinds (inl h) (inl k) = h.1 ∙ sym k.1
+    by_kinds (inl h) (inr k) = absurd (h.0 (rest ∙ k.0))
+    by_kinds (inr h) (inl k) = absurd (k.0 (sym rest ∙ h.0))
+    by_kinds (inr h) (inr k) = h.2 ∙ sym k.2
 
 text_fault_unique : (len : ℕ) (ts : List Token) (o : Option Fault) (f g : Fault)
     → TextFault len (record { tokens = ts; fault = o }) f
@@ -322,15 +322,15 @@ unfolding head_or tail_of
 fronts_of [] [] us vs e = inl (refl, e)
 fronts_of [] (b ∷ ys) us vs e = inr (inl (b, ys ++ vs, e, omega arith))
 fronts_of (a ∷ xs) [] us vs e = inr (inr (a, xs ++ us, sym e, omega arith))
-fronts_of (a ∷ xs) (b ∷ ys) us vs e = go (fronts_of xs ys us vs (ap tail_of e))
+fronts_of (a ∷ xs) (b ∷ ys) us vs e = with_first (fronts_of xs ys us vs (ap tail_of e))
   where
     same : a ≡ b
     same = ap (head_or a) e
 
-    go : Fronts xs us ys vs → Fronts (a ∷ xs) us (b ∷ ys) vs
-    go (inl h) = inl (ap₂ (λ p q. p ∷ q) same h.0, h.1)
-    go (inr (inl h)) = let l = h.3 in inr (inl (h.0, h.1, h.2, omega (arith, l)))
-    go (inr (inr h)) = let l = h.3 in inr (inr (h.0, h.1, h.2, omega (arith, l)))
+    with_first : Fronts xs us ys vs → Fronts (a ∷ xs) us (b ∷ ys) vs
+    with_first (inl h) = inl (ap₂ (λ p q. p ∷ q) same h.0, h.1)
+    with_first (inr (inl h)) = let l = h.3 in inr (inl (h.0, h.1, h.2, omega (arith, l)))
+    with_first (inr (inr h)) = let l = h.3 in inr (inr (h.0, h.1, h.2, omega (arith, l)))
 
 stops_unique : (len : ℕ) (x : LexedText) (statements db rest : List Statement) (f g : Option Fault)
     → StopsReading len x statements db rest f → StopsReading len x statements db rest g → f ≡ g
@@ -352,11 +352,11 @@ shorter len x a b f g h k s zs is lt =
 read_unique : (len : ℕ) (x : LexedText) (a b : List Statement) (f g : Option Fault)
     → IsRead len x a f → IsRead len x b g → (a ≡ b) × (f ≡ g)
 read_unique len x a b f g h k =
-    go (fronts_of a b h.rest k.rest
+    by_front (fronts_of a b h.rest k.rest
     (sym h.splits ∙ same_statements x.tokens h.statements k.statements h.are_statements k.are_statements ∙ k.splits))
   where
-    go : Fronts a h.rest b k.rest → (a ≡ b) × (f ≡ g)
-    go (inl e) = (
+    by_front : Fronts a h.rest b k.rest → (a ≡ b) × (f ≡ g)
+    by_front (inl e) = (
       e.0,
       stops_unique len x k.statements b k.rest f g
           (subst (λ r. StopsReading len x r b k.rest f) (same_statements x.tokens h.statements k.statements h.are_statements k.are_statements)
@@ -364,8 +364,8 @@ read_unique len x a b f g h k =
           (subst (λ d. StopsReading len x h.statements d h.rest f) e.0 h.stops)))
           k.stops,
     )
-    go (inr (inl l)) = absurd (shorter len x a b f g h k l.0 l.1 l.2 l.3)
-    go (inr (inr l)) = absurd (shorter len x b a g f k h l.0 l.1 l.2 l.3)
+    by_front (inr (inl l)) = absurd (shorter len x a b f g h k l.0 l.1 l.2 l.3)
+    by_front (inr (inr l)) = absurd (shorter len x b a g f k h l.0 l.1 l.2 l.3)
 
 -- ---- the output
 
@@ -398,25 +398,25 @@ module _ (len : ℕ) (x : LexedText) (with_open : Bool) where
   unfolding Cause
   first_fault_unique f g h k =
       let same = read_unique len x h.0 k.0 h.1 k.1 h.2 k.2 in
-      go (subst (λ d. Cause d k.1 f) same.0 (subst (λ o. Cause h.0 o f) same.1 h.3)) k.3
+      by_causes (subst (λ d. Cause d k.1 f) same.0 (subst (λ o. Cause h.0 o f) same.1 h.3)) k.3
     where
-      go : Cause k.0 k.1 f → Cause k.0 k.1 g → f ≡ g
-      go (inl a) (inl b) =
+      by_causes : Cause k.0 k.1 f → Cause k.0 k.1 g → f ≡ g
+      by_causes (inl a) (inl b) =
           first_proof_unique (counted with_open k.0) (complete k.0 k.1 k.2) a.0 b.0 f g a.1 b.1
-      go (inl a) (inr b) = absurd (not_both k.0 k.1 k.2 a.0 f a.1 b.0)
-      go (inr a) (inl b) = absurd (not_both k.0 k.1 k.2 b.0 g b.1 a.0)
-      go (inr a) (inr b) = let e : Some f ≡ Some g = sym a.1 ∙ b.1 in cc
+      by_causes (inl a) (inr b) = absurd (not_both k.0 k.1 k.2 a.0 f a.1 b.0)
+      by_causes (inr a) (inl b) = absurd (not_both k.0 k.1 k.2 b.0 g b.1 a.0)
+      by_causes (inr a) (inr b) = let e : Some f ≡ Some g = sym a.1 ∙ b.1 in cc
 
   no_both : (f : Fault) (db : List Statement) → FirstFault len x with_open f
       → HasNoFault len x with_open db → ⊥
   unfolding Cause
   no_both f db h k =
       let same = read_unique len x h.0 db h.1 None h.2 k.0 in
-      go (subst (λ d. Cause d None f) same.0 (subst (λ o. Cause h.0 o f) same.1 h.3))
+      by_cause (subst (λ d. Cause d None f) same.0 (subst (λ o. Cause h.0 o f) same.1 h.3))
     where
-      go : Cause db None f → ⊥
-      go (inl a) = not_both db None k.0 a.0 f a.1 k.1
-      go (inr a) = let e : None ≡ Some f = a.1 in cc
+      by_cause : Cause db None f → ⊥
+      by_cause (inl a) = not_both db None k.0 a.0 f a.1 k.1
+      by_cause (inr a) = let e : None ≡ Some f = a.1 in cc
 
 -- ---- rows of citations
 

@@ -57,7 +57,7 @@ some_below P (suc n) each =
 module _ (db : List Statement) (by_essential : Bool) (fine : AreComplete db)
     (valid : AreValid db (length db)) where
   pub cites_decided : (t a : ℕ) → IsDecided (Cites db by_essential t a)
-  cites_decided t a = by (is_theorem_at db t) refl
+  cites_decided t a = by_is_theorem (is_theorem_at db t) refl
     where
       of : IsValid db t → IsDecided (Cites db by_essential t a)
       of v =
@@ -73,9 +73,9 @@ module _ (db : List Statement) (by_essential : Bool) (fine : AreComplete db)
             ),
           )
 
-      by : (b : Bool) → is_theorem_at db t ≡ b → IsDecided (Cites db by_essential t a)
-      by true e = let f = found_at db is_theorem t e in of (valid t (inside_of db t f.0 f.1) e)
-      by false e = (
+      by_is_theorem : (b : Bool) → is_theorem_at db t ≡ b → IsDecided (Cites db by_essential t a)
+      by_is_theorem true e = let f = found_at db is_theorem t e in of (valid t (inside_of db t f.0 f.1) e)
+      by_is_theorem false e = (
         false,
         (
           (λ h. absurd (true≢false (sym h))),

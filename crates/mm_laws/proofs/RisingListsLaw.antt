@@ -19,13 +19,13 @@ first_below : (x : ℕ) (xs : List ℕ) → IsStrictlyIncreasing (x ∷ xs) → 
     → is_member xs a ≡ true → x < a
 first_below x [] h a m = absurd (true≢false (sym m))
 first_below x (y ∷ ys) h a m =
-    by (or_cases (a == y) (is_member ys a) m) (h 0 (omega arith))
+    at_first_or_later (or_cases (a == y) (is_member ys a) m) (h 0 (omega arith))
     (λ q. first_below y ys (rising_tail x (y ∷ ys) h) a q)
   where
-    by : ((a == y) ≡ true) ⊎ (is_member ys a ≡ true) → x < y → (is_member ys a ≡ true → y < a)
+    at_first_or_later : ((a == y) ≡ true) ⊎ (is_member ys a ≡ true) → x < y → (is_member ys a ≡ true → y < a)
         → x < a
-    by (inl e) l on = let same : a ≡ y = eqb-true a y e in omega arith
-    by (inr q) l on = let r = on q in omega arith
+    at_first_or_later (inl e) l on = let same : a ≡ y = eqb-true a y e in omega arith
+    at_first_or_later (inr q) l on = let r = on q in omega arith
 
 own_member : (x : ℕ) (xs : List ℕ) → is_member (x ∷ xs) x ≡ true
 own_member x xs = or_left (x == x) (is_member xs x) (eq-eqb x x refl)
@@ -41,11 +41,11 @@ same_list (x ∷ xs) (y ∷ ys) h k same =
   where
     in_front : (a b : ℕ) (bs : List ℕ) → IsStrictlyIncreasing (b ∷ bs) → is_member (b ∷ bs) a ≡ true
         → b ≤ a
-    in_front a b bs r m = by (or_cases (a == b) (is_member bs a) m)
+    in_front a b bs r m = at_first_or_later (or_cases (a == b) (is_member bs a) m)
       where
-        by : ((a == b) ≡ true) ⊎ (is_member bs a ≡ true) → b ≤ a
-        by (inl e) = let same : a ≡ b = eqb-true a b e in omega arith
-        by (inr q) = let l = first_below b bs r a q in omega arith
+        at_first_or_later : ((a == b) ≡ true) ⊎ (is_member bs a ≡ true) → b ≤ a
+        at_first_or_later (inl e) = let same : a ≡ b = eqb-true a b e in omega arith
+        at_first_or_later (inr q) = let l = first_below b bs r a q in omega arith
 
     first : x ≡ y
     first =
@@ -56,28 +56,28 @@ same_list (x ∷ xs) (y ∷ ys) h k same =
     -- what is after the one first element is after the other
     after : (a b c : ℕ) (bs cs : List ℕ) → b ≡ c → IsStrictlyIncreasing (b ∷ bs)
         → is_member bs a ≡ true → is_member (c ∷ cs) a ≡ true → is_member cs a ≡ true
-    after a b c bs cs e r m n = by (or_cases (a == c) (is_member cs a) n)
+    after a b c bs cs e r m n = at_first_or_later (or_cases (a == c) (is_member cs a) n)
       where
-        by : ((a == c) ≡ true) ⊎ (is_member cs a ≡ true) → is_member cs a ≡ true
-        by (inl q) =
+        at_first_or_later : ((a == c) ≡ true) ⊎ (is_member cs a ≡ true) → is_member cs a ≡ true
+        at_first_or_later (inl q) =
             let same : a ≡ c = eqb-true a c q in let l = first_below b bs r a m in
             absurd (omega (arith, same, l, e))
-        by (inr q) = q
+        at_first_or_later (inr q) = q
 
     others : (a : ℕ) → is_member xs a ≡ is_member ys a
-    others a = by (is_member xs a) (is_member ys a) refl refl
+    others a = by_members (is_member xs a) (is_member ys a) refl refl
       where
-        by : (p q : Bool) → is_member xs a ≡ p → is_member ys a ≡ q
+        by_members : (p q : Bool) → is_member xs a ≡ p → is_member ys a ≡ q
             → is_member xs a ≡ is_member ys a
-        by true q e f =
+        by_members true q e f =
             e ∙ sym (after a x y xs ys first h e
             (sym (same a) ∙ or_right (a == x) (is_member xs a) e))
-        by false true e f =
+        by_members false true e f =
             absurd (true≢false
             (sym (after a y x ys xs (sym first) k f
             (same a ∙ or_right (a == y) (is_member ys a) f))
             ∙ e))
-        by false false e f = e ∙ sym f
+        by_members false false e f = e ∙ sym f
 
 rising_cons : (x : ℕ) (xs : List ℕ) → IsStrictlyIncreasing xs
     → ((a : ℕ) → is_member xs a ≡ true → x < a) → IsStrictlyIncreasing (x ∷ xs)
@@ -105,11 +105,11 @@ list_of P each i zero = (
     ),
   ),
 )
-list_of P each i (suc n) = by (each i) (list_of P each (suc i) n)
+list_of P each i (suc n) = by_decision (each i) (list_of P each (suc i) n)
   where
-    by : IsDecided (P i) → (xs : List ℕ) × IsListOf P (suc i) n xs
+    by_decision : IsDecided (P i) → (xs : List ℕ) × IsListOf P (suc i) n xs
         → (xs : List ℕ) × IsListOf P i (suc n) xs
-    by (false, d) r = (
+    by_decision (false, d) r = (
       r.0,
       (
         r.1.0,
@@ -133,7 +133,7 @@ list_of P each i (suc n) = by (each i) (list_of P each (suc i) n)
                 above l =
                     let ne : a ≡ i → ⊥ = λ q. true≢false (sym (eq-eqb a i q) ∙ e) in
                     omega (arith, l, ne)
-    by (true, d) r = (
+    by_decision (true, d) r = (
       i ∷ r.0,
       (
         rising_cons i r.0 r.1.0

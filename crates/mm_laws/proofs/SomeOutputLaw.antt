@@ -41,12 +41,12 @@ some_report db opened request fine valid Usage =
 
 -- each text has an output
 pub output_exists : OutputExists
-output_exists text request = by (sound_or_faulty (length text) (lexed_of text) request.with_open)
+output_exists text request = sound_or_faulty_text (sound_or_faulty (length text) (lexed_of text) request.with_open)
   where
-    by : IsSoundOrFaulty (length text) (lexed_of text) request.with_open
+    sound_or_faulty_text : IsSoundOrFaulty (length text) (lexed_of text) request.with_open
         → (bytes : List ℕ) × IsOutput text request bytes
-    by (inl h) = (refusal text h.0, inl (h.0, h.1, refl))
-    by (inr h) =
+    sound_or_faulty_text (inl h) = (refusal text h.0, inl (h.0, h.1, refl))
+    sound_or_faulty_text (inr h) =
         let fine =
         counted_complete request.with_open h.0
         (reads_complete (length text) (lexed_of text) h.0 None h.1.0) in

@@ -49,13 +49,13 @@ get_append : {X : Type 0} (xs ys : List X) (n : ℕ) (x : X) → slice_get (xs +
     → (slice_get xs n ≡ Some x) ⊎ ((i : ℕ) × (n ≡ length xs + i) × (slice_get ys i ≡ Some x))
 get_append [] ys n x e = inr (n, omega arith, e)
 get_append (y ∷ xs) ys zero x e = inl e
-get_append (y ∷ xs) ys (suc n) x e = by (get_append xs ys n x e)
+get_append (y ∷ xs) ys (suc n) x e = in_front_or_back (get_append xs ys n x e)
   where
-    by : (slice_get xs n ≡ Some x) ⊎ ((i : ℕ) × (n ≡ length xs + i) × (slice_get ys i ≡ Some x))
+    in_front_or_back : (slice_get xs n ≡ Some x) ⊎ ((i : ℕ) × (n ≡ length xs + i) × (slice_get ys i ≡ Some x))
         → (slice_get xs n ≡ Some x)
         ⊎ ((i : ℕ) × (suc n ≡ suc (length xs) + i) × (slice_get ys i ≡ Some x))
-    by (inl h) = inl h
-    by (inr h) = let e = h.1 in inr (h.0, omega arith, h.2)
+    in_front_or_back (inl h) = inl h
+    in_front_or_back (inr h) = let e = h.1 in inr (h.0, omega arith, h.2)
 
 get_only : {X : Type 0} (y x : X) (i : ℕ) → slice_get (y ∷ []) i ≡ Some x → (i ≡ 0) × (y ≡ x)
 get_only y x zero e = (refl, cc)
@@ -85,13 +85,13 @@ AreMarks before marks = (k i : ℕ) → slice_get marks k ≡ Some i → IsMark 
 marks_more : (before : List Item) (marks : List ℕ) (count : ℕ) → 0 < count
     → count ≡ count_by is_number before → length marks ≡ count_by is_mark_item before
     → AreMarks before marks → AreMarks (before ++ mark ∷ []) (marks ++ (count - 1) ∷ [])
-marks_more before marks count h c m are k i e = by (get_append marks ((count - 1) ∷ []) k i e)
+marks_more before marks count h c m are k i e = earlier_or_new_mark (get_append marks ((count - 1) ∷ []) k i e)
   where
-    by : (slice_get marks k ≡ Some i)
+    earlier_or_new_mark : (slice_get marks k ≡ Some i)
         ⊎ ((j : ℕ) × (k ≡ length marks + j) × (slice_get ((count - 1) ∷ []) j ≡ Some i))
         → IsMark (before ++ mark ∷ []) k i
-    by (inl f) = mark_more before (mark ∷ []) k i (are k i f)
-    by (inr f) =
+    earlier_or_new_mark (inl f) = mark_more before (mark ∷ []) k i (are k i f)
+    earlier_or_new_mark (inr f) =
         let r = get_only (count - 1) i f.0 f.2 in
         let zero_j = r.0 in
         let is = r.1 in
@@ -184,7 +184,7 @@ module _ (hypotheses labels : List ℕ) where
       × NamesStep hypotheses labels before n s
   number_named before marks zero h l are = absurd (omega arith)
   number_named before marks (suc n) h l are =
-      by (slice_get (hypotheses ++ labels) n) refl
+      by_label_or_mark (slice_get (hypotheses ++ labels) n) refl
       (slice_get marks (n - length (hypotheses ++ labels))) refl
     where
       out : Option ℕ → Option ℕ → List Step
@@ -198,11 +198,11 @@ module _ (hypotheses labels : List ℕ) where
       of_label j (inl e) = inl (n, omega arith, e)
       of_label j (inr e) = let is = e.1 in inr (e.0, omega arith, e.2)
 
-      by : (a : Option ℕ) → slice_get (hypotheses ++ labels) n ≡ a → (b : Option ℕ)
+      by_label_or_mark : (a : Option ℕ) → slice_get (hypotheses ++ labels) n ≡ a → (b : Option ℕ)
           → slice_get marks (n - length (hypotheses ++ labels)) ≡ b
           → (s : Step) × (out a b ≡ s ∷ []) × NamesStep hypotheses labels before (suc n) s
-      by (Some j) e b f = (label j, refl, of_label j (get_append hypotheses labels n j e))
-      by None e (Some i) f =
+      by_label_or_mark (Some j) e b f = (label j, refl, of_label j (get_append hypotheses labels n j e))
+      by_label_or_mark None e (Some i) f =
           let x = get_none (hypotheses ++ labels) n e in
           let all = length-append hypotheses labels in (
             marked i,
@@ -214,7 +214,7 @@ module _ (hypotheses labels : List ℕ) where
                   (n - length (hypotheses ++ labels)) i f,
             ),
           )
-      by None e None f =
+      by_label_or_mark None e None f =
           let x = get_none (hypotheses ++ labels) n e in
           let y = get_none marks (n - length (hypotheses ++ labels)) f in
           let all = length-append hypotheses labels in
@@ -233,7 +233,7 @@ module _ (hypotheses labels : List ℕ) where
       → IsSaid before (map item_of gs) (bare (group_steps (hypotheses ++ labels) marks count gs))
   said [] before marks count c m are f = said_nothing before
   said (g ∷ gs) before marks count c m are f =
-      by f
+      number_or_mark f
       (λ n k. said gs (before ++ number n ∷ []) marks (count + 1)
       (omega (arith, count_append is_number before (number n ∷ [])))
       (omega (arith, count_append is_mark_item before (number n ∷ [])))
@@ -260,7 +260,7 @@ module _ (hypotheses labels : List ℕ) where
         | false ↦ group_steps (hypotheses ++ labels) (marks ++ (count - 1) ∷ []) count gs
       ]
 
-      by : AreFine (length hypotheses + length labels) (length marks) count (g ∷ gs)
+      number_or_mark : AreFine (length hypotheses + length labels) (length marks) count (g ∷ gs)
           → ((n : ℕ) → AreFine (length hypotheses + length labels) (length marks) (count + 1) gs
           → IsSaid (before ++ number n ∷ []) (map item_of gs)
           (bare (group_steps (hypotheses ++ labels) marks (count + 1) gs)))
@@ -269,7 +269,7 @@ module _ (hypotheses labels : List ℕ) where
           (bare (group_steps (hypotheses ++ labels) (marks ++ (count - 1) ∷ []) count gs)))
           → IsSaid before (item (is_last g.last.byte) ∷ map item_of gs)
           (bare (out (is_last g.last.byte)))
-      by (inl k) on marking =
+      number_or_mark (inl k) on marking =
           let low =
           leb-true 65 g.last.byte
           (and_parts (nat_le 65 g.last.byte) (nat_le g.last.byte 84) k.0).0 in
@@ -282,7 +282,7 @@ module _ (hypotheses labels : List ℕ) where
           (subst (λ ss. IsSaid before (number (value g) ∷ map item_of gs)
           (bare (map (placed (starts_at g)) ss
           ++ group_steps (hypotheses ++ labels) marks (count + 1) gs))) (sym s.1) whole)
-      by (inr k) on marking =
+      number_or_mark (inr k) on marking =
           subst (λ b. IsSaid before (item b ∷ map item_of gs) (bare (out b))) (sym k.0)
           (said_mark before (map item_of gs)
           (bare (group_steps (hypotheses ++ labels) (marks ++ (count - 1) ∷ []) count gs))
@@ -319,12 +319,12 @@ label_fresh n d _ w h m = absurd (true≢false (sym m))
 
 labelled_word : (s : Statement) (w : Bytes) → is_labelled w s ≡ true
     → is_in w (label_words s) ≡ true
-labelled_word s w e = by (label_of s) e
+labelled_word s w e = by_label (label_of s) e
   where
-    by : (o : Option Token) → elim o [ None ↦ false | Some l ↦ bytes_eq l.word w ] ≡ true
+    by_label : (o : Option Token) → elim o [ None ↦ false | Some l ↦ bytes_eq l.word w ] ≡ true
         → is_in w (elim o [ None ↦ [] | Some l ↦ l.word ∷ [] ]) ≡ true
-    by None h = absurd (true≢false (sym h))
-    by (Some l) h =
+    by_label None h = absurd (true≢false (sym h))
+    by_label (Some l) h =
         or_left (bytes_eq w l.word) false
         ((bytes_eq-Decides w l.word).1 (sym (same_word l.word w h)))
 
@@ -333,9 +333,9 @@ one_in_range : (test : ℕ → Bool) → ((i j : ℕ) → test i ≡ true → te
     → (filter test (range_with_len a n) ≡ [])
     ⊎ ((j : ℕ) × (filter test (range_with_len a n) ≡ j ∷ []) × (test j ≡ true) × (a ≤ j))
 one_in_range test one zero a = inl refl
-one_in_range test one (suc n) a = by (test a) refl (one_in_range test one n (a + 1))
+one_in_range test one (suc n) a = by_test (test a) refl (one_in_range test one n (a + 1))
   where
-    by : (b : Bool) → test a ≡ b
+    by_test : (b : Bool) → test a ≡ b
         → (filter test (range_with_len (a + 1) n) ≡ [])
         ⊎ ((j : ℕ) × (filter test (range_with_len (a + 1) n) ≡ j ∷ []) × (test j ≡ true)
         × (a + 1 ≤ j))
@@ -347,10 +347,10 @@ one_in_range test one (suc n) a = by (test a) refl (one_in_range test one n (a +
         (filter test (range_with_len (a + 1) n))
         ≡ j ∷ [])
         × (test j ≡ true) × (a ≤ j))
-    by true e (inl h) = inr (a, ap (λ xs. a ∷ xs) h, e, omega arith)
-    by true e (inr h) = let same = one a h.0 e h.2 in let l = h.3 in absurd (omega arith)
-    by false e (inl h) = inl h
-    by false e (inr h) = let l = h.3 in inr (h.0, h.1, h.2, omega arith)
+    by_test true e (inl h) = inr (a, ap (λ xs. a ∷ xs) h, e, omega arith)
+    by_test true e (inr h) = let same = one a h.0 e h.2 in let l = h.3 in absurd (omega arith)
+    by_test false e (inl h) = inl h
+    by_test false e (inr h) = let l = h.3 in inr (h.0, h.1, h.2, omega arith)
 
 abbrev pub HasLabel : List Statement → Bytes → ℕ → Type 0
 HasLabel db w j = list_any (is_labelled w) (statement_at db j) ≡ true
@@ -379,12 +379,12 @@ module _ (db : List Statement) (law : (k : ℕ) → k < length db → IsLawful d
       true≢false (sym (declares label_words db j i s.0 w s.1 l (labelled_word s.0 w s.2)) ∙ fresh)
 
   label_once : LabelsDiffer db
-  label_once w i j h k = by (cases_order i j)
+  label_once w i j h k = by_order (cases_order i j)
     where
-      by : (i ≡ j) ⊎ ((i < j) ⊎ (j < i)) → i ≡ j
-      by (inl e) = e
-      by (inr (inl l)) = absurd (apart w i j l h k)
-      by (inr (inr l)) = absurd (apart w j i l k h)
+      by_order : (i ≡ j) ⊎ ((i < j) ⊎ (j < i)) → i ≡ j
+      by_order (inl e) = e
+      by_order (inr (inl l)) = absurd (apart w i j l h k)
+      by_order (inr (inr l)) = absurd (apart w j i l k h)
 
 -- the labels of what is read differ, as it counts
 pub labels_differ : (len : ℕ) (x : LexedText) (db : List Statement) (fault : Option Fault)
@@ -401,7 +401,7 @@ module _ (db : List Statement) (differ : LabelsDiffer db) where
   module _ (k : ℕ) where
     pub usable_one : (t : Token) → proof_label_faults db k t ≡ []
         → (j : ℕ) × (usable db k t.word ≡ j ∷ []) × IsUsable db k t.word j
-    usable_one t e = by (one_in_range test once k 0)
+    usable_one t e = none_or_one (one_in_range test once k 0)
       where
         test : ℕ → Bool
         test j = is_active db j k && list_any (is_labelled t.word) (statement_at db j)
@@ -418,11 +418,11 @@ module _ (db : List Statement) (differ : LabelsDiffer db) where
         no_fault : usable db k t.word ≡ [] → ⊥
         no_fault n = let f : fault_of [] ≡ [] = ap fault_of (sym n) ∙ e in cc
 
-        by : (usable db k t.word ≡ [])
+        none_or_one : (usable db k t.word ≡ [])
             ⊎ ((j : ℕ) × (usable db k t.word ≡ j ∷ []) × (test j ≡ true) × (0 ≤ j))
             → (j : ℕ) × (usable db k t.word ≡ j ∷ []) × IsUsable db k t.word j
-        by (inl n) = absurd (no_fault n)
-        by (inr h) =
+        none_or_one (inl n) = absurd (no_fault n)
+        none_or_one (inr h) =
             let p =
             and_parts (is_active db h.0 k)
             (list_any (is_labelled t.word) (statement_at db h.0)) h.2 in (
@@ -461,12 +461,12 @@ module _ (db : List Statement) (differ : LabelsDiffer db) where
     normal_labels (t ∷ ts) e =
         let own : List Fault = own_faults t (bytes_eq t.word (codes "?")) in
         let more : List Fault = flat_map (λ u. own_faults u (bytes_eq u.word (codes "?"))) ts in
-        ap₂ (λ xs ys. xs ++ ys) (by (bytes_eq t.word (codes "?")) (append_none own more e).0)
+        ap₂ (λ xs ys. xs ++ ys) (by_question_mark (bytes_eq t.word (codes "?")) (append_none own more e).0)
         (normal_labels ts (append_none own more e).1)
       where
-        by : (b : Bool) → own_faults t b ≡ [] → proof_label_faults db k t ≡ []
-        by true h = absurd (cc)
-        by false h = h
+        by_question_mark : (b : Bool) → own_faults t b ≡ [] → proof_label_faults db k t ≡ []
+        by_question_mark true h = absurd (cc)
+        by_question_mark false h = h
 
     labels_are : (ts : List Token) → flat_map (proof_label_faults db k) ts ≡ []
         → AllZip (λ u s. (j : ℕ) × (s ≡ label j) × IsUsable db k u.word j) ts
@@ -488,7 +488,7 @@ module _ (db : List Statement) (differ : LabelsDiffer db) where
         → t.word ≢ codes "("
         → AllZip (λ u s. (j : ℕ) × (s ≡ label j) × IsUsable db k u.word j) (t ∷ ts)
         (bare_steps db k (t ∷ ts))
-    normal_are end t ts f ne = by (bytes_eq t.word (codes "(")) refl f
+    normal_are end t ts f ne = by_bracket (bytes_eq t.word (codes "(")) refl f
       where
         faults : Bool → List Fault
         faults b =
@@ -504,11 +504,11 @@ module _ (db : List Statement) (differ : LabelsDiffer db) where
               | false ↦ normal_steps db k (t ∷ ts)
             ]
 
-        by : (b : Bool) → bytes_eq t.word (codes "(") ≡ b → faults b ≡ []
+        by_bracket : (b : Bool) → bytes_eq t.word (codes "(") ≡ b → faults b ≡ []
             → AllZip (λ u s. (j : ℕ) × (s ≡ label j) × IsUsable db k u.word j) (t ∷ ts)
             (map (λ p. p.step) (out b))
-        by true e g = absurd (ne (same_word t.word (codes "(") e))
-        by false e g = labels_are (t ∷ ts) (normal_labels (t ∷ ts) g)
+        by_bracket true e g = absurd (ne (same_word t.word (codes "(") e))
+        by_bracket false e g = labels_are (t ∷ ts) (normal_labels (t ∷ ts) g)
 
     named : (end : ℕ) (labels letters : List Token) (items : List Item)
         → compressed_faults db k end (record { labels = labels; letters = Some letters }) ≡ []

@@ -169,15 +169,15 @@ pub bracketed_is : (labels : List Token) (closing : Token) (letters : List Token
 bracketed_is [] closing letters e h =
     ap (one_more closing letters) ((bytes_eq-Decides closing.word (codes ")")).1 e)
 bracketed_is (t ∷ labels) closing letters e h =
-    by (bytes_eq t.word (codes ")")) refl (bracketed_is labels closing letters e h.1)
+    by_bracket (bytes_eq t.word (codes ")")) refl (bracketed_is labels closing letters e h.1)
   where
-    by : (b : Bool) → bytes_eq t.word (codes ")") ≡ b
+    by_bracket : (b : Bool) → bytes_eq t.word (codes ")") ≡ b
         → bracketed (labels ++ closing ∷ letters)
         ≡ record { labels = labels; letters = Some letters }
         → one_more t (labels ++ closing ∷ letters) b
         ≡ record { labels = t ∷ labels; letters = Some letters }
-    by true q r = absurd (h.0 (same_word t.word (codes ")") q))
-    by false q r = ap (with_label t) r
+    by_bracket true q r = absurd (h.0 (same_word t.word (codes ")") q))
+    by_bracket false q r = ap (with_label t) r
 
 pub parts_unique : PartsAreUnique
 parts_unique ts labels letters others more h k =
@@ -204,11 +204,11 @@ pub record Parts (ts letters : List Token) : Type 0 where
 
 pub parts_of : (ts letters : List Token) → (bracketed ts).letters ≡ Some letters → Parts ts letters
 parts_of [] letters e = absurd (cc)
-parts_of (t ∷ ts) letters e = by (bytes_eq t.word (codes ")")) refl e (λ h. parts_of ts letters h)
+parts_of (t ∷ ts) letters e = by_bracket (bytes_eq t.word (codes ")")) refl e (λ h. parts_of ts letters h)
   where
-    by : (b : Bool) → bytes_eq t.word (codes ")") ≡ b → (one_more t ts b).letters ≡ Some letters
+    by_bracket : (b : Bool) → bytes_eq t.word (codes ")") ≡ b → (one_more t ts b).letters ≡ Some letters
         → ((bracketed ts).letters ≡ Some letters → Parts ts letters) → Parts (t ∷ ts) letters
-    by true q h on =
+    by_bracket true q h on =
         let same : ts ≡ letters = cc in
         record {
           labels = [];
@@ -217,7 +217,7 @@ parts_of (t ∷ ts) letters e = by (bytes_eq t.word (codes ")")) refl e (λ h. p
           closes = same_word t.word (codes ")") q;
           first = tt;
         }
-    by false q h on =
+    by_bracket false q h on =
         let r = on h in
         record {
           labels = t ∷ r.labels;
@@ -257,7 +257,7 @@ pub fine_of : (gs : List Group) (many marks count : ℕ) → group_faults many m
     → AreFine many marks count gs
 fine_of [] many marks count f = tt
 fine_of (g ∷ gs) many marks count f =
-    by (is_last g.last.byte) refl (g.last.byte == 90) refl f
+    by_letter (is_last g.last.byte) refl (g.last.byte == 90) refl f
     (λ e. fine_of gs many marks (count + 1) e)
     (λ e. fine_of gs many (marks + 1) count e)
   where
@@ -284,17 +284,17 @@ fine_of (g ∷ gs) many marks count f =
     other true e = cc
     other false e = cc
 
-    by : (a : Bool) → is_last g.last.byte ≡ a → (b : Bool) → (g.last.byte == 90) ≡ b
+    by_letter : (a : Bool) → is_last g.last.byte ≡ a → (b : Bool) → (g.last.byte == 90) ≡ b
         → first a b ++ second b ≡ []
         → (group_faults many marks (count + 1) gs ≡ [] → AreFine many marks (count + 1) gs)
         → (group_faults many (marks + 1) count gs ≡ [] → AreFine many (marks + 1) count gs)
         → AreFine many marks count (g ∷ gs)
-    by true p true q f on marking =
+    by_letter true p true q f on marking =
         let u =
         leb-true g.last.byte 84 (and_parts (nat_le 65 g.last.byte) (nat_le g.last.byte 84) p).1 in
         let v = eqb-true g.last.byte 90 q in
         absurd (omega arith)
-    by true p false q f on marking =
+    by_letter true p false q f on marking =
         let none =
         when_none (nat_lt (many + marks) (value g)) NumberTooLarge
         (at_none (starts_at g) (when (nat_lt (many + marks) (value g)) NumberTooLarge)
@@ -305,7 +305,7 @@ fine_of (g ∷ gs) many marks count f =
           on
               (append_none (first true false) (second false) f).1,
         )
-    by false p true q f on marking =
+    by_letter false p true q f on marking =
         let codes =
         at_none g.last.at
         (when (nat_lt 0 (length g.early)) OpenNumber ++ when (count == 0) MarkBeforeStep)
@@ -327,7 +327,7 @@ fine_of (g ∷ gs) many marks count f =
           marking
               (append_none (first false true) (second true) f).1,
         )
-    by false p false q f on marking =
+    by_letter false p false q f on marking =
         absurd (other (g.last.byte == 63) (append_none (first false false) (second false) f).0)
 
 pub early_digit : (b : ℕ) → is_early b ≡ true → IsEarlyDigit b (b - 84)
@@ -404,7 +404,7 @@ pub groups_spell : (xs early : List Letter) (many marks count : ℕ) → AreEarl
     → Spells (bytes_of early ++ bytes_of xs) (map item_of (groups early xs).0)
 groups_spell [] early many marks count h f e = append-nil (bytes_of early) ∙ ap bytes_of e
 groups_spell (x ∷ xs) early many marks count h f e =
-    by (is_early x.byte) refl f e
+    by_is_early (is_early x.byte) refl f e
     (λ p k n. subst (λ bs. Spells bs (map item_of (groups (early ++ x ∷ []) xs).0))
     (bytes_more early x (bytes_of xs))
     (groups_spell xs (early ++ x ∷ []) many marks count (early_more early x h p) k n))
@@ -443,7 +443,7 @@ groups_spell (x ∷ xs) early many marks count h f e =
     last (inr k) n on =
         whole (group_spelled own h (inr (k.0, k.1, k.2))) (on (marks + 1) count k.4 n)
 
-    by : (b : Bool) → is_early x.byte ≡ b → AreFine many marks count (out b).0 → (out b).1 ≡ []
+    by_is_early : (b : Bool) → is_early x.byte ≡ b → AreFine many marks count (out b).0 → (out b).1 ≡ []
         → (is_early x.byte ≡ true → AreFine many marks count (groups (early ++ x ∷ []) xs).0
         → (groups (early ++ x ∷ []) xs).1 ≡ []
         → Spells (bytes_of early ++ x.byte ∷ bytes_of xs)
@@ -451,8 +451,8 @@ groups_spell (x ∷ xs) early many marks count h f e =
         → ((m c : ℕ) → AreFine many m c (groups [] xs).0 → (groups [] xs).1 ≡ []
         → Spells (bytes_of xs) (map item_of (groups [] xs).0))
         → Spells (bytes_of early ++ x.byte ∷ bytes_of xs) (map item_of (out b).0)
-    by true p k n on next = on p k n
-    by false p k n on next = last k n next
+    by_is_early true p k n on next = on p k n
+    by_is_early false p k n on next = last k n next
 
 -- ---- the letters of a proof
 
@@ -504,7 +504,7 @@ pub record IsGoodProof (db : List Statement) (k : ℕ) (ts : List Token) : Type 
 pub good_proof : (db : List Statement) (k end : ℕ) (t : Token) (ts : List Token)
     → t.word ≡ codes "(" → reading_faults db k end (t ∷ ts) ≡ [] → IsGoodProof db k ts
 good_proof db k end t ts opens f =
-    by (bracketed ts).letters refl
+    by_letters (bracketed ts).letters refl
     (append_none (flat_map (proof_label_faults db k) (bracketed ts).labels)
     (rest (bracketed ts).letters) compressed).1
   where
@@ -528,9 +528,9 @@ good_proof db k end t ts opens f =
     compressed : compressed_faults db k end (bracketed ts) ≡ []
     compressed = ap faults (sym ((bytes_eq-Decides t.word (codes "(")).1 opens)) ∙ f
 
-    by : (o : Option (List Token)) → (bracketed ts).letters ≡ o → rest o ≡ [] → IsGoodProof db k ts
-    by None e g = absurd (cc)
-    by (Some letters) e g =
+    by_letters : (o : Option (List Token)) → (bracketed ts).letters ≡ o → rest o ≡ [] → IsGoodProof db k ts
+    by_letters None e g = absurd (cc)
+    by_letters (Some letters) e g =
         record {
           letters = letters;
           is = e;

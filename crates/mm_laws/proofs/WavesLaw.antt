@@ -28,14 +28,14 @@ module _ (db : List Statement) (by_essential : Bool) (fine : AreComplete db)
 
   linked : (t b : ℕ) → IsLink t b ⊎ (IsLink t b → ⊥)
   linked t b =
-      by (cites_decided db by_essential fine valid t b)
+      by_citation (cites_decided db by_essential fine valid t b)
       (list_any is_theorem (statement_at db b)) refl
     where
-      by : IsDecided (Cites db by_essential t b) → (m : Bool)
+      by_citation : IsDecided (Cites db by_essential t b) → (m : Bool)
           → list_any is_theorem (statement_at db b) ≡ m → IsLink t b ⊎ (IsLink t b → ⊥)
-      by c false e = inr (λ l. true≢false (sym l.1 ∙ e))
-      by (true, d) true e = inl (d.0 refl, e)
-      by (false, d) true e = inr (λ l. true≢false (sym (d.1 l.0)))
+      by_citation c false e = inr (λ l. true≢false (sym l.1 ∙ e))
+      by_citation (true, d) true e = inl (d.0 refl, e)
+      by_citation (false, d) true e = inr (λ l. true≢false (sym (d.1 l.0)))
 
   -- a longest chain from t whose first link is below n
   abbrev Best : ℕ → ℕ → Type 0
@@ -47,7 +47,7 @@ module _ (db : List Statement) (by_essential : Bool) (fine : AreComplete db)
   best : (t n : ℕ) → ((b : ℕ) → b < n → (w : ℕ) × IsWave db by_essential b w) → Best t n
   best t zero waves = (0, tt, λ b l. absurd (omega arith))
   best t (suc n) waves =
-      by (linked t n) (waves n (omega arith)) (best t n (λ b l. waves b (omega arith)))
+      by_link (linked t n) (waves n (omega arith)) (best t n (λ b l. waves b (omega arith)))
     where
       skip : (IsLink t n → ⊥) → (r : Best t n) → (b : ℕ) → b < suc n → IsLink t b → (k : ℕ)
           → TheoremChain (Cites db by_essential) (IsTheorem db) b k → (b ≡ n) ⊎ (b ≡ n → ⊥)
@@ -75,10 +75,10 @@ module _ (db : List Statement) (by_essential : Bool) (fine : AreComplete db)
             (omega arith) b u g k c (cases_eq b n),
       )
 
-      by : IsLink t n ⊎ (IsLink t n → ⊥) → (w : ℕ) × IsWave db by_essential n w → Best t n
+      by_link : IsLink t n ⊎ (IsLink t n → ⊥) → (w : ℕ) × IsWave db by_essential n w → Best t n
           → Best t (suc n)
-      by (inl h) w r = longer h w r (cases_lt w.0 r.0)
-      by (inr not_linked) w r = (r.0, r.1, λ b l h k c. skip not_linked r b l h k c (cases_eq b n))
+      by_link (inl h) w r = longer h w r (cases_lt w.0 r.0)
+      by_link (inr not_linked) w r = (r.0, r.1, λ b l h k c. skip not_linked r b l h k c (cases_eq b n))
 
   -- a longest chain is the wave
   of_best : (t : ℕ) → Best t t → (w : ℕ) × IsWave db by_essential t w

@@ -47,19 +47,19 @@ right_of_fine : (gs : List Group) (many marks count : ℕ) → AreFine many mark
     → AreRight many marks count (map item_of gs)
 right_of_fine [] many marks count f = tt
 right_of_fine (g ∷ gs) many marks count f =
-    by f (λ k. right_of_fine gs many marks (count + 1) k)
+    number_or_mark f (λ k. right_of_fine gs many marks (count + 1) k)
     (λ k. right_of_fine gs many (marks + 1) count k)
   where
     item : Bool → Item
     item b = elim b [ true ↦ number (value g) | false ↦ mark ]
 
-    by : AreFine many marks count (g ∷ gs)
+    number_or_mark : AreFine many marks count (g ∷ gs)
         → (AreFine many marks (count + 1) gs → AreRight many marks (count + 1) (map item_of gs))
         → (AreFine many (marks + 1) count gs → AreRight many (marks + 1) count (map item_of gs))
         → AreRight many marks count (item (is_last g.last.byte) ∷ map item_of gs)
-    by (inl k) on marking =
+    number_or_mark (inl k) on marking =
         subst (λ b. AreRight many marks count (item b ∷ map item_of gs)) (sym k.0) (k.1, on k.2)
-    by (inr k) on marking =
+    number_or_mark (inr k) on marking =
         subst (λ b. AreRight many marks count (item b ∷ map item_of gs)) (sym k.0)
         (k.3, marking k.4)
 
@@ -149,11 +149,11 @@ last_is b d h =
     and_from (nat_le 65 b) (nat_le b 84) (le-leb 65 b (omega arith)) (le-leb b 84 (omega arith))
 
 ends_not_early : (b : ℕ) → EndsItem b → is_early b ≡ false
-ends_not_early b h = by (is_early b) refl
+ends_not_early b h = by_is_early (is_early b) refl
   where
-    by : (x : Bool) → is_early b ≡ x → is_early b ≡ false
-    by true e = absurd (no_early b (b - 84) h (early_digit b e))
-    by false e = e
+    by_is_early : (x : Bool) → is_early b ≡ x → is_early b ≡ false
+    by_is_early true e = absurd (no_early b (b - 84) h (early_digit b e))
+    by_is_early false e = e
 
 are_early : (xs : List Letter) (n : ℕ) → AreEarlyDigits (bytes_of xs) n → AreEarly xs
 are_early [] n h = tt
@@ -289,24 +289,24 @@ fine_of_right (mark ∷ items) xs many marks count s r =
 -- ---- groups without faults
 
 small : (n m : ℕ) → n ≤ m → nat_lt m n ≡ false
-small n m h = by (nat_lt m n) refl
+small n m h = by_less (nat_lt m n) refl
   where
-    by : (b : Bool) → nat_lt m n ≡ b → nat_lt m n ≡ false
-    by true e = absurd (let l = ltb-true m n e in omega arith)
-    by false e = e
+    by_less : (b : Bool) → nat_lt m n ≡ b → nat_lt m n ≡ false
+    by_less true e = absurd (let l = ltb-true m n e in omega arith)
+    by_less false e = e
 
 other_number : (m n : ℕ) → (m ≡ n → ⊥) → (m == n) ≡ false
-other_number m n h = by (m == n) refl
+other_number m n h = by_equality (m == n) refl
   where
-    by : (b : Bool) → (m == n) ≡ b → (m == n) ≡ false
-    by true e = absurd (h (eqb-true m n e))
-    by false e = e
+    by_equality : (b : Bool) → (m == n) ≡ b → (m == n) ≡ false
+    by_equality true e = absurd (h (eqb-true m n e))
+    by_equality false e = e
 
 faults_of_fine : (gs : List Group) (many marks count : ℕ) → AreFine many marks count gs
     → group_faults many marks count gs ≡ []
 faults_of_fine [] many marks count f = refl
 faults_of_fine (g ∷ gs) many marks count f =
-    by f (λ k. faults_of_fine gs many marks (count + 1) k)
+    number_or_mark f (λ k. faults_of_fine gs many marks (count + 1) k)
     (λ k. faults_of_fine gs many (marks + 1) count k)
   where
     inner : Bool → List Fault
@@ -331,11 +331,11 @@ faults_of_fine (g ∷ gs) many marks count f =
           | false ↦ group_faults many marks (count + 1) gs
         ]
 
-    by : AreFine many marks count (g ∷ gs)
+    number_or_mark : AreFine many marks count (g ∷ gs)
         → (AreFine many marks (count + 1) gs → group_faults many marks (count + 1) gs ≡ [])
         → (AreFine many (marks + 1) count gs → group_faults many (marks + 1) count gs ≡ [])
         → first (is_last g.last.byte) (g.last.byte == 90) ++ second (g.last.byte == 90) ≡ []
-    by (inl k) on marking =
+    number_or_mark (inl k) on marking =
         let u =
         leb-true g.last.byte 84 (and_parts (nat_le 65 g.last.byte) (nat_le g.last.byte 84) k.0).1 in
         let not_mark : (g.last.byte == 90) ≡ false =
@@ -343,7 +343,7 @@ faults_of_fine (g ∷ gs) many marks count f =
         ap₂ (λ a b. first a b ++ second b) k.0 not_mark
         ∙ ap₂ (λ b ys. at (starts_at g) (when b NumberTooLarge) ++ ys)
         (small (value g) (many + marks) k.1) (on k.2)
-    by (inr k) on marking =
+    number_or_mark (inr k) on marking =
         let is : (g.last.byte == 90) ≡ true = eq-eqb g.last.byte 90 k.1 in
         let l = k.3 in
         ap₂ (λ a b. first a b ++ second b) k.0 is
@@ -365,31 +365,31 @@ filter_some : (test : ℕ → Bool) (n a j : ℕ) → a ≤ j → j < a + n → 
     → filter test (range_with_len a n) ≡ [] → ⊥
 filter_some test zero a j l h e n = omega arith
 filter_some test (suc m) a j l h e n =
-    by (test a) refl n (λ b k. filter_some test m (a + 1) j b (omega arith) e k) (cases_eq a j)
+    by_test (test a) refl n (λ b k. filter_some test m (a + 1) j b (omega arith) e k) (cases_eq a j)
   where
-    by : (b : Bool) → test a ≡ b
+    by_test : (b : Bool) → test a ≡ b
         → ◌≡◌ {A = List ℕ}
         (cond b (a ∷ filter test (range_with_len (a + 1) m))
         (filter test (range_with_len (a + 1) m))) []
         → (a + 1 ≤ j → filter test (range_with_len (a + 1) m) ≡ [] → ⊥) → (a ≡ j) ⊎ (a ≡ j → ⊥) → ⊥
-    by true f k on c = cc
-    by false f k on (inl s) = true≢false (sym e ∙ sym (ap test s) ∙ f)
-    by false f k on (inr ne) = on (omega arith) k
+    by_test true f k on c = cc
+    by_test false f k on (inl s) = true≢false (sym e ∙ sym (ap test s) ∙ f)
+    by_test false f k on (inr ne) = on (omega arith) k
 
 usable_faultless : (db : List Statement) (k : ℕ) (t : Token) (j : ℕ) → IsUsable db k t.word j
     → proof_label_faults db k t ≡ []
 usable_faultless db k t j h =
-    by (usable db k t.word)
+    by_usable (usable db k t.word)
     (λ n. filter_some
     (λ i. is_active db i k && list_any (is_labelled t.word) (statement_at db i)) k 0 j (omega arith)
     (let b = is_before db j k h.active in omega arith)
     (and_from (is_active db j k)
     (list_any (is_labelled t.word) (statement_at db j)) h.active h.labelled) n)
   where
-    by : (js : List ℕ) → (js ≡ [] → ⊥)
+    by_usable : (js : List ℕ) → (js ≡ [] → ⊥)
         → ◌≡◌ {A = List Fault} (elim js [ [] ↦ fault t.at UnusableLabel ∷ [] | j ∷ js ↦ [] ]) []
-    by [] n = absurd (n refl)
-    by (j ∷ js) n = refl
+    by_usable [] n = absurd (n refl)
+    by_usable (j ∷ js) n = refl
 
 labels_faultless : (db : List Statement) (k : ℕ) (ts : List Token)
     → AllByRecursion (λ t. (j : ℕ) × IsUsable db k t.word j) ts
@@ -512,34 +512,34 @@ module _ (db : List Statement) (differ : LabelsDiffer db) (k end : ℕ) where
         (append_none (faults_of_word t) (flat_map faults_of_word ts) f).1,
   )
     where
-      by : (b : Bool) → bytes_eq t.word (codes "?") ≡ b → own_faults db differ k t b ≡ []
+      by_question_mark : (b : Bool) → bytes_eq t.word (codes "?") ≡ b → own_faults db differ k t b ≡ []
           → IsPlainWord t
-      by true e h = absurd (cc)
-      by false e h =
+      by_question_mark true e h = absurd (cc)
+      by_question_mark false e h =
           let one = usable_one db differ k t h in
           ((λ w. true≢false (sym ((bytes_eq-Decides t.word (codes "?")).1 w) ∙ e)), (one.0, one.2))
 
   from_words : (ts : List Token) → AllByRecursion IsPlainWord ts → flat_map faults_of_word ts ≡ []
   from_words [] h = refl
   from_words (t ∷ ts) h =
-      ap₂ (λ xs ys. xs ++ ys) (by (bytes_eq t.word (codes "?")) refl) (from_words ts h.1)
+      ap₂ (λ xs ys. xs ++ ys) (by_question_mark (bytes_eq t.word (codes "?")) refl) (from_words ts h.1)
     where
-      by : (b : Bool) → bytes_eq t.word (codes "?") ≡ b → own_faults db differ k t b ≡ []
-      by true e = absurd (h.0.0 (same_word t.word (codes "?") e))
-      by false e = usable_faultless db k t h.0.1.0 h.0.1.1
+      by_question_mark : (b : Bool) → bytes_eq t.word (codes "?") ≡ b → own_faults db differ k t b ≡ []
+      by_question_mark true e = absurd (h.0.0 (same_word t.word (codes "?") e))
+      by_question_mark false e = usable_faultless db k t h.0.1.0 h.0.1.1
 
   normal_read : (t : Token) (ts : List Token) → t.word ≢ codes "("
       → reading_faults db k end (t ∷ ts) ≡ flat_map faults_of_word (t ∷ ts)
-  normal_read t ts ne = by (bytes_eq t.word (codes "(")) refl
+  normal_read t ts ne = by_bracket (bytes_eq t.word (codes "(")) refl
     where
-      by : (b : Bool) → bytes_eq t.word (codes "(") ≡ b
+      by_bracket : (b : Bool) → bytes_eq t.word (codes "(") ≡ b
           → ◌≡◌ {A = List Fault}
           (elim b [
             | true ↦ compressed_faults db k end (bracketed ts)
             | false ↦ normal_faults db k end (t ∷ ts)
           ]) (flat_map faults_of_word (t ∷ ts))
-      by true e = absurd (ne (same_word t.word (codes "(") e))
-      by false e = refl
+      by_bracket true e = absurd (ne (same_word t.word (codes "(") e))
+      by_bracket false e = refl
 
 pub normal_exact : WhereRead NormalIsExact
 normal_exact len x db fault r w k end t ts ne =
