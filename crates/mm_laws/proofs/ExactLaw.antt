@@ -87,18 +87,18 @@ module _ (c : Context) where
       (disjoint ∙ h.3)
       (ap (λ f. nat_le (length f) formula_limit) formula ∙ lt-leb _ _ h.4)
 
-  -- a forest of derivations with these labels is what a run finds
-  pub row_run : (ls : List ℕ) → AreGood c ls → (forest : Trees) → AreDerivations c forest
+  -- a run over the labels of a forest of derivations succeeds, with the formulas of the forest
+  pub forest_run : (ls : List ℕ) → AreGood c ls → (forest : Trees) → AreDerivations c forest
       → postfix forest ≡ ls → run c 0 ls [] ≡ Ok (formulas forest)
-  row_run ls good forest d e =
+  forest_run ls good forest d e =
       let g : AreGood c (postfix forest) = subst (AreGood c) (sym e) good in
       ap (λ x. run c 0 x []) (sym e ∙ sym (append-nil (postfix forest))) ∙ runs_forest c forest d g 0 [] []
 
-  -- the run ends well exactly where there is one
+  -- a run over the labels succeeds exactly if they are the postfix list of a forest of derivations
   pub exact_ok : (ls : List ℕ) → AreGood c ls
       → IsPostfixOfForest c ls ↔ ((out : List Formula) × (run c 0 ls [] ≡ Ok out))
   exact_ok ls good = (
-    λ h. (formulas h.0, row_run ls good h.0 h.1 h.2),
+    λ h. (formulas h.0, forest_run ls good h.0 h.1 h.2),
     λ h. let m = subst (RunOutcome c none ls) h.1
         (run_outcome c ls none 0 tt good) in
         (m.0, m.1, m.2),
@@ -110,24 +110,27 @@ module _ (c : Context) where
       → (s : StoppedRun c none ls reason)
       → run c 0 ls [] ≡ Err (record { at = length s.before; reason = reason })
   stopped_run ls reason good s =
-      let g : AreGood c (s.before ++ s.label ∷ s.after) = subst (AreGood c) s.splits good in
-      let parts = good_parts c s.before (s.label ∷ s.after) g in
-      let gr : AreGood c (postfix s.reached) = subst (AreGood c) (sym s.labels) parts.0 in
-      let e : ls ≡ postfix s.reached ++ s.label ∷ s.after =
+      let good_split : AreGood c (s.before ++ s.label ∷ s.after) = subst
+      (AreGood c) s.splits good in
+      let good_both = good_parts c s.before (s.label ∷ s.after) good_split in
+      let good_reached : AreGood c (postfix s.reached) = subst (AreGood c)
+      (sym s.labels) good_both.0 in
+      let split_labels : ls ≡ postfix s.reached ++ s.label ∷ s.after =
       s.splits ∙ ap (λ x. x ++ s.label ∷ s.after) (sym s.labels) in
-      let n : 0 + length (postfix s.reached) ≡ length s.before =
-      let k = ap length s.labels in omega (arith, k) in
-      ap (λ x. run c 0 x []) e ∙ runs_forest c s.reached s.derivations gr 0 (s.label ∷ s.after) []
+      let same_index : 0 + length (postfix s.reached) ≡ length s.before =
+      let same_length = ap length s.labels in omega (arith, same_length) in
+      ap (λ x. run c 0 x []) split_labels
+          ∙ runs_forest c s.reached s.derivations good_reached 0 (s.label ∷ s.after) []
       ∙ ap (λ r. proceed r (0 + length (postfix s.reached))
       (run c (suc (0 + length (postfix s.reached))) s.after))
-      (stops (c.rule s.label) (formulas s.reached) reason parts.1.0 s.fails)
-      ∙ ap (λ k. Err (record { at = k; reason = reason })) n
+      (stops (c.rule s.label) (formulas s.reached) reason good_both.1.0 s.fails)
+      ∙ ap (λ same_length. Err (record { at = same_length; reason = reason })) same_index
 
-  -- with the label that fails, the labels are of no forest
+  -- if the step of a label fails, the labels are the postfix list of no forest of derivations
   pub stopped_no_forest : (ls : List ℕ) (reason : Reason) → AreGood c ls
       → StoppedRun c none ls reason
       → ¬ IsPostfixOfForest c ls
   stopped_no_forest ls reason good s h =
-      let ran = row_run ls good h.0 h.1 h.2 in
-      let stopped = stopped_run ls reason good s in
+      let succeeds = forest_run ls good h.0 h.1 h.2 in
+      let fails = stopped_run ls reason good s in
       cc

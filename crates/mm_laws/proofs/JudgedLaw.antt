@@ -115,10 +115,13 @@ module _ (c : Context) (fine : (l : ℕ) → HasCompleteFrame c (c.rule l)) (ps 
   -- one of the three
   pub judged : AreGoodSteps c 0 (steps_of ps) → Judged
   judged good =
-      by_result (run_steps c [] (steps_of ps) []) (steps_outcome c (steps_of ps) [] [] none tt tt good)
+      by_result (run_steps c [] (steps_of ps) [])
+          (steps_outcome c (steps_of ps) [] [] none tt tt good)
     where
-      by_result : (r : Result (List Formula) RunFailure) → StepsOutcome c [] [] (steps_of ps) r → Judged
-      by_result (Ok out) m = at_end m.2 m.3 (subst (λ x. Plain c [] [] (steps_of ps) x) (sym m.4) m.1)
+      by_result : (r : Result (List Formula) RunFailure) → StepsOutcome c [] [] (steps_of ps) r
+          → Judged
+      by_result (Ok out) m =
+          at_end m.2 m.3 (subst (λ x. Plain c [] [] (steps_of ps) x) (sym m.4) m.1)
       by_result (Err e) m =
           let s = split m.before m.after m.first ps m.splits in
           step_fault (fault s.at (code_of e.reason))

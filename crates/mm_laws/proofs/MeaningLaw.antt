@@ -145,7 +145,8 @@ module _ (db : List Statement) (k : ℕ) where
         none : reading_faults db k end [] ≡ [] → AreSaid []
         none e = absurd (cc)
     means end (t ∷ ts) =
-        by_bracket (bytes_eq t.word (codes "(")) refl (compressed_means end t ts) (normal_means end t ts)
+        by_bracket (bytes_eq t.word (codes "(")) refl (compressed_means end t ts)
+            (normal_means end t ts)
       where
         Goal : Type 0
         Goal = IsRead end (t ∷ ts) ↔ AreSaid (t ∷ ts)
@@ -154,7 +155,8 @@ module _ (db : List Statement) (k : ℕ) where
             → bytes_eq t.word (codes "(") ≡ b → (t.word ≡ codes "(" → Goal)
             → (t.word ≢ codes "(" → Goal) → Goal
         by_bracket true e c n = c (same_word t.word (codes "(") e)
-        by_bracket false e c n = n (λ w. true≢false (sym ((bytes_eq-Decides t.word (codes "(")).1 w) ∙ e))
+        by_bracket false e c n =
+            n (λ w. true≢false (sym ((bytes_eq-Decides t.word (codes "(")).1 w) ∙ e))
 
     valid_means : ValidOnTheMeaning db k
     valid_means theorem = let m = of (slice_get db k) theorem in (to m.0, from m.1)

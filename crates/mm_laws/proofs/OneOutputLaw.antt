@@ -66,40 +66,41 @@ splits_of [] (b ∷ ys) us vs x y e = inr (inl (ys, ap (λ z. z ∷ ys) (sym (ap
 splits_of (a ∷ xs) [] us vs x y e = inr (inr (xs, ap (λ z. z ∷ xs) (ap (head_or y) e)))
 splits_of (a ∷ xs) (b ∷ ys) us vs x y e = with_first (splits_of xs ys us vs x y (ap tail_of e))
   where
-    same : a ≡ b
-    same = ap (head_or a) e
+    same_first : a ≡ b
+    same_first = ap (head_or a) e
 
     with_first : Splits xs x ys y → Splits (a ∷ xs) x (b ∷ ys) y
-    with_first (inl h) = inl (ap₂ (λ p q. p ∷ q) same h.0, h.1)
-    with_first (inr (inl h)) = inr (inl (h.0, ap₂ (λ p q. p ∷ q) (sym same) h.1))
-    with_first (inr (inr h)) = inr (inr (h.0, ap₂ (λ p q. p ∷ q) same h.1))
+    with_first (inl h) = inl (ap₂ (λ p q. p ∷ q) same_first h.0, h.1)
+    with_first (inr (inl h)) = inr (inl (h.0, ap₂ (λ p q. p ∷ q) (sym same_first) h.1))
+    with_first (inr (inr h)) = inr (inr (h.0, ap₂ (λ p q. p ∷ q) same_first h.1))
 
 -- ---- faults of steps and of the end
 
 module _ (c : Context) (fine : (l : ℕ) → HasCompleteFrame c (c.rule l)) where
-  good : (r : Option Rule) (es : List Formula) (a : Reason) → HasCompleteFrame c r → Fails c r es a
+  rule_is_complete : (r : Option Rule) (es : List Formula) (a : Reason) → HasCompleteFrame c r
+      → Fails c r es a
       → IsCompleteRule c r
-  good None es a f h = nothing a h
+  rule_is_complete None es a f h = none_never_fails a h
     where
-      nothing : (a : Reason) → Fails c None es a → ⊥
-      nothing _ h = h
-  good (Some (hypothesis g)) es a f h = tt
-  good (Some (assertion g)) es a f h = f
+      none_never_fails : (a : Reason) → Fails c None es a → ⊥
+      none_never_fails _ h = h
+  rule_is_complete (Some (hypothesis g)) es a f h = tt
+  rule_is_complete (Some (assertion g)) es a f h = f
 
   reason_unique : (s : Step) (es : List Formula) (a b : Reason) → StepFails c s es a
       → StepFails c s es b → a ≡ b
   reason_unique (label l) es a b h k =
-      let g = good (c.rule l) es a (fine l) h in
+      let g = rule_is_complete (c.rule l) es a (fine l) h in
       let e : Err a ≡ Err b = sym (stops c (c.rule l) es a g h) ∙ stops c (c.rule l) es b g k in
       cc
   reason_unique (marked j) es a b h k = absurd h
 
   -- no later step fails too
-  no_later : (ps : List PlacedStep) (f : Fault) (s : StepFault c ps f) (forest : Trees)
+  no_later_fault : (ps : List PlacedStep) (f : Fault) (s : StepFault c ps f) (forest : Trees)
       → (before zs : List PlacedStep)
       → AreDerivations c forest → IsPlain c (map (λ p. p.step) before) (postfix forest)
       → before ≡ s.before ++ s.first ∷ zs → ⊥
-  no_later ps f s forest before zs d p is =
+  no_later_fault ps f s forest before zs d p is =
       let t : StepFault c before f =
       record {
         before = s.before;
@@ -119,7 +120,8 @@ module _ (c : Context) (fine : (l : ℕ) → HasCompleteFrame c (c.rule l)) wher
   pub step_fault_unique : (ps : List PlacedStep) (f g : Fault) → StepFault c ps f → StepFault c ps g
       → f ≡ g
   step_fault_unique ps f g s t =
-      by_split (splits_of s.before t.before s.after t.after s.first t.first (sym s.splits ∙ t.splits))
+      by_split (splits_of s.before t.before s.after t.after s.first t.first
+          (sym s.splits ∙ t.splits))
     where
       by_split : Splits s.before s.first t.before t.first → f ≡ g
       by_split (inl e) =
@@ -134,8 +136,10 @@ module _ (c : Context) (fine : (l : ℕ) → HasCompleteFrame c (c.rule l)) wher
           s.is ∙ ap₂ (λ p r. fault p.at (code_of r)) e.1
           (reason_unique t.first.step (formulas t.forest) s.reason t.reason fails t.fails)
           ∙ sym t.is
-      by_split (inr (inl h)) = absurd (no_later ps f s t.forest t.before h.0 t.derivations t.plain h.1)
-      by_split (inr (inr h)) = absurd (no_later ps g t s.forest s.before h.0 s.derivations s.plain h.1)
+      by_split (inr (inl h)) =
+          absurd (no_later_fault ps f s t.forest t.before h.0 t.derivations t.plain h.1)
+      by_split (inr (inr h)) =
+          absurd (no_later_fault ps g t s.forest s.before h.0 s.derivations s.plain h.1)
 
   code_unique : (xs : List Formula) (formula : Formula) (a b : Code) → IsEndCode c xs formula a
       → IsEndCode c xs formula b → a ≡ b
@@ -170,7 +174,8 @@ module _ (db : List Statement) (fine : AreComplete db) where
           ⊎ proof.ProofEndFault (context_at db k) (steps_at db k) (formula_at db k) end f
           → StepFault (context_at db k) (steps_at db k) g
           ⊎ proof.ProofEndFault (context_at db k) (steps_at db k) (formula_at db k) end g → f ≡ g
-      by_kinds (inl s) (inl t) = step_fault_unique (context_at db k) (fine k) (steps_at db k) f g s t
+      by_kinds (inl s) (inl t) =
+          step_fault_unique (context_at db k) (fine k) (steps_at db k) f g s t
       by_kinds (inl s) (inr t) =
           absurd (no_both_faults (context_at db k) (fine k) (steps_at db k)
           (formula_at db k) end f g s t)
@@ -191,8 +196,9 @@ module _ (db : List Statement) (fine : AreComplete db) where
       by_kind (inr t) =
           no_end_fault (context_at db k) (fine k) (steps_at db k) (formula_at db k) end v.1 v.2 f t
 
-  earlier : (j k : ℕ) (f g : Fault) → j < k → FirstProofFault db j f → FirstProofFault db k g → ⊥
-  earlier j k f g lt h i = valid_no_fault j (proof_end (slice_get db j)) f (i.1 j lt h.0) h.2
+  not_earlier : (j k : ℕ) (f g : Fault) → j < k → FirstProofFault db j f → FirstProofFault db k g
+      → ⊥
+  not_earlier j k f g lt h i = valid_no_fault j (proof_end (slice_get db j)) f (i.1 j lt h.0) h.2
 
   first_proof_unique : (j k : ℕ) (f g : Fault) → FirstProofFault db j f → FirstProofFault db k g
       → f ≡ g
@@ -202,8 +208,8 @@ module _ (db : List Statement) (fine : AreComplete db) where
       by_order (inl e) =
           proof_fault_unique k (proof_end (slice_get db k)) f g
           (subst (λ n. ProofFault db n (proof_end (slice_get db n)) f) e h.2) i.2
-      by_order (inr (inl l)) = absurd (earlier j k f g l h i)
-      by_order (inr (inr l)) = absurd (earlier k j g f l i h)
+      by_order (inr (inl l)) = absurd (not_earlier j k f g l h i)
+      by_order (inr (inr l)) = absurd (not_earlier k j g f l i h)
 
 -- ---- rows of marks
 
@@ -252,22 +258,24 @@ shape_unique : (ts : List Token) (f g : Fault) → ShapeFault ts f → ShapeFaul
 shape_unique ts f g s t =
     by_split (splits_of s.before t.before s.after t.after s.first t.first (sym s.splits ∙ t.splits))
   where
-    Code : List Token → Token → Fault → Type 0
-    Code before first f =
+    HasShapeCode : List Token → Token → Fault → Type 0
+    HasShapeCode before first f =
         (IsBetween before × (f ≡ fault first.at (shape_code true first.word)))
         ⊎ ((¬ IsBetween before) × (f ≡ fault first.at (shape_code false first.word)))
 
-    codes : (before : List Token) (first : Token) → Code before first f → Code before first g
+    same_code : (before : List Token) (first : Token) → HasShapeCode before first f
+        → HasShapeCode before first g
         → f ≡ g
-    codes before first (inl h) (inl k) = h.1 ∙ sym k.1
-    codes before first (inl h) (inr k) = absurd (k.0 h.0)
-    codes before first (inr h) (inl k) = absurd (h.0 k.0)
-    codes before first (inr h) (inr k) = h.1 ∙ sym k.1
+    same_code before first (inl h) (inl k) = h.1 ∙ sym k.1
+    same_code before first (inl h) (inr k) = absurd (k.0 h.0)
+    same_code before first (inr h) (inl k) = absurd (h.0 k.0)
+    same_code before first (inr h) (inr k) = h.1 ∙ sym k.1
 
     by_split : Splits s.before s.first t.before t.first → f ≡ g
     by_split (inl e) =
-        codes t.before t.first
-        (subst (λ x. Code t.before x f) e.1 (subst (λ b. Code b s.first f) e.0 s.code)) t.code
+        same_code t.before t.first
+        (subst (λ x. HasShapeCode t.before x f) e.1
+        (subst (λ b. HasShapeCode b s.first f) e.0 s.code)) t.code
     by_split (inr (inl h)) =
         absurd (s.no_more (begins_front s.before h.0 s.first (subst BeginStatements h.1 t.begins)))
     by_split (inr (inr h)) =
@@ -280,8 +288,8 @@ end_unique : (len : ℕ) (ts : List Token) (f g : Fault) → FileEndFault len ts
     → FileEndFault len ts g → f ≡ g
 end_unique len ts f g s t = by_kinds s.code t.code
   where
-    rest : s.are_statements.rest ≡ t.are_statements.rest
-    rest =
+    same_rest : s.are_statements.rest ≡ t.are_statements.rest
+    same_rest =
         append_cancel_left
             (flat_map spelling_of t.statements) s.are_statements.rest t.are_statements.rest
         (sym (subst (λ r. ts ≡ flat_map spelling_of r ++ s.are_statements.rest)
@@ -296,8 +304,8 @@ end_unique len ts f g s t = by_kinds s.code t.code
         × (g ≡ fault len OpenBlock))
         → f ≡ g
     by_kinds (inl h) (inl k) = h.1 ∙ sym k.1
-    by_kinds (inl h) (inr k) = absurd (h.0 (rest ∙ k.0))
-    by_kinds (inr h) (inl k) = absurd (k.0 (sym rest ∙ h.0))
+    by_kinds (inl h) (inr k) = absurd (h.0 (same_rest ∙ k.0))
+    by_kinds (inr h) (inl k) = absurd (k.0 (sym same_rest ∙ h.0))
     by_kinds (inr h) (inr k) = h.2 ∙ sym k.2
 
 text_fault_unique : (len : ℕ) (ts : List Token) (o : Option Fault) (f g : Fault)
@@ -324,11 +332,11 @@ fronts_of [] (b ∷ ys) us vs e = inr (inl (b, ys ++ vs, e, omega arith))
 fronts_of (a ∷ xs) [] us vs e = inr (inr (a, xs ++ us, sym e, omega arith))
 fronts_of (a ∷ xs) (b ∷ ys) us vs e = with_first (fronts_of xs ys us vs (ap tail_of e))
   where
-    same : a ≡ b
-    same = ap (head_or a) e
+    same_first : a ≡ b
+    same_first = ap (head_or a) e
 
     with_first : Fronts xs us ys vs → Fronts (a ∷ xs) us (b ∷ ys) vs
-    with_first (inl h) = inl (ap₂ (λ p q. p ∷ q) same h.0, h.1)
+    with_first (inl h) = inl (ap₂ (λ p q. p ∷ q) same_first h.0, h.1)
     with_first (inr (inl h)) = let l = h.3 in inr (inl (h.0, h.1, h.2, omega (arith, l)))
     with_first (inr (inr h)) = let l = h.3 in inr (inr (h.0, h.1, h.2, omega (arith, l)))
 
@@ -341,10 +349,10 @@ stops_unique len x statements db [] (Some f) None h k = absurd (k f h)
 stops_unique len x statements db [] (Some f) (Some g) h k =
     ap Some (text_fault_unique len x.tokens x.fault f g h k)
 
-shorter : (len : ℕ) (x : LexedText) (a b : List Statement) (f g : Option Fault)
+not_shorter : (len : ℕ) (x : LexedText) (a b : List Statement) (f g : Option Fault)
     → (h : IsRead len x a f) (k : IsRead len x b g) (s : Statement) (zs : List Statement)
     → h.rest ≡ s ∷ zs → length a < length b → ⊥
-shorter len x a b f g h k s zs is lt =
+not_shorter len x a b f g h k s zs is lt =
     let stop = subst (λ r. StopsReading len x h.statements a r f) is h.stops in
     let statements = same_statements x.tokens h.statements k.statements h.are_statements k.are_statements in
     stop.0 (sym stop.1 ∙ ap (λ r. scope_fault r (length a)) statements ∙ k.lawful (length a) lt)
@@ -364,20 +372,20 @@ read_unique len x a b f g h k =
           (subst (λ d. StopsReading len x h.statements d h.rest f) e.0 h.stops)))
           k.stops,
     )
-    by_front (inr (inl l)) = absurd (shorter len x a b f g h k l.0 l.1 l.2 l.3)
-    by_front (inr (inr l)) = absurd (shorter len x b a g f k h l.0 l.1 l.2 l.3)
+    by_front (inr (inl l)) = absurd (not_shorter len x a b f g h k l.0 l.1 l.2 l.3)
+    by_front (inr (inr l)) = absurd (not_shorter len x b a g f k h l.0 l.1 l.2 l.3)
 
 -- ---- the output
 
-inside : (db : List Statement) (k : ℕ) → IsTrue (is_theorem_at db k) → k < length db
-inside [] zero h = let no : false ≡ true = h in cc
-inside [] (suc k) h = let no : false ≡ true = h in cc
-inside (s ∷ db) zero h = omega arith
-inside (s ∷ db) (suc k) h = let l = inside db k h in omega (arith, l)
+theorem_is_within : (db : List Statement) (k : ℕ) → IsTrue (is_theorem_at db k) → k < length db
+theorem_is_within [] zero h = let no : false ≡ true = h in cc
+theorem_is_within [] (suc k) h = let no : false ≡ true = h in cc
+theorem_is_within (s ∷ db) zero h = omega arith
+theorem_is_within (s ∷ db) (suc k) h = let l = theorem_is_within db k h in omega (arith, l)
 
 module _ (len : ℕ) (x : LexedText) (with_open : Bool) where
-  Cause : List Statement → Option Fault → Fault → Type 0
-  Cause db o f =
+  IsCauseOf : List Statement → Option Fault → Fault → Type 0
+  IsCauseOf db o f =
       ((k : ℕ) × FirstProofFault (counted with_open db) k f)
       ⊎ (AllAreValid (counted with_open db) × (o ≡ Some f))
 
@@ -386,36 +394,38 @@ module _ (len : ℕ) (x : LexedText) (with_open : Bool) where
   complete db o r = counted_complete with_open db (reads_complete len x db o r)
 
   -- a proof with a fault is not valid
-  not_both : (db : List Statement) (o : Option Fault) → IsRead len x db o → (k : ℕ) (f : Fault)
+  fault_or_all_valid : (db : List Statement) (o : Option Fault) → IsRead len x db o
+      → (k : ℕ) (f : Fault)
       → FirstProofFault (counted with_open db) k f → AllAreValid (counted with_open db) → ⊥
-  not_both db o r k f a v =
-      let counts = counted with_open db in
-      valid_no_fault counts (complete db o r) k (proof_end (slice_get counts k)) f
-      (v k (inside counts k a.0) a.0) a.2
+  fault_or_all_valid db o r k f a v =
+      let statements = counted with_open db in
+      valid_no_fault statements (complete db o r) k (proof_end (slice_get statements k)) f
+      (v k (theorem_is_within statements k a.0) a.0) a.2
 
   first_fault_unique : (f g : Fault) → FirstFault len x with_open f → FirstFault len x with_open g
       → f ≡ g
-  unfolding Cause
+  unfolding IsCauseOf
   first_fault_unique f g h k =
       let same = read_unique len x h.0 k.0 h.1 k.1 h.2 k.2 in
-      by_causes (subst (λ d. Cause d k.1 f) same.0 (subst (λ o. Cause h.0 o f) same.1 h.3)) k.3
+      by_causes
+          (subst (λ d. IsCauseOf d k.1 f) same.0 (subst (λ o. IsCauseOf h.0 o f) same.1 h.3)) k.3
     where
-      by_causes : Cause k.0 k.1 f → Cause k.0 k.1 g → f ≡ g
+      by_causes : IsCauseOf k.0 k.1 f → IsCauseOf k.0 k.1 g → f ≡ g
       by_causes (inl a) (inl b) =
           first_proof_unique (counted with_open k.0) (complete k.0 k.1 k.2) a.0 b.0 f g a.1 b.1
-      by_causes (inl a) (inr b) = absurd (not_both k.0 k.1 k.2 a.0 f a.1 b.0)
-      by_causes (inr a) (inl b) = absurd (not_both k.0 k.1 k.2 b.0 g b.1 a.0)
+      by_causes (inl a) (inr b) = absurd (fault_or_all_valid k.0 k.1 k.2 a.0 f a.1 b.0)
+      by_causes (inr a) (inl b) = absurd (fault_or_all_valid k.0 k.1 k.2 b.0 g b.1 a.0)
       by_causes (inr a) (inr b) = let e : Some f ≡ Some g = sym a.1 ∙ b.1 in cc
 
-  no_both : (f : Fault) (db : List Statement) → FirstFault len x with_open f
+  fault_or_none : (f : Fault) (db : List Statement) → FirstFault len x with_open f
       → HasNoFault len x with_open db → ⊥
-  unfolding Cause
-  no_both f db h k =
+  unfolding IsCauseOf
+  fault_or_none f db h k =
       let same = read_unique len x h.0 db h.1 None h.2 k.0 in
-      by_cause (subst (λ d. Cause d None f) same.0 (subst (λ o. Cause h.0 o f) same.1 h.3))
+      by_cause (subst (λ d. IsCauseOf d None f) same.0 (subst (λ o. IsCauseOf h.0 o f) same.1 h.3))
     where
-      by_cause : Cause db None f → ⊥
-      by_cause (inl a) = not_both db None k.0 a.0 f a.1 k.1
+      by_cause : IsCauseOf db None f → ⊥
+      by_cause (inl a) = fault_or_all_valid db None k.0 a.0 f a.1 k.1
       by_cause (inr a) = let e : None ≡ Some f = a.1 in cc
 
 -- ---- rows of citations
@@ -445,8 +455,8 @@ all_citing_unique db request (n ∷ ts) (x ∷ a) (y ∷ b) h k =
     (all_citing_unique db request ts a b h.1 k.1)
 
 -- the report requested with these rows
-abbrev of_rows : List Statement → Option ℕ → Request → List Row → List ℕ
-of_rows db opened request rows =
+abbrev report_of_rows : List Statement → Option ℕ → Request → List Row → List ℕ
+report_of_rows db opened request rows =
     report request opened (map (label_at db) (columns db request.only)) rows
 
 -- a database has one report
@@ -458,19 +468,19 @@ report_unique db opened request Citations a b h k =
     (all_citing_unique db request (theorems db) h.0 k.0 h.1 k.1)
     ∙ sym k.2
 report_unique db opened request All a b h k =
-    h.2 ∙ ap (of_rows db opened request)
+    h.2 ∙ ap (report_of_rows db opened request)
     (rows_unique db request (theorems db) h.0 k.0 h.1 k.1)
     ∙ sym k.2
 report_unique db opened request Matrix a b h k =
-    h.2 ∙ ap (of_rows db opened request)
+    h.2 ∙ ap (report_of_rows db opened request)
     (rows_unique db request (theorems db) h.0 k.0 h.1 k.1)
     ∙ sym k.2
 report_unique db opened request Counts a b h k =
-    h.2 ∙ ap (of_rows db opened request)
+    h.2 ∙ ap (report_of_rows db opened request)
     (rows_unique db request (theorems db) h.0 k.0 h.1 k.1)
     ∙ sym k.2
 report_unique db opened request Usage a b h k =
-    h.2 ∙ ap (of_rows db opened request)
+    h.2 ∙ ap (report_of_rows db opened request)
     (rows_unique db request (theorems db) h.0 k.0 h.1 k.1)
     ∙ sym k.2
 
@@ -482,9 +492,9 @@ output_unique text request a b (inl h) (inl k) =
     (first_fault_unique (length text) (lexed_of text) request.with_open h.0 k.0 h.1 k.1)
     ∙ sym k.2
 output_unique text request a b (inl h) (inr k) =
-    absurd (no_both (length text) (lexed_of text) request.with_open h.0 k.0 h.1 k.1)
+    absurd (fault_or_none (length text) (lexed_of text) request.with_open h.0 k.0 h.1 k.1)
 output_unique text request a b (inr h) (inl k) =
-    absurd (no_both (length text) (lexed_of text) request.with_open k.0 h.0 k.1 h.1)
+    absurd (fault_or_none (length text) (lexed_of text) request.with_open k.0 h.0 k.1 h.1)
 output_unique text request a b (inr h) (inr k) =
     let db : h.0 ≡ k.0 =
     (read_unique (length text) (lexed_of text) h.0 k.0 None None h.1.0 k.1.0).0 in

@@ -19,12 +19,13 @@ use Rattle.mm_laws.proofs.TheoremLaw.{valid_or_faulty}
 use Rattle.mm_laws.proofs.SomeReadingLaw.{is_readable}
 
 module _ (db : List Statement) (fine : AreComplete db) where
-  one_more : (n : ℕ) → AreValid db n → (IsTrue (is_theorem_at db n) → IsValid db n)
+  valid_up_to_next : (n : ℕ) → AreValid db n → (IsTrue (is_theorem_at db n) → IsValid db n)
       → AreValid db (suc n)
-  one_more n h v j l t = at_last_or_before (cases_eq j n)
+  valid_up_to_next n h v j l t = at_last_or_before (cases_eq j n)
     where
       at_last_or_before : (j ≡ n) ⊎ (j ≡ n → ⊥) → IsValid db j
-      at_last_or_before (inl e) = subst (IsValid db) (sym e) (v (subst (λ i. IsTrue (is_theorem_at db i)) e t))
+      at_last_or_before (inl e) =
+          subst (IsValid db) (sym e) (v (subst (λ i. IsTrue (is_theorem_at db i)) e t))
       at_last_or_before (inr ne) = h j (omega arith) t
 
   -- the first theorems are valid, or one of them is the first with a fault
@@ -35,13 +36,13 @@ module _ (db : List Statement) (fine : AreComplete db) where
       judged : AreValid db n → IsTrue (is_theorem_at db n)
           → IsValid db n ⊎ ((f : Fault) × ProofFault db n (proof_end (slice_get db n)) f)
           → AreValid db (suc n) ⊎ ((k : ℕ) × (f : Fault) × FirstProofFault db k f)
-      judged h t (inl v) = inl (one_more n h (λ u. v))
+      judged h t (inl v) = inl (valid_up_to_next n h (λ u. v))
       judged h t (inr f) = inr (n, f.0, (t, h, f.1))
 
       by_is_theorem : AreValid db n → (b : Bool) → is_theorem_at db n ≡ b
           → AreValid db (suc n) ⊎ ((k : ℕ) × (f : Fault) × FirstProofFault db k f)
       by_is_theorem h true e = judged h e (valid_or_faulty db fine n (proof_end (slice_get db n)))
-      by_is_theorem h false e = inl (one_more n h (λ t. absurd (true≢false (sym t ∙ e))))
+      by_is_theorem h false e = inl (valid_up_to_next n h (λ t. absurd (true≢false (sym t ∙ e))))
 
       by_earlier_theorems : AreValid db n ⊎ ((k : ℕ) × (f : Fault) × FirstProofFault db k f)
           → AreValid db (suc n) ⊎ ((k : ℕ) × (f : Fault) × FirstProofFault db k f)

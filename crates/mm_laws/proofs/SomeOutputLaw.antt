@@ -41,7 +41,8 @@ some_report db opened request fine valid Usage =
 
 -- each text has an output
 pub output_exists : OutputExists
-output_exists text request = sound_or_faulty_text (sound_or_faulty (length text) (lexed_of text) request.with_open)
+output_exists text request =
+    sound_or_faulty_text (sound_or_faulty (length text) (lexed_of text) request.with_open)
   where
     sound_or_faulty_text : IsSoundOrFaulty (length text) (lexed_of text) request.with_open
         → (bytes : List ℕ) × IsOutput text request bytes

@@ -22,7 +22,8 @@ one_more list n h e m is k l = at_last_or_before (cases_lt k n)
   where
     at_last_or_before : (k < n) ⊎ (n ≤ k) → scope_fault list k ≡ None
     at_last_or_before (inl b) = h k b
-    at_last_or_before (inr b) = let same : k ≡ n = omega (arith, is, l, b) in ap (scope_fault list) same ∙ e
+    at_last_or_before (inr b) =
+        let same : k ≡ n = omega (arith, is, l, b) in ap (scope_fault list) same ∙ e
 
 module _ (len : ℕ) (x : LexedText) where
   -- where the first statements are lawful, the reading goes on
@@ -64,8 +65,8 @@ module _ (len : ℕ) (x : LexedText) where
       by_scope_fault : (o : Option Fault) → scope_fault (statements_of x.tokens) (length db) ≡ o
           → (scope_fault (statements_of x.tokens) (length db) ≡ None → IsReadable len x)
           → IsReadable len x
-      by_scope_fault None e on = on e
-      by_scope_fault (Some f) e on = (
+      by_scope_fault None e of_the_rest = of_the_rest e
+      by_scope_fault (Some f) e of_the_rest = (
         db,
         Some f,
         record {

@@ -40,7 +40,8 @@ use Rattle.mm_spec.proofs.FaultlessLaw.{least_none, append_none, label_new}
 use Rattle.mm_spec.proofs.OpenedLaw.{counted_any}
 use Rattle.mm_spec.proofs.ListLaw.{get_none}
 use Rattle.mm_laws.proofs.ReadLaw.{lawful_read}
-use Rattle.mm_laws.proofs.SpellingLaw.{bracketed_is, AreFine, good_letters, item_of, groups_spell}
+use Rattle.mm_laws.proofs.SpellingLaw.{bracketed_is, AreFaultless, faultless_letters, item_of}
+use Rattle.mm_laws.proofs.SpellingLaw.{groups_spell}
 use Rattle.mm_laws.proofs.SpellingLaw.{letters_bytes, spelling_unique}
 
 -- ---- lists
@@ -51,7 +52,8 @@ get_append [] ys n x e = inr (n, omega arith, e)
 get_append (y ∷ xs) ys zero x e = inl e
 get_append (y ∷ xs) ys (suc n) x e = in_front_or_back (get_append xs ys n x e)
   where
-    in_front_or_back : (slice_get xs n ≡ Some x) ⊎ ((i : ℕ) × (n ≡ length xs + i) × (slice_get ys i ≡ Some x))
+    in_front_or_back : (slice_get xs n ≡ Some x)
+        ⊎ ((i : ℕ) × (n ≡ length xs + i) × (slice_get ys i ≡ Some x))
         → (slice_get xs n ≡ Some x)
         ⊎ ((i : ℕ) × (suc n ≡ suc (length xs) + i) × (slice_get ys i ≡ Some x))
     in_front_or_back (inl h) = inl h
@@ -68,8 +70,8 @@ count_append p xs ys = sum_by-append _ xs ys
 
 -- ---- marks
 
-mark_more : (items more : List Item) (k i : ℕ) → IsMark items k i → IsMark (items ++ more) k i
-mark_more items more k i h =
+still_mark : (items more : List Item) (k i : ℕ) → IsMark items k i → IsMark (items ++ more) k i
+still_mark items more k i h =
     record {
       before = h.before;
       after = h.after ++ more;
@@ -82,15 +84,16 @@ abbrev AreMarks : List Item → List ℕ → Type 0
 AreMarks before marks = (k i : ℕ) → slice_get marks k ≡ Some i → IsMark before k i
 
 -- one mark more
-marks_more : (before : List Item) (marks : List ℕ) (count : ℕ) → 0 < count
+one_mark_more : (before : List Item) (marks : List ℕ) (count : ℕ) → 0 < count
     → count ≡ count_by is_number before → length marks ≡ count_by is_mark_item before
     → AreMarks before marks → AreMarks (before ++ mark ∷ []) (marks ++ (count - 1) ∷ [])
-marks_more before marks count h c m are k i e = earlier_or_new_mark (get_append marks ((count - 1) ∷ []) k i e)
+one_mark_more before marks count h c m are k i e =
+    earlier_or_new_mark (get_append marks ((count - 1) ∷ []) k i e)
   where
     earlier_or_new_mark : (slice_get marks k ≡ Some i)
         ⊎ ((j : ℕ) × (k ≡ length marks + j) × (slice_get ((count - 1) ∷ []) j ≡ Some i))
         → IsMark (before ++ mark ∷ []) k i
-    earlier_or_new_mark (inl f) = mark_more before (mark ∷ []) k i (are k i f)
+    earlier_or_new_mark (inl f) = still_mark before (mark ∷ []) k i (are k i f)
     earlier_or_new_mark (inr f) =
         let r = get_only (count - 1) i f.0 f.2 in
         let zero_j = r.0 in
@@ -98,26 +101,28 @@ marks_more before marks count h c m are k i e = earlier_or_new_mark (get_append 
         let place = f.1 in
         record { before = before; after = []; are = refl; marks = omega arith; steps = omega arith }
 
--- ---- what is said from some items on
+-- ---- the steps that items name, if other items come before them
 
 module _ (hypotheses labels : List ℕ) where
-  record IsSaid (before items : List Item) (ss : List Step) : Type 0 where
+  -- the steps are those that the items name, if the items `before` come before them
+  record AreStepsFrom (before items : List Item) (ss : List Step) : Type 0 where
     pub count : length ss ≡ count_by is_number items
     pub each : (b after : List Item) (n : ℕ) → items ≡ b ++ number n ∷ after
         → (s : Step) × (slice_get ss (count_by is_number b) ≡ Some s)
         × NamesStep hypotheses labels (before ++ b) n s
 
-  said_nothing : (before : List Item) → IsSaid before [] []
-  said_nothing before = record { count = refl; each = λ b after n e. absurd (none b after n e) }
+  steps_from_nothing : (before : List Item) → AreStepsFrom before [] []
+  steps_from_nothing before =
+      record { count = refl; each = λ b after n e. absurd (none b after n e) }
     where
       none : (b after : List Item) (n : ℕ) → [] ≡ b ++ number n ∷ after → ⊥
       none [] after n e = cc
       none (x ∷ b) after n e = cc
 
-  said_number : (before items : List Item) (ss : List Step) (n : ℕ) (s : Step)
-      → NamesStep hypotheses labels before n s → IsSaid (before ++ number n ∷ []) items ss
-      → IsSaid before (number n ∷ items) (s ∷ ss)
-  said_number before items ss n s named h =
+  steps_from_number : (before items : List Item) (ss : List Step) (n : ℕ) (s : Step)
+      → NamesStep hypotheses labels before n s → AreStepsFrom (before ++ number n ∷ []) items ss
+      → AreStepsFrom before (number n ∷ items) (s ∷ ss)
+  steps_from_number before items ss n s named h =
       record {
         count = let c = h.count in omega (arith, count_append is_number (number n ∷ []) items);
         each = each;
@@ -149,9 +154,10 @@ module _ (hypotheses labels : List ℕ) where
             subst (λ xs. NamesStep hypotheses labels xs m r.0) items_are r.2,
           )
 
-  said_mark : (before items : List Item) (ss : List Step) → IsSaid (before ++ mark ∷ []) items ss
-      → IsSaid before (mark ∷ items) ss
-  said_mark before items ss h =
+  steps_from_mark : (before items : List Item) (ss : List Step)
+      → AreStepsFrom (before ++ mark ∷ []) items ss
+      → AreStepsFrom before (mark ∷ items) ss
+  steps_from_mark before items ss h =
       record {
         count = let c = h.count in omega (arith, count_append is_number (mark ∷ []) items);
         each = each;
@@ -187,8 +193,8 @@ module _ (hypotheses labels : List ℕ) where
       by_label_or_mark (slice_get (hypotheses ++ labels) n) refl
       (slice_get marks (n - length (hypotheses ++ labels))) refl
     where
-      out : Option ℕ → Option ℕ → List Step
-      out a b =
+      step_by_meaning : Option ℕ → Option ℕ → List Step
+      step_by_meaning a b =
           elim a [ Some j ↦ label j ∷ [] | None ↦ elim b [ Some i ↦ marked i ∷ [] | None ↦ [] ] ]
 
       of_label : (j : ℕ)
@@ -200,8 +206,10 @@ module _ (hypotheses labels : List ℕ) where
 
       by_label_or_mark : (a : Option ℕ) → slice_get (hypotheses ++ labels) n ≡ a → (b : Option ℕ)
           → slice_get marks (n - length (hypotheses ++ labels)) ≡ b
-          → (s : Step) × (out a b ≡ s ∷ []) × NamesStep hypotheses labels before (suc n) s
-      by_label_or_mark (Some j) e b f = (label j, refl, of_label j (get_append hypotheses labels n j e))
+          → (s : Step) × (step_by_meaning a b ≡ s ∷ [])
+          × NamesStep hypotheses labels before (suc n) s
+      by_label_or_mark (Some j) e b f =
+          (label j, refl, of_label j (get_append hypotheses labels n j e))
       by_label_or_mark None e (Some i) f =
           let x = get_none (hypotheses ++ labels) n e in
           let all = length-append hypotheses labels in (
@@ -220,79 +228,87 @@ module _ (hypotheses labels : List ℕ) where
           let all = length-append hypotheses labels in
           absurd (omega arith)
 
-  abbrev bare : List PlacedStep → List Step
-  bare ps = map (λ p. p.step) ps
+  abbrev steps_of : List PlacedStep → List Step
+  steps_of ps = map (λ p. p.step) ps
 
   positive : (n b : ℕ) → 65 ≤ b → 0 < n * 20 + (b - 64)
   positive n b h = omega arith
 
   -- the steps of groups are what their items name
-  said : (gs : List Group) (before : List Item) (marks : List ℕ) (count : ℕ)
+  steps_from_groups : (gs : List Group) (before : List Item) (marks : List ℕ) (count : ℕ)
       → count ≡ count_by is_number before → length marks ≡ count_by is_mark_item before
-      → AreMarks before marks → AreFine (length hypotheses + length labels) (length marks) count gs
-      → IsSaid before (map item_of gs) (bare (group_steps (hypotheses ++ labels) marks count gs))
-  said [] before marks count c m are f = said_nothing before
-  said (g ∷ gs) before marks count c m are f =
+      → AreMarks before marks
+      → AreFaultless (length hypotheses + length labels) (length marks) count gs
+      → AreStepsFrom before (map item_of gs)
+      (steps_of (group_steps (hypotheses ++ labels) marks count gs))
+  steps_from_groups [] before marks count c m are f = steps_from_nothing before
+  steps_from_groups (g ∷ gs) before marks count c m are f =
       number_or_mark f
-      (λ n k. said gs (before ++ number n ∷ []) marks (count + 1)
+      (λ n k. steps_from_groups gs (before ++ number n ∷ []) marks (count + 1)
       (omega (arith, count_append is_number before (number n ∷ [])))
       (omega (arith, count_append is_mark_item before (number n ∷ [])))
-      (λ j i e. mark_more before (number n ∷ []) j i (are j i e)) k)
-      (λ h k. said gs (before ++ mark ∷ []) (marks ++ (count - 1) ∷ []) count
+      (λ j i e. still_mark before (number n ∷ []) j i (are j i e)) k)
+      (λ h k. steps_from_groups gs (before ++ mark ∷ []) (marks ++ (count - 1) ∷ []) count
       (omega (arith, count_append is_number before (mark ∷ [])))
       (omega (
         arith,
         count_append is_mark_item before (mark ∷ []),
         length-append marks
             ((count - 1) ∷ []),
-      )) (marks_more before marks count h c m are)
-      (subst (λ z. AreFine (length hypotheses + length labels) z count gs)
+      )) (one_mark_more before marks count h c m are)
+      (subst (λ z. AreFaultless (length hypotheses + length labels) z count gs)
       (let len = length-append marks ((count - 1) ∷ []) in
       omega arith) k))
     where
-      item : Bool → Item
-      item b = elim b [ true ↦ number (value g) | false ↦ mark ]
+      item_by_letter : Bool → Item
+      item_by_letter b = elim b [ true ↦ number (value g) | false ↦ mark ]
 
-      out : Bool → List PlacedStep
-      out a = elim a [
+      steps_from_group : Bool → List PlacedStep
+      steps_from_group a = elim a [
         | true ↦ map (placed (starts_at g)) (step_of (hypotheses ++ labels) marks (value g))
             ++ group_steps (hypotheses ++ labels) marks (count + 1) gs
         | false ↦ group_steps (hypotheses ++ labels) (marks ++ (count - 1) ∷ []) count gs
       ]
 
-      number_or_mark : AreFine (length hypotheses + length labels) (length marks) count (g ∷ gs)
-          → ((n : ℕ) → AreFine (length hypotheses + length labels) (length marks) (count + 1) gs
-          → IsSaid (before ++ number n ∷ []) (map item_of gs)
-          (bare (group_steps (hypotheses ++ labels) marks (count + 1) gs)))
-          → (0 < count → AreFine (length hypotheses + length labels) (length marks + 1) count gs
-          → IsSaid (before ++ mark ∷ []) (map item_of gs)
-          (bare (group_steps (hypotheses ++ labels) (marks ++ (count - 1) ∷ []) count gs)))
-          → IsSaid before (item (is_last g.last.byte) ∷ map item_of gs)
-          (bare (out (is_last g.last.byte)))
-      number_or_mark (inl k) on marking =
+      number_or_mark : AreFaultless (length hypotheses + length labels) (length marks) count
+          (g ∷ gs)
+          → ((n : ℕ)
+          → AreFaultless (length hypotheses + length labels) (length marks) (count + 1) gs
+          → AreStepsFrom (before ++ number n ∷ []) (map item_of gs)
+          (steps_of (group_steps (hypotheses ++ labels) marks (count + 1) gs)))
+          → (0 < count
+          → AreFaultless (length hypotheses + length labels) (length marks + 1) count gs
+          → AreStepsFrom (before ++ mark ∷ []) (map item_of gs)
+          (steps_of (group_steps (hypotheses ++ labels) (marks ++ (count - 1) ∷ []) count gs)))
+          → AreStepsFrom before (item_by_letter (is_last g.last.byte) ∷ map item_of gs)
+          (steps_of (steps_from_group (is_last g.last.byte)))
+      number_or_mark (inl k) after_number after_mark =
           let low =
           leb-true 65 g.last.byte
           (and_parts (nat_le 65 g.last.byte) (nat_le g.last.byte 84) k.0).0 in
           let s = number_named before marks (value g) (positive _ g.last.byte low) k.1 are in
           let whole =
-          said_number before (map item_of gs)
-          (bare (group_steps (hypotheses ++ labels) marks (count + 1) gs)) (value g) s.0 s.2
-          (on (value g) k.2) in
-          subst (λ b. IsSaid before (item b ∷ map item_of gs) (bare (out b))) (sym k.0)
-          (subst (λ ss. IsSaid before (number (value g) ∷ map item_of gs)
-          (bare (map (placed (starts_at g)) ss
+          steps_from_number before (map item_of gs)
+          (steps_of (group_steps (hypotheses ++ labels) marks (count + 1) gs)) (value g) s.0 s.2
+          (after_number (value g) k.2) in
+          subst (λ b. AreStepsFrom before (item_by_letter b ∷ map item_of gs)
+              (steps_of (steps_from_group b))) (sym k.0)
+          (subst (λ ss. AreStepsFrom before (number (value g) ∷ map item_of gs)
+          (steps_of (map (placed (starts_at g)) ss
           ++ group_steps (hypotheses ++ labels) marks (count + 1) gs))) (sym s.1) whole)
-      number_or_mark (inr k) on marking =
-          subst (λ b. IsSaid before (item b ∷ map item_of gs) (bare (out b))) (sym k.0)
-          (said_mark before (map item_of gs)
-          (bare (group_steps (hypotheses ++ labels) (marks ++ (count - 1) ∷ []) count gs))
-          (marking k.3 k.4))
+      number_or_mark (inr k) after_number after_mark =
+          subst (λ b. AreStepsFrom before (item_by_letter b ∷ map item_of gs)
+              (steps_of (steps_from_group b))) (sym k.0)
+          (steps_from_mark before (map item_of gs)
+          (steps_of (group_steps (hypotheses ++ labels) (marks ++ (count - 1) ∷ []) count gs))
+          (after_mark k.3 k.4))
 
-  pub groups_said : (gs : List Group) → AreFine (length hypotheses + length labels) 0 0 gs
+  pub groups_name_steps : (gs : List Group)
+      → AreFaultless (length hypotheses + length labels) 0 0 gs
       → AreSteps hypotheses labels (map item_of gs)
-      (bare (group_steps (hypotheses ++ labels) [] 0 gs))
-  groups_said gs f =
-      let h = said gs [] [] 0 refl refl (λ k i e. absurd (none k i e)) f in
+      (steps_of (group_steps (hypotheses ++ labels) [] 0 gs))
+  groups_name_steps gs f =
+      let h = steps_from_groups gs [] [] 0 refl refl (λ k i e. absurd (none k i e)) f in
       record { count = h.count; each = h.each }
     where
       none : (k i : ℕ) → slice_get {X = ℕ} [] k ≡ Some i → ⊥
@@ -370,27 +386,28 @@ module _ (db : List Statement) (law : (k : ℕ) → k < length db → IsLawful d
       judged o =
           elim o [ None ↦ None | Some s ↦ least (scope_faults (names_before db k) (depth db k) s) ]
 
-  apart : (w : Bytes) (i j : ℕ) → i < j → HasLabel db w i → HasLabel db w j → ⊥
-  apart w i j l h k =
+  not_twice : (w : Bytes) (i j : ℕ) → i < j → HasLabel db w i → HasLabel db w j → ⊥
+  not_twice w i j l h k =
       let s = found_at db (is_labelled w) i h in
       let t = found_at db (is_labelled w) j k in
       let fresh : is_in w (names_before db j).labels ≡ false =
       label_fresh (names_before db j) (depth db j) t.0 w (faultless j t.0 t.1) t.2 in
       true≢false (sym (declares label_words db j i s.0 w s.1 l (labelled_word s.0 w s.2)) ∙ fresh)
 
-  label_once : LabelsDiffer db
-  label_once w i j h k = by_order (cases_order i j)
+  labels_are_distinct : LabelsDiffer db
+  labels_are_distinct w i j h k = by_order (cases_order i j)
     where
       by_order : (i ≡ j) ⊎ ((i < j) ⊎ (j < i)) → i ≡ j
       by_order (inl e) = e
-      by_order (inr (inl l)) = absurd (apart w i j l h k)
-      by_order (inr (inr l)) = absurd (apart w j i l k h)
+      by_order (inr (inl l)) = absurd (not_twice w i j l h k)
+      by_order (inr (inr l)) = absurd (not_twice w j i l k h)
 
 -- the labels of what is read differ, as it counts
 pub labels_differ : (len : ℕ) (x : LexedText) (db : List Statement) (fault : Option Fault)
     → IsRead len x db fault → (with_open : Bool) → LabelsDiffer (counted with_open db)
 labels_differ len x db fault r with_open w i j h u =
-    label_once db (lawful_read len x db fault r) w i j (sym (same i) ∙ h) (sym (same j) ∙ u)
+    labels_are_distinct db (lawful_read len x db fault r) w i j (sym (same i) ∙ h)
+        (sym (same j) ∙ u)
   where
     same : (j : ℕ)
         → list_any (is_labelled w) (statement_at (counted with_open db) j)
@@ -401,13 +418,13 @@ module _ (db : List Statement) (differ : LabelsDiffer db) where
   module _ (k : ℕ) where
     pub usable_one : (t : Token) → proof_label_faults db k t ≡ []
         → (j : ℕ) × (usable db k t.word ≡ j ∷ []) × IsUsable db k t.word j
-    usable_one t e = none_or_one (one_in_range test once k 0)
+    usable_one t e = none_or_one (one_in_range is_usable_at at_most_once k 0)
       where
-        test : ℕ → Bool
-        test j = is_active db j k && list_any (is_labelled t.word) (statement_at db j)
+        is_usable_at : ℕ → Bool
+        is_usable_at j = is_active db j k && list_any (is_labelled t.word) (statement_at db j)
 
-        once : (i j : ℕ) → test i ≡ true → test j ≡ true → i ≡ j
-        once i j h u =
+        at_most_once : (i j : ℕ) → is_usable_at i ≡ true → is_usable_at j ≡ true → i ≡ j
+        at_most_once i j h u =
             differ t.word i j
             (and_parts (is_active db i k) (list_any (is_labelled t.word) (statement_at db i)) h).1
             (and_parts (is_active db j k) (list_any (is_labelled t.word) (statement_at db j)) u).1
@@ -419,7 +436,7 @@ module _ (db : List Statement) (differ : LabelsDiffer db) where
         no_fault n = let f : fault_of [] ≡ [] = ap fault_of (sym n) ∙ e in cc
 
         none_or_one : (usable db k t.word ≡ [])
-            ⊎ ((j : ℕ) × (usable db k t.word ≡ j ∷ []) × (test j ≡ true) × (0 ≤ j))
+            ⊎ ((j : ℕ) × (usable db k t.word ≡ j ∷ []) × (is_usable_at j ≡ true) × (0 ≤ j))
             → (j : ℕ) × (usable db k t.word ≡ j ∷ []) × IsUsable db k t.word j
         none_or_one (inl n) = absurd (no_fault n)
         none_or_one (inr h) =
@@ -461,7 +478,8 @@ module _ (db : List Statement) (differ : LabelsDiffer db) where
     normal_labels (t ∷ ts) e =
         let own : List Fault = own_faults t (bytes_eq t.word (codes "?")) in
         let more : List Fault = flat_map (λ u. own_faults u (bytes_eq u.word (codes "?"))) ts in
-        ap₂ (λ xs ys. xs ++ ys) (by_question_mark (bytes_eq t.word (codes "?")) (append_none own more e).0)
+        ap₂ (λ xs ys. xs ++ ys)
+            (by_question_mark (bytes_eq t.word (codes "?")) (append_none own more e).0)
         (normal_labels ts (append_none own more e).1)
       where
         by_question_mark : (b : Bool) → own_faults t b ≡ [] → proof_label_faults db k t ≡ []
@@ -518,27 +536,27 @@ module _ (db : List Statement) (differ : LabelsDiffer db) where
         (map (λ p. p.step)
         (compressed_steps db k (record { labels = labels; letters = Some letters })))
     named end labels letters items f spelled =
-        let many = length (mandatory_hypotheses db k) + length labels in
+        let label_count = length (mandatory_hypotheses db k) + length labels in
         let js =
         all_usable labels
         (append_none (flat_map (proof_label_faults db k) labels)
-        (letter_faults many end (letters_of letters)) f).0 in
+        (letter_faults label_count end (letters_of letters)) f).0 in
         let good =
-        good_letters many end (letters_of letters)
+        faultless_letters label_count end (letters_of letters)
         (append_none (flat_map (proof_label_faults db k) labels)
-        (letter_faults many end (letters_of letters)) f).1 in
+        (letter_faults label_count end (letters_of letters)) f).1 in
         let gs = (groups [] (letters_of letters)).0 in
         let read : Spells (letters_in letters) (map item_of gs) =
         subst (λ bs. Spells bs (map item_of gs)) (letters_bytes letters)
-        (groups_spell (letters_of letters) [] many 0 0 tt good.fine good.whole) in
+        (groups_spell (letters_of letters) [] label_count 0 0 tt good.fine good.whole) in
         let same : map item_of gs ≡ items =
         spelling_unique (letters_in letters) (map item_of gs) items read spelled in
-        let fine : AreFine (length (mandatory_hypotheses db k) + length js.0) 0 0 gs =
-        subst (λ n. AreFine (length (mandatory_hypotheses db k) + n) 0 0 gs)
+        let fine : AreFaultless (length (mandatory_hypotheses db k) + length js.0) 0 0 gs =
+        subst (λ n. AreFaultless (length (mandatory_hypotheses db k) + n) 0 0 gs)
         (as_many labels js.0 js.1) good.fine in
-        let said : AreSteps (mandatory_hypotheses db k) js.0 (map item_of gs)
+        let steps_from_groups : AreSteps (mandatory_hypotheses db k) js.0 (map item_of gs)
         (map (λ p. p.step)
-        (group_steps (mandatory_hypotheses db k ++ js.0) [] 0 gs)) = groups_said
+        (group_steps (mandatory_hypotheses db k ++ js.0) [] 0 gs)) = groups_name_steps
         (mandatory_hypotheses db k) js.0 gs fine in (
           js.0,
           js.1,
@@ -547,7 +565,7 @@ module _ (db : List Statement) (differ : LabelsDiffer db) where
               (sym js.2)
               (subst (λ is. AreSteps (mandatory_hypotheses db k) js.0 is
               (map (λ p. p.step) (group_steps (mandatory_hypotheses db k ++ js.0) [] 0 gs)))
-              same said),
+              same steps_from_groups),
         )
       where
         as_many : (ts : List Token) (js : List ℕ) → AllZip (λ t j. IsUsable db k t.word j) ts js

@@ -38,9 +38,11 @@ has_one _ e = absurd (true≢false (sym e))
 some_passes : {X : Type 0} (p : X → Bool) (xs : List X) → list_any p xs ≡ true
     → (x : X) × (p x ≡ true)
 some_passes p [] e = absurd (true≢false (sym e))
-some_passes {X} p (x ∷ xs) e = at_first_or_later (or_cases (p x) (list_any p xs) e) (some_passes p xs)
+some_passes {X} p (x ∷ xs) e =
+    at_first_or_later (or_cases (p x) (list_any p xs) e) (some_passes p xs)
   where
-    at_first_or_later : (p x ≡ true) ⊎ (list_any p xs ≡ true) → (list_any p xs ≡ true → (y : X) × (p y ≡ true))
+    at_first_or_later : (p x ≡ true) ⊎ (list_any p xs ≡ true)
+        → (list_any p xs ≡ true → (y : X) × (p y ≡ true))
         → (y : X) × (p y ≡ true)
     at_first_or_later (inl h) more = (x, h)
     at_first_or_later (inr h) more = more h
@@ -118,7 +120,8 @@ module _ (db : List Statement) (lawful : (k : ℕ) → k < length db → IsLawfu
           && list_any (is_member (mandatory_variables db k)) (formula_at db j) in
           in_hypothesis x j a (or_left (is_essential_at j) typed_here p.0) p.1
 
-      in_formula_or_essential : (in_formula x k ≡ true) ⊎ (is_member more x ≡ true) → is_in_frame db k x ≡ true
+      in_formula_or_essential : (in_formula x k ≡ true) ⊎ (is_member more x ≡ true)
+          → is_in_frame db k x ≡ true
       in_formula_or_essential (inl g) = or_left (in_formula x k) (in_hypotheses x || in_pairs x) g
       in_formula_or_essential (inr g) =
           let has =
@@ -130,7 +133,8 @@ module _ (db : List Statement) (lawful : (k : ℕ) → k < length db → IsLawfu
           (or_left (in_hypotheses x) (in_pairs x) (of_essential a.0 a.1 a.2))
 
   from_frame : (x : ℕ) → is_variable_number db x ≡ true → is_in_frame db k x ≡ true → IsMandatory x
-  from_frame x v h = in_formula_or_rest (or_cases (in_formula x k) (in_hypotheses x || in_pairs x) h)
+  from_frame x v h =
+      in_formula_or_rest (or_cases (in_formula x k) (in_hypotheses x || in_pairs x) h)
     where
       all : List Pair
       all = pairs_of (length (symbol_names db))
@@ -157,7 +161,8 @@ module _ (db : List Statement) (lawful : (k : ℕ) → k < length db → IsLawfu
           let p = and_parts (is_mandatory_pair db k a.0) (in_pair x a.0) a.1 in
           either a.0 p.0 (or_cases (x == a.0.low) (x == a.0.high) p.1)
 
-      in_formula_or_rest : (in_formula x k ≡ true) ⊎ ((in_hypotheses x || in_pairs x) ≡ true) → IsMandatory x
+      in_formula_or_rest : (in_formula x k ≡ true) ⊎ ((in_hypotheses x || in_pairs x) ≡ true)
+          → IsMandatory x
       in_formula_or_rest (inl g) = of_formula db lawful k x g v
       in_formula_or_rest (inr g) = more (or_cases (in_hypotheses x) (in_pairs x) g)
 

@@ -78,7 +78,8 @@ module _ (db : List Statement) (by_essential : Bool) (fine : AreComplete db)
       by_link : IsLink t n ⊎ (IsLink t n → ⊥) → (w : ℕ) × IsWave db by_essential n w → Best t n
           → Best t (suc n)
       by_link (inl h) w r = longer h w r (cases_lt w.0 r.0)
-      by_link (inr not_linked) w r = (r.0, r.1, λ b l h k c. skip not_linked r b l h k c (cases_eq b n))
+      by_link (inr not_linked) w r =
+          (r.0, r.1, λ b l h k c. skip not_linked r b l h k c (cases_eq b n))
 
   -- a longest chain is the wave
   of_best : (t : ℕ) → Best t t → (w : ℕ) × IsWave db by_essential t w

@@ -151,12 +151,13 @@ module _ (db : List Statement) (k : ℕ)
   -- ---- compressed proofs
 
   -- a number stands for a label, or for a mark of a step before it
-  number_good : (labels marks : List ℕ) (count many v : ℕ) → AllByRecursion IsGoodLabel labels
-      → AllByRecursion (λ i. i < count) marks → many ≤ length labels → 0 < v
-      → v ≤ many + length marks
+  number_good : (labels marks : List ℕ) (count label_count v : ℕ)
+      → AllByRecursion IsGoodLabel labels
+      → AllByRecursion (λ i. i < count) marks → label_count ≤ length labels → 0 < v
+      → v ≤ label_count + length marks
       → (s : Step) × (step_of labels marks v ≡ s ∷ []) × IsGoodStep (context_at db k) count s
-  number_good labels marks count many zero l m h z u = absurd (omega arith)
-  number_good labels marks count many (suc n) l m h z u =
+  number_good labels marks count label_count zero l m h z u = absurd (omega arith)
+  number_good labels marks count label_count (suc n) l m h z u =
       by_label_or_mark (slice_get labels n) refl (slice_get marks (n - length labels)) refl
     where
       steps_of_number : Option ℕ → Option ℕ → List Step
@@ -174,20 +175,20 @@ module _ (db : List Statement) (k : ℕ)
           let y = get_none marks (n - length labels) f in
           absurd (omega arith)
 
-  groups_good : (gs : List Group) (labels marks : List ℕ) (many count : ℕ)
+  groups_good : (gs : List Group) (labels marks : List ℕ) (label_count count : ℕ)
       → AllByRecursion IsGoodLabel labels → AllByRecursion (λ i. i < count) marks
-      → many ≤ length labels → group_faults many (length marks) count gs ≡ []
+      → label_count ≤ length labels → group_faults label_count (length marks) count gs ≡ []
       → AreGoodSteps (context_at db k) count (steps_of (group_steps labels marks count gs))
-  groups_good [] labels marks many count l m h f = tt
-  groups_good (g ∷ gs) labels marks many count l m h f =
+  groups_good [] labels marks label_count count l m h f = tt
+  groups_good (g ∷ gs) labels marks label_count count l m h f =
       by_letter (is_last g.last.byte) refl (g.last.byte == 90) refl f
-      (λ e. groups_good gs labels marks many (count + 1) l (marks_still_earlier marks m) h e)
-      (λ p e. groups_good gs labels (marks ++ (count - 1) ∷ []) many count l
+      (λ e. groups_good gs labels marks label_count (count + 1) l (marks_still_earlier marks m) h e)
+      (λ p e. groups_good gs labels (marks ++ (count - 1) ∷ []) label_count count l
       (each_append (λ i. i < count) marks ((count - 1) ∷ []) m (omega arith, tt)) h
       (let same : length marks + 1
       ≡ length (marks ++ (count - 1) ∷ []) = omega
       (arith, length-append marks ((count - 1) ∷ [])) in
-      subst (λ z. group_faults many z count gs ≡ []) same e))
+      subst (λ z. group_faults label_count z count gs ≡ []) same e))
     where
       marks_still_earlier : (xs : List ℕ) → AllByRecursion (λ i. i < count) xs
           → AllByRecursion (λ i. i < count + 1) xs
@@ -196,7 +197,8 @@ module _ (db : List Statement) (k : ℕ)
 
       faults_of_group : Bool → Bool → List Fault
       faults_of_group a b = elim a [
-        | true ↦ at (starts_at g) (when (nat_lt (many + length marks) (value g)) NumberTooLarge)
+        | true ↦ at (starts_at g)
+            (when (nat_lt (label_count + length marks) (value g)) NumberTooLarge)
         | false ↦ elim b [
           | true ↦ at g.last.at
               (when (nat_lt 0 (length g.early)) OpenNumber ++ when (count == 0) MarkBeforeStep)
@@ -208,8 +210,8 @@ module _ (db : List Statement) (k : ℕ)
       faults_of_later_groups : Bool → List Fault
       faults_of_later_groups b =
           elim b [
-            | true ↦ group_faults many (length marks + 1) count gs
-            | false ↦ group_faults many (length marks) (count + 1) gs
+            | true ↦ group_faults label_count (length marks + 1) count gs
+            | false ↦ group_faults label_count (length marks) (count + 1) gs
           ]
 
       steps_from_group : Bool → List PlacedStep
@@ -226,10 +228,10 @@ module _ (db : List Statement) (k : ℕ)
 
       by_letter : (a : Bool) → is_last g.last.byte ≡ a → (b : Bool) → (g.last.byte == 90) ≡ b
           → faults_of_group a b ++ faults_of_later_groups b ≡ []
-          → (group_faults many (length marks) (count + 1) gs ≡ []
+          → (group_faults label_count (length marks) (count + 1) gs ≡ []
           → AreGoodSteps (context_at db k) (count + 1)
           (steps_of (group_steps labels marks (count + 1) gs)))
-          → (0 < count → group_faults many (length marks + 1) count gs ≡ []
+          → (0 < count → group_faults label_count (length marks + 1) count gs ≡ []
           → AreGoodSteps (context_at db k) count
           (steps_of (group_steps labels (marks ++ (count - 1) ∷ []) count gs)))
           → AreGoodSteps (context_at db k) count (steps_of (steps_from_group a))
@@ -242,12 +244,13 @@ module _ (db : List Statement) (k : ℕ)
           let low =
           leb-true 65 g.last.byte (and_parts (nat_le 65 g.last.byte) (nat_le g.last.byte 84) p).0 in
           let none =
-          when_none (nat_lt (many + length marks) (value g)) NumberTooLarge
-          (at_none (starts_at g) (when (nat_lt (many + length marks) (value g)) NumberTooLarge)
+          when_none (nat_lt (label_count + length marks) (value g)) NumberTooLarge
+          (at_none (starts_at g)
+          (when (nat_lt (label_count + length marks) (value g)) NumberTooLarge)
           (append_none (faults_of_group true false) (faults_of_later_groups false) f).0) in
           let s =
-          number_good labels marks count many (value g) l m h (positive _ g.last.byte low)
-          (ltb-false (many + length marks) (value g) none) in
+          number_good labels marks count label_count (value g) l m h (positive _ g.last.byte low)
+          (ltb-false (label_count + length marks) (value g) none) in
           let next = after_number
           (append_none (faults_of_group true false) (faults_of_later_groups false) f).1 in
           let one : suc count ≡ count + 1 = omega arith in
