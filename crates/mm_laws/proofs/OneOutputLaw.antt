@@ -39,7 +39,7 @@ use Rattle.mm_spec.proofs.CompleteLaw.{reads_complete}
 use Rattle.mm_spec.proofs.OpenedLaw.{counted_complete}
 use Rattle.mm_spec.proofs.CheckedLaw.{same_forest, plain_unique}
 use Rattle.mm_laws.proofs.ExcludedLaw.{excludes}
-use Rattle.mm_laws.proofs.JudgedLaw.{stopped, no_step_fault, no_end_fault, no_both_faults}
+use Rattle.mm_laws.proofs.JudgedLaw.{stopped_steps, no_step_fault, no_end_fault, no_both_faults}
 use Rattle.mm_spec.proofs.LongestLaw.{longest_unique}
 use Rattle.mm_spec.specs.declared.Code.TheVariants.{OpenStatement, OpenBlock}
 
@@ -115,7 +115,7 @@ module _ (c : Context) (fine : (l : ℕ) → HasCompleteFrame c (c.rule l)) wher
         is = s.is;
       } in
       excludes c fine (map (λ p. p.step) before) s.reason (postfix forest)
-      (stopped c fine before [] 0 f t) p (forest, d, refl)
+      (stopped_steps c fine before [] 0 f t) p (forest, d, refl)
 
   pub step_fault_unique : (ps : List PlacedStep) (f g : Fault) → StepFault c ps f → StepFault c ps g
       → f ≡ g

@@ -535,29 +535,32 @@ module _ (db : List Statement) (differ : LabelsDiffer db) where
         × AreSteps (mandatory_hypotheses db k) js items
         (map (λ p. p.step)
         (compressed_steps db k (record { labels = labels; letters = Some letters })))
-    named end labels letters items f spelled =
+    named end labels letters items f letters_spell =
         let label_count = length (mandatory_hypotheses db k) + length labels in
         let js =
         all_usable labels
         (append_none (flat_map (proof_label_faults db k) labels)
         (letter_faults label_count end (letters_of letters)) f).0 in
-        let good =
+        let letters_faultless =
         faultless_letters label_count end (letters_of letters)
         (append_none (flat_map (proof_label_faults db k) labels)
         (letter_faults label_count end (letters_of letters)) f).1 in
         let gs = (groups [] (letters_of letters)).0 in
-        let read : Spells (letters_in letters) (map item_of gs) =
+        let groups_spell_letters : Spells (letters_in letters) (map item_of gs) =
         subst (λ bs. Spells bs (map item_of gs)) (letters_bytes letters)
-        (groups_spell (letters_of letters) [] label_count 0 0 tt good.fine good.whole) in
+        (groups_spell
+        (letters_of letters) [] label_count 0 0 tt letters_faultless.fine letters_faultless.whole) in
         let same : map item_of gs ≡ items =
-        spelling_unique (letters_in letters) (map item_of gs) items read spelled in
-        let fine : AreFaultless (length (mandatory_hypotheses db k) + length js.0) 0 0 gs =
+        spelling_unique (letters_in letters)
+            (map item_of gs) items groups_spell_letters letters_spell in
+        let groups_faultless : AreFaultless
+        (length (mandatory_hypotheses db k) + length js.0) 0 0 gs =
         subst (λ n. AreFaultless (length (mandatory_hypotheses db k) + n) 0 0 gs)
-        (as_many labels js.0 js.1) good.fine in
-        let steps_from_groups : AreSteps (mandatory_hypotheses db k) js.0 (map item_of gs)
+        (same_length labels js.0 js.1) letters_faultless.fine in
+        let group_steps_are : AreSteps (mandatory_hypotheses db k) js.0 (map item_of gs)
         (map (λ p. p.step)
         (group_steps (mandatory_hypotheses db k ++ js.0) [] 0 gs)) = groups_name_steps
-        (mandatory_hypotheses db k) js.0 gs fine in (
+        (mandatory_hypotheses db k) js.0 gs groups_faultless in (
           js.0,
           js.1,
           subst (λ xs. AreSteps (mandatory_hypotheses db k) js.0 items
@@ -565,26 +568,26 @@ module _ (db : List Statement) (differ : LabelsDiffer db) where
               (sym js.2)
               (subst (λ is. AreSteps (mandatory_hypotheses db k) js.0 is
               (map (λ p. p.step) (group_steps (mandatory_hypotheses db k ++ js.0) [] 0 gs)))
-              same steps_from_groups),
+              same group_steps_are),
         )
       where
-        as_many : (ts : List Token) (js : List ℕ) → AllZip (λ t j. IsUsable db k t.word j) ts js
+        same_length : (ts : List Token) (js : List ℕ) → AllZip (λ t j. IsUsable db k t.word j) ts js
             → length ts ≡ length js
-        as_many [] [] h = refl
-        as_many [] (j ∷ js) h = absurd h
-        as_many (t ∷ ts) [] h = absurd h
-        as_many (t ∷ ts) (j ∷ js) h = ap suc (as_many ts js h.1)
+        same_length [] [] h = refl
+        same_length [] (j ∷ js) h = absurd h
+        same_length (t ∷ ts) [] h = absurd h
+        same_length (t ∷ ts) (j ∷ js) h = ap suc (same_length ts js h.1)
 
     compressed_are : (end : ℕ) (ts labels letters : List Token) (items : List Item)
         → reading_faults db k end ts ≡ [] → IsCompressed ts labels letters
         → Spells (letters_in letters) items
         → (js : List ℕ) × AllZip (λ t j. IsUsable db k t.word j) labels js
         × AreSteps (mandatory_hypotheses db k) js items (bare_steps db k ts)
-    compressed_are end ts labels letters items f c spelled =
+    compressed_are end ts labels letters items f c letters_spell =
         subst (λ xs. Goal (bare_steps db k xs)) (sym c.are)
         (subst (λ ps. Goal (map (λ p. p.step) ps)) (sym steps_are)
         (named end labels letters items
-        (sym faults_are ∙ (ap (reading_faults db k end) (sym c.are) ∙ f)) spelled))
+        (sym faults_are ∙ (ap (reading_faults db k end) (sym c.are) ∙ f)) letters_spell))
       where
         rest : List Token
         rest = labels ++ c.closing ∷ letters

@@ -17,7 +17,7 @@ use Rattle.mm_spec.proofs.CheckedLaw.{same_forest}
 use Rattle.mm_spec.proofs.CitedLaw.{proof_unique}
 use Rattle.mm_spec.proofs.GoodStepsLaw.{good_steps}
 use Rattle.mm_laws.proofs.ReadLaw.{frames_complete}
-use Rattle.mm_laws.proofs.JudgedLaw.{Judged, judged, valid, step_fault, end_fault}
+use Rattle.mm_laws.proofs.JudgedLaw.{Verdict, verdict, valid, step_fault, end_fault}
 use Rattle.mm_laws.proofs.OneOutputLaw.{proof_fault_unique, valid_no_fault}
 
 -- some fault is the least
@@ -38,7 +38,7 @@ module _ (db : List Statement) (fine : AreComplete db) (k : ℕ) where
   valid_or_faulty end = by_reading_faults (reading_faults_at db k) refl
     where
       of : reading_faults_at db k ≡ []
-          → Judged (context_at db k) (fine k) (steps_at db k) (formula_at db k) end
+          → Verdict (context_at db k) (fine k) (steps_at db k) (formula_at db k) end
           → IsValid db k ⊎ ((f : Fault) × ProofFault db k end f)
       of e (valid d h) = inl (e, d, h)
       of e (step_fault f h) = inr (f, inr (e, inl h))
@@ -47,7 +47,7 @@ module _ (db : List Statement) (fine : AreComplete db) (k : ℕ) where
       by_reading_faults : (fs : List Fault) → reading_faults_at db k ≡ fs
           → IsValid db k ⊎ ((f : Fault) × ProofFault db k end f)
       by_reading_faults [] e =
-          of e (judged (context_at db k) (fine k) (steps_at db k) (formula_at db k) end
+          of e (verdict (context_at db k) (fine k) (steps_at db k) (formula_at db k) end
           (good_steps db k (fine k) e))
       by_reading_faults (f ∷ fs) e = let g = least_some f fs in inr (g.0, inl (ap least e ∙ g.1))
 

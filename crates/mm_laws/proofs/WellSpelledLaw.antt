@@ -372,7 +372,7 @@ no_faults_of_faultless (g ∷ gs) label_count marks count f =
         ∙ after_mark k.4
 
 letters_faultless : (label_count end : ℕ) (xs : List Letter) → xs ≢ []
-→ AreFaultlessGroups label_count 0 0 (groups [] xs)
+    → AreFaultlessGroups label_count 0 0 (groups [] xs)
     → letter_faults label_count end xs ≡ []
 letters_faultless label_count end [] n r = absurd (n refl)
 letters_faultless label_count end (x ∷ xs) n r =

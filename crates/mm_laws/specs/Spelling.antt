@@ -119,8 +119,8 @@ pub record IsUsable (db : List Statement) (k : ℕ) (w : Bytes) (j : ℕ) : Type
 
 -- ---- what is well formed
 
--- each number is at most `label_count`, the number of hypotheses and labels, plus the number of marks
--- before it
+-- each number is at most `label_count`, the number of hypotheses and labels, plus the number of the
+-- marks before it
 abbrev pub NumbersName : ℕ → List Item → Type 0
 NumbersName label_count items =
     (before after : List Item) (n : ℕ) → items ≡ before ++ number n ∷ after

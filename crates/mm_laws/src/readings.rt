@@ -14,5 +14,6 @@ pub fn every_text_is_read()
 /// Each text has a first fault, or it has none and all its proofs are valid. The same holds if open
 /// theorems count as axioms.
 pub fn texts_are_sound_or_faulty()
-    ensures { (len : ℕ) (lexed : LexedText) (with_open : Bool) → IsSoundOrFaulty len lexed with_open }
+    ensures { (len : ℕ) (lexed : LexedText) (with_open : Bool)
+      → IsSoundOrFaulty len lexed with_open }
 {}

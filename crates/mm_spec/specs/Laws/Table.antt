@@ -107,8 +107,8 @@ abbrev pub is_between_statements : Progress → Bool
 is_between_statements (start d) = true
 is_between_statements _ = false
 
--- the fault f if the token is unexpected, otherwise that of the tokens after it, which `of_the_rest`
--- gives
+-- the fault f if the token is unexpected, otherwise the fault of the tokens after it, which
+-- `of_the_rest` gives
 abbrev pub shape_fault_after : Transition → Option Fault → (Progress → Option Fault) → Option Fault
 shape_fault_after unexpected f of_the_rest = f
 shape_fault_after (continued r) f of_the_rest = of_the_rest r
@@ -122,8 +122,8 @@ shape_fault_from r (t ∷ ts) =
         (Some (fault t.at (shape_code (is_between_statements r) t.word)))
     (λ q. shape_fault_from q ts)
 
--- what was read, r, if the token is unexpected, otherwise what the tokens after it add to it, which
--- `of_the_rest` gives
+-- what was read, r, if the token is unexpected, otherwise what was read after the tokens behind it,
+-- which `of_the_rest` gives
 abbrev pub progress_after : Transition → (Progress → Progress) → Progress → Progress
 progress_after unexpected of_the_rest r = r
 progress_after (continued q) of_the_rest r = of_the_rest q

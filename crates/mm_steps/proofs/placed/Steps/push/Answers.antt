@@ -15,7 +15,8 @@ invariant_of-self-in-Marked g c =
     let pushed = c.push-in-Marked.new.self.items in
     let marked_step = c.in-Marked.number in
     let old_entry = c.index_mut.result.now in
-    let entry : Placed = record { at = c.args.at; number = marked_step; kind = Marked; is_marked = false } in
+    let entry : Placed =
+    record { at = c.args.at; number = marked_step; kind = Marked; is_marked = false } in
     let is_pushed : pushed ≡ old ++ entry ∷ [] = c.in_ok-push-in-Marked.ensures.items in
     let is_earlier : marked_step < length c.args.self.now.steps =
     subst (λ s. IsEarlier (as_step s) (length c.args.self.now.steps)) c.in-Marked.is c.requires in
@@ -36,7 +37,8 @@ returns-in_ok-push-in-Marked-clause-ok g c =
     let pushed = c.push-in-Marked.new.self.items in
     let marked_step = c.in-Marked.number in
     let old_entry = c.index_mut.result.now in
-    let entry : Placed = record { at = c.args.at; number = marked_step; kind = Marked; is_marked = false } in
+    let entry : Placed =
+    record { at = c.args.at; number = marked_step; kind = Marked; is_marked = false } in
     let is_pushed : pushed ≡ old ++ entry ∷ [] = c.in_ok-push-in-Marked.ensures.items in
     let is_earlier : marked_step < length c.args.self.now.steps =
     subst (λ s. IsEarlier (as_step s) (length c.args.self.now.steps)) c.in-Marked.is c.requires in
