@@ -45,8 +45,8 @@ abbrev pub tokens_in : Lexeme → List Word
 tokens_in (Single w) = w ∷ []
 tokens_in (Comment o ws c) = []
 
--- The words are a row of tokens and comments, at the end of which a comment may be open. `tokens` are the
--- tokens, and `open_comment` is the place where that comment begins, if there is one.
+-- The words are a row of tokens and comments, at the end of which a comment may be open. `tokens`
+-- are the tokens, and `open_comment` is the place where that comment begins, if there is one.
 pub record IsWellBegun (text : List ℕ) (ws : List Word) (tokens : List Word)
     (open_comment : Option ℕ) : Type 0 where
   pub lexemes : List Lexeme

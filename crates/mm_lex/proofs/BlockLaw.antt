@@ -134,26 +134,26 @@ module _ (white first : ℕ) (fits : white < 2 ^ 64) (small : first ≤ 1) where
 -- the bits from a place on
 
 module _ (n k : ℕ) where
-  pub kept_below : (i : ℕ) → i < 64 → i < k → bit_at (n / 2 ^ k * 2 ^ k % 2 ^ 64) i ≡ 0
-  kept_below i short lt =
+  pub bits_below : (i : ℕ) → i < 64 → i < k → bit_at (n / 2 ^ k * 2 ^ k % 2 ^ 64) i ≡ 0
+  bits_below i short lt =
       let same : n / 2 ^ k * 2 ^ k + 0 ≡ n / 2 ^ k * 2 ^ k = omega arith in
       low_bits (n / 2 ^ k * 2 ^ k) 64 i short ∙ ap (λ (m : ℕ). bit_at m i) (sym same)
       ∙ bit_at_cat_low (n / 2 ^ k) k 0 i lt ∙ bit_at-zero i
 
-  pub kept_from : (i : ℕ) → i < 64 → k ≤ i → bit_at (n / 2 ^ k * 2 ^ k % 2 ^ 64) i ≡ bit_at n i
-  kept_from i short le =
+  pub bits_from : (i : ℕ) → i < 64 → k ≤ i → bit_at (n / 2 ^ k * 2 ^ k % 2 ^ 64) i ≡ bit_at n i
+  bits_from i short le =
       let same : n / 2 ^ k * 2 ^ k + 0 ≡ n / 2 ^ k * 2 ^ k = omega arith in
       let place : k + (i - k) ≡ i = omega arith in
       low_bits (n / 2 ^ k * 2 ^ k) 64 i short ∙ ap (λ (m : ℕ). bit_at m i) (sym same)
       ∙ bit_at_cat_high (n / 2 ^ k) k 0 i (pow_pos k) le
       ∙ shifted n k (i - k) ∙ ap (bit_at n) place
 
-  pub kept_one : (i : ℕ) → i < 64 → bit_at (n / 2 ^ k * 2 ^ k % 2 ^ 64) i ≡ 1
+  pub bit_from_one : (i : ℕ) → i < 64 → bit_at (n / 2 ^ k * 2 ^ k % 2 ^ 64) i ≡ 1
       → (k ≤ i) × (bit_at n i ≡ 1)
-  kept_one i short one =
+  bit_from_one i short one =
       ⊎_elim {C = (k ≤ i) × (bit_at n i ≡ 1)}
-      (λ lt. let clash : 0 ≡ 1 = sym (kept_below i short lt) ∙ one in absurd (omega (arith, clash)))
-      (λ le. (le, sym (kept_from i short le) ∙ one))
+      (λ lt. let clash : 0 ≡ 1 = sym (bits_below i short lt) ∙ one in absurd (omega (arith, clash)))
+      (λ le. (le, sym (bits_from i short le) ∙ one))
       (cases_lt i k)
 
 -- ---- where words begin

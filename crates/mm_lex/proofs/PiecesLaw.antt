@@ -48,9 +48,9 @@ go_on_some text r ws h = let e = some_from r.fault h in rw e.1 refl
 
 module _ (text : List ℕ) (r : Reading) (w : Word) (b : Bool) (none : r.fault ≡ None)
     (is : b ≡ is_some r.open_comment) where
-  step : {f : Role} → f ≡ role_of b (bytes_of text w)
+  role_is : {f : Role} → f ≡ role_of b (bytes_of text w)
       → role_of (is_some r.open_comment) (bytes_of text w) ≡ f
-  step role = ap (λ (x : Bool). role_of x (bytes_of text w)) (sym is) ∙ sym role
+  role_is role = ap (λ (x : Bool). role_of x (bytes_of text w)) (sym is) ∙ sym role
 
   pub go_on_token : roles.Token ≡ role_of b (bytes_of text w)
       → go_on text r (w ∷ [])
@@ -58,7 +58,7 @@ module _ (text : List ℕ) (r : Reading) (w : Word) (b : Bool) (none : r.fault �
   go_on_token role =
       go_on_none text r _ none
       ∙ ap (with_tokens r.tokens)
-      (reading_one text r.open_comment w [] (step role)
+      (reading_one text r.open_comment w [] (role_is role)
       ∙ ap (with_tokens (w ∷ [])) (reading_end text r.open_comment))
       ∙ rw none refl
 
@@ -68,7 +68,7 @@ module _ (text : List ℕ) (r : Reading) (w : Word) (b : Bool) (none : r.fault �
   go_on_opening role =
       go_on_none text r _ none
       ∙ ap (with_tokens r.tokens)
-      (reading_opening text r.open_comment w [] (step role) ∙ reading_end text (Some w.start))
+      (reading_opening text r.open_comment w [] (role_is role) ∙ reading_end text (Some w.start))
       ∙ rw (none, append-nil) refl
 
   pub go_on_closing : roles.Closing ≡ role_of b (bytes_of text w)
@@ -76,14 +76,14 @@ module _ (text : List ℕ) (r : Reading) (w : Word) (b : Bool) (none : r.fault �
   go_on_closing role =
       go_on_none text r _ none
       ∙ ap (with_tokens r.tokens)
-      (reading_closing text r.open_comment w [] (step role) ∙ reading_end text None)
+      (reading_closing text r.open_comment w [] (role_is role) ∙ reading_end text None)
       ∙ rw (none, append-nil) refl
 
   pub go_on_comment : roles.Comment ≡ role_of b (bytes_of text w) → go_on text r (w ∷ []) ≡ r
   go_on_comment role =
       go_on_none text r _ none
       ∙ ap (with_tokens r.tokens)
-      (reading_comment text r.open_comment w [] (step role) ∙ reading_end text r.open_comment)
+      (reading_comment text r.open_comment w [] (role_is role) ∙ reading_end text r.open_comment)
       ∙ rw (append-nil, ← none) refl
 
   pub go_on_faulty : roles.Faulty ≡ role_of b (bytes_of text w)
@@ -95,7 +95,7 @@ module _ (text : List ℕ) (r : Reading) (w : Word) (b : Bool) (none : r.fault �
       }
   go_on_faulty role =
       go_on_none text r _ none
-      ∙ ap (with_tokens r.tokens) (reading_faulty text r.open_comment w [] (step role))
+      ∙ ap (with_tokens r.tokens) (reading_faulty text r.open_comment w [] (role_is role))
       ∙ rw (append-nil, is) refl
 
 pub go_on_append : (text : List ℕ) (r : Reading) (xs ys : List Word)

@@ -27,40 +27,40 @@ has_mark_more (a ∷ b ∷ word) zero h = refl
 has_mark_more (a ∷ b ∷ word) (suc i) h =
     rw (← add_one_suc i) (has_mark_more (b ∷ word) i (omega arith))
 
-pub has_mark_none : (word : List ℕ) (i : ℕ) → length word ≤ i + 1
+pub has_comment_mark_none : (word : List ℕ) (i : ℕ) → length word ≤ i + 1
     → has_comment_mark (drop i word) ≡ false
 unfolding has_comment_mark
-has_mark_none [] zero h = refl
-has_mark_none [] (suc i) h = refl
-has_mark_none (a ∷ []) zero h = refl
-has_mark_none (a ∷ b ∷ word) zero h = absurd (omega arith)
-has_mark_none (a ∷ word) (suc i) h = has_mark_none word i (omega arith)
+has_comment_mark_none [] zero h = refl
+has_comment_mark_none [] (suc i) h = refl
+has_comment_mark_none (a ∷ []) zero h = refl
+has_comment_mark_none (a ∷ b ∷ word) zero h = absurd (omega arith)
+has_comment_mark_none (a ∷ word) (suc i) h = has_comment_mark_none word i (omega arith)
 
 -- the loop's step, at the place i and the one before it
-pub has_mark_yes : (word : List ℕ) (i : ℕ) → 1 ≤ i → i < length word
+pub has_comment_mark_yes : (word : List ℕ) (i : ℕ) → 1 ≤ i → i < length word
     → is_comment_mark (get_or word (i - 1) 0) (get_or word i 0) ≡ true
     → has_comment_mark (drop (i - 1) word) ≡ true
-has_mark_yes word i low h mark =
+has_comment_mark_yes word i low h mark =
     let same : i - 1 + 1 ≡ i = omega arith in
     has_mark_more word (i - 1) (omega arith) ∙ rw (same, mark) refl
 
-pub has_mark_no : (word : List ℕ) (i : ℕ) → 1 ≤ i → i < length word
+pub has_comment_mark_no : (word : List ℕ) (i : ℕ) → 1 ≤ i → i < length word
     → is_comment_mark (get_or word (i - 1) 0) (get_or word i 0) ≡ false
     → has_comment_mark (drop (i - 1) word) ≡ has_comment_mark (drop (i + 1 - 1) word)
-has_mark_no word i low h mark =
+has_comment_mark_no word i low h mark =
     let same : i - 1 + 1 ≡ i = omega arith in
     let next : i + 1 - 1 ≡ i = omega arith in
     has_mark_more word (i - 1) (omega arith) ∙ rw (same, mark, next) refl
 
 -- ---- plain words
 
-pub no_mark : (word : List ℕ) → has_dollar word ≡ false → has_comment_mark word ≡ false
+pub no_comment_mark : (word : List ℕ) → has_dollar word ≡ false → has_comment_mark word ≡ false
 unfolding has_comment_mark is_comment_mark
-no_mark [] h = refl
-no_mark (a ∷ []) h = refl
-no_mark (a ∷ b ∷ word) h =
+no_comment_mark [] h = refl
+no_comment_mark (a ∷ []) h = refl
+no_comment_mark (a ∷ b ∷ word) h =
     rw (or_parts (a == 0x24) (has_dollar (b ∷ word)) h).0
-    (no_mark (b ∷ word) (or_parts (a == 0x24) (has_dollar (b ∷ word)) h).1)
+    (no_comment_mark (b ∷ word) (or_parts (a == 0x24) (has_dollar (b ∷ word)) h).1)
 
 and_false : (l x : Bool) → (l && false && x) ≡ false
 and_false true x = refl
@@ -80,7 +80,8 @@ plain_token word plain = rw (plain.clean, plain.no_dollar) refl
 pub plain_comment : (word : List ℕ) → IsPlainWord word → role_of true word ≡ Comment
 unfolding role_of is_comment_word
 plain_comment word plain =
-    rw (not_closing 0x29 word plain.no_dollar, plain.clean, no_mark word plain.no_dollar) refl
+    rw (not_closing 0x29 word plain.no_dollar, plain.clean,
+        no_comment_mark word plain.no_dollar) refl
 
 two_bytes : (word : List ℕ) → length word ≡ 2 → word ≡ get_or word 0 0 ∷ get_or word 1 0 ∷ []
 two_bytes [] h = absurd (omega (arith, h))

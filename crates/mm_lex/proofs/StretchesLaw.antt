@@ -57,18 +57,18 @@ run_is_word text p q lt le bp bq not_white = record {
   within = le;
   no_white = not_white;
   white_before = λ i e. bp i e (omega arith) (not_white p (omega arith) lt);
-  white_after = λ h. after (white_at text q) refl h;
+  white_after = λ h. by_white (white_at text q) refl h;
 }
   where
-    after : (b : Bool) → white_at text q ≡ b → q < length text → white_at text q ≡ true
-    after true e h = e
-    after false e h =
+    by_white : (b : Bool) → white_at text q ≡ b → q < length text → white_at text q ≡ true
+    by_white true e h = e
+    by_white false e h =
         absurd (true≢false
         (sym (bq (q - 1) (omega arith) h e) ∙ not_white (q - 1) (omega arith) (omega arith)))
 
-no_more : (text : List ℕ) (p q : ℕ) → NoWhite text p q → (j : ℕ) → p + 1 ≤ j → j < q
+none_begins_inside : (text : List ℕ) (p q : ℕ) → NoWhite text p q → (j : ℕ) → p + 1 ≤ j → j < q
     → begins_word text j ≡ false
-no_more text p q not_white j a b =
+none_begins_inside text p q not_white j a b =
     let same : (j - 1) + 1 ≡ j = omega arith in
     subst (λ (k : ℕ). begins_word text k ≡ false) same
     (begins_word_inside text (j - 1) (not_white (j - 1) (omega arith) (omega arith)))
@@ -84,15 +84,15 @@ words_between_run text p q le bp bq not_white =
     ∙ ap (λ (w : Word). w ∷ words_between text (p + 1) q) (IsWord_is word)
     ∙ ap (λ (ws : List Word). let w : Word = record { start = p; end = q } in w ∷ ws)
     (words_between_skips text (q - (p + 1)) (p + 1) q q (omega arith) (omega arith)
-    (no_more text p q not_white)
+    (none_begins_inside text p q not_white)
     ∙ words_between_none text q q (omega arith))
     ∙ rw (lt-ltb p q lt) refl)
     (λ ge. words_between_none text p q ge ∙ rw (le-ltb p q ge) refl)
     (cases_lt p q)
 
-ink_over : (text : List ℕ) (p b q : ℕ) → NoWhite text p b → NoWhite text b q → NoWhite text p q
-ink_over text p b q left right i lo hi =
-    ⊎_elim {C = white_at text i ≡ false} (λ h. left i lo h) (λ h. right i h hi) (cases_lt i b)
+no_white_over : (text : List ℕ) (p b q : ℕ) → NoWhite text p b → NoWhite text b q → NoWhite text p q
+no_white_over text p b q in_front at_back i lo hi =
+    ⊎_elim {C = white_at text i ≡ false} (λ h. in_front i lo h) (λ h. at_back i h hi) (cases_lt i b)
 
 pub join_words : {text : List ℕ} {a b c h1 t1 h2 t2 : ℕ} → IsBroken text a b h1 t1
     → IsBroken text b c h2 t2 →
@@ -104,7 +104,7 @@ join_words {text} {a} {b} {c} {h1} {t1} {h2} {t2} s r =
     (words_between_append text (h2 - t1) t1 h2 t2 (omega arith) (omega arith)
     ∙ ap (λ (ws : List Word). ws ++ words_between text h2 t2)
     (words_between_run text t1 h2 (omega arith) (boundary_tail s) (boundary_head r)
-    (ink_over text t1 b h2 s.tail_not_white r.head_not_white)))
+    (no_white_over text t1 b h2 s.tail_not_white r.head_not_white)))
 
 pub join_broken : {text : List ℕ} {a b c h1 t1 h2 t2 : ℕ} → IsBroken text a b h1 t1
     → IsBroken text b c h2 t2 → IsBroken text a c h1 t2
@@ -129,7 +129,7 @@ join_unbroken_broken {text} {a} {b} {c} {h} {t} s r = record {
   order = r.order;
   tail_to = r.tail_to;
   within = r.within;
-  head_not_white = ink_over text a b h s.no_white r.head_not_white;
+  head_not_white = no_white_over text a b h s.no_white r.head_not_white;
   tail_not_white = r.tail_not_white;
   no_head = λ e. absurd (omega arith);
   no_tail = r.no_tail;
@@ -146,7 +146,7 @@ join_broken_unbroken {text} {a} {b} {c} {h} {t} s r = record {
   tail_to = omega arith;
   within = omega arith;
   head_not_white = s.head_not_white;
-  tail_not_white = ink_over text t b c s.tail_not_white r.no_white;
+  tail_not_white = no_white_over text t b c s.tail_not_white r.no_white;
   no_head = s.no_head;
   no_tail = λ e. absurd (omega arith);
   head_ends = λ low before. s.head_ends low (omega arith);
@@ -160,7 +160,7 @@ join_unbroken {text} {a} {b} {c} s r = record {
   first = s.first;
   order = omega arith;
   last = r.last;
-  no_white = ink_over text a b c s.no_white r.no_white;
+  no_white = no_white_over text a b c s.no_white r.no_white;
 }
 
 -- the whole text

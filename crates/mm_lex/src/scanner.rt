@@ -64,8 +64,8 @@ fn marks_of(bytes: &[u8]) -> Marks
     }
 }
 
-/// Where words begin in a block: the zero bits of the mask of its white space that follow a one bit,
-/// and bit 0, if it is zero and a word may begin there.
+/// Where words begin in a block: the zero bits of the mask of its white space that follow a one
+/// bit, and bit 0, if it is zero and a word may begin there.
 #[inline(always)]
 fn starts_of(white: u64, may_begin_at_0: bool) -> u64
     ensures first { bit_at result 0 ≡ (if may_begin_at_0 then 1 - bit_at white 0 else 0) }

@@ -56,7 +56,7 @@ loop-stop-preserved-then-plain c =
           );
       none_begins =
           none_inside text c.args.start b.from
-          (λ i low high. before.solid i low (omega (arith, base, c.at-scanner.ensures.from))
+          (λ i low high. before.no_white i low (omega (arith, base, c.at-scanner.ensures.from))
           (omega (
             arith,
             c.at-scanner.ensures.from,
@@ -69,7 +69,7 @@ loop-stop-preserved-then-plain c =
       no_white =
           run_on (λ t i. white_at t i ≡ false) b.text.now text b.white c.args.start b.base b.base
           found.result c.at-scanner.ensures.text (omega arith) found.ensures.up_to
-          (λ i low high within. before.solid i low (omega (arith, base)) within)
+          (λ i low high within. before.no_white i low (omega (arith, base)) within)
           (λ i low high. found.ensures.zeros i (omega arith) high)
           (λ i lt inside _. white_zero b.text.now b.base b.white b.white_is i lt inside);
       ends = found.ensures.one;
@@ -103,7 +103,7 @@ loop-stop-preserved c =
           );
       none_begins =
           none_inside text c.args.start b.from
-          (λ i low high. before.solid i low (omega (arith, base, c.at-scanner.ensures.from))
+          (λ i low high. before.no_white i low (omega (arith, base, c.at-scanner.ensures.from))
           (omega (
             arith,
             c.at-scanner.ensures.from,
@@ -116,7 +116,7 @@ loop-stop-preserved c =
       no_white =
           run_on (λ t i. white_at t i ≡ false) b.text.now text b.white c.args.start b.base b.base
           found.result c.at-scanner.ensures.text (omega arith) found.ensures.up_to
-          (λ i low high within. before.solid i low (omega (arith, base)) within)
+          (λ i low high within. before.no_white i low (omega (arith, base)) within)
           (λ i low high. found.ensures.zeros i (omega arith) high)
           (λ i lt inside _. white_zero b.text.now b.base b.white b.white_is i lt inside);
       ends = found.ensures.one;
@@ -152,12 +152,12 @@ returns-clause-word c =
     (white_one b.text.now b.base b.white b.white_is c.loop-stop.stop small
     (known.ends small)).1 in
     subst (λ (i : ℕ). white_at text i ≡ true) here
-    (subst (λ (t : List ℕ). white_at t (b.base + c.loop-stop.stop) ≡ true) known.same one) in
+    (subst (λ (t : List ℕ). white_at t (b.base + c.loop-stop.stop) ≡ true) known.same_text one) in
     record {
       start_is = refl;
       is_word =
           found_word text start end begun.begins begun.within order within
-          (λ i low high. known.solid i low (omega (arith, high, c.min-end.ensures))
+          (λ i low high. known.no_white i low (omega (arith, high, c.min-end.ensures))
           (omega (arith, high, within)))
           after;
       is_plain =
