@@ -90,7 +90,7 @@ module _ (text places : List ℕ) (n runs : ℕ) where
       (IsRun text places (run_start n runs i) (run_start n runs (i + 1))))
       →
       Ok piece ≡ get_or ps 0 (Ok piece) → qs ≡ remove ps 0
-          → IsJoinedSoFar text places n runs piece qs
+      → IsJoinedSoFar text places n runs piece qs
   IsJoinedSoFar_first ps qs piece some few count each first rest =
       let here : IsRun text places (run_start n runs 0) (run_start n runs 1) piece =
       subst (λ (r : Result Stretch AllocError). IfOk r

@@ -80,8 +80,11 @@ plain_token word plain = rw (plain.clean, plain.no_dollar) refl
 pub plain_comment : (word : List ℕ) → IsPlainWord word → role_of true word ≡ Comment
 unfolding role_of is_comment_word
 plain_comment word plain =
-    rw (not_closing 0x29 word plain.no_dollar, plain.clean,
-        no_comment_mark word plain.no_dollar) refl
+    rw (
+      not_closing 0x29 word plain.no_dollar,
+      plain.clean,
+      no_comment_mark word plain.no_dollar,
+    ) refl
 
 two_bytes : (word : List ℕ) → length word ≡ 2 → word ≡ get_or word 0 0 ∷ get_or word 1 0 ∷ []
 two_bytes [] h = absurd (omega (arith, h))

@@ -82,13 +82,13 @@ impl<A: Allocator + Copy> ModeReading<A> {
         self.fault.is_some() || self.open_comment.is_open()
     }
 
-    /// Reads one further word. If `plain` is true, the word is known to be plain.
+    /// Reads one further word. If `is_plain` is true, the word is known to be plain.
     #[inline(always)]
-    pub fn read_word(&mut self, text: &[u8], word: Word, plain: bool) -> Result<(), AllocError>
+    pub fn read_word(&mut self, text: &[u8], word: Word, is_plain: bool) -> Result<(), AllocError>
         requires order { word.start ≤ word.end }
         requires within { word.end ≤ length text.now }
         requires short { length text.now ≤ TEXT_LIMIT }
-        requires plain { plain ≡ true → IsPlainWord (bytes_of text.now word) }
+        requires plain { is_plain ≡ true → IsPlainWord (bytes_of text.now word) }
         ensures { OnOk result
             ((p : ℕ)
             → side_reading p (side self.new)
@@ -99,7 +99,7 @@ impl<A: Allocator + Copy> ModeReading<A> {
         }
         let in_comment = self.open_comment.is_open();
         let bytes = word.bytes(text);
-        match role(in_comment, plain, bytes) {
+        match role(in_comment, is_plain, bytes) {
             Role::Token => self.tokens.push(word)?,
             Role::Opening => self.open_comment = CommentState::At(word.start),
             Role::Closing => self.open_comment = CommentState::Nowhere,
@@ -130,7 +130,7 @@ impl<A: Allocator + Copy> ModeReading<A> {
             return Ok(());
         }
         while let Some(found) = scanner.next_word(to) {
-            if !found.plain {
+            if !found.is_plain {
                 self.read_word(text, found.word, false)?;
                 if self.fault.is_some() {
                     return Ok(());

@@ -163,11 +163,11 @@ fn lex_inner<A: Allocator + Copy>(
         && let Some(found) = scanner.next_word(tail)
     {
         // A plain word that changes neither reading is left out, as are those that follow it.
-        if found.plain && outside.ignores_plain() && inside.ignores_plain() {
+        if found.is_plain && outside.ignores_plain() && inside.ignores_plain() {
             scanner.skip_plain();
         } else {
-            outside.read_word(text, found.word, found.plain)?;
-            inside.read_word(text, found.word, found.plain)?;
+            outside.read_word(text, found.word, found.is_plain)?;
+            inside.read_word(text, found.word, found.is_plain)?;
         }
     }
     // A reading stays as it is after its fault, so only the reading outside is continued.

@@ -84,13 +84,13 @@ fn is_comment_word(word: &[u8]) -> bool
     is_clean(word) && !has_comment_mark(word)
 }
 
-/// What a word is. If `plain` is true, the word is known to be plain.
+/// What a word is. If `is_plain` is true, the word is known to be plain.
 #[inline(always)]
-pub fn role(in_comment: bool, plain: bool, word: &[u8]) -> Role
-    requires { plain ≡ true → IsPlainWord word.now }
+pub fn role(in_comment: bool, is_plain: bool, word: &[u8]) -> Role
+    requires { is_plain ≡ true → IsPlainWord word.now }
     ensures { result ≡ role_of in_comment word.now }
 {
-    match (plain, in_comment) {
+    match (is_plain, in_comment) {
         (true, true) => Role::Comment,
         (true, false) => Role::Token,
         (false, true) => role_inside(word),

@@ -114,11 +114,11 @@ pub struct WordScanner<'a> {
         → bit_at starts i ≡ 0 → begins_word text.now (base + i) ≡ false },
 }
 
-/// A word. If `plain` is true, it is known to have only printable bytes, and no `$`.
+/// A word. If `is_plain` is true, it is known to have only printable bytes, and no `$`.
 #[derive(Clone, Copy)]
 pub struct FoundWord {
     pub word: Word,
-    pub plain: bool,
+    pub is_plain: bool,
 }
 
 impl<'a> WordScanner<'a> {
@@ -176,23 +176,23 @@ impl<'a> WordScanner<'a> {
         requires short { length self.text.now ≤ TEXT_LIMIT }
         ensures text { result.0.text.now ≡ self.entry.text.now }
         ensures onward { IsPassed self.entry.text.now start result.0.from }
-        ensures word { IsWordFrom self.entry.text.now start result.1.word result.1.plain }
+        ensures word { IsWordFrom self.entry.text.now start result.1.word result.1.is_plain }
     {
         let len = self.text.len();
         let mut scanner = self;
         let mut stop = first_one(scanner.white, start - scanner.base);
-        let mut plain = first_one(scanner.stops, start - scanner.base) == stop;
+        let mut is_plain = first_one(scanner.stops, start - scanner.base) == stop;
         while stop == 64 && 64 < len - scanner.base {
             scanner = WordScanner::at(self.text, scanner.base + 64);
             stop = first_one(scanner.white, 0);
-            plain = plain && first_one(scanner.stops, 0) == stop;
+            is_plain = is_plain && first_one(scanner.stops, 0) == stop;
         }
         let end = (scanner.base + stop).min(len);
         let word = Word {
             start: start as u32,
             end: end as u32,
         };
-        (scanner, FoundWord { word, plain })
+        (scanner, FoundWord { word, is_plain })
     }
 
     /// Takes the first further place before `to` at which a word begins.
@@ -236,7 +236,7 @@ impl<'a> WordScanner<'a> {
         ensures done { IfNone result (words_between self.old.text.now self.new.from to ≡ []) }
         ensures each { IfSome result (λ found. IsWord self.old.text.now found.word) }
         ensures plain { IfSome result
-            (λ found. found.plain ≡ true → IsPlainWord (bytes_of self.old.text.now found.word)) }
+            (λ found. found.is_plain ≡ true → IsPlainWord (bytes_of self.old.text.now found.word)) }
         ensures onward { IfSome result (λ found. self.old.from < self.new.from) }
     {
         let start = self.next_start(to)?;
@@ -246,7 +246,10 @@ impl<'a> WordScanner<'a> {
                 start: start as u32,
                 end: (self.base + stop) as u32,
             };
-            return Some(FoundWord { word, plain: true });
+            return Some(FoundWord {
+                word,
+                is_plain: true,
+            });
         }
         let (scanner, found) = self.word_from(start);
         *self = scanner;

@@ -112,9 +112,9 @@ returns-clause-readings g c =
           )
     ] in
     record {
-      outside_reading =
+      out =
           λ p. before.outside_reading p
-              ∙ ap (go_on text (side_reading p (side c.loop-scanner.outside))) known.0
+          ∙ ap (go_on text (side_reading p (side c.loop-scanner.outside))) known.0
           ∙ sym (c.in_ok-read_rest.ensures p);
       within = known.1;
     }

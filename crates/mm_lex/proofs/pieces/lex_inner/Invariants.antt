@@ -6,7 +6,7 @@ use Rattle.mm_lex.specs.Pieces.{side_reading}
 use Rattle.mm_lex.specs.Inners.{side}
 use Rattle.mm_lex.proofs.pieces.lex_inner.Given as goal
 
--- What all words give is what the two readings have read, and go on to with the words from here on.
+-- Each of the two readings, continued with the remaining words, gives what all words give.
 abbrev pub invariant-loop-scanner : goal.invariant-loop-scanner
 invariant-loop-scanner g l = record {
   same_text : l.scanner.text.now ≡ l.text;

@@ -20,7 +20,7 @@ returns-then-is_some-2 g c p =
     c.in-Some.ensures.words in
     let all =
     go_on_next text _ (side_reading p (side c.loop-found.self)) _ word _ _
-        (before.same_reading p) next
+    (before.same_reading p) next
     (c.in_ok-read_word.ensures p) in
     sym (all
     ∙ go_on_some text (side_reading p (side c.read_word.new.self))
@@ -40,7 +40,7 @@ loop-found-preserved-else-is_some-2 g c =
       no_fault = none_from _ (sym c.is_some-then-not-found.ensures ∙ c.if-is_some-2.false);
       same_reading =
           λ p. go_on_next text _ (side_reading p (side c.loop-found.self)) _ word _ _
-              (before.same_reading p)
+          (before.same_reading p)
           next (c.in_ok-read_word.ensures p);
     }
 
@@ -85,7 +85,7 @@ loop-found-preserved g c =
       no_fault = before.no_fault;
       same_reading =
           λ p. go_on_next text _ (side_reading p (side c.loop-found.self)) _ word _ _
-              (before.same_reading p)
+          (before.same_reading p)
           next (go_on_plain text (side_reading p (side c.loop-found.self)) word _ before.no_fault
           (sym (c.is_open.ensures p) ∙ c.if-is_open.false) plain c.in_ok-push.ensures.items);
     }
@@ -96,6 +96,6 @@ returns g c p =
     let text = c.args.text.now in
     let none =
     subst (λ (t : List ℕ). words_between t c.loop-found.scanner.from c.args.to
-        ≡ []) before.same_text
+    ≡ []) before.same_text
     c.in_default.ensures.words in
     sym (go_on_done text _ _ _ (before.same_reading p) none)

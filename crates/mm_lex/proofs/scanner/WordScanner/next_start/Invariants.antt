@@ -2,7 +2,7 @@ use Rattle.std.proofs.Common.{◌≡◌, ◌<◌, ◌≤◌, ◌-◌, ℕ, false
 use Rattle.mm_spec.specs.Words.{begins_word}
 use Rattle.mm_lex.proofs.scanner.WordScanner.next_start.Given as goal
 
--- No word begins from the first place on up to the one that is left.
+-- No word begins from the place at which the call began up to the place of the scanner.
 abbrev pub invariant-loop-self : goal.invariant-loop-self
 invariant-loop-self l = record {
   same_text : l.self.text.now ≡ l.fn.self.text.now;

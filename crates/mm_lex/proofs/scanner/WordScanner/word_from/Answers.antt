@@ -26,7 +26,7 @@ loop-stop-init c =
           (λ i low high _. absurd (omega arith)) found.ensures.zeros
           (λ i lt inside _. white_zero text b.base b.white b.white_is i lt inside);
       ends = found.ensures.one;
-      plain = λ quiet. let same = eqb-true c.first_one.result found.result quiet in
+      plain = λ known_plain. let same = eqb-true c.first_one.result found.result known_plain in
           run_on (λ t i. plain_at t i ≡ true) text text b.stops c.args.start c.args.start b.base
           found.result refl c.requires.taken.in_block found.ensures.up_to
           (λ i low high _. absurd (omega arith))
@@ -34,8 +34,8 @@ loop-stop-init c =
           (λ i lt inside _. b.plain i lt inside);
     }
 
-pub loop-stop-preserved-then-plain : goal.loop-stop-preserved-then-plain
-loop-stop-preserved-then-plain c =
+pub loop-stop-preserved-then-is_plain : goal.loop-stop-preserved-then-is_plain
+loop-stop-preserved-then-is_plain c =
     let b = c.at-scanner.result in
     let text = c.args.self.text.now in
     let found = c.first_one-stop-in-loop-stop in
@@ -73,11 +73,11 @@ loop-stop-preserved-then-plain c =
           (λ i low high. found.ensures.zeros i (omega arith) high)
           (λ i lt inside _. white_zero b.text.now b.base b.white b.white_is i lt inside);
       ends = found.ensures.one;
-      plain = λ quiet. let same = eqb-true c.first_one-then-plain.result found.result quiet in
+      plain = λ known_plain. let same = eqb-true c.first_one-then-is_plain.result found.result known_plain in
           run_on (λ t i. plain_at t i ≡ true) b.text.now text b.stops c.args.start b.base b.base
           found.result c.at-scanner.ensures.text (omega arith) found.ensures.up_to
-          (λ i low high within. before.plain c.if-plain.true i low (omega (arith, base)) within)
-          (λ i low high. c.first_one-then-plain.ensures.zeros i (omega arith)
+          (λ i low high within. before.plain c.if-is_plain.true i low (omega (arith, base)) within)
+          (λ i low high. c.first_one-then-is_plain.ensures.zeros i (omega arith)
           (omega (arith, same))) (λ i lt inside _. b.plain i lt inside);
     }
 
@@ -120,7 +120,7 @@ loop-stop-preserved c =
           (λ i low high. found.ensures.zeros i (omega arith) high)
           (λ i lt inside _. white_zero b.text.now b.base b.white b.white_is i lt inside);
       ends = found.ensures.one;
-      plain = λ quiet. absurd (true≢false (sym quiet ∙ c.if-plain.false));
+      plain = λ known_plain. absurd (true≢false (sym known_plain ∙ c.if-is_plain.false));
     }
 
 pub returns-clause-word : goal.returns-clause-word
@@ -161,7 +161,7 @@ returns-clause-word c =
           (omega (arith, high, within)))
           after;
       is_plain =
-          λ quiet. plain_word text start end order within
-          (λ i low high. known.plain quiet i low (omega (arith, high, c.min-end.ensures))
+          λ known_plain. plain_word text start end order within
+          (λ i low high. known.plain known_plain i low (omega (arith, high, c.min-end.ensures))
           (omega (arith, high, within)));
     }

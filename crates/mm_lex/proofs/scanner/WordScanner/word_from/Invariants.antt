@@ -15,7 +15,7 @@ invariant-loop-stop l = record {
   no_white : (i : ℕ) → l.start ≤ i → i < l.scanner.base + l.stop → i < length l.self.text.now
       → white_at l.self.text.now i ≡ false;
   ends : l.stop < 64 → bit_at l.scanner.white l.stop ≡ 1;
-  plain : l.plain ≡ true → (i : ℕ) → l.start ≤ i → i < l.scanner.base + l.stop
+  plain : l.is_plain ≡ true → (i : ℕ) → l.start ≤ i → i < l.scanner.base + l.stop
       → i < length l.self.text.now → plain_at l.self.text.now i ≡ true;
 }
 
