@@ -33,15 +33,16 @@ module _ (db : List Statement) (fine : AreComplete db) where
   valid_or_first zero = inl (λ j l t. absurd (omega arith))
   valid_or_first (suc n) = by_earlier_theorems (valid_or_first n)
     where
-      judged : AreValid db n → IsTrue (is_theorem_at db n)
+      by_verdict : AreValid db n → IsTrue (is_theorem_at db n)
           → IsValid db n ⊎ ((f : Fault) × ProofFault db n (proof_end (slice_get db n)) f)
           → AreValid db (suc n) ⊎ ((k : ℕ) × (f : Fault) × FirstProofFault db k f)
-      judged h t (inl v) = inl (valid_up_to_next n h (λ u. v))
-      judged h t (inr f) = inr (n, f.0, (t, h, f.1))
+      by_verdict h t (inl v) = inl (valid_up_to_next n h (λ u. v))
+      by_verdict h t (inr f) = inr (n, f.0, (t, h, f.1))
 
       by_is_theorem : AreValid db n → (b : Bool) → is_theorem_at db n ≡ b
           → AreValid db (suc n) ⊎ ((k : ℕ) × (f : Fault) × FirstProofFault db k f)
-      by_is_theorem h true e = judged h e (valid_or_faulty db fine n (proof_end (slice_get db n)))
+      by_is_theorem h true e =
+          by_verdict h e (valid_or_faulty db fine n (proof_end (slice_get db n)))
       by_is_theorem h false e = inl (valid_up_to_next n h (λ t. absurd (true≢false (sym t ∙ e))))
 
       by_earlier_theorems : AreValid db n ⊎ ((k : ℕ) × (f : Fault) × FirstProofFault db k f)

@@ -16,9 +16,10 @@ use Rattle.mm_spec.proofs.StopsLaw.{text_fault, text_fault_is, no_text_fault}
 abbrev AreLawful : List Statement → ℕ → Type 0
 AreLawful list n = (k : ℕ) → k < n → scope_fault list k ≡ None
 
-one_more : (list : List Statement) (n : ℕ) → AreLawful list n → scope_fault list n ≡ None → (m : ℕ)
+lawful_up_to_next : (list : List Statement) (n : ℕ) → AreLawful list n → scope_fault list n ≡ None
+    → (m : ℕ)
     → m ≡ n + 1 → AreLawful list m
-one_more list n h e m is k l = at_last_or_before (cases_lt k n)
+lawful_up_to_next list n h e m is k l = at_last_or_before (cases_lt k n)
   where
     at_last_or_before : (k < n) ⊎ (n ≤ k) → scope_fault list k ≡ None
     at_last_or_before (inl b) = h k b
@@ -59,7 +60,7 @@ module _ (len : ℕ) (x : LexedText) where
   read_from (s ∷ rest) db is lawful =
       by_scope_fault (scope_fault (statements_of x.tokens) (length db)) refl
       (λ e. read_from rest (db ++ s ∷ []) (is ∙ sym (append_assoc db (s ∷ []) rest))
-      (one_more (statements_of x.tokens) (length db) lawful e (length (db ++ s ∷ []))
+      (lawful_up_to_next (statements_of x.tokens) (length db) lawful e (length (db ++ s ∷ []))
       (length-append db (s ∷ []))))
     where
       by_scope_fault : (o : Option Fault) → scope_fault (statements_of x.tokens) (length db) ≡ o

@@ -24,30 +24,30 @@ use Rattle.mm_laws.proofs.OneOutputLaw.{proof_fault_unique, valid_no_fault}
 least_some : (f : Fault) (fs : List Fault) → (g : Fault) × (least (f ∷ fs) ≡ Some g)
 least_some f fs = by_least (least fs)
   where
-    two : (g : Fault) (b : Bool)
+    by_is_before : (g : Fault) (b : Bool)
         → (h : Fault) × ◌≡◌ {A = Option Fault} (elim b [ true ↦ Some f | false ↦ Some g ]) (Some h)
-    two g true = (f, refl)
-    two g false = (g, refl)
+    by_is_before g true = (f, refl)
+    by_is_before g false = (g, refl)
 
     by_least : (o : Option Fault) → (h : Fault) × (lesser f o ≡ Some h)
     by_least None = (f, refl)
-    by_least (Some g) = two g (is_before f g)
+    by_least (Some g) = by_is_before g (is_before f g)
 
 module _ (db : List Statement) (fine : AreComplete db) (k : ℕ) where
   pub valid_or_faulty : (end : ℕ) → IsValid db k ⊎ ((f : Fault) × ProofFault db k end f)
   valid_or_faulty end = by_reading_faults (reading_faults_at db k) refl
     where
-      of : reading_faults_at db k ≡ []
+      by_verdict : reading_faults_at db k ≡ []
           → Verdict (context_at db k) (fine k) (steps_at db k) (formula_at db k) end
           → IsValid db k ⊎ ((f : Fault) × ProofFault db k end f)
-      of e (valid d h) = inl (e, d, h)
-      of e (step_fault f h) = inr (f, inr (e, inl h))
-      of e (end_fault f h) = inr (f, inr (e, inr h))
+      by_verdict e (valid d h) = inl (e, d, h)
+      by_verdict e (step_fault f h) = inr (f, inr (e, inl h))
+      by_verdict e (end_fault f h) = inr (f, inr (e, inr h))
 
       by_reading_faults : (fs : List Fault) → reading_faults_at db k ≡ fs
           → IsValid db k ⊎ ((f : Fault) × ProofFault db k end f)
       by_reading_faults [] e =
-          of e (verdict (context_at db k) (fine k) (steps_at db k) (formula_at db k) end
+          by_verdict e (verdict (context_at db k) (fine k) (steps_at db k) (formula_at db k) end
           (good_steps db k (fine k) e))
       by_reading_faults (f ∷ fs) e = let g = least_some f fs in inr (g.0, inl (ap least e ∙ g.1))
 

@@ -82,14 +82,14 @@ module _ (db : List Statement) (t : ℕ) (c : Compiled) (rule : IsCompiled db c)
       let few =
       no_pairs c.pairs
       (subst (λ n. All (λ (p : ℕ × ℕ). (p.0 < n) × (p.1 < n)) c.pairs) none rule.pairs_in) in
-      let are_equal : length c.pairs ≡ length frame.pairs =
+      let same : length c.pairs ≡ length frame.pairs =
       ap length rule.pairs_are
       ∙ length-map {B = ℕ × ℕ} frame.pairs
       (λ (p : Pair). (
         floating_index db frame.hypotheses p.low,
         floating_index db frame.hypotheses p.high,
       )) in
-      nothing_in frame.pairs (omega (arith, few, are_equal))
+      nothing_in frame.pairs (omega (arith, few, same))
 
   below : AllByRecursion (IsBelow 0) (parts_of db frame.hypotheses f)
   below =

@@ -48,7 +48,8 @@ module _ (c : Then-self-stop-eq1) where
       (λ k lt inside _. b.plain k lt inside) i low high (omega (arith, (ends_at_white c).0))
 
   start_before_stop : c.in_ok-start.start ≤ c.next_start.new.self.base + c.first_one-stop.result
-  start_before_stop = omega (arith, c.first_one-stop.ensures.from_here, c.in_ok-start.ensures.taken.in_block)
+  start_before_stop =
+      omega (arith, c.first_one-stop.ensures.from_here, c.in_ok-start.ensures.taken.in_block)
 
   word : IsWord c.args.self.now.text.now (record {
     start = c.in_ok-start.start;
@@ -58,7 +59,8 @@ module _ (c : Then-self-stop-eq1) where
       let begun = c.in_ok-start.ensures in
       found_word c.args.self.now.text.now c.in_ok-start.start
       (c.next_start.new.self.base + c.first_one-stop.result) begun.first.begins
-      (omega (arith, begun.first.within, c.requires.within)) start_before_stop (omega (arith, (ends_at_white c).0))
+      (omega (arith, begun.first.within, c.requires.within)) start_before_stop
+      (omega (arith, (ends_at_white c).0))
       no_white (λ _. (ends_at_white c).1)
 
 pub returns-then-self-stop-eq1-clause-words : goal.returns-then-self-stop-eq1-clause-words
