@@ -6,7 +6,7 @@ use Rattle.std.proofs.lemmas.Bool.{cases_lt, or_cases, or_left, or_right, eqb-fa
 use Rattle.std.proofs.lemmas.List.{get_or_append_left, get_or-append-add, get_or-set_same}
 use Rattle.std.proofs.lemmas.List.{get_or-set_other, length-set}
 use Rattle.mm_spec.specs.Derivation.{Formula, Trees, none, more, tree}
-use Rattle.mm_spec.specs.Nodes.{tree_count, HasNode, each_place}
+use Rattle.mm_spec.specs.Nodes.{tree_count, HasNode, each_root}
 use Rattle.mm_spec.specs.Steps.{Step, label, marked}
 use Rattle.mm_spec.proofs.UniqueLaw.{◌⧺◌}
 use Rattle.mm_check.specs.Flags.{wanted_flags}
@@ -124,7 +124,7 @@ module _ (counts : ℕ → ℕ → Bool) (at : ℕ → Trees) where
   abbrev pub Wanted : ℕ → List Bool → ℕ → Type 0
   Wanted i wanted a =
       (j : ℕ) × (j < i) × (flag_at wanted j ≡ true)
-      × HasNode counts each_place (last_tree (at (suc j))) a
+      × HasNode counts each_root (last_tree (at (suc j))) a
 
   -- The nodes that are still to be found, when the first i steps are left: those of the entries
   -- with a flag, and those of what is wanted.
@@ -132,7 +132,7 @@ module _ (counts : ℕ → ℕ → Bool) (at : ℕ → Trees) where
   Left i waiting wanted a = HasNode counts (flag_at waiting) (at i) a ⊎ Wanted i wanted a
 
   -- the nodes of one tree
-  tree_node : (l : ℕ) (f : Formula) (cs : Trees) (a : ℕ) → HasNode counts each_place (tree l f cs) a
+  tree_node : (l : ℕ) (f : Formula) (cs : Trees) (a : ℕ) → HasNode counts each_root (tree l f cs) a
       → (a ≡ l) ⊎ HasNode counts (counts l) cs a
   tree_node l f cs a (inl h) = absurd h
   tree_node l f cs a (inr h) = h.1
@@ -163,7 +163,7 @@ module _ (counts : ℕ → ℕ → Bool) (at : ℕ → Trees) where
               i,
               omega arith,
               k,
-              subst (λ t. HasNode counts each_place t a)
+              subst (λ t. HasNode counts each_root t a)
                   (sym (ap last_tree here)) (inr (refl, h)),
             )
 
@@ -182,7 +182,7 @@ module _ (counts : ℕ → ℕ → Bool) (at : ℕ → Trees) where
             inl (
               by_want (subst (λ n. flag_at wanted n ≡ true) same h.2),
               tree_node l f cs a
-                  (subst (λ t. HasNode counts each_place t a)
+                  (subst (λ t. HasNode counts each_root t a)
                   (ap (λ n. last_tree (at (suc n))) same ∙ ap last_tree here) h.3),
             )
 
@@ -278,7 +278,7 @@ module _ (counts : ℕ → ℕ → Bool) (at : ℕ → Trees) where
             earlier,
             wanted_here j wanted (omega (arith, earlier, inside)) b e,
             subst
-                (λ t. HasNode counts each_place t a) (sym copy) (inr (refl, h)),
+                (λ t. HasNode counts each_root t a) (sym copy) (inr (refl, h)),
           )
 
       marked_down : Left (suc i) (ws ++ flag ∷ []) wanted a
@@ -310,7 +310,7 @@ module _ (counts : ℕ → ℕ → Bool) (at : ℕ → Trees) where
           by (inr k) =
               found (at i) l f cs here count k.1
               (tree_node l f cs a
-              (subst (λ t. HasNode counts each_place t a)
+              (subst (λ t. HasNode counts each_root t a)
               (ap (λ n. last_tree (at (suc n))) k.0 ∙ copy) h.3))
 
       pub marked_back : Left (suc i) (ws ++ flag ∷ []) wanted a

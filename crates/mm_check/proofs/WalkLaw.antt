@@ -12,7 +12,8 @@ use Rattle.mm_spec.specs.Scope.{statement_at}
 use Rattle.mm_spec.specs.Frame.{is_essential, mandatory_hypotheses, formula_at, frame_at}
 use Rattle.mm_spec.specs.Derivation.{Context, Formula, hypothesis, assertion, Follows, Trees, none}
 use Rattle.mm_spec.specs.Derivation.{more, tree, formulas, is_member}
-use Rattle.mm_spec.specs.Nodes.{tree_count, HasNode, each_place, child_counts, is_essential_place}
+use Rattle.mm_spec.specs.Nodes.{tree_count, HasNode, each_root, child_counts}
+use Rattle.mm_spec.specs.Nodes.{is_essential_hypothesis}
 use Rattle.mm_spec.specs.Steps.{Step, label, marked, PlacedStep, placed}
 use Rattle.mm_spec.specs.Valid.{Derives}
 use Rattle.mm_spec.specs.Laws.Complete.{AreComplete}
@@ -40,7 +41,7 @@ pub record Walked (db : List Statement) (t : ℕ) (steps : List PlacedStep) (i :
   pub fits : length waiting ≡ tree_count (forest_at forests i)
   pub asserted : (a : ℕ) → is_member noted a ≡ true → is_assertion_at db a ≡ true
   pub exact : (a : ℕ) → is_assertion_at db a ≡ true
-      → HasNode (child_counts db true) each_place derivation a
+      → HasNode (child_counts db true) each_root derivation a
       ↔ ((is_member noted a ≡ true) ⊎ Left (child_counts db true) (forest_at forests) i waiting wanted a)
 
 -- ---- the premises of a label
@@ -76,8 +77,9 @@ module _ (db : List Statement) (t : ℕ) (b : Bool) (l : ℕ) (cs : Trees) (f : 
     count =
         length-map hs _ ∙ sym (length-map hs (formula_at db))
         ∙ sym (length-map (map (formula_at db) hs) _) ∙ sym (ap length h.1) ∙ size_formulas cs;
-    from = λ n e. and_parts b (is_essential_place db l n) (sym (premise_flag b needed hs n) ∙ e);
-    to = λ n k p q. premise_flag b needed hs n ∙ and_from b (is_essential_place db l n) p q;
+    from =
+        λ n e. and_parts b (is_essential_hypothesis db l n) (sym (premise_flag b needed hs n) ∙ e);
+    to = λ n k p q. premise_flag b needed hs n ∙ and_from b (is_essential_hypothesis db l n) p q;
   }
     where
       hs : List ℕ
@@ -361,21 +363,21 @@ module _ (db : List Statement) (t : ℕ) (steps : List PlacedStep) (complete : A
           root p q a e (inl h) = absurd h
           root p q a e (inr h) = inr (e, h.1)
 
-          down : (a : ℕ) → HasNode counts each_place d a
+          down : (a : ℕ) → HasNode counts each_root d a
               → HasNode counts (flag_at waiting) (forest_at forests (length steps)) a
           down a h =
               subst (λ u. HasNode counts (flag_at waiting) u a) (sym (at_end ∙ here.2))
-              (root each_place (flag_at waiting) a (ap (λ ws. flag_at ws 0) one)
-              (subst (λ u. HasNode counts each_place u a) here.2 h))
+              (root each_root (flag_at waiting) a (ap (λ ws. flag_at ws 0) one)
+              (subst (λ u. HasNode counts each_root u a) here.2 h))
 
           up : (a : ℕ)
               → (is_member noted a ≡ true)
               ⊎ Left counts (forest_at forests) (length steps) waiting wanted a
-              → HasNode counts each_place d a
+              → HasNode counts each_root d a
           up a (inl h) = absurd (true≢false (sym h ∙ ap (λ l. is_member l a) bare))
           up a (inr (inl h)) =
-              subst (λ u. HasNode counts each_place u a) (sym here.2)
-              (root (flag_at waiting) each_place a refl
+              subst (λ u. HasNode counts each_root u a) (sym here.2)
+              (root (flag_at waiting) each_root a refl
               (subst (λ u. HasNode counts (flag_at waiting) u a) (at_end ∙ here.2) h))
           up a (inr (inr h)) =
               absurd (true≢false
@@ -388,7 +390,7 @@ module _ (db : List Statement) (t : ℕ) (steps : List PlacedStep) (complete : A
   walk_end waiting wanted noted r a = (
     λ m. let k = r.asserted a m in (k, r.derivation, r.proof, (r.exact a k).1 (inl m)),
     λ c. by ((r.exact a c.0).0
-        (subst (λ d. HasNode (child_counts db true) each_place d a)
+        (subst (λ d. HasNode (child_counts db true) each_root d a)
         (proof_unique db complete t c.1 r.derivation c.2 r.proof) c.3)),
   )
     where

@@ -42,7 +42,7 @@ module _ (c : Context) where
       let σ = substitution_from c a.hypotheses ps in
       let disjoint = list_all (λ p. are_all_disjoint c (σ p.low) (σ p.high)) a.pairs in
       ap₂ (λ b m. unless_failed b m disjoint
-          (nat_le (length (substitute c σ a.formula)) formula_limit)
+      (nat_le (length (substitute c σ a.formula)) formula_limit)
       (take (length es - length a.hypotheses) es ++ substitute c σ a.formula ∷ []))
       (le-leb (length a.hypotheses) (length es) h.0)
       (false_from_ne_true _ (λ e. h.1 σ (same_equal _ _ e)))
@@ -57,7 +57,7 @@ module _ (c : Context) where
       subst (λ (s : Substitution). list_all (λ p. are_all_disjoint c (s p.low) (s p.high)) a.pairs
       ≡ list_all (λ p. are_all_disjoint c (h.0 p.low) (h.0 p.high)) a.pairs) e same_test in
       ap₂ (λ b m. unless_failed b m
-          (list_all (λ p. are_all_disjoint c (σ p.low) (σ p.high)) a.pairs)
+      (list_all (λ p. are_all_disjoint c (σ p.low) (σ p.high)) a.pairs)
       (nat_le (length (substitute c σ a.formula)) formula_limit)
       (take n es ++ substitute c σ a.formula ∷ []))
       (le-leb (length a.hypotheses) (length es) h.1) (no_other c a ps h.0 good h.2)
@@ -79,7 +79,7 @@ module _ (c : Context) where
       subst (λ (s : Substitution). substitute c s a.formula ≡ substitute c h.0 a.formula) e
       (found_formula c a.hypotheses h.0 a.formula good.formula) in
       ap₂ (λ b m. unless_failed b m
-          (list_all (λ p. are_all_disjoint c (σ p.low) (σ p.high)) a.pairs)
+      (list_all (λ p. are_all_disjoint c (σ p.low) (σ p.high)) a.pairs)
       (nat_le (length (substitute c σ a.formula)) formula_limit)
       (take n es ++ substitute c σ a.formula ∷ []))
       (le-leb (length a.hypotheses) (length es) h.1) (no_other c a ps h.0 good h.2)
@@ -120,7 +120,7 @@ module _ (c : Context) where
       let same_index : 0 + length (postfix s.reached) ≡ length s.before =
       let same_length = ap length s.labels in omega (arith, same_length) in
       ap (λ x. run c 0 x []) split_labels
-          ∙ runs_forest c s.reached s.derivations good_reached 0 (s.label ∷ s.after) []
+      ∙ runs_forest c s.reached s.derivations good_reached 0 (s.label ∷ s.after) []
       ∙ ap (λ r. proceed r (0 + length (postfix s.reached))
       (run c (suc (0 + length (postfix s.reached))) s.after))
       (stops (c.rule s.label) (formulas s.reached) reason good_both.1.0 s.fails)

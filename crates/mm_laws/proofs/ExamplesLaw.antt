@@ -167,7 +167,7 @@ wi2_is_valid = (
 abbrev faulty_text : List ℕ
 faulty_text =
     axioms_text
-        ++ codes "${ $d p q $. ax-d $a |- ( p -> q ) $. $} bad $p |- ( p -> q ) $= wp wq ax-d $. "
+    ++ codes "${ $d p q $. ax-d $a |- ( p -> q ) $. $} bad $p |- ( p -> q ) $= wp wq ax-d $. "
 
 frame_of_ax_d : (frame_at (statements faulty_text) 8).pairs ≡ pair 5 6 ∷ []
 unfolding statements

@@ -10,7 +10,7 @@ use Rattle.mm_spec.proofs.StepsLaw.{forest_good, StoppedSteps}
 use Rattle.mm_spec.proofs.CheckedLaw.{plain_unique}
 use Rattle.mm_laws.proofs.ExactLaw.{IsPostfixOfForest, stopped_no_forest}
 
-module _ (c : Context) (fine : (l : ℕ) → HasCompleteFrame c (c.rule l)) where
+module _ (c : Context) (all_complete : (l : ℕ) → HasCompleteFrame c (c.rule l)) where
   -- the plain list only grows
   adds_more : (lists : List (List ℕ)) (old : List ℕ) (s : Step) (new : List ℕ)
       → Adds c lists old s new → (rest : List ℕ) × (new ≡ old ++ rest)
@@ -54,8 +54,9 @@ module _ (c : Context) (fine : (l : ℕ) → HasCompleteFrame c (c.rule l)) wher
           let whole : all ≡ plain_parts.0 ++ l ∷ rest.0 =
           rest.1 ∙ ap (λ z. z ++ rest.0) q.1 ∙ append_assoc plain_parts.0 (l ∷ []) rest.0 in
           let labels : postfix s.forest ≡ plain_parts.0 =
-          s.is ∙ plain_unique c fine s.before [] [] s.labels plain_parts.0 s.plain plain_parts.2 in
-          stopped_no_forest c all reason (subst (AreGood c) forest.2 (forest_good c fine forest.0 forest.1))
+          s.is ∙ plain_unique c all_complete s.before [] [] s.labels plain_parts.0 s.plain plain_parts.2 in
+          stopped_no_forest c all reason
+          (subst (AreGood c) forest.2 (forest_good c all_complete forest.0 forest.1))
           (record {
             before = plain_parts.0;
             label = l;

@@ -198,7 +198,7 @@ both_are_begun text [] = record {
       });
   inside_comment =
       λ o us h all. subst (IsBegunIfFaultless text (o ∷ (us ++ [])))
-          (sym (reading_end text (Some o.start)))
+      (sym (reading_end text (Some o.start)))
       (λ _. record {
         lexemes = [];
         last_comment = Some (o, us);
@@ -213,7 +213,7 @@ both_are_begun text (w ∷ ws) = record {
   outside_comment = by_role_outside (role_outside (bytes_of text w)) (both_are_begun text ws);
   inside_comment =
       λ o us h all. by_role_inside o us h all (role_inside (bytes_of text w))
-          (both_are_begun text ws);
+      (both_are_begun text ws);
 }
   where
     by_role_outside : RoleOutside (bytes_of text w) → BothAreBegun text ws
@@ -226,7 +226,7 @@ both_are_begun text (w ∷ ws) = record {
         (ih.inside_comment w [] h tt)
     by_role_outside (RoleOutside.neither role) ih =
         subst (IsBegunIfFaultless text (w ∷ ws)) (sym (reading_faulty text None w ws role))
-            (λ e. absurd cc)
+        (λ e. absurd cc)
 
     by_role_inside : (o : Word) (us : List Word) → opens_comment (bytes_of text o) ≡ true
         → AreCommentWords text us → RoleInside (bytes_of text w) → BothAreBegun text ws →
@@ -247,7 +247,7 @@ both_are_begun text (w ∷ ws) = record {
         (ih.inside_comment o (us ++ w ∷ []) h (AreCommentWords_push text us w all in_it)))
     by_role_inside o us h all (RoleInside.neither role) ih =
         subst (IsBegunIfFaultless text (o ∷ (us ++ w ∷ ws)))
-            (sym (reading_faulty text (Some o.start) w ws role))
+        (sym (reading_faulty text (Some o.start) w ws role))
         (λ e. absurd cc)
 
 -- ---- a fault is that of the first faulty word
@@ -334,7 +334,7 @@ faulty_word text ws f r s = (
     split = s.split;
     begun =
         subst (IsBegunIfFaultless text s.before) s.begun
-            ((both_are_begun text s.before).outside_comment) refl;
+        ((both_are_begun text s.before).outside_comment) refl;
     faulty = λ ts c begun.
         let whole : reading text None (s.before ++ s.w ∷ [])
         ≡ record { tokens = ts; fault = None; open_comment = c } = IsWellBegun_reading text _ ts c

@@ -60,7 +60,8 @@ placed_split (s ∷ before) after first (p ∷ ps) e =
       same = ap₂ (λ x y. x ∷ y) (ap (first_of s) e) r.same;
     }
 
-module _ (c : Context) (fine : (l : ℕ) → HasCompleteFrame c (c.rule l)) (ps : List PlacedStep)
+module _ (c : Context) (all_complete : (l : ℕ) → HasCompleteFrame c (c.rule l))
+    (ps : List PlacedStep)
     (formula : Formula) (end : ℕ) where
   -- a derivation of the formula, the fault of a step, or the fault of the end
   pub data Verdict : Type 0 where
@@ -118,7 +119,7 @@ module _ (c : Context) (fine : (l : ℕ) → HasCompleteFrame c (c.rule l)) (ps 
   pub verdict : AreGoodSteps c 0 (steps_of ps) → Verdict
   verdict good =
       by_result (run_steps c [] (steps_of ps) [])
-          (steps_outcome c (steps_of ps) [] [] none tt tt good)
+      (steps_outcome c (steps_of ps) [] [] none tt tt good)
     where
       by_result : (r : Result (List Formula) RunFailure) → StepsOutcome c [] [] (steps_of ps) r
           → Verdict
@@ -166,18 +167,20 @@ module _ (c : Context) (fine : (l : ℕ) → HasCompleteFrame c (c.rule l)) (ps 
   pub no_step_fault : (d : Trees) → Derives c (steps_of ps) formula d → (f : Fault)
       → ¬ StepFault c ps f
   no_step_fault d h f s =
-      excludes c fine (steps_of ps) s.reason (postfix d) (stopped_steps f s) h.4 (d, h.3, refl)
+      excludes c all_complete (steps_of ps) s.reason (postfix d) (stopped_steps f s) h.4
+      (d, h.3, refl)
 
   pub no_both_faults : (f g : Fault) → StepFault c ps f → ¬ ProofEndFault c ps formula end g
   no_both_faults f g s h =
-      excludes c fine (steps_of ps) s.reason (postfix h.forest) (stopped_steps f s) h.plain
+      excludes c all_complete (steps_of ps) s.reason (postfix h.forest) (stopped_steps f s) h.plain
       (h.forest, h.derivations, refl)
 
   pub no_end_fault : (d : Trees) → Derives c (steps_of ps) formula d → (f : Fault)
       → ¬ ProofEndFault c ps formula end f
   no_end_fault d h f e =
       let forest : e.forest ≡ d =
-      same_forest c fine e.forest d e.derivations h.3
-      (plain_unique c fine (steps_of ps) [] [] (postfix e.forest) (postfix d) e.plain h.4) in
+      same_forest c all_complete e.forest d e.derivations h.3
+      (plain_unique c all_complete (steps_of ps) [] [] (postfix e.forest)
+      (postfix d) e.plain h.4) in
       let one : formulas e.forest ≡ formula ∷ [] = ap formulas forest ∙ ap formulas h.2 in
       (subst (λ x. IsEndCode c x formula e.code) one e.fails).0 refl

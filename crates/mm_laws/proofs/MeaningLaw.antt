@@ -147,7 +147,7 @@ module _ (db : List Statement) (k : ℕ) where
         no_empty_proof e = absurd (cc)
     read_exactly_if_said end (t ∷ ts) =
         by_bracket (bytes_eq t.word (codes "(")) refl (compressed_read_if_said end t ts)
-            (normal_read_if_said end t ts)
+        (normal_read_if_said end t ts)
       where
         Goal : Type 0
         Goal = IsReadAndDerived end (t ∷ ts) ↔ SaysDerivation (t ∷ ts)

@@ -76,7 +76,7 @@ splits_of (a ∷ xs) (b ∷ ys) us vs x y e = with_first (splits_of xs ys us vs 
 
 -- ---- faults of steps and of the end
 
-module _ (c : Context) (fine : (l : ℕ) → HasCompleteFrame c (c.rule l)) where
+module _ (c : Context) (all_complete : (l : ℕ) → HasCompleteFrame c (c.rule l)) where
   rule_is_complete : (r : Option Rule) (es : List Formula) (a : Reason) → HasCompleteFrame c r
       → Fails c r es a
       → IsCompleteRule c r
@@ -90,7 +90,7 @@ module _ (c : Context) (fine : (l : ℕ) → HasCompleteFrame c (c.rule l)) wher
   reason_unique : (s : Step) (es : List Formula) (a b : Reason) → StepFails c s es a
       → StepFails c s es b → a ≡ b
   reason_unique (label l) es a b h k =
-      let g = rule_is_complete (c.rule l) es a (fine l) h in
+      let g = rule_is_complete (c.rule l) es a (all_complete l) h in
       let e : Err a ≡ Err b = sym (stops c (c.rule l) es a g h) ∙ stops c (c.rule l) es b g k in
       cc
   reason_unique (marked j) es a b h k = absurd h
@@ -114,21 +114,21 @@ module _ (c : Context) (fine : (l : ℕ) → HasCompleteFrame c (c.rule l)) wher
         fails = s.fails;
         is = s.is;
       } in
-      excludes c fine (map (λ p. p.step) before) s.reason (postfix forest)
-      (stopped_steps c fine before [] 0 f t) p (forest, d, refl)
+      excludes c all_complete (map (λ p. p.step) before) s.reason (postfix forest)
+      (stopped_steps c all_complete before [] 0 f t) p (forest, d, refl)
 
   pub step_fault_unique : (ps : List PlacedStep) (f g : Fault) → StepFault c ps f → StepFault c ps g
       → f ≡ g
   step_fault_unique ps f g s t =
       by_split (splits_of s.before t.before s.after t.after s.first t.first
-          (sym s.splits ∙ t.splits))
+      (sym s.splits ∙ t.splits))
     where
       by_split : Splits s.before s.first t.before t.first → f ≡ g
       by_split (inl e) =
           let plain = subst (λ x. IsPlain c (map (λ p. p.step) x) (postfix s.forest)) e.0 s.plain in
           let forest : s.forest ≡ t.forest =
-          same_forest c fine s.forest t.forest s.derivations t.derivations
-          (plain_unique c fine (map (λ p. p.step) t.before) [] [] (postfix s.forest)
+          same_forest c all_complete s.forest t.forest s.derivations t.derivations
+          (plain_unique c all_complete (map (λ p. p.step) t.before) [] [] (postfix s.forest)
           (postfix t.forest) plain t.plain) in
           let fails =
           subst (λ x. StepFails c x.step (formulas t.forest) s.reason) e.1
@@ -151,8 +151,8 @@ module _ (c : Context) (fine : (l : ℕ) → HasCompleteFrame c (c.rule l)) wher
       → proof.ProofEndFault c ps formula end f → proof.ProofEndFault c ps formula end g → f ≡ g
   end_fault_unique ps formula end f g s t =
       let forest : s.forest ≡ t.forest =
-      same_forest c fine s.forest t.forest s.derivations t.derivations
-      (plain_unique c fine (map (λ p. p.step) ps) [] [] (postfix s.forest)
+      same_forest c all_complete s.forest t.forest s.derivations t.derivations
+      (plain_unique c all_complete (map (λ p. p.step) ps) [] [] (postfix s.forest)
       (postfix t.forest) s.plain t.plain) in
       s.is ∙ ap (fault end)
       (code_unique (formulas t.forest) formula s.code t.code
@@ -162,7 +162,7 @@ module _ (c : Context) (fine : (l : ℕ) → HasCompleteFrame c (c.rule l)) wher
 no_least : (fs : List Fault) (f : Fault) → fs ≡ [] → least fs ≡ Some f → ⊥
 no_least fs f e h = let no : None ≡ Some f = sym (ap least e) ∙ h in cc
 
-module _ (db : List Statement) (fine : AreComplete db) where
+module _ (db : List Statement) (all_complete : AreComplete db) where
   pub proof_fault_unique : (k end : ℕ) (f g : Fault) → ProofFault db k end f → ProofFault db k end g
       → f ≡ g
   proof_fault_unique k end f g (inl h) (inl i) = let e : Some f ≡ Some g = sym h ∙ i in cc
@@ -175,15 +175,16 @@ module _ (db : List Statement) (fine : AreComplete db) where
           → StepFault (context_at db k) (steps_at db k) g
           ⊎ proof.ProofEndFault (context_at db k) (steps_at db k) (formula_at db k) end g → f ≡ g
       by_kinds (inl s) (inl t) =
-          step_fault_unique (context_at db k) (fine k) (steps_at db k) f g s t
+          step_fault_unique (context_at db k) (all_complete k) (steps_at db k) f g s t
       by_kinds (inl s) (inr t) =
-          absurd (no_both_faults (context_at db k) (fine k) (steps_at db k)
+          absurd (no_both_faults (context_at db k) (all_complete k) (steps_at db k)
           (formula_at db k) end f g s t)
       by_kinds (inr s) (inl t) =
-          absurd (no_both_faults (context_at db k) (fine k) (steps_at db k)
+          absurd (no_both_faults (context_at db k) (all_complete k) (steps_at db k)
           (formula_at db k) end g f t s)
       by_kinds (inr s) (inr t) =
-          end_fault_unique (context_at db k) (fine k) (steps_at db k) (formula_at db k) end f g s t
+          end_fault_unique (context_at db k) (all_complete k) (steps_at db k)
+          (formula_at db k) end f g s t
 
   pub valid_no_fault : (k end : ℕ) (f : Fault) → IsValid db k → ProofFault db k end f → ⊥
   valid_no_fault k end f v (inl h) = no_least (reading_faults_at db k) f v.0 h
@@ -192,9 +193,11 @@ module _ (db : List Statement) (fine : AreComplete db) where
       by_kind : StepFault (context_at db k) (steps_at db k) f
           ⊎ proof.ProofEndFault (context_at db k) (steps_at db k) (formula_at db k) end f → ⊥
       by_kind (inl s) =
-          no_step_fault (context_at db k) (fine k) (steps_at db k) (formula_at db k) end v.1 v.2 f s
+          no_step_fault (context_at db k) (all_complete k) (steps_at db k)
+          (formula_at db k) end v.1 v.2 f s
       by_kind (inr t) =
-          no_end_fault (context_at db k) (fine k) (steps_at db k) (formula_at db k) end v.1 v.2 f t
+          no_end_fault (context_at db k) (all_complete k) (steps_at db k)
+          (formula_at db k) end v.1 v.2 f t
 
   not_earlier : (j k : ℕ) (f g : Fault) → j < k → FirstProofFault db j f → FirstProofFault db k g
       → ⊥
@@ -291,7 +294,7 @@ end_unique len ts f g s t = by_kinds s.code t.code
     same_rest : s.are_statements.rest ≡ t.are_statements.rest
     same_rest =
         append_cancel_left
-            (flat_map spelling_of t.statements) s.are_statements.rest t.are_statements.rest
+        (flat_map spelling_of t.statements) s.are_statements.rest t.are_statements.rest
         (sym (subst (λ r. ts ≡ flat_map spelling_of r ++ s.are_statements.rest)
         (same_statements ts s.statements t.statements s.are_statements t.are_statements) s.are_statements.splits)
         ∙ t.are_statements.splits)
@@ -408,7 +411,7 @@ module _ (len : ℕ) (x : LexedText) (with_open : Bool) where
   first_fault_unique f g h k =
       let same = read_unique len x h.0 k.0 h.1 k.1 h.2 k.2 in
       by_causes
-          (subst (λ d. IsCauseOf d k.1 f) same.0 (subst (λ o. IsCauseOf h.0 o f) same.1 h.3)) k.3
+      (subst (λ d. IsCauseOf d k.1 f) same.0 (subst (λ o. IsCauseOf h.0 o f) same.1 h.3)) k.3
     where
       by_causes : IsCauseOf k.0 k.1 f → IsCauseOf k.0 k.1 g → f ≡ g
       by_causes (inl a) (inl b) =

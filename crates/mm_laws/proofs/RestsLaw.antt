@@ -8,7 +8,7 @@ use Rattle.std.proofs.lemmas.Bool.Decides.{Decides-and, Decides-or, Decides-like
 use Rattle.mm_spec.specs.Statement.{Statement}
 use Rattle.mm_spec.specs.Scope.{statement_at}
 use Rattle.mm_spec.specs.Derivation.{is_member}
-use Rattle.mm_spec.specs.Nodes.{child_counts, each_place, IsNodeLabel}
+use Rattle.mm_spec.specs.Nodes.{child_counts, each_root, IsNodeLabel}
 use Rattle.mm_spec.specs.Request.{Request}
 use Rattle.mm_spec.specs.Citation.{is_theorem, is_assertion, IsValid, Cites, RestsOn}
 use Rattle.mm_spec.specs.Laws.Complete.{AreComplete}
@@ -55,22 +55,22 @@ some_below P (suc n) each =
     last_or_below b l h (inl e) = inl (subst P e h)
     last_or_below b l h (inr ne) = inr (b, omega arith, h)
 
-module _ (db : List Statement) (by_essential : Bool) (fine : AreComplete db)
+module _ (db : List Statement) (by_essential : Bool) (all_complete : AreComplete db)
     (valid : AreValid db (length db)) where
   pub cites_decided : (t a : ℕ) → IsDecided (Cites db by_essential t a)
   cites_decided t a = by_is_theorem (is_theorem_at db t) refl
     where
       if_valid : IsValid db t → IsDecided (Cites db by_essential t a)
       if_valid v =
-          let listed = is_member (node_labels (child_counts db by_essential) each_place v.1) a in
-          let are = node_labels_are (child_counts db by_essential) each_place v.1 a in (
+          let listed = is_member (node_labels (child_counts db by_essential) each_root v.1) a in
+          let are = node_labels_are (child_counts db by_essential) each_root v.1 a in (
             list_any is_assertion (statement_at db a) && listed,
             (
               (λ e. let p = and_parts (list_any is_assertion (statement_at db a)) listed e in
                   (p.0, v.1, v.2, are.1 p.1)),
               λ c. and_from (list_any is_assertion (statement_at db a)) listed c.0
                   (are.0 (subst (λ e. IsNodeLabel db by_essential e a)
-                  (proof_unique db fine t c.1 v.1 c.2 v.2) c.3)),
+                  (proof_unique db all_complete t c.1 v.1 c.2 v.2) c.3)),
             ),
           )
 
@@ -138,7 +138,7 @@ module _ (db : List Statement) (by_essential : Bool) (fine : AreComplete db)
   listed_decided : (only : Option Bytes) (t a : ℕ) → IsDecided (IsListed only t a)
   listed_decided only t a =
       and_decided (Cites db by_essential t a)
-          (IsTrue (list_any (has_typecode only) (statement_at db a)))
+      (IsTrue (list_any (has_typecode only) (statement_at db a)))
       (cites_decided t a) (list_any (has_typecode only) (statement_at db a), ((λ e. e), λ e. e))
 
   cited_list : (only : Option Bytes) (t : ℕ)
@@ -158,10 +158,10 @@ module _ (db : List Statement) (by_essential : Bool) (fine : AreComplete db)
 pub citing_rows_of : (db : List Statement) (request : Request) → AreComplete db
     → AreValid db (length db) → (ts : List ℕ)
     → (rows : List CitingRow) × AllZip (IsCitingRowOf db request) ts rows
-citing_rows_of db request fine valid [] = ([], tt)
-citing_rows_of db request fine valid (t ∷ ts) =
-    let list = cited_list db request.essential fine valid request.only t in
-    let rest = citing_rows_of db request fine valid ts in (
+citing_rows_of db request all_complete valid [] = ([], tt)
+citing_rows_of db request all_complete valid (t ∷ ts) =
+    let list = cited_list db request.essential all_complete valid request.only t in
+    let rest = citing_rows_of db request all_complete valid ts in (
       record { label = label_at db t; cited = map (label_at db) list.0 }
           ∷ rest.0,
       ((refl, (list.0, record { rising = list.1; cited = list.2 }, refl)), rest.1),
@@ -169,8 +169,8 @@ citing_rows_of db request fine valid (t ∷ ts) =
 
 pub rows_of : (db : List Statement) (request : Request) → AreComplete db → AreValid db (length db)
     → (ts : List ℕ) → (rows : List Row) × AllZip (IsRowOf db request) ts rows
-rows_of db request fine valid [] = ([], tt)
-rows_of db request fine valid (t ∷ ts) =
-    let marks = marks_of db request.essential fine valid t (columns db request.only) in
-    let rest = rows_of db request fine valid ts in
+rows_of db request all_complete valid [] = ([], tt)
+rows_of db request all_complete valid (t ∷ ts) =
+    let marks = marks_of db request.essential all_complete valid t (columns db request.only) in
+    let rest = rows_of db request all_complete valid ts in
     (record { label = label_at db t; marks = marks.0 } ∷ rest.0, ((refl, marks.1), rest.1))

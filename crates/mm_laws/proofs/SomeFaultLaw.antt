@@ -18,7 +18,7 @@ use Rattle.mm_spec.proofs.OpenedLaw.{counted_complete}
 use Rattle.mm_laws.proofs.TheoremLaw.{valid_or_faulty}
 use Rattle.mm_laws.proofs.SomeReadingLaw.{is_readable}
 
-module _ (db : List Statement) (fine : AreComplete db) where
+module _ (db : List Statement) (all_complete : AreComplete db) where
   valid_up_to_next : (n : ℕ) → AreValid db n → (IsTrue (is_theorem_at db n) → IsValid db n)
       → AreValid db (suc n)
   valid_up_to_next n h v j l t = at_last_or_before (cases_eq j n)
@@ -42,7 +42,7 @@ module _ (db : List Statement) (fine : AreComplete db) where
       by_is_theorem : AreValid db n → (b : Bool) → is_theorem_at db n ≡ b
           → AreValid db (suc n) ⊎ ((k : ℕ) × (f : Fault) × FirstProofFault db k f)
       by_is_theorem h true e =
-          by_verdict h e (valid_or_faulty db fine n (proof_end (slice_get db n)))
+          by_verdict h e (valid_or_faulty db all_complete n (proof_end (slice_get db n)))
       by_is_theorem h false e = inl (valid_up_to_next n h (λ t. absurd (true≢false (sym t ∙ e))))
 
       by_earlier_theorems : AreValid db n ⊎ ((k : ℕ) × (f : Fault) × FirstProofFault db k f)

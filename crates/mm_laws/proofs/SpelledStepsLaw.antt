@@ -292,13 +292,13 @@ module _ (hypotheses labels : List ℕ) where
           (steps_of (group_steps (hypotheses ++ labels) marks (count + 1) gs)) (value g) s.0 s.2
           (after_number (value g) k.2) in
           subst (λ b. AreStepsFrom before (item_by_letter b ∷ map item_of gs)
-              (steps_of (steps_from_group b))) (sym k.0)
+          (steps_of (steps_from_group b))) (sym k.0)
           (subst (λ ss. AreStepsFrom before (number (value g) ∷ map item_of gs)
           (steps_of (map (placed (starts_at g)) ss
           ++ group_steps (hypotheses ++ labels) marks (count + 1) gs))) (sym s.1) whole)
       number_or_mark (inr k) after_number after_mark =
           subst (λ b. AreStepsFrom before (item_by_letter b ∷ map item_of gs)
-              (steps_of (steps_from_group b))) (sym k.0)
+          (steps_of (steps_from_group b))) (sym k.0)
           (steps_from_mark before (map item_of gs)
           (steps_of (group_steps (hypotheses ++ labels) (marks ++ (count - 1) ∷ []) count gs))
           (after_mark k.3 k.4))
@@ -407,7 +407,7 @@ pub labels_differ : (len : ℕ) (x : LexedText) (db : List Statement) (fault : O
     → IsRead len x db fault → (with_open : Bool) → LabelsDiffer (counted with_open db)
 labels_differ len x db fault r with_open w i j h u =
     labels_are_distinct db (lawful_read len x db fault r) w i j (sym (same i) ∙ h)
-        (sym (same j) ∙ u)
+    (sym (same j) ∙ u)
   where
     same : (j : ℕ)
         → list_any (is_labelled w) (statement_at (counted with_open db) j)
@@ -479,7 +479,7 @@ module _ (db : List Statement) (differ : LabelsDiffer db) where
         let own : List Fault = own_faults t (bytes_eq t.word (codes "?")) in
         let more : List Fault = flat_map (λ u. own_faults u (bytes_eq u.word (codes "?"))) ts in
         ap₂ (λ xs ys. xs ++ ys)
-            (by_question_mark (bytes_eq t.word (codes "?")) (append_none own more e).0)
+        (by_question_mark (bytes_eq t.word (codes "?")) (append_none own more e).0)
         (normal_labels ts (append_none own more e).1)
       where
         by_question_mark : (b : Bool) → own_faults t b ≡ [] → proof_label_faults db k t ≡ []
@@ -549,14 +549,14 @@ module _ (db : List Statement) (differ : LabelsDiffer db) where
         let groups_spell_letters : Spells (letters_in letters) (map item_of gs) =
         subst (λ bs. Spells bs (map item_of gs)) (letters_bytes letters)
         (groups_spell
-        (letters_of letters) [] label_count 0 0 tt letters_faultless.fine letters_faultless.whole) in
+        (letters_of letters) [] label_count 0 0 tt letters_faultless.faultless letters_faultless.whole) in
         let same : map item_of gs ≡ items =
         spelling_unique (letters_in letters)
-            (map item_of gs) items groups_spell_letters letters_spell in
+        (map item_of gs) items groups_spell_letters letters_spell in
         let groups_faultless : AreFaultless
         (length (mandatory_hypotheses db k) + length js.0) 0 0 gs =
         subst (λ n. AreFaultless (length (mandatory_hypotheses db k) + n) 0 0 gs)
-        (same_length labels js.0 js.1) letters_faultless.fine in
+        (same_length labels js.0 js.1) letters_faultless.faultless in
         let group_steps_are : AreSteps (mandatory_hypotheses db k) js.0 (map item_of gs)
         (map (λ p. p.step)
         (group_steps (mandatory_hypotheses db k ++ js.0) [] 0 gs)) = groups_name_steps

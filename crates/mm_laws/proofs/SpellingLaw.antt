@@ -95,9 +95,10 @@ same_front first other rest more h k e =
     ap (λ x. x ++ more) k.are ∙ append_assoc k.early (k.last ∷ []) more in
     let fronts_are_same =
     same_fronts h.early k.early h.last k.last h.high k.high rest more h.earlier k.earlier h.ends
-    k.ends (sym first_split ∙ e ∙ other_split) in
-    (h.are ∙ ap₂ (λ xs x. xs ++ x ∷ []) fronts_are_same.0 fronts_are_same.1 ∙ sym k.are,
-    fronts_are_same.2)
+    k.ends (sym first_split ∙ e ∙ other_split) in (
+      h.are ∙ ap₂ (λ xs x. xs ++ x ∷ []) fronts_are_same.0 fronts_are_same.1 ∙ sym k.are,
+      fronts_are_same.2,
+    )
 
 last_of_two : (early other : List ℕ) (last end m n : ℕ) → AreEarlyDigits early m
     → AreEarlyDigits other n → EndsItem last → EndsItem end → early ++ last ∷ [] ≡ other ++ end ∷ []
@@ -144,12 +145,12 @@ spelling_unique letters [] (b ∷ others) h k =
     let letters_of_one =
     item_letters b k.0 k.3 in
     absurd (nonempty letters_of_one.early letters_of_one.last k.1
-        (sym h ∙ k.2 ∙ ap (λ x. x ++ k.1) letters_of_one.are))
+    (sym h ∙ k.2 ∙ ap (λ x. x ++ k.1) letters_of_one.are))
 spelling_unique letters (a ∷ items) [] h k =
     let letters_of_one =
     item_letters a h.0 h.3 in
     absurd (nonempty letters_of_one.early letters_of_one.last h.1
-        (sym k ∙ h.2 ∙ ap (λ x. x ++ h.1) letters_of_one.are))
+    (sym k ∙ h.2 ∙ ap (λ x. x ++ h.1) letters_of_one.are))
 spelling_unique letters (a ∷ items) (b ∷ others) h k =
     let r = same_front h.0 k.0 h.1 k.1 (item_letters a h.0 h.3) (item_letters b k.0 k.3)
     (sym h.2 ∙ k.2) in
@@ -342,7 +343,7 @@ faultless_groups (g ∷ gs) label_count marks count f =
         )
     by_letter false p false q f after_number after_mark =
         absurd (other_byte_is_fault (g.last.byte == 63)
-            (append_none (faults_of_group false false) (faults_of_later_groups false) f).0)
+        (append_none (faults_of_group false false) (faults_of_later_groups false) f).0)
 
 pub early_digit : (b : ℕ) → is_early b ≡ true → IsEarlyDigit b (b - 84)
 early_digit b e =
@@ -459,7 +460,7 @@ groups_spell (x ∷ xs) early label_count marks count h f e =
         item_and_later (group_spelled own_group h (inl k.0)) (in_the_run marks (count + 1) k.2 n)
     at_last_letter (inr k) n in_the_run =
         item_and_later (group_spelled own_group h (inr (k.0, k.1, k.2)))
-            (in_the_run (marks + 1) count k.4 n)
+        (in_the_run (marks + 1) count k.4 n)
 
     by_is_early : (b : Bool) → is_early x.byte ≡ b
         → AreFaultless label_count marks count (groups_by_early b).0 → (groups_by_early b).1 ≡ []
@@ -492,7 +493,7 @@ letters_bytes (t ∷ ts) =
 
 -- letters of which nothing is wrong
 pub record AreFaultlessLetters (label_count : ℕ) (xs : List Letter) : Type 0 where
-  pub fine : AreFaultless label_count 0 0 (groups [] xs).0
+  pub faultless : AreFaultless label_count 0 0 (groups [] xs).0
   pub whole : (groups [] xs).1 ≡ []
   pub some : xs ≢ []
 
@@ -501,7 +502,7 @@ pub faultless_letters : (label_count end : ℕ) (xs : List Letter)
     → AreFaultlessLetters label_count xs
 faultless_letters label_count end [] e = absurd (cc)
 faultless_letters label_count end (x ∷ xs) e = record {
-  fine =
+  faultless =
       faultless_groups (groups [] (x ∷ xs)).0 label_count 0 0
       (append_none (group_faults label_count 0 0 (groups [] (x ∷ xs)).0)
       (at end (when (nat_lt 0 (length (groups [] (x ∷ xs)).1)) OpenNumber)) e).0;
@@ -568,7 +569,7 @@ spelled_out db k end t ts opens f =
     let brackets = parts_of ts p.letters p.is in
     let bytes_spell =
     groups_spell (letters_of p.letters) []
-    (length (mandatory_hypotheses db k) + length (bracketed ts).labels) 0 0 tt p.good.fine
+    (length (mandatory_hypotheses db k) + length (bracketed ts).labels) 0 0 tt p.good.faultless
     p.good.whole in
     let letters_spell : Spells (letters_in p.letters)
     (map item_of (groups [] (letters_of p.letters)).0) =

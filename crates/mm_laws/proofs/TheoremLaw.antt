@@ -33,12 +33,12 @@ least_some f fs = by_least (least fs)
     by_least None = (f, refl)
     by_least (Some g) = by_is_before g (is_before f g)
 
-module _ (db : List Statement) (fine : AreComplete db) (k : ℕ) where
+module _ (db : List Statement) (all_complete : AreComplete db) (k : ℕ) where
   pub valid_or_faulty : (end : ℕ) → IsValid db k ⊎ ((f : Fault) × ProofFault db k end f)
   valid_or_faulty end = by_reading_faults (reading_faults_at db k) refl
     where
       by_verdict : reading_faults_at db k ≡ []
-          → Verdict (context_at db k) (fine k) (steps_at db k) (formula_at db k) end
+          → Verdict (context_at db k) (all_complete k) (steps_at db k) (formula_at db k) end
           → IsValid db k ⊎ ((f : Fault) × ProofFault db k end f)
       by_verdict e (valid d h) = inl (e, d, h)
       by_verdict e (step_fault f h) = inr (f, inr (e, inl h))
@@ -47,8 +47,9 @@ module _ (db : List Statement) (fine : AreComplete db) (k : ℕ) where
       by_reading_faults : (fs : List Fault) → reading_faults_at db k ≡ fs
           → IsValid db k ⊎ ((f : Fault) × ProofFault db k end f)
       by_reading_faults [] e =
-          by_verdict e (verdict (context_at db k) (fine k) (steps_at db k) (formula_at db k) end
-          (good_steps db k (fine k) e))
+          by_verdict e
+          (verdict (context_at db k) (all_complete k) (steps_at db k) (formula_at db k) end
+          (good_steps db k (all_complete k) e))
       by_reading_faults (f ∷ fs) e = let g = least_some f fs in inr (g.0, inl (ap least e ∙ g.1))
 
 pub labels_determine : WhereRead LabelsDetermine

@@ -80,9 +80,11 @@ module _ (db : List Statement) (lawful : (k : ℕ) → k < length db → IsLawfu
   typed : VariablesAreTyped db k
   typed assertion x h =
       let s = found_at db is_assertion k assertion in
-      let t = mandatory_typed db lawful k x s.0 s.1 (assertion_has_formula s.0 s.2) h in
-      (t.0, is_mandatory_hypothesis t.0 t.1 (type_mandatory db lawful k t.0 x t.2 h),
-      is_typing t.0 t.2)
+      let t = mandatory_typed db lawful k x s.0 s.1 (assertion_has_formula s.0 s.2) h in (
+        t.0,
+        is_mandatory_hypothesis t.0 t.1 (type_mandatory db lawful k t.0 x t.2 h),
+        is_typing t.0 t.2,
+      )
     where
       is_typing : (i : ℕ) → Types db lawful i x → IsTyping db i x
       is_typing i t = record {
@@ -104,11 +106,11 @@ module _ (db : List Statement) (lawful : (k : ℕ) → k < length db → IsLawfu
       → IsTrue (is_variable_number db x) × IsTrue (is_in_frame db k x)
   to_frame x h =
       let p = member_filter (is_variable_number db) (formula_at db k ++ essential_symbols) x h in (
-    p.0,
-    in_formula_or_essential
-        (or_cases (in_formula x k) (is_member essential_symbols x)
-        (sym (list_any-append (λ y. x == y) (formula_at db k) essential_symbols) ∙ p.1)),
-  )
+        p.0,
+        in_formula_or_essential
+            (or_cases (in_formula x k) (is_member essential_symbols x)
+            (sym (list_any-append (λ y. x == y) (formula_at db k) essential_symbols) ∙ p.1)),
+      )
     where
       essential_symbols : List ℕ
       essential_symbols = flat_map (formula_at db) essentials

@@ -28,8 +28,8 @@ axioms_and_rule_text =
 abbrev with_proof : List ℕ → List Statement
 with_proof p =
     statements
-        (axioms_and_rule_text ++ codes "${ h $e |- p $. a1i $p |- ( q -> p ) $= " ++ p
-        ++ codes " $. $}")
+    (axioms_and_rule_text ++ codes "${ h $e |- p $. a1i $p |- ( q -> p ) $= " ++ p
+    ++ codes " $. $}")
 
 abbrev plain_steps : List Statement → ℕ → List Step
 plain_steps db k = map (λ s. s.step) (steps_at db k)

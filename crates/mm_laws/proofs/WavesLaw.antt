@@ -21,14 +21,14 @@ use Rattle.mm_spec.proofs.OpenedLaw.{counted_complete}
 use Rattle.mm_spec.proofs.CitedLaw.{cites_earlier}
 use Rattle.mm_laws.proofs.RestsLaw.{cites_decided}
 
-module _ (db : List Statement) (by_essential : Bool) (fine : AreComplete db)
+module _ (db : List Statement) (by_essential : Bool) (all_complete : AreComplete db)
     (valid : AreValid db (length db)) where
   abbrev IsLink : ℕ → ℕ → Type 0
   IsLink t b = Cites db by_essential t b × IsTrue (list_any is_theorem (statement_at db b))
 
   link_or_none : (t b : ℕ) → IsLink t b ⊎ (IsLink t b → ⊥)
   link_or_none t b =
-      by_citation (cites_decided db by_essential fine valid t b)
+      by_citation (cites_decided db by_essential all_complete valid t b)
       (list_any is_theorem (statement_at db b)) refl
     where
       by_citation : IsDecided (Cites db by_essential t b) → (m : Bool)
@@ -49,7 +49,7 @@ module _ (db : List Statement) (by_essential : Bool) (fine : AreComplete db)
   longest_below t zero waves = (0, tt, λ b l. absurd (omega arith))
   longest_below t (suc n) waves =
       by_link (link_or_none t n) (waves n (omega arith))
-          (longest_below t n (λ b l. waves b (omega arith)))
+      (longest_below t n (λ b l. waves b (omega arith)))
     where
       no_link : (IsLink t n → ⊥) → (r : LongestBelow t n) → (b : ℕ) → b < suc n → IsLink t b
           → (k : ℕ)
@@ -109,6 +109,8 @@ have_waves len x with_open db h by_essential t =
     let statements = counted with_open db in
     let w =
     wave_of statements by_essential
-    (counted_complete with_open db (reads_complete len x db None h.0)) h.1 t in
-    (w.0, w.1,
-    λ m k. wave_unique (Cites statements by_essential) (IsTheorem statements) t m w.0 k w.1)
+    (counted_complete with_open db (reads_complete len x db None h.0)) h.1 t in (
+      w.0,
+      w.1,
+      λ m k. wave_unique (Cites statements by_essential) (IsTheorem statements) t m w.0 k w.1,
+    )

@@ -65,10 +65,10 @@ meaningful_of_faultless (g ∷ gs) label_count marks count f =
         (item_by_letter (is_last g.last.byte) ∷ map item_of gs)
     number_or_mark (inl k) after_number after_mark =
         subst (λ b. AreMeaningful label_count marks count (item_by_letter b ∷ map item_of gs))
-            (sym k.0) (k.1, after_number k.2)
+        (sym k.0) (k.1, after_number k.2)
     number_or_mark (inr k) after_number after_mark =
         subst (λ b. AreMeaningful label_count marks count (item_by_letter b ∷ map item_of gs))
-            (sym k.0)
+        (sym k.0)
         (k.3, after_mark k.4)
 
 numbers_are_meaningful : (items : List Item) (label_count marks count : ℕ)
@@ -253,7 +253,7 @@ faultless_of_meaningful : (items : List Item) (xs : List Letter) (label_count ma
     → AreFaultlessGroups label_count marks count (groups [] xs)
 faultless_of_meaningful [] xs label_count marks count s r =
     subst (λ ys. AreFaultlessGroups label_count marks count (groups [] ys)) (sym (no_bytes xs s))
-        (tt, refl)
+    (tt, refl)
 faultless_of_meaningful (number n ∷ items) xs label_count marks count s r =
     let w : AreLettersOf s.0 n = s.3 in
     let p =
@@ -281,7 +281,7 @@ faultless_of_meaningful (number n ∷ items) xs label_count marks count s r =
     (sym same) r.0 in
     let whole : AreFaultlessGroups label_count marks count (groups [] (p.front ++ p.x ∷ p.back)) =
     subst (AreFaultlessGroups label_count marks count)
-        (sym (groups_run [] p.front p.x p.back early not_early))
+    (sym (groups_run [] p.front p.x p.back early not_early))
     (inl (last, value_fits, later_groups.0), later_groups.1) in
     subst (λ ys. AreFaultlessGroups label_count marks count (groups [] ys)) (sym p.are) whole
 faultless_of_meaningful (mark ∷ items) xs label_count marks count s r =
@@ -297,7 +297,7 @@ faultless_of_meaningful (mark ∷ items) xs label_count marks count s r =
     (subst (λ bs. Spells bs items) (sym p.backs) s.4) r.1 in
     let whole : AreFaultlessGroups label_count marks count (groups [] (p.front ++ p.x ∷ p.back)) =
     subst (AreFaultlessGroups label_count marks count)
-        (sym (groups_run [] p.front p.x p.back early not_early))
+    (sym (groups_run [] p.front p.x p.back early not_early))
     (inr (not_last, middle, none, r.0, later_groups.0), later_groups.1) in
     subst (λ ys. AreFaultlessGroups label_count marks count (groups [] ys)) (sym p.are) whole
 
@@ -386,7 +386,7 @@ filter_not_empty : (test : ℕ → Bool) (n a j : ℕ) → a ≤ j → j < a + n
 filter_not_empty test zero a j l h e n = omega arith
 filter_not_empty test (suc m) a j l h e n =
     by_test (test a) refl n (λ b k. filter_not_empty test m (a + 1) j b (omega arith) e k)
-        (cases_eq a j)
+    (cases_eq a j)
   where
     by_test : (b : Bool) → test a ≡ b
         → ◌≡◌ {A = List ℕ}
@@ -438,9 +438,9 @@ module _ (db : List Statement) (differ : LabelsDiffer db) (k end : ℕ) where
       let items = map item_of (groups [] (letters_of p.letters)).0 in
       let letters_spell : Spells (letters_in p.letters) items =
       subst (λ bs. Spells bs items) (letters_bytes p.letters)
-      (groups_spell (letters_of p.letters) [] label_count 0 0 tt p.good.fine p.good.whole) in
+      (groups_spell (letters_of p.letters) [] label_count 0 0 tt p.good.faultless p.good.whole) in
       let are_meaningful = meaningful_of_faultless
-      (groups [] (letters_of p.letters)).0 label_count 0 0 p.good.fine in
+      (groups [] (letters_of p.letters)).0 label_count 0 0 p.good.faultless in
       let js = all_usable db differ k (bracketed ts).labels p.usable in
       let same : (bracketed ts).labels ≡ brackets.labels =
       ap (λ b. b.labels)
@@ -474,7 +474,7 @@ module _ (db : List Statement) (differ : LabelsDiffer db) (k end : ℕ) where
             same (omega arith);
         marks =
             λ b a e. let h =
-                marks_are_meaningful items label_count 0 0 are_meaningful b a e in omega arith;
+            marks_are_meaningful items label_count 0 0 are_meaningful b a e in omega arith;
       }
 
   well_spelled_is_read : (t : Token) (ts : List Token) → t.word ≡ codes "("
@@ -512,7 +512,7 @@ module _ (db : List Statement) (differ : LabelsDiffer db) (k end : ℕ) where
       are_meaningful : AreMeaningful label_count 0 0 w.items
       are_meaningful =
           meaningful_from w.items label_count 0 0
-              (λ b a n e. let h = w.numbers b a n e in omega arith)
+          (λ b a n e. let h = w.numbers b a n e in omega arith)
           (λ b a e. let h = w.marks b a e in omega arith)
 
       no_items : (items : List Item) → Spells [] items → items ≡ []
@@ -554,7 +554,7 @@ module _ (db : List Statement) (differ : LabelsDiffer db) (k end : ℕ) where
   plain_words_are_read [] h = refl
   plain_words_are_read (t ∷ ts) h =
       ap₂ (λ xs ys. xs ++ ys) (by_question_mark (bytes_eq t.word (codes "?")) refl)
-          (plain_words_are_read ts h.1)
+      (plain_words_are_read ts h.1)
     where
       by_question_mark : (b : Bool) → bytes_eq t.word (codes "?") ≡ b
           → own_faults db differ k t b ≡ []

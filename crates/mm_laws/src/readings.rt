@@ -15,5 +15,5 @@ pub fn every_text_is_read()
 /// theorems count as axioms.
 pub fn texts_are_sound_or_faulty()
     ensures { (len : ℕ) (lexed : LexedText) (with_open : Bool)
-      → IsSoundOrFaulty len lexed with_open }
+        → IsSoundOrFaulty len lexed with_open }
 {}

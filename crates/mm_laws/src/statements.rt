@@ -19,5 +19,5 @@ pub fn statements_are_the_longest()
 /// k, is less deep than j.
 pub fn a_block_is_open_where_none_is_less_deep()
     ensures { (db : List Statement) (j k : ℕ) → j ≤ k
-      → IsTrue (is_block_open db j k) ↔ InBlock db j k }
+        → IsTrue (is_block_open db j k) ↔ InBlock db j k }
 {}

@@ -37,9 +37,8 @@ impl<T, A: Allocator> Model for Lists<T, A> {
     ghost invariant = { λ l. ArePlaces l.places.items (length l.items.items) };
 }
 
-/// Appends to `places` that a list ends where these elements do, and if it is the first one, that it
-/// begins at 0.
-/// Fails only if out of memory, or of places, and then changes nothing.
+/// Appends to `places` that a list ends where these elements do, and if it is the first one, that
+/// it begins at 0. Fails only if out of memory, or of places, and then changes nothing.
 pub fn end_list<T, A: Allocator>(
     items: &Vec<T, A>,
     places: &mut Vec<u32, A>,

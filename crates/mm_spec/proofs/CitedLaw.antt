@@ -68,4 +68,4 @@ module _ (db : List Statement) where
 -- a theorem has one proof at most
 pub proof_unique : (db : List Statement) → AreComplete db → (t : ℕ) (d e : Trees) → IsProof db t d
     → IsProof db t e → d ≡ e
-proof_unique db fine t d e p q = grind (arith, common_steps, plain_unique, same_forest)
+proof_unique db all_complete t d e p q = grind (arith, common_steps, plain_unique, same_forest)

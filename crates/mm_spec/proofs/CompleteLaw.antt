@@ -149,10 +149,11 @@ module _ (db : List Statement) (lawful : (k : ℕ) → k < length db → IsLawfu
       → is_member (mandatory_variables db k) x ≡ true
       → (i : ℕ) × (is_active db i k ≡ true) × Types i x × (is_variable_number db x ≡ true)
   mandatory_typed k x s e f m =
-      let more = flat_map (formula_at db) (active_of is_essential db k) in
-      let p = member_filter (is_variable_number db) (formula_at db k ++ more) x m in
-      in_formula_or_essential p.0 (or_cases (is_member (formula_at db k) x) (is_member more x)
-      (sym (list_any-append (λ y. x == y) (formula_at db k) more) ∙ p.1))
+      let essential_symbols = flat_map (formula_at db) (active_of is_essential db k) in
+      let p = member_filter (is_variable_number db) (formula_at db k ++ essential_symbols) x m in
+      in_formula_or_essential p.0
+      (or_cases (is_member (formula_at db k) x) (is_member essential_symbols x)
+      (sym (list_any-append (λ y. x == y) (formula_at db k) essential_symbols) ∙ p.1))
     where
       in_formula_or_essential : is_variable_number db x ≡ true
           → (is_member (formula_at db k) x ≡ true)
@@ -230,15 +231,16 @@ module _ (db : List Statement) (lawful : (k : ℕ) → k < length db → IsLawfu
           (is_member (mandatory_variables db k) y || false)
           (ap (list_any (is_member (mandatory_variables db k))) (sym t.is) ∙ g))
         where
-          more : List ℕ
-          more = flat_map (formula_at db) (active_of is_essential db k)
+          essential_symbols : List ℕ
+          essential_symbols = flat_map (formula_at db) (active_of is_essential db k)
 
           typecode_or_variable : (is_member (mandatory_variables db k) t.typecode ≡ true)
               ⊎ ((is_member (mandatory_variables db k) y || false) ≡ true)
               → is_member (mandatory_variables db k) x ≡ true
           typecode_or_variable (inl g) =
               absurd (true≢false
-              (sym (member_filter (is_variable_number db) (formula_at db k ++ more) t.typecode g).0
+              (sym (member_filter (is_variable_number db)
+              (formula_at db k ++ essential_symbols) t.typecode g).0
               ∙ t.constant))
           typecode_or_variable (inr g) =
               ap (is_member (mandatory_variables db k)) (is_its_variable y t)
@@ -250,10 +252,11 @@ module _ (db : List Statement) (lawful : (k : ℕ) → k < length db → IsLawfu
           ≡ true)
           → is_member (mandatory_variables db k) x ≡ true
       by_kind (inl g) =
-          let more = flat_map (formula_at db) (active_of is_essential db k) in
-          filter_member (is_variable_number db) (formula_at db k ++ more) x v
-          (list_any-append (λ y. x == y) (formula_at db k) more
-          ∙ or_right (is_member (formula_at db k) x) (is_member more x) (among_essential g))
+          let essential_symbols = flat_map (formula_at db) (active_of is_essential db k) in
+          filter_member (is_variable_number db) (formula_at db k ++ essential_symbols) x v
+          (list_any-append (λ y. x == y) (formula_at db k) essential_symbols
+          ∙ or_right (is_member (formula_at db k) x) (is_member essential_symbols x)
+          (among_essential g))
       by_kind (inr g) =
           let p =
           and_parts (list_any is_floating (statement_at db j))

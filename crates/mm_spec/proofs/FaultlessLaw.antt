@@ -217,7 +217,7 @@ pub member_word : (names ws : List Bytes) (x : ℕ)
 member_word names [] x e = absurd (true≢false (sym e))
 member_word names (v ∷ ws) x e =
     at_first_or_later
-        (or_cases (x == index_of v names) (is_member (map (λ w. index_of w names) ws) x) e)
+    (or_cases (x == index_of v names) (is_member (map (λ w. index_of w names) ws) x) e)
     (λ h. member_word names ws x h)
   where
     at_first_or_later : ((x == index_of v names) ≡ true)
@@ -258,5 +258,13 @@ pub still_active : (db : List Statement) (i j k : ℕ) (s t : Statement) → sli
     → IsLocal s → slice_get db j ≡ Some t → IsLocal t → is_active db i j ≡ true
     → is_active db j k ≡ true → is_active db i k ≡ true
 still_active db i j k s t e l f m a b =
-    grind (arith, common_steps, and_from, and_parts, cases_lt, local_activity, lt-ltb,
-        is_block_open_exact)
+    grind (
+      arith,
+      common_steps,
+      and_from,
+      and_parts,
+      cases_lt,
+      local_activity,
+      lt-ltb,
+      is_block_open_exact,
+    )

@@ -39,7 +39,7 @@ any_range : (p : ℕ → Bool) (n a : ℕ) → list_any p (range_with_len a n) �
 any_range p zero a e = absurd (true≢false (sym e))
 any_range p (suc n) a e =
     at_first_or_later (or_cases (p a) (list_any p (range_with_len (a + 1) n)) e)
-        (λ h. any_range p n (a + 1) h)
+    (λ h. any_range p n (a + 1) h)
   where
     at_first_or_later : (p a ≡ true) ⊎ (list_any p (range_with_len (a + 1) n) ≡ true)
         → (list_any p (range_with_len (a + 1) n) ≡ true → (i : ℕ) × (p i ≡ true))
@@ -52,7 +52,7 @@ pub range_any : (p : ℕ → Bool) (n a i : ℕ) → a ≤ i → i < a + n → p
 range_any p zero a i l h e = absurd (omega arith)
 range_any p (suc n) a i l h e =
     at_first_or_later (eq-or-lt_of_le l)
-        (λ s. range_any p n (a + 1) i (omega (arith, s)) (omega arith) e)
+    (λ s. range_any p n (a + 1) i (omega (arith, s)) (omega arith) e)
   where
     at_first_or_later : (a ≡ i) ⊎ (a < i) → (a < i → list_any p (range_with_len (a + 1) n) ≡ true)
         → (p a || list_any p (range_with_len (a + 1) n)) ≡ true
@@ -72,7 +72,7 @@ member_filter t xs x e = passes_and_is_member xs (sym (any_filter t (λ y. x == 
     passes_and_is_member [] h = absurd (true≢false (sym h))
     passes_and_is_member (y ∷ ys) h =
         at_first_or_later (or_cases (t y && (x == y)) (list_any (λ y. t y && (x == y)) ys) h)
-            (λ k. passes_and_is_member ys k)
+        (λ k. passes_and_is_member ys k)
       where
         at_first_or_later : ((t y && (x == y)) ≡ true) ⊎ (list_any (λ y. t y && (x == y)) ys ≡ true)
             → (list_any (λ y. t y && (x == y)) ys ≡ true → (t x ≡ true) × (is_member ys x ≡ true))

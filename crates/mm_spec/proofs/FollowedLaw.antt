@@ -78,8 +78,14 @@ follow_plain : (q : State) → TakesPlainWords q → (xs : List Token) → is_pl
     → follow (Some q) (xs ++ ts) ≡ follow (Some q) ts
 follow_plain q takes [] e ts = refl
 follow_plain q takes (x ∷ xs) e ts =
-    grind (arith, common_steps, and_parts, plain_word, follow_plain q takes xs
-        (and_parts (not (has_dollar x.word)) (is_plain xs) e).1 ts)
+    grind (
+      arith,
+      common_steps,
+      and_parts,
+      plain_word,
+      follow_plain q takes xs
+          (and_parts (not (has_dollar x.word)) (is_plain xs) e).1 ts,
+    )
 
 no_dollar : (b : ℕ) → is_label_byte b ≡ true → (b == 36) ≡ false
 no_dollar b e = grind (arith, common_steps, eqb-true)

@@ -91,7 +91,7 @@ each_usable db k [] e = omega arith
 each_usable db k (t ∷ ts) e = grind (arith, common_steps, append_none, length-append, each_usable db k ts (append_none (proof_label_faults db k t) (flat_map (proof_label_faults db k) ts) e).1)
 
 module _ (db : List Statement) (k : ℕ)
-    (fine : (l : ℕ) → HasCompleteFrame (context_at db k) (rule_at db k l)) where
+    (all_complete : (l : ℕ) → HasCompleteFrame (context_at db k) (rule_at db k l)) where
   abbrev IsGoodLabel : ℕ → Type 0
   IsGoodLabel j = IsCompleteRule (context_at db k) (rule_at db k j)
 
@@ -273,17 +273,17 @@ module _ (db : List Statement) (k : ℕ)
           (append_none (when (nat_lt 0 (length g.early)) OpenNumber)
           (when (count == 0) MarkBeforeStep) codes).1) in
           after_mark (omega arith)
-              (append_none (faults_of_group false true) (faults_of_later_groups true) f).1
+          (append_none (faults_of_group false true) (faults_of_later_groups true) f).1
       by_letter false p false q f after_number after_mark =
           absurd (other_byte_is_fault (g.last.byte == 63)
-              (append_none (faults_of_group false false) (faults_of_later_groups false) f).0)
+          (append_none (faults_of_group false false) (faults_of_later_groups false) f).0)
 
   compressed_good : (end : ℕ) (p : Compressed) → compressed_faults db k end p ≡ []
       → AreGoodSteps (context_at db k) 0 (steps_of (compressed_steps db k p))
   compressed_good end p f =
       by_letters p.letters
-          (append_none (flat_map (proof_label_faults db k) p.labels)
-          (faults_of_letters p.letters) f).1
+      (append_none (flat_map (proof_label_faults db k) p.labels)
+      (faults_of_letters p.letters) f).1
     where
       labels : List ℕ
       labels = mandatory_hypotheses db k ++ flat_map (λ t. usable db k t.word) p.labels
@@ -324,7 +324,7 @@ module _ (db : List Statement) (k : ℕ)
       letters_good [] e = tt
       letters_good (x ∷ xs) e =
           groups_good
-              (groups [] (x ∷ xs)).0 labels [] label_count 0 labels_are_good tt enough_labels
+          (groups [] (x ∷ xs)).0 labels [] label_count 0 labels_are_good tt enough_labels
           (append_none (group_faults label_count 0 0 (groups [] (x ∷ xs)).0)
           (at end (when (nat_lt 0 (length (groups [] (x ∷ xs)).1)) OpenNumber)) e).0
 

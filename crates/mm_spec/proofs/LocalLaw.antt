@@ -33,8 +33,12 @@ filter_alike : {X : Type 0} (p q : ℕ → Bool) (f g : ℕ → List X) (n a : �
     → flat_map f (filter p (range_with_len a n)) ≡ flat_map g (filter q (range_with_len a n))
 filter_alike p q f g zero a h k = refl
 filter_alike p q f g (suc n) a h k =
-    grind (arith, common_steps, filter_alike p q f g n (a + 1) (λ i l. h i (omega arith))
-        (λ i l. k i (omega arith)))
+    grind (
+      arith,
+      common_steps,
+      filter_alike p q f g n (a + 1) (λ i l. h i (omega arith))
+          (λ i l. k i (omega arith)),
+    )
 
 module _ (db more : List Statement) where
   pub depth_front : (i : ℕ) → i ≤ length db → depth (db ++ more) i ≡ depth db i

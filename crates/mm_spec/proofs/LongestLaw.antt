@@ -173,9 +173,13 @@ transition_holds (start d) part t disjoint_keyword m h = (
     is = ap₂ (λ p v. p ++ token t.at v ∷ []) h m;
   },
 )
-transition_holds (start d) part t open_block m h =
-    (ap₂ (λ p v. p ++ token t.at v ∷ []) (sym h) (sym m), refl, not_closing_at
-    (opening t.at) d refl, refl)
+transition_holds (start d) part t open_block m h = (
+  ap₂ (λ p v. p ++ token t.at v ∷ []) (sym h) (sym m),
+  refl,
+  not_closing_at
+      (opening t.at) d refl,
+  refl,
+)
 transition_holds (start zero) part t close_block m h = tt
 transition_holds (start (suc d)) part t close_block m h =
     (ap₂ (λ p v. p ++ token t.at v ∷ []) (sym h) (sym m), refl, (λ e. omega arith), refl)
@@ -279,7 +283,7 @@ read_on [] r list part b h =
 read_on (t ∷ us) r list part b h =
     let x =
     by_transition (transition r (class t.word) t)
-        (transition_holds r part t (class t.word) (meaning t.word) h)
+    (transition_holds r part t (class t.word) (meaning t.word) h)
     (λ q list' part' c k. read_on us q list' part' c k) in
     record { rest = x.0; depth = x.1; balanced = x.2; is = x.3 }
   where
@@ -291,10 +295,14 @@ read_on (t ∷ us) r list part b h =
         × Balanced depth (list ++ statements_after o (λ q. statements_from q us))
         × (part ++ t ∷ us
         ≡ flat_map spelling_of (statements_after o (λ q. statements_from q us)) ++ rest)
-    by_transition unexpected k of_the_rest =
-        (part ++ t
-        ∷ us, depth_of_progress r, subst (Balanced (depth_of_progress r))
-            (sym (append-nil list)) b, refl)
+    by_transition unexpected k of_the_rest = (
+      part ++ t
+          ∷ us,
+      depth_of_progress r,
+      subst (Balanced (depth_of_progress r))
+          (sym (append-nil list)) b,
+      refl,
+    )
     by_transition (continued q) k of_the_rest =
         let x = of_the_rest q list (part ++ t ∷ [])
         (subst (λ n. Balanced n list) (sym k.0) b) k.1 in

@@ -148,8 +148,8 @@ module _ (c : Context) where
             omega (arith, length-append (formulas p.last) (f ∷ []), p.count);
       }
 
-  -- what the answer of a step means: premises on top of the entries, and a formula that follows from
-  -- them; or why the step fails
+  -- what the answer of a step means: premises on top of the entries, and a formula that follows
+  -- from them; or why the step fails
   abbrev pub StepOutcome : Option Rule → List Formula → Result (List Formula) Reason → Type 0
   StepOutcome r es (Ok out) =
       (n : ℕ) × (f : Formula) × (n ≤ length es) × Follows c r (drop (length es - n) es) f
@@ -181,7 +181,8 @@ module _ (c : Context) where
       hypothesis_outcome g es (nat_le (length g) formula_limit) refl
   step_outcome (Some (assertion a)) es good = assertion_outcome a es good
 
-  -- a run after a forest that stops: at the label the step fails, before it a longer forest is reached
+  -- a run after a forest that stops: at the label the step fails, before it a longer forest is
+  -- reached
   pub record StoppedRun (forest : Trees) (ls : List ℕ) (reason : Reason) : Type 0 where
     pub before : List ℕ
     pub label : ℕ
@@ -233,7 +234,7 @@ module _ (c : Context) where
   run_outcome [] forest n d good = (forest, d, sym (append-nil (postfix forest)), refl)
   run_outcome (l ∷ ls) forest n d good =
       by_result (step c (c.rule l) (formulas forest))
-          (step_outcome (c.rule l) (formulas forest) good.0)
+      (step_outcome (c.rule l) (formulas forest) good.0)
       (λ next h. run_outcome ls next (suc n) h good.1)
     where
       later : (next : Trees) → postfix next ≡ postfix forest ++ l ∷ []

@@ -273,7 +273,7 @@ module _ (w : Bool) (db : List Statement) where
       → option_and_then f (slice_get (counted w db) j) ≡ option_and_then f (slice_get db j)
   counted_then {X} f h j =
       sym (flat_map_is_and_then (slice_get (counted w db) j)) ∙ ap flatten (counted_got f h j)
-          ∙ flat_map_is_and_then (slice_get db j)
+      ∙ flat_map_is_and_then (slice_get db j)
     where
       flatten : Option (Option X) → Option X
       flatten o = elim o [ None ↦ None | Some x ↦ x ]
@@ -319,7 +319,7 @@ module _ (w : Bool) (db : List Statement) where
   pub counted_complete : AreComplete db → AreComplete (counted w db)
   counted_complete h k l =
       subst (λ (c : ℕ → Context). HasCompleteFrame (c k) ((c k).rule l)) (sym counted_context)
-          (h k l)
+      (h k l)
 
 -- a theorem among them was read as it is
 pub theorem_read : (w : Bool) (db : List Statement) (j : ℕ) (l : Token) (k : ℕ) (xs : List Token)

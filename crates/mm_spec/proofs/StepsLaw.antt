@@ -24,9 +24,9 @@ module _ (c : Context) where
   follows_good : (r : Option Rule) (ps : List Formula) (f : Formula) → HasCompleteFrame c r
       → Follows c r ps f
       → IsCompleteRule c r
-  follows_good None ps f fine h = h
-  follows_good (Some (hypothesis g)) ps f fine h = tt
-  follows_good (Some (assertion a)) ps f fine h = fine
+  follows_good None ps f all_complete h = h
+  follows_good (Some (hypothesis g)) ps f all_complete h = tt
+  follows_good (Some (assertion a)) ps f all_complete h = all_complete
 
   good_append : (xs ys : List ℕ) → AreGood c xs → AreGood c ys → AreGood c (xs ++ ys)
   good_append [] ys g h = h
@@ -36,8 +36,16 @@ module _ (c : Context) where
   pub forest_good : ((l : ℕ) → HasCompleteFrame c (c.rule l)) → (forest : Trees)
       → AreDerivations c forest
       → AreGood c (postfix forest)
-  forest_good fine none d = tt
-  forest_good fine (more ts l f cs) d = grind (arith, common_steps, follows_good, good_append, forest_good fine ts d.0, forest_good fine cs d.1)
+  forest_good all_complete none d = tt
+  forest_good all_complete (more ts l f cs) d =
+      grind (
+        arith,
+        common_steps,
+        follows_good,
+        good_append,
+        forest_good all_complete ts d.0,
+        forest_good all_complete cs d.1,
+      )
 
   after_at : (lists : List (List ℕ)) (ends : List Formula) (j : ℕ)
       → AllZip (EndsInFormula c) lists ends

@@ -75,7 +75,7 @@ followed [] p r e = (p, refl)
 followed (t ∷ ts) p r e =
     let x =
     by_transition (proves p r (class t.word)) (transition r (class t.word) t) e
-        (λ q b h. followed ts b q h) in
+    (λ q b h. followed ts b q h) in
     (x.0, follow_one p r t ts ∙ x.1)
   where
     by_transition : (b : Bool) (o : Transition)
@@ -129,12 +129,12 @@ first_unexpected (t ∷ ts) r f e =
       splits = ap (λ y. t ∷ y) x.splits;
       expected_before =
           ap (λ a. shape_fault_after a
-              (Some (fault t.at (shape_code (is_between_statements r) t.word)))
+          (Some (fault t.at (shape_code (is_between_statements r) t.word)))
           (λ q. shape_fault_from q x.before)) o
           ∙ x.expected_before;
       is_unexpected =
           ap (λ a. transition (progress_after a (λ q. progress_from q x.before) r)
-              (class x.first.word) x.first) o
+          (class x.first.word) x.first) o
           ∙ x.is_unexpected;
       is =
           x.is ∙ ap
@@ -150,12 +150,12 @@ first_unexpected (t ∷ ts) r f e =
       splits = ap (λ y. t ∷ y) x.splits;
       expected_before =
           ap (λ a. shape_fault_after a
-              (Some (fault t.at (shape_code (is_between_statements r) t.word)))
+          (Some (fault t.at (shape_code (is_between_statements r) t.word)))
           (λ q. shape_fault_from q x.before)) o
           ∙ x.expected_before;
       is_unexpected =
           ap (λ a. transition (progress_after a (λ q. progress_from q x.before) r)
-              (class x.first.word) x.first) o
+          (class x.first.word) x.first) o
           ∙ x.is_unexpected;
       is =
           x.is ∙ ap
@@ -209,7 +209,7 @@ shape_fault ts f e =
       begins = (begins_exact x.before).1 (state_of y.0 (progress_from (start 0) x.before), y.1);
       no_more =
           λ m. begins_no_list x.before x.first
-              (progress_from (start 0) x.before) y.0 y.1 x.is_unexpected m;
+          (progress_from (start 0) x.before) y.0 y.1 x.is_unexpected m;
       code =
           by_begins x.before x.first (progress_from (start 0) x.before) y.0 y.1 x.is
           (is_between_statements (progress_from (start 0) x.before)) refl;
@@ -274,11 +274,11 @@ ends_between ts d b e =
     subst (λ o. Reaches o ts) e (follow_reads ts [] (at_start 0) reads_none) in
     let whole : ts ≡ flat_map spelling_of x.statements =
     x.is ∙ ap (λ p. flat_map spelling_of x.statements ++ p) x.is_part
-        ∙ append-nil (flat_map spelling_of x.statements) in
+    ∙ append-nil (flat_map spelling_of x.statements) in
     let y = statements_read_at_start x.statements [] x.balanced.are_statements in
     let same : statements_of ts ≡ x.statements =
     ap statements_of (whole ∙ sym (append-nil (flat_map spelling_of x.statements))) ∙ y.2
-        ∙ append-nil x.statements in
+    ∙ append-nil x.statements in
     record {
       rest =
           λ r. append_cancel_left (flat_map spelling_of (statements_of ts)) r.rest []

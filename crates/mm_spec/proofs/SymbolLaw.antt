@@ -137,7 +137,7 @@ module _ (db : List Statement) where
       in_some_statement [] e = e
       in_some_statement (x ∷ xs) e =
           at_first_or_later
-              (or_cases (is_in w (constants_of x)) (list_any (λ s. is_in w (constants_of s)) xs) e)
+          (or_cases (is_in w (constants_of x)) (list_any (λ s. is_in w (constants_of s)) xs) e)
           (λ k. in_some_statement xs k)
         where
           at_first_or_later : (is_in w (constants_of x) ≡ true)

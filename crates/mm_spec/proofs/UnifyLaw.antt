@@ -16,8 +16,14 @@ same_equal [] [] e = refl
 same_equal [] (q ∷ qs) e = absurd (true≢false (sym e))
 same_equal (p ∷ ps) [] e = absurd (true≢false (sym e))
 same_equal (p ∷ ps) (q ∷ qs) e =
-    grind (arith, common_steps, and_parts, bytes_eq-Decides, same_equal ps qs
-        (and_parts (bytes_eq p q) (are_equal ps qs) e).1)
+    grind (
+      arith,
+      common_steps,
+      and_parts,
+      bytes_eq-Decides,
+      same_equal ps qs
+          (and_parts (bytes_eq p q) (are_equal ps qs) e).1,
+    )
 
 pub equal_same : (ps qs : List Formula) → ps ≡ qs → are_equal ps qs ≡ true
 equal_same ps qs e = subst (λ z. are_equal ps z ≡ true) e (equal_to_itself ps)
@@ -26,7 +32,7 @@ equal_same ps qs e = subst (λ z. are_equal ps z ≡ true) e (equal_to_itself ps
     equal_to_itself [] = refl
     equal_to_itself (x ∷ xs) =
         and_from (bytes_eq x x) (are_equal xs xs) ((bytes_eq-Decides x x).1 refl)
-            (equal_to_itself xs)
+        (equal_to_itself xs)
 
 module _ (c : Context) where
   binder_value : (σ : Substitution) (x : ℕ) (h : Formula) → binds c x h ≡ true

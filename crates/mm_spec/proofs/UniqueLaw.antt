@@ -96,7 +96,7 @@ module _ (c : Context) where
       → postfix r ≡ postfix s → r ≡ s
   unique r s d e good same =
       sym (is_built r d good) ∙ ap (λ x. build (x ++ []) none) same
-          ∙ is_built s e (subst (AreGood c) same good)
+      ∙ is_built s e (subst (AreGood c) same good)
     where
       is_built : (forest : Trees) → AreDerivations c forest → AreGood c (postfix forest)
           → build (postfix forest ++ []) none ≡ forest

@@ -98,7 +98,7 @@ IsWord_here : (text : List ℕ) (i : ℕ) → i < length text → begins_word te
     → IsWord text (word_at text i)
 IsWord_here text i h begins =
     IsWord_word_at text i h (begins_word_not_white text i begins)
-        (begins_word_boundary text i begins)
+    (begins_word_boundary text i begins)
 
 abbrev IsWordFrom : List ℕ → ℕ → Word → Type 0
 IsWordFrom text low w = IsWord text w × (low ≤ w.start)

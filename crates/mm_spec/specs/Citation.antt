@@ -46,10 +46,12 @@ abbrev pub reading_faults_at : List Statement → ℕ → List Fault
 reading_faults_at db k =
     elim (slice_get db k) [ Some (provable l p xs e ps d) ↦ reading_faults db k d ps | _ ↦ [] ]
 
+-- whether a statement is a `$p`
 abbrev pub is_theorem : Statement → Bool
 is_theorem (provable l k xs e ps d) = true
 is_theorem _ = false
 
+-- whether a statement is a `$a` or a `$p`
 abbrev pub is_assertion : Statement → Bool
 is_assertion (provable l k xs e ps d) = true
 is_assertion (axiomatic l k xs d) = true

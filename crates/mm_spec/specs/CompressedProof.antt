@@ -13,7 +13,8 @@ use Rattle.mm_spec.specs.declared.Code.TheVariants.{EmptyProof, IncompleteProof,
 use Rattle.mm_spec.specs.declared.Code.TheVariants.{BadLetter, OpenNumber, MarkBeforeStep}
 use Rattle.mm_spec.specs.declared.Code.TheVariants.{NumberTooLarge}
 
--- a compressed proof: the labels in brackets, and the words after the `)`, if there is one
+-- a compressed proof without its `(`: the labels in brackets, and the words after the `)`, if there
+-- is one
 pub record Compressed : Type 0 where
   pub labels : List Token
   pub letters : Option (List Token)
@@ -27,10 +28,12 @@ bracketed [] = record { labels = []; letters = None }
 bracketed (t ∷ ts) = elim (bytes_eq t.word (codes ")"))
     [ true ↦ record { labels = []; letters = Some ts } | false ↦ with_label t (bracketed ts) ]
 
+-- a letter with its place
 pub record Letter : Type 0 where
   pub at : ℕ
   pub byte : ℕ
 
+-- the letters of a word, which begins at the place
 abbrev pub letters_from : ℕ → Bytes → List Letter
 letters_from at [] = []
 letters_from at (b ∷ bs) = record { at = at; byte = b } ∷ letters_from (at + 1) bs
@@ -84,9 +87,9 @@ group_steps labels marks count (g ∷ gs) = elim (is_last g.last.byte) [
 ]
 
 -- The fault of a group: a number above all that have a meaning (E45), a `Z` within a number (E43)
--- or before the first one (E44), a `?` (E32), another byte (E42). The code of `Z` is 90, and that of
--- `?` is 63. `labels` says how many labels have numbers, `marks` how many `Z` come before the group, and
--- `count` how many other groups do.
+-- or before the first one (E44), a `?` (E32), another byte (E42). The code of `Z` is 90, and that
+-- of `?` is 63. `labels` says how many labels have numbers, `marks` how many `Z` come before the
+-- group, and `count` how many other groups do.
 abbrev pub group_fault : ℕ → ℕ → ℕ → Group → List Fault
 group_fault labels marks count g = elim (is_last g.last.byte) [
   | true ↦ at (starts_at g) (when (nat_lt (labels + marks) (value g)) NumberTooLarge)
@@ -98,6 +101,7 @@ group_fault labels marks count g = elim (is_last g.last.byte) [
   ]
 ]
 
+-- the faults of the groups, before which there are so many marks and other groups
 abbrev pub group_faults : ℕ → ℕ → ℕ → List Group → List Fault
 group_faults labels marks count [] = []
 group_faults labels marks count (g ∷ gs) =
@@ -112,6 +116,7 @@ letter_faults labels end [] = fault end EmptyProof ∷ []
 letter_faults labels end (x ∷ xs) = let g = groups [] (x ∷ xs) in
     group_faults labels 0 0 g.0 ++ at end (when (nat_lt 0 (length g.1)) OpenNumber)
 
+-- the letters of the words
 abbrev pub letters_of : List Token → List Letter
 letters_of ts = flat_map (λ t. letters_from t.at t.word) ts
 
@@ -123,6 +128,7 @@ compressed_faults db k end p = flat_map (proof_label_faults db k) p.labels ++ el
       (letters_of ts)
 ]
 
+-- the steps of a compressed proof
 abbrev pub compressed_steps : List Statement → ℕ → Compressed → List PlacedStep
 compressed_steps db k p = elim p.letters [
   | None ↦ []

@@ -20,7 +20,7 @@ reading_limit = text_limit + 1
 abbrev pub Gave : (unread_before unread_after : Option (List ℕ)) → List ℕ → Type 0
 Gave unread_before unread_after text =
     Consumes unread_before unread_after text
-        × (IsAtEnd unread_after ⊎ (length text ≡ reading_limit))
+    × (IsAtEnd unread_after ⊎ (length text ≡ reading_limit))
 
 -- What was written for a text that was read. `Accepted`: the text has no fault, and its output was
 -- written. `Refused`: the fault is its first one, and the refusal for it was written.

@@ -104,7 +104,7 @@ module _ (names : Names) where
   abbrev pub scope_faults : ℕ → Statement → List Fault
   scope_faults open_blocks (constants k xs d) =
       at k (when (nat_lt 0 open_blocks) ConstantInBlock)
-          ++ at d (when (is_empty xs) EmptyDeclaration)
+      ++ at d (when (is_empty xs) EmptyDeclaration)
       ++ at_each constant_codes [] xs
   scope_faults open_blocks (variables k xs d) =
       at d (when (is_empty xs) EmptyDeclaration) ++ at_each variable_codes [] xs

@@ -42,6 +42,7 @@ mark_at n [] = false
 mark_at zero (b ∷ bs) = b
 mark_at (suc n) (b ∷ bs) = mark_at n bs
 
+-- 1 for a marked cell, 0 for any other
 abbrev pub bit_of : Bool → ℕ
 bit_of true = 1
 bit_of false = 0
@@ -62,9 +63,11 @@ cells One marks = map digit_of marks
 cells Two marks =
     map (λ i. hex_digit (digit_at i marks)) (range_with_len 0 (div_ceil (length marks) 4))
 
+-- a theorem's line in the section `matrix`
 abbrev pub matrix_line : Form → Row → List ℕ
 matrix_line form r = line (r.label ++ 58 ∷ cells form r.marks)
 
+-- a theorem's line in the section `counts`
 abbrev pub count_line : Row → List ℕ
 count_line r = line (r.label ++ 58 ∷ decimal (count_by (λ b. b) r.marks))
 
@@ -82,9 +85,11 @@ separated (l ∷ m ∷ ls) = l ++ 32 ∷ separated (m ∷ ls)
 abbrev pub list_line : Bytes → List Bytes → List ℕ
 list_line label labels = line (label ++ 58 ∷ (decimal (length labels) ++ 58 ∷ separated labels))
 
+-- a column's line in the section `usage`
 abbrev pub usage_line : List Row → ℕ → Bytes → List ℕ
 usage_line rows column label = list_line label (map (λ r. r.label) (users column rows))
 
+-- a theorem's line in the section `citations`
 abbrev pub citation_line : CitingRow → List ℕ
 citation_line r = list_line r.label r.cited
 
@@ -147,6 +152,7 @@ after_line_feed_from n (b ∷ bs) = after_line_feed_from (if b == 10 then 0 else
 abbrev pub bytes_after_line_feed : List ℕ → ℕ
 bytes_after_line_feed bytes = after_line_feed_from 0 bytes
 
+-- a number below 100 in two digits
 abbrev pub two_digits : ℕ → List ℕ
 two_digits n = if length (decimal n) == 1 then 48 ∷ decimal n else decimal n
 

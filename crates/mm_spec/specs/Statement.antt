@@ -36,6 +36,7 @@ spelling_of (provable l k xs e ps d) =
 spelling_of (opening k) = token k (codes "${") ∷ []
 spelling_of (closing k) = token k (codes "$}") ∷ []
 
+-- the label of a statement, if it has one
 abbrev pub label_of : Statement → Option Token
 label_of (floating l k xs d) = Some l
 label_of (essential l k xs d) = Some l
@@ -43,6 +44,7 @@ label_of (axiomatic l k xs d) = Some l
 label_of (provable l k xs e ps d) = Some l
 label_of _ = None
 
+-- the symbols between the keyword and the next one
 abbrev pub symbols_of : Statement → List Token
 symbols_of (constants k xs d) = xs
 symbols_of (variables k xs d) = xs
@@ -53,6 +55,7 @@ symbols_of (axiomatic l k xs d) = xs
 symbols_of (provable l k xs e ps d) = xs
 symbols_of _ = []
 
+-- the words of a proof
 abbrev pub proof_of : Statement → List Token
 proof_of (provable l k xs e ps d) = ps
 proof_of _ = []

@@ -50,7 +50,7 @@ module _ (c : Context) where
   abbrev pub last_of : ℕ → List Formula → List Formula
   last_of n entries = drop (length entries - n) entries
 
--- why a step isn't one of a derivation: E34, E35, E36 and E39
+-- why a step fails: the faults E34, E35, E36 and E39
 pub data Reason : Type 0 where
   too_few unmatched not_disjoint too_long : Reason
 

@@ -12,6 +12,7 @@ pub data Class : Type 0 where
   constant_keyword variable_keyword disjoint_keyword floating_keyword essential_keyword
       axiom_keyword theorem_keyword equals dot open_block close_block plain other : Class
 
+-- a keyword with its class
 pub record ClassedWord : Type 0 where
   pub word : Bytes
   pub class : Class
@@ -39,9 +40,11 @@ abbrev pub lookup : List ClassedWord → Bytes → Class
 lookup [] w = other
 lookup (e ∷ es) w = elim (bytes_eq w e.word) [ true ↦ e.class | false ↦ lookup es w ]
 
+-- the class of a word that has a `$`
 abbrev pub keyword : Bytes → Class
 keyword w = lookup table w
 
+-- the class of a word
 abbrev pub class : Bytes → Class
 class w = elim (has_dollar w) [ true ↦ keyword w | false ↦ plain ]
 
@@ -69,6 +72,7 @@ abbrev pub label_transition : Bool → ℕ → Token → Transition
 label_transition true d t = continued (labelled d t)
 label_transition false d t = unexpected
 
+-- what a token does to what has been read, by its class
 abbrev pub transition : Progress → Class → Token → Transition
 transition (start d) constant_keyword t = continued (words d (constants t.at) [])
 transition (start d) variable_keyword t = continued (words d (variables t.at) [])
@@ -119,7 +123,7 @@ abbrev pub shape_fault_from : Progress → List Token → Option Fault
 shape_fault_from r [] = None
 shape_fault_from r (t ∷ ts) =
     shape_fault_after (transition r (class t.word) t)
-        (Some (fault t.at (shape_code (is_between_statements r) t.word)))
+    (Some (fault t.at (shape_code (is_between_statements r) t.word)))
     (λ q. shape_fault_from q ts)
 
 -- what was read, r, if the token is unexpected, otherwise what was read after the tokens behind it,

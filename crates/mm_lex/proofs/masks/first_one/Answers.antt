@@ -26,4 +26,4 @@ returns-else-rest-eq0-clause-zeros c =
 pub returns-else-rest-eq0-clause-one : goal.returns-else-rest-eq0-clause-one
 returns-else-rest-eq0-clause-one c lt =
     next_one c.args.mask c.args.from c.ranges.mask.fits (shifted_fits c)
-        (omega (arith, c.if-rest-eq0.false))
+    (omega (arith, c.if-rest-eq0.false))
