@@ -17,7 +17,6 @@ use Rattle.mm_spec.specs.Report.{cells, report, citation_report, line, refusal}
 use Rattle.mm_spec.specs.Request.{Request, plain}
 use Rattle.mm_spec.specs.declared.Form.{Form}
 use Rattle.mm_spec.specs.declared.Form.TheVariants.{One, Two}
-use Rattle.mm_spec.specs.declared.Choice.TheVariants.{All}
 use Rattle.mm_laws.proofs.ReaderLaw.{lexed, statements}
 use Rattle.mm_spec.specs.declared.Code.TheVariants.{OpenComment, BadByte, UnopenedBlock}
 use Rattle.mm_spec.specs.declared.Code.TheVariants.{ConstantInBlock, OtherTypecode, UntypedVariable}

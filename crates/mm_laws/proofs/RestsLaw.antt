@@ -20,7 +20,7 @@ use Rattle.std.specs.List.Sorted.{IsStrictlyIncreasing}
 use Rattle.mm_laws.proofs.RisingListsLaw.{list_of}
 use Rattle.mm_laws.specs.Laws.Cells.{IsDecided}
 use Rattle.mm_spec.proofs.ChainsLaw.{rests_step}
-use Rattle.mm_spec.proofs.FindsLaw.{found_at, inside_of}
+use Rattle.mm_spec.proofs.FindsLaw.{passing_statement, inside_of}
 use Rattle.mm_spec.proofs.CitedLaw.{cites_earlier, proof_theorem, proof_unique}
 use Rattle.mm_spec.proofs.NodesLaw.{node_labels, node_labels_are}
 
@@ -76,7 +76,8 @@ module _ (db : List Statement) (by_essential : Bool) (all_complete : AreComplete
 
       by_is_theorem : (b : Bool) → is_theorem_at db t ≡ b → IsDecided (Cites db by_essential t a)
       by_is_theorem true e =
-          let f = found_at db is_theorem t e in if_valid (valid t (inside_of db t f.0 f.1) e)
+          let f = passing_statement db is_theorem t e in
+          if_valid (valid t (inside_of db t f.0 f.1) e)
       by_is_theorem false e = (
         false,
         (

@@ -35,7 +35,7 @@ use Rattle.mm_laws.specs.Laws.NamedSteps.{StepsAreNamed, NamedStepsAreUnique}
 use Rattle.mm_laws.specs.Laws.NamedSteps.{StepsAreLabels}
 use Rattle.mm_spec.specs.declared.Code.TheVariants.{UnusableLabel}
 use Rattle.mm_spec.specs.declared.Code.TheVariants.{IncompleteProof}
-use Rattle.mm_spec.proofs.FindsLaw.{same_word, found_at, inside_of, declares}
+use Rattle.mm_spec.proofs.FindsLaw.{same_word, passing_statement, inside_of, declares}
 use Rattle.mm_spec.proofs.FaultlessLaw.{least_none, append_none, label_new}
 use Rattle.mm_spec.proofs.OpenedLaw.{counted_any}
 use Rattle.mm_spec.proofs.ListLaw.{get_none}
@@ -388,8 +388,8 @@ module _ (db : List Statement) (law : (k : ℕ) → k < length db → IsLawful d
 
   not_twice : (w : Bytes) (i j : ℕ) → i < j → HasLabel db w i → HasLabel db w j → ⊥
   not_twice w i j l h k =
-      let s = found_at db (is_labelled w) i h in
-      let t = found_at db (is_labelled w) j k in
+      let s = passing_statement db (is_labelled w) i h in
+      let t = passing_statement db (is_labelled w) j k in
       let fresh : is_in w (names_before db j).labels ≡ false =
       label_fresh (names_before db j) (depth db j) t.0 w (faultless j t.0 t.1) t.2 in
       true≢false (sym (declares label_words db j i s.0 w s.1 l (labelled_word s.0 w s.2)) ∙ fresh)
@@ -549,7 +549,8 @@ module _ (db : List Statement) (differ : LabelsDiffer db) where
         let groups_spell_letters : Spells (letters_in letters) (map item_of gs) =
         subst (λ bs. Spells bs (map item_of gs)) (letters_bytes letters)
         (groups_spell
-        (letters_of letters) [] label_count 0 0 tt letters_faultless.faultless letters_faultless.whole) in
+        (letters_of letters) [] label_count 0 0 tt letters_faultless.faultless
+        letters_faultless.whole) in
         let same : map item_of gs ≡ items =
         spelling_unique (letters_in letters)
         (map item_of gs) items groups_spell_letters letters_spell in

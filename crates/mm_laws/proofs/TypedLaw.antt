@@ -19,8 +19,8 @@ use Rattle.mm_laws.specs.Laws.Read.{WhereRead}
 use Rattle.mm_laws.specs.Laws.Frames.{IsTyping, VariablesAreTyped, is_in_frame}
 use Rattle.mm_laws.specs.Laws.Frames.{VariablesAreMandatory}
 use Rattle.mm_spec.proofs.FindsLaw.{any_flat_map, any_filter, member_filter, filter_member}
-use Rattle.mm_spec.proofs.FindsLaw.{found_at}
-use Rattle.mm_spec.proofs.FindsLaw.{at_found, found_active, active_found}
+use Rattle.mm_spec.proofs.FindsLaw.{passing_statement}
+use Rattle.mm_spec.proofs.FindsLaw.{statement_passes, passing_active, some_active_passes}
 use Rattle.mm_spec.proofs.FaultlessLaw.{has_formula}
 use Rattle.mm_spec.proofs.CompleteLaw.{Types, is_mandatory, is_mandatory_pair, mandatory_typed}
 use Rattle.mm_spec.proofs.CompleteLaw.{type_mandatory, of_formula, of_hypothesis, of_pair}
@@ -75,11 +75,11 @@ module _ (db : List Statement) (lawful : (k : ℕ) → k < length db → IsLawfu
       → is_member (mandatory_hypotheses db k) j ≡ true
   is_mandatory_hypothesis j a m =
       filter_member (is_mandatory db k) (active db k) j m
-      (active_found db k (λ i. j == i) j a (eq-eqb j j refl))
+      (some_active_passes db k (λ i. j == i) j a (eq-eqb j j refl))
 
   typed : VariablesAreTyped db k
   typed assertion x h =
-      let s = found_at db is_assertion k assertion in
+      let s = passing_statement db is_assertion k assertion in
       let t = mandatory_typed db lawful k x s.0 s.1 (assertion_has_formula s.0 s.2) h in (
         t.0,
         is_mandatory_hypothesis t.0 t.1 (type_mandatory db lawful k t.0 x t.2 h),
@@ -88,7 +88,7 @@ module _ (db : List Statement) (lawful : (k : ℕ) → k < length db → IsLawfu
     where
       is_typing : (i : ℕ) → Types db lawful i x → IsTyping db i x
       is_typing i t = record {
-        floats = at_found db is_floating i t.statement t.stands t.floats;
+        floats = statement_passes db is_floating i t.statement t.stands t.floats;
         typecode = t.typecode;
         is = t.is;
         constant = t.constant;
@@ -99,7 +99,7 @@ module _ (db : List Statement) (lawful : (k : ℕ) → k < length db → IsLawfu
       → in_formula x j ≡ true → in_hypotheses x ≡ true
   in_hypothesis x j a m h =
       any_filter (is_mandatory db k) (in_formula x) (active db k)
-      ∙ active_found db k (λ j. is_mandatory db k j && in_formula x j) j a
+      ∙ some_active_passes db k (λ j. is_mandatory db k j && in_formula x j) j a
       (and_from (is_mandatory db k j) (in_formula x j) m h)
 
   to_frame : (x : ℕ) → IsMandatory x
@@ -132,7 +132,7 @@ module _ (db : List Statement) (lawful : (k : ℕ) → k < length db → IsLawfu
           sym (any_flat_map (λ y. x == y) (formula_at db) essentials
           ∙ any_filter is_essential_at (in_formula x) (active db k))
           ∙ g in
-          let a = found_active db k (λ j. is_essential_at j && in_formula x j) has in
+          let a = passing_active db k (λ j. is_essential_at j && in_formula x j) has in
           or_right (in_formula x k) (in_hypotheses x || in_pairs x)
           (or_left (in_hypotheses x) (in_pairs x) (of_essential a.0 a.1 a.2))
 
@@ -155,7 +155,7 @@ module _ (db : List Statement) (lawful : (k : ℕ) → k < length db → IsLawfu
       in_hypotheses_or_pairs : (in_hypotheses x ≡ true) ⊎ (in_pairs x ≡ true) → IsMandatory x
       in_hypotheses_or_pairs (inl g) =
           let has = sym (any_filter (is_mandatory db k) (in_formula x) (active db k)) ∙ g in
-          let a = found_active db k (λ j. is_mandatory db k j && in_formula x j) has in
+          let a = passing_active db k (λ j. is_mandatory db k j && in_formula x j) has in
           let p = and_parts (is_mandatory db k a.0) (in_formula x a.0) a.2 in
           of_hypothesis db lawful k a.0 x a.1 p.0 p.1 v
       in_hypotheses_or_pairs (inr g) =

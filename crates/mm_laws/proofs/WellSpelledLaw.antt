@@ -468,7 +468,8 @@ module _ (db : List Statement) (differ : LabelsDiffer db) (k end : ℕ) where
             (no_bytes (letters_of p.letters)
             (letters_bytes p.letters ∙ subst (Spells (letters_in p.letters)) n letters_spell));
         numbers =
-            λ b a n e. let h = numbers_are_meaningful items label_count 0 0 are_meaningful b a n e in
+            λ b a n e.
+            let h = numbers_are_meaningful items label_count 0 0 are_meaningful b a n e in
             subst
             (λ ls. n ≤ length (mandatory_hypotheses db k) + length ls + count_by is_mark_item b)
             same (omega arith);

@@ -1,6 +1,6 @@
 -- The entry of an argument with a default has a text that passed the argument's parser.
 use Rattle.std.proofs.Common.{◌≡◌, ◌∙◌, ◌⊎◌, ◌<◌, ◌≤◌, inl, inr, ℕ, zero, suc, Bool, true, false}
-use Rattle.std.proofs.Common.{true≢false, ◌&&◌, refl, sym, ap, subst, arith, List, [], ◌∷◌, map}
+use Rattle.std.proofs.Common.{true≢false, refl, sym, ap, subst, arith, List, [], ◌∷◌, map}
 use Rattle.std.proofs.Common.{length, slice_index_or, Option, Some, None, option_map, slice_get}
 use Rattle.std.proofs.Common.{eqb-true}
 use Rattle.std.proofs.lemmas.List.{get_or-map}
@@ -235,5 +235,6 @@ module _ (c : Command) (m : ArgMatches) (p : IsParsedFrom c m)
             entry_by_id (EntryPasses p.built) (found_of m).entries.items id x.1
             (p.parsed (p.from.globals ∙ globals)).values is in
             reads first_value_found.0
-            ((bytes_eq-Decides first_value_found.0.0.now id).0 first_value_found.2) first_value_found.3
+            ((bytes_eq-Decides first_value_found.0.0.now id).0 first_value_found.2)
+                first_value_found.3
             (is ∙ ap (λ (y : MatchedArg). Some y) (sym first_value_found.1))

@@ -211,8 +211,11 @@ one_of_forms t h = by_first_form (or_cases (bytes_eq (codes "1") t) _ h)
 abbrev indices_of : Text → ℕ → List Rule → List ℕ
 indices_of id n [] = []
 indices_of id n (r ∷ rs) =
-    elim (bytes_eq r.id id) [ true ↦ n
-        ∷ indices_of id (suc n) rs | false ↦ indices_of id (suc n) rs ]
+    elim (bytes_eq r.id id) [
+      | true ↦ n
+          ∷ indices_of id (suc n) rs
+      | false ↦ indices_of id (suc n) rs
+    ]
 
 index_is_listed : (id : Text) (rs : List Rule) (d : Rule) (n j : ℕ) → j < length rs
     → bytes_eq (slice_index_or rs j d).id id ≡ true

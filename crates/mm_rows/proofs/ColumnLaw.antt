@@ -12,7 +12,7 @@ use Rattle.mm_spec.specs.Scope.{statement_at}
 use Rattle.mm_spec.specs.Citation.{is_assertion}
 use Rattle.mm_spec.specs.Output.{columns, has_typecode, is_column}
 use Rattle.mm_spec.specs.Frame.{symbol_names, index_of}
-use Rattle.mm_spec.proofs.FindsLaw.{found_at, statement_at_is, formula_at_is}
+use Rattle.mm_spec.proofs.FindsLaw.{passing_statement, statement_at_is, formula_at_is}
 use Rattle.mm_spec.proofs.FaultlessLaw.{index_of_get}
 use Rattle.mm_spec.proofs.BoolLaw.{passes_alone}
 use Rattle.mm_database.specs.Database.{typecode_of, is_labelled_kind, kind_of}
@@ -104,7 +104,7 @@ pub typecode_test : (db : List Statement) (k x : ℕ) (v w : Bytes)
     → list_any is_assertion (statement_at db k) ≡ true → typecode_of db k ≡ Some x
     → slice_get (symbol_names db) x ≡ Some v
     → bytes_eq v w ≡ list_any (has_typecode (Some w)) (statement_at db k)
-typecode_test db k x v w is e n = let f = found_at db is_assertion k is in by f.0 f.1 f.2
+typecode_test db k x v w is e n = let f = passing_statement db is_assertion k is in by f.0 f.1 f.2
   where
     -- a statement with a label, by its symbols
     labelled : (s : Statement) → slice_get db k ≡ Some s → is_labelled_kind (kind_of s) ≡ true

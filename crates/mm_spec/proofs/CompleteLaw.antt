@@ -26,8 +26,10 @@ use Rattle.mm_spec.specs.Lexed.{LexedText}
 use Rattle.mm_spec.proofs.LocalLaw.{scope_fault_front}
 use Rattle.mm_spec.proofs.FindsLaw.{any_flat_map, any_map, any_filter, member_filter}
 use Rattle.mm_spec.proofs.FindsLaw.{filter_member, each_member, each_map, each_any, each_filter}
-use Rattle.mm_spec.proofs.FindsLaw.{inside_of, formula_at_is, found_at, at_found, found_active}
-use Rattle.mm_spec.proofs.FindsLaw.{active_found, same_word, declared, declares, declared_before}
+use Rattle.mm_spec.proofs.FindsLaw.{inside_of, formula_at_is, passing_statement, statement_passes}
+use Rattle.mm_spec.proofs.FindsLaw.{passing_active}
+use Rattle.mm_spec.proofs.FindsLaw.{some_active_passes, same_word, declaring_statement, declares}
+use Rattle.mm_spec.proofs.FindsLaw.{declared_before}
 use Rattle.mm_spec.proofs.FaultlessLaw.{least_none, not_constant_and_variable, new_constant}
 use Rattle.mm_spec.proofs.FaultlessLaw.{new_variable}
 use Rattle.mm_spec.proofs.FaultlessLaw.{has_formula}
@@ -60,8 +62,8 @@ module _ (db : List Statement) (lawful : (k : ℕ) → k < length db → IsLawfu
   pub constant_apart : (w : Bytes) → is_in w (flat_map constants_of db) ≡ true
       → is_in w (flat_map variables_of db) ≡ true → ⊥
   constant_apart w c v =
-      let a = declared constants_of db w c in
-      let b = declared variables_of db w v in
+      let a = declaring_statement constants_of db w c in
+      let b = declaring_statement variables_of db w v in
       by_order a.0 b.0 a.1 b.1 a.2 b.2 a.3 b.3 (cases_order a.0 b.0)
     where
       by_order : (i j : ℕ) (s t : Statement) → slice_get db i ≡ Some s → slice_get db j ≡ Some t
@@ -136,11 +138,11 @@ module _ (db : List Statement) (lawful : (k : ℕ) → k < length db → IsLawfu
       of_known_word w is v (inr t) =
           let q : Typing → Bool = λ (t : Typing). bytes_eq w t.variable in
           let a =
-          found_active db j (λ i. list_any (λ s. list_any q (typings_of s)) (statement_at db i))
+          passing_active db j (λ i. list_any (λ s. list_any q (typings_of s)) (statement_at db i))
           (sym (any_flat_map q typings_of (active_statements db j)
           ∙ any_flat_map (λ s. list_any q (typings_of s)) (statement_at db) (active db j))
           ∙ t) in
-          let s = found_at db (λ s. list_any q (typings_of s)) a.0 a.2 in
+          let s = passing_statement db (λ s. list_any q (typings_of s)) a.0 a.2 in
           let y = typing a.0 s.0 s.1 (typing_floats q s.0 s.2) in
           (a.0, a.1, at_word a.0 x w y.0 y.1 (y.2 w s.2) is)
 
@@ -163,12 +165,12 @@ module _ (db : List Statement) (lawful : (k : ℕ) → k < length db → IsLawfu
       in_formula_or_essential v (inr h) =
           let kind : ℕ → Bool = λ (j : ℕ). list_any is_essential (statement_at db j) in
           let a =
-          found_active db k (λ j. kind j && is_member (formula_at db j) x)
+          passing_active db k (λ j. kind j && is_member (formula_at db j) x)
           (sym (any_flat_map (λ y. x == y) (formula_at db) (active_of is_essential db k)
           ∙ any_filter kind (λ j. is_member (formula_at db j) x) (active db k))
           ∙ h) in
           let p = and_parts (kind a.0) (is_member (formula_at db a.0) x) a.2 in
-          let t = found_at db is_essential a.0 p.0 in
+          let t = passing_statement db is_essential a.0 p.0 in
           let y = typed a.0 x t.0 t.1 (essential_formula t.0 t.2) p.1 v in (
             y.0,
             still_active db y.0 a.0 k y.2.statement t.0 y.2.stands
@@ -185,7 +187,8 @@ module _ (db : List Statement) (lawful : (k : ℕ) → k < length db → IsLawfu
   -- the `$f` of a mandatory variable is mandatory
   pub type_mandatory : (k i x : ℕ) → Types i x → is_member (mandatory_variables db k) x ≡ true
       → is_mandatory db k i ≡ true
-  type_mandatory k i x t h = grind (arith, common_steps, and_from, at_found, or_left, or_right)
+  type_mandatory k i x t h =
+      grind (arith, common_steps, and_from, statement_passes, or_left, or_right)
 
   -- each variable of the formula is mandatory
   pub of_formula : (k x : ℕ) → is_member (formula_at db k) x ≡ true → is_variable_number db x ≡ true
@@ -209,7 +212,7 @@ module _ (db : List Statement) (lawful : (k : ℕ) → k < length db → IsLawfu
       among_essential g =
           any_flat_map (λ y. x == y) (formula_at db) (active_of is_essential db k)
           ∙ any_filter is_essential_at (λ i. is_member (formula_at db i) x) (active db k)
-          ∙ active_found db k (λ i. is_essential_at i && is_member (formula_at db i) x) j a
+          ∙ some_active_passes db k (λ i. is_essential_at i && is_member (formula_at db i) x) j a
           (and_from (is_essential_at j) (is_member (formula_at db j) x) g h)
 
       is_its_variable : (y : ℕ) → Types j y → x ≡ y
@@ -261,7 +264,7 @@ module _ (db : List Statement) (lawful : (k : ℕ) → k < length db → IsLawfu
           let p =
           and_parts (list_any is_floating (statement_at db j))
           (list_any (is_member (mandatory_variables db k)) (formula_at db j)) g in
-          let s = found_at db is_floating j p.0 in
+          let s = passing_statement db is_floating j p.0 in
           let y = typing j s.0 s.1 s.2 in
           mandatory_if_typed (index_of y.0 (symbol_names db)) y.1 p.1
 
@@ -283,7 +286,7 @@ module _ (db : List Statement) (lawful : (k : ℕ) → k < length db → IsLawfu
         any_map (binds (context_at db m) x) (formula_at db) (mandatory_hypotheses db k)
         ∙ any_filter (is_mandatory db k) (λ j. binds (context_at db m) x (formula_at db j))
         (active db k)
-        ∙ active_found db k
+        ∙ some_active_passes db k
         (λ j. is_mandatory db k j && binds (context_at db m) x (formula_at db j)) j a
         (and_from (is_mandatory db k j) (binds (context_at db m) x (formula_at db j)) t b)
 

@@ -129,25 +129,26 @@ pub formula_at_is : (db : List Statement) (i : ℕ) (s : Statement) → slice_ge
 formula_at_is db i s e =
     ap (flat_map (formula_of db)) (statement_at_is db i s e) ∙ append-nil (formula_of db s)
 
-pub found_at : (db : List Statement) (q : Statement → Bool) (i : ℕ)
+pub passing_statement : (db : List Statement) (q : Statement → Bool) (i : ℕ)
     → list_any q (statement_at db i) ≡ true
     → (s : Statement) × (slice_get db i ≡ Some s) × (q s ≡ true)
-found_at db q i e = grind (arith, common_steps, passes_alone)
+passing_statement db q i e = grind (arith, common_steps, passes_alone)
 
-pub at_found : (db : List Statement) (q : Statement → Bool) (i : ℕ) (s : Statement)
+pub statement_passes : (db : List Statement) (q : Statement → Bool) (i : ℕ) (s : Statement)
     → slice_get db i ≡ Some s → q s ≡ true → list_any q (statement_at db i) ≡ true
-at_found db q i s e h = ap (list_any q) (statement_at_is db i s e) ∙ or_left (q s) false h
+statement_passes db q i s e h = ap (list_any q) (statement_at_is db i s e) ∙ or_left (q s) false h
 
 pub is_before : (db : List Statement) (i k : ℕ) → is_active db i k ≡ true → i < k
 is_before db i k e = ltb-true i k (and_parts _ _ e).0
 
-pub found_active : (db : List Statement) (k : ℕ) (q : ℕ → Bool) → list_any q (active db k) ≡ true
+pub passing_active : (db : List Statement) (k : ℕ) (q : ℕ → Bool) → list_any q (active db k) ≡ true
     → (i : ℕ) × (is_active db i k ≡ true) × (q i ≡ true)
-found_active db k q e = grind (arith, common_steps, and_parts, any_filter, any_range)
+passing_active db k q e = grind (arith, common_steps, and_parts, any_filter, any_range)
 
-pub active_found : (db : List Statement) (k : ℕ) (q : ℕ → Bool) (i : ℕ) → is_active db i k ≡ true
+pub some_active_passes : (db : List Statement) (k : ℕ) (q : ℕ → Bool) (i : ℕ)
+    → is_active db i k ≡ true
     → q i ≡ true → list_any q (active db k) ≡ true
-active_found db k q i a e =
+some_active_passes db k q i a e =
     let l = is_before db i k a in
     any_filter (λ i. is_active db i k) q (range_with_len 0 k)
     ∙ range_any (λ i. is_active db i k && q i) k 0 i (omega arith) (omega arith)
@@ -159,13 +160,14 @@ pub same_word : (v w : Bytes) → bytes_eq v w ≡ true → v ≡ w
 same_word v w e = (bytes_eq-Decides v w).0 e
 
 -- what declares a word
-pub declared : (f : Statement → List Bytes) (db : List Statement) (w : Bytes)
+pub declaring_statement : (f : Statement → List Bytes) (db : List Statement) (w : Bytes)
     → is_in w (flat_map f db) ≡ true
     → (i : ℕ) × (s : Statement) × (slice_get db i ≡ Some s) × (is_in w (f s) ≡ true)
-declared f [] w e = absurd (true≢false (sym e))
-declared f (x ∷ db) w e =
+declaring_statement f [] w e = absurd (true≢false (sym e))
+declaring_statement f (x ∷ db) w e =
     in_first_or_later (or_cases (is_in w (f x)) (is_in w (flat_map f db))
-    (sym (list_any-append (bytes_eq w) (f x) (flat_map f db)) ∙ e)) (λ h. declared f db w h)
+    (sym (list_any-append (bytes_eq w) (f x) (flat_map f db)) ∙ e))
+    (λ h. declaring_statement f db w h)
   where
     in_first_or_later : (is_in w (f x) ≡ true) ⊎ (is_in w (flat_map f db) ≡ true)
         → (is_in w (flat_map f db) ≡ true

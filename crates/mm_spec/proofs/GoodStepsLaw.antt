@@ -30,7 +30,7 @@ use Rattle.mm_spec.specs.declared.Code.TheVariants.{NumberTooLarge, IncompletePr
 use Rattle.mm_spec.specs.declared.Code.TheVariants.{BadLetter}
 use Rattle.mm_spec.specs.Laws.Stack.{IsCompleteRule, AreGoodSteps, IsGoodStep}
 use Rattle.mm_spec.proofs.CompleteLaw.{is_mandatory}
-use Rattle.mm_spec.proofs.FindsLaw.{each_any, each_filter, found_at}
+use Rattle.mm_spec.proofs.FindsLaw.{each_any, each_filter, passing_statement}
 use Rattle.mm_spec.proofs.FaultlessLaw.{append_none, at_none, when_none}
 use Rattle.mm_spec.proofs.ListLaw.{get_none}
 
@@ -100,7 +100,9 @@ module _ (db : List Statement) (k : ℕ)
   good_label j s a e h = grind (arith, common_steps)
 
   usable_good : (w : Bytes) → AllByRecursion IsGoodLabel (usable db k w)
-  usable_good w = grind (arith, common_steps, and_parts, each_any, each_filter, found_at, good_label, labelled_rule)
+  usable_good w =
+      grind (arith, common_steps, and_parts, each_any, each_filter, passing_statement, good_label,
+          labelled_rule)
 
   mandatory_good : AllByRecursion IsGoodLabel (mandatory_hypotheses db k)
   mandatory_good =
@@ -123,11 +125,11 @@ module _ (db : List Statement) (k : ℕ)
               ≡ true)
               → IsGoodLabel j
           by_kind (inl h) =
-              let s = found_at db is_essential j h in
+              let s = passing_statement db is_essential j h in
               good_label j s.0 a s.1 (essential_rule s.0 s.2)
           by_kind (inr h) =
               let s =
-              found_at db is_floating j
+              passing_statement db is_floating j
               (and_parts (list_any is_floating (statement_at db j))
               (list_any (is_member (mandatory_variables db k)) (formula_at db j)) h).0 in
               good_label j s.0 a s.1 (floating_rule s.0 s.2)

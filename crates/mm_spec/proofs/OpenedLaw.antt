@@ -28,7 +28,7 @@ use Rattle.mm_spec.specs.Frame.{frame_at}
 use Rattle.mm_spec.specs.Citation.{rule_of, rule_at, context_at, is_theorem}
 use Rattle.mm_spec.specs.Laws.Complete.{HasCompleteFrame, AreComplete}
 use Rattle.mm_spec.specs.Output.{label_at}
-use Rattle.mm_spec.proofs.FindsLaw.{any_map, found_at, at_found}
+use Rattle.mm_spec.proofs.FindsLaw.{any_map, passing_statement, statement_passes}
 
 -- ---- one statement
 
@@ -332,4 +332,5 @@ theorem_read true db j l k xs e ps d h = grind (arith, common_steps, got_axiom)
 pub theorem_still : (w : Bool) (db : List Statement) (j : ℕ)
     → list_any is_theorem (statement_at (counted w db) j) ≡ true
     → list_any is_theorem (statement_at db j) ≡ true
-theorem_still w db j h = grind (arith, common_steps, at_found, found_at, theorem_read)
+theorem_still w db j h =
+    grind (arith, common_steps, statement_passes, passing_statement, theorem_read)

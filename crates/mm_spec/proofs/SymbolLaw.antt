@@ -17,7 +17,8 @@ use Rattle.mm_spec.specs.Lawful.{IsLawful}
 use Rattle.mm_spec.specs.declared.Code.TheVariants.{UndeclaredSymbol, UntypedVariable, BadTypecode}
 use Rattle.mm_spec.specs.declared.Code.TheVariants.{BadFloating, TooFewVariables}
 use Rattle.mm_spec.specs.declared.Code.TheVariants.{UndeclaredVariable, RepeatedVariable}
-use Rattle.mm_spec.proofs.FindsLaw.{any_flat_map, inside_of, found_at, found_active, same_word}
+use Rattle.mm_spec.proofs.FindsLaw.{any_flat_map, inside_of, passing_statement, passing_active}
+use Rattle.mm_spec.proofs.FindsLaw.{same_word}
 use Rattle.mm_spec.proofs.FindsLaw.{declares, declared_before}
 use Rattle.mm_spec.proofs.FaultlessLaw.{least_none, append_none, at_none, when_none}
 use Rattle.mm_spec.proofs.FaultlessLaw.{each_none}
@@ -176,11 +177,11 @@ module _ (db : List Statement) where
       by_naming (constant h) = constants_declared w (declared_before constants_of db k w h)
       by_naming (variable h) =
           let f =
-          found_active db k (λ i. list_any (λ s. is_in w (variables_of s)) (statement_at db i))
+          passing_active db k (λ i. list_any (λ s. is_in w (variables_of s)) (statement_at db i))
           (sym (any_flat_map (bytes_eq w) variables_of (active_statements db k)
           ∙ any_flat_map (λ s. is_in w (variables_of s)) (statement_at db) (active db k))
           ∙ h) in
-          let g = found_at db (λ s. is_in w (variables_of s)) f.0 f.2 in
+          let g = passing_statement db (λ s. is_in w (variables_of s)) f.0 f.2 in
           own_declared f.0 g.0 w g.1
           (list_any-append (bytes_eq w) (constants_of g.0) (variables_of g.0)
           ∙ or_right (is_in w (constants_of g.0)) (is_in w (variables_of g.0)) g.2)

@@ -57,7 +57,7 @@ flag_more ps qs p q j old_flags is_appended not_marked repeats_j j_within same_s
         ≡ (is_marked (placed_steps ps) i || (i == j))
     marked_now =
         ap (λ z. is_marked z i) (placed_steps_set qs j q same_step)
-            ∙ ap (λ z. is_marked (placed_steps z) i) is_appended
+        ∙ ap (λ z. is_marked (placed_steps z) i) is_appended
         ∙ marked_by_one_more ps p i
         ∙ ap (λ s. is_marked (placed_steps ps) i || takes_up i s) repeats_j
 

@@ -16,8 +16,8 @@ returns-then-is_some-2 g c p =
     let text = c.args.text.now in
     let word = c.in-Some.found.word in
     let next =
-    same_next _ text c.loop-found.scanner.from c.next_word.new.self.from c.args.to word before.same_text
-    c.in-Some.ensures.words in
+    same_next _ text c.loop-found.scanner.from c.next_word.new.self.from c.args.to word
+    before.same_text c.in-Some.ensures.words in
     let all =
     go_on_next text _ (side_reading p (side c.loop-found.self)) _ word _ _
     (before.same_reading p) next
@@ -33,8 +33,8 @@ loop-found-preserved-else-is_some-2 g c =
     let text = c.args.text.now in
     let word = c.in-Some.found.word in
     let next =
-    same_next _ text c.loop-found.scanner.from c.next_word.new.self.from c.args.to word before.same_text
-    c.in-Some.ensures.words in
+    same_next _ text c.loop-found.scanner.from c.next_word.new.self.from c.args.to word
+    before.same_text c.in-Some.ensures.words in
     record {
       same_text = c.in-Some.ensures.text ∙ before.same_text;
       no_fault = none_from _ (sym c.is_some-then-not-found.ensures ∙ c.if-is_some-2.false);
@@ -75,8 +75,8 @@ loop-found-preserved g c =
     let text = c.args.text.now in
     let word = c.in-Some.found.word in
     let next =
-    same_next _ text c.loop-found.scanner.from c.next_word.new.self.from c.args.to word before.same_text
-    c.in-Some.ensures.words in
+    same_next _ text c.loop-found.scanner.from c.next_word.new.self.from c.args.to word
+    before.same_text c.in-Some.ensures.words in
     let plain =
     subst (λ (t : List ℕ). IsPlainWord (bytes_of t word)) before.same_text
     (c.in-Some.ensures.plain (not-false _ c.if-not-found.false)) in

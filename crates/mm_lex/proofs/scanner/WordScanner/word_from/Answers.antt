@@ -73,7 +73,8 @@ loop-stop-preserved-then-is_plain c =
           (λ i low high. found.ensures.zeros i (omega arith) high)
           (λ i lt inside _. white_zero b.text.now b.base b.white b.white_is i lt inside);
       ends = found.ensures.one;
-      plain = λ known_plain. let same = eqb-true c.first_one-then-is_plain.result found.result known_plain in
+      plain = λ known_plain.
+          let same = eqb-true c.first_one-then-is_plain.result found.result known_plain in
           run_on (λ t i. plain_at t i ≡ true) b.text.now text b.stops c.args.start b.base b.base
           found.result c.at-scanner.ensures.text (omega arith) found.ensures.up_to
           (λ i low high within. before.plain c.if-is_plain.true i low (omega (arith, base)) within)
