@@ -10,70 +10,78 @@ use lib.Bits.{bit_or, bit_xor}
 use lib.Lanes.{zip2, mask_l, top, Each1}
 use mir.Val.{bool_byte}
 
-abbrev pub hit : ℕ → ℕ → ℕ
-hit a b = cond (eqb a b) 255 0
+-- what a lane gets where two vectors are compared: all bits if the bytes are equal, otherwise none
+abbrev pub equal_lane : ℕ → ℕ → ℕ
+equal_lane a b = cond (eqb a b) 255 0
 
-abbrev pub below : ℕ → ℕ → ℕ
-below a b = cond (ltb a b) 255 0
+-- the same for: the first byte is less
+abbrev pub less_lane : ℕ → ℕ → ℕ
+less_lane a b = cond (ltb a b) 255 0
 
-abbrev pub upto : (ℕ → Bool) → ℕ → Bool
-upto p zero = true
-upto p (suc n) = p n && upto p n
+-- whether the test passes for each number below n
+abbrev pub all_below : (ℕ → Bool) → ℕ → Bool
+all_below p zero = true
+all_below p (suc n) = p n && all_below p n
 
 pub at_most_one : (b : Bool) → bool_byte b ≤ 1
 at_most_one false = omega arith
 at_most_one true = omega arith
 
-both : (a b : Bool) → T (a && b) → T a × T b
-both true b h = (tt, h)
-both false b h = absurd h
+both_true : (a b : Bool) → T (a && b) → T a × T b
+both_true true b h = (tt, h)
+both_true false b h = absurd h
 
-upto_sound : (p : ℕ → Bool) (n : ℕ) → T (upto p n) → (i : ℕ) → i < n → T (p i)
-upto_sound p zero h i lt = absurd (not-suc-le-zero lt)
-upto_sound p (suc n) h i lt = go (upto_sound p n (both (p n) (upto p n) h).1 i) (cases_order i n)
+all_below_each : (p : ℕ → Bool) (n : ℕ) → T (all_below p n) → (i : ℕ) → i < n → T (p i)
+all_below_each p zero h i lt = absurd (not-suc-le-zero lt)
+all_below_each p (suc n) h i lt =
+    by_order (all_below_each p n (both_true (p n) (all_below p n) h).1 i) (cases_order i n)
   where
-    go : (i < n → T (p i)) → (i ≡ n) ⊎ ((i < n) ⊎ (n < i)) → T (p i)
-    go below (inl e) = subst (λ x. T (p x)) (sym e) (both (p n) (upto p n) h).0
-    go below (inr (inl l)) = below l
-    go below (inr (inr g)) = let no : ⊥ = omega arith in absurd no
+    by_order : (i < n → T (p i)) → (i ≡ n) ⊎ ((i < n) ⊎ (n < i)) → T (p i)
+    by_order of_the_rest (inl e) =
+        subst (λ x. T (p x)) (sym e) (both_true (p n) (all_below p n) h).0
+    by_order of_the_rest (inr (inl l)) = of_the_rest l
+    by_order of_the_rest (inr (inr g)) = let never : ⊥ = omega arith in absurd never
 
-abbrev pub same : Bool → Bool → Bool
-same true b = b
-same false true = false
-same false false = true
+-- whether two truth values are the same
+abbrev pub are_equal : Bool → Bool → Bool
+are_equal true b = b
+are_equal false true = false
+are_equal false false = true
 
-same_is : (a b : Bool) → T (same a b) → a ≡ b
-same_is true true h = refl
-same_is false false h = refl
-same_is true false h = absurd h
-same_is false true h = absurd h
+are_equal_is : (a b : Bool) → T (are_equal a b) → a ≡ b
+are_equal_is true true h = refl
+are_equal_is false false h = refl
+are_equal_is true false h = absurd h
+are_equal_is false true h = absurd h
 
-each_byte : (f : ℕ → ℕ) (p : ℕ → Bool) → T (upto (λ x. same (top 7 (f x)) (p x)) 256) → (v : List ℕ)
-    → Each1 (Fits w8) v → map (top 7) (map f v) ≡ map p v
+each_byte : (f : ℕ → ℕ) (p : ℕ → Bool) → T (all_below (λ x. are_equal (top 7 (f x)) (p x)) 256)
+    → (lanes : List ℕ)
+    → Each1 (Fits w8) lanes → map (top 7) (map f lanes) ≡ map p lanes
 each_byte f p all [] fits = refl
 each_byte f p all (x ∷ xs) fits =
     ap₂ (λ a b. a ∷ b)
-    (same_is _ _ (upto_sound (λ y. same (top 7 (f y)) (p y)) 256 all x fits.0.fits))
+    (are_equal_is _ _ (all_below_each (λ y. are_equal (top 7 (f y)) (p y)) 256 all x fits.0.fits))
     (each_byte f p all xs fits.1)
 
 -- The mask of a vector that is f of each lane, where the top bit of f x is p x at each of the 256
 -- bytes.
-pub masked : (f : ℕ → ℕ) (p : ℕ → Bool) (v z : List ℕ) → length v ≤ 64 → Each1 (Fits w8) v
-    → z ≡ map f v → T (upto (λ x. same (top 7 (f x)) (p x)) 256)
-    → mask_l (map (top 7) z) % 2 ^ 64 ≡ mask_l (map p v)
-masked f p v z short fits e all =
-    ap (λ l. mask_l l % 2 ^ 64) (ap (map (top 7)) e ∙ each_byte f p all v fits)
-    ∙ mask_l-mod (map p v) 64 (omega (arith, length-map v p))
+pub mask_of_lanes : (f : ℕ → ℕ) (p : ℕ → Bool) (lanes mask_lanes : List ℕ) → length lanes ≤ 64
+    → Each1 (Fits w8) lanes
+    → mask_lanes ≡ map f lanes → T (all_below (λ x. are_equal (top 7 (f x)) (p x)) 256)
+    → mask_l (map (top 7) mask_lanes) % 2 ^ 64 ≡ mask_l (map p lanes)
+mask_of_lanes f p lanes mask_lanes short fits e all =
+    ap (λ l. mask_l l % 2 ^ 64) (ap (map (top 7)) e ∙ each_byte f p all lanes fits)
+    ∙ mask_l-mod (map p lanes) 64 (omega (arith, length-map lanes p))
 
 -- Two vectors that were computed lane by lane, by `|`.
-pub either : (f g : ℕ → ℕ) (v : List ℕ) {a b : List ℕ} → a ≡ map f v → b ≡ map g v
-    → zip2 bit_or a b ≡ map (λ x. bit_or (f x) (g x)) v
-either f g v p q = zip2_of_maps bit_or f g v p q
+pub lanes_or : (f g : ℕ → ℕ) (lanes : List ℕ) {a b : List ℕ} → a ≡ map f lanes → b ≡ map g lanes
+    → zip2 bit_or a b ≡ map (λ x. bit_or (f x) (g x)) lanes
+lanes_or f g lanes p q = zip2_of_maps bit_or f g lanes p q
 
 -- The same, by `^`.
-pub one_of : (f g : ℕ → ℕ) (v : List ℕ) {a b : List ℕ} → a ≡ map f v → b ≡ map g v
-    → zip2 bit_xor a b ≡ map (λ x. bit_xor (f x) (g x)) v
-one_of f g v p q = zip2_of_maps bit_xor f g v p q
+pub lanes_xor : (f g : ℕ → ℕ) (lanes : List ℕ) {a b : List ℕ} → a ≡ map f lanes → b ≡ map g lanes
+    → zip2 bit_xor a b ≡ map (λ x. bit_xor (f x) (g x)) lanes
+lanes_xor f g lanes p q = zip2_of_maps bit_xor f g lanes p q
 
 -- The bytes after others add nothing to their mask where they aren't in the set.
 pub mask_padded : (p : ℕ → Bool) (bytes : List ℕ) (n b : ℕ) → p b ≡ false

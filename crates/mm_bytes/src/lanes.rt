@@ -6,41 +6,45 @@ ghost use Rattle.mm_bytes.specs.Masks.{is_bad, mask};
 
 use std::simd::prelude::*;
 
+/// The white-space bytes, a bit each: bit i is lane i. 0x0C is the form feed.
 #[inline(always)]
-pub fn white_mask(v: u8x64) -> u64
-    ensures { result ≡ mask is_white v }
+pub fn white_mask(lanes: u8x64) -> u64
+    ensures { result ≡ mask is_white lanes }
 {
-    (v.simd_eq(u8x64::splat(b' '))
-        | v.simd_eq(u8x64::splat(b'\n'))
-        | v.simd_eq(u8x64::splat(b'\t'))
-        | v.simd_eq(u8x64::splat(0x0C))
-        | v.simd_eq(u8x64::splat(b'\r'))).to_bitmask()
+    (lanes.simd_eq(u8x64::splat(b' '))
+        | lanes.simd_eq(u8x64::splat(b'\n'))
+        | lanes.simd_eq(u8x64::splat(b'\t'))
+        | lanes.simd_eq(u8x64::splat(0x0C))
+        | lanes.simd_eq(u8x64::splat(b'\r'))).to_bitmask()
 }
 
+/// The bytes that are neither white space nor printable, a bit each. 0x0C is the form feed.
 #[inline(always)]
-pub fn bad_mask(v: u8x64) -> u64
-    ensures { result ≡ mask is_bad v }
+pub fn bad_mask(lanes: u8x64) -> u64
+    ensures { result ≡ mask is_bad lanes }
 {
-    let white = v.simd_eq(u8x64::splat(b' '))
-        | v.simd_eq(u8x64::splat(b'\n'))
-        | v.simd_eq(u8x64::splat(b'\t'))
-        | v.simd_eq(u8x64::splat(0x0C))
-        | v.simd_eq(u8x64::splat(b'\r'));
-    let unprintable = v.simd_lt(u8x64::splat(b'!')) | v.simd_gt(u8x64::splat(b'~'));
+    let white = lanes.simd_eq(u8x64::splat(b' '))
+        | lanes.simd_eq(u8x64::splat(b'\n'))
+        | lanes.simd_eq(u8x64::splat(b'\t'))
+        | lanes.simd_eq(u8x64::splat(0x0C))
+        | lanes.simd_eq(u8x64::splat(b'\r'));
+    let unprintable = lanes.simd_lt(u8x64::splat(b'!')) | lanes.simd_gt(u8x64::splat(b'~'));
     // White space is unprintable, so this leaves the unprintable bytes that aren't white space.
     (unprintable ^ white).to_bitmask()
 }
 
+/// The line feeds, a bit each.
 #[inline(always)]
-pub fn lf_mask(v: u8x64) -> u64
-    ensures { result ≡ mask (λ b. b == 0x0A) v }
+pub fn lf_mask(lanes: u8x64) -> u64
+    ensures { result ≡ mask (λ b. b == 0x0A) lanes }
 {
-    v.simd_eq(u8x64::splat(b'\n')).to_bitmask()
+    lanes.simd_eq(u8x64::splat(b'\n')).to_bitmask()
 }
 
+/// The dollar signs, a bit each.
 #[inline(always)]
-pub fn dollar_mask(v: u8x64) -> u64
-    ensures { result ≡ mask (λ b. b == 0x24) v }
+pub fn dollar_mask(lanes: u8x64) -> u64
+    ensures { result ≡ mask (λ b. b == 0x24) lanes }
 {
-    v.simd_eq(u8x64::splat(b'$')).to_bitmask()
+    lanes.simd_eq(u8x64::splat(b'$')).to_bitmask()
 }

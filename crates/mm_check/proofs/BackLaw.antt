@@ -6,7 +6,7 @@ use Rattle.std.proofs.lemmas.Bool.{cases_lt, or_cases, or_left, or_right, eqb-fa
 use Rattle.std.proofs.lemmas.List.{get_or_append_left, get_or-append-add, get_or-set_same}
 use Rattle.std.proofs.lemmas.List.{get_or-set_other, length-set}
 use Rattle.mm_spec.specs.Derivation.{Formula, Trees, none, more, tree}
-use Rattle.mm_spec.specs.Nodes.{size, HasNode, each_place}
+use Rattle.mm_spec.specs.Nodes.{tree_count, HasNode, each_root}
 use Rattle.mm_spec.specs.Steps.{Step, label, marked}
 use Rattle.mm_spec.proofs.UniqueLaw.{◌⧺◌}
 use Rattle.mm_check.specs.Flags.{wanted_flags}
@@ -18,7 +18,7 @@ flag_at flags n = get_or flags n false
 
 -- ---- nodes of rows
 
-pub size_join : (ts us : Trees) → size (ts ⧺ us) ≡ size ts + size us
+pub size_join : (ts us : Trees) → tree_count (ts ⧺ us) ≡ tree_count ts + tree_count us
 size_join ts none = omega arith
 size_join ts (more us l f cs) = omega (arith, size_join ts us)
 
@@ -27,35 +27,36 @@ module _ (counts : ℕ → ℕ → Bool) where
   some_place : (p : ℕ → Bool) (ts : Trees) (a : ℕ) → HasNode counts p ts a → (n : ℕ) × (p n ≡ true)
   some_place p none a h = absurd h
   some_place p (more ts l f cs) a (inl h) = some_place p ts a h
-  some_place p (more ts l f cs) a (inr h) = (size ts, h.0)
+  some_place p (more ts l f cs) a (inr h) = (tree_count ts, h.0)
 
   -- more roots count
   other_places : (p q : ℕ → Bool) (ts : Trees) (a : ℕ)
-      → ((n : ℕ) → n < size ts → p n ≡ true → q n ≡ true) → HasNode counts p ts a
+      → ((n : ℕ) → n < tree_count ts → p n ≡ true → q n ≡ true) → HasNode counts p ts a
       → HasNode counts q ts a
   other_places p q none a on h = absurd h
   other_places p q (more ts l f cs) a on (inl h) =
       inl (other_places p q ts a (λ n k e. on n (omega (arith, k)) e) h)
-  other_places p q (more ts l f cs) a on (inr h) = inr (on (size ts) (omega arith) h.0, h.1)
+  other_places p q (more ts l f cs) a on (inr h) = inr (on (tree_count ts) (omega arith) h.0, h.1)
 
   join_left : (p : ℕ → Bool) (ts us : Trees) (a : ℕ) → HasNode counts p ts a
       → HasNode counts p (ts ⧺ us) a
   join_left p ts none a h = h
   join_left p ts (more us l f cs) a h = inl (join_left p ts us a h)
 
-  join_right : (p : ℕ → Bool) (ts us : Trees) (a : ℕ) → HasNode counts (λ n. p (size ts + n)) us a
+  join_right : (p : ℕ → Bool) (ts us : Trees) (a : ℕ)
+      → HasNode counts (λ n. p (tree_count ts + n)) us a
       → HasNode counts p (ts ⧺ us) a
   join_right p ts none a h = absurd h
   join_right p ts (more us l f cs) a (inl h) = inl (join_right p ts us a h)
   join_right p ts (more us l f cs) a (inr h) = inr (ap p (size_join ts us) ∙ h.0, h.1)
 
   join_parts : (p : ℕ → Bool) (ts us : Trees) (a : ℕ) → HasNode counts p (ts ⧺ us) a
-      → HasNode counts p ts a ⊎ HasNode counts (λ n. p (size ts + n)) us a
+      → HasNode counts p ts a ⊎ HasNode counts (λ n. p (tree_count ts + n)) us a
   join_parts p ts none a h = inl h
   join_parts p ts (more us l f cs) a (inl h) = by (join_parts p ts us a h)
     where
-      by : HasNode counts p ts a ⊎ HasNode counts (λ n. p (size ts + n)) us a
-          → HasNode counts p ts a ⊎ HasNode counts (λ n. p (size ts + n)) (more us l f cs) a
+      by : HasNode counts p ts a ⊎ HasNode counts (λ n. p (tree_count ts + n)) us a
+          → HasNode counts p ts a ⊎ HasNode counts (λ n. p (tree_count ts + n)) (more us l f cs) a
       by (inl h) = inl h
       by (inr h) = inr (inl h)
   join_parts p ts (more us l f cs) a (inr h) = inr (inr (ap p (sym (size_join ts us)) ∙ h.0, h.1))
@@ -123,7 +124,7 @@ module _ (counts : ℕ → ℕ → Bool) (at : ℕ → Trees) where
   abbrev pub Wanted : ℕ → List Bool → ℕ → Type 0
   Wanted i wanted a =
       (j : ℕ) × (j < i) × (flag_at wanted j ≡ true)
-      × HasNode counts each_place (last_tree (at (suc j))) a
+      × HasNode counts each_root (last_tree (at (suc j))) a
 
   -- The nodes that are still to be found, when the first i steps are left: those of the entries
   -- with a flag, and those of what is wanted.
@@ -131,7 +132,7 @@ module _ (counts : ℕ → ℕ → Bool) (at : ℕ → Trees) where
   Left i waiting wanted a = HasNode counts (flag_at waiting) (at i) a ⊎ Wanted i wanted a
 
   -- the nodes of one tree
-  tree_node : (l : ℕ) (f : Formula) (cs : Trees) (a : ℕ) → HasNode counts each_place (tree l f cs) a
+  tree_node : (l : ℕ) (f : Formula) (cs : Trees) (a : ℕ) → HasNode counts each_root (tree l f cs) a
       → (a ≡ l) ⊎ HasNode counts (counts l) cs a
   tree_node l f cs a (inl h) = absurd h
   tree_node l f cs a (inr h) = h.1
@@ -149,20 +150,20 @@ module _ (counts : ℕ → ℕ → Bool) (at : ℕ → Trees) where
 
     -- an essential tree of step i, by its flag or since it is wanted
     found : (rest : Trees) (l : ℕ) (f : Formula) (cs : Trees) → at (suc i) ≡ more rest l f cs
-        → length ws ≡ size rest → b ≡ true → (a ≡ l) ⊎ HasNode counts (counts l) cs a
+        → length ws ≡ tree_count rest → b ≡ true → (a ≡ l) ⊎ HasNode counts (counts l) cs a
         → Left (suc i) (ws ++ flag ∷ []) wanted a
     found rest l f cs here count e h = by (or_cases flag (flag_at wanted i) (sym is ∙ e))
       where
         by : (flag ≡ true) ⊎ (flag_at wanted i ≡ true) → Left (suc i) (ws ++ flag ∷ []) wanted a
         by (inl k) =
             inl (subst (λ t. HasNode counts (flag_at (ws ++ flag ∷ [])) t a) (sym here)
-            (inr (last_flag (size rest) count ∙ k, h)))
+            (inr (last_flag (tree_count rest) count ∙ k, h)))
         by (inr k) =
             inr (
               i,
               omega arith,
               k,
-              subst (λ t. HasNode counts each_place t a)
+              subst (λ t. HasNode counts each_root t a)
                   (sym (ap last_tree here)) (inr (refl, h)),
             )
 
@@ -181,7 +182,7 @@ module _ (counts : ℕ → ℕ → Bool) (at : ℕ → Trees) where
             inl (
               by_want (subst (λ n. flag_at wanted n ≡ true) same h.2),
               tree_node l f cs a
-                  (subst (λ t. HasNode counts each_place t a)
+                  (subst (λ t. HasNode counts each_root t a)
                   (ap (λ n. last_tree (at (suc n))) same ∙ ap last_tree here) h.3),
             )
 
@@ -190,10 +191,11 @@ module _ (counts : ℕ → ℕ → Bool) (at : ℕ → Trees) where
 
     -- the step of a label, whose entry gives way to those of its premises
     module _ (l : ℕ) (ts : Trees) (f : Formula) (cs : Trees) (here : at (suc i) ≡ more ts l f cs)
-        (before : at i ≡ ts ⧺ cs) (count : length ws ≡ size ts) (vs : List Bool)
+        (before : at i ≡ ts ⧺ cs) (count : length ws ≡ tree_count ts) (vs : List Bool)
         (from : (n : ℕ) → flag_at vs n ≡ true → (b ≡ true) × (counts l n ≡ true))
-        (to : (n : ℕ) → n < size cs → b ≡ true → counts l n ≡ true → flag_at vs n ≡ true) where
-      after : (n : ℕ) → flag_at (ws ++ vs) (size ts + n) ≡ flag_at vs n
+        (to : (n : ℕ) → n < tree_count cs → b ≡ true → counts l n ≡ true
+        → flag_at vs n ≡ true) where
+      after : (n : ℕ) → flag_at (ws ++ vs) (tree_count ts + n) ≡ flag_at vs n
       after n = ap (λ k. flag_at (ws ++ vs) (k + n)) (sym count) ∙ get_or-append-add ws vs n false
 
       old_places : (us xs : List Bool) → HasNode counts (flag_at (ws ++ us)) ts a
@@ -211,7 +213,7 @@ module _ (counts : ℕ → ℕ → Bool) (at : ℕ → Trees) where
       node_down e (inr h) =
           inr (in_row
           (join_right counts (flag_at (ws ++ vs)) ts cs a
-          (other_places counts (counts l) (λ n. flag_at (ws ++ vs) (size ts + n)) cs a
+          (other_places counts (counts l) (λ n. flag_at (ws ++ vs) (tree_count ts + n)) cs a
           (λ n k p. after n ∙ to n k e p) h)))
 
       label_down : Left (suc i) (ws ++ flag ∷ []) wanted a
@@ -224,7 +226,7 @@ module _ (counts : ℕ → ℕ → Bool) (at : ℕ → Trees) where
           roots (inl k) =
               inr (in_row
               (join_left counts (flag_at (ws ++ vs)) ts cs a (old_places (flag ∷ []) vs k)))
-          roots (inr k) = node_down (by_flag (sym (last_flag (size ts) count) ∙ k.0)) k.1
+          roots (inr k) = node_down (by_flag (sym (last_flag (tree_count ts) count) ∙ k.0)) k.1
       label_down (inr h) = go (wanted_parts ts l f cs here h)
         where
           go : ((b ≡ true) × ((a ≡ l) ⊎ HasNode counts (counts l) cs a)) ⊎ Wanted i wanted a
@@ -240,16 +242,17 @@ module _ (counts : ℕ → ℕ → Bool) (at : ℕ → Trees) where
           (subst (λ t. HasNode counts (flag_at (ws ++ vs)) t a) before h))
         where
           parts : HasNode counts (flag_at (ws ++ vs)) ts a
-              ⊎ HasNode counts (λ n. flag_at (ws ++ vs) (size ts + n)) cs a
+              ⊎ HasNode counts (λ n. flag_at (ws ++ vs) (tree_count ts + n)) cs a
               → Left (suc i) (ws ++ flag ∷ []) wanted a
           parts (inl k) =
               inl (subst (λ t. HasNode counts (flag_at (ws ++ flag ∷ [])) t a) (sym here)
               (inl (old_places vs (flag ∷ []) k)))
           parts (inr k) =
-              let p = some_place counts (λ n. flag_at (ws ++ vs) (size ts + n)) cs a k in
+              let p = some_place counts (λ n. flag_at (ws ++ vs) (tree_count ts + n)) cs a k in
               let e = (from p.0 (sym (after p.0) ∙ p.1)).0 in
               found ts l f cs here count e
-              (inr (other_places counts (λ n. flag_at (ws ++ vs) (size ts + n)) (counts l) cs a
+              (inr (other_places counts (λ n. flag_at (ws ++ vs) (tree_count ts + n))
+              (counts l) cs a
               (λ n u q. (from n (sym (after n) ∙ q)).1) k))
       label_up (inr (inr h)) = inr (wanted_grown h)
 
@@ -260,7 +263,7 @@ module _ (counts : ℕ → ℕ → Bool) (at : ℕ → Trees) where
     -- the step of a mark, whose entry goes
     module _ (j l : ℕ) (f : Formula) (cs : Trees) (earlier : j < i)
         (here : at (suc i) ≡ more (at i) l f cs) (copy : last_tree (at (suc j)) ≡ tree l f cs)
-        (count : length ws ≡ size (at i)) (inside : i < length wanted) where
+        (count : length ws ≡ tree_count (at i)) (inside : i < length wanted) where
       same_places : (us xs : List Bool) → HasNode counts (flag_at (ws ++ us)) (at i) a
           → HasNode counts (flag_at (ws ++ xs)) (at i) a
       same_places us xs h =
@@ -275,7 +278,7 @@ module _ (counts : ℕ → ℕ → Bool) (at : ℕ → Trees) where
             earlier,
             wanted_here j wanted (omega (arith, earlier, inside)) b e,
             subst
-                (λ t. HasNode counts each_place t a) (sym copy) (inr (refl, h)),
+                (λ t. HasNode counts each_root t a) (sym copy) (inr (refl, h)),
           )
 
       marked_down : Left (suc i) (ws ++ flag ∷ []) wanted a
@@ -286,7 +289,7 @@ module _ (counts : ℕ → ℕ → Bool) (at : ℕ → Trees) where
           roots : HasNode counts (flag_at (ws ++ flag ∷ [])) (more (at i) l f cs) a
               → Left i (ws ++ []) (wanted_flags b (marked j) wanted) a
           roots (inl k) = inl (same_places (flag ∷ []) [] k)
-          roots (inr k) = tree_down (by_flag (sym (last_flag (size (at i)) count) ∙ k.0)) k.1
+          roots (inr k) = tree_down (by_flag (sym (last_flag (tree_count (at i)) count) ∙ k.0)) k.1
       marked_down (inr h) = go (wanted_parts (at i) l f cs here h)
         where
           go : ((b ≡ true) × ((a ≡ l) ⊎ HasNode counts (counts l) cs a)) ⊎ Wanted i wanted a
@@ -307,7 +310,7 @@ module _ (counts : ℕ → ℕ → Bool) (at : ℕ → Trees) where
           by (inr k) =
               found (at i) l f cs here count k.1
               (tree_node l f cs a
-              (subst (λ t. HasNode counts each_place t a)
+              (subst (λ t. HasNode counts each_root t a)
               (ap (λ n. last_tree (at (suc n))) k.0 ∙ copy) h.3))
 
       pub marked_back : Left (suc i) (ws ++ flag ∷ []) wanted a

@@ -8,7 +8,7 @@ use Rattle.mm_spec.specs.Scope.{is_active}
 use Rattle.mm_spec.specs.Frame.{formula_at, frame_at}
 use Rattle.mm_spec.specs.Derivation.{Rule, hypothesis, assertion}
 use Rattle.mm_spec.specs.Citation.{context_at, rule_of, rule_at, is_assertion}
-use Rattle.mm_spec.specs.Laws.Stack.{IsGood, IsGoodStep}
+use Rattle.mm_spec.specs.Laws.Stack.{IsCompleteRule, IsGoodStep}
 use Rattle.mm_spec.proofs.FindsLaw.{inside_of}
 use Rattle.mm_spec.specs.Steps.{Step, label, marked}
 use Rattle.mm_rule.specs.Assertions.{is_assertion_at}
@@ -21,14 +21,14 @@ module _ (db : List Statement) (t j : ℕ) where
     pub stands : slice_get db j ≡ Some statement
     pub rule : rule_at db t j ≡ rule_of db j statement
 
-  stands_at : IsGood (context_at db t) (rule_at db t j) → Stands
+  stands_at : IsCompleteRule (context_at db t) (rule_at db t j) → Stands
   stands_at good = by (is_active db j t) refl (slice_get db j) refl good
     where
       out : Bool → Option Statement → Option Rule
       out b o = elim b [ false ↦ None | true ↦ elim o [ None ↦ None | Some s ↦ rule_of db j s ] ]
 
       by : (b : Bool) → is_active db j t ≡ b → (o : Option Statement) → slice_get db j ≡ o
-          → IsGood (context_at db t) (out b o) → Stands
+          → IsCompleteRule (context_at db t) (out b o) → Stands
       by false e o f g = absurd g
       by true e None f g = absurd g
       by true e (Some s) f g =
@@ -38,7 +38,7 @@ module _ (db : List Statement) (t j : ℕ) where
             rule = ap (λ b. out b (slice_get db j)) e ∙ ap (λ o. out true o) f;
           }
 
-  pub good_below : IsGood (context_at db t) (rule_at db t j) → j < length db
+  pub good_below : IsCompleteRule (context_at db t) (rule_at db t j) → j < length db
   good_below good = let s = stands_at good in inside_of db j s.statement s.stands
 
   at_is : (s : Statement) (b : Bool) → slice_get db j ≡ Some s → is_assertion_at db j ≡ b
@@ -46,7 +46,8 @@ module _ (db : List Statement) (t j : ℕ) where
   at_is s b e h =
       sym (ap (λ o. list_any is_assertion (elim o [ None ↦ [] | Some s ↦ s ∷ [] ])) e) ∙ h
 
-  pub assertion_rule : is_assertion_at db j ≡ true → IsGood (context_at db t) (rule_at db t j)
+  pub assertion_rule : is_assertion_at db j ≡ true
+      → IsCompleteRule (context_at db t) (rule_at db t j)
       → rule_at db t j ≡ Some (assertion (frame_at db j))
   assertion_rule is good =
       let s = stands_at good in s.rule ∙ by s.statement (at_is s.statement true s.stands is)
@@ -57,15 +58,16 @@ module _ (db : List Statement) (t j : ℕ) where
       by (provable l p xs e ps d) h = refl
       by _ h = absurd (true≢false (sym h))
 
-  pub hypothesis_rule : is_assertion_at db j ≡ false → IsGood (context_at db t) (rule_at db t j)
+  pub hypothesis_rule : is_assertion_at db j ≡ false
+      → IsCompleteRule (context_at db t) (rule_at db t j)
       → rule_at db t j ≡ Some (hypothesis (formula_at db j))
   hypothesis_rule is good =
       let s = stands_at good in
       s.rule ∙ by s.statement (at_is s.statement false s.stands is)
-      (subst (IsGood (context_at db t)) s.rule good)
+      (subst (IsCompleteRule (context_at db t)) s.rule good)
     where
       by : (s : Statement) → list_any is_assertion (s ∷ []) ≡ false
-          → IsGood (context_at db t) (rule_of db j s)
+          → IsCompleteRule (context_at db t) (rule_of db j s)
           → rule_of db j s ≡ Some (hypothesis (formula_at db j))
       by (floating l p xs d) h g = refl
       by (essential l p xs d) h g = refl

@@ -8,7 +8,7 @@ use Rattle.mm_spec.specs.Derivation.{Formula, Context, Follows, Trees, none, mor
 use Rattle.mm_spec.specs.Derivation.{postfix, AreDerivations}
 use Rattle.mm_spec.specs.Steps.{Step, label, marked}
 use Rattle.mm_spec.specs.Valid.{IsLastTree, Adds, Plain, Derives}
-use Rattle.mm_spec.specs.Laws.Complete.{IsFine}
+use Rattle.mm_spec.specs.Laws.Complete.{HasCompleteFrame}
 use Rattle.mm_spec.proofs.UniqueLaw.{◌⧺◌}
 use Rattle.mm_spec.proofs.CheckedLaw.{same_forest}
 
@@ -167,7 +167,7 @@ module _ (c : Context) where
   are_at (x ∷ xs) (t ∷ ts) (suc j) then a e =
       let r = are_at xs ts j then a.1 e in let l = r.0 in (omega (arith, l), r.1, r.2)
 
-  module _ (fine : (l : ℕ) → IsFine c (c.rule l)) where
+  module _ (fine : (l : ℕ) → HasCompleteFrame c (c.rule l)) where
     -- one step
     move_label : (forests : List Trees) (n : ℕ) (forest next : Trees) (l : ℕ) → AreDerivations c forest
         → AreDerivations c next → postfix next ≡ postfix forest ++ l ∷ [] → forest_at forests n ≡ forest

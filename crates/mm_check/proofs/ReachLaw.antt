@@ -14,7 +14,7 @@ use Rattle.mm_spec.specs.Derivation.{AreDerivations, is_member}
 use Rattle.mm_spec.specs.Steps.{Step, label, marked, PlacedStep, placed}
 use Rattle.mm_spec.specs.Valid.{Reason, code_of, Plain, Adds, Derives, StepFault, ProofEndFault}
 use Rattle.mm_spec.specs.Valid.{IsEndCode, IsLastTree}
-use Rattle.mm_spec.proofs.StepsLaw.{after_more, Grown, grows}
+use Rattle.mm_spec.proofs.StepsLaw.{after_more, GrownForest, grows}
 use Rattle.mm_spec.specs.Laws.Stack.{AreGoodSteps, IsGoodStep, step_entries, top}
 use Rattle.mm_spec.specs.Statement.{Statement, provable}
 use Rattle.mm_spec.specs.Citation.{context_at, is_theorem}
@@ -88,7 +88,7 @@ next db t done stack ends noted s out then r good made notes =
     let same : step_entries c s ends (formulas r.forest) ≡ Ok out =
     ap (step_entries c s ends) r.entries_are ∙ made in
     let g =
-    subst (Grown c r.lists r.forest s) same
+    subst (GrownForest c r.lists r.forest s) same
     (grows c r.lists ends r.forest s r.derivations r.after good) in
     let members = adds_member c r.lists (postfix r.forest) (postfix g.0) s g.2 r.within in
     record {
@@ -123,7 +123,7 @@ fails db t steps i stack ends noted reason h r good made =
     let same : step_entries c s.step ends (formulas r.forest) ≡ Err reason =
     ap (step_entries c s.step ends) r.entries_are ∙ made in
     let g =
-    subst (Grown c r.lists r.forest s.step) same
+    subst (GrownForest c r.lists r.forest s.step) same
     (grows c r.lists ends r.forest s.step r.derivations r.after good) in
     record {
       before = take i steps;

@@ -9,7 +9,7 @@ use Rattle.mm_spec.specs.Derivation.{Formula, is_member}
 use Rattle.mm_spec.specs.Steps.{label, marked}
 use Rattle.mm_spec.specs.Valid.{Reason}
 use Rattle.mm_spec.specs.Citation.{context_at}
-use Rattle.mm_spec.specs.Laws.Stack.{IsGood, step}
+use Rattle.mm_spec.specs.Laws.Stack.{IsCompleteRule, step}
 use Rattle.mm_rule.specs.Assertions.{is_assertion_at}
 use Rattle.mm_machine.specs.State.{MachineState, machine_state, applied}
 use Rattle.mm_machine.specs.Stops.{Stops}
@@ -43,7 +43,8 @@ module _ (db : List Statement) (t : ℕ) where
         noted = λ x. sym (or-false (is_member c.noted x));
       }
 
-  module _ (c : CheckerState) (a : ℕ) (good : IsGood (context_at db t) ((context_at db t).rule a))
+  module _ (c : CheckerState) (a : ℕ)
+      (good : IsCompleteRule (context_at db t) ((context_at db t).rule a))
       (is : is_assertion_at db a ≡ true) where
     pub applies : (m : MachineState) (noted : List ℕ) (cache : List (ℕ × ℕ))
         → applied db t a c.machine.stack ≡ Ok m.stack → m.marks ≡ c.machine.marks

@@ -12,12 +12,13 @@ use Rattle.mm_spec.specs.Scope.{statement_at}
 use Rattle.mm_spec.specs.Frame.{is_essential, mandatory_hypotheses, formula_at, frame_at}
 use Rattle.mm_spec.specs.Derivation.{Context, Formula, hypothesis, assertion, Follows, Trees, none}
 use Rattle.mm_spec.specs.Derivation.{more, tree, formulas, is_member}
-use Rattle.mm_spec.specs.Nodes.{size, HasNode, each_place, child_counts, is_essential_place}
+use Rattle.mm_spec.specs.Nodes.{tree_count, HasNode, each_root, child_counts}
+use Rattle.mm_spec.specs.Nodes.{is_essential_hypothesis}
 use Rattle.mm_spec.specs.Steps.{Step, label, marked, PlacedStep, placed}
 use Rattle.mm_spec.specs.Valid.{Derives}
 use Rattle.mm_spec.specs.Laws.Complete.{AreComplete}
 use Rattle.mm_spec.specs.Citation.{context_at, rule_at, steps_at, IsProof, Cites}
-use Rattle.mm_spec.specs.Laws.Stack.{IsGood, AreGoodSteps, IsGoodStep}
+use Rattle.mm_spec.specs.Laws.Stack.{IsCompleteRule, AreGoodSteps, IsGoodStep}
 use Rattle.mm_spec.proofs.CitedLaw.{proof_unique}
 use Rattle.mm_steps.specs.Read.{step_at, IsEarlier}
 use Rattle.mm_rule.specs.Assertions.{is_assertion_at}
@@ -37,15 +38,15 @@ pub record Walked (db : List Statement) (t : ℕ) (steps : List PlacedStep) (i :
   pub forests : List Trees
   pub moves : AreMoves (context_at db t) forests 0 (steps_of steps)
   pub many : length wanted ≡ length steps
-  pub fits : length waiting ≡ size (forest_at forests i)
+  pub fits : length waiting ≡ tree_count (forest_at forests i)
   pub asserted : (a : ℕ) → is_member noted a ≡ true → is_assertion_at db a ≡ true
   pub exact : (a : ℕ) → is_assertion_at db a ≡ true
-      → HasNode (child_counts db true) each_place derivation a
+      → HasNode (child_counts db true) each_root derivation a
       ↔ ((is_member noted a ≡ true) ⊎ Left (child_counts db true) (forest_at forests) i waiting wanted a)
 
 -- ---- the premises of a label
 
-size_formulas : (cs : Trees) → length (formulas cs) ≡ size cs
+size_formulas : (cs : Trees) → length (formulas cs) ≡ tree_count cs
 size_formulas none = refl
 size_formulas (more ts l f cs) =
     omega (arith, length-append (formulas ts) (f ∷ []), size_formulas ts)
@@ -62,13 +63,13 @@ premise_flag b e (h ∷ hs) zero = refl
 premise_flag b e (h ∷ hs) (suc n) = premise_flag b e hs n
 
 module _ (db : List Statement) (t : ℕ) (b : Bool) (l : ℕ) (cs : Trees) (f : Formula)
-    (good : IsGood (context_at db t) (rule_at db t l))
+    (good : IsCompleteRule (context_at db t) (rule_at db t l))
     (follows : Follows (context_at db t) (rule_at db t l) (formulas cs) f) where
   -- there are as many flags as premises, and they are those of the premises for a `$e`
   record AreFlags (vs : List Bool) : Type 0 where
-    pub count : length vs ≡ size cs
+    pub count : length vs ≡ tree_count cs
     pub from : (n : ℕ) → flag_at vs n ≡ true → (b ≡ true) × (child_counts db true l n ≡ true)
-    pub to : (n : ℕ) → n < size cs → b ≡ true → child_counts db true l n ≡ true
+    pub to : (n : ℕ) → n < tree_count cs → b ≡ true → child_counts db true l n ≡ true
         → flag_at vs n ≡ true
 
   flags_if : (q : Bool) → is_assertion_at db l ≡ q → AreFlags (if q then child_flags db b l else [])
@@ -76,8 +77,9 @@ module _ (db : List Statement) (t : ℕ) (b : Bool) (l : ℕ) (cs : Trees) (f : 
     count =
         length-map hs _ ∙ sym (length-map hs (formula_at db))
         ∙ sym (length-map (map (formula_at db) hs) _) ∙ sym (ap length h.1) ∙ size_formulas cs;
-    from = λ n e. and_parts b (is_essential_place db l n) (sym (premise_flag b needed hs n) ∙ e);
-    to = λ n k p q. premise_flag b needed hs n ∙ and_from b (is_essential_place db l n) p q;
+    from =
+        λ n e. and_parts b (is_essential_hypothesis db l n) (sym (premise_flag b needed hs n) ∙ e);
+    to = λ n k p q. premise_flag b needed hs n ∙ and_from b (is_essential_hypothesis db l n) p q;
   }
     where
       hs : List ℕ
@@ -120,7 +122,7 @@ module _ (db : List Statement) (t : ℕ) (steps : List PlacedStep) (i : ℕ) (ws
 
   -- what the step does to the nodes that are still to be found
   record Undone (s : Step) : Type 0 where
-    pub fits : length (ws ++ taken_flags db b s) ≡ size (forest_at r.forests i)
+    pub fits : length (ws ++ taken_flags db b s) ≡ tree_count (forest_at r.forests i)
     pub nodes : (a : ℕ)
         → Left (child_counts db true) (forest_at r.forests) (suc i) (ws ++ flag ∷ []) wanted a
         ↔ (((b ≡ true) × (is_labelled_step s a ≡ true)) ⊎ Before s a)
@@ -136,7 +138,7 @@ module _ (db : List Statement) (t : ℕ) (steps : List PlacedStep) (i : ℕ) (ws
           c,
           length-append ws
               (taken_flags db b (label l)),
-          ap size before,
+          ap tree_count before,
           size_join ts cs,
         );
     nodes = λ a. (λ h. down a ((both a).0 h), λ h. (both a).1 (up a h));
@@ -145,8 +147,8 @@ module _ (db : List Statement) (t : ℕ) (steps : List PlacedStep) (i : ℕ) (ws
       fl : AreFlags db t b l cs f good follows (taken_flags db b (label l))
       fl = are_flags db t b l cs f good follows
 
-      count : length ws ≡ size ts
-      count = let e = r.fits in omega (arith, e, length-append ws (flag ∷ []), ap size here)
+      count : length ws ≡ tree_count ts
+      count = let e = r.fits in omega (arith, e, length-append ws (flag ∷ []), ap tree_count here)
 
       both : (a : ℕ)
           → Left (child_counts db true) (forest_at r.forests) (suc i) (ws ++ flag ∷ []) wanted a
@@ -170,8 +172,8 @@ module _ (db : List Statement) (t : ℕ) (steps : List PlacedStep) (i : ℕ) (ws
     nodes = λ a. (λ h. inr ((both a).0 h), λ h. (both a).1 (only a h));
   }
     where
-      count : length ws ≡ size (forest_at r.forests i)
-      count = let e = r.fits in omega (arith, e, length-append ws (flag ∷ []), ap size here)
+      count : length ws ≡ tree_count (forest_at r.forests i)
+      count = let e = r.fits in omega (arith, e, length-append ws (flag ∷ []), ap tree_count here)
 
       both : (a : ℕ)
           → Left (child_counts db true) (forest_at r.forests) (suc i) (ws ++ flag ∷ []) wanted a
@@ -274,11 +276,11 @@ module _ (db : List Statement) (t : ℕ) (steps : List PlacedStep) (i : ℕ) (ws
 
 -- the forest after a step is not empty
 some_row : (c : Context) (forests : List Trees) (i : ℕ) (s : Step) → IsMove c forests i s
-    → 0 < size (forest_at forests (suc i))
+    → 0 < tree_count (forest_at forests (suc i))
 some_row c forests i (label l) (ts, f, cs, here, before, follows) =
-    let e = ap size here in omega (arith, e)
+    let e = ap tree_count here in omega (arith, e)
 some_row c forests i (marked j) (earlier, l, f, cs, here, copy) =
-    let e = ap size here in omega (arith, e)
+    let e = ap tree_count here in omega (arith, e)
 
 module _ (db : List Statement) (t : ℕ) (steps : List PlacedStep) (n i : ℕ)
     (waiting wanted : List Bool) (noted : List ℕ) (r : Walked db t steps n waiting wanted noted)
@@ -290,8 +292,10 @@ module _ (db : List Statement) (t : ℕ) (steps : List PlacedStep) (n i : ℕ)
       (let e = length-map steps (λ s. s.step) in omega (arith, e, inside)) r.moves in
       let e = r.fits in
       let k = some_row (context_at db t) r.forests (0 + i) (get_or (steps_of steps) i (label 0)) m in
-      let same : size (forest_at r.forests n) ≡ size (forest_at r.forests (suc (0 + i))) =
-      ap (λ j. size (forest_at r.forests j)) (let q : n ≡ suc (0 + i) = omega (arith, next) in q) in
+      let same : tree_count (forest_at r.forests n)
+      ≡ tree_count (forest_at r.forests (suc (0 + i))) =
+      ap (λ j. tree_count (forest_at r.forests j))
+          (let q : n ≡ suc (0 + i) = omega (arith, next) in q) in
       omega (arith, e, k, same)
 
   -- the same by the values that the code has
@@ -338,7 +342,7 @@ module _ (db : List Statement) (t : ℕ) (steps : List PlacedStep) (complete : A
         forests = forests;
         moves = moves;
         many = ap length all ∙ count (length steps);
-        fits = ap length one ∙ sym (ap size (at_end ∙ here.2));
+        fits = ap length one ∙ sym (ap tree_count (at_end ∙ here.2));
         asserted = λ a m. absurd (true≢false (sym m ∙ ap (λ l. is_member l a) bare));
         exact = λ a k. (λ h. inr (inl (down a h)), λ h. up a h);
       }
@@ -359,21 +363,21 @@ module _ (db : List Statement) (t : ℕ) (steps : List PlacedStep) (complete : A
           root p q a e (inl h) = absurd h
           root p q a e (inr h) = inr (e, h.1)
 
-          down : (a : ℕ) → HasNode counts each_place d a
+          down : (a : ℕ) → HasNode counts each_root d a
               → HasNode counts (flag_at waiting) (forest_at forests (length steps)) a
           down a h =
               subst (λ u. HasNode counts (flag_at waiting) u a) (sym (at_end ∙ here.2))
-              (root each_place (flag_at waiting) a (ap (λ ws. flag_at ws 0) one)
-              (subst (λ u. HasNode counts each_place u a) here.2 h))
+              (root each_root (flag_at waiting) a (ap (λ ws. flag_at ws 0) one)
+              (subst (λ u. HasNode counts each_root u a) here.2 h))
 
           up : (a : ℕ)
               → (is_member noted a ≡ true)
               ⊎ Left counts (forest_at forests) (length steps) waiting wanted a
-              → HasNode counts each_place d a
+              → HasNode counts each_root d a
           up a (inl h) = absurd (true≢false (sym h ∙ ap (λ l. is_member l a) bare))
           up a (inr (inl h)) =
-              subst (λ u. HasNode counts each_place u a) (sym here.2)
-              (root (flag_at waiting) each_place a refl
+              subst (λ u. HasNode counts each_root u a) (sym here.2)
+              (root (flag_at waiting) each_root a refl
               (subst (λ u. HasNode counts (flag_at waiting) u a) (at_end ∙ here.2) h))
           up a (inr (inr h)) =
               absurd (true≢false
@@ -386,7 +390,7 @@ module _ (db : List Statement) (t : ℕ) (steps : List PlacedStep) (complete : A
   walk_end waiting wanted noted r a = (
     λ m. let k = r.asserted a m in (k, r.derivation, r.proof, (r.exact a k).1 (inl m)),
     λ c. by ((r.exact a c.0).0
-        (subst (λ d. HasNode (child_counts db true) each_place d a)
+        (subst (λ d. HasNode (child_counts db true) each_root d a)
         (proof_unique db complete t c.1 r.derivation c.2 r.proof) c.3)),
   )
     where

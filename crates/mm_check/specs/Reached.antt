@@ -5,7 +5,7 @@ use Rattle.std.specs.List.{AllByRecursion, AllZip, Contains}
 use Rattle.mm_spec.specs.Derivation.{Formula, Trees, formulas, postfix, AreDerivations, is_member}
 use Rattle.mm_spec.specs.Steps.{Step, PlacedStep}
 use Rattle.mm_spec.specs.Valid.{Plain}
-use Rattle.mm_spec.specs.Laws.Stack.{Leaves}
+use Rattle.mm_spec.specs.Laws.Stack.{EndsInFormula}
 use Rattle.mm_spec.specs.Statement.{Statement}
 use Rattle.mm_spec.specs.Citation.{context_at, steps_at, reading_faults_at}
 use Rattle.mm_spec.specs.Output.{is_theorem_at}
@@ -23,7 +23,7 @@ pub record Reached (db : List Statement) (t : ℕ) (done : List Step) (stack end
   pub derivations : AreDerivations (context_at db t) forest
   pub entries_are : formulas forest ≡ stack
   pub lists : List (List ℕ)
-  pub after : AllZip (Leaves (context_at db t)) lists ends
+  pub after : AllZip (EndsInFormula (context_at db t)) lists ends
   pub plain : (rest : List Step) (all : List ℕ)
       → Plain (context_at db t) lists (postfix forest) rest all
       → Plain (context_at db t) [] [] (done ++ rest) all

@@ -5,13 +5,13 @@ use Rattle.std.proofs.lemmas.List.{length-map}
 use Rattle.mm_spec.specs.declared.Fault.{Fault}
 use Rattle.mm_spec.specs.Lexed.{tokens_of, lexed_of}
 use Rattle.mm_spec.specs.Statement.{Statement, constants, variables, disjoint, floating, essential}
-use Rattle.mm_spec.specs.Statement.{axiomatic, provable, opening, closing, spelled}
+use Rattle.mm_spec.specs.Statement.{axiomatic, provable, opening, closing, spelling_of}
 use Rattle.mm_spec.specs.Output.{IsRead}
 use Rattle.mm_outline.specs.Parts.{token_of}
 use Rattle.mm_outline.proofs.TokensLaw.{tokens_few}
 
 -- a statement has a token
-one_token : (s : Statement) → 1 ≤ length (spelled s)
+one_token : (s : Statement) → 1 ≤ length (spelling_of s)
 one_token (constants k xs d) = omega arith
 one_token (variables k xs d) = omega arith
 one_token (disjoint k xs d) = omega arith
@@ -23,11 +23,11 @@ one_token (opening k) = omega arith
 one_token (closing k) = omega arith
 
 -- a row has no more statements than tokens
-tokens_suffice : (row : List Statement) → length row ≤ length (flat_map spelled row)
+tokens_suffice : (row : List Statement) → length row ≤ length (flat_map spelling_of row)
 tokens_suffice [] = omega arith
 tokens_suffice (s ∷ row) =
     let one = one_token s in let rest = tokens_suffice row in
-    omega (arith, one, rest, length-append (spelled s) (flat_map spelled row))
+    omega (arith, one, rest, length-append (spelling_of s) (flat_map spelling_of row))
 
 pub statements_few : (text : List ℕ) (db : List Statement) (fault : Option Fault)
     → IsRead (length text) (lexed_of text) db fault → length db ≤ length text
@@ -44,6 +44,6 @@ statements_few text db fault r =
       statements,
       mapped,
       few,
-      length-append (flat_map spelled r.statements) r.are_statements.rest,
+      length-append (flat_map spelling_of r.statements) r.are_statements.rest,
       length-append db r.rest,
     )

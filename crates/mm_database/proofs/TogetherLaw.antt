@@ -4,7 +4,7 @@ use Rattle.std.proofs.Common.{refl, sym, ap, ap₂, ◌∙◌, true≢false, ◌
 use Rattle.std.proofs.lemmas.Bool.{cases_lt, le-ltb, and_parts}
 use Rattle.std.specs.List.{list_any}
 use Rattle.mm_spec.specs.Statement.{Statement}
-use Rattle.mm_spec.specs.Scope.{statement_at, stays}
+use Rattle.mm_spec.specs.Scope.{statement_at, is_block_open}
 use Rattle.mm_spec.specs.Derivation.{is_member}
 use Rattle.mm_spec.specs.Frame.{is_disjoint_statement, active_of, formula_at}
 use Rattle.mm_spec.proofs.BoolLaw.{same_tests}
@@ -23,18 +23,21 @@ module _ (db : List Statement) (b : BlockLists) (blocks : IsBlocks db b) (k : �
     where
       by : (j < k) ⊎ (k ≤ j)
           → is_active_local b j k
-          ≡ (nat_lt j k && (list_any is_disjoint_statement (statement_at db j) && stays db j k))
+          ≡ (nat_lt j k
+          && (list_any is_disjoint_statement (statement_at db j) && is_block_open db j k))
       by (inl l) = ap (λ c. nat_lt j k && c) (sym (ap₂ (λ p q. p && q) t (blocks.ended j k l h)))
       by (inr g) =
           ap (λ c. c && nat_le k (end_of b j)) (le-ltb j k g)
           ∙ sym (ap (λ c. c
-          && (list_any is_disjoint_statement (statement_at db j) && stays db j k)) (le-ltb j k g))
+          && (list_any is_disjoint_statement (statement_at db j) && is_block_open db j k))
+          (le-ltb j k g))
 
   pub kind_of_active : (j : ℕ) → is_member (active_of is_disjoint_statement db k) j ≡ true
       → list_any is_disjoint_statement (statement_at db j) ≡ true
   kind_of_active j e =
       (and_parts (list_any is_disjoint_statement (statement_at db j)) _
-      (and_parts (nat_lt j k) ((list_any is_disjoint_statement (statement_at db j) && stays db j k))
+      (and_parts (nat_lt j k)
+      ((list_any is_disjoint_statement (statement_at db j) && is_block_open db j k))
       (sym (active_member is_disjoint_statement db disjoint_local k j) ∙ e)).1).0
 
   module _ (ps : List (ℕ × ℕ)) (are : (x j : ℕ) → has_pair ps x j ≡ has_symbol db x j) where

@@ -4,7 +4,7 @@ ghost use Rattle.std.specs.Prelude.{◌≡◌, ◌<◌, ◌≤◌, ◌^◌, All,
 ghost use Rattle.std.specs.List.{list_any};
 ghost use Rattle.std.specs.Option.{option_map};
 ghost use Rattle.mm_spec.specs.Lexed.{tokens_of};
-ghost use Rattle.mm_spec.specs.Scope.{statement_at, stays, is_active};
+ghost use Rattle.mm_spec.specs.Scope.{statement_at, is_block_open, is_active};
 ghost use Rattle.mm_spec.specs.Frame.{symbol_names, is_variable_number, is_disjoint_statement};
 ghost use Rattle.mm_spec.specs.Frame.{is_essential, is_floating, formula_at};
 ghost use Rattle.mm_spec.specs.Citation.{is_assertion};
@@ -202,7 +202,7 @@ impl<'a, A: Allocator> Statements<'a, A> {
     pub fn is_open_at(&self, statement: u32, at: u32) -> bool
         requires before { statement < at }
         requires within { at ≤ length self.now.list }
-        ensures { result ≡ stays self.now.list statement at }
+        ensures { result ≡ is_block_open self.now.list statement at }
     {
         self.blocks.is_open_at(statement, at)
     }

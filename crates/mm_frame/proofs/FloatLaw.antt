@@ -13,8 +13,9 @@ use Rattle.std.specs.List.{list_any}
 use Rattle.mm_spec.specs.Text.{Bytes, Token, is_in, fault}
 use Rattle.mm_spec.specs.Statement.{Statement, constants, variables, disjoint, floating, essential}
 use Rattle.mm_spec.specs.Statement.{axiomatic, provable, opening, closing}
-use Rattle.mm_spec.specs.Scope.{Names, names_before, active_statements, is_active, is_active_some}
-use Rattle.mm_spec.specs.Scope.{depth, constants_of, variables_of, stays}
+use Rattle.mm_spec.specs.Scope.{Names, names_before, active_statements, is_active}
+use Rattle.mm_spec.specs.Scope.{is_some_still_active}
+use Rattle.mm_spec.specs.Scope.{depth, constants_of, variables_of, is_block_open}
 use Rattle.mm_spec.specs.Lawful.{scope_faults, least, is_typed, floating_faults, label_faults, at}
 use Rattle.mm_spec.specs.Lawful.{when, is_typed_otherwise}
 use Rattle.mm_spec.specs.declared.Fault.{Fault}
@@ -205,12 +206,13 @@ module _ (db : List Statement) (sound : IsSound db) where
         (flat_map constants_of (drop k db))
         ∙ ap (λ b. b || is_in f.typecode.word (flat_map constants_of (drop k db))) f.constant)
 
-    pub float_active : (l : ℕ) → k < l → is_active db k l ≡ stays db k l
-    float_active l m = ap₂ (λ t o. t && is_active_some o (stays db k l)) (lt-ltb k l m) f.is
+    pub float_active : (l : ℕ) → k < l → is_active db k l ≡ is_block_open db k l
+    float_active l m =
+        ap₂ (λ t o. t && is_some_still_active o (is_block_open db k l)) (lt-ltb k l m) f.is
 
   -- a variable has one active `$f`
   pub typed_once : (j k v : ℕ) → j < k → k < length db → IsFloat db j v → IsFloat db k v
-      → stays db j k ≡ true → ⊥
+      → is_block_open db j k ≡ true → ⊥
   typed_once j k v l h f g e =
       let i : j < length db = omega arith in
       let bj = subst (λ n. n < length (symbol_names db)) (sym f.number) (variable_below j v i f) in

@@ -8,7 +8,7 @@ use Rattle.std.proofs.lemmas.List.FromFn.{map-range_with_len_more}
 use Rattle.std.proofs.lemmas.Option.{same_Some}
 use Rattle.std.specs.List.{list_any}
 use Rattle.mm_spec.specs.Statement.{Statement}
-use Rattle.mm_spec.specs.Scope.{statement_at, stays}
+use Rattle.mm_spec.specs.Scope.{statement_at, is_block_open}
 use Rattle.mm_spec.specs.Citation.{is_assertion}
 use Rattle.mm_spec.specs.Frame.{symbol_names}
 use Rattle.mm_outline.specs.Blocks.{never}
@@ -37,7 +37,7 @@ typed_none db k ts t e = record {
 }
   where
     by : (j v : ℕ) → j < k + 1 → v < length (symbol_names db) → typed_at db j ≡ Some v
-        → stays db j (k + 1) ≡ true → (j < k) ⊎ (k ≤ j) → get_or ts v 0 ≡ j
+        → is_block_open db j (k + 1) ≡ true → (j < k) ⊎ (k ≤ j) → get_or ts v 0 ≡ j
     by j v h l is on (inl m) =
         t.alone j v m l is (stays_earlier db j k (k + 1) (omega arith) (omega arith) on)
     by j v h l is on (inr m) =
@@ -72,7 +72,7 @@ typed_some db sound k v ts few t e = record {
         ((let a = o.0 in omega (arith, a, is)), ap (typed_at db) is ∙ o.1)
 
     alone : (j u : ℕ) → j < k + 1 → u < length (symbol_names db) → typed_at db j ≡ Some u
-        → stays db j (k + 1) ≡ true → (j < k) ⊎ (k ≤ j) → (u ≡ v) ⊎ (u ≢ v)
+        → is_block_open db j (k + 1) ≡ true → (j < k) ⊎ (k ≤ j) → (u ≡ v) ⊎ (u ≢ v)
         → get_or (set ts v k) u 0 ≡ j
     alone j u h l is on (inl m) (inl s) =
         absurd (typed_once db sound j k v m few

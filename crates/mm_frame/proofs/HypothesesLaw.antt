@@ -12,7 +12,7 @@ use Rattle.std.proofs.Math.Bool.{or-false, or-true}
 use Rattle.mm_spec.specs.Text.{is_in}
 use Rattle.mm_spec.specs.Derivation.{is_member}
 use Rattle.mm_spec.specs.Statement.{Statement}
-use Rattle.mm_spec.specs.Scope.{statement_at, active, is_active, variables_of, stays}
+use Rattle.mm_spec.specs.Scope.{statement_at, active, is_active, variables_of, is_block_open}
 use Rattle.mm_spec.specs.Frame.{symbol_names, index_of, is_variable_number, is_essential}
 use Rattle.mm_spec.specs.Frame.{is_floating, active_of, formula_at, mandatory_variables}
 use Rattle.mm_spec.specs.Frame.{mandatory_hypotheses}
@@ -163,7 +163,7 @@ module _ (db : List Statement) (k : ℕ) where
         (ap₂ (λ p q. not p && q)
         (ne_eqb (get_or ts v 0) never
         (λ e. let few = sound.few in absurd (omega (arith, e, same, n, few))))
-        (ap (λ i. stays db i k) same
+        (ap (λ i. is_block_open db i k) same
         ∙ on)))
 
     -- what is found is an active `$f` of a mandatory variable
@@ -175,21 +175,22 @@ module _ (db : List Statement) (k : ℕ) where
         let v = w.0 in
         let t = get_or ts v 0 in
         let same =
-        eqb-true j t (and_parts (nat_eq j t) (not (nat_eq t never) && stays db t k) w.2).0 in
-        let rest = (and_parts (nat_eq j t) (not (nat_eq t never) && stays db t k) w.2).1 in
+        eqb-true j t
+            (and_parts (nat_eq j t) (not (nat_eq t never) && is_block_open db t k) w.2).0 in
+        let rest = (and_parts (nat_eq j t) (not (nat_eq t never) && is_block_open db t k) w.2).1 in
         let m = sym (found_is v) ∙ w.1 in
         let s =
         typed.some v (mandatory_named v m)
         (λ z. true≢false
-        (sym (and_parts (not (nat_eq t never)) (stays db t k) rest).0
+        (sym (and_parts (not (nat_eq t never)) (is_block_open db t k) rest).0
         ∙ ap not (eq-eqb t never z))) in
         let l : j < k = subst (λ i. i < k) (sym same) s.0 in
         let n : j < length db = omega arith in
         let at : typed_at db j ≡ Some v = ap (typed_at db) same ∙ s.1 in
         let x = typed_float db sound j v n at in
         let c = index_of x.typecode.word (symbol_names db) in (
-          float_active db sound j v n x k l ∙ ap (λ i. stays db i k) same
-              ∙ (and_parts (not (nat_eq t never)) (stays db t k) rest).1,
+          float_active db sound j v n x k l ∙ ap (λ i. is_block_open db i k) same
+              ∙ (and_parts (not (nat_eq t never)) (is_block_open db t k) rest).1,
           floating_is db sound j v n x,
           ap (list_any (is_member (mandatory_variables db k))) (formula_is db sound j v n x)
               ∙ ap (λ b. is_member (mandatory_variables db k) c || (b || false)) m

@@ -11,7 +11,7 @@ use Rattle.std.proofs.lemmas.Bool.{and_parts, false_from_ne_true}
 use Rattle.std.proofs.Math.Bool.{or-true}
 use Rattle.mm_spec.specs.Statement.{Statement}
 use Rattle.mm_spec.specs.Scope.{statement_at}
-use Rattle.mm_spec.specs.Scope.{stays}
+use Rattle.mm_spec.specs.Scope.{is_block_open}
 use Rattle.mm_spec.specs.Derivation.{is_member}
 use Rattle.mm_spec.specs.Frame.{active_of}
 use Rattle.mm_spec.proofs.BoolLaw.{same_tests}
@@ -28,25 +28,26 @@ module _ (test : Statement → Bool) (db : List Statement) where
   pub on_earlier : (i j k : ℕ) → i ≤ j → j ≤ k → is_staying test db i k ≡ true
       → is_staying test db i j ≡ true
   on_earlier i j k h l e =
-      ap₂ (λ a b. a && b) (and_parts (list_any test (statement_at db i)) (stays db i k) e).0
+      ap₂ (λ a b. a && b) (and_parts (list_any test (statement_at db i)) (is_block_open db i k) e).0
       (stays_earlier db i j k h l
-      (and_parts (list_any test (statement_at db i)) (stays db i k) e).1)
+      (and_parts (list_any test (statement_at db i)) (is_block_open db i k) e).1)
 
   pub on_nested : (i j k : ℕ) → i < j → j ≤ k → is_staying test db j k ≡ true
       → is_staying test db i k ≡ is_staying test db i j
   on_nested i j k h l e =
       ap (λ b. list_any test (statement_at db i) && b)
-      (stays_nested db i j k h l (and_parts (list_any test (statement_at db j)) (stays db j k) e).1)
+      (stays_nested db i j k h l
+      (and_parts (list_any test (statement_at db j)) (is_block_open db j k) e).1)
 
   -- a candidate that is not open gives way to the last one active at it
   pub candidate_next : (k last next : ℕ) → IsCandidate test db k last → last ≢ never
-      → stays db last k ≡ false → IsLatest test db last next → IsCandidate test db k next
+      → is_block_open db last k ≡ false → IsLatest test db last next → IsCandidate test db k next
   candidate_next k last next c ne out x = record {
     found =
         λ n. let f = x.found n in let g = c.found ne in (
           (let a = f.0 in let b = g.0 in omega (arith, a, b)),
           (and_parts
-              (list_any test (statement_at db next)) (stays db next last) f.1).0,
+              (list_any test (statement_at db next)) (is_block_open db next last) f.1).0,
         );
     after = λ i h o. by i h o (cases_order i last);
   }
@@ -62,11 +63,12 @@ module _ (test : Statement → Bool) (db : List Statement) where
           subst (λ i. is_staying test db i k ≡ false) (sym e)
           (false_from_ne_true (is_staying test db last k)
           (λ t. true≢false
-          (sym (and_parts (list_any test (statement_at db last)) (stays db last k) t).1 ∙ out)))
+          (sym (and_parts (list_any test (statement_at db last)) (is_block_open db last k) t).1
+          ∙ out)))
       by i h o (inr (inr g)) = c.after i h (inl g)
 
   pub candidate_open : (k last : ℕ) → IsCandidate test db k last
-      → (last ≢ never → stays db last k ≡ true) → IsLatest test db k last
+      → (last ≢ never → is_block_open db last k ≡ true) → IsLatest test db k last
   candidate_open k last c o = record {
     found = λ n. let f = c.found n in (f.0, ap₂ (λ a b. a && b) f.1 (o n));
     after = c.after;
@@ -91,7 +93,7 @@ module _ (test : Statement → Bool) (db : List Statement) where
         λ n. let f = x.found n in (
           (let l = f.0 in omega (arith, l)),
           (and_parts (list_any test (statement_at db last))
-              (stays db last k) f.1).0,
+              (is_block_open db last k) f.1).0,
         );
     after = λ i h o. by i h o (cases_lt i k);
   }
@@ -104,7 +106,8 @@ module _ (test : Statement → Bool) (db : List Statement) where
           (sym (on_earlier i k (k + 1) (omega arith) (omega arith) t) ∙ x.after i l o))
       by i h o (inr g) =
           let same : i ≡ k = omega arith in
-          ap (λ b. b && stays db i (k + 1)) (ap (λ i. list_any test (statement_at db i)) same ∙ e)
+          ap (λ b. b && is_block_open db i (k + 1))
+              (ap (λ i. list_any test (statement_at db i)) same ∙ e)
 
   pub latest_start : (last : ℕ) → last ≡ never → IsLatest test db 0 last
   latest_start last e = record { found = λ n. absurd (n e); after = λ i h o. absurd (omega arith) }

@@ -3,24 +3,26 @@ use Rattle.std.proofs.Common.{◌≡◌, ℕ, ◌<◌, ◌≤◌, true, List, ar
 use Rattle.std.proofs.Common.{inr}
 use Rattle.std.proofs.lemmas.Bool.{cases_lt}
 use Rattle.mm_spec.specs.Statement.{Statement}
-use Rattle.mm_spec.specs.Scope.{depth, stays}
+use Rattle.mm_spec.specs.Scope.{depth, is_block_open}
 use Rattle.mm_spec.specs.Laws.Blocks.{InBlock}
-use Rattle.mm_spec.proofs.ActivityLaw.{stays_exact}
+use Rattle.mm_spec.proofs.ActivityLaw.{is_block_open_exact}
 use Rattle.mm_spec.proofs.BoolLaw.{same_tests}
 
 module _ (db : List Statement) where
   -- what stays open is open before
-  pub stays_earlier : (j k l : ℕ) → j ≤ k → k ≤ l → stays db j l ≡ true → stays db j k ≡ true
+  pub stays_earlier : (j k l : ℕ) → j ≤ k → k ≤ l → is_block_open db j l ≡ true
+      → is_block_open db j k ≡ true
   stays_earlier j k l h m e =
-      let inside = (stays_exact db j l (omega arith)).0 e in
-      (stays_exact db j k h).1 (λ i a b. inside i a (omega arith))
+      let inside = (is_block_open_exact db j l (omega arith)).0 e in
+      (is_block_open_exact db j k h).1 (λ i a b. inside i a (omega arith))
 
   -- to the end of the inner one is to where it began
-  pub stays_nested : (i j k : ℕ) → i < j → j ≤ k → stays db j k ≡ true → stays db i k ≡ stays db i j
+  pub stays_nested : (i j k : ℕ) → i < j → j ≤ k → is_block_open db j k ≡ true
+      → is_block_open db i k ≡ is_block_open db i j
   stays_nested i j k h l e =
-      same_tests (stays db i k) (stays db i j) (stays_earlier i j k (omega arith) l)
-      (λ f. (stays_exact db i k (omega arith)).1
-      (outer ((stays_exact db i j (omega arith)).0 f) ((stays_exact db j k l).0 e)))
+      same_tests (is_block_open db i k) (is_block_open db i j) (stays_earlier i j k (omega arith) l)
+      (λ f. (is_block_open_exact db i k (omega arith)).1
+      (outer ((is_block_open_exact db i j (omega arith)).0 f) ((is_block_open_exact db j k l).0 e)))
     where
       outer : InBlock db i j → InBlock db j k → InBlock db i k
       outer f g m a b = by (cases_lt j m)

@@ -4,7 +4,7 @@ use Rattle.std.specs.Prelude.{slice_index, nat_eq, Some}
 use Rattle.mm_spec.specs.Statement.{Statement}
 use Rattle.mm_spec.specs.Frame.{symbol_names}
 use Rattle.mm_spec.specs.Derivation.{is_member}
-use Rattle.mm_spec.specs.Scope.{stays}
+use Rattle.mm_spec.specs.Scope.{is_block_open}
 use Rattle.mm_outline.specs.Blocks.{never}
 use Rattle.mm_database.specs.Parsed.{typed_at}
 
@@ -25,7 +25,7 @@ pub record AreTyped (db : List Statement) (k : ℕ) (typed : List ℕ) : Type 0 
   pub some : (v : ℕ) → v < length (symbol_names db) → slice_index typed v ≢ never
       → (slice_index typed v < k) × (typed_at db (slice_index typed v) ≡ Some v)
   pub alone : (j v : ℕ) → j < k → v < length (symbol_names db) → typed_at db j ≡ Some v
-      → stays db j k ≡ true → slice_index typed v ≡ j
+      → is_block_open db j k ≡ true → slice_index typed v ≡ j
 
 -- What a walk keeps for the symbols is ready for statement k: the last `$f` of each variable before
 -- k, and for each symbol a stamp that isn't after k.
@@ -37,4 +37,4 @@ pub record AreReady (db : List Statement) (k : ℕ) (typed seen : List ℕ) : Ty
 abbrev pub is_float_of : List Statement → ℕ → List ℕ → ℕ → ℕ → Bool
 is_float_of db k typed j v =
     nat_eq j (slice_index typed v)
-    && (not (nat_eq (slice_index typed v) never) && stays db (slice_index typed v) k)
+    && (not (nat_eq (slice_index typed v) never) && is_block_open db (slice_index typed v) k)

@@ -3,13 +3,13 @@ use Rattle.std.specs.Prelude.{◌≡◌, ◌≢◌, ℕ, ◌+◌, ◌<◌, ◌�
 use Rattle.std.specs.Prelude.{slice_index, ◌⊎◌}
 use Rattle.std.specs.List.{list_any}
 use Rattle.mm_spec.specs.Statement.{Statement}
-use Rattle.mm_spec.specs.Scope.{statement_at, stays}
+use Rattle.mm_spec.specs.Scope.{statement_at, is_block_open}
 use Rattle.mm_outline.specs.Blocks.{never}
 
 module _ (test : Statement → Bool) (db : List Statement) where
   -- statement j is of the kind, and its block is open at k
   abbrev pub is_staying : ℕ → ℕ → Bool
-  is_staying j k = list_any test (statement_at db j) && stays db j k
+  is_staying j k = list_any test (statement_at db j) && is_block_open db j k
 
   -- no statement of the kind after `last` is active at k; `last` may be `never`, for none
   pub record IsCandidate (k last : ℕ) : Type 0 where

@@ -5,8 +5,8 @@ use Rattle.std.proofs.Common.{lit≤}
 use Rattle.std.specs.Fmt.{digits}
 use Rattle.std.specs.List.{range_with_len}
 use Rattle.mm_spec.specs.Text.{token, fault}
-use Rattle.mm_spec.specs.Statement.{Statement, constants, spelled}
-use Rattle.mm_spec.specs.Laws.Table.{start, stop_from}
+use Rattle.mm_spec.specs.Statement.{Statement, constants, spelling_of}
+use Rattle.mm_spec.specs.Laws.Table.{start, shape_fault_from}
 use Rattle.mm_spec.specs.Scope.{active}
 use Rattle.mm_spec.specs.Lawful.{scope_fault}
 use Rattle.mm_spec.specs.Derivation.{Trees, none, more, tree, AreDerivations, pair}
@@ -17,24 +17,23 @@ use Rattle.mm_spec.specs.Report.{cells, report, citation_report, line, refusal}
 use Rattle.mm_spec.specs.Request.{Request, plain}
 use Rattle.mm_spec.specs.declared.Form.{Form}
 use Rattle.mm_spec.specs.declared.Form.TheVariants.{One, Two}
-use Rattle.mm_spec.specs.declared.Choice.TheVariants.{All}
 use Rattle.mm_laws.proofs.ReaderLaw.{lexed, statements}
 use Rattle.mm_spec.specs.declared.Code.TheVariants.{OpenComment, BadByte, UnopenedBlock}
 use Rattle.mm_spec.specs.declared.Code.TheVariants.{ConstantInBlock, OtherTypecode, UntypedVariable}
 use Rattle.mm_spec.specs.declared.Code.TheVariants.{RepeatedVariable, NotDisjoint}
 
-abbrev text_b : List ℕ
-text_b =
+abbrev axioms_text : List ℕ
+axioms_text =
     codes "$c wff |- ( -> ) $. $v p q $. wp $f wff p $. wq $f wff q $. wi $a wff ( p -> q ) $. ax-1 $a |- ( p -> ( q -> p ) ) $. "
 
 -- comments are no tokens
-comment : lexed (codes "$c a $( $c $. b $) $. $( c")
+comments_are_no_tokens : lexed (codes "$c a $( $c $. b $) $. $( c")
     ≡ record {
       tokens = token 0 (codes "$c") ∷ token 3 (codes "a") ∷ token 19 (codes "$.") ∷ [];
       fault = Some (fault 22 OpenComment);
     }
 unfolding lexed
-comment = refl
+comments_are_no_tokens = refl
 
 bad_byte : (lexed (codes "$c a" ++ 7 ∷ codes "b $.")).fault ≡ Some (fault 4 BadByte)
 unfolding lexed
@@ -45,81 +44,83 @@ stops_at : statements (codes "$c a $. $} $c b $.") ≡ constants 0 (token 3 (cod
 unfolding statements
 stops_at = refl
 
-unopened : stop_from (start 0) (lexed (codes "$c a $. $} $c b $.")).tokens
+unopened : shape_fault_from (start 0) (lexed (codes "$c a $. $} $c b $.")).tokens
     ≡ Some (fault 8 UnopenedBlock)
 unfolding lexed
 unopened = refl
 
-spelled_b : flat_map spelled (statements text_b) ≡ (lexed text_b).tokens
+statements_are_spelled : flat_map spelling_of (statements axioms_text) ≡ (lexed axioms_text).tokens
 unfolding statements
-spelled_b = refl
+statements_are_spelled = refl
 
-active_b : active (statements text_b) 6 ≡ 0 ∷ 1 ∷ 2 ∷ 3 ∷ 4 ∷ 5 ∷ []
+axioms_active : active (statements axioms_text) 6 ≡ 0 ∷ 1 ∷ 2 ∷ 3 ∷ 4 ∷ 5 ∷ []
 unfolding statements
-active_b = refl
+axioms_active = refl
 
-lawful_b : map (scope_fault (statements text_b)) (range_with_len 0 6)
+axioms_are_lawful : map (scope_fault (statements axioms_text)) (range_with_len 0 6)
     ≡ None ∷ None ∷ None ∷ None ∷ None ∷ None ∷ []
 unfolding statements
-lawful_b = refl
+axioms_are_lawful = refl
 
-e11 : scope_fault (statements (codes "$c a $. ${ $c b $. $}")) 2 ≡ Some (fault 11 ConstantInBlock)
+constant_in_block : scope_fault (statements (codes "$c a $. ${ $c b $. $}")) 2
+    ≡ Some (fault 11 ConstantInBlock)
 unfolding statements
-e11 = refl
+constant_in_block = refl
 
-e21 : scope_fault
+other_typecode : scope_fault
     (statements (codes "$c a b $. ${ $v x $. fx $f a x $. $} ${ $v x $. gx $f b x $. $}")) 7
     ≡ Some (fault 56 OtherTypecode)
 unfolding statements
-e21 = refl
+other_typecode = refl
 
-e22 : scope_fault (statements (codes "$c a $. $v x $. y $a a x $.")) 2
+untyped_variable : scope_fault (statements (codes "$c a $. $v x $. y $a a x $.")) 2
     ≡ Some (fault 23 UntypedVariable)
 unfolding statements
-e22 = refl
+untyped_variable = refl
 
-e25 : scope_fault (statements (codes "$v x $. $d x x $.")) 1 ≡ Some (fault 13 RepeatedVariable)
+repeated_variable : scope_fault (statements (codes "$v x $. $d x x $.")) 1
+    ≡ Some (fault 13 RepeatedVariable)
 unfolding statements
-e25 = refl
+repeated_variable = refl
 
-abbrev row_1 : List ℕ
-row_1 = text_b ++ codes "wi2 $p wff ( p -> ( q -> p ) ) $= wp wq wp wi wi $. "
+abbrev theorem_text : List ℕ
+theorem_text = axioms_text ++ codes "wi2 $p wff ( p -> ( q -> p ) ) $= wp wq wp wi wi $. "
 
-abbrev db_1 : List Statement
-db_1 = statements row_1
+abbrev theorem_db : List Statement
+theorem_db = statements theorem_text
 
-names_1 : symbol_names db_1
+names_of_symbols : symbol_names theorem_db
     ≡ codes "wff" ∷ codes "|-" ∷ codes "(" ∷ codes "->" ∷ codes ")" ∷ codes "p" ∷ codes "q" ∷ []
 unfolding statements
-names_1 = refl
+names_of_symbols = refl
 
-frame_1 : frame_at db_1 4
+frame_of_wi : frame_at theorem_db 4
     ≡ record {
       hypotheses = (0 ∷ 5 ∷ []) ∷ (0 ∷ 6 ∷ []) ∷ [];
       pairs = [];
       formula = 0 ∷ 2 ∷ 5 ∷ 3 ∷ 6 ∷ 4 ∷ [];
     }
 unfolding statements
-frame_1 = refl
+frame_of_wi = refl
 
-steps_1 : steps_at db_1 6
+steps_of_wi2 : steps_at theorem_db 6
     ≡ placed 152 (label 2) ∷ placed 155 (label 3) ∷ placed 158 (label 2) ∷ placed 161 (label 4)
     ∷ placed 164 (label 4) ∷ []
 unfolding statements
-steps_1 = refl
+steps_of_wi2 = refl
 
--- the derivation of row 1
-abbrev inner : Trees
-inner = more (more none 3 (0 ∷ 6 ∷ []) none) 2 (0 ∷ 5 ∷ []) none
+-- the derivation of `wi2`
+abbrev inner_children : Trees
+inner_children = more (more none 3 (0 ∷ 6 ∷ []) none) 2 (0 ∷ 5 ∷ []) none
 
-abbrev f_inner : List ℕ
-f_inner = 0 ∷ 2 ∷ 6 ∷ 3 ∷ 5 ∷ 4 ∷ []
+abbrev inner_formula : List ℕ
+inner_formula = 0 ∷ 2 ∷ 6 ∷ 3 ∷ 5 ∷ 4 ∷ []
 
-abbrev outer : Trees
-outer = more (more none 2 (0 ∷ 5 ∷ []) none) 4 f_inner inner
+abbrev outer_children : Trees
+outer_children = more (more none 2 (0 ∷ 5 ∷ []) none) 4 inner_formula inner_children
 
-abbrev f_outer : List ℕ
-f_outer = 0 ∷ 2 ∷ 5 ∷ 3 ∷ 2 ∷ 6 ∷ 3 ∷ 5 ∷ 4 ∷ 4 ∷ []
+abbrev wi2_formula : List ℕ
+wi2_formula = 0 ∷ 2 ∷ 5 ∷ 3 ∷ 2 ∷ 6 ∷ 3 ∷ 5 ∷ 4 ∷ 4 ∷ []
 
 abbrev swap_pq : ℕ → List ℕ
 swap_pq x = elim (x == 5) [ true ↦ 6 ∷ [] | false ↦ 5 ∷ [] ]
@@ -127,9 +128,9 @@ swap_pq x = elim (x == 5) [ true ↦ 6 ∷ [] | false ↦ 5 ∷ [] ]
 abbrev p_to_p : ℕ → List ℕ
 p_to_p x = elim (x == 5) [ true ↦ 5 ∷ [] | false ↦ 2 ∷ 6 ∷ 3 ∷ 5 ∷ 4 ∷ [] ]
 
-derivation_1 : AreDerivations (context_at db_1 6) (tree 4 f_outer outer)
+derivation_of_wi2 : AreDerivations (context_at theorem_db 6) (tree 4 wi2_formula outer_children)
 unfolding statements
-derivation_1 = (
+derivation_of_wi2 = (
   tt,
   (
     (tt, tt, (refl, refl, lit≤ tt)),
@@ -139,16 +140,16 @@ derivation_1 = (
   (p_to_p, refl, refl, refl, lit≤ tt),
 )
 
-valid_1 : IsValid db_1 6
+wi2_is_valid : IsValid theorem_db 6
 unfolding statements
-valid_1 = (
+wi2_is_valid = (
   refl,
-  tree 4 f_outer outer,
+  tree 4 wi2_formula outer_children,
   (
     4,
-    outer,
+    outer_children,
     refl,
-    derivation_1,
+    derivation_of_wi2,
     (
       2 ∷ [],
       refl,
@@ -161,42 +162,44 @@ valid_1 = (
   ),
 )
 
--- row 13
-abbrev row_13 : List ℕ
-row_13 =
-    text_b ++ codes "${ $d p q $. ax-d $a |- ( p -> q ) $. $} bad $p |- ( p -> q ) $= wp wq ax-d $. "
+-- a text whose last proof has a fault
+abbrev faulty_text : List ℕ
+faulty_text =
+    axioms_text
+    ++ codes "${ $d p q $. ax-d $a |- ( p -> q ) $. $} bad $p |- ( p -> q ) $= wp wq ax-d $. "
 
-frame_13 : (frame_at (statements row_13) 8).pairs ≡ pair 5 6 ∷ []
+frame_of_ax_d : (frame_at (statements faulty_text) 8).pairs ≡ pair 5 6 ∷ []
 unfolding statements
-frame_13 = refl
+frame_of_ax_d = refl
 
-refusal_13 : refusal (text_b ++ 10 ∷ codes "ab") (fault 121 NotDisjoint)
+refusal_in_line_2 : refusal (axioms_text ++ 10 ∷ codes "ab") (fault 121 NotDisjoint)
     ≡ codes "refused 2:3 E36" ++ 10 ∷ []
 unfolding digits
-refusal_13 = refl
+refusal_in_line_2 = refl
 
--- the whole report in a form
-abbrev whole : Form → Request
-whole form = record plain { form = form }
+-- the request of all sections, with the matrix in this form
+abbrev all_sections : Form → Request
+all_sections form = record plain { form = form }
 
-report_1 : report (whole One) None (codes "wi" ∷ codes "ax-1" ∷ [])
+report_of_wi2 : report (all_sections One) None (codes "wi" ∷ codes "ax-1" ∷ [])
     (record { label = codes "wi2"; marks = true ∷ false ∷ [] } ∷ [])
     ≡ flat_map line
     (codes "mmdepend 1" ∷ codes "axioms 2" ∷ codes "theorems 1" ∷ codes "matrix"
     ∷ codes "wi2:10" ∷ codes "counts" ∷ codes "wi2:1" ∷ codes "usage" ∷ codes "wi:1:wi2"
     ∷ codes "ax-1:0:" ∷ codes "end" ∷ [])
 unfolding digits
-report_1 = refl
+report_of_wi2 = refl
 
--- four columns a digit, the first as the highest bit, and what is missing is 0
-digits_2 : cells Two (true ∷ false ∷ true ∷ true ∷ true ∷ false ∷ []) ≡ codes "b8"
-digits_2 = refl
+-- a digit stands for four columns, the first of them as its highest bit; columns that are missing
+-- count as 0
+hexadecimal_cells : cells Two (true ∷ false ∷ true ∷ true ∷ true ∷ false ∷ []) ≡ codes "b8"
+hexadecimal_cells = refl
 
-citations_1 : citation_report (whole Two) None 3
+report_of_citations : citation_report (all_sections Two) None 3
     (record { label = codes "a2"; cited = codes "wi" ∷ codes "a1i" ∷ [] }
     ∷ record { label = codes "b"; cited = [] } ∷ [])
     ≡ flat_map line
     (codes "mmdepend 2" ∷ codes "axioms 3" ∷ codes "theorems 2" ∷ codes "citations"
     ∷ codes "a2:2:wi a1i" ∷ codes "b:0:" ∷ codes "end" ∷ [])
 unfolding digits
-citations_1 = refl
+report_of_citations = refl

@@ -4,13 +4,13 @@ use Rattle.std.proofs.Common.{append_assoc}
 use Rattle.mm_spec.specs.Derivation.{Context, formulas, postfix}
 use Rattle.mm_spec.specs.Steps.{Step, label, marked}
 use Rattle.mm_spec.specs.Valid.{Reason, StepFails, Adds, Plain}
-use Rattle.mm_spec.specs.Laws.Complete.{IsFine}
+use Rattle.mm_spec.specs.Laws.Complete.{HasCompleteFrame}
 use Rattle.mm_spec.proofs.MachineLaw.{AreGood}
-use Rattle.mm_spec.proofs.StepsLaw.{forest_good, StoppedStep}
+use Rattle.mm_spec.proofs.StepsLaw.{forest_good, StoppedSteps}
 use Rattle.mm_spec.proofs.CheckedLaw.{plain_unique}
 use Rattle.mm_laws.proofs.ExactLaw.{IsPostfixOfForest, stopped_no_forest}
 
-module _ (c : Context) (fine : (l : ℕ) → IsFine c (c.rule l)) where
+module _ (c : Context) (all_complete : (l : ℕ) → HasCompleteFrame c (c.rule l)) where
   -- the plain list only grows
   adds_more : (lists : List (List ℕ)) (old : List ℕ) (s : Step) (new : List ℕ)
       → Adds c lists old s new → (rest : List ℕ) × (new ≡ old ++ rest)
@@ -37,27 +37,30 @@ module _ (c : Context) (fine : (l : ℕ) → IsFine c (c.rule l)) where
 
   -- a step that fails leaves no forest for the whole
   pub excludes : (steps : List Step) (reason : Reason) (all : List ℕ)
-      → StoppedStep c [] [] steps reason → Plain c [] [] steps all → ¬ IsPostfixOfForest c all
-  excludes steps reason all s h forest = go s.first s.fails p.3
+      → StoppedSteps c [] [] steps reason → Plain c [] [] steps all → ¬ IsPostfixOfForest c all
+  excludes steps reason all s h forest = by_step s.first s.fails plain_parts.3
     where
-      p : (mid : List ℕ) × (seen : List (List ℕ)) × Plain c [] [] s.before mid
+      plain_parts : (mid : List ℕ) × (seen : List (List ℕ)) × Plain c [] [] s.before mid
           × Plain c seen mid (s.first ∷ s.after) all
-      p =
+      plain_parts =
           plain_front s.before (s.first ∷ s.after) [] [] all
           (subst (λ x. Plain c [] [] x all) s.splits h)
 
-      go : (first : Step) → StepFails c first (formulas s.forest) reason
-          → Plain c p.1 p.0 (first ∷ s.after) all → ⊥
-      go (marked j) fails q = fails
-      go (label l) fails q =
-          let rest = plain_more s.after (p.1 ++ q.0 ∷ []) q.0 all q.2 in
-          let whole : all ≡ p.0 ++ l ∷ rest.0 =
-          rest.1 ∙ ap (λ z. z ++ rest.0) q.1 ∙ append_assoc p.0 (l ∷ []) rest.0 in
-          let labels : postfix s.forest ≡ p.0 =
-          s.is ∙ plain_unique c fine s.before [] [] s.labels p.0 s.plain p.2 in
-          stopped_no_forest c all reason (subst (AreGood c) forest.2 (forest_good c fine forest.0 forest.1))
+      by_step : (first : Step) → StepFails c first (formulas s.forest) reason
+          → Plain c plain_parts.1 plain_parts.0 (first ∷ s.after) all → ⊥
+      by_step (marked j) fails q = fails
+      by_step (label l) fails q =
+          let rest = plain_more s.after (plain_parts.1 ++ q.0 ∷ []) q.0 all q.2 in
+          let whole : all ≡ plain_parts.0 ++ l ∷ rest.0 =
+          rest.1 ∙ ap (λ z. z ++ rest.0) q.1 ∙ append_assoc plain_parts.0 (l ∷ []) rest.0 in
+          let labels : postfix s.forest ≡ plain_parts.0 =
+          s.is
+          ∙ plain_unique c all_complete s.before [] [] s.labels plain_parts.0 s.plain
+          plain_parts.2 in
+          stopped_no_forest c all reason
+          (subst (AreGood c) forest.2 (forest_good c all_complete forest.0 forest.1))
           (record {
-            before = p.0;
+            before = plain_parts.0;
             label = l;
             after = rest.0;
             splits = whole;

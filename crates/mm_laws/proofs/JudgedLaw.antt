@@ -10,10 +10,10 @@ use Rattle.mm_spec.specs.Derivation.{AreDerivations}
 use Rattle.mm_spec.specs.Steps.{Step, PlacedStep}
 use Rattle.mm_spec.specs.Valid.{code_of, Plain, IsPlain, Derives, StepFault, ProofEndFault}
 use Rattle.mm_spec.specs.Valid.{IsEndCode}
-use Rattle.mm_spec.proofs.MachineLaw.{Failed}
-use Rattle.mm_spec.proofs.StepsLaw.{run_steps, StoppedStep, RanSteps, means_steps}
+use Rattle.mm_spec.proofs.MachineLaw.{RunFailure}
+use Rattle.mm_spec.proofs.StepsLaw.{run_steps, StoppedSteps, StepsOutcome, steps_outcome}
 use Rattle.mm_spec.specs.Laws.Stack.{AreGoodSteps}
-use Rattle.mm_spec.specs.Laws.Complete.{IsFine}
+use Rattle.mm_spec.specs.Laws.Complete.{HasCompleteFrame}
 use Rattle.mm_spec.proofs.CheckedLaw.{same_forest, plain_unique}
 use Rattle.mm_laws.proofs.ExcludedLaw.{excludes}
 use Rattle.mm_spec.specs.declared.Code.TheVariants.{NotOneEntry, OtherFormula}
@@ -22,7 +22,7 @@ abbrev steps_of : List PlacedStep → List Step
 steps_of ps = map (λ p. p.step) ps
 
 -- a split of the steps is one of the placed steps
-record Split (ps : List PlacedStep) (before : List Step) (first : Step) : Type 0 where
+record PlacedSplit (ps : List PlacedStep) (before : List Step) (first : Step) : Type 0 where
   front : List PlacedStep
   at : ℕ
   back : List PlacedStep
@@ -37,11 +37,11 @@ first_of : Step → List Step → Step
 first_of d [] = d
 first_of d (s ∷ ss) = s
 
-split : (before after : List Step) (first : Step) (ps : List PlacedStep)
-    → steps_of ps ≡ before ++ first ∷ after → Split ps before first
+placed_split : (before after : List Step) (first : Step) (ps : List PlacedStep)
+    → steps_of ps ≡ before ++ first ∷ after → PlacedSplit ps before first
 unfolding rest_of first_of
-split [] after first [] e = cc
-split [] after first (p ∷ ps) e =
+placed_split [] after first [] e = cc
+placed_split [] after first (p ∷ ps) e =
     record {
       front = [];
       at = p.at;
@@ -49,9 +49,9 @@ split [] after first (p ∷ ps) e =
       is = ap (λ s. record { at = p.at; step = s } ∷ ps) (ap (first_of first) e);
       same = refl;
     }
-split (s ∷ before) after first [] e = cc
-split (s ∷ before) after first (p ∷ ps) e =
-    let r = split before after first ps (ap rest_of e) in
+placed_split (s ∷ before) after first [] e = cc
+placed_split (s ∷ before) after first (p ∷ ps) e =
+    let r = placed_split before after first ps (ap rest_of e) in
     record {
       front = p ∷ r.front;
       at = r.at;
@@ -60,15 +60,18 @@ split (s ∷ before) after first (p ∷ ps) e =
       same = ap₂ (λ x y. x ∷ y) (ap (first_of s) e) r.same;
     }
 
-module _ (c : Context) (fine : (l : ℕ) → IsFine c (c.rule l)) (ps : List PlacedStep)
+module _ (c : Context) (all_complete : (l : ℕ) → HasCompleteFrame c (c.rule l))
+    (ps : List PlacedStep)
     (formula : Formula) (end : ℕ) where
-  pub data Judged : Type 0 where
-    valid : (d : Trees) → Derives c (steps_of ps) formula d → Judged
-    step_fault : (f : Fault) → StepFault c ps f → Judged
-    end_fault : (f : Fault) → ProofEndFault c ps formula end f → Judged
+  -- a derivation of the formula, the fault of a step, or the fault of the end
+  pub data Verdict : Type 0 where
+    valid : (d : Trees) → Derives c (steps_of ps) formula d → Verdict
+    step_fault : (f : Fault) → StepFault c ps f → Verdict
+    end_fault : (f : Fault) → ProofEndFault c ps formula end f → Verdict
 
-  -- one entry, or not
-  at_end : (forest : Trees) → AreDerivations c forest → IsPlain c (steps_of ps) (postfix forest) → Judged
+  -- if no step fails: the one entry is the formula, or the end has a fault
+  at_end : (forest : Trees) → AreDerivations c forest → IsPlain c (steps_of ps) (postfix forest)
+      → Verdict
   at_end none d p =
       end_fault (fault end NotOneEntry)
       (record {
@@ -86,22 +89,22 @@ module _ (c : Context) (fine : (l : ℕ) → IsFine c (c.rule l)) (ps : List Pla
         derivations = d;
         plain = p;
         code = NotOneEntry;
-        fails = two (formulas ts) h g;
+        fails = not_one_entry (formulas ts) h g;
         is = refl;
       })
     where
-      two : (xs : List Formula) (h g : Formula)
+      not_one_entry : (xs : List Formula) (h g : Formula)
           → IsEndCode c ((xs ++ h ∷ []) ++ g ∷ []) formula NotOneEntry
-      two [] h g = refl
-      two (x ∷ []) h g = refl
-      two (x ∷ y ∷ xs) h g = refl
-  at_end (more none l g cs) d p = go (bytes_eq g formula) refl
+      not_one_entry [] h g = refl
+      not_one_entry (x ∷ []) h g = refl
+      not_one_entry (x ∷ y ∷ xs) h g = refl
+  at_end (more none l g cs) d p = by_formula (bytes_eq g formula) refl
     where
-      go : (b : Bool) → bytes_eq g formula ≡ b → Judged
-      go true e =
+      by_formula : (b : Bool) → bytes_eq g formula ≡ b → Verdict
+      by_formula true e =
           valid (more none l g cs)
           (l, cs, ap (λ z. tree l z cs) ((bytes_eq-Decides g formula).0 e), d, p)
-      go false e =
+      by_formula false e =
           end_fault (fault end OtherFormula)
           (record {
             forest = more none l g cs;
@@ -112,15 +115,18 @@ module _ (c : Context) (fine : (l : ℕ) → IsFine c (c.rule l)) (ps : List Pla
             is = refl;
           })
 
-  -- one of the three
-  pub judged : AreGoodSteps c 0 (steps_of ps) → Judged
-  judged good =
-      go (run_steps c [] (steps_of ps) []) (means_steps c (steps_of ps) [] [] none tt tt good)
+  -- steps that are good have one of the three
+  pub verdict : AreGoodSteps c 0 (steps_of ps) → Verdict
+  verdict good =
+      by_result (run_steps c [] (steps_of ps) [])
+      (steps_outcome c (steps_of ps) [] [] none tt tt good)
     where
-      go : (r : Result (List Formula) Failed) → RanSteps c [] [] (steps_of ps) r → Judged
-      go (Ok out) m = at_end m.2 m.3 (subst (λ x. Plain c [] [] (steps_of ps) x) (sym m.4) m.1)
-      go (Err e) m =
-          let s = split m.before m.after m.first ps m.splits in
+      by_result : (r : Result (List Formula) RunFailure) → StepsOutcome c [] [] (steps_of ps) r
+          → Verdict
+      by_result (Ok out) m =
+          at_end m.2 m.3 (subst (λ x. Plain c [] [] (steps_of ps) x) (sym m.4) m.1)
+      by_result (Err e) m =
+          let s = placed_split m.before m.after m.first ps m.splits in
           step_fault (fault s.at (code_of e.reason))
           (record {
             before = s.front;
@@ -137,8 +143,9 @@ module _ (c : Context) (fine : (l : ℕ) → IsFine c (c.rule l)) (ps : List Pla
             is = refl;
           })
 
-  pub stopped : (f : Fault) → (s : StepFault c ps f) → StoppedStep c [] [] (steps_of ps) s.reason
-  stopped f s = record {
+  pub stopped_steps : (f : Fault) → (s : StepFault c ps f)
+      → StoppedSteps c [] [] (steps_of ps) s.reason
+  stopped_steps f s = record {
     before = steps_of s.before;
     first = s.first.step;
     after = steps_of s.after;
@@ -160,18 +167,20 @@ module _ (c : Context) (fine : (l : ℕ) → IsFine c (c.rule l)) (ps : List Pla
   pub no_step_fault : (d : Trees) → Derives c (steps_of ps) formula d → (f : Fault)
       → ¬ StepFault c ps f
   no_step_fault d h f s =
-      excludes c fine (steps_of ps) s.reason (postfix d) (stopped f s) h.4 (d, h.3, refl)
+      excludes c all_complete (steps_of ps) s.reason (postfix d) (stopped_steps f s) h.4
+      (d, h.3, refl)
 
   pub no_both_faults : (f g : Fault) → StepFault c ps f → ¬ ProofEndFault c ps formula end g
   no_both_faults f g s h =
-      excludes c fine (steps_of ps) s.reason (postfix h.forest) (stopped f s) h.plain
+      excludes c all_complete (steps_of ps) s.reason (postfix h.forest) (stopped_steps f s) h.plain
       (h.forest, h.derivations, refl)
 
   pub no_end_fault : (d : Trees) → Derives c (steps_of ps) formula d → (f : Fault)
       → ¬ ProofEndFault c ps formula end f
   no_end_fault d h f e =
       let forest : e.forest ≡ d =
-      same_forest c fine e.forest d e.derivations h.3
-      (plain_unique c fine (steps_of ps) [] [] (postfix e.forest) (postfix d) e.plain h.4) in
+      same_forest c all_complete e.forest d e.derivations h.3
+      (plain_unique c all_complete (steps_of ps) [] [] (postfix e.forest)
+      (postfix d) e.plain h.4) in
       let one : formulas e.forest ≡ formula ∷ [] = ap formulas forest ∙ ap formulas h.2 in
       (subst (λ x. IsEndCode c x formula e.code) one e.fails).0 refl

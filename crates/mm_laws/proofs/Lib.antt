@@ -1,4 +1,4 @@
--- All bodies are empty, so the answer of each clause is a lemma. Existence goes from `judged`
+-- All bodies are empty, so the answer of each clause is a lemma. Existence goes from `verdict`
 -- (`JudgedLaw.antt`: a derivation, a step fault or an end fault exists) to `valid_or_faulty`
 -- (`TheoremLaw.antt`), `sound_or_faulty` (`SomeFaultLaw.antt`) and `output_exists`
 -- (`SomeOutputLaw.antt`). Uniqueness goes from `stopped_no_forest` (`ExactLaw.antt`) to `excludes`

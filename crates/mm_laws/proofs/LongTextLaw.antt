@@ -76,16 +76,16 @@ long_texts_refused text request bytes h = (
 )
 
 pub fronts_decide : FrontsDecide
-fronts_decide text request bytes n h = by (cases_lt n (length text))
+fronts_decide text request bytes n h = shorter_or_whole (cases_lt n (length text))
   where
-    by : (n < length text) ⊎ (length text ≤ n)
+    shorter_or_whole : (n < length text) ⊎ (length text ≤ n)
         → IsOutput (take n text) request bytes ↔ IsOutput text request bytes
-    by (inl l) =
+    shorter_or_whole (inl l) =
         let count : length (take n text) ≡ n = length-take-le n text (omega arith) in
         let front = long_texts_refused (take n text) request bytes (omega (arith, h, count)) in
         let whole = long_texts_refused text request bytes (omega arith) in
         (λ o. whole.1 (front.0 o), λ o. front.1 (whole.0 o))
-    by (inr l) =
+    shorter_or_whole (inr l) =
         let same : take n text ≡ text = take_all n text l in (
           (λ o. subst (λ t. IsOutput t request bytes) same o),
           λ o. subst (λ t. IsOutput t request bytes) (sym same) o,

@@ -47,12 +47,12 @@ module _ (db : List Statement) (k : ℕ) where
   abbrev IsPlainWord : Token → Type 0
   IsPlainWord u = (u.word ≢ codes "?") × ((j : ℕ) × IsUsable db k u.word j)
 
-  both : (ts : List Token) (ss : List Step) → AllByRecursion IsPlainWord ts
+  says_normal : (ts : List Token) (ss : List Step) → AllByRecursion IsPlainWord ts
       → AllZip IsLabelStep ts ss → SaysNormal db k ts ss
-  both [] [] w h = tt
-  both [] (s ∷ ss) w h = absurd h
-  both (t ∷ ts) [] w h = absurd h
-  both (t ∷ ts) (s ∷ ss) w h = ((w.0.0, h.0), both ts ss w.1 h.1)
+  says_normal [] [] w h = tt
+  says_normal [] (s ∷ ss) w h = absurd h
+  says_normal (t ∷ ts) [] w h = absurd h
+  says_normal (t ∷ ts) (s ∷ ss) w h = ((w.0.0, h.0), says_normal ts ss w.1 h.1)
 
   plain_words : (ts : List Token) (ss : List Step) → SaysNormal db k ts ss
       → AllByRecursion IsPlainWord ts
@@ -77,20 +77,20 @@ module _ (db : List Statement) (k : ℕ) where
   abbrev HasDerivation : List Step → Type 0
   HasDerivation ss = (d : Trees) × Derives (context_at db k) ss (formula_at db k) d
 
-  abbrev IsRead : ℕ → List Token → Type 0
-  IsRead end ps = (reading_faults db k end ps ≡ []) × HasDerivation (bare_steps db k ps)
+  abbrev IsReadAndDerived : ℕ → List Token → Type 0
+  IsReadAndDerived end ps = (reading_faults db k end ps ≡ []) × HasDerivation (bare_steps db k ps)
 
-  abbrev AreSaid : List Token → Type 0
-  AreSaid ps = (ss : List Step) × Says db k ps ss × HasDerivation ss
+  abbrev SaysDerivation : List Token → Type 0
+  SaysDerivation ps = (ss : List Step) × Says db k ps ss × HasDerivation ss
 
   module _ (named : StepsAreNamed db k) (labelled : StepsAreLabels db k)
       (compressed : CompressedIsExact db k) (normal : NormalIsExact db k) where
-    compressed_means : (end : ℕ) (t : Token) (ts : List Token)
-        → t.word ≡ codes "(" → IsRead end (t ∷ ts) ↔ AreSaid (t ∷ ts)
-    compressed_means end t ts opens = (to, from)
+    compressed_read_if_said : (end : ℕ) (t : Token) (ts : List Token)
+        → t.word ≡ codes "(" → IsReadAndDerived end (t ∷ ts) ↔ SaysDerivation (t ∷ ts)
+    compressed_read_if_said end t ts opens = (read_is_said, said_is_read)
       where
-        to : IsRead end (t ∷ ts) → AreSaid (t ∷ ts)
-        to h =
+        read_is_said : IsReadAndDerived end (t ∷ ts) → SaysDerivation (t ∷ ts)
+        read_is_said h =
             let w = (compressed end t ts opens).0 h.0 in
             let n = named end (t ∷ ts) w.labels w.letters w.items h.0 w.parts w.spelled in (
               bare_steps db k (t ∷ ts),
@@ -99,65 +99,69 @@ module _ (db : List Statement) (k : ℕ) where
               h.1,
             )
 
-        of : (ss : List Step) → SaysCompressed db k (t ∷ ts) ss → HasDerivation ss
-            → IsRead end (t ∷ ts)
-        of ss s h =
+        steps_are_read : (ss : List Step) → SaysCompressed db k (t ∷ ts) ss → HasDerivation ss
+            → IsReadAndDerived end (t ∷ ts)
+        steps_are_read ss s h =
             let w = s.well_spelled in
             let f = (compressed end t ts opens).1 w in
             let n = named end (t ∷ ts) w.labels w.letters w.items f w.parts w.spelled in
             let js : s.js ≡ n.0 = same_usable w.labels s.js n.0 s.labels n.1 in
             let hypotheses = mandatory_hypotheses db k in
-            let said : AreSteps hypotheses n.0 w.items ss =
+            let says_steps : AreSteps hypotheses n.0 w.items ss =
             subst (λ is. AreSteps hypotheses is w.items ss) js s.steps in
             let same : ss ≡ bare_steps db k (t ∷ ts) =
-            steps_unique hypotheses n.0 w.items ss (bare_steps db k (t ∷ ts)) said n.2 in
+            steps_unique hypotheses n.0 w.items ss (bare_steps db k (t ∷ ts)) says_steps n.2 in
             (f, subst HasDerivation same h)
 
-        from : AreSaid (t ∷ ts) → IsRead end (t ∷ ts)
-        from (ss, inl s, h) = of ss s.1 h
-        from (ss, inr s, h) = absurd (s.0 opens)
+        said_is_read : SaysDerivation (t ∷ ts) → IsReadAndDerived end (t ∷ ts)
+        said_is_read (ss, inl s, h) = steps_are_read ss s.1 h
+        said_is_read (ss, inr s, h) = absurd (s.0 opens)
 
-    normal_means : (end : ℕ) (t : Token) (ts : List Token)
-        → t.word ≢ codes "(" → IsRead end (t ∷ ts) ↔ AreSaid (t ∷ ts)
-    normal_means end t ts apart = (to, from)
+    normal_read_if_said : (end : ℕ) (t : Token) (ts : List Token)
+        → t.word ≢ codes "(" → IsReadAndDerived end (t ∷ ts) ↔ SaysDerivation (t ∷ ts)
+    normal_read_if_said end t ts apart = (read_is_said, said_is_read)
       where
-        to : IsRead end (t ∷ ts) → AreSaid (t ∷ ts)
-        to h =
-            let said =
-            both (t ∷ ts) (bare_steps db k (t ∷ ts)) ((normal end t ts apart).0 h.0)
+        read_is_said : IsReadAndDerived end (t ∷ ts) → SaysDerivation (t ∷ ts)
+        read_is_said h =
+            let says_steps =
+            says_normal (t ∷ ts) (bare_steps db k (t ∷ ts)) ((normal end t ts apart).0 h.0)
             (labelled end t ts h.0 apart) in
-            (bare_steps db k (t ∷ ts), inr (apart, said), h.1)
+            (bare_steps db k (t ∷ ts), inr (apart, says_steps), h.1)
 
-        of : (ss : List Step) → SaysNormal db k (t ∷ ts) ss → HasDerivation ss → IsRead end (t ∷ ts)
-        of ss s h =
+        steps_are_read : (ss : List Step) → SaysNormal db k (t ∷ ts) ss → HasDerivation ss
+            → IsReadAndDerived end (t ∷ ts)
+        steps_are_read ss s h =
             let f = (normal end t ts apart).1 (plain_words (t ∷ ts) ss s) in
             let same =
             same_labels (t ∷ ts) ss (bare_steps db k (t ∷ ts)) s (labelled end t ts f apart) in
             (f, subst HasDerivation same h)
 
-        from : AreSaid (t ∷ ts) → IsRead end (t ∷ ts)
-        from (ss, inl s, h) = absurd (apart s.0)
-        from (ss, inr s, h) = of ss s.1 h
+        said_is_read : SaysDerivation (t ∷ ts) → IsReadAndDerived end (t ∷ ts)
+        said_is_read (ss, inl s, h) = absurd (apart s.0)
+        said_is_read (ss, inr s, h) = steps_are_read ss s.1 h
 
-    means : (end : ℕ) (ps : List Token) → IsRead end ps ↔ AreSaid ps
-    means end [] = ((λ h. none h.0), λ h. absurd h.1)
+    read_exactly_if_said : (end : ℕ) (ps : List Token) → IsReadAndDerived end ps ↔ SaysDerivation ps
+    read_exactly_if_said end [] = ((λ h. no_empty_proof h.0), λ h. absurd h.1)
       where
-        none : reading_faults db k end [] ≡ [] → AreSaid []
-        none e = absurd (cc)
-    means end (t ∷ ts) =
-        by (bytes_eq t.word (codes "(")) refl (compressed_means end t ts) (normal_means end t ts)
+        no_empty_proof : reading_faults db k end [] ≡ [] → SaysDerivation []
+        no_empty_proof e = absurd (cc)
+    read_exactly_if_said end (t ∷ ts) =
+        by_bracket (bytes_eq t.word (codes "(")) refl (compressed_read_if_said end t ts)
+        (normal_read_if_said end t ts)
       where
         Goal : Type 0
-        Goal = IsRead end (t ∷ ts) ↔ AreSaid (t ∷ ts)
+        Goal = IsReadAndDerived end (t ∷ ts) ↔ SaysDerivation (t ∷ ts)
 
-        by : (b : Bool)
+        by_bracket : (b : Bool)
             → bytes_eq t.word (codes "(") ≡ b → (t.word ≡ codes "(" → Goal)
             → (t.word ≢ codes "(" → Goal) → Goal
-        by true e c n = c (same_word t.word (codes "(") e)
-        by false e c n = n (λ w. true≢false (sym ((bytes_eq-Decides t.word (codes "(")).1 w) ∙ e))
+        by_bracket true e c n = c (same_word t.word (codes "(") e)
+        by_bracket false e c n =
+            n (λ w. true≢false (sym ((bytes_eq-Decides t.word (codes "(")).1 w) ∙ e))
 
     valid_means : ValidOnTheMeaning db k
-    valid_means theorem = let m = of (slice_get db k) theorem in (to m.0, from m.1)
+    valid_means theorem =
+        let m = by_statement (slice_get db k) theorem in (valid_is_proved m.0, proved_is_valid m.1)
       where
         words : Option Statement → List Token
         words o = elim o [ Some (provable l p xs e ps d) ↦ ps | _ ↦ [] ]
@@ -168,27 +172,30 @@ module _ (db : List Statement) (k : ℕ) where
         placed_steps : Option Statement → List PlacedStep
         placed_steps o = elim o [ Some (provable l p xs e ps d) ↦ steps db k ps | _ ↦ [] ]
 
-        Valid : Option Statement → Type 0
-        Valid o = (faults o ≡ []) × HasDerivation (map (λ s. s.step) (placed_steps o))
+        IsValidProof : Option Statement → Type 0
+        IsValidProof o = (faults o ≡ []) × HasDerivation (map (λ s. s.step) (placed_steps o))
 
-        found : Option Statement → List Statement
-        found o = elim o [ None ↦ [] | Some s ↦ s ∷ [] ]
+        statement_if_any : Option Statement → List Statement
+        statement_if_any o = elim o [ None ↦ [] | Some s ↦ s ∷ [] ]
 
-        of : (o : Option Statement) → list_any is_theorem (found o) ≡ true
-            → Valid o ↔ AreSaid (words o)
-        of None t = absurd (true≢false (sym t))
-        of (Some (provable l p xs e ps d)) t = means d ps
-        of (Some _) t = absurd (true≢false (sym t))
+        by_statement : (o : Option Statement) → list_any is_theorem (statement_if_any o) ≡ true
+            → IsValidProof o ↔ SaysDerivation (words o)
+        by_statement None t = absurd (true≢false (sym t))
+        by_statement (Some (provable l p xs e ps d)) t = read_exactly_if_said d ps
+        by_statement (Some _) t = absurd (true≢false (sym t))
 
-        to : (Valid (slice_get db k) → AreSaid (words (slice_get db k))) → IsValid db k
+        valid_is_proved : (IsValidProof (slice_get db k) → SaysDerivation (words (slice_get db k)))
+            → IsValid db k
             → IsProved db k
-        to m h =
+        valid_is_proved m h =
             let s = m (h.0, (h.1, h.2)) in
             record { steps = s.0; said = s.1; derivation = s.2.0; derives = s.2.1 }
 
-        from : (AreSaid (words (slice_get db k)) → Valid (slice_get db k)) → IsProved db k
+        proved_is_valid : (SaysDerivation (words (slice_get db k)) → IsValidProof (slice_get db k))
+            → IsProved db k
             → IsValid db k
-        from m p = let v = m (p.steps, p.said, (p.derivation, p.derives)) in (v.0, v.1.0, v.1.1)
+        proved_is_valid m p =
+            let v = m (p.steps, p.said, (p.derivation, p.derives)) in (v.0, v.1.0, v.1.1)
 
 pub valid_on_the_meaning : WhereRead ValidOnTheMeaning
 valid_on_the_meaning len x db fault r w k =

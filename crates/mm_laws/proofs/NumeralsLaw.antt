@@ -22,24 +22,24 @@ one_power_more es b =
     let n : length (es ++ b ∷ []) ≡ suc (length es) = omega (arith, length-append es (b ∷ [])) in
     ap (λ i. 5 ^ i) n ∙ pow-succ' 5 (length es)
 
-early_snoc : (es : List ℕ) (b m d : ℕ) → AreEarlyDigits es m → IsEarlyDigit b d
+early_append : (es : List ℕ) (b m d : ℕ) → AreEarlyDigits es m → IsEarlyDigit b d
     → AreEarlyDigits (es ++ b ∷ []) (5 * m + d)
-early_snoc [] b m d h k = (d, 0, k, refl, omega arith)
-early_snoc (e ∷ es) b m d h k = (
+early_append [] b m d h k = (d, 0, k, refl, omega arith)
+early_append (e ∷ es) b m d h k = (
   h.0,
   5 * h.1
       + d,
   h.2,
-  early_snoc es b h.1 d h.3 k,
+  early_append es b h.1 d h.3 k,
   carry_in m h.0 (5 ^ length es)
       (5 ^ length (es ++ b ∷ [])) h.1 d h.4 (one_power_more es b),
 )
 
-early_unsnoc : (es : List ℕ) (b n : ℕ) → AreEarlyDigits (es ++ b ∷ []) n
+early_without_last : (es : List ℕ) (b n : ℕ) → AreEarlyDigits (es ++ b ∷ []) n
     → (m : ℕ) × (d : ℕ) × AreEarlyDigits es m × IsEarlyDigit b d × (n ≡ 5 * m + d)
-early_unsnoc [] b n h = let r = h.3 in let e = h.4 in (0, h.0, refl, h.2, omega arith)
-early_unsnoc (c ∷ es) b n h =
-    let r = early_unsnoc es b h.1 h.3 in (
+early_without_last [] b n h = let r = h.3 in let e = h.4 in (0, h.0, refl, h.2, omega arith)
+early_without_last (c ∷ es) b n h =
+    let r = early_without_last es b h.1 h.3 in (
       h.0 * 5 ^ length es
           + r.0,
       r.1,
@@ -63,7 +63,7 @@ early_exists (suc fuel) (suc k) h =
       r.0 ++ (84 + suc (k % 5))
           ∷ [],
       subst (AreEarlyDigits (r.0 ++ (84 + suc (k % 5)) ∷ [])) whole
-          (early_snoc r.0 (84 + suc (k % 5)) (k / 5) (suc (k % 5)) r.1 (early_digit_of k)),
+          (early_append r.0 (84 + suc (k % 5)) (k / 5) (suc (k % 5)) r.1 (early_digit_of k)),
     )
 
 number_exists : (n : ℕ) → 1 ≤ n → (letters : List ℕ) × AreLettersOf letters n
@@ -86,41 +86,41 @@ number_exists (suc k) h =
 
 -- ---- no other
 
-snoc_view : (xs : List ℕ) → (xs ≡ []) ⊎ ((ys : List ℕ) × (y : ℕ) × (xs ≡ ys ++ y ∷ []))
-snoc_view [] = inl refl
-snoc_view (x ∷ xs) = by (snoc_view xs)
+empty_or_last : (xs : List ℕ) → (xs ≡ []) ⊎ ((ys : List ℕ) × (y : ℕ) × (xs ≡ ys ++ y ∷ []))
+empty_or_last [] = inl refl
+empty_or_last (x ∷ xs) = by_rest (empty_or_last xs)
   where
-    by : (xs ≡ []) ⊎ ((ys : List ℕ) × (y : ℕ) × (xs ≡ ys ++ y ∷ []))
+    by_rest : (xs ≡ []) ⊎ ((ys : List ℕ) × (y : ℕ) × (xs ≡ ys ++ y ∷ []))
         → (x ∷ xs ≡ []) ⊎ ((ys : List ℕ) × (y : ℕ) × (x ∷ xs ≡ ys ++ y ∷ []))
-    by (inl e) = inr ([], x, ap (λ zs. x ∷ zs) e)
-    by (inr r) = inr (x ∷ r.0, r.1, ap (λ zs. x ∷ zs) r.2)
+    by_rest (inl e) = inr ([], x, ap (λ zs. x ∷ zs) e)
+    by_rest (inr r) = inr (x ∷ r.0, r.1, ap (λ zs. x ∷ zs) r.2)
 
 early_letters : (fuel n : ℕ) (es fs : List ℕ) → n < fuel → AreEarlyDigits es n → AreEarlyDigits fs n
     → es ≡ fs
 early_letters zero n es fs l h k = absurd (omega arith)
 early_letters (suc fuel) n es fs l h k =
-    by (snoc_view es) (snoc_view fs) (λ m a b u. early_letters fuel m a b u)
+    by_last_letters (empty_or_last es) (empty_or_last fs) (λ m a b u. early_letters fuel m a b u)
   where
-    by : (es ≡ []) ⊎ ((ys : List ℕ) × (y : ℕ) × (es ≡ ys ++ y ∷ []))
+    by_last_letters : (es ≡ []) ⊎ ((ys : List ℕ) × (y : ℕ) × (es ≡ ys ++ y ∷ []))
         → (fs ≡ []) ⊎ ((ys : List ℕ) × (y : ℕ) × (fs ≡ ys ++ y ∷ []))
         → ((m : ℕ) (a b : List ℕ) → m < fuel → AreEarlyDigits a m → AreEarlyDigits b m → a ≡ b)
         → es ≡ fs
-    by (inl e) (inl f) on = e ∙ sym f
-    by (inl e) (inr f) on =
+    by_last_letters (inl e) (inl f) of_the_rest = e ∙ sym f
+    by_last_letters (inl e) (inr f) of_the_rest =
         let none : n ≡ 0 = subst (λ xs. AreEarlyDigits xs n) e h in
-        let r = early_unsnoc f.0 f.1 n (subst (λ xs. AreEarlyDigits xs n) f.2 k) in
+        let r = early_without_last f.0 f.1 n (subst (λ xs. AreEarlyDigits xs n) f.2 k) in
         let least = r.3.least in
         let is = r.4 in
         absurd (omega arith)
-    by (inr e) (inl f) on =
+    by_last_letters (inr e) (inl f) of_the_rest =
         let none : n ≡ 0 = subst (λ xs. AreEarlyDigits xs n) f k in
-        let r = early_unsnoc e.0 e.1 n (subst (λ xs. AreEarlyDigits xs n) e.2 h) in
+        let r = early_without_last e.0 e.1 n (subst (λ xs. AreEarlyDigits xs n) e.2 h) in
         let least = r.3.least in
         let is = r.4 in
         absurd (omega arith)
-    by (inr e) (inr f) on =
-        let r = early_unsnoc e.0 e.1 n (subst (λ xs. AreEarlyDigits xs n) e.2 h) in
-        let q = early_unsnoc f.0 f.1 n (subst (λ xs. AreEarlyDigits xs n) f.2 k) in
+    by_last_letters (inr e) (inr f) of_the_rest =
+        let r = early_without_last e.0 e.1 n (subst (λ xs. AreEarlyDigits xs n) e.2 h) in
+        let q = early_without_last f.0 f.1 n (subst (λ xs. AreEarlyDigits xs n) f.2 k) in
         let r_least = r.3.least in
         let r_most = r.3.most in
         let r_code = r.3.code in
@@ -132,7 +132,8 @@ early_letters (suc fuel) n es fs l h k =
         let rests : r.0 ≡ q.0 = omega arith in
         let bytes : e.1 ≡ f.1 = omega arith in
         e.2 ∙ ap₂ (λ xs x. xs ++ x ∷ [])
-        (on r.0 e.0 f.0 (omega arith) r.2 (subst (AreEarlyDigits f.0) (sym rests) q.2)) bytes
+        (of_the_rest r.0 e.0 f.0 (omega arith) r.2
+        (subst (AreEarlyDigits f.0) (sym rests) q.2)) bytes
         ∙ sym f.2
 
 number_letters : (n : ℕ) (xs ys : List ℕ) → AreLettersOf xs n → AreLettersOf ys n → xs ≡ ys

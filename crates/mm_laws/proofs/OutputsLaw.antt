@@ -1,5 +1,5 @@
 -- What is written for two small texts, a faulty one and a sound one.
-use Rattle.std.proofs.Common.{◌≡◌, ℕ, zero, suc, ◌<◌, false, List, [], ◌∷◌, flat_map, Some, None}
+use Rattle.std.proofs.Common.{◌≡◌, ℕ, zero, suc, ◌<◌, List, [], ◌∷◌, flat_map, Some, None}
 use Rattle.std.proofs.Common.{codes, refl, sym, inl, inr, true≢false, arith}
 use Rattle.std.specs.Fmt.{digits}
 use Rattle.mm_spec.specs.Text.{token, fault}

@@ -19,13 +19,14 @@ first_below : (x : ℕ) (xs : List ℕ) → IsStrictlyIncreasing (x ∷ xs) → 
     → is_member xs a ≡ true → x < a
 first_below x [] h a m = absurd (true≢false (sym m))
 first_below x (y ∷ ys) h a m =
-    by (or_cases (a == y) (is_member ys a) m) (h 0 (omega arith))
+    at_first_or_later (or_cases (a == y) (is_member ys a) m) (h 0 (omega arith))
     (λ q. first_below y ys (rising_tail x (y ∷ ys) h) a q)
   where
-    by : ((a == y) ≡ true) ⊎ (is_member ys a ≡ true) → x < y → (is_member ys a ≡ true → y < a)
+    at_first_or_later : ((a == y) ≡ true) ⊎ (is_member ys a ≡ true) → x < y
+        → (is_member ys a ≡ true → y < a)
         → x < a
-    by (inl e) l on = let same : a ≡ y = eqb-true a y e in omega arith
-    by (inr q) l on = let r = on q in omega arith
+    at_first_or_later (inl e) l of_the_rest = let same : a ≡ y = eqb-true a y e in omega arith
+    at_first_or_later (inr q) l of_the_rest = let r = of_the_rest q in omega arith
 
 own_member : (x : ℕ) (xs : List ℕ) → is_member (x ∷ xs) x ≡ true
 own_member x xs = or_left (x == x) (is_member xs x) (eq-eqb x x refl)
@@ -37,47 +38,48 @@ same_list [] [] h k same = refl
 same_list [] (y ∷ ys) h k same = absurd (true≢false (sym (own_member y ys) ∙ sym (same y)))
 same_list (x ∷ xs) [] h k same = absurd (true≢false (sym (own_member x xs) ∙ same x))
 same_list (x ∷ xs) (y ∷ ys) h k same =
-    cc (first, same_list xs ys (rising_tail x xs h) (rising_tail y ys k) others)
+    cc (same_first, same_list xs ys (rising_tail x xs h) (rising_tail y ys k) same_tails)
   where
-    in_front : (a b : ℕ) (bs : List ℕ) → IsStrictlyIncreasing (b ∷ bs) → is_member (b ∷ bs) a ≡ true
+    first_is_least : (a b : ℕ) (bs : List ℕ) → IsStrictlyIncreasing (b ∷ bs)
+        → is_member (b ∷ bs) a ≡ true
         → b ≤ a
-    in_front a b bs r m = by (or_cases (a == b) (is_member bs a) m)
+    first_is_least a b bs r m = at_first_or_later (or_cases (a == b) (is_member bs a) m)
       where
-        by : ((a == b) ≡ true) ⊎ (is_member bs a ≡ true) → b ≤ a
-        by (inl e) = let same : a ≡ b = eqb-true a b e in omega arith
-        by (inr q) = let l = first_below b bs r a q in omega arith
+        at_first_or_later : ((a == b) ≡ true) ⊎ (is_member bs a ≡ true) → b ≤ a
+        at_first_or_later (inl e) = let same : a ≡ b = eqb-true a b e in omega arith
+        at_first_or_later (inr q) = let l = first_below b bs r a q in omega arith
 
-    first : x ≡ y
-    first =
-        let l = in_front x y ys k (sym (same x) ∙ own_member x xs) in
-        let m = in_front y x xs h (same y ∙ own_member y ys) in
+    same_first : x ≡ y
+    same_first =
+        let l = first_is_least x y ys k (sym (same x) ∙ own_member x xs) in
+        let m = first_is_least y x xs h (same y ∙ own_member y ys) in
         omega arith
 
     -- what is after the one first element is after the other
-    after : (a b c : ℕ) (bs cs : List ℕ) → b ≡ c → IsStrictlyIncreasing (b ∷ bs)
+    in_other_tail : (a b c : ℕ) (bs cs : List ℕ) → b ≡ c → IsStrictlyIncreasing (b ∷ bs)
         → is_member bs a ≡ true → is_member (c ∷ cs) a ≡ true → is_member cs a ≡ true
-    after a b c bs cs e r m n = by (or_cases (a == c) (is_member cs a) n)
+    in_other_tail a b c bs cs e r m n = at_first_or_later (or_cases (a == c) (is_member cs a) n)
       where
-        by : ((a == c) ≡ true) ⊎ (is_member cs a ≡ true) → is_member cs a ≡ true
-        by (inl q) =
+        at_first_or_later : ((a == c) ≡ true) ⊎ (is_member cs a ≡ true) → is_member cs a ≡ true
+        at_first_or_later (inl q) =
             let same : a ≡ c = eqb-true a c q in let l = first_below b bs r a m in
             absurd (omega (arith, same, l, e))
-        by (inr q) = q
+        at_first_or_later (inr q) = q
 
-    others : (a : ℕ) → is_member xs a ≡ is_member ys a
-    others a = by (is_member xs a) (is_member ys a) refl refl
+    same_tails : (a : ℕ) → is_member xs a ≡ is_member ys a
+    same_tails a = by_members (is_member xs a) (is_member ys a) refl refl
       where
-        by : (p q : Bool) → is_member xs a ≡ p → is_member ys a ≡ q
+        by_members : (p q : Bool) → is_member xs a ≡ p → is_member ys a ≡ q
             → is_member xs a ≡ is_member ys a
-        by true q e f =
-            e ∙ sym (after a x y xs ys first h e
+        by_members true q e f =
+            e ∙ sym (in_other_tail a x y xs ys same_first h e
             (sym (same a) ∙ or_right (a == x) (is_member xs a) e))
-        by false true e f =
+        by_members false true e f =
             absurd (true≢false
-            (sym (after a y x ys xs (sym first) k f
+            (sym (in_other_tail a y x ys xs (sym same_first) k f
             (same a ∙ or_right (a == y) (is_member ys a) f))
             ∙ e))
-        by false false e f = e ∙ sym f
+        by_members false false e f = e ∙ sym f
 
 rising_cons : (x : ℕ) (xs : List ℕ) → IsStrictlyIncreasing xs
     → ((a : ℕ) → is_member xs a ≡ true → x < a) → IsStrictlyIncreasing (x ∷ xs)
@@ -105,11 +107,11 @@ list_of P each i zero = (
     ),
   ),
 )
-list_of P each i (suc n) = by (each i) (list_of P each (suc i) n)
+list_of P each i (suc n) = by_decision (each i) (list_of P each (suc i) n)
   where
-    by : IsDecided (P i) → (xs : List ℕ) × IsListOf P (suc i) n xs
+    by_decision : IsDecided (P i) → (xs : List ℕ) × IsListOf P (suc i) n xs
         → (xs : List ℕ) × IsListOf P i (suc n) xs
-    by (false, d) r = (
+    by_decision (false, d) r = (
       r.0,
       (
         r.1.0,
@@ -123,42 +125,43 @@ list_of P each i (suc n) = by (each i) (list_of P each (suc i) n)
     )
       where
         later : (a : ℕ) → (i ≤ a) × (a < i + suc n) × P a → suc i ≤ a
-        later a h = at (a == i) refl
+        later a h = by_equality (a == i) refl
           where
-            at : (b : Bool) → (a == i) ≡ b → suc i ≤ a
-            at true e = absurd (true≢false (sym (d.1 (subst P (eqb-true a i e) h.2))))
-            at false e = let l = h.0 in above l
+            by_equality : (b : Bool) → (a == i) ≡ b → suc i ≤ a
+            by_equality true e = absurd (true≢false (sym (d.1 (subst P (eqb-true a i e) h.2))))
+            by_equality false e = let l = h.0 in above l
               where
                 above : i ≤ a → suc i ≤ a
                 above l =
                     let ne : a ≡ i → ⊥ = λ q. true≢false (sym (eq-eqb a i q) ∙ e) in
                     omega (arith, l, ne)
-    by (true, d) r = (
+    by_decision (true, d) r = (
       i ∷ r.0,
       (
         rising_cons i r.0 r.1.0
             (λ a m. let h = (r.1.1 a).0 m in let l = h.0 in omega (arith, l)),
-        λ a. (to a, from a),
+        λ a. (member_has a, has_is_member a),
       ),
     )
       where
-        to : (a : ℕ) → is_member (i ∷ r.0) a ≡ true → (i ≤ a) × (a < i + suc n) × P a
-        to a m = at (or_cases (a == i) (is_member r.0 a) m)
+        member_has : (a : ℕ) → is_member (i ∷ r.0) a ≡ true → (i ≤ a) × (a < i + suc n) × P a
+        member_has a m = by_equality (or_cases (a == i) (is_member r.0 a) m)
           where
-            at : ((a == i) ≡ true) ⊎ (is_member r.0 a ≡ true) → (i ≤ a) × (a < i + suc n) × P a
-            at (inl e) =
+            by_equality : ((a == i) ≡ true) ⊎ (is_member r.0 a ≡ true)
+                → (i ≤ a) × (a < i + suc n) × P a
+            by_equality (inl e) =
                 let same : a ≡ i = eqb-true a i e in
                 (omega (arith, same), omega (arith, same), subst P (sym same) (d.0 refl))
-            at (inr q) =
+            by_equality (inr q) =
                 let h = (r.1.1 a).0 q in let l = h.0 in let k = h.1 in
                 (omega (arith, l), omega (arith, k), h.2)
 
-        from : (a : ℕ) → (i ≤ a) × (a < i + suc n) × P a → is_member (i ∷ r.0) a ≡ true
-        from a h = at (a == i) refl
+        has_is_member : (a : ℕ) → (i ≤ a) × (a < i + suc n) × P a → is_member (i ∷ r.0) a ≡ true
+        has_is_member a h = by_equality (a == i) refl
           where
-            at : (b : Bool) → (a == i) ≡ b → is_member (i ∷ r.0) a ≡ true
-            at true e = or_left (a == i) (is_member r.0 a) e
-            at false e =
+            by_equality : (b : Bool) → (a == i) ≡ b → is_member (i ∷ r.0) a ≡ true
+            by_equality true e = or_left (a == i) (is_member r.0 a) e
+            by_equality false e =
                 let ne : a ≡ i → ⊥ = λ q. true≢false (sym (eq-eqb a i q) ∙ e) in
                 let l = h.0 in
                 let k = h.1 in

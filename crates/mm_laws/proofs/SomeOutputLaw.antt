@@ -28,29 +28,31 @@ cells_decided len x with_open db h by_essential t a =
 some_report : (db : List Statement) (opened : Option ℕ) (request : Request) → AreComplete db
     → AllAreValid db → (choice : Choice)
     → (bytes : List ℕ) × IsReportOf choice db opened request bytes
-some_report db opened request fine valid Citations =
-    let rows = citing_rows_of db request fine valid (theorems db) in (_, (rows.0, rows.1, refl))
-some_report db opened request fine valid All =
-    let rows = rows_of db request fine valid (theorems db) in (_, (rows.0, rows.1, refl))
-some_report db opened request fine valid Matrix =
-    let rows = rows_of db request fine valid (theorems db) in (_, (rows.0, rows.1, refl))
-some_report db opened request fine valid Counts =
-    let rows = rows_of db request fine valid (theorems db) in (_, (rows.0, rows.1, refl))
-some_report db opened request fine valid Usage =
-    let rows = rows_of db request fine valid (theorems db) in (_, (rows.0, rows.1, refl))
+some_report db opened request all_complete valid Citations =
+    let rows = citing_rows_of db request all_complete valid (theorems db) in
+    (_, (rows.0, rows.1, refl))
+some_report db opened request all_complete valid All =
+    let rows = rows_of db request all_complete valid (theorems db) in (_, (rows.0, rows.1, refl))
+some_report db opened request all_complete valid Matrix =
+    let rows = rows_of db request all_complete valid (theorems db) in (_, (rows.0, rows.1, refl))
+some_report db opened request all_complete valid Counts =
+    let rows = rows_of db request all_complete valid (theorems db) in (_, (rows.0, rows.1, refl))
+some_report db opened request all_complete valid Usage =
+    let rows = rows_of db request all_complete valid (theorems db) in (_, (rows.0, rows.1, refl))
 
 -- each text has an output
 pub output_exists : OutputExists
-output_exists text request = by (sound_or_faulty (length text) (lexed_of text) request.with_open)
+output_exists text request =
+    sound_or_faulty_text (sound_or_faulty (length text) (lexed_of text) request.with_open)
   where
-    by : IsSoundOrFaulty (length text) (lexed_of text) request.with_open
+    sound_or_faulty_text : IsSoundOrFaulty (length text) (lexed_of text) request.with_open
         → (bytes : List ℕ) × IsOutput text request bytes
-    by (inl h) = (refusal text h.0, inl (h.0, h.1, refl))
-    by (inr h) =
-        let fine =
+    sound_or_faulty_text (inl h) = (refusal text h.0, inl (h.0, h.1, refl))
+    sound_or_faulty_text (inr h) =
+        let all_complete =
         counted_complete request.with_open h.0
         (reads_complete (length text) (lexed_of text) h.0 None h.1.0) in
         let r =
         some_report (counted request.with_open h.0)
-        (open_columns h.0 request) request fine h.1.1 request.choice in
+        (open_columns h.0 request) request all_complete h.1.1 request.choice in
         (r.0, inr (h.0, h.1, r.1))

@@ -16,22 +16,24 @@ use Rattle.mm_spec.proofs.StopsLaw.{text_fault, text_fault_is, no_text_fault}
 abbrev AreLawful : List Statement → ℕ → Type 0
 AreLawful list n = (k : ℕ) → k < n → scope_fault list k ≡ None
 
-one_more : (list : List Statement) (n : ℕ) → AreLawful list n → scope_fault list n ≡ None → (m : ℕ)
+lawful_up_to_next : (list : List Statement) (n : ℕ) → AreLawful list n → scope_fault list n ≡ None
+    → (m : ℕ)
     → m ≡ n + 1 → AreLawful list m
-one_more list n h e m is k l = by (cases_lt k n)
+lawful_up_to_next list n h e m is k l = at_last_or_before (cases_lt k n)
   where
-    by : (k < n) ⊎ (n ≤ k) → scope_fault list k ≡ None
-    by (inl b) = h k b
-    by (inr b) = let same : k ≡ n = omega (arith, is, l, b) in ap (scope_fault list) same ∙ e
+    at_last_or_before : (k < n) ⊎ (n ≤ k) → scope_fault list k ≡ None
+    at_last_or_before (inl b) = h k b
+    at_last_or_before (inr b) =
+        let same : k ≡ n = omega (arith, is, l, b) in ap (scope_fault list) same ∙ e
 
 module _ (len : ℕ) (x : LexedText) where
   -- where the first statements are lawful, the reading goes on
   read_from : (rest db : List Statement) → statements_of x.tokens ≡ db ++ rest
       → AreLawful (statements_of x.tokens) (length db) → IsReadable len x
-  read_from [] db is lawful = by (text_fault len x) refl
+  read_from [] db is lawful = by_text_fault (text_fault len x) refl
     where
-      by : (o : Option Fault) → text_fault len x ≡ o → IsReadable len x
-      by None e = (
+      by_text_fault : (o : Option Fault) → text_fault len x ≡ o → IsReadable len x
+      by_text_fault None e = (
         db,
         None,
         record {
@@ -43,7 +45,7 @@ module _ (len : ℕ) (x : LexedText) where
           stops = no_text_fault len x e;
         },
       )
-      by (Some f) e = (
+      by_text_fault (Some f) e = (
         db,
         Some f,
         record {
@@ -56,16 +58,16 @@ module _ (len : ℕ) (x : LexedText) where
         },
       )
   read_from (s ∷ rest) db is lawful =
-      by (scope_fault (statements_of x.tokens) (length db)) refl
+      by_scope_fault (scope_fault (statements_of x.tokens) (length db)) refl
       (λ e. read_from rest (db ++ s ∷ []) (is ∙ sym (append_assoc db (s ∷ []) rest))
-      (one_more (statements_of x.tokens) (length db) lawful e (length (db ++ s ∷ []))
+      (lawful_up_to_next (statements_of x.tokens) (length db) lawful e (length (db ++ s ∷ []))
       (length-append db (s ∷ []))))
     where
-      by : (o : Option Fault) → scope_fault (statements_of x.tokens) (length db) ≡ o
+      by_scope_fault : (o : Option Fault) → scope_fault (statements_of x.tokens) (length db) ≡ o
           → (scope_fault (statements_of x.tokens) (length db) ≡ None → IsReadable len x)
           → IsReadable len x
-      by None e on = on e
-      by (Some f) e on = (
+      by_scope_fault None e of_the_rest = of_the_rest e
+      by_scope_fault (Some f) e of_the_rest = (
         db,
         Some f,
         record {

@@ -35,12 +35,13 @@ use Rattle.mm_laws.specs.Laws.NamedSteps.{StepsAreNamed, NamedStepsAreUnique}
 use Rattle.mm_laws.specs.Laws.NamedSteps.{StepsAreLabels}
 use Rattle.mm_spec.specs.declared.Code.TheVariants.{UnusableLabel}
 use Rattle.mm_spec.specs.declared.Code.TheVariants.{IncompleteProof}
-use Rattle.mm_spec.proofs.FindsLaw.{same_word, found_at, inside_of, declares}
+use Rattle.mm_spec.proofs.FindsLaw.{same_word, passing_statement, inside_of, declares}
 use Rattle.mm_spec.proofs.FaultlessLaw.{least_none, append_none, label_new}
 use Rattle.mm_spec.proofs.OpenedLaw.{counted_any}
 use Rattle.mm_spec.proofs.ListLaw.{get_none}
 use Rattle.mm_laws.proofs.ReadLaw.{lawful_read}
-use Rattle.mm_laws.proofs.SpellingLaw.{bracketed_is, AreFine, good_letters, item_of, groups_spell}
+use Rattle.mm_laws.proofs.SpellingLaw.{bracketed_is, AreFaultless, faultless_letters, item_of}
+use Rattle.mm_laws.proofs.SpellingLaw.{groups_spell}
 use Rattle.mm_laws.proofs.SpellingLaw.{letters_bytes, spelling_unique}
 
 -- ---- lists
@@ -49,13 +50,14 @@ get_append : {X : Type 0} (xs ys : List X) (n : ℕ) (x : X) → slice_get (xs +
     → (slice_get xs n ≡ Some x) ⊎ ((i : ℕ) × (n ≡ length xs + i) × (slice_get ys i ≡ Some x))
 get_append [] ys n x e = inr (n, omega arith, e)
 get_append (y ∷ xs) ys zero x e = inl e
-get_append (y ∷ xs) ys (suc n) x e = by (get_append xs ys n x e)
+get_append (y ∷ xs) ys (suc n) x e = in_front_or_back (get_append xs ys n x e)
   where
-    by : (slice_get xs n ≡ Some x) ⊎ ((i : ℕ) × (n ≡ length xs + i) × (slice_get ys i ≡ Some x))
+    in_front_or_back : (slice_get xs n ≡ Some x)
+        ⊎ ((i : ℕ) × (n ≡ length xs + i) × (slice_get ys i ≡ Some x))
         → (slice_get xs n ≡ Some x)
         ⊎ ((i : ℕ) × (suc n ≡ suc (length xs) + i) × (slice_get ys i ≡ Some x))
-    by (inl h) = inl h
-    by (inr h) = let e = h.1 in inr (h.0, omega arith, h.2)
+    in_front_or_back (inl h) = inl h
+    in_front_or_back (inr h) = let e = h.1 in inr (h.0, omega arith, h.2)
 
 get_only : {X : Type 0} (y x : X) (i : ℕ) → slice_get (y ∷ []) i ≡ Some x → (i ≡ 0) × (y ≡ x)
 get_only y x zero e = (refl, cc)
@@ -68,8 +70,8 @@ count_append p xs ys = sum_by-append _ xs ys
 
 -- ---- marks
 
-mark_more : (items more : List Item) (k i : ℕ) → IsMark items k i → IsMark (items ++ more) k i
-mark_more items more k i h =
+still_mark : (items more : List Item) (k i : ℕ) → IsMark items k i → IsMark (items ++ more) k i
+still_mark items more k i h =
     record {
       before = h.before;
       after = h.after ++ more;
@@ -82,42 +84,45 @@ abbrev AreMarks : List Item → List ℕ → Type 0
 AreMarks before marks = (k i : ℕ) → slice_get marks k ≡ Some i → IsMark before k i
 
 -- one mark more
-marks_more : (before : List Item) (marks : List ℕ) (count : ℕ) → 0 < count
+one_mark_more : (before : List Item) (marks : List ℕ) (count : ℕ) → 0 < count
     → count ≡ count_by is_number before → length marks ≡ count_by is_mark_item before
     → AreMarks before marks → AreMarks (before ++ mark ∷ []) (marks ++ (count - 1) ∷ [])
-marks_more before marks count h c m are k i e = by (get_append marks ((count - 1) ∷ []) k i e)
+one_mark_more before marks count h c m are k i e =
+    earlier_or_new_mark (get_append marks ((count - 1) ∷ []) k i e)
   where
-    by : (slice_get marks k ≡ Some i)
+    earlier_or_new_mark : (slice_get marks k ≡ Some i)
         ⊎ ((j : ℕ) × (k ≡ length marks + j) × (slice_get ((count - 1) ∷ []) j ≡ Some i))
         → IsMark (before ++ mark ∷ []) k i
-    by (inl f) = mark_more before (mark ∷ []) k i (are k i f)
-    by (inr f) =
+    earlier_or_new_mark (inl f) = still_mark before (mark ∷ []) k i (are k i f)
+    earlier_or_new_mark (inr f) =
         let r = get_only (count - 1) i f.0 f.2 in
         let zero_j = r.0 in
         let is = r.1 in
         let place = f.1 in
         record { before = before; after = []; are = refl; marks = omega arith; steps = omega arith }
 
--- ---- what is said from some items on
+-- ---- the steps that items name, if other items come before them
 
 module _ (hypotheses labels : List ℕ) where
-  record IsSaid (before items : List Item) (ss : List Step) : Type 0 where
+  -- the steps are those that the items name, if the items `before` come before them
+  record AreStepsFrom (before items : List Item) (ss : List Step) : Type 0 where
     pub count : length ss ≡ count_by is_number items
     pub each : (b after : List Item) (n : ℕ) → items ≡ b ++ number n ∷ after
         → (s : Step) × (slice_get ss (count_by is_number b) ≡ Some s)
         × NamesStep hypotheses labels (before ++ b) n s
 
-  said_nothing : (before : List Item) → IsSaid before [] []
-  said_nothing before = record { count = refl; each = λ b after n e. absurd (none b after n e) }
+  steps_from_nothing : (before : List Item) → AreStepsFrom before [] []
+  steps_from_nothing before =
+      record { count = refl; each = λ b after n e. absurd (none b after n e) }
     where
       none : (b after : List Item) (n : ℕ) → [] ≡ b ++ number n ∷ after → ⊥
       none [] after n e = cc
       none (x ∷ b) after n e = cc
 
-  said_number : (before items : List Item) (ss : List Step) (n : ℕ) (s : Step)
-      → NamesStep hypotheses labels before n s → IsSaid (before ++ number n ∷ []) items ss
-      → IsSaid before (number n ∷ items) (s ∷ ss)
-  said_number before items ss n s named h =
+  steps_from_number : (before items : List Item) (ss : List Step) (n : ℕ) (s : Step)
+      → NamesStep hypotheses labels before n s → AreStepsFrom (before ++ number n ∷ []) items ss
+      → AreStepsFrom before (number n ∷ items) (s ∷ ss)
+  steps_from_number before items ss n s named h =
       record {
         count = let c = h.count in omega (arith, count_append is_number (number n ∷ []) items);
         each = each;
@@ -149,9 +154,10 @@ module _ (hypotheses labels : List ℕ) where
             subst (λ xs. NamesStep hypotheses labels xs m r.0) items_are r.2,
           )
 
-  said_mark : (before items : List Item) (ss : List Step) → IsSaid (before ++ mark ∷ []) items ss
-      → IsSaid before (mark ∷ items) ss
-  said_mark before items ss h =
+  steps_from_mark : (before items : List Item) (ss : List Step)
+      → AreStepsFrom (before ++ mark ∷ []) items ss
+      → AreStepsFrom before (mark ∷ items) ss
+  steps_from_mark before items ss h =
       record {
         count = let c = h.count in omega (arith, count_append is_number (mark ∷ []) items);
         each = each;
@@ -184,11 +190,11 @@ module _ (hypotheses labels : List ℕ) where
       × NamesStep hypotheses labels before n s
   number_named before marks zero h l are = absurd (omega arith)
   number_named before marks (suc n) h l are =
-      by (slice_get (hypotheses ++ labels) n) refl
+      by_label_or_mark (slice_get (hypotheses ++ labels) n) refl
       (slice_get marks (n - length (hypotheses ++ labels))) refl
     where
-      out : Option ℕ → Option ℕ → List Step
-      out a b =
+      step_by_meaning : Option ℕ → Option ℕ → List Step
+      step_by_meaning a b =
           elim a [ Some j ↦ label j ∷ [] | None ↦ elim b [ Some i ↦ marked i ∷ [] | None ↦ [] ] ]
 
       of_label : (j : ℕ)
@@ -198,11 +204,13 @@ module _ (hypotheses labels : List ℕ) where
       of_label j (inl e) = inl (n, omega arith, e)
       of_label j (inr e) = let is = e.1 in inr (e.0, omega arith, e.2)
 
-      by : (a : Option ℕ) → slice_get (hypotheses ++ labels) n ≡ a → (b : Option ℕ)
+      by_label_or_mark : (a : Option ℕ) → slice_get (hypotheses ++ labels) n ≡ a → (b : Option ℕ)
           → slice_get marks (n - length (hypotheses ++ labels)) ≡ b
-          → (s : Step) × (out a b ≡ s ∷ []) × NamesStep hypotheses labels before (suc n) s
-      by (Some j) e b f = (label j, refl, of_label j (get_append hypotheses labels n j e))
-      by None e (Some i) f =
+          → (s : Step) × (step_by_meaning a b ≡ s ∷ [])
+          × NamesStep hypotheses labels before (suc n) s
+      by_label_or_mark (Some j) e b f =
+          (label j, refl, of_label j (get_append hypotheses labels n j e))
+      by_label_or_mark None e (Some i) f =
           let x = get_none (hypotheses ++ labels) n e in
           let all = length-append hypotheses labels in (
             marked i,
@@ -214,85 +222,93 @@ module _ (hypotheses labels : List ℕ) where
                   (n - length (hypotheses ++ labels)) i f,
             ),
           )
-      by None e None f =
+      by_label_or_mark None e None f =
           let x = get_none (hypotheses ++ labels) n e in
           let y = get_none marks (n - length (hypotheses ++ labels)) f in
           let all = length-append hypotheses labels in
           absurd (omega arith)
 
-  abbrev bare : List PlacedStep → List Step
-  bare ps = map (λ p. p.step) ps
+  abbrev steps_of : List PlacedStep → List Step
+  steps_of ps = map (λ p. p.step) ps
 
   positive : (n b : ℕ) → 65 ≤ b → 0 < n * 20 + (b - 64)
   positive n b h = omega arith
 
   -- the steps of groups are what their items name
-  said : (gs : List Group) (before : List Item) (marks : List ℕ) (count : ℕ)
+  steps_from_groups : (gs : List Group) (before : List Item) (marks : List ℕ) (count : ℕ)
       → count ≡ count_by is_number before → length marks ≡ count_by is_mark_item before
-      → AreMarks before marks → AreFine (length hypotheses + length labels) (length marks) count gs
-      → IsSaid before (map item_of gs) (bare (group_steps (hypotheses ++ labels) marks count gs))
-  said [] before marks count c m are f = said_nothing before
-  said (g ∷ gs) before marks count c m are f =
-      by f
-      (λ n k. said gs (before ++ number n ∷ []) marks (count + 1)
+      → AreMarks before marks
+      → AreFaultless (length hypotheses + length labels) (length marks) count gs
+      → AreStepsFrom before (map item_of gs)
+      (steps_of (group_steps (hypotheses ++ labels) marks count gs))
+  steps_from_groups [] before marks count c m are f = steps_from_nothing before
+  steps_from_groups (g ∷ gs) before marks count c m are f =
+      number_or_mark f
+      (λ n k. steps_from_groups gs (before ++ number n ∷ []) marks (count + 1)
       (omega (arith, count_append is_number before (number n ∷ [])))
       (omega (arith, count_append is_mark_item before (number n ∷ [])))
-      (λ j i e. mark_more before (number n ∷ []) j i (are j i e)) k)
-      (λ h k. said gs (before ++ mark ∷ []) (marks ++ (count - 1) ∷ []) count
+      (λ j i e. still_mark before (number n ∷ []) j i (are j i e)) k)
+      (λ h k. steps_from_groups gs (before ++ mark ∷ []) (marks ++ (count - 1) ∷ []) count
       (omega (arith, count_append is_number before (mark ∷ [])))
       (omega (
         arith,
         count_append is_mark_item before (mark ∷ []),
         length-append marks
             ((count - 1) ∷ []),
-      )) (marks_more before marks count h c m are)
-      (subst (λ z. AreFine (length hypotheses + length labels) z count gs)
+      )) (one_mark_more before marks count h c m are)
+      (subst (λ z. AreFaultless (length hypotheses + length labels) z count gs)
       (let len = length-append marks ((count - 1) ∷ []) in
       omega arith) k))
     where
-      item : Bool → Item
-      item b = elim b [ true ↦ number (value g) | false ↦ mark ]
+      item_by_letter : Bool → Item
+      item_by_letter b = elim b [ true ↦ number (value g) | false ↦ mark ]
 
-      out : Bool → List PlacedStep
-      out a = elim a [
+      steps_from_group : Bool → List PlacedStep
+      steps_from_group a = elim a [
         | true ↦ map (placed (starts_at g)) (step_of (hypotheses ++ labels) marks (value g))
             ++ group_steps (hypotheses ++ labels) marks (count + 1) gs
         | false ↦ group_steps (hypotheses ++ labels) (marks ++ (count - 1) ∷ []) count gs
       ]
 
-      by : AreFine (length hypotheses + length labels) (length marks) count (g ∷ gs)
-          → ((n : ℕ) → AreFine (length hypotheses + length labels) (length marks) (count + 1) gs
-          → IsSaid (before ++ number n ∷ []) (map item_of gs)
-          (bare (group_steps (hypotheses ++ labels) marks (count + 1) gs)))
-          → (0 < count → AreFine (length hypotheses + length labels) (length marks + 1) count gs
-          → IsSaid (before ++ mark ∷ []) (map item_of gs)
-          (bare (group_steps (hypotheses ++ labels) (marks ++ (count - 1) ∷ []) count gs)))
-          → IsSaid before (item (is_last g.last.byte) ∷ map item_of gs)
-          (bare (out (is_last g.last.byte)))
-      by (inl k) on marking =
+      number_or_mark : AreFaultless (length hypotheses + length labels) (length marks) count
+          (g ∷ gs)
+          → ((n : ℕ)
+          → AreFaultless (length hypotheses + length labels) (length marks) (count + 1) gs
+          → AreStepsFrom (before ++ number n ∷ []) (map item_of gs)
+          (steps_of (group_steps (hypotheses ++ labels) marks (count + 1) gs)))
+          → (0 < count
+          → AreFaultless (length hypotheses + length labels) (length marks + 1) count gs
+          → AreStepsFrom (before ++ mark ∷ []) (map item_of gs)
+          (steps_of (group_steps (hypotheses ++ labels) (marks ++ (count - 1) ∷ []) count gs)))
+          → AreStepsFrom before (item_by_letter (is_last g.last.byte) ∷ map item_of gs)
+          (steps_of (steps_from_group (is_last g.last.byte)))
+      number_or_mark (inl k) after_number after_mark =
           let low =
           leb-true 65 g.last.byte
           (and_parts (nat_le 65 g.last.byte) (nat_le g.last.byte 84) k.0).0 in
           let s = number_named before marks (value g) (positive _ g.last.byte low) k.1 are in
           let whole =
-          said_number before (map item_of gs)
-          (bare (group_steps (hypotheses ++ labels) marks (count + 1) gs)) (value g) s.0 s.2
-          (on (value g) k.2) in
-          subst (λ b. IsSaid before (item b ∷ map item_of gs) (bare (out b))) (sym k.0)
-          (subst (λ ss. IsSaid before (number (value g) ∷ map item_of gs)
-          (bare (map (placed (starts_at g)) ss
+          steps_from_number before (map item_of gs)
+          (steps_of (group_steps (hypotheses ++ labels) marks (count + 1) gs)) (value g) s.0 s.2
+          (after_number (value g) k.2) in
+          subst (λ b. AreStepsFrom before (item_by_letter b ∷ map item_of gs)
+          (steps_of (steps_from_group b))) (sym k.0)
+          (subst (λ ss. AreStepsFrom before (number (value g) ∷ map item_of gs)
+          (steps_of (map (placed (starts_at g)) ss
           ++ group_steps (hypotheses ++ labels) marks (count + 1) gs))) (sym s.1) whole)
-      by (inr k) on marking =
-          subst (λ b. IsSaid before (item b ∷ map item_of gs) (bare (out b))) (sym k.0)
-          (said_mark before (map item_of gs)
-          (bare (group_steps (hypotheses ++ labels) (marks ++ (count - 1) ∷ []) count gs))
-          (marking k.3 k.4))
+      number_or_mark (inr k) after_number after_mark =
+          subst (λ b. AreStepsFrom before (item_by_letter b ∷ map item_of gs)
+          (steps_of (steps_from_group b))) (sym k.0)
+          (steps_from_mark before (map item_of gs)
+          (steps_of (group_steps (hypotheses ++ labels) (marks ++ (count - 1) ∷ []) count gs))
+          (after_mark k.3 k.4))
 
-  pub groups_said : (gs : List Group) → AreFine (length hypotheses + length labels) 0 0 gs
+  pub groups_name_steps : (gs : List Group)
+      → AreFaultless (length hypotheses + length labels) 0 0 gs
       → AreSteps hypotheses labels (map item_of gs)
-      (bare (group_steps (hypotheses ++ labels) [] 0 gs))
-  groups_said gs f =
-      let h = said gs [] [] 0 refl refl (λ k i e. absurd (none k i e)) f in
+      (steps_of (group_steps (hypotheses ++ labels) [] 0 gs))
+  groups_name_steps gs f =
+      let h = steps_from_groups gs [] [] 0 refl refl (λ k i e. absurd (none k i e)) f in
       record { count = h.count; each = h.each }
     where
       none : (k i : ℕ) → slice_get {X = ℕ} [] k ≡ Some i → ⊥
@@ -319,12 +335,12 @@ label_fresh n d _ w h m = absurd (true≢false (sym m))
 
 labelled_word : (s : Statement) (w : Bytes) → is_labelled w s ≡ true
     → is_in w (label_words s) ≡ true
-labelled_word s w e = by (label_of s) e
+labelled_word s w e = by_label (label_of s) e
   where
-    by : (o : Option Token) → elim o [ None ↦ false | Some l ↦ bytes_eq l.word w ] ≡ true
+    by_label : (o : Option Token) → elim o [ None ↦ false | Some l ↦ bytes_eq l.word w ] ≡ true
         → is_in w (elim o [ None ↦ [] | Some l ↦ l.word ∷ [] ]) ≡ true
-    by None h = absurd (true≢false (sym h))
-    by (Some l) h =
+    by_label None h = absurd (true≢false (sym h))
+    by_label (Some l) h =
         or_left (bytes_eq w l.word) false
         ((bytes_eq-Decides w l.word).1 (sym (same_word l.word w h)))
 
@@ -333,9 +349,9 @@ one_in_range : (test : ℕ → Bool) → ((i j : ℕ) → test i ≡ true → te
     → (filter test (range_with_len a n) ≡ [])
     ⊎ ((j : ℕ) × (filter test (range_with_len a n) ≡ j ∷ []) × (test j ≡ true) × (a ≤ j))
 one_in_range test one zero a = inl refl
-one_in_range test one (suc n) a = by (test a) refl (one_in_range test one n (a + 1))
+one_in_range test one (suc n) a = by_test (test a) refl (one_in_range test one n (a + 1))
   where
-    by : (b : Bool) → test a ≡ b
+    by_test : (b : Bool) → test a ≡ b
         → (filter test (range_with_len (a + 1) n) ≡ [])
         ⊎ ((j : ℕ) × (filter test (range_with_len (a + 1) n) ≡ j ∷ []) × (test j ≡ true)
         × (a + 1 ≤ j))
@@ -347,10 +363,10 @@ one_in_range test one (suc n) a = by (test a) refl (one_in_range test one n (a +
         (filter test (range_with_len (a + 1) n))
         ≡ j ∷ [])
         × (test j ≡ true) × (a ≤ j))
-    by true e (inl h) = inr (a, ap (λ xs. a ∷ xs) h, e, omega arith)
-    by true e (inr h) = let same = one a h.0 e h.2 in let l = h.3 in absurd (omega arith)
-    by false e (inl h) = inl h
-    by false e (inr h) = let l = h.3 in inr (h.0, h.1, h.2, omega arith)
+    by_test true e (inl h) = inr (a, ap (λ xs. a ∷ xs) h, e, omega arith)
+    by_test true e (inr h) = let same = one a h.0 e h.2 in let l = h.3 in absurd (omega arith)
+    by_test false e (inl h) = inl h
+    by_test false e (inr h) = let l = h.3 in inr (h.0, h.1, h.2, omega arith)
 
 abbrev pub HasLabel : List Statement → Bytes → ℕ → Type 0
 HasLabel db w j = list_any (is_labelled w) (statement_at db j) ≡ true
@@ -370,27 +386,28 @@ module _ (db : List Statement) (law : (k : ℕ) → k < length db → IsLawful d
       judged o =
           elim o [ None ↦ None | Some s ↦ least (scope_faults (names_before db k) (depth db k) s) ]
 
-  apart : (w : Bytes) (i j : ℕ) → i < j → HasLabel db w i → HasLabel db w j → ⊥
-  apart w i j l h k =
-      let s = found_at db (is_labelled w) i h in
-      let t = found_at db (is_labelled w) j k in
+  not_twice : (w : Bytes) (i j : ℕ) → i < j → HasLabel db w i → HasLabel db w j → ⊥
+  not_twice w i j l h k =
+      let s = passing_statement db (is_labelled w) i h in
+      let t = passing_statement db (is_labelled w) j k in
       let fresh : is_in w (names_before db j).labels ≡ false =
       label_fresh (names_before db j) (depth db j) t.0 w (faultless j t.0 t.1) t.2 in
       true≢false (sym (declares label_words db j i s.0 w s.1 l (labelled_word s.0 w s.2)) ∙ fresh)
 
-  label_once : LabelsDiffer db
-  label_once w i j h k = by (cases_order i j)
+  labels_are_distinct : LabelsDiffer db
+  labels_are_distinct w i j h k = by_order (cases_order i j)
     where
-      by : (i ≡ j) ⊎ ((i < j) ⊎ (j < i)) → i ≡ j
-      by (inl e) = e
-      by (inr (inl l)) = absurd (apart w i j l h k)
-      by (inr (inr l)) = absurd (apart w j i l k h)
+      by_order : (i ≡ j) ⊎ ((i < j) ⊎ (j < i)) → i ≡ j
+      by_order (inl e) = e
+      by_order (inr (inl l)) = absurd (not_twice w i j l h k)
+      by_order (inr (inr l)) = absurd (not_twice w j i l k h)
 
 -- the labels of what is read differ, as it counts
 pub labels_differ : (len : ℕ) (x : LexedText) (db : List Statement) (fault : Option Fault)
     → IsRead len x db fault → (with_open : Bool) → LabelsDiffer (counted with_open db)
 labels_differ len x db fault r with_open w i j h u =
-    label_once db (lawful_read len x db fault r) w i j (sym (same i) ∙ h) (sym (same j) ∙ u)
+    labels_are_distinct db (lawful_read len x db fault r) w i j (sym (same i) ∙ h)
+    (sym (same j) ∙ u)
   where
     same : (j : ℕ)
         → list_any (is_labelled w) (statement_at (counted with_open db) j)
@@ -401,13 +418,13 @@ module _ (db : List Statement) (differ : LabelsDiffer db) where
   module _ (k : ℕ) where
     pub usable_one : (t : Token) → proof_label_faults db k t ≡ []
         → (j : ℕ) × (usable db k t.word ≡ j ∷ []) × IsUsable db k t.word j
-    usable_one t e = by (one_in_range test once k 0)
+    usable_one t e = none_or_one (one_in_range is_usable_at at_most_once k 0)
       where
-        test : ℕ → Bool
-        test j = is_active db j k && list_any (is_labelled t.word) (statement_at db j)
+        is_usable_at : ℕ → Bool
+        is_usable_at j = is_active db j k && list_any (is_labelled t.word) (statement_at db j)
 
-        once : (i j : ℕ) → test i ≡ true → test j ≡ true → i ≡ j
-        once i j h u =
+        at_most_once : (i j : ℕ) → is_usable_at i ≡ true → is_usable_at j ≡ true → i ≡ j
+        at_most_once i j h u =
             differ t.word i j
             (and_parts (is_active db i k) (list_any (is_labelled t.word) (statement_at db i)) h).1
             (and_parts (is_active db j k) (list_any (is_labelled t.word) (statement_at db j)) u).1
@@ -418,11 +435,11 @@ module _ (db : List Statement) (differ : LabelsDiffer db) where
         no_fault : usable db k t.word ≡ [] → ⊥
         no_fault n = let f : fault_of [] ≡ [] = ap fault_of (sym n) ∙ e in cc
 
-        by : (usable db k t.word ≡ [])
-            ⊎ ((j : ℕ) × (usable db k t.word ≡ j ∷ []) × (test j ≡ true) × (0 ≤ j))
+        none_or_one : (usable db k t.word ≡ [])
+            ⊎ ((j : ℕ) × (usable db k t.word ≡ j ∷ []) × (is_usable_at j ≡ true) × (0 ≤ j))
             → (j : ℕ) × (usable db k t.word ≡ j ∷ []) × IsUsable db k t.word j
-        by (inl n) = absurd (no_fault n)
-        by (inr h) =
+        none_or_one (inl n) = absurd (no_fault n)
+        none_or_one (inr h) =
             let p =
             and_parts (is_active db h.0 k)
             (list_any (is_labelled t.word) (statement_at db h.0)) h.2 in (
@@ -461,12 +478,13 @@ module _ (db : List Statement) (differ : LabelsDiffer db) where
     normal_labels (t ∷ ts) e =
         let own : List Fault = own_faults t (bytes_eq t.word (codes "?")) in
         let more : List Fault = flat_map (λ u. own_faults u (bytes_eq u.word (codes "?"))) ts in
-        ap₂ (λ xs ys. xs ++ ys) (by (bytes_eq t.word (codes "?")) (append_none own more e).0)
+        ap₂ (λ xs ys. xs ++ ys)
+        (by_question_mark (bytes_eq t.word (codes "?")) (append_none own more e).0)
         (normal_labels ts (append_none own more e).1)
       where
-        by : (b : Bool) → own_faults t b ≡ [] → proof_label_faults db k t ≡ []
-        by true h = absurd (cc)
-        by false h = h
+        by_question_mark : (b : Bool) → own_faults t b ≡ [] → proof_label_faults db k t ≡ []
+        by_question_mark true h = absurd (cc)
+        by_question_mark false h = h
 
     labels_are : (ts : List Token) → flat_map (proof_label_faults db k) ts ≡ []
         → AllZip (λ u s. (j : ℕ) × (s ≡ label j) × IsUsable db k u.word j) ts
@@ -488,7 +506,7 @@ module _ (db : List Statement) (differ : LabelsDiffer db) where
         → t.word ≢ codes "("
         → AllZip (λ u s. (j : ℕ) × (s ≡ label j) × IsUsable db k u.word j) (t ∷ ts)
         (bare_steps db k (t ∷ ts))
-    normal_are end t ts f ne = by (bytes_eq t.word (codes "(")) refl f
+    normal_are end t ts f ne = by_bracket (bytes_eq t.word (codes "(")) refl f
       where
         faults : Bool → List Fault
         faults b =
@@ -504,11 +522,11 @@ module _ (db : List Statement) (differ : LabelsDiffer db) where
               | false ↦ normal_steps db k (t ∷ ts)
             ]
 
-        by : (b : Bool) → bytes_eq t.word (codes "(") ≡ b → faults b ≡ []
+        by_bracket : (b : Bool) → bytes_eq t.word (codes "(") ≡ b → faults b ≡ []
             → AllZip (λ u s. (j : ℕ) × (s ≡ label j) × IsUsable db k u.word j) (t ∷ ts)
             (map (λ p. p.step) (out b))
-        by true e g = absurd (ne (same_word t.word (codes "(") e))
-        by false e g = labels_are (t ∷ ts) (normal_labels (t ∷ ts) g)
+        by_bracket true e g = absurd (ne (same_word t.word (codes "(") e))
+        by_bracket false e g = labels_are (t ∷ ts) (normal_labels (t ∷ ts) g)
 
     named : (end : ℕ) (labels letters : List Token) (items : List Item)
         → compressed_faults db k end (record { labels = labels; letters = Some letters }) ≡ []
@@ -517,29 +535,33 @@ module _ (db : List Statement) (differ : LabelsDiffer db) where
         × AreSteps (mandatory_hypotheses db k) js items
         (map (λ p. p.step)
         (compressed_steps db k (record { labels = labels; letters = Some letters })))
-    named end labels letters items f spelled =
-        let many = length (mandatory_hypotheses db k) + length labels in
+    named end labels letters items f letters_spell =
+        let label_count = length (mandatory_hypotheses db k) + length labels in
         let js =
         all_usable labels
         (append_none (flat_map (proof_label_faults db k) labels)
-        (letter_faults many end (letters_of letters)) f).0 in
-        let good =
-        good_letters many end (letters_of letters)
+        (letter_faults label_count end (letters_of letters)) f).0 in
+        let letters_faultless =
+        faultless_letters label_count end (letters_of letters)
         (append_none (flat_map (proof_label_faults db k) labels)
-        (letter_faults many end (letters_of letters)) f).1 in
+        (letter_faults label_count end (letters_of letters)) f).1 in
         let gs = (groups [] (letters_of letters)).0 in
-        let read : Spells (letters_in letters) (map item_of gs) =
+        let groups_spell_letters : Spells (letters_in letters) (map item_of gs) =
         subst (λ bs. Spells bs (map item_of gs)) (letters_bytes letters)
-        (groups_spell (letters_of letters) [] many 0 0 tt good.fine good.whole) in
+        (groups_spell
+        (letters_of letters) [] label_count 0 0 tt letters_faultless.faultless
+        letters_faultless.whole) in
         let same : map item_of gs ≡ items =
-        spelling_unique (letters_in letters) (map item_of gs) items read spelled in
-        let fine : AreFine (length (mandatory_hypotheses db k) + length js.0) 0 0 gs =
-        subst (λ n. AreFine (length (mandatory_hypotheses db k) + n) 0 0 gs)
-        (as_many labels js.0 js.1) good.fine in
-        let said : AreSteps (mandatory_hypotheses db k) js.0 (map item_of gs)
+        spelling_unique (letters_in letters)
+        (map item_of gs) items groups_spell_letters letters_spell in
+        let groups_faultless : AreFaultless
+        (length (mandatory_hypotheses db k) + length js.0) 0 0 gs =
+        subst (λ n. AreFaultless (length (mandatory_hypotheses db k) + n) 0 0 gs)
+        (same_length labels js.0 js.1) letters_faultless.faultless in
+        let group_steps_are : AreSteps (mandatory_hypotheses db k) js.0 (map item_of gs)
         (map (λ p. p.step)
-        (group_steps (mandatory_hypotheses db k ++ js.0) [] 0 gs)) = groups_said
-        (mandatory_hypotheses db k) js.0 gs fine in (
+        (group_steps (mandatory_hypotheses db k ++ js.0) [] 0 gs)) = groups_name_steps
+        (mandatory_hypotheses db k) js.0 gs groups_faultless in (
           js.0,
           js.1,
           subst (λ xs. AreSteps (mandatory_hypotheses db k) js.0 items
@@ -547,26 +569,26 @@ module _ (db : List Statement) (differ : LabelsDiffer db) where
               (sym js.2)
               (subst (λ is. AreSteps (mandatory_hypotheses db k) js.0 is
               (map (λ p. p.step) (group_steps (mandatory_hypotheses db k ++ js.0) [] 0 gs)))
-              same said),
+              same group_steps_are),
         )
       where
-        as_many : (ts : List Token) (js : List ℕ) → AllZip (λ t j. IsUsable db k t.word j) ts js
+        same_length : (ts : List Token) (js : List ℕ) → AllZip (λ t j. IsUsable db k t.word j) ts js
             → length ts ≡ length js
-        as_many [] [] h = refl
-        as_many [] (j ∷ js) h = absurd h
-        as_many (t ∷ ts) [] h = absurd h
-        as_many (t ∷ ts) (j ∷ js) h = ap suc (as_many ts js h.1)
+        same_length [] [] h = refl
+        same_length [] (j ∷ js) h = absurd h
+        same_length (t ∷ ts) [] h = absurd h
+        same_length (t ∷ ts) (j ∷ js) h = ap suc (same_length ts js h.1)
 
     compressed_are : (end : ℕ) (ts labels letters : List Token) (items : List Item)
         → reading_faults db k end ts ≡ [] → IsCompressed ts labels letters
         → Spells (letters_in letters) items
         → (js : List ℕ) × AllZip (λ t j. IsUsable db k t.word j) labels js
         × AreSteps (mandatory_hypotheses db k) js items (bare_steps db k ts)
-    compressed_are end ts labels letters items f c spelled =
+    compressed_are end ts labels letters items f c letters_spell =
         subst (λ xs. Goal (bare_steps db k xs)) (sym c.are)
         (subst (λ ps. Goal (map (λ p. p.step) ps)) (sym steps_are)
         (named end labels letters items
-        (sym faults_are ∙ (ap (reading_faults db k end) (sym c.are) ∙ f)) spelled))
+        (sym faults_are ∙ (ap (reading_faults db k end) (sym c.are) ∙ f)) letters_spell))
       where
         rest : List Token
         rest = labels ++ c.closing ∷ letters

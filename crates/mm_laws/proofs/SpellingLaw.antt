@@ -50,7 +50,7 @@ no_early b d (inl h) e = let x = e.code in let l = e.least in omega arith
 no_early b d (inr h) e = let x = e.code in let l = e.most in omega arith
 
 -- the letters of an item: earlier digits and what ends it
-record IsOne (letters : List ℕ) : Type 0 where
+record IsItemLetters (letters : List ℕ) : Type 0 where
   pub early : List ℕ
   pub last : ℕ
   pub are : letters ≡ early ++ last ∷ []
@@ -58,8 +58,8 @@ record IsOne (letters : List ℕ) : Type 0 where
   pub earlier : AreEarlyDigits early high
   pub ends : EndsItem last
 
-one_of : (item : Item) (letters : List ℕ) → IsSpelled letters item → IsOne letters
-one_of (number n) letters h =
+item_letters : (item : Item) (letters : List ℕ) → IsSpelled letters item → IsItemLetters letters
+item_letters (number n) letters h =
     record {
       early = h.early;
       last = h.last;
@@ -68,7 +68,7 @@ one_of (number n) letters h =
       earlier = h.earlier;
       ends = inl (let c = h.ends.code in let m = h.ends.most in omega arith);
     }
-one_of mark letters h =
+item_letters mark letters h =
     record { early = []; last = 90; are = h; high = 0; earlier = refl; ends = inr (omega arith) }
 
 -- two such fronts of the same letters are one
@@ -86,17 +86,19 @@ same_fronts (c ∷ early) (d ∷ other) last end m n rest more h k a b e =
     let r = same_fronts early other last end h.1 k.1 rest more h.3 k.3 a b tails in
     (ap₂ (λ x xs. x ∷ xs) heads r.0, r.1, r.2)
 
-same_front : (first other rest more : List ℕ) → IsOne first → IsOne other
+same_front : (first other rest more : List ℕ) → IsItemLetters first → IsItemLetters other
     → first ++ rest ≡ other ++ more → (first ≡ other) × (rest ≡ more)
 same_front first other rest more h k e =
-    let left : first ++ rest ≡ h.early ++ h.last ∷ rest =
+    let first_split : first ++ rest ≡ h.early ++ h.last ∷ rest =
     ap (λ x. x ++ rest) h.are ∙ append_assoc h.early (h.last ∷ []) rest in
-    let right : other ++ more ≡ k.early ++ k.last ∷ more =
+    let other_split : other ++ more ≡ k.early ++ k.last ∷ more =
     ap (λ x. x ++ more) k.are ∙ append_assoc k.early (k.last ∷ []) more in
-    let r =
+    let fronts_are_same =
     same_fronts h.early k.early h.last k.last h.high k.high rest more h.earlier k.earlier h.ends
-    k.ends (sym left ∙ e ∙ right) in
-    (h.are ∙ ap₂ (λ xs x. xs ++ x ∷ []) r.0 r.1 ∙ sym k.are, r.2)
+    k.ends (sym first_split ∙ e ∙ other_split) in (
+      h.are ∙ ap₂ (λ xs x. xs ++ x ∷ []) fronts_are_same.0 fronts_are_same.1 ∙ sym k.are,
+      fronts_are_same.2,
+    )
 
 last_of_two : (early other : List ℕ) (last end m n : ℕ) → AreEarlyDigits early m
     → AreEarlyDigits other n → EndsItem last → EndsItem end → early ++ last ∷ [] ≡ other ++ end ∷ []
@@ -104,8 +106,8 @@ last_of_two : (early other : List ℕ) (last end m n : ℕ) → AreEarlyDigits e
 last_of_two early other last end m n h k a b e =
     let r = same_fronts early other last end m n [] [] h k a b e in (r.0, r.1)
 
-below : (b d : ℕ) → IsLastDigit b d → EndsItem b
-below b d h = inl (let c = h.code in let m = h.most in omega arith)
+last_digit_ends : (b d : ℕ) → IsLastDigit b d → EndsItem b
+last_digit_ends b d h = inl (let c = h.code in let m = h.most in omega arith)
 
 -- the letters of one item are those of no other
 pub item_unique : (a b : Item) (letters : List ℕ) → IsSpelled letters a → IsSpelled letters b
@@ -114,7 +116,8 @@ item_unique mark mark letters h k = refl
 item_unique (number m) (number n) letters h k =
     let r =
     last_of_two h.early k.early h.last k.last h.high k.high h.earlier k.earlier
-    (below h.last h.low h.ends) (below k.last k.low k.ends) (sym h.are ∙ k.are) in
+    (last_digit_ends h.last h.low h.ends) (last_digit_ends k.last k.low k.ends)
+    (sym h.are ∙ k.are) in
     let high : h.high ≡ k.high =
     early_unique k.early h.high k.high
     (subst (λ xs. AreEarlyDigits xs h.high) r.0 h.earlier) k.earlier in
@@ -123,12 +126,12 @@ item_unique (number m) (number n) letters h k =
     ap number (h.value ∙ ap₂ (λ x y. x * 20 + y) high low ∙ sym k.value)
 item_unique (number m) mark letters h k =
     let r =
-    last_of_two h.early [] h.last 90 h.high 0 h.earlier refl (below h.last h.low h.ends)
+    last_of_two h.early [] h.last 90 h.high 0 h.earlier refl (last_digit_ends h.last h.low h.ends)
     (inr (omega arith)) (sym h.are ∙ k) in
     let e = r.1 in let c = h.ends.code in let m = h.ends.most in absurd (omega arith)
 item_unique mark (number n) letters h k =
     let r =
-    last_of_two k.early [] k.last 90 k.high 0 k.earlier refl (below k.last k.low k.ends)
+    last_of_two k.early [] k.last 90 k.high 0 k.earlier refl (last_digit_ends k.last k.low k.ends)
     (inr (omega arith)) (sym k.are ∙ h) in
     let e = r.1 in let c = k.ends.code in let m = k.ends.most in absurd (omega arith)
 
@@ -139,15 +142,18 @@ nonempty (b ∷ early) last rest e = cc
 pub spelling_unique : SpellingIsUnique
 spelling_unique letters [] [] h k = refl
 spelling_unique letters [] (b ∷ others) h k =
-    let one =
-    one_of b k.0 k.3 in
-    absurd (nonempty one.early one.last k.1 (sym h ∙ k.2 ∙ ap (λ x. x ++ k.1) one.are))
+    let letters_of_one =
+    item_letters b k.0 k.3 in
+    absurd (nonempty letters_of_one.early letters_of_one.last k.1
+    (sym h ∙ k.2 ∙ ap (λ x. x ++ k.1) letters_of_one.are))
 spelling_unique letters (a ∷ items) [] h k =
-    let one =
-    one_of a h.0 h.3 in
-    absurd (nonempty one.early one.last h.1 (sym k ∙ h.2 ∙ ap (λ x. x ++ h.1) one.are))
+    let letters_of_one =
+    item_letters a h.0 h.3 in
+    absurd (nonempty letters_of_one.early letters_of_one.last h.1
+    (sym k ∙ h.2 ∙ ap (λ x. x ++ h.1) letters_of_one.are))
 spelling_unique letters (a ∷ items) (b ∷ others) h k =
-    let r = same_front h.0 k.0 h.1 k.1 (one_of a h.0 h.3) (one_of b k.0 k.3) (sym h.2 ∙ k.2) in
+    let r = same_front h.0 k.0 h.1 k.1 (item_letters a h.0 h.3) (item_letters b k.0 k.3)
+    (sym h.2 ∙ k.2) in
     let item : a ≡ b = item_unique a b k.0 (subst (λ x. IsSpelled x a) r.0 h.3) k.3 in
     ap₂ (λ x xs. x ∷ xs) item
     (spelling_unique k.1 items others (subst (λ x. Spells x items) r.1 h.4) k.4)
@@ -155,8 +161,8 @@ spelling_unique letters (a ∷ items) (b ∷ others) h k =
 -- ---- brackets
 
 -- one word of brackets more
-abbrev one_more : Token → List Token → Bool → Compressed
-one_more t ts b =
+abbrev bracketed_by : Token → List Token → Bool → Compressed
+bracketed_by t ts b =
     elim b [
       | true ↦ record { labels = []; letters = Some ts }
       | false ↦ with_label t (bracketed ts)
@@ -167,26 +173,26 @@ pub bracketed_is : (labels : List Token) (closing : Token) (letters : List Token
     → closing.word ≡ codes ")" → AllByRecursion (λ t. t.word ≢ codes ")") labels
     → bracketed (labels ++ closing ∷ letters) ≡ record { labels = labels; letters = Some letters }
 bracketed_is [] closing letters e h =
-    ap (one_more closing letters) ((bytes_eq-Decides closing.word (codes ")")).1 e)
+    ap (bracketed_by closing letters) ((bytes_eq-Decides closing.word (codes ")")).1 e)
 bracketed_is (t ∷ labels) closing letters e h =
-    by (bytes_eq t.word (codes ")")) refl (bracketed_is labels closing letters e h.1)
+    by_bracket (bytes_eq t.word (codes ")")) refl (bracketed_is labels closing letters e h.1)
   where
-    by : (b : Bool) → bytes_eq t.word (codes ")") ≡ b
+    by_bracket : (b : Bool) → bytes_eq t.word (codes ")") ≡ b
         → bracketed (labels ++ closing ∷ letters)
         ≡ record { labels = labels; letters = Some letters }
-        → one_more t (labels ++ closing ∷ letters) b
+        → bracketed_by t (labels ++ closing ∷ letters) b
         ≡ record { labels = t ∷ labels; letters = Some letters }
-    by true q r = absurd (h.0 (same_word t.word (codes ")") q))
-    by false q r = ap (with_label t) r
+    by_bracket true q r = absurd (h.0 (same_word t.word (codes ")") q))
+    by_bracket false q r = ap (with_label t) r
 
 pub parts_unique : PartsAreUnique
 parts_unique ts labels letters others more h k =
-    let one = bracketed_is labels h.closing letters h.closes h.first in
-    let two = bracketed_is others k.closing more k.closes k.first in
-    let tails : labels ++ h.closing ∷ letters ≡ others ++ k.closing ∷ more =
+    let first_bracketed = bracketed_is labels h.closing letters h.closes h.first in
+    let other_bracketed = bracketed_is others k.closing more k.closes k.first in
+    let same_tails : labels ++ h.closing ∷ letters ≡ others ++ k.closing ∷ more =
     tail_is (sym h.are ∙ k.are) in
-    let same = sym one ∙ ap bracketed tails ∙ two in
-    (ap (λ p. p.labels) same, some_is (ap (λ p. p.letters) same))
+    let same_bracketed = sym first_bracketed ∙ ap bracketed same_tails ∙ other_bracketed in
+    (ap (λ p. p.labels) same_bracketed, some_is (ap (λ p. p.letters) same_bracketed))
   where
     tail_is : {s t : Token} {xs ys : List Token} → s ∷ xs ≡ t ∷ ys → xs ≡ ys
     tail_is e = cc
@@ -195,20 +201,24 @@ parts_unique ts labels letters others more h k =
     some_is e = cc
 
 -- the parts of words with brackets
-pub record Parts (ts letters : List Token) : Type 0 where
+pub record BracketParts (ts letters : List Token) : Type 0 where
   pub labels : List Token
   pub closing : Token
   pub are : ts ≡ labels ++ closing ∷ letters
   pub closes : closing.word ≡ codes ")"
   pub first : AllByRecursion (λ t. t.word ≢ codes ")") labels
 
-pub parts_of : (ts letters : List Token) → (bracketed ts).letters ≡ Some letters → Parts ts letters
+pub parts_of : (ts letters : List Token) → (bracketed ts).letters ≡ Some letters
+    → BracketParts ts letters
 parts_of [] letters e = absurd (cc)
-parts_of (t ∷ ts) letters e = by (bytes_eq t.word (codes ")")) refl e (λ h. parts_of ts letters h)
+parts_of (t ∷ ts) letters e =
+    by_bracket (bytes_eq t.word (codes ")")) refl e (λ h. parts_of ts letters h)
   where
-    by : (b : Bool) → bytes_eq t.word (codes ")") ≡ b → (one_more t ts b).letters ≡ Some letters
-        → ((bracketed ts).letters ≡ Some letters → Parts ts letters) → Parts (t ∷ ts) letters
-    by true q h on =
+    by_bracket : (b : Bool) → bytes_eq t.word (codes ")") ≡ b
+        → (bracketed_by t ts b).letters ≡ Some letters
+        → ((bracketed ts).letters ≡ Some letters → BracketParts ts letters)
+        → BracketParts (t ∷ ts) letters
+    by_bracket true q h of_the_rest =
         let same : ts ≡ letters = cc in
         record {
           labels = [];
@@ -217,8 +227,8 @@ parts_of (t ∷ ts) letters e = by (bytes_eq t.word (codes ")")) refl e (λ h. p
           closes = same_word t.word (codes ")") q;
           first = tt;
         }
-    by false q h on =
-        let r = on h in
+    by_bracket false q h of_the_rest =
+        let r = of_the_rest h in
         record {
           labels = t ∷ r.labels;
           closing = r.closing;
@@ -242,28 +252,30 @@ abbrev pub item_of : Group → Item
 item_of g = elim (is_last g.last.byte) [ true ↦ number (value g) | false ↦ mark ]
 
 -- groups that have no fault
-abbrev pub AreFine : ℕ → ℕ → ℕ → List Group → Type 0
-AreFine many marks count [] = Unit {0}
-AreFine many marks count (g ∷ gs) =
-    ((is_last g.last.byte ≡ true) × (value g ≤ many + marks) × AreFine many marks (count + 1) gs)
+abbrev pub AreFaultless : ℕ → ℕ → ℕ → List Group → Type 0
+AreFaultless label_count marks count [] = Unit {0}
+AreFaultless label_count marks count (g ∷ gs) =
+    ((is_last g.last.byte ≡ true) × (value g ≤ label_count + marks)
+    × AreFaultless label_count marks (count + 1) gs)
     ⊎ ((is_last g.last.byte ≡ false) × (g.last.byte ≡ 90) × (g.early ≡ []) × (0 < count)
-    × AreFine many (marks + 1) count gs)
+    × AreFaultless label_count (marks + 1) count gs)
 
 no_length : (xs : List Letter) → nat_lt 0 (length xs) ≡ false → xs ≡ []
 no_length [] e = refl
 no_length (x ∷ xs) e = absurd (let h = ltb-false 0 (length (x ∷ xs)) e in omega arith)
 
-pub fine_of : (gs : List Group) (many marks count : ℕ) → group_faults many marks count gs ≡ []
-    → AreFine many marks count gs
-fine_of [] many marks count f = tt
-fine_of (g ∷ gs) many marks count f =
-    by (is_last g.last.byte) refl (g.last.byte == 90) refl f
-    (λ e. fine_of gs many marks (count + 1) e)
-    (λ e. fine_of gs many (marks + 1) count e)
+pub faultless_groups : (gs : List Group) (label_count marks count : ℕ)
+    → group_faults label_count marks count gs ≡ []
+    → AreFaultless label_count marks count gs
+faultless_groups [] label_count marks count f = tt
+faultless_groups (g ∷ gs) label_count marks count f =
+    by_letter (is_last g.last.byte) refl (g.last.byte == 90) refl f
+    (λ e. faultless_groups gs label_count marks (count + 1) e)
+    (λ e. faultless_groups gs label_count (marks + 1) count e)
   where
-    first : Bool → Bool → List Fault
-    first a b = elim a [
-      | true ↦ at (starts_at g) (when (nat_lt (many + marks) (value g)) NumberTooLarge)
+    faults_of_group : Bool → Bool → List Fault
+    faults_of_group a b = elim a [
+      | true ↦ at (starts_at g) (when (nat_lt (label_count + marks) (value g)) NumberTooLarge)
       | false ↦ elim b [
         | true ↦ at g.last.at
             (when (nat_lt 0 (length g.early)) OpenNumber ++ when (count == 0) MarkBeforeStep)
@@ -272,44 +284,46 @@ fine_of (g ∷ gs) many marks count f =
       ]
     ]
 
-    second : Bool → List Fault
-    second b =
+    faults_of_later_groups : Bool → List Fault
+    faults_of_later_groups b =
         elim b [
-          | true ↦ group_faults many (marks + 1) count gs
-          | false ↦ group_faults many marks (count + 1) gs
+          | true ↦ group_faults label_count (marks + 1) count gs
+          | false ↦ group_faults label_count marks (count + 1) gs
         ]
 
-    other : (b : Bool)
+    other_byte_is_fault : (b : Bool)
         → ¬ (at g.last.at (elim b [ true ↦ IncompleteProof ∷ [] | false ↦ BadLetter ∷ [] ]) ≡ [])
-    other true e = cc
-    other false e = cc
+    other_byte_is_fault true e = cc
+    other_byte_is_fault false e = cc
 
-    by : (a : Bool) → is_last g.last.byte ≡ a → (b : Bool) → (g.last.byte == 90) ≡ b
-        → first a b ++ second b ≡ []
-        → (group_faults many marks (count + 1) gs ≡ [] → AreFine many marks (count + 1) gs)
-        → (group_faults many (marks + 1) count gs ≡ [] → AreFine many (marks + 1) count gs)
-        → AreFine many marks count (g ∷ gs)
-    by true p true q f on marking =
+    by_letter : (a : Bool) → is_last g.last.byte ≡ a → (b : Bool) → (g.last.byte == 90) ≡ b
+        → faults_of_group a b ++ faults_of_later_groups b ≡ []
+        → (group_faults label_count marks (count + 1) gs ≡ []
+        → AreFaultless label_count marks (count + 1) gs)
+        → (group_faults label_count (marks + 1) count gs ≡ []
+        → AreFaultless label_count (marks + 1) count gs)
+        → AreFaultless label_count marks count (g ∷ gs)
+    by_letter true p true q f after_number after_mark =
         let u =
         leb-true g.last.byte 84 (and_parts (nat_le 65 g.last.byte) (nat_le g.last.byte 84) p).1 in
         let v = eqb-true g.last.byte 90 q in
         absurd (omega arith)
-    by true p false q f on marking =
+    by_letter true p false q f after_number after_mark =
         let none =
-        when_none (nat_lt (many + marks) (value g)) NumberTooLarge
-        (at_none (starts_at g) (when (nat_lt (many + marks) (value g)) NumberTooLarge)
-        (append_none (first true false) (second false) f).0) in
+        when_none (nat_lt (label_count + marks) (value g)) NumberTooLarge
+        (at_none (starts_at g) (when (nat_lt (label_count + marks) (value g)) NumberTooLarge)
+        (append_none (faults_of_group true false) (faults_of_later_groups false) f).0) in
         inl (
           p,
-          ltb-false (many + marks) (value g) none,
-          on
-              (append_none (first true false) (second false) f).1,
+          ltb-false (label_count + marks) (value g) none,
+          after_number
+              (append_none (faults_of_group true false) (faults_of_later_groups false) f).1,
         )
-    by false p true q f on marking =
+    by_letter false p true q f after_number after_mark =
         let codes =
         at_none g.last.at
         (when (nat_lt 0 (length g.early)) OpenNumber ++ when (count == 0) MarkBeforeStep)
-        (append_none (first false true) (second true) f).0 in
+        (append_none (faults_of_group false true) (faults_of_later_groups true) f).0 in
         let open_none =
         when_none (nat_lt 0 (length g.early)) OpenNumber
         (append_none (when (nat_lt 0 (length g.early)) OpenNumber)
@@ -324,11 +338,12 @@ fine_of (g ∷ gs) many marks count f =
           eqb-true g.last.byte 90 q,
           no_length g.early open_none,
           omega arith,
-          marking
-              (append_none (first false true) (second true) f).1,
+          after_mark
+              (append_none (faults_of_group false true) (faults_of_later_groups true) f).1,
         )
-    by false p false q f on marking =
-        absurd (other (g.last.byte == 63) (append_none (first false false) (second false) f).0)
+    by_letter false p false q f after_number after_mark =
+        absurd (other_byte_is_fault (g.last.byte == 63)
+        (append_none (faults_of_group false false) (faults_of_later_groups false) f).0)
 
 pub early_digit : (b : ℕ) → is_early b ≡ true → IsEarlyDigit b (b - 84)
 early_digit b e =
@@ -344,8 +359,8 @@ last_digit b e =
     let u = leb-true b 84 p.1 in
     record { least = omega arith; most = omega arith; code = omega arith }
 
-shift : (n d p q r : ℕ) → q ≡ 5 * p → (5 * n + d) * p + r ≡ n * q + (d * p + r)
-shift n d p q r e = rw e (omega arith)
+shift_digit : (n d p q r : ℕ) → q ≡ 5 * p → (5 * n + d) * p + r ≡ n * q + (d * p + r)
+shift_digit n d p q r e = rw e (omega arith)
 
 -- the value of earlier digits, after others
 early_value : (xs : List Letter) (n : ℕ) → AreEarly xs
@@ -356,7 +371,8 @@ early_value (x ∷ xs) n h =
     let r = early_value xs (5 * n + (x.byte - 84)) h.1 in (
       (x.byte - 84) * 5 ^ length (bytes_of xs) + r.0,
       (x.byte - 84, r.0, early_digit x.byte h.0, r.1, refl),
-      r.2 ∙ shift n (x.byte - 84) (5 ^ length (bytes_of xs)) (5 ^ suc (length (bytes_of xs))) r.0
+      r.2 ∙ shift_digit n (x.byte - 84) (5 ^ length (bytes_of xs))
+          (5 ^ suc (length (bytes_of xs))) r.0
           (pow-succ' 5 (length (bytes_of xs))),
     )
 
@@ -399,32 +415,32 @@ bytes_more [] x bs = refl
 bytes_more (y ∷ early) x bs = ap (λ xs. y.byte ∷ xs) (bytes_more early x bs)
 
 -- letters without a fault spell the items of their groups
-pub groups_spell : (xs early : List Letter) (many marks count : ℕ) → AreEarly early
-    → AreFine many marks count (groups early xs).0 → (groups early xs).1 ≡ []
+pub groups_spell : (xs early : List Letter) (label_count marks count : ℕ) → AreEarly early
+    → AreFaultless label_count marks count (groups early xs).0 → (groups early xs).1 ≡ []
     → Spells (bytes_of early ++ bytes_of xs) (map item_of (groups early xs).0)
-groups_spell [] early many marks count h f e = append-nil (bytes_of early) ∙ ap bytes_of e
-groups_spell (x ∷ xs) early many marks count h f e =
-    by (is_early x.byte) refl f e
+groups_spell [] early label_count marks count h f e = append-nil (bytes_of early) ∙ ap bytes_of e
+groups_spell (x ∷ xs) early label_count marks count h f e =
+    by_is_early (is_early x.byte) refl f e
     (λ p k n. subst (λ bs. Spells bs (map item_of (groups (early ++ x ∷ []) xs).0))
     (bytes_more early x (bytes_of xs))
-    (groups_spell xs (early ++ x ∷ []) many marks count (early_more early x h p) k n))
-    (λ m c k n. groups_spell xs [] many m c tt k n)
+    (groups_spell xs (early ++ x ∷ []) label_count marks count (early_more early x h p) k n))
+    (λ m c k n. groups_spell xs [] label_count m c tt k n)
   where
-    out : Bool → List Group × List Letter
-    out b =
+    groups_by_early : Bool → List Group × List Letter
+    groups_by_early b =
         elim b [
           | true ↦ groups (early ++ x ∷ []) xs
           | false ↦ let g = groups [] xs in (record { early = early; last = x } ∷ g.0, g.1)
         ]
 
-    own : Group
-    own = record { early = early; last = x }
+    own_group : Group
+    own_group = record { early = early; last = x }
 
-    whole : IsSpelled (bytes_of early ++ x.byte ∷ []) (item_of own)
+    item_and_later : IsSpelled (bytes_of early ++ x.byte ∷ []) (item_of own_group)
         → Spells (bytes_of xs) (map item_of (groups [] xs).0)
         → Spells (bytes_of early ++ x.byte ∷ bytes_of xs)
-        (item_of own ∷ map item_of (groups [] xs).0)
-    whole s r = (
+        (item_of own_group ∷ map item_of (groups [] xs).0)
+    item_and_later s r = (
       bytes_of early
           ++ x.byte
           ∷ [],
@@ -434,25 +450,30 @@ groups_spell (x ∷ xs) early many marks count h f e =
       r,
     )
 
-    last : AreFine many marks count (own ∷ (groups [] xs).0) → (groups [] xs).1 ≡ []
-        → ((m c : ℕ) → AreFine many m c (groups [] xs).0 → (groups [] xs).1 ≡ []
+    at_last_letter : AreFaultless label_count marks count (own_group ∷ (groups [] xs).0)
+        → (groups [] xs).1 ≡ []
+        → ((m c : ℕ) → AreFaultless label_count m c (groups [] xs).0 → (groups [] xs).1 ≡ []
         → Spells (bytes_of xs) (map item_of (groups [] xs).0))
         → Spells (bytes_of early ++ x.byte ∷ bytes_of xs)
-        (item_of own ∷ map item_of (groups [] xs).0)
-    last (inl k) n on = whole (group_spelled own h (inl k.0)) (on marks (count + 1) k.2 n)
-    last (inr k) n on =
-        whole (group_spelled own h (inr (k.0, k.1, k.2))) (on (marks + 1) count k.4 n)
+        (item_of own_group ∷ map item_of (groups [] xs).0)
+    at_last_letter (inl k) n in_the_run =
+        item_and_later (group_spelled own_group h (inl k.0)) (in_the_run marks (count + 1) k.2 n)
+    at_last_letter (inr k) n in_the_run =
+        item_and_later (group_spelled own_group h (inr (k.0, k.1, k.2)))
+        (in_the_run (marks + 1) count k.4 n)
 
-    by : (b : Bool) → is_early x.byte ≡ b → AreFine many marks count (out b).0 → (out b).1 ≡ []
-        → (is_early x.byte ≡ true → AreFine many marks count (groups (early ++ x ∷ []) xs).0
+    by_is_early : (b : Bool) → is_early x.byte ≡ b
+        → AreFaultless label_count marks count (groups_by_early b).0 → (groups_by_early b).1 ≡ []
+        → (is_early x.byte ≡ true
+        → AreFaultless label_count marks count (groups (early ++ x ∷ []) xs).0
         → (groups (early ++ x ∷ []) xs).1 ≡ []
         → Spells (bytes_of early ++ x.byte ∷ bytes_of xs)
         (map item_of (groups (early ++ x ∷ []) xs).0))
-        → ((m c : ℕ) → AreFine many m c (groups [] xs).0 → (groups [] xs).1 ≡ []
+        → ((m c : ℕ) → AreFaultless label_count m c (groups [] xs).0 → (groups [] xs).1 ≡ []
         → Spells (bytes_of xs) (map item_of (groups [] xs).0))
-        → Spells (bytes_of early ++ x.byte ∷ bytes_of xs) (map item_of (out b).0)
-    by true p k n on next = on p k n
-    by false p k n on next = last k n next
+        → Spells (bytes_of early ++ x.byte ∷ bytes_of xs) (map item_of (groups_by_early b).0)
+    by_is_early true p k n in_the_run after_group = in_the_run p k n
+    by_is_early false p k n in_the_run after_group = at_last_letter k n after_group
 
 -- ---- the letters of a proof
 
@@ -471,104 +492,109 @@ letters_bytes (t ∷ ts) =
     ∙ ap₂ (λ xs ys. xs ++ ys) (bytes_from t.at t.word) (letters_bytes ts)
 
 -- letters of which nothing is wrong
-pub record AreGood (many : ℕ) (xs : List Letter) : Type 0 where
-  pub fine : AreFine many 0 0 (groups [] xs).0
+pub record AreFaultlessLetters (label_count : ℕ) (xs : List Letter) : Type 0 where
+  pub faultless : AreFaultless label_count 0 0 (groups [] xs).0
   pub whole : (groups [] xs).1 ≡ []
   pub some : xs ≢ []
 
-pub good_letters : (many end : ℕ) (xs : List Letter) → letter_faults many end xs ≡ []
-    → AreGood many xs
-good_letters many end [] e = absurd (cc)
-good_letters many end (x ∷ xs) e = record {
-  fine =
-      fine_of (groups [] (x ∷ xs)).0 many 0 0
-      (append_none (group_faults many 0 0 (groups [] (x ∷ xs)).0)
+pub faultless_letters : (label_count end : ℕ) (xs : List Letter)
+    → letter_faults label_count end xs ≡ []
+    → AreFaultlessLetters label_count xs
+faultless_letters label_count end [] e = absurd (cc)
+faultless_letters label_count end (x ∷ xs) e = record {
+  faultless =
+      faultless_groups (groups [] (x ∷ xs)).0 label_count 0 0
+      (append_none (group_faults label_count 0 0 (groups [] (x ∷ xs)).0)
       (at end (when (nat_lt 0 (length (groups [] (x ∷ xs)).1)) OpenNumber)) e).0;
   whole =
       no_length (groups [] (x ∷ xs)).1
       (when_none (nat_lt 0 (length (groups [] (x ∷ xs)).1)) OpenNumber
       (at_none end (when (nat_lt 0 (length (groups [] (x ∷ xs)).1)) OpenNumber)
-      (append_none (group_faults many 0 0 (groups [] (x ∷ xs)).0)
+      (append_none (group_faults label_count 0 0 (groups [] (x ∷ xs)).0)
       (at end (when (nat_lt 0 (length (groups [] (x ∷ xs)).1)) OpenNumber)) e).1));
   some = λ n. cc;
 }
 
 -- what a compressed proof without faults has
-pub record IsGoodProof (db : List Statement) (k : ℕ) (ts : List Token) : Type 0 where
+pub record IsFaultlessProof (db : List Statement) (k : ℕ) (ts : List Token) : Type 0 where
   pub letters : List Token
   pub is : (bracketed ts).letters ≡ Some letters
   pub usable : flat_map (proof_label_faults db k) (bracketed ts).labels ≡ []
-  pub good : AreGood (length (mandatory_hypotheses db k) + length (bracketed ts).labels)
+  pub good : AreFaultlessLetters (length (mandatory_hypotheses db k) + length (bracketed ts).labels)
       (letters_of letters)
 
-pub good_proof : (db : List Statement) (k end : ℕ) (t : Token) (ts : List Token)
-    → t.word ≡ codes "(" → reading_faults db k end (t ∷ ts) ≡ [] → IsGoodProof db k ts
-good_proof db k end t ts opens f =
-    by (bracketed ts).letters refl
+pub faultless_proof : (db : List Statement) (k end : ℕ) (t : Token) (ts : List Token)
+    → t.word ≡ codes "(" → reading_faults db k end (t ∷ ts) ≡ [] → IsFaultlessProof db k ts
+faultless_proof db k end t ts opens f =
+    by_letters (bracketed ts).letters refl
     (append_none (flat_map (proof_label_faults db k) (bracketed ts).labels)
-    (rest (bracketed ts).letters) compressed).1
+    (faults_of_letters (bracketed ts).letters) compressed_faultless).1
   where
-    many : ℕ
-    many = length (mandatory_hypotheses db k) + length (bracketed ts).labels
+    label_count : ℕ
+    label_count = length (mandatory_hypotheses db k) + length (bracketed ts).labels
 
-    rest : Option (List Token) → List Fault
-    rest o =
+    faults_of_letters : Option (List Token) → List Fault
+    faults_of_letters o =
         elim o [
           | None ↦ fault end OpenBrackets ∷ []
-          | Some ts ↦ letter_faults many end (letters_of ts)
+          | Some ts ↦ letter_faults label_count end (letters_of ts)
         ]
 
-    faults : Bool → List Fault
-    faults b =
+    faults_by_bracket : Bool → List Fault
+    faults_by_bracket b =
         elim b [
           | true ↦ compressed_faults db k end (bracketed ts)
           | false ↦ normal_faults db k end (t ∷ ts)
         ]
 
-    compressed : compressed_faults db k end (bracketed ts) ≡ []
-    compressed = ap faults (sym ((bytes_eq-Decides t.word (codes "(")).1 opens)) ∙ f
+    compressed_faultless : compressed_faults db k end (bracketed ts) ≡ []
+    compressed_faultless =
+        ap faults_by_bracket (sym ((bytes_eq-Decides t.word (codes "(")).1 opens)) ∙ f
 
-    by : (o : Option (List Token)) → (bracketed ts).letters ≡ o → rest o ≡ [] → IsGoodProof db k ts
-    by None e g = absurd (cc)
-    by (Some letters) e g =
+    by_letters : (o : Option (List Token)) → (bracketed ts).letters ≡ o → faults_of_letters o ≡ []
+        → IsFaultlessProof db k ts
+    by_letters None e g = absurd (cc)
+    by_letters (Some letters) e g =
         record {
           letters = letters;
           is = e;
           usable = (append_none (flat_map (proof_label_faults db k) (bracketed ts).labels)
-              (rest (bracketed ts).letters) compressed).0;
-          good = good_letters many end (letters_of letters) g;
+              (faults_of_letters (bracketed ts).letters) compressed_faultless).0;
+          good = faultless_letters label_count end (letters_of letters) g;
         }
 
 pub spelled_out : ProofsAreSpelled
 spelled_out db k end t ts opens f =
-    let p = good_proof db k end t ts opens f in
-    let parts = parts_of ts p.letters p.is in
-    let spelled =
+    let p = faultless_proof db k end t ts opens f in
+    let brackets = parts_of ts p.letters p.is in
+    let bytes_spell =
     groups_spell (letters_of p.letters) []
-    (length (mandatory_hypotheses db k) + length (bracketed ts).labels) 0 0 tt p.good.fine
+    (length (mandatory_hypotheses db k) + length (bracketed ts).labels) 0 0 tt p.good.faultless
     p.good.whole in
-    let read : Spells (letters_in p.letters) (map item_of (groups [] (letters_of p.letters)).0) =
+    let letters_spell : Spells (letters_in p.letters)
+    (map item_of (groups [] (letters_of p.letters)).0) =
     subst (λ bs. Spells bs (map item_of (groups [] (letters_of p.letters)).0))
-    (letters_bytes p.letters) spelled in
+    (letters_bytes p.letters) bytes_spell in
     record {
-      labels = parts.labels;
+      labels = brackets.labels;
       letters = p.letters;
       parts =
           record {
             opening = t;
-            closing = parts.closing;
-            are = ap (λ xs. t ∷ xs) parts.are;
+            closing = brackets.closing;
+            are = ap (λ xs. t ∷ xs) brackets.are;
             opens = opens;
-            closes = parts.closes;
-            first = parts.first;
+            closes = brackets.closes;
+            first = brackets.first;
           };
       items = map item_of (groups [] (letters_of p.letters)).0;
-      spelled = read;
+      spelled = letters_spell;
       some =
-          λ n. none (letters_of p.letters)
-          (letters_bytes p.letters ∙ subst (Spells (letters_in p.letters)) n read) p.good.some;
+          λ n. no_letters (letters_of p.letters)
+          (letters_bytes p.letters
+          ∙ subst (Spells (letters_in p.letters)) n letters_spell) p.good.some;
     }
   where
-    none : (xs : List Letter) → bytes_of xs ≡ [] → xs ≢ [] → ⊥
-    none [] e h = h refl
-    none (x ∷ xs) e h = cc
+    no_letters : (xs : List Letter) → bytes_of xs ≡ [] → xs ≢ [] → ⊥
+    no_letters [] e h = h refl
+    no_letters (x ∷ xs) e h = cc

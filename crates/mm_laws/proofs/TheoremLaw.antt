@@ -17,39 +17,40 @@ use Rattle.mm_spec.proofs.CheckedLaw.{same_forest}
 use Rattle.mm_spec.proofs.CitedLaw.{proof_unique}
 use Rattle.mm_spec.proofs.GoodStepsLaw.{good_steps}
 use Rattle.mm_laws.proofs.ReadLaw.{frames_complete}
-use Rattle.mm_laws.proofs.JudgedLaw.{Judged, judged, valid, step_fault, end_fault}
+use Rattle.mm_laws.proofs.JudgedLaw.{Verdict, verdict, valid, step_fault, end_fault}
 use Rattle.mm_laws.proofs.OneOutputLaw.{proof_fault_unique, valid_no_fault}
 
 -- some fault is the least
 least_some : (f : Fault) (fs : List Fault) → (g : Fault) × (least (f ∷ fs) ≡ Some g)
-least_some f fs = by (least fs)
+least_some f fs = by_least (least fs)
   where
-    two : (g : Fault) (b : Bool)
+    by_is_before : (g : Fault) (b : Bool)
         → (h : Fault) × ◌≡◌ {A = Option Fault} (elim b [ true ↦ Some f | false ↦ Some g ]) (Some h)
-    two g true = (f, refl)
-    two g false = (g, refl)
+    by_is_before g true = (f, refl)
+    by_is_before g false = (g, refl)
 
-    by : (o : Option Fault) → (h : Fault) × (lesser f o ≡ Some h)
-    by None = (f, refl)
-    by (Some g) = two g (is_before f g)
+    by_least : (o : Option Fault) → (h : Fault) × (lesser f o ≡ Some h)
+    by_least None = (f, refl)
+    by_least (Some g) = by_is_before g (is_before f g)
 
-module _ (db : List Statement) (fine : AreComplete db) (k : ℕ) where
+module _ (db : List Statement) (all_complete : AreComplete db) (k : ℕ) where
   pub valid_or_faulty : (end : ℕ) → IsValid db k ⊎ ((f : Fault) × ProofFault db k end f)
-  valid_or_faulty end = by (reading_faults_at db k) refl
+  valid_or_faulty end = by_reading_faults (reading_faults_at db k) refl
     where
-      of : reading_faults_at db k ≡ []
-          → Judged (context_at db k) (fine k) (steps_at db k) (formula_at db k) end
+      by_verdict : reading_faults_at db k ≡ []
+          → Verdict (context_at db k) (all_complete k) (steps_at db k) (formula_at db k) end
           → IsValid db k ⊎ ((f : Fault) × ProofFault db k end f)
-      of e (valid d h) = inl (e, d, h)
-      of e (step_fault f h) = inr (f, inr (e, inl h))
-      of e (end_fault f h) = inr (f, inr (e, inr h))
+      by_verdict e (valid d h) = inl (e, d, h)
+      by_verdict e (step_fault f h) = inr (f, inr (e, inl h))
+      by_verdict e (end_fault f h) = inr (f, inr (e, inr h))
 
-      by : (fs : List Fault) → reading_faults_at db k ≡ fs
+      by_reading_faults : (fs : List Fault) → reading_faults_at db k ≡ fs
           → IsValid db k ⊎ ((f : Fault) × ProofFault db k end f)
-      by [] e =
-          of e (judged (context_at db k) (fine k) (steps_at db k) (formula_at db k) end
-          (good_steps db k (fine k) e))
-      by (f ∷ fs) e = let g = least_some f fs in inr (g.0, inl (ap least e ∙ g.1))
+      by_reading_faults [] e =
+          by_verdict e
+          (verdict (context_at db k) (all_complete k) (steps_at db k) (formula_at db k) end
+          (good_steps db k (all_complete k) e))
+      by_reading_faults (f ∷ fs) e = let g = least_some f fs in inr (g.0, inl (ap least e ∙ g.1))
 
 pub labels_determine : WhereRead LabelsDetermine
 labels_determine len x db fault r w k =

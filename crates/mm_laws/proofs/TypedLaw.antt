@@ -19,8 +19,8 @@ use Rattle.mm_laws.specs.Laws.Read.{WhereRead}
 use Rattle.mm_laws.specs.Laws.Frames.{IsTyping, VariablesAreTyped, is_in_frame}
 use Rattle.mm_laws.specs.Laws.Frames.{VariablesAreMandatory}
 use Rattle.mm_spec.proofs.FindsLaw.{any_flat_map, any_filter, member_filter, filter_member}
-use Rattle.mm_spec.proofs.FindsLaw.{found_at}
-use Rattle.mm_spec.proofs.FindsLaw.{at_found, found_active, active_found}
+use Rattle.mm_spec.proofs.FindsLaw.{passing_statement}
+use Rattle.mm_spec.proofs.FindsLaw.{statement_passes, passing_active, some_active_passes}
 use Rattle.mm_spec.proofs.FaultlessLaw.{has_formula}
 use Rattle.mm_spec.proofs.CompleteLaw.{Types, is_mandatory, is_mandatory_pair, mandatory_typed}
 use Rattle.mm_spec.proofs.CompleteLaw.{type_mandatory, of_formula, of_hypothesis, of_pair}
@@ -29,21 +29,23 @@ use Rattle.mm_spec.proofs.OpenedLaw.{counted_mandatory, counted_hypotheses, coun
 use Rattle.mm_laws.proofs.ReadLaw.{lawful_read}
 
 -- an assertion has a formula
-has_one : (s : Statement) → is_assertion s ≡ true → has_formula s ≡ true
-has_one (axiomatic l k xs d) e = refl
-has_one (provable l k xs q ps d) e = refl
-has_one _ e = absurd (true≢false (sym e))
+assertion_has_formula : (s : Statement) → is_assertion s ≡ true → has_formula s ≡ true
+assertion_has_formula (axiomatic l k xs d) e = refl
+assertion_has_formula (provable l k xs q ps d) e = refl
+assertion_has_formula _ e = absurd (true≢false (sym e))
 
 -- some item passes
 some_passes : {X : Type 0} (p : X → Bool) (xs : List X) → list_any p xs ≡ true
     → (x : X) × (p x ≡ true)
 some_passes p [] e = absurd (true≢false (sym e))
-some_passes {X} p (x ∷ xs) e = by (or_cases (p x) (list_any p xs) e) (some_passes p xs)
+some_passes {X} p (x ∷ xs) e =
+    at_first_or_later (or_cases (p x) (list_any p xs) e) (some_passes p xs)
   where
-    by : (p x ≡ true) ⊎ (list_any p xs ≡ true) → (list_any p xs ≡ true → (y : X) × (p y ≡ true))
+    at_first_or_later : (p x ≡ true) ⊎ (list_any p xs ≡ true)
+        → (list_any p xs ≡ true → (y : X) × (p y ≡ true))
         → (y : X) × (p y ≡ true)
-    by (inl h) more = (x, h)
-    by (inr h) more = more h
+    at_first_or_later (inl h) of_the_rest = (x, h)
+    at_first_or_later (inr h) of_the_rest = of_the_rest h
 
 module _ (db : List Statement) (lawful : (k : ℕ) → k < length db → IsLawful db k) (k : ℕ) where
   abbrev IsMandatory : ℕ → Type 0
@@ -69,21 +71,24 @@ module _ (db : List Statement) (lawful : (k : ℕ) → k < length db → IsLawfu
   abbrev in_pairs : ℕ → Bool
   in_pairs x = list_any (in_pair x) (mandatory_pairs db k)
 
-  among : (j : ℕ) → is_active db j k ≡ true → is_mandatory db k j ≡ true
+  is_mandatory_hypothesis : (j : ℕ) → is_active db j k ≡ true → is_mandatory db k j ≡ true
       → is_member (mandatory_hypotheses db k) j ≡ true
-  among j a m =
+  is_mandatory_hypothesis j a m =
       filter_member (is_mandatory db k) (active db k) j m
-      (active_found db k (λ i. j == i) j a (eq-eqb j j refl))
+      (some_active_passes db k (λ i. j == i) j a (eq-eqb j j refl))
 
   typed : VariablesAreTyped db k
   typed assertion x h =
-      let s = found_at db is_assertion k assertion in
-      let t = mandatory_typed db lawful k x s.0 s.1 (has_one s.0 s.2) h in
-      (t.0, among t.0 t.1 (type_mandatory db lawful k t.0 x t.2 h), is_typing t.0 t.2)
+      let s = passing_statement db is_assertion k assertion in
+      let t = mandatory_typed db lawful k x s.0 s.1 (assertion_has_formula s.0 s.2) h in (
+        t.0,
+        is_mandatory_hypothesis t.0 t.1 (type_mandatory db lawful k t.0 x t.2 h),
+        is_typing t.0 t.2,
+      )
     where
       is_typing : (i : ℕ) → Types db lawful i x → IsTyping db i x
       is_typing i t = record {
-        floats = at_found db is_floating i t.statement t.stands t.floats;
+        floats = statement_passes db is_floating i t.statement t.stands t.floats;
         typecode = t.typecode;
         is = t.is;
         constant = t.constant;
@@ -94,72 +99,77 @@ module _ (db : List Statement) (lawful : (k : ℕ) → k < length db → IsLawfu
       → in_formula x j ≡ true → in_hypotheses x ≡ true
   in_hypothesis x j a m h =
       any_filter (is_mandatory db k) (in_formula x) (active db k)
-      ∙ active_found db k (λ j. is_mandatory db k j && in_formula x j) j a
+      ∙ some_active_passes db k (λ j. is_mandatory db k j && in_formula x j) j a
       (and_from (is_mandatory db k j) (in_formula x j) m h)
 
   to_frame : (x : ℕ) → IsMandatory x
       → IsTrue (is_variable_number db x) × IsTrue (is_in_frame db k x)
-  to_frame x h = let p = member_filter (is_variable_number db) (formula_at db k ++ more) x h in (
-    p.0,
-    by
-        (or_cases (in_formula x k) (is_member more x)
-        (sym (list_any-append (λ y. x == y) (formula_at db k) more) ∙ p.1)),
-  )
+  to_frame x h =
+      let p = member_filter (is_variable_number db) (formula_at db k ++ essential_symbols) x h in (
+        p.0,
+        in_formula_or_essential
+            (or_cases (in_formula x k) (is_member essential_symbols x)
+            (sym (list_any-append (λ y. x == y) (formula_at db k) essential_symbols) ∙ p.1)),
+      )
     where
-      more : List ℕ
-      more = flat_map (formula_at db) essentials
+      essential_symbols : List ℕ
+      essential_symbols = flat_map (formula_at db) essentials
 
       of_essential : (j : ℕ) → is_active db j k ≡ true
           → (is_essential_at j && in_formula x j) ≡ true → in_hypotheses x ≡ true
       of_essential j a e =
           let p = and_parts (is_essential_at j) (in_formula x j) e in
-          let typed_here =
+          let floating_and_mandatory =
           list_any is_floating (statement_at db j)
           && list_any (is_member (mandatory_variables db k)) (formula_at db j) in
-          in_hypothesis x j a (or_left (is_essential_at j) typed_here p.0) p.1
+          in_hypothesis x j a (or_left (is_essential_at j) floating_and_mandatory p.0) p.1
 
-      by : (in_formula x k ≡ true) ⊎ (is_member more x ≡ true) → is_in_frame db k x ≡ true
-      by (inl g) = or_left (in_formula x k) (in_hypotheses x || in_pairs x) g
-      by (inr g) =
+      in_formula_or_essential : (in_formula x k ≡ true) ⊎ (is_member essential_symbols x ≡ true)
+          → is_in_frame db k x ≡ true
+      in_formula_or_essential (inl g) = or_left (in_formula x k) (in_hypotheses x || in_pairs x) g
+      in_formula_or_essential (inr g) =
           let has =
           sym (any_flat_map (λ y. x == y) (formula_at db) essentials
           ∙ any_filter is_essential_at (in_formula x) (active db k))
           ∙ g in
-          let a = found_active db k (λ j. is_essential_at j && in_formula x j) has in
+          let a = passing_active db k (λ j. is_essential_at j && in_formula x j) has in
           or_right (in_formula x k) (in_hypotheses x || in_pairs x)
           (or_left (in_hypotheses x) (in_pairs x) (of_essential a.0 a.1 a.2))
 
   from_frame : (x : ℕ) → is_variable_number db x ≡ true → is_in_frame db k x ≡ true → IsMandatory x
-  from_frame x v h = by (or_cases (in_formula x k) (in_hypotheses x || in_pairs x) h)
+  from_frame x v h =
+      in_formula_or_rest (or_cases (in_formula x k) (in_hypotheses x || in_pairs x) h)
     where
-      all : List Pair
-      all = pairs_of (length (symbol_names db))
+      all_pairs : List Pair
+      all_pairs = pairs_of (length (symbol_names db))
 
-      either : (p : Pair) → is_mandatory_pair db k p ≡ true
+      by_side : (p : Pair) → is_mandatory_pair db k p ≡ true
           → ((x == p.low) ≡ true) ⊎ ((x == p.high) ≡ true) → IsMandatory x
-      either p m (inl e) =
+      by_side p m (inl e) =
           ap (is_member (mandatory_variables db k)) (eqb-true x p.low e)
           ∙ (of_pair db lawful k p m).0
-      either p m (inr e) =
+      by_side p m (inr e) =
           ap (is_member (mandatory_variables db k)) (eqb-true x p.high e)
           ∙ (of_pair db lawful k p m).1
 
-      more : (in_hypotheses x ≡ true) ⊎ (in_pairs x ≡ true) → IsMandatory x
-      more (inl g) =
+      in_hypotheses_or_pairs : (in_hypotheses x ≡ true) ⊎ (in_pairs x ≡ true) → IsMandatory x
+      in_hypotheses_or_pairs (inl g) =
           let has = sym (any_filter (is_mandatory db k) (in_formula x) (active db k)) ∙ g in
-          let a = found_active db k (λ j. is_mandatory db k j && in_formula x j) has in
+          let a = passing_active db k (λ j. is_mandatory db k j && in_formula x j) has in
           let p = and_parts (is_mandatory db k a.0) (in_formula x a.0) a.2 in
           of_hypothesis db lawful k a.0 x a.1 p.0 p.1 v
-      more (inr g) =
+      in_hypotheses_or_pairs (inr g) =
           let a =
-          some_passes (λ p. is_mandatory_pair db k p && in_pair x p) all
-          (sym (any_filter (is_mandatory_pair db k) (in_pair x) all) ∙ g) in
+          some_passes (λ p. is_mandatory_pair db k p && in_pair x p) all_pairs
+          (sym (any_filter (is_mandatory_pair db k) (in_pair x) all_pairs) ∙ g) in
           let p = and_parts (is_mandatory_pair db k a.0) (in_pair x a.0) a.1 in
-          either a.0 p.0 (or_cases (x == a.0.low) (x == a.0.high) p.1)
+          by_side a.0 p.0 (or_cases (x == a.0.low) (x == a.0.high) p.1)
 
-      by : (in_formula x k ≡ true) ⊎ ((in_hypotheses x || in_pairs x) ≡ true) → IsMandatory x
-      by (inl g) = of_formula db lawful k x g v
-      by (inr g) = more (or_cases (in_hypotheses x) (in_pairs x) g)
+      in_formula_or_rest : (in_formula x k ≡ true) ⊎ ((in_hypotheses x || in_pairs x) ≡ true)
+          → IsMandatory x
+      in_formula_or_rest (inl g) = of_formula db lawful k x g v
+      in_formula_or_rest (inr g) =
+          in_hypotheses_or_pairs (or_cases (in_hypotheses x) (in_pairs x) g)
 
 -- ---- the statements as they count
 

@@ -17,25 +17,28 @@ use Rattle.mm_spec.specs.declared.Code.TheVariants.{EmptyProof, IncompleteProof,
 use Rattle.mm_spec.specs.declared.Code.TheVariants.{OpenBrackets, BadLetter, OpenNumber}
 use Rattle.mm_spec.specs.declared.Code.TheVariants.{MarkBeforeStep, NumberTooLarge, NotDisjoint}
 
-abbrev text_b : List ℕ
-text_b =
+abbrev axioms_text : List ℕ
+axioms_text =
     codes "$c wff |- ( -> ) $. $v p q $. wp $f wff p $. wq $f wff q $. wi $a wff ( p -> q ) $. ax-1 $a |- ( p -> ( q -> p ) ) $. "
 
-abbrev text_bm : List ℕ
-text_bm = text_b ++ codes "${ min $e |- p $. maj $e |- ( p -> q ) $. ax-mp $a |- q $. $} "
+abbrev axioms_and_rule_text : List ℕ
+axioms_and_rule_text =
+    axioms_text ++ codes "${ min $e |- p $. maj $e |- ( p -> q ) $. ax-mp $a |- q $. $} "
 
 abbrev with_proof : List ℕ → List Statement
 with_proof p =
-    statements (text_bm ++ codes "${ h $e |- p $. a1i $p |- ( q -> p ) $= " ++ p ++ codes " $. $}")
+    statements
+    (axioms_and_rule_text ++ codes "${ h $e |- p $. a1i $p |- ( q -> p ) $= " ++ p
+    ++ codes " $. $}")
 
 abbrev plain_steps : List Statement → ℕ → List Step
 plain_steps db k = map (λ s. s.step) (steps_at db k)
 
 -- in the text, the theorem is statement 13
-abbrev compressed : List Statement
-compressed = with_proof (codes "( wi ax-1 ax-mp ) ABADZCABEF")
+abbrev compressed_a1i : List Statement
+compressed_a1i = with_proof (codes "( wi ax-1 ax-mp ) ABADZCABEF")
 
-steps_compressed : plain_steps compressed 13
+steps_compressed : plain_steps compressed_a1i 13
     ≡ label 2 ∷ label 3 ∷ label 2 ∷ label 4 ∷ label 12 ∷ label 2 ∷ label 3 ∷ label 5 ∷ label 9 ∷ []
 unfolding statements
 steps_compressed = refl
@@ -46,15 +49,15 @@ steps_marked : plain_steps (with_proof (codes "( wi ax-1 ax-mp ) ABADZZCABEFHG")
 unfolding statements
 steps_marked = refl
 
--- reading faults; column C of the line is place 179 + C
-abbrev reading : List ℕ → Option Fault
-reading p =
+-- the least fault of reading such a proof, which begins at the place 220
+abbrev reading_fault : List ℕ → Option Fault
+reading_fault p =
     let db = with_proof p in
     elim (slice_get db 13)
     [ Some (provable l k xs e ps d) ↦ least (reading_faults db 13 d ps) | _ ↦ None ]
 
 faults_read :
-    map reading
+    map reading_fault
     (codes "( wi ax-1 ax-mp )" ∷ codes "( wi ax-1 ax-mp ) ABADCABE?"
     ∷ codes "( wi ax-1 ax-mp ABADCABEF" ∷ codes "( wi ax-1 ax-mp"
     ∷ codes "( wi ax-1 ax-mp ) ABADCAbEF"
@@ -69,38 +72,40 @@ unfolding statements
 faults_read = refl
 
 -- the values of numbers
-abbrev number : List ℕ → List ℕ
-number letters = map value (groups [] (letters_from 0 letters)).0
+abbrev numbers_of : List ℕ → List ℕ
+numbers_of letters = map value (groups [] (letters_from 0 letters)).0
 
-values : flat_map number
+values_of_letters : flat_map numbers_of
     (codes "A" ∷ codes "T" ∷ codes "UA" ∷ codes "UT" ∷ codes "VA" ∷ codes "YT" ∷ codes "UUA"
     ∷ codes "YYT" ∷ [])
     ≡ 1 ∷ 20 ∷ 21 ∷ 40 ∷ 41 ∷ 120 ∷ 121 ∷ 620 ∷ []
-values = refl
+values_of_letters = refl
 
--- row 13: the step of a pair of variables that no `$d` has
-abbrev db_13 : List Statement
-db_13 =
+-- the step of a pair of variables that no `$d` has
+abbrev faulty_db : List Statement
+faulty_db =
     statements
-    (text_b ++ codes "${ $d p q $. ax-d $a |- ( p -> q ) $. $} bad $p |- ( p -> q ) $= wp wq ax-d $. ")
+    (axioms_text
+    ++ codes "${ $d p q $. ax-d $a |- ( p -> q ) $. $} bad $p |- ( p -> q ) $= wp wq ax-d $. ")
 
-frames : Trees
-frames = more (more none 2 (0 ∷ 5 ∷ []) none) 3 (0 ∷ 6 ∷ []) none
+two_hypotheses : Trees
+two_hypotheses = more (more none 2 (0 ∷ 5 ∷ []) none) 3 (0 ∷ 6 ∷ []) none
 
-each_itself : ℕ → List ℕ
-each_itself x = x ∷ []
+identity : ℕ → List ℕ
+identity x = x ∷ []
 
-fault_13 : StepFault (context_at db_13 10) (steps_at db_13 10) (fault 189 NotDisjoint)
-unfolding frames each_itself statements
-fault_13 = record {
+not_disjoint_fault : StepFault (context_at faulty_db 10) (steps_at faulty_db 10)
+    (fault 189 NotDisjoint)
+unfolding two_hypotheses identity statements
+not_disjoint_fault = record {
   before = placed 183 (label 2) ∷ placed 186 (label 3) ∷ [];
   first = placed 189 (label 8);
   after = [];
   splits = refl;
-  forest = frames;
+  forest = two_hypotheses;
   derivations = ((tt, tt, (refl, refl, lit≤ tt)), tt, (refl, refl, lit≤ tt));
   plain = (2 ∷ [], refl, (2 ∷ 3 ∷ [], refl, refl));
   reason = not_disjoint;
-  fails = (each_itself, lit≤ tt, refl, λ e. true≢false (sym e));
+  fails = (identity, lit≤ tt, refl, λ e. true≢false (sym e));
   is = refl;
 }

@@ -21,68 +21,74 @@ use Rattle.mm_spec.proofs.OpenedLaw.{counted_complete}
 use Rattle.mm_spec.proofs.CitedLaw.{cites_earlier}
 use Rattle.mm_laws.proofs.RestsLaw.{cites_decided}
 
-module _ (db : List Statement) (by_essential : Bool) (fine : AreComplete db)
+module _ (db : List Statement) (by_essential : Bool) (all_complete : AreComplete db)
     (valid : AreValid db (length db)) where
   abbrev IsLink : ℕ → ℕ → Type 0
   IsLink t b = Cites db by_essential t b × IsTrue (list_any is_theorem (statement_at db b))
 
-  linked : (t b : ℕ) → IsLink t b ⊎ (IsLink t b → ⊥)
-  linked t b =
-      by (cites_decided db by_essential fine valid t b)
+  link_or_none : (t b : ℕ) → IsLink t b ⊎ (IsLink t b → ⊥)
+  link_or_none t b =
+      by_citation (cites_decided db by_essential all_complete valid t b)
       (list_any is_theorem (statement_at db b)) refl
     where
-      by : IsDecided (Cites db by_essential t b) → (m : Bool)
+      by_citation : IsDecided (Cites db by_essential t b) → (m : Bool)
           → list_any is_theorem (statement_at db b) ≡ m → IsLink t b ⊎ (IsLink t b → ⊥)
-      by c false e = inr (λ l. true≢false (sym l.1 ∙ e))
-      by (true, d) true e = inl (d.0 refl, e)
-      by (false, d) true e = inr (λ l. true≢false (sym (d.1 l.0)))
+      by_citation c false e = inr (λ l. true≢false (sym l.1 ∙ e))
+      by_citation (true, d) true e = inl (d.0 refl, e)
+      by_citation (false, d) true e = inr (λ l. true≢false (sym (d.1 l.0)))
 
   -- a longest chain from t whose first link is below n
-  abbrev Best : ℕ → ℕ → Type 0
-  Best t n =
+  abbrev LongestBelow : ℕ → ℕ → Type 0
+  LongestBelow t n =
       (m : ℕ) × TheoremChain (Cites db by_essential) (IsTheorem db) t m
       × ((b : ℕ) → b < n → IsLink t b → (k : ℕ)
       → TheoremChain (Cites db by_essential) (IsTheorem db) b k → k < m)
 
-  best : (t n : ℕ) → ((b : ℕ) → b < n → (w : ℕ) × IsWave db by_essential b w) → Best t n
-  best t zero waves = (0, tt, λ b l. absurd (omega arith))
-  best t (suc n) waves =
-      by (linked t n) (waves n (omega arith)) (best t n (λ b l. waves b (omega arith)))
+  longest_below : (t n : ℕ) → ((b : ℕ) → b < n → (w : ℕ) × IsWave db by_essential b w)
+      → LongestBelow t n
+  longest_below t zero waves = (0, tt, λ b l. absurd (omega arith))
+  longest_below t (suc n) waves =
+      by_link (link_or_none t n) (waves n (omega arith))
+      (longest_below t n (λ b l. waves b (omega arith)))
     where
-      skip : (IsLink t n → ⊥) → (r : Best t n) → (b : ℕ) → b < suc n → IsLink t b → (k : ℕ)
+      no_link : (IsLink t n → ⊥) → (r : LongestBelow t n) → (b : ℕ) → b < suc n → IsLink t b
+          → (k : ℕ)
           → TheoremChain (Cites db by_essential) (IsTheorem db) b k → (b ≡ n) ⊎ (b ≡ n → ⊥)
           → k < r.0
-      skip not_linked r b l h k c (inl e) = absurd (not_linked (subst (IsLink t) e h))
-      skip not_linked r b l h k c (inr ne) = r.2 b (omega arith) h k c
+      no_link not_linked r b l h k c (inl e) = absurd (not_linked (subst (IsLink t) e h))
+      no_link not_linked r b l h k c (inr ne) = r.2 b (omega arith) h k c
 
-      more : (w : (w : ℕ) × IsWave db by_essential n w) (r : Best t n) (m : ℕ) → w.0 < m → r.0 ≤ m
+      with_next : (w : (w : ℕ) × IsWave db by_essential n w) (r : LongestBelow t n) (m : ℕ)
+          → w.0 < m → r.0 ≤ m
           → (b : ℕ) → b < suc n → IsLink t b → (k : ℕ)
           → TheoremChain (Cites db by_essential) (IsTheorem db) b k → (b ≡ n) ⊎ (b ≡ n → ⊥) → k < m
-      more w r m u v b l h k c (inl e) =
+      with_next w r m u v b l h k c (inl e) =
           let x = w.1.1 k
           (subst (λ i. TheoremChain (Cites db by_essential) (IsTheorem db) i k) e c) in
           omega arith
-      more w r m u v b l h k c (inr ne) = let x = r.2 b (omega arith) h k c in omega arith
+      with_next w r m u v b l h k c (inr ne) = let x = r.2 b (omega arith) h k c in omega arith
 
-      longer : IsLink t n → (w : (w : ℕ) × IsWave db by_essential n w) (r : Best t n)
-          → (w.0 < r.0) ⊎ (r.0 ≤ w.0) → Best t (suc n)
-      longer h w r (inl l) =
-          (r.0, r.1, λ b u g k c. more w r r.0 l (omega arith) b u g k c (cases_eq b n))
-      longer h w r (inr l) = (
+      with_link : IsLink t n → (w : (w : ℕ) × IsWave db by_essential n w) (r : LongestBelow t n)
+          → (w.0 < r.0) ⊎ (r.0 ≤ w.0) → LongestBelow t (suc n)
+      with_link h w r (inl l) =
+          (r.0, r.1, λ b u g k c. with_next w r r.0 l (omega arith) b u g k c (cases_eq b n))
+      with_link h w r (inr l) = (
         suc w.0,
         (n, h.0, h.1, w.1.0),
-        λ b u g k c. more w r (suc w.0) (omega arith)
+        λ b u g k c. with_next w r (suc w.0) (omega arith)
             (omega arith) b u g k c (cases_eq b n),
       )
 
-      by : IsLink t n ⊎ (IsLink t n → ⊥) → (w : ℕ) × IsWave db by_essential n w → Best t n
-          → Best t (suc n)
-      by (inl h) w r = longer h w r (cases_lt w.0 r.0)
-      by (inr not_linked) w r = (r.0, r.1, λ b l h k c. skip not_linked r b l h k c (cases_eq b n))
+      by_link : IsLink t n ⊎ (IsLink t n → ⊥) → (w : ℕ) × IsWave db by_essential n w
+          → LongestBelow t n
+          → LongestBelow t (suc n)
+      by_link (inl h) w r = with_link h w r (cases_lt w.0 r.0)
+      by_link (inr not_linked) w r =
+          (r.0, r.1, λ b l h k c. no_link not_linked r b l h k c (cases_eq b n))
 
   -- a longest chain is the wave
-  of_best : (t : ℕ) → Best t t → (w : ℕ) × IsWave db by_essential t w
-  of_best t r = (r.0, (r.1, longest))
+  wave_of_longest : (t : ℕ) → LongestBelow t t → (w : ℕ) × IsWave db by_essential t w
+  wave_of_longest t r = (r.0, (r.1, longest))
     where
       longest : (m : ℕ) → TheoremChain (Cites db by_essential) (IsTheorem db) t m → m ≤ r.0
       longest zero c = omega arith
@@ -91,7 +97,8 @@ module _ (db : List Statement) (by_essential : Bool) (fine : AreComplete db)
 
   wave_below : (n t : ℕ) → t < n → (w : ℕ) × IsWave db by_essential t w
   wave_below zero t l = absurd (omega arith)
-  wave_below (suc n) t l = of_best t (best t t (λ b m. wave_below n b (omega arith)))
+  wave_below (suc n) t l =
+      wave_of_longest t (longest_below t t (λ b m. wave_below n b (omega arith)))
 
   pub wave_of : (t : ℕ) → (w : ℕ) × IsWave db by_essential t w
   wave_of t = wave_below (suc t) t (omega arith)
@@ -99,8 +106,11 @@ module _ (db : List Statement) (by_essential : Bool) (fine : AreComplete db)
 -- in a sound text each theorem has one wave
 pub have_waves : (len : ℕ) (x : LexedText) (with_open : Bool) → HaveWaves len x with_open
 have_waves len x with_open db h by_essential t =
-    let counts = counted with_open db in
+    let statements = counted with_open db in
     let w =
-    wave_of counts by_essential
-    (counted_complete with_open db (reads_complete len x db None h.0)) h.1 t in
-    (w.0, w.1, λ m k. wave_unique (Cites counts by_essential) (IsTheorem counts) t m w.0 k w.1)
+    wave_of statements by_essential
+    (counted_complete with_open db (reads_complete len x db None h.0)) h.1 t in (
+      w.0,
+      w.1,
+      λ m k. wave_unique (Cites statements by_essential) (IsTheorem statements) t m w.0 k w.1,
+    )

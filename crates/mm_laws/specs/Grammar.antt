@@ -14,9 +14,10 @@ pub data Lexeme : Type 0 where
   Comment : Word → List Word → Word → Lexeme
 
 -- a comment that is open at the end: `$(` and words, or none
-abbrev pub Rest : Type 0
-Rest = Option (Word × List Word)
+abbrev pub LastComment : Type 0
+LastComment = Option (Word × List Word)
 
+-- each word is one that a comment may have
 abbrev pub AreCommentWords : List ℕ → List Word → Type 0
 AreCommentWords text ws = AllByRecursion (λ w. IsTrue (is_comment_word (bytes_of text w))) ws
 
@@ -26,51 +27,53 @@ IsLexeme text (Comment o ws c) =
     IsTrue (opens_comment (bytes_of text o)) × AreCommentWords text ws
     × IsTrue (closes_comment (bytes_of text c))
 
-abbrev pub IsRest : List ℕ → Rest → Type 0
-IsRest text None = ⊤
-IsRest text (Some p) = IsTrue (opens_comment (bytes_of text p.0)) × AreCommentWords text p.1
+abbrev pub IsLastComment : List ℕ → LastComment → Type 0
+IsLastComment text None = ⊤
+IsLastComment text (Some p) = IsTrue (opens_comment (bytes_of text p.0)) × AreCommentWords text p.1
 
+-- the words of a token or a comment, its `$(` and `$)` included
 abbrev pub words_in : Lexeme → List Word
 words_in (Single w) = w ∷ []
 words_in (Comment o ws c) = o ∷ (ws ++ c ∷ [])
 
-abbrev pub words_in_rest : Rest → List Word
-words_in_rest None = []
-words_in_rest (Some p) = p.0 ∷ p.1
+abbrev pub words_in_last_comment : LastComment → List Word
+words_in_last_comment None = []
+words_in_last_comment (Some p) = p.0 ∷ p.1
 
+-- the tokens among them
 abbrev pub tokens_in : Lexeme → List Word
 tokens_in (Single w) = w ∷ []
 tokens_in (Comment o ws c) = []
 
--- The words are a row of tokens and comments, at whose end a comment may be open. `tokens` are the
--- tokens, and `comment` is the place where that comment begins, if there is one.
+-- The words are a row of tokens and comments, at the end of which a comment may be open. `tokens`
+-- are the tokens, and `open_comment` is the place where that comment begins, if there is one.
 pub record IsWellBegun (text : List ℕ) (ws : List Word) (tokens : List Word)
-    (comment : Option ℕ) : Type 0 where
-  pub items : List Lexeme
-  pub rest : Rest
-  pub are_items : AllByRecursion (IsLexeme text) items
-  pub is_rest : IsRest text rest
-  pub words : ws ≡ flat_map words_in items ++ words_in_rest rest
-  pub same_tokens : tokens ≡ flat_map tokens_in items
-  pub same_comment : comment ≡ option_map (λ p. p.0.start) rest
+    (open_comment : Option ℕ) : Type 0 where
+  pub lexemes : List Lexeme
+  pub last_comment : LastComment
+  pub are_lexemes : AllByRecursion (IsLexeme text) lexemes
+  pub is_last_comment : IsLastComment text last_comment
+  pub words : ws ≡ flat_map words_in lexemes ++ words_in_last_comment last_comment
+  pub same_tokens : tokens ≡ flat_map tokens_in lexemes
+  pub same_comment : open_comment ≡ option_map (λ p. p.0.start) last_comment
 
 -- w is the first word such that the words up to and including it aren't well begun: those before it
 -- are, with these tokens and this open comment, and with it they aren't.
 pub record IsFaulty (text : List ℕ) (ws : List Word) (w : Word) (tokens : List Word)
-    (comment : Option ℕ) : Type 0 where
+    (open_comment : Option ℕ) : Type 0 where
   pub before : List Word
   pub after : List Word
   pub split : ws ≡ before ++ w ∷ after
-  pub begun : IsWellBegun text before tokens comment
+  pub begun : IsWellBegun text before tokens open_comment
   pub faulty : (ts : List Word) (c : Option ℕ) → IsWellBegun text (before ++ w ∷ []) ts c → ⊥
 
 -- what a reading of the words stands for
 pub record IsReading (text : List ℕ) (ws : List Word) (r : Reading) : Type 0 where
   -- without a fault the words are well begun, and in one way
-  pub whole : r.fault ≡ None → IsWellBegun text ws r.tokens r.comment
+  pub whole : r.fault ≡ None → IsWellBegun text ws r.tokens r.open_comment
   pub only : (ts : List Word) (c : Option ℕ) → IsWellBegun text ws ts c
-      → r ≡ record { tokens = ts; fault = None; comment = c }
+      → r ≡ record { tokens = ts; fault = None; open_comment = c }
   -- a fault is that of the first faulty word, and the tokens are those before it
   pub faulty : (f : Fault) → r.fault ≡ Some f
-      → (w : Word) × IsFaulty text ws w r.tokens r.comment
-      × (f ≡ fault_of (is_some r.comment) w.start (bytes_of text w))
+      → (w : Word) × IsFaulty text ws w r.tokens r.open_comment
+      × (f ≡ fault_of (is_some r.open_comment) w.start (bytes_of text w))

@@ -16,4 +16,4 @@ pub record IsLexed (text : List ℕ) (tokens : List Word) (fault : Option Fault)
       → (tokens ≡ []) × (fault ≡ Some (record { at = 0; code = TextTooLong }))
   pub read : length text ≤ text_limit → (ws : List Word) → AreWords text ws →
       (r : Reading) × IsReading text ws r × (tokens ≡ r.tokens)
-      × (fault ≡ fault_in r.fault r.comment)
+      × (fault ≡ fault_in r.fault r.open_comment)

@@ -119,11 +119,12 @@ pub record IsUsable (db : List Statement) (k : ℕ) (w : Bytes) (j : ℕ) : Type
 
 -- ---- what is well formed
 
--- each number is at most `many`, the number of hypotheses and labels, plus the marks before it
+-- each number is at most `label_count`, the number of hypotheses and labels, plus the number of the
+-- marks before it
 abbrev pub NumbersName : ℕ → List Item → Type 0
-NumbersName many items =
+NumbersName label_count items =
     (before after : List Item) (n : ℕ) → items ≡ before ++ number n ∷ after
-    → n ≤ many + count_by is_mark_item before
+    → n ≤ label_count + count_by is_mark_item before
 
 -- before each mark there is a number
 abbrev pub MarksFollow : List Item → Type 0

@@ -7,10 +7,10 @@ ghost use Rattle.mm_laws.specs.Laws.OneWave.{HaveWaves};
 
 /// In a text without faults it is decided whether a theorem rests on a statement.
 pub fn cells_are_decided()
-    ensures { (len : ℕ) (x : LexedText) (with_open : Bool) → AreDecided len x with_open }
+    ensures { (len : ℕ) (lexed : LexedText) (with_open : Bool) → AreDecided len lexed with_open }
 {}
 
 /// In a text without faults each theorem has one wave.
 pub fn theorems_have_one_wave()
-    ensures { (len : ℕ) (x : LexedText) (with_open : Bool) → HaveWaves len x with_open }
+    ensures { (len : ℕ) (lexed : LexedText) (with_open : Bool) → HaveWaves len lexed with_open }
 {}

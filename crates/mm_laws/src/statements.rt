@@ -3,7 +3,7 @@
 ghost use Rattle.std.specs.Prelude.{◌≡◌, ◌↔◌, ℕ, List, ◌≤◌, IsTrue};
 ghost use Rattle.mm_spec.specs.Text.{Token};
 ghost use Rattle.mm_spec.specs.Statement.{Statement, AreLongestStatements};
-ghost use Rattle.mm_spec.specs.Scope.{stays};
+ghost use Rattle.mm_spec.specs.Scope.{is_block_open};
 ghost use Rattle.mm_spec.specs.Laws.Table.{statements_of};
 ghost use Rattle.mm_spec.specs.Laws.Blocks.{InBlock};
 
@@ -18,5 +18,6 @@ pub fn statements_are_the_longest()
 /// The block of statement j is open at a later statement k exactly if no statement after j, up to
 /// k, is less deep than j.
 pub fn a_block_is_open_where_none_is_less_deep()
-    ensures { (db : List Statement) (j k : ℕ) → j ≤ k → IsTrue (stays db j k) ↔ InBlock db j k }
+    ensures { (db : List Statement) (j k : ℕ) → j ≤ k
+        → IsTrue (is_block_open db j k) ↔ InBlock db j k }
 {}

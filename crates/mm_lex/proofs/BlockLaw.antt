@@ -20,8 +20,8 @@ use Rattle.mm_spec.specs.Roles.{is_clean}
 use Rattle.mm_spec.specs.Text.{has_dollar}
 use Rattle.mm_spec.specs.declared.Word.{Word}
 use Rattle.mm_spec.proofs.WordRunsLaw.{begins_word_inside, words_between_none, words_between_skips}
-use Rattle.mm_spec.proofs.WordRunsLaw.{words_between_take, word_at_ink, word_at_nonempty}
-use Rattle.mm_spec.proofs.WordsLaw.{begins_word_boundary, begins_word_ink, IsWord_is}
+use Rattle.mm_spec.proofs.WordRunsLaw.{words_between_take, word_at_not_white, word_at_nonempty}
+use Rattle.mm_spec.proofs.WordsLaw.{begins_word_boundary, begins_word_not_white, IsWord_is}
 use Rattle.mm_spec.proofs.BitLaw.{shifted}
 use Rattle.mm_lex.specs.Plain.{plain_at, IsPlainWord}
 use Rattle.mm_lex.specs.Beginnings.{ArePlain, IsFirst, IsPassed}
@@ -50,10 +50,10 @@ first_zero p bytes i low within m is none =
 module _ (bytes : List ℕ) (white bad dollars : ℕ) (w : white ≡ mask is_white (take 64 bytes))
     (b : bad ≡ mask is_bad (take 64 bytes))
     (d : dollars ≡ mask (λ x. x == 36) (take 64 bytes)) where
-  pub stops_ink : (i : ℕ) → i < 64 → i < length bytes
+  pub stops_not_white : (i : ℕ) → i < 64 → i < length bytes
       → bit_at (bit_or (bit_or white bad) dollars) i ≡ 0 → white_at bytes i ≡ false
   unfolding white_at
-  stops_ink i low within none =
+  stops_not_white i low within none =
       let outer =
       neither (bit_at (bit_or white bad) i) (bit_at dollars i)
       (sym (bit_at_or (bit_or white bad) dollars i) ∙ none) in
@@ -134,26 +134,26 @@ module _ (white first : ℕ) (fits : white < 2 ^ 64) (small : first ≤ 1) where
 -- the bits from a place on
 
 module _ (n k : ℕ) where
-  pub kept_below : (i : ℕ) → i < 64 → i < k → bit_at (n / 2 ^ k * 2 ^ k % 2 ^ 64) i ≡ 0
-  kept_below i short lt =
+  pub bits_below : (i : ℕ) → i < 64 → i < k → bit_at (n / 2 ^ k * 2 ^ k % 2 ^ 64) i ≡ 0
+  bits_below i short lt =
       let same : n / 2 ^ k * 2 ^ k + 0 ≡ n / 2 ^ k * 2 ^ k = omega arith in
       low_bits (n / 2 ^ k * 2 ^ k) 64 i short ∙ ap (λ (m : ℕ). bit_at m i) (sym same)
       ∙ bit_at_cat_low (n / 2 ^ k) k 0 i lt ∙ bit_at-zero i
 
-  pub kept_from : (i : ℕ) → i < 64 → k ≤ i → bit_at (n / 2 ^ k * 2 ^ k % 2 ^ 64) i ≡ bit_at n i
-  kept_from i short le =
+  pub bits_from : (i : ℕ) → i < 64 → k ≤ i → bit_at (n / 2 ^ k * 2 ^ k % 2 ^ 64) i ≡ bit_at n i
+  bits_from i short le =
       let same : n / 2 ^ k * 2 ^ k + 0 ≡ n / 2 ^ k * 2 ^ k = omega arith in
       let place : k + (i - k) ≡ i = omega arith in
       low_bits (n / 2 ^ k * 2 ^ k) 64 i short ∙ ap (λ (m : ℕ). bit_at m i) (sym same)
       ∙ bit_at_cat_high (n / 2 ^ k) k 0 i (pow_pos k) le
       ∙ shifted n k (i - k) ∙ ap (bit_at n) place
 
-  pub kept_one : (i : ℕ) → i < 64 → bit_at (n / 2 ^ k * 2 ^ k % 2 ^ 64) i ≡ 1
+  pub bit_from_one : (i : ℕ) → i < 64 → bit_at (n / 2 ^ k * 2 ^ k % 2 ^ 64) i ≡ 1
       → (k ≤ i) × (bit_at n i ≡ 1)
-  kept_one i short one =
+  bit_from_one i short one =
       ⊎_elim {C = (k ≤ i) × (bit_at n i ≡ 1)}
-      (λ lt. let clash : 0 ≡ 1 = sym (kept_below i short lt) ∙ one in absurd (omega (arith, clash)))
-      (λ le. (le, sym (kept_from i short le) ∙ one))
+      (λ lt. let clash : 0 ≡ 1 = sym (bits_below i short lt) ∙ one in absurd (omega (arith, clash)))
+      (λ le. (le, sym (bits_from i short le) ∙ one))
       (cases_lt i k)
 
 -- ---- where words begin
@@ -267,10 +267,10 @@ run_on Q t text m from at base found same low few before zeros tells i from_here
 pub none_inside : (text : List ℕ) (start upto : ℕ)
     → ((i : ℕ) → start ≤ i → i + 1 < upto → white_at text i ≡ false) → (i : ℕ) → start < i
     → i < upto → begins_word text i ≡ false
-none_inside text start upto ink i low high =
+none_inside text start upto not_white i low high =
     let same : i - 1 + 1 ≡ i = omega arith in
     subst (λ (k : ℕ). begins_word text k ≡ false) same
-    (begins_word_inside text (i - 1) (ink (i - 1) (omega arith) (omega arith)))
+    (begins_word_inside text (i - 1) (not_white (i - 1) (omega arith) (omega arith)))
 
 -- ---- one beginning less
 
@@ -331,16 +331,16 @@ module _ (text : List ℕ) (start end : ℕ) (begins : begins_word text start �
     (after : end < length text → white_at text end ≡ true) where
   pub found_word : IsWord text (record { start = start; end = end })
   found_word =
-      let ink = begins_word_ink text start begins in
+      let not_white = begins_word_not_white text start begins in
       let some : start < end = ⊎_elim {C = start < end} (λ h. h)
       (λ h. let same : end ≡ start = omega (arith, order) in
-      absurd (true≢false (sym (after (omega arith)) ∙ ap (white_at text) same ∙ ink)))
+      absurd (true≢false (sym (after (omega arith)) ∙ ap (white_at text) same ∙ not_white)))
       (cases_lt start end) in
       record {
         nonempty = some;
         within = short;
         no_white = solid;
-        white_before = λ i e. begins_word_boundary text start begins i e within ink;
+        white_before = λ i e. begins_word_boundary text start begins i e within not_white;
         white_after = after;
       }
 
@@ -385,18 +385,18 @@ module _ (text : List ℕ) (from upto : ℕ) (within : upto < length text)
   ends_there : (i : ℕ) → i ≤ upto → (word_at text i).end ≤ upto
   ends_there i le =
       ⊎_elim {C = (word_at text i).end ≤ upto}
-      (λ over. absurd (true≢false (sym white ∙ word_at_ink text i upto le over)))
+      (λ over. absurd (true≢false (sym white ∙ word_at_not_white text i upto le over)))
       (λ h. h)
       (cases_lt upto (word_at text i).end)
 
   pub plain_words : ArePlain text from upto
   unfolding word_at
   plain_words i low high begins =
-      let ink = begins_word_ink text i begins in
+      let not_white = begins_word_not_white text i begins in
       let end = ends_there i (omega arith) in
-      let some = word_at_nonempty text i (omega arith) ink in
+      let some = word_at_nonempty text i (omega arith) not_white in
       plain_word text i (word_at text i).end (omega (arith, some)) (omega (arith, end))
-      (λ k a b. each k (omega arith) (omega (arith, end)) (word_at_ink text i k a b))
+      (λ k a b. each k (omega arith) (omega (arith, end)) (word_at_not_white text i k a b))
 
 -- what a block's masks tell of the bytes between two of its places
 module _ (text : List ℕ) (base white stops place special : ℕ) (fits : white < 2 ^ 64)
@@ -407,7 +407,7 @@ module _ (text : List ℕ) (base white stops place special : ℕ) (fits : white 
     → bit_at (bit_and stops (bit_not w64 white)) i ≡ 0) where
   plain_bit : (i : ℕ) → place ≤ i → i < special → i < 64 → base + i < length text
       → white_at text (base + i) ≡ false → plain_at text (base + i) ≡ true
-  plain_bit i low high lt within ink =
+  plain_bit i low high lt within not_white =
       let turned : bit_at (bit_not w64 white) i ≡ 1 - bit_at white i =
       bit_at_not w64 white i fits lt in
       let none : min (bit_at stops i) (1 - bit_at white i) ≡ 0 =
@@ -415,7 +415,7 @@ module _ (text : List ℕ) (base white stops place special : ℕ) (fits : white 
       ∙ sym (bit_at_and stops (bit_not w64 white) i) ∙ zeros i low high in
       ⊎_elim {C = plain_at text (base + i) ≡ true}
       (λ some. absurd (true≢false
-      (sym (white_one text base white is i lt (omega (arith, bit_at-lt white i))).1 ∙ ink)))
+      (sym (white_one text base white is i lt (omega (arith, bit_at-lt white i))).1 ∙ not_white)))
       (λ zero. plain i lt within (omega (arith, none)))
       (cases_lt 0 (bit_at white i))
 
@@ -424,11 +424,11 @@ module _ (text : List ℕ) (base white stops place special : ℕ) (fits : white 
   skipped_plain end le lt one =
       let there = white_one text base white is end lt one in
       plain_words text (base + place) (base + end) there.0 there.1
-      (λ k low high ink.
+      (λ k low high not_white.
       let same : base + (k - base) ≡ k = omega arith in
       subst (λ (i : ℕ). plain_at text i ≡ true) same
       (plain_bit (k - base) (omega arith) (omega arith) (omega arith) (omega (arith, there.0))
-      (subst (λ (i : ℕ). white_at text i ≡ false) (sym same) ink)))
+      (subst (λ (i : ℕ). white_at text i ≡ false) (sym same) not_white)))
 
 -- before them no word begins
 pub plain_after : (text : List ℕ) (from mid upto : ℕ)
@@ -442,11 +442,11 @@ plain_after text from mid upto none plain i low high begins =
 
 -- ---- blocks without a white byte
 
-pub block_ink : (text : List ℕ) (base m : ℕ)
+pub block_not_white : (text : List ℕ) (base m : ℕ)
     → m ≡ mask is_white (take 64 (take (length text - base) (drop base text))) → m ≡ 0
     → base + 64 ≤ length text → (i : ℕ) → base ≤ i → i < base + 64 → white_at text i ≡ false
 unfolding white_at
-block_ink text base m is empty within i low high =
+block_not_white text base m is empty within i low high =
     let whole =
     subst (λ (bytes : List ℕ). m ≡ mask is_white (take 64 bytes)) (dropped_all text base) is in
     none_in is_white text base (sym whole ∙ empty) i low high (omega arith)

@@ -51,14 +51,14 @@ cut_place_last text places =
 -- ---- runs
 
 module _ (n runs : ℕ) (some : 0 < runs) (few : runs ≤ n) where
-  all : runs * (n / runs) + n % runs ≡ n
-  all = div-add-mod n runs
+  runs_cover : runs * (n / runs) + n % runs ≡ n
+  runs_cover = div-add-mod n runs
 
   pub run_start_first : run_start n runs 0 ≡ 0
   run_start_first = omega (arith, zero-mul (n / runs))
 
   pub run_start_last : run_start n runs runs ≡ n
-  run_start_last = let low = mod-lt n some in omega (arith, low, all)
+  run_start_last = let low = mod-lt n some in omega (arith, low, runs_cover)
 
   pub run_start_more : (i : ℕ) → run_start n runs i < run_start n runs (i + 1)
   run_start_more i =
@@ -69,27 +69,29 @@ module _ (n runs : ℕ) (some : 0 < runs) (few : runs ≤ n) where
   pub run_start_within : (i : ℕ) → i ≤ runs → run_start n runs i ≤ n
   run_start_within i le =
       let low = mul-le-mul_right {m = i} {n = runs} (n / runs) le in
-      omega (arith, low, all)
+      omega (arith, low, runs_cover)
 
 -- the first runs make up whole, and these are the rest
-pub record IsLeft (text places : List ℕ) (n runs : ℕ) (whole : Stretch)
+pub record IsJoinedSoFar (text places : List ℕ) (n runs : ℕ) (whole : Stretch)
     (rest : List (Result Stretch AllocError)) : Type 0 where
-  pub done : ℕ
-  pub count : done + length rest ≡ runs
-  pub run : IsRun text places 0 (run_start n runs done) whole
+  pub joined_runs : ℕ
+  pub count : joined_runs + length rest ≡ runs
+  pub run : IsRun text places 0 (run_start n runs joined_runs) whole
   pub each : (k : ℕ) (x : Result Stretch AllocError) → k < length rest
       → IfOk (get_or rest k x)
-      (IsRun text places (run_start n runs (done + k)) (run_start n runs (done + k + 1)))
+      (IsRun text places (run_start n runs (joined_runs + k))
+      (run_start n runs (joined_runs + k + 1)))
 
 module _ (text places : List ℕ) (n runs : ℕ) where
-  pub IsLeft_first : (ps qs : List (Result Stretch AllocError)) (piece : Stretch) → 0 < runs
+  pub IsJoinedSoFar_first : (ps qs : List (Result Stretch AllocError)) (piece : Stretch) → 0 < runs
       → runs ≤ n → length ps ≡ runs →
       ((i : ℕ) (d : Result Stretch AllocError) → i < runs
       → IfOk (get_or ps i d)
       (IsRun text places (run_start n runs i) (run_start n runs (i + 1))))
       →
-      Ok piece ≡ get_or ps 0 (Ok piece) → qs ≡ remove ps 0 → IsLeft text places n runs piece qs
-  IsLeft_first ps qs piece some few count each first rest =
+      Ok piece ≡ get_or ps 0 (Ok piece) → qs ≡ remove ps 0
+      → IsJoinedSoFar text places n runs piece qs
+  IsJoinedSoFar_first ps qs piece some few count each first rest =
       let here : IsRun text places (run_start n runs 0) (run_start n runs 1) piece =
       subst (λ (r : Result Stretch AllocError). IfOk r
       (IsRun text places (run_start n runs 0) (run_start n runs 1))) (sym first)
@@ -101,7 +103,7 @@ module _ (text places : List ℕ) (n runs : ℕ) where
       ap (λ (xs : List (Result Stretch AllocError)). length xs + 1) rest
       ∙ length-remove ps 0 (omega (arith, some, count)) in
       record {
-        done = 1;
+        joined_runs = 1;
         count = omega (arith, long, count);
         run = from_start;
         each = λ k x h.
@@ -115,63 +117,68 @@ module _ (text places : List ℕ) (n runs : ℕ) where
             (each (k + 1) x (omega (arith, long, count))));
       }
 
-  pub IsLeft_next : (ps qs : List (Result Stretch AllocError)) (whole piece joined : Stretch)
-      → IsLeft text places n runs whole ps → 0 < length ps → Ok piece ≡ get_or ps 0 (Ok piece)
+  pub IsJoinedSoFar_next : (ps qs : List (Result Stretch AllocError)) (whole piece joined : Stretch)
+      → IsJoinedSoFar text places n runs whole ps → 0 < length ps
+      → Ok piece ≡ get_or ps 0 (Ok piece)
       → qs ≡ remove ps 0 →
       joined.from ≡ whole.from → joined.to ≡ piece.to → IsSummary text joined
-      → IsLeft text places n runs joined qs
-  IsLeft_next ps qs whole piece joined left some first rest from to summary =
-      let zero_more : left.done + 0 ≡ left.done = omega arith in
-      let here : IsRun text places (run_start n runs (left.done + 0))
-      (run_start n runs (left.done + 0 + 1)) piece =
+      → IsJoinedSoFar text places n runs joined qs
+  IsJoinedSoFar_next ps qs whole piece joined so_far some first rest from to summary =
+      let zero_more : so_far.joined_runs + 0 ≡ so_far.joined_runs = omega arith in
+      let here : IsRun text places (run_start n runs (so_far.joined_runs + 0))
+      (run_start n runs (so_far.joined_runs + 0 + 1)) piece =
       subst (λ (r : Result Stretch AllocError). IfOk r
-      (IsRun text places (run_start n runs (left.done + 0))
-      (run_start n runs (left.done + 0 + 1)))) (sym first) (left.each 0 (Ok piece) some) in
+      (IsRun text places (run_start n runs (so_far.joined_runs + 0))
+      (run_start n runs (so_far.joined_runs + 0 + 1)))) (sym first)
+      (so_far.each 0 (Ok piece) some) in
       let long : length qs + 1 ≡ length ps =
       ap (λ (xs : List (Result Stretch AllocError)). length xs + 1) rest
       ∙ length-remove ps 0 some in
       record {
-        done = left.done + 1;
-        count = omega (arith, long, left.count);
+        joined_runs = so_far.joined_runs + 1;
+        count = omega (arith, long, so_far.count);
         run = record {
-          from = from ∙ left.run.from;
+          from = from ∙ so_far.run.from;
           to =
               to ∙ here.to
               ∙ ap (λ (i : ℕ). cut_place text places (run_start n runs (i + 1))) zero_more;
           summary = summary;
         };
         each = λ k x h.
-            let shift : left.done + (k + 1) ≡ left.done + 1 + k = omega arith in
+            let shift : so_far.joined_runs + (k + 1) ≡ so_far.joined_runs + 1 + k = omega arith in
             let after : get_or qs k x ≡ get_or ps (k + 1) x =
             ap (λ (xs : List (Result Stretch AllocError)). get_or xs k x) rest
             ∙ get_or-remove_above ps 0 x k (omega arith) some in
             rw after
             (subst (λ (i : ℕ). IfOk (get_or ps (k + 1) x)
             (IsRun text places (run_start n runs i) (run_start n runs (i + 1)))) shift
-            (left.each (k + 1) x (omega (arith, long))));
+            (so_far.each (k + 1) x (omega (arith, long))));
       }
 
   -- the next piece begins where those before it end
-  pub IsLeft_neighbour : (ps : List (Result Stretch AllocError)) (whole piece : Stretch)
-      → IsLeft text places n runs whole ps → 0 < length ps → Ok piece ≡ get_or ps 0 (Ok piece) →
+  pub IsJoinedSoFar_neighbour : (ps : List (Result Stretch AllocError)) (whole piece : Stretch)
+      → IsJoinedSoFar text places n runs whole ps → 0 < length ps
+      → Ok piece ≡ get_or ps 0 (Ok piece) →
       (whole.to ≡ piece.from) × IsSummary text piece
-  IsLeft_neighbour ps whole piece left some first =
-      let zero_more : left.done + 0 ≡ left.done = omega arith in
-      let here : IsRun text places (run_start n runs (left.done + 0))
-      (run_start n runs (left.done + 0 + 1)) piece =
+  IsJoinedSoFar_neighbour ps whole piece so_far some first =
+      let zero_more : so_far.joined_runs + 0 ≡ so_far.joined_runs = omega arith in
+      let here : IsRun text places (run_start n runs (so_far.joined_runs + 0))
+      (run_start n runs (so_far.joined_runs + 0 + 1)) piece =
       subst (λ (r : Result Stretch AllocError). IfOk r
-      (IsRun text places (run_start n runs (left.done + 0))
-      (run_start n runs (left.done + 0 + 1)))) (sym first) (left.each 0 (Ok piece) some) in (
-        left.run.to ∙ ap (λ (i : ℕ). cut_place text places (run_start n runs i)) (sym zero_more)
+      (IsRun text places (run_start n runs (so_far.joined_runs + 0))
+      (run_start n runs (so_far.joined_runs + 0 + 1)))) (sym first)
+      (so_far.each 0 (Ok piece) some) in (
+        so_far.run.to ∙ ap (λ (i : ℕ). cut_place text places (run_start n runs i)) (sym zero_more)
             ∙ sym here.from,
         here.summary,
       )
 
-  pub IsLeft_end : (ps : List (Result Stretch AllocError)) (whole : Stretch) → 0 < runs → runs ≤ n
-      → n ≡ length places + 1 → IsLeft text places n runs whole ps → length ps ≡ 0
+  pub IsJoinedSoFar_end : (ps : List (Result Stretch AllocError)) (whole : Stretch) → 0 < runs
+      → runs ≤ n
+      → n ≡ length places + 1 → IsJoinedSoFar text places n runs whole ps → length ps ≡ 0
       → whole.to ≡ length text
-  IsLeft_end ps whole some few pieces left none =
-      let done : left.done ≡ runs = omega (arith, left.count, none) in
-      left.run.to ∙ ap (λ (i : ℕ). cut_place text places (run_start n runs i)) done
+  IsJoinedSoFar_end ps whole some few pieces so_far none =
+      let done : so_far.joined_runs ≡ runs = omega (arith, so_far.count, none) in
+      so_far.run.to ∙ ap (λ (i : ℕ). cut_place text places (run_start n runs i)) done
       ∙ ap (cut_place text places) (run_start_last n runs some few ∙ pieces)
       ∙ cut_place_last text places

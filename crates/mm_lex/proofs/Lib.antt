@@ -4,8 +4,8 @@
 -- alone. The loops of `lex_inner` and `read_rest` keep that all words give what the rows and the
 -- remaining words give (`go_on_next`, `go_on_skips`, `go_on_done` of `PiecesLaw.antt`). `join` has
 -- `go_on_three` and `piece_both`, from `join_broken` and `join_words` (`StretchesLaw.antt`).
--- `read_text` keeps `IsLeft` by `IsLeft_next` (`CutsLaw.antt`). For `lex`, `whole_reading` shows
--- that the summary of the whole text is its reading.
+-- `read_text` keeps `IsJoinedSoFar` by `IsJoinedSoFar_next` (`CutsLaw.antt`). For `lex`,
+-- `whole_reading` shows that the summary of the whole text is its reading.
 pub mod RolesLaw
 pub mod StretchesLaw
 pub mod PiecesLaw

@@ -63,10 +63,10 @@ top_bit m j low high =
 
 -- the bits up to k, moved to the left end, and what lies left of the first of them that is 1
 module _ (n k : ℕ) (within : k < 64) (some : 0 < n * 2 ^ (63 - k) % 2 ^ 64) where
-  top : (j : ℕ)
+  highest_moved : (j : ℕ)
       × (leading_zeros w64 (n * 2 ^ (63 - k) % 2 ^ 64) + suc j ≡ 64)
       × (63 - k ≤ j) × (bit_at n (j - (63 - k)) ≡ 1)
-  top =
+  highest_moved =
       let moved = n * 2 ^ (63 - k) in
       let t = leading_top 64 (moved % 2 ^ 64) some (omega arith) in
       let one : bit_at moved t.0 ≡ 1 =
@@ -85,13 +85,13 @@ module _ (n k : ℕ) (within : k < 64) (some : 0 < n * 2 ^ (63 - k) % 2 ^ 64) wh
       )
 
   pub last_within : leading_zeros w64 (n * 2 ^ (63 - k) % 2 ^ 64) ≤ k
-  last_within = omega (arith, top.1, top.2)
+  last_within = omega (arith, highest_moved.1, highest_moved.2)
 
   pub last_bit : bit_at n (k - leading_zeros w64 (n * 2 ^ (63 - k) % 2 ^ 64)) ≡ 1
   last_bit =
-      let same : top.0 - (63 - k) ≡ k - leading_zeros w64 (n * 2 ^ (63 - k) % 2 ^ 64) =
-      omega (arith, top.1, top.2) in
-      ap (bit_at n) (sym same) ∙ top.3
+      let same : highest_moved.0 - (63 - k) ≡ k - leading_zeros w64 (n * 2 ^ (63 - k) % 2 ^ 64) =
+      omega (arith, highest_moved.1, highest_moved.2) in
+      ap (bit_at n) (sym same) ∙ highest_moved.3
 
 -- ---- bits of a block
 

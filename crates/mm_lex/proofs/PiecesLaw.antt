@@ -39,7 +39,7 @@ some_from None h = cc
 some_from (Some x) h = (x, refl)
 
 pub go_on_none : (text : List ℕ) (r : Reading) (ws : List Word) → r.fault ≡ None
-    → go_on text r ws ≡ with_tokens r.tokens (reading text r.comment ws)
+    → go_on text r ws ≡ with_tokens r.tokens (reading text r.open_comment ws)
 go_on_none text r ws h = rw h refl
 
 pub go_on_some : (text : List ℕ) (r : Reading) (ws : List Word) → is_some r.fault ≡ true
@@ -47,43 +47,43 @@ pub go_on_some : (text : List ℕ) (r : Reading) (ws : List Word) → is_some r.
 go_on_some text r ws h = let e = some_from r.fault h in rw e.1 refl
 
 module _ (text : List ℕ) (r : Reading) (w : Word) (b : Bool) (none : r.fault ≡ None)
-    (is : b ≡ is_some r.comment) where
-  step : {f : Role} → f ≡ role_of b (bytes_of text w)
-      → role_of (is_some r.comment) (bytes_of text w) ≡ f
-  step role = ap (λ (x : Bool). role_of x (bytes_of text w)) (sym is) ∙ sym role
+    (is : b ≡ is_some r.open_comment) where
+  role_is : {f : Role} → f ≡ role_of b (bytes_of text w)
+      → role_of (is_some r.open_comment) (bytes_of text w) ≡ f
+  role_is role = ap (λ (x : Bool). role_of x (bytes_of text w)) (sym is) ∙ sym role
 
   pub go_on_token : roles.Token ≡ role_of b (bytes_of text w)
       → go_on text r (w ∷ [])
-      ≡ record { tokens = r.tokens ++ w ∷ []; fault = r.fault; comment = r.comment }
+      ≡ record { tokens = r.tokens ++ w ∷ []; fault = r.fault; open_comment = r.open_comment }
   go_on_token role =
       go_on_none text r _ none
       ∙ ap (with_tokens r.tokens)
-      (reading_one text r.comment w [] (step role)
-      ∙ ap (with_tokens (w ∷ [])) (reading_end text r.comment))
+      (reading_one text r.open_comment w [] (role_is role)
+      ∙ ap (with_tokens (w ∷ [])) (reading_end text r.open_comment))
       ∙ rw none refl
 
   pub go_on_opening : roles.Opening ≡ role_of b (bytes_of text w)
       → go_on text r (w ∷ [])
-      ≡ record { tokens = r.tokens; fault = r.fault; comment = Some w.start }
+      ≡ record { tokens = r.tokens; fault = r.fault; open_comment = Some w.start }
   go_on_opening role =
       go_on_none text r _ none
       ∙ ap (with_tokens r.tokens)
-      (reading_opening text r.comment w [] (step role) ∙ reading_end text (Some w.start))
+      (reading_opening text r.open_comment w [] (role_is role) ∙ reading_end text (Some w.start))
       ∙ rw (none, append-nil) refl
 
   pub go_on_closing : roles.Closing ≡ role_of b (bytes_of text w)
-      → go_on text r (w ∷ []) ≡ record { tokens = r.tokens; fault = r.fault; comment = None }
+      → go_on text r (w ∷ []) ≡ record { tokens = r.tokens; fault = r.fault; open_comment = None }
   go_on_closing role =
       go_on_none text r _ none
       ∙ ap (with_tokens r.tokens)
-      (reading_closing text r.comment w [] (step role) ∙ reading_end text None)
+      (reading_closing text r.open_comment w [] (role_is role) ∙ reading_end text None)
       ∙ rw (none, append-nil) refl
 
   pub go_on_comment : roles.Comment ≡ role_of b (bytes_of text w) → go_on text r (w ∷ []) ≡ r
   go_on_comment role =
       go_on_none text r _ none
       ∙ ap (with_tokens r.tokens)
-      (reading_comment text r.comment w [] (step role) ∙ reading_end text r.comment)
+      (reading_comment text r.open_comment w [] (role_is role) ∙ reading_end text r.open_comment)
       ∙ rw (append-nil, ← none) refl
 
   pub go_on_faulty : roles.Faulty ≡ role_of b (bytes_of text w)
@@ -91,25 +91,25 @@ module _ (text : List ℕ) (r : Reading) (w : Word) (b : Bool) (none : r.fault �
       ≡ record {
         tokens = r.tokens;
         fault = Some (fault_of b w.start (bytes_of text w));
-        comment = r.comment;
+        open_comment = r.open_comment;
       }
   go_on_faulty role =
       go_on_none text r _ none
-      ∙ ap (with_tokens r.tokens) (reading_faulty text r.comment w [] (step role))
+      ∙ ap (with_tokens r.tokens) (reading_faulty text r.open_comment w [] (role_is role))
       ∙ rw (append-nil, is) refl
 
 pub go_on_append : (text : List ℕ) (r : Reading) (xs ys : List Word)
     → go_on text r (xs ++ ys) ≡ go_on text (go_on text r xs) ys
-go_on_append text r xs ys = by r.tokens r.fault r.comment
+go_on_append text r xs ys = by_fault r.tokens r.fault r.open_comment
   where
-    by : (ts : List Word) (f : Option Fault) (c : Option ℕ)
-        → go_on text (record { tokens = ts; fault = f; comment = c }) (xs ++ ys)
-        ≡ go_on text (go_on text (record { tokens = ts; fault = f; comment = c }) xs) ys
-    by ts None c =
+    by_fault : (ts : List Word) (f : Option Fault) (c : Option ℕ)
+        → go_on text (record { tokens = ts; fault = f; open_comment = c }) (xs ++ ys)
+        ≡ go_on text (go_on text (record { tokens = ts; fault = f; open_comment = c }) xs) ys
+    by_fault ts None c =
         ap (with_tokens ts) (reading_append text c xs ys)
         ∙ go_on_with_tokens text ts ys (reading text c xs).tokens (reading text c xs).fault
-        (reading text c xs).comment
-    by ts (Some f) c = refl
+        (reading text c xs).open_comment
+    by_fault ts (Some f) c = refl
 
 resolved_carried : (p x : ℕ) (c d : CommentState) → resolved p c ≡ Some x
     → resolved p (carried c d) ≡ resolved x d
@@ -120,19 +120,19 @@ resolved_carried p x c (At q) h = refl
 -- The words go on inside a comment.
 pub go_on_inside : (text : List ℕ) (ws : List Word) (p : ℕ) (r next : Side) (items : List Word)
     → ((q : ℕ) → reading text (Some q) ws ≡ side_reading q next) →
-    r.fault ≡ None → is_some (resolved p r.comment) ≡ true → items ≡ r.tokens ++ next.tokens →
+    r.fault ≡ None → is_some (resolved p r.open_comment) ≡ true → items ≡ r.tokens ++ next.tokens →
     record {
       tokens = items;
       fault = next.fault;
-      comment = resolved p (carried r.comment next.comment);
+      open_comment = resolved p (carried r.open_comment next.open_comment);
     }
     ≡ go_on text (side_reading p r) ws
 go_on_inside text ws p r next items readings none is_open e =
-    let opened = some_from (resolved p r.comment) is_open in
+    let opened = some_from (resolved p r.open_comment) is_open in
     let all : go_on text (side_reading p r) ws
-    ≡ with_tokens r.tokens (reading text (resolved p r.comment) ws) = go_on_none text
+    ≡ with_tokens r.tokens (reading text (resolved p r.open_comment) ws) = go_on_none text
     (side_reading p r) ws none in
-    rw (e, resolved_carried p opened.0 r.comment next.comment opened.1)
+    rw (e, resolved_carried p opened.0 r.open_comment next.open_comment opened.1)
     (sym (all ∙ ap (λ (c : Option ℕ). with_tokens r.tokens (reading text c ws)) opened.1
     ∙ ap (with_tokens r.tokens) (readings opened.0)))
 
@@ -146,34 +146,34 @@ not_before x (At q) h c = refl
 
 pub go_on_outside : (text : List ℕ) (ws : List Word) (p : ℕ) (r next : Side) (items : List Word)
     → ((q : ℕ) → reading text None ws ≡ side_reading q next) →
-    r.fault ≡ None → is_some (resolved p r.comment) ≡ false → items ≡ r.tokens ++ next.tokens →
+    r.fault ≡ None → is_some (resolved p r.open_comment) ≡ false → items ≡ r.tokens ++ next.tokens →
     record {
       tokens = items;
       fault = next.fault;
-      comment = resolved p (carried r.comment next.comment);
+      open_comment = resolved p (carried r.open_comment next.open_comment);
     }
     ≡ go_on text (side_reading p r) ws
 go_on_outside text ws p r next items readings none is_open e =
-    let closed : resolved p r.comment ≡ None = none_from (resolved p r.comment) is_open in
+    let closed : resolved p r.open_comment ≡ None = none_from (resolved p r.open_comment) is_open in
     let all : go_on text (side_reading p r) ws
-    ≡ with_tokens r.tokens (reading text (resolved p r.comment) ws) = go_on_none text
+    ≡ with_tokens r.tokens (reading text (resolved p r.open_comment) ws) = go_on_none text
     (side_reading p r) ws none in
     rw (
       e,
-      not_before (reading text None ws).comment next.comment
-          (λ q. ap (λ (x : Reading). x.comment) (readings q)) r.comment,
+      not_before (reading text None ws).open_comment next.open_comment
+          (λ q. ap (λ (x : Reading). x.open_comment) (readings q)) r.open_comment,
     )
     (sym (all ∙ ap (λ (c : Option ℕ). with_tokens r.tokens (reading text c ws)) closed
     ∙ ap (with_tokens r.tokens) (readings p)))
 
 pub go_on_nil : (text : List ℕ) (r : Reading) → go_on text r [] ≡ r
-go_on_nil text r = by r.tokens r.fault r.comment
+go_on_nil text r = by_fault r.tokens r.fault r.open_comment
   where
-    by : (ts : List Word) (f : Option Fault) (c : Option ℕ)
-        → go_on text (record { tokens = ts; fault = f; comment = c }) []
-        ≡ record { tokens = ts; fault = f; comment = c }
-    by ts None c = ap (with_tokens ts) (reading_end text c) ∙ rw append-nil refl
-    by ts (Some f) c = refl
+    by_fault : (ts : List Word) (f : Option Fault) (c : Option ℕ)
+        → go_on text (record { tokens = ts; fault = f; open_comment = c }) []
+        ≡ record { tokens = ts; fault = f; open_comment = c }
+    by_fault ts None c = ap (with_tokens ts) (reading_end text c) ∙ rw append-nil refl
+    by_fault ts (Some f) c = refl
 
 -- one more word of those that are left
 
@@ -226,8 +226,9 @@ reading_skips text p (suc n) from to plain =
 
 -- Outside a comment a plain word is a token.
 pub go_on_plain : (text : List ℕ) (r : Reading) (w : Word) (items : List Word) → r.fault ≡ None
-    → is_some r.comment ≡ false → IsPlainWord (bytes_of text w) → items ≡ r.tokens ++ w ∷ []
-    → record { tokens = items; fault = r.fault; comment = r.comment } ≡ go_on text r (w ∷ [])
+    → is_some r.open_comment ≡ false → IsPlainWord (bytes_of text w) → items ≡ r.tokens ++ w ∷ []
+    → record { tokens = items; fault = r.fault; open_comment = r.open_comment }
+    ≡ go_on text r (w ∷ [])
 go_on_plain text r w items none closed plain e =
     rw e
     (sym (go_on_token text r w false none (sym closed) (sym (plain_token (bytes_of text w) plain))))
@@ -238,26 +239,29 @@ ignored_inside faulty inside e = ap (λ (b : Bool). faulty || b) e ∙ or-true f
 
 -- So it is left out, as are those that follow it.
 pub go_on_skips : (text : List ℕ) (all r : Reading) (w : Word) (vs : List Word) (from upto to : ℕ)
-    → (is_some r.fault || is_some r.comment) ≡ true → IsPlainWord (bytes_of text w) → from ≤ upto
+    → (is_some r.fault || is_some r.open_comment) ≡ true → IsPlainWord (bytes_of text w)
+    → from ≤ upto
     → ArePlain text from upto → all ≡ go_on text r vs → vs ≡ w ∷ words_between text from to
     → all ≡ go_on text r (words_between text upto to)
 go_on_skips text all r w vs from upto to ignored plain le others e next =
-    e ∙ ap (go_on text r) next ∙ by r.tokens r.fault r.comment ignored
+    e ∙ ap (go_on text r) next ∙ by_fault r.tokens r.fault r.open_comment ignored
   where
-    by : (ts : List Word) (f : Option Fault) (c : Option ℕ) → (is_some f || is_some c) ≡ true →
+    by_fault : (ts : List Word) (f : Option Fault) (c : Option ℕ)
+        → (is_some f || is_some c) ≡ true →
         go_on text
-        (record { tokens = ts; fault = f; comment = c })
+        (record { tokens = ts; fault = f; open_comment = c })
         (w ∷ words_between text from to)
-        ≡ go_on text (record { tokens = ts; fault = f; comment = c }) (words_between text upto to)
-    by ts None None h = cc
-    by ts None (Some p) h =
+        ≡ go_on text (record { tokens = ts; fault = f; open_comment = c })
+        (words_between text upto to)
+    by_fault ts None None h = cc
+    by_fault ts None (Some p) h =
         let same : from + (upto - from) ≡ upto = omega arith in
         ap (with_tokens ts)
         (reading_comment text (Some p) w (words_between text from to)
         (plain_comment (bytes_of text w) plain)
         ∙ reading_skips text p (upto - from) from to (λ i low high. others i low (omega arith))
         ∙ ap (λ (i : ℕ). reading text (Some p) (words_between text i to)) same)
-    by ts (Some f) c h = refl
+    by_fault ts (Some f) c h = refl
 
 -- three lists of words, one after another
 pub go_on_three : (text : List ℕ) (c : Option ℕ) (first mid last : Reading) (ws vs us : List Word)

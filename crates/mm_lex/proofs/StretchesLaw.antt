@@ -37,61 +37,62 @@ words_between_append text (suc n) from mid to e le =
 -- no word goes on over the ends of what lies between head and tail
 pub boundary_head : {text : List ℕ} {from to head tail : ℕ} → IsBroken text from to head tail
     → IsBoundary text head
-boundary_head {text} {from} {to} {head} {tail} s i e h ink =
+boundary_head {text} {from} {to} {head} {tail} s i e h not_white =
     ⊎_elim {C = white_at text i ≡ true}
-    (λ before. absurd (true≢false (sym (s.head_ends (grind (arith, s.no_head)) before) ∙ ink)))
+    (λ before. absurd
+    (true≢false (sym (s.head_ends (grind (arith, s.no_head)) before) ∙ not_white)))
     (λ at_end. absurd (grind (arith, s.some_white, s.no_head)))
     (cases_lt head to)
 
 pub boundary_tail : {text : List ℕ} {from to head tail : ℕ} → IsBroken text from to head tail
     → IsBoundary text tail
-boundary_tail {text} {from} {to} {head} {tail} s i e h ink =
+boundary_tail {text} {from} {to} {head} {tail} s i e h not_white =
     s.tail_begins (grind (arith, s.no_tail)) i e (grind (arith, s.some_white, s.no_tail, s.no_head))
 
 -- a run without a white byte between two places over which no word goes on
 run_is_word : (text : List ℕ) (p q : ℕ) → p < q → q ≤ length text → IsBoundary text p
     → IsBoundary text q → NoWhite text p q → IsWord text (record { start = p; end = q })
-run_is_word text p q lt le bp bq ink = record {
+run_is_word text p q lt le bp bq not_white = record {
   nonempty = lt;
   within = le;
-  no_white = ink;
-  white_before = λ i e. bp i e (omega arith) (ink p (omega arith) lt);
-  white_after = λ h. after (white_at text q) refl h;
+  no_white = not_white;
+  white_before = λ i e. bp i e (omega arith) (not_white p (omega arith) lt);
+  white_after = λ h. by_white (white_at text q) refl h;
 }
   where
-    after : (b : Bool) → white_at text q ≡ b → q < length text → white_at text q ≡ true
-    after true e h = e
-    after false e h =
+    by_white : (b : Bool) → white_at text q ≡ b → q < length text → white_at text q ≡ true
+    by_white true e h = e
+    by_white false e h =
         absurd (true≢false
-        (sym (bq (q - 1) (omega arith) h e) ∙ ink (q - 1) (omega arith) (omega arith)))
+        (sym (bq (q - 1) (omega arith) h e) ∙ not_white (q - 1) (omega arith) (omega arith)))
 
-no_more : (text : List ℕ) (p q : ℕ) → NoWhite text p q → (j : ℕ) → p + 1 ≤ j → j < q
+none_begins_inside : (text : List ℕ) (p q : ℕ) → NoWhite text p q → (j : ℕ) → p + 1 ≤ j → j < q
     → begins_word text j ≡ false
-no_more text p q ink j a b =
+none_begins_inside text p q not_white j a b =
     let same : (j - 1) + 1 ≡ j = omega arith in
     subst (λ (k : ℕ). begins_word text k ≡ false) same
-    (begins_word_inside text (j - 1) (ink (j - 1) (omega arith) (omega arith)))
+    (begins_word_inside text (j - 1) (not_white (j - 1) (omega arith) (omega arith)))
 
 pub words_between_run : (text : List ℕ) (p q : ℕ) → q ≤ length text → IsBoundary text p
     → IsBoundary text q → NoWhite text p q → words_between text p q ≡ joined_word p q
-words_between_run text p q le bp bq ink =
+words_between_run text p q le bp bq not_white =
     ⊎_elim {C = words_between text p q ≡ joined_word p q}
     (λ lt.
-    let word = run_is_word text p q lt le bp bq ink in
+    let word = run_is_word text p q lt le bp bq not_white in
     let n : ℕ = q - (p + 1) in
     words_between_take text p q lt (IsWord_begins word)
     ∙ ap (λ (w : Word). w ∷ words_between text (p + 1) q) (IsWord_is word)
     ∙ ap (λ (ws : List Word). let w : Word = record { start = p; end = q } in w ∷ ws)
     (words_between_skips text (q - (p + 1)) (p + 1) q q (omega arith) (omega arith)
-    (no_more text p q ink)
+    (none_begins_inside text p q not_white)
     ∙ words_between_none text q q (omega arith))
     ∙ rw (lt-ltb p q lt) refl)
     (λ ge. words_between_none text p q ge ∙ rw (le-ltb p q ge) refl)
     (cases_lt p q)
 
-ink_over : (text : List ℕ) (p b q : ℕ) → NoWhite text p b → NoWhite text b q → NoWhite text p q
-ink_over text p b q left right i lo hi =
-    ⊎_elim {C = white_at text i ≡ false} (λ h. left i lo h) (λ h. right i h hi) (cases_lt i b)
+no_white_over : (text : List ℕ) (p b q : ℕ) → NoWhite text p b → NoWhite text b q → NoWhite text p q
+no_white_over text p b q in_front at_back i lo hi =
+    ⊎_elim {C = white_at text i ≡ false} (λ h. in_front i lo h) (λ h. at_back i h hi) (cases_lt i b)
 
 pub join_words : {text : List ℕ} {a b c h1 t1 h2 t2 : ℕ} → IsBroken text a b h1 t1
     → IsBroken text b c h2 t2 →
@@ -103,7 +104,7 @@ join_words {text} {a} {b} {c} {h1} {t1} {h2} {t2} s r =
     (words_between_append text (h2 - t1) t1 h2 t2 (omega arith) (omega arith)
     ∙ ap (λ (ws : List Word). ws ++ words_between text h2 t2)
     (words_between_run text t1 h2 (omega arith) (boundary_tail s) (boundary_head r)
-    (ink_over text t1 b h2 s.tail_ink r.head_ink)))
+    (no_white_over text t1 b h2 s.tail_not_white r.head_not_white)))
 
 pub join_broken : {text : List ℕ} {a b c h1 t1 h2 t2 : ℕ} → IsBroken text a b h1 t1
     → IsBroken text b c h2 t2 → IsBroken text a c h1 t2
@@ -112,8 +113,8 @@ join_broken {text} {a} {b} {c} {h1} {t1} {h2} {t2} s r = record {
   order = omega arith;
   tail_to = r.tail_to;
   within = r.within;
-  head_ink = s.head_ink;
-  tail_ink = r.tail_ink;
+  head_not_white = s.head_not_white;
+  tail_not_white = r.tail_not_white;
   no_head = s.no_head;
   no_tail = r.no_tail;
   head_ends = λ low h. s.head_ends low (grind (arith, s.some_white));
@@ -128,8 +129,8 @@ join_unbroken_broken {text} {a} {b} {c} {h} {t} s r = record {
   order = r.order;
   tail_to = r.tail_to;
   within = r.within;
-  head_ink = ink_over text a b h s.no_white r.head_ink;
-  tail_ink = r.tail_ink;
+  head_not_white = no_white_over text a b h s.no_white r.head_not_white;
+  tail_not_white = r.tail_not_white;
   no_head = λ e. absurd (omega arith);
   no_tail = r.no_tail;
   head_ends = λ low before. r.head_ends (omega arith) before;
@@ -144,8 +145,8 @@ join_broken_unbroken {text} {a} {b} {c} {h} {t} s r = record {
   order = s.order;
   tail_to = omega arith;
   within = omega arith;
-  head_ink = s.head_ink;
-  tail_ink = ink_over text t b c s.tail_ink r.no_white;
+  head_not_white = s.head_not_white;
+  tail_not_white = no_white_over text t b c s.tail_not_white r.no_white;
   no_head = s.no_head;
   no_tail = λ e. absurd (omega arith);
   head_ends = λ low before. s.head_ends low (omega arith);
@@ -159,7 +160,7 @@ join_unbroken {text} {a} {b} {c} s r = record {
   first = s.first;
   order = omega arith;
   last = r.last;
-  no_white = ink_over text a b c s.no_white r.no_white;
+  no_white = no_white_over text a b c s.no_white r.no_white;
 }
 
 -- the whole text

@@ -27,11 +27,11 @@ module _ (text : List ℕ) where
     pub later : start < from
     pub none : (i : ℕ) → start < i → i < from → begins_word text i ≡ false
 
-  -- the word that begins at `start`; if `plain` is true, it is plain
-  pub record IsWordFrom (start : ℕ) (word : Word) (plain : Bool) : Type 0 where
+  -- the word that begins at `start`; if `known_plain` is true, it is plain
+  pub record IsWordFrom (start : ℕ) (word : Word) (known_plain : Bool) : Type 0 where
     pub start_is : word.start ≡ start
     pub is_word : IsWord text word
-    pub is_plain : plain ≡ true → IsPlainWord (bytes_of text word)
+    pub is_plain : known_plain ≡ true → IsPlainWord (bytes_of text word)
 
   -- the words that begin from `from` on and before `upto` are plain
   abbrev pub ArePlain : ℕ → ℕ → Type 0

@@ -9,7 +9,8 @@ use Rattle.mm_lex.specs.declared.modes.ModeReading.{ModeReading}
 use Rattle.mm_lex.specs.declared.pieces.Inner.{Inner}
 
 abbrev pub side : {A : Type 0} → ModeReading A → Side
-side mode = record { tokens = mode.tokens.items; fault = mode.fault; comment = mode.comment }
+side mode =
+    record { tokens = mode.tokens.items; fault = mode.fault; open_comment = mode.open_comment }
 
 abbrev pub between_of : {A : Type 0} → Inner A → Between
 between_of inner =

@@ -16,7 +16,7 @@ use Rattle.mm_lex.specs.declared.modes.CommentState.TheVariants.{Nowhere, Before
 pub record Side : Type 0 where
   pub tokens : List Word
   pub fault : Option Fault
-  pub comment : CommentState
+  pub open_comment : CommentState
 
 -- what is between the end of a head and the beginning of a tail, read outside and inside a comment
 pub record Between : Type 0 where
@@ -44,7 +44,8 @@ resolved p (At q) = Some q
 
 -- what a side has read, if the comment from before the words began at the place p
 abbrev pub side_reading : ℕ → Side → Reading
-side_reading p s = record { tokens = s.tokens; fault = s.fault; comment = resolved p s.comment }
+side_reading p s =
+    record { tokens = s.tokens; fault = s.fault; open_comment = resolved p s.open_comment }
 
 -- The two sides are the readings of the words, outside a comment, and inside one that began
 -- anywhere before.

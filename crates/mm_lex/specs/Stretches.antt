@@ -23,8 +23,8 @@ pub record IsBroken (text : List ℕ) (from to head tail : ℕ) : Type 0 where
   pub order : head ≤ tail
   pub tail_to : tail ≤ to
   pub within : to ≤ length text
-  pub head_ink : NoWhite text from head
-  pub tail_ink : NoWhite text tail to
+  pub head_not_white : NoWhite text from head
+  pub tail_not_white : NoWhite text tail to
   pub no_head : from ≡ 0 → head ≡ 0
   pub no_tail : to ≡ length text → tail ≡ to
   pub head_ends : 0 < from → head < to → white_at text head ≡ true

@@ -24,12 +24,12 @@ pub use pieces::{Piece, join, lex_piece};
 use std::alloc::{AllocError, Allocator};
 use std::thread::Threads;
 
-/// For so many bytes of a text there is room for one token at first, where memory that isn't used
-/// isn't given back. Texts with comments have fewer tokens.
-const BYTES_OF_A_TOKEN: usize = 8;
+/// For how many bytes of a text `lex_alone` reserves memory for one token at first. Memory that is
+/// reserved and not used is not given back, and most texts, which have comments, have fewer tokens.
+const BYTES_PER_TOKEN: usize = 8;
 
-/// What is known of a text that is longer than the limit.
-fn too_long<A: Allocator>(alloc: A) -> Lexed<A>
+/// The result for a text that is longer than the limit.
+fn lexed_too_long<A: Allocator>(alloc: A) -> Lexed<A>
     ensures tokens { (text : List ℕ) → TEXT_LIMIT < length text
         → result.tokens.items ≡ tokens_of text }
     ensures fault { (text : List ℕ) → TEXT_LIMIT < length text
@@ -58,7 +58,7 @@ pub fn lex<R: Threads + Sync, A: Allocator + Copy + Send + Sync>(
     ensures fault { IfOk result (λ lexed. lexed.fault ≡ lexical_fault text.now) }
 {
     if text.len() > TEXT_LIMIT {
-        return Ok(too_long(alloc));
+        return Ok(lexed_too_long(alloc));
     }
     let whole = read_text(rt, alloc, text, cuts.places())?;
     Ok(whole.into_lexed())
@@ -71,9 +71,9 @@ pub fn lex_alone<A: Allocator + Copy>(alloc: A, text: &[u8]) -> Result<Lexed<A>,
     ensures fault { IfOk result (λ lexed. lexed.fault ≡ lexical_fault text.now) }
 {
     if text.len() > TEXT_LIMIT {
-        return Ok(too_long(alloc));
+        return Ok(lexed_too_long(alloc));
     }
-    let room = text.len() / BYTES_OF_A_TOKEN + 1;
+    let room = text.len() / BYTES_PER_TOKEN + 1;
     let whole = lex_piece_with_room(alloc, text, 0, text.len(), room)?;
     Ok(whole.into_lexed())
 }

@@ -46,26 +46,26 @@ impl CommentState {
 pub struct ModeReading<A: Allocator> {
     pub tokens: Vec<Word, A>,
     pub fault: Option<Fault>,
-    pub comment: CommentState,
+    pub open_comment: CommentState,
 }
 
 impl<A: Allocator + Copy> ModeReading<A> {
-    pub fn new(alloc: A, comment: CommentState) -> ModeReading<A>
-        ensures { (p : ℕ) → side_reading p (side result) ≡ start (resolved p comment) }
+    pub fn new(alloc: A, open_comment: CommentState) -> ModeReading<A>
+        ensures { (p : ℕ) → side_reading p (side result) ≡ start (resolved p open_comment) }
     {
         ModeReading {
             tokens: Vec::new(alloc),
             fault: None,
-            comment,
+            open_comment,
         }
     }
 
     /// A reading of no words yet. Its list has room for `room` tokens if there is that much memory,
     /// so that it needn't be moved as it grows.
-    pub fn with_room(alloc: A, comment: CommentState, room: usize) -> ModeReading<A>
-        ensures { (p : ℕ) → side_reading p (side result) ≡ start (resolved p comment) }
+    pub fn with_room(alloc: A, open_comment: CommentState, room: usize) -> ModeReading<A>
+        ensures { (p : ℕ) → side_reading p (side result) ≡ start (resolved p open_comment) }
     {
-        let mut reading = ModeReading::new(alloc, comment);
+        let mut reading = ModeReading::new(alloc, open_comment);
         match reading.tokens.reserve(room) {
             Ok(()) => {}
             Err(_) => {}
@@ -77,18 +77,18 @@ impl<A: Allocator + Copy> ModeReading<A> {
     #[inline(always)]
     pub fn ignores_plain(&self) -> bool
         ensures { (p : ℕ)
-            → result ≡ (is_some self.now.fault || is_some (resolved p self.now.comment)) }
+            → result ≡ (is_some self.now.fault || is_some (resolved p self.now.open_comment)) }
     {
-        self.fault.is_some() || self.comment.is_open()
+        self.fault.is_some() || self.open_comment.is_open()
     }
 
-    /// Reads one further word. If `plain` is true, the word is known to be plain.
+    /// Reads one further word. If `is_plain` is true, the word is known to be plain.
     #[inline(always)]
-    pub fn read_word(&mut self, text: &[u8], word: Word, plain: bool) -> Result<(), AllocError>
+    pub fn read_word(&mut self, text: &[u8], word: Word, is_plain: bool) -> Result<(), AllocError>
         requires order { word.start ≤ word.end }
         requires within { word.end ≤ length text.now }
         requires short { length text.now ≤ TEXT_LIMIT }
-        requires plain { plain ≡ true → IsPlainWord (bytes_of text.now word) }
+        requires plain { is_plain ≡ true → IsPlainWord (bytes_of text.now word) }
         ensures { OnOk result
             ((p : ℕ)
             → side_reading p (side self.new)
@@ -97,12 +97,12 @@ impl<A: Allocator + Copy> ModeReading<A> {
         if self.fault.is_some() {
             return Ok(());
         }
-        let in_comment = self.comment.is_open();
+        let in_comment = self.open_comment.is_open();
         let bytes = word.bytes(text);
-        match role(in_comment, plain, bytes) {
+        match role(in_comment, is_plain, bytes) {
             Role::Token => self.tokens.push(word)?,
-            Role::Opening => self.comment = CommentState::At(word.start),
-            Role::Closing => self.comment = CommentState::Nowhere,
+            Role::Opening => self.open_comment = CommentState::At(word.start),
+            Role::Closing => self.open_comment = CommentState::Nowhere,
             Role::Comment => {}
             Role::Faulty => self.fault = Some(word_fault(in_comment, word.start, bytes)),
         }
@@ -130,12 +130,12 @@ impl<A: Allocator + Copy> ModeReading<A> {
             return Ok(());
         }
         while let Some(found) = scanner.next_word(to) {
-            if !found.plain {
+            if !found.is_plain {
                 self.read_word(text, found.word, false)?;
                 if self.fault.is_some() {
                     return Ok(());
                 }
-            } else if self.comment.is_open() {
+            } else if self.open_comment.is_open() {
                 scanner.skip_plain();
             } else {
                 self.tokens.push(found.word)?;
@@ -159,14 +159,14 @@ impl<A: Allocator + Copy> ModeReading<A> {
         if self.fault.is_some() {
             return Ok(());
         }
-        let next = if self.comment.is_open() {
+        let next = if self.open_comment.is_open() {
             inside
         } else {
             outside
         };
         self.tokens.extend_from_slice(&next.tokens)?;
         self.fault = next.fault;
-        self.comment = next.comment.after(self.comment);
+        self.open_comment = next.open_comment.after(self.open_comment);
         Ok(())
     }
 }

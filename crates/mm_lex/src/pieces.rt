@@ -17,7 +17,8 @@ use crate::{Code, Fault, Lexed, TEXT_LIMIT, Word};
 use std::alloc::{AllocError, Allocator};
 use std::marker::Model;
 
-/// What is between the head and the tail of a stretch, read outside a comment and inside one.
+/// What is between the head and the tail of a stretch, read outside a comment and inside one. The
+/// head ends at the place `head`, and the tail begins at the place `tail`.
 #[derive(Drop)]
 pub struct Inner<A: Allocator> {
     pub head: u32,
@@ -60,7 +61,7 @@ impl<A: Allocator> Piece<A> {
     }
 
     /// Whether it is a part of a word, or empty, and touches neither end of the text.
-    pub fn unbroken(&self) -> bool
+    pub fn is_unbroken(&self) -> bool
         ensures { result ≡ not (is_some self.now.between) }
     {
         self.inner.is_none()
@@ -124,7 +125,7 @@ impl<A: Allocator> Piece<A> {
         };
         Lexed {
             tokens: reading.tokens,
-            fault: fault_of(reading.fault, reading.comment),
+            fault: fault_of(reading.fault, reading.open_comment),
         }
     }
 }
@@ -162,14 +163,14 @@ fn lex_inner<A: Allocator + Copy>(
         && let Some(found) = scanner.next_word(tail)
     {
         // A plain word that changes neither reading is left out, as are those that follow it.
-        if found.plain && outside.ignores_plain() && inside.ignores_plain() {
+        if found.is_plain && outside.ignores_plain() && inside.ignores_plain() {
             scanner.skip_plain();
         } else {
-            outside.read_word(text, found.word, found.plain)?;
-            inside.read_word(text, found.word, found.plain)?;
+            outside.read_word(text, found.word, found.is_plain)?;
+            inside.read_word(text, found.word, found.is_plain)?;
         }
     }
-    // After its fault the reading inside a comment stays as it is.
+    // A reading stays as it is after its fault, so only the reading outside is continued.
     outside.read_rest(text, scanner, tail)?;
     Ok(Inner {
         head: head as u32,
@@ -287,17 +288,17 @@ pub fn join<A: Allocator + Copy>(
 }
 
 /// The fault of a faulty word if there is one, otherwise that of a comment open at the end.
-fn fault_of(fault: Option<Fault>, comment: CommentState) -> Option<Fault>
-    ensures { result ≡ fault_in fault (resolved 0 comment) }
+fn fault_of(fault: Option<Fault>, open_comment: CommentState) -> Option<Fault>
+    ensures { result ≡ fault_in fault (resolved 0 open_comment) }
 {
-    let open = |at| Fault {
+    let unclosed = |at| Fault {
         at,
         code: Code::OpenComment,
     };
-    match (fault, comment) {
+    match (fault, open_comment) {
         (Some(fault), _) => Some(fault),
-        (None, CommentState::At(at)) => Some(open(at)),
-        (None, CommentState::Before) => Some(open(0)),
+        (None, CommentState::At(at)) => Some(unclosed(at)),
+        (None, CommentState::Before) => Some(unclosed(0)),
         (None, CommentState::Nowhere) => None,
     }
 }

@@ -3,8 +3,9 @@
 ghost use Rattle.std.specs.Prelude.{◌≡◌, ◌+◌, ◌<◌, ◌^◌, length, not, true, false, IfSome};
 ghost use Rattle.std.specs.List.{position};
 ghost use Rattle.mm_spec.specs.Bytes.{is_printable};
-ghost use Rattle.mm_spec.specs.Roles.{fault_of, has_mark, is_clean, is_comment_word, is_dollar_and};
-ghost use Rattle.mm_spec.specs.Roles.{is_keyword, is_mark, is_token, role_of};
+ghost use Rattle.mm_spec.specs.Roles.{fault_of, has_comment_mark, is_clean, is_comment_word};
+ghost use Rattle.mm_spec.specs.Roles.{is_dollar_and};
+ghost use Rattle.mm_spec.specs.Roles.{is_keyword, is_comment_mark, is_token, role_of};
 ghost use Rattle.mm_spec.specs.Text.{has_dollar};
 ghost use Rattle.mm_lex.specs.Plain.{IsPlainWord};
 
@@ -47,22 +48,22 @@ fn is_keyword(word: &[u8]) -> bool
     b"cvfedap=.{}[]".iter().any(|b| is_dollar_and(*b, word))
 }
 
-#[tactic(auto, unfolding(mm_spec::specs::Roles::is_mark))]
-fn is_mark(first: u8, second: u8) -> bool
-    ensures { result ≡ is_mark first second }
+#[tactic(auto, unfolding(mm_spec::specs::Roles::is_comment_mark))]
+fn is_comment_mark(first: u8, second: u8) -> bool
+    ensures { result ≡ is_comment_mark first second }
 {
     first == b'$' && (second == b'(' || second == b')')
 }
 
 /// Whether `$(` or `$)` occurs in the word.
-fn has_mark(word: &[u8]) -> bool
-    ensures { result ≡ has_mark word.now }
+fn has_comment_mark(word: &[u8]) -> bool
+    ensures { result ≡ has_comment_mark word.now }
 {
     if !has_dollar(word) {
         return false;
     }
     for i in 1..word.len() {
-        if is_mark(word[i - 1], word[i]) {
+        if is_comment_mark(word[i - 1], word[i]) {
             return true;
         }
     }
@@ -80,16 +81,16 @@ fn is_token(word: &[u8]) -> bool
 fn is_comment_word(word: &[u8]) -> bool
     ensures { result ≡ is_comment_word word.now }
 {
-    is_clean(word) && !has_mark(word)
+    is_clean(word) && !has_comment_mark(word)
 }
 
-/// What a word is. If `plain` is true, the word is known to be plain.
+/// What a word is. If `is_plain` is true, the word is known to be plain.
 #[inline(always)]
-pub fn role(in_comment: bool, plain: bool, word: &[u8]) -> Role
-    requires { plain ≡ true → IsPlainWord word.now }
+pub fn role(in_comment: bool, is_plain: bool, word: &[u8]) -> Role
+    requires { is_plain ≡ true → IsPlainWord word.now }
     ensures { result ≡ role_of in_comment word.now }
 {
-    match (plain, in_comment) {
+    match (is_plain, in_comment) {
         (true, true) => Role::Comment,
         (true, false) => Role::Token,
         (false, true) => role_inside(word),

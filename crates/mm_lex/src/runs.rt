@@ -12,7 +12,7 @@ use std::alloc::{AllocError, Allocator};
 use std::thread::{self, Threads};
 
 /// The maximum number of runs into which the pieces of a text are grouped.
-const RUNS: usize = 64;
+const MAX_RUNS: usize = 64;
 
 /// Where piece `index` begins, and the one before it ends.
 fn cut_place(text: &[u8], places: &[u32], index: usize) -> usize
@@ -123,7 +123,7 @@ pub fn read_text<R: Threads + Sync, A: Allocator + Copy + Send + Sync>(
     ensures to { IfOk result (λ piece. piece.to ≡ length text.now) }
     ensures summary { IfOk result (IsSummary text.now) }
 {
-    let runs = (places.len() + 1).min(RUNS);
+    let runs = (places.len() + 1).min(MAX_RUNS);
     let mut pieces = read_runs(rt, alloc, text, places, runs)?;
     let mut whole = pieces.remove(0)?;
     'joining: while !pieces.is_empty() {

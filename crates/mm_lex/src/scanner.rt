@@ -42,6 +42,7 @@ fn dollars_of(bytes: &[u8]) -> u64
 /// Masks with a bit for each of the first 64 bytes, or for each byte if there are fewer.
 #[derive(Clone, Copy)]
 struct Marks {
+    /// White space.
     white: u64,
     /// White space, bad bytes and dollar signs: what ends a word, or keeps it from being plain.
     stops: u64,
@@ -52,7 +53,7 @@ fn marks_of(bytes: &[u8]) -> Marks
     ensures white { result.white ≡ mask is_white (take 64 bytes.now) }
     ensures plain { (i : ℕ) → i < 64 → i < length bytes.now → bit_at result.stops i ≡ 0
         → plain_at bytes.now i ≡ true }
-    ensures ink { (i : ℕ) → i < 64 → i < length bytes.now → bit_at result.stops i ≡ 0
+    ensures not_white { (i : ℕ) → i < 64 → i < length bytes.now → bit_at result.stops i ≡ 0
         → white_at bytes.now i ≡ false }
 {
     let classes = classes_of(bytes);
@@ -63,14 +64,15 @@ fn marks_of(bytes: &[u8]) -> Marks
     }
 }
 
-/// The zero bits of a mask that follow a one bit. Bit 0, if it is zero, is among them if `first`.
+/// Where words begin in a block: the zero bits of the mask of its white space that follow a one
+/// bit, and bit 0, if it is zero and a word may begin there.
 #[inline(always)]
-fn starts_of(white: u64, first: bool) -> u64
-    ensures first { bit_at result 0 ≡ (if first then 1 - bit_at white 0 else 0) }
+fn starts_of(white: u64, may_begin_at_0: bool) -> u64
+    ensures first { bit_at result 0 ≡ (if may_begin_at_0 then 1 - bit_at white 0 else 0) }
     ensures next { (i : ℕ) → i + 1 < 64
         → bit_at result (i + 1) ≡ min (1 - bit_at white (i + 1)) (bit_at white i) }
 {
-    !white & (white << 1 | u64::from(first))
+    !white & (white << 1 | u64::from(may_begin_at_0))
 }
 
 /// Whether a word may begin at the place: before it there is a white-space byte, or nothing.
@@ -89,8 +91,11 @@ pub struct WordScanner<'a> {
     text: &'a [u8],
     /// The words that begin before this place have been taken or left out.
     from: usize,
+    /// Where the current block begins. Bit i of the masks is byte `base + i` of the text.
     base: usize,
+    /// The white-space bytes of the block.
     white: u64,
+    /// Its white-space bytes, bad bytes and dollar signs.
     stops: u64,
     /// Where words begin, from `from` on. Bits after the text's end mean nothing.
     starts: u64,
@@ -100,7 +105,7 @@ pub struct WordScanner<'a> {
     ghost white_is: { white ≡ mask is_white (take 64 (drop base text.now)) },
     ghost plain: { (i : ℕ) → i < 64 → base + i < length text.now → bit_at stops i ≡ 0
         → plain_at text.now (base + i) ≡ true },
-    ghost ink: { (i : ℕ) → i < 64 → base + i < length text.now → bit_at stops i ≡ 0
+    ghost not_white: { (i : ℕ) → i < 64 → base + i < length text.now → bit_at stops i ≡ 0
         → white_at text.now (base + i) ≡ false },
     ghost begins: { (i : ℕ) → i < 64 → base + i < length text.now → bit_at starts i ≡ 1
         → begins_word text.now (base + i) ≡ true },
@@ -109,11 +114,11 @@ pub struct WordScanner<'a> {
         → bit_at starts i ≡ 0 → begins_word text.now (base + i) ≡ false },
 }
 
-/// A word. If `plain` is true, it is known to have only printable bytes, and no `$`.
+/// A word. If `is_plain` is true, it is known to have only printable bytes, and no `$`.
 #[derive(Clone, Copy)]
 pub struct FoundWord {
     pub word: Word,
-    pub plain: bool,
+    pub is_plain: bool,
 }
 
 impl<'a> WordScanner<'a> {
@@ -171,23 +176,23 @@ impl<'a> WordScanner<'a> {
         requires short { length self.text.now ≤ TEXT_LIMIT }
         ensures text { result.0.text.now ≡ self.entry.text.now }
         ensures onward { IsPassed self.entry.text.now start result.0.from }
-        ensures word { IsWordFrom self.entry.text.now start result.1.word result.1.plain }
+        ensures word { IsWordFrom self.entry.text.now start result.1.word result.1.is_plain }
     {
         let len = self.text.len();
         let mut scanner = self;
         let mut stop = first_one(scanner.white, start - scanner.base);
-        let mut plain = first_one(scanner.stops, start - scanner.base) == stop;
+        let mut is_plain = first_one(scanner.stops, start - scanner.base) == stop;
         while stop == 64 && 64 < len - scanner.base {
             scanner = WordScanner::at(self.text, scanner.base + 64);
             stop = first_one(scanner.white, 0);
-            plain = plain && first_one(scanner.stops, 0) == stop;
+            is_plain = is_plain && first_one(scanner.stops, 0) == stop;
         }
         let end = (scanner.base + stop).min(len);
         let word = Word {
             start: start as u32,
             end: end as u32,
         };
-        (scanner, FoundWord { word, plain })
+        (scanner, FoundWord { word, is_plain })
     }
 
     /// Takes the first further place before `to` at which a word begins.
@@ -231,7 +236,7 @@ impl<'a> WordScanner<'a> {
         ensures done { IfNone result (words_between self.old.text.now self.new.from to ≡ []) }
         ensures each { IfSome result (λ found. IsWord self.old.text.now found.word) }
         ensures plain { IfSome result
-            (λ found. found.plain ≡ true → IsPlainWord (bytes_of self.old.text.now found.word)) }
+            (λ found. found.is_plain ≡ true → IsPlainWord (bytes_of self.old.text.now found.word)) }
         ensures onward { IfSome result (λ found. self.old.from < self.new.from) }
     {
         let start = self.next_start(to)?;
@@ -241,7 +246,10 @@ impl<'a> WordScanner<'a> {
                 start: start as u32,
                 end: (self.base + stop) as u32,
             };
-            return Some(FoundWord { word, plain: true });
+            return Some(FoundWord {
+                word,
+                is_plain: true,
+            });
         }
         let (scanner, found) = self.word_from(start);
         *self = scanner;

@@ -1,6 +1,6 @@
 -- The entry of an argument with a default has a text that passed the argument's parser.
 use Rattle.std.proofs.Common.{◌≡◌, ◌∙◌, ◌⊎◌, ◌<◌, ◌≤◌, inl, inr, ℕ, zero, suc, Bool, true, false}
-use Rattle.std.proofs.Common.{true≢false, ◌&&◌, refl, sym, ap, subst, arith, List, [], ◌∷◌, map}
+use Rattle.std.proofs.Common.{true≢false, refl, sym, ap, subst, arith, List, [], ◌∷◌, map}
 use Rattle.std.proofs.Common.{length, slice_index_or, Option, Some, None, option_map, slice_get}
 use Rattle.std.proofs.Common.{eqb-true}
 use Rattle.std.proofs.lemmas.List.{get_or-map}
@@ -10,7 +10,7 @@ use Rattle.std.specs.Prelude.{not, is_some, find}
 use Rattle.std.specs.List.{All}
 use Rattle.std.specs.Str.{bytes_eq}
 use Rattle.std.specs.Borrow.{Bor}
-use Rattle.std.proofs.lemmas.Bool.{not-true}
+use Rattle.std.proofs.lemmas.Bool.{and_parts, not-true}
 use Rattle.clap.specs.Texts.{items_of}
 use Rattle.clap.specs.Values.{Accepts, read_as, reading_of}
 use Rattle.clap.specs.Walk.{Rule, Text, is_empty, is_simple_arg, rule_of}
@@ -37,21 +37,6 @@ no_option : {X : Type 0} (o : Option X) → not (is_some o) ≡ true → o ≡ N
 no_option None h = refl
 no_option (Some x) h = absurd (true≢false (sym h))
 
-parts : (a b c d e f g h i j : Bool)
-    → (a && (b && (c && (d && (e && (f && (g && (h && (i && j))))))))) ≡ true
-    → (b ≡ true) × (c ≡ true) × (d ≡ true) × (j ≡ true)
-parts true true true true true true true true true true p = (refl, refl, refl, refl)
-parts false b c d e f g h i j p = absurd (true≢false (sym p))
-parts true false c d e f g h i j p = absurd (true≢false (sym p))
-parts true true false d e f g h i j p = absurd (true≢false (sym p))
-parts true true true false e f g h i j p = absurd (true≢false (sym p))
-parts true true true true false f g h i j p = absurd (true≢false (sym p))
-parts true true true true true false g h i j p = absurd (true≢false (sym p))
-parts true true true true true true false h i j p = absurd (true≢false (sym p))
-parts true true true true true true true false i j p = absurd (true≢false (sym p))
-parts true true true true true true true true false j p = absurd (true≢false (sym p))
-parts true true true true true true true true true false p = absurd (true≢false (sym p))
-
 -- what a simple argument leaves out
 pub record LeavesOut (a : Arg) : Type 0 where
   pub ifs : a.default_vals_ifs.items ≡ []
@@ -59,18 +44,26 @@ pub record LeavesOut (a : Arg) : Type 0 where
   pub val_delim : a.val_delim ≡ None
   pub global : a.global ≡ false
 
+-- each test of `is_simple_arg` passes, in its order; `from_` names the tests from one on
 pub simple_parts : (a : Arg) → is_simple_arg a ≡ true → LeavesOut a
 simple_parts a h =
-    let p =
-    parts (is_empty a.overrides.items) (is_empty a.default_vals_ifs.items) (is_empty a.groups.items)
-    (not (is_some a.val_delim)) (not (is_some a.terminator)) (not a.allow_hyphen_values)
-    (not a.allow_negative_numbers)
-    (not a.require_equals) (not a.last) (not a.global) h in
+    let from_ifs = (and_parts (is_empty a.overrides.items) _ h).1 in
+    let from_groups = (and_parts (is_empty a.default_vals_ifs.items) _ from_ifs).1 in
+    let from_delimiter = (and_parts (is_empty a.groups.items) _ from_groups).1 in
+    let from_terminator = (and_parts (not (is_some a.val_delim)) _ from_delimiter).1 in
+    let from_hyphens = (and_parts (not (is_some a.terminator)) _ from_terminator).1 in
+    let from_numbers = (and_parts (not a.allow_hyphen_values) _ from_hyphens).1 in
+    let from_equals = (and_parts (not a.allow_negative_numbers) _ from_numbers).1 in
+    let from_last = (and_parts (not a.require_equals) _ from_equals).1 in
+    let from_global = (and_parts (not a.last) _ from_last).1 in
     record {
-      ifs = nothing_in a.default_vals_ifs.items p.0;
-      groups = nothing_in a.groups.items p.1;
-      val_delim = no_option a.val_delim p.2;
-      global = not-true a.global p.3;
+      ifs =
+          nothing_in a.default_vals_ifs.items
+          (and_parts (is_empty a.default_vals_ifs.items) _ from_ifs).0;
+      groups = nothing_in a.groups.items (and_parts (is_empty a.groups.items) _ from_groups).0;
+      val_delim =
+          no_option a.val_delim (and_parts (not (is_some a.val_delim)) _ from_delimiter).0;
+      global = not-true a.global from_global;
     }
 
 -- the argument at a place, and its rule
@@ -84,17 +77,17 @@ rule_in_place xs rules k d r e lt =
 found : (xs : List Entry) (id : Text) → HasIn xs id
     → is_some (find (λ e. bytes_eq e.0.now id) xs) ≡ true
 found [] id h = let l = h.1 in absurd (omega arith)
-found (x ∷ xs) id h = by (bytes_eq x.0.now id) refl h (found xs id)
+found (x ∷ xs) id h = by_first_id (bytes_eq x.0.now id) refl h (found xs id)
   where
-    rest : HasIn (x ∷ xs) id → bytes_eq x.0.now id ≡ false → HasIn xs id
-    rest (zero, l, e) other = absurd (true≢false (sym (e x) ∙ other))
-    rest (suc i, l, e) other = (i, omega arith, e)
+    in_rest : HasIn (x ∷ xs) id → bytes_eq x.0.now id ≡ false → HasIn xs id
+    in_rest (zero, l, e) other = absurd (true≢false (sym (e x) ∙ other))
+    in_rest (suc i, l, e) other = (i, omega arith, e)
 
-    by : (b : Bool) → bytes_eq x.0.now id ≡ b → HasIn (x ∷ xs) id
+    by_first_id : (b : Bool) → bytes_eq x.0.now id ≡ b → HasIn (x ∷ xs) id
         → (HasIn xs id → is_some (find (λ e. bytes_eq e.0.now id) xs) ≡ true)
         → is_some (find (λ e. bytes_eq e.0.now id) (x ∷ xs)) ≡ true
-    by true t h more = rw t refl
-    by false t h more = rw t (more (rest h t))
+    by_first_id true t h of_the_rest = rw t refl
+    by_first_id false t h of_the_rest = rw t (of_the_rest (in_rest h t))
 
 one_at : (f : Found) (id : Text) (x : MatchedArg) (how : Reading) (t : Text)
     → matched_of f id ≡ Some x → x.reading ≡ how
@@ -139,18 +132,18 @@ module _ (c : Command) (m : ArgMatches) (p : IsParsedFrom c m)
     pub accepted : Accepts ignore_case q text
 
   module _ (k : ℕ) (a : Arg) (id : Text) (q : ValueParser) (d : Defaulted c k a id q) where
-    at_id : (slice_index_or (args_of c) k a).id.now ≡ id
-    at_id = ap (λ (y : Arg). y.id.now) d.at ∙ d.id_is
+    id_at_index : (slice_index_or (args_of c) k a).id.now ≡ id
+    id_at_index = ap (λ (y : Arg). y.id.now) d.at ∙ d.id_is
 
-    same : (j : ℕ) (x : Arg) → j < length (args_of p.built)
+    same_rules : (j : ℕ) (x : Arg) → j < length (args_of p.built)
         → slice_index_or (args_of p.built) j x ≡ x → bytes_eq x.id.now id ≡ true → SameRules a x
-    same j x lt at e =
+    same_rules j x lt at e =
         subst (λ (y : Arg). SameRules y x) d.at (same_rules_by_id c m p k a d.inside
         (λ i y l h. d.unique i y l
-        (subst (λ (w : Text). bytes_eq (slice_index_or (args_of c) i y).id.now w ≡ true) at_id
+        (subst (λ (w : Text). bytes_eq (slice_index_or (args_of c) i y).id.now w ≡ true) id_at_index
         h))
         (λ auto. d.own (subst IsAuto d.at auto))
-        j x lt at (subst (λ (w : Text). bytes_eq x.id.now w ≡ true) (sym at_id) e))
+        j x lt at (subst (λ (w : Text). bytes_eq x.id.now w ≡ true) (sym id_at_index) e))
 
     parser_is : (x : Arg) → SameRules a x → parser_of x ≡ q
     parser_is x s = ap parser_of_value (s.parser q d.parser)
@@ -159,15 +152,15 @@ module _ (c : Command) (m : ArgMatches) (p : IsParsedFrom c m)
     one_at_least = rw d.range (omega arith)
 
     module _ (e : Entry) (eid : e.0.now ≡ id) (pass : EntryPasses p.built e) where
-      here : (x : Arg) → bytes_eq x.id.now e.0.now ≡ true → bytes_eq x.id.now id ≡ true
-      here x h = subst (λ (w : Text). bytes_eq x.id.now w ≡ true) eid h
+      has_same_id : (x : Arg) → bytes_eq x.id.now e.0.now ≡ true → bytes_eq x.id.now id ≡ true
+      has_same_id x h = subst (λ (w : Text). bytes_eq x.id.now w ≡ true) eid h
 
       no_group : e.1.is_group ≡ true → ⊥
-      no_group g = by (pass.3 g)
+      no_group g = by_group_kind (pass.3 g)
         where
-          by : (e.0.now ≡ []) ⊎ (0 < length (groups_of p.built)) → ⊥
-          by (inl empty) = d.named (sym eid ∙ empty)
-          by (inr lots) =
+          by_group_kind : (e.0.now ≡ []) ⊎ (0 < length (groups_of p.built)) → ⊥
+          by_group_kind (inl empty) = d.named (sym eid ∙ empty)
+          by_group_kind (inr lots) =
               let bad : 0 < 0 = rw no_groups at lots in
               absurd (omega arith)
 
@@ -180,12 +173,12 @@ module _ (c : Command) (m : ArgMatches) (p : IsParsedFrom c m)
         | inr (inl v) ↦ v
         | inr (inr (inl h)) ↦
             let any = h.1 in
-            let s = same any.0 any.1 any.2 any.3 (here any.1 any.4.0) in
+            let s = same_rules any.0 any.1 any.2 any.3 (has_same_id any.1 any.4.0) in
             let is_set : any.1.action ≡ Some Set = s.action Set d.action in
             let bad : Set ≡ Count = rw is_set at any.4.1 in
             cc
         | inr (inr (inr h)) ↦
-            let s = same h.0 h.1 h.2 h.3 (here h.1 h.4.0) in
+            let s = same_rules h.0 h.1 h.2 h.3 (has_same_id h.1 h.4.0) in
             elim h.4.1 [
               | inl none ↦
                   let one = s.least d.action one_at_least in
@@ -200,25 +193,26 @@ module _ (c : Command) (m : ArgMatches) (p : IsParsedFrom c m)
       reading : e.1.reading ≡ reading_of q
       reading = elim pass.4 [
         | inl g ↦ absurd (no_group g)
-        | inr h ↦ sym h.4.1 ∙ ap reading_of (parser_is h.1 (same h.0 h.1 h.2 h.3 (here h.1 h.4.0)))
+        | inr h ↦ sym h.4.1
+            ∙ ap reading_of (parser_is h.1 (same_rules h.0 h.1 h.2 h.3 (has_same_id h.1 h.4.0)))
       ]
 
       accepts : (t : Text) → PassesArg p.built e.0.now t → Accepts a.ignore_case q t
       accepts t h =
-          let s = same h.0 h.1 h.2 h.3 (here h.1 h.4.0) in
+          let s = same_rules h.0 h.1 h.2 h.3 (has_same_id h.1 h.4.0) in
           subst (λ (b : Bool). Accepts b q t) s.ignore_case
           (subst (λ (w : ValueParser). Accepts h.1.ignore_case w t) (parser_is h.1 s) h.4.1)
 
       reads : matched_of (found_of m) id ≡ Some e.1 → Reads id q a.ignore_case
       reads is =
-          let got =
+          let first_value_found =
           first_of_some (λ v. PassesArg p.built e.0.now v.now)
           (reading_of q) e.1.vals.items values nonempty in
           record {
-            text = got.0.now;
-            one = one_at (found_of m) id e.1 (reading_of q) _ is reading got.1;
-            first = first_at (found_of m) id e.1 _ is got.2;
-            accepted = accepts got.0.now got.3;
+            text = first_value_found.0.now;
+            one = one_at (found_of m) id e.1 (reading_of q) _ is reading first_value_found.1;
+            first = first_at (found_of m) id e.1 _ is first_value_found.2;
+            accepted = accepts first_value_found.0.now first_value_found.3;
           }
 
     pub default_reads : Reads id q a.ignore_case
@@ -226,18 +220,21 @@ module _ (c : Command) (m : ArgMatches) (p : IsParsedFrom c m)
         let wants : WantsDefault (slice_index_or (args_of c) k a) =
         subst WantsDefault (sym d.at) ((simple_parts a d.simple).ifs, d.default) in
         let has : HasId (found_of m) id =
-        subst (HasId (found_of m)) at_id (default_present c m p globals k a d.inside wants) in
-        go (find (λ e. bytes_eq e.0.now id) (found_of m).entries.items) refl
+        subst (HasId (found_of m)) id_at_index (default_present c m p globals k a d.inside wants) in
+        by_entry (find (λ e. bytes_eq e.0.now id) (found_of m).entries.items) refl
         (found (found_of m).entries.items id has)
       where
-        go : (o : Option Entry) → find (λ e. bytes_eq e.0.now id) (found_of m).entries.items ≡ o
+        by_entry : (o : Option Entry)
+            → find (λ e. bytes_eq e.0.now id) (found_of m).entries.items ≡ o
             → is_some o ≡ true → Reads id q a.ignore_case
-        go None e h = absurd (true≢false (sym h))
-        go (Some x) e h =
+        by_entry None e h = absurd (true≢false (sym h))
+        by_entry (Some x) e h =
             let is : matched_of (found_of m) id ≡ Some x.1 =
             ap (option_map (λ (y : Entry). y.1)) e in
-            let got =
+            let first_value_found =
             entry_by_id (EntryPasses p.built) (found_of m).entries.items id x.1
             (p.parsed (p.from.globals ∙ globals)).values is in
-            reads got.0 ((bytes_eq-Decides got.0.0.now id).0 got.2) got.3
-            (is ∙ ap (λ (y : MatchedArg). Some y) (sym got.1))
+            reads first_value_found.0
+            ((bytes_eq-Decides first_value_found.0.0.now id).0 first_value_found.2)
+                first_value_found.3
+            (is ∙ ap (λ (y : MatchedArg). Some y) (sym first_value_found.1))

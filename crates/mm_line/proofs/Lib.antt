@@ -1,7 +1,8 @@
--- `command` adds one rule after another by `one_more`, and `is_command` says that the result is the
--- command of the definitions (`LineLaw.antt`). `default_reads` says that an argument with a default
--- has an entry that its parser accepted (`EntryLaw.antt`). `finds` depends on it, and gives `Finds`
--- for `parsed`; `refuses` says why words were refused. `line` takes each field from its entry and
--- ends with `says`: the line is what clap states for the words, and the plan is lawful.
+-- `command` adds one rule after another by `rule_added`, and `is_command` says that the result is
+-- the command of the definitions (`LineLaw.antt`). `default_reads` says that an argument with a
+-- default has an entry that its parser accepted (`EntryLaw.antt`). `finds_matches` depends on it,
+-- and gives `Finds` for `find_matches`; `refusal_is` says why words were refused. `line` takes each
+-- field from its entry and ends with `line_is_read`: the line is what clap states for the words,
+-- and the plan is lawful.
 mod EntryLaw
 mod LineLaw

@@ -55,9 +55,9 @@ use Rattle.mm_line.specs.declared.command_line.LineRefused.{LineRefused}
 use Rattle.mm_line.specs.declared.command_line.LineRefused.TheVariants.{Help, Bad, Memory}
 
 -- a command with one rule more
-one_more : (old new : Command) (a : Arg) (app : App) (r : Rule) → AddsArg old a new
+rule_added : (old new : Command) (a : Arg) (app : App) (r : Rule) → AddsArg old a new
     → app_of old ≡ app → rule_of a ≡ r → r.is_simple ≡ true → app_of new ≡ with_rule app r
-one_more old new a app r added is rule simple =
+rule_added old new a app r added is rule simple =
     added.shape (simple_parts a (ap (λ (x : Rule). x.is_simple) rule ∙ simple)).global
     ∙ ap (λ (x : App). with_rule x (rule_of a)) is ∙ ap (with_rule app) rule
 
@@ -66,18 +66,18 @@ with_rules app [] = app
 with_rules app (r ∷ rules) = with_rules (with_rule app r) rules
 
 -- a command with a rule more for each argument
-pub all_more : (args : List Arg) (rules : List Rule) (old new : Command) (app : App)
+pub rules_added : (args : List Arg) (rules : List Rule) (old new : Command) (app : App)
     → AddsInTurn AddsArg old args new → app_of old ≡ app → map rule_of args ≡ rules
     → list_all (λ (r : Rule). r.is_simple) rules ≡ true → app_of new ≡ with_rules app rules
-all_more [] [] old new app added is same simple = ap app_of (sym added) ∙ is
-all_more [] (r ∷ rules) old new app added is same simple = cc
-all_more (a ∷ args) [] old new app added is same simple = cc
-all_more (a ∷ args) (r ∷ rules) old new app added is same simple =
+rules_added [] [] old new app added is same simple = ap app_of (sym added) ∙ is
+rules_added [] (r ∷ rules) old new app added is same simple = cc
+rules_added (a ∷ args) [] old new app added is same simple = cc
+rules_added (a ∷ args) (r ∷ rules) old new app added is same simple =
     let parts = and_parts r.is_simple (list_all (λ (r : Rule). r.is_simple) rules) simple in
     let rule : rule_of a ≡ r = cc in
     let others : map rule_of args ≡ rules = cc in
-    all_more args rules added.0 new (with_rule app r) added.2
-    (one_more old added.0 a app r added.1 is rule parts.0) others parts.1
+    rules_added args rules added.0 new (with_rule app r) added.2
+    (rule_added old added.0 a app r added.1 is rule parts.0) others parts.1
 
 pub is_command : (c : Command) (report form : Rule) → IsReportRule report → IsFormRule form
     → app_of c ≡ command_of report form → IsCommand (app_of c)
@@ -101,33 +101,33 @@ not_memory : (kind : ErrorKind) → IsAsking kind → kind ≡ OutOfMemory → �
 not_memory kind (inl h) m = let e : DisplayHelp ≡ OutOfMemory = sym h ∙ m in cc
 not_memory kind (inr h) m = let e : DisplayVersion ≡ OutOfMemory = sym h ∙ m in cc
 
-pub refuses : (app : App) (words : List Text) (e : Error) (r : LineRefused) → IsCommand app
+pub refusal_is : (app : App) (words : List Text) (e : Error) (r : LineRefused) → IsCommand app
     → (takes app words ≡ true → kind_of e ≡ OutOfMemory)
     → HasKind (fault_of app words) e → IsFor (kind_of e) r → IsLineRefusal words r
-refuses app words e Memory is passes kind for = tt
-refuses app words e (Help text) is passes kind for =
-    (app, is, untaken (takes app words) refl, kind_of e, among kind, for)
+refusal_is app words e Memory is passes kind is_for = tt
+refusal_is app words e (Help text) is passes kind is_for =
+    (app, is, not_taken (takes app words) refl, kind_of e, among_faults kind, is_for)
   where
-    untaken : (b : Bool) → takes app words ≡ b → b ≡ false
-    untaken true t = absurd (not_memory (kind_of e) for (passes t))
-    untaken false t = refl
+    not_taken : (b : Bool) → takes app words ≡ b → b ≡ false
+    not_taken true t = absurd (not_memory (kind_of e) is_for (passes t))
+    not_taken false t = refl
 
-    among : HasKind (fault_of app words) e → IsAmong (kind_of e) (fault_of app words)
-    among (inl m) = absurd (not_memory (kind_of e) for m)
-    among (inr k) = k
-refuses app words e (Bad text) is passes kind for =
-    (app, is, untaken (takes app words) refl, kind_of e, among kind, for.0)
+    among_faults : HasKind (fault_of app words) e → IsAmong (kind_of e) (fault_of app words)
+    among_faults (inl m) = absurd (not_memory (kind_of e) is_for m)
+    among_faults (inr k) = k
+refusal_is app words e (Bad text) is passes kind is_for =
+    (app, is, not_taken (takes app words) refl, kind_of e, among_faults kind, is_for.0)
   where
-    untaken : (b : Bool) → takes app words ≡ b → b ≡ false
-    untaken true t = absurd (for.1 (passes t))
-    untaken false t = refl
+    not_taken : (b : Bool) → takes app words ≡ b → b ≡ false
+    not_taken true t = absurd (is_for.1 (passes t))
+    not_taken false t = refl
 
-    among : HasKind (fault_of app words) e → IsAmong (kind_of e) (fault_of app words)
-    among (inl m) = absurd (for.1 m)
-    among (inr k) = k
+    among_faults : HasKind (fault_of app words) e → IsAmong (kind_of e) (fault_of app words)
+    among_faults (inl m) = absurd (is_for.1 m)
+    among_faults (inr k) = k
 
-differ : (a b : Text) → bytes_eq a b ≡ false → a ≡ b → ⊥
-differ a b h e = true≢false (sym ((bytes_eq-Decides a b).1 e) ∙ h)
+differ_by_test : (a b : Text) → bytes_eq a b ≡ false → a ≡ b → ⊥
+differ_by_test a b h e = true≢false (sym ((bytes_eq-Decides a b).1 e) ∙ h)
 
 -- ---- the entries of words that the command takes
 
@@ -154,95 +154,106 @@ first_and_third true true false d h = absurd (true≢false (sym h))
 
 one_of_words : (t : Text) → list_any (λ (w : Text). bytes_eq w t) report_words ≡ true
     → (choice : Choice) × (t ≡ report_word choice)
-one_of_words t h = by (or_cases (bytes_eq (codes "all") t) _ h)
+one_of_words t h = by_all (or_cases (bytes_eq (codes "all") t) _ h)
   where
-    same : (w : Text) → bytes_eq w t ≡ true → t ≡ w
-    same w e = sym ((bytes_eq-Decides w t).0 e)
+    equal_word : (w : Text) → bytes_eq w t ≡ true → t ≡ w
+    equal_word w e = sym ((bytes_eq-Decides w t).0 e)
 
-    last : (bytes_eq (codes "citations") t ≡ true) ⊎ (false ≡ true)
+    by_citations : (bytes_eq (codes "citations") t ≡ true) ⊎ (false ≡ true)
         → (choice : Choice) × (t ≡ report_word choice)
-    last (inl e) = (Citations, same _ e)
-    last (inr e) = absurd (true≢false (sym e))
+    by_citations (inl e) = (Citations, equal_word _ e)
+    by_citations (inr e) = absurd (true≢false (sym e))
 
-    fourth : (bytes_eq (codes "usage") t ≡ true)
+    by_usage : (bytes_eq (codes "usage") t ≡ true)
         ⊎ ((bytes_eq (codes "citations") t || false) ≡ true)
         → (choice : Choice) × (t ≡ report_word choice)
-    fourth (inl e) = (Usage, same _ e)
-    fourth (inr e) = last (or_cases (bytes_eq (codes "citations") t) false e)
+    by_usage (inl e) = (Usage, equal_word _ e)
+    by_usage (inr e) = by_citations (or_cases (bytes_eq (codes "citations") t) false e)
 
-    third : (bytes_eq (codes "counts") t ≡ true)
+    by_counts : (bytes_eq (codes "counts") t ≡ true)
         ⊎ ((bytes_eq (codes "usage") t || (bytes_eq (codes "citations") t || false)) ≡ true)
         → (choice : Choice) × (t ≡ report_word choice)
-    third (inl e) = (Counts, same _ e)
-    third (inr e) = fourth (or_cases (bytes_eq (codes "usage") t) _ e)
+    by_counts (inl e) = (Counts, equal_word _ e)
+    by_counts (inr e) = by_usage (or_cases (bytes_eq (codes "usage") t) _ e)
 
-    second : (bytes_eq (codes "matrix") t ≡ true)
+    by_matrix : (bytes_eq (codes "matrix") t ≡ true)
         ⊎ ((bytes_eq (codes "counts") t
         || (bytes_eq (codes "usage") t || (bytes_eq (codes "citations") t || false)))
         ≡ true)
         → (choice : Choice) × (t ≡ report_word choice)
-    second (inl e) = (Matrix, same _ e)
-    second (inr e) = third (or_cases (bytes_eq (codes "counts") t) _ e)
+    by_matrix (inl e) = (Matrix, equal_word _ e)
+    by_matrix (inr e) = by_counts (or_cases (bytes_eq (codes "counts") t) _ e)
 
-    by : (bytes_eq (codes "all") t ≡ true)
+    by_all : (bytes_eq (codes "all") t ≡ true)
         ⊎ ((bytes_eq (codes "matrix") t
         || (bytes_eq (codes "counts") t
         || (bytes_eq (codes "usage") t || (bytes_eq (codes "citations") t || false))))
         ≡ true)
         → (choice : Choice) × (t ≡ report_word choice)
-    by (inl e) = (All, same _ e)
-    by (inr e) = second (or_cases (bytes_eq (codes "matrix") t) _ e)
+    by_all (inl e) = (All, equal_word _ e)
+    by_all (inr e) = by_matrix (or_cases (bytes_eq (codes "matrix") t) _ e)
 
 one_of_forms : (t : Text) → list_any (λ (w : Text). bytes_eq w t) form_words ≡ true
     → (form : Form) × (t ≡ form_word form)
-one_of_forms t h = by (or_cases (bytes_eq (codes "1") t) _ h)
+one_of_forms t h = by_first_form (or_cases (bytes_eq (codes "1") t) _ h)
   where
-    last : (bytes_eq (codes "2") t ≡ true) ⊎ (false ≡ true) → (form : Form) × (t ≡ form_word form)
-    last (inl e) = (Two, sym ((bytes_eq-Decides (codes "2") t).0 e))
-    last (inr e) = absurd (true≢false (sym e))
-
-    by : (bytes_eq (codes "1") t ≡ true) ⊎ ((bytes_eq (codes "2") t || false) ≡ true)
+    by_second_form : (bytes_eq (codes "2") t ≡ true) ⊎ (false ≡ true)
         → (form : Form) × (t ≡ form_word form)
-    by (inl e) = (One, sym ((bytes_eq-Decides (codes "1") t).0 e))
-    by (inr e) = last (or_cases (bytes_eq (codes "2") t) false e)
+    by_second_form (inl e) = (Two, sym ((bytes_eq-Decides (codes "2") t).0 e))
+    by_second_form (inr e) = absurd (true≢false (sym e))
 
--- the places of the rules with an id, numbered from a number on
-abbrev hits : Text → ℕ → List Rule → List ℕ
-hits id n [] = []
-hits id n (r ∷ rs) =
-    elim (bytes_eq r.id id) [ true ↦ n ∷ hits id (suc n) rs | false ↦ hits id (suc n) rs ]
+    by_first_form : (bytes_eq (codes "1") t ≡ true) ⊎ ((bytes_eq (codes "2") t || false) ≡ true)
+        → (form : Form) × (t ≡ form_word form)
+    by_first_form (inl e) = (One, sym ((bytes_eq-Decides (codes "1") t).0 e))
+    by_first_form (inr e) = by_second_form (or_cases (bytes_eq (codes "2") t) false e)
 
-hit : (id : Text) (rs : List Rule) (d : Rule) (n j : ℕ) → j < length rs
-    → bytes_eq (slice_index_or rs j d).id id ≡ true → is_member (hits id n rs) (n + j) ≡ true
-hit id [] d n j lt h = absurd (omega arith)
-hit id (r ∷ rs) d n zero lt h =
-    subst (λ b. is_member (elim b [ true ↦ n ∷ hits id (suc n) rs | false ↦ hits id (suc n) rs ])
+-- the indices of the rules with this id, if the first rule has the index n
+abbrev indices_of : Text → ℕ → List Rule → List ℕ
+indices_of id n [] = []
+indices_of id n (r ∷ rs) =
+    elim (bytes_eq r.id id) [
+      | true ↦ n
+          ∷ indices_of id (suc n) rs
+      | false ↦ indices_of id (suc n) rs
+    ]
+
+index_is_listed : (id : Text) (rs : List Rule) (d : Rule) (n j : ℕ) → j < length rs
+    → bytes_eq (slice_index_or rs j d).id id ≡ true
+    → is_member (indices_of id n rs) (n + j) ≡ true
+index_is_listed id [] d n j lt h = absurd (omega arith)
+index_is_listed id (r ∷ rs) d n zero lt h =
+    subst (λ b. is_member
+    (elim b [ true ↦ n ∷ indices_of id (suc n) rs | false ↦ indices_of id (suc n) rs ])
     (n + 0)
     ≡ true) (sym h) (or_left (n + 0 == n) _ (eq-eqb (n + 0) n (omega arith)))
-hit id (r ∷ rs) d n (suc j) lt h =
-    by (bytes_eq r.id id)
+index_is_listed id (r ∷ rs) d n (suc j) lt h =
+    by_head (bytes_eq r.id id)
     (let e : suc n + j ≡ n + suc j = omega arith in
-    subst (λ k. is_member (hits id (suc n) rs) k ≡ true) e (hit id rs d (suc n) j (omega arith) h))
+    subst (λ k. is_member (indices_of id (suc n) rs) k ≡ true) e
+    (index_is_listed id rs d (suc n) j (omega arith) h))
   where
-    by : (b : Bool) → is_member (hits id (suc n) rs) (n + suc j) ≡ true
-        → is_member (elim b [ true ↦ n ∷ hits id (suc n) rs | false ↦ hits id (suc n) rs ])
+    by_head : (b : Bool) → is_member (indices_of id (suc n) rs) (n + suc j) ≡ true
+        → is_member
+        (elim b [ true ↦ n ∷ indices_of id (suc n) rs | false ↦ indices_of id (suc n) rs ])
         (n + suc j)
         ≡ true
-    by true m = or_right (n + suc j == n) _ m
-    by false m = m
+    by_head true m = or_right (n + suc j == n) _ m
+    by_head false m = m
 
--- where one rule has the id, each with the id is that one
-one_place : (rs : List Rule) (d : Rule) (id : Text) (k : ℕ) → hits id 0 rs ≡ k ∷ [] → (j : ℕ)
+-- if only rule k has the id, each rule with the id is rule k
+only_index : (rs : List Rule) (d : Rule) (id : Text) (k : ℕ) → indices_of id 0 rs ≡ k ∷ []
+    → (j : ℕ)
     → j < length rs → bytes_eq (slice_index_or rs j d).id id ≡ true → j ≡ k
-one_place rs d id k one j lt h =
-    by (or_cases (j == k) false
+only_index rs d id k one j lt h =
+    at_only_index (or_cases (j == k) false
     (subst (λ (l : List ℕ). is_member l j ≡ true) one
     (let e : 0 + j ≡ j = omega arith in
-    subst (λ i. is_member (hits id 0 rs) i ≡ true) e (hit id rs d 0 j lt h))))
+    subst (λ i. is_member (indices_of id 0 rs) i ≡ true) e
+    (index_is_listed id rs d 0 j lt h))))
   where
-    by : ((j == k) ≡ true) ⊎ (false ≡ true) → j ≡ k
-    by (inl e) = eqb-true j k e
-    by (inr e) = absurd (true≢false (sym e))
+    at_only_index : ((j == k) ≡ true) ⊎ (false ≡ true) → j ≡ k
+    at_only_index (inl e) = eqb-true j k e
+    at_only_index (inr e) = absurd (true≢false (sym e))
 
 module _ (names forms : Bor (List (Bor Text))) where
   abbrev pub the_rules : List Rule
@@ -335,8 +346,8 @@ module _ (names forms : Bor (List (Bor Text))) where
           let d =
           defaulted 0 (codes "workers") (codes "4") (Signed (pos 1) (pos 64)) (omega arith)
           (λ _. refl) refl refl refl refl refl
-          (one_place the_rules file_rule (codes "workers") 0 refl) (differ _ _ refl)
-          (λ e. elim e [ inl h ↦ differ _ _ refl h | inr h ↦ differ _ _ refl h ]) in
+          (only_index the_rules file_rule (codes "workers") 0 refl) (differ_by_test _ _ refl)
+          (λ e. elim e [ inl h ↦ differ_by_test _ _ refl h | inr h ↦ differ_by_test _ _ refl h ]) in
           let r =
           default_reads c m p globals built_has_none 0 d.0 (codes "workers")
           (Signed (pos 1) (pos 64)) d.1 in
@@ -347,8 +358,8 @@ module _ (names forms : Bor (List (Bor Text))) where
           let d =
           defaulted 1 (codes "pieces") (codes "4") (Signed (pos 1) (pos 64)) (omega arith)
           (λ _. refl) refl refl refl refl refl
-          (one_place the_rules file_rule (codes "pieces") 1 refl) (differ _ _ refl)
-          (λ e. elim e [ inl h ↦ differ _ _ refl h | inr h ↦ differ _ _ refl h ]) in
+          (only_index the_rules file_rule (codes "pieces") 1 refl) (differ_by_test _ _ refl)
+          (λ e. elim e [ inl h ↦ differ_by_test _ _ refl h | inr h ↦ differ_by_test _ _ refl h ]) in
           let r =
           default_reads c m p globals built_has_none 1 d.0 (codes "pieces")
           (Signed (pos 1) (pos 64)) d.1 in
@@ -359,8 +370,8 @@ module _ (names forms : Bor (List (Bor Text))) where
           let d =
           defaulted 3 (codes "report") (codes "all") (Names names) (omega arith)
           (λ _. refl) refl refl refl refl refl
-          (one_place the_rules file_rule (codes "report") 3 refl) (differ _ _ refl)
-          (λ e. elim e [ inl h ↦ differ _ _ refl h | inr h ↦ differ _ _ refl h ]) in
+          (only_index the_rules file_rule (codes "report") 3 refl) (differ_by_test _ _ refl)
+          (λ e. elim e [ inl h ↦ differ_by_test _ _ refl h | inr h ↦ differ_by_test _ _ refl h ]) in
           let r =
           default_reads c m p globals built_has_none 3 d.0 (codes "report") (Names names) d.1 in
           let taken : list_any (λ n. bytes_eq n.now r.text) names.now ≡ true =
@@ -376,9 +387,10 @@ module _ (names forms : Bor (List (Bor Text))) where
       form_read words =
           let d =
           defaulted 4 (codes "form") (codes "1") (Names forms) (omega arith)
-          (λ _. refl) refl refl refl refl refl (one_place the_rules file_rule (codes "form") 4 refl)
-          (differ _ _ refl)
-          (λ e. elim e [ inl h ↦ differ _ _ refl h | inr h ↦ differ _ _ refl h ]) in
+          (λ _. refl) refl refl refl refl refl
+          (only_index the_rules file_rule (codes "form") 4 refl)
+          (differ_by_test _ _ refl)
+          (λ e. elim e [ inl h ↦ differ_by_test _ _ refl h | inr h ↦ differ_by_test _ _ refl h ]) in
           let r =
           default_reads c m p globals built_has_none 4 d.0 (codes "form") (Names forms) d.1 in
           let taken : list_any (λ n. bytes_eq n.now r.text) forms.now ≡ true =
@@ -390,10 +402,10 @@ module _ (names forms : Bor (List (Bor Text))) where
           ∙ taken)) in
           (word.0, r.first ∙ ap Some word.1)
 
-pub finds : (c : Command) (m : ArgMatches) (words : List Text) → IsCommand (app_of c)
+pub finds_matches : (c : Command) (m : ArgMatches) (words : List Text) → IsCommand (app_of c)
     → IsParsedFrom c m → fault_of (app_of c) words ≡ [] → HasMatchesOf (app_of c) words m
     → Finds words m
-finds c m words is p fault matches =
+finds_matches c m words is p fault matches =
     let names = is.is_report.0 in
     let forms = is.is_form.0 in
     let same : app_of c ≡ command_of (report_rule names) (form_rule forms) =
@@ -424,7 +436,7 @@ module _ (f : Found) (rows : List Row) (is : rows_of f ≡ rows) where
 abbrev digits : Text → ℕ
 digits t = digits_value 10 (without_leading_plus t)
 
-pub says : (words : List Text) (m : ArgMatches) → Finds words m → (line : Line) (n : ℕ)
+pub line_is_read : (words : List Text) (m : ArgMatches) → Finds words m → (line : Line) (n : ℕ)
     → line.plan.cuts ≡ Count n
     → option_map digits (one_text (found_of m) (codes "pieces")) ≡ Some n → 1 ≤ n → n ≤ 64
     → option_map digits (one_text (found_of m) (codes "workers")) ≡ Some line.plan.workers
@@ -436,8 +448,8 @@ pub says : (words : List Text) (m : ArgMatches) → Finds words m → (line : Li
     → IsFlag (one_text (found_of m) (codes "open")) line.plan.with_open
     → option_map string_bytes line.file ≡ first_value (found_of m) (codes "FILE")
     → AreReadAs words line
-says words m f line n cuts pieces least most workers few many only choice form essential with_open
-    file =
+line_is_read words m f line n cuts pieces least most workers least_workers most_workers only choice
+    form essential with_open file =
     let rows = matches_of f.app words in
     let first = first_is (found_of m) rows f.rows in
     let one = one_is (found_of m) rows f.rows in (
@@ -455,6 +467,6 @@ says words m f line n cuts pieces least most workers few many only choice form e
         with_open =
             subst (λ entry. IsFlag entry line.plan.with_open) (one (codes "open")) with_open;
         file = sym (first (codes "FILE")) ∙ sym file;
-        lawful = (subst IsLawfulCutting (sym cuts) (least, most), few, many);
+        lawful = (subst IsLawfulCutting (sym cuts) (least, most), least_workers, most_workers);
       },
     )

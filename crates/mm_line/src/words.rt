@@ -24,14 +24,14 @@ static REPORTS: [&str; 5] = ["all", "matrix", "counts", "usage", "citations"];
 static FORMS: [&str; 2] = ["1", "2"];
 
 /// The last lines of the help.
-const AFTER: &str = "\
+const HELP_FOOTER: &str = "\
 The standard output gets the report, or one line with the first fault and its place.
 Status: 0 accepted, 1 refused, 2 invalid command line, 3 reading or writing failed,
 4 out of memory. For 2 to 4 the standard error says why.
 The codes of faults (E00 to E45) are explained in docs/FAULTS.md.";
 
 /// An option with a whole number from 1 to 64, 4 by default.
-fn number<'a>(alloc: Global, name: &'a str, help: &'a str) -> Arg<'a>
+fn number_option<'a>(alloc: Global, name: &'a str, help: &'a str) -> Arg<'a>
     ensures { rule_of result ≡ number_rule name.entry.now }
 {
     Arg::new(alloc, name)
@@ -44,7 +44,7 @@ fn number<'a>(alloc: Global, name: &'a str, help: &'a str) -> Arg<'a>
 }
 
 /// The option that chooses the columns.
-fn only<'a>(alloc: Global) -> Arg<'a>
+fn only_option<'a>(alloc: Global) -> Arg<'a>
     ensures { rule_of result ≡ only_rule }
 {
     Arg::new(alloc, "only")
@@ -55,7 +55,7 @@ fn only<'a>(alloc: Global) -> Arg<'a>
 }
 
 /// The option that chooses the sections.
-fn report<'a>(alloc: Global) -> Arg<'a>
+fn report_option<'a>(alloc: Global) -> Arg<'a>
     ensures { IsReportRule (rule_of result) }
 {
     Arg::new(alloc, "report")
@@ -68,7 +68,7 @@ fn report<'a>(alloc: Global) -> Arg<'a>
 }
 
 /// The option that chooses the form of the matrix.
-fn form<'a>(alloc: Global) -> Arg<'a>
+fn form_option<'a>(alloc: Global) -> Arg<'a>
     ensures { IsFormRule (rule_of result) }
 {
     Arg::new(alloc, "form")
@@ -81,7 +81,7 @@ fn form<'a>(alloc: Global) -> Arg<'a>
 }
 
 /// The flag that counts as citations only what the logical part of a proof applies.
-fn essential<'a>(alloc: Global) -> Arg<'a>
+fn essential_flag<'a>(alloc: Global) -> Arg<'a>
     ensures { rule_of result ≡ flag_rule (codes "essential") }
 {
     Arg::new(alloc, "essential")
@@ -91,7 +91,7 @@ fn essential<'a>(alloc: Global) -> Arg<'a>
 }
 
 /// The flag that counts a theorem whose proof is `?` as an axiom.
-fn open_theorems<'a>(alloc: Global) -> Arg<'a>
+fn open_flag<'a>(alloc: Global) -> Arg<'a>
     ensures { rule_of result ≡ flag_rule (codes "open") }
 {
     Arg::new(alloc, "open")
@@ -101,7 +101,7 @@ fn open_theorems<'a>(alloc: Global) -> Arg<'a>
 }
 
 /// The argument that names the database.
-fn file<'a>(alloc: Global) -> Arg<'a>
+fn file_argument<'a>(alloc: Global) -> Arg<'a>
     ensures { rule_of result ≡ file_rule }
 {
     Arg::new(alloc, "FILE").action(ArgAction::Set).help(
@@ -114,24 +114,24 @@ fn command<'a>(alloc: Global) -> Result<Command<'a>, AllocError>
     ensures { IfOk result (λ c. IsCommand (app_of c)) }
 {
     let arguments = vec![in alloc;
-        number(alloc, "workers", "Check the proofs by N threads, 1 to 64"),
-        number(alloc, "pieces", "Read the text in N pieces, 1 to 64"),
-        only(alloc),
-        report(alloc),
-        form(alloc),
-        essential(alloc),
-        open_theorems(alloc),
-        file(alloc),
+        number_option(alloc, "workers", "Check the proofs by N threads, 1 to 64"),
+        number_option(alloc, "pieces", "Read the text in N pieces, 1 to 64"),
+        only_option(alloc),
+        report_option(alloc),
+        form_option(alloc),
+        essential_flag(alloc),
+        open_flag(alloc),
+        file_argument(alloc),
     ]?;
     Command::new(alloc, "mmdepend")
         .about("Verifies a Metamath database and reports on which axioms each theorem rests")
-        .after_help(AFTER)
+        .after_help(HELP_FOOTER)
         .version(VERSION)
         .args(arguments)
 }
 
 /// Turns an error of clap into a refusal.
-fn refused(alloc: Global, error: &Error) -> Result<LineRefused, AllocError>
+fn refusal_of(alloc: Global, error: &Error) -> Result<LineRefused, AllocError>
     ensures { IfOk result (IsFor (kind_of error.now)) }
 {
     let text = error.to_string(alloc)?;
@@ -143,13 +143,13 @@ fn refused(alloc: Global, error: &Error) -> Result<LineRefused, AllocError>
 }
 
 /// What clap finds in the words.
-fn parsed<'a, S: AsStr>(alloc: Global, words: &'a [S]) -> Result<ArgMatches<'a>, LineRefused>
+fn find_matches<'a, S: AsStr>(alloc: Global, words: &'a [S]) -> Result<ArgMatches<'a>, LineRefused>
     ensures finds { IfOk result (λ m. Finds (map S.text words.entry.now) m) }
     ensures refuses { IfErr result (λ e. IsLineRefusal (map S.text words.entry.now) e) }
 {
     match command(alloc)?.try_get_matches_from(words) {
         Ok(matches) => Ok(matches),
-        Err(error) => Err(refused(alloc, &error)?),
+        Err(error) => Err(refusal_of(alloc, &error)?),
     }
 }
 
@@ -215,7 +215,7 @@ pub fn line<S: AsStr>(alloc: Global, words: &[S]) -> Result<Line, LineRefused>
     ensures says { IfOk result (λ l. AreReadAs (map S.text words.now) l) }
     ensures refuses { IfErr result (λ e. IsLineRefusal (map S.text words.now) e) }
 {
-    let matches = parsed(alloc, words)?;
+    let matches = find_matches(alloc, words)?;
     let plan = Plan {
         cuts: Cutting::Count(number_in(&matches, "pieces")),
         workers: number_in(&matches, "workers"),

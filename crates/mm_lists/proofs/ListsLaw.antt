@@ -60,27 +60,27 @@ module _ {X : Type 0} where
   cut_one from (e ∷ ends) all zero l = refl
   cut_one from (e ∷ ends) all (suc i) l = cut_one e ends all i (omega arith)
 
-  split : (all : List X) (a b c : ℕ) → a ≤ b → b ≤ c
+  range_split : (all : List X) (a b c : ℕ) → a ≤ b → b ≤ c
       → slice_range all a c ≡ slice_range all a b ++ slice_range all b c
-  split all a b c l m =
+  range_split all a b c l m =
       let n : c - a ≡ (b - a) + (c - b) = omega arith in
       let k : a + (b - a) ≡ b = omega arith in
       ap (λ n. take n (drop a all)) n ∙ take-add (b - a) (c - b) (drop a all)
       ∙ ap (λ l. slice_range all a b ++ take (c - b) l)
       (drop-drop (b - a) a all ∙ ap (λ n. drop n all) k)
 
-  none : (xs : List X) (a b : ℕ) → b ≤ a → slice_range xs a b ≡ []
-  none xs a b l = let n : b - a ≡ 0 = omega arith in ap (λ n. take n (drop a xs)) n
+  empty_range : (xs : List X) (a b : ℕ) → b ≤ a → slice_range xs a b ≡ []
+  empty_range xs a b l = let n : b - a ≡ 0 = omega arith in ap (λ n. take n (drop a xs)) n
 
   cut_between : (from : ℕ) (ends : List ℕ) (all : List X) (i j : ℕ)
       → AreEnds from ends (length all) → i ≤ j → j ≤ length ends
       → slice_range all (get_or (from ∷ ends) i 0) (get_or (from ∷ ends) j 0)
       ≡ joined (slice_range (cut_at from ends all) i j)
-  cut_between from ends all zero zero h o l = none all from from (omega arith)
+  cut_between from ends all zero zero h o l = empty_range all from from (omega arith)
   cut_between from [] all i (suc j) h o l = absurd (omega arith)
   cut_between from (e ∷ ends) all zero (suc j) h o l =
       let n : suc j - 0 ≡ suc (j - 0) = omega arith in
-      split all from e (get_or (e ∷ ends) j 0) h.0
+      range_split all from e (get_or (e ∷ ends) j 0) h.0
       (starts_rise e ends (length all) 0 j h.1 (omega arith) (omega arith))
       ∙ ap (λ l. slice_range all from e ++ l)
       (cut_between e ends all 0 j h.1 (omega arith) (omega arith))
@@ -97,13 +97,13 @@ module _ {X : Type 0} where
   index_within (from ∷ ends) all lists e i l =
       let c = ap length e in let k = length_cut from ends all in omega (arith, c, k, l)
 
-  pub one_part : (places : List ℕ) (all : List X) (lists : List (List X))
+  pub part_of_one : (places : List ℕ) (all : List X) (lists : List (List X))
       → ArePlaces places (length all) → cut places all ≡ lists → (i from to : ℕ)
       → i < length lists → from ≡ get_or places i from → to ≡ get_or places (i + 1) to
       → IsPart all from to (get_or lists i [])
-  one_part [] all lists h e i from to there is_from is_to =
+  part_of_one [] all lists h e i from to there is_from is_to =
       let c = ap length e in absurd (omega (arith, c, there))
-  one_part (first ∷ ends) all lists h e i from to there is_from is_to =
+  part_of_one (first ∷ ends) all lists h e i from to there is_from is_to =
       let l = index_within (first ∷ ends) all lists e i there in
       let p : from ≡ get_or (first ∷ ends) i 0 =
       is_from ∙ get_or_default_zero (first ∷ ends) i from (omega (arith, l)) in
@@ -130,13 +130,13 @@ module _ {X : Type 0} where
   place_within places all lists e i (suc j) o l =
       let k = index_within places all lists e j (omega (arith, l)) in omega (arith, k)
 
-  pub parts_between : (places : List ℕ) (all : List X) (lists : List (List X))
+  pub part_between : (places : List ℕ) (all : List X) (lists : List (List X))
       → ArePlaces places (length all) → cut places all ≡ lists → (i j from to : ℕ) → i < j
       → j ≤ length lists → from ≡ get_or places i from → to ≡ get_or places j to
       → IsPart all from to (joined (slice_range lists i j))
-  parts_between [] all lists h e i j from to order within is_from is_to =
+  part_between [] all lists h e i j from to order within is_from is_to =
       let c = ap length e in absurd (omega (arith, c, order, within))
-  parts_between (first ∷ ends) all lists h e i j from to order within is_from is_to =
+  part_between (first ∷ ends) all lists h e i j from to order within is_from is_to =
       let l = place_within (first ∷ ends) all lists e i j order within in
       let p : from ≡ get_or (first ∷ ends) i 0 =
       is_from ∙ get_or_default_zero (first ∷ ends) i from (omega (arith, l, order)) in
@@ -169,9 +169,10 @@ module _ {X : Type 0} where
       let e : b - 0 ≡ b = omega arith in
       ap (λ n. take n (xs ++ ys)) e ∙ take-append-le b xs ys m ∙ sym (ap (λ n. take n xs) e)
   range_left [] ys (suc a) b m =
-      none ([] ++ ys) (suc a) b (omega arith) ∙ sym (none [] (suc a) b (omega arith))
+      empty_range ([] ++ ys) (suc a) b (omega arith) ∙ sym (empty_range [] (suc a) b (omega arith))
   range_left (x ∷ xs) ys (suc a) zero m =
-      none ((x ∷ xs) ++ ys) (suc a) 0 (omega arith) ∙ sym (none (x ∷ xs) (suc a) 0 (omega arith))
+      empty_range ((x ∷ xs) ++ ys) (suc a) 0 (omega arith)
+      ∙ sym (empty_range (x ∷ xs) (suc a) 0 (omega arith))
   range_left (x ∷ xs) ys (suc a) (suc b) m =
       let e : suc b - suc a ≡ b - a = omega arith in
       ap (λ n. take n (drop a (xs ++ ys))) e ∙ range_left xs ys a b (omega arith)
@@ -201,16 +202,16 @@ module _ {X : Type 0} where
       → AreJoined lists all places
       → AreJoined (lists ++ list ∷ []) (all ++ list) (with_end places (length (all ++ list)))
   more_joined lists list all places h =
-      rw (length-append all list) (go places h.order h.are)
+      rw (length-append all list) (by_places places h.order h.are)
     where
-      go : (places : List ℕ) → ArePlaces places (length all) → cut places all ≡ lists
+      by_places : (places : List ℕ) → ArePlaces places (length all) → cut places all ≡ lists
           → AreJoined (lists ++ list ∷ []) (all ++ list)
           (with_end places (length all + length list))
-      go [] order are = record {
+      by_places [] order are = record {
         order = rw (length-append all list) (refl, ends_more 0 [] (length all) (length list) order);
         are = cut_more 0 [] all list order ∙ ap (λ ls. ls ++ list ∷ []) are;
       }
-      go (first ∷ ends) order are = record {
+      by_places (first ∷ ends) order are = record {
         order =
             rw (length-append all list)
             (order.0, ends_more first ends (length all) (length list) order.1);
@@ -228,19 +229,19 @@ module _ {X : Type 0} where
       → from + sum_by length (cut_at from ends all) ≡ length all
   all_counted from [] all h = omega (arith, h)
   all_counted from (e ∷ ends) all h =
-      let rest = all_counted e ends all h.1 in
+      let rest_counted = all_counted e ends all h.1 in
       let within = first_within e ends (length all) h.1 in
-      let long = length-drop from all in
-      let first : length (slice_range all from e) ≡ e - from =
-      length-take-le (e - from) (drop from all) (omega (arith, long, within)) in
-      let both = sum_by-cons length (slice_range all from e) (cut_at e ends all) in
+      let dropped_length = length-drop from all in
+      let first_length : length (slice_range all from e) ≡ e - from =
+      length-take-le (e - from) (drop from all) (omega (arith, dropped_length, within)) in
+      let lengths_add = sum_by-cons length (slice_range all from e) (cut_at e ends all) in
       let order = h.0 in
-      omega (arith, rest, first, both, order)
+      omega (arith, rest_counted, first_length, lengths_add, order)
 
-  pub count_is : (places : List ℕ) (all : List X) → ArePlaces places (length all)
+  pub item_count_is : (places : List ℕ) (all : List X) → ArePlaces places (length all)
       → length all ≡ sum_by length (cut places all)
-  count_is [] all h = sym h
-  count_is (first ∷ ends) all h =
+  item_count_is [] all h = sym h
+  item_count_is (first ∷ ends) all h =
       let c = all_counted first ends all h.1 in let b = h.0 in omega (arith, c, b)
 
 -- what has been joined of all elements

@@ -8,8 +8,9 @@ use std::alloc::{AllocError, Allocator};
 use std::marker::Model;
 
 /// A growing row of lists. They are concatenated into one, so a short list costs no allocation of
-/// its own. `places` is a 0 and then where each list ends: so the place at a list's index is where
-/// it begins, and the next one where it ends. The first list brings the 0. A place has 32 bits.
+/// its own. `places` is a 0 and then the index in `items` at which each list ends: so the place at
+/// a list's index is where it begins, and the next place is where it ends. As long as there are no
+/// lists, `places` may be empty: the 0 comes with the first of them. A place has 32 bits.
 pub struct Lists<T, A: Allocator> {
     items: Vec<T, A>,
     places: Vec<u32, A>,
@@ -36,8 +37,8 @@ impl<T, A: Allocator> Model for Lists<T, A> {
     ghost invariant = { λ l. ArePlaces l.places.items (length l.items.items) };
 }
 
-/// Notes that a list ends where these elements do, and if it is the first one, that it begins at 0.
-/// Fails only if out of memory, or of places, and then changes nothing.
+/// Appends to `places` that a list ends where these elements do, and if it is the first one, that
+/// it begins at 0. Fails only if out of memory, or of places, and then changes nothing.
 pub fn end_list<T, A: Allocator>(
     items: &Vec<T, A>,
     places: &mut Vec<u32, A>,
@@ -59,7 +60,7 @@ pub fn end_list<T, A: Allocator>(
 
 /// The elements from place `from` up to, but not including, place `to`.
 #[inline(always)]
-fn part<T, A: Allocator>(items: &Vec<T, A>, from: usize, to: usize) -> &[T]
+fn items_between<T, A: Allocator>(items: &Vec<T, A>, from: usize, to: usize) -> &[T]
     requires order { from ≤ to }
     requires within { to ≤ length items.now.items }
     ensures { result.now ≡ slice_range items.now.items from to }
@@ -80,18 +81,24 @@ impl<T, A: Allocator> Lists<T, A> {
         }
     }
 
-    /// No lists, with room for this many of them, which have this many elements together, so that
-    /// they needn't be moved as they grow. Memory that is never written isn't resident. If there
-    /// isn't that much, the lists have no such room.
-    pub fn with_room(alloc: A, lists: usize, items: usize) -> Self
+    /// No lists, with room for so many lists that have so many elements together, so that they
+    /// needn't be moved as they grow. Room that is never used takes no physical memory. If there
+    /// isn't memory for the room, the lists begin without it.
+    pub fn with_room(alloc: A, list_count: usize, item_count: usize) -> Self
     where
         A: Copy,
         ensures { result ≡ [] }
     {
-        let mut room = Lists::new(alloc);
-        let _ = room.items.reserve(items);
-        let _ = room.places.reserve(lists.saturating_add(1));
-        room
+        let mut lists = Lists::new(alloc);
+        match lists.items.reserve(item_count) {
+            Ok(()) => {}
+            Err(_) => {}
+        }
+        match lists.places.reserve(list_count.saturating_add(1)) {
+            Ok(()) => {}
+            Err(_) => {}
+        }
+        lists
     }
 
     /// The lists whose ends [`end_list`] noted in `places`.
@@ -134,9 +141,9 @@ impl<T, A: Allocator> Lists<T, A> {
         ensures is { result.now ≡ slice_index_or self.now index [] }
         ensures few { length result.now < 2 ^ 32 }
     {
-        // The end first: then the beginning needs no test that the index is within.
+        // The end is read first: the test that its index is in range is one for the beginning too.
         let end = self.places[index + 1] as usize;
-        part(&self.items, self.places[index] as usize, end)
+        items_between(&self.items, self.places[index] as usize, end)
     }
 
     /// The lists with indices from `from` up to, but not including, `to`, joined into one.
@@ -149,7 +156,7 @@ impl<T, A: Allocator> Lists<T, A> {
         if from == to {
             return &[];
         }
-        part(
+        items_between(
             &self.items,
             self.places[from] as usize,
             self.places[to] as usize,

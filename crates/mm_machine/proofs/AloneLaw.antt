@@ -13,7 +13,8 @@ use Rattle.mm_spec.specs.Limits.{formula_limit}
 use Rattle.mm_spec.specs.Valid.{too_long}
 use Rattle.mm_spec.specs.Frame.{is_variable_number, formula_at, frame_at}
 use Rattle.mm_spec.specs.Citation.{context_at}
-use Rattle.mm_spec.specs.Laws.Stack.{found, same, pick, apply, step}
+use Rattle.mm_spec.specs.Laws.Stack.{substitution_from, are_equal, unless_failed, unless_too_long}
+use Rattle.mm_spec.specs.Laws.Stack.{apply, step}
 use Rattle.mm_rule.specs.declared.rule.RuleSymbol.TheVariants.{Constant, Variable}
 use Rattle.mm_rule.specs.Rule.{floating_index, parts_of, IsBelow, Compiled, IsCompiled}
 use Rattle.mm_machine.specs.State.{applied}
@@ -33,21 +34,21 @@ no_pairs (p ∷ ps) h =
 module _ (c : Context) (a : Frame) (hypotheses : a.hypotheses ≡ []) (pairs : a.pairs ≡ [])
     (stays : (σ : Substitution) → substitute c σ a.formula ≡ a.formula) where
   step_alone : (es : List Formula) → step c (Some (assertion a)) es
-      ≡ pick true true true (nat_le (length a.formula) formula_limit) (es ++ a.formula ∷ [])
+      ≡ unless_too_long (nat_le (length a.formula) formula_limit) (es ++ a.formula ∷ [])
   step_alone es =
       let none : length a.hypotheses ≡ 0 = ap length hypotheses in
       let n = length es - length a.hypotheses in
       let all : length es ≤ n = omega (arith, none) in
-      let σ = found c a.hypotheses [] in
+      let σ = substitution_from c a.hypotheses [] in
       ap (λ b. apply c a b (take n es) (drop n es)) (le-leb _ _ (omega (arith, none)))
       ∙ ap₂ (λ below premises. apply c a true below premises) (take_all n es all)
       (drop_all n es all)
-      ∙ ap₂ (λ matched apart. pick true matched apart
+      ∙ ap₂ (λ matched apart. unless_failed true matched apart
       (nat_le (length (substitute c σ a.formula)) formula_limit)
       (es ++ substitute c σ a.formula ∷ []))
-      (ap (λ hs. same [] (map (substitute c σ) hs)) hypotheses)
+      (ap (λ hs. are_equal [] (map (substitute c σ) hs)) hypotheses)
       (ap (list_all (λ (p : Pair). are_all_disjoint c (σ p.low) (σ p.high))) pairs)
-      ∙ ap (λ f. pick true true true (nat_le (length f) formula_limit) (es ++ f ∷ [])) (stays σ)
+      ∙ ap (λ f. unless_too_long (nat_le (length f) formula_limit) (es ++ f ∷ [])) (stays σ)
 
 module _ (db : List Statement) (t : ℕ) (hs : List Formula) (σ : Substitution) where
   no_variables : (f : Formula) → AllByRecursion (IsBelow 0) (parts_of db hs f)
@@ -97,7 +98,7 @@ module _ (db : List Statement) (t : ℕ) (c : Compiled) (rule : IsCompiled db c)
       (subst (λ n. All (IsBelow n) c.formula) none rule.formula_in))
 
   pushed : (es : List Formula) → applied db t c.assertion es
-      ≡ pick true true true (nat_le (length f) formula_limit) (es ++ f ∷ [])
+      ≡ unless_too_long (nat_le (length f) formula_limit) (es ++ f ∷ [])
   pushed es =
       step_alone (context_at db t) frame hypotheses_are pairs_are
       (λ σ. no_variables db t frame.hypotheses σ f below) es
@@ -105,9 +106,9 @@ module _ (db : List Statement) (t : ℕ) (c : Compiled) (rule : IsCompiled db c)
   pub alone_made : (es : List Formula) → length f ≤ formula_limit
       → applied db t c.assertion es ≡ Ok (es ++ f ∷ [])
   alone_made es short =
-      pushed es ∙ ap (λ b. pick true true true b (es ++ f ∷ [])) (le-leb _ _ short)
+      pushed es ∙ ap (λ b. unless_too_long b (es ++ f ∷ [])) (le-leb _ _ short)
 
   pub alone_long : (es : List Formula) → formula_limit < length f
       → applied db t c.assertion es ≡ Err too_long
   alone_long es long =
-      pushed es ∙ ap (λ b. pick true true true b (es ++ f ∷ [])) (lt-leb _ _ long)
+      pushed es ∙ ap (λ b. unless_too_long b (es ++ f ∷ [])) (lt-leb _ _ long)

@@ -3,7 +3,7 @@ use Rattle.std.proofs.Common.{◌≡◌, ℕ, suc, ◌+◌, ◌-◌, ◌<◌, �
 use Rattle.std.proofs.Common.{take, drop, get_or, map, length, bytes_eq, sym, ap, ap₂, ◌∙◌}
 use Rattle.std.proofs.Common.{arith, append-nil}
 use Rattle.std.proofs.lemmas.List.{drop_more, drop_all, drop-drop}
-use Rattle.mm_spec.specs.Laws.Stack.{same}
+use Rattle.mm_spec.specs.Laws.Stack.{are_equal}
 use Rattle.mm_rule.specs.declared.rule.Hypothesis.{Hypothesis}
 use Rattle.mm_rule.specs.declared.rule.Hypothesis.TheVariants.{Floating, Essential}
 use Rattle.mm_rule.specs.declared.rule.RuleSymbol.{RuleSymbol}
@@ -17,12 +17,12 @@ module _ (xs : Arena) (es : List Span) (parts : List RuleSymbol) (hs : List Hypo
   -- for these begin at place `at`
   abbrev pub fit_from : ℕ → ℕ → Bool
   fit_from j at =
-      same (map (span_formula xs) (drop j es))
+      are_equal (map (span_formula xs) (drop j es))
       (map (replaced xs es) (all_parts (drop at parts) j (drop j hs)))
 
   pub fit_end : (j at : ℕ) → length hs ≤ j → length es ≤ j → fit_from j at ≡ true
   fit_end j at all none =
-      ap₂ (λ u v. same (map (span_formula xs) u)
+      ap₂ (λ u v. are_equal (map (span_formula xs) u)
       (map (replaced xs es) (all_parts (drop at parts) j v))) (drop_all j es none)
       (drop_all j hs all)
 
@@ -71,12 +71,12 @@ module _ (xs : Arena) (es : List Span) (parts : List RuleSymbol) (hs : List Hypo
       pub fit_next : fit_from j at ≡ (one && fit_from (j + 1) next)
       fit_next =
           let more : suc j ≡ j + 1 = omega arith in
-          ap₂ (λ u v. same (map (span_formula xs) u)
+          ap₂ (λ u v. are_equal (map (span_formula xs) u)
           (map (replaced xs es) (all_parts (drop at parts) j v)))
           (drop_more es j no_symbols many) hs_here
           ∙ ap₂ (λ u n. bytes_eq (span_formula xs (get_or es j no_symbols))
           (replaced xs es (hypothesis_parts (drop at parts) j h))
-          && same (map (span_formula xs) (drop (j + 1) es))
+          && are_equal (map (span_formula xs) (drop (j + 1) es))
           (map (replaced xs es) (all_parts u n (drop (j + 1) hs))))
           (drop-drop (part_count h) at parts ∙ ap (λ n. drop n parts) (sym tested.next_is)) more
           ∙ ap (λ b. b && fit_from (j + 1) next) (sym tested.one_is)

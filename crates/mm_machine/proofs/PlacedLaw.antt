@@ -9,7 +9,7 @@ use Rattle.mm_spec.specs.Derivation.{Formula}
 use Rattle.mm_spec.specs.Limits.{formula_limit}
 use Rattle.mm_spec.specs.Valid.{too_long}
 use Rattle.mm_spec.specs.Frame.{symbol_names}
-use Rattle.mm_spec.specs.Laws.Stack.{pick}
+use Rattle.mm_spec.specs.Laws.Stack.{unless_too_long}
 use Rattle.mm_machine.specs.declared.arena.Span.{Span}
 use Rattle.mm_machine.specs.declared.arena.Reason.{Reason}
 use Rattle.mm_machine.specs.declared.machine.StepRefused.{StepRefused}
@@ -31,7 +31,7 @@ module _ (own kept : List ℕ) (stack : List Span) (below : ℕ) (parts : List R
         → entries_after (arena own kept) stack below parts
         ≡ Ok (take below (span_formulas (arena own kept) stack) ++ made ∷ [])
     placed l =
-        ap₂ (λ b z. pick true true true b
+        ap₂ (λ b z. unless_too_long b
         (take below (span_formulas (arena own kept) stack) ++ z ∷ []))
         (ap (λ z. nat_le (length z) formula_limit) (sym is) ∙ l) (sym is)
 
@@ -44,7 +44,7 @@ module _ (own kept : List ℕ) (stack : List Span) (below : ℕ) (parts : List R
   pub too_long_here : nat_le (length (replaced (arena own kept) (drop below stack) parts))
       formula_limit ≡ false → entries_after (arena own kept) stack below parts ≡ Err too_long
   too_long_here l =
-      ap (λ b. pick true true true b
+      ap (λ b. unless_too_long b
       (take below (span_formulas (arena own kept) stack)
       ++ replaced (arena own kept) (drop below stack) parts ∷ [])) l
 
@@ -77,7 +77,7 @@ some_entry a es below parts out h =
     made : Formula
     made = replaced a (drop below es) parts
 
-    by : (b : Bool) → pick true true true b (first ++ made ∷ []) ≡ Ok out → 0 < length out
+    by : (b : Bool) → unless_too_long b (first ++ made ∷ []) ≡ Ok out → 0 < length out
     by false e = absurd (cc)
     by true e =
         let same : first ++ made ∷ [] ≡ out = cc in

@@ -10,7 +10,7 @@ use Rattle.mm_spec.specs.Valid.{too_few}
 use Rattle.std.specs.List.{list_all, AllByRecursion}
 use Rattle.mm_spec.specs.Derivation.{Formula, Pair, Substitution, substitute, are_all_disjoint}
 use Rattle.mm_spec.specs.Limits.{formula_limit}
-use Rattle.mm_spec.specs.Laws.Stack.{found, tail, same, apply, pick}
+use Rattle.mm_spec.specs.Laws.Stack.{substitution_from, tail, are_equal, apply, unless_failed}
 use Rattle.mm_spec.specs.Laws.Complete.{IsBound, AreBound}
 use Rattle.mm_machine.specs.declared.arena.Span.{Span}
 use Rattle.mm_rule.specs.declared.rule.Hypothesis.{Hypothesis}
@@ -36,7 +36,7 @@ span_formula_at xs (e ∷ es) (suc j) h = span_formula_at xs es j (omega arith)
 module _ (db : List Statement) (t : ℕ) (hs : List Formula) (xs : Arena) (es : List Span)
     (inside : All (IsIn xs) es) (count : length es ≡ length hs) where
   abbrev pub σ : Substitution
-  σ = found (context_at db t) hs (span_formulas xs es)
+  σ = substitution_from (context_at db t) hs (span_formulas xs es)
 
   pub stands_is : (x : ℕ) → IsBound (context_at db t) hs x
       → stands xs es (floating_index db hs x) ≡ σ x
@@ -101,14 +101,14 @@ pub judged : (db : List Statement) (t : ℕ) (c : Compiled) (xs : Arena) (stack 
     → premises ≡ drop (length stack - length c.hypotheses) stack → All (IsIn xs) premises
     → length premises ≡ length c.hypotheses → (b1 b2 : Bool)
     → b1
-    ≡ same (span_formulas xs premises)
+    ≡ are_equal (span_formulas xs premises)
     (map (replaced xs premises) (all_parts c.parts 0 c.hypotheses))
     → b2 ≡ list_all
     (λ (p : ℕ × ℕ). are_all_disjoint (context_at db t) (stands xs premises p.0)
     (stands xs premises p.1))
     c.pairs
     → applied db t c.assertion (span_formulas xs stack)
-    ≡ pick true b1 b2 (nat_le (length (replaced xs premises c.formula)) formula_limit)
+    ≡ unless_failed true b1 b2 (nat_le (length (replaced xs premises c.formula)) formula_limit)
     (take (length stack - length c.hypotheses) (span_formulas xs stack)
     ++ replaced xs premises c.formula ∷
     [])
@@ -140,11 +140,11 @@ judged db t c xs stack premises rule fits top inside many b1 b2 e1 e2 =
     ap₂ (λ b i. apply (context_at db t) a b (take i es) (drop i es)) enough n
     ∙ ap (λ z. apply (context_at db t) a true (take m es) z)
     (map_drop xs m stack ∙ ap (span_formulas xs) (sym top))
-    ∙ ap₂ (λ x y. pick true x y
+    ∙ ap₂ (λ x y. unless_failed true x y
     (nat_le (length (substitute (context_at db t) σ' a.formula)) formula_limit)
-    (take m es ++ substitute (context_at db t) σ' a.formula ∷ [])) (ap (same ps) h
+    (take m es ++ substitute (context_at db t) σ' a.formula ∷ [])) (ap (are_equal ps) h
     ∙ sym e1) p
-    ∙ ap (λ z. pick true b1 b2 (nat_le (length z) formula_limit) (take m es ++ z ∷ [])) f
+    ∙ ap (λ z. unless_failed true b1 b2 (nat_le (length z) formula_limit) (take m es ++ z ∷ [])) f
 
 -- the same by the values that the code has
 pub judged_at : (db : List Statement) (t : ℕ) (c : Compiled) (xs : Arena)
@@ -153,13 +153,14 @@ pub judged_at : (db : List Statement) (t : ℕ) (c : Compiled) (xs : Arena)
     → premises ≡ drop below stack → All (IsIn xs) stack → (ps : List (ℕ × ℕ)) → ps ≡ c.pairs
     → (b1 b2 : Bool)
     → b1
-    ≡ same (span_formulas xs premises)
+    ≡ are_equal (span_formulas xs premises)
     (map (replaced xs premises) (all_parts c.parts 0 c.hypotheses))
     → b2 ≡ list_all
     (λ (p : ℕ × ℕ). are_all_disjoint (context_at db t) (stands xs premises p.0)
     (stands xs premises p.1)) ps
     → applied db t c.assertion (span_formulas xs stack)
-    ≡ pick true b1 b2 (nat_le (length (replaced xs (drop below stack) c.formula)) formula_limit)
+    ≡ unless_failed true b1 b2
+    (nat_le (length (replaced xs (drop below stack) c.formula)) formula_limit)
     (take below (span_formulas xs stack) ++ replaced xs (drop below stack) c.formula ∷ [])
 judged_at db t c xs stack premises n below rule count fits at top all ps ps_are b1 b2 e1 e2 =
     let here : below ≡ length stack - length c.hypotheses = omega (arith, at, count) in
@@ -168,7 +169,7 @@ judged_at db t c xs stack premises n below rule count fits at top all ps ps_are 
     judged db t c xs stack (drop below stack) rule (omega (arith, count, fits))
     (ap (λ b. drop b stack) here) (All-drop (IsIn xs) below stack all) many b1 b2
     (e1
-    ∙ ap (λ z. same (span_formulas xs z)
+    ∙ ap (λ z. are_equal (span_formulas xs z)
     (map (replaced xs z) (all_parts c.parts 0 c.hypotheses))) top)
     (e2 ∙ ap
     (λ z. list_all
@@ -176,7 +177,7 @@ judged_at db t c xs stack premises n below rule count fits at top all ps ps_are 
     ∙ ap (λ z. list_all
     (λ (p : ℕ × ℕ). are_all_disjoint (context_at db t) (stands xs (drop below stack) p.0)
     (stands xs (drop below stack) p.1)) z) ps_are)
-    ∙ ap (λ b. pick true b1 b2
+    ∙ ap (λ b. unless_failed true b1 b2
     (nat_le (length (replaced xs (drop below stack) c.formula)) formula_limit)
     (take b (span_formulas xs stack) ++ replaced xs (drop below stack) c.formula ∷ [])) (sym here)
 

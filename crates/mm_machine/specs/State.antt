@@ -7,7 +7,7 @@ use Rattle.mm_spec.specs.Limits.{formula_limit}
 use Rattle.mm_spec.specs.Valid.{Reason as SpecReason, too_few, unmatched, not_disjoint, too_long}
 use Rattle.mm_spec.specs.Frame.{frame_at}
 use Rattle.mm_spec.specs.Citation.{context_at}
-use Rattle.mm_spec.specs.Laws.Stack.{step, pick, top}
+use Rattle.mm_spec.specs.Laws.Stack.{step, unless_too_long, top}
 use Rattle.mm_machine.specs.declared.arena.Span.{Span}
 use Rattle.mm_machine.specs.declared.arena.Reason.{Reason}
 use Rattle.mm_machine.specs.declared.arena.Reason.TheVariants.{TooFew, Unmatched, NotDisjoint, TooLong}
@@ -111,7 +111,7 @@ applied db t a es = step (context_at db t) (Some (assertion (frame_at db a))) es
 abbrev pub entries_after : Arena → List Span → ℕ → List RuleSymbol
     → Result (List Formula) SpecReason
 entries_after a es below parts =
-    pick true true true (nat_le (length (replaced a (drop below es) parts)) formula_limit)
+    unless_too_long (nat_le (length (replaced a (drop below es) parts)) formula_limit)
     (take below (span_formulas a es) ++ replaced a (drop below es) parts ∷ [])
 
 -- what a test of a rule says: how many entries stay below the formula that the step pushes if it is

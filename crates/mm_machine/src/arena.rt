@@ -10,7 +10,7 @@ ghost use Rattle.mm_spec.specs.Derivation.{are_disjoint as disjoint_pair};
 ghost use Rattle.mm_spec.specs.Limits.{formula_limit};
 ghost use Rattle.mm_spec.specs.Frame.{symbol_names};
 ghost use Rattle.mm_spec.specs.Citation.{context_at};
-ghost use Rattle.mm_spec.specs.Laws.Stack.{same};
+ghost use Rattle.mm_spec.specs.Laws.Stack.{are_equal};
 ghost use Rattle.mm_machine.specs.Arena.{no_symbols, rest, symbols_of, span_formula, IsIn, AreEntries};
 ghost use Rattle.mm_machine.specs.DisjointCache.{AreDisjointAt};
 ghost use Rattle.mm_rule.specs.Rule.{IsBelow, IsCompiled, all_parts, count_parts};
@@ -173,7 +173,7 @@ fn all_fit(symbols: &Symbols, rule: &Rule, premises: &[Span]) -> bool
     requires kept { count_parts rule.now.hypotheses ≡ length rule.now.parts }
     requires parts { All (IsBelow (length premises.now)) rule.now.parts }
     ensures { result
-        ≡ same (map (span_formula symbols.now) premises.now)
+        ≡ are_equal (map (span_formula symbols.now) premises.now)
         (map (replaced symbols.now premises.now) (all_parts rule.now.parts 0 rule.now.hypotheses)) }
 {
     let mut at = 0;

@@ -9,8 +9,8 @@ use Rattle.std.proofs.lemmas.List.{get_or-set_other, length-set, get_or-take, le
 use Rattle.std.proofs.Math.Seq.{get_or-append_seam}
 use Rattle.std.specs.List.{list_all, range_with_len}
 use Rattle.mm_spec.specs.Statement.{Statement, is_opening, is_closing}
-use Rattle.mm_spec.specs.Scope.{depth, stays}
-use Rattle.mm_spec.proofs.ActivityLaw.{stays_more}
+use Rattle.mm_spec.specs.Scope.{depth, is_block_open}
+use Rattle.mm_spec.proofs.ActivityLaw.{is_block_open_more}
 use Rattle.mm_spec.proofs.ShapeLaw.{count_end}
 use Rattle.mm_outline.specs.Blocks.{BlockLists, block_lists, never, innermost, end_of}
 use Rattle.mm_outline.specs.Blocks.{IsBlocks}
@@ -51,35 +51,37 @@ module _ (db : List Statement) (s : Statement) where
       ap₂ (λ x y. x && y) (ap₂ nat_le h (k a (omega arith)))
       (same_all d e f g n (a + 1) h (λ i l. k i (omega arith)))
 
-  pub stays_front : (j k : ℕ) → j < k → k ≤ length db → stays more j k ≡ stays db j k
+  pub stays_front : (j k : ℕ) → j < k → k ≤ length db
+      → is_block_open more j k ≡ is_block_open db j k
   stays_front j k h l =
       same_all (depth more j) (depth db j) (depth more) (depth db) (k - j) (j + 1)
       (depth_front j (omega arith)) (λ i m. depth_front i (omega arith))
 
-  stays_here : (j : ℕ) → stays more j j ≡ true
+  stays_here : (j : ℕ) → is_block_open more j j ≡ true
   stays_here j =
       let n : j - j ≡ 0 = omega arith in
       ap (λ m. list_all (λ i. nat_le (depth more j) (depth more i)) (range_with_len (j + 1) m)) n
 
   -- one place more
   pub stays_last : (j : ℕ) → j < length db
-      → stays more j (length db + 1)
-      ≡ (stays db j (length db) && nat_le (depth db j) (depth more (length db + 1)))
+      → is_block_open more j (length db + 1)
+      ≡ (is_block_open db j (length db) && nat_le (depth db j) (depth more (length db + 1)))
   stays_last j h =
       let e : suc (length db) ≡ length db + 1 = omega arith in
-      subst (λ n. stays more j n
-      ≡ (stays more j (length db) && nat_le (depth more j) (depth more n))) e
-      (stays_more more j (length db) (omega arith))
+      subst (λ n. is_block_open more j n
+      ≡ (is_block_open more j (length db) && nat_le (depth more j) (depth more n))) e
+      (is_block_open_more more j (length db) (omega arith))
       ∙ ap₂ (λ a b. a && nat_le b (depth more (length db + 1)))
       (stays_front j (length db) h (le_refl (length db))) (depth_front j (omega arith))
 
-  pub stays_new : stays more (length db) (length db + 1)
+  pub stays_new : is_block_open more (length db) (length db + 1)
       ≡ nat_le (depth db (length db)) (depth more (length db + 1))
   stays_new =
       let e : suc (length db) ≡ length db + 1 = omega arith in
-      subst (λ n. stays more (length db) n
-      ≡ (stays more (length db) (length db) && nat_le (depth more (length db)) (depth more n)))
-      e (stays_more more (length db) (length db) (le_refl (length db)))
+      subst (λ n. is_block_open more (length db) n
+      ≡ (is_block_open more (length db) (length db)
+      && nat_le (depth more (length db)) (depth more n)))
+      e (is_block_open_more more (length db) (length db) (le_refl (length db)))
       ∙ ap₂ (λ a b. a && nat_le b (depth more (length db + 1))) (stays_here (length db))
       (depth_front (length db) (le_refl (length db)))
 
@@ -227,7 +229,7 @@ module _ (db : List Statement) (s : Statement) (b : BlockLists) (x : IsBlocks db
             by_becomes (inr p) = inr (rw (of_front j h) (omega (arith, p.0, p.1, length_more db s)))
 
         ended : (j k : ℕ) → j < k → k ≤ length (more db s)
-            → stays (more db s) j k ≡ nat_le k (end_of (block_lists of_more ends opens) j)
+            → is_block_open (more db s) j k ≡ nat_le k (end_of (block_lists of_more ends opens) j)
         ended j k h l = by_order (cases_lt (length db) k)
           where
             old : j < length db → k ≤ length db → Becomes j
@@ -239,7 +241,7 @@ module _ (db : List Statement) (s : Statement) (b : BlockLists) (x : IsBlocks db
             old i m (inr p) = ap (nat_le k) (sym p.1)
 
             last : (i : j < length db) → Becomes j
-                → (stays db j (length db)
+                → (is_block_open db j (length db)
                 && nat_le (depth db j) (depth (more db s) (length db + 1)))
                 ≡ nat_le (length db + 1) (get_or ends (get_or b.of j 0) 0)
             last i (inl (f, inl o)) =
@@ -277,24 +279,25 @@ module _ (db : List Statement) (s : Statement) (b : BlockLists) (x : IsBlocks db
                 (omega (arith, c.0)))
 
             at-last : (j < length db) ⊎ (length db ≤ j) → k ≡ length db + 1
-                → stays (more db s) j (length db + 1)
+                → is_block_open (more db s) j (length db + 1)
                 ≡ nat_le (length db + 1) (end_of (block_lists of_more ends opens) j)
             at-last (inl i) e =
                 stays_last db s j i ∙ last i (g.becomes j i)
                 ∙ ap (λ q. nat_le (length db + 1) (get_or ends q 0)) (sym (of_front j i))
             at-last (inr i) e =
                 let same : length db ≡ j = omega (arith, h, e, i) in
-                subst (λ j. stays (more db s) j (length db + 1)
+                subst (λ j. is_block_open (more db s) j (length db + 1)
                 ≡ nat_le (length db + 1) (end_of (block_lists of_more ends opens) j)) same
                 (stays_new db s ∙ fresh g.new
                 ∙ ap (λ q. nat_le (length db + 1) (get_or ends q 0)) (sym of_last))
 
             by_order : (length db < k) ⊎ (k ≤ length db)
-                → stays (more db s) j k ≡ nat_le k (end_of (block_lists of_more ends opens) j)
+                → is_block_open (more db s) j k ≡ nat_le k (end_of (block_lists of_more ends opens) j)
             by_order (inl m) =
                 let e : k ≡ length db + 1 = omega (arith, l, m, length_more db s) in
                 subst
-                (λ k. stays (more db s) j k ≡ nat_le k (end_of (block_lists of_more ends opens) j))
+                (λ k. is_block_open (more db s) j k
+                ≡ nat_le k (end_of (block_lists of_more ends opens) j))
                 (sym e) (at-last (cases_lt j (length db)) e)
             by_order (inr m) =
                 let i : j < length db = omega arith in

@@ -8,8 +8,10 @@ use Rattle.mm_spec.specs.Text.{Token, fault}
 use Rattle.mm_spec.specs.declared.Fault.{Fault}
 use Rattle.mm_spec.specs.Statement.{Statement, shape_code}
 use Rattle.mm_spec.specs.Laws.Table as table
-use Rattle.mm_spec.specs.Laws.Table.{Progress, start, statements_from, stop_from, rest_from, begins}
-use Rattle.mm_spec.specs.Laws.Table.{class, Transition, after, stop_after, rest_after}
+use Rattle.mm_spec.specs.Laws.Table.{Progress, start, statements_from, shape_fault_from}
+use Rattle.mm_spec.specs.Laws.Table.{progress_from, is_between_statements}
+use Rattle.mm_spec.specs.Laws.Table.{class, Transition, statements_after, shape_fault_after}
+use Rattle.mm_spec.specs.Laws.Table.{progress_after}
 use Rattle.mm_spec.specs.declared.Word.{Word}
 use Rattle.mm_outline.specs.Parts.{as_tokens, token_at, nth_word, progress}
 use Rattle.mm_outline.specs.NextStatement.{Leads, tokens_from, is_start}
@@ -29,21 +31,23 @@ tokens_from_one text ws i h =
     grind (arith, common_steps, drop, nth_word, add-one, drop-cons, start, as_tokens)
 
 pub leads_go : {r : Progress} {t : Token} {us : List Token} {q : Progress}
-    → table.go q ≡ table.transition r (class t.word) t → Leads r (t ∷ us) [] q us
+    → table.continued q ≡ table.transition r (class t.word) t → Leads r (t ∷ us) [] q us
 leads_go {r = r} {t = t} {us = us} e = grind (arith, nat_tests)
 
 pub leads_done : {r : Progress} {t : Token} {us : List Token} {d : ℕ} {s : Statement}
-    → table.done d s ≡ table.transition r (class t.word) t → Leads r (t ∷ us) (s ∷ []) (start d) us
+    → table.completed d s ≡ table.transition r (class t.word) t
+    → Leads r (t ∷ us) (s ∷ []) (start d) us
 leads_done {r = r} {t = t} {us = us} e = grind (arith, nat_tests)
 
 pub leads_stop : (r : Progress) (t : Token) (us : List Token)
-    → table.stop ≡ table.transition r (class t.word) t
+    → table.unexpected ≡ table.transition r (class t.word) t
     → (statements_from r (t ∷ us) ≡ [])
-    × (stop_from r (t ∷ us) ≡ Some (fault t.at (shape_code (begins r) t.word)))
+    × (shape_fault_from r (t ∷ us)
+    ≡ Some (fault t.at (shape_code (is_between_statements r) t.word)))
 leads_stop r t us e = grind (arith, nat_tests)
 
 pub is_start_begins : (text : List ℕ) (ws : List Word) (d i : ℕ) (part : Part)
-    → is_start part ≡ begins (progress text ws d part i)
+    → is_start part ≡ is_between_statements (progress text ws d part i)
 is_start_begins text ws d i Start = refl
 is_start_begins text ws d i (Labelled l) = refl
 is_start_begins text ws d i (Words k w) = refl
@@ -62,7 +66,7 @@ module _ (text : List ℕ) (ws : List Word) (d from i : ℕ) (part : Part) where
       o ≡ table.transition (progress text ws d part i) (class (token_at text ws i).word)
       (token_at text ws i)
 
-  pub goes_go : Goes text ws d from part i → i < length ws → (q : Progress) → LeadsOn (table.go q)
+  pub goes_go : Goes text ws d from part i → i < length ws → (q : Progress) → LeadsOn (table.continued q)
       → Leads (start d) (tokens_from text ws from) [] q (tokens_from text ws (i + 1))
   goes_go g h q e =
       leads_then g
@@ -70,7 +74,7 @@ module _ (text : List ℕ) (ws : List Word) (d from i : ℕ) (part : Part) where
       (sym (tokens_from_one text ws i h)) (leads_go e))
 
   pub goes_done : Goes text ws d from part i → i < length ws → (s : Statement) (n : ℕ)
-      → LeadsOn (table.done n s)
+      → LeadsOn (table.completed n s)
       → Leads (start d) (tokens_from text ws from) (s ∷ []) (start n) (tokens_from text ws (i + 1))
   goes_done g h s n e =
       leads_then g
@@ -78,10 +82,10 @@ module _ (text : List ℕ) (ws : List Word) (d from i : ℕ) (part : Part) where
       (tokens_from text ws (i + 1)))
       (sym (tokens_from_one text ws i h)) (leads_done e))
 
-  pub goes_stop : Goes text ws d from part i → i < length ws → LeadsOn table.stop → (f : Fault)
+  pub goes_stop : Goes text ws d from part i → i < length ws → LeadsOn table.unexpected → (f : Fault)
       → f ≡ fault (token_at text ws i).at (shape_code (is_start part) (token_at text ws i).word)
       → (statements_from (start d) (tokens_from text ws from) ≡ [])
-      × (stop_from (start d) (tokens_from text ws from) ≡ Some f)
+      × (shape_fault_from (start d) (tokens_from text ws from) ≡ Some f)
   goes_stop g h e f is =
       let x =
       leads_stop (progress text ws d part i) (token_at text ws i)
@@ -89,7 +93,8 @@ module _ (text : List ℕ) (ws : List Word) (d from i : ℕ) (part : Part) where
         g.statements
             ∙ ap (statements_from (progress text ws d part i)) (tokens_from_one text ws i h)
             ∙ x.0,
-        g.stop ∙ ap (stop_from (progress text ws d part i)) (tokens_from_one text ws i h) ∙ x.1
+        g.stop ∙ ap (shape_fault_from (progress text ws d part i)) (tokens_from_one text ws i h)
+            ∙ x.1
             ∙ ap (λ b. Some
             (fault (token_at text ws i).at (shape_code b (token_at text ws i).word)))
             (sym (is_start_begins text ws d i part))
@@ -98,14 +103,15 @@ module _ (text : List ℕ) (ws : List Word) (d from i : ℕ) (part : Part) where
 
   pub goes_end : Goes text ws d from part i → i ≡ length ws
       → (statements_from (start d) (tokens_from text ws from) ≡ [])
-      × (stop_from (start d) (tokens_from text ws from) ≡ None)
-      × (rest_from (start d) (tokens_from text ws from) ≡ progress text ws d part (length ws))
+      × (shape_fault_from (start d) (tokens_from text ws from) ≡ None)
+      × (progress_from (start d) (tokens_from text ws from) ≡ progress text ws d part (length ws))
   goes_end g e =
       let none : tokens_from text ws i ≡ [] =
       ap (as_tokens text) (ap (λ k. drop k ws) e ∙ drop-all ws) in (
         g.statements ∙ ap (statements_from (progress text ws d part i)) none,
-        g.stop ∙ ap (stop_from (progress text ws d part i)) none,
-        g.rest ∙ ap (rest_from (progress text ws d part i)) none ∙ ap (progress text ws d part) e,
+        g.stop ∙ ap (shape_fault_from (progress text ws d part i)) none,
+        g.rest ∙ ap (progress_from (progress text ws d part i)) none
+            ∙ ap (progress text ws d part) e,
       )
     where
       drop-all : (xs : List Word) → drop (length xs) xs ≡ []

@@ -30,25 +30,25 @@ module _ (text : List ℕ) (ws : List Word) (d : ℕ) where
   -- one plain word
   one : (part : Part) (i : ℕ) → TakesWords part → IsPartBefore part i → i < length ws
       → has_dollar (token_at text ws i).word ≡ false
-      → table.go (progress text ws d part (i + 1))
+      → table.continued (progress text ws d part (i + 1))
       ≡ table.transition (progress text ws d part i) (table.class (token_at text ws i).word)
       (token_at text ws i)
   one Start i t p h e = absurd t
   one (Labelled l) i t p h e = absurd t
   one (Words k w) i t p h e =
-      ap (λ xs. table.go (table.words d (statement_with text ws k w) xs))
+      ap (λ xs. table.continued (table.words d (statement_with text ws k w) xs))
       (between_more text ws (w + 1) i (omega arith) h)
       ∙ ap (λ b. table.transition (progress text ws d (Words k w) i)
       (elim b [ true ↦ table.keyword (token_at text ws i).word | false ↦ table.plain ])
       (token_at text ws i)) (sym e)
   one (Formula w) i t p h e =
-      ap (λ xs. table.go (table.formula d (label_before text ws w) (start_of text ws w) xs))
+      ap (λ xs. table.continued (table.formula d (label_before text ws w) (start_of text ws w) xs))
       (between_more text ws (w + 1) i (omega arith) h)
       ∙ ap (λ b. table.transition (progress text ws d (Formula w) i)
       (elim b [ true ↦ table.keyword (token_at text ws i).word | false ↦ table.plain ])
       (token_at text ws i)) (sym e)
   one (Proof w q) i t p h e =
-      ap (λ xs. table.go (table.words d (theorem_with text ws w q) xs))
+      ap (λ xs. table.continued (table.words d (theorem_with text ws w q) xs))
       (between_more text ws (q + 1) i (omega arith) h)
       ∙ ap (λ b. table.transition (progress text ws d (Proof w q) i)
       (elim b [ true ↦ table.keyword (token_at text ws i).word | false ↦ table.plain ])

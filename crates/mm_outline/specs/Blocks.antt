@@ -3,7 +3,7 @@ use Rattle.std.specs.Prelude.{◌≡◌, ℕ, ◌+◌, ◌-◌, ◌<◌, ◌≤�
 use Rattle.std.specs.Prelude.{slice_set, slice_index, slice_get, get_or, nat_eq, nat_le, count_by}
 use Rattle.std.specs.Prelude.{◌⊎◌, Bool, false, Option, None, Some}
 use Rattle.mm_spec.specs.Statement.{Statement, is_opening, is_closing}
-use Rattle.mm_spec.specs.Scope.{depth, stays}
+use Rattle.mm_spec.specs.Scope.{depth, is_block_open}
 use Rattle.mm_outline.specs.declared.parts.Kind.{Kind}
 use Rattle.mm_outline.specs.declared.parts.Kind.TheVariants.{Open, Close}
 
@@ -64,5 +64,5 @@ pub record IsBlocks (db : List Statement) (b : BlockLists) : Type 0 where
   pub at : (j : ℕ) → j < length db → end_of b j ≡ never
       → (depth db j ≤ depth db (length db))
       × (get_or b.open_blocks (depth db j) 0 ≡ get_or b.of j 0)
-  pub ended : (j k : ℕ) → j < k → k ≤ length db → stays db j k ≡ nat_le k (end_of b j)
+  pub ended : (j k : ℕ) → j < k → k ≤ length db → is_block_open db j k ≡ nat_le k (end_of b j)
   pub bounds : (j : ℕ) → j < length db → (end_of b j ≡ never) ⊎ (end_of b j < length db)

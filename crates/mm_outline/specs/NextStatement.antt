@@ -3,7 +3,8 @@ use Rattle.std.specs.Prelude.{◌≡◌, ℕ, ◌+◌, ◌<◌, ◌≤◌, Bool,
 use Rattle.std.specs.Prelude.{drop, None, Some}
 use Rattle.mm_spec.specs.Text.{Token}
 use Rattle.mm_spec.specs.Statement.{Statement}
-use Rattle.mm_spec.specs.Laws.Table.{Progress, start, statements_from, stop_from, rest_from}
+use Rattle.mm_spec.specs.Laws.Table.{Progress, start, statements_from, shape_fault_from}
+use Rattle.mm_spec.specs.Laws.Table.{progress_from}
 use Rattle.mm_spec.specs.declared.Word.{Word}
 use Rattle.mm_outline.specs.Parts.{as_tokens, statement_of, progress, depth_after, IsOutline}
 use Rattle.mm_outline.specs.declared.parts.Part.{Part}
@@ -15,8 +16,8 @@ use Rattle.mm_outline.specs.declared.parts.NextStatement.TheVariants.{Whole, Sto
 pub record Leads (r : Progress) (us : List Token) (row : List Statement) (q : Progress)
     (vs : List Token) : Type 0 where
   pub statements : statements_from r us ≡ row ++ statements_from q vs
-  pub stop : stop_from r us ≡ stop_from q vs
-  pub rest : rest_from r us ≡ rest_from q vs
+  pub stop : shape_fault_from r us ≡ shape_fault_from q vs
+  pub rest : progress_from r us ≡ progress_from q vs
 
 -- the tokens from a place on
 abbrev pub tokens_from : List ℕ → List Word → ℕ → List Token
@@ -34,11 +35,11 @@ IsNextStatement text ws d from (Whole o) =
     IsOutline o × IsWhole text ws d from (depth_after o.kind d) (statement_of text ws o) o.end
 IsNextStatement text ws d from (Stopped f) =
     (statements_from (start d) (tokens_from text ws from) ≡ [])
-    × (stop_from (start d) (tokens_from text ws from) ≡ Some f)
+    × (shape_fault_from (start d) (tokens_from text ws from) ≡ Some f)
 IsNextStatement text ws d from (Ended part) =
     (statements_from (start d) (tokens_from text ws from) ≡ [])
-    × (stop_from (start d) (tokens_from text ws from) ≡ None)
-    × (rest_from (start d) (tokens_from text ws from) ≡ progress text ws d part (length ws))
+    × (shape_fault_from (start d) (tokens_from text ws from) ≡ None)
+    × (progress_from (start d) (tokens_from text ws from) ≡ progress text ws d part (length ws))
 
 -- whether nothing has been read
 abbrev pub is_start : Part → Bool

@@ -20,13 +20,13 @@ use Rattle.mm_outline.specs.declared.parts.Transition.{Transition}
 use Rattle.mm_outline.specs.declared.parts.Transition.TheVariants.{Stop, Continue, Complete}
 
 abbrev pub class_of : Class → table.Class
-class_of Constant = table.constant
-class_of Variable = table.variable
-class_of Disjoint = table.disjoint_of
-class_of Floating = table.type_of
-class_of Essential = table.logical
-class_of Axiom = table.axiom_of
-class_of Theorem = table.theorem_of
+class_of Constant = table.constant_keyword
+class_of Variable = table.variable_keyword
+class_of Disjoint = table.disjoint_keyword
+class_of Floating = table.floating_keyword
+class_of Essential = table.essential_keyword
+class_of Axiom = table.axiom_keyword
+class_of Theorem = table.theorem_keyword
 class_of Equals = table.equals
 class_of Dot = table.dot
 class_of Open = table.open_block
@@ -119,9 +119,9 @@ module _ (text : List ℕ) (ws : List Word) where
   progress d (Proof k e) i = table.words d (theorem_with k e) (between text ws (e + 1) i)
 
   abbrev pub transition_of : ℕ → ℕ → Transition → table.Transition
-  transition_of d i Stop = table.stop
-  transition_of d i (Continue part) = table.go (progress d part (i + 1))
-  transition_of d i (Complete o) = table.done (depth_after o.kind d) (statement_of o)
+  transition_of d i Stop = table.unexpected
+  transition_of d i (Continue part) = table.continued (progress d part (i + 1))
+  transition_of d i (Complete o) = table.completed (depth_after o.kind d) (statement_of o)
 
 -- P holds if nothing has been read
 abbrev pub IfAtStart : Part → Type 0 → Type 0

@@ -49,7 +49,7 @@ impl<A: Allocator> Drop for Plan<A> {
 }
 
 /// Whether no place is less than the one before it.
-fn rises(places: &[u32]) -> bool
+fn is_rising(places: &[u32]) -> bool
     ensures { IsTrue result ↔ RisesTo places.now (length places.now) }
 {
     for i in 1..places.len() {
@@ -66,7 +66,7 @@ impl<A: Allocator> Cutting<A> {
     {
         match self {
             Cutting::Count(count) => 1 <= *count && *count <= PIECE_LIMIT,
-            Cutting::Places(places) => rises(places),
+            Cutting::Places(places) => is_rising(places),
         }
     }
 }

@@ -12,7 +12,7 @@ use Rattle.mm_spec.specs.declared.Word.{Word}
 use Rattle.mm_spec.specs.Laws.Words.{IsWord}
 use Rattle.mm_spec.specs.Readings.{bytes_of}
 use Rattle.mm_spec.specs.Lexed as lexed
-use Rattle.mm_spec.specs.Statement.{Statement, provable, spelled}
+use Rattle.mm_spec.specs.Statement.{Statement, provable, spelling_of}
 use Rattle.mm_spec.specs.Opened.{counted}
 use Rattle.mm_spec.specs.Lexed.{lexed_of}
 use Rattle.mm_spec.specs.Output.{IsRead}
@@ -77,23 +77,23 @@ pairs_in xs ys s p =
     (pairs_back Follows s.before (xs ++ s.after) (subst (AllPairs Follows) s.is p))
 
 spelled_in : (db : List Statement) (k : ℕ) (s : Statement) → slice_get db k ≡ Some s
-    → StandsIn (spelled s) (flat_map spelled db)
+    → StandsIn (spelling_of s) (flat_map spelling_of db)
 spelled_in [] zero s e = absurd (cc)
 spelled_in [] (suc k) s e = absurd (cc)
 spelled_in (x ∷ db) zero s e =
     let same : x ≡ s = cc in
     record {
       before = [];
-      after = flat_map spelled db;
-      is = ap (λ z. spelled z ++ flat_map spelled db) same;
+      after = flat_map spelling_of db;
+      is = ap (λ z. spelling_of z ++ flat_map spelling_of db) same;
     }
 spelled_in (x ∷ db) (suc k) s e =
     let r = spelled_in db k s e in
     record {
-      before = spelled x ++ r.before;
+      before = spelling_of x ++ r.before;
       after = r.after;
-      is = ap (λ z. spelled x ++ z) r.is
-          ∙ sym (append_assoc (spelled x) r.before (spelled s ++ r.after));
+      is = ap (λ z. spelling_of x ++ z) r.is
+          ∙ sym (append_assoc (spelling_of x) r.before (spelling_of s ++ r.after));
     }
 
 get_front : (db rest : List Statement) (k : ℕ) (s : Statement) → slice_get db k ≡ Some s
@@ -115,17 +115,17 @@ proof_follows text db fault r k l p xs e ps d is =
     spelled_in r.statements k s
     (subst (λ z. slice_get z k ≡ Some s) (sym r.splits) (get_front db r.rest k s is)) in
     let ts = map (λ w. token w.start (bytes_of text w)) (lexed.tokens_of text) in
-    let whole : ts ≡ a.before ++ (spelled s ++ (a.after ++ r.are_statements.rest)) =
+    let whole : ts ≡ a.before ++ (spelling_of s ++ (a.after ++ r.are_statements.rest)) =
     r.are_statements.splits ∙ ap (λ z. z ++ r.are_statements.rest) a.is
-    ∙ append_assoc a.before (spelled s ++ a.after) r.are_statements.rest
-    ∙ ap (λ z. a.before ++ z) (append_assoc (spelled s) a.after r.are_statements.rest) in
+    ∙ append_assoc a.before (spelling_of s ++ a.after) r.are_statements.rest
+    ∙ ap (λ z. a.before ++ z) (append_assoc (spelling_of s) a.after r.are_statements.rest) in
     let all : AllPairs Follows ts =
     begins_after text (lexed.tokens_of text) (tokens_are_words text) (tokens_rising text) in
-    pairs_in (ps ++ token d (codes "$.") ∷ []) (spelled s) inner
-    (pairs_in (spelled s) ts
+    pairs_in (ps ++ token d (codes "$.") ∷ []) (spelling_of s) inner
+    (pairs_in (spelling_of s) ts
     (record { before = a.before; after = a.after ++ r.are_statements.rest; is = whole }) all)
   where
-    inner : StandsIn (ps ++ token d (codes "$.") ∷ []) (spelled (provable l p xs e ps d))
+    inner : StandsIn (ps ++ token d (codes "$.") ∷ []) (spelling_of (provable l p xs e ps d))
     inner = record {
       before = l ∷ token p (codes "$p") ∷ (xs ++ token e (codes "$=") ∷ []);
       after = [];

@@ -8,7 +8,7 @@ use Rattle.mm_spec.specs.Statement.{Statement}
 use Rattle.mm_spec.specs.Scope.{is_active, statement_at}
 use Rattle.mm_spec.specs.NormalProof.{is_labelled, usable}
 use Rattle.mm_spec.proofs.FindsLaw.{is_before}
-use Rattle.mm_spec.proofs.BoolLaw.{lone}
+use Rattle.mm_spec.proofs.BoolLaw.{passes_alone}
 use Rattle.mm_spec.proofs.RisingLaw.{filter_is}
 
 module _ (db : List Statement) (k : ℕ) (w : Bytes) where
@@ -41,7 +41,8 @@ module _ (db : List Statement) (k : ℕ) (w : Bytes) where
     where
       before : (i : ℕ) → (nat_eq i j || false) ≡ true → i < 0 + k
       before i e =
-          let same : i ≡ j = eqb-true i j (lone (nat_eq i j) e) in let h = is_before db j k a in
+          let same : i
+          ≡ j = eqb-true i j (passes_alone (nat_eq i j) e) in let h = is_before db j k a in
           omega (arith, same, h)
 
       other : (i : ℕ) → nat_eq i j ≡ false → (c : Bool) → labelled i ≡ c → passes i ≡ false

@@ -15,7 +15,7 @@ use Rattle.mm_cites.specs.Citing.{Citing, HasCitation, IsStatementList, IsFileOr
 use Rattle.mm_cites.specs.Citing.{theorem_at, list_at}
 use Rattle.mm_spec.specs.Chains.{RestsOn}
 use Rattle.mm_spec.proofs.ChainsLaw.{rests_step}
-use Rattle.mm_spec.proofs.BoolLaw.{or_none}
+use Rattle.mm_spec.proofs.BoolLaw.{or_with_false}
 use Rattle.mm_rows.specs.BitRows.{IsBitRow, HasCitedRows, row_at}
 
 -- a rising list has a number once
@@ -145,7 +145,7 @@ ored c columns t old from new h same words each =
     let bits = or_bits new old from same (words ∙ sym h.words) each in (
       (λ j lt. Decides-at (is_bit new j) (is_bit old j || is_bit from j) (bits j)
           (Decides-or (is_bit old j) (is_bit from j) ((λ e. e), λ e. e) (h.marks j lt))),
-      λ j le. bits j ∙ or_none (is_bit old j) (is_bit from j) (h.past j le),
+      λ j le. bits j ∙ or_with_false (is_bit old j) (is_bit from j) (h.past j le),
     )
 
 -- before the first citation

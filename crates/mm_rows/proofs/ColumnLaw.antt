@@ -12,9 +12,9 @@ use Rattle.mm_spec.specs.Scope.{statement_at}
 use Rattle.mm_spec.specs.Citation.{is_assertion}
 use Rattle.mm_spec.specs.Output.{columns, has_typecode, is_column}
 use Rattle.mm_spec.specs.Frame.{symbol_names, index_of}
-use Rattle.mm_spec.proofs.FindsLaw.{found_at, statement_at_is, formula_at_is}
-use Rattle.mm_spec.proofs.FaultlessLaw.{place_get}
-use Rattle.mm_spec.proofs.BoolLaw.{lone}
+use Rattle.mm_spec.proofs.FindsLaw.{passing_statement, statement_at_is, formula_at_is}
+use Rattle.mm_spec.proofs.FaultlessLaw.{index_of_get}
+use Rattle.mm_spec.proofs.BoolLaw.{passes_alone}
 use Rattle.mm_database.specs.Database.{typecode_of, is_labelled_kind, kind_of}
 
 -- a selection of a selection
@@ -97,14 +97,14 @@ axiom_asserts db j h = by (slice_get db j) h
         → list_any (is_column None) (elim o [ None ↦ [] | Some s ↦ s ∷ [] ]) ≡ true
         → list_any is_assertion (elim o [ None ↦ [] | Some s ↦ s ∷ [] ]) ≡ true
     by None e = absurd (true≢false (sym e))
-    by (Some s) e = ap (λ b. b || false) (shut s (lone (is_column None s) e))
+    by (Some s) e = ap (λ b. b || false) (shut s (passes_alone (is_column None s) e))
 
 -- the typecode is compared by its name
 pub typecode_test : (db : List Statement) (k x : ℕ) (v w : Bytes)
     → list_any is_assertion (statement_at db k) ≡ true → typecode_of db k ≡ Some x
     → slice_get (symbol_names db) x ≡ Some v
     → bytes_eq v w ≡ list_any (has_typecode (Some w)) (statement_at db k)
-typecode_test db k x v w is e n = let f = found_at db is_assertion k is in by f.0 f.1 f.2
+typecode_test db k x v w is e n = let f = passing_statement db is_assertion k is in by f.0 f.1 f.2
   where
     -- a statement with a label, by its symbols
     labelled : (s : Statement) → slice_get db k ≡ Some s → is_labelled_kind (kind_of s) ≡ true
@@ -136,7 +136,7 @@ typecode_test db k x v w is e n = let f = found_at db is_assertion k is in by f.
             sym (code (t ∷ ts) same) ∙ e in
             let place : index_of t.word (symbol_names db) ≡ x = cc in
             let word : v ≡ t.word =
-            place_get t.word v (symbol_names db) (ap (slice_get (symbol_names db)) place ∙ n) in
+            index_of_get t.word v (symbol_names db) (ap (slice_get (symbol_names db)) place ∙ n) in
             ap (λ u. bytes_eq u w) word
             ∙ sym (ap (list_any (has_typecode (Some w))) (statement_at_is db k s g)
             ∙ or-false (has_typecode (Some w) s) ∙ test t ts same)

@@ -6,7 +6,7 @@ use Rattle.std.specs.List.{list_any}
 use Rattle.std.proofs.lemmas.List.{get_or-set_same, get_or-set_other, drop_more}
 use Rattle.mm_spec.specs.Derivation.{Formula}
 use Rattle.mm_spec.specs.Laws.Complete.{binds, IsBound}
-use Rattle.mm_spec.specs.Laws.Stack.{found, tail}
+use Rattle.mm_spec.specs.Laws.Stack.{substitution_from, tail}
 use Rattle.mm_spec.specs.Statement.{Statement}
 use Rattle.mm_spec.specs.Frame.{formula_at}
 use Rattle.mm_spec.specs.Citation.{context_at}
@@ -27,7 +27,7 @@ module _ (db : List Statement) where
   -- what is found for a variable is what the premise of its first `$f` has after the typecode
   pub found_first : (t : ℕ) (hs ps : List Formula) (x : ℕ) → length ps ≡ length hs
       → IsBound (context_at db 0) hs x
-      → found (context_at db t) hs ps x ≡ tail (get_or ps (floating_index db hs x) [])
+      → substitution_from (context_at db t) hs ps x ≡ tail (get_or ps (floating_index db hs x) [])
   found_first t [] ps x n b = absurd (true≢false (sym b))
   found_first t (h ∷ hs) [] x n b = absurd (omega (arith, n))
   found_first t (h ∷ hs) (p ∷ ps) x n b =
@@ -35,8 +35,9 @@ module _ (db : List Statement) where
     where
       go : (v : Bool) → (v || list_any (binds (context_at db 0) x) hs) ≡ true
           → (IsBound (context_at db 0) hs x
-          → found (context_at db t) hs ps x ≡ tail (get_or ps (floating_index db hs x) []))
-          → elim v [ true ↦ tail p | false ↦ found (context_at db t) hs ps x ]
+          → substitution_from (context_at db t) hs ps x
+          ≡ tail (get_or ps (floating_index db hs x) []))
+          → elim v [ true ↦ tail p | false ↦ substitution_from (context_at db t) hs ps x ]
           ≡ tail (get_or (p ∷ ps) (cond v 0 (suc (floating_index db hs x))) [])
       go true e rest = refl
       go false e rest = rest e

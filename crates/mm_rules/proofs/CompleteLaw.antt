@@ -5,9 +5,9 @@ use Rattle.std.proofs.Common.{subst, nat_lt, true≢false}
 use Rattle.std.specs.List.{list_any}
 use Rattle.std.proofs.lemmas.Bool.{lt-ltb}
 use Rattle.mm_spec.specs.Statement.{Statement, axiomatic, provable}
-use Rattle.mm_spec.specs.Scope.{is_active_some, stays}
+use Rattle.mm_spec.specs.Scope.{is_some_still_active, is_block_open}
 use Rattle.mm_spec.specs.Frame.{frame_at}
-use Rattle.mm_spec.specs.Laws.Complete.{IsComplete, IsFine, AreComplete}
+use Rattle.mm_spec.specs.Laws.Complete.{IsComplete, HasCompleteFrame, AreComplete}
 use Rattle.mm_spec.specs.Citation.{context_at, rule_of, rule_at, is_assertion}
 use Rattle.mm_spec.proofs.FindsLaw.{inside_of}
 use Rattle.mm_rule.specs.Assertions.{is_assertion_at}
@@ -15,12 +15,12 @@ use Rattle.mm_rule.specs.Assertions.{is_assertion_at}
 -- in a database whose frames are complete, so is that of each assertion
 module _ (db : List Statement) (complete : AreComplete db) (j : ℕ) where
   at_end : (s : Statement) → slice_get db j ≡ Some s
-      → is_active_some (Some s) (stays db j (length db)) ≡ true
+      → is_some_still_active (Some s) (is_block_open db j (length db)) ≡ true
       → rule_at db (length db) j ≡ rule_of db j s
   at_end s e a =
       let below : j < length db = inside_of db j s e in
       let before : nat_lt j (length db) ≡ true = lt-ltb j (length db) below in
-      ap₂ (λ b o. elim (b && is_active_some o (stays db j (length db)))
+      ap₂ (λ b o. elim (b && is_some_still_active o (is_block_open db j (length db)))
       [ false ↦ None | true ↦ elim o [ None ↦ None | Some s ↦ rule_of db j s ] ]) before e
       ∙ ap (λ b. elim b [ false ↦ None | true ↦ rule_of db j s ]) a
 
@@ -35,11 +35,12 @@ module _ (db : List Statement) (complete : AreComplete db) (j : ℕ) where
           → IsComplete (context_at db 0) (frame_at db j)
       by (axiomatic l p xs d) e h =
           frame_complete
-          (subst (IsFine (context_at db (length db))) (at_end (axiomatic l p xs d) e refl)
+          (subst (HasCompleteFrame (context_at db (length db))) (at_end (axiomatic l p xs d) e refl)
           (complete (length db) j))
       by (provable l p xs w ps d) e h =
           frame_complete
-          (subst (IsFine (context_at db (length db))) (at_end (provable l p xs w ps d) e refl)
+          (subst (HasCompleteFrame (context_at db (length db)))
+          (at_end (provable l p xs w ps d) e refl)
           (complete (length db) j))
       by _ e h = absurd (true≢false (sym h))
 

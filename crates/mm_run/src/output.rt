@@ -2,7 +2,7 @@
 
 ghost use Rattle.std.specs.Prelude.{◌≡◌, ◌<◌, ◌≤◌, ◌^◌, ℕ, List, IfOk, length, false};
 ghost use Rattle.mm_spec.specs.declared.Choice.TheVariants as choices;
-ghost use Rattle.mm_spec.specs.Report.{has};
+ghost use Rattle.mm_spec.specs.Report.{has_section};
 ghost use Rattle.mm_spec.specs.Request.{Request};
 ghost use Rattle.mm_spec.specs.Lexed.{lexed_of};
 ghost use Rattle.mm_spec.specs.Output.{FirstFault, columns};
@@ -104,7 +104,7 @@ pub(crate) fn report_rows<'a, A: Allocator, W: Write>(
     requires chosen { chosen.now ≡ columns database.now.statements request.now.only }
     requires marked { IsMatrix citations.now chosen.now marked.now }
     requires choice { request.now.choice ≡ choices.Citations → ⊥ }
-    requires no_usage { has request.now.choice choices.Usage ≡ false }
+    requires no_usage { has_section request.now.choice choices.Usage ≡ false }
     ensures { Answers result database.now.text request.now (W.contents to.old)
         (W.contents to.new) }
 {

@@ -9,7 +9,7 @@ use Rattle.std.proofs.lemmas.Grind.{flat_map-append}
 use Rattle.std.proofs.Math.Bool.{or-true}
 use Rattle.mm_spec.specs.Text.{Bytes, Token, token, words, is_in}
 use Rattle.mm_spec.specs.Statement.{Statement, constants, variables, disjoint, floating, essential}
-use Rattle.mm_spec.specs.Statement.{axiomatic, provable, opening, closing, symbols_of, spelled}
+use Rattle.mm_spec.specs.Statement.{axiomatic, provable, opening, closing, symbols_of, spelling_of}
 use Rattle.mm_spec.specs.Scope.{constants_of, variables_of}
 use Rattle.mm_spec.specs.Lawful.{IsLawful}
 use Rattle.mm_spec.specs.Frame.{symbol_names, index_of, first_occurrences, formula_at}
@@ -63,7 +63,7 @@ labelled_within : (l t u : Token) (xs : List Token) → length xs ≤ length (l 
 labelled_within l t u xs = omega (arith, length-append xs (u ∷ []))
 
 -- a statement's symbols are among its tokens
-symbols_spelled : (s : Statement) → length (symbols_of s) ≤ length (spelled s)
+symbols_spelled : (s : Statement) → length (symbols_of s) ≤ length (spelling_of s)
 symbols_spelled (constants k xs d) = within (token k (codes "$c")) (token d (codes "$.")) xs
 symbols_spelled (variables k xs d) = within (token k (codes "$v")) (token d (codes "$.")) xs
 symbols_spelled (disjoint k xs d) = within (token k (codes "$d")) (token d (codes "$.")) xs
@@ -81,7 +81,8 @@ symbols_spelled (provable l k xs e ps d) =
 symbols_spelled (opening k) = omega arith
 symbols_spelled (closing k) = omega arith
 
-declared_spelled : (s : Statement) → length (constants_of s ++ variables_of s) ≤ length (spelled s)
+declared_spelled : (s : Statement)
+    → length (constants_of s ++ variables_of s) ≤ length (spelling_of s)
 declared_spelled (constants k xs d) =
     let a = length-append (words xs) [] in let b = length-map xs (λ t. t.word) in
     let w = symbols_spelled (constants k xs d) in omega (arith, a, b, w)
@@ -123,21 +124,22 @@ first_shorter e (w ∷ ws) = by_is_in (is_in w e) (first_shorter e ws) (first_sh
     by_is_in false p q = omega (arith, q)
 
 -- statements that stand in front of a list of statements, which are the first of the tokens
-module _ (ts rest : List Token) (list : List Statement) (splits : ts ≡ flat_map spelled list ++ rest)
+module _ (ts rest : List Token) (list : List Statement)
+    (splits : ts ≡ flat_map spelling_of list ++ rest)
     (db more : List Statement) (is : list ≡ db ++ more) where
-  spelled-few : length (flat_map spelled db) ≤ length ts
+  spelled-few : length (flat_map spelling_of db) ≤ length ts
   spelled-few =
       let a = ap length splits in
-      let b = length-append (flat_map spelled list) rest in
-      let c = front spelled db more in
-      let d : length (flat_map spelled (db ++ more)) ≡ length (flat_map spelled list) =
-      ap (λ l. length (flat_map spelled l)) (sym is) in
+      let b = length-append (flat_map spelling_of list) rest in
+      let c = front spelling_of db more in
+      let d : length (flat_map spelling_of (db ++ more)) ≡ length (flat_map spelling_of list) =
+      ap (λ l. length (flat_map spelling_of l)) (sym is) in
       omega (arith, a, b, c, d)
 
   -- the symbols are no more than the tokens
   pub few_symbols : length (symbol_names db) ≤ length ts
   few_symbols =
       let a = first_shorter [] (flat_map (λ s. constants_of s ++ variables_of s) db) in
-      let b = shorter (λ s. constants_of s ++ variables_of s) spelled declared_spelled db in
+      let b = shorter (λ s. constants_of s ++ variables_of s) spelling_of declared_spelled db in
       let c = spelled-few in
       omega (arith, a, b, c)

@@ -6,8 +6,9 @@ use Rattle.std.proofs.Common.{Some}
 use Rattle.std.specs.List.{list_any, range_with_len}
 use Rattle.mm_spec.specs.Text.{Bytes, is_in}
 use Rattle.mm_spec.specs.Statement.{Statement}
-use Rattle.mm_spec.specs.Scope.{is_active, is_active_some, is_global, is_local, active_statements}
-use Rattle.mm_spec.specs.Scope.{depth, stays}
+use Rattle.mm_spec.specs.Scope.{is_active, is_some_still_active, is_global, is_local}
+use Rattle.mm_spec.specs.Scope.{active_statements}
+use Rattle.mm_spec.specs.Scope.{depth, is_block_open}
 use Rattle.mm_spec.proofs.LocalLaw.{get_front, get_seam}
 use Rattle.std.proofs.lemmas.Bool.{lt-ltb, cases_lt}
 use Rattle.mm_spec.proofs.FindsLaw.{range_any}
@@ -58,18 +59,19 @@ module _ (db : List Statement) (s : Statement) where
       → is_active db j (length db) ≡ true
   active_mono j h e =
       ap₂ (λ x y. x && y) (lt-ltb j (length db) h)
-      (by_statement (slice_get db j) (stays db j (length db))
+      (by_statement (slice_get db j) (is_block_open db j (length db))
       (nat_le (depth db j) (depth (db ++ s ∷ []) (length db + 1)))
       (ap (λ z. z
-      && is_active_some (slice_get db j)
-      (stays db j (length db) && nat_le (depth db j) (depth (db ++ s ∷ []) (length db + 1))))
+      && is_some_still_active (slice_get db j)
+      (is_block_open db j (length db)
+      && nat_le (depth db j) (depth (db ++ s ∷ []) (length db + 1))))
       (sym (lt-ltb j (length db + 1) (omega arith)))
-      ∙ ap₂ (λ o z. nat_lt j (length db + 1) && is_active_some o z)
+      ∙ ap₂ (λ o z. nat_lt j (length db + 1) && is_some_still_active o z)
       (sym (get_front db (s ∷ []) j h)) (sym (stays_last db s j h))
       ∙ e))
     where
-      by_statement : (o : Option Statement) (a b : Bool) → is_active_some o (a && b) ≡ true
-          → is_active_some o a ≡ true
+      by_statement : (o : Option Statement) (a b : Bool) → is_some_still_active o (a && b) ≡ true
+          → is_some_still_active o a ≡ true
       by_statement None a b e = e
       by_statement (Some t) a b e = kind_mono (is_global t) (is_local t) a b e
 

@@ -8,13 +8,14 @@ use Rattle.std.proofs.lemmas.Option.{slice_get-get_or}
 use Rattle.mm_spec.specs.Text.{Bytes, is_in}
 use Rattle.mm_spec.specs.Statement.{Statement, constants, variables, disjoint, floating, essential}
 use Rattle.mm_spec.specs.Statement.{axiomatic, provable, opening, closing}
-use Rattle.mm_spec.specs.Scope.{is_active, is_active_some, is_active_kind, variables_of, stays}
+use Rattle.mm_spec.specs.Scope.{is_active, is_some_still_active, is_still_active, variables_of}
+use Rattle.mm_spec.specs.Scope.{is_block_open}
 use Rattle.mm_outline.specs.Blocks.{BlockLists, IsBlocks, end_of, never, end_in, is_never, is_open_in}
 use Rattle.mm_scope.specs.WordEntry.{Latest}
 use Rattle.mm_outline.specs.Typed.{typed_words}
 
 pub open_is : (db : List Statement) (b : BlockLists) → IsBlocks db b → length db < never → (j : ℕ)
-    → j < length db → stays db j (length db) ≡ is_open_in b j
+    → j < length db → is_block_open db j (length db) ≡ is_open_in b j
 open_is db b x few j h =
     let of : slice_get b.of j ≡ Some (get_or b.of j 0) =
     slice_get-get_or b.of j 0 (let c = x.count in omega (arith, c, h)) in
@@ -33,7 +34,7 @@ open_is db b x few j h =
 
 -- a statement that declares or types variables is active where its block is open
 abbrev pub IsLocal : (Statement → List Bytes) → List ℕ → Type 0
-IsLocal f w = (s : Statement) (b : Bool) → is_in w (f s ++ []) ≡ true → is_active_kind s b ≡ b
+IsLocal f w = (s : Statement) (b : Bool) → is_in w (f s ++ []) ≡ true → is_still_active s b ≡ b
 
 pub declares_local : (w : List ℕ) → IsLocal variables_of w
 declares_local w (variables k xs d) b h = refl
@@ -69,9 +70,9 @@ latest_open db b x few f w local last l = by_statement (slice_get db last) refl
         absurd (true≢false
         (sym l.there ∙ ap (λ o. is_in w (flat_map f (elim o [ None ↦ [] | Some t ↦ t ∷ [] ]))) e))
     by_statement (Some s) e =
-        ap₂ (λ t o. t && is_active_some o (stays db last (length db)))
+        ap₂ (λ t o. t && is_some_still_active o (is_block_open db last (length db)))
         (lt-ltb last (length db) l.before) e
-        ∙ local s (stays db last (length db))
+        ∙ local s (is_block_open db last (length db))
         (ap (λ o. is_in w (flat_map f (elim o [ None ↦ [] | Some t ↦ t ∷ [] ]))) (sym e)
         ∙ l.there)
         ∙ open_is db b x few last l.before

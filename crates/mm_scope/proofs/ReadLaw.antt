@@ -11,12 +11,14 @@ use Rattle.mm_spec.specs.Scope.{depth, names_before}
 use Rattle.mm_spec.specs.Lawful.{scope_fault, scope_faults, least}
 use Rattle.mm_spec.specs.Lexed.{LexedText}
 use Rattle.mm_spec.specs.Output.{IsRead, StopsReading}
-use Rattle.mm_spec.specs.Laws.Table.{start, statements_from, statements_of, stop_from, rest_from}
+use Rattle.mm_spec.specs.Laws.Table.{start, statements_from, statements_of, shape_fault_from}
+use Rattle.mm_spec.specs.Laws.Table.{progress_from}
 use Rattle.mm_spec.specs.declared.Word.{Word}
 use Rattle.mm_spec.specs.declared.Fault.{Fault}
 use Rattle.mm_spec.proofs.LocalLaw.{scope_fault_front, scope_fault_next}
 use Rattle.mm_spec.proofs.LongestLaw.{is_longest}
-use Rattle.mm_spec.proofs.StopsLaw.{text_fault, text_fault_is, no_text_fault, first_of, fault_at_end}
+use Rattle.mm_spec.proofs.StopsLaw.{text_fault, text_fault_is, no_text_fault, first_fault_of}
+use Rattle.mm_spec.proofs.StopsLaw.{fault_at_end}
 use Rattle.mm_outline.specs.Parts.{as_tokens, progress, statement_between, depth_after, one_less}
 use Rattle.mm_outline.specs.Blocks.{BlockLists, IsBlocks, never}
 use Rattle.mm_outline.proofs.BlocksLaw.{depth_end, depth_plain, depth_opening, depth_closing}
@@ -90,16 +92,18 @@ module _ (text : List ℕ) (ws : List Word) (len : ℕ) (lexical : Option Fault)
       }
 
   pub read_stopped : (f : Fault) → statements_from (start deep) (tokens_from text ws at) ≡ []
-      → stop_from (start deep) (tokens_from text ws at) ≡ Some f
+      → shape_fault_from (start deep) (tokens_from text ws at) ≡ Some f
       → IsRead len (lexed text ws lexical) db (Some f)
   read_stopped f n e =
       read_end n (Some f)
-      (ap (λ o. first_of o
-      (first_of lexical (fault_at_end len (rest_from (start 0) (as_tokens text ws))))) (r.leads.stop
+      (ap (λ o. first_fault_of o
+      (first_fault_of lexical (fault_at_end len (progress_from (start 0) (as_tokens text ws)))))
+      (r.leads.stop
       ∙ e))
 
   end_is : (part : Part) (i : ℕ) (o : Option Fault)
-      → first_of o (fault_at_end len (progress text ws deep part i)) ≡ end_fault_of o len part deep
+      → first_fault_of o (fault_at_end len (progress text ws deep part i))
+      ≡ end_fault_of o len part deep
   end_is part i (Some f) = refl
   end_is Start i None = by_number deep
     where
@@ -112,13 +116,14 @@ module _ (text : List ℕ) (ws : List Word) (len : ℕ) (lexical : Option Fault)
   end_is (Proof w e) i None = refl
 
   pub read_ended : (part : Part) → statements_from (start deep) (tokens_from text ws at) ≡ []
-      → stop_from (start deep) (tokens_from text ws at) ≡ None
-      → rest_from (start deep) (tokens_from text ws at) ≡ progress text ws deep part (length ws)
+      → shape_fault_from (start deep) (tokens_from text ws at) ≡ None
+      → progress_from (start deep) (tokens_from text ws at) ≡ progress text ws deep part (length ws)
       → (f : Option Fault) → f ≡ end_fault_of lexical len part deep
       → IsRead len (lexed text ws lexical) db f
   read_ended part n s e f is =
       read_end n f
-      (ap₂ (λ o q. first_of o (first_of lexical (fault_at_end len q))) (r.leads.stop ∙ s)
+      (ap₂ (λ o q. first_fault_of o (first_fault_of lexical (fault_at_end len q)))
+      (r.leads.stop ∙ s)
       (r.leads.rest ∙ e)
       ∙ end_is part (length ws) lexical ∙ sym is)
 

@@ -10,14 +10,14 @@ same_tests true b f g = sym (f refl)
 same_tests false true f g = g refl
 same_tests false false f g = refl
 
-pub or_none : (a b : Bool) → b ≡ false → (a || b) ≡ a
-or_none true b e = refl
-or_none false b e = e
+pub or_with_false : (a b : Bool) → b ≡ false → (a || b) ≡ a
+or_with_false true b e = refl
+or_with_false false b e = e
 
 -- a test that passes with nothing beside it passes by itself
-pub lone : (b : Bool) → (b || false) ≡ true → b ≡ true
-lone true e = refl
-lone false e = e
+pub passes_alone : (b : Bool) → (b || false) ≡ true → b ≡ true
+passes_alone true e = refl
+passes_alone false e = e
 
 -- the two inner ones of four tests that all pass
 pub middle_parts : (a b c d : Bool) → (a && b && c && d) ≡ true → (b ≡ true) × (c ≡ true)

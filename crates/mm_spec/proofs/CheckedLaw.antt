@@ -5,13 +5,13 @@ use Rattle.mm_spec.specs.Steps.{Step, label, marked}
 use Rattle.mm_spec.specs.Valid.{IsLastTree, Adds, Plain}
 use Rattle.mm_spec.proofs.UniqueLaw.{unique}
 use Rattle.mm_spec.proofs.StepsLaw.{forest_good}
-use Rattle.mm_spec.specs.Laws.Complete.{IsFine}
+use Rattle.mm_spec.specs.Laws.Complete.{HasCompleteFrame}
 
-module _ (c : Context) (fine : (l : ℕ) → IsFine c (c.rule l)) where
+module _ (c : Context) (all_complete : (l : ℕ) → HasCompleteFrame c (c.rule l)) where
   -- forests with the same labels are one forest
   pub same_forest : (r s : Trees) → AreDerivations c r → AreDerivations c s → postfix r ≡ postfix s
       → r ≡ s
-  same_forest r s d e same = unique c r s d e (forest_good c fine r d) same
+  same_forest r s d e same = unique c r s d e (forest_good c all_complete r d) same
 
   last_unique : (forest : Trees) (x y : List ℕ) → IsLastTree forest x → IsLastTree forest y → x ≡ y
   last_unique none x y h k = absurd h

@@ -11,6 +11,7 @@ use Rattle.mm_spec.specs.Derivation.{AreDerivations, Follows, is_member}
 use Rattle.mm_spec.specs.Citation.{steps_at, IsProof, Cites}
 use Rattle.mm_spec.specs.Laws.Complete.{AreComplete}
 use Rattle.mm_spec.specs.Output.{is_theorem_at}
+use Rattle.mm_spec.proofs.BoolLaw.{passes_alone}
 use Rattle.mm_spec.proofs.CheckedLaw.{same_forest, plain_unique}
 use Rattle.mm_spec.proofs.FindsLaw.{is_before}
 use Rattle.mm_spec.proofs.NodesLaw.{label_member}
@@ -24,30 +25,27 @@ label_stands : (c : Context) (a : ℕ) (forest : Trees) → AreDerivations c for
     → is_member (postfix forest) a ≡ true → c.rule a ≡ None → ⊥
 label_stands c a none d m n = true≢false (sym m)
 label_stands c a (more ts l f cs) d m n =
-    by (or_cases (is_member (postfix ts) a) (is_member (postfix cs ++ l ∷ []) a)
+    in_earlier_or_last (or_cases (is_member (postfix ts) a) (is_member (postfix cs ++ l ∷ []) a)
     (sym (member_append (postfix ts) (postfix cs ++ l ∷ []) a) ∙ m))
     (λ h. label_stands c a ts d.0 h n) (λ h. label_stands c a cs d.1 h n)
   where
-    own : (a == l) ≡ true → ⊥
-    own e =
+    not_the_root : (a == l) ≡ true → ⊥
+    not_the_root e =
         subst (λ (r : Option Rule). Follows c r (formulas cs) f)
         (ap c.rule (sym (eqb-true a l e)) ∙ n) d.2
 
-    last : ((a == l) ≡ true) ⊎ (false ≡ true) → ⊥
-    last (inl e) = own e
-    last (inr e) = true≢false (sym e)
-
-    one : (is_member (postfix cs) a ≡ true) ⊎ (((a == l) || false) ≡ true)
+    in_children_or_root : (is_member (postfix cs) a ≡ true) ⊎ (((a == l) || false) ≡ true)
         → (is_member (postfix cs) a ≡ true → ⊥) → ⊥
-    one (inl k) y = y k
-    one (inr k) y = last (or_cases (a == l) false k)
+    in_children_or_root (inl k) not_in_children = not_in_children k
+    in_children_or_root (inr k) not_in_children = not_the_root (passes_alone (a == l) k)
 
-    by : (is_member (postfix ts) a ≡ true) ⊎ (is_member (postfix cs ++ l ∷ []) a ≡ true)
+    in_earlier_or_last : (is_member (postfix ts) a ≡ true)
+        ⊎ (is_member (postfix cs ++ l ∷ []) a ≡ true)
         → (is_member (postfix ts) a ≡ true → ⊥) → (is_member (postfix cs) a ≡ true → ⊥) → ⊥
-    by (inl h) x y = x h
-    by (inr h) x y =
-        one (or_cases (is_member (postfix cs) a) (is_member (l ∷ []) a)
-        (sym (member_append (postfix cs) (l ∷ []) a) ∙ h)) y
+    in_earlier_or_last (inl h) not_earlier not_in_children = not_earlier h
+    in_earlier_or_last (inr h) not_earlier not_in_children =
+        in_children_or_root (or_cases (is_member (postfix cs) a) (is_member (l ∷ []) a)
+        (sym (member_append (postfix cs) (l ∷ []) a) ∙ h)) not_in_children
 
 module _ (db : List Statement) where
   -- a label of a theorem's proof is that of an earlier statement
@@ -70,4 +68,4 @@ module _ (db : List Statement) where
 -- a theorem has one proof at most
 pub proof_unique : (db : List Statement) → AreComplete db → (t : ℕ) (d e : Trees) → IsProof db t d
     → IsProof db t e → d ≡ e
-proof_unique db fine t d e p q = grind (arith, common_steps, plain_unique, same_forest)
+proof_unique db all_complete t d e p q = grind (arith, common_steps, plain_unique, same_forest)

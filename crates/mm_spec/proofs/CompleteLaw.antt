@@ -20,19 +20,23 @@ use Rattle.mm_spec.specs.Frame.{is_floating, is_essential, active_of, mandatory_
 use Rattle.mm_spec.specs.Frame.{mandatory_hypotheses, frame_at, pairs_of, disjoint_at}
 use Rattle.mm_spec.specs.Derivation.{Formula, Pair, is_member}
 use Rattle.mm_spec.specs.Citation.{context_at, rule_of}
-use Rattle.mm_spec.specs.Laws.Complete.{binds, IsBound, AreBound, IsComplete, IsFine, AreComplete}
+use Rattle.mm_spec.specs.Laws.Complete.{binds, IsBound, AreBound, IsComplete, HasCompleteFrame}
+use Rattle.mm_spec.specs.Laws.Complete.{AreComplete}
 use Rattle.mm_spec.specs.Lexed.{LexedText}
 use Rattle.mm_spec.proofs.LocalLaw.{scope_fault_front}
 use Rattle.mm_spec.proofs.FindsLaw.{any_flat_map, any_map, any_filter, member_filter}
 use Rattle.mm_spec.proofs.FindsLaw.{filter_member, each_member, each_map, each_any, each_filter}
-use Rattle.mm_spec.proofs.FindsLaw.{inside_of, formula_at_is, found_at, at_found, found_active}
-use Rattle.mm_spec.proofs.FindsLaw.{active_found, same_word, declared, declares, declared_before}
-use Rattle.mm_spec.proofs.FaultlessLaw.{least_none, no_kind, new_constant, new_variable}
+use Rattle.mm_spec.proofs.FindsLaw.{inside_of, formula_at_is, passing_statement, statement_passes}
+use Rattle.mm_spec.proofs.FindsLaw.{passing_active}
+use Rattle.mm_spec.proofs.FindsLaw.{some_active_passes, same_word, declaring_statement, declares}
+use Rattle.mm_spec.proofs.FindsLaw.{declared_before}
+use Rattle.mm_spec.proofs.FaultlessLaw.{least_none, not_constant_and_variable, new_constant}
+use Rattle.mm_spec.proofs.FaultlessLaw.{new_variable}
 use Rattle.mm_spec.proofs.FaultlessLaw.{has_formula}
 use Rattle.mm_spec.proofs.FaultlessLaw.{IsKnown, statement_known, floating_typing, typing_floats}
 use Rattle.mm_spec.proofs.FaultlessLaw.{variable_word, member_word, floating_local, essential_local}
-use Rattle.mm_spec.proofs.FaultlessLaw.{still}
-use Rattle.mm_spec.proofs.BoolLaw.{lone, middle_parts}
+use Rattle.mm_spec.proofs.FaultlessLaw.{still_active}
+use Rattle.mm_spec.proofs.BoolLaw.{passes_alone, middle_parts}
 
 -- ---- frames
 
@@ -58,21 +62,21 @@ module _ (db : List Statement) (lawful : (k : ℕ) → k < length db → IsLawfu
   pub constant_apart : (w : Bytes) → is_in w (flat_map constants_of db) ≡ true
       → is_in w (flat_map variables_of db) ≡ true → ⊥
   constant_apart w c v =
-      let a = declared constants_of db w c in
-      let b = declared variables_of db w v in
-      by a.0 b.0 a.1 b.1 a.2 b.2 a.3 b.3 (cases_order a.0 b.0)
+      let a = declaring_statement constants_of db w c in
+      let b = declaring_statement variables_of db w v in
+      by_order a.0 b.0 a.1 b.1 a.2 b.2 a.3 b.3 (cases_order a.0 b.0)
     where
-      by : (i j : ℕ) (s t : Statement) → slice_get db i ≡ Some s → slice_get db j ≡ Some t
+      by_order : (i j : ℕ) (s t : Statement) → slice_get db i ≡ Some s → slice_get db j ≡ Some t
           → is_in w (constants_of s) ≡ true → is_in w (variables_of t) ≡ true
           → (i ≡ j) ⊎ ((i < j) ⊎ (j < i)) → ⊥
-      by i j s t e f m n (inl h) =
+      by_order i j s t e f m n (inl h) =
           let same : s ≡ t = cc in
-          no_kind t w (subst (λ x. is_in w (constants_of x) ≡ true) same m) n
-      by i j s t e f m n (inr (inl h)) =
+          not_constant_and_variable t w (subst (λ x. is_in w (constants_of x) ≡ true) same m) n
+      by_order i j s t e f m n (inr (inl h)) =
           true≢false
           (sym (declares constants_of db j i s w e h m)
           ∙ new_variable (names_before db j) (depth db j) t w (faultless j t f) n)
-      by i j s t e f m n (inr (inr h)) =
+      by_order i j s t e f m n (inr (inr h)) =
           true≢false
           (sym (declares variables_of db i j t w f h n)
           ∙ new_constant (names_before db i) (depth db i) s w (faultless i s e) m)
@@ -106,7 +110,7 @@ module _ (db : List Statement) (lawful : (k : ℕ) → k < length db → IsLawfu
           constant = constant_before i t.typecode.word t.constant;
         },
         λ v h. same_word v t.variable.word
-            (lone (bytes_eq v t.variable.word)
+            (passes_alone (bytes_eq v t.variable.word)
             (subst (λ x. list_any (λ u. bytes_eq v u.variable) (typings_of x) ≡ true) t.is h)),
       )
 
@@ -123,21 +127,22 @@ module _ (db : List Statement) (lawful : (k : ℕ) → k < length db → IsLawfu
       let w =
       member_word (symbol_names db) (words (symbols_of s)) x
       (ap (λ g. is_member g x) (sym (formula_at_is db j s e)) ∙ m) in
-      by w.0 w.2 (variable_word db w.0 (ap (is_variable_number db) (sym w.2) ∙ v))
+      of_known_word w.0 w.2 (variable_word db w.0 (ap (is_variable_number db) (sym w.2) ∙ v))
       (statement_known (names_before db j) (depth db j) s f (faultless j s e) w.0 w.1)
     where
-      by : (w : Bytes) → x ≡ index_of w (symbol_names db)
+      of_known_word : (w : Bytes) → x ≡ index_of w (symbol_names db)
           → is_in w (flat_map variables_of db) ≡ true → IsKnown (names_before db j) w
           → (i : ℕ) × (is_active db i j ≡ true) × Types i x
-      by w is v (inl c) = absurd (constant_apart w (declared_before constants_of db j w c) v)
-      by w is v (inr t) =
+      of_known_word w is v (inl c) =
+          absurd (constant_apart w (declared_before constants_of db j w c) v)
+      of_known_word w is v (inr t) =
           let q : Typing → Bool = λ (t : Typing). bytes_eq w t.variable in
           let a =
-          found_active db j (λ i. list_any (λ s. list_any q (typings_of s)) (statement_at db i))
+          passing_active db j (λ i. list_any (λ s. list_any q (typings_of s)) (statement_at db i))
           (sym (any_flat_map q typings_of (active_statements db j)
           ∙ any_flat_map (λ s. list_any q (typings_of s)) (statement_at db) (active db j))
           ∙ t) in
-          let s = found_at db (λ s. list_any q (typings_of s)) a.0 a.2 in
+          let s = passing_statement db (λ s. list_any q (typings_of s)) a.0 a.2 in
           let y = typing a.0 s.0 s.1 (typing_floats q s.0 s.2) in
           (a.0, a.1, at_word a.0 x w y.0 y.1 (y.2 w s.2) is)
 
@@ -146,28 +151,29 @@ module _ (db : List Statement) (lawful : (k : ℕ) → k < length db → IsLawfu
       → is_member (mandatory_variables db k) x ≡ true
       → (i : ℕ) × (is_active db i k ≡ true) × Types i x × (is_variable_number db x ≡ true)
   mandatory_typed k x s e f m =
-      let more = flat_map (formula_at db) (active_of is_essential db k) in
-      let p = member_filter (is_variable_number db) (formula_at db k ++ more) x m in
-      by p.0 (or_cases (is_member (formula_at db k) x) (is_member more x)
-      (sym (list_any-append (λ y. x == y) (formula_at db k) more) ∙ p.1))
+      let essential_symbols = flat_map (formula_at db) (active_of is_essential db k) in
+      let p = member_filter (is_variable_number db) (formula_at db k ++ essential_symbols) x m in
+      in_formula_or_essential p.0
+      (or_cases (is_member (formula_at db k) x) (is_member essential_symbols x)
+      (sym (list_any-append (λ y. x == y) (formula_at db k) essential_symbols) ∙ p.1))
     where
-      by : is_variable_number db x ≡ true
+      in_formula_or_essential : is_variable_number db x ≡ true
           → (is_member (formula_at db k) x ≡ true)
           ⊎ (is_member (flat_map (formula_at db) (active_of is_essential db k)) x ≡ true)
           → (i : ℕ) × (is_active db i k ≡ true) × Types i x × (is_variable_number db x ≡ true)
-      by v (inl h) = let t = typed k x s e f h v in (t.0, t.1, t.2, v)
-      by v (inr h) =
+      in_formula_or_essential v (inl h) = let t = typed k x s e f h v in (t.0, t.1, t.2, v)
+      in_formula_or_essential v (inr h) =
           let kind : ℕ → Bool = λ (j : ℕ). list_any is_essential (statement_at db j) in
           let a =
-          found_active db k (λ j. kind j && is_member (formula_at db j) x)
+          passing_active db k (λ j. kind j && is_member (formula_at db j) x)
           (sym (any_flat_map (λ y. x == y) (formula_at db) (active_of is_essential db k)
           ∙ any_filter kind (λ j. is_member (formula_at db j) x) (active db k))
           ∙ h) in
           let p = and_parts (kind a.0) (is_member (formula_at db a.0) x) a.2 in
-          let t = found_at db is_essential a.0 p.0 in
+          let t = passing_statement db is_essential a.0 p.0 in
           let y = typed a.0 x t.0 t.1 (essential_formula t.0 t.2) p.1 v in (
             y.0,
-            still db y.0 a.0 k y.2.statement t.0 y.2.stands
+            still_active db y.0 a.0 k y.2.statement t.0 y.2.stands
                 (floating_local y.2.statement y.2.floats) t.1
                 (essential_local t.0 t.2) y.1 a.1,
             y.2,
@@ -181,7 +187,8 @@ module _ (db : List Statement) (lawful : (k : ℕ) → k < length db → IsLawfu
   -- the `$f` of a mandatory variable is mandatory
   pub type_mandatory : (k i x : ℕ) → Types i x → is_member (mandatory_variables db k) x ≡ true
       → is_mandatory db k i ≡ true
-  type_mandatory k i x t h = grind (arith, common_steps, and_from, at_found, or_left, or_right)
+  type_mandatory k i x t h =
+      grind (arith, common_steps, and_from, statement_passes, or_left, or_right)
 
   -- each variable of the formula is mandatory
   pub of_formula : (k x : ℕ) → is_member (formula_at db k) x ≡ true → is_variable_number db x ≡ true
@@ -193,71 +200,73 @@ module _ (db : List Statement) (lawful : (k : ℕ) → k < length db → IsLawfu
       → is_member (formula_at db j) x ≡ true → is_variable_number db x ≡ true
       → is_member (mandatory_variables db k) x ≡ true
   of_hypothesis k j x a t h v =
-      by (or_cases (list_any is_essential (statement_at db j))
+      by_kind (or_cases (list_any is_essential (statement_at db j))
       (list_any is_floating (statement_at db j)
       && list_any (is_member (mandatory_variables db k)) (formula_at db j)) t)
     where
       is_essential_at : ℕ → Bool
       is_essential_at i = list_any is_essential (statement_at db i)
 
-      among : list_any is_essential (statement_at db j) ≡ true
+      among_essential : list_any is_essential (statement_at db j) ≡ true
           → is_member (flat_map (formula_at db) (active_of is_essential db k)) x ≡ true
-      among g =
+      among_essential g =
           any_flat_map (λ y. x == y) (formula_at db) (active_of is_essential db k)
           ∙ any_filter is_essential_at (λ i. is_member (formula_at db i) x) (active db k)
-          ∙ active_found db k (λ i. is_essential_at i && is_member (formula_at db i) x) j a
+          ∙ some_active_passes db k (λ i. is_essential_at i && is_member (formula_at db i) x) j a
           (and_from (is_essential_at j) (is_member (formula_at db j) x) g h)
 
-      alone : (y : ℕ) → Types j y → x ≡ y
-      alone y t =
-          one (or_cases (x == t.typecode) ((x == y) || false)
+      is_its_variable : (y : ℕ) → Types j y → x ≡ y
+      is_its_variable y t =
+          typecode_or_variable (or_cases (x == t.typecode) ((x == y) || false)
           (ap (λ g. is_member g x) (sym t.is) ∙ h))
         where
-          one : ((x == t.typecode) ≡ true) ⊎ (((x == y) || false) ≡ true) → x ≡ y
-          one (inl g) =
+          typecode_or_variable : ((x == t.typecode) ≡ true) ⊎ (((x == y) || false) ≡ true) → x ≡ y
+          typecode_or_variable (inl g) =
               absurd (true≢false
               (sym v ∙ ap (is_variable_number db) (eqb-true x t.typecode g) ∙ t.constant))
-          one (inr g) = eqb-true x y (lone (x == y) g)
+          typecode_or_variable (inr g) = eqb-true x y (passes_alone (x == y) g)
 
-      typed_one : (y : ℕ) → Types j y
+      mandatory_if_typed : (y : ℕ) → Types j y
           → list_any (is_member (mandatory_variables db k)) (formula_at db j) ≡ true
           → is_member (mandatory_variables db k) x ≡ true
-      typed_one y t g =
-          one (or_cases (is_member (mandatory_variables db k) t.typecode)
+      mandatory_if_typed y t g =
+          typecode_or_variable (or_cases (is_member (mandatory_variables db k) t.typecode)
           (is_member (mandatory_variables db k) y || false)
           (ap (list_any (is_member (mandatory_variables db k))) (sym t.is) ∙ g))
         where
-          more : List ℕ
-          more = flat_map (formula_at db) (active_of is_essential db k)
+          essential_symbols : List ℕ
+          essential_symbols = flat_map (formula_at db) (active_of is_essential db k)
 
-          one : (is_member (mandatory_variables db k) t.typecode ≡ true)
+          typecode_or_variable : (is_member (mandatory_variables db k) t.typecode ≡ true)
               ⊎ ((is_member (mandatory_variables db k) y || false) ≡ true)
               → is_member (mandatory_variables db k) x ≡ true
-          one (inl g) =
+          typecode_or_variable (inl g) =
               absurd (true≢false
-              (sym (member_filter (is_variable_number db) (formula_at db k ++ more) t.typecode g).0
+              (sym (member_filter (is_variable_number db)
+              (formula_at db k ++ essential_symbols) t.typecode g).0
               ∙ t.constant))
-          one (inr g) =
-              ap (is_member (mandatory_variables db k)) (alone y t)
-              ∙ lone (is_member (mandatory_variables db k) y) g
+          typecode_or_variable (inr g) =
+              ap (is_member (mandatory_variables db k)) (is_its_variable y t)
+              ∙ passes_alone (is_member (mandatory_variables db k) y) g
 
-      by : (list_any is_essential (statement_at db j) ≡ true)
+      by_kind : (list_any is_essential (statement_at db j) ≡ true)
           ⊎ ((list_any is_floating (statement_at db j)
           && list_any (is_member (mandatory_variables db k)) (formula_at db j))
           ≡ true)
           → is_member (mandatory_variables db k) x ≡ true
-      by (inl g) =
-          let more = flat_map (formula_at db) (active_of is_essential db k) in
-          filter_member (is_variable_number db) (formula_at db k ++ more) x v
-          (list_any-append (λ y. x == y) (formula_at db k) more
-          ∙ or_right (is_member (formula_at db k) x) (is_member more x) (among g))
-      by (inr g) =
+      by_kind (inl g) =
+          let essential_symbols = flat_map (formula_at db) (active_of is_essential db k) in
+          filter_member (is_variable_number db) (formula_at db k ++ essential_symbols) x v
+          (list_any-append (λ y. x == y) (formula_at db k) essential_symbols
+          ∙ or_right (is_member (formula_at db k) x) (is_member essential_symbols x)
+          (among_essential g))
+      by_kind (inr g) =
           let p =
           and_parts (list_any is_floating (statement_at db j))
           (list_any (is_member (mandatory_variables db k)) (formula_at db j)) g in
-          let s = found_at db is_floating j p.0 in
+          let s = passing_statement db is_floating j p.0 in
           let y = typing j s.0 s.1 s.2 in
-          typed_one (index_of y.0 (symbol_names db)) y.1 p.1
+          mandatory_if_typed (index_of y.0 (symbol_names db)) y.1 p.1
 
   -- both variables of a mandatory pair are
   pub of_pair : (k : ℕ) (p : Pair) → is_mandatory_pair db k p ≡ true
@@ -277,7 +286,7 @@ module _ (db : List Statement) (lawful : (k : ℕ) → k < length db → IsLawfu
         any_map (binds (context_at db m) x) (formula_at db) (mandatory_hypotheses db k)
         ∙ any_filter (is_mandatory db k) (λ j. binds (context_at db m) x (formula_at db j))
         (active db k)
-        ∙ active_found db k
+        ∙ some_active_passes db k
         (λ j. is_mandatory db k j && binds (context_at db m) x (formula_at db j)) j a
         (and_from (is_mandatory db k j) (binds (context_at db m) x (formula_at db j)) t b)
 
@@ -334,32 +343,33 @@ module _ (db : List Statement) (lawful : (k : ℕ) → k < length db → IsLawfu
 
   -- what lawful statements stand for asks for no variable that its hypotheses don't have
   pub lawful_complete : AreComplete db
-  lawful_complete m k = by (is_active db k m)
+  lawful_complete m k = by_activity (is_active db k m)
     where
-      of : (s : Statement) → slice_get db k ≡ Some s → IsFine (context_at db m) (rule_of db k s)
-      of (axiomatic l p xs d) e = complete m k (axiomatic l p xs d) e refl
-      of (provable l p xs q ps d) e = complete m k (provable l p xs q ps d) e refl
-      of (floating l p xs d) e = tt
-      of (essential l p xs d) e = tt
-      of (constants p xs d) e = tt
-      of (variables p xs d) e = tt
-      of (disjoint p xs d) e = tt
-      of (opening p) e = tt
-      of (closing p) e = tt
+      by_statement : (s : Statement) → slice_get db k ≡ Some s
+          → HasCompleteFrame (context_at db m) (rule_of db k s)
+      by_statement (axiomatic l p xs d) e = complete m k (axiomatic l p xs d) e refl
+      by_statement (provable l p xs q ps d) e = complete m k (provable l p xs q ps d) e refl
+      by_statement (floating l p xs d) e = tt
+      by_statement (essential l p xs d) e = tt
+      by_statement (constants p xs d) e = tt
+      by_statement (variables p xs d) e = tt
+      by_statement (disjoint p xs d) e = tt
+      by_statement (opening p) e = tt
+      by_statement (closing p) e = tt
 
       at_k : (o : Option Statement) → slice_get db k ≡ o
-          → IsFine (context_at db m) (elim o [ None ↦ None | Some s ↦ rule_of db k s ])
+          → HasCompleteFrame (context_at db m) (elim o [ None ↦ None | Some s ↦ rule_of db k s ])
       at_k None e = tt
-      at_k (Some s) e = of s e
+      at_k (Some s) e = by_statement s e
 
-      by : (b : Bool)
-          → IsFine (context_at db m)
+      by_activity : (b : Bool)
+          → HasCompleteFrame (context_at db m)
           (elim b [
             | false ↦ None
             | true ↦ elim (slice_get db k) [ None ↦ None | Some s ↦ rule_of db k s ]
           ])
-      by false = tt
-      by true = at_k (slice_get db k) refl
+      by_activity false = tt
+      by_activity true = at_k (slice_get db k) refl
 
 -- the frames of all that is read are complete: a lawful `$e`, `$a` or `$p` has an active `$f` for
 -- each of its variables

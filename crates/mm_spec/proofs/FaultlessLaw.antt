@@ -12,7 +12,7 @@ use Rattle.mm_spec.specs.Text.{Bytes, Token, Fault, fault, is_in, words}
 use Rattle.mm_spec.specs.Statement.{Statement, constants, variables, floating, essential, axiomatic}
 use Rattle.mm_spec.specs.Statement.{provable, symbols_of}
 use Rattle.mm_spec.specs.Scope.{Names, Typing, is_local, is_global, is_active}
-use Rattle.mm_spec.specs.Scope.{constants_of, variables_of, typings_of, stays}
+use Rattle.mm_spec.specs.Scope.{constants_of, variables_of, typings_of, is_block_open}
 use Rattle.mm_spec.specs.Lawful.{when, at, at_each, symbol_codes}
 use Rattle.mm_spec.specs.Lawful.{is_typed, formula_faults, label_faults, floating_faults}
 use Rattle.mm_spec.specs.Lawful.{scope_faults, least}
@@ -22,7 +22,7 @@ use Rattle.mm_spec.specs.Derivation.{is_member}
 use Rattle.mm_spec.specs.declared.Code.{Code}
 use Rattle.mm_spec.specs.declared.Code.TheVariants.{UndeclaredSymbol}
 use Rattle.mm_spec.specs.declared.Code.TheVariants.{UntypedVariable, BadTypecode, BadFloating}
-use Rattle.mm_spec.proofs.ActivityLaw.{stays_exact}
+use Rattle.mm_spec.proofs.ActivityLaw.{is_block_open_exact}
 use Rattle.mm_spec.proofs.FindsLaw.{same_word}
 
 -- ---- no faults
@@ -58,27 +58,27 @@ pub each_none : (codes : List Bytes → Bytes → List Code) (e : List Bytes) (t
     → (earlier : List Bytes) × (codes earlier w ≡ [])
 each_none codes e [] n w m = absurd (true≢false (sym m))
 each_none codes e (t ∷ ts) n w m =
-    by (or_cases (bytes_eq w t.word) (is_in w (words ts)) m)
+    at_first_or_later (or_cases (bytes_eq w t.word) (is_in w (words ts)) m)
     (λ h. each_none codes (t.word ∷ e) ts
     (append_none (at t.at (codes e t.word)) (at_each codes (t.word ∷ e) ts) n).1 w h)
   where
-    by : (bytes_eq w t.word ≡ true) ⊎ (is_in w (words ts) ≡ true)
+    at_first_or_later : (bytes_eq w t.word ≡ true) ⊎ (is_in w (words ts) ≡ true)
         → (is_in w (words ts) ≡ true → (earlier : List Bytes) × (codes earlier w ≡ []))
         → (earlier : List Bytes) × (codes earlier w ≡ [])
-    by (inl h) on = (
+    at_first_or_later (inl h) of_the_rest = (
       e,
       ap (codes e) (same_word w t.word h)
           ∙ at_none t.at (codes e t.word)
           (append_none (at t.at (codes e t.word)) (at_each codes (t.word ∷ e) ts) n).0,
     )
-    by (inr h) on = on h
+    at_first_or_later (inr h) of_the_rest = of_the_rest h
 
 -- ---- what lawful statements declare
 
-pub no_kind : (s : Statement) (w : Bytes) → is_in w (constants_of s) ≡ true
+pub not_constant_and_variable : (s : Statement) (w : Bytes) → is_in w (constants_of s) ≡ true
     → is_in w (variables_of s) ≡ true → ⊥
-no_kind (constants k xs d) w c v = true≢false (sym v)
-no_kind _ w c v = true≢false (sym c)
+not_constant_and_variable (constants k xs d) w c v = true≢false (sym v)
+not_constant_and_variable _ w c v = true≢false (sym c)
 
 pub new_constant : (n : Names) (d : ℕ) (s : Statement) (w : Bytes) → scope_faults n d s ≡ []
     → is_in w (constants_of s) ≡ true → is_in w n.all_variables ≡ false
@@ -102,25 +102,27 @@ has_formula _ = false
 abbrev pub IsKnown : Names → Bytes → Type 0
 IsKnown n w = (is_in w n.constants ≡ true) ⊎ (is_typed n w ≡ true)
 
-bits : (c a t : Bool) → not (c || a) ≡ false → (a && not t) ≡ false → (c ≡ true) ⊎ (t ≡ true)
-bits true a t h k = inl refl
-bits false true t h k = inr (not-false t k)
-bits false false t h k = inl (sym h)
+constant_or_typed : (c a t : Bool) → not (c || a) ≡ false → (a && not t) ≡ false
+    → (c ≡ true) ⊎ (t ≡ true)
+constant_or_typed true a t h k = inl refl
+constant_or_typed false true t h k = inr (not-false t k)
+constant_or_typed false false t h k = inl (sym h)
 
 formula_known : (n : Names) (xs : List Token) (end : ℕ) → formula_faults n xs end ≡ [] → (w : Bytes)
     → is_in w (words xs) ≡ true → IsKnown n w
 formula_known n [] end e w m = absurd (true≢false (sym m))
-formula_known n (t ∷ ts) end e w m = by (or_cases (bytes_eq w t.word) (is_in w (words ts)) m)
+formula_known n (t ∷ ts) end e w m =
+    at_first_or_later (or_cases (bytes_eq w t.word) (is_in w (words ts)) m)
   where
-    by : (bytes_eq w t.word ≡ true) ⊎ (is_in w (words ts) ≡ true) → IsKnown n w
-    by (inl h) =
+    at_first_or_later : (bytes_eq w t.word ≡ true) ⊎ (is_in w (words ts) ≡ true) → IsKnown n w
+    at_first_or_later (inl h) =
         inl (ap (λ v. is_in v n.constants) (same_word w t.word h)
         ∙ not-false (is_in t.word n.constants)
         (when_none (not (is_in t.word n.constants)) BadTypecode
         (at_none t.at (when (not (is_in t.word n.constants)) BadTypecode)
         (append_none (at t.at (when (not (is_in t.word n.constants)) BadTypecode))
         (at_each (symbol_codes n) [] ts) e).0)))
-    by (inr h) =
+    at_first_or_later (inr h) =
         let x =
         each_none (symbol_codes n) [] ts
         (append_none (at t.at (when (not (is_in t.word n.constants)) BadTypecode))
@@ -128,7 +130,7 @@ formula_known n (t ∷ ts) end e w m = by (or_cases (bytes_eq w t.word) (is_in w
         let first =
         when (not (is_in w n.constants || is_in w n.active_variables)) UndeclaredSymbol in
         let second = when (is_in w n.active_variables && not (is_typed n w)) UntypedVariable in
-        bits (is_in w n.constants) (is_in w n.active_variables) (is_typed n w)
+        constant_or_typed (is_in w n.constants) (is_in w n.active_variables) (is_typed n w)
         (when_none (not (is_in w n.constants || is_in w n.active_variables)) UndeclaredSymbol
         (append_none first second x.1).0)
         (when_none (is_in w n.active_variables && not (is_typed n w)) UntypedVariable
@@ -161,13 +163,13 @@ pub record IsTyping (n : Names) (s : Statement) : Type 0 where
 pub floating_typing : (n : Names) (d : ℕ) (s : Statement) → is_floating s ≡ true
     → scope_faults n d s ≡ [] → IsTyping n s
 floating_typing n d (floating l k xs e) h f =
-    by xs (append_none (label_faults n l) (floating_faults n k xs) f).1
+    by_symbols xs (append_none (label_faults n l) (floating_faults n k xs) f).1
   where
-    by : (xs : List Token) → floating_faults n k xs ≡ [] → IsTyping n (floating l k xs e)
-    by [] g = absurd (cc)
-    by (c ∷ []) g = absurd (cc)
-    by (c ∷ v ∷ x ∷ xs) g = absurd (cc)
-    by (c ∷ v ∷ []) g =
+    by_symbols : (xs : List Token) → floating_faults n k xs ≡ [] → IsTyping n (floating l k xs e)
+    by_symbols [] g = absurd (cc)
+    by_symbols (c ∷ []) g = absurd (cc)
+    by_symbols (c ∷ v ∷ x ∷ xs) g = absurd (cc)
+    by_symbols (c ∷ v ∷ []) g =
         record {
           label = l;
           keyword = k;
@@ -176,14 +178,15 @@ floating_typing n d (floating l k xs e) h f =
           dot = e;
           is = refl;
           constant = (and_parts (is_in c.word n.constants) (is_in v.word n.active_variables)
-              (both (is_in c.word n.constants && is_in v.word n.active_variables) _ g)).0;
+              (not_bad_floating
+              (is_in c.word n.constants && is_in v.word n.active_variables) _ g)).0;
         }
       where
-        both : (b : Bool) (fs : List Fault)
+        not_bad_floating : (b : Bool) (fs : List Fault)
             → ◌≡◌ {A = List Fault} (elim b [ true ↦ fs | false ↦ fault k BadFloating ∷ [] ]) []
             → b ≡ true
-        both true fs e = refl
-        both false fs e = absurd (cc)
+        not_bad_floating true fs e = refl
+        not_bad_floating false fs e = absurd (cc)
 floating_typing n d _ h f = absurd (true≢false (sym h))
 
 pub typing_floats : (q : Typing → Bool) (s : Statement) → list_any q (typings_of s) ≡ true
@@ -193,40 +196,43 @@ typing_floats q _ e = absurd (true≢false (sym e))
 
 -- ---- numbers of symbols
 
-pub place_get : (w v : Bytes) (vs : List Bytes) → slice_get vs (index_of w vs) ≡ Some v → v ≡ w
-place_get w v [] e = absurd (cc)
-place_get w v (u ∷ us) e = by (bytes_eq w u) refl e (λ h. place_get w v us h)
+pub index_of_get : (w v : Bytes) (vs : List Bytes) → slice_get vs (index_of w vs) ≡ Some v → v ≡ w
+index_of_get w v [] e = absurd (cc)
+index_of_get w v (u ∷ us) e = by_equality (bytes_eq w u) refl e (λ h. index_of_get w v us h)
   where
-    by : (b : Bool) → bytes_eq w u ≡ b
+    by_equality : (b : Bool) → bytes_eq w u ≡ b
         → slice_get (u ∷ us) (elim b [ true ↦ 0 | false ↦ suc (index_of w us) ]) ≡ Some v
         → (slice_get us (index_of w us) ≡ Some v → v ≡ w) → v ≡ w
-    by true h e on = let s : w ≡ u = same_word w u h in cc
-    by false h e on = on e
+    by_equality true h e of_the_rest = let s : w ≡ u = same_word w u h in cc
+    by_equality false h e of_the_rest = of_the_rest e
 
 pub variable_word : (db : List Statement) (w : Bytes)
     → is_variable_number db (index_of w (symbol_names db)) ≡ true
     → is_in w (flat_map variables_of db) ≡ true
-variable_word db w e = grind (arith, common_steps, place_get)
+variable_word db w e = grind (arith, common_steps, index_of_get)
 
 pub member_word : (names ws : List Bytes) (x : ℕ)
     → is_member (map (λ w. index_of w names) ws) x ≡ true
     → (w : Bytes) × (is_in w ws ≡ true) × (x ≡ index_of w names)
 member_word names [] x e = absurd (true≢false (sym e))
 member_word names (v ∷ ws) x e =
-    by (or_cases (x == index_of v names) (is_member (map (λ w. index_of w names) ws) x) e)
+    at_first_or_later
+    (or_cases (x == index_of v names) (is_member (map (λ w. index_of w names) ws) x) e)
     (λ h. member_word names ws x h)
   where
-    by : ((x == index_of v names) ≡ true) ⊎ (is_member (map (λ w. index_of w names) ws) x ≡ true)
+    at_first_or_later : ((x == index_of v names) ≡ true)
+        ⊎ (is_member (map (λ w. index_of w names) ws) x ≡ true)
         → (is_member (map (λ w. index_of w names) ws) x ≡ true
         → (w : Bytes) × (is_in w ws ≡ true) × (x ≡ index_of w names))
         → (w : Bytes) × (is_in w (v ∷ ws) ≡ true) × (x ≡ index_of w names)
-    by (inl h) on = (
+    at_first_or_later (inl h) of_the_rest = (
       v,
       or_left (bytes_eq v v) (is_in v ws) ((bytes_eq-Decides v v).1 refl),
       eqb-true x
           (index_of v names) h,
     )
-    by (inr h) on = let r = on h in (r.0, or_right (bytes_eq r.0 v) (is_in r.0 ws) r.1, r.2)
+    at_first_or_later (inr h) of_the_rest =
+        let r = of_the_rest h in (r.0, or_right (bytes_eq r.0 v) (is_in r.0 ws) r.1, r.2)
 
 -- ---- activity of what is local
 
@@ -242,12 +248,23 @@ pub essential_local : (s : Statement) → is_essential s ≡ true → IsLocal s
 essential_local (essential l k xs d) e = record { local = refl; global = refl }
 essential_local _ e = absurd (true≢false (sym e))
 
-local_is : (db : List Statement) (i k : ℕ) (s : Statement) → slice_get db i ≡ Some s → IsLocal s
-    → is_active db i k ≡ (nat_lt i k && stays db i k)
-local_is db i k s e l = grind (arith, common_steps)
+local_activity : (db : List Statement) (i k : ℕ) (s : Statement) → slice_get db i ≡ Some s
+    → IsLocal s
+    → is_active db i k ≡ (nat_lt i k && is_block_open db i k)
+local_activity db i k s e l = grind (arith, common_steps)
 
 -- what is active at a statement that is still active, is active too
-pub still : (db : List Statement) (i j k : ℕ) (s t : Statement) → slice_get db i ≡ Some s
+pub still_active : (db : List Statement) (i j k : ℕ) (s t : Statement) → slice_get db i ≡ Some s
     → IsLocal s → slice_get db j ≡ Some t → IsLocal t → is_active db i j ≡ true
     → is_active db j k ≡ true → is_active db i k ≡ true
-still db i j k s t e l f m a b = grind (arith, common_steps, and_from, and_parts, cases_lt, local_is, lt-ltb, stays_exact)
+still_active db i j k s t e l f m a b =
+    grind (
+      arith,
+      common_steps,
+      and_from,
+      and_parts,
+      cases_lt,
+      local_activity,
+      lt-ltb,
+      is_block_open_exact,
+    )

@@ -14,7 +14,7 @@ use Rattle.mm_spec.specs.Statement.{Statement}
 use Rattle.mm_spec.specs.Scope.{is_active, active, statement_at}
 use Rattle.mm_spec.specs.Frame.{formula_of, formula_at}
 use Rattle.mm_spec.specs.Derivation.{is_member}
-use Rattle.mm_spec.proofs.BoolLaw.{lone}
+use Rattle.mm_spec.proofs.BoolLaw.{passes_alone}
 
 -- ---- tests of lists
 
@@ -38,48 +38,53 @@ any_range : (p : ℕ → Bool) (n a : ℕ) → list_any p (range_with_len a n) �
     → (i : ℕ) × (p i ≡ true)
 any_range p zero a e = absurd (true≢false (sym e))
 any_range p (suc n) a e =
-    by (or_cases (p a) (list_any p (range_with_len (a + 1) n)) e) (λ h. any_range p n (a + 1) h)
+    at_first_or_later (or_cases (p a) (list_any p (range_with_len (a + 1) n)) e)
+    (λ h. any_range p n (a + 1) h)
   where
-    by : (p a ≡ true) ⊎ (list_any p (range_with_len (a + 1) n) ≡ true)
+    at_first_or_later : (p a ≡ true) ⊎ (list_any p (range_with_len (a + 1) n) ≡ true)
         → (list_any p (range_with_len (a + 1) n) ≡ true → (i : ℕ) × (p i ≡ true))
         → (i : ℕ) × (p i ≡ true)
-    by (inl h) on = (a, h)
-    by (inr h) on = on h
+    at_first_or_later (inl h) of_the_rest = (a, h)
+    at_first_or_later (inr h) of_the_rest = of_the_rest h
 
 pub range_any : (p : ℕ → Bool) (n a i : ℕ) → a ≤ i → i < a + n → p i ≡ true
     → list_any p (range_with_len a n) ≡ true
 range_any p zero a i l h e = absurd (omega arith)
 range_any p (suc n) a i l h e =
-    by (eq-or-lt_of_le l) (λ s. range_any p n (a + 1) i (omega (arith, s)) (omega arith) e)
+    at_first_or_later (eq-or-lt_of_le l)
+    (λ s. range_any p n (a + 1) i (omega (arith, s)) (omega arith) e)
   where
-    by : (a ≡ i) ⊎ (a < i) → (a < i → list_any p (range_with_len (a + 1) n) ≡ true)
+    at_first_or_later : (a ≡ i) ⊎ (a < i) → (a < i → list_any p (range_with_len (a + 1) n) ≡ true)
         → (p a || list_any p (range_with_len (a + 1) n)) ≡ true
-    by (inl s) on =
+    at_first_or_later (inl s) of_the_rest =
         or_left (p a) (list_any p (range_with_len (a + 1) n)) (subst (λ x. p x ≡ true) (sym s) e)
-    by (inr s) on = or_right (p a) (list_any p (range_with_len (a + 1) n)) (on s)
+    at_first_or_later (inr s) of_the_rest =
+        or_right (p a) (list_any p (range_with_len (a + 1) n)) (of_the_rest s)
 
 -- ---- members
 
 pub member_filter : (t : ℕ → Bool) (xs : List ℕ) (x : ℕ) → is_member (filter t xs) x ≡ true
     → (t x ≡ true) × (is_member xs x ≡ true)
-member_filter t xs x e = go xs (sym (any_filter t (λ y. x == y) xs) ∙ e)
+member_filter t xs x e = passes_and_is_member xs (sym (any_filter t (λ y. x == y) xs) ∙ e)
   where
-    go : (ys : List ℕ) → list_any (λ y. t y && (x == y)) ys ≡ true
+    passes_and_is_member : (ys : List ℕ) → list_any (λ y. t y && (x == y)) ys ≡ true
         → (t x ≡ true) × (is_member ys x ≡ true)
-    go [] h = absurd (true≢false (sym h))
-    go (y ∷ ys) h =
-        by (or_cases (t y && (x == y)) (list_any (λ y. t y && (x == y)) ys) h) (λ k. go ys k)
+    passes_and_is_member [] h = absurd (true≢false (sym h))
+    passes_and_is_member (y ∷ ys) h =
+        at_first_or_later (or_cases (t y && (x == y)) (list_any (λ y. t y && (x == y)) ys) h)
+        (λ k. passes_and_is_member ys k)
       where
-        by : ((t y && (x == y)) ≡ true) ⊎ (list_any (λ y. t y && (x == y)) ys ≡ true)
+        at_first_or_later : ((t y && (x == y)) ≡ true) ⊎ (list_any (λ y. t y && (x == y)) ys ≡ true)
             → (list_any (λ y. t y && (x == y)) ys ≡ true → (t x ≡ true) × (is_member ys x ≡ true))
             → (t x ≡ true) × (((x == y) || is_member ys x) ≡ true)
-        by (inl k) on =
+        at_first_or_later (inl k) of_the_rest =
             let p = and_parts (t y) (x == y) k in (
               subst (λ z. t z ≡ true) (sym (eqb-true x y p.1)) p.0,
               or_left (x == y)
                   (is_member ys x) p.1,
             )
-        by (inr k) on = let r = on k in (r.0, or_right (x == y) (is_member ys x) r.1)
+        at_first_or_later (inr k) of_the_rest =
+            let r = of_the_rest k in (r.0, or_right (x == y) (is_member ys x) r.1)
 
 pub filter_member : (t : ℕ → Bool) (xs : List ℕ) (x : ℕ) → t x ≡ true → is_member xs x ≡ true
     → is_member (filter t xs) x ≡ true
@@ -124,25 +129,26 @@ pub formula_at_is : (db : List Statement) (i : ℕ) (s : Statement) → slice_ge
 formula_at_is db i s e =
     ap (flat_map (formula_of db)) (statement_at_is db i s e) ∙ append-nil (formula_of db s)
 
-pub found_at : (db : List Statement) (q : Statement → Bool) (i : ℕ)
+pub passing_statement : (db : List Statement) (q : Statement → Bool) (i : ℕ)
     → list_any q (statement_at db i) ≡ true
     → (s : Statement) × (slice_get db i ≡ Some s) × (q s ≡ true)
-found_at db q i e = grind (arith, common_steps, lone)
+passing_statement db q i e = grind (arith, common_steps, passes_alone)
 
-pub at_found : (db : List Statement) (q : Statement → Bool) (i : ℕ) (s : Statement)
+pub statement_passes : (db : List Statement) (q : Statement → Bool) (i : ℕ) (s : Statement)
     → slice_get db i ≡ Some s → q s ≡ true → list_any q (statement_at db i) ≡ true
-at_found db q i s e h = ap (list_any q) (statement_at_is db i s e) ∙ or_left (q s) false h
+statement_passes db q i s e h = ap (list_any q) (statement_at_is db i s e) ∙ or_left (q s) false h
 
 pub is_before : (db : List Statement) (i k : ℕ) → is_active db i k ≡ true → i < k
 is_before db i k e = ltb-true i k (and_parts _ _ e).0
 
-pub found_active : (db : List Statement) (k : ℕ) (q : ℕ → Bool) → list_any q (active db k) ≡ true
+pub passing_active : (db : List Statement) (k : ℕ) (q : ℕ → Bool) → list_any q (active db k) ≡ true
     → (i : ℕ) × (is_active db i k ≡ true) × (q i ≡ true)
-found_active db k q e = grind (arith, common_steps, and_parts, any_filter, any_range)
+passing_active db k q e = grind (arith, common_steps, and_parts, any_filter, any_range)
 
-pub active_found : (db : List Statement) (k : ℕ) (q : ℕ → Bool) (i : ℕ) → is_active db i k ≡ true
+pub some_active_passes : (db : List Statement) (k : ℕ) (q : ℕ → Bool) (i : ℕ)
+    → is_active db i k ≡ true
     → q i ≡ true → list_any q (active db k) ≡ true
-active_found db k q i a e =
+some_active_passes db k q i a e =
     let l = is_before db i k a in
     any_filter (λ i. is_active db i k) q (range_with_len 0 k)
     ∙ range_any (λ i. is_active db i k && q i) k 0 i (omega arith) (omega arith)
@@ -154,20 +160,21 @@ pub same_word : (v w : Bytes) → bytes_eq v w ≡ true → v ≡ w
 same_word v w e = (bytes_eq-Decides v w).0 e
 
 -- what declares a word
-pub declared : (f : Statement → List Bytes) (db : List Statement) (w : Bytes)
+pub declaring_statement : (f : Statement → List Bytes) (db : List Statement) (w : Bytes)
     → is_in w (flat_map f db) ≡ true
     → (i : ℕ) × (s : Statement) × (slice_get db i ≡ Some s) × (is_in w (f s) ≡ true)
-declared f [] w e = absurd (true≢false (sym e))
-declared f (x ∷ db) w e =
-    by (or_cases (is_in w (f x)) (is_in w (flat_map f db))
-    (sym (list_any-append (bytes_eq w) (f x) (flat_map f db)) ∙ e)) (λ h. declared f db w h)
+declaring_statement f [] w e = absurd (true≢false (sym e))
+declaring_statement f (x ∷ db) w e =
+    in_first_or_later (or_cases (is_in w (f x)) (is_in w (flat_map f db))
+    (sym (list_any-append (bytes_eq w) (f x) (flat_map f db)) ∙ e))
+    (λ h. declaring_statement f db w h)
   where
-    by : (is_in w (f x) ≡ true) ⊎ (is_in w (flat_map f db) ≡ true)
+    in_first_or_later : (is_in w (f x) ≡ true) ⊎ (is_in w (flat_map f db) ≡ true)
         → (is_in w (flat_map f db) ≡ true
         → (i : ℕ) × (s : Statement) × (slice_get db i ≡ Some s) × (is_in w (f s) ≡ true))
         → (i : ℕ) × (s : Statement) × (slice_get (x ∷ db) i ≡ Some s) × (is_in w (f s) ≡ true)
-    by (inl h) on = (0, x, refl, h)
-    by (inr h) on = let r = on h in (suc r.0, r.1, r.2, r.3)
+    in_first_or_later (inl h) of_the_rest = (0, x, refl, h)
+    in_first_or_later (inr h) of_the_rest = let r = of_the_rest h in (suc r.0, r.1, r.2, r.3)
 
 -- it is declared before each later place
 pub declares : (f : Statement → List Bytes) (db : List Statement) (k i : ℕ) (s : Statement)
@@ -187,12 +194,13 @@ declared_before f [] (suc k) w e = e
 declared_before f (x ∷ db) zero w e = absurd (true≢false (sym e))
 declared_before f (x ∷ db) (suc k) w e =
     list_any-append (bytes_eq w) (f x) (flat_map f db)
-    ∙ by (or_cases (is_in w (f x)) (is_in w (flat_map f (take k db)))
+    ∙ in_first_or_later (or_cases (is_in w (f x)) (is_in w (flat_map f (take k db)))
     (sym (list_any-append (bytes_eq w) (f x) (flat_map f (take k db))) ∙ e))
     (λ h. declared_before f db k w h)
   where
-    by : (is_in w (f x) ≡ true) ⊎ (is_in w (flat_map f (take k db)) ≡ true)
+    in_first_or_later : (is_in w (f x) ≡ true) ⊎ (is_in w (flat_map f (take k db)) ≡ true)
         → (is_in w (flat_map f (take k db)) ≡ true → is_in w (flat_map f db) ≡ true)
         → (is_in w (f x) || is_in w (flat_map f db)) ≡ true
-    by (inl h) on = or_left (is_in w (f x)) (is_in w (flat_map f db)) h
-    by (inr h) on = or_right (is_in w (f x)) (is_in w (flat_map f db)) (on h)
+    in_first_or_later (inl h) of_the_rest = or_left (is_in w (f x)) (is_in w (flat_map f db)) h
+    in_first_or_later (inr h) of_the_rest =
+        or_right (is_in w (f x)) (is_in w (flat_map f db)) (of_the_rest h)

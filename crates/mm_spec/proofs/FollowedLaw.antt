@@ -8,36 +8,41 @@ use Rattle.std.proofs.lemmas.List.Sums.{sum_by-append}
 use Rattle.std.specs.List.{list_all}
 use Rattle.std.proofs.lemmas.Bool.{and_parts}
 use Rattle.mm_spec.specs.Text.{Bytes, Token, token, has_dollar, is_label, is_label_byte}
-use Rattle.mm_spec.specs.Laws.Table.{Class, constant, variable, disjoint_of, type_of, logical}
-use Rattle.mm_spec.specs.Laws.Table.{axiom_of, theorem_of, equals, dot, open_block, close_block}
+use Rattle.mm_spec.specs.Laws.Table.{Class, constant_keyword, variable_keyword, disjoint_keyword}
+use Rattle.mm_spec.specs.Laws.Table.{floating_keyword, essential_keyword}
+use Rattle.mm_spec.specs.Laws.Table.{axiom_keyword, theorem_keyword, equals, dot, open_block}
+use Rattle.mm_spec.specs.Laws.Table.{close_block}
 use Rattle.mm_spec.specs.Laws.Table.{plain, class}
 use Rattle.mm_spec.specs.Statement.{Statement, constants, variables, disjoint, floating, essential}
-use Rattle.mm_spec.specs.Statement.{axiomatic, provable, opening, closing, spelled, is_plain}
+use Rattle.mm_spec.specs.Statement.{axiomatic, provable, opening, closing, spelling_of, is_plain}
 use Rattle.mm_spec.specs.Statement.{is_complete, is_opening, is_closing, BeginStatements}
 
 -- where the reading stands, with so many blocks open
 pub data State : Type 0 where
   at_start at_label in_symbols in_formula in_proof : ℕ → State
 
+-- after a `$}`: one block less is open
 abbrev pub start_block : ℕ → Option State
 start_block zero = None
 start_block (suc d) = Some (at_start d)
 
+-- after a word without `$` at the beginning of a statement, given whether it is a label
 abbrev pub label_at_start : Bool → ℕ → Option State
 label_at_start true d = Some (at_label d)
 label_at_start false d = None
 
+-- the state after one more word, if that is expected
 abbrev pub next : State → Class → Bytes → Option State
-next (at_start d) constant w = Some (in_symbols d)
-next (at_start d) variable w = Some (in_symbols d)
-next (at_start d) disjoint_of w = Some (in_symbols d)
+next (at_start d) constant_keyword w = Some (in_symbols d)
+next (at_start d) variable_keyword w = Some (in_symbols d)
+next (at_start d) disjoint_keyword w = Some (in_symbols d)
 next (at_start d) open_block w = Some (at_start (suc d))
 next (at_start d) close_block w = start_block d
 next (at_start d) plain w = label_at_start (is_label w) d
-next (at_label d) type_of w = Some (in_symbols d)
-next (at_label d) logical w = Some (in_symbols d)
-next (at_label d) axiom_of w = Some (in_symbols d)
-next (at_label d) theorem_of w = Some (in_formula d)
+next (at_label d) floating_keyword w = Some (in_symbols d)
+next (at_label d) essential_keyword w = Some (in_symbols d)
+next (at_label d) axiom_keyword w = Some (in_symbols d)
+next (at_label d) theorem_keyword w = Some (in_formula d)
 next (in_symbols d) plain w = Some (in_symbols d)
 next (in_symbols d) dot w = Some (at_start d)
 next (in_formula d) plain w = Some (in_formula d)
@@ -46,6 +51,7 @@ next (in_proof d) plain w = Some (in_proof d)
 next (in_proof d) dot w = Some (at_start d)
 next _ _ w = None
 
+-- the state after the tokens, if all are expected
 abbrev pub follow : Option State → List Token → Option State
 follow q [] = q
 follow None (t ∷ ts) = None
@@ -64,13 +70,22 @@ pub plain_word : (w : Bytes) → not (has_dollar w) ≡ true → class w ≡ pla
 plain_word w e = grind (arith, common_steps)
 
 -- a state in which plain words stay
-abbrev Stays : State → Type 0
-Stays q = (w : Bytes) → next q plain w ≡ Some q
+abbrev TakesPlainWords : State → Type 0
+TakesPlainWords q = (w : Bytes) → next q plain w ≡ Some q
 
-follow_plain : (q : State) → Stays q → (xs : List Token) → is_plain xs ≡ true → (ts : List Token)
+follow_plain : (q : State) → TakesPlainWords q → (xs : List Token) → is_plain xs ≡ true
+    → (ts : List Token)
     → follow (Some q) (xs ++ ts) ≡ follow (Some q) ts
-follow_plain q stays [] e ts = refl
-follow_plain q stays (x ∷ xs) e ts = grind (arith, common_steps, and_parts, plain_word, follow_plain q stays xs (and_parts (not (has_dollar x.word)) (is_plain xs) e).1 ts)
+follow_plain q takes [] e ts = refl
+follow_plain q takes (x ∷ xs) e ts =
+    grind (
+      arith,
+      common_steps,
+      and_parts,
+      plain_word,
+      follow_plain q takes xs
+          (and_parts (not (has_dollar x.word)) (is_plain xs) e).1 ts,
+    )
 
 no_dollar : (b : ℕ) → is_label_byte b ≡ true → (b == 36) ≡ false
 no_dollar b e = grind (arith, common_steps, eqb-true)
@@ -84,12 +99,12 @@ follow_label : (d : ℕ) (l : Token) → is_label l.word ≡ true → (ts : List
 follow_label d l e ts = grind (arith, common_steps, label_plain, plain_word)
 
 -- the end of a statement without a proof
-body : (d : ℕ) (xs : List Token) (k : ℕ) → is_plain xs ≡ true
+body_followed : (d : ℕ) (xs : List Token) (k : ℕ) → is_plain xs ≡ true
     → follow (Some (in_symbols d)) (xs ++ token k (codes "$.") ∷ []) ≡ Some (at_start d)
-body d xs k e = follow_plain (in_symbols d) (λ w. refl) xs e (token k (codes "$.") ∷ [])
+body_followed d xs k e = follow_plain (in_symbols d) (λ w. refl) xs e (token k (codes "$.") ∷ [])
 
-whole_body : (xs : List Token) → (true && is_plain xs && true) ≡ true → is_plain xs ≡ true
-whole_body xs e = (and_parts (is_plain xs) true e).0
+body_is_plain : (xs : List Token) → (true && is_plain xs && true) ≡ true → is_plain xs ≡ true
+body_is_plain xs e = (and_parts (is_plain xs) true e).0
 
 -- where a statement leads
 abbrev pub depth_following : Statement → ℕ → ℕ
@@ -98,25 +113,25 @@ depth_following (closing k) d = pred d
 depth_following _ d = d
 
 statement_followed : (s : Statement) (d : ℕ) → is_complete s ≡ true → (is_closing s ≡ true → 0 < d)
-    → follow (Some (at_start d)) (spelled s) ≡ Some (at_start (depth_following s d))
-statement_followed (constants k xs t) d e h = body d xs t (whole_body xs e)
-statement_followed (variables k xs t) d e h = body d xs t (whole_body xs e)
-statement_followed (disjoint k xs t) d e h = body d xs t (whole_body xs e)
+    → follow (Some (at_start d)) (spelling_of s) ≡ Some (at_start (depth_following s d))
+statement_followed (constants k xs t) d e h = body_followed d xs t (body_is_plain xs e)
+statement_followed (variables k xs t) d e h = body_followed d xs t (body_is_plain xs e)
+statement_followed (disjoint k xs t) d e h = body_followed d xs t (body_is_plain xs e)
 statement_followed (floating l k xs t) d e h =
     let f = (and_parts (is_label l.word && is_plain xs) true e).0 in
     follow_label d l (and_parts (is_label l.word) (is_plain xs) f).0
     (token k (codes "$f") ∷ (xs ++ token t (codes "$.") ∷ []))
-    ∙ body d xs t (and_parts (is_label l.word) (is_plain xs) f).1
+    ∙ body_followed d xs t (and_parts (is_label l.word) (is_plain xs) f).1
 statement_followed (essential l k xs t) d e h =
     let f = (and_parts (is_label l.word && is_plain xs) true e).0 in
     follow_label d l (and_parts (is_label l.word) (is_plain xs) f).0
     (token k (codes "$e") ∷ (xs ++ token t (codes "$.") ∷ []))
-    ∙ body d xs t (and_parts (is_label l.word) (is_plain xs) f).1
+    ∙ body_followed d xs t (and_parts (is_label l.word) (is_plain xs) f).1
 statement_followed (axiomatic l k xs t) d e h =
     let f = (and_parts (is_label l.word && is_plain xs) true e).0 in
     follow_label d l (and_parts (is_label l.word) (is_plain xs) f).0
     (token k (codes "$a") ∷ (xs ++ token t (codes "$.") ∷ []))
-    ∙ body d xs t (and_parts (is_label l.word) (is_plain xs) f).1
+    ∙ body_followed d xs t (and_parts (is_label l.word) (is_plain xs) f).1
 statement_followed (provable l k xs q ps t) d e h =
     let f = (and_parts (is_label l.word && is_plain xs) (is_plain ps) e).0 in
     follow_label d l (and_parts (is_label l.word) (is_plain xs) f).0
@@ -147,42 +162,44 @@ pub count_one : (p : Statement → Bool) (s : Statement) (list : List Statement)
     → count_by p (s ∷ list) ≡ cond (p s) 1 0 + count_by p list
 count_one p s list = grind (arith, common_steps, sum_by-append, zero-add)
 
+-- what the first statement of a list says of the blocks that the others open and close
+pub first_closes : (s : Statement) (d : ℕ)
+    → count_by is_closing (s ∷ []) ≤ d + count_by is_opening (s ∷ []) → is_closing s ≡ true → 0 < d
+first_closes (closing k) d h e = omega (arith, h)
+first_closes _ d h e = absurd (true≢false (sym e))
+
+pub fewer_closed_later : (s : Statement) (d m : ℕ) (front : List Statement)
+    → count_by is_closing (s ∷ front) ≤ d + count_by is_opening (s ∷ front)
+    → m + cond (is_closing s) 1 0 ≡ d + cond (is_opening s) 1 0
+    → count_by is_closing front ≤ m + count_by is_opening front
+fewer_closed_later s d m front h k =
+    omega (arith, h, k, count_one is_closing s front, count_one is_opening s front)
+
+pub blocks_balance : (s : Statement) (list : List Statement) (d e m : ℕ)
+    → e + count_by is_closing list ≡ m + count_by is_opening list
+    → m + cond (is_closing s) 1 0 ≡ d + cond (is_opening s) 1 0
+    → e + count_by is_closing (s ∷ list) ≡ d + count_by is_opening (s ∷ list)
+blocks_balance s list d e m h k =
+    omega (arith, h, k, count_one is_closing s list, count_one is_opening s list)
+
 pub statements_followed : (list : List Statement) (d : ℕ) → list_all is_complete list ≡ true
     → ((n : ℕ) → count_by is_closing (take n list) ≤ d + count_by is_opening (take n list))
-    → (e : ℕ) × (follow (Some (at_start d)) (flat_map spelled list) ≡ Some (at_start e))
+    → (e : ℕ) × (follow (Some (at_start d)) (flat_map spelling_of list) ≡ Some (at_start e))
     × (e + count_by is_closing list ≡ d + count_by is_opening list)
 statements_followed [] d w n = (d, refl, refl)
 statements_followed (s ∷ list) d w n =
-    let first : is_closing s ≡ true → 0 < d = closes_one s d (n 1) in
+    let first : is_closing s ≡ true → 0 < d = first_closes s d (n 1) in
     let step = blocks_counted s d first in
     let rest =
     statements_followed list (depth_following s d) (and_parts (is_complete s) (list_all is_complete list) w).1
-    (λ k. fewer (depth_following s d) (take k list) (n (suc k)) step) in (
+    (λ k. fewer_closed_later s d (depth_following s d) (take k list) (n (suc k)) step) in (
       rest.0,
-      follow_append (spelled s) (flat_map spelled list) (Some (at_start d))
-          ∙ ap (λ q. follow q (flat_map spelled list))
+      follow_append (spelling_of s) (flat_map spelling_of list) (Some (at_start d))
+          ∙ ap (λ q. follow q (flat_map spelling_of list))
           (statement_followed s d (and_parts (is_complete s) (list_all is_complete list) w).0 first)
           ∙ rest.1,
-      total rest.0 (depth_following s d) rest.2 step,
+      blocks_balance s list d rest.0 (depth_following s d) rest.2 step,
     )
-  where
-    closes_one : (s : Statement) (d : ℕ)
-        → count_by is_closing (s ∷ []) ≤ d + count_by is_opening (s ∷ []) → is_closing s ≡ true
-        → 0 < d
-    closes_one (closing k) d h e = omega (arith, h)
-    closes_one _ d h e = absurd (true≢false (sym e))
-
-    total : (e m : ℕ) → e + count_by is_closing list ≡ m + count_by is_opening list
-        → m + cond (is_closing s) 1 0 ≡ d + cond (is_opening s) 1 0
-        → e + count_by is_closing (s ∷ list) ≡ d + count_by is_opening (s ∷ list)
-    total e m h k = omega (arith, h, k, count_one is_closing s list, count_one is_opening s list)
-
-    fewer : (m : ℕ) (front : List Statement)
-        → count_by is_closing (s ∷ front) ≤ d + count_by is_opening (s ∷ front)
-        → m + cond (is_closing s) 1 0 ≡ d + cond (is_opening s) 1 0
-        → count_by is_closing front ≤ m + count_by is_opening front
-    fewer m front h k =
-        omega (arith, h, k, count_one is_closing s front, count_one is_opening s front)
 
 pub no_way_back : (ts : List Token) (q : State) → ¬ (follow None ts ≡ Some q)
 no_way_back [] q e = cc
@@ -191,15 +208,17 @@ no_way_back (t ∷ ts) q e = cc
 -- tokens with which some list begins are followed
 pub begins_followed : (ts : List Token) → BeginStatements ts
     → (q : State) × (follow (Some (at_start 0)) ts ≡ Some q)
-begins_followed ts b = go (follow (Some (at_start 0)) ts) refl
+begins_followed ts b = by_state (follow (Some (at_start 0)) ts) refl
   where
-    r : (e : ℕ) × (follow (Some (at_start 0)) (flat_map spelled b.0) ≡ Some (at_start e))
+    list_followed : (e : ℕ)
+        × (follow (Some (at_start 0)) (flat_map spelling_of b.0) ≡ Some (at_start e))
         × (e + count_by is_closing b.0 ≡ 0 + count_by is_opening b.0)
-    r = statements_followed b.0 0 b.1.whole (λ n. let m = b.1.nested n in omega (arith, m))
+    list_followed =
+        statements_followed b.0 0 b.1.whole (λ n. let m = b.1.nested n in omega (arith, m))
 
-    go : (o : Option State) → follow (Some (at_start 0)) ts ≡ o → (q : State) × (o ≡ Some q)
-    go None e =
-        absurd (no_way_back b.2 (at_start r.0)
+    by_state : (o : Option State) → follow (Some (at_start 0)) ts ≡ o → (q : State) × (o ≡ Some q)
+    by_state None e =
+        absurd (no_way_back b.2 (at_start list_followed.0)
         (sym (ap (λ o. follow o b.2) e) ∙ sym (follow_append ts b.2 (Some (at_start 0)))
-        ∙ ap (follow (Some (at_start 0))) (sym b.3) ∙ r.1))
-    go (Some q) e = (q, refl)
+        ∙ ap (follow (Some (at_start 0))) (sym b.3) ∙ list_followed.1))
+    by_state (Some q) e = (q, refl)

@@ -2,7 +2,7 @@
 -- earlier step.
 use Rattle.std.proofs.lemmas.Grind.{common_steps}
 use Rattle.std.proofs.Common.{◌≡◌, ℕ, zero, suc, ◌+◌, ◌-◌, ◌*◌, ◌==◌, ◌<◌, ◌≤◌, Bool, true, false}
-use Rattle.std.proofs.Common.{◌&&◌, ◌||◌, ◌⊎◌, inl, inr, List, [], ◌∷◌, ◌++◌, map, length, flat_map}
+use Rattle.std.proofs.Common.{◌&&◌, ◌⊎◌, inl, inr, List, [], ◌∷◌, ◌++◌, map, length, flat_map}
 use Rattle.std.proofs.Common.{Option, Some, None, slice_get, nat_le, nat_lt, bytes_eq, codes, refl}
 use Rattle.std.proofs.Common.{sym, subst, true≢false, arith, leb-true, ltb-false, eqb-true}
 use Rattle.std.proofs.Common.{length-append}
@@ -24,17 +24,18 @@ use Rattle.mm_spec.specs.CompressedProof.{group_faults, letter_faults, compresse
 use Rattle.mm_spec.specs.CompressedProof.{compressed_steps}
 use Rattle.mm_spec.specs.Proof.{steps, reading_faults}
 use Rattle.mm_spec.specs.Citation.{rule_at, context_at, steps_at, reading_faults_at}
-use Rattle.mm_spec.specs.Laws.Complete.{IsFine}
+use Rattle.mm_spec.specs.Laws.Complete.{HasCompleteFrame}
 use Rattle.mm_spec.specs.declared.Code.TheVariants.{OpenBrackets, OpenNumber, MarkBeforeStep}
 use Rattle.mm_spec.specs.declared.Code.TheVariants.{NumberTooLarge, IncompleteProof}
 use Rattle.mm_spec.specs.declared.Code.TheVariants.{BadLetter}
-use Rattle.mm_spec.specs.Laws.Stack.{IsGood, AreGoodSteps, IsGoodStep}
-use Rattle.mm_spec.proofs.FindsLaw.{each_any, each_filter, found_at}
+use Rattle.mm_spec.specs.Laws.Stack.{IsCompleteRule, AreGoodSteps, IsGoodStep}
+use Rattle.mm_spec.proofs.CompleteLaw.{is_mandatory}
+use Rattle.mm_spec.proofs.FindsLaw.{each_any, each_filter, passing_statement}
 use Rattle.mm_spec.proofs.FaultlessLaw.{append_none, at_none, when_none}
 use Rattle.mm_spec.proofs.ListLaw.{get_none}
 
-abbrev bare : List PlacedStep → List Step
-bare ps = map (λ p. p.step) ps
+abbrev steps_of : List PlacedStep → List Step
+steps_of ps = map (λ p. p.step) ps
 
 -- ---- lists
 
@@ -90,116 +91,116 @@ each_usable db k [] e = omega arith
 each_usable db k (t ∷ ts) e = grind (arith, common_steps, append_none, length-append, each_usable db k ts (append_none (proof_label_faults db k t) (flat_map (proof_label_faults db k) ts) e).1)
 
 module _ (db : List Statement) (k : ℕ)
-    (fine : (l : ℕ) → IsFine (context_at db k) (rule_at db k l)) where
+    (all_complete : (l : ℕ) → HasCompleteFrame (context_at db k) (rule_at db k l)) where
   abbrev IsGoodLabel : ℕ → Type 0
-  IsGoodLabel j = IsGood (context_at db k) (rule_at db k j)
+  IsGoodLabel j = IsCompleteRule (context_at db k) (rule_at db k j)
 
   good_label : (j : ℕ) (s : Statement) → is_active db j k ≡ true → slice_get db j ≡ Some s
       → has_rule s ≡ true → IsGoodLabel j
   good_label j s a e h = grind (arith, common_steps)
 
   usable_good : (w : Bytes) → AllByRecursion IsGoodLabel (usable db k w)
-  usable_good w = grind (arith, common_steps, and_parts, each_any, each_filter, found_at, good_label, labelled_rule)
+  usable_good w =
+      grind (arith, common_steps, and_parts, each_any, each_filter, passing_statement, good_label,
+          labelled_rule)
 
   mandatory_good : AllByRecursion IsGoodLabel (mandatory_hypotheses db k)
   mandatory_good =
-      each_filter IsGoodLabel test (active db k)
-      (each_filter (λ j. test j ≡ true → IsGoodLabel j) (λ j. is_active db j k)
+      each_filter IsGoodLabel (is_mandatory db k) (active db k)
+      (each_filter (λ j. is_mandatory db k j ≡ true → IsGoodLabel j) (λ j. is_active db j k)
       (range_with_len 0 k)
-      (each_any (λ j. is_active db j k ≡ true → test j ≡ true → IsGoodLabel j)
-      (range_with_len 0 k) good))
+      (each_any (λ j. is_active db j k ≡ true → is_mandatory db k j ≡ true → IsGoodLabel j)
+      (range_with_len 0 k) active_mandatory_good))
     where
-      test : ℕ → Bool
-      test j =
-          list_any is_essential (statement_at db j)
-          || (list_any is_floating (statement_at db j)
-          && list_any (is_member (mandatory_variables db k)) (formula_at db j))
-
-      good : (j : ℕ) → is_active db j k ≡ true → test j ≡ true → IsGoodLabel j
-      good j a t =
-          by (or_cases (list_any is_essential (statement_at db j))
+      active_mandatory_good : (j : ℕ) → is_active db j k ≡ true → is_mandatory db k j ≡ true
+          → IsGoodLabel j
+      active_mandatory_good j a t =
+          by_kind (or_cases (list_any is_essential (statement_at db j))
           (list_any is_floating (statement_at db j)
           && list_any (is_member (mandatory_variables db k)) (formula_at db j)) t)
         where
-          by : (list_any is_essential (statement_at db j) ≡ true)
+          by_kind : (list_any is_essential (statement_at db j) ≡ true)
               ⊎ ((list_any is_floating (statement_at db j)
               && list_any (is_member (mandatory_variables db k)) (formula_at db j))
               ≡ true)
               → IsGoodLabel j
-          by (inl h) =
-              let s = found_at db is_essential j h in
+          by_kind (inl h) =
+              let s = passing_statement db is_essential j h in
               good_label j s.0 a s.1 (essential_rule s.0 s.2)
-          by (inr h) =
+          by_kind (inr h) =
               let s =
-              found_at db is_floating j
+              passing_statement db is_floating j
               (and_parts (list_any is_floating (statement_at db j))
               (list_any (is_member (mandatory_variables db k)) (formula_at db j)) h).0 in
               good_label j s.0 a s.1 (floating_rule s.0 s.2)
 
   -- ---- normal proofs
 
-  good_forest : (js : List ℕ) (p n : ℕ) (rest : List PlacedStep) → AllByRecursion IsGoodLabel js
-      → ((m : ℕ) → AreGoodSteps (context_at db k) m (bare rest))
-      → AreGoodSteps (context_at db k) n (bare (map (λ j. placed p (label j)) js ++ rest))
-  good_forest [] p n rest h r = r n
-  good_forest (j ∷ js) p n rest h r = (h.0, good_forest js p (suc n) rest h.1 r)
+  good_labels_first : (js : List ℕ) (p n : ℕ) (rest : List PlacedStep)
+      → AllByRecursion IsGoodLabel js
+      → ((m : ℕ) → AreGoodSteps (context_at db k) m (steps_of rest))
+      → AreGoodSteps (context_at db k) n (steps_of (map (λ j. placed p (label j)) js ++ rest))
+  good_labels_first [] p n rest h r = r n
+  good_labels_first (j ∷ js) p n rest h r = (h.0, good_labels_first js p (suc n) rest h.1 r)
 
   normal_good : (ts : List Token) (n : ℕ)
-      → AreGoodSteps (context_at db k) n (bare (normal_steps db k ts))
+      → AreGoodSteps (context_at db k) n (steps_of (normal_steps db k ts))
   normal_good [] n = tt
   normal_good (t ∷ ts) n =
-      good_forest (usable db k t.word) t.at n (normal_steps db k ts) (usable_good t.word)
+      good_labels_first (usable db k t.word) t.at n (normal_steps db k ts) (usable_good t.word)
       (λ m. normal_good ts m)
 
   -- ---- compressed proofs
 
   -- a number stands for a label, or for a mark of a step before it
-  number_good : (labels marks : List ℕ) (count many v : ℕ) → AllByRecursion IsGoodLabel labels
-      → AllByRecursion (λ i. i < count) marks → many ≤ length labels → 0 < v
-      → v ≤ many + length marks
+  number_good : (labels marks : List ℕ) (count label_count v : ℕ)
+      → AllByRecursion IsGoodLabel labels
+      → AllByRecursion (λ i. i < count) marks → label_count ≤ length labels → 0 < v
+      → v ≤ label_count + length marks
       → (s : Step) × (step_of labels marks v ≡ s ∷ []) × IsGoodStep (context_at db k) count s
-  number_good labels marks count many zero l m h z u = absurd (omega arith)
-  number_good labels marks count many (suc n) l m h z u =
-      by (slice_get labels n) refl (slice_get marks (n - length labels)) refl
+  number_good labels marks count label_count zero l m h z u = absurd (omega arith)
+  number_good labels marks count label_count (suc n) l m h z u =
+      by_label_or_mark (slice_get labels n) refl (slice_get marks (n - length labels)) refl
     where
-      out : Option ℕ → Option ℕ → List Step
-      out a b =
+      steps_of_number : Option ℕ → Option ℕ → List Step
+      steps_of_number a b =
           elim a [ Some j ↦ label j ∷ [] | None ↦ elim b [ Some i ↦ marked i ∷ [] | None ↦ [] ] ]
 
-      by : (a : Option ℕ) → slice_get labels n ≡ a → (b : Option ℕ)
+      by_label_or_mark : (a : Option ℕ) → slice_get labels n ≡ a → (b : Option ℕ)
           → slice_get marks (n - length labels) ≡ b
-          → (s : Step) × (out a b ≡ s ∷ []) × IsGoodStep (context_at db k) count s
-      by (Some j) e b f = (label j, refl, each_get IsGoodLabel labels n j l e)
-      by None e (Some i) f =
+          → (s : Step) × (steps_of_number a b ≡ s ∷ []) × IsGoodStep (context_at db k) count s
+      by_label_or_mark (Some j) e b f = (label j, refl, each_get IsGoodLabel labels n j l e)
+      by_label_or_mark None e (Some i) f =
           (marked i, refl, each_get (λ i. i < count) marks (n - length labels) i m f)
-      by None e None f =
+      by_label_or_mark None e None f =
           let x = get_none labels n e in
           let y = get_none marks (n - length labels) f in
           absurd (omega arith)
 
-  groups_good : (gs : List Group) (labels marks : List ℕ) (many count : ℕ)
+  groups_good : (gs : List Group) (labels marks : List ℕ) (label_count count : ℕ)
       → AllByRecursion IsGoodLabel labels → AllByRecursion (λ i. i < count) marks
-      → many ≤ length labels → group_faults many (length marks) count gs ≡ []
-      → AreGoodSteps (context_at db k) count (bare (group_steps labels marks count gs))
-  groups_good [] labels marks many count l m h f = tt
-  groups_good (g ∷ gs) labels marks many count l m h f =
-      by (is_last g.last.byte) refl (g.last.byte == 90) refl f
-      (λ e. groups_good gs labels marks many (count + 1) l (later marks m) h e)
-      (λ p e. groups_good gs labels (marks ++ (count - 1) ∷ []) many count l
+      → label_count ≤ length labels → group_faults label_count (length marks) count gs ≡ []
+      → AreGoodSteps (context_at db k) count (steps_of (group_steps labels marks count gs))
+  groups_good [] labels marks label_count count l m h f = tt
+  groups_good (g ∷ gs) labels marks label_count count l m h f =
+      by_letter (is_last g.last.byte) refl (g.last.byte == 90) refl f
+      (λ e. groups_good gs labels marks label_count (count + 1) l (marks_still_earlier marks m) h e)
+      (λ p e. groups_good gs labels (marks ++ (count - 1) ∷ []) label_count count l
       (each_append (λ i. i < count) marks ((count - 1) ∷ []) m (omega arith, tt)) h
       (let same : length marks + 1
       ≡ length (marks ++ (count - 1) ∷ []) = omega
       (arith, length-append marks ((count - 1) ∷ [])) in
-      subst (λ z. group_faults many z count gs ≡ []) same e))
+      subst (λ z. group_faults label_count z count gs ≡ []) same e))
     where
-      later : (xs : List ℕ) → AllByRecursion (λ i. i < count) xs
+      marks_still_earlier : (xs : List ℕ) → AllByRecursion (λ i. i < count) xs
           → AllByRecursion (λ i. i < count + 1) xs
-      later [] h = tt
-      later (x ∷ xs) h = let b = h.0 in (omega arith, later xs h.1)
+      marks_still_earlier [] h = tt
+      marks_still_earlier (x ∷ xs) h = let b = h.0 in (omega arith, marks_still_earlier xs h.1)
 
-      first : Bool → Bool → List Fault
-      first a b = elim a [
-        | true ↦ at (starts_at g) (when (nat_lt (many + length marks) (value g)) NumberTooLarge)
+      faults_of_group : Bool → Bool → List Fault
+      faults_of_group a b = elim a [
+        | true ↦ at (starts_at g)
+            (when (nat_lt (label_count + length marks) (value g)) NumberTooLarge)
         | false ↦ elim b [
           | true ↦ at g.last.at
               (when (nat_lt 0 (length g.early)) OpenNumber ++ when (count == 0) MarkBeforeStep)
@@ -208,147 +209,158 @@ module _ (db : List Statement) (k : ℕ)
         ]
       ]
 
-      second : Bool → List Fault
-      second b =
+      faults_of_later_groups : Bool → List Fault
+      faults_of_later_groups b =
           elim b [
-            | true ↦ group_faults many (length marks + 1) count gs
-            | false ↦ group_faults many (length marks) (count + 1) gs
+            | true ↦ group_faults label_count (length marks + 1) count gs
+            | false ↦ group_faults label_count (length marks) (count + 1) gs
           ]
 
-      out : Bool → List PlacedStep
-      out a = elim a [
+      steps_from_group : Bool → List PlacedStep
+      steps_from_group a = elim a [
         | true ↦ map (placed (starts_at g)) (step_of labels marks (value g))
             ++ group_steps labels marks (count + 1) gs
         | false ↦ group_steps labels (marks ++ (count - 1) ∷ []) count gs
       ]
 
-      other : (b : Bool)
+      other_byte_is_fault : (b : Bool)
           → ¬ (at g.last.at (elim b [ true ↦ IncompleteProof ∷ [] | false ↦ BadLetter ∷ [] ]) ≡ [])
-      other true e = cc
-      other false e = cc
+      other_byte_is_fault true e = cc
+      other_byte_is_fault false e = cc
 
-      by : (a : Bool) → is_last g.last.byte ≡ a → (b : Bool) → (g.last.byte == 90) ≡ b
-          → first a b ++ second b ≡ []
-          → (group_faults many (length marks) (count + 1) gs ≡ []
+      by_letter : (a : Bool) → is_last g.last.byte ≡ a → (b : Bool) → (g.last.byte == 90) ≡ b
+          → faults_of_group a b ++ faults_of_later_groups b ≡ []
+          → (group_faults label_count (length marks) (count + 1) gs ≡ []
           → AreGoodSteps (context_at db k) (count + 1)
-          (bare (group_steps labels marks (count + 1) gs)))
-          → (0 < count → group_faults many (length marks + 1) count gs ≡ []
+          (steps_of (group_steps labels marks (count + 1) gs)))
+          → (0 < count → group_faults label_count (length marks + 1) count gs ≡ []
           → AreGoodSteps (context_at db k) count
-          (bare (group_steps labels (marks ++ (count - 1) ∷ []) count gs)))
-          → AreGoodSteps (context_at db k) count (bare (out a))
-      by true p true q f on marking =
+          (steps_of (group_steps labels (marks ++ (count - 1) ∷ []) count gs)))
+          → AreGoodSteps (context_at db k) count (steps_of (steps_from_group a))
+      by_letter true p true q f after_number after_mark =
           let u =
           leb-true g.last.byte 84 (and_parts (nat_le 65 g.last.byte) (nat_le g.last.byte 84) p).1 in
           let v = eqb-true g.last.byte 90 q in
           absurd (omega arith)
-      by true p false q f on marking =
+      by_letter true p false q f after_number after_mark =
           let low =
           leb-true 65 g.last.byte (and_parts (nat_le 65 g.last.byte) (nat_le g.last.byte 84) p).0 in
           let none =
-          when_none (nat_lt (many + length marks) (value g)) NumberTooLarge
-          (at_none (starts_at g) (when (nat_lt (many + length marks) (value g)) NumberTooLarge)
-          (append_none (first true false) (second false) f).0) in
+          when_none (nat_lt (label_count + length marks) (value g)) NumberTooLarge
+          (at_none (starts_at g)
+          (when (nat_lt (label_count + length marks) (value g)) NumberTooLarge)
+          (append_none (faults_of_group true false) (faults_of_later_groups false) f).0) in
           let s =
-          number_good labels marks count many (value g) l m h (positive _ g.last.byte low)
-          (ltb-false (many + length marks) (value g) none) in
-          let next = on (append_none (first true false) (second false) f).1 in
+          number_good labels marks count label_count (value g) l m h (positive _ g.last.byte low)
+          (ltb-false (label_count + length marks) (value g) none) in
+          let next = after_number
+          (append_none (faults_of_group true false) (faults_of_later_groups false) f).1 in
           let one : suc count ≡ count + 1 = omega arith in
           subst (λ ss. AreGoodSteps (context_at db k) count
-          (bare (map (placed (starts_at g)) ss ++ group_steps labels marks (count + 1) gs)))
+          (steps_of (map (placed (starts_at g)) ss ++ group_steps labels marks (count + 1) gs)))
           (sym s.1) (
             s.2,
             subst
                 (λ n. AreGoodSteps (context_at db k) n
-                (bare (group_steps labels marks (count + 1) gs))) (sym one) next,
+                (steps_of (group_steps labels marks (count + 1) gs))) (sym one) next,
           )
-      by false p true q f on marking =
+      by_letter false p true q f after_number after_mark =
           let codes =
           at_none g.last.at
           (when (nat_lt 0 (length g.early)) OpenNumber ++ when (count == 0) MarkBeforeStep)
-          (append_none (first false true) (second true) f).0 in
+          (append_none (faults_of_group false true) (faults_of_later_groups true) f).0 in
           let none =
           eqb-false count 0
           (when_none (count == 0) MarkBeforeStep
           (append_none (when (nat_lt 0 (length g.early)) OpenNumber)
           (when (count == 0) MarkBeforeStep) codes).1) in
-          marking (omega arith) (append_none (first false true) (second true) f).1
-      by false p false q f on marking =
-          absurd (other (g.last.byte == 63) (append_none (first false false) (second false) f).0)
+          after_mark (omega arith)
+          (append_none (faults_of_group false true) (faults_of_later_groups true) f).1
+      by_letter false p false q f after_number after_mark =
+          absurd (other_byte_is_fault (g.last.byte == 63)
+          (append_none (faults_of_group false false) (faults_of_later_groups false) f).0)
 
   compressed_good : (end : ℕ) (p : Compressed) → compressed_faults db k end p ≡ []
-      → AreGoodSteps (context_at db k) 0 (bare (compressed_steps db k p))
+      → AreGoodSteps (context_at db k) 0 (steps_of (compressed_steps db k p))
   compressed_good end p f =
-      by p.letters (append_none (flat_map (proof_label_faults db k) p.labels) (rest p.letters) f).1
+      by_letters p.letters
+      (append_none (flat_map (proof_label_faults db k) p.labels)
+      (faults_of_letters p.letters) f).1
     where
       labels : List ℕ
       labels = mandatory_hypotheses db k ++ flat_map (λ t. usable db k t.word) p.labels
 
-      many : ℕ
-      many = length (mandatory_hypotheses db k) + length p.labels
+      label_count : ℕ
+      label_count = length (mandatory_hypotheses db k) + length p.labels
 
-      rest : Option (List Token) → List Fault
-      rest o =
+      faults_of_letters : Option (List Token) → List Fault
+      faults_of_letters o =
           elim o [
             | None ↦ fault end OpenBrackets ∷ []
-            | Some ts ↦ letter_faults many end (letters_of ts)
+            | Some ts ↦ letter_faults label_count end (letters_of ts)
           ]
 
-      out : Option (List Token) → List PlacedStep
-      out o = elim o [ None ↦ [] | Some ts ↦ group_steps labels [] 0 (groups [] (letters_of ts)).0 ]
+      steps_of_letters : Option (List Token) → List PlacedStep
+      steps_of_letters o =
+          elim o [ None ↦ [] | Some ts ↦ group_steps labels [] 0 (groups [] (letters_of ts)).0 ]
 
-      good : AllByRecursion IsGoodLabel labels
-      good =
+      labels_are_good : AllByRecursion IsGoodLabel labels
+      labels_are_good =
           each_append IsGoodLabel (mandatory_hypotheses db k)
           (flat_map (λ t. usable db k t.word) p.labels) mandatory_good
           (each_flat IsGoodLabel (λ t. usable db k t.word) p.labels (λ t. usable_good t.word))
 
-      enough : many ≤ length labels
-      enough =
+      enough_labels : label_count ≤ length labels
+      enough_labels =
           omega (
             arith,
             length-append (mandatory_hypotheses db k)
                 (flat_map (λ t. usable db k t.word) p.labels),
             each_usable db k p.labels
-                (append_none (flat_map (proof_label_faults db k) p.labels) (rest p.letters) f).0,
+                (append_none (flat_map (proof_label_faults db k) p.labels)
+                (faults_of_letters p.letters) f).0,
           )
 
-      lettered : (xs : List Letter) → letter_faults many end xs ≡ []
-          → AreGoodSteps (context_at db k) 0 (bare (group_steps labels [] 0 (groups [] xs).0))
-      lettered [] e = tt
-      lettered (x ∷ xs) e =
-          groups_good (groups [] (x ∷ xs)).0 labels [] many 0 good tt enough
-          (append_none (group_faults many 0 0 (groups [] (x ∷ xs)).0)
+      letters_good : (xs : List Letter) → letter_faults label_count end xs ≡ []
+          → AreGoodSteps (context_at db k) 0 (steps_of (group_steps labels [] 0 (groups [] xs).0))
+      letters_good [] e = tt
+      letters_good (x ∷ xs) e =
+          groups_good
+          (groups [] (x ∷ xs)).0 labels [] label_count 0 labels_are_good tt enough_labels
+          (append_none (group_faults label_count 0 0 (groups [] (x ∷ xs)).0)
           (at end (when (nat_lt 0 (length (groups [] (x ∷ xs)).1)) OpenNumber)) e).0
 
-      by : (o : Option (List Token)) → rest o ≡ [] → AreGoodSteps (context_at db k) 0 (bare (out o))
-      by None e = tt
-      by (Some ts) e = lettered (letters_of ts) e
+      by_letters : (o : Option (List Token)) → faults_of_letters o ≡ []
+          → AreGoodSteps (context_at db k) 0 (steps_of (steps_of_letters o))
+      by_letters None e = tt
+      by_letters (Some ts) e = letters_good (letters_of ts) e
 
   -- ---- the proof of a theorem
 
   proof_good : (end : ℕ) (ts : List Token) → reading_faults db k end ts ≡ []
-      → AreGoodSteps (context_at db k) 0 (bare (steps db k ts))
+      → AreGoodSteps (context_at db k) 0 (steps_of (steps db k ts))
   proof_good end [] e = tt
-  proof_good end (t ∷ ts) e = by (bytes_eq t.word (codes "(")) e
+  proof_good end (t ∷ ts) e = by_bracket (bytes_eq t.word (codes "(")) e
     where
-      faults : Bool → List Fault
-      faults b =
+      faults_by_bracket : Bool → List Fault
+      faults_by_bracket b =
           elim b [
             | true ↦ compressed_faults db k end (bracketed ts)
             | false ↦ normal_faults db k end (t ∷ ts)
           ]
 
-      out : Bool → List PlacedStep
-      out b =
+      steps_by_bracket : Bool → List PlacedStep
+      steps_by_bracket b =
           elim b [
             | true ↦ compressed_steps db k (bracketed ts)
             | false ↦ normal_steps db k (t ∷ ts)
           ]
 
-      by : (b : Bool) → faults b ≡ [] → AreGoodSteps (context_at db k) 0 (bare (out b))
-      by true e = compressed_good end (bracketed ts) e
-      by false e = normal_good (t ∷ ts) 0
+      by_bracket : (b : Bool) → faults_by_bracket b ≡ []
+          → AreGoodSteps (context_at db k) 0 (steps_of (steps_by_bracket b))
+      by_bracket true e = compressed_good end (bracketed ts) e
+      by_bracket false e = normal_good (t ∷ ts) 0
 
   pub good_steps : reading_faults_at db k ≡ []
-      → AreGoodSteps (context_at db k) 0 (bare (steps_at db k))
+      → AreGoodSteps (context_at db k) 0 (steps_of (steps_at db k))
   good_steps e = grind (arith, common_steps, proof_good)

@@ -21,6 +21,6 @@ unfolding tokens_of
 tokens_of_read text r h e = rw (le-ltb text_limit (length text) h, e) refl
 
 pub lexical_fault_read : (text : List ℕ) (r : Reading) → length text ≤ text_limit
-    → reading text None (words_of text) ≡ r → lexical_fault text ≡ fault_in r.fault r.comment
+    → reading text None (words_of text) ≡ r → lexical_fault text ≡ fault_in r.fault r.open_comment
 unfolding lexical_fault
 lexical_fault_read text r h e = rw (le-ltb text_limit (length text) h, e) refl

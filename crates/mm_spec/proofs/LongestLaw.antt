@@ -1,6 +1,6 @@
 -- The statements read by the table are the longest list.
 use Rattle.std.proofs.lemmas.Grind.{common_steps}
-use Rattle.std.proofs.Common.{◌≡◌, ℕ, zero, suc, ◌+◌, ◌≤◌, ◌<◌, Bool, true, false, ◌&&◌, not, cond}
+use Rattle.std.proofs.Common.{◌≡◌, ℕ, zero, suc, ◌+◌, ◌≤◌, ◌<◌, Bool, true, false, ◌&&◌, not}
 use Rattle.std.proofs.Common.{List, [], ◌∷◌, ◌++◌, length, take, codes, count_by, flat_map, refl}
 use Rattle.std.proofs.Common.{sym, ap, ap₂, ◌∙◌, subst, true≢false, append-nil, append_assoc, arith}
 use Rattle.std.proofs.Common.{length-append, take_all, leb, leb-true, leb-false, le_refl, zero-add}
@@ -10,17 +10,21 @@ use Rattle.std.specs.List.{list_all}
 use Rattle.std.proofs.lemmas.Bool.{and_parts}
 use Rattle.mm_spec.specs.Text.{Token, token, has_dollar, is_label}
 use Rattle.mm_spec.specs.Statement.{Statement, constants, variables, disjoint, floating, essential}
-use Rattle.mm_spec.specs.Statement.{axiomatic, provable, opening, closing, spelled, is_plain}
+use Rattle.mm_spec.specs.Statement.{axiomatic, provable, opening, closing, spelling_of, is_plain}
 use Rattle.mm_spec.specs.Statement.{is_complete, is_opening, is_closing, AreStatements, AreLongestStatements}
-use Rattle.mm_spec.specs.Laws.Table.{Class, constant, variable, disjoint_of, type_of, logical}
-use Rattle.mm_spec.specs.Laws.Table.{axiom_of, theorem_of, equals, dot, open_block, close_block}
+use Rattle.mm_spec.specs.Laws.Table.{Class, constant_keyword, variable_keyword, disjoint_keyword}
+use Rattle.mm_spec.specs.Laws.Table.{floating_keyword, essential_keyword}
+use Rattle.mm_spec.specs.Laws.Table.{axiom_keyword, theorem_keyword, equals, dot, open_block}
+use Rattle.mm_spec.specs.Laws.Table.{close_block}
 use Rattle.mm_spec.specs.Laws.Table.{plain, class, Progress, start, labelled, words, formula, Transition}
-use Rattle.mm_spec.specs.Laws.Table.{stop, go, done, transition, after, label_turn, statements_from}
+use Rattle.mm_spec.specs.Laws.Table.{unexpected, continued, completed, transition, statements_after}
+use Rattle.mm_spec.specs.Laws.Table.{label_transition, statements_from}
 use Rattle.mm_spec.specs.Laws.Table.{statements_of}
-use Rattle.mm_spec.proofs.FollowedLaw.{blocks_counted, depth_following, plain_word, count_one}
+use Rattle.mm_spec.proofs.FollowedLaw.{first_closes, fewer_closed_later, blocks_balance}
+use Rattle.mm_spec.proofs.FollowedLaw.{blocks_counted, depth_following, plain_word}
 use Rattle.mm_spec.proofs.FollowedLaw.{label_plain}
-use Rattle.mm_spec.proofs.ShapeLaw.{Meaning, meaning, Balanced, one_more, plain_more, and_true}
-use Rattle.mm_spec.proofs.ShapeLaw.{labelled_whole, none_yet}
+use Rattle.mm_spec.proofs.ShapeLaw.{Meaning, meaning, Balanced, balanced_more, plain_more, and_true}
+use Rattle.mm_spec.proofs.ShapeLaw.{labelled_whole, balanced_nothing}
 
 -- ---- a whole statement is read
 
@@ -53,7 +57,7 @@ read_body d make xs k ts e = grind (arith, common_steps, append_assoc, read_word
 
 statement_read : (s : Statement) (d : ℕ) (ts : List Token) → is_complete s ≡ true
     → (is_closing s ≡ true → 0 < d)
-    → statements_from (start d) (spelled s ++ ts) ≡ s ∷ statements_from
+    → statements_from (start d) (spelling_of s ++ ts) ≡ s ∷ statements_from
     (start (depth_following s d)) ts
 statement_read (constants k xs t) d ts e h =
     read_body d (constants k) xs t ts (and_parts (is_plain xs) true e).0
@@ -94,128 +98,138 @@ statement_read (closing k) (suc d) ts e h = refl
 
 -- ---- what is read is spelled so, and is a list
 
-record Making (make : List Token → ℕ → Statement) (ws part : List Token) : Type 0 where
+-- `make` makes a statement of words; with the words ws, the part of it read so far is `part`
+record IsMadeOf (make : List Token → ℕ → Statement) (ws part : List Token) : Type 0 where
   front : List Token
   are_plain : is_plain ws ≡ true
   spells : (xs : List Token) (k : ℕ)
-      → spelled (make xs k) ≡ front ++ (xs ++ token k (codes "$.") ∷ [])
+      → spelling_of (make xs k) ≡ front ++ (xs ++ token k (codes "$.") ∷ [])
   whole : (xs : List Token) (k : ℕ) → is_plain xs ≡ true → is_complete (make xs k) ≡ true
-  stays : (xs : List Token) (k d : ℕ) → depth_following (make xs k) d ≡ d
-  flat : (xs : List Token) (k : ℕ) → is_closing (make xs k) ≡ false
+  keeps_depth : (xs : List Token) (k d : ℕ) → depth_following (make xs k) d ≡ d
+  not_closing : (xs : List Token) (k : ℕ) → is_closing (make xs k) ≡ false
   is : part ≡ front ++ ws
 
-abbrev deep : Progress → ℕ
-deep (start d) = d
-deep (labelled d l) = d
-deep (words d make ws) = d
-deep (formula d l k ws) = d
+-- how many blocks are open
+abbrev depth_of_progress : Progress → ℕ
+depth_of_progress (start d) = d
+depth_of_progress (labelled d l) = d
+depth_of_progress (words d make ws) = d
+depth_of_progress (formula d l k ws) = d
 
-abbrev Holds : Progress → List Token → Type 0
-Holds (start d) part = part ≡ []
-Holds (labelled d l) part = (is_label l.word ≡ true) × (part ≡ l ∷ [])
-Holds (words d make ws) part = Making make ws part
-Holds (formula d l k ws) part =
+-- the tokens are what has been read of a statement
+abbrev IsPartRead : Progress → List Token → Type 0
+IsPartRead (start d) part = part ≡ []
+IsPartRead (labelled d l) part = (is_label l.word ≡ true) × (part ≡ l ∷ [])
+IsPartRead (words d make ws) part = IsMadeOf make ws part
+IsPartRead (formula d l k ws) part =
     (is_label l.word ≡ true) × (is_plain ws ≡ true) × (part ≡ l ∷ token k (codes "$p") ∷ ws)
 
-abbrev TurnHolds : ℕ → List Token → Transition → Type 0
-TurnHolds d part stop = Unit {0}
-TurnHolds d part (go r) = (deep r ≡ d) × Holds r part
-TurnHolds d part (done e s) =
-    (spelled s ≡ part) × (is_complete s ≡ true) × (is_closing s ≡ true → 0 < d) ×
+-- what the last token of the part does is what it says
+abbrev TransitionHolds : ℕ → List Token → Transition → Type 0
+TransitionHolds d part unexpected = Unit {0}
+TransitionHolds d part (continued r) = (depth_of_progress r ≡ d) × IsPartRead r part
+TransitionHolds d part (completed e s) =
+    (spelling_of s ≡ part) × (is_complete s ≡ true) × (is_closing s ≡ true → 0 < d) ×
     (depth_following s d ≡ e)
 
-never : (s : Statement) (d : ℕ) → is_closing s ≡ false → is_closing s ≡ true → 0 < d
-never s d e f = absurd (true≢false (sym f ∙ e))
+not_closing_at : (s : Statement) (d : ℕ) → is_closing s ≡ false → is_closing s ≡ true → 0 < d
+not_closing_at s d e f = absurd (true≢false (sym f ∙ e))
 
-turn_holds : (r : Progress) (part : List Token) (t : Token) (k : Class) → Meaning k t.word
-    → Holds r part → TurnHolds (deep r) (part ++ t ∷ []) (transition r k t)
-turn_holds (start d) part t constant m h = (
+transition_holds : (r : Progress) (part : List Token) (t : Token) (k : Class) → Meaning k t.word
+    → IsPartRead r part → TransitionHolds (depth_of_progress r) (part ++ t ∷ []) (transition r k t)
+transition_holds (start d) part t constant_keyword m h = (
   refl,
   record {
     front = token t.at (codes "$c") ∷ [];
     are_plain = refl;
     spells = λ xs k. refl;
     whole = λ xs k e. and_true (is_plain xs) e;
-    stays = λ xs k d. refl;
-    flat = λ xs k. refl;
+    keeps_depth = λ xs k d. refl;
+    not_closing = λ xs k. refl;
     is = ap₂ (λ p v. p ++ token t.at v ∷ []) h m;
   },
 )
-turn_holds (start d) part t variable m h = (
+transition_holds (start d) part t variable_keyword m h = (
   refl,
   record {
     front = token t.at (codes "$v") ∷ [];
     are_plain = refl;
     spells = λ xs k. refl;
     whole = λ xs k e. and_true (is_plain xs) e;
-    stays = λ xs k d. refl;
-    flat = λ xs k. refl;
+    keeps_depth = λ xs k d. refl;
+    not_closing = λ xs k. refl;
     is = ap₂ (λ p v. p ++ token t.at v ∷ []) h m;
   },
 )
-turn_holds (start d) part t disjoint_of m h = (
+transition_holds (start d) part t disjoint_keyword m h = (
   refl,
   record {
     front = token t.at (codes "$d") ∷ [];
     are_plain = refl;
     spells = λ xs k. refl;
     whole = λ xs k e. and_true (is_plain xs) e;
-    stays = λ xs k d. refl;
-    flat = λ xs k. refl;
+    keeps_depth = λ xs k d. refl;
+    not_closing = λ xs k. refl;
     is = ap₂ (λ p v. p ++ token t.at v ∷ []) h m;
   },
 )
-turn_holds (start d) part t open_block m h =
-    (ap₂ (λ p v. p ++ token t.at v ∷ []) (sym h) (sym m), refl, never (opening t.at) d refl, refl)
-turn_holds (start zero) part t close_block m h = tt
-turn_holds (start (suc d)) part t close_block m h =
+transition_holds (start d) part t open_block m h = (
+  ap₂ (λ p v. p ++ token t.at v ∷ []) (sym h) (sym m),
+  refl,
+  not_closing_at
+      (opening t.at) d refl,
+  refl,
+)
+transition_holds (start zero) part t close_block m h = tt
+transition_holds (start (suc d)) part t close_block m h =
     (ap₂ (λ p v. p ++ token t.at v ∷ []) (sym h) (sym m), refl, (λ e. omega arith), refl)
-turn_holds (start d) part t plain m h = by (is_label t.word) refl
+transition_holds (start d) part t plain m h = by_is_label (is_label t.word) refl
   where
-    by : (b : Bool) → is_label t.word ≡ b → TurnHolds d (part ++ t ∷ []) (label_turn b d t)
-    by true e = (refl, (e, ap (λ p. p ++ t ∷ []) h))
-    by false e = tt
-turn_holds (labelled d l) part t type_of m h = (
+    by_is_label : (b : Bool) → is_label t.word ≡ b
+        → TransitionHolds d (part ++ t ∷ []) (label_transition b d t)
+    by_is_label true e = (refl, (e, ap (λ p. p ++ t ∷ []) h))
+    by_is_label false e = tt
+transition_holds (labelled d l) part t floating_keyword m h = (
   refl,
   record {
     front = l ∷ token t.at (codes "$f") ∷ [];
     are_plain = refl;
     spells = λ xs k. refl;
     whole = λ xs k e. labelled_whole l xs h.0 e;
-    stays = λ xs k d. refl;
-    flat = λ xs k. refl;
+    keeps_depth = λ xs k d. refl;
+    not_closing = λ xs k. refl;
     is = ap₂ (λ p v. p ++ token t.at v ∷ []) h.1 m;
   },
 )
-turn_holds (labelled d l) part t logical m h = (
+transition_holds (labelled d l) part t essential_keyword m h = (
   refl,
   record {
     front = l ∷ token t.at (codes "$e") ∷ [];
     are_plain = refl;
     spells = λ xs k. refl;
     whole = λ xs k e. labelled_whole l xs h.0 e;
-    stays = λ xs k d. refl;
-    flat = λ xs k. refl;
+    keeps_depth = λ xs k d. refl;
+    not_closing = λ xs k. refl;
     is = ap₂ (λ p v. p ++ token t.at v ∷ []) h.1 m;
   },
 )
-turn_holds (labelled d l) part t axiom_of m h = (
+transition_holds (labelled d l) part t axiom_keyword m h = (
   refl,
   record {
     front = l ∷ token t.at (codes "$a") ∷ [];
     are_plain = refl;
     spells = λ xs k. refl;
     whole = λ xs k e. labelled_whole l xs h.0 e;
-    stays = λ xs k d. refl;
-    flat = λ xs k. refl;
+    keeps_depth = λ xs k d. refl;
+    not_closing = λ xs k. refl;
     is = ap₂ (λ p v. p ++ token t.at v ∷ []) h.1 m;
   },
 )
-turn_holds (labelled d l) part t theorem_of m h =
+transition_holds (labelled d l) part t theorem_keyword m h =
     (refl, (h.0, refl, ap₂ (λ p v. p ++ token t.at v ∷ []) h.1 m))
-turn_holds (formula d l k ws) part t plain m h =
+transition_holds (formula d l k ws) part t plain m h =
     (refl, (h.0, plain_more ws t h.1 m, ap (λ p. p ++ t ∷ []) h.2))
-turn_holds (formula d l k ws) part t equals m h = (
+transition_holds (formula d l k ws) part t equals m h = (
   refl,
   record {
     front = l ∷ token k (codes "$p") ∷ (ws ++ token t.at (codes "$=") ∷ []);
@@ -224,120 +238,114 @@ turn_holds (formula d l k ws) part t equals m h = (
         λ xs q. ap (λ y. l ∷ token k (codes "$p") ∷ y)
         (sym (append_assoc ws (token t.at (codes "$=") ∷ []) (xs ++ token q (codes "$.") ∷ [])));
     whole = λ xs q e. ap₂ (λ a b. a && b) (ap₂ (λ a b. a && b) h.0 h.1) e;
-    stays = λ xs q d. refl;
-    flat = λ xs q. refl;
+    keeps_depth = λ xs q d. refl;
+    not_closing = λ xs q. refl;
     is = ap₂ (λ y v. y ++ token t.at v ∷ []) h.2 m ∙ sym (append-nil _);
   },
 )
-turn_holds (words d make ws) part t plain m h = (
+transition_holds (words d make ws) part t plain m h = (
   refl,
   record {
     front = h.front;
     are_plain = plain_more ws t h.are_plain m;
     spells = h.spells;
     whole = h.whole;
-    stays = h.stays;
-    flat = h.flat;
+    keeps_depth = h.keeps_depth;
+    not_closing = h.not_closing;
     is = ap (λ y. y ++ t ∷ []) h.is ∙ append_assoc h.front ws (t ∷ []);
   },
 )
-turn_holds (words d make ws) part t dot m h = (
+transition_holds (words d make ws) part t dot m h = (
   h.spells ws t.at ∙ sym (append_assoc h.front ws (token t.at (codes "$.") ∷ []))
       ∙ ap₂ (λ y v. y ++ token t.at v ∷ []) (sym h.is) (sym m),
   h.whole ws t.at h.are_plain,
-  never (make ws t.at) d (h.flat ws t.at),
-  h.stays ws t.at d,
+  not_closing_at (make ws t.at) d (h.not_closing ws t.at),
+  h.keeps_depth ws t.at d,
 )
-turn_holds _ part t _ m h = tt
+transition_holds _ part t _ m h = tt
 
 -- the statements read from a place on
-record Read (list : List Statement) (r : Progress) (part us : List Token) : Type 0 where
+record ReadOn (list : List Statement) (r : Progress) (part us : List Token) : Type 0 where
   rest : List Token
   depth : ℕ
   balanced : Balanced depth (list ++ statements_from r us)
-  is : part ++ us ≡ flat_map spelled (statements_from r us) ++ rest
+  is : part ++ us ≡ flat_map spelling_of (statements_from r us) ++ rest
 
 read_on : (us : List Token) (r : Progress) (list : List Statement) (part : List Token)
-    → Balanced (deep r) list → Holds r part → Read list r part us
+    → Balanced (depth_of_progress r) list → IsPartRead r part → ReadOn list r part us
 read_on [] r list part b h =
     record {
       rest = part;
-      depth = deep r;
-      balanced = subst (Balanced (deep r)) (sym (append-nil list)) b;
+      depth = depth_of_progress r;
+      balanced = subst (Balanced (depth_of_progress r)) (sym (append-nil list)) b;
       is = append-nil part;
     }
 read_on (t ∷ us) r list part b h =
     let x =
-    by (transition r (class t.word) t) (turn_holds r part t (class t.word) (meaning t.word) h)
+    by_transition (transition r (class t.word) t)
+    (transition_holds r part t (class t.word) (meaning t.word) h)
     (λ q list' part' c k. read_on us q list' part' c k) in
     record { rest = x.0; depth = x.1; balanced = x.2; is = x.3 }
   where
-    by : (o : Transition) → TurnHolds (deep r) (part ++ t ∷ []) o
-        → ((q : Progress) (list' : List Statement) (part' : List Token) → Balanced (deep q) list'
-        → Holds q part' → Read list' q part' us)
+    by_transition : (o : Transition) → TransitionHolds (depth_of_progress r) (part ++ t ∷ []) o
+        → ((q : Progress) (list' : List Statement) (part' : List Token)
+        → Balanced (depth_of_progress q) list'
+        → IsPartRead q part' → ReadOn list' q part' us)
         → (rest : List Token) × (depth : ℕ)
-        × Balanced depth (list ++ after o (λ q. statements_from q us))
-        × (part ++ t ∷ us ≡ flat_map spelled (after o (λ q. statements_from q us)) ++ rest)
-    by stop k on =
-        (part ++ t ∷ us, deep r, subst (Balanced (deep r)) (sym (append-nil list)) b, refl)
-    by (go q) k on =
-        let x = on q list (part ++ t ∷ []) (subst (λ n. Balanced n list) (sym k.0) b) k.1 in
+        × Balanced depth (list ++ statements_after o (λ q. statements_from q us))
+        × (part ++ t ∷ us
+        ≡ flat_map spelling_of (statements_after o (λ q. statements_from q us)) ++ rest)
+    by_transition unexpected k of_the_rest = (
+      part ++ t
+          ∷ us,
+      depth_of_progress r,
+      subst (Balanced (depth_of_progress r))
+          (sym (append-nil list)) b,
+      refl,
+    )
+    by_transition (continued q) k of_the_rest =
+        let x = of_the_rest q list (part ++ t ∷ [])
+        (subst (λ n. Balanced n list) (sym k.0) b) k.1 in
         (x.rest, x.depth, x.balanced, sym (append_assoc part (t ∷ []) us) ∙ x.is)
-    by (done e s) k on =
+    by_transition (completed e s) k of_the_rest =
         let x =
-        on (start e) (list ++ s ∷ []) []
-        (subst (λ n. Balanced n (list ++ s ∷ [])) k.3 (one_more (deep r) list s b k.1 k.2)) refl in (
+        of_the_rest (start e) (list ++ s ∷ []) []
+        (subst (λ n. Balanced n (list ++ s ∷ [])) k.3
+        (balanced_more (depth_of_progress r) list s b k.1 k.2)) refl in (
           x.rest,
           x.depth,
           subst (Balanced x.depth)
               (append_assoc list (s ∷ []) (statements_from (start e) us)) x.balanced,
           sym (append_assoc part (t ∷ []) us) ∙ ap₂ (λ y z. y ++ z) (sym k.0) x.is
-              ∙ sym (append_assoc (spelled s)
-              (flat_map spelled (statements_from (start e) us)) x.rest),
+              ∙ sym (append_assoc (spelling_of s)
+              (flat_map spelling_of (statements_from (start e) us)) x.rest),
         )
 
 -- ---- the longest list, and no other
 
-closes_one : (s : Statement) (d : ℕ)
-    → count_by is_closing (s ∷ []) ≤ d + count_by is_opening (s ∷ []) → is_closing s ≡ true → 0 < d
-closes_one (closing k) d h e = omega (arith, h)
-closes_one _ d h e = absurd (true≢false (sym e))
-
-fewer : (s : Statement) (d m : ℕ) (front : List Statement)
-    → count_by is_closing (s ∷ front) ≤ d + count_by is_opening (s ∷ front)
-    → m + cond (is_closing s) 1 0 ≡ d + cond (is_opening s) 1 0
-    → count_by is_closing front ≤ m + count_by is_opening front
-fewer s d m front h k =
-    omega (arith, h, k, count_one is_closing s front, count_one is_opening s front)
-
-total : (s : Statement) (list : List Statement) (d e m : ℕ)
-    → e + count_by is_closing list ≡ m + count_by is_opening list
-    → m + cond (is_closing s) 1 0 ≡ d + cond (is_opening s) 1 0
-    → e + count_by is_closing (s ∷ list) ≡ d + count_by is_opening (s ∷ list)
-total s list d e m h k = omega (arith, h, k, count_one is_closing s list, count_one is_opening s list)
-
 statements_read : (list : List Statement) (d : ℕ) (ts : List Token) → list_all is_complete list ≡ true
     → ((n : ℕ) → count_by is_closing (take n list) ≤ d + count_by is_opening (take n list))
     → (e : ℕ) × (e + count_by is_closing list ≡ d + count_by is_opening list)
-    × (statements_from (start d) (flat_map spelled list ++ ts) ≡ list ++ statements_from (start e) ts)
+    × (statements_from (start d) (flat_map spelling_of list ++ ts)
+    ≡ list ++ statements_from (start e) ts)
 statements_read [] d ts w n = (d, refl, refl)
 statements_read (s ∷ list) d ts w n =
-    let first : is_closing s ≡ true → 0 < d = closes_one s d (n 1) in
+    let first : is_closing s ≡ true → 0 < d = first_closes s d (n 1) in
     let step = blocks_counted s d first in
     let x =
     statements_read list (depth_following s d) ts (and_parts (is_complete s) (list_all is_complete list) w).1
-    (λ k. fewer s d (depth_following s d) (take k list) (n (suc k)) step) in (
+    (λ k. fewer_closed_later s d (depth_following s d) (take k list) (n (suc k)) step) in (
       x.0,
-      total s list d x.0 (depth_following s d) x.1 step,
-      ap (statements_from (start d)) (append_assoc (spelled s) (flat_map spelled list) ts)
-          ∙ statement_read s d (flat_map spelled list ++ ts)
+      blocks_balance s list d x.0 (depth_following s d) x.1 step,
+      ap (statements_from (start d)) (append_assoc (spelling_of s) (flat_map spelling_of list) ts)
+          ∙ statement_read s d (flat_map spelling_of list ++ ts)
           (and_parts (is_complete s) (list_all is_complete list) w).0 first
           ∙ ap (λ y. s ∷ y) x.2,
     )
 
 pub statements_read_at_start : (list : List Statement) (ts : List Token) → AreStatements list
     → (e : ℕ) × (e + count_by is_closing list ≡ 0 + count_by is_opening list)
-    × (statements_of (flat_map spelled list ++ ts) ≡ list ++ statements_from (start e) ts)
+    × (statements_of (flat_map spelling_of list ++ ts) ≡ list ++ statements_from (start e) ts)
 statements_read_at_start list ts r = statements_read list 0 ts r.whole (λ n. let m = r.nested n in omega (arith, m))
 
 -- the statements that are read are the longest list
@@ -345,8 +353,8 @@ pub is_longest : (ts : List Token) → AreLongestStatements ts (statements_of ts
 is_longest ts =
     record { are_statements = read.balanced.are_statements; rest = read.rest; splits = read.is; longest = no_more }
   where
-    read : Read [] (start 0) [] ts
-    read = read_on ts (start 0) [] [] none_yet refl
+    read : ReadOn [] (start 0) [] ts
+    read = read_on ts (start 0) [] [] balanced_nothing refl
 
     too_long : (list more : List Statement) (s : Statement) → ¬ (list ≡ (list ++ s ∷ []) ++ more)
     too_long list more s e =
@@ -354,20 +362,20 @@ is_longest ts =
         omega (arith, n, length-append (list ++ s ∷ []) more, length-append list (s ∷ []))
 
     no_more : (s : Statement) (more : List Token) → AreStatements (statements_of ts ++ s ∷ [])
-        → ¬ (read.rest ≡ spelled s ++ more)
+        → ¬ (read.rest ≡ spelling_of s ++ more)
     no_more s more r e =
         let list = statements_of ts in
         let x = statements_read_at_start (list ++ s ∷ []) more r in
-        let is : ts ≡ flat_map spelled (list ++ s ∷ []) ++ more =
-        read.is ∙ ap (λ y. flat_map spelled list ++ y) e
-        ∙ sym (append_assoc (flat_map spelled list) (spelled s) more)
-        ∙ ap (λ y. (flat_map spelled list ++ y) ++ more) (sym (append-nil (spelled s)))
-        ∙ ap (λ y. y ++ more) (sym (flat_map-append spelled list (s ∷ []))) in
+        let is : ts ≡ flat_map spelling_of (list ++ s ∷ []) ++ more =
+        read.is ∙ ap (λ y. flat_map spelling_of list ++ y) e
+        ∙ sym (append_assoc (flat_map spelling_of list) (spelling_of s) more)
+        ∙ ap (λ y. (flat_map spelling_of list ++ y) ++ more) (sym (append-nil (spelling_of s)))
+        ∙ ap (λ y. y ++ more) (sym (flat_map-append spelling_of list (s ∷ []))) in
         too_long list (statements_from (start x.0) more) s (ap statements_of is ∙ x.2)
 
 -- a front of a list is one
-row_front : (xs ys : List Statement) → AreStatements (xs ++ ys) → AreStatements xs
-row_front xs ys r =
+front_are_statements : (xs ys : List Statement) → AreStatements (xs ++ ys) → AreStatements xs
+front_are_statements xs ys r =
     record { whole = whole xs r.whole; nested = λ n. nested n (leb n (length xs)) refl }
   where
     whole : (zs : List Statement) → list_all is_complete (zs ++ ys) ≡ true
@@ -377,19 +385,20 @@ row_front xs ys r =
         ap₂ (λ a b. a && b) (and_parts (is_complete z) (list_all is_complete (zs ++ ys)) e).0
         (whole zs (and_parts (is_complete z) (list_all is_complete (zs ++ ys)) e).1)
 
-    at : (n : ℕ) → n ≤ length xs → count_by is_closing (take n xs) ≤ count_by is_opening (take n xs)
-    at n h =
+    nested_within : (n : ℕ) → n ≤ length xs
+        → count_by is_closing (take n xs) ≤ count_by is_opening (take n xs)
+    nested_within n h =
         let m = r.nested n in
         subst (λ z. count_by is_closing z ≤ count_by is_opening z) (take-append-le n xs ys h) m
 
     nested : (n : ℕ) (b : Bool) → leb n (length xs) ≡ b
         → count_by is_closing (take n xs) ≤ count_by is_opening (take n xs)
-    nested n true e = at n (leb-true n (length xs) e)
+    nested n true e = nested_within n (leb-true n (length xs) e)
     nested n false e =
         let long : length xs ≤ n = let l = leb-false n (length xs) e in omega (arith, l) in
         subst (λ z. count_by is_closing z ≤ count_by is_opening z)
         (take_all (length xs) xs (le_refl (length xs)) ∙ sym (take_all n xs long))
-        (at (length xs) (le_refl (length xs)))
+        (nested_within (length xs) (le_refl (length xs)))
 
 pub longest_unique : (ts : List Token) (list : List Statement) → AreLongestStatements ts list
     → statements_of ts ≡ list
@@ -397,16 +406,19 @@ longest_unique ts list r =
     let x = statements_read_at_start list r.rest r.are_statements in
     let b : Balanced x.0 list =
     record { are_statements = r.are_statements; count = x.1 ∙ zero-add (count_by is_opening list) } in
-    let on = read_on r.rest (start x.0) list [] b refl in
+    let of_the_rest = read_on r.rest (start x.0) list [] b refl in
     ap statements_of r.splits ∙ x.2
     ∙ ap (λ y. list ++ y)
-    (nothing (statements_from (start x.0) r.rest) on.rest on.balanced.are_statements on.is)
+    (no_more_statements
+    (statements_from
+    (start x.0) r.rest) of_the_rest.rest of_the_rest.balanced.are_statements of_the_rest.is)
     ∙ append-nil list
   where
-    nothing : (more : List Statement) (rest : List Token) → AreStatements (list ++ more)
-        → r.rest ≡ flat_map spelled more ++ rest → more ≡ []
-    nothing [] rest b is = refl
-    nothing (s ∷ more) rest b is =
-        absurd (r.longest s (flat_map spelled more ++ rest)
-        (row_front (list ++ s ∷ []) more (subst AreStatements (sym (append_assoc list (s ∷ []) more)) b))
-        (is ∙ append_assoc (spelled s) (flat_map spelled more) rest))
+    no_more_statements : (more : List Statement) (rest : List Token) → AreStatements (list ++ more)
+        → r.rest ≡ flat_map spelling_of more ++ rest → more ≡ []
+    no_more_statements [] rest b is = refl
+    no_more_statements (s ∷ more) rest b is =
+        absurd (r.longest s (flat_map spelling_of more ++ rest)
+        (front_are_statements (list ++ s ∷ []) more
+        (subst AreStatements (sym (append_assoc list (s ∷ []) more)) b))
+        (is ∙ append_assoc (spelling_of s) (flat_map spelling_of more) rest))

@@ -14,21 +14,24 @@ use Rattle.mm_spec.specs.Derivation.{Follows, Trees, none, more, formulas, postf
 use Rattle.mm_spec.specs.Limits.{formula_limit}
 use Rattle.mm_spec.specs.Valid.{Reason, Fails}
 use Rattle.mm_spec.proofs.UnifyLaw.{same_equal, equal_same, found_formula, found_all, found_disjoint}
-use Rattle.mm_spec.specs.Laws.Stack.{found, same, pick, apply, step, IsGood}
+use Rattle.mm_spec.specs.Laws.Stack.{substitution_from, are_equal, unless_failed, unless_too_long}
+use Rattle.mm_spec.specs.Laws.Stack.{apply, step, IsCompleteRule}
 use Rattle.mm_spec.specs.Laws.Complete.{IsComplete}
 
--- where a run stopped, and why
-pub record Failed : Type 0 where
+-- the index of the label at which a run fails, and why it fails
+pub record RunFailure : Type 0 where
   pub at : ℕ
   pub reason : Reason
 
+-- the rest of a run, after the step of the label with the index n
 abbrev pub proceed : Result (List Formula) Reason → ℕ
-    → (List Formula → Result (List Formula) Failed) → Result (List Formula) Failed
-proceed (Ok es) n go = go es
-proceed (Err r) n go = Err (record { at = n; reason = r })
+    → (List Formula → Result (List Formula) RunFailure) → Result (List Formula) RunFailure
+proceed (Ok es) n next = next es
+proceed (Err r) n next = Err (record { at = n; reason = r })
 
 module _ (c : Context) where
-  abbrev pub run : ℕ → List ℕ → List Formula → Result (List Formula) Failed
+  -- the entries after the steps of the labels, the first of which has the index n
+  abbrev pub run : ℕ → List ℕ → List Formula → Result (List Formula) RunFailure
   run n [] es = Ok es
   run n (l ∷ ls) es = proceed (step c (c.rule l) es) n (run (suc n) ls)
 
@@ -37,14 +40,14 @@ module _ (c : Context) where
       → KeepsDisjoint c a τ → length (substitute c τ a.formula) ≤ formula_limit
       → step c (Some (assertion a)) (es ++ map (substitute c τ) a.hypotheses)
       ≡ Ok (es ++ substitute c τ a.formula ∷ [])
-  takes_assertion a es τ good kept short =
+  takes_assertion a es τ good keeps_disjoint short =
       let hs = a.hypotheses in
       let ps = map (substitute c τ) hs in
       let count : length (es ++ ps) ≡ length es + length hs =
       length-append es ps ∙ ap (λ n. length es + n) (length-map hs (substitute c τ)) in
       let below : length es ≡ length (es ++ ps) - length hs = omega arith in
       let enough : length hs ≤ length (es ++ ps) = omega arith in
-      let σ = found c hs ps in
+      let σ = substitution_from c hs ps in
       let f : substitute c σ a.formula ≡ substitute c τ a.formula =
       found_formula c hs τ a.formula good.formula in
       let apply_at : List Formula → List Formula → Result (List Formula) Reason = apply c a true in
@@ -53,18 +56,19 @@ module _ (c : Context) where
       (le-leb (length hs) (length (es ++ ps)) enough)
       ∙ ap₂ apply_at (take_at es ps (length (es ++ ps) - length hs) below)
       (drop_at es ps (length (es ++ ps) - length hs) below)
-      ∙ tests (equal_same ps (map (substitute c σ) hs) (found_all c hs τ hs good.hypotheses))
-      (found_disjoint c hs τ a.pairs good.pairs ∙ kept)
+      ∙ all_pass (equal_same ps (map (substitute c σ) hs) (found_all c hs τ hs good.hypotheses))
+      (found_disjoint c hs τ a.pairs good.pairs ∙ keeps_disjoint)
       (ap (λ g. nat_le (length g) formula_limit) f
       ∙ le-leb (length (substitute c τ a.formula)) formula_limit short)
       ∙ ap (λ g. Ok (es ++ g ∷ [])) f
     where
-      tests : {p q r : Bool} {out : List Formula} → p ≡ true → q ≡ true → r ≡ true
-          → pick true p q r out ≡ Ok out
-      tests {r = r} {out = out} x y z =
-          ap₂ (λ p q. pick true p q r out) x y ∙ ap (λ r. pick true true true r out) z
+      all_pass : {p q r : Bool} {out : List Formula} → p ≡ true → q ≡ true → r ≡ true
+          → unless_failed true p q r out ≡ Ok out
+      all_pass {r = r} {out = out} x y z =
+          ap₂ (λ p q. unless_failed true p q r out) x y ∙ ap (λ r. unless_too_long r out) z
 
-  pub takes : (r : Option Rule) (es ps : List Formula) (f : Formula) → IsGood c r → Follows c r ps f
+  pub takes : (r : Option Rule) (es ps : List Formula) (f : Formula) → IsCompleteRule c r
+      → Follows c r ps f
       → step c r (es ++ ps) ≡ Ok (es ++ f ∷ [])
   takes None es ps f good h = absurd h
   takes (Some (hypothesis g)) es ps f good h = grind (arith, common_steps, append-nil, le-leb)
@@ -72,7 +76,7 @@ module _ (c : Context) where
 
   -- each label is good
   abbrev pub AreGood : List ℕ → Type 0
-  AreGood ls = AllByRecursion (λ l. IsGood c (c.rule l)) ls
+  AreGood ls = AllByRecursion (λ l. IsCompleteRule c (c.rule l)) ls
 
   pub good_parts : (xs ys : List ℕ) → AreGood (xs ++ ys) → AreGood xs × AreGood ys
   good_parts [] ys g = (tt, g)
@@ -102,8 +106,8 @@ module _ (c : Context) where
       (takes (c.rule l) (es ++ formulas ts) (formulas cs) f inner.1.0 d.2)
       ∙ ap₂ (λ m x. run m ls x) count (append_assoc es (formulas ts) (f ∷ []))
 
-  -- a forest in two parts
-  record Parts (forest : Trees) (n : ℕ) : Type 0 where
+  -- a forest in two parts, the last of which has n trees
+  record SplitForest (forest : Trees) (n : ℕ) : Type 0 where
     before : Trees
     last : Trees
     before_derivations : AreDerivations c before
@@ -112,8 +116,9 @@ module _ (c : Context) where
     all_labels : postfix forest ≡ postfix before ++ postfix last
     count : length (formulas last) ≡ n
 
-  parts : (forest : Trees) (n : ℕ) → AreDerivations c forest → n ≤ length (formulas forest) → Parts forest n
-  parts forest zero d e =
+  split_forest : (forest : Trees) (n : ℕ) → AreDerivations c forest → n ≤ length (formulas forest)
+      → SplitForest forest n
+  split_forest forest zero d e =
       record {
         before = forest;
         last = none;
@@ -123,10 +128,10 @@ module _ (c : Context) where
         all_labels = sym (append-nil (postfix forest));
         count = refl;
       }
-  parts none (suc n) d e = absurd (omega arith)
-  parts (more ts l f cs) (suc n) d e =
+  split_forest none (suc n) d e = absurd (omega arith)
+  split_forest (more ts l f cs) (suc n) d e =
       let fits : n ≤ length (formulas ts) = omega (arith, length-append (formulas ts) (f ∷ [])) in
-      let p = parts ts n d.0 fits in
+      let p = split_forest ts n d.0 fits in
       record {
         before = p.before;
         last = more p.last l f cs;
@@ -143,36 +148,42 @@ module _ (c : Context) where
             omega (arith, length-append (formulas p.last) (f ∷ []), p.count);
       }
 
-  -- what a step that was made means: premises on top of the entries, and a formula that follows
-  abbrev pub Made : Option Rule → List Formula → Result (List Formula) Reason → Type 0
-  Made r es (Ok out) =
+  -- what the answer of a step means: premises on top of the entries, and a formula that follows
+  -- from them; or why the step fails
+  abbrev pub StepOutcome : Option Rule → List Formula → Result (List Formula) Reason → Type 0
+  StepOutcome r es (Ok out) =
       (n : ℕ) × (f : Formula) × (n ≤ length es) × Follows c r (drop (length es - n) es) f
       × (out ≡ take (length es - n) es ++ f ∷ [])
-  Made r es (Err reason) = Fails c r es reason
+  StepOutcome r es (Err reason) = Fails c r es reason
 
-  makes_hypothesis : (g : Formula) (es : List Formula) (b : Bool)
+  hypothesis_outcome : (g : Formula) (es : List Formula) (b : Bool)
       → nat_le (length g) formula_limit ≡ b
-      → Made (Some (hypothesis g)) es (pick true true true b (es ++ g ∷ []))
-  makes_hypothesis g es true e = grind (arith, common_steps, drop_of_length-le, leb-true, take_all)
-  makes_hypothesis g es false e = leb-false (length g) formula_limit e
+      → StepOutcome (Some (hypothesis g)) es (unless_too_long b (es ++ g ∷ []))
+  hypothesis_outcome g es true e =
+      grind (arith, common_steps, drop_of_length-le, leb-true, take_all)
+  hypothesis_outcome g es false e = leb-false (length g) formula_limit e
 
   -- premises that some substitution gives are given by the one that is found
   pub no_other : (a : Frame) (ps : List Formula) (τ : Substitution) → IsComplete c a
       → Matches c a ps τ
-      → same ps (map (substitute c (found c a.hypotheses ps)) a.hypotheses) ≡ true
+      → are_equal ps (map (substitute c (substitution_from c a.hypotheses ps)) a.hypotheses) ≡ true
   no_other a ps τ good e = grind (arith, common_steps, equal_same, found_all)
 
-  makes_assertion : (a : Frame) (es : List Formula) → IsComplete c a
-      → Made (Some (assertion a)) es (step c (Some (assertion a)) es)
-  makes_assertion a es good = grind (arith, common_steps, leb-false, leb-true, no_other, same_equal)
+  assertion_outcome : (a : Frame) (es : List Formula) → IsComplete c a
+      → StepOutcome (Some (assertion a)) es (step c (Some (assertion a)) es)
+  assertion_outcome a es good =
+      grind (arith, common_steps, leb-false, leb-true, no_other, same_equal)
 
-  pub makes : (r : Option Rule) (es : List Formula) → IsGood c r → Made r es (step c r es)
-  makes None es good = absurd good
-  makes (Some (hypothesis g)) es good = makes_hypothesis g es (nat_le (length g) formula_limit) refl
-  makes (Some (assertion a)) es good = makes_assertion a es good
+  pub step_outcome : (r : Option Rule) (es : List Formula) → IsCompleteRule c r
+      → StepOutcome r es (step c r es)
+  step_outcome None es good = absurd good
+  step_outcome (Some (hypothesis g)) es good =
+      hypothesis_outcome g es (nat_le (length g) formula_limit) refl
+  step_outcome (Some (assertion a)) es good = assertion_outcome a es good
 
-  -- what a run means after a forest
-  pub record Stopped (forest : Trees) (ls : List ℕ) (reason : Reason) : Type 0 where
+  -- a run after a forest that stops: at the label the step fails, before it a longer forest is
+  -- reached
+  pub record StoppedRun (forest : Trees) (ls : List ℕ) (reason : Reason) : Type 0 where
     pub before : List ℕ
     pub label : ℕ
     pub after : List ℕ
@@ -182,20 +193,21 @@ module _ (c : Context) where
     pub labels : postfix reached ≡ postfix forest ++ before
     pub fails : Fails c (c.rule label) (formulas reached) reason
 
-  abbrev pub Ran : Trees → List ℕ → Result (List Formula) Failed → Type 0
-  Ran forest ls (Ok out) =
+  -- what the answer of a run after a forest means
+  abbrev pub RunOutcome : Trees → List ℕ → Result (List Formula) RunFailure → Type 0
+  RunOutcome forest ls (Ok out) =
       (reached : Trees) × AreDerivations c reached × (postfix reached ≡ postfix forest ++ ls)
       × (formulas reached ≡ out)
-  Ran forest ls (Err e) = Stopped forest ls e.reason
+  RunOutcome forest ls (Err e) = StoppedRun forest ls e.reason
 
   -- a step after a forest gives one more forest
-  pub grown : (forest : Trees) (l : ℕ) (n : ℕ) (f : Formula) → AreDerivations c forest
+  pub forest_grown : (forest : Trees) (l : ℕ) (n : ℕ) (f : Formula) → AreDerivations c forest
       → n ≤ length (formulas forest)
       → Follows c (c.rule l) (drop (length (formulas forest) - n) (formulas forest)) f
       → (next : Trees) × AreDerivations c next × (postfix next ≡ postfix forest ++ l ∷ [])
       × (formulas next ≡ take (length (formulas forest) - n) (formulas forest) ++ f ∷ [])
-  grown forest l n f d e h =
-      let p = parts forest n d e in
+  forest_grown forest l n f d e h =
+      let p = split_forest forest n d e in
       let k = length (formulas forest) - n in
       let count : length (formulas p.before) ≡ k =
       omega (
@@ -217,15 +229,17 @@ module _ (c : Context) where
       )
 
   -- a run after a forest is that of a longer forest, or stops where a label fails
-  pub means : (ls : List ℕ) (forest : Trees) (n : ℕ) → AreDerivations c forest → AreGood ls
-      → Ran forest ls (run n ls (formulas forest))
-  means [] forest n d good = (forest, d, sym (append-nil (postfix forest)), refl)
-  means (l ∷ ls) forest n d good =
-      go (step c (c.rule l) (formulas forest)) (makes (c.rule l) (formulas forest) good.0)
-      (λ next h. means ls next (suc n) h good.1)
+  pub run_outcome : (ls : List ℕ) (forest : Trees) (n : ℕ) → AreDerivations c forest → AreGood ls
+      → RunOutcome forest ls (run n ls (formulas forest))
+  run_outcome [] forest n d good = (forest, d, sym (append-nil (postfix forest)), refl)
+  run_outcome (l ∷ ls) forest n d good =
+      by_result (step c (c.rule l) (formulas forest))
+      (step_outcome (c.rule l) (formulas forest) good.0)
+      (λ next h. run_outcome ls next (suc n) h good.1)
     where
       later : (next : Trees) → postfix next ≡ postfix forest ++ l ∷ []
-          → (r : Result (List Formula) Failed) → Ran next ls r → Ran forest (l ∷ ls) r
+          → (r : Result (List Formula) RunFailure) → RunOutcome next ls r
+          → RunOutcome forest (l ∷ ls) r
       later next e (Ok out) h =
           (h.0, h.1, h.2 ∙ ap (λ x. x ++ ls) e ∙ append_assoc (postfix forest) (l ∷ []) ls, h.3)
       later next e (Err x) h = record {
@@ -240,10 +254,11 @@ module _ (c : Context) where
         fails = h.fails;
       }
 
-      go : (r : Result (List Formula) Reason) → Made (c.rule l) (formulas forest) r
-          → ((next : Trees) → AreDerivations c next → Ran next ls (run (suc n) ls (formulas next)))
-          → Ran forest (l ∷ ls) (proceed r n (run (suc n) ls))
-      go (Err x) made on =
+      by_result : (r : Result (List Formula) Reason) → StepOutcome (c.rule l) (formulas forest) r
+          → ((next : Trees) → AreDerivations c next
+          → RunOutcome next ls (run (suc n) ls (formulas next)))
+          → RunOutcome forest (l ∷ ls) (proceed r n (run (suc n) ls))
+      by_result (Err x) outcome of_the_rest =
           record {
             before = [];
             label = l;
@@ -252,10 +267,10 @@ module _ (c : Context) where
             reached = forest;
             derivations = d;
             labels = sym (append-nil (postfix forest));
-            fails = made;
+            fails = outcome;
           }
-      go (Ok out) made on =
-          let next = grown forest l made.0 made.1 d made.2 made.3 in
+      by_result (Ok out) outcome of_the_rest =
+          let next = forest_grown forest l outcome.0 outcome.1 d outcome.2 outcome.3 in
           later next.0 next.2 (run (suc n) ls out)
-          (subst (λ x. Ran next.0 ls (run (suc n) ls x)) (next.3 ∙ sym made.4)
-          (on next.0 next.1))
+          (subst (λ x. RunOutcome next.0 ls (run (suc n) ls x)) (next.3 ∙ sym outcome.4)
+          (of_the_rest next.0 next.1))

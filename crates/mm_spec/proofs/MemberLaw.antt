@@ -10,8 +10,8 @@ use Rattle.std.proofs.Math.Bool.{and-false, and-true, or-false, or-true}
 use Rattle.std.specs.List.{list_any, range_with_len, filter}
 use Rattle.mm_spec.specs.Statement.{Statement, constants, variables, disjoint, floating, essential}
 use Rattle.mm_spec.specs.Statement.{axiomatic, provable, opening, closing}
-use Rattle.mm_spec.specs.Scope.{statement_at, is_active_kind}
-use Rattle.mm_spec.specs.Scope.{stays}
+use Rattle.mm_spec.specs.Scope.{statement_at, is_still_active}
+use Rattle.mm_spec.specs.Scope.{is_block_open}
 use Rattle.mm_spec.specs.Derivation.{is_member}
 use Rattle.mm_spec.specs.Frame.{active_of, is_essential, is_disjoint_statement}
 use Rattle.mm_spec.proofs.BoolLaw.{same_tests}
@@ -28,15 +28,15 @@ member_filter p (x ∷ xs) i = grind (arith, common_steps, cases_eq, eq-eqb, ne_
 
 pub member_range : (n a i : ℕ) → a ≤ i → is_member (range_with_len a n) i ≡ nat_lt i (a + n)
 member_range zero a i h = sym (le-ltb i (a + 0) (omega arith))
-member_range (suc n) a i h = by (cases_eq i a) (λ l. member_range n (a + 1) i l)
+member_range (suc n) a i h = at_first_or_later (cases_eq i a) (λ l. member_range n (a + 1) i l)
   where
-    by : (i ≡ a) ⊎ (i ≢ a)
+    at_first_or_later : (i ≡ a) ⊎ (i ≢ a)
         → (a + 1 ≤ i → is_member (range_with_len (a + 1) n) i ≡ nat_lt i (a + 1 + n))
         → (nat_eq i a || is_member (range_with_len (a + 1) n) i) ≡ nat_lt i (a + suc n)
-    by (inl e) r =
+    at_first_or_later (inl e) r =
         ap (λ b. b || is_member (range_with_len (a + 1) n) i) (eq-eqb i a e)
         ∙ sym (lt-ltb i (a + suc n) (omega arith))
-    by (inr e) r =
+    at_first_or_later (inr e) r =
         ap (λ b. b || is_member (range_with_len (a + 1) n) i) (ne_eqb i a e) ∙ r (omega arith)
         ∙ (let s : a + 1 + n ≡ a + suc n = omega arith in ap (nat_lt i) s)
 
@@ -63,14 +63,15 @@ member_flat f (j ∷ xs) x = grind (arith, common_steps, list_any-append, member
 
 -- the kinds that are active to the end of their block
 abbrev pub IsLocalTest : (Statement → Bool) → Type 0
-IsLocalTest test = (s : Statement) (b : Bool) → test s ≡ true → is_active_kind s b ≡ b
+IsLocalTest test = (s : Statement) (b : Bool) → test s ≡ true → is_still_active s b ≡ b
 
 module _ (test : Statement → Bool) (db : List Statement) where
   pub active_member : IsLocalTest test → (k i : ℕ)
-      → is_member (active_of test db k) i ≡ (nat_lt i k && (list_any test (statement_at db i) && stays db i k))
+      → is_member (active_of test db k) i
+      ≡ (nat_lt i k && (list_any test (statement_at db i) && is_block_open db i k))
   active_member local k i = grind (arith, common_steps, and-false, and-true, member_filter, member_range)
 
-pub essential_local : (s : Statement) (b : Bool) → is_essential s ≡ true → is_active_kind s b ≡ b
+pub essential_local : (s : Statement) (b : Bool) → is_essential s ≡ true → is_still_active s b ≡ b
 essential_local (essential l k xs d) b h = refl
 essential_local (constants k xs d) b h = absurd (true≢false (sym h))
 essential_local (variables k xs d) b h = absurd (true≢false (sym h))
@@ -82,7 +83,7 @@ essential_local (opening k) b h = absurd (true≢false (sym h))
 essential_local (closing k) b h = absurd (true≢false (sym h))
 
 pub disjoint_local : (s : Statement) (b : Bool) → is_disjoint_statement s ≡ true
-    → is_active_kind s b ≡ b
+    → is_still_active s b ≡ b
 disjoint_local (disjoint k xs d) b h = refl
 disjoint_local (constants k xs d) b h = absurd (true≢false (sym h))
 disjoint_local (variables k xs d) b h = absurd (true≢false (sym h))

@@ -16,8 +16,8 @@ use Rattle.mm_spec.specs.Text.{Bytes, Token}
 use Rattle.mm_spec.specs.Statement.{Statement, constants, variables, disjoint, floating, essential}
 use Rattle.mm_spec.specs.Statement.{axiomatic, provable, opening, closing}
 use Rattle.mm_spec.specs.Opened.{as_axiom, counted}
-use Rattle.mm_spec.specs.Scope.{depth, is_active, is_active_kind, is_active_some, active}
-use Rattle.mm_spec.specs.Scope.{statement_at, label_words, stays}
+use Rattle.mm_spec.specs.Scope.{depth, is_active, is_still_active, is_some_still_active, active}
+use Rattle.mm_spec.specs.Scope.{statement_at, label_words, is_block_open}
 use Rattle.mm_spec.specs.Derivation.{Formula, Pair, Frame, Context, Rule, hypothesis, assertion}
 use Rattle.mm_spec.specs.Derivation.{is_member}
 use Rattle.mm_spec.specs.Frame.{symbol_names, formula_at}
@@ -26,9 +26,9 @@ use Rattle.mm_spec.specs.Frame.{is_disjoint_statement, active_of, mandatory_vari
 use Rattle.mm_spec.specs.Frame.{mandatory_hypotheses, mandatory_pairs, disjoint_at, pairs_of}
 use Rattle.mm_spec.specs.Frame.{frame_at}
 use Rattle.mm_spec.specs.Citation.{rule_of, rule_at, context_at, is_theorem}
-use Rattle.mm_spec.specs.Laws.Complete.{IsFine, AreComplete}
+use Rattle.mm_spec.specs.Laws.Complete.{HasCompleteFrame, AreComplete}
 use Rattle.mm_spec.specs.Output.{label_at}
-use Rattle.mm_spec.proofs.FindsLaw.{any_map, found_at, at_found}
+use Rattle.mm_spec.proofs.FindsLaw.{any_map, passing_statement, statement_passes}
 
 -- ---- one statement
 
@@ -38,16 +38,17 @@ IsAlike f =
     (l : Token) (k : ℕ) (xs : List Token) (e : ℕ) (ps : List Token) (d : ℕ)
     → f (axiomatic l k xs d) ≡ f (provable l k xs e ps d)
 
-pub kept : {X : Type 0} (f : Statement → X) → IsAlike f → (s : Statement) → f (as_axiom s) ≡ f s
-kept f h (constants k xs d) = refl
-kept f h (variables k xs d) = refl
-kept f h (disjoint k xs d) = refl
-kept f h (floating l k xs d) = refl
-kept f h (essential l k xs d) = refl
-kept f h (axiomatic l k xs d) = refl
-kept f h (provable l k xs e ps d) = grind (arith, common_steps)
-kept f h (opening k) = refl
-kept f h (closing k) = refl
+pub as_axiom_keeps : {X : Type 0} (f : Statement → X) → IsAlike f → (s : Statement)
+    → f (as_axiom s) ≡ f s
+as_axiom_keeps f h (constants k xs d) = refl
+as_axiom_keeps f h (variables k xs d) = refl
+as_axiom_keeps f h (disjoint k xs d) = refl
+as_axiom_keeps f h (floating l k xs d) = refl
+as_axiom_keeps f h (essential l k xs d) = refl
+as_axiom_keeps f h (axiomatic l k xs d) = refl
+as_axiom_keeps f h (provable l k xs e ps d) = grind (arith, common_steps)
+as_axiom_keeps f h (opening k) = refl
+as_axiom_keeps f h (closing k) = refl
 
 -- ---- lists
 
@@ -68,11 +69,13 @@ at_mapped db j = grind (arith, common_steps, got_axiom)
 count_kept : (p : Statement → Bool) → IsAlike p → (db : List Statement)
     → count_by p (axioms_of db) ≡ count_by p db
 count_kept p h [] = refl
-count_kept p h (s ∷ db) = grind (arith, common_steps, kept, sum_by-cons, count_kept p h db)
+count_kept p h (s ∷ db) =
+    grind (arith, common_steps, as_axiom_keeps, sum_by-cons, count_kept p h db)
 
 flat_kept : {X : Type 0} (f : Statement → List X) → IsAlike f → (db : List Statement)
     → flat_map f (axioms_of db) ≡ flat_map f db
-flat_kept f h db = flat_map-map f as_axiom db ∙ ap (λ g. flat_map g db) (fun_ext (kept f h))
+flat_kept f h db =
+    flat_map-map f as_axiom db ∙ ap (λ g. flat_map g db) (fun_ext (as_axiom_keeps f h))
 
 flat_at : {X : Type 0} (f : Statement → List X) → IsAlike f → (db : List Statement) (j : ℕ)
     → flat_map f (statement_at (axioms_of db) j) ≡ flat_map f (statement_at db j)
@@ -80,11 +83,11 @@ flat_at f h db j = ap (flat_map f) (at_mapped db j) ∙ flat_kept f h (statement
 
 any_at : (p : Statement → Bool) → IsAlike p → (db : List Statement) (j : ℕ)
     → list_any p (statement_at (axioms_of db) j) ≡ list_any p (statement_at db j)
-any_at p h db j = grind (arith, common_steps, any_map, at_mapped, fun_ext, kept)
+any_at p h db j = grind (arith, common_steps, any_map, at_mapped, fun_ext, as_axiom_keeps)
 
-got : {X : Type 0} (f : Statement → X) → IsAlike f → (db : List Statement) (j : ℕ)
+got_kept : {X : Type 0} (f : Statement → X) → IsAlike f → (db : List Statement) (j : ℕ)
     → option_map f (slice_get (axioms_of db) j) ≡ option_map f (slice_get db j)
-got f h db j = grind (arith, common_steps, got_axiom, kept)
+got_kept f h db j = grind (arith, common_steps, got_axiom, as_axiom_keeps)
 
 -- ---- scope
 
@@ -95,7 +98,7 @@ module _ (db : List Statement) where
   depth_kept : depth as_axioms ≡ depth db
   depth_kept = grind (arith, common_steps, count_kept, fun_ext, take-map)
 
-  stays_kept : stays as_axioms ≡ stays db
+  stays_kept : is_block_open as_axioms ≡ is_block_open db
   stays_kept =
       fun_ext (λ j. fun_ext
       (λ k. ap
@@ -104,15 +107,15 @@ module _ (db : List Statement) where
 
   is_active_kept : is_active as_axioms ≡ is_active db
   is_active_kept = fun_ext (λ j. fun_ext (λ k.
-      ap (λ o. nat_lt j k && is_active_some o (stays as_axioms j k)) (got_axiom db j)
-      ∙ ap (λ b. nat_lt j k && b) (by (slice_get db j) (stays as_axioms j k))
-      ∙ ap (λ (s : ℕ → ℕ → Bool). nat_lt j k && is_active_some (slice_get db j) (s j k))
+      ap (λ o. nat_lt j k && is_some_still_active o (is_block_open as_axioms j k)) (got_axiom db j)
+      ∙ ap (λ b. nat_lt j k && b) (by_statement (slice_get db j) (is_block_open as_axioms j k))
+      ∙ ap (λ (s : ℕ → ℕ → Bool). nat_lt j k && is_some_still_active (slice_get db j) (s j k))
       stays_kept))
     where
-      by : (o : Option Statement) (b : Bool)
-          → is_active_some (option_map as_axiom o) b ≡ is_active_some o b
-      by None b = refl
-      by (Some s) b = kept (λ s. is_active_kind s b) (λ l k xs e ps d. refl) s
+      by_statement : (o : Option Statement) (b : Bool)
+          → is_some_still_active (option_map as_axiom o) b ≡ is_some_still_active o b
+      by_statement None b = refl
+      by_statement (Some s) b = as_axiom_keeps (λ s. is_still_active s b) (λ l k xs e ps d. refl) s
 
   active_kept : active as_axioms ≡ active db
   active_kept =
@@ -205,25 +208,27 @@ module _ (db : List Statement) where
   rule_same j (opening k) = refl
   rule_same j (closing k) = refl
 
-  abbrev ruled : ℕ → Option Statement → Option Rule
-  ruled j o = elim o [ None ↦ None | Some s ↦ rule_of db j s ]
+  abbrev rule_if_any : ℕ → Option Statement → Option Rule
+  rule_if_any j o = elim o [ None ↦ None | Some s ↦ rule_of db j s ]
 
-  abbrev ruled_as : ℕ → Option Statement → Option Rule
-  ruled_as j o = elim o [ None ↦ None | Some s ↦ rule_of as_axioms j s ]
+  abbrev axiom_rule_if_any : ℕ → Option Statement → Option Rule
+  axiom_rule_if_any j o = elim o [ None ↦ None | Some s ↦ rule_of as_axioms j s ]
 
   abbrev if_active : Bool → Option Rule → Option Rule
   if_active b r = elim b [ false ↦ None | true ↦ r ]
 
   rule_kept : rule_at as_axioms ≡ rule_at db
   rule_kept = fun_ext (λ k. fun_ext (λ j.
-      ap (λ (t : ℕ → ℕ → Bool). if_active (t j k) (ruled_as j (slice_get as_axioms j)))
+      ap (λ (t : ℕ → ℕ → Bool). if_active (t j k) (axiom_rule_if_any j (slice_get as_axioms j)))
       is_active_kept
       ∙ ap (if_active (is_active db j k))
-      (ap (ruled_as j) (got_axiom db j) ∙ by j (slice_get db j))))
+      (ap (axiom_rule_if_any j) (got_axiom db j) ∙ by_statement j (slice_get db j))))
     where
-      by : (j : ℕ) (o : Option Statement) → ruled_as j (option_map as_axiom o) ≡ ruled j o
-      by j None = refl
-      by j (Some s) = kept (rule_of as_axioms j) (λ l k xs e ps d. refl) s ∙ rule_same j s
+      by_statement : (j : ℕ) (o : Option Statement)
+          → axiom_rule_if_any j (option_map as_axiom o) ≡ rule_if_any j o
+      by_statement j None = refl
+      by_statement j (Some s) =
+          as_axiom_keeps (rule_of as_axioms j) (λ l k xs e ps d. refl) s ∙ rule_same j s
 
   abbrev context : (ℕ → Bool) → (ℕ → ℕ → Bool) → (ℕ → Option Rule) → Context
   context v d r = record { is_variable = v; is_disjoint = d; rule = r }
@@ -237,79 +242,84 @@ module _ (db : List Statement) where
 
 -- ---- the statements as they count, with the flag or without
 
-either : {X : Type 0} (F : List Statement → X) → ((db : List Statement) → F (axioms_of db) ≡ F db)
+for_either : {X : Type 0} (F : List Statement → X)
+    → ((db : List Statement) → F (axioms_of db) ≡ F db)
     → (w : Bool) (db : List Statement) → F (counted w db) ≡ F db
-either F h true db = h db
-either F h false db = refl
+for_either F h true db = h db
+for_either F h false db = refl
 
 module _ (w : Bool) (db : List Statement) where
   pub counted_length : length (counted w db) ≡ length db
-  counted_length = either length (λ db. length-map db as_axiom) w db
+  counted_length = for_either length (λ db. length-map db as_axiom) w db
 
   pub counted_count : (p : Statement → Bool) → IsAlike p → count_by p (counted w db) ≡ count_by p db
-  counted_count p h = either (count_by p) (count_kept p h) w db
+  counted_count p h = for_either (count_by p) (count_kept p h) w db
 
   pub counted_any : (p : Statement → Bool) → IsAlike p → (j : ℕ)
       → list_any p (statement_at (counted w db) j) ≡ list_any p (statement_at db j)
-  counted_any p h j = either (λ db. list_any p (statement_at db j)) (λ db. any_at p h db j) w db
+  counted_any p h j = for_either (λ db. list_any p (statement_at db j)) (λ db. any_at p h db j) w db
 
   pub counted_flat : {X : Type 0} (f : Statement → List X) → IsAlike f → (j : ℕ)
       → flat_map f (statement_at (counted w db) j) ≡ flat_map f (statement_at db j)
-  counted_flat f h j = either (λ db. flat_map f (statement_at db j)) (λ db. flat_at f h db j) w db
+  counted_flat f h j =
+      for_either (λ db. flat_map f (statement_at db j)) (λ db. flat_at f h db j) w db
 
   pub counted_got : {X : Type 0} (f : Statement → X) → IsAlike f → (j : ℕ)
       → option_map f (slice_get (counted w db) j) ≡ option_map f (slice_get db j)
-  counted_got f h j = either (λ db. option_map f (slice_get db j)) (λ db. got f h db j) w db
+  counted_got f h j =
+      for_either (λ db. option_map f (slice_get db j)) (λ db. got_kept f h db j) w db
 
   pub counted_then : {X : Type 0} (f : Statement → Option X) → IsAlike f → (j : ℕ)
       → option_and_then f (slice_get (counted w db) j) ≡ option_and_then f (slice_get db j)
   counted_then {X} f h j =
-      sym (both (slice_get (counted w db) j)) ∙ ap flat (counted_got f h j) ∙ both (slice_get db j)
+      sym (flat_map_is_and_then (slice_get (counted w db) j)) ∙ ap flatten (counted_got f h j)
+      ∙ flat_map_is_and_then (slice_get db j)
     where
-      flat : Option (Option X) → Option X
-      flat o = elim o [ None ↦ None | Some x ↦ x ]
+      flatten : Option (Option X) → Option X
+      flatten o = elim o [ None ↦ None | Some x ↦ x ]
 
-      both : (o : Option Statement) → flat (option_map f o) ≡ option_and_then f o
-      both None = refl
-      both (Some s) = refl
+      flat_map_is_and_then : (o : Option Statement) → flatten (option_map f o) ≡ option_and_then f o
+      flat_map_is_and_then None = refl
+      flat_map_is_and_then (Some s) = refl
 
   pub counted_depth : depth (counted w db) ≡ depth db
-  counted_depth = either depth depth_kept w db
+  counted_depth = for_either depth depth_kept w db
 
-  pub counted_stays : stays (counted w db) ≡ stays db
-  counted_stays = either stays stays_kept w db
+  pub counted_stays : is_block_open (counted w db) ≡ is_block_open db
+  counted_stays = for_either is_block_open stays_kept w db
 
   pub counted_active : is_active (counted w db) ≡ is_active db
-  counted_active = either is_active is_active_kept w db
+  counted_active = for_either is_active is_active_kept w db
 
   pub counted_names : symbol_names (counted w db) ≡ symbol_names db
-  counted_names = either symbol_names names_kept w db
+  counted_names = for_either symbol_names names_kept w db
 
   pub counted_variable : is_variable_number (counted w db) ≡ is_variable_number db
-  counted_variable = either is_variable_number variable_kept w db
+  counted_variable = for_either is_variable_number variable_kept w db
 
   pub counted_formula : formula_at (counted w db) ≡ formula_at db
-  counted_formula = either formula_at formula_kept w db
+  counted_formula = for_either formula_at formula_kept w db
 
   pub counted_label : label_at (counted w db) ≡ label_at db
   counted_label =
       fun_ext (λ j. ap (flat_map (λ v. v)) (counted_flat label_words (λ l k xs e ps d. refl) j))
 
   pub counted_mandatory : mandatory_variables (counted w db) ≡ mandatory_variables db
-  counted_mandatory = either mandatory_variables mandatory_kept w db
+  counted_mandatory = for_either mandatory_variables mandatory_kept w db
 
   pub counted_hypotheses : mandatory_hypotheses (counted w db) ≡ mandatory_hypotheses db
-  counted_hypotheses = either mandatory_hypotheses hypotheses_kept w db
+  counted_hypotheses = for_either mandatory_hypotheses hypotheses_kept w db
 
   pub counted_pairs : mandatory_pairs (counted w db) ≡ mandatory_pairs db
-  counted_pairs = either mandatory_pairs pairs_kept w db
+  counted_pairs = for_either mandatory_pairs pairs_kept w db
 
   pub counted_context : context_at (counted w db) ≡ context_at db
-  counted_context = either context_at context_kept w db
+  counted_context = for_either context_at context_kept w db
 
   pub counted_complete : AreComplete db → AreComplete (counted w db)
   counted_complete h k l =
-      subst (λ (c : ℕ → Context). IsFine (c k) ((c k).rule l)) (sym counted_context) (h k l)
+      subst (λ (c : ℕ → Context). HasCompleteFrame (c k) ((c k).rule l)) (sym counted_context)
+      (h k l)
 
 -- a theorem among them was read as it is
 pub theorem_read : (w : Bool) (db : List Statement) (j : ℕ) (l : Token) (k : ℕ) (xs : List Token)
@@ -322,4 +332,5 @@ theorem_read true db j l k xs e ps d h = grind (arith, common_steps, got_axiom)
 pub theorem_still : (w : Bool) (db : List Statement) (j : ℕ)
     → list_any is_theorem (statement_at (counted w db) j) ≡ true
     → list_any is_theorem (statement_at db j) ≡ true
-theorem_still w db j h = grind (arith, common_steps, at_found, found_at, theorem_read)
+theorem_still w db j h =
+    grind (arith, common_steps, statement_passes, passing_statement, theorem_read)

@@ -17,7 +17,8 @@ use Rattle.mm_spec.specs.Lawful.{IsLawful}
 use Rattle.mm_spec.specs.declared.Code.TheVariants.{UndeclaredSymbol, UntypedVariable, BadTypecode}
 use Rattle.mm_spec.specs.declared.Code.TheVariants.{BadFloating, TooFewVariables}
 use Rattle.mm_spec.specs.declared.Code.TheVariants.{UndeclaredVariable, RepeatedVariable}
-use Rattle.mm_spec.proofs.FindsLaw.{any_flat_map, inside_of, found_at, found_active, same_word}
+use Rattle.mm_spec.proofs.FindsLaw.{any_flat_map, inside_of, passing_statement, passing_active}
+use Rattle.mm_spec.proofs.FindsLaw.{same_word}
 use Rattle.mm_spec.proofs.FindsLaw.{declares, declared_before}
 use Rattle.mm_spec.proofs.FaultlessLaw.{least_none, append_none, at_none, when_none}
 use Rattle.mm_spec.proofs.FaultlessLaw.{each_none}
@@ -27,18 +28,16 @@ use Rattle.mm_spec.proofs.FaultlessLaw.{each_none}
 pub data IsNamed (n : Names) (s : Statement) (w : Bytes) : Type 0 where
   constant : is_in w n.constants ≡ true → IsNamed n s w
   variable : is_in w n.active_variables ≡ true → IsNamed n s w
-  own : is_in w (constants_of s ++ variables_of s) ≡ true → IsNamed n s w
+  own_symbol : is_in w (constants_of s ++ variables_of s) ≡ true → IsNamed n s w
 
 formula_named : (n : Names) (s : Statement) (xs : List Token) (end : ℕ)
     → formula_faults n xs end ≡ [] → (w : Bytes) → is_in w (words xs) ≡ true → IsNamed n s w
 formula_named n s [] end e w m = absurd (true≢false (sym m))
-formula_named n s (t ∷ ts) end e w m = by (or_cases (bytes_eq w t.word) (is_in w (words ts)) m)
+formula_named n s (t ∷ ts) end e w m =
+    at_first_or_later (or_cases (bytes_eq w t.word) (is_in w (words ts)) m)
   where
-    first : List Fault
-    first = at t.at (when (not (is_in t.word n.constants)) BadTypecode)
-
-    by : (bytes_eq w t.word ≡ true) ⊎ (is_in w (words ts) ≡ true) → IsNamed n s w
-    by (inl h) =
+    at_first_or_later : (bytes_eq w t.word ≡ true) ⊎ (is_in w (words ts) ≡ true) → IsNamed n s w
+    at_first_or_later (inl h) =
         constant
         (ap (λ v. is_in v n.constants) (same_word w t.word h)
         ∙ not-false (is_in t.word n.constants)
@@ -46,21 +45,22 @@ formula_named n s (t ∷ ts) end e w m = by (or_cases (bytes_eq w t.word) (is_in
         (at_none t.at (when (not (is_in t.word n.constants)) BadTypecode)
         (append_none (at t.at (when (not (is_in t.word n.constants)) BadTypecode))
         (at_each (symbol_codes n) [] ts) e).0)))
-    by (inr h) =
+    at_first_or_later (inr h) =
         let x =
         each_none (symbol_codes n) [] ts
         (append_none (at t.at (when (not (is_in t.word n.constants)) BadTypecode))
         (at_each (symbol_codes n) [] ts) e).1 w h in
-        go (or_cases (is_in w n.constants) (is_in w n.active_variables)
+        constant_or_variable (or_cases (is_in w n.constants) (is_in w n.active_variables)
         (not-false (is_in w n.constants || is_in w n.active_variables)
         (when_none (not (is_in w n.constants || is_in w n.active_variables)) UndeclaredSymbol
         (append_none
         (when (not (is_in w n.constants || is_in w n.active_variables)) UndeclaredSymbol)
         (when (is_in w n.active_variables && not (is_typed n w)) UntypedVariable) x.1).0)))
       where
-        go : (is_in w n.constants ≡ true) ⊎ (is_in w n.active_variables ≡ true) → IsNamed n s w
-        go (inl c) = constant c
-        go (inr v) = variable v
+        constant_or_variable : (is_in w n.constants ≡ true) ⊎ (is_in w n.active_variables ≡ true)
+            → IsNamed n s w
+        constant_or_variable (inl c) = constant c
+        constant_or_variable (inr v) = variable v
 
 floating_named : (n : Names) (s : Statement) (keyword : ℕ) (xs : List Token)
     → floating_faults n keyword xs ≡ [] → (w : Bytes) → is_in w (words xs) ≡ true → IsNamed n s w
@@ -68,34 +68,36 @@ floating_named n s keyword [] e w m = absurd (cc)
 floating_named n s keyword (c ∷ []) e w m = absurd (cc)
 floating_named n s keyword (c ∷ v ∷ x ∷ xs) e w m = absurd (cc)
 floating_named n s keyword (c ∷ v ∷ []) e w m =
-    by (or_cases (bytes_eq w c.word) (bytes_eq w v.word || false) m)
+    typecode_or_variable (or_cases (bytes_eq w c.word) (bytes_eq w v.word || false) m)
   where
-    both : (b : Bool) (fs : List Fault)
+    not_bad_floating : (b : Bool) (fs : List Fault)
         → ◌≡◌ {A = List Fault} (elim b [ true ↦ fs | false ↦ fault keyword BadFloating ∷ [] ]) []
         → b ≡ true
-    both true fs e = refl
-    both false fs e = absurd (cc)
+    not_bad_floating true fs e = refl
+    not_bad_floating false fs e = absurd (cc)
 
-    parts : (is_in c.word n.constants ≡ true) × (is_in v.word n.active_variables ≡ true)
-    parts =
+    are_declared : (is_in c.word n.constants ≡ true) × (is_in v.word n.active_variables ≡ true)
+    are_declared =
         and_parts (is_in c.word n.constants) (is_in v.word n.active_variables)
-        (both (is_in c.word n.constants && is_in v.word n.active_variables) _ e)
+        (not_bad_floating (is_in c.word n.constants && is_in v.word n.active_variables) _ e)
 
-    by : (bytes_eq w c.word ≡ true) ⊎ ((bytes_eq w v.word || false) ≡ true) → IsNamed n s w
-    by (inl h) = constant (ap (λ u. is_in u n.constants) (same_word w c.word h) ∙ parts.0)
-    by (inr h) = go (or_cases (bytes_eq w v.word) false h)
+    typecode_or_variable : (bytes_eq w c.word ≡ true) ⊎ ((bytes_eq w v.word || false) ≡ true)
+        → IsNamed n s w
+    typecode_or_variable (inl h) =
+        constant (ap (λ u. is_in u n.constants) (same_word w c.word h) ∙ are_declared.0)
+    typecode_or_variable (inr h) = at_variable (or_cases (bytes_eq w v.word) false h)
       where
-        go : (bytes_eq w v.word ≡ true) ⊎ (false ≡ true) → IsNamed n s w
-        go (inl h) =
-            variable (ap (λ u. is_in u n.active_variables) (same_word w v.word h) ∙ parts.1)
-        go (inr h) = absurd (true≢false (sym h))
+        at_variable : (bytes_eq w v.word ≡ true) ⊎ (false ≡ true) → IsNamed n s w
+        at_variable (inl h) =
+            variable (ap (λ u. is_in u n.active_variables) (same_word w v.word h) ∙ are_declared.1)
+        at_variable (inr h) = absurd (true≢false (sym h))
 
 -- each symbol of a statement without a fault of scope
 pub named : (n : Names) (d : ℕ) (s : Statement) → scope_faults n d s ≡ [] → (w : Bytes)
     → is_in w (words (symbols_of s)) ≡ true → IsNamed n s w
 named n d (constants k xs e) f w m =
-    own (list_any-append (bytes_eq w) (words xs) [] ∙ or_left (is_in w (words xs)) false m)
-named n d (variables k xs e) f w m = own m
+    own_symbol (list_any-append (bytes_eq w) (words xs) [] ∙ or_left (is_in w (words xs)) false m)
+named n d (variables k xs e) f w m = own_symbol m
 named n d (disjoint k xs e) f w m =
     let x =
     each_none (disjoint_codes n) [] xs
@@ -129,27 +131,28 @@ module _ (db : List Statement) where
       → is_in w (flat_map declared_words db) ≡ true
   constants_declared w h =
       any_flat_map (bytes_eq w) declared_words db
-      ∙ go db (sym (any_flat_map (bytes_eq w) constants_of db) ∙ h)
+      ∙ in_some_statement db (sym (any_flat_map (bytes_eq w) constants_of db) ∙ h)
     where
-      go : (xs : List Statement) → list_any (λ s. is_in w (constants_of s)) xs ≡ true
+      in_some_statement : (xs : List Statement) → list_any (λ s. is_in w (constants_of s)) xs ≡ true
           → list_any (λ s. is_in w (declared_words s)) xs ≡ true
-      go [] e = e
-      go (x ∷ xs) e =
-          by (or_cases (is_in w (constants_of x)) (list_any (λ s. is_in w (constants_of s)) xs) e)
-          (λ k. go xs k)
+      in_some_statement [] e = e
+      in_some_statement (x ∷ xs) e =
+          at_first_or_later
+          (or_cases (is_in w (constants_of x)) (list_any (λ s. is_in w (constants_of s)) xs) e)
+          (λ k. in_some_statement xs k)
         where
-          by : (is_in w (constants_of x) ≡ true)
+          at_first_or_later : (is_in w (constants_of x) ≡ true)
               ⊎ (list_any (λ s. is_in w (constants_of s)) xs ≡ true)
               → (list_any (λ s. is_in w (constants_of s)) xs ≡ true
               → list_any (λ s. is_in w (declared_words s)) xs ≡ true)
               → (is_in w (declared_words x) || list_any (λ s. is_in w (declared_words s)) xs) ≡ true
-          by (inl k) on =
+          at_first_or_later (inl k) of_the_rest =
               or_left (is_in w (declared_words x)) (list_any (λ s. is_in w (declared_words s)) xs)
               (list_any-append (bytes_eq w) (constants_of x) (variables_of x)
               ∙ or_left (is_in w (constants_of x)) (is_in w (variables_of x)) k)
-          by (inr k) on =
+          at_first_or_later (inr k) of_the_rest =
               or_right (is_in w (declared_words x)) (list_any (λ s. is_in w (declared_words s)) xs)
-              (on k)
+              (of_the_rest k)
 
   own_declared : (i : ℕ) (s : Statement) (w : Bytes) → slice_get db i ≡ Some s
       → is_in w (declared_words s) ≡ true → is_in w (flat_map declared_words db) ≡ true
@@ -163,23 +166,23 @@ module _ (db : List Statement) where
       → (w : Bytes) → is_in w (words (symbols_of s)) ≡ true
       → is_in w (flat_map declared_words db) ≡ true
   declared_here k s e law w m =
-      by (named (names_before db k) (depth db k) s
+      by_naming (named (names_before db k) (depth db k) s
       (least_none _
       (sym (ap
       (λ o. elim o
       [ None ↦ None | Some s ↦ least (scope_faults (names_before db k) (depth db k) s) ]) e)
       ∙ law)) w m)
     where
-      by : IsNamed (names_before db k) s w → is_in w (flat_map declared_words db) ≡ true
-      by (constant h) = constants_declared w (declared_before constants_of db k w h)
-      by (variable h) =
+      by_naming : IsNamed (names_before db k) s w → is_in w (flat_map declared_words db) ≡ true
+      by_naming (constant h) = constants_declared w (declared_before constants_of db k w h)
+      by_naming (variable h) =
           let f =
-          found_active db k (λ i. list_any (λ s. is_in w (variables_of s)) (statement_at db i))
+          passing_active db k (λ i. list_any (λ s. is_in w (variables_of s)) (statement_at db i))
           (sym (any_flat_map (bytes_eq w) variables_of (active_statements db k)
           ∙ any_flat_map (λ s. is_in w (variables_of s)) (statement_at db) (active db k))
           ∙ h) in
-          let g = found_at db (λ s. is_in w (variables_of s)) f.0 f.2 in
+          let g = passing_statement db (λ s. is_in w (variables_of s)) f.0 f.2 in
           own_declared f.0 g.0 w g.1
           (list_any-append (bytes_eq w) (constants_of g.0) (variables_of g.0)
           ∙ or_right (is_in w (constants_of g.0)) (is_in w (variables_of g.0)) g.2)
-      by (own h) = own_declared k s w e h
+      by_naming (own_symbol h) = own_declared k s w e h

@@ -9,20 +9,30 @@ use Rattle.std.specs.List.{list_all, AllByRecursion}
 use Rattle.std.proofs.lemmas.Bool.{and_from, and_parts, not-true}
 use Rattle.mm_spec.specs.Laws.Complete.{binds, IsBound, AreBound}
 use Rattle.mm_spec.specs.Derivation.{Formula, Pair, Context, Substitution, substitute, are_all_disjoint}
-use Rattle.mm_spec.specs.Laws.Stack.{same, tail, found}
+use Rattle.mm_spec.specs.Laws.Stack.{are_equal, tail, substitution_from}
 
-pub same_equal : (ps qs : List Formula) → same ps qs ≡ true → ps ≡ qs
+pub same_equal : (ps qs : List Formula) → are_equal ps qs ≡ true → ps ≡ qs
 same_equal [] [] e = refl
 same_equal [] (q ∷ qs) e = absurd (true≢false (sym e))
 same_equal (p ∷ ps) [] e = absurd (true≢false (sym e))
-same_equal (p ∷ ps) (q ∷ qs) e = grind (arith, common_steps, and_parts, bytes_eq-Decides, same_equal ps qs (and_parts (bytes_eq p q) (same ps qs) e).1)
+same_equal (p ∷ ps) (q ∷ qs) e =
+    grind (
+      arith,
+      common_steps,
+      and_parts,
+      bytes_eq-Decides,
+      same_equal ps qs
+          (and_parts (bytes_eq p q) (are_equal ps qs) e).1,
+    )
 
-pub equal_same : (ps qs : List Formula) → ps ≡ qs → same ps qs ≡ true
-equal_same ps qs e = subst (λ z. same ps z ≡ true) e (self ps)
+pub equal_same : (ps qs : List Formula) → ps ≡ qs → are_equal ps qs ≡ true
+equal_same ps qs e = subst (λ z. are_equal ps z ≡ true) e (equal_to_itself ps)
   where
-    self : (xs : List Formula) → same xs xs ≡ true
-    self [] = refl
-    self (x ∷ xs) = and_from (bytes_eq x x) (same xs xs) ((bytes_eq-Decides x x).1 refl) (self xs)
+    equal_to_itself : (xs : List Formula) → are_equal xs xs ≡ true
+    equal_to_itself [] = refl
+    equal_to_itself (x ∷ xs) =
+        and_from (bytes_eq x x) (are_equal xs xs) ((bytes_eq-Decides x x).1 refl)
+        (equal_to_itself xs)
 
 module _ (c : Context) where
   binder_value : (σ : Substitution) (x : ℕ) (h : Formula) → binds c x h ≡ true
@@ -33,7 +43,7 @@ module _ (c : Context) where
   binder_value σ x (t ∷ y ∷ []) e = grind (arith, common_steps, and_parts, append-nil, eqb-true, not-true)
 
   pub found_is : (hs : List Formula) (σ : Substitution) (x : ℕ) → IsBound c hs x
-      → found c hs (map (substitute c σ) hs) x ≡ σ x
+      → substitution_from c hs (map (substitute c σ) hs) x ≡ σ x
   found_is [] σ x e = absurd (true≢false (sym e))
   found_is (h ∷ hs) σ x e = grind (arith, common_steps, binder_value, found_is hs σ x)
 
@@ -46,7 +56,7 @@ module _ (c : Context) where
   -- the found substitution does to bound formulas what any that matches does
   module _ (hs : List Formula) (τ : Substitution) where
     abbrev σ : Substitution
-    σ = found c hs (map (substitute c τ) hs)
+    σ = substitution_from c hs (map (substitute c τ) hs)
 
     bound_agree : (f : Formula) → AreBound c hs f
         → AllByRecursion (λ x. IsTrue (c.is_variable x) → σ x ≡ τ x) f

@@ -58,25 +58,25 @@ words_between_skips text (suc n) from e to h le none = grind (arith, common_step
 pub begins_word_first : (text : List ℕ) (i : ℕ) → i < length text → white_at text i ≡ false
     → IsBoundary text i → begins_word text i ≡ true
 unfolding begins_word
-begins_word_first text zero h ink boundary = rw ink refl
-begins_word_first text (suc i) h ink boundary =
-    let before : white_at text i ≡ true = boundary i (omega arith) h ink in
+begins_word_first text zero h not_white boundary = rw not_white refl
+begins_word_first text (suc i) h not_white boundary =
+    let before : white_at text i ≡ true = boundary i (omega arith) h not_white in
     let e : suc i - 1 ≡ i = omega arith in
-    rw (ink, e, before) (or-true (suc i == 0))
+    rw (not_white, e, before) (or-true (suc i == 0))
 
 pub begins_word_inside : (text : List ℕ) (i : ℕ) → white_at text i ≡ false
     → begins_word text (i + 1) ≡ false
 unfolding begins_word
-begins_word_inside text i ink =
+begins_word_inside text i not_white =
     let e : i + 1 - 1 ≡ i = omega arith in
     let apart : (i + 1 == 0) ≡ false = ne_eqb (i + 1) 0 (omega arith) in
-    rw (e, ink, apart) (and-false (not (white_at text (i + 1))))
+    rw (e, not_white, apart) (and-false (not (white_at text (i + 1))))
 
 -- the bytes of the word at a place aren't white
-pub word_at_ink : (text : List ℕ) (i j : ℕ) → i ≤ j → j < (word_at text i).end
+pub word_at_not_white : (text : List ℕ) (i j : ℕ) → i ≤ j → j < (word_at text i).end
     → white_at text j ≡ false
 unfolding word_at white_at
-word_at_ink text i j le lt =
+word_at_not_white text i j le lt =
     let p : ℕ → Bool = λ b. not (is_white b) in
     let passes : not (is_white (get_or (drop i text) (j - i) 0)) ≡ true =
     prefix_len_passes p (drop i text) (j - i) 0 (omega arith) in
@@ -101,18 +101,18 @@ word_at_after text i h =
 pub word_at_nonempty : (text : List ℕ) (i : ℕ) → i < length text → white_at text i ≡ false
     → i < (word_at text i).end
 unfolding word_at white_at
-word_at_nonempty text i h ink =
-    omega (arith, prefix_len-drop_yes (λ b. not (is_white b)) text i 0 h (rw ink refl))
+word_at_nonempty text i h not_white =
+    omega (arith, prefix_len-drop_yes (λ b. not (is_white b)) text i 0 h (rw not_white refl))
 
 -- where a word begins
 pub IsWord_word_at : (text : List ℕ) (i : ℕ) → i < length text → white_at text i ≡ false
     → IsBoundary text i → IsWord text (word_at text i)
 unfolding word_at
-IsWord_word_at text i h ink boundary = record {
-  nonempty = word_at_nonempty text i h ink;
+IsWord_word_at text i h not_white boundary = record {
+  nonempty = word_at_nonempty text i h not_white;
   within = word_at_within text i (omega arith);
-  no_white = word_at_ink text i;
-  white_before = λ j e. boundary j e h ink;
+  no_white = word_at_not_white text i;
+  white_before = λ j e. boundary j e h not_white;
   white_after = word_at_after text i;
 }
 
@@ -127,7 +127,7 @@ inside : (text : List ℕ) (i e j : ℕ) → e ≡ (word_at text i).end → i + 
 inside text i e j h a b =
     let same : (j - 1) + 1 ≡ j = omega arith in
     subst (λ (k : ℕ). begins_word text k ≡ false) same
-    (begins_word_inside text (j - 1) (word_at_ink text i (j - 1) (omega arith) (omega arith)))
+    (begins_word_inside text (j - 1) (word_at_not_white text i (j - 1) (omega arith) (omega arith)))
 
 -- a word that begins before a place over which no word goes on ends there at the latest
 word_at_up_to : (text : List ℕ) (i e to : ℕ) → i < to → to ≤ length text → IsBoundary text to
@@ -135,9 +135,9 @@ word_at_up_to : (text : List ℕ) (i e to : ℕ) → i < to → to ≤ length te
 word_at_up_to text i e to h le boundary at_end within =
     ⊎_elim {C = e ≤ to}
     (λ over.
-    let here : white_at text to ≡ false = word_at_ink text i to (omega arith) (omega arith) in
+    let here : white_at text to ≡ false = word_at_not_white text i to (omega arith) (omega arith) in
     let before : white_at text (to - 1) ≡ false =
-    word_at_ink text i (to - 1) (omega arith) (omega arith) in
+    word_at_not_white text i (to - 1) (omega arith) (omega arith) in
     absurd (true≢false (sym (boundary (to - 1) (omega arith) (omega arith) here) ∙ before)))
     (λ le. le)
     (cases_lt to e)
@@ -147,15 +147,16 @@ pub next_is : (text : List ℕ) (i e to : ℕ) → i < to → to ≤ length text
     → IsBoundary text i → IsBoundary text to → e ≡ (word_at text i).end →
     let w : Word = record { start = i; end = e } in
     IsWord text w × (e ≤ to) × (words_between text i to ≡ w ∷ words_between text e to)
-next_is text i e to h within ink boundary end at_end =
+next_is text i e to h within not_white boundary end at_end =
     let whole : word_at text i ≡ record { start = i; end = e } = word_at_is text i e at_end in
-    let word : IsWord text (word_at text i) = IsWord_word_at text i (omega arith) ink boundary in
+    let word : IsWord text (word_at text i) = IsWord_word_at text i
+    (omega arith) not_white boundary in
     let le : e ≤ length text = omega (arith, word_at_within text i) in
-    let lt : i < e = omega (arith, word_at_nonempty text i (omega arith) ink) in
+    let lt : i < e = omega (arith, word_at_nonempty text i (omega arith) not_white) in
     let up_to : e ≤ to = word_at_up_to text i e to h within end at_end le in (
       subst (IsWord text) whole word,
       up_to,
-      words_between_take text i to h (begins_word_first text i (omega arith) ink boundary)
+      words_between_take text i to h (begins_word_first text i (omega arith) not_white boundary)
           ∙ ap (λ w. w ∷ words_between text (i + 1) to) whole
           ∙ ap (λ ws. record { start = i; end = e } ∷ ws)
           (words_between_skips text (e - (i + 1)) (i + 1) e to (omega arith) up_to
@@ -164,4 +165,4 @@ next_is text i e to h within ink boundary end at_end =
 
 -- no word goes on after the end of one
 pub IsBoundary_end : {text : List ℕ} {w : Word} → IsWord text w → IsBoundary text w.end
-IsBoundary_end word i e h ink = cc (word.white_after h)
+IsBoundary_end word i e h not_white = cc (word.white_after h)

@@ -18,9 +18,10 @@ use Rattle.mm_spec.specs.Laws.Words.{AreWords, IsWord}
 use Rattle.mm_spec.proofs.ListLaw.{pairs_tail}
 
 -- what the test for the beginning of a word says
-pub begins_word_ink : (text : List ℕ) (i : ℕ) → begins_word text i ≡ true → white_at text i ≡ false
+pub begins_word_not_white : (text : List ℕ) (i : ℕ) → begins_word text i ≡ true
+    → white_at text i ≡ false
 unfolding begins_word
-begins_word_ink text i h = not-true _ (and_parts (not (white_at text i)) _ h).0
+begins_word_not_white text i h = not-true _ (and_parts (not (white_at text i)) _ h).0
 
 pub begins_word_boundary : (text : List ℕ) (i : ℕ) → begins_word text i ≡ true → IsBoundary text i
 unfolding begins_word
@@ -49,7 +50,7 @@ IsWord_is {text} {w} word =
     → not (is_white (get_or (drop w.start text) k 0))
     ≡ not (is_white (get_or text (w.start + k) 0)) = λ k. ap (λ (b : ℕ). not (is_white b))
     (get_or-drop w.start text k 0) in
-    let ink : (k : ℕ) → k < w.end - w.start
+    let not_white : (k : ℕ) → k < w.end - w.start
     → not (is_white (get_or (drop w.start text) k 0)) ≡ true =
     λ k h. at k ∙ ap not (word.no_white (w.start + k) (omega arith) (omega arith)) in
     let after : w.end - w.start < length (drop w.start text)
@@ -60,7 +61,7 @@ IsWord_is {text} {w} word =
     (word.white_after (omega arith))) in
     let len : prefix_len p (drop w.start text) ≡ w.end - w.start =
     prefix_len_is p (drop w.start text) (w.end - w.start) 0
-    (omega (arith, word.within)) ink after in
+    (omega (arith, word.within)) not_white after in
     let e : w.start + prefix_len p (drop w.start text) ≡ w.end = omega (arith, word.nonempty) in
     ap (λ (x : ℕ). let v : Word = record { start = w.start; end = x } in v) e
 
@@ -96,7 +97,8 @@ words_between_cases text i to h = grind (arith, common_steps, words_between_skip
 IsWord_here : (text : List ℕ) (i : ℕ) → i < length text → begins_word text i ≡ true
     → IsWord text (word_at text i)
 IsWord_here text i h begins =
-    IsWord_word_at text i h (begins_word_ink text i begins) (begins_word_boundary text i begins)
+    IsWord_word_at text i h (begins_word_not_white text i begins)
+    (begins_word_boundary text i begins)
 
 abbrev IsWordFrom : List ℕ → ℕ → Word → Type 0
 IsWordFrom text low w = IsWord text w × (low ≤ w.start)
@@ -186,8 +188,9 @@ after_head : (w : Word) (ws : List Word) → AllPairs EndsBefore (w ∷ ws) → 
 after_head w ws all v (k, h, e) =
     subst (λ (u : Word). w.end ≤ u.start) e (all 0 (suc k) v (omega arith) (omega arith))
 
-abbrev SameIn : List Word → List Word → Type 0
-SameIn ws vs = (w : Word) → Contains ws w → Contains vs w
+-- each word of ws is in vs
+abbrev AreIn : List Word → List Word → Type 0
+AreIn ws vs = (w : Word) → Contains ws w → Contains vs w
 
 nonempty_in : (text : List ℕ) (ws : List Word) → All (IsWord text) ws → (w : Word) → Contains ws w
     → w.start < w.end
@@ -195,8 +198,8 @@ nonempty_in text ws all w has = (All-contains (IsWord text) ws w all has).nonemp
 
 same_head : (text : List ℕ) (w v : Word) (ws vs : List Word) → All (IsWord text) (w ∷ ws)
     → All (IsWord text) (v ∷ vs) → AllPairs EndsBefore (w ∷ ws) → AllPairs EndsBefore (v ∷ vs) →
-    SameIn (w ∷ ws) (v ∷ vs) → SameIn (v ∷ vs) (w ∷ ws) → w ≡ v
-same_head text w v ws vs are_w are_v rise_w rise_v there back =
+    AreIn (w ∷ ws) (v ∷ vs) → AreIn (v ∷ vs) (w ∷ ws) → w ≡ v
+same_head text w v ws vs are_w are_v rise_w rise_v in_vs in_ws =
     ⊎_elim {C = w ≡ v}
     sym
     (λ later. ⊎_elim {C = w ≡ v}
@@ -207,13 +210,13 @@ same_head text w v ws vs are_w are_v rise_w rise_v there back =
     let m : w.start < w.end = nonempty_in text (w ∷ ws) are_w w (Contains_head w ws) in
     let n : v.start < v.end = nonempty_in text (v ∷ vs) are_v v (Contains_head v vs) in
     absurd (omega arith))
-    (Contains_first w ws v (back v (Contains_head v vs))))
-    (Contains_first v vs w (there w (Contains_head w ws)))
+    (Contains_first w ws v (in_ws v (Contains_head v vs))))
+    (Contains_first v vs w (in_vs w (Contains_head w ws)))
 
 -- what is in the tail is in the other tail
 same_tail : (text : List ℕ) (w : Word) (ws vs : List Word) → All (IsWord text) (w ∷ ws)
-    → AllPairs EndsBefore (w ∷ ws) → SameIn (w ∷ ws) (w ∷ vs) → SameIn ws vs
-same_tail text w ws vs are rise there u has =
+    → AllPairs EndsBefore (w ∷ ws) → AreIn (w ∷ ws) (w ∷ vs) → AreIn ws vs
+same_tail text w ws vs are rise in_vs u has =
     ⊎_elim {C = Contains vs u}
     (λ same.
     let a : w.end ≤ u.start = after_head w ws rise u has in
@@ -221,24 +224,24 @@ same_tail text w ws vs are rise there u has =
     let m : w.start < w.end = nonempty_in text (w ∷ ws) are w (Contains_head w ws) in
     absurd (omega arith))
     (λ h. h)
-    (Contains_first w vs u (there u (Contains_tail w u ws has)))
+    (Contains_first w vs u (in_vs u (Contains_tail w u ws has)))
 
 empty_contains : (w : Word) → Contains {X = Word} [] w → ⊥
 empty_contains w (k, h, e) = omega arith
 
 same_words : (text : List ℕ) (ws vs : List Word) → All (IsWord text) ws → All (IsWord text) vs
-    → AllPairs EndsBefore ws → AllPairs EndsBefore vs → SameIn ws vs → SameIn vs ws → ws ≡ vs
-same_words text [] [] are_w are_v rise_w rise_v there back = refl
-same_words text [] (v ∷ vs) are_w are_v rise_w rise_v there back =
-    absurd (empty_contains v (back v (Contains_head v vs)))
-same_words text (w ∷ ws) [] are_w are_v rise_w rise_v there back =
-    absurd (empty_contains w (there w (Contains_head w ws)))
-same_words text (w ∷ ws) (v ∷ vs) are_w are_v rise_w rise_v there back =
-    let head : w ≡ v = same_head text w v ws vs are_w are_v rise_w rise_v there back in
-    let there' : SameIn (w ∷ ws) (w ∷ vs) =
-    subst (λ (x : Word). SameIn (w ∷ ws) (x ∷ vs)) (sym head) there in
-    let back' : SameIn (w ∷ vs) (w ∷ ws) =
-    subst (λ (x : Word). SameIn (x ∷ vs) (w ∷ ws)) (sym head) back in
+    → AllPairs EndsBefore ws → AllPairs EndsBefore vs → AreIn ws vs → AreIn vs ws → ws ≡ vs
+same_words text [] [] are_w are_v rise_w rise_v in_vs in_ws = refl
+same_words text [] (v ∷ vs) are_w are_v rise_w rise_v in_vs in_ws =
+    absurd (empty_contains v (in_ws v (Contains_head v vs)))
+same_words text (w ∷ ws) [] are_w are_v rise_w rise_v in_vs in_ws =
+    absurd (empty_contains w (in_vs w (Contains_head w ws)))
+same_words text (w ∷ ws) (v ∷ vs) are_w are_v rise_w rise_v in_vs in_ws =
+    let head : w ≡ v = same_head text w v ws vs are_w are_v rise_w rise_v in_vs in_ws in
+    let in_vs' : AreIn (w ∷ ws) (w ∷ vs) =
+    subst (λ (x : Word). AreIn (w ∷ ws) (x ∷ vs)) (sym head) in_vs in
+    let in_ws' : AreIn (w ∷ vs) (w ∷ ws) =
+    subst (λ (x : Word). AreIn (x ∷ vs) (w ∷ ws)) (sym head) in_ws in
     let are_v' : All (IsWord text) (w ∷ vs) =
     subst (λ (x : Word). All (IsWord text) (x ∷ vs)) (sym head) are_v in
     let rise_v' : AllPairs EndsBefore (w ∷ vs) =
@@ -247,7 +250,7 @@ same_words text (w ∷ ws) (v ∷ vs) are_w are_v rise_w rise_v there back =
     (same_words text ws vs (All-tail (IsWord text) w ws are_w)
     (All-tail (IsWord text) w vs are_v')
     (pairs_tail EndsBefore w ws rise_w) (pairs_tail EndsBefore w vs rise_v')
-    (same_tail text w ws vs are_w rise_w there') (same_tail text w vs ws are_v' rise_v' back'))
+    (same_tail text w ws vs are_w rise_w in_vs') (same_tail text w vs ws are_v' rise_v' in_ws'))
     ∙ ap (λ (x : Word). x ∷ vs) head
 
 pub AreWords_only : (text : List ℕ) (ws : List Word) → AreWords text ws → ws ≡ words_of text

@@ -22,11 +22,13 @@ rule_of db j (axiomatic l k xs d) = Some (assertion (frame_at db j))
 rule_of db j (provable l k xs e ps d) = Some (assertion (frame_at db j))
 rule_of db j _ = None
 
+-- what the label of statement j stands for in the proof of statement k
 abbrev pub rule_at : List Statement → ℕ → ℕ → Option Rule
 rule_at db k j =
     elim (is_active db j k)
     [ false ↦ None | true ↦ elim (slice_get db j) [ None ↦ None | Some s ↦ rule_of db j s ] ]
 
+-- the context of the proof of statement k
 abbrev pub context_at : List Statement → ℕ → Context
 context_at db k =
     record {
@@ -35,17 +37,21 @@ context_at db k =
       rule = rule_at db k;
     }
 
+-- the steps of the proof of statement k, if that is a theorem
 abbrev pub steps_at : List Statement → ℕ → List PlacedStep
 steps_at db k = elim (slice_get db k) [ Some (provable l p xs e ps d) ↦ steps db k ps | _ ↦ [] ]
 
+-- the faults of reading the proof of statement k, if that is a theorem
 abbrev pub reading_faults_at : List Statement → ℕ → List Fault
 reading_faults_at db k =
     elim (slice_get db k) [ Some (provable l p xs e ps d) ↦ reading_faults db k d ps | _ ↦ [] ]
 
+-- whether a statement is a `$p`
 abbrev pub is_theorem : Statement → Bool
 is_theorem (provable l k xs e ps d) = true
 is_theorem _ = false
 
+-- whether a statement is a `$a` or a `$p`
 abbrev pub is_assertion : Statement → Bool
 is_assertion (provable l k xs e ps d) = true
 is_assertion (axiomatic l k xs d) = true
@@ -55,6 +61,7 @@ is_assertion _ = false
 abbrev pub IsProof : List Statement → ℕ → Trees → Type 0
 IsProof db k d = Derives (context_at db k) (map (λ s. s.step) (steps_at db k)) (formula_at db k) d
 
+-- theorem k is valid: its proof is read without a fault, and is a proof of its formula
 abbrev pub IsValid : List Statement → ℕ → Type 0
 IsValid db k = (reading_faults_at db k ≡ []) × (d : Trees) × IsProof db k d
 

@@ -13,7 +13,8 @@ use Rattle.mm_spec.specs.declared.Code.TheVariants.{EmptyProof, IncompleteProof,
 use Rattle.mm_spec.specs.declared.Code.TheVariants.{BadLetter, OpenNumber, MarkBeforeStep}
 use Rattle.mm_spec.specs.declared.Code.TheVariants.{NumberTooLarge}
 
--- a compressed proof: the labels in brackets, and the words after the `)`, if there is one
+-- a compressed proof without its `(`: the labels in brackets, and the words after the `)`, if there
+-- is one
 pub record Compressed : Type 0 where
   pub labels : List Token
   pub letters : Option (List Token)
@@ -21,27 +22,33 @@ pub record Compressed : Type 0 where
 abbrev pub with_label : Token → Compressed → Compressed
 with_label t p = record p { labels = t ∷ p.labels }
 
+-- the words after the `(` of a compressed proof
 abbrev pub bracketed : List Token → Compressed
 bracketed [] = record { labels = []; letters = None }
 bracketed (t ∷ ts) = elim (bytes_eq t.word (codes ")"))
     [ true ↦ record { labels = []; letters = Some ts } | false ↦ with_label t (bracketed ts) ]
 
+-- a letter with its place
 pub record Letter : Type 0 where
   pub at : ℕ
   pub byte : ℕ
 
+-- the letters of a word, which begins at the place
 abbrev pub letters_from : ℕ → Bytes → List Letter
 letters_from at [] = []
 letters_from at (b ∷ bs) = record { at = at; byte = b } ∷ letters_from (at + 1) bs
 
--- A run of letters `U` to `Y` and the letter after it.
+-- a run of letters `U` to `Y`, and the letter after it: a number, or a mark if the run is empty and
+-- the letter `Z`
 pub record Group : Type 0 where
   pub early : List Letter
   pub last : Letter
 
+-- `U` to `Y`
 abbrev pub is_early : ℕ → Bool
 is_early b = nat_le 85 b && nat_le b 89
 
+-- `A` to `T`
 abbrev pub is_last : ℕ → Bool
 is_last b = nat_le 65 b && nat_le b 84
 
@@ -53,10 +60,12 @@ groups early (x ∷ xs) = elim (is_early x.byte) [
   | false ↦ let g = groups [] xs in (record { early = early; last = x } ∷ g.0, g.1)
 ]
 
--- the value of a number: the early letters in bijective base 5, times 20, plus the last
+-- The value of a number: the early letters in bijective base 5, times 20, plus the last. `U` is 85,
+-- which counts 1, and `A` is 65, which counts 1.
 abbrev pub value : Group → ℕ
 value g = fold (λ n x. 5 * n + (x.byte - 84)) 0 g.early * 20 + (g.last.byte - 64)
 
+-- the place of the first letter
 abbrev pub starts_at : Group → ℕ
 starts_at g = elim g.early [ [] ↦ g.last.at | x ∷ xs ↦ x.at ]
 
@@ -78,8 +87,9 @@ group_steps labels marks count (g ∷ gs) = elim (is_last g.last.byte) [
 ]
 
 -- The fault of a group: a number above all that have a meaning (E45), a `Z` within a number (E43)
--- or before the first one (E44), a `?` (E32), another byte (E42). `labels` says how many labels
--- have numbers, `marks` how many `Z` come before the group, and `count` how many other groups do.
+-- or before the first one (E44), a `?` (E32), another byte (E42). The code of `Z` is 90, and that
+-- of `?` is 63. `labels` says how many labels have numbers, `marks` how many `Z` come before the
+-- group, and `count` how many other groups do.
 abbrev pub group_fault : ℕ → ℕ → ℕ → Group → List Fault
 group_fault labels marks count g = elim (is_last g.last.byte) [
   | true ↦ at (starts_at g) (when (nat_lt (labels + marks) (value g)) NumberTooLarge)
@@ -91,6 +101,7 @@ group_fault labels marks count g = elim (is_last g.last.byte) [
   ]
 ]
 
+-- the faults of the groups, before which there are so many marks and other groups
 abbrev pub group_faults : ℕ → ℕ → ℕ → List Group → List Fault
 group_faults labels marks count [] = []
 group_faults labels marks count (g ∷ gs) =
@@ -105,6 +116,7 @@ letter_faults labels end [] = fault end EmptyProof ∷ []
 letter_faults labels end (x ∷ xs) = let g = groups [] (x ∷ xs) in
     group_faults labels 0 0 g.0 ++ at end (when (nat_lt 0 (length g.1)) OpenNumber)
 
+-- the letters of the words
 abbrev pub letters_of : List Token → List Letter
 letters_of ts = flat_map (λ t. letters_from t.at t.word) ts
 
@@ -116,6 +128,7 @@ compressed_faults db k end p = flat_map (proof_label_faults db k) p.labels ++ el
       (letters_of ts)
 ]
 
+-- the steps of a compressed proof
 abbrev pub compressed_steps : List Statement → ℕ → Compressed → List PlacedStep
 compressed_steps db k p = elim p.letters [
   | None ↦ []

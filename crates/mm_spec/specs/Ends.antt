@@ -15,31 +15,39 @@ use Rattle.mm_spec.specs.declared.RunEnd.TheVariants.{NoMemory}
 abbrev pub reading_limit : ℕ
 reading_limit = text_limit + 1
 
--- the reader gave this text, up to its end or up to the limit
-abbrev pub Gave : Option (List ℕ) → Option (List ℕ) → List ℕ → Type 0
-Gave before after text =
-    Consumes before after text × (IsAtEnd after ⊎ (length text ≡ reading_limit))
+-- The reader gave this text, up to its end or up to the limit. What it had to give before and after
+-- is known or not.
+abbrev pub Gave : (unread_before unread_after : Option (List ℕ)) → List ℕ → Type 0
+Gave unread_before unread_after text =
+    Consumes unread_before unread_after text
+    × (IsAtEnd unread_after ⊎ (length text ≡ reading_limit))
 
 -- What was written for a text that was read. `Accepted`: the text has no fault, and its output was
 -- written. `Refused`: the fault is its first one, and the refusal for it was written.
 -- `WriteFailed`: a prefix of its output was written. `NoMemory`: nothing was written. `ReadFailed`
--- isn't an answer for such a text.
-abbrev pub Answers : RunEnd → List ℕ → Request → (held holds : Option (List ℕ)) → Type 0
-Answers Accepted text request held holds =
+-- isn't an answer for such a text. What the writer had taken before and after is known or not.
+abbrev pub Answers : RunEnd → List ℕ → Request → (written_before written_after : Option (List ℕ))
+    → Type 0
+Answers Accepted text request written_before written_after =
     ((db : List Statement) × HasNoFault (length text) (lexed_of text) request.with_open db)
-    × ((bytes : List ℕ) × IsOutput text request bytes × Appends held holds bytes)
-Answers (Refused f) text request held holds =
+    × ((bytes : List ℕ) × IsOutput text request bytes × Appends written_before written_after bytes)
+Answers (Refused f) text request written_before written_after =
     FirstFault (length text) (lexed_of text) request.with_open f
-    × IsOutput text request (refusal text f) × Appends held holds (refusal text f)
-Answers WriteFailed text request held holds =
-    (bytes : List ℕ) × (k : ℕ) × IsOutput text request bytes × Appends held holds (take k bytes)
-Answers ReadFailed text request held holds = ⊥
-Answers NoMemory text request held holds = Keeps held holds
+    × IsOutput text request (refusal text f) × Appends written_before written_after (refusal text f)
+Answers WriteFailed text request written_before written_after =
+    (bytes : List ℕ) × (k : ℕ) × IsOutput text request bytes
+    × Appends written_before written_after (take k bytes)
+Answers ReadFailed text request written_before written_after = ⊥
+Answers NoMemory text request written_before written_after = Keeps written_before written_after
 
 -- The bytes written are those for the text that was read. If reading failed or memory ran out,
 -- nothing was written.
-abbrev pub Ends : RunEnd → Request → (before after held holds : Option (List ℕ)) → Type 0
-Ends ReadFailed request before after held holds = Keeps held holds
-Ends NoMemory request before after held holds = Keeps held holds
-Ends end request before after held holds =
-    (text : List ℕ) × Gave before after text × Answers end text request held holds
+abbrev pub Ends : RunEnd → Request → (unread_before unread_after : Option (List ℕ))
+    → (written_before written_after : Option (List ℕ)) → Type 0
+Ends ReadFailed request unread_before unread_after written_before written_after =
+    Keeps written_before written_after
+Ends NoMemory request unread_before unread_after written_before written_after =
+    Keeps written_before written_after
+Ends end request unread_before unread_after written_before written_after =
+    (text : List ℕ) × Gave unread_before unread_after text
+    × Answers end text request written_before written_after

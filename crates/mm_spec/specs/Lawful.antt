@@ -16,11 +16,12 @@ use Rattle.mm_spec.specs.declared.Code.TheVariants.{RepeatedVariable}
 use Rattle.mm_spec.specs.declared.Code.{Code}
 use Rattle.mm_spec.specs.Codes.{code_number}
 
--- the code if the test holds, otherwise none
+-- the code if the test is true, otherwise none
 abbrev pub when : Bool → Code → List Code
 when true code = code ∷ []
 when false code = []
 
+-- the codes as faults at the place
 abbrev pub at : ℕ → List Code → List Fault
 at place codes = map (fault place) codes
 
@@ -64,6 +65,7 @@ module _ (names : Names) where
       when (not (is_in w names.constants || is_in w names.active_variables)) UndeclaredSymbol
       ++ when (is_in w names.active_variables && not (is_typed w)) UntypedVariable
 
+  -- whether a declaration has no symbols
   abbrev pub is_empty : List Token → Bool
   is_empty [] = true
   is_empty (t ∷ ts) = false
@@ -97,32 +99,35 @@ module _ (names : Names) where
       ]
   floating_faults keyword _ = fault keyword BadFloating ∷ []
 
-  -- All faults of a statement, before which `deep` blocks are open. A `$c` is in no block (E11),
-  -- `$c` and `$v` declare something (E12), and a `$d` has two symbols or more (E23).
+  -- All faults of a statement, before which `open_blocks` blocks are open. A `$c` is in no block
+  -- (E11), `$c` and `$v` declare something (E12), and a `$d` has two symbols or more (E23).
   abbrev pub scope_faults : ℕ → Statement → List Fault
-  scope_faults deep (constants k xs d) =
-      at k (when (nat_lt 0 deep) ConstantInBlock) ++ at d (when (is_empty xs) EmptyDeclaration)
+  scope_faults open_blocks (constants k xs d) =
+      at k (when (nat_lt 0 open_blocks) ConstantInBlock)
+      ++ at d (when (is_empty xs) EmptyDeclaration)
       ++ at_each constant_codes [] xs
-  scope_faults deep (variables k xs d) =
+  scope_faults open_blocks (variables k xs d) =
       at d (when (is_empty xs) EmptyDeclaration) ++ at_each variable_codes [] xs
-  scope_faults deep (disjoint k xs d) =
+  scope_faults open_blocks (disjoint k xs d) =
       at d (when (nat_lt (length xs) 2) TooFewVariables) ++ at_each disjoint_codes [] xs
-  scope_faults deep (floating l k xs d) = label_faults l ++ floating_faults k xs
-  scope_faults deep (essential l k xs d) = label_faults l ++ formula_faults xs d
-  scope_faults deep (axiomatic l k xs d) = label_faults l ++ formula_faults xs d
-  scope_faults deep (provable l k xs e ps d) = label_faults l ++ formula_faults xs e
-  scope_faults deep (opening k) = []
-  scope_faults deep (closing k) = []
+  scope_faults open_blocks (floating l k xs d) = label_faults l ++ floating_faults k xs
+  scope_faults open_blocks (essential l k xs d) = label_faults l ++ formula_faults xs d
+  scope_faults open_blocks (axiomatic l k xs d) = label_faults l ++ formula_faults xs d
+  scope_faults open_blocks (provable l k xs e ps d) = label_faults l ++ formula_faults xs e
+  scope_faults open_blocks (opening k) = []
+  scope_faults open_blocks (closing k) = []
 
 -- whether f decides over g: its place is less, or the places are equal and its code isn't higher
 abbrev pub is_before : Fault → Fault → Bool
 is_before f g =
     nat_lt f.at g.at || ((f.at == g.at) && nat_le (code_number f.code) (code_number g.code))
 
+-- of the two faults the one that decides
 abbrev pub lesser : Fault → Option Fault → Option Fault
 lesser f None = Some f
 lesser f (Some g) = elim (is_before f g) [ true ↦ Some f | false ↦ Some g ]
 
+-- the fault that decides among these, if there is one
 abbrev pub least : List Fault → Option Fault
 least [] = None
 least (f ∷ fs) = lesser f (least fs)
@@ -133,5 +138,6 @@ scope_fault db k =
     elim (slice_get db k)
     [ None ↦ None | Some s ↦ least (scope_faults (names_before db k) (depth db k) s) ]
 
+-- statement k breaks none of these rules
 abbrev pub IsLawful : List Statement → ℕ → Type 0
 IsLawful db k = scope_fault db k ≡ None

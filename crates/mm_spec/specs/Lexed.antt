@@ -11,7 +11,7 @@ use Rattle.mm_spec.specs.Limits.{text_limit}
 
 -- the fault of a faulty word if there is one, otherwise that of a comment open at the end (E03)
 abbrev pub fault_in : Option Fault → Option ℕ → Option Fault
-fault_in (Some f) comment = Some f
+fault_in (Some f) open_comment = Some f
 fault_in None (Some at) = Some (record { at = at; code = OpenComment })
 fault_in None None = None
 
@@ -24,7 +24,7 @@ unfoldable pub lexical_fault : List ℕ → Option Fault
 lexical_fault text =
     if nat_lt text_limit (length text) then Some (record { at = 0; code = TextTooLong })
     else fault_in (reading text None (words_of text)).fault
-    (reading text None (words_of text)).comment
+    (reading text None (words_of text)).open_comment
 
 -- the tokens of a text up to its lexical fault, and that fault
 pub record LexedText : Type 0 where

@@ -9,6 +9,7 @@ use Rattle.mm_spec.specs.Scope.{is_active, statement_at}
 use Rattle.mm_spec.specs.Steps.{PlacedStep, placed, label}
 use Rattle.mm_spec.specs.declared.Code.TheVariants.{EmptyProof, IncompleteProof, UnusableLabel}
 
+-- whether the statement has this label
 abbrev pub is_labelled : Bytes → Statement → Bool
 is_labelled w s = elim (label_of s) [ None ↦ false | Some l ↦ bytes_eq l.word w ]
 
@@ -22,12 +23,13 @@ usable db k w =
 abbrev pub normal_steps : List Statement → ℕ → List Token → List PlacedStep
 normal_steps db k ts = flat_map (λ t. map (λ j. placed t.at (label j)) (usable db k t.word)) ts
 
--- a word that isn't a usable label (E33)
+-- the fault of a word that isn't a usable label (E33)
 abbrev pub proof_label_faults : List Statement → ℕ → Token → List Fault
 proof_label_faults db k t =
     elim (usable db k t.word) [ [] ↦ fault t.at UnusableLabel ∷ [] | j ∷ js ↦ [] ]
 
--- a proof without words (E31), a `?` (E32), and words that aren't usable labels (E33)
+-- the faults of a normal proof: no words (E31), a `?` (E32), and words that aren't usable labels
+-- (E33)
 abbrev pub normal_faults : List Statement → ℕ → ℕ → List Token → List Fault
 normal_faults db k end [] = fault end EmptyProof ∷ []
 normal_faults db k end (t ∷ ts) =

@@ -22,35 +22,36 @@ use Rattle.mm_spec.specs.declared.Choice.{Choice}
 use Rattle.mm_spec.specs.declared.Choice.TheVariants.{Citations}
 
 -- the lexical fault, or if there is none, the fault at the end of the text
-abbrev pub WordOrEnd : ℕ → List Token → Option Fault → Fault → Type 0
-WordOrEnd len ts (Some g) f = f ≡ g
-WordOrEnd len ts None f = FileEndFault len ts f
+abbrev pub LexicalOrEndFault : ℕ → List Token → Option Fault → Fault → Type 0
+LexicalOrEndFault len ts (Some g) f = f ≡ g
+LexicalOrEndFault len ts None f = FileEndFault len ts f
 
 -- the fault of bytes, words or shape: the first fault of shape among the tokens, or if there is
 -- none, the lexical fault or that of the end
 abbrev pub TextFault : ℕ → LexedText → Fault → Type 0
-TextFault len x f =
-    ShapeFault x.tokens f
-    ⊎ ((¬ ((g : Fault) × ShapeFault x.tokens g)) × WordOrEnd len x.tokens x.fault f)
+TextFault len lexed f =
+    ShapeFault lexed.tokens f
+    ⊎ ((¬ ((g : Fault) × ShapeFault lexed.tokens g))
+    × LexicalOrEndFault len lexed.tokens lexed.fault f)
 
 -- what stops the reading after the lawful statements
 abbrev pub StopsReading : ℕ → LexedText → List Statement → List Statement → List Statement
     → Option Fault → Type 0
-StopsReading len x statements db (s ∷ rest) fault =
+StopsReading len lexed statements db (s ∷ rest) fault =
     (fault ≢ None) × (scope_fault statements (length db) ≡ fault)
-StopsReading len x statements db [] None = (f : Fault) → ¬ TextFault len x f
-StopsReading len x statements db [] (Some f) = TextFault len x f
+StopsReading len lexed statements db [] None = (f : Fault) → ¬ TextFault len lexed f
+StopsReading len lexed statements db [] (Some f) = TextFault len lexed f
 
 -- What reading gives: the statements up to the first malformed or unlawful one, and the fault that
 -- stops the reading there, if there is one.
-pub record IsRead (len : ℕ) (x : LexedText) (db : List Statement)
+pub record IsRead (len : ℕ) (lexed : LexedText) (db : List Statement)
     (fault : Option Fault) : Type 0 where
   pub statements : List Statement
-  pub are_statements : AreLongestStatements x.tokens statements
+  pub are_statements : AreLongestStatements lexed.tokens statements
   pub rest : List Statement
   pub splits : statements ≡ db ++ rest
   pub lawful : (k : ℕ) → k < length db → IsLawful statements k
-  pub stops : StopsReading len x statements db rest fault
+  pub stops : StopsReading len lexed statements db rest fault
 
 -- the fault of theorem k's proof, which ends at `end`: the least fault of its reading, or if there
 -- is none, the fault of a step or of the end
@@ -60,10 +61,12 @@ ProofFault db k end f = (least (reading_faults_at db k) ≡ Some f)
     × (proof.StepFault (context_at db k) (steps_at db k) f
     ⊎ proof.ProofEndFault (context_at db k) (steps_at db k) (formula_at db k) end f))
 
+-- the place of the `$.` of a theorem
 abbrev pub proof_end : Option Statement → ℕ
 proof_end (Some (provable l p xs e ps d)) = d
 proof_end _ = 0
 
+-- whether statement k is a theorem
 abbrev pub is_theorem_at : List Statement → ℕ → Bool
 is_theorem_at db k = list_any is_theorem (statement_at db k)
 
@@ -84,23 +87,25 @@ FirstProofFault db k f =
 -- is none, the fault that stopped the reading. With the flag open theorems count as axioms, so they
 -- have no proof that could be faulty.
 abbrev pub FirstFault : ℕ → LexedText → (with_open : Bool) → Fault → Type 0
-FirstFault len x with_open f =
-    (db : List Statement) × (fault : Option Fault) × IsRead len x db fault
+FirstFault len lexed with_open f =
+    (db : List Statement) × (fault : Option Fault) × IsRead len lexed db fault
     × (((k : ℕ) × FirstProofFault (counted with_open db) k f)
     ⊎ (AllAreValid (counted with_open db) × (fault ≡ Some f)))
 
 -- the whole text is read without a fault, as the statements db, and all theorems are valid
 abbrev pub HasNoFault : ℕ → LexedText → (with_open : Bool) → List Statement → Type 0
-HasNoFault len x with_open db = IsRead len x db None × AllAreValid (counted with_open db)
+HasNoFault len lexed with_open db = IsRead len lexed db None × AllAreValid (counted with_open db)
 
 -- the numbers of the theorems
 abbrev pub theorems : List Statement → List ℕ
 theorems db = filter (λ j. list_any is_theorem (statement_at db j)) (range_with_len 0 (length db))
 
+-- whether a statement has the typecode, if one is chosen
 abbrev pub has_typecode : Option Bytes → Statement → Bool
 has_typecode None s = true
 has_typecode (Some w) s = elim (symbols_of s) [ [] ↦ false | t ∷ ts ↦ bytes_eq t.word w ]
 
+-- whether a statement is a `$a` with the typecode, if one is chosen
 abbrev pub is_column : Option Bytes → Statement → Bool
 is_column only (axiomatic l k xs d) = has_typecode only (axiomatic l k xs d)
 is_column only _ = false
@@ -110,6 +115,7 @@ abbrev pub columns : List Statement → Option Bytes → List ℕ
 columns db only =
     filter (λ j. list_any (is_column only) (statement_at db j)) (range_with_len 0 (length db))
 
+-- the label of statement j
 abbrev pub label_at : List Statement → ℕ → Bytes
 label_at db j = flat_map (λ w. w) (flat_map label_words (statement_at db j))
 

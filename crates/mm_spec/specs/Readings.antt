@@ -14,22 +14,23 @@ bytes_of text w = slice_range text w.start w.end
 pub record Reading : Type 0 where
   pub tokens : List Word
   pub fault : Option Fault
-  pub comment : Option ℕ
+  pub open_comment : Option ℕ
 
 abbrev pub with_tokens : List Word → Reading → Reading
 with_tokens ts r = record r { tokens = ts ++ r.tokens }
 
--- the words read in order; `comment` is the place of the comment open before them, if one is
+-- the words read in order; `open_comment` is the place of the comment that is open before them, if
+-- one is
 unfoldable pub reading : List ℕ → Option ℕ → List Word → Reading
-reading text comment [] = record { tokens = []; fault = None; comment = comment }
-reading text comment (w ∷ ws) = elim (role_of (is_some comment) (bytes_of text w)) [
-  | Token ↦ with_tokens (w ∷ []) (reading text comment ws)
+reading text open_comment [] = record { tokens = []; fault = None; open_comment = open_comment }
+reading text open_comment (w ∷ ws) = elim (role_of (is_some open_comment) (bytes_of text w)) [
+  | Token ↦ with_tokens (w ∷ []) (reading text open_comment ws)
   | Opening ↦ reading text (Some w.start) ws
   | Closing ↦ reading text None ws
-  | Comment ↦ reading text comment ws
+  | Comment ↦ reading text open_comment ws
   | Faulty ↦ record {
     tokens = [];
-    fault = Some (fault_of (is_some comment) w.start (bytes_of text w));
-    comment = comment;
+    fault = Some (fault_of (is_some open_comment) w.start (bytes_of text w));
+    open_comment = open_comment;
   }
 ]

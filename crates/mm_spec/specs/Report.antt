@@ -1,4 +1,5 @@
--- The texts of a report and of a refusal (this project's own).
+-- The texts of a report and of a refusal (this project's own). Bytes by their codes: 10 is the line
+-- feed, 32 the space, 48 and 49 are `0` and `1`, 58 is `:`, 87 is ten less than `a`.
 use Rattle.std.specs.Prelude.{ℕ, zero, suc, ◌+◌, ◌*◌, Bool, true, false, List, [], ◌∷◌, ◌++◌}
 use Rattle.std.specs.Prelude.{length, map, take, flat_map, codes, decimal, count_by, ◌==◌}
 use Rattle.std.specs.Prelude.{if◌then◌else◌, nat_lt, Option, Some, None}
@@ -22,12 +23,15 @@ pub record CitingRow : Type 0 where
   pub label : Bytes
   pub cited : List Bytes
 
+-- the text as a line
 abbrev pub line : List ℕ → List ℕ
 line text = text ++ 10 ∷ []
 
+-- a line of the head: a name and a number
 abbrev pub heading : List ℕ → ℕ → List ℕ
 heading name n = line (name ++ 32 ∷ decimal n)
 
+-- `1` for a marked cell, `0` for any other
 abbrev pub digit_of : Bool → ℕ
 digit_of true = 49
 digit_of false = 48
@@ -38,6 +42,7 @@ mark_at n [] = false
 mark_at zero (b ∷ bs) = b
 mark_at (suc n) (b ∷ bs) = mark_at n bs
 
+-- 1 for a marked cell, 0 for any other
 abbrev pub bit_of : Bool → ℕ
 bit_of true = 1
 bit_of false = 0
@@ -58,12 +63,15 @@ cells One marks = map digit_of marks
 cells Two marks =
     map (λ i. hex_digit (digit_at i marks)) (range_with_len 0 (div_ceil (length marks) 4))
 
+-- a theorem's line in the section `matrix`
 abbrev pub matrix_line : Form → Row → List ℕ
 matrix_line form r = line (r.label ++ 58 ∷ cells form r.marks)
 
+-- a theorem's line in the section `counts`
 abbrev pub count_line : Row → List ℕ
 count_line r = line (r.label ++ 58 ∷ decimal (count_by (λ b. b) r.marks))
 
+-- the rows that are marked in the column: those of the theorems that rest on its axiom
 abbrev pub users : ℕ → List Row → List Row
 users column rows = filter (λ r. mark_at column r.marks) rows
 
@@ -77,28 +85,33 @@ separated (l ∷ m ∷ ls) = l ++ 32 ∷ separated (m ∷ ls)
 abbrev pub list_line : Bytes → List Bytes → List ℕ
 list_line label labels = line (label ++ 58 ∷ (decimal (length labels) ++ 58 ∷ separated labels))
 
+-- a column's line in the section `usage`
 abbrev pub usage_line : List Row → ℕ → Bytes → List ℕ
 usage_line rows column label = list_line label (map (λ r. r.label) (users column rows))
 
+-- a theorem's line in the section `citations`
 abbrev pub citation_line : CitingRow → List ℕ
 citation_line r = list_line r.label r.cited
 
 -- whether the choice has this section
-abbrev pub has : Choice → Choice → Bool
-has All _ = true
-has Matrix Matrix = true
-has Counts Counts = true
-has Usage Usage = true
-has _ _ = false
+abbrev pub has_section : Choice → Choice → Bool
+has_section All _ = true
+has_section Matrix Matrix = true
+has_section Counts Counts = true
+has_section Usage Usage = true
+has_section _ _ = false
 
+-- a section: the line with its name and its lines, or nothing if the report doesn't have it
 abbrev pub section : Bool → List ℕ → List ℕ → List ℕ
 section true name lines = line name ++ lines
 section false name lines = []
 
+-- the lines of the columns with these labels, the first of which has this index
 abbrev pub usage_lines : List Row → ℕ → List Bytes → List ℕ
 usage_lines rows column [] = []
 usage_lines rows column (l ∷ ls) = usage_line rows column l ++ usage_lines rows (column + 1) ls
 
+-- the version of the format that has this form
 abbrev pub version : Form → ℕ
 version One = 1
 version Two = 2
@@ -119,10 +132,10 @@ head form axioms open_theorems theorems =
 abbrev pub report : Request → Option ℕ → List Bytes → List Row → List ℕ
 report request open_theorems columns rows =
     head request.form (length columns) open_theorems (length rows)
-    ++ section (has request.choice Matrix) (codes "matrix")
+    ++ section (has_section request.choice Matrix) (codes "matrix")
     (flat_map (matrix_line request.form) rows)
-    ++ section (has request.choice Counts) (codes "counts") (flat_map count_line rows)
-    ++ section (has request.choice Usage) (codes "usage") (usage_lines rows 0 columns)
+    ++ section (has_section request.choice Counts) (codes "counts") (flat_map count_line rows)
+    ++ section (has_section request.choice Usage) (codes "usage") (usage_lines rows 0 columns)
     ++ line (codes "end")
 
 -- the report of citations; `axioms` is the number of columns
@@ -139,6 +152,7 @@ after_line_feed_from n (b ∷ bs) = after_line_feed_from (if b == 10 then 0 else
 abbrev pub bytes_after_line_feed : List ℕ → ℕ
 bytes_after_line_feed bytes = after_line_feed_from 0 bytes
 
+-- a number below 100 in two digits
 abbrev pub two_digits : ℕ → List ℕ
 two_digits n = if length (decimal n) == 1 then 48 ∷ decimal n else decimal n
 

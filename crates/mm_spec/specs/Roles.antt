@@ -22,15 +22,15 @@ is_dollar_and b word = length word == 2 && slice_index word 0 == 0x24 && slice_i
 unfoldable pub is_keyword : List ℕ → Bool
 is_keyword word = list_any (λ b. is_dollar_and b word) (codes "cvfedap=.{}[]")
 
--- the two bytes are `$(` or `$)`
-unfoldable pub is_mark : ℕ → ℕ → Bool
-is_mark a b = a == 0x24 && (b == 0x28 || b == 0x29)
+-- the two bytes are `$(` or `$)`, the marks at which comments open and close
+unfoldable pub is_comment_mark : ℕ → ℕ → Bool
+is_comment_mark a b = a == 0x24 && (b == 0x28 || b == 0x29)
 
 -- whether `$(` or `$)` occurs in it
-unfoldable pub has_mark : List ℕ → Bool
-has_mark [] = false
-has_mark (a ∷ []) = false
-has_mark (a ∷ b ∷ word) = is_mark a b || has_mark (b ∷ word)
+unfoldable pub has_comment_mark : List ℕ → Bool
+has_comment_mark [] = false
+has_comment_mark (a ∷ []) = false
+has_comment_mark (a ∷ b ∷ word) = is_comment_mark a b || has_comment_mark (b ∷ word)
 
 -- printable bytes, and no `$` unless it is a keyword
 unfoldable pub is_token : List ℕ → Bool
@@ -46,7 +46,7 @@ closes_comment word = is_dollar_and 0x29 word
 
 -- printable bytes with neither `$(` nor `$)` among them
 unfoldable pub is_comment_word : List ℕ → Bool
-is_comment_word word = is_clean word && not (has_mark word)
+is_comment_word word = is_clean word && not (has_comment_mark word)
 
 -- what a word is: outside a comment (false), and inside one (true)
 unfoldable pub role_of : Bool → List ℕ → Role

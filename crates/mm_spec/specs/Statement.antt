@@ -23,19 +23,20 @@ pub data Statement : Type 0 where
   opening : (at : ℕ) → Statement
   closing : (at : ℕ) → Statement
 
--- how a statement is spelled
-abbrev pub spelled : Statement → List Token
-spelled (constants k xs d) = token k (codes "$c") ∷ (xs ++ token d (codes "$.") ∷ [])
-spelled (variables k xs d) = token k (codes "$v") ∷ (xs ++ token d (codes "$.") ∷ [])
-spelled (disjoint k xs d) = token k (codes "$d") ∷ (xs ++ token d (codes "$.") ∷ [])
-spelled (floating l k xs d) = l ∷ token k (codes "$f") ∷ (xs ++ token d (codes "$.") ∷ [])
-spelled (essential l k xs d) = l ∷ token k (codes "$e") ∷ (xs ++ token d (codes "$.") ∷ [])
-spelled (axiomatic l k xs d) = l ∷ token k (codes "$a") ∷ (xs ++ token d (codes "$.") ∷ [])
-spelled (provable l k xs e ps d) =
+-- the tokens that spell a statement
+abbrev pub spelling_of : Statement → List Token
+spelling_of (constants k xs d) = token k (codes "$c") ∷ (xs ++ token d (codes "$.") ∷ [])
+spelling_of (variables k xs d) = token k (codes "$v") ∷ (xs ++ token d (codes "$.") ∷ [])
+spelling_of (disjoint k xs d) = token k (codes "$d") ∷ (xs ++ token d (codes "$.") ∷ [])
+spelling_of (floating l k xs d) = l ∷ token k (codes "$f") ∷ (xs ++ token d (codes "$.") ∷ [])
+spelling_of (essential l k xs d) = l ∷ token k (codes "$e") ∷ (xs ++ token d (codes "$.") ∷ [])
+spelling_of (axiomatic l k xs d) = l ∷ token k (codes "$a") ∷ (xs ++ token d (codes "$.") ∷ [])
+spelling_of (provable l k xs e ps d) =
     l ∷ token k (codes "$p") ∷ (xs ++ token e (codes "$=") ∷ (ps ++ token d (codes "$.") ∷ []))
-spelled (opening k) = token k (codes "${") ∷ []
-spelled (closing k) = token k (codes "$}") ∷ []
+spelling_of (opening k) = token k (codes "${") ∷ []
+spelling_of (closing k) = token k (codes "$}") ∷ []
 
+-- the label of a statement, if it has one
 abbrev pub label_of : Statement → Option Token
 label_of (floating l k xs d) = Some l
 label_of (essential l k xs d) = Some l
@@ -43,6 +44,7 @@ label_of (axiomatic l k xs d) = Some l
 label_of (provable l k xs e ps d) = Some l
 label_of _ = None
 
+-- the symbols between the keyword and the next one
 abbrev pub symbols_of : Statement → List Token
 symbols_of (constants k xs d) = xs
 symbols_of (variables k xs d) = xs
@@ -53,6 +55,7 @@ symbols_of (axiomatic l k xs d) = xs
 symbols_of (provable l k xs e ps d) = xs
 symbols_of _ = []
 
+-- the words of a proof
 abbrev pub proof_of : Statement → List Token
 proof_of (provable l k xs e ps d) = ps
 proof_of _ = []
@@ -69,6 +72,7 @@ is_closing _ = false
 abbrev pub is_plain : List Token → Bool
 is_plain ts = list_all (λ t. not (has_dollar t.word)) ts
 
+-- whether the label, if the statement has one, is spelled as a label
 abbrev pub has_label : Option Token → Bool
 has_label None = true
 has_label (Some l) = is_label l.word
@@ -87,26 +91,28 @@ pub record AreStatements (statements : List Statement) : Type 0 where
 abbrev pub BeginStatements : List Token → Type 0
 BeginStatements ts =
     (statements : List Statement) × AreStatements statements × (more : List Token)
-    × (flat_map spelled statements ≡ ts ++ more)
+    × (flat_map spelling_of statements ≡ ts ++ more)
 
 -- the tokens spell such a list, so the next one begins a statement
 abbrev pub IsBetween : List Token → Type 0
 IsBetween ts =
-    (statements : List Statement) × AreStatements statements × (flat_map spelled statements ≡ ts)
+    (statements : List Statement) × AreStatements statements
+    × (flat_map spelling_of statements ≡ ts)
 
--- The code for a token with which no such list continues. At the beginning of a statement: `$}`
+-- The code for a token with which no such list continues, at the beginning of a statement: `$}`
 -- without an open block (E09), another keyword (E07), or a word that isn't a label (E06).
-abbrev pub first_code : Bytes → Code
-first_code w =
+abbrev pub code_between_statements : Bytes → Code
+code_between_statements w =
     if bytes_eq w (codes "$}") then UnopenedBlock
     else if has_dollar w then UnexpectedToken
     else BadLabel
 
--- `$[` and `$]` anywhere (E05); any other token within a statement (E07)
+-- The code for a token with which no such list continues: `$[` or `$]` (E05), otherwise the one
+-- above between two statements, and within a statement E07.
 abbrev pub shape_code : Bool → Bytes → Code
 shape_code between w =
     if bytes_eq w (codes "$[") || bytes_eq w (codes "$]") then Inclusion
-    else if between then first_code w
+    else if between then code_between_statements w
     else UnexpectedToken
 
 -- the fault at the first token such that no such list begins with the tokens up to and including it
@@ -124,9 +130,9 @@ pub record ShapeFault (tokens : List Token) (f : Fault) : Type 0 where
 pub record AreLongestStatements (tokens : List Token) (statements : List Statement) : Type 0 where
   pub are_statements : AreStatements statements
   pub rest : List Token
-  pub splits : tokens ≡ flat_map spelled statements ++ rest
+  pub splits : tokens ≡ flat_map spelling_of statements ++ rest
   pub longest : (s : Statement) (more : List Token) → AreStatements (statements ++ s ∷ [])
-      → ¬ (rest ≡ spelled s ++ more)
+      → ¬ (rest ≡ spelling_of s ++ more)
 
 -- The fault at the end of a text of `len` bytes that has no other fault of shape: after the longest
 -- list part of a statement is left (E08), or nothing is left and a block is open (E10).

@@ -7,6 +7,7 @@ pub data Step : Type 0 where
   label : ℕ → Step
   marked : ℕ → Step
 
+-- a step with its place in the text
 pub record PlacedStep : Type 0 where
   pub at : ℕ
   pub step : Step

@@ -32,11 +32,13 @@ words ts = map (λ t. t.word) ts
 abbrev pub has_dollar : Bytes → Bool
 has_dollar w = list_any (λ b. b == 0x24) w
 
--- a letter, a digit, `-`, `_` or `.` (Metamath book, "Preliminaries")
+-- a letter, a digit, `-`, `_` or `.` (Metamath book, "Preliminaries"): by their codes `A` to `Z`,
+-- `a` to `z`, `0` to `9`, and these three
 abbrev pub is_label_byte : ℕ → Bool
 is_label_byte b =
     (nat_le 65 b && nat_le b 90) || (nat_le 97 b && nat_le b 122) || (nat_le 48 b && nat_le b 57)
     || (b == 45) || (b == 95) || (b == 46)
 
+-- whether each byte is one that a label may have
 abbrev pub is_label : Bytes → Bool
 is_label w = list_all is_label_byte w

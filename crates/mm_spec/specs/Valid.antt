@@ -37,6 +37,7 @@ module _ (c : Context) where
   Plain lists old (s ∷ steps) all =
       (new : List ℕ) × Adds lists old s new × Plain (lists ++ new ∷ []) new steps all
 
+  -- these labels are the plain list for which the steps stand
   abbrev pub IsPlain : List Step → List ℕ → Type 0
   IsPlain steps labels = Plain [] [] steps labels
 
@@ -49,10 +50,11 @@ module _ (c : Context) where
   abbrev pub last_of : ℕ → List Formula → List Formula
   last_of n entries = drop (length entries - n) entries
 
--- why a step isn't one of a derivation: E34, E35, E36 and E39
+-- why a step fails: the faults E34, E35, E36 and E39
 pub data Reason : Type 0 where
   too_few unmatched not_disjoint too_long : Reason
 
+-- the code of the fault of such a step
 abbrev pub code_of : Reason → Code
 code_of too_few = TooFewEntries
 code_of unmatched = UnmatchedHypotheses
@@ -76,6 +78,7 @@ module _ (c : Context) where
       × (formula_limit < length (substitute c σ a.formula))
   Fails _ entries _ = ⊥
 
+  -- the step fails by the reason; a marked step never does
   abbrev pub StepFails : Step → List Formula → Reason → Type 0
   StepFails (label l) entries reason = Fails (c.rule l) entries reason
   StepFails (marked j) entries reason = ⊥

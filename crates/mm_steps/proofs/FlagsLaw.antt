@@ -6,7 +6,7 @@ use Rattle.std.proofs.lemmas.List.{get_or-set_same, get_or-set_other, map-append
 use Rattle.std.proofs.lemmas.List.Folds.{list_any-append}
 use Rattle.std.proofs.lemmas.Bool.{or_right}
 use Rattle.mm_spec.specs.Steps.{marked}
-use Rattle.mm_spec.proofs.BoolLaw.{or_none}
+use Rattle.mm_spec.proofs.BoolLaw.{or_with_false}
 use Rattle.mm_steps.specs.declared.placed.Placed.{Placed}
 use Rattle.mm_steps.specs.Read.{is_marked, takes_up}
 use Rattle.mm_steps.specs.Flags.{step_by, placed_of, placed_steps, no_step, AreFlags}
@@ -23,6 +23,7 @@ pub placed_steps_more : (ps : List Placed) (p : Placed)
     → placed_steps (ps ++ p ∷ []) ≡ placed_steps ps ++ placed_of p ∷ []
 placed_steps_more ps p = map-append placed_of ps (p ∷ [])
 
+-- one more step that is not marked changes no flag
 unflagged : (ps : List Placed) (p : Placed) (i : ℕ) → p.is_marked ≡ false
     → (get_or (ps ++ p ∷ []) i no_step).is_marked ≡ (get_or ps i no_step).is_marked
 unflagged [] p zero e = e
@@ -35,37 +36,43 @@ or_end true b = refl
 or_end false true = refl
 or_end false false = refl
 
-one_more : (ps : List Placed) (p : Placed) (i : ℕ)
+-- what one more step marks
+marked_by_one_more : (ps : List Placed) (p : Placed) (i : ℕ)
     → is_marked (placed_steps (ps ++ p ∷ [])) i
     ≡ (is_marked (placed_steps ps) i || takes_up i (step_by p.kind p.number))
-one_more ps p i =
+marked_by_one_more ps p i =
     ap (λ z. is_marked z i) (placed_steps_more ps p)
     ∙ list_any-append (λ s. takes_up i s.step) (placed_steps ps) (placed_of p ∷ [])
     ∙ or_end (is_marked (placed_steps ps) i) (takes_up i (step_by p.kind p.number))
 
--- a marked step more, and the flag of the one that it takes up
+-- one more step, which repeats the subproof of step j, and the flag of step j
 pub flag_more : (ps qs : List Placed) (p q : Placed) (j : ℕ) → AreFlags ps → qs ≡ ps ++ p ∷ []
     → p.is_marked ≡ false → step_by p.kind p.number ≡ marked j → j < length ps
     → placed_of q ≡ placed_of (get_or qs j no_step) → q.is_marked ≡ true
     → AreFlags (slice_set qs j q)
-flag_more ps qs p q j old more plain takes inside same flag i = by (i == j) refl
+flag_more ps qs p q j old_flags is_appended not_marked repeats_j j_within same_step q_is_marked i =
+    by_equality (i == j) refl
   where
-    now : is_marked (placed_steps (slice_set qs j q)) i ≡ (is_marked (placed_steps ps) i || (i == j))
-    now =
-        ap (λ z. is_marked z i) (placed_steps_set qs j q same) ∙ ap (λ z. is_marked (placed_steps z) i) more
-        ∙ one_more ps p i ∙ ap (λ s. is_marked (placed_steps ps) i || takes_up i s) takes
+    marked_now : is_marked (placed_steps (slice_set qs j q)) i
+        ≡ (is_marked (placed_steps ps) i || (i == j))
+    marked_now =
+        ap (λ z. is_marked z i) (placed_steps_set qs j q same_step)
+        ∙ ap (λ z. is_marked (placed_steps z) i) is_appended
+        ∙ marked_by_one_more ps p i
+        ∙ ap (λ s. is_marked (placed_steps ps) i || takes_up i s) repeats_j
 
-    by : (b : Bool) → (i == j) ≡ b
+    by_equality : (b : Bool) → (i == j) ≡ b
         → (get_or (slice_set qs j q) i no_step).is_marked
         ≡ is_marked (placed_steps (slice_set qs j q)) i
-    by true e =
+    by_equality true e =
         ap (λ z. (get_or (slice_set qs j q) z no_step).is_marked) (eqb-true i j e)
         ∙ ap (λ z. z.is_marked)
         (get_or-set_same qs j q no_step
-        (let n = ap length more in omega (arith, n, length-append ps (p ∷ []))))
-        ∙ flag ∙ sym (now ∙ or_right (is_marked (placed_steps ps) i) (i == j) e)
-    by false e =
+        (let n = ap length is_appended in omega (arith, n, length-append ps (p ∷ []))))
+        ∙ q_is_marked ∙ sym (marked_now ∙ or_right (is_marked (placed_steps ps) i) (i == j) e)
+    by_equality false e =
         ap (λ z. z.is_marked)
         (get_or-set_other qs j i q no_step (λ h. true≢false (sym (eq-eqb i j h) ∙ e)))
-        ∙ ap (λ z. (get_or z i no_step).is_marked) more
-        ∙ unflagged ps p i plain ∙ old i ∙ sym (now ∙ or_none (is_marked (placed_steps ps) i) (i == j) e)
+        ∙ ap (λ z. (get_or z i no_step).is_marked) is_appended
+        ∙ unflagged ps p i not_marked ∙ old_flags i
+        ∙ sym (marked_now ∙ or_with_false (is_marked (placed_steps ps) i) (i == j) e)

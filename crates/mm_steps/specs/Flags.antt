@@ -7,10 +7,12 @@ use Rattle.mm_steps.specs.declared.placed.StepKind.{StepKind}
 use Rattle.mm_steps.specs.declared.placed.StepKind.TheVariants.{Label, Marked}
 use Rattle.mm_steps.specs.Read.{is_marked}
 
+-- the step of this kind that refers to the number
 abbrev pub step_by : StepKind → ℕ → spec.Step
 step_by Label n = label n
 step_by Marked n = marked n
 
+-- the step that a stored one stands for
 abbrev pub placed_of : Placed → PlacedStep
 placed_of p = placed p.at (step_by p.kind p.number)
 
@@ -18,7 +20,7 @@ placed_of p = placed p.at (step_by p.kind p.number)
 abbrev pub placed_steps : List Placed → List PlacedStep
 placed_steps ps = map placed_of ps
 
--- no step
+-- what is taken for a step past the last one
 abbrev pub no_step : Placed
 no_step = record { at = 0; number = 0; kind = Label; is_marked = false }
 

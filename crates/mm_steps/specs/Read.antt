@@ -6,6 +6,7 @@ use Rattle.mm_spec.specs.Steps.{PlacedStep, placed, label, marked}
 use Rattle.mm_steps.specs.declared.placed.Step.{Step}
 use Rattle.mm_steps.specs.declared.placed.Step.TheVariants.{Label, Marked}
 
+-- the steps of a proof, and the number of its theorem's statement
 pub record Read : Type 0 where
   pub theorem : ℕ
   pub steps : List PlacedStep
@@ -13,10 +14,12 @@ pub record Read : Type 0 where
 abbrev pub read : ℕ → List PlacedStep → Read
 read t steps = record { theorem = t; steps = steps }
 
+-- the step of the definitions that a step of the code stands for
 abbrev pub as_step : Step → spec.Step
 as_step (Label k) = label k
 as_step (Marked j) = marked j
 
+-- step i, or an arbitrary one if there are not so many
 abbrev pub step_at : List PlacedStep → ℕ → PlacedStep
 step_at steps i = get_or steps i (placed 0 (label 0))
 

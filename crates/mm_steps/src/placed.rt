@@ -24,8 +24,8 @@ enum StepKind {
     Marked,
 }
 
-/// A step with its place, and whether it is marked. (With a `Step` as a field, it would take a
-/// third more memory.)
+/// A step with its place, and whether it is marked. The kind and the number of a step are fields of
+/// their own, since with a `Step` as a field this would take a third more memory.
 #[derive(Clone, Copy, Drop)]
 struct Placed {
     at: u32,
@@ -34,8 +34,8 @@ struct Placed {
     is_marked: bool,
 }
 
-/// The maximum number of steps for which room is reserved at first. A common proof has fewer.
-const MOST_ROOM: usize = 4096;
+/// The maximum number of steps for which room is reserved at first. Most proofs have fewer.
+const MAX_RESERVED_STEPS: usize = 4096;
 
 /// The steps of a theorem's proof, numbered from 0, each with its place.
 #[derive(Drop)]
@@ -56,13 +56,16 @@ impl<A: Allocator> Model for Steps<A> {
 }
 
 impl<A: Allocator> Steps<A> {
-    /// No steps yet, of the proof of the statement `theorem`, which has at most `most` steps.
-    pub fn none(alloc: A, theorem: u32, most: usize) -> Self
+    /// No steps yet, of the proof of the statement `theorem`, which has at most `max_steps` steps.
+    pub fn none(alloc: A, theorem: u32, max_steps: usize) -> Self
         ensures { result ≡ read theorem [] }
     {
         let mut steps = Vec::new(alloc);
-        // Without the room, the list grows as steps come.
-        let _ = steps.reserve(most.min(MOST_ROOM));
+        // If there is no memory for the room, the list begins without it and grows as steps come.
+        match steps.reserve(max_steps.min(MAX_RESERVED_STEPS)) {
+            Ok(()) => {}
+            Err(_) => {}
+        }
         Steps { theorem, steps }
     }
 

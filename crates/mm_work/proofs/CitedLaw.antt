@@ -11,7 +11,7 @@ use Rattle.mm_spec.specs.Citation.{is_theorem, IsValid}
 use Rattle.mm_spec.specs.Citation as proof
 use Rattle.mm_spec.specs.Laws.Complete.{AreComplete}
 use Rattle.mm_spec.specs.Output.{theorems, is_theorem_at, AreValid}
-use Rattle.mm_spec.proofs.FindsLaw.{filter_member, found_at, inside_of}
+use Rattle.mm_spec.proofs.FindsLaw.{filter_member, passing_statement, inside_of}
 use Rattle.mm_spec.proofs.CitedLaw.{cites_earlier, proof_theorem}
 use Rattle.mm_spec.proofs.ListLaw.{member_at}
 use Rattle.mm_cites.specs.Citing.{Citing, citing, HasCitation, IsStatementList, IsFileOrder}
@@ -45,7 +45,7 @@ in_range (suc n) a x l h =
 theorem_place : (db : List Statement) (t : ℕ) → is_theorem_at db t ≡ true
     → (i : ℕ) × (i < length (theorems db)) × (get_or (theorems db) i 0 ≡ t)
 theorem_place db t h =
-    let f = found_at db is_theorem t h in
+    let f = passing_statement db is_theorem t h in
     member_place (theorems db) t
     (filter_member (λ j. list_any is_theorem (statement_at db j))
     (range_with_len 0 (length db)) t h

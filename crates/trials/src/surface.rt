@@ -40,7 +40,7 @@ fn bytes(rt: HostRuntime) {
 
 /// Asserts what a piece of the whole text says.
 fn is_whole<R: Abort>(rt: &R, piece: &Piece<Global>) {
-    assert!(rt; piece.from() == 0 && piece.to() == 170 && !piece.unbroken());
+    assert!(rt; piece.from() == 0 && piece.to() == 170 && !piece.is_unbroken());
     let head = piece.head();
     let tail = piece.tail();
     assert!(rt; head.start == 0 && head.end == 0 && tail.start == 170 && tail.end == 170);

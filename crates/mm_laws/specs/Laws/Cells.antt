@@ -12,6 +12,6 @@ IsDecided P = (mark : Bool) × Decides mark P
 
 -- if there is no fault, each cell is marked or not
 abbrev pub AreDecided : ℕ → LexedText → (with_open : Bool) → Type 0
-AreDecided len x with_open =
-    (db : List Statement) → HasNoFault len x with_open db → (by_essential : Bool) (t a : ℕ)
+AreDecided len lexed with_open =
+    (db : List Statement) → HasNoFault len lexed with_open db → (by_essential : Bool) (t a : ℕ)
     → IsDecided (RestsOn (counted with_open db) by_essential t a)

@@ -7,6 +7,6 @@ use Rattle.mm_spec.specs.Output.{FirstFault, HasNoFault}
 
 -- the text has a first fault, or none at all
 abbrev pub IsSoundOrFaulty : ℕ → LexedText → (with_open : Bool) → Type 0
-IsSoundOrFaulty len x with_open =
-    ((f : Fault) × FirstFault len x with_open f)
-    ⊎ ((db : List Statement) × HasNoFault len x with_open db)
+IsSoundOrFaulty len lexed with_open =
+    ((f : Fault) × FirstFault len lexed with_open f)
+    ⊎ ((db : List Statement) × HasNoFault len lexed with_open db)

@@ -7,11 +7,12 @@ use Rattle.mm_spec.specs.Derivation.{is_member}
 use Rattle.mm_spec.specs.Frame.{formula_at, is_variable_number, is_floating, mandatory_variables}
 use Rattle.mm_spec.specs.Frame.{mandatory_hypotheses, mandatory_pairs}
 use Rattle.mm_spec.specs.Citation.{is_assertion, context_at}
-use Rattle.mm_spec.specs.Laws.Complete.{IsFine}
+use Rattle.mm_spec.specs.Laws.Complete.{HasCompleteFrame}
 
 -- the frame of each assertion for which a label stands at k is complete
 abbrev pub FramesAreComplete : List Statement → ℕ → Type 0
-FramesAreComplete db k = (label : ℕ) → IsFine (context_at db k) ((context_at db k).rule label)
+FramesAreComplete db k =
+    (label : ℕ) → HasCompleteFrame (context_at db k) ((context_at db k).rule label)
 
 -- statement j is the `$f` of x: its formula is a typecode, which is no variable, and x
 pub record IsTyping (db : List Statement) (j x : ℕ) : Type 0 where

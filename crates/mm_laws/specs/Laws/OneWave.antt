@@ -8,7 +8,7 @@ use Rattle.mm_spec.specs.Output.{HasNoFault}
 
 -- if there is no fault, each theorem has exactly one wave
 abbrev pub HaveWaves : ℕ → LexedText → (with_open : Bool) → Type 0
-HaveWaves len x with_open =
-    (db : List Statement) → HasNoFault len x with_open db → (by_essential : Bool) (t : ℕ)
+HaveWaves len lexed with_open =
+    (db : List Statement) → HasNoFault len lexed with_open db → (by_essential : Bool) (t : ℕ)
     → (n : ℕ) × IsWave (counted with_open db) by_essential t n
     × ((m : ℕ) → IsWave (counted with_open db) by_essential t m → m ≡ n)

@@ -10,5 +10,6 @@ use Rattle.mm_spec.specs.Output.{IsRead}
 -- theorems as axioms, and without the flag as they were read
 abbrev pub WhereRead : (List Statement → ℕ → Type 0) → Type 0
 WhereRead P =
-    (len : ℕ) (x : LexedText) (db : List Statement) (fault : Option Fault) → IsRead len x db fault
+    (len : ℕ) (lexed : LexedText) (db : List Statement) (fault : Option Fault)
+    → IsRead len lexed db fault
     → (with_open : Bool) (k : ℕ) → P (counted with_open db) k

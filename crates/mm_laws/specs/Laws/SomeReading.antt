@@ -7,4 +7,4 @@ use Rattle.mm_spec.specs.Output.{IsRead}
 
 -- the text is read: as some statements, with a fault or without one
 abbrev pub IsReadable : ℕ → LexedText → Type 0
-IsReadable len x = (db : List Statement) × (fault : Option Fault) × IsRead len x db fault
+IsReadable len lexed = (db : List Statement) × (fault : Option Fault) × IsRead len lexed db fault

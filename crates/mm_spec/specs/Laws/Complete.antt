@@ -20,6 +20,7 @@ module _ (c : Context) where
   abbrev pub IsBound : List Formula → ℕ → Type 0
   IsBound hs x = IsTrue (list_any (binds x) hs)
 
+  -- the hypotheses bind each variable of the formula
   abbrev pub AreBound : List Formula → Formula → Type 0
   AreBound hs f = AllByRecursion (λ x. IsTrue (c.is_variable x) → IsBound hs x) f
 
@@ -30,11 +31,12 @@ module _ (c : Context) where
     pub pairs : AllByRecursion
         (λ p. IsBound a.hypotheses p.low × IsBound a.hypotheses p.high) a.pairs
 
-  abbrev pub IsFine : Option Rule → Type 0
-  IsFine None = Unit {0}
-  IsFine (Some (hypothesis g)) = Unit {0}
-  IsFine (Some (assertion a)) = IsComplete a
+  -- if the label stands for an assertion, its frame is complete
+  abbrev pub HasCompleteFrame : Option Rule → Type 0
+  HasCompleteFrame None = Unit {0}
+  HasCompleteFrame (Some (hypothesis g)) = Unit {0}
+  HasCompleteFrame (Some (assertion a)) = IsComplete a
 
 -- the frame of each assertion for which a label stands is complete
 abbrev pub AreComplete : List Statement → Type 0
-AreComplete db = (k l : ℕ) → IsFine (context_at db k) ((context_at db k).rule l)
+AreComplete db = (k l : ℕ) → HasCompleteFrame (context_at db k) ((context_at db k).rule l)

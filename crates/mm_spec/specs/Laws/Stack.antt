@@ -13,12 +13,13 @@ use Rattle.mm_spec.specs.Valid.{Reason, too_few, unmatched, not_disjoint, too_lo
 use Rattle.mm_spec.specs.Laws.Complete.{binds, IsComplete}
 
 -- whether two lists of formulas are equal
-abbrev pub same : List Formula → List Formula → Bool
-same [] [] = true
-same [] (q ∷ qs) = false
-same (p ∷ ps) [] = false
-same (p ∷ ps) (q ∷ qs) = bytes_eq p q && same ps qs
+abbrev pub are_equal : List Formula → List Formula → Bool
+are_equal [] [] = true
+are_equal [] (q ∷ qs) = false
+are_equal (p ∷ ps) [] = false
+are_equal (p ∷ ps) (q ∷ qs) = bytes_eq p q && are_equal ps qs
 
+-- the symbols after the first
 abbrev pub tail : Formula → Formula
 tail [] = []
 tail (y ∷ ys) = ys
@@ -30,64 +31,74 @@ top (f ∷ []) = f
 top (f ∷ g ∷ fs) = top (g ∷ fs)
 
 -- g is the formula of the last tree
-abbrev pub HasLast : Trees → Formula → Type 0
-HasLast none g = ⊥
-HasLast (more ts l f cs) g = f ≡ g
+abbrev pub IsLastFormula : Trees → Formula → Type 0
+IsLastFormula none g = ⊥
+IsLastFormula (more ts l f cs) g = f ≡ g
 
--- the entries after a step, or the reason why it fails: the first of its four tests that fails
-abbrev pub pick : Bool → Bool → Bool → Bool → List Formula → Result (List Formula) Reason
-pick false matched disjoint short out = Err too_few
-pick true false disjoint short out = Err unmatched
-pick true true false short out = Err not_disjoint
-pick true true true false out = Err too_long
-pick true true true true out = Ok out
+-- the entries after a step, unless the formula that it adds is too long
+abbrev pub unless_too_long : (short : Bool) → List Formula → Result (List Formula) Reason
+unless_too_long false out = Err too_long
+unless_too_long true out = Ok out
+
+-- the entries after the step of an assertion, or the reason why it fails: the first of its four
+-- tests that fails
+abbrev pub unless_failed : (enough matched disjoint short : Bool) → List Formula
+    → Result (List Formula) Reason
+unless_failed false matched disjoint short out = Err too_few
+unless_failed true false disjoint short out = Err unmatched
+unless_failed true true false short out = Err not_disjoint
+unless_failed true true true short out = unless_too_long short out
 
 module _ (c : Context) where
   -- what replaces a variable: the premise for its `$f`, without the typecode
-  abbrev pub found : List Formula → List Formula → Substitution
-  found [] ps x = []
-  found (h ∷ hs) [] x = []
-  found (h ∷ hs) (p ∷ ps) x = elim (binds c x h) [ true ↦ tail p | false ↦ found hs ps x ]
+  abbrev pub substitution_from : List Formula → List Formula → Substitution
+  substitution_from [] ps x = []
+  substitution_from (h ∷ hs) [] x = []
+  substitution_from (h ∷ hs) (p ∷ ps) x =
+      elim (binds c x h) [ true ↦ tail p | false ↦ substitution_from hs ps x ]
 
   -- the step of an assertion; `premises` are the entries that it takes, `below` the entries below
   -- them, and `enough` says whether there are enough entries
   abbrev pub apply : Frame → Bool → List Formula → List Formula → Result (List Formula) Reason
-  apply a enough below premises = let σ = found a.hypotheses premises in
-      pick enough (same premises (map (substitute c σ) a.hypotheses))
+  apply a enough below premises = let σ = substitution_from a.hypotheses premises in
+      unless_failed enough (are_equal premises (map (substitute c σ) a.hypotheses))
       (list_all (λ p. are_all_disjoint c (σ p.low) (σ p.high)) a.pairs)
       (nat_le (length (substitute c σ a.formula)) formula_limit)
       (below ++ substitute c σ a.formula ∷ [])
 
+  -- the step of a label, by what it stands for
   abbrev pub step : Option Rule → List Formula → Result (List Formula) Reason
   step None es = Err too_few
   step (Some (hypothesis g)) es =
-      pick true true true (nat_le (length g) formula_limit) (es ++ g ∷ [])
+      unless_too_long (nat_le (length g) formula_limit) (es ++ g ∷ [])
   step (Some (assertion a)) es = let n = length es - length a.hypotheses in
       apply a (nat_le (length a.hypotheses) (length es)) (take n es) (drop n es)
 
   -- the label stands for something, and the frame is complete if that is an assertion
-  abbrev pub IsGood : Option Rule → Type 0
-  IsGood None = ⊥
-  IsGood (Some (hypothesis g)) = Unit {0}
-  IsGood (Some (assertion a)) = IsComplete c a
+  abbrev pub IsCompleteRule : Option Rule → Type 0
+  IsCompleteRule None = ⊥
+  IsCompleteRule (Some (hypothesis g)) = Unit {0}
+  IsCompleteRule (Some (assertion a)) = IsComplete c a
 
   -- f is the formula of the last tree of a forest of derivations whose postfix list is the labels:
   -- the formula after the steps that stand for these labels
-  abbrev pub Leaves : List ℕ → Formula → Type 0
-  Leaves labels f =
-      (forest : Trees) × AreDerivations c forest × (postfix forest ≡ labels) × HasLast forest f
+  abbrev pub EndsInFormula : List ℕ → Formula → Type 0
+  EndsInFormula labels f =
+      (forest : Trees) × AreDerivations c forest × (postfix forest ≡ labels)
+      × IsLastFormula forest f
 
-  -- the entries after a step; `ends` has the last entry after each step so far
+  -- the entries after a step; `last_entries` has the last entry after each step so far
   abbrev pub step_entries : Step → List Formula → List Formula → Result (List Formula) Reason
-  step_entries (label l) ends es = step (c.rule l) es
-  step_entries (marked j) ends es =
-      elim (slice_get ends j) [ None ↦ Ok es | Some f ↦ Ok (es ++ f ∷ []) ]
+  step_entries (label l) last_entries es = step (c.rule l) es
+  step_entries (marked j) last_entries es =
+      elim (slice_get last_entries j) [ None ↦ Ok es | Some f ↦ Ok (es ++ f ∷ []) ]
 
   -- the step is a label that stands for something, or names one of the n earlier steps
   abbrev pub IsGoodStep : ℕ → Step → Type 0
-  IsGoodStep n (label l) = IsGood (c.rule l)
+  IsGoodStep n (label l) = IsCompleteRule (c.rule l)
   IsGoodStep n (marked j) = j < n
 
+  -- each step is good in this sense, the first of them as step n
   abbrev pub AreGoodSteps : ℕ → List Step → Type 0
   AreGoodSteps n [] = Unit {0}
   AreGoodSteps n (s ∷ steps) = IsGoodStep n s × AreGoodSteps (suc n) steps

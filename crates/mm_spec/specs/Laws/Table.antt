@@ -6,11 +6,13 @@ use Rattle.mm_spec.specs.Text.{Bytes, Token, Fault, fault, has_dollar, is_label}
 use Rattle.mm_spec.specs.Statement.{Statement, constants, variables, disjoint, floating, essential}
 use Rattle.mm_spec.specs.Statement.{axiomatic, provable, opening, closing, shape_code}
 
--- what a word is
+-- What a word is: a keyword, by what it stands for; `plain` without a `$`; or `other`, which has a
+-- `$` and is no keyword that can be expected.
 pub data Class : Type 0 where
-  constant variable disjoint_of type_of logical axiom_of theorem_of equals dot open_block
-      close_block plain other : Class
+  constant_keyword variable_keyword disjoint_keyword floating_keyword essential_keyword
+      axiom_keyword theorem_keyword equals dot open_block close_block plain other : Class
 
+-- a keyword with its class
 pub record ClassedWord : Type 0 where
   pub word : Bytes
   pub class : Class
@@ -20,95 +22,119 @@ classed w k = record { word = w; class = k }
 
 abbrev pub table : List ClassedWord
 table =
-    classed (codes "$c") constant ∷ classed (codes "$v") variable ∷ classed (codes "$d") disjoint_of
-    ∷ classed (codes "$f") type_of ∷ classed (codes "$e") logical ∷ classed (codes "$a") axiom_of
-    ∷ classed (codes "$p") theorem_of ∷ classed (codes "$=") equals ∷ classed (codes "$.") dot
-    ∷ classed (codes "${") open_block ∷ classed (codes "$}") close_block ∷ []
+    classed (codes "$c") constant_keyword
+    ∷ classed (codes "$v") variable_keyword
+    ∷ classed (codes "$d") disjoint_keyword
+    ∷ classed (codes "$f") floating_keyword
+    ∷ classed (codes "$e") essential_keyword
+    ∷ classed (codes "$a") axiom_keyword
+    ∷ classed (codes "$p") theorem_keyword
+    ∷ classed (codes "$=") equals
+    ∷ classed (codes "$.") dot
+    ∷ classed (codes "${") open_block
+    ∷ classed (codes "$}") close_block
+    ∷ []
 
+-- the class of the first entry with this word
 abbrev pub lookup : List ClassedWord → Bytes → Class
 lookup [] w = other
 lookup (e ∷ es) w = elim (bytes_eq w e.word) [ true ↦ e.class | false ↦ lookup es w ]
 
+-- the class of a word that has a `$`
 abbrev pub keyword : Bytes → Class
 keyword w = lookup table w
 
+-- the class of a word
 abbrev pub class : Bytes → Class
 class w = elim (has_dollar w) [ true ↦ keyword w | false ↦ plain ]
 
--- what has been read of a statement; `deep` is the number of open blocks
+-- what has been read of a statement; `depth` is the number of open blocks
 pub data Progress : Type 0 where
-  start : (deep : ℕ) → Progress
-  labelled : (deep : ℕ) (label : Token) → Progress
-  words : (deep : ℕ) (make : List Token → ℕ → Statement) (words : List Token) → Progress
-  formula : (deep : ℕ) (label : Token) (keyword : ℕ) (words : List Token) → Progress
+  start : (depth : ℕ) → Progress
+  labelled : (depth : ℕ) (label : Token) → Progress
+  words : (depth : ℕ) (make : List Token → ℕ → Statement) (words : List Token) → Progress
+  formula : (depth : ℕ) (label : Token) (keyword : ℕ) (words : List Token) → Progress
 
--- what a token does
+-- What a token does: no statement has it there, a statement goes on with it, or it ends one. The
+-- number says how many blocks are open after that statement.
 pub data Transition : Type 0 where
-  stop : Transition
-  go : Progress → Transition
-  done : ℕ → Statement → Transition
+  unexpected : Transition
+  continued : Progress → Transition
+  completed : (depth : ℕ) → Statement → Transition
 
-abbrev pub closed : ℕ → ℕ → Transition
-closed at zero = stop
-closed at (suc d) = done d (closing at)
+-- what the `$}` at the place does, before which so many blocks are open
+abbrev pub closing_transition : ℕ → ℕ → Transition
+closing_transition at zero = unexpected
+closing_transition at (suc d) = completed d (closing at)
 
-abbrev pub label_turn : Bool → ℕ → Token → Transition
-label_turn true d t = go (labelled d t)
-label_turn false d t = stop
+-- what a word without `$` does at the beginning of a statement, given whether it is a label
+abbrev pub label_transition : Bool → ℕ → Token → Transition
+label_transition true d t = continued (labelled d t)
+label_transition false d t = unexpected
 
+-- what a token does to what has been read, by its class
 abbrev pub transition : Progress → Class → Token → Transition
-transition (start d) constant t = go (words d (constants t.at) [])
-transition (start d) variable t = go (words d (variables t.at) [])
-transition (start d) disjoint_of t = go (words d (disjoint t.at) [])
-transition (start d) open_block t = done (suc d) (opening t.at)
-transition (start d) close_block t = closed t.at d
-transition (start d) plain t = label_turn (is_label t.word) d t
-transition (labelled d l) type_of t = go (words d (floating l t.at) [])
-transition (labelled d l) logical t = go (words d (essential l t.at) [])
-transition (labelled d l) axiom_of t = go (words d (axiomatic l t.at) [])
-transition (labelled d l) theorem_of t = go (formula d l t.at [])
-transition (formula d l k ws) plain t = go (formula d l k (ws ++ t ∷ []))
-transition (formula d l k ws) equals t = go (words d (provable l k ws t.at) [])
-transition (words d make ws) plain t = go (words d make (ws ++ t ∷ []))
-transition (words d make ws) dot t = done d (make ws t.at)
-transition _ _ t = stop
+transition (start d) constant_keyword t = continued (words d (constants t.at) [])
+transition (start d) variable_keyword t = continued (words d (variables t.at) [])
+transition (start d) disjoint_keyword t = continued (words d (disjoint t.at) [])
+transition (start d) open_block t = completed (suc d) (opening t.at)
+transition (start d) close_block t = closing_transition t.at d
+transition (start d) plain t = label_transition (is_label t.word) d t
+transition (labelled d l) floating_keyword t = continued (words d (floating l t.at) [])
+transition (labelled d l) essential_keyword t = continued (words d (essential l t.at) [])
+transition (labelled d l) axiom_keyword t = continued (words d (axiomatic l t.at) [])
+transition (labelled d l) theorem_keyword t = continued (formula d l t.at [])
+transition (formula d l k ws) plain t = continued (formula d l k (ws ++ t ∷ []))
+transition (formula d l k ws) equals t = continued (words d (provable l k ws t.at) [])
+transition (words d make ws) plain t = continued (words d make (ws ++ t ∷ []))
+transition (words d make ws) dot t = completed d (make ws t.at)
+transition _ _ t = unexpected
 
-abbrev pub after : Transition → (Progress → List Statement) → List Statement
-after stop on = []
-after (go r) on = on r
-after (done d s) on = s ∷ on (start d)
+-- the statement that a token ends, if it ends one, and those after the token, which `of_the_rest`
+-- gives
+abbrev pub statements_after : Transition → (Progress → List Statement) → List Statement
+statements_after unexpected of_the_rest = []
+statements_after (continued r) of_the_rest = of_the_rest r
+statements_after (completed d s) of_the_rest = s ∷ of_the_rest (start d)
 
 -- the complete statements from there on
 abbrev pub statements_from : Progress → List Token → List Statement
 statements_from r [] = []
-statements_from r (t ∷ ts) = after (transition r (class t.word) t) (λ q. statements_from q ts)
+statements_from r (t ∷ ts) =
+    statements_after (transition r (class t.word) t) (λ q. statements_from q ts)
 
 abbrev pub statements_of : List Token → List Statement
 statements_of ts = statements_from (start 0) ts
 
 -- whether a statement begins there
-abbrev pub begins : Progress → Bool
-begins (start d) = true
-begins _ = false
+abbrev pub is_between_statements : Progress → Bool
+is_between_statements (start d) = true
+is_between_statements _ = false
 
-abbrev pub stop_after : Transition → Option Fault → (Progress → Option Fault) → Option Fault
-stop_after stop f on = f
-stop_after (go r) f on = on r
-stop_after (done d s) f on = on (start d)
+-- the fault f if the token is unexpected, otherwise the fault of the tokens after it, which
+-- `of_the_rest` gives
+abbrev pub shape_fault_after : Transition → Option Fault → (Progress → Option Fault) → Option Fault
+shape_fault_after unexpected f of_the_rest = f
+shape_fault_after (continued r) f of_the_rest = of_the_rest r
+shape_fault_after (completed d s) f of_the_rest = of_the_rest (start d)
 
 -- the fault of the first token that is not expected
-abbrev pub stop_from : Progress → List Token → Option Fault
-stop_from r [] = None
-stop_from r (t ∷ ts) =
-    stop_after (transition r (class t.word) t) (Some (fault t.at (shape_code (begins r) t.word)))
-    (λ q. stop_from q ts)
+abbrev pub shape_fault_from : Progress → List Token → Option Fault
+shape_fault_from r [] = None
+shape_fault_from r (t ∷ ts) =
+    shape_fault_after (transition r (class t.word) t)
+    (Some (fault t.at (shape_code (is_between_statements r) t.word)))
+    (λ q. shape_fault_from q ts)
 
-abbrev pub rest_after : Transition → (Progress → Progress) → Progress → Progress
-rest_after stop on r = r
-rest_after (go q) on r = on q
-rest_after (done d s) on r = on (start d)
+-- what was read, r, if the token is unexpected, otherwise what was read after the tokens behind it,
+-- which `of_the_rest` gives
+abbrev pub progress_after : Transition → (Progress → Progress) → Progress → Progress
+progress_after unexpected of_the_rest r = r
+progress_after (continued q) of_the_rest r = of_the_rest q
+progress_after (completed d s) of_the_rest r = of_the_rest (start d)
 
 -- what has been read after all tokens, or before the first one that is not expected
-abbrev pub rest_from : Progress → List Token → Progress
-rest_from r [] = r
-rest_from r (t ∷ ts) = rest_after (transition r (class t.word) t) (λ q. rest_from q ts) r
+abbrev pub progress_from : Progress → List Token → Progress
+progress_from r [] = r
+progress_from r (t ∷ ts) =
+    progress_after (transition r (class t.word) t) (λ q. progress_from q ts) r

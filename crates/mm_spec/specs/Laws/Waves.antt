@@ -7,6 +7,7 @@ use Rattle.mm_spec.specs.Scope.{statement_at}
 use Rattle.mm_spec.specs.Citation.{is_theorem, Cites}
 use Rattle.mm_spec.specs.Laws.Chains as chain
 
+-- statement b is a theorem
 abbrev pub IsTheorem : List Statement → ℕ → Type 0
 IsTheorem db b = IsTrue (list_any is_theorem (statement_at db b))
 

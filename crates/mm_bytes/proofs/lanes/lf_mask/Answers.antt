@@ -3,4 +3,4 @@ use Rattle.std.proofs.lemmas.Simd.{bitmask_splat}
 use Rattle.mm_bytes.proofs.lanes.lf_mask.Goals as goal
 
 pub returns : goal.returns
-returns c = bitmask_splat w8 eqb c.args.v 64 10 c.fits-v.0 (omega arith)
+returns c = bitmask_splat w8 eqb c.args.lanes 64 10 c.fits-lanes.0 (omega arith)

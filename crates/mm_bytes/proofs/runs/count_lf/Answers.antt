@@ -9,10 +9,10 @@ use Rattle.mm_bytes.proofs.runs.count_lf.Goals as goal
 use Rattle.mm_bytes.proofs.runs.count_lf.Goals.{After-lf_mask}
 
 -- the count after a block
-more : (c : After-lf_mask)
+count_after_block : (c : After-lf_mask)
     → c.loop-at.count + count_ones c.lf_mask.result
     ≡ count_by (λ b. b == 10) (take (c.loop-at.at + 64) c.args.bytes.now)
-more c =
+count_after_block c =
     let s = c.args.bytes.now in
     let block : count_ones c.lf_mask.result ≡ count_by (λ b. b == 10) (chunk c.loop-at.at 64 s) =
     ap count_ones c.lf_mask.ensures ∙ ones-mask_l (λ b. b == 10) (chunk c.loop-at.at 64 s) in
@@ -26,12 +26,17 @@ more c =
 
 pub overflow_add-count : goal.overflow_add-count
 overflow_add-count c =
-    let m = more c in
-    let t = count_by-le-length (λ b. b == 10) (take (c.loop-at.at + 64) c.args.bytes.now) in
-    let u : c.loop-at.count + count_ones c.lf_mask.result
-    ≤ length c.args.bytes.now = omega (arith, m, t, length-take {A = ℕ}) in
+    let counted = count_after_block c in
+    let count_is_at_most = count_by-le-length (λ b. b == 10)
+    (take (c.loop-at.at + 64) c.args.bytes.now) in
+    let within : c.loop-at.count + count_ones c.lf_mask.result
+    ≤ length c.args.bytes.now = omega (arith, counted, count_is_at_most, length-take {A = ℕ}) in
     record { fits = omega arith }
 
 pub loop-at-preserved : goal.loop-at-preserved
 loop-at-preserved c =
-    record { within = omega arith; counted = more (goal.at.loop-at-preserved c).After-lf_mask }
+    record {
+      within = omega arith;
+      counted =
+          count_after_block (goal.at.loop-at-preserved c).After-lf_mask;
+    }

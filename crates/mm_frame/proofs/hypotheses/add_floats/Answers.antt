@@ -3,7 +3,7 @@ use Rattle.std.specs.List.{list_any}
 use Rattle.mm_spec.specs.Derivation.{is_member}
 use Rattle.mm_frame.specs.Hypotheses.{is_float_of}
 use Rattle.mm_frame.proofs.LoopsLaw.{none_so_far, any_next, float_pushed, float_closed, float_none}
-use Rattle.mm_spec.specs.Scope.{stays}
+use Rattle.mm_spec.specs.Scope.{is_block_open}
 use Rattle.mm_outline.specs.Blocks.{never}
 use Rattle.std.proofs.lemmas.Bool.{ne_eqb, eq-eqb}
 use Rattle.mm_frame.proofs.hypotheses.add_floats.Goals.{then-floating+then-is_open_at+in_ok-push}
@@ -53,7 +53,7 @@ loop-symbol-preserved g c = λ j.
     let f = get_or typed v 0 in
     let hs = c.loop-symbol.hyps.items in
     let more = c.if-floating.hyps.items in
-    let is_open = stays db f at in
+    let is_open = is_block_open db f at in
     let n : is_member more j ≡ (is_member hs j || is_float_of db at typed j v) =
     elim c.if-floating.branch [
       | then-floating+then-is_open_at+in_ok-push w ↦

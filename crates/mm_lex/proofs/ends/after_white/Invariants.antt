@@ -4,14 +4,22 @@ use Rattle.mm_lex.proofs.ends.after_white.Given as goal
 
 abbrev pub invariant-loop-place : goal.invariant-loop-place
 invariant-loop-place l =
-    record { low : l.from ≤ l.place; high : l.place ≤ l.to; ink : NoWhite l.text l.place l.to }
+    record {
+      low : l.from ≤ l.place;
+      high : l.place ≤ l.to;
+      not_white : NoWhite l.text l.place l.to;
+    }
 
 abbrev pub decreases-loop-place : goal.decreases-loop-place
 decreases-loop-place l = l.place
 
 abbrev pub invariant-loop-place-2 : goal.invariant-loop-place-2
 invariant-loop-place-2 l =
-    record { low : l.from ≤ l.place; high : l.place ≤ l.to; ink : NoWhite l.text l.place l.to }
+    record {
+      low : l.from ≤ l.place;
+      high : l.place ≤ l.to;
+      not_white : NoWhite l.text l.place l.to;
+    }
 
 abbrev pub decreases-loop-place-2 : goal.decreases-loop-place-2
 decreases-loop-place-2 l = l.place

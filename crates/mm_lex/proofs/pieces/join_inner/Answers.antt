@@ -10,7 +10,7 @@ use Rattle.mm_lex.proofs.pieces.join_inner.Goals.{else-before-after}
 
 pub returns-clause-readings : goal.returns-clause-readings
 returns-clause-readings g c ws us before after =
-    let out : (p : ℕ)
+    let outside_joined : (p : ℕ)
     → side_reading p (side c.if-before-after.outside)
     ≡ go_on c.args.text.now (side_reading p (side c.args.before.outside))
     (joined_word c.args.before.tail c.args.after.head) =
@@ -20,7 +20,7 @@ returns-clause-readings g c ws us before after =
       | else-before-after w ↦ rw (w.outside-is, le-ltb _ _ w.if-before-after.false)
           (sym (go_on_nil _ _))
     ] in
-    let inn : (p : ℕ)
+    let inside_joined : (p : ℕ)
     → side_reading p (side c.if-before-after.inside)
     ≡ go_on c.args.text.now (side_reading p (side c.args.before.inside))
     (joined_word c.args.before.tail c.args.after.head) =
@@ -32,9 +32,9 @@ returns-clause-readings g c ws us before after =
     ] in
     record {
       out =
-          λ p. go_on_three c.args.text.now _ _ _ _ ws _ us (before.out p) (out p)
+          λ p. go_on_three c.args.text.now _ _ _ _ ws _ us (before.out p) (outside_joined p)
           (c.in_ok-go_on.ensures c.args.text.now us after p);
       within =
-          λ p. go_on_three c.args.text.now _ _ _ _ ws _ us (before.within p) (inn p)
+          λ p. go_on_three c.args.text.now _ _ _ _ ws _ us (before.within p) (inside_joined p)
           (c.in_ok-go_on-2.ensures c.args.text.now us after p);
     }

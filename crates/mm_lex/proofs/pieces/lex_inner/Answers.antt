@@ -22,15 +22,15 @@ loop-scanner-preserved g c =
     let word = c.in-Some.found.word in
     let next =
     same_next _ text c.loop-scanner.scanner.from c.next_word.new.self.from c.args.tail word
-    before.same c.in-Some.ensures.words in
+    before.same_text c.in-Some.ensures.words in
     record {
-      same = c.in-Some.ensures.text ∙ before.same;
-      out =
+      same_text = c.in-Some.ensures.text ∙ before.same_text;
+      outside_reading =
           λ p. go_on_next text _ (side_reading p (side c.loop-scanner.outside)) _ word _ _
-          (before.out p) next (c.in_ok-read_word.ensures p);
-      inn =
+          (before.outside_reading p) next (c.in_ok-read_word.ensures p);
+      inside_reading =
           λ p. go_on_next text _ (side_reading p (side c.loop-scanner.inside)) _ word _ _
-          (before.inn p) next (c.in_ok-read_word-2.ensures p);
+          (before.inside_reading p) next (c.in_ok-read_word-2.ensures p);
     }
 
 pub loop-scanner-preserved-then-ignores_plain-2 : goal.loop-scanner-preserved-then-ignores_plain-2
@@ -38,29 +38,29 @@ loop-scanner-preserved-then-ignores_plain-2 g c =
     let before = c.loop-scanner.invariant in
     let text = c.args.text.now in
     let word = c.in-Some.found.word in
-    let same = c.in-Some.ensures.text ∙ before.same in
+    let same = c.in-Some.ensures.text ∙ before.same_text in
     let here = c.next_word.new.self.from in
     let upto = c.skip_plain.new.self.from in
     let next =
-    same_next _ text c.loop-scanner.scanner.from here c.args.tail word before.same
+    same_next _ text c.loop-scanner.scanner.from here c.args.tail word before.same_text
     c.in-Some.ensures.words in
     let plain =
-    subst (λ (t : List ℕ). IsPlainWord (bytes_of t word)) before.same
+    subst (λ (t : List ℕ). IsPlainWord (bytes_of t word)) before.same_text
     (c.in-Some.ensures.plain c.if-found.true) in
     let others =
     subst (λ (t : List ℕ). ArePlain t here upto) same c.skip_plain.ensures.plain in
     record {
-      same = c.skip_plain.ensures.text ∙ same;
-      out =
+      same_text = c.skip_plain.ensures.text ∙ same;
+      outside_reading =
           λ p. go_on_skips text _ (side_reading p (side c.loop-scanner.outside)) word _ here upto
           c.args.tail
           (sym (c.ignores_plain.ensures p) ∙ c.if-ignores_plain.true) plain
-          c.skip_plain.ensures.onward others (before.out p) next;
-      inn =
+          c.skip_plain.ensures.onward others (before.outside_reading p) next;
+      inside_reading =
           λ p. go_on_skips text _ (side_reading p (side c.loop-scanner.inside)) word _ here upto
           c.args.tail
           (sym (c.ignores_plain-then-ignores_plain.ensures p) ∙ c.if-ignores_plain-2.true) plain
-          c.skip_plain.ensures.onward others (before.inn p) next;
+          c.skip_plain.ensures.onward others (before.inside_reading p) next;
     }
 
 pub new-scanner-requires : goal.new-scanner-requires
@@ -71,12 +71,12 @@ new-scanner-requires g c =
 
 pub next_word-requires-clause-within : goal.next_word-requires-clause-within
 next_word-requires-clause-within g c =
-    subst (λ (t : List ℕ). c.args.tail ≤ length t) (sym c.loop-scanner.invariant.same)
+    subst (λ (t : List ℕ). c.args.tail ≤ length t) (sym c.loop-scanner.invariant.same_text)
     c.requires.within
 
 pub next_word-requires-clause-short : goal.next_word-requires-clause-short
 next_word-requires-clause-short g c =
-    subst (λ (t : List ℕ). length t ≤ TEXT_LIMIT) (sym c.loop-scanner.invariant.same)
+    subst (λ (t : List ℕ). length t ≤ TEXT_LIMIT) (sym c.loop-scanner.invariant.same_text)
     c.requires.short
 
 pub returns-clause-readings : goal.returns-clause-readings
@@ -93,7 +93,7 @@ returns-clause-readings g c =
     elim c.loop-scanner-test.branch [
       | else-loop-scanner-test w ↦ (
         ap (λ (b : WordScanner). words_between text b.from to) (sym w.scanner-is),
-        λ p. before.inn p
+        λ p. before.inside_reading p
             ∙ go_on_some text (side_reading p (side c.loop-scanner.inside)) _
             (c.is_none.ensures ∙ ap not w.loop-scanner-test.false),
       )
@@ -102,18 +102,19 @@ returns-clause-readings g c =
           let done : words_between c.loop-scanner.scanner.text.now w.next_word.new.self.from to
           ≡ [] = search rules in
           let here : words_between text from to ≡ [] =
-          subst (λ (t : List ℕ). words_between t from to ≡ []) before.same none in
+          subst (λ (t : List ℕ). words_between t from to ≡ []) before.same_text none in
           let there : words_between text w.next_word.new.self.from to ≡ [] =
-          subst (λ (t : List ℕ). words_between t w.next_word.new.self.from to ≡ []) before.same
+          subst (λ (t : List ℕ). words_between t w.next_word.new.self.from to ≡ []) before.same_text
           done in (
             here ∙ sym there
                 ∙ ap (λ (b : WordScanner). words_between text b.from to) (sym w.scanner-is),
-            λ p. go_on_done text _ _ _ (before.inn p) here,
+            λ p. go_on_done text _ _ _ (before.inside_reading p) here,
           )
     ] in
     record {
       out =
-          λ p. before.out p ∙ ap (go_on text (side_reading p (side c.loop-scanner.outside))) known.0
+          λ p. before.outside_reading p
+          ∙ ap (go_on text (side_reading p (side c.loop-scanner.outside))) known.0
           ∙ sym (c.in_ok-read_rest.ensures p);
       within = known.1;
     }

@@ -6,14 +6,14 @@ use Rattle.mm_lex.specs.Pieces.{side_reading}
 use Rattle.mm_lex.specs.Inners.{side}
 use Rattle.mm_lex.proofs.pieces.lex_inner.Given as goal
 
--- What all words give is what the two readings have read, and go on to with the words from here on.
+-- Each of the two readings, continued with the remaining words, gives what all words give.
 abbrev pub invariant-loop-scanner : goal.invariant-loop-scanner
 invariant-loop-scanner g l = record {
-  same : l.scanner.text.now ≡ l.text;
-  out : (p : ℕ)
+  same_text : l.scanner.text.now ≡ l.text;
+  outside_reading : (p : ℕ)
       → reading l.text None (words_between l.text l.head l.tail)
       ≡ go_on l.text (side_reading p (side l.outside)) (words_between l.text l.scanner.from l.tail);
-  inn : (p : ℕ)
+  inside_reading : (p : ℕ)
       → reading l.text (Some p) (words_between l.text l.head l.tail)
       ≡ go_on l.text (side_reading p (side l.inside)) (words_between l.text l.scanner.from l.tail);
 }

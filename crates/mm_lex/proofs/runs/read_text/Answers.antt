@@ -1,13 +1,14 @@
 use Rattle.std.proofs.Common.{rules, ◌≡◌, ◌<◌, ◌+◌, ◌∙◌, length, sym, arith}
 use Rattle.std.proofs.lemmas.Bool.{eqb-true}
-use Rattle.mm_lex.proofs.CutsLaw.{IsLeft_first, IsLeft_next, IsLeft_neighbour, IsLeft_end}
+use Rattle.mm_lex.proofs.CutsLaw.{IsJoinedSoFar_first, IsJoinedSoFar_next, IsJoinedSoFar_neighbour}
+use Rattle.mm_lex.proofs.CutsLaw.{IsJoinedSoFar_end}
 use Rattle.mm_lex.proofs.runs.read_text.Goals as goal
 
 pub joining-init : goal.joining-init
 joining-init g c =
     let long : length c.in_ok-pieces.pieces.items ≡ c.min-runs.result =
     sym c.in_ok-pieces.pieces.ok.0 ∙ c.in_ok-pieces.ensures.len in
-    IsLeft_first c.args.text.now c.args.places.now
+    IsJoinedSoFar_first c.args.text.now c.args.places.now
     (length c.args.places.now + 1) c.min-runs.result c.in_ok-pieces.pieces.items
     c.remove.new.self.items c.in_ok-whole.whole
     (omega (arith, c.min-runs.ensures))
@@ -17,7 +18,7 @@ joining-init g c =
 pub join-requires-clause-neighbours : goal.join-requires-clause-neighbours
 join-requires-clause-neighbours g c =
     let some : 0 < length c.joining.pieces.items = search rules in
-    (IsLeft_neighbour c.args.text.now c.args.places.now
+    (IsJoinedSoFar_neighbour c.args.text.now c.args.places.now
     (length c.args.places.now + 1) c.min-runs.result c.joining.pieces.items c.joining.whole
     c.in_ok-run.run'
     c.joining.invariant some c.in_ok-run.ensures.value).0
@@ -25,7 +26,7 @@ join-requires-clause-neighbours g c =
 pub joining-preserved : goal.joining-preserved
 joining-preserved g c =
     let some : 0 < length c.joining.pieces.items = search rules in
-    IsLeft_next c.args.text.now c.args.places.now
+    IsJoinedSoFar_next c.args.text.now c.args.places.now
     (length c.args.places.now + 1) c.min-runs.result c.joining.pieces.items
     c.remove-in-joining.new.self.items
     c.joining.whole c.in_ok-run.run' c.in_ok-whole-2.whole c.joining.invariant some
@@ -37,7 +38,7 @@ returns-clause-to g c =
     let none : length c.joining.pieces.items ≡ 0 =
     sym c.joining.pieces.ok.0
     ∙ eqb-true c.joining.pieces.len 0 (sym c.is_empty.ensures ∙ c.joining-test.false) in
-    IsLeft_end c.args.text.now c.args.places.now
+    IsJoinedSoFar_end c.args.text.now c.args.places.now
     (length c.args.places.now + 1) c.min-runs.result c.joining.pieces.items c.joining.whole
     (omega (arith, c.min-runs.ensures)) (omega (arith, c.min-runs.ensures))
     (omega arith) c.joining.invariant none

@@ -13,11 +13,11 @@ chosen n false = omega arith
 pub returns-clause-first : goal.returns-clause-first
 returns-clause-first c =
     starts_first c.args.white c.from.result c.ranges.white.fits
-    (omega (arith, c.from.ensures, at_most_one c.args.first))
+    (omega (arith, c.from.ensures, at_most_one c.args.may_begin_at_0))
     ∙ ap (min (1 - bit_at c.args.white 0)) c.from.ensures
-    ∙ chosen (bit_at c.args.white 0) c.args.first
+    ∙ chosen (bit_at c.args.white 0) c.args.may_begin_at_0
 
 pub returns-clause-next : goal.returns-clause-next
 returns-clause-next c =
     starts_next c.args.white c.from.result c.ranges.white.fits
-    (omega (arith, c.from.ensures, at_most_one c.args.first))
+    (omega (arith, c.from.ensures, at_most_one c.args.may_begin_at_0))

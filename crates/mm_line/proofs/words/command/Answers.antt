@@ -5,7 +5,7 @@ use Rattle.clap.specs.Walk.{rule_of}
 use Rattle.clap.specs.Simple.{App, app_of, app_of_fields, new_app}
 use Rattle.clap.specs.declared.builder.arg.Arg.{Arg}
 use Rattle.mm_line.specs.Lines.{command_of, form_rule, named, report_rule}
-use Rattle.mm_line.proofs.LineLaw.{all_more, is_command, the_rules}
+use Rattle.mm_line.proofs.LineLaw.{rules_added, is_command, the_rules}
 use Rattle.mm_line.proofs.words.command.Goals as goal
 
 pub returns : goal.returns
@@ -16,26 +16,27 @@ returns c =
     let start : app_of c.version.result ≡ named =
     ap app_of_fields c.version.ensures
     ∙ ap (λ (a : App). record a { top = record a.top { has_version = true } }) plain in
-    let words = c.report.ensures in
-    let forms = c.form.ensures in
+    let words = c.report_option.ensures in
+    let forms = c.form_option.ensures in
     let args : List Arg =
-    c.number.result ∷ c.number-2.result ∷ c.only.result ∷ c.report.result ∷ c.form.result
-    ∷ c.essential.result ∷ c.open_theorems.result ∷ c.file.result ∷ [] in
+    c.number_option.result ∷ c.number_option-2.result ∷ c.only_option.result
+    ∷ c.report_option.result ∷ c.form_option.result
+    ∷ c.essential_flag.result ∷ c.open_flag.result ∷ c.file_argument.result ∷ [] in
     let same : map rule_of args ≡ the_rules words.0 forms.0 =
     cc (
-      c.number.ensures,
-      c.number-2.ensures,
-      c.only.ensures,
+      c.number_option.ensures,
+      c.number_option-2.ensures,
+      c.only_option.ensures,
       words.2,
       forms.2,
-      c.essential.ensures,
-      c.open_theorems.ensures,
-      c.file.ensures,
+      c.essential_flag.ensures,
+      c.open_flag.ensures,
+      c.file_argument.ensures,
     ) in
     IfOk-weaker c.args-2.result _ _
     (λ m h. is_command m (report_rule words.0) (form_rule forms.0) (words.0, words.1, refl)
     (forms.0, forms.1, refl)
-    (all_more args (the_rules words.0 forms.0) c.version.result m named
+    (rules_added args (the_rules words.0 forms.0) c.version.result m named
     (subst (λ (l : List Arg). AddsInTurn AddsArg c.version.result l m)
     c.in_ok-arguments.ensures.items h)
     start same refl)) c.args-2.ensures

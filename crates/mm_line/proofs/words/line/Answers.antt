@@ -1,12 +1,12 @@
 use Rattle.std.proofs.Common.{refl}
-use Rattle.mm_line.proofs.LineLaw.{says}
+use Rattle.mm_line.proofs.LineLaw.{line_is_read}
 use Rattle.mm_line.proofs.words.line.Goals as goal
 
 pub returns-clause-says : goal.returns-clause-says
 returns-clause-says g c =
     let pieces = c.number_in.ensures in
     let workers = c.number_in-2.ensures in
-    says _ c.in_ok-matches.matches c.in_ok-matches.ensures.finds _ c.number_in.result refl
+    line_is_read _ c.in_ok-matches.matches c.in_ok-matches.ensures.finds _ c.number_in.result refl
     pieces.number pieces.least pieces.most workers.number workers.least workers.most
     c.in_ok-text_in.ensures c.choice_in.ensures c.form_in.ensures
     (c.get_flag.ensures.none, c.get_flag.ensures.value, c.get_flag.ensures.other)

@@ -4,7 +4,8 @@ use Rattle.mm_spec.specs.Output.{label_at}
 use Rattle.mm_spec.specs.Request.{Request}
 use Rattle.std.proofs.lemmas.List.{length-map}
 use Rattle.mm_spec.specs.declared.Choice.TheVariants.{Matrix, Counts, Usage}
-use Rattle.mm_spec.specs.Report.{has, section, head, line, matrix_line, count_line, usage_lines}
+use Rattle.mm_spec.specs.Report.{has_section, section, head, line, matrix_line, count_line}
+use Rattle.mm_spec.specs.Report.{usage_lines}
 use Rattle.mm_report.specs.Rows.{rows_of, open_theorems}
 use Rattle.mm_report.proofs.SentLaw.{sent_more, sent_as, written, written_part}
 use Rattle.mm_report.proofs.TextLaw.{rows_length, same_report, labels_long, without_usage}
@@ -32,13 +33,15 @@ returns g c =
     (labels_long db m names c.new-labels.ensures c.requires.rows) in
     let wide = c.len-axioms.ensures.len ∙ sym (length-map c.args.chosen.now (label_at db)) in
     let first = ap₂ (λ (a b : ℕ). head request.form a c.open_theorems-opened.result b) wide count in
-    let none : section (has request.choice Usage) (codes "usage") (usage_lines rows 0 heads) ≡ [] =
+    let none : section (has_section request.choice Usage) (codes "usage") (usage_lines rows 0 heads)
+    ≡ [] =
     ap (λ (b : Bool). section b (codes "usage") (usage_lines rows 0 heads)) c.requires.no_usage in
     let sent =
     sent_as _
     (without_usage (head request.form (length heads) c.open_theorems-opened.result (length rows))
-    (section (has request.choice Matrix) (codes "matrix") (flat_map (matrix_line request.form) rows))
-    (section (has request.choice Counts) (codes "counts") (flat_map count_line rows)) _
+    (section (has_section request.choice Matrix) (codes "matrix")
+    (flat_map (matrix_line request.form) rows))
+    (section (has_section request.choice Counts) (codes "counts") (flat_map count_line rows)) _
     (line (codes "end")) none
     ∙ same_report request c.args.database.now c.args.chosen.now m c.open_theorems-opened.result names heads opened
     c.new-labels.ensures refl)

@@ -16,10 +16,11 @@ returns-then-is_some-2 g c p =
     let text = c.args.text.now in
     let word = c.in-Some.found.word in
     let next =
-    same_next _ text c.loop-found.scanner.from c.next_word.new.self.from c.args.to word before.same
-    c.in-Some.ensures.words in
+    same_next _ text c.loop-found.scanner.from c.next_word.new.self.from c.args.to word
+    before.same_text c.in-Some.ensures.words in
     let all =
-    go_on_next text _ (side_reading p (side c.loop-found.self)) _ word _ _ (before.all p) next
+    go_on_next text _ (side_reading p (side c.loop-found.self)) _ word _ _
+    (before.same_reading p) next
     (c.in_ok-read_word.ensures p) in
     sym (all
     ∙ go_on_some text (side_reading p (side c.read_word.new.self))
@@ -32,13 +33,14 @@ loop-found-preserved-else-is_some-2 g c =
     let text = c.args.text.now in
     let word = c.in-Some.found.word in
     let next =
-    same_next _ text c.loop-found.scanner.from c.next_word.new.self.from c.args.to word before.same
-    c.in-Some.ensures.words in
+    same_next _ text c.loop-found.scanner.from c.next_word.new.self.from c.args.to word
+    before.same_text c.in-Some.ensures.words in
     record {
-      same = c.in-Some.ensures.text ∙ before.same;
-      none = none_from _ (sym c.is_some-then-not-found.ensures ∙ c.if-is_some-2.false);
-      all =
-          λ p. go_on_next text _ (side_reading p (side c.loop-found.self)) _ word _ _ (before.all p)
+      same_text = c.in-Some.ensures.text ∙ before.same_text;
+      no_fault = none_from _ (sym c.is_some-then-not-found.ensures ∙ c.if-is_some-2.false);
+      same_reading =
+          λ p. go_on_next text _ (side_reading p (side c.loop-found.self)) _ word _ _
+          (before.same_reading p)
           next (c.in_ok-read_word.ensures p);
     }
 
@@ -47,24 +49,24 @@ loop-found-preserved-then-is_open g c =
     let before = c.loop-found.invariant in
     let text = c.args.text.now in
     let word = c.in-Some.found.word in
-    let same = c.in-Some.ensures.text ∙ before.same in
+    let same = c.in-Some.ensures.text ∙ before.same_text in
     let here = c.next_word.new.self.from in
     let upto = c.skip_plain.new.self.from in
     let next =
-    same_next _ text c.loop-found.scanner.from here c.args.to word before.same
+    same_next _ text c.loop-found.scanner.from here c.args.to word before.same_text
     c.in-Some.ensures.words in
     let plain =
-    subst (λ (t : List ℕ). IsPlainWord (bytes_of t word)) before.same
+    subst (λ (t : List ℕ). IsPlainWord (bytes_of t word)) before.same_text
     (c.in-Some.ensures.plain (not-false _ c.if-not-found.false)) in
     let others =
     subst (λ (t : List ℕ). ArePlain t here upto) same c.skip_plain.ensures.plain in
     record {
-      same = c.skip_plain.ensures.text ∙ same;
-      none = before.none;
-      all =
+      same_text = c.skip_plain.ensures.text ∙ same;
+      no_fault = before.no_fault;
+      same_reading =
           λ p. go_on_skips text _ (side_reading p (side c.loop-found.self)) word _ here upto
           c.args.to (ignored_inside _ _ (sym (c.is_open.ensures p) ∙ c.if-is_open.true)) plain
-          c.skip_plain.ensures.onward others (before.all p) next;
+          c.skip_plain.ensures.onward others (before.same_reading p) next;
     }
 
 pub loop-found-preserved : goal.loop-found-preserved
@@ -73,17 +75,18 @@ loop-found-preserved g c =
     let text = c.args.text.now in
     let word = c.in-Some.found.word in
     let next =
-    same_next _ text c.loop-found.scanner.from c.next_word.new.self.from c.args.to word before.same
-    c.in-Some.ensures.words in
+    same_next _ text c.loop-found.scanner.from c.next_word.new.self.from c.args.to word
+    before.same_text c.in-Some.ensures.words in
     let plain =
-    subst (λ (t : List ℕ). IsPlainWord (bytes_of t word)) before.same
+    subst (λ (t : List ℕ). IsPlainWord (bytes_of t word)) before.same_text
     (c.in-Some.ensures.plain (not-false _ c.if-not-found.false)) in
     record {
-      same = c.in-Some.ensures.text ∙ before.same;
-      none = before.none;
-      all =
-          λ p. go_on_next text _ (side_reading p (side c.loop-found.self)) _ word _ _ (before.all p)
-          next (go_on_plain text (side_reading p (side c.loop-found.self)) word _ before.none
+      same_text = c.in-Some.ensures.text ∙ before.same_text;
+      no_fault = before.no_fault;
+      same_reading =
+          λ p. go_on_next text _ (side_reading p (side c.loop-found.self)) _ word _ _
+          (before.same_reading p)
+          next (go_on_plain text (side_reading p (side c.loop-found.self)) word _ before.no_fault
           (sym (c.is_open.ensures p) ∙ c.if-is_open.false) plain c.in_ok-push.ensures.items);
     }
 
@@ -92,6 +95,7 @@ returns g c p =
     let before = c.loop-found.invariant in
     let text = c.args.text.now in
     let none =
-    subst (λ (t : List ℕ). words_between t c.loop-found.scanner.from c.args.to ≡ []) before.same
+    subst (λ (t : List ℕ). words_between t c.loop-found.scanner.from c.args.to
+    ≡ []) before.same_text
     c.in_default.ensures.words in
-    sym (go_on_done text _ _ _ (before.all p) none)
+    sym (go_on_done text _ _ _ (before.same_reading p) none)

@@ -5,13 +5,12 @@ use Rattle.mm_lex.specs.Pieces.{side_reading}
 use Rattle.mm_lex.specs.Inners.{side}
 use Rattle.mm_lex.proofs.modes.ModeReading.read_rest.Given as goal
 
--- What all words give is what has been read, without a fault, and goes on to with the words from
--- here on.
+-- The reading has no fault, and continued with the remaining words it gives what all words give.
 abbrev pub invariant-loop-found : goal.invariant-loop-found
 invariant-loop-found g l = record {
-  same : l.scanner.text.now ≡ l.text;
-  none : l.self.fault ≡ None;
-  all : (p : ℕ)
+  same_text : l.scanner.text.now ≡ l.text;
+  no_fault : l.self.fault ≡ None;
+  same_reading : (p : ℕ)
       → go_on l.text (side_reading p (side l.fn.self)) (words_between l.text l.fn.scanner.from l.to)
       ≡ go_on l.text (side_reading p (side l.self)) (words_between l.text l.scanner.from l.to);
 }

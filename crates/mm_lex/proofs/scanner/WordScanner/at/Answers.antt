@@ -17,13 +17,13 @@ invariant_of-result-clause-plain c i lt within none =
     → plain_at bytes i ≡ true) (dropped_all text c.args.base) c.marks_of-marks.ensures.plain
     i lt (dropped_long text c.args.base i within) none
 
-pub invariant_of-result-clause-ink : goal.invariant_of-result-clause-ink
-invariant_of-result-clause-ink c i lt within none =
+pub invariant_of-result-clause-not_white : goal.invariant_of-result-clause-not_white
+invariant_of-result-clause-not_white c i lt within none =
     let text = c.args.text.now in
     let marks = c.marks_of-marks.result in
     sym (dropped_white text c.args.base i)
     ∙ subst (λ (bytes : List ℕ). (i : ℕ) → i < 64 → i < length bytes → bit_at marks.stops i ≡ 0
-    → white_at bytes i ≡ false) (dropped_all text c.args.base) c.marks_of-marks.ensures.ink
+    → white_at bytes i ≡ false) (dropped_all text c.args.base) c.marks_of-marks.ensures.not_white
     i lt (dropped_long text c.args.base i within) none
 
 pub invariant_of-result-clause-begins : goal.invariant_of-result-clause-begins

@@ -16,7 +16,7 @@ returns-then-to-self-clause-first c =
     (omega (arith, before.rises, b.high)) c.if-to-self.true
     (λ i low high lt. run_on
     (λ t k. begins_word t k ≡ false) b.text.now text b.starts c.args.self.now.from b.from b.base
-    64 before.same b.low (omega arith) before.none
+    64 before.same_text b.low (omega arith) before.none_begins
     (λ k _ _. ap (λ (n : ℕ). bit_at n k) c.loop-self-test.true ∙ bit_at-zero k) b.none i low high
     (omega (arith, c.requires.within)))
 
@@ -26,12 +26,12 @@ loop-self-preserved c =
     let text = c.args.self.now.text.now in
     let before = c.loop-self.invariant in
     record {
-      same = c.next_block.ensures.text ∙ before.same;
+      same_text = c.next_block.ensures.text ∙ before.same_text;
       rises = omega (arith, before.rises, b.high, c.next_block.ensures.from);
-      none =
+      none_begins =
           λ i low high lt. run_on
           (λ t k. begins_word t k ≡ false) b.text.now text b.starts c.args.self.now.from b.from
-          b.base 64 before.same b.low (omega arith) before.none
+          b.base 64 before.same_text b.low (omega arith) before.none_begins
           (λ k _ _. ap (λ (n : ℕ). bit_at n k) c.loop-self-test.true ∙ bit_at-zero k) b.none i low
           (omega (arith, c.next_block.ensures.from)) lt;
     }
@@ -48,7 +48,7 @@ returns-then-to-start-clause-first c =
     c.if-to-start.true
     (λ i low high lt. run_on
     (λ t k. begins_word t k ≡ false) b.text.now text b.starts c.args.self.now.from b.from b.base
-    (trailing_zeros w64 b.starts) before.same b.low (omega (arith, place.0)) before.none
+    (trailing_zeros w64 b.starts) before.same_text b.low (omega (arith, place.0)) before.none_begins
     (λ k _ under. place.2 k under) b.none i low high (omega (arith, c.requires.within)))
 
 pub invariant_of-self-clause-begins : goal.invariant_of-self-clause-begins
@@ -83,7 +83,7 @@ returns-clause-first c =
     let place =
     bit_at-trailing_zeros w64 b.starts (omega (arith, c.loop-self-test.false)) (omega arith) in
     let within : b.base + trailing_zeros w64 b.starts < length b.text.now =
-    subst (λ (t : List ℕ). b.base + trailing_zeros w64 b.starts < length t) (sym before.same)
+    subst (λ (t : List ℕ). b.base + trailing_zeros w64 b.starts < length t) (sym before.same_text)
     (omega (arith, c.requires.within, c.if-to-start.false)) in
     record {
       low =
@@ -91,11 +91,12 @@ returns-clause-first c =
       within = omega (arith, c.if-to-start.false);
       begins =
           subst (λ (t : List ℕ). begins_word t (b.base + trailing_zeros w64 b.starts) ≡ true)
-          before.same (b.begins (trailing_zeros w64 b.starts) place.0 within place.1);
+          before.same_text (b.begins (trailing_zeros w64 b.starts) place.0 within place.1);
       before =
           λ i low high. run_on (λ t k. begins_word t k ≡ false) b.text.now text b.starts
-          c.args.self.now.from b.from b.base (trailing_zeros w64 b.starts) before.same b.low
-          (omega (arith, place.0)) before.none (λ k _ under. place.2 k under) b.none i low high
+          c.args.self.now.from b.from b.base (trailing_zeros w64 b.starts) before.same_text b.low
+          (omega (arith, place.0)) before.none_begins
+          (λ k _ under. place.2 k under) b.none i low high
           (omega (arith, c.requires.within, c.if-to-start.false));
     }
 
@@ -106,7 +107,7 @@ returns-clause-taken c =
     bit_at-trailing_zeros w64 b.starts (omega (arith, c.loop-self-test.false)) (omega arith) in
     let within : b.base + trailing_zeros w64 b.starts < length b.text.now =
     subst (λ (t : List ℕ). b.base + trailing_zeros w64 b.starts < length t)
-    (sym c.loop-self.invariant.same) (omega (arith, c.requires.within, c.if-to-start.false)) in
+    (sym c.loop-self.invariant.same_text) (omega (arith, c.requires.within, c.if-to-start.false)) in
     record {
       next = refl;
       in_block = omega arith;
@@ -121,7 +122,7 @@ returns-then-to-self-clause-done c =
     between_none text b.from (b.base + 64) c.args.to b.high c.if-to-self.true
     (λ i low high lt. run_on
     (λ t k. begins_word t k ≡ false) b.text.now text b.starts b.from b.from b.base 64
-    c.loop-self.invariant.same b.low (omega arith) (λ k a h _. absurd (omega arith))
+    c.loop-self.invariant.same_text b.low (omega arith) (λ k a h _. absurd (omega arith))
     (λ k _ _. ap (λ (n : ℕ). bit_at n k) c.loop-self-test.true ∙ bit_at-zero k) b.none i low high
     (omega (arith, c.requires.within)))
 
@@ -135,6 +136,6 @@ returns-then-to-start-clause-done c =
     (b.further (trailing_zeros w64 b.starts) place.0 place.1) c.if-to-start.true
     (λ i low high lt. run_on
     (λ t k. begins_word t k ≡ false) b.text.now text b.starts b.from b.from b.base
-    (trailing_zeros w64 b.starts) c.loop-self.invariant.same b.low (omega (arith, place.0))
+    (trailing_zeros w64 b.starts) c.loop-self.invariant.same_text b.low (omega (arith, place.0))
     (λ k a h _. absurd (omega arith)) (λ k _ under. place.2 k under) b.none i low high
     (omega (arith, c.requires.within)))

@@ -2,12 +2,12 @@ use Rattle.std.proofs.Common.{◌≡◌, ◌<◌, ◌≤◌, ◌-◌, ℕ, false
 use Rattle.mm_spec.specs.Words.{begins_word}
 use Rattle.mm_lex.proofs.scanner.WordScanner.next_start.Given as goal
 
--- No word begins from the first place on up to the one that is left.
+-- No word begins from the place at which the call began up to the place of the scanner.
 abbrev pub invariant-loop-self : goal.invariant-loop-self
 invariant-loop-self l = record {
-  same : l.self.text.now ≡ l.fn.self.text.now;
+  same_text : l.self.text.now ≡ l.fn.self.text.now;
   rises : l.fn.self.from ≤ l.self.from;
-  none : (i : ℕ) → l.fn.self.from ≤ i → i < l.self.from → i < length l.fn.self.text.now
+  none_begins : (i : ℕ) → l.fn.self.from ≤ i → i < l.self.from → i < length l.fn.self.text.now
       → begins_word l.fn.self.text.now i ≡ false;
 }
 

@@ -12,11 +12,11 @@ use Rattle.mm_lex.proofs.scanner.WordScanner.next_word.Goals.{After-word_from}
 
 -- ---- a word that is plain and ends in the block
 
-after : (c : Then-self-stop-eq1)
+ends_at_white : (c : Then-self-stop-eq1)
     → (c.next_start.new.self.base + c.first_one-stop.result < length c.args.self.now.text.now)
     × (white_at c.args.self.now.text.now (c.next_start.new.self.base + c.first_one-stop.result)
     ≡ true)
-after c =
+ends_at_white c =
     let b = c.next_start.new.self in
     let white =
     white_one b.text.now b.base b.white b.white_is c.first_one-stop.result c.if-stop-lt64.true
@@ -25,30 +25,31 @@ after c =
     × (white_at t (b.base + c.first_one-stop.result) ≡ true)) c.next_start.ensures.text white
 
 module _ (c : Then-self-stop-eq1) where
-  solid : (i : ℕ) → c.in_ok-start.start ≤ i
+  no_white : (i : ℕ) → c.in_ok-start.start ≤ i
       → i < c.next_start.new.self.base + c.first_one-stop.result
       → white_at c.args.self.now.text.now i ≡ false
-  solid i low high =
+  no_white i low high =
       let b = c.next_start.new.self in
       run_on (λ t k. white_at t k ≡ false) b.text.now c.args.self.now.text.now b.stops
       c.in_ok-start.start c.in_ok-start.start b.base c.first_one-stop.result
       c.next_start.ensures.text c.in_ok-start.ensures.taken.in_block c.first_one-stop.ensures.up_to
       (λ k a h _. absurd (omega arith)) c.first_one-stop.ensures.zeros
-      (λ k lt inside _. b.ink k lt inside) i low high (omega (arith, (after c).0))
+      (λ k lt inside _. b.not_white k lt inside) i low high (omega (arith, (ends_at_white c).0))
 
-  plain : (i : ℕ) → c.in_ok-start.start ≤ i
+  is_plain : (i : ℕ) → c.in_ok-start.start ≤ i
       → i < c.next_start.new.self.base + c.first_one-stop.result
       → plain_at c.args.self.now.text.now i ≡ true
-  plain i low high =
+  is_plain i low high =
       let b = c.next_start.new.self in
       run_on (λ t k. plain_at t k ≡ true) b.text.now c.args.self.now.text.now b.stops
       c.in_ok-start.start c.in_ok-start.start b.base c.first_one-stop.result
       c.next_start.ensures.text c.in_ok-start.ensures.taken.in_block c.first_one-stop.ensures.up_to
       (λ k a h _. absurd (omega arith)) c.first_one-stop.ensures.zeros
-      (λ k lt inside _. b.plain k lt inside) i low high (omega (arith, (after c).0))
+      (λ k lt inside _. b.plain k lt inside) i low high (omega (arith, (ends_at_white c).0))
 
-  order : c.in_ok-start.start ≤ c.next_start.new.self.base + c.first_one-stop.result
-  order = omega (arith, c.first_one-stop.ensures.from_here, c.in_ok-start.ensures.taken.in_block)
+  start_before_stop : c.in_ok-start.start ≤ c.next_start.new.self.base + c.first_one-stop.result
+  start_before_stop =
+      omega (arith, c.first_one-stop.ensures.from_here, c.in_ok-start.ensures.taken.in_block)
 
   word : IsWord c.args.self.now.text.now (record {
     start = c.in_ok-start.start;
@@ -58,8 +59,9 @@ module _ (c : Then-self-stop-eq1) where
       let begun = c.in_ok-start.ensures in
       found_word c.args.self.now.text.now c.in_ok-start.start
       (c.next_start.new.self.base + c.first_one-stop.result) begun.first.begins
-      (omega (arith, begun.first.within, c.requires.within)) order (omega (arith, (after c).0))
-      solid (λ _. (after c).1)
+      (omega (arith, begun.first.within, c.requires.within)) start_before_stop
+      (omega (arith, (ends_at_white c).0))
+      no_white (λ _. (ends_at_white c).1)
 
 pub returns-then-self-stop-eq1-clause-words : goal.returns-then-self-stop-eq1-clause-words
 returns-then-self-stop-eq1-clause-words c =
@@ -79,8 +81,8 @@ pub returns-then-self-stop-eq1-clause-plain : goal.returns-then-self-stop-eq1-cl
 returns-then-self-stop-eq1-clause-plain c _ =
     let d = (goal.at.returns-then-self-stop-eq1-clause-plain c).Then-self-stop-eq1 in
     plain_word c.args.self.now.text.now c.in_ok-start.start
-    (c.next_start.new.self.base + c.first_one-stop.result) (order d)
-    (omega (arith, (after d).0)) (plain d)
+    (c.next_start.new.self.base + c.first_one-stop.result) (start_before_stop d)
+    (omega (arith, (ends_at_white d).0)) (is_plain d)
 
 pub returns-then-self-stop-eq1-clause-onward : goal.returns-then-self-stop-eq1-clause-onward
 returns-then-self-stop-eq1-clause-onward c =
@@ -90,13 +92,13 @@ returns-then-self-stop-eq1-clause-onward c =
 
 module _ (c : After-word_from) where
   found : IsWordFrom c.args.self.now.text.now c.in_ok-start.start c.word_from.result.1.word
-      c.word_from.result.1.plain
+      c.word_from.result.1.is_plain
   found =
       subst (λ (t : List ℕ). IsWordFrom t c.in_ok-start.start c.word_from.result.1.word
-      c.word_from.result.1.plain) c.next_start.ensures.text c.word_from.ensures.word
+      c.word_from.result.1.is_plain) c.next_start.ensures.text c.word_from.ensures.word
 
-  passed : IsPassed c.args.self.now.text.now c.in_ok-start.start c.word_from.result.0.from
-  passed =
+  none_passed : IsPassed c.args.self.now.text.now c.in_ok-start.start c.word_from.result.0.from
+  none_passed =
       subst (λ (t : List ℕ). IsPassed t c.in_ok-start.start c.word_from.result.0.from)
       c.next_start.ensures.text c.word_from.ensures.onward
 
@@ -107,7 +109,7 @@ returns-clause-words c =
     let start = sym (found d).start_is in
     found_next text _ c.args.self.now.from c.word_from.result.0.from c.args.to (found d).is_word
     (subst (IsFirst text c.args.self.now.from c.args.to) start c.in_ok-start.ensures.first)
-    (subst (λ (s : ℕ). IsPassed text s c.word_from.result.0.from) start (passed d))
+    (subst (λ (s : ℕ). IsPassed text s c.word_from.result.0.from) start (none_passed d))
 
 pub returns-clause-each : goal.returns-clause-each
 returns-clause-each c = (found (goal.at.returns-clause-each c).After-word_from).is_word

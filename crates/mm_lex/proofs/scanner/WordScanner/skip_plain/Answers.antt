@@ -2,18 +2,18 @@ use Rattle.std.proofs.Common.{◌≡◌, ◌<◌, ◌+◌, ◌∙◌, false, ref
 use Rattle.std.specs.Int.{trailing_zeros}
 use Rattle.std.proofs.lemmas.Nat.Bits.{bit_at-trailing_zeros}
 use Rattle.mm_spec.specs.Words.{begins_word}
-use Rattle.mm_lex.proofs.BlockLaw.{kept_from, kept_one, plain_after, run_on, skipped_plain}
+use Rattle.mm_lex.proofs.BlockLaw.{bits_from, bit_from_one, plain_after, run_on, skipped_plain}
 use Rattle.mm_lex.proofs.BlockLaw.{white_one}
 use Rattle.mm_lex.proofs.scanner.WordScanner.skip_plain.Goals as goal
 
 pub invariant_of-self-clause-begins : goal.invariant_of-self-clause-begins
 invariant_of-self-clause-begins c i lt within one =
     let b = c.args.self.now in
-    b.begins i lt within (kept_one b.starts c.last_one-end.result i lt one).1
+    b.begins i lt within (bit_from_one b.starts c.last_one-end.result i lt one).1
 
 pub invariant_of-self-clause-further : goal.invariant_of-self-clause-further
 invariant_of-self-clause-further c i lt one =
-    omega (arith, (kept_one c.args.self.now.starts c.last_one-end.result i lt one).0)
+    omega (arith, (bit_from_one c.args.self.now.starts c.last_one-end.result i lt one).0)
 
 pub invariant_of-self-clause-none : goal.invariant_of-self-clause-none
 invariant_of-self-clause-none c i lt within le none =
@@ -21,7 +21,7 @@ invariant_of-self-clause-none c i lt within le none =
     let place = bit_at-trailing_zeros w64 b.starts (omega arith) (omega arith) in
     b.none i lt within
     (omega (arith, c.if-place-end.true, b.further (trailing_zeros w64 b.starts) place.0 place.1))
-    (sym (kept_from b.starts c.last_one-end.result i lt (omega arith)) ∙ none)
+    (sym (bits_from b.starts c.last_one-end.result i lt (omega arith)) ∙ none)
 
 pub returns-then-place-end-clause-onward : goal.returns-then-place-end-clause-onward
 returns-then-place-end-clause-onward c =

@@ -15,18 +15,18 @@ loop-stop-init c =
     let text = b.text.now in
     let found = c.first_one-stop in
     record {
-      same = refl;
+      same_text = refl;
       after = omega (arith, c.requires.taken.next);
-      none = λ i low high. absurd (omega (arith, c.requires.taken.next));
+      none_begins = λ i low high. absurd (omega (arith, c.requires.taken.next));
       order = omega (arith, found.ensures.from_here, c.requires.taken.in_block);
-      few = found.ensures.up_to;
-      solid =
+      stop_fits = found.ensures.up_to;
+      no_white =
           run_on (λ t i. white_at t i ≡ false) text text b.white c.args.start c.args.start b.base
           found.result refl c.requires.taken.in_block found.ensures.up_to
           (λ i low high _. absurd (omega arith)) found.ensures.zeros
           (λ i lt inside _. white_zero text b.base b.white b.white_is i lt inside);
       ends = found.ensures.one;
-      plain = λ quiet. let same = eqb-true c.first_one.result found.result quiet in
+      plain = λ known_plain. let same = eqb-true c.first_one.result found.result known_plain in
           run_on (λ t i. plain_at t i ≡ true) text text b.stops c.args.start c.args.start b.base
           found.result refl c.requires.taken.in_block found.ensures.up_to
           (λ i low high _. absurd (omega arith))
@@ -34,8 +34,8 @@ loop-stop-init c =
           (λ i lt inside _. b.plain i lt inside);
     }
 
-pub loop-stop-preserved-then-plain : goal.loop-stop-preserved-then-plain
-loop-stop-preserved-then-plain c =
+pub loop-stop-preserved-then-is_plain : goal.loop-stop-preserved-then-is_plain
+loop-stop-preserved-then-is_plain c =
     let b = c.at-scanner.result in
     let text = c.args.self.text.now in
     let found = c.first_one-stop-in-loop-stop in
@@ -43,7 +43,7 @@ loop-stop-preserved-then-plain c =
     let base : b.base ≡ c.loop-stop.scanner.base + c.loop-stop.stop =
     omega (arith, c.at-scanner.ensures.base, c.loop-stop-test.true) in
     record {
-      same = c.at-scanner.ensures.text;
+      same_text = c.at-scanner.ensures.text;
       after =
           omega (
             arith,
@@ -54,9 +54,9 @@ loop-stop-preserved-then-plain c =
             before.order,
             base,
           );
-      none =
+      none_begins =
           none_inside text c.args.start b.from
-          (λ i low high. before.solid i low (omega (arith, base, c.at-scanner.ensures.from))
+          (λ i low high. before.no_white i low (omega (arith, base, c.at-scanner.ensures.from))
           (omega (
             arith,
             c.at-scanner.ensures.from,
@@ -65,19 +65,20 @@ loop-stop-preserved-then-plain c =
             c.if-len-scanner-gt64.true,
           )));
       order = omega (arith, base, before.order);
-      few = found.ensures.up_to;
-      solid =
+      stop_fits = found.ensures.up_to;
+      no_white =
           run_on (λ t i. white_at t i ≡ false) b.text.now text b.white c.args.start b.base b.base
           found.result c.at-scanner.ensures.text (omega arith) found.ensures.up_to
-          (λ i low high within. before.solid i low (omega (arith, base)) within)
+          (λ i low high within. before.no_white i low (omega (arith, base)) within)
           (λ i low high. found.ensures.zeros i (omega arith) high)
           (λ i lt inside _. white_zero b.text.now b.base b.white b.white_is i lt inside);
       ends = found.ensures.one;
-      plain = λ quiet. let same = eqb-true c.first_one-then-plain.result found.result quiet in
+      plain = λ known_plain.
+          let same = eqb-true c.first_one-then-is_plain.result found.result known_plain in
           run_on (λ t i. plain_at t i ≡ true) b.text.now text b.stops c.args.start b.base b.base
           found.result c.at-scanner.ensures.text (omega arith) found.ensures.up_to
-          (λ i low high within. before.plain c.if-plain.true i low (omega (arith, base)) within)
-          (λ i low high. c.first_one-then-plain.ensures.zeros i (omega arith)
+          (λ i low high within. before.plain c.if-is_plain.true i low (omega (arith, base)) within)
+          (λ i low high. c.first_one-then-is_plain.ensures.zeros i (omega arith)
           (omega (arith, same))) (λ i lt inside _. b.plain i lt inside);
     }
 
@@ -90,7 +91,7 @@ loop-stop-preserved c =
     let base : b.base ≡ c.loop-stop.scanner.base + c.loop-stop.stop =
     omega (arith, c.at-scanner.ensures.base, c.loop-stop-test.true) in
     record {
-      same = c.at-scanner.ensures.text;
+      same_text = c.at-scanner.ensures.text;
       after =
           omega (
             arith,
@@ -101,9 +102,9 @@ loop-stop-preserved c =
             before.order,
             base,
           );
-      none =
+      none_begins =
           none_inside text c.args.start b.from
-          (λ i low high. before.solid i low (omega (arith, base, c.at-scanner.ensures.from))
+          (λ i low high. before.no_white i low (omega (arith, base, c.at-scanner.ensures.from))
           (omega (
             arith,
             c.at-scanner.ensures.from,
@@ -112,15 +113,15 @@ loop-stop-preserved c =
             c.if-len-scanner-gt64.true,
           )));
       order = omega (arith, base, before.order);
-      few = found.ensures.up_to;
-      solid =
+      stop_fits = found.ensures.up_to;
+      no_white =
           run_on (λ t i. white_at t i ≡ false) b.text.now text b.white c.args.start b.base b.base
           found.result c.at-scanner.ensures.text (omega arith) found.ensures.up_to
-          (λ i low high within. before.solid i low (omega (arith, base)) within)
+          (λ i low high within. before.no_white i low (omega (arith, base)) within)
           (λ i low high. found.ensures.zeros i (omega arith) high)
           (λ i lt inside _. white_zero b.text.now b.base b.white b.white_is i lt inside);
       ends = found.ensures.one;
-      plain = λ quiet. absurd (true≢false (sym quiet ∙ c.if-plain.false));
+      plain = λ known_plain. absurd (true≢false (sym known_plain ∙ c.if-is_plain.false));
     }
 
 pub returns-clause-word : goal.returns-clause-word
@@ -144,23 +145,24 @@ returns-clause-word c =
             w.loop-stop-test.true,
             w.if-len-scanner-gt64.false,
           ))
-      | else-loop-stop-test w ↦ omega (arith, c.loop-stop.invariant.few, w.loop-stop-test.false)
+      | else-loop-stop-test w ↦ omega
+          (arith, c.loop-stop.invariant.stop_fits, w.loop-stop-test.false)
     ] in
     let here : b.base + c.loop-stop.stop ≡ end = omega (arith, inside, c.min-end.ensures) in
     let one =
     (white_one b.text.now b.base b.white b.white_is c.loop-stop.stop small
     (known.ends small)).1 in
     subst (λ (i : ℕ). white_at text i ≡ true) here
-    (subst (λ (t : List ℕ). white_at t (b.base + c.loop-stop.stop) ≡ true) known.same one) in
+    (subst (λ (t : List ℕ). white_at t (b.base + c.loop-stop.stop) ≡ true) known.same_text one) in
     record {
       start_is = refl;
       is_word =
           found_word text start end begun.begins begun.within order within
-          (λ i low high. known.solid i low (omega (arith, high, c.min-end.ensures))
+          (λ i low high. known.no_white i low (omega (arith, high, c.min-end.ensures))
           (omega (arith, high, within)))
           after;
       is_plain =
-          λ quiet. plain_word text start end order within
-          (λ i low high. known.plain quiet i low (omega (arith, high, c.min-end.ensures))
+          λ known_plain. plain_word text start end order within
+          (λ i low high. known.plain known_plain i low (omega (arith, high, c.min-end.ensures))
           (omega (arith, high, within)));
     }

@@ -11,41 +11,47 @@ use Rattle.mm_steps.proofs.placed.Steps.push.Goals as goal
 
 pub invariant_of-self-in-Marked : goal.invariant_of-self-in-Marked
 invariant_of-self-in-Marked g c =
-    let ps = c.self.inside.steps.items in
-    let qs = c.push-in-Marked.new.self.items in
-    let j = c.in-Marked.number in
-    let now = c.index_mut.result.now in
-    let p : Placed = record { at = c.args.at; number = j; kind = Marked; is_marked = false } in
-    let more : qs ≡ ps ++ p ∷ [] = c.in_ok-push-in-Marked.ensures.items in
-    let early : j < length c.args.self.now.steps =
+    let old = c.self.inside.steps.items in
+    let pushed = c.push-in-Marked.new.self.items in
+    let marked_step = c.in-Marked.number in
+    let old_entry = c.index_mut.result.now in
+    let entry : Placed =
+    record { at = c.args.at; number = marked_step; kind = Marked; is_marked = false } in
+    let is_pushed : pushed ≡ old ++ entry ∷ [] = c.in_ok-push-in-Marked.ensures.items in
+    let is_earlier : marked_step < length c.args.self.now.steps =
     subst (λ s. IsEarlier (as_step s) (length c.args.self.now.steps)) c.in-Marked.is c.requires in
-    let long : length c.args.self.now.steps ≡ length ps =
-    ap (λ r. length r.steps) (sym c.self.view_is) ∙ length-map ps placed_of in
-    let inside : j < length qs =
-    let n = ap length more in omega (arith, early, long, n, length-append ps (p ∷ [])) in
-    let there : now ≡ get_or qs j no_step =
-    c.index_mut.ensures.value ∙ sym (get_or_default qs j no_step now inside) in
-    flag_more ps qs p _ j c.self.invariant more refl refl (omega (arith, early, long))
-    (ap placed_of there) refl
+    let same_length : length c.args.self.now.steps ≡ length old =
+    ap (λ r. length r.steps) (sym c.self.view_is) ∙ length-map old placed_of in
+    let within : marked_step < length pushed =
+    let n = ap length is_pushed in omega
+    (arith, is_earlier, same_length, n, length-append old (entry ∷ [])) in
+    let is_old_entry : old_entry ≡ get_or pushed marked_step no_step =
+    c.index_mut.ensures.value ∙ sym (get_or_default pushed marked_step no_step old_entry within) in
+    flag_more old pushed entry _ marked_step c.self.invariant is_pushed refl refl
+    (omega (arith, is_earlier, same_length))
+    (ap placed_of is_old_entry) refl
 
 pub returns-in_ok-push-in-Marked-clause-ok : goal.returns-in_ok-push-in-Marked-clause-ok
 returns-in_ok-push-in-Marked-clause-ok g c =
-    let ps = c.self.inside.steps.items in
-    let qs = c.push-in-Marked.new.self.items in
-    let j = c.in-Marked.number in
-    let now = c.index_mut.result.now in
-    let p : Placed = record { at = c.args.at; number = j; kind = Marked; is_marked = false } in
-    let more : qs ≡ ps ++ p ∷ [] = c.in_ok-push-in-Marked.ensures.items in
-    let early : j < length c.args.self.now.steps =
+    let old = c.self.inside.steps.items in
+    let pushed = c.push-in-Marked.new.self.items in
+    let marked_step = c.in-Marked.number in
+    let old_entry = c.index_mut.result.now in
+    let entry : Placed =
+    record { at = c.args.at; number = marked_step; kind = Marked; is_marked = false } in
+    let is_pushed : pushed ≡ old ++ entry ∷ [] = c.in_ok-push-in-Marked.ensures.items in
+    let is_earlier : marked_step < length c.args.self.now.steps =
     subst (λ s. IsEarlier (as_step s) (length c.args.self.now.steps)) c.in-Marked.is c.requires in
-    let long : length c.args.self.now.steps ≡ length ps =
-    ap (λ r. length r.steps) (sym c.self.view_is) ∙ length-map ps placed_of in
-    let inside : j < length qs =
-    let n = ap length more in omega (arith, early, long, n, length-append ps (p ∷ [])) in
-    let there : now ≡ get_or qs j no_step =
-    c.index_mut.ensures.value ∙ sym (get_or_default qs j no_step now inside) in
+    let same_length : length c.args.self.now.steps ≡ length old =
+    ap (λ r. length r.steps) (sym c.self.view_is) ∙ length-map old placed_of in
+    let within : marked_step < length pushed =
+    let n = ap length is_pushed in omega
+    (arith, is_earlier, same_length, n, length-append old (entry ∷ [])) in
+    let is_old_entry : old_entry ≡ get_or pushed marked_step no_step =
+    c.index_mut.ensures.value ∙ sym (get_or_default pushed marked_step no_step old_entry within) in
     ap (read c.self.inside.theorem)
-    (placed_steps_set qs j _ (ap placed_of there) ∙ ap placed_steps more ∙ placed_steps_more ps p
-    ∙ ap (λ s. placed_steps ps ++ placed c.args.at (as_step s) ∷ []) (sym c.in-Marked.is))
+    (placed_steps_set pushed marked_step _ (ap placed_of is_old_entry) ∙ ap placed_steps is_pushed
+    ∙ placed_steps_more old entry
+    ∙ ap (λ s. placed_steps old ++ placed c.args.at (as_step s) ∷ []) (sym c.in-Marked.is))
     ∙ ap (λ r. read r.theorem (r.steps ++ placed c.args.at (as_step c.args.step) ∷ []))
     c.self.view_is

@@ -1,6 +1,6 @@
 use Rattle.std.proofs.Common.{◌∙◌, sym}
 use Rattle.mm_spec.proofs.LexedLaw.{tokens_of_long, lexical_fault_long}
-use Rattle.mm_lex.proofs.too_long.Goals as goal
+use Rattle.mm_lex.proofs.lexed_too_long.Goals as goal
 
 pub returns-clause-tokens : goal.returns-clause-tokens
 returns-clause-tokens g c = λ text long. c.new.ensures.items ∙ sym (tokens_of_long text long)
