@@ -52,12 +52,12 @@ module _ (counts : ℕ → ℕ → Bool) where
   join_parts : (p : ℕ → Bool) (ts us : Trees) (a : ℕ) → HasNode counts p (ts ⧺ us) a
       → HasNode counts p ts a ⊎ HasNode counts (λ n. p (size ts + n)) us a
   join_parts p ts none a h = inl h
-  join_parts p ts (more us l f cs) a (inl h) = by (join_parts p ts us a h)
+  join_parts p ts (more us l f cs) a (inl h) = by_part (join_parts p ts us a h)
     where
-      by : HasNode counts p ts a ⊎ HasNode counts (λ n. p (size ts + n)) us a
+      by_part : HasNode counts p ts a ⊎ HasNode counts (λ n. p (size ts + n)) us a
           → HasNode counts p ts a ⊎ HasNode counts (λ n. p (size ts + n)) (more us l f cs) a
-      by (inl h) = inl h
-      by (inr h) = inr (inl h)
+      by_part (inl h) = inl h
+      by_part (inr h) = inr (inl h)
   join_parts p ts (more us l f cs) a (inr h) = inr (inr (ap p (sym (size_join ts us)) ∙ h.0, h.1))
 
 -- ---- flags
@@ -76,22 +76,22 @@ wanted_more : (b : Bool) (s : Step) (wanted : List Bool) (k : ℕ) → flag_at w
     → flag_at (wanted_flags b s wanted) k ≡ true
 wanted_more b (label l) wanted k e = e
 wanted_more false (marked j) wanted k e = e
-wanted_more true (marked j) wanted k e = by (k == j) refl (cases_lt k (length wanted))
+wanted_more true (marked j) wanted k e = by_order (k == j) refl (cases_lt k (length wanted))
   where
-    by : (q : Bool) → (k == j) ≡ q → (k < length wanted) ⊎ (length wanted ≤ k)
+    by_order : (q : Bool) → (k == j) ≡ q → (k < length wanted) ⊎ (length wanted ≤ k)
         → flag_at (wanted_flags true (marked j) wanted) k ≡ true
-    by true q (inl h) =
+    by_order true q (inl h) =
         let same = eqb-true k j q in
         subst (λ n. get_or (wanted_flags true (marked j) wanted) n false ≡ true) (sym same)
         (get_or-set_same wanted j true false (subst (λ n. n < length wanted) same h))
-    by true q (inr h) = absurd (true≢false (sym e ∙ past wanted k h))
+    by_order true q (inr h) = absurd (true≢false (sym e ∙ past wanted k h))
       where
         past : (ws : List Bool) (k : ℕ) → length ws ≤ k → flag_at ws k ≡ false
         past [] zero h = refl
         past [] (suc k) h = refl
         past (w ∷ ws) zero h = absurd (omega (arith, h))
         past (w ∷ ws) (suc k) h = past ws k (omega (arith, h))
-    by false q h = get_or-set_other wanted j k true false (eqb-false k j q) ∙ e
+    by_order false q h = get_or-set_other wanted j k true false (eqb-false k j q) ∙ e
 
 -- a step of a mark makes the earlier one wanted, if it is essential itself
 wanted_here : (j : ℕ) (wanted : List Bool) → j < length wanted → (b : Bool) → b ≡ true
@@ -104,11 +104,11 @@ wanted_was : (j : ℕ) (wanted : List Bool) (b : Bool) (k : ℕ)
     → flag_at (wanted_flags b (marked j) wanted) k ≡ true
     → (flag_at wanted k ≡ true) ⊎ ((k ≡ j) × (b ≡ true))
 wanted_was j wanted false k e = inl e
-wanted_was j wanted true k e = by (k == j) refl
+wanted_was j wanted true k e = by_equality (k == j) refl
   where
-    by : (q : Bool) → (k == j) ≡ q → (flag_at wanted k ≡ true) ⊎ ((k ≡ j) × (true ≡ true))
-    by true q = inr (eqb-true k j q, refl)
-    by false q = inl (sym (get_or-set_other wanted j k true false (eqb-false k j q)) ∙ e)
+    by_equality : (q : Bool) → (k == j) ≡ q → (flag_at wanted k ≡ true) ⊎ ((k ≡ j) × (true ≡ true))
+    by_equality true q = inr (eqb-true k j q, refl)
+    by_equality false q = inl (sym (get_or-set_other wanted j k true false (eqb-false k j q)) ∙ e)
 
 pub wanted_count : (b : Bool) (s : Step) (wanted : List Bool)
     → length (wanted_flags b s wanted) ≡ length wanted
@@ -151,13 +151,14 @@ module _ (counts : ℕ → ℕ → Bool) (at : ℕ → Trees) where
     found : (rest : Trees) (l : ℕ) (f : Formula) (cs : Trees) → at (suc i) ≡ more rest l f cs
         → length ws ≡ size rest → b ≡ true → (a ≡ l) ⊎ HasNode counts (counts l) cs a
         → Left (suc i) (ws ++ flag ∷ []) wanted a
-    found rest l f cs here count e h = by (or_cases flag (flag_at wanted i) (sym is ∙ e))
+    found rest l f cs here count e h = by_flag_kind (or_cases flag (flag_at wanted i) (sym is ∙ e))
       where
-        by : (flag ≡ true) ⊎ (flag_at wanted i ≡ true) → Left (suc i) (ws ++ flag ∷ []) wanted a
-        by (inl k) =
+        by_flag_kind : (flag ≡ true) ⊎ (flag_at wanted i ≡ true)
+            → Left (suc i) (ws ++ flag ∷ []) wanted a
+        by_flag_kind (inl k) =
             inl (subst (λ t. HasNode counts (flag_at (ws ++ flag ∷ [])) t a) (sym here)
             (inr (last_flag (size rest) count ∙ k, h)))
-        by (inr k) =
+        by_flag_kind (inr k) =
             inr (
               i,
               omega arith,
@@ -170,12 +171,12 @@ module _ (counts : ℕ → ℕ → Bool) (at : ℕ → Trees) where
     wanted_parts : (rest : Trees) (l : ℕ) (f : Formula) (cs : Trees) → at (suc i) ≡ more rest l f cs
         → Wanted (suc i) wanted a
         → ((b ≡ true) × ((a ≡ l) ⊎ HasNode counts (counts l) cs a)) ⊎ Wanted i wanted a
-    wanted_parts rest l f cs here h = by (cases_lt h.0 i)
+    wanted_parts rest l f cs here h = by_order (cases_lt h.0 i)
       where
-        by : (h.0 < i) ⊎ (i ≤ h.0)
+        by_order : (h.0 < i) ⊎ (i ≤ h.0)
             → ((b ≡ true) × ((a ≡ l) ⊎ HasNode counts (counts l) cs a)) ⊎ Wanted i wanted a
-        by (inl k) = inr (h.0, k, h.2, h.3)
-        by (inr k) =
+        by_order (inl k) = inr (h.0, k, h.2, h.3)
+        by_order (inr k) =
             let up = h.1 in
             let same : h.0 ≡ i = omega (arith, k, up) in
             inl (
@@ -225,12 +226,12 @@ module _ (counts : ℕ → ℕ → Bool) (at : ℕ → Trees) where
               inr (in_row
               (join_left counts (flag_at (ws ++ vs)) ts cs a (old_places (flag ∷ []) vs k)))
           roots (inr k) = node_down (by_flag (sym (last_flag (size ts) count) ∙ k.0)) k.1
-      label_down (inr h) = go (wanted_parts ts l f cs here h)
+      label_down (inr h) = by_step (wanted_parts ts l f cs here h)
         where
-          go : ((b ≡ true) × ((a ≡ l) ⊎ HasNode counts (counts l) cs a)) ⊎ Wanted i wanted a
+          by_step : ((b ≡ true) × ((a ≡ l) ⊎ HasNode counts (counts l) cs a)) ⊎ Wanted i wanted a
               → ((b ≡ true) × (a ≡ l)) ⊎ Left i (ws ++ vs) wanted a
-          go (inl k) = node_down k.0 k.1
-          go (inr k) = inr (inr k)
+          by_step (inl k) = node_down k.0 k.1
+          by_step (inr k) = inr (inr k)
 
       label_up : ((b ≡ true) × (a ≡ l)) ⊎ Left i (ws ++ vs) wanted a
           → Left (suc i) (ws ++ flag ∷ []) wanted a
@@ -287,24 +288,24 @@ module _ (counts : ℕ → ℕ → Bool) (at : ℕ → Trees) where
               → Left i (ws ++ []) (wanted_flags b (marked j) wanted) a
           roots (inl k) = inl (same_places (flag ∷ []) [] k)
           roots (inr k) = tree_down (by_flag (sym (last_flag (size (at i)) count) ∙ k.0)) k.1
-      marked_down (inr h) = go (wanted_parts (at i) l f cs here h)
+      marked_down (inr h) = by_step (wanted_parts (at i) l f cs here h)
         where
-          go : ((b ≡ true) × ((a ≡ l) ⊎ HasNode counts (counts l) cs a)) ⊎ Wanted i wanted a
+          by_step : ((b ≡ true) × ((a ≡ l) ⊎ HasNode counts (counts l) cs a)) ⊎ Wanted i wanted a
               → Left i (ws ++ []) (wanted_flags b (marked j) wanted) a
-          go (inl k) = tree_down k.0 k.1
-          go (inr k) = inr (k.0, k.1, wanted_more b (marked j) wanted k.0 k.2, k.3)
+          by_step (inl k) = tree_down k.0 k.1
+          by_step (inr k) = inr (k.0, k.1, wanted_more b (marked j) wanted k.0 k.2, k.3)
 
       marked_up : Left i (ws ++ []) (wanted_flags b (marked j) wanted) a
           → Left (suc i) (ws ++ flag ∷ []) wanted a
       marked_up (inl h) =
           inl (subst (λ t. HasNode counts (flag_at (ws ++ flag ∷ [])) t a) (sym here)
           (inl (same_places [] (flag ∷ []) h)))
-      marked_up (inr h) = by (wanted_was j wanted b h.0 h.2)
+      marked_up (inr h) = by_flag (wanted_was j wanted b h.0 h.2)
         where
-          by : (flag_at wanted h.0 ≡ true) ⊎ ((h.0 ≡ j) × (b ≡ true))
+          by_flag : (flag_at wanted h.0 ≡ true) ⊎ ((h.0 ≡ j) × (b ≡ true))
               → Left (suc i) (ws ++ flag ∷ []) wanted a
-          by (inl k) = inr (wanted_grown (h.0, h.1, k, h.3))
-          by (inr k) =
+          by_flag (inl k) = inr (wanted_grown (h.0, h.1, k, h.3))
+          by_flag (inr k) =
               found (at i) l f cs here count k.1
               (tree_node l f cs a
               (subst (λ t. HasNode counts each_place t a)

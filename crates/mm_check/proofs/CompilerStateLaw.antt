@@ -22,16 +22,16 @@ module _ (db : List Statement) (t j : ℕ) where
     pub rule : rule_at db t j ≡ rule_of db j statement
 
   stands_at : IsGood (context_at db t) (rule_at db t j) → Stands
-  stands_at good = by (is_active db j t) refl (slice_get db j) refl good
+  stands_at good = by_activity (is_active db j t) refl (slice_get db j) refl good
     where
       out : Bool → Option Statement → Option Rule
       out b o = elim b [ false ↦ None | true ↦ elim o [ None ↦ None | Some s ↦ rule_of db j s ] ]
 
-      by : (b : Bool) → is_active db j t ≡ b → (o : Option Statement) → slice_get db j ≡ o
+      by_activity : (b : Bool) → is_active db j t ≡ b → (o : Option Statement) → slice_get db j ≡ o
           → IsGood (context_at db t) (out b o) → Stands
-      by false e o f g = absurd g
-      by true e None f g = absurd g
-      by true e (Some s) f g =
+      by_activity false e o f g = absurd g
+      by_activity true e None f g = absurd g
+      by_activity true e (Some s) f g =
           record {
             statement = s;
             stands = f;
@@ -49,29 +49,30 @@ module _ (db : List Statement) (t j : ℕ) where
   pub assertion_rule : is_assertion_at db j ≡ true → IsGood (context_at db t) (rule_at db t j)
       → rule_at db t j ≡ Some (assertion (frame_at db j))
   assertion_rule is good =
-      let s = stands_at good in s.rule ∙ by s.statement (at_is s.statement true s.stands is)
+      let s = stands_at good in s.rule ∙ by_statement s.statement (at_is s.statement true s.stands
+      is)
     where
-      by : (s : Statement) → list_any is_assertion (s ∷ []) ≡ true
+      by_statement : (s : Statement) → list_any is_assertion (s ∷ []) ≡ true
           → rule_of db j s ≡ Some (assertion (frame_at db j))
-      by (axiomatic l p xs d) h = refl
-      by (provable l p xs e ps d) h = refl
-      by _ h = absurd (true≢false (sym h))
+      by_statement (axiomatic l p xs d) h = refl
+      by_statement (provable l p xs e ps d) h = refl
+      by_statement _ h = absurd (true≢false (sym h))
 
   pub hypothesis_rule : is_assertion_at db j ≡ false → IsGood (context_at db t) (rule_at db t j)
       → rule_at db t j ≡ Some (hypothesis (formula_at db j))
   hypothesis_rule is good =
       let s = stands_at good in
-      s.rule ∙ by s.statement (at_is s.statement false s.stands is)
+      s.rule ∙ by_statement s.statement (at_is s.statement false s.stands is)
       (subst (IsGood (context_at db t)) s.rule good)
     where
-      by : (s : Statement) → list_any is_assertion (s ∷ []) ≡ false
+      by_statement : (s : Statement) → list_any is_assertion (s ∷ []) ≡ false
           → IsGood (context_at db t) (rule_of db j s)
           → rule_of db j s ≡ Some (hypothesis (formula_at db j))
-      by (floating l p xs d) h g = refl
-      by (essential l p xs d) h g = refl
-      by (axiomatic l p xs d) h g = absurd (true≢false h)
-      by (provable l p xs e ps d) h g = absurd (true≢false h)
-      by _ h g = absurd g
+      by_statement (floating l p xs d) h g = refl
+      by_statement (essential l p xs d) h g = refl
+      by_statement (axiomatic l p xs d) h g = absurd (true≢false h)
+      by_statement (provable l p xs e ps d) h g = absurd (true≢false h)
+      by_statement _ h g = absurd g
 
 -- the label of a good step is that of a statement
 pub good_labels : (db : List Statement) (t n : ℕ) (s : Step) → IsGoodStep (context_at db t) n s

@@ -1,5 +1,6 @@
 -- The beginning and the end of a proof.
-use Rattle.std.proofs.Common.{◌≡◌, ℕ, ◌<◌, ◌∷◌, [], List, length, slice_get, Some, None, Option, Bool}
+use Rattle.std.proofs.Common.{◌≡◌, ℕ, ◌<◌, ◌∷◌, [], List, length, slice_get, Some, None, Option,
+Bool}
 use Rattle.std.proofs.Common.{sym, subst, inr, true, false, refl, true≢false, arith}
 use Rattle.std.specs.Prelude.{Decides}
 use Rattle.std.specs.List.{list_any}
@@ -36,17 +37,17 @@ module _ (db : List Statement) (t : ℕ) (steps : List PlacedStep) where
   begins m rules noted cache width made are fresh none p = record {
     at = record {
       made_for = rw fresh made;
-      theorem = by (slice_get db t) refl are.theorem;
+      theorem = by_statement (slice_get db t) refl are.theorem;
       disjoint_are = p;
     };
     are_steps = are;
     ran = none_ran db t steps m noted width fresh none;
   }
     where
-      by : (o : Option Statement) → slice_get db t ≡ o
+      by_statement : (o : Option Statement) → slice_get db t ≡ o
           → list_any is_theorem (elim o [ None ↦ [] | Some s ↦ s ∷ [] ]) ≡ true → t < length db
-      by None e h = absurd (true≢false (sym h))
-      by (Some s) e h = inside_of db t s e
+      by_statement None e h = absurd (true≢false (sym h))
+      by_statement (Some s) e h = inside_of db t s e
 
   -- all steps are performed
   module _ (c d : CheckerState) (view : c ≡ d) (p : HasPerformed db t steps (length steps) d) where

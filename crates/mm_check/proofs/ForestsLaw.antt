@@ -31,13 +31,14 @@ cuts (x ∷ xs) ys [] vs e = inl (x ∷ xs, refl)
 cuts (x ∷ xs) ys (u ∷ us) vs e =
     let h : x ≡ u = cc in
     let t : xs ++ ys ≡ us ++ vs = cc in
-    by h (cuts xs ys us vs t)
+    by_cut h (cuts xs ys us vs t)
   where
-    by : x ≡ u → ((k : List ℕ) × (xs ≡ us ++ k)) ⊎ ((k : List ℕ) × (us ≡ xs ++ k) × (ys ≡ k ++ vs))
+    by_cut : x ≡ u → ((k : List ℕ) × (xs ≡ us ++ k))
+        ⊎ ((k : List ℕ) × (us ≡ xs ++ k) × (ys ≡ k ++ vs))
         → ((k : List ℕ) × (x ∷ xs ≡ (u ∷ us) ++ k))
         ⊎ ((k : List ℕ) × (u ∷ us ≡ (x ∷ xs) ++ k) × (ys ≡ k ++ vs))
-    by h (inl p) = let e = p.1 in inl (p.0, cc (h, e))
-    by h (inr p) = let e = p.1 in inr (p.0, cc (h, e), p.2)
+    by_cut h (inl p) = let e = p.1 in inl (p.0, cc (h, e))
+    by_cut h (inr p) = let e = p.1 in inr (p.0, cc (h, e), p.2)
 
 -- ---- forests
 
@@ -59,7 +60,8 @@ forest_next [] rest next = refl
 forest_next (r ∷ forests) rest next = forest_next forests rest next
 
 module _ (c : Context) where
-  -- Step n makes a tree of the last ones of the forest before it, or adds a copy of the tree that an
+  -- Step n makes a tree of the last ones of the forest before it, or adds a copy of the tree that
+  -- an
   -- earlier step ended.
   abbrev pub IsMove : List Trees → ℕ → Step → Type 0
   IsMove forests n (label l) =
@@ -84,12 +86,13 @@ module _ (c : Context) where
   RowOf labels = (r : Trees) × AreDerivations c r × (postfix r ≡ labels)
 
   -- the first labels of a forest are those of a forest
-  front_row : (forest : Trees) (old rest : List ℕ) → AreDerivations c forest → postfix forest ≡ old ++ rest
+  front_row : (forest : Trees) (old rest : List ℕ) → AreDerivations c forest → postfix forest ≡ old
+      ++ rest
       → RowOf old
   front_row none [] rest d e = (none, tt, refl)
   front_row none (x ∷ old) rest d e = absurd (cc)
   front_row (more ts l f cs) old rest d e =
-      by (cuts (postfix ts) (postfix cs ++ l ∷ []) old rest e) (λ k q. front_row ts old k d.0 q)
+      by_cut (cuts (postfix ts) (postfix cs ++ l ∷ []) old rest e) (λ k q. front_row ts old k d.0 q)
       (λ old' k q. front_row cs old' k d.1 q)
     where
       whole : (k m : List ℕ) → old ≡ postfix ts ++ k → k ≡ postfix cs ++ m → l ∷ [] ≡ m ++ rest
@@ -122,12 +125,12 @@ module _ (c : Context) where
           )
       inner k o (inr p) on = whole k p.0 o p.1 p.2
 
-      by : ((k : List ℕ) × (postfix ts ≡ old ++ k))
+      by_cut : ((k : List ℕ) × (postfix ts ≡ old ++ k))
           ⊎ ((k : List ℕ) × (old ≡ postfix ts ++ k) × (postfix cs ++ l ∷ [] ≡ k ++ rest))
           → ((k : List ℕ) → postfix ts ≡ old ++ k → RowOf old)
           → ((old' k : List ℕ) → postfix cs ≡ old' ++ k → RowOf old') → RowOf old
-      by (inl p) on in_children = on p.0 p.1
-      by (inr p) on in_children =
+      by_cut (inl p) on in_children = on p.0 p.1
+      by_cut (inr p) on in_children =
           inner p.0 p.1 (cuts (postfix cs) (l ∷ []) p.0 rest p.2) in_children
 
   -- the plain list only grows
@@ -148,14 +151,16 @@ module _ (c : Context) where
   abbrev Are : List (List ℕ) → List Trees → Type 0
   Are lists forests = AllZip (λ x t. AreDerivations c t × (postfix t ≡ x)) lists forests
 
-  are_more : (lists : List (List ℕ)) (forests : List Trees) (x : List ℕ) (t : Trees) → Are lists forests
+  are_more : (lists : List (List ℕ)) (forests : List Trees) (x : List ℕ) (t : Trees)
+      → Are lists forests
       → AreDerivations c t → postfix t ≡ x → Are (lists ++ x ∷ []) (forests ++ t ∷ [])
   are_more [] [] x t a d e = ((d, e), tt)
   are_more [] (u ∷ us) x t a d e = absurd a
   are_more (y ∷ ys) [] x t a d e = absurd a
   are_more (y ∷ ys) (u ∷ us) x t a d e = (a.0, are_more ys us x t a.1 d e)
 
-  are_at : (lists : List (List ℕ)) (forests : List Trees) (j : ℕ) (then : List ℕ) → Are lists forests
+  are_at : (lists : List (List ℕ)) (forests : List Trees) (j : ℕ) (then : List ℕ)
+      → Are lists forests
       → slice_get lists j ≡ Some then
       → (j < length forests) × AreDerivations c (get_or forests j none)
       × (postfix (get_or forests j none) ≡ then)
@@ -169,8 +174,10 @@ module _ (c : Context) where
 
   module _ (fine : (l : ℕ) → IsFine c (c.rule l)) where
     -- one step
-    move_label : (forests : List Trees) (n : ℕ) (forest next : Trees) (l : ℕ) → AreDerivations c forest
-        → AreDerivations c next → postfix next ≡ postfix forest ++ l ∷ [] → forest_at forests n ≡ forest
+    move_label : (forests : List Trees) (n : ℕ) (forest next : Trees) (l : ℕ)
+        → AreDerivations c forest
+        → AreDerivations c next → postfix next ≡ postfix forest ++ l ∷ [] → forest_at forests n
+        ≡ forest
         → forest_at forests (suc n) ≡ next → IsMove forests n (label l)
     move_label forests n forest none l d e p here then =
         absurd (omega (arith, ap length p, length-append (postfix forest) (l ∷ [])))
@@ -192,12 +199,14 @@ module _ (c : Context) where
 
     move_marked : (lists : List (List ℕ)) (forests rest : List Trees) (forest next : Trees) (j : ℕ)
         → Are lists forests → AreDerivations c forest → AreDerivations c next
-        → Adds c lists (postfix forest) (marked j) (postfix next) → forest_at forests (length forests) ≡ forest
+        → Adds c lists (postfix forest) (marked j) (postfix next)
+        → forest_at forests (length forests) ≡ forest
         → IsMove (forests ++ next ∷ rest) (length forests) (marked j)
     move_marked lists forests rest forest next j a d e adds here =
         let at = are_at lists forests j adds.0 a adds.2 in
         let from = adds.3 in
-        let same = same_forest c fine (get_or forests j none) from.0 at.1 from.1 (at.2 ∙ sym from.2) in
+        let same = same_forest c fine (get_or forests j none) from.0 at.1 from.1 (at.2 ∙ sym from.2)
+        in
         copy from.0 from.1 from.3 same at.0
       where
         copy : (r : Trees) → AreDerivations c r → IsLastTree r adds.1 → get_or forests j none ≡ r
@@ -221,7 +230,8 @@ module _ (c : Context) where
 
     move_here : (lists : List (List ℕ)) (forests rest : List Trees) (forest next : Trees) (s : Step)
         → Are lists forests → AreDerivations c forest → AreDerivations c next
-        → Adds c lists (postfix forest) s (postfix next) → forest_at forests (length forests) ≡ forest
+        → Adds c lists (postfix forest) s (postfix next) → forest_at forests (length forests)
+        ≡ forest
         → IsMove (forests ++ next ∷ rest) (length forests) s
     move_here lists forests rest forest next (label l) a d e adds here =
         move_label (forests ++ next ∷ rest) (length forests) forest next l d e adds
@@ -239,7 +249,8 @@ module _ (c : Context) where
     -- one forest more
     built_more : (lists : List (List ℕ)) (forests : List Trees) (forest d : Trees) (s : Step)
         → (steps : List Step)
-        → Are lists forests → AreDerivations c forest → forest_at forests (length forests) ≡ forest → (new : List ℕ)
+        → Are lists forests → AreDerivations c forest → forest_at forests (length forests) ≡ forest
+        → (new : List ℕ)
         → Adds c lists (postfix forest) s new → (next : Trees) → AreDerivations c next
         → postfix next ≡ new
         → (forest_at (forests ++ next ∷ []) (length (forests ++ next ∷ [])) ≡ next
@@ -255,7 +266,8 @@ module _ (c : Context) where
       );
       last =
           ap (forest_at (forests ++ next ∷ rest)) so_many
-          ∙ ap (λ z. forest_at z (length (forests ++ next ∷ []) + length steps)) (sym regroup) ∙ q.last;
+          ∙ ap (λ z. forest_at z (length (forests ++ next ∷ []) + length steps)) (sym regroup)
+          ∙ q.last;
     }
       where
         many : length (forests ++ next ∷ []) ≡ suc (length forests)
@@ -275,14 +287,16 @@ module _ (c : Context) where
 
     build : (steps : List Step) (lists : List (List ℕ)) (forests : List Trees) (forest d : Trees)
         → Are lists forests → AreDerivations c forest → forest_at forests (length forests) ≡ forest
-        → AreDerivations c d → Plain c lists (postfix forest) steps (postfix d) → Built forests steps d
+        → AreDerivations c d → Plain c lists (postfix forest) steps (postfix d)
+        → Built forests steps d
     build [] lists forests forest d a dr here dd h =
         let n : length forests + 0 ≡ length forests = omega arith in
         record {
           rest = [];
           moves = tt;
           last =
-              ap (forest_at (forests ++ [])) n ∙ forest_front forests [] (length forests) (omega arith) ∙ here
+              ap (forest_at (forests ++ [])) n
+              ∙ forest_front forests [] (length forests) (omega arith) ∙ here
               ∙ sym (same_forest c fine d forest dd dr h);
         }
     build (s ∷ steps) lists forests forest d a dr here dd h =

@@ -76,13 +76,13 @@ module _ (db : List Statement) (t : ℕ) (steps : List PlacedStep) (i : ℕ) (c 
 
   -- the step can be made
   pub ready : IsReady (context_at db t) c.machine.marks a
-  ready = by a is good_step
+  ready = by_step_kind a is good_step
     where
-      by : (a : Step) → a ≡ (step_at steps i).step
+      by_step_kind : (a : Step) → a ≡ (step_at steps i).step
           → IsGoodStep (context_at db t) (length p.ran.ends) a
           → IsReady (context_at db t) c.machine.marks a
-      by (label l) is g = g
-      by (marked j) is g =
+      by_step_kind (label l) is g = g
+      by_step_kind (marked j) is g =
           p.ran.present j (let c = p.ran.count in omega (arith, g, c))
           (takes_here steps i j inside (sym is))
 
@@ -101,14 +101,19 @@ module _ (db : List Statement) (t : ℕ) (steps : List PlacedStep) (i : ℕ) (c 
   next_ran : (d : CheckerState) (m : MachineState) (b : Bool) → is_marked steps i ≡ b
       → Performs db t a c d → m ≡ with_mark b i d.machine → Ran db t steps (i + 1) m d.noted
   next_ran d m b is_b made kept =
-      subst (λ o. Ran db t steps (i + 1) o d.noted) (sym kept) (by b is_b)
+      subst (λ o. Ran db t steps (i + 1) o d.noted) (sym kept) (by_mark b is_b)
     where
       ends : List Formula
       ends = p.ran.ends ++ top d.machine.stack ∷ []
 
       count : length ends ≡ i + 1
       count =
-          let c = p.ran.count in omega (arith, c, length-append p.ran.ends (top d.machine.stack ∷ []))
+          let c = p.ran.count in omega (
+            arith,
+            c,
+            length-append p.ran.ends
+                (top d.machine.stack ∷ []),
+          )
 
       reached : Reached db t (steps_of (take (i + 1) steps)) d.machine.stack ends d.noted
       reached =
@@ -136,9 +141,9 @@ module _ (db : List Statement) (t : ℕ) (steps : List PlacedStep) (i : ℕ) (c 
       earlier : (j : ℕ) → j < i → is_marked steps j ≡ true → Contains d.machine.marks j
       earlier j l m = subst (λ z. Contains z j) (sym made.marks) (p.ran.present j l m)
 
-      by : (b : Bool) → is_marked steps i ≡ b
+      by_mark : (b : Bool) → is_marked steps i ≡ b
           → Ran db t steps (i + 1) (with_mark b i d.machine) d.noted
-      by false e = record {
+      by_mark false e = record {
         ends = ends;
         count = count;
         reached = reached;
@@ -153,11 +158,12 @@ module _ (db : List Statement) (t : ℕ) (steps : List PlacedStep) (i : ℕ) (c 
           at j m l (inr h) =
               absurd (true≢false
               (sym m ∙ ap (is_marked steps) (let q : j ≡ i = omega (arith, h, l) in q) ∙ e))
-      by true e = record {
+      by_mark true e = record {
         ends = ends;
         count = count;
         reached = reached;
-        agree = agree_push ends d.machine.marks d.machine.formulas i (top d.machine.stack) agree last;
+        agree = agree_push ends d.machine.marks d.machine.formulas i (top d.machine.stack) agree
+            last;
         before = All-push (λ j. j < i + 1) d.machine.marks i before (omega arith);
         present = λ j l m. there j m l (cases_lt j i);
       }

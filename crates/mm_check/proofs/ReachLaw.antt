@@ -220,11 +220,11 @@ starts db t stack ends noted e f n =
 -- the place of the end of a theorem's proof
 pub end_is : (db : List Statement) (t at : ℕ) → is_theorem_at db t ≡ true
     → option_map last_place (slice_get db t) ≡ Some at → proof_end (slice_get db t) ≡ at
-end_is db t at h e = by (slice_get db t) h e
+end_is db t at h e = by_statement (slice_get db t) h e
   where
-    by : (o : Option Statement)
+    by_statement : (o : Option Statement)
         → list_any is_theorem (elim o [ None ↦ [] | Some s ↦ s ∷ [] ]) ≡ true
         → option_map last_place o ≡ Some at → proof_end o ≡ at
-    by None h e = absurd (true≢false (sym h))
-    by (Some (provable l p xs q ps d)) h e = cc
-    by (Some s) h e = absurd (true≢false (sym h))
+    by_statement None h e = absurd (true≢false (sym h))
+    by_statement (Some (provable l p xs q ps d)) h e = cc
+    by_statement (Some s) h e = absurd (true≢false (sym h))

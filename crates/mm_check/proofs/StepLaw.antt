@@ -58,12 +58,12 @@ module _ (db : List Statement) (t : ℕ) where
       marks = marks;
       formulas = formulas;
       entry = entry;
-      noted = λ x. notes x ∙ ap (λ b. is_member c.noted x || b) (by x (x == a) refl);
+      noted = λ x. notes x ∙ ap (λ b. is_member c.noted x || b) (by_equality x (x == a) refl);
     }
       where
-        by : (x : ℕ) (b : Bool) → (x == a) ≡ b → b ≡ (b && is_assertion_at db x)
-        by x false e = refl
-        by x true e = sym (ap (is_assertion_at db) (eqb-true x a e) ∙ is)
+        by_equality : (x : ℕ) (b : Bool) → (x == a) ≡ b → b ≡ (b && is_assertion_at db x)
+        by_equality x false e = refl
+        by_equality x true e = sym (ap (is_assertion_at db) (eqb-true x a e) ∙ is)
 
     pub stops : (e : StepRefused) → Stops e (applied db t a c.machine.stack)
         → IsStopped db t (label a) c e

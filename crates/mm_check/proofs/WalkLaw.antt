@@ -41,7 +41,8 @@ pub record Walked (db : List Statement) (t : ℕ) (steps : List PlacedStep) (i :
   pub asserted : (a : ℕ) → is_member noted a ≡ true → is_assertion_at db a ≡ true
   pub exact : (a : ℕ) → is_assertion_at db a ≡ true
       → HasNode (child_counts db true) each_place derivation a
-      ↔ ((is_member noted a ≡ true) ⊎ Left (child_counts db true) (forest_at forests) i waiting wanted a)
+      ↔ ((is_member noted a ≡ true) ⊎ Left (child_counts db true) (forest_at forests) i waiting
+      wanted a)
 
 -- ---- the premises of a label
 
@@ -247,26 +248,27 @@ module _ (db : List Statement) (t : ℕ) (steps : List PlacedStep) (i : ℕ) (ws
           ⊎ Left (child_counts db true) (forest_at r.forests) (suc i) (ws ++ flag ∷ []) wanted a
           → (is_member out a ≡ true) ⊎ Before s a
       down a k (inl h) = inl (old_noted a h)
-      down a k (inr h) = by ((u.nodes a).0 h)
+      down a k (inr h) = by_step ((u.nodes a).0 h)
         where
-          by : ((b ≡ true) × (is_labelled_step s a ≡ true)) ⊎ Before s a
+          by_step : ((b ≡ true) × (is_labelled_step s a ≡ true)) ⊎ Before s a
               → (is_member out a ≡ true) ⊎ Before s a
-          by (inl h) = inl (new_noted a k h.0 h.1)
-          by (inr h) = inr h
+          by_step (inl h) = inl (new_noted a k h.0 h.1)
+          by_step (inr h) = inr h
 
       up : (a : ℕ) → is_assertion_at db a ≡ true → (is_member out a ≡ true) ⊎ Before s a
           → (is_member noted a ≡ true)
           ⊎ Left (child_counts db true) (forest_at r.forests) (suc i) (ws ++ flag ∷ []) wanted a
       up a k (inl h) =
-          by (or_cases (is_member noted a) (b && (is_labelled_step s a && is_assertion_at db a))
+          by_membership (or_cases (is_member noted a)
+          (b && (is_labelled_step s a && is_assertion_at db a))
           (sym (notes a) ∙ h))
         where
-          by : (is_member noted a ≡ true)
+          by_membership : (is_member noted a ≡ true)
               ⊎ ((b && (is_labelled_step s a && is_assertion_at db a)) ≡ true)
               → (is_member noted a ≡ true)
               ⊎ Left (child_counts db true) (forest_at r.forests) (suc i) (ws ++ flag ∷ []) wanted a
-          by (inl h) = inl h
-          by (inr h) =
+          by_membership (inl h) = inl h
+          by_membership (inr h) =
               let p = and_parts b (is_labelled_step s a && is_assertion_at db a) h in
               inr ((u.nodes a).1
               (inl (p.0, (and_parts (is_labelled_step s a) (is_assertion_at db a) p.1).0)))
@@ -289,7 +291,8 @@ module _ (db : List Statement) (t : ℕ) (steps : List PlacedStep) (n i : ℕ)
       move_at (context_at db t) r.forests 0 (steps_of steps) i
       (let e = length-map steps (λ s. s.step) in omega (arith, e, inside)) r.moves in
       let e = r.fits in
-      let k = some_row (context_at db t) r.forests (0 + i) (get_or (steps_of steps) i (label 0)) m in
+      let k = some_row (context_at db t) r.forests (0 + i) (get_or (steps_of steps) i (label 0)) m
+      in
       let same : size (forest_at r.forests n) ≡ size (forest_at r.forests (suc (0 + i))) =
       ap (λ j. size (forest_at r.forests j)) (let q : n ≡ suc (0 + i) = omega (arith, next) in q) in
       omega (arith, e, k, same)
@@ -385,14 +388,14 @@ module _ (db : List Statement) (t : ℕ) (steps : List PlacedStep) (complete : A
       → Decides (is_member noted a) (Cites db true t a)
   walk_end waiting wanted noted r a = (
     λ m. let k = r.asserted a m in (k, r.derivation, r.proof, (r.exact a k).1 (inl m)),
-    λ c. by ((r.exact a c.0).0
+    λ c. by_membership ((r.exact a c.0).0
         (subst (λ d. HasNode (child_counts db true) each_place d a)
         (proof_unique db complete t c.1 r.derivation c.2 r.proof) c.3)),
   )
     where
-      by : (is_member noted a ≡ true)
+      by_membership : (is_member noted a ≡ true)
           ⊎ Left (child_counts db true) (forest_at r.forests) 0 waiting wanted a
           → is_member noted a ≡ true
-      by (inl h) = h
-      by (inr (inl h)) = absurd h
-      by (inr (inr h)) = let low = h.1 in absurd (omega (arith, low))
+      by_membership (inl h) = h
+      by_membership (inr (inl h)) = absurd h
+      by_membership (inr (inr h)) = let low = h.1 in absurd (omega (arith, low))

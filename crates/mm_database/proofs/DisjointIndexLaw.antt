@@ -24,22 +24,22 @@ use Rattle.mm_outline.proofs.StatementsLaw.{is_there}
 pub has_at : (ps : List (ℕ × ℕ)) (x y : ℕ) → has_pair ps x y ≡ true
     → (p : ℕ) × (p < length ps) × ((get_or ps p (0, 0)).0 ≡ x) × ((get_or ps p (0, 0)).1 ≡ y)
 has_at [] x y h = absurd (true≢false (sym h))
-has_at (q ∷ qs) x y h = by (nat_eq x q.0 && nat_eq y q.1) refl h (λ k. has_at qs x y k)
+has_at (q ∷ qs) x y h = by_head (nat_eq x q.0 && nat_eq y q.1) refl h (λ k. has_at qs x y k)
   where
-    by : (b : Bool) → (nat_eq x q.0 && nat_eq y q.1) ≡ b → (b || has_pair qs x y) ≡ true
+    by_head : (b : Bool) → (nat_eq x q.0 && nat_eq y q.1) ≡ b → (b || has_pair qs x y) ≡ true
         → (has_pair qs x y ≡ true
         → (p : ℕ) × (p < length qs) × ((get_or qs p (0, 0)).0 ≡ x)
         × ((get_or qs p (0, 0)).1 ≡ y))
         → (p : ℕ) × (p < length (q ∷ qs)) × ((get_or (q ∷ qs) p (0, 0)).0 ≡ x)
         × ((get_or (q ∷ qs) p (0, 0)).1 ≡ y)
-    by true e h f = (
+    by_head true e h f = (
       0,
       omega arith,
       sym (eqb-true x q.0 (and_parts (nat_eq x q.0) (nat_eq y q.1) e).0),
       sym
           (eqb-true y q.1 (and_parts (nat_eq x q.0) (nat_eq y q.1) e).1),
     )
-    by false e h f = let r = f h in let l = r.1 in (suc r.0, omega (arith, l), r.2, r.3)
+    by_head false e h f = let r = f h in let l = r.1 in (suc r.0, omega (arith, l), r.2, r.3)
 
 pub at_has : (ps : List (ℕ × ℕ)) (p : ℕ) (d : ℕ × ℕ) → p < length ps
     → has_pair ps (get_or ps p d).0 (get_or ps p d).1 ≡ true
@@ -64,12 +64,12 @@ rising_at (p ∷ ps) h (suc i) (suc j) d l m = rising_at ps h.1 i j d (omega ari
 -- ---- before
 
 pub before_is : (p : ℕ × ℕ) (x y : ℕ) → is_pair_before p x y ≡ true → IsBefore p.0 p.1 x y
-before_is p x y h = by (nat_lt p.0 x) refl h
+before_is p x y h = by_symbol (nat_lt p.0 x) refl h
   where
-    by : (b : Bool) → nat_lt p.0 x ≡ b → (b || (nat_eq p.0 x && nat_lt p.1 y)) ≡ true
+    by_symbol : (b : Bool) → nat_lt p.0 x ≡ b → (b || (nat_eq p.0 x && nat_lt p.1 y)) ≡ true
         → IsBefore p.0 p.1 x y
-    by true e h = inl (ltb-true p.0 x e)
-    by false e h =
+    by_symbol true e h = inl (ltb-true p.0 x e)
+    by_symbol false e h =
         inr (
           eqb-true p.0 x (and_parts (nat_eq p.0 x) (nat_lt p.1 y) h).0,
           ltb-true p.1 y
@@ -90,11 +90,11 @@ before_through a b c d e f (inr (s, l)) (inr (t, m)) = inr (omega arith, omega a
 
 pub partitioned : (ps : List (ℕ × ℕ)) → AreRising ps → (x y : ℕ)
     → IsPartitionedBy (λ p. is_pair_before p x y) ps
-partitioned ps h x y i j d l m e = by (cases_eq i j)
+partitioned ps h x y i j d l m e = by_equality (cases_eq i j)
   where
-    by : (i ≡ j) ⊎ (i ≢ j) → is_pair_before (get_or ps i d) x y ≡ true
-    by (inl s) = ap (λ k. is_pair_before (get_or ps k d) x y) s ∙ e
-    by (inr n) =
+    by_equality : (i ≡ j) ⊎ (i ≢ j) → is_pair_before (get_or ps i d) x y ≡ true
+    by_equality (inl s) = ap (λ k. is_pair_before (get_or ps k d) x y) s ∙ e
+    by_equality (inr n) =
         is_pair_before_if (get_or ps i d) x y
         (before_through (get_or ps i d).0 (get_or ps i d).1 (get_or ps j d).0 (get_or ps j d).1 x y
         (rising_at ps h i j d (omega arith) m) (before_is (get_or ps j d) x y e))
@@ -156,12 +156,12 @@ module _ (b : BlockLists) (ps : List (ℕ × ℕ)) (rising : AreRising ps) (x at
   where
     -- before the place, where the symbol is that
     pub sooner : (p : ℕ) → p < start → (get_or ps p (0, 0)).0 ≡ x → (get_or ps p (0, 0)).1 < at
-    sooner p l e = by (before_is (get_or ps p (0, 0)) x at (parted.before p l))
+    sooner p l e = by_symbol (before_is (get_or ps p (0, 0)) x at (parted.before p l))
       where
-        by : IsBefore (get_or ps p (0, 0)).0 (get_or ps p (0, 0)).1 x at
+        by_symbol : IsBefore (get_or ps p (0, 0)).0 (get_or ps p (0, 0)).1 x at
             → (get_or ps p (0, 0)).1 < at
-        by (inl m) = absurd (omega (arith, m, e))
-        by (inr (s, m)) = m
+        by_symbol (inl m) = absurd (omega (arith, m, e))
+        by_symbol (inr (s, m)) = m
 
     -- one that is open is added
     pub added_open : (left next : ℕ) (old now : List (ℕ × ℕ)) → Added b ps x at start left old now
@@ -254,7 +254,7 @@ module _ (b : BlockLists) (ps : List (ℕ × ℕ)) (rising : AreRising ps) (x at
     -- none further down has the symbol
     pub none_left : (left : ℕ) → left ≤ start → (0 < left → (get_or ps (left - 1) (0, 0)).0 ≢ x)
         → (p : ℕ) → p < left → (get_or ps p (0, 0)).0 ≡ x → ⊥
-    none_left left i n p l e = by (cases_eq p (left - 1))
+    none_left left i n p l e = by_equality (cases_eq p (left - 1))
       where
         below : (q : ℕ) → q < start → (get_or ps q (0, 0)).0 ≤ x
         below q h = low (before_is (get_or ps q (0, 0)) x at (parted.before q h))
@@ -271,9 +271,9 @@ module _ (b : BlockLists) (ps : List (ℕ × ℕ)) (rising : AreRising ps) (x at
         above (inl m) = omega (arith, m, e)
         above (inr (s, m)) = omega (arith, s, e)
 
-        by : (p ≡ left - 1) ⊎ (p ≢ left - 1) → ⊥
-        by (inl s) = n (omega (arith, l)) (sym (ap (λ i. (get_or ps i (0, 0)).0) s) ∙ e)
-        by (inr t) =
+        by_equality : (p ≡ left - 1) ⊎ (p ≢ left - 1) → ⊥
+        by_equality (inl s) = n (omega (arith, l)) (sym (ap (λ i. (get_or ps i (0, 0)).0) s) ∙ e)
+        by_equality (inr t) =
             let w = parted.within in
             let u =
             above (rising_at ps rising p (left - 1) (0, 0) (omega (arith, l, t))
@@ -285,11 +285,11 @@ module _ (b : BlockLists) (ps : List (ℕ × ℕ)) (rising : AreRising ps) (x at
     pub inside_if : (p : ℕ) → p < length ps → (get_or ps p (0, 0)).0 ≡ x
         → (get_or ps p (0, 0)).1 < at
         → p < start
-    inside_if p l e m = by (cases_lt p start)
+    inside_if p l e m = by_order (cases_lt p start)
       where
-        by : (p < start) ⊎ (start ≤ p) → p < start
-        by (inl h) = h
-        by (inr h) =
+        by_order : (p < start) ⊎ (start ≤ p) → p < start
+        by_order (inl h) = h
+        by_order (inr h) =
             absurd (true≢false
             (sym (is_pair_before_if (get_or ps p (0, 0)) x at (inr (e, m))) ∙ parted.after p h l))
 
@@ -371,11 +371,11 @@ module _ (b : BlockLists) (ps : List (ℕ × ℕ)) (rising : AreRising ps) (x y 
   -- the pair of the lower statement comes first
   order_of : (q r : ℕ) → q ≤ r → r < length ps → (get_or ps q (0, 0)).0 ≡ (get_or ps r (0, 0)).0
       → (get_or ps q (0, 0)).1 ≤ (get_or ps r (0, 0)).1
-  order_of q r l h e = by (cases_eq q r)
+  order_of q r l h e = by_equality (cases_eq q r)
     where
-      by : (q ≡ r) ⊎ (q ≢ r) → (get_or ps q (0, 0)).1 ≤ (get_or ps r (0, 0)).1
-      by (inl s) = let t = ap (λ i. (get_or ps i (0, 0)).1) s in omega (arith, t)
-      by (inr n) = less (rising_at ps rising q r (0, 0) (omega (arith, l, n)) h)
+      by_equality : (q ≡ r) ⊎ (q ≢ r) → (get_or ps q (0, 0)).1 ≤ (get_or ps r (0, 0)).1
+      by_equality (inl s) = let t = ap (λ i. (get_or ps i (0, 0)).1) s in omega (arith, t)
+      by_equality (inr n) = less (rising_at ps rising q r (0, 0) (omega (arith, l, n)) h)
         where
           less : IsBefore (get_or ps q (0, 0)).0 (get_or ps q (0, 0)).1 (get_or ps r (0, 0)).0
               (get_or ps r (0, 0)).1
@@ -402,16 +402,16 @@ module _ (b : BlockLists) (ps : List (ℕ × ℕ)) (rising : AreRising ps) (x y 
   none_on_left left right next a sl wl sr wr ey why passed =
       record {
         met = λ p q h i e f s o. let m = a.met p q h i e f s o in
-            (by p q m.0 m.1 f s o (cases_lt p next) why, m.1);
+            (is_before_next p q m.0 m.1 f s o (cases_lt p next) why, m.1);
       }
     where
-      by : (p q : ℕ) → p < left → q < right → (get_or ps q (0, 0)).0 ≡ y
+      is_before_next : (p q : ℕ) → p < left → q < right → (get_or ps q (0, 0)).0 ≡ y
           → (get_or ps p (0, 0)).1 ≡ (get_or ps q (0, 0)).1
           → is_active_local b (get_or ps p (0, 0)).1 at ≡ true → (p < next) ⊎ (next ≤ p)
           → ((get_or ps (right - 1) (0, 0)).1 < (get_or ps (left - 1) (0, 0)).1)
           ⊎ (nat_le at (end_of b (get_or ps (left - 1) (0, 0)).1) ≡ false) → p < next
-      by p q l r f s o (inl m) w = m
-      by p q l r f s o (inr m) w = absurd (last (cases_lt (p + 1) left) w)
+      is_before_next p q l r f s o (inl m) w = m
+      is_before_next p q l r f s o (inr m) w = absurd (last (cases_lt (p + 1) left) w)
         where
           last : (p + 1 < left) ⊎ (left ≤ p + 1)
               → ((get_or ps (right - 1) (0, 0)).1 < (get_or ps (left - 1) (0, 0)).1)
@@ -435,14 +435,14 @@ module _ (b : BlockLists) (ps : List (ℕ × ℕ)) (rising : AreRising ps) (x y 
   none_on_right left right next a sl wl sr wr ex why passed =
       record {
         met = λ p q h i e f s o. let m = a.met p q h i e f s o in
-            (m.0, by p q m.0 m.1 e s o (cases_lt q next));
+            (m.0, is_before_next p q m.0 m.1 e s o (cases_lt q next));
       }
     where
-      by : (p q : ℕ) → p < left → q < right → (get_or ps p (0, 0)).0 ≡ x
+      is_before_next : (p q : ℕ) → p < left → q < right → (get_or ps p (0, 0)).0 ≡ x
           → (get_or ps p (0, 0)).1 ≡ (get_or ps q (0, 0)).1
           → is_active_local b (get_or ps p (0, 0)).1 at ≡ true → (q < next) ⊎ (next ≤ q) → q < next
-      by p q l r e s o (inl m) = m
-      by p q l r e s o (inr m) = absurd (last (cases_lt (q + 1) right))
+      is_before_next p q l r e s o (inl m) = m
+      is_before_next p q l r e s o (inr m) = absurd (last (cases_lt (q + 1) right))
         where
           last : (q + 1 < right) ⊎ (right ≤ q + 1) → ⊥
           last (inl n) = closed q (passed q m n) (ap (λ j. is_active_local b j at) (sym s) ∙ o)
@@ -463,11 +463,11 @@ module _ (b : BlockLists) (ps : List (ℕ × ℕ)) (rising : AreRising ps) (x y 
       let v = has_at ps y j hy in
       let m =
       a.met w.0 v.0 w.1 v.1 w.2 v.2 (w.3 ∙ sym v.3) (ap (λ i. is_active_local b i at) w.3 ∙ o) in
-      by w.0 v.0 m.0 m.1 w.2 v.2 none)
+      by_exhausted_symbol w.0 v.0 m.0 m.1 w.2 v.2 none)
     where
-      by : (p q : ℕ) → p < left → q < right → (get_or ps p (0, 0)).0 ≡ x
+      by_exhausted_symbol : (p q : ℕ) → p < left → q < right → (get_or ps p (0, 0)).0 ≡ x
           → (get_or ps q (0, 0)).0 ≡ y
           → ((p : ℕ) → p < left → (get_or ps p (0, 0)).0 ≡ x → ⊥)
           ⊎ ((p : ℕ) → p < right → (get_or ps p (0, 0)).0 ≡ y → ⊥) → ⊥
-      by p q l r e f (inl n) = n p l e
-      by p q l r e f (inr n) = n q r f
+      by_exhausted_symbol p q l r e f (inl n) = n p l e
+      by_exhausted_symbol p q l r e f (inr n) = n q r f

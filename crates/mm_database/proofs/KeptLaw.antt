@@ -84,13 +84,13 @@ module _ (text : List ℕ) (ws : List Word) where
 
     within_label : (o : Outline) → IsOutline o × (o.end < length ws)
         → AreWithin text (label_word ws o)
-    within_label o h = by (is_labelled_kind o.kind)
+    within_label o h = by_label (is_labelled_kind o.kind)
       where
-        by : (b : Bool) → AreWithin text (if b then nth_word ws (o.keyword - 1) ∷ [] else [])
-        by true =
+        by_label : (b : Bool) → AreWithin text (if b then nth_word ws (o.keyword - 1) ∷ [] else [])
+        by_label true =
             let a = h.0.2 in let b = h.0.3 in let e = h.1 in
             within_one (o.keyword - 1) (omega (arith, a, b, e))
-        by false = λ k d l. absurd (omega arith)
+        by_label false = λ k d l. absurd (omega arith)
 
     kept_is : (o : Outline) → IsOutline o × (o.end < length ws)
         → IsKept text (statement_of text ws o) (kept_words ws o)

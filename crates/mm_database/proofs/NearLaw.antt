@@ -28,12 +28,12 @@ is_disjoint_kind (closing k) e = absurd (cc)
 is_disjoint_at : (db : List Statement) (j : ℕ)
     → option_map kind_of (slice_get db j) ≡ Some kind.Disjoint
     → list_any is_disjoint_statement (statement_at db j) ≡ true
-is_disjoint_at db j e = by (slice_get db j) e
+is_disjoint_at db j e = by_statement (slice_get db j) e
   where
-    by : (o : Option Statement) → option_map kind_of o ≡ Some kind.Disjoint
+    by_statement : (o : Option Statement) → option_map kind_of o ≡ Some kind.Disjoint
         → list_any is_disjoint_statement (elim o [ None ↦ [] | Some s ↦ s ∷ [] ]) ≡ true
-    by None h = absurd (cc)
-    by (Some s) h = ap (λ b. b || false) (is_disjoint_kind s (cc))
+    by_statement None h = absurd (cc)
+    by_statement (Some s) h = ap (λ b. b || false) (is_disjoint_kind s (cc))
 
 pub near_is : (db : List Statement) (j k x y : ℕ)
     → option_map kind_of (slice_get db j) ≡ Some kind.Disjoint → is_active db j k ≡ true

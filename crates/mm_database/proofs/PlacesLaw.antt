@@ -75,11 +75,11 @@ module _ {A : Type 0} (fs : List (Frame A)) where
 
   -- where a frame is, there is its place
   pub place_there : (ps : List ℕ) (k : ℕ) → IsSome (get_or (frames_at fs ps) k None) → k < length ps
-  place_there ps k is = by (cases_lt k (length ps))
+  place_there ps k is = by_order (cases_lt k (length ps))
     where
-      by : (k < length ps) ⊎ (length ps ≤ k) → k < length ps
-      by (inl l) = l
-      by (inr l) =
+      by_order : (k < length ps) ⊎ (length ps ≤ k) → k < length ps
+      by_order (inl l) = l
+      by_order (inr l) =
           let n = as_many_places ps in
           let none = get_or_past (frames_at fs ps) k None (omega (arith, l, n)) in
           absurd (true≢false (sym is ∙ ap is_some none))
@@ -88,7 +88,7 @@ module _ {A : Type 0} (fs : List (Frame A)) where
   pub frame_at_place : (ps : List ℕ) (k p : ℕ) → IsSome (get_or (frames_at fs ps) k None)
       → p ≡ slice_index ps k → (p < length fs) × ((d : Frame A)
       → get_or (frames_at fs ps) k None ≡ Some (mandatory_in (get_or fs p d)))
-  frame_at_place ps k p is e = by (cases_lt p (length fs))
+  frame_at_place ps k p is e = by_order (cases_lt p (length fs))
     where
       at : ℕ → Option Mandatory
       at q = option_map mandatory_in (slice_get fs q)
@@ -96,10 +96,10 @@ module _ {A : Type 0} (fs : List (Frame A)) where
       here : get_or (frames_at fs ps) k None ≡ at p
       here = get_or-map at ps k 0 None (place_there ps k is) ∙ ap at (sym e)
 
-      by : (p < length fs) ⊎ (length fs ≤ p)
+      by_order : (p < length fs) ⊎ (length fs ≤ p)
           → (p < length fs) × ((d : Frame A)
           → get_or (frames_at fs ps) k None ≡ Some (mandatory_in (get_or fs p d)))
-      by (inl l) = (l, λ d. here ∙ ap (option_map mandatory_in) (slice_get-get_or fs p d l))
-      by (inr l) =
+      by_order (inl l) = (l, λ d. here ∙ ap (option_map mandatory_in) (slice_get-get_or fs p d l))
+      by_order (inr l) =
           absurd (true≢false
           (sym is ∙ ap is_some (here ∙ ap (option_map mandatory_in) (slice_get_past fs p l))))

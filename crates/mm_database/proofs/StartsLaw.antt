@@ -21,7 +21,7 @@ starts_none ps = record { each = λ x l. absurd (omega arith); known = λ p l. a
 -- later pairs are of no earlier symbol
 no_lower : (ps : List (ℕ × ℕ)) → AreRising ps → (i j : ℕ) → i ≤ j → j < length ps
     → (get_or ps i (0, 0)).0 ≤ (get_or ps j (0, 0)).0
-no_lower ps r i j le lt = go (cases_eq i j)
+no_lower ps r i j le lt = by_equality (cases_eq i j)
   where
     low : IsBefore (get_or ps i (0, 0)).0 (get_or ps i (0, 0)).1 (get_or ps j (0, 0)).0
         (get_or ps j (0, 0)).1
@@ -29,9 +29,9 @@ no_lower ps r i j le lt = go (cases_eq i j)
     low (inl l) = omega arith
     low (inr (e, l)) = omega arith
 
-    go : (i ≡ j) ⊎ (i ≡ j → ⊥) → (get_or ps i (0, 0)).0 ≤ (get_or ps j (0, 0)).0
-    go (inl e) = let s = ap (λ k. (get_or ps k (0, 0)).0) e in omega (arith, s)
-    go (inr ne) = low (rising_at ps r i j (0, 0) (omega arith) lt)
+    by_equality : (i ≡ j) ⊎ (i ≡ j → ⊥) → (get_or ps i (0, 0)).0 ≤ (get_or ps j (0, 0)).0
+    by_equality (inl e) = let s = ap (λ k. (get_or ps k (0, 0)).0) e in omega (arith, s)
+    by_equality (inr ne) = low (rising_at ps r i j (0, 0) (omega arith) lt)
 
 -- a symbol more, up to that of pair n
 pub starts_more : (ps : List (ℕ × ℕ)) (n : ℕ) (starts : List ℕ) → AreRising ps → n < length ps
@@ -66,21 +66,23 @@ pub starts_next : (ps : List (ℕ × ℕ)) (n : ℕ) (starts : List ℕ)
     → (get_or ps n (0, 0)).0 < length starts → StartsTo ps n starts → StartsTo ps (n + 1) starts
 starts_next ps n starts known h = record {
   each = h.each;
-  known = λ p l. go p l (cases_eq p n);
+  known = λ p l. by_equality p l (cases_eq p n);
 }
   where
-    go : (p : ℕ) → p < n + 1 → (p ≡ n) ⊎ (p ≡ n → ⊥) → (get_or ps p (0, 0)).0 < length starts
-    go p l (inl e) = let s = ap (λ k. (get_or ps k (0, 0)).0) e in omega (arith, s, known)
-    go p l (inr ne) = h.known p (omega arith)
+    by_equality : (p : ℕ) → p < n + 1 → (p ≡ n) ⊎ (p ≡ n → ⊥) → (get_or ps p (0, 0)).0
+        < length starts
+    by_equality p l (inl e) = let s = ap (λ k. (get_or ps k (0, 0)).0) e in omega (arith, s, known)
+    by_equality p l (inr ne) = h.known p (omega arith)
 
 -- all pairs
 pub starts_all : (ps : List (ℕ × ℕ)) (n : ℕ) (starts : List ℕ) → length ps ≤ n
     → StartsTo ps n starts → AreStarts ps starts
-starts_all ps n starts all h x = go (cases_lt x (length starts))
+starts_all ps n starts all h x = by_order (cases_lt x (length starts))
   where
-    go : (x < length starts) ⊎ (length starts ≤ x) → IsStart ps x (get_or starts x (length ps))
-    go (inl l) = subst (IsStart ps x) (get_or_default starts x 0 (length ps) l) (h.each x l)
-    go (inr g) = subst (IsStart ps x) (sym (get_or_past starts x (length ps) g)) (record {
+    by_order : (x < length starts) ⊎ (length starts ≤ x)
+        → IsStart ps x (get_or starts x (length ps))
+    by_order (inl l) = subst (IsStart ps x) (get_or_default starts x 0 (length ps) l) (h.each x l)
+    by_order (inr g) = subst (IsStart ps x) (sym (get_or_past starts x (length ps) g)) (record {
       within = omega arith;
       before = λ p l. let k = h.known p (omega arith) in omega (arith, k, g);
       after = λ p l m. absurd (omega arith);
@@ -108,7 +110,7 @@ module _ (ps : List (ℕ × ℕ)) (rising : AreRising ps) (x at from to : ℕ) (
       (let e = length-drop from ps in let inside = last.within in omega (arith, e, inside))
 
   pub part_partitioned : IsPartitionedBy (λ p. nat_lt p.1 at) (slice_range ps from to)
-  part_partitioned i j d l m e = by (cases_eq i j)
+  part_partitioned i j d l m e = by_equality (cases_eq i j)
     where
       long : j < to - from
       long = let n = part_long in omega (arith, m, n)
@@ -127,9 +129,9 @@ module _ (ps : List (ℕ × ℕ)) (rising : AreRising ps) (x at from to : ℕ) (
           absurd (omega (arith, a, b, s))
       low k (inr (s, t)) = t
 
-      by : (i ≡ j) ⊎ (i ≡ j → ⊥) → nat_lt (get_or (slice_range ps from to) i d).1 at ≡ true
-      by (inl s) = ap (λ k. nat_lt (get_or (slice_range ps from to) k d).1 at) s ∙ e
-      by (inr ne) =
+      by_equality : (i ≡ j) ⊎ (i ≡ j → ⊥) → nat_lt (get_or (slice_range ps from to) i d).1 at ≡ true
+      by_equality (inl s) = ap (λ k. nat_lt (get_or (slice_range ps from to) k d).1 at) s ∙ e
+      by_equality (inr ne) =
           let k : i < j = omega arith in
           let n = long in
           let short : i < to - from = omega (arith, k, n) in
@@ -144,11 +146,11 @@ module _ (ps : List (ℕ × ℕ)) (rising : AreRising ps) (x at from to : ℕ) (
       (point : IsPartitionPoint (λ y. nat_lt y.1 at ≡ true) (λ y. nat_lt y.1 at ≡ false)
       (slice_range ps from to) n) where
     pub before_point : (p : ℕ) → p < from + n → is_pair_before (get_or ps p (0, 0)) x at ≡ true
-    before_point p l = by (cases_lt p from)
+    before_point p l = by_order (cases_lt p from)
       where
-        by : (p < from) ⊎ (from ≤ p) → is_pair_before (get_or ps p (0, 0)) x at ≡ true
-        by (inl k) = is_pair_before_if (get_or ps p (0, 0)) x at (inl (first.before p k))
-        by (inr k) =
+        by_order : (p < from) ⊎ (from ≤ p) → is_pair_before (get_or ps p (0, 0)) x at ≡ true
+        by_order (inl k) = is_pair_before_if (get_or ps p (0, 0)) x at (inl (first.before p k))
+        by_order (inr k) =
             let long = part_long in
             let short : p - from < to - from = omega (arith, k, l, bound, long) in
             let same : from + (p - from) ≡ p = omega (arith, k) in

@@ -38,12 +38,13 @@ first_step e v ws b h =
 pub first_snoc : (ws e : List Bytes) (w : Bytes)
     → first_occurrences e (ws ++ w ∷ [])
     ≡ first_occurrences e ws ++ if_new (is_in w e || is_in w ws) w
-first_snoc [] e w = by (is_in w e)
+first_snoc [] e w = by_membership (is_in w e)
   where
-    by : (b : Bool) → elim b [ true ↦ [] | false ↦ w ∷ [] ] ≡ if_new (b || false) w
-    by true = refl
-    by false = refl
-first_snoc (v ∷ ws) e w = by (is_in v e) refl (first_snoc ws e w) (first_snoc ws (v ∷ e) w)
+    by_membership : (b : Bool) → elim b [ true ↦ [] | false ↦ w ∷ [] ] ≡ if_new (b || false) w
+    by_membership true = refl
+    by_membership false = refl
+first_snoc (v ∷ ws) e w = by_membership (is_in v e) refl (first_snoc ws e w)
+    (first_snoc ws (v ∷ e) w)
   where
     known : is_in v e ≡ true → (b : Bool) → bytes_eq w v ≡ b
         → (is_in w e || is_in w ws) ≡ (is_in w e || (b || is_in w ws))
@@ -52,19 +53,19 @@ first_snoc (v ∷ ws) e w = by (is_in v e) refl (first_snoc ws e w) (first_snoc 
         ∙ sym (ap (λ a. a || (true || is_in w ws)) (ap (λ x. is_in x e) (same_word w v s) ∙ h))
     known h false s = refl
 
-    by : (b : Bool) → is_in v e ≡ b
+    by_membership : (b : Bool) → is_in v e ≡ b
         → first_occurrences e (ws ++ w ∷ [])
         ≡ first_occurrences e ws ++ if_new (is_in w e || is_in w ws) w
         → first_occurrences (v ∷ e) (ws ++ w ∷ [])
         ≡ first_occurrences (v ∷ e) ws ++ if_new ((bytes_eq w v || is_in w e) || is_in w ws) w
         → first_occurrences e (v ∷ (ws ++ w ∷ []))
         ≡ first_occurrences e (v ∷ ws) ++ if_new (is_in w e || (bytes_eq w v || is_in w ws)) w
-    by true h r s =
+    by_membership true h r s =
         first_step e v (ws ++ w ∷ []) true h ∙ r
         ∙ ap (λ b. first_occurrences e ws ++ if_new b w) (known h (bytes_eq w v) refl)
         ∙ sym (ap (λ l. l ++ if_new (is_in w e || (bytes_eq w v || is_in w ws)) w)
         (first_step e v ws true h))
-    by false h r s =
+    by_membership false h r s =
         first_step e v (ws ++ w ∷ []) false h ∙ ap (λ l. v ∷ l) s
         ∙ ap (λ b. (v ∷ first_occurrences (v ∷ e) ws) ++ if_new b w)
         (turned (bytes_eq w v) (is_in w e) (is_in w ws))
@@ -76,20 +77,21 @@ pub in_first : (ws e : List Bytes) (w : Bytes) → is_in w e ≡ false
     → is_in w (first_occurrences e ws) ≡ is_in w ws
 in_first [] e w h = refl
 in_first (v ∷ ws) e w h =
-    by (in_first ws e w h) (in_first ws (v ∷ e) w) (is_in v e) refl (bytes_eq w v) refl
+    by_head (in_first ws e w h) (in_first ws (v ∷ e) w) (is_in v e) refl (bytes_eq w v) refl
   where
-    by : is_in w (first_occurrences e ws) ≡ is_in w ws
+    by_head : is_in w (first_occurrences e ws) ≡ is_in w ws
         → (is_in w (v ∷ e) ≡ false → is_in w (first_occurrences (v ∷ e) ws) ≡ is_in w ws)
         → (b : Bool) → is_in v e ≡ b → (s : Bool) → bytes_eq w v ≡ s
         → is_in w (first_occurrences e (v ∷ ws)) ≡ (bytes_eq w v || is_in w ws)
-    by r t true k true s = absurd (true≢false (sym (ap (λ x. is_in x e) (same_word w v s) ∙ k) ∙ h))
-    by r t true k false s =
+    by_head r t true k true s = absurd (true≢false
+        (sym (ap (λ x. is_in x e) (same_word w v s) ∙ k) ∙ h))
+    by_head r t true k false s =
         ap (is_in w) (first_step e v ws true k) ∙ r ∙ sym (ap (λ b. b || is_in w ws) s)
-    by r t false k true s =
+    by_head r t false k true s =
         ap (is_in w) (first_step e v ws false k)
         ∙ ap (λ b. b || is_in w (first_occurrences (v ∷ e) ws)) s
         ∙ sym (ap (λ b. b || is_in w ws) s)
-    by r t false k false s =
+    by_head r t false k false s =
         ap (is_in w) (first_step e v ws false k)
         ∙ ap (λ b. b || is_in w (first_occurrences (v ∷ e) ws)) s
         ∙ t (ap₂ (λ a b. a || b) s h) ∙ sym (ap (λ b. b || is_in w ws) s)
@@ -98,15 +100,16 @@ not_first : (ws e : List Bytes) (w : Bytes) → is_in w e ≡ true
     → is_in w (first_occurrences e ws) ≡ false
 not_first [] e w h = refl
 not_first (v ∷ ws) e w h =
-    by (not_first ws e w h) (not_first ws (v ∷ e) w) (is_in v e) refl (bytes_eq w v) refl
+    by_head (not_first ws e w h) (not_first ws (v ∷ e) w) (is_in v e) refl (bytes_eq w v) refl
   where
-    by : is_in w (first_occurrences e ws) ≡ false
+    by_head : is_in w (first_occurrences e ws) ≡ false
         → (is_in w (v ∷ e) ≡ true → is_in w (first_occurrences (v ∷ e) ws) ≡ false) → (b : Bool)
         → is_in v e ≡ b → (s : Bool) → bytes_eq w v ≡ s
         → is_in w (first_occurrences e (v ∷ ws)) ≡ false
-    by r t true k s q = ap (is_in w) (first_step e v ws true k) ∙ r
-    by r t false k true s = absurd (true≢false (sym h ∙ ap (λ x. is_in x e) (same_word w v s) ∙ k))
-    by r t false k false s =
+    by_head r t true k s q = ap (is_in w) (first_step e v ws true k) ∙ r
+    by_head r t false k true s = absurd (true≢false
+        (sym h ∙ ap (λ x. is_in x e) (same_word w v s) ∙ k))
+    by_head r t false k false s =
         ap (is_in w) (first_step e v ws false k)
         ∙ ap (λ b. b || is_in w (first_occurrences (v ∷ e) ws)) s
         ∙ t (ap (λ a. a || is_in w e) s ∙ h)
@@ -125,14 +128,15 @@ first_added ws w =
 pub place_in : (ns : List Bytes) (w : Bytes) → is_in w ns ≡ true
     → slice_get ns (index_of w ns) ≡ Some w
 place_in [] w h = absurd (true≢false (sym h))
-place_in (n ∷ ns) w h = by (place_in ns w) (bytes_eq w n) refl
+place_in (n ∷ ns) w h = by_equality (place_in ns w) (bytes_eq w n) refl
   where
-    by : (is_in w ns ≡ true → slice_get ns (index_of w ns) ≡ Some w) → (b : Bool) → bytes_eq w n ≡ b
+    by_equality : (is_in w ns ≡ true → slice_get ns (index_of w ns) ≡ Some w) → (b : Bool)
+        → bytes_eq w n ≡ b
         → slice_get (n ∷ ns) (index_of w (n ∷ ns)) ≡ Some w
-    by r true s =
+    by_equality r true s =
         ap (λ b. slice_get (n ∷ ns) (elim b [ true ↦ 0 | false ↦ suc (index_of w ns) ])) s
         ∙ ap Some (sym (same_word w n s))
-    by r false s =
+    by_equality r false s =
         ap (λ b. slice_get (n ∷ ns) (elim b [ true ↦ 0 | false ↦ suc (index_of w ns) ])) s
         ∙ r (sym (ap (λ b. b || is_in w ns) s) ∙ h)
 
@@ -150,31 +154,32 @@ pub place_get : (ws e : List Bytes) (s : ℕ) (w : Bytes)
 place_get [] e zero w h = absurd (let q : None ≡ Some w = h in cc)
 place_get [] e (suc s) w h = absurd (let q : None ≡ Some w = h in cc)
 place_get (v ∷ ws) e s w h =
-    by (λ r. place_get ws e r w) (λ r. place_get ws (v ∷ e) r w) (is_in v e) refl s h
+    by_membership (λ r. place_get ws e r w) (λ r. place_get ws (v ∷ e) r w) (is_in v e) refl s h
   where
     head : (t : List Bytes) (s : ℕ) → slice_get (v ∷ t) s ≡ Some w → is_in v t ≡ false
         → ((r : ℕ) → slice_get t r ≡ Some w → index_of w t ≡ r) → index_of w (v ∷ t) ≡ s
     head t zero q n r =
         ap (λ b. elim b [ true ↦ 0 | false ↦ suc (index_of w t) ])
         (ap (bytes_eq w) (let p : Some v ≡ Some w = q in let x : v ≡ w = cc in x) ∙ itself w)
-    head t (suc s) q n r = go (bytes_eq w v) refl
+    head t (suc s) q n r = by_equality (bytes_eq w v) refl
       where
-        go : (b : Bool) → bytes_eq w v ≡ b → index_of w (v ∷ t) ≡ suc s
-        go true k =
+        by_equality : (b : Bool) → bytes_eq w v ≡ b → index_of w (v ∷ t) ≡ suc s
+        by_equality true k =
             absurd (true≢false
             (sym (ap (λ x. is_in x t) (sym (same_word w v k)) ∙ get_in t s w q) ∙ n))
-        go false k = ap (λ b. elim b [ true ↦ 0 | false ↦ suc (index_of w t) ]) k ∙ ap suc (r s q)
+        by_equality false k = ap (λ b. elim b [ true ↦ 0 | false ↦ suc (index_of w t) ]) k
+            ∙ ap suc (r s q)
 
-    by : ((r : ℕ) → slice_get (first_occurrences e ws) r ≡ Some w
+    by_membership : ((r : ℕ) → slice_get (first_occurrences e ws) r ≡ Some w
         → index_of w (first_occurrences e ws) ≡ r)
         → ((r : ℕ) → slice_get (first_occurrences (v ∷ e) ws) r ≡ Some w
         → index_of w (first_occurrences (v ∷ e) ws) ≡ r)
         → (b : Bool) → is_in v e ≡ b → (s : ℕ) → slice_get (first_occurrences e (v ∷ ws)) s ≡ Some w
         → index_of w (first_occurrences e (v ∷ ws)) ≡ s
-    by f g true k s q =
+    by_membership f g true k s q =
         ap (index_of w) (first_step e v ws true k)
         ∙ f s (sym (ap (λ l. slice_get l s) (first_step e v ws true k)) ∙ q)
-    by f g false k s q =
+    by_membership f g false k s q =
         ap (index_of w) (first_step e v ws false k)
         ∙ head (first_occurrences (v ∷ e) ws) s
         (sym (ap (λ l. slice_get l s) (first_step e v ws false k)) ∙ q)
@@ -202,21 +207,24 @@ pub found_place : (w : Bytes) (ks : List (Name)) (n : ℕ)
     → position (λ k. bytes_eq w k.bytes.now) ks ≡ Some n
     → n ≡ index_of w (map (λ k. k.bytes.now) ks)
 found_place w ks n h =
-    by (nat_lt (position_or_len (λ k. bytes_eq w k.bytes.now) ks) (length ks)) h ∙ place_position w ks
+    by_presence (nat_lt (position_or_len (λ k. bytes_eq w k.bytes.now) ks) (length ks)) h
+    ∙ place_position w ks
   where
-    by : (b : Bool) → cond b (Some (position_or_len (λ k. bytes_eq w k.bytes.now) ks)) None ≡ Some n
+    by_presence : (b : Bool) → cond b (Some (position_or_len (λ k. bytes_eq w k.bytes.now) ks)) None
+        ≡ Some n
         → n ≡ position_or_len (λ k. bytes_eq w k.bytes.now) ks
-    by true e = let q : Some (position_or_len (λ k. bytes_eq w k.bytes.now) ks) ≡ Some n = e in cc
-    by false e = let q : None ≡ Some n = e in cc
+    by_presence true e = let q : Some (position_or_len (λ k. bytes_eq w k.bytes.now) ks)
+        ≡ Some n = e in cc
+    by_presence false e = let q : None ≡ Some n = e in cc
 
 pub missing_place : (w : Bytes) (ns : List Bytes) → is_in w ns ≡ false → length ns ≡ index_of w ns
 missing_place w [] h = refl
-missing_place w (n ∷ ns) h = by (bytes_eq w n) refl (missing_place w ns)
+missing_place w (n ∷ ns) h = by_equality (bytes_eq w n) refl (missing_place w ns)
   where
-    by : (b : Bool) → bytes_eq w n ≡ b → (is_in w ns ≡ false → length ns ≡ index_of w ns)
+    by_equality : (b : Bool) → bytes_eq w n ≡ b → (is_in w ns ≡ false → length ns ≡ index_of w ns)
         → suc (length ns) ≡ index_of w (n ∷ ns)
-    by true k r = absurd (true≢false (sym (ap (λ b. b || is_in w ns) k) ∙ h))
-    by false k r =
+    by_equality true k r = absurd (true≢false (sym (ap (λ b. b || is_in w ns) k) ∙ h))
+    by_equality false k r =
         ap suc (r (sym (ap (λ b. b || is_in w ns) k) ∙ h))
         ∙ sym (ap (λ b. elim b [ true ↦ 0 | false ↦ suc (index_of w ns) ]) k)
 
@@ -242,15 +250,16 @@ place_distinct (n ∷ ns) d zero w e =
     sym (ap (λ b. elim b [ true ↦ 0 | false ↦ suc (index_of w ns) ])
     (ap (bytes_eq w) (list_head e) ∙ itself w))
 place_distinct (n ∷ ns) d (suc i) w e =
-    by (bytes_eq w n) refl (place_distinct ns (others_too (is_in n ns) (are_distinct ns) d) i w e)
+    by_equality (bytes_eq w n) refl (place_distinct ns (others_too (is_in n ns) (are_distinct ns) d)
+    i w e)
   where
-    by : (b : Bool) → bytes_eq w n ≡ b → i ≡ index_of w ns
+    by_equality : (b : Bool) → bytes_eq w n ≡ b → i ≡ index_of w ns
         → suc i ≡ elim b [ true ↦ 0 | false ↦ suc (index_of w ns) ]
-    by true s r =
+    by_equality true s r =
         absurd (true≢false
         (sym (get_in ns i w e) ∙ ap (λ x. is_in x ns) (same_word w n s)
         ∙ not_there (is_in n ns) (are_distinct ns) d))
-    by false s r = ap suc r
+    by_equality false s r = ap suc r
 
 distinct_push : (ns : List Bytes) (w : Bytes) → are_distinct ns ≡ true → is_in w ns ≡ false
     → are_distinct (ns ++ w ∷ []) ≡ true
@@ -272,8 +281,9 @@ distinct_push (n ∷ ns) w d h =
 -- a name more, where it is new
 pub distinct_with : (w : Bytes) (ns : List Bytes) → are_distinct ns ≡ true
     → are_distinct (with_name w ns) ≡ true
-distinct_with w ns d = by (is_in w ns) refl
+distinct_with w ns d = by_membership (is_in w ns) refl
   where
-    by : (b : Bool) → is_in w ns ≡ b → are_distinct (if b then ns else (ns ++ w ∷ [])) ≡ true
-    by true h = d
-    by false h = distinct_push ns w d h
+    by_membership : (b : Bool) → is_in w ns ≡ b → are_distinct (if b then ns else (ns ++ w ∷ []))
+        ≡ true
+    by_membership true h = d
+    by_membership false h = distinct_push ns w d h

@@ -1,5 +1,6 @@
 -- Which `$d` are active at a place, and whether one of them has two symbols.
-use Rattle.std.proofs.Common.{◌≡◌, ℕ, ◌<◌, ◌≤◌, Bool, true, false, ◌&&◌, List, length, nat_lt, nat_le}
+use Rattle.std.proofs.Common.{◌≡◌, ℕ, ◌<◌, ◌≤◌, Bool, true, false, ◌&&◌, List, length, nat_lt,
+nat_le}
 use Rattle.std.proofs.Common.{refl, sym, ap, ap₂, ◌∙◌, true≢false, ◌⊎◌, inl, inr}
 use Rattle.std.proofs.lemmas.Bool.{cases_lt, le-ltb, and_parts}
 use Rattle.std.specs.List.{list_any}
@@ -19,13 +20,14 @@ module _ (db : List Statement) (b : BlockLists) (blocks : IsBlocks db b) (k : �
   pub active_local_is : (j : ℕ) → list_any is_disjoint_statement (statement_at db j) ≡ true
       → is_active_local b j k ≡ is_member (active_of is_disjoint_statement db k) j
   active_local_is j t =
-      by (cases_lt j k) ∙ sym (active_member is_disjoint_statement db disjoint_local k j)
+      by_order (cases_lt j k) ∙ sym (active_member is_disjoint_statement db disjoint_local k j)
     where
-      by : (j < k) ⊎ (k ≤ j)
+      by_order : (j < k) ⊎ (k ≤ j)
           → is_active_local b j k
           ≡ (nat_lt j k && (list_any is_disjoint_statement (statement_at db j) && stays db j k))
-      by (inl l) = ap (λ c. nat_lt j k && c) (sym (ap₂ (λ p q. p && q) t (blocks.ended j k l h)))
-      by (inr g) =
+      by_order (inl l) = ap (λ c. nat_lt j k && c)
+          (sym (ap₂ (λ p q. p && q) t (blocks.ended j k l h)))
+      by_order (inr g) =
           ap (λ c. c && nat_le k (end_of b j)) (le-ltb j k g)
           ∙ sym (ap (λ c. c
           && (list_any is_disjoint_statement (statement_at db j) && stays db j k)) (le-ltb j k g))

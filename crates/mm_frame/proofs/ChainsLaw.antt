@@ -59,11 +59,11 @@ chain_more links k n js h =
 raised : (links : List (ℕ × ℕ)) (n k : ℕ) (js : List ℕ) → IsLinkChain links n js → IsRisingFrom k js
     → (0 < n → (get_or links (n - 1) (0, 0)).0 ≡ k → ⊥) → IsRisingFrom (k + 1) js
 raised links n k [] c r other = tt
-raised links n k (j ∷ js) c r other = (by (cases_eq j k), r.1)
+raised links n k (j ∷ js) c r other = (by_equality (cases_eq j k), r.1)
   where
-    by : (j ≡ k) ⊎ (j ≢ k) → k + 1 ≤ j
-    by (inl e) = absurd (other c.0 (c.2 ∙ e))
-    by (inr ne) = let l = r.0 in omega (arith, l, ne)
+    by_equality : (j ≡ k) ⊎ (j ≢ k) → k + 1 ≤ j
+    by_equality (inl e) = absurd (other c.0 (c.2 ∙ e))
+    by_equality (inr ne) = let l = r.0 in omega (arith, l, ne)
 
 lowered : (a b : ℕ) (js : List ℕ) → a ≤ b → IsRisingFrom b js → IsRisingFrom a js
 lowered a b [] l r = tt
@@ -141,22 +141,22 @@ module _ (has : ℕ → ℕ → Bool) (heads : List ℕ) (links : List (ℕ × �
         → AreChains (λ y j. has y j || (nat_eq y s && nat_eq j k)) k heads links
     begun some first h y l =
         same_chain (has y) (λ j. has y j || (nat_eq y s && nat_eq j k)) k k links
-        (get_or heads y 0) (omega arith) (λ j. by j (cases_eq y x) (cases_eq j k)) (h y l)
+        (get_or heads y 0) (omega arith) (λ j. by_equality j (cases_eq y x) (cases_eq j k)) (h y l)
       where
         has_it : has x k ≡ true
         has_it =
             sym ((h x here).are k)
             ∙ begins links (get_or heads x 0) k (h x here).statements (h x here).chain some first
 
-        by : (j : ℕ) → (y ≡ x) ⊎ (y ≢ x) → (j ≡ k) ⊎ (j ≢ k)
+        by_equality : (j : ℕ) → (y ≡ x) ⊎ (y ≢ x) → (j ≡ k) ⊎ (j ≢ k)
             → has y j ≡ (has y j || (nat_eq y s && nat_eq j k))
-        by j (inl e) (inl f) =
+        by_equality j (inl e) (inl f) =
             let t : has y j ≡ true = ap₂ has e f ∙ has_it in
             t ∙ sym (ap (λ b. b || (nat_eq y s && nat_eq j k)) t)
-        by j (inl e) (inr n) =
+        by_equality j (inl e) (inr n) =
             sym (ap (λ b. has y j || (nat_eq y s && b)) (ne_eqb j k n)
             ∙ ap (λ b. has y j || b) (and-false (nat_eq y s)) ∙ or-false (has y j))
-        by j (inr n) q =
+        by_equality j (inr n) q =
             sym (ap (λ b. has y j || (b && nat_eq j k)) (ne_eqb y s (λ e. n (e ∙ is)))
             ∙ or-false (has y j))
 
@@ -166,7 +166,7 @@ module _ (has : ℕ → ℕ → Bool) (heads : List ℕ) (links : List (ℕ × �
         → AreChains has k heads links
         → AreChains (λ y j. has y j || (nat_eq y s && nat_eq j k)) k
         (set heads x (length links + 1)) (links ++ (k, get_or heads x 0) ∷ [])
-    chains_more other_first h y l = by (cases_eq y x)
+    chains_more other_first h y l = by_equality (cases_eq y x)
       where
         old : HasChain (has x) k links (get_or heads x 0)
         old = h x here
@@ -185,10 +185,10 @@ module _ (has : ℕ → ℕ → Bool) (heads : List ℕ) (links : List (ℕ × �
             turned false true = refl
             turned false false = refl
 
-        by : (y ≡ x) ⊎ (y ≢ x)
+        by_equality : (y ≡ x) ⊎ (y ≢ x)
             → HasChain (λ j. has y j || (nat_eq y s && nat_eq j k)) k
             (links ++ (k, get_or heads x 0) ∷ []) (get_or (set heads x (length links + 1)) y 0)
-        by (inl e) = record {
+        by_equality (inl e) = record {
           statements = k ∷ old.statements;
           chain =
               subst
@@ -202,7 +202,7 @@ module _ (has : ℕ → ℕ → Bool) (heads : List ℕ) (links : List (ℕ × �
           );
           are = λ j. front j e;
         }
-        by (inr n) =
+        by_equality (inr n) =
             let c = length-set heads x (length links + 1) in
             let other : HasChain (has y) k links (get_or heads y 0) =
             h y (omega (arith, l, c)) in
@@ -234,7 +234,7 @@ pub more_symbols : (has : ℕ → ℕ → Bool) (xs : List ℕ) (i d s k : ℕ) 
     → ((has x j || (is_member (take i xs) x && nat_eq j k)) || (nat_eq x s && nat_eq j k))
     ≡ (has x j || (is_member (take (i + 1) xs) x && nat_eq j k))
 more_symbols has xs i d s k l is x j =
-    by (has x j) (is_member (take i xs) x) (nat_eq x s) (nat_eq j k)
+    by_values (has x j) (is_member (take i xs) x) (nat_eq x s) (nat_eq j k)
     ∙ sym (ap (λ b. has x j || (b && nat_eq j k)) longer)
   where
     longer : is_member (take (i + 1) xs) x ≡ (is_member (take i xs) x || nat_eq x s)
@@ -244,11 +244,11 @@ more_symbols has xs i d s k l is x j =
         ∙ ap (λ b. is_member (take i xs) x || b) (or-false (nat_eq x (get_or xs i d)))
         ∙ ap (λ y. is_member (take i xs) x || nat_eq x y) (sym is)
 
-    by : (a m n e : Bool) → ((a || (m && e)) || (n && e)) ≡ (a || ((m || n) && e))
-    by true m n e = refl
-    by false true n true = refl
-    by false true n false = and-false n
-    by false false n e = refl
+    by_values : (a m n e : Bool) → ((a || (m && e)) || (n && e)) ≡ (a || ((m || n) && e))
+    by_values true m n e = refl
+    by_values false true n true = refl
+    by_values false true n false = and-false n
+    by_values false false n e = refl
 
 -- ---- the statements, from the last to the first
 
@@ -259,14 +259,14 @@ none_yet db heads empty x l = record {
   statements = [];
   chain = empty x l;
   rising = tt;
-  are = λ j. sym (by j (nat_le (length db) j) refl (has_symbol db x j) refl);
+  are = λ j. sym (by_values j (nat_le (length db) j) refl (has_symbol db x j) refl);
 }
   where
-    by : (j : ℕ) (a : Bool) → nat_le (length db) j ≡ a → (b : Bool) → has_symbol db x j ≡ b
+    by_values : (j : ℕ) (a : Bool) → nat_le (length db) j ≡ a → (b : Bool) → has_symbol db x j ≡ b
         → (a && b) ≡ false
-    by j false e b f = refl
-    by j true e false f = refl
-    by j true e true f =
+    by_values j false e b f = refl
+    by_values j true e false f = refl
+    by_values j true e true f =
         let m =
         is_there is_disjoint_statement db j
         (and_parts (list_any is_disjoint_statement (statement_at db j))
@@ -281,17 +281,17 @@ linked_none heads empty = record {
 }
 
 le_back : (k j : ℕ) → nat_le k j ≡ (nat_le (k + 1) j || nat_eq j k)
-le_back k j = by (cases_order j k)
+le_back k j = by_order (cases_order j k)
   where
-    by : (j ≡ k) ⊎ ((j < k) ⊎ (k < j)) → nat_le k j ≡ (nat_le (k + 1) j || nat_eq j k)
-    by (inl e) =
+    by_order : (j ≡ k) ⊎ ((j < k) ⊎ (k < j)) → nat_le k j ≡ (nat_le (k + 1) j || nat_eq j k)
+    by_order (inl e) =
         le-leb k j (omega (arith, e))
         ∙ sym (ap (λ b. nat_le (k + 1) j || b) (eq-eqb j k e) ∙ or-true (nat_le (k + 1) j))
-    by (inr (inl l)) =
+    by_order (inr (inl l)) =
         lt-leb k j l
         ∙ sym (ap₂ (λ a b. a || b) (lt-leb (k + 1) j (omega (arith, l)))
         (ne_eqb j k (λ e. absurd (omega (arith, l, e)))))
-    by (inr (inr l)) =
+    by_order (inr (inr l)) =
         le-leb k j (omega (arith, l))
         ∙ sym (ap (λ b. b || nat_eq j k) (le-leb (k + 1) j (omega (arith, l))))
 
@@ -301,13 +301,13 @@ module _ (db : List Statement) (k : ℕ) (x j : ℕ) where
       || ((d && is_member (formula_at db k) x) && nat_eq j k))
       ≡ (nat_le k j && has_symbol db x j)
   here_or_later d is =
-      by (cases_eq j k) ∙ sym (ap (λ b. b && has_symbol db x j) (le_back k j))
+      by_equality (cases_eq j k) ∙ sym (ap (λ b. b && has_symbol db x j) (le_back k j))
     where
-      by : (j ≡ k) ⊎ (j ≢ k)
+      by_equality : (j ≡ k) ⊎ (j ≢ k)
           → ((nat_le (k + 1) j && has_symbol db x j)
           || ((d && is_member (formula_at db k) x) && nat_eq j k))
           ≡ ((nat_le (k + 1) j || nat_eq j k) && has_symbol db x j)
-      by (inl e) =
+      by_equality (inl e) =
           ap₂ (λ a b. (a && has_symbol db x j) || ((d && is_member (formula_at db k) x) && b))
           (lt-leb (k + 1) j (omega (arith, e))) (eq-eqb j k e)
           ∙ and-true (d && is_member (formula_at db k) x)
@@ -315,7 +315,7 @@ module _ (db : List Statement) (k : ℕ) (x j : ℕ) where
           ∙ ap (has_symbol db x) (sym e)
           ∙ sym (ap₂ (λ a b. (a || b) && has_symbol db x j)
           (lt-leb (k + 1) j (omega (arith, e))) (eq-eqb j k e))
-      by (inr n) =
+      by_equality (inr n) =
           ap (λ b. (nat_le (k + 1) j && has_symbol db x j)
           || ((d && is_member (formula_at db k) x) && b)) (ne_eqb j k n)
           ∙ ap (λ b. (nat_le (k + 1) j && has_symbol db x j) || b)
@@ -342,15 +342,16 @@ module _ (db : List Statement) (k : ℕ) (x j : ℕ) where
 member_below : (n y : ℕ) (xs : List ℕ) → All (λ s. s < n) xs → is_member xs y ≡ true → y < n
 member_below n y [] h e = absurd (true≢false (sym e))
 member_below n y (x ∷ xs) h e =
-    by (or_cases (nat_eq y x) (is_member xs y) e)
+    by_membership (or_cases (nat_eq y x) (is_member xs y) e)
     (member_below n y xs (All-tail (λ s. s < n) x xs h))
   where
-    by : (nat_eq y x ≡ true) ⊎ (is_member xs y ≡ true) → (is_member xs y ≡ true → y < n) → y < n
-    by (inl s) rest =
+    by_membership : (nat_eq y x ≡ true) ⊎ (is_member xs y ≡ true) → (is_member xs y ≡ true → y < n)
+        → y < n
+    by_membership (inl s) rest =
         let q = eqb-true y x s in
         let l = All-head (λ s. s < n) x xs h in
         omega (arith, q, l)
-    by (inr s) rest = rest s
+    by_membership (inr s) rest = rest s
 
 -- a symbol of a `$d` has a number
 pub symbol_below : (db : List Statement) → IsSound db → (x j : ℕ) → has_symbol db x j ≡ true
@@ -380,14 +381,14 @@ module _ (links : List (ℕ × ℕ)) (symbol : ℕ) (old now : List (ℕ × ℕ)
   pub rest_less : (number : ℕ) → 0 < number → IsRest links symbol number old now all
       → IsRest links symbol (get_or links (number - 1) (0, 0)).1 old
       (now ++ (symbol, (get_or links (number - 1) (0, 0)).0) ∷ []) all
-  rest_less number some h = by h.rest h.chain h.pairs
+  rest_less number some h = by_rest h.rest h.chain h.pairs
     where
-      by : (rest : List ℕ) → IsLinkChain links number rest
+      by_rest : (rest : List ℕ) → IsLinkChain links number rest
           → old ++ map (λ j. (symbol, j)) all ≡ now ++ map (λ j. (symbol, j)) rest
           → IsRest links symbol (get_or links (number - 1) (0, 0)).1 old
           (now ++ (symbol, (get_or links (number - 1) (0, 0)).0) ∷ []) all
-      by [] c e = absurd (omega (arith, c, some))
-      by (j ∷ js) c e = record {
+      by_rest [] c e = absurd (omega (arith, c, some))
+      by_rest (j ∷ js) c e = record {
         rest = js;
         chain = c.3;
         pairs =
@@ -397,13 +398,13 @@ module _ (links : List (ℕ × ℕ)) (symbol : ℕ) (old now : List (ℕ × ℕ)
 
   pub rest_none : (number : ℕ) → number ≡ 0 → IsRest links symbol number old now all
       → now ≡ old ++ map (λ j. (symbol, j)) all
-  rest_none number none h = by h.rest h.chain h.pairs
+  rest_none number none h = by_rest h.rest h.chain h.pairs
     where
-      by : (rest : List ℕ) → IsLinkChain links number rest
+      by_rest : (rest : List ℕ) → IsLinkChain links number rest
           → old ++ map (λ j. (symbol, j)) all ≡ now ++ map (λ j. (symbol, j)) rest
           → now ≡ old ++ map (λ j. (symbol, j)) all
-      by [] c e = sym (e ∙ append-nil now)
-      by (j ∷ js) c e = absurd (let s = c.0 in omega (arith, s, none))
+      by_rest [] c e = sym (e ∙ append-nil now)
+      by_rest (j ∷ js) c e = absurd (let s = c.0 in omega (arith, s, none))
 
 -- ---- the pairs of all chains, symbol after symbol
 
@@ -417,7 +418,7 @@ rising_append : (ps qs : List (ℕ × ℕ)) → AreRising ps → AreRising qs
     → AreRising (ps ++ qs)
 rising_append [] qs r s h = s
 rising_append (p ∷ ps) qs r s h = (
-  λ x y e. by x y (or_cases (has_pair ps x y) (has_pair qs x y)
+  λ x y e. by_membership x y (or_cases (has_pair ps x y) (has_pair qs x y)
       (sym (list_any-append (λ q. nat_eq x q.0 && nat_eq y q.1) ps qs) ∙ e)),
   rising_append ps qs r.1 s
       (λ a b x y e f. h a b x y
@@ -428,32 +429,33 @@ rising_append (p ∷ ps) qs r s h = (
     itself =
         ap₂ (λ a b. (a && b) || has_pair ps p.0 p.1) (eq-eqb p.0 p.0 refl) (eq-eqb p.1 p.1 refl)
 
-    by : (x y : ℕ) → (has_pair ps x y ≡ true) ⊎ (has_pair qs x y ≡ true)
+    by_membership : (x y : ℕ) → (has_pair ps x y ≡ true) ⊎ (has_pair qs x y ≡ true)
         → IsBefore p.0 p.1 x y
-    by x y (inl e) = r.0 x y e
-    by x y (inr e) = h p.0 p.1 x y itself e
+    by_membership x y (inl e) = r.0 x y e
+    by_membership x y (inr e) = h p.0 p.1 x y itself e
 
 has_row : (x : ℕ) (js : List ℕ) (y j : ℕ)
     → has_pair (map (λ i. (x, i)) js) y j ≡ (nat_eq y x && is_member js j)
 has_row x [] y j = sym (and-false (nat_eq y x))
 has_row x (i ∷ js) y j =
     ap (λ b. (nat_eq y x && nat_eq j i) || b) (has_row x js y j)
-    ∙ by (nat_eq y x) (nat_eq j i) (is_member js j)
+    ∙ by_values (nat_eq y x) (nat_eq j i) (is_member js j)
   where
-    by : (a b c : Bool) → ((a && b) || (a && c)) ≡ (a && (b || c))
-    by true b c = refl
-    by false b c = refl
+    by_values : (a b c : Bool) → ((a && b) || (a && c)) ≡ (a && (b || c))
+    by_values true b c = refl
+    by_values false b c = refl
 
 from_least : (least j : ℕ) (js : List ℕ) → IsRisingFrom least js → is_member js j ≡ true
     → least ≤ j
 from_least least j [] r e = absurd (true≢false (sym e))
 from_least least j (i ∷ js) r e =
-    by (or_cases (nat_eq j i) (is_member js j) e) (from_least (i + 1) j js r.1)
+    by_membership (or_cases (nat_eq j i) (is_member js j) e) (from_least (i + 1) j js r.1)
   where
-    by : (nat_eq j i ≡ true) ⊎ (is_member js j ≡ true) → (is_member js j ≡ true → i + 1 ≤ j)
+    by_membership : (nat_eq j i ≡ true) ⊎ (is_member js j ≡ true)
+        → (is_member js j ≡ true → i + 1 ≤ j)
         → least ≤ j
-    by (inl s) later = let m = r.0 in let q = eqb-true j i s in omega (arith, m, q)
-    by (inr s) later = let m = r.0 in let q = later s in omega (arith, m, q)
+    by_membership (inl s) later = let m = r.0 in let q = eqb-true j i s in omega (arith, m, q)
+    by_membership (inr s) later = let m = r.0 in let q = later s in omega (arith, m, q)
 
 rising_row : (x least : ℕ) (js : List ℕ) → IsRisingFrom least js
     → AreRising (map (λ j. (x, j)) js)
@@ -467,15 +469,15 @@ rising_row x least (i ∷ js) r = (
 )
 
 lt_next : (y x : ℕ) → nat_lt y (x + 1) ≡ (nat_lt y x || nat_eq y x)
-lt_next y x = by (cases_order y x)
+lt_next y x = by_order (cases_order y x)
   where
-    by : (y ≡ x) ⊎ ((y < x) ⊎ (x < y)) → nat_lt y (x + 1) ≡ (nat_lt y x || nat_eq y x)
-    by (inl e) =
+    by_order : (y ≡ x) ⊎ ((y < x) ⊎ (x < y)) → nat_lt y (x + 1) ≡ (nat_lt y x || nat_eq y x)
+    by_order (inl e) =
         lt-ltb y (x + 1) (omega (arith, e))
         ∙ sym (ap (λ b. nat_lt y x || b) (eq-eqb y x e) ∙ or-true (nat_lt y x))
-    by (inr (inl l)) =
+    by_order (inr (inl l)) =
         lt-ltb y (x + 1) (omega (arith, l)) ∙ sym (ap (λ b. b || nat_eq y x) (lt-ltb y x l))
-    by (inr (inr l)) =
+    by_order (inr (inr l)) =
         le-ltb y (x + 1) (omega (arith, l))
         ∙ sym (ap₂ (λ a b. a || b) (le-ltb y x (omega (arith, l)))
         (ne_eqb y x (λ e. absurd (omega (arith, l, e)))))
@@ -491,7 +493,7 @@ pairs_more db x n links ps qs h a is =
       are = λ y j.
           list_any-append (λ q. nat_eq y q.0 && nat_eq j q.1) ps row
           ∙ ap₂ (λ b c. b || c) (a.are y j) (has_row x h.statements y j)
-          ∙ by y j (cases_eq y x) ∙ sym (ap (λ b. b && has_symbol db y j) (lt_next y x));
+          ∙ by_equality y j (cases_eq y x) ∙ sym (ap (λ b. b && has_symbol db y j) (lt_next y x));
     })
   where
     row : List (ℕ × ℕ)
@@ -506,16 +508,16 @@ pairs_more db x n links ps qs h a is =
         (sym (has_row x h.statements y j) ∙ f)).0 in
         omega (arith, l, s)
 
-    by : (y j : ℕ) → (y ≡ x) ⊎ (y ≢ x)
+    by_equality : (y j : ℕ) → (y ≡ x) ⊎ (y ≢ x)
         → ((nat_lt y x && has_symbol db y j) || (nat_eq y x && is_member h.statements j))
         ≡ ((nat_lt y x || nat_eq y x) && has_symbol db y j)
-    by y j (inl e) =
+    by_equality y j (inl e) =
         ap₂ (λ b c. (b && has_symbol db y j) || (c && is_member h.statements j))
         (le-ltb y x (omega (arith, e))) (eq-eqb y x e)
         ∙ h.are j ∙ ap (λ z. has_symbol db z j) (sym e)
         ∙ sym (ap₂ (λ b c. (b || c) && has_symbol db y j) (le-ltb y x (omega (arith, e)))
         (eq-eqb y x e))
-    by y j (inr n) =
+    by_equality y j (inr n) =
         ap (λ b. (nat_lt y x && has_symbol db y j) || (b && is_member h.statements j))
         (ne_eqb y x n)
         ∙ or-false (nat_lt y x && has_symbol db y j)
@@ -526,8 +528,8 @@ pairs_more db x n links ps qs h a is =
 pub pairs_all : (db : List Statement) (x : ℕ) (ps : List (ℕ × ℕ))
     → ((y j : ℕ) → has_symbol db y j ≡ true → y < x) → ArePairsTo db x ps
     → (y j : ℕ) → has_pair ps y j ≡ has_symbol db y j
-pairs_all db x ps all a y j = a.are y j ∙ by (has_symbol db y j) refl
+pairs_all db x ps all a y j = a.are y j ∙ by_has_symbol (has_symbol db y j) refl
   where
-    by : (b : Bool) → has_symbol db y j ≡ b → (nat_lt y x && b) ≡ b
-    by false e = and-false (nat_lt y x)
-    by true e = ap (λ b. b && true) (lt-ltb y x (all y j e))
+    by_has_symbol : (b : Bool) → has_symbol db y j ≡ b → (nat_lt y x && b) ≡ b
+    by_has_symbol false e = and-false (nat_lt y x)
+    by_has_symbol true e = ap (λ b. b && true) (lt-ltb y x (all y j e))

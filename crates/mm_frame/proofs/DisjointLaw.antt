@@ -28,13 +28,13 @@ use Rattle.mm_frame.proofs.PairsLaw.{sorted_filter, sorted_pairs}
 any_pair : (f : ℕ × ℕ → Bool) (ps : List (ℕ × ℕ)) → list_any f ps ≡ true
     → (p : ℕ) × (p < length ps) × (f (get_or ps p (0, 0)) ≡ true)
 any_pair f [] h = absurd (true≢false (sym h))
-any_pair f (q ∷ qs) h = by (f q) refl h (λ k. any_pair f qs k)
+any_pair f (q ∷ qs) h = by_head (f q) refl h (λ k. any_pair f qs k)
   where
-    by : (c : Bool) → f q ≡ c → (c || list_any f qs) ≡ true
+    by_head : (c : Bool) → f q ≡ c → (c || list_any f qs) ≡ true
         → (list_any f qs ≡ true → (p : ℕ) × (p < length qs) × (f (get_or qs p (0, 0)) ≡ true))
         → (p : ℕ) × (p < length (q ∷ qs)) × (f (get_or (q ∷ qs) p (0, 0)) ≡ true)
-    by true e h r = (0, omega arith, e)
-    by false e h r = let w = r h in let l = w.1 in (suc w.0, omega (arith, l), w.2)
+    by_head true e h r = (0, omega arith, e)
+    by_head false e h r = let w = r h in let l = w.1 in (suc w.0, omega (arith, l), w.2)
 
 -- ---- the variables after one, in the same statement
 
@@ -216,19 +216,19 @@ module _ (had : List (ℕ × ℕ)) (rising : AreRising had) (place : ℕ)
 pub one_more : (o m q r l : Bool) (y s : ℕ) → (y ≡ s → q ≡ r)
     → ((o || (m && (r && l))) || (nat_eq y s && (q && l))) ≡ (o || ((m || nat_eq y s) && (r && l)))
 one_more true m q r l y s e = refl
-one_more false m q r l y s e = by (cases_eq y s)
+one_more false m q r l y s e = by_equality (cases_eq y s)
   where
     flip : (m r : Bool) → ((m && r) || r) ≡ ((m || true) && r)
     flip true true = refl
     flip true false = refl
     flip false r = refl
 
-    by : (y ≡ s) ⊎ (y ≢ s)
+    by_equality : (y ≡ s) ⊎ (y ≢ s)
         → ((m && (r && l)) || (nat_eq y s && (q && l))) ≡ ((m || nat_eq y s) && (r && l))
-    by (inl t) =
+    by_equality (inl t) =
         ap₂ (λ c d. (m && (r && l)) || (c && (d && l))) (eq-eqb y s t) (e t) ∙ flip m (r && l)
         ∙ sym (ap (λ c. (m || c) && (r && l)) (eq-eqb y s t))
-    by (inr n) =
+    by_equality (inr n) =
         ap (λ c. (m && (r && l)) || (c && (q && l))) (ne_eqb y s n) ∙ or-false (m && (r && l))
         ∙ sym (ap (λ c. (m || c) && (r && l)) (ne_eqb y s n) ∙ ap (λ c. c && (r && l)) (or-false m))
 

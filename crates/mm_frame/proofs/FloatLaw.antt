@@ -32,14 +32,14 @@ use Rattle.mm_outline.proofs.AmongLaw.{typed_in, among_active}
 pub place_get : (w : Bytes) (ws : List Bytes) → index_of w ws < length ws
     → slice_get ws (index_of w ws) ≡ Some w
 place_get w [] h = absurd (omega arith)
-place_get w (v ∷ vs) h = by (bytes_eq w v) refl h (place_get w vs)
+place_get w (v ∷ vs) h = by_equality (bytes_eq w v) refl h (place_get w vs)
   where
-    by : (b : Bool) → bytes_eq w v ≡ b
+    by_equality : (b : Bool) → bytes_eq w v ≡ b
         → (elim b [ true ↦ 0 | false ↦ suc (index_of w vs) ]) < length (v ∷ vs)
         → (index_of w vs < length vs → slice_get vs (index_of w vs) ≡ Some w)
         → slice_get (v ∷ vs) (elim b [ true ↦ 0 | false ↦ suc (index_of w vs) ]) ≡ Some w
-    by true e h r = ap Some (sym ((bytes_eq-Decides w v).0 e))
-    by false e h r = r (omega arith)
+    by_equality true e h r = ap Some (sym ((bytes_eq-Decides w v).0 e))
+    by_equality false e h r = r (omega arith)
 
 abbrev pub list_at : Option Statement → List Statement
 list_at o = elim o [ None ↦ [] | Some s ↦ s ∷ [] ]
@@ -72,7 +72,7 @@ module _ (db : List Statement) (sound : IsSound db) where
 
   constant_there : (n : Names) (keyword : ℕ) (c v : Token)
       → floating_faults n keyword (c ∷ v ∷ []) ≡ [] → is_in c.word n.constants ≡ true
-  constant_there n keyword c v h = by (is_in c.word n.constants) refl h
+  constant_there n keyword c v h = by_membership (is_in c.word n.constants) refl h
     where
       codes : Bool → List Fault
       codes =
@@ -83,10 +83,10 @@ module _ (db : List Statement) (sound : IsSound db) where
             | false ↦ fault keyword BadFloating ∷ []
           ]
 
-      by : (a : Bool) → is_in c.word n.constants ≡ a
+      by_membership : (a : Bool) → is_in c.word n.constants ≡ a
           → codes (a && is_in v.word n.active_variables) ≡ [] → is_in c.word n.constants ≡ true
-      by true e h = e
-      by false e h = absurd (cc)
+      by_membership true e h = e
+      by_membership false e h = absurd (cc)
 
   -- a `$f` by its statement
   float_of : (k v : ℕ) → k < length db → (o : Option Statement) → slice_get db k ≡ o
@@ -127,46 +127,50 @@ module _ (db : List Statement) (sound : IsSound db) where
       }
 
   pub typed_float : (k v : ℕ) → k < length db → typed_at db k ≡ Some v → IsFloat db k v
-  typed_float k v h e = by (slice_get db k) refl e
+  typed_float k v h e = by_statement (slice_get db k) refl e
     where
-      by : (o : Option Statement) → slice_get db k ≡ o → typed_of db o ≡ Some v → IsFloat db k v
-      by o s t = go (list_any is_floating (elim o [ None ↦ [] | Some s ↦ s ∷ [] ])) refl t
+      by_statement : (o : Option Statement) → slice_get db k ≡ o → typed_of db o ≡ Some v
+          → IsFloat db k v
+      by_statement o s t = by_floating (list_any is_floating
+          (elim o [ None ↦ [] | Some s ↦ s ∷ [] ])) refl t
         where
-          go : (b : Bool) → list_any is_floating (elim o [ None ↦ [] | Some s ↦ s ∷ [] ]) ≡ b
+          by_floating : (b : Bool) → list_any is_floating (elim o [ None ↦ [] | Some s ↦ s ∷ [] ])
+              ≡ b
               → (if b then slice_get
               (flat_map (formula_of db) (elim o [ None ↦ [] | Some s ↦ s ∷ [] ])) 1 else None)
               ≡ Some v
               → IsFloat db k v
-          go true p q = float_of k v h o s p q
-          go false p q = absurd (cc)
+          by_floating true p q = float_of k v h o s p q
+          by_floating false p q = absurd (cc)
 
   -- a `$f` has a variable
   pub floating_typed : (k : ℕ) → k < length db
       → list_any is_floating (list_at (slice_get db k)) ≡ true
       → (v : ℕ) × (typed_at db k ≡ Some v) × IsFloat db k v
-  floating_typed k h t = by (slice_get db k) refl t
+  floating_typed k h t = by_statement (slice_get db k) refl t
     where
-      by : (o : Option Statement) → slice_get db k ≡ o → list_any is_floating (list_at o) ≡ true
+      by_statement : (o : Option Statement) → slice_get db k ≡ o → list_any is_floating (list_at o)
+          ≡ true
           → (v : ℕ) × (typed_at db k ≡ Some v) × IsFloat db k v
-      by None e t = absurd (true≢false (sym t))
-      by (Some (constants a xs d)) e t = absurd (true≢false (sym t))
-      by (Some (variables a xs d)) e t = absurd (true≢false (sym t))
-      by (Some (disjoint a xs d)) e t = absurd (true≢false (sym t))
-      by (Some (essential l a xs d)) e t = absurd (true≢false (sym t))
-      by (Some (axiomatic l a xs d)) e t = absurd (true≢false (sym t))
-      by (Some (provable l a xs q ps d)) e t = absurd (true≢false (sym t))
-      by (Some (opening a)) e t = absurd (true≢false (sym t))
-      by (Some (closing a)) e t = absurd (true≢false (sym t))
-      by (Some (floating l a [] d)) e t =
+      by_statement None e t = absurd (true≢false (sym t))
+      by_statement (Some (constants a xs d)) e t = absurd (true≢false (sym t))
+      by_statement (Some (variables a xs d)) e t = absurd (true≢false (sym t))
+      by_statement (Some (disjoint a xs d)) e t = absurd (true≢false (sym t))
+      by_statement (Some (essential l a xs d)) e t = absurd (true≢false (sym t))
+      by_statement (Some (axiomatic l a xs d)) e t = absurd (true≢false (sym t))
+      by_statement (Some (provable l a xs q ps d)) e t = absurd (true≢false (sym t))
+      by_statement (Some (opening a)) e t = absurd (true≢false (sym t))
+      by_statement (Some (closing a)) e t = absurd (true≢false (sym t))
+      by_statement (Some (floating l a [] d)) e t =
           absurd (let n = (append_none (label_faults (names_before db k) l)
           (floating_faults (names_before db k) a []) (law k h (floating l a [] d) e)).1 in
           cc)
-      by (Some (floating l a (c ∷ []) d)) e t =
+      by_statement (Some (floating l a (c ∷ []) d)) e t =
           absurd (let n = (append_none (label_faults (names_before db k) l)
           (floating_faults (names_before db k) a (c ∷ []))
           (law k h (floating l a (c ∷ []) d) e)).1 in
           cc)
-      by (Some (floating l a (c ∷ x ∷ xs) d)) e t =
+      by_statement (Some (floating l a (c ∷ x ∷ xs) d)) e t =
           let v = index_of x.word (symbol_names db) in let is = ap (typed_of db) e in
           (v, is, typed_float k v h is)
 

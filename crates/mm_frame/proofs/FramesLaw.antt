@@ -33,14 +33,14 @@ pub typed_none : (db : List Statement) (k : ℕ) (ts : List ℕ) → AreTyped db
 typed_none db k ts t e = record {
   count = t.count;
   some = λ v h ne. let s = t.some v h ne in ((let a = s.0 in omega (arith, a)), s.1);
-  alone = λ j v h l is on. by j v h l is on (cases_lt j k);
+  alone = λ j v h l is on. by_order j v h l is on (cases_lt j k);
 }
   where
-    by : (j v : ℕ) → j < k + 1 → v < length (symbol_names db) → typed_at db j ≡ Some v
+    by_order : (j v : ℕ) → j < k + 1 → v < length (symbol_names db) → typed_at db j ≡ Some v
         → stays db j (k + 1) ≡ true → (j < k) ⊎ (k ≤ j) → get_or ts v 0 ≡ j
-    by j v h l is on (inl m) =
+    by_order j v h l is on (inl m) =
         t.alone j v m l is (stays_earlier db j k (k + 1) (omega arith) (omega arith) on)
-    by j v h l is on (inr m) =
+    by_order j v h l is on (inr m) =
         absurd (let same : j ≡ k = omega arith in let z = sym is ∙ ap (typed_at db) same ∙ e in cc)
 
 pub typed_some : (db : List Statement) → IsSound db → (k v : ℕ) (ts : List ℕ) → k < length db

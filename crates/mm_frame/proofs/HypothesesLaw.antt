@@ -54,19 +54,19 @@ rising_is (y ∷ ys) a inc h = (
 filter_filter : (p q : ℕ → Bool) (xs : List ℕ)
     → filter p (filter q xs) ≡ filter (λ j. q j && p j) xs
 filter_filter p q [] = refl
-filter_filter p q (x ∷ xs) = by (q x) (filter_filter p q xs)
+filter_filter p q (x ∷ xs) = by_first_test (q x) (filter_filter p q xs)
   where
-    by : (b : Bool) → filter p (filter q xs) ≡ filter (λ j. q j && p j) xs
+    by_first_test : (b : Bool) → filter p (filter q xs) ≡ filter (λ j. q j && p j) xs
         → filter p (cond b (x ∷ filter q xs) (filter q xs))
         ≡ cond (b && p x) (x ∷ filter (λ j. q j && p j) xs) (filter (λ j. q j && p j) xs)
-    by true r = go (p x)
+    by_first_test true r = by_second_test (p x)
       where
-        go : (c : Bool)
+        by_second_test : (c : Bool)
             → ◌≡◌ {A = List ℕ} (cond c (x ∷ filter p (filter q xs)) (filter p (filter q xs)))
             (cond c (x ∷ filter (λ j. q j && p j) xs) (filter (λ j. q j && p j) xs))
-        go true = ap (λ ys. x ∷ ys) r
-        go false = r
-    by false r = r
+        by_second_test true = ap (λ ys. x ∷ ys) r
+        by_second_test false = r
+    by_first_test false r = r
 
 module _ (db : List Statement) (k : ℕ) where
   -- ---- variables
@@ -97,12 +97,12 @@ module _ (db : List Statement) (k : ℕ) where
       ltb-true j k (and_parts (nat_lt j k) (is_staying is_essential db j k) e).0
 
   variable_named : (x : ℕ) → is_variable_number db x ≡ true → x < length (symbol_names db)
-  variable_named x e = by (cases_lt x (length (symbol_names db)))
+  variable_named x e = by_order (cases_lt x (length (symbol_names db)))
     where
-      by : (x < length (symbol_names db)) ⊎ (length (symbol_names db) ≤ x)
+      by_order : (x < length (symbol_names db)) ⊎ (length (symbol_names db) ≤ x)
           → x < length (symbol_names db)
-      by (inl l) = l
-      by (inr l) =
+      by_order (inl l) = l
+      by_order (inr l) =
           absurd (true≢false
           (sym e ∙ ap (λ o. elim o [ None ↦ false | Some w ↦ is_in w (flat_map variables_of db) ])
           (slice_get_past (symbol_names db) x l)))
@@ -223,12 +223,12 @@ module _ (db : List Statement) (k : ℕ) where
 
         back : (j : ℕ) → (is_member es j || list_any (is_float_of db k ts j) found) ≡ true
             → ((is_active db j k && wanted j) ≡ true) × (j < k)
-        back j e = by (is_member es j) refl e
+        back j e = by_membership (is_member es j) refl e
           where
-            by : (b : Bool) → is_member es j ≡ b
+            by_membership : (b : Bool) → is_member es j ≡ b
                 → (b || list_any (is_float_of db k ts j) found) ≡ true
                 → ((is_active db j k && wanted j) ≡ true) × (j < k)
-            by true m e =
+            by_membership true m e =
                 let z = sym (essential_is j) ∙ m in
                 let t =
                 (and_parts (list_any is_essential (statement_at db j))
@@ -243,7 +243,7 @@ module _ (db : List Statement) (k : ℕ) where
                       (and_parts (is_active db j k) (nat_lt j k) y).0 t,
                   ltb-true j k (and_parts (is_active db j k) (nat_lt j k) y).1,
                 )
-            by false m e =
+            by_membership false m e =
                 let f = found_float j e in (
                   ap₂ (λ a b. a && b) f.0
                       (ap (λ b. list_any is_essential (statement_at db j) || b)
@@ -255,21 +255,21 @@ module _ (db : List Statement) (k : ℕ) where
         forth : (j : ℕ) → j < k → (is_active db j k && wanted j) ≡ true
             → (is_member es j || list_any (is_float_of db k ts j) found) ≡ true
         forth j l e =
-            by (list_any is_essential (statement_at db j)) refl
+            by_essential (list_any is_essential (statement_at db j)) refl
             (and_parts (is_active db j k) (wanted j) e).1
           where
             a : is_active db j k ≡ true
             a = (and_parts (is_active db j k) (wanted j) e).0
 
-            by : (b : Bool) → list_any is_essential (statement_at db j) ≡ b
+            by_essential : (b : Bool) → list_any is_essential (statement_at db j) ≡ b
                 → (b || (list_any is_floating (statement_at db j)
                 && list_any (is_member (mandatory_variables db k)) (formula_at db j)))
                 ≡ true
                 → (is_member es j || list_any (is_float_of db k ts j) found) ≡ true
-            by true t e =
+            by_essential true t e =
                 ap (λ b. b || list_any (is_float_of db k ts j) found)
                 (essential_is j ∙ ap₂ (λ p q. p && q) t (ap₂ (λ p q. p && q) a (lt-ltb j k l)))
-            by false t e =
+            by_essential false t e =
                 ap (λ b. is_member es j || b)
                 (float_found j l
                 (and_parts (list_any is_floating (statement_at db j))

@@ -48,22 +48,23 @@ module _ (test : Statement → Bool) (db : List Statement) where
           (and_parts
               (list_any test (statement_at db next)) (stays db next last) f.1).0,
         );
-    after = λ i h o. by i h o (cases_order i last);
+    after = λ i h o. by_order i h o (cases_order i last);
   }
     where
-      by : (i : ℕ) → i < k → (next < i) ⊎ (next ≡ never) → (i ≡ last) ⊎ ((i < last) ⊎ (last < i))
+      by_order : (i : ℕ) → i < k → (next < i) ⊎ (next ≡ never) → (i ≡ last)
+          ⊎ ((i < last) ⊎ (last < i))
           → is_staying test db i k ≡ false
-      by i h o (inr (inl l)) =
+      by_order i h o (inr (inl l)) =
           false_from_ne_true (is_staying test db i k)
           (λ t. true≢false
           (sym (on_earlier i last k (omega arith) (let g = (c.found ne).0 in omega (arith, g)) t)
           ∙ x.after i l o))
-      by i h o (inl e) =
+      by_order i h o (inl e) =
           subst (λ i. is_staying test db i k ≡ false) (sym e)
           (false_from_ne_true (is_staying test db last k)
           (λ t. true≢false
           (sym (and_parts (list_any test (statement_at db last)) (stays db last k) t).1 ∙ out)))
-      by i h o (inr (inr g)) = c.after i h (inl g)
+      by_order i h o (inr (inr g)) = c.after i h (inl g)
 
   pub candidate_open : (k last : ℕ) → IsCandidate test db k last
       → (last ≢ never → stays db last k ≡ true) → IsLatest test db k last
@@ -77,12 +78,12 @@ module _ (test : Statement → Bool) (db : List Statement) where
       → IsCandidate test db (k + 1) k
   candidate_self k few e = record {
     found = λ n. ((omega arith), e);
-    after = λ i h o. absurd (by i h o);
+    after = λ i h o. absurd (none_is_later i h o);
   }
     where
-      by : (i : ℕ) → i < k + 1 → (k < i) ⊎ (k ≡ never) → ⊥
-      by i h (inl l) = omega arith
-      by i h (inr l) = omega arith
+      none_is_later : (i : ℕ) → i < k + 1 → (k < i) ⊎ (k ≡ never) → ⊥
+      none_is_later i h (inl l) = omega arith
+      none_is_later i h (inr l) = omega arith
 
   pub candidate_other : (k last : ℕ) → list_any test (statement_at db k) ≡ false
       → IsLatest test db k last → IsCandidate test db (k + 1) last
@@ -93,16 +94,16 @@ module _ (test : Statement → Bool) (db : List Statement) where
           (and_parts (list_any test (statement_at db last))
               (stays db last k) f.1).0,
         );
-    after = λ i h o. by i h o (cases_lt i k);
+    after = λ i h o. by_order i h o (cases_lt i k);
   }
     where
-      by : (i : ℕ) → i < k + 1 → (last < i) ⊎ (last ≡ never) → (i < k) ⊎ (k ≤ i)
+      by_order : (i : ℕ) → i < k + 1 → (last < i) ⊎ (last ≡ never) → (i < k) ⊎ (k ≤ i)
           → is_staying test db i (k + 1) ≡ false
-      by i h o (inl l) =
+      by_order i h o (inl l) =
           false_from_ne_true (is_staying test db i (k + 1))
           (λ t. true≢false
           (sym (on_earlier i k (k + 1) (omega arith) (omega arith) t) ∙ x.after i l o))
-      by i h o (inr g) =
+      by_order i h o (inr g) =
           let same : i ≡ k = omega arith in
           ap (λ b. b && stays db i (k + 1)) (ap (λ i. list_any test (statement_at db i)) same ∙ e)
 
@@ -111,16 +112,16 @@ module _ (test : Statement → Bool) (db : List Statement) where
 
   pub height_less : (k last next : ℕ) → last ≢ never → IsLatest test db last next
       → height next < height last
-  height_less k last next ne x = by (cases_eq next never)
+  height_less k last next ne x = by_presence (cases_eq next never)
     where
       full : height last ≡ last + 1
       full = ap (λ b. cond b 0 (last + 1)) (ne_eqb last never ne)
 
-      by : (next ≡ never) ⊎ (next ≢ never) → height next < height last
-      by (inl e) =
+      by_presence : (next ≡ never) ⊎ (next ≢ never) → height next < height last
+      by_presence (inl e) =
           let z : height next ≡ 0 = ap (λ b. cond b 0 (next + 1)) (eq-eqb next never e) in
           omega (arith, z, full)
-      by (inr n) =
+      by_presence (inr n) =
           let z : height next ≡ next + 1 = ap (λ b. cond b 0 (next + 1)) (ne_eqb next never n) in
           let f = (x.found n).0 in omega (arith, z, full, f)
 
@@ -137,14 +138,15 @@ module _ (test : Statement → Bool) (db : List Statement) where
   walked_start k last x = record {
     found = x.found;
     only = λ i e. absurd (true≢false (sym e));
-    all = λ i h e. inr (by i h e (cases_eq last never) (cases_lt last i));
+    all = λ i h e. inr (by_presence i h e (cases_eq last never) (cases_lt last i));
   }
     where
-      by : (i : ℕ) → i < k → is_staying test db i k ≡ true → (last ≡ never) ⊎ (last ≢ never)
+      by_presence : (i : ℕ) → i < k → is_staying test db i k ≡ true → (last ≡ never)
+          ⊎ (last ≢ never)
           → (last < i) ⊎ (i ≤ last) → (last ≢ never) × (i ≤ last)
-      by i h e (inl n) b = absurd (true≢false (sym e ∙ x.after i h (inr n)))
-      by i h e (inr n) (inl l) = absurd (true≢false (sym e ∙ x.after i h (inl l)))
-      by i h e (inr n) (inr l) = (n, l)
+      by_presence i h e (inl n) b = absurd (true≢false (sym e ∙ x.after i h (inr n)))
+      by_presence i h e (inr n) (inl l) = absurd (true≢false (sym e ∙ x.after i h (inl l)))
+      by_presence i h e (inr n) (inr l) = (n, l)
 
   pub walked_next : (k : ℕ) (xs : List ℕ) (last next : ℕ) → k ≤ length db
       → IsWalked k xs last → last ≢ never → IsLatest test db last next
@@ -165,37 +167,38 @@ module _ (test : Statement → Bool) (db : List Statement) where
 
       only : (i : ℕ) → is_member (xs ++ last ∷ []) i ≡ true
           → (i < k) × (is_staying test db i k ≡ true)
-      only i e = by (is_member xs i) (nat_eq i last) refl refl (sym (member_push xs last i) ∙ e)
+      only i e = by_values (is_member xs i) (nat_eq i last) refl refl
+          (sym (member_push xs last i) ∙ e)
         where
-          by : (a b : Bool) → is_member xs i ≡ a → nat_eq i last ≡ b → (a || b) ≡ true
+          by_values : (a b : Bool) → is_member xs i ≡ a → nat_eq i last ≡ b → (a || b) ≡ true
               → (i < k) × (is_staying test db i k ≡ true)
-          by true b p q t = w.only i p
-          by false true p q t =
+          by_values true b p q t = w.only i p
+          by_values false true p q t =
               subst (λ i. (i < k) × (is_staying test db i k ≡ true)) (sym (eqb-true i last q)) here
-          by false false p q t = absurd (true≢false (sym t))
+          by_values false false p q t = absurd (true≢false (sym t))
 
       all : (i : ℕ) → i < k → is_staying test db i k ≡ true
           → (is_member xs i ≡ true) ⊎ ((last ≢ never) × (i ≤ last))
           → (is_member (xs ++ last ∷ []) i ≡ true) ⊎ ((next ≢ never) × (i ≤ next))
       all i h e (inl m) = inl (member_push xs last i ∙ ap (λ b. b || nat_eq i last) m)
-      all i h e (inr (n, l)) = by (cases_lt i last)
+      all i h e (inr (n, l)) = by_order (cases_lt i last)
         where
-          go : i < last → (next ≡ never) ⊎ (next ≢ never) → (next < i) ⊎ (i ≤ next)
+          by_presence : i < last → (next ≡ never) ⊎ (next ≢ never) → (next < i) ⊎ (i ≤ next)
               → (next ≢ never) × (i ≤ next)
-          go m (inl n) b =
+          by_presence m (inl n) b =
               absurd (true≢false
               (sym (on_earlier i last k (omega arith) (let l = here.0 in omega (arith, l)) e)
               ∙ x.after i m (inr n)))
-          go m (inr n) (inl l) =
+          by_presence m (inr n) (inl l) =
               absurd (true≢false
               (sym (on_earlier i last k (omega arith) (let l = here.0 in omega (arith, l)) e)
               ∙ x.after i m (inl l)))
-          go m (inr n) (inr l) = (n, l)
+          by_presence m (inr n) (inr l) = (n, l)
 
-          by : (i < last) ⊎ (last ≤ i)
+          by_order : (i < last) ⊎ (last ≤ i)
               → (is_member (xs ++ last ∷ []) i ≡ true) ⊎ ((next ≢ never) × (i ≤ next))
-          by (inl m) = inr (go m (cases_eq next never) (cases_lt next i))
-          by (inr m) =
+          by_order (inl m) = inr (by_presence m (cases_eq next never) (cases_lt next i))
+          by_order (inr m) =
               let same : i ≡ last = omega arith in
               inl (member_push xs last i ∙ ap (λ b. is_member xs i || b) (eq-eqb i last same)
               ∙ or-true (is_member xs i))
@@ -205,18 +208,21 @@ module _ (test : Statement → Bool) (db : List Statement) where
   walked_end local k xs last w e i =
       same_tests (is_member xs i) (nat_lt i k && is_staying test db i k)
       (λ m. let f = w.only i m in ap₂ (λ a b. a && b) (lt-ltb i k f.0) f.1)
-      (λ t. by t (cases_lt i k))
+      (λ t. by_order t (cases_lt i k))
       ∙ sym (active_member test db local k i)
     where
-      by : (nat_lt i k && is_staying test db i k) ≡ true → (i < k) ⊎ (k ≤ i) → is_member xs i ≡ true
-      by t (inr l) =
+      by_order : (nat_lt i k && is_staying test db i k) ≡ true → (i < k) ⊎ (k ≤ i) → is_member xs i
+          ≡ true
+      by_order t (inr l) =
           absurd (true≢false
           (sym (and_parts (nat_lt i k) (is_staying test db i k) t).0 ∙ le-ltb i k l))
-      by t (inl l) = go (w.all i l (and_parts (nat_lt i k) (is_staying test db i k) t).1)
+      by_order t (inl l) = by_membership (w.all i l
+          (and_parts (nat_lt i k) (is_staying test db i k) t).1)
         where
-          go : (is_member xs i ≡ true) ⊎ ((last ≢ never) × (i ≤ last)) → is_member xs i ≡ true
-          go (inl m) = m
-          go (inr (n, l)) = absurd (n e)
+          by_membership : (is_member xs i ≡ true) ⊎ ((last ≢ never) × (i ≤ last)) → is_member xs i
+              ≡ true
+          by_membership (inl m) = m
+          by_membership (inr (n, l)) = absurd (n e)
 
 -- one more at the end of the list
 pub each_pushed : (test : Statement → Bool) (db : List Statement) (xs ys : List ℕ) (last k : ℕ)
@@ -228,15 +234,15 @@ pub each_pushed : (test : Statement → Bool) (db : List Statement) (xs ys : Lis
     }
 each_pushed test db xs ys last k n e old new = record {
   count = ap length e ∙ length-append xs (last ∷ []) ∙ ap (λ m. m + 1) n;
-  each = λ i h. by i h (cases_lt i (k + 1));
+  each = λ i h. by_order i h (cases_lt i (k + 1));
 }
   where
-    by : (i : ℕ) → i ≤ k + 1 → (i < k + 1) ⊎ (k + 1 ≤ i) → IsLatest test db i (get_or ys i 0)
-    by i h (inl l) =
+    by_order : (i : ℕ) → i ≤ k + 1 → (i < k + 1) ⊎ (k + 1 ≤ i) → IsLatest test db i (get_or ys i 0)
+    by_order i h (inl l) =
         subst (IsLatest test db i)
         (sym (ap (λ zs. get_or zs i 0) e
         ∙ get_or_append_left xs (last ∷ []) 0 i (omega (arith, n, l)))) (old i (omega arith))
-    by i h (inr l) =
+    by_order i h (inr l) =
         let same : i ≡ length xs = omega (arith, n, h, l) in
         let j : i ≡ k + 1 = omega arith in
         subst (IsLatest test db i)

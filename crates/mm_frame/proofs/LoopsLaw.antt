@@ -90,33 +90,33 @@ pub float_pushed : (hs more : List ℕ) (f j : ℕ) (never is_open : Bool) → n
     → is_member more j ≡ (is_member hs j || (nat_eq j f && (not never && is_open)))
 float_pushed hs more f j never is_open n o e =
     ap (λ xs. is_member xs j) e ∙ list_any-append (nat_eq j) hs (f ∷ [])
-    ∙ ap (λ z. is_member hs j || z) (by (nat_eq j f))
+    ∙ ap (λ z. is_member hs j || z) (by_values (nat_eq j f))
     ∙ ap (λ z. is_member hs j || (nat_eq j f && (not z && true))) (sym n)
     ∙ ap (λ z. is_member hs j || (nat_eq j f && (not never && z))) (sym o)
   where
-    by : (b : Bool) → (b || false) ≡ (b && true)
-    by true = refl
-    by false = refl
+    by_values : (b : Bool) → (b || false) ≡ (b && true)
+    by_values true = refl
+    by_values false = refl
 
 pub float_closed : (hs more : List ℕ) (f j : ℕ) (never is_open : Bool) → is_open ≡ false → more ≡ hs
     → is_member more j ≡ (is_member hs j || (nat_eq j f && (not never && is_open)))
 float_closed hs more f j never is_open o e =
-    ap (λ xs. is_member xs j) e ∙ by (is_member hs j) (nat_eq j f) (not never)
+    ap (λ xs. is_member xs j) e ∙ by_values (is_member hs j) (nat_eq j f) (not never)
     ∙ ap (λ z. is_member hs j || (nat_eq j f && (not never && z))) (sym o)
   where
-    by : (a b c : Bool) → a ≡ (a || (b && (c && false)))
-    by true b c = refl
-    by false true true = refl
-    by false true false = refl
-    by false false c = refl
+    by_values : (a b c : Bool) → a ≡ (a || (b && (c && false)))
+    by_values true b c = refl
+    by_values false true true = refl
+    by_values false true false = refl
+    by_values false false c = refl
 
 pub float_none : (hs more : List ℕ) (f j : ℕ) (never is_open : Bool) → never ≡ true → more ≡ hs
     → is_member more j ≡ (is_member hs j || (nat_eq j f && (not never && is_open)))
 float_none hs more f j never is_open n e =
-    ap (λ xs. is_member xs j) e ∙ by (is_member hs j) (nat_eq j f)
+    ap (λ xs. is_member xs j) e ∙ by_values (is_member hs j) (nat_eq j f)
     ∙ ap (λ z. is_member hs j || (nat_eq j f && (not z && is_open))) (sym n)
   where
-    by : (a b : Bool) → a ≡ (a || (b && false))
-    by true b = refl
-    by false true = refl
-    by false false = refl
+    by_values : (a b : Bool) → a ≡ (a || (b && false))
+    by_values true b = refl
+    by_values false true = refl
+    by_values false false = refl

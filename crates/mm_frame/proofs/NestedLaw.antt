@@ -23,8 +23,8 @@ module _ (db : List Statement) where
       (outer ((stays_exact db i j (omega arith)).0 f) ((stays_exact db j k l).0 e)))
     where
       outer : InBlock db i j → InBlock db j k → InBlock db i k
-      outer f g m a b = by (cases_lt j m)
+      outer f g m a b = by_order (cases_lt j m)
         where
-          by : (j < m) ⊎ (m ≤ j) → depth db i ≤ depth db m
-          by (inl q) = let x = f j h (omega arith) in let y = g m q b in omega (arith, x, y)
-          by (inr q) = f m a q
+          by_order : (j < m) ⊎ (m ≤ j) → depth db i ≤ depth db m
+          by_order (inl q) = let x = f j h (omega arith) in let y = g m q b in omega (arith, x, y)
+          by_order (inr q) = f m a q

@@ -54,37 +54,38 @@ stamps_fresh n k seen found c w e = record {
 -- a symbol that has been noted already, one that is new, and one that is no variable
 pub noted_new : (v : ℕ → Bool) (s x : ℕ) (b : Bool) → v s ≡ true
     → (b || nat_eq x s) ≡ (b || (v x && nat_eq x s))
-noted_new v s x b e = by (cases_eq x s)
+noted_new v s x b e = by_equality (cases_eq x s)
   where
-    by : (x ≡ s) ⊎ (x ≢ s) → (b || nat_eq x s) ≡ (b || (v x && nat_eq x s))
-    by (inl q) = ap (λ a. b || (a && nat_eq x s)) (sym (ap v q ∙ e))
-    by (inr q) =
+    by_equality : (x ≡ s) ⊎ (x ≢ s) → (b || nat_eq x s) ≡ (b || (v x && nat_eq x s))
+    by_equality (inl q) = ap (λ a. b || (a && nat_eq x s)) (sym (ap v q ∙ e))
+    by_equality (inr q) =
         ap (λ a. b || a) (ne_eqb x s q)
         ∙ sym (ap (λ a. b || a) (ap (λ a. v x && a) (ne_eqb x s q) ∙ and-false (v x)))
 
 pub noted_again : (v m : ℕ → Bool) (s x : ℕ) → m s ≡ true → m x ≡ (m x || (v x && nat_eq x s))
-noted_again v m s x e = by (cases_eq x s)
+noted_again v m s x e = by_equality (cases_eq x s)
   where
     right_false : (a b : Bool) → a ≡ (a || (b && false))
     right_false true b = refl
     right_false false true = refl
     right_false false false = refl
 
-    by : (x ≡ s) ⊎ (x ≢ s) → m x ≡ (m x || (v x && nat_eq x s))
-    by (inl q) = let t = ap m q ∙ e in t ∙ sym (ap (λ a. a || (v x && nat_eq x s)) t)
-    by (inr q) = right_false (m x) (v x) ∙ ap (λ a. m x || (v x && a)) (sym (ne_eqb x s q))
+    by_equality : (x ≡ s) ⊎ (x ≢ s) → m x ≡ (m x || (v x && nat_eq x s))
+    by_equality (inl q) = let t = ap m q ∙ e in t ∙ sym (ap (λ a. a || (v x && nat_eq x s)) t)
+    by_equality (inr q) = right_false (m x) (v x) ∙ ap (λ a. m x || (v x && a)) (sym (ne_eqb x s q))
 
 pub noted_not : (v m : ℕ → Bool) (s x : ℕ) → v s ≡ false → m x ≡ (m x || (v x && nat_eq x s))
-noted_not v m s x e = by (cases_eq x s)
+noted_not v m s x e = by_equality (cases_eq x s)
   where
     right_false : (a b : Bool) → a ≡ (a || (b && false))
     right_false true b = refl
     right_false false true = refl
     right_false false false = refl
 
-    by : (x ≡ s) ⊎ (x ≢ s) → m x ≡ (m x || (v x && nat_eq x s))
-    by (inl q) = sym (or-false (m x)) ∙ ap (λ a. m x || (a && nat_eq x s)) (sym (ap v q ∙ e))
-    by (inr q) = right_false (m x) (v x) ∙ ap (λ a. m x || (v x && a)) (sym (ne_eqb x s q))
+    by_equality : (x ≡ s) ⊎ (x ≢ s) → m x ≡ (m x || (v x && nat_eq x s))
+    by_equality (inl q) = sym (or-false (m x))
+        ∙ ap (λ a. m x || (a && nat_eq x s)) (sym (ap v q ∙ e))
+    by_equality (inr q) = right_false (m x) (v x) ∙ ap (λ a. m x || (v x && a)) (sym (ne_eqb x s q))
 
 -- one symbol more in the row
 pub noted_row : (f v t e : Bool) → ((f || (v && t)) || (v && e)) ≡ (f || (v && (t || e)))

@@ -17,8 +17,10 @@ use Rattle.mm_machine.specs.Arena.{arena, symbols_of, span, no_symbols, span_for
 use Rattle.mm_machine.specs.State.{span_formulas, made_of, Follow, first_own, IsStack, IsStackOf}
 use Rattle.mm_machine.specs.State.{IsMarkedEntry}
 use Rattle.mm_machine.specs.State.{Moves}
-use Rattle.mm_machine.proofs.GrowLaw.{Stays, all_stay, stay_inside, stay_formulas, own_more, kept_more}
-use Rattle.mm_machine.proofs.GrowLaw.{kept_in, kept_formula, formula_new, new_in, formulas_push, formulas_take}
+use Rattle.mm_machine.proofs.GrowLaw.{Stays, all_stay, stay_inside, stay_formulas, own_more,
+kept_more}
+use Rattle.mm_machine.proofs.GrowLaw.{kept_in, kept_formula, formula_new, new_in, formulas_push,
+formulas_take}
 
 abbrev One : Store → Span → ℕ → List Span → ℕ → Type 0
 One p e from es to =
@@ -32,51 +34,51 @@ begin_one p e es to = elim p [ Own ↦ e.start | Kept ↦ first_own es to ]
 
 begins_at : (from : ℕ) (es : List Span) (to : ℕ) → Follow from es to → from ≡ first_own es to
 begins_at from [] to h = h
-begins_at from (e ∷ es) to h = by e.store (begins_at from es to) h
+begins_at from (e ∷ es) to h = by_store e.store (begins_at from es to) h
   where
-    by : (p : Store) → (Follow from es to → from ≡ first_own es to) → One p e from es to
+    by_store : (p : Store) → (Follow from es to → from ≡ first_own es to) → One p e from es to
         → from ≡ begin_one p e es to
-    by Own on h = sym h.0
-    by Kept on h = on h
+    by_store Own on h = sym h.0
+    by_store Kept on h = on h
 
 front_follows : (from : ℕ) (xs ys : List Span) (to : ℕ) → Follow from (xs ++ ys) to
     → Follow from xs (first_own ys to)
 front_follows from [] ys to h = begins_at from ys to h
-front_follows from (e ∷ xs) ys to h = by e.store (λ f. front_follows f xs ys to) h
+front_follows from (e ∷ xs) ys to h = by_store e.store (λ f. front_follows f xs ys to) h
   where
-    by : (p : Store) → ((f : ℕ) → Follow f (xs ++ ys) to → Follow f xs (first_own ys to))
+    by_store : (p : Store) → ((f : ℕ) → Follow f (xs ++ ys) to → Follow f xs (first_own ys to))
         → One p e from (xs ++ ys) to → One p e from xs (first_own ys to)
-    by Own on h = (h.0, h.1, on e.end h.2)
-    by Kept on h = on from h
+    by_store Own on h = (h.0, h.1, on e.end h.2)
+    by_store Kept on h = on from h
 
 rest_follows : (from : ℕ) (xs ys : List Span) (to : ℕ) → Follow from (xs ++ ys) to
     → Follow (first_own ys to) ys to
 rest_follows from [] ys to h = subst (λ n. Follow n ys to) (begins_at from ys to h) h
-rest_follows from (e ∷ xs) ys to h = by e.store (λ f. rest_follows f xs ys to) h
+rest_follows from (e ∷ xs) ys to h = by_store e.store (λ f. rest_follows f xs ys to) h
   where
-    by : (p : Store) → ((f : ℕ) → Follow f (xs ++ ys) to → Follow (first_own ys to) ys to)
+    by_store : (p : Store) → ((f : ℕ) → Follow f (xs ++ ys) to → Follow (first_own ys to) ys to)
         → One p e from (xs ++ ys) to → Follow (first_own ys to) ys to
-    by Own on h = on e.end h.2
-    by Kept on h = on from h
+    by_store Own on h = on e.end h.2
+    by_store Kept on h = on from h
 
 rises : (from : ℕ) (es : List Span) (to : ℕ) → Follow from es to → from ≤ to
 rises from [] to h = let e : from ≡ to = h in omega (arith, e)
-rises from (e ∷ es) to h = by e.store (λ f. rises f es to) h
+rises from (e ∷ es) to h = by_store e.store (λ f. rises f es to) h
   where
-    by : (p : Store) → ((f : ℕ) → Follow f es to → f ≤ to) → One p e from es to → from ≤ to
-    by Own on h = let l = h.1 in let r = on e.end h.2 in omega (arith, l, r)
-    by Kept on h = on from h
+    by_store : (p : Store) → ((f : ℕ) → Follow f es to → f ≤ to) → One p e from es to → from ≤ to
+    by_store Own on h = let l = h.1 in let r = on e.end h.2 in omega (arith, l, r)
+    by_store Kept on h = on from h
 
 pub own_follows : (from : ℕ) (es : List Span) (to n : ℕ) → to ≤ n → Follow from es to
     → Follow from (es ++ span Own to n ∷ []) n
 own_follows from [] to n l h =
     let e : from ≡ to = h in (sym e, (let m : from ≤ n = omega (arith, e, l) in m), refl)
-own_follows from (e ∷ es) to n l h = by e.store (λ f. own_follows f es to n l) h
+own_follows from (e ∷ es) to n l h = by_store e.store (λ f. own_follows f es to n l) h
   where
-    by : (p : Store) → ((f : ℕ) → Follow f es to → Follow f (es ++ span Own to n ∷ []) n)
+    by_store : (p : Store) → ((f : ℕ) → Follow f es to → Follow f (es ++ span Own to n ∷ []) n)
         → One p e from es to → One p e from (es ++ span Own to n ∷ []) n
-    by Own on h = (h.0, h.1, on e.end h.2)
-    by Kept on h = on from h
+    by_store Own on h = (h.0, h.1, on e.end h.2)
+    by_store Kept on h = on from h
 
 kept_one : (p : Store) (e : Span) (from : ℕ) (es : List Span) (to : ℕ) → p ≡ Kept
     → Follow from es to → One p e from es to
@@ -86,12 +88,13 @@ kept_one Kept e from es to q h = h
 pub kept_follows : (from : ℕ) (es : List Span) (to : ℕ) (e : Span) → e.store ≡ Kept
     → Follow from es to → Follow from (es ++ e ∷ []) to
 kept_follows from [] to e q h = kept_one e.store e from [] to q h
-kept_follows from (x ∷ es) to e q h = by x.store (λ f. kept_follows f es to e q) h
+kept_follows from (x ∷ es) to e q h = by_store x.store (λ f. kept_follows f es to e q) h
   where
-    by : (p : Store) → ((f : ℕ) → Follow f es to → Follow f (es ++ e ∷ []) to) → One p x from es to
+    by_store : (p : Store) → ((f : ℕ) → Follow f es to → Follow f (es ++ e ∷ []) to)
+        → One p x from es to
         → One p x from (es ++ e ∷ []) to
-    by Own on h = (h.0, h.1, on x.end h.2)
-    by Kept on h = on from h
+    by_store Own on h = (h.0, h.1, on x.end h.2)
+    by_store Kept on h = on from h
 
 -- what the entries' own formulas don't reach can go
 stay_cut : (own kept : List ℕ) (from : ℕ) (es : List Span) (n : ℕ) → n ≤ length own
@@ -99,7 +102,7 @@ stay_cut : (own kept : List ℕ) (from : ℕ) (es : List Span) (n : ℕ) → n �
     → AllByRecursion (Stays (arena own kept) (arena (take n own) kept)) es
 stay_cut own kept from [] n l h i = tt
 stay_cut own kept from (e ∷ es) n l h i =
-    by e.store e.start e.end i.0.rising i.0.within (λ f g. stay_cut own kept f es n l g i.1)
+    by_store e.store e.start e.end i.0.rising i.0.within (λ f g. stay_cut own kept f es n l g i.1)
     (λ f g. rises f es n g) h
   where
     stays : (p : Store) (s t : ℕ) → s ≤ t → t ≤ length (symbols_of (arena (take n own) kept) p)
@@ -113,22 +116,23 @@ stay_cut own kept from (e ∷ es) n l h i =
               ∙ ap (λ z. span_formula (arena z kept) (span p s t)) (take-append-drop n own);
         }
 
-    by : (p : Store) (s t : ℕ) → s ≤ t → t ≤ length (symbols_of (arena own kept) p)
+    by_store : (p : Store) (s t : ℕ) → s ≤ t → t ≤ length (symbols_of (arena own kept) p)
         → ((f : ℕ) → Follow f es n
         → AllByRecursion (Stays (arena own kept) (arena (take n own) kept)) es)
         → ((f : ℕ) → Follow f es n → f ≤ n) → One p (span p s t) from es n
         → AllByRecursion (Stays (arena own kept) (arena (take n own) kept)) (span p s t ∷ es)
-    by Own s t r w on up h =
+    by_store Own s t r w on up h =
         let u = up t h.2 in (stays Own s t r (omega (arith, u, l, length-take n own)), on t h.2)
-    by Kept s t r w on up h = (stays Kept s t r w, on from h)
+    by_store Kept s t r w on up h = (stays Kept s t r w, on from h)
 
 set_last : (xs : List Span) (n : ℕ) (e m : Span) → length xs ≡ n
     → slice_set (xs ++ e ∷ []) n m ≡ xs ++ m ∷ []
-set_last xs n e m h = subst (λ i. slice_set (xs ++ e ∷ []) i m ≡ xs ++ m ∷ []) h (go xs)
+set_last xs n e m h = subst (λ i. slice_set (xs ++ e ∷ []) i m ≡ xs ++ m ∷ []) h
+    (set_behind_front xs)
   where
-    go : (xs : List Span) → slice_set (xs ++ e ∷ []) (length xs) m ≡ xs ++ m ∷ []
-    go [] = refl
-    go (x ∷ xs) = ap (λ z. x ∷ z) (go xs)
+    set_behind_front : (xs : List Span) → slice_set (xs ++ e ∷ []) (length xs) m ≡ xs ++ m ∷ []
+    set_behind_front [] = refl
+    set_behind_front (x ∷ xs) = ap (λ z. x ∷ z) (set_behind_front xs)
 
 -- ---- entries are taken from the top
 
@@ -149,12 +153,12 @@ module _ (own kept : List ℕ) (front back : List Span) (h : IsStack own kept (f
           → All (IsIn (arena own kept)) xs
       All-front xs ys a =
           All-from_recursion (IsIn (arena own kept)) xs
-          (go xs (recursion_from_All (IsIn (arena own kept)) (xs ++ ys) a))
+          (each_is_inside xs (recursion_from_All (IsIn (arena own kept)) (xs ++ ys) a))
         where
-          go : (xs : List Span) → AllByRecursion (IsIn (arena own kept)) (xs ++ ys)
+          each_is_inside : (xs : List Span) → AllByRecursion (IsIn (arena own kept)) (xs ++ ys)
               → AllByRecursion (IsIn (arena own kept)) xs
-          go [] h = tt
-          go (x ∷ xs) h = (h.0, go xs h.1)
+          each_is_inside [] h = tt
+          each_is_inside (x ∷ xs) h = (h.0, each_is_inside xs h.1)
 
   front_stays : AllByRecursion (Stays (arena own kept) (arena (take reach own) kept)) front
   front_stays =

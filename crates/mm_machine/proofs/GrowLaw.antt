@@ -11,7 +11,8 @@ use Rattle.mm_machine.specs.declared.arena.Store.{Store}
 use Rattle.mm_machine.specs.declared.arena.Store.TheVariants.{Own, Kept}
 use Rattle.mm_rule.specs.declared.rule.RuleSymbol.{RuleSymbol}
 use Rattle.mm_rule.specs.declared.rule.RuleSymbol.TheVariants.{Constant, Variable}
-use Rattle.mm_machine.specs.Arena.{Arena, arena, symbols_of, span, no_symbols, rest, span_formula, IsIn}
+use Rattle.mm_machine.specs.Arena.{Arena, arena, symbols_of, span, no_symbols, rest, span_formula,
+IsIn}
 use Rattle.mm_rule.specs.Rule.{IsKnown, IsBelow}
 use Rattle.mm_rule.proofs.SliceLaw.{stretch_more}
 use Rattle.mm_machine.specs.Replaced.{replaced_part, replaced}
@@ -24,18 +25,18 @@ pub record Stays (a b : Arena) (e : Span) : Type 0 where
 
 pub all_stay : (a b : Arena) (es : List Span) → ((e : Span) → IsIn a e → Stays a b e)
     → All (IsIn a) es → AllByRecursion (Stays a b) es
-all_stay a b es each h = go es (recursion_from_All (IsIn a) es h)
+all_stay a b es each h = each_stays es (recursion_from_All (IsIn a) es h)
   where
-    go : (es : List Span) → AllByRecursion (IsIn a) es → AllByRecursion (Stays a b) es
-    go [] h = tt
-    go (e ∷ es) h = (each e h.0, go es h.1)
+    each_stays : (es : List Span) → AllByRecursion (IsIn a) es → AllByRecursion (Stays a b) es
+    each_stays [] h = tt
+    each_stays (e ∷ es) h = (each e h.0, each_stays es h.1)
 
 pub stay_inside : (a b : Arena) (es : List Span) → AllByRecursion (Stays a b) es → All (IsIn b) es
-stay_inside a b es h = All-from_recursion (IsIn b) es (go es h)
+stay_inside a b es h = All-from_recursion (IsIn b) es (each_is_inside es h)
   where
-    go : (es : List Span) → AllByRecursion (Stays a b) es → AllByRecursion (IsIn b) es
-    go [] h = tt
-    go (e ∷ es) h = (h.0.inside, go es h.1)
+    each_is_inside : (es : List Span) → AllByRecursion (Stays a b) es → AllByRecursion (IsIn b) es
+    each_is_inside [] h = tt
+    each_is_inside (e ∷ es) h = (h.0.inside, each_is_inside es h.1)
 
 pub stay_formulas : (a b : Arena) (es : List Span) → AllByRecursion (Stays a b) es
     → span_formulas b es ≡ span_formulas a es
@@ -45,26 +46,26 @@ stay_formulas a b (e ∷ es) h = ap₂ (λ u us. u ∷ us) h.0.same (stay_formul
 -- more own symbols
 pub own_more : (own kept more : List ℕ) (e : Span) → IsIn (arena own kept) e
     → Stays (arena own kept) (arena (own ++ more) kept) e
-own_more own kept more e h = by e.store e.start e.end h.rising h.within
+own_more own kept more e h = by_store e.store e.start e.end h.rising h.within
   where
-    by : (p : Store) (s t : ℕ) → s ≤ t → t ≤ length (symbols_of (arena own kept) p)
+    by_store : (p : Store) (s t : ℕ) → s ≤ t → t ≤ length (symbols_of (arena own kept) p)
         → Stays (arena own kept) (arena (own ++ more) kept) (span p s t)
-    by Own s t r w =
+    by_store Own s t r w =
         record {
           inside = record { rising = r; within = omega (arith, w, length-append own more) };
           same = stretch_more own more s t r w;
         }
-    by Kept s t r w = record { inside = record { rising = r; within = w }; same = refl }
+    by_store Kept s t r w = record { inside = record { rising = r; within = w }; same = refl }
 
 -- more kept symbols
 pub kept_more : (own kept more : List ℕ) (e : Span) → IsIn (arena own kept) e
     → Stays (arena own kept) (arena own (kept ++ more)) e
-kept_more own kept more e h = by e.store e.start e.end h.rising h.within
+kept_more own kept more e h = by_store e.store e.start e.end h.rising h.within
   where
-    by : (p : Store) (s t : ℕ) → s ≤ t → t ≤ length (symbols_of (arena own kept) p)
+    by_store : (p : Store) (s t : ℕ) → s ≤ t → t ≤ length (symbols_of (arena own kept) p)
         → Stays (arena own kept) (arena own (kept ++ more)) (span p s t)
-    by Own s t r w = record { inside = record { rising = r; within = w }; same = refl }
-    by Kept s t r w =
+    by_store Own s t r w = record { inside = record { rising = r; within = w }; same = refl }
+    by_store Kept s t r w =
         record {
           inside = record { rising = r; within = omega (arith, w, length-append kept more) };
           same = stretch_more kept more s t r w;
@@ -72,21 +73,21 @@ kept_more own kept more e h = by e.store e.start e.end h.rising h.within
 
 -- a kept entry whatever the own symbols are
 pub kept_in : (own kept : List ℕ) (e : Span) → IsMarkedEntry kept e → IsIn (arena own kept) e
-kept_in own kept e h = by e.store h.store
+kept_in own kept e h = by_store e.store h.store
   where
-    by : (p : Store) → p ≡ Kept → IsIn (arena own kept) (span p e.start e.end)
-    by Own q = absurd (cc)
-    by Kept q = record { rising = h.rising; within = h.within }
+    by_store : (p : Store) → p ≡ Kept → IsIn (arena own kept) (span p e.start e.end)
+    by_store Own q = absurd (cc)
+    by_store Kept q = record { rising = h.rising; within = h.within }
 
 pub kept_formula : (own other kept : List ℕ) (e : Span) → IsMarkedEntry kept e
     → span_formula (arena own kept) e ≡ span_formula (arena other kept) e
-kept_formula own other kept e h = by e.store h.store
+kept_formula own other kept e h = by_store e.store h.store
   where
-    by : (p : Store) → p ≡ Kept
+    by_store : (p : Store) → p ≡ Kept
         → span_formula (arena own kept) (span p e.start e.end)
         ≡ span_formula (arena other kept) (span p e.start e.end)
-    by Own q = absurd (cc)
-    by Kept q = refl
+    by_store Own q = absurd (cc)
+    by_store Kept q = refl
 
 pub kept_all_in : (own kept : List ℕ) (es : List Span) → All (IsMarkedEntry kept) es
     → All (IsIn (arena own kept)) es
@@ -134,17 +135,19 @@ symbols_known n a e ho hk =
     list Kept = hk
 
 -- what parts say is of symbols of the database
-pub replaced_known : (n : ℕ) (a : Arena) (es : List Span) (f : List RuleSymbol) → All (λ s. s < n) a.own
+pub replaced_known : (n : ℕ) (a : Arena) (es : List Span) (f : List RuleSymbol)
+    → All (λ s. s < n) a.own
     → All (λ s. s < n) a.kept → All (IsKnown n) f → All (λ s. s < n) (replaced a es f)
-replaced_known n a es f ho hk hf = go f (recursion_from_All (IsKnown n) f hf)
+replaced_known n a es f ho hk hf = symbol_by_symbol f (recursion_from_All (IsKnown n) f hf)
   where
     span : (p : RuleSymbol) → IsKnown n p → All (λ s. s < n) (replaced_part a es p)
     span (Variable j) h = symbols_known n a (rest (get_or es j no_symbols)) ho hk
     span (Constant s) h = All-from_recursion (λ s. s < n) (s ∷ []) (h, tt)
 
-    go : (f : List RuleSymbol) → AllByRecursion (IsKnown n) f → All (λ s. s < n) (replaced a es f)
-    go [] h = All-nil (λ s. s < n)
-    go (p ∷ f) h = All-append (λ s. s < n) _ _ (span p h.0) (go f h.1)
+    symbol_by_symbol : (f : List RuleSymbol) → AllByRecursion (IsKnown n) f
+        → All (λ s. s < n) (replaced a es f)
+    symbol_by_symbol [] h = All-nil (λ s. s < n)
+    symbol_by_symbol (p ∷ f) h = All-append (λ s. s < n) _ _ (span p h.0) (symbol_by_symbol f h.1)
 
 -- a table written back
 pub written : {X : Type 0} (new old : List X) (n : ℕ) → length new ≡ n
@@ -164,7 +167,8 @@ premise_in a es j e h l is =
     let p : IsIn a (get_or es j no_symbols) = All-get_or (IsIn a) es j no_symbols l h in
     subst (IsIn a) (sym is) (record { rising = omega arith; within = p.within })
 
-pub variable_in : (a : Arena) (es : List Span) (parts : List RuleSymbol) (i : ℕ) (p : RuleSymbol) (j : ℕ)
+pub variable_in : (a : Arena) (es : List Span) (parts : List RuleSymbol) (i : ℕ) (p : RuleSymbol)
+    (j : ℕ)
     → (e : Span) → All (IsIn a) es → All (IsBelow (length es)) parts → i < length parts
     → p ≡ get_or parts i p → p ≡ Variable j → e ≡ rest (get_or es j no_symbols) → IsIn a e
 variable_in a es parts i p j e h below l here is made =

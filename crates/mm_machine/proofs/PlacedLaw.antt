@@ -17,7 +17,8 @@ use Rattle.mm_rule.specs.declared.rule.RuleSymbol.{RuleSymbol}
 use Rattle.mm_rule.specs.Rule.{Compiled, IsCompiled, IsBelow, IsKnown}
 use Rattle.mm_machine.specs.Arena.{Arena, arena, AreEntries}
 use Rattle.mm_machine.specs.Replaced.{replaced}
-use Rattle.mm_machine.specs.State.{span_formulas, applied, entries_after, TestsRule, IsStack, IsStackOf}
+use Rattle.mm_machine.specs.State.{span_formulas, applied, entries_after, TestsRule, IsStack,
+IsStackOf}
 use Rattle.mm_machine.specs.State.{MachineState, IsMachine}
 use Rattle.mm_machine.specs.Stops.{Stops, IsApplied}
 use Rattle.mm_machine.proofs.FollowLaw.{on_ok, on_err}
@@ -66,10 +67,11 @@ pub short_enough : (n : ℕ) (xs : List ℕ) → n ≤ formula_limit
     → nat_le (length (take n xs)) formula_limit ≡ true
 short_enough n xs h = le-leb _ _ (omega (arith, h, length-take n xs))
 
-pub some_entry : (a : Arena) (es : List Span) (below : ℕ) (parts : List RuleSymbol) (out : List Formula)
+pub some_entry : (a : Arena) (es : List Span) (below : ℕ) (parts : List RuleSymbol)
+    (out : List Formula)
     → entries_after a es below parts ≡ Ok out → 0 < length out
 some_entry a es below parts out h =
-    by (nat_le (length (replaced a (drop below es) parts)) formula_limit) h
+    by_length_test (nat_le (length (replaced a (drop below es) parts)) formula_limit) h
   where
     first : List Formula
     first = take below (span_formulas a es)
@@ -77,9 +79,10 @@ some_entry a es below parts out h =
     made : Formula
     made = replaced a (drop below es) parts
 
-    by : (b : Bool) → pick true true true b (first ++ made ∷ []) ≡ Ok out → 0 < length out
-    by false e = absurd (cc)
-    by true e =
+    by_length_test : (b : Bool) → pick true true true b (first ++ made ∷ []) ≡ Ok out → 0
+        < length out
+    by_length_test false e = absurd (cc)
+    by_length_test true e =
         let same : first ++ made ∷ [] ≡ out = cc in
         let n = ap length same in omega (arith, n, length-append first (made ∷ []))
 
@@ -168,7 +171,8 @@ module _ (own kept : List ℕ) (es : List Span) (marks : List ℕ) (marked : Lis
   stack_here kept' same = rw same m.stack.is_stack
 
   -- after a step
-  pub next_machine : (parts : List RuleSymbol) (own' kept' : List ℕ) (es' : List Span) → kept' ≡ kept
+  pub next_machine : (parts : List RuleSymbol) (own' kept' : List ℕ) (es' : List Span) → kept'
+      ≡ kept
       → All (IsKnown width) parts
       → ((w : ℕ) → All (IsKnown w) parts → IsStackOf w own kept' es → IsStackOf w own' kept' es')
       → IsMachine own' kept es' marks marked width

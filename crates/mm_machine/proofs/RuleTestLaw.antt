@@ -20,7 +20,8 @@ use Rattle.mm_spec.specs.Statement.{Statement}
 use Rattle.mm_spec.specs.Frame.{is_variable_number, frame_at}
 use Rattle.mm_spec.specs.Citation.{context_at}
 use Rattle.mm_machine.specs.Arena.{Arena, symbols_of, no_symbols, span_formula, IsIn}
-use Rattle.mm_rule.specs.Rule.{floating_index, parts_of, part_count, all_parts, Compiled, IsCompiled}
+use Rattle.mm_rule.specs.Rule.{floating_index, parts_of, part_count, all_parts, Compiled,
+IsCompiled}
 use Rattle.mm_machine.specs.Replaced.{stands, replaced_part}
 use Rattle.mm_machine.specs.Replaced.{replaced}
 use Rattle.mm_machine.specs.State.{span_formulas, applied}
@@ -55,13 +56,14 @@ module _ (db : List Statement) (t : ℕ) (hs : List Formula) (xs : Arena) (es : 
   pub one_same : (f : Formula) → AreBound (context_at db t) hs f
       → replaced xs es (parts_of db hs f) ≡ substitute (context_at db t) σ f
   one_same [] b = refl
-  one_same (s ∷ f) b = ap₂ (λ u v. u ++ v) (go (is_variable_number db s) b.0) (one_same f b.1)
+  one_same (s ∷ f) b = ap₂ (λ u v. u ++ v) (by_is_variable (is_variable_number db s) b.0)
+      (one_same f b.1)
     where
-      go : (v : Bool) → (IsTrue v → IsBound (context_at db t) hs s)
+      by_is_variable : (v : Bool) → (IsTrue v → IsBound (context_at db t) hs s)
           → replaced_part xs es (cond v (Variable (floating_index db hs s)) (Constant s))
           ≡ cond v (σ s) (s ∷ [])
-      go true h = stands_is s (h refl)
-      go false h = refl
+      by_is_variable true h = stands_is s (h refl)
+      by_is_variable false h = refl
 
   pub all_same : (fs : List Formula) → AllByRecursion (AreBound (context_at db t) hs) fs
       → map (replaced xs es) (map (parts_of db hs) fs) ≡ map (substitute (context_at db t) σ) fs

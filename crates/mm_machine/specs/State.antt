@@ -10,7 +10,8 @@ use Rattle.mm_spec.specs.Citation.{context_at}
 use Rattle.mm_spec.specs.Laws.Stack.{step, pick, top}
 use Rattle.mm_machine.specs.declared.arena.Span.{Span}
 use Rattle.mm_machine.specs.declared.arena.Reason.{Reason}
-use Rattle.mm_machine.specs.declared.arena.Reason.TheVariants.{TooFew, Unmatched, NotDisjoint, TooLong}
+use Rattle.mm_machine.specs.declared.arena.Reason.TheVariants.{TooFew, Unmatched, NotDisjoint,
+TooLong}
 use Rattle.mm_machine.specs.declared.arena.Store.TheVariants.{Own, Kept}
 use Rattle.mm_machine.specs.Arena.{Arena, arena, span, span_formula, IsIn, IsArena}
 use Rattle.mm_rule.specs.declared.rule.RuleSymbol.{RuleSymbol}
@@ -63,7 +64,8 @@ pub record IsStack (own kept : List ℕ) (es : List Span) : Type 0 where
   pub inside : All (IsIn (arena own kept)) es
   pub follow : Follow 0 es (length own)
 
--- the stack of a machine for `width` symbols: entries as above, over symbols that are each less than
+-- the stack of a machine for `width` symbols: entries as above, over symbols that are each less
+-- than
 -- that
 pub record IsStackOf (width : ℕ) (own kept : List ℕ) (es : List Span) : Type 0 where
   pub known : IsArena width (arena own kept)

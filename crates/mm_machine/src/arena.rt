@@ -11,7 +11,14 @@ ghost use Rattle.mm_spec.specs.Limits.{formula_limit};
 ghost use Rattle.mm_spec.specs.Frame.{symbol_names};
 ghost use Rattle.mm_spec.specs.Citation.{context_at};
 ghost use Rattle.mm_spec.specs.Laws.Stack.{same};
-ghost use Rattle.mm_machine.specs.Arena.{no_symbols, rest, symbols_of, span_formula, IsIn, AreEntries};
+ghost use Rattle.mm_machine.specs.Arena.{
+  no_symbols,
+  rest,
+  symbols_of,
+  span_formula,
+  IsIn,
+  AreEntries,
+};
 ghost use Rattle.mm_machine.specs.DisjointCache.{AreDisjointAt};
 ghost use Rattle.mm_rule.specs.Rule.{IsBelow, IsCompiled, all_parts, count_parts};
 ghost use Rattle.mm_machine.specs.Replaced.{stands};

@@ -87,7 +87,8 @@ starts : (number : Option BegunNumber) (early : List Letter) (at byte : ℕ) →
 starts None early at byte b = ap (λ es. starts_at (group es at byte)) b
 starts (Some n) early at byte b = ap (λ es. starts_at (group es at byte)) b.2 ∙ sym b.3
 
-saturated_value : (number : Option BegunNumber) (early : List Letter) (at byte : ℕ) → Begins number early
+saturated_value : (number : Option BegunNumber) (early : List Letter) (at byte : ℕ)
+    → Begins number early
     → saturated (20 * (begun_at number at).value + (byte - 64))
     ≡ saturated (value (group early at byte))
 saturated_value None early at byte b =
@@ -99,9 +100,9 @@ named_within : (labels marks : List ℕ) (n : ℕ) (s : spec.Step) → step_of l
     → n ≤ length labels + length marks
 named_within labels marks zero s e = omega arith
 named_within labels marks (suc n) s e =
-    by (slice_get labels n) refl (slice_get marks (n - length labels)) refl e
+    by_entries (slice_get labels n) refl (slice_get marks (n - length labels)) refl e
   where
-    by : (a : Option ℕ) → slice_get labels n ≡ a → (b : Option ℕ)
+    by_entries : (a : Option ℕ) → slice_get labels n ≡ a → (b : Option ℕ)
         → slice_get marks (n - length labels) ≡ b
         → ◌≡◌ {A = List spec.Step}
         (elim a [
@@ -110,21 +111,22 @@ named_within labels marks (suc n) s e =
         ]) (s
         ∷ [])
         → suc n ≤ length labels + length marks
-    by (Some j) p b q e = let h = slice_get_within labels n j p in omega (arith, h)
-    by None p (Some i) q e =
+    by_entries (Some j) p b q e = let h = slice_get_within labels n j p in omega (arith, h)
+    by_entries None p (Some i) q e =
         let h = slice_get_within marks (n - length labels) i q in omega (arith, h)
-    by None p None q e = absurd (cc)
+    by_entries None p None q e = absurd (cc)
 
 no_mark : (byte : ℕ) → is_last byte ≡ true → (byte == 90) ≡ false
-no_mark byte l = by (byte == 90) refl
+no_mark byte l = by_equality (byte == 90) refl
   where
-    by : (b : Bool) → (byte == 90) ≡ b → b ≡ false
-    by true e =
+    by_equality : (b : Bool) → (byte == 90) ≡ b → b ≡ false
+    by_equality true e =
         let low = leb-true byte 84 (and_parts (nat_le 65 byte) (nat_le byte 84) l).1 in
         let same = eqb-true byte 90 e in absurd (omega arith)
-    by false e = refl
+    by_equality false e = refl
 
-pub last_reads : (t : ℕ) (labels marks : List ℕ) (number : Option BegunNumber) (steps : List PlacedStep)
+pub last_reads : (t : ℕ) (labels marks : List ℕ) (number : Option BegunNumber)
+    (steps : List PlacedStep)
     → (place byte : ℕ) (s : spec.Step)
     → is_early byte ≡ false → is_last byte ≡ true
     → ((n : ℕ) → saturated (20 * (begun_at number place).value + (byte - 64)) ≡ saturated n
@@ -213,7 +215,8 @@ last_reads t labels marks number steps place byte s e l named all left h =
         ∙ ap (λ n. (steps ++ first ∷ []) ++ group_steps labels marks n gs) (sym longer)
 
 -- an early letter
-pub early_reads : (t : ℕ) (labels marks : List ℕ) (number : Option BegunNumber) (steps : List PlacedStep)
+pub early_reads : (t : ℕ) (labels marks : List ℕ) (number : Option BegunNumber)
+    (steps : List PlacedStep)
     → (place byte : ℕ) (begun : BegunNumber) → is_early byte ≡ true
     → begun.at ≡ (begun_at number place).at
     → begun.value ≡ saturated (5 * (begun_at number place).value + (byte - 84))
@@ -270,19 +273,19 @@ abbrev begun : ℕ → ℕ → BegunNumber
 begun at value = record { at = at; value = value }
 
 begun_is : (b : BegunNumber) (place : ℕ) → BeginsAt b place → begun_at (if_begun b) place ≡ b
-begun_is b place h = by (b.value == 0) refl
+begun_is b place h = by_zero (b.value == 0) refl
   where
-    by : (t : Bool) → (b.value == 0) ≡ t → begun_at (if t then None else Some b) place ≡ b
-    by true e =
+    by_zero : (t : Bool) → (b.value == 0) ≡ t → begun_at (if t then None else Some b) place ≡ b
+    by_zero true e =
         let none = eqb-true b.value 0 e in ap₂ begun (sym (h none)) (sym none)
-    by false e = refl
+    by_zero false e = refl
 
 pub some_begun : (b : BegunNumber) → 0 < b.value → if_begun b ≡ Some b
-some_begun b l = by (b.value == 0) refl
+some_begun b l = by_zero (b.value == 0) refl
   where
-    by : (t : Bool) → (b.value == 0) ≡ t → (if t then None else Some b) ≡ Some b
-    by true e = let none = eqb-true b.value 0 e in absurd (omega arith)
-    by false e = refl
+    by_zero : (t : Bool) → (b.value == 0) ≡ t → (if t then None else Some b) ≡ Some b
+    by_zero true e = let none = eqb-true b.value 0 e in absurd (omega arith)
+    by_zero false e = refl
 
 pub none_begun : (b : BegunNumber) → b.value ≡ 0 → if_begun b ≡ None
 none_begun b e = ap (λ n. if n == 0 then None else Some b) e
@@ -321,7 +324,8 @@ early_here t labels marks number steps place byte next b e place_is value_is all
     (sym (some_begun next some))
     (early_reads t labels marks (if_begun number) steps place byte next e
     (place_is ∙ ap (λ (b : BegunNumber). b.at) (sym is))
-    (value_is ∙ ap (λ (b : BegunNumber). saturated (5 * b.value + (byte - 84))) (sym is)) all left h)
+    (value_is ∙ ap (λ (b : BegunNumber). saturated (5 * b.value + (byte - 84))) (sym is)) all left
+    h)
 
 -- a `Z` after the last letter of a number
 pub mark_reads : (t : ℕ) (labels marks : List ℕ) (steps : List PlacedStep) (place : ℕ)
@@ -414,12 +418,12 @@ pub some_letters : (from end : ℕ) (text : List ℕ) (ws : List Place)
     → InOrder from (as_tokens text ws) end → (length ws == 0) ≡ false
     → ¬ (letters_of (as_tokens text ws) ≡ [])
 some_letters from end text [] o l e = absurd (true≢false l)
-some_letters from end text (v ∷ ws) o l e = by (token_of text v).word o.1 e
+some_letters from end text (v ∷ ws) o l e = by_first_word (token_of text v).word o.1 e
   where
-    by : (w : Bytes) → 1 ≤ length w
+    by_first_word : (w : Bytes) → 1 ≤ length w
         → ¬ (letters_from v.start w ++ letters_of (as_tokens text ws) ≡ [])
-    by [] l e = absurd (omega arith)
-    by (b ∷ bs) l e = cc
+    by_first_word [] l e = absurd (omega arith)
+    by_first_word (b ∷ bs) l e = cc
 
 -- a letter without a step
 pub stands_later : (s : LettersState) (at : ℕ) → StandsAt s at → StandsAt s (at + 1)

@@ -100,9 +100,10 @@ pub saturated_none : {E : Type 0} (r : Result ℕ E) (bs : List ℕ) (b v w : �
     → v ≡ saturated (early_bytes bs) → w ≡ saturated (20 * v + (b - 64))
     → IfNone (result_ok r) ((n : ℕ) → IsNumber (bs ++ b ∷ []) n → 4294967295 < n)
 saturated_none (Ok x) bs b v w o e f = tt
-saturated_none (Err x) bs b v w o e f = λ n h. by n (spelled bs b n h).is (cases_lt w 4294967296)
+saturated_none (Err x) bs b v w o e f = λ n h. by_size n (spelled bs b n h).is
+    (cases_lt w 4294967296)
   where
-    by : (n : ℕ) → early_bytes bs * 20 + (b - 64) ≡ n → (w < 4294967296) ⊎ (4294967296 ≤ w)
+    by_size : (n : ℕ) → early_bytes bs * 20 + (b - 64) ≡ n → (w < 4294967296) ⊎ (4294967296 ≤ w)
         → 4294967295 < n
-    by n is (inl l) = absurd (o l)
-    by n is (inr l) = omega (arith, is, l, e, f)
+    by_size n is (inl l) = absurd (o l)
+    by_size n is (inr l) = omega (arith, is, l, e, f)

@@ -62,17 +62,17 @@ join_runs from mid to xs ys a b h k = record {
   high =
       each_append (λ f. f.at < to) xs ys
       (each_map (λ f. f.at < mid) (λ f. f.at < to) xs (λ f l. omega (arith, b, l)) h.high) k.high;
-  sorted = by xs h.high h.sorted;
+  sorted = joined_is_sorted xs h.high h.sorted;
 }
   where
-    by : (xs : List Fault) → AllByRecursion (λ (f : Fault). f.at < mid) xs → Sorted xs
+    joined_is_sorted : (xs : List Fault) → AllByRecursion (λ (f : Fault). f.at < mid) xs → Sorted xs
         → Sorted (xs ++ ys)
-    by [] l s = k.sorted
-    by (x ∷ xs) l s = (
+    joined_is_sorted [] l s = k.sorted
+    joined_is_sorted (x ∷ xs) l s = (
       each_append (λ g. is_before x g ≡ true) xs ys s.0
           (each_map (λ f. mid ≤ f.at) (λ g. is_before x g ≡ true) ys
           (λ g m. earlier x g (let n = l.0 in omega (arith, n, m))) k.low),
-      by xs l.1 s.1,
+      joined_is_sorted xs l.1 s.1,
     )
 
 no_run : (from to : ℕ) → Run from to []
@@ -97,7 +97,7 @@ from_run from low to fs l h =
 
 -- the first of faults in order is the least
 least_sorted : (f : Fault) (fs : List Fault) → Sorted (f ∷ fs) → least (f ∷ fs) ≡ Some f
-least_sorted f fs s = by (least fs) (kept fs s.0)
+least_sorted f fs s = by_fault (least fs) (kept fs s.0)
   where
     Before : Option Fault → Type 0
     Before None = Unit {0}
@@ -117,9 +117,9 @@ least_sorted f fs s = by (least fs) (kept fs s.0)
         more None p = a.0
         more (Some h) p = two g h (is_before g h) a.0 p
 
-    by : (o : Option Fault) → Before o → lesser f o ≡ Some f
-    by None p = refl
-    by (Some g) p = ap (λ b. elim b [ true ↦ Some f | false ↦ Some g ]) p
+    by_fault : (o : Option Fault) → Before o → lesser f o ≡ Some f
+    by_fault None p = refl
+    by_fault (Some g) p = ap (λ b. elim b [ true ↦ Some f | false ↦ Some g ]) p
 
 -- ---- letters
 
@@ -175,7 +175,8 @@ module _ (labels end : ℕ) where
       → Run from (place + 1)
       (group_fault labels marks count
       (record { early = early; last = record { at = place; byte = byte } }))
-  group_run from now place byte early marks count o l = by (is_last byte) (byte == 90) (byte == 63)
+  group_run from now place byte early marks count o l = by_letter_kind (is_last byte) (byte == 90)
+      (byte == 63)
     where
       g : Group
       g = record { early = early; last = record { at = place; byte = byte } }
@@ -195,7 +196,7 @@ module _ (labels end : ℕ) where
       within [] o = omega (arith, o, l)
       within (x ∷ xs) o = let h = o.0 in let k = o.1 in omega (arith, h, k, l)
 
-      by : (a b c : Bool) → Run from (place + 1) (elim a [
+      by_letter_kind : (a b c : Bool) → Run from (place + 1) (elim a [
         | true ↦ at (starts_at g) (when (nat_lt (labels + marks) (value g)) NumberTooLarge)
         | false ↦ elim b [
           | true ↦ at place
@@ -203,13 +204,15 @@ module _ (labels end : ℕ) where
           | false ↦ at place (elim c [ true ↦ IncompleteProof ∷ [] | false ↦ BadLetter ∷ [] ])
         ]
       ])
-      by true b c =
+      by_letter_kind true b c =
           when_run from (place + 1) (starts_at g) (nat_lt (labels + marks) (value g)) NumberTooLarge
           (low early o) (high early o)
-      by false true c = mark_run from place (nat_lt 0 (length early)) (count == 0) (within early o)
-      by false false true =
+      by_letter_kind false true c = mark_run from place (nat_lt 0 (length early)) (count == 0)
+          (within early o)
+      by_letter_kind false false true =
           one_run from (place + 1) place IncompleteProof (within early o) (omega arith)
-      by false false false = one_run from (place + 1) place BadLetter (within early o) (omega arith)
+      by_letter_kind false false false = one_run from (place + 1) place BadLetter (within early o)
+          (omega arith)
 
   -- the faults of the letters from an open run on
   abbrev left_faults : List Letter → ℕ → ℕ → List Letter → List Fault
@@ -232,7 +235,7 @@ module _ (labels end : ℕ) where
       when_run from (end + 1) end (nat_lt 0 (length early)) OpenNumber (end_low from now early o r)
       (omega arith)
   left_run (x ∷ xs) early from now marks count o r =
-      by (is_early x.byte)
+      by_mark (is_early x.byte)
       (left_run xs (early ++ x ∷ []) from (x.at + 1) marks count (opens early o) r.1)
       (ends (x.byte == 90)
       (left_run xs [] (x.at + 1) (x.at + 1) (marks + 1) count (omega arith) r.1)
@@ -300,10 +303,10 @@ module _ (labels end : ℕ) where
           let r = grouped a in
           group_faults labels marks count r.0 ++ at end (when (nat_lt 0 (length r.1)) OpenNumber)
 
-      by : (a : Bool) → Run from (end + 1) (left_faults (early ++ x ∷ []) marks count xs)
+      by_mark : (a : Bool) → Run from (end + 1) (left_faults (early ++ x ∷ []) marks count xs)
           → Run from (end + 1) (ended (x.byte == 90)) → Run from (end + 1) (all a)
-      by true h k = h
-      by false h k = k
+      by_mark true h k = h
+      by_mark false h k = k
 
   letters_run : (from : ℕ) (xs : List Letter) → Rise from xs end
       → Run from (end + 1) (letter_faults labels end xs)
@@ -314,12 +317,12 @@ module _ (labels end : ℕ) where
 
 label_run : (db : List Statement) (k : ℕ) (t : Token)
     → Run t.at (t.at + 1) (proof_label_faults db k t)
-label_run db k t = by (usable db k t.word)
+label_run db k t = by_usability (usable db k t.word)
   where
-    by : (js : List ℕ)
+    by_usability : (js : List ℕ)
         → Run t.at (t.at + 1) (elim js [ [] ↦ fault t.at UnusableLabel ∷ [] | j ∷ js ↦ [] ])
-    by [] = one_run t.at (t.at + 1) t.at UnusableLabel (omega arith) (omega arith)
-    by (j ∷ js) = no_run t.at (t.at + 1)
+    by_usability [] = one_run t.at (t.at + 1) t.at UnusableLabel (omega arith) (omega arith)
+    by_usability (j ∷ js) = no_run t.at (t.at + 1)
 
 order_low : (from end : ℕ) (ts : List Token) → InOrder from ts end → from ≤ end
 order_low from end [] o = o
@@ -337,24 +340,26 @@ module _ (db : List Statement) (k end : ℕ) where
       → Run from (end + 1) (faults_of n (bracketed ts))
   brackets_run n from [] o = one_run from (end + 1) end OpenBrackets o (omega arith)
   brackets_run n from (t ∷ ts) o =
-      by (bytes_eq t.word (codes ")")) (brackets_run n (t.at + length t.word) ts o.2)
+      by_closing_bracket (bytes_eq t.word (codes ")"))
+      (brackets_run n (t.at + length t.word) ts o.2)
     where
       before : t.at + length t.word ≤ end
       before = order_low (t.at + length t.word) end ts o.2
 
-      by : (b : Bool) → Run (t.at + length t.word) (end + 1) (faults_of n (bracketed ts))
+      by_closing_bracket : (b : Bool) → Run (t.at + length t.word) (end + 1) (faults_of n
+          (bracketed ts))
           → Run from (end + 1)
           (faults_of n
           (elim b [
             | true ↦ record { labels = []; letters = Some ts }
             | false ↦ with_label t (bracketed ts)
           ]))
-      by true h =
+      by_closing_bracket true h =
           let low = o.0 in
           letters_run n end from (letters_of ts)
           (rise_from from (t.at + length t.word) end (letters_of ts) (omega (arith, low))
           (letters_rise (t.at + length t.word) end ts o.2))
-      by false h =
+      by_closing_bracket false h =
           let low = o.0 in
           let long = o.1 in
           subst (Run from (end + 1))

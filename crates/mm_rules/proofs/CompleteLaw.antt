@@ -31,20 +31,21 @@ module _ (db : List Statement) (complete : AreComplete db) (j : ℕ) where
   pub complete_at : is_assertion_at db j ≡ true → IsComplete (context_at db 0) (frame_at db j)
   complete_at is = some (slice_get db j) refl is
     where
-      by : (s : Statement) → slice_get db j ≡ Some s → list_any is_assertion (s ∷ []) ≡ true
+      by_statement : (s : Statement) → slice_get db j ≡ Some s → list_any is_assertion (s ∷ [])
+          ≡ true
           → IsComplete (context_at db 0) (frame_at db j)
-      by (axiomatic l p xs d) e h =
+      by_statement (axiomatic l p xs d) e h =
           frame_complete
           (subst (IsFine (context_at db (length db))) (at_end (axiomatic l p xs d) e refl)
           (complete (length db) j))
-      by (provable l p xs w ps d) e h =
+      by_statement (provable l p xs w ps d) e h =
           frame_complete
           (subst (IsFine (context_at db (length db))) (at_end (provable l p xs w ps d) e refl)
           (complete (length db) j))
-      by _ e h = absurd (true≢false (sym h))
+      by_statement _ e h = absurd (true≢false (sym h))
 
       some : (o : Option Statement) → slice_get db j ≡ o
           → list_any is_assertion (elim o [ None ↦ [] | Some s ↦ s ∷ [] ]) ≡ true
           → IsComplete (context_at db 0) (frame_at db j)
       some None e h = absurd (true≢false (sym h))
-      some (Some s) e h = by s e h
+      some (Some s) e h = by_statement s e h

@@ -114,7 +114,7 @@ module _ (db : List Statement) (hs : List Formula) where
       → All (IsBelow (length hs)) (parts_of db hs f)
   parts_below f h =
       All-from_recursion (IsBelow (length hs)) (parts_of db hs f)
-      (go f (recursion_from_All
+      (each_is_below f (recursion_from_All
       (λ x. is_variable_number db x ≡ true → IsBound (context_at db 0) hs x) f h))
     where
       one : (s : ℕ) (v : Bool) → (v ≡ true → IsBound (context_at db 0) hs s)
@@ -122,25 +122,26 @@ module _ (db : List Statement) (hs : List Formula) where
       one s true b = first_below db hs s (b refl)
       one s false b = tt
 
-      go : (f : Formula)
+      each_is_below : (f : Formula)
           → AllByRecursion (λ x. is_variable_number db x ≡ true → IsBound (context_at db 0) hs x) f
           → AllByRecursion (IsBelow (length hs)) (parts_of db hs f)
-      go [] h = tt
-      go (s ∷ f) h = (one s (is_variable_number db s) h.0, go f h.1)
+      each_is_below [] h = tt
+      each_is_below (s ∷ f) h = (one s (is_variable_number db s) h.0, each_is_below f h.1)
 
   pub parts_known : (n : ℕ) (f : Formula) → All (λ s. s < n) f → All (IsKnown n) (parts_of db hs f)
   parts_known n f h =
-      All-from_recursion (IsKnown n) (parts_of db hs f) (go f (recursion_from_All (λ s. s < n) f h))
+      All-from_recursion (IsKnown n) (parts_of db hs f)
+      (each_is_known f (recursion_from_All (λ s. s < n) f h))
     where
       one : (s : ℕ) (v : Bool) → s < n
           → IsKnown n (cond v (Variable (floating_index db hs s)) (Constant s))
       one s true l = tt
       one s false l = l
 
-      go : (f : Formula) → AllByRecursion (λ s. s < n) f
+      each_is_known : (f : Formula) → AllByRecursion (λ s. s < n) f
           → AllByRecursion (IsKnown n) (parts_of db hs f)
-      go [] h = tt
-      go (s ∷ f) h = (one s (is_variable_number db s) h.0, go f h.1)
+      each_is_known [] h = tt
+      each_is_known (s ∷ f) h = (one s (is_variable_number db s) h.0, each_is_known f h.1)
 
   pub covered : (f : Formula) → AreBound (context_at db 0) hs f → AreCovered db hs f
   covered f h =
@@ -149,13 +150,14 @@ module _ (db : List Statement) (hs : List Formula) where
   pub covered_all : (hyps : List ℕ)
       → AllByRecursion (AreBound (context_at db 0) hs) (map (formula_at db) hyps)
       → All (λ h. AreCovered db hs (formula_at db h)) hyps
-  covered_all hyps h = All-from_recursion (λ h. AreCovered db hs (formula_at db h)) hyps (go hyps h)
+  covered_all hyps h = All-from_recursion (λ h. AreCovered db hs (formula_at db h)) hyps
+      (each_is_covered hyps h)
     where
-      go : (hyps : List ℕ)
+      each_is_covered : (hyps : List ℕ)
           → AllByRecursion (AreBound (context_at db 0) hs) (map (formula_at db) hyps)
           → AllByRecursion (λ h. AreCovered db hs (formula_at db h)) hyps
-      go [] h = tt
-      go (x ∷ xs) h = (covered (formula_at db x) h.0, go xs h.1)
+      each_is_covered [] h = tt
+      each_is_covered (x ∷ xs) h = (covered (formula_at db x) h.0, each_is_covered xs h.1)
 
   abbrev Both : Pair → Type 0
   Both p = IsBound (context_at db 0) hs p.low × IsBound (context_at db 0) hs p.high
@@ -164,7 +166,7 @@ module _ (db : List Statement) (hs : List Formula) where
   pub numbered_same : (numbers : List ℕ) → AreFirstNumbers db hs numbers → (f : Formula)
       → AreCovered db hs f → numbered_parts db numbers f ≡ parts_of db hs f
   numbered_same numbers placed f h =
-      go f (recursion_from_All
+      symbol_by_symbol f (recursion_from_All
       (λ x. is_variable_number db x ≡ true → IsBound (context_at db 0) hs x) f h)
     where
       one : (s : ℕ) (v : Bool) → (v ≡ true → IsBound (context_at db 0) hs s)
@@ -173,13 +175,13 @@ module _ (db : List Statement) (hs : List Formula) where
       one s true b = ap Variable (placed s (b refl))
       one s false b = refl
 
-      go : (f : Formula)
+      symbol_by_symbol : (f : Formula)
           → AllByRecursion (λ x. is_variable_number db x ≡ true → IsBound (context_at db 0) hs x) f
           → numbered_parts db numbers f ≡ parts_of db hs f
-      go [] h = refl
-      go (s ∷ f) h =
+      symbol_by_symbol [] h = refl
+      symbol_by_symbol (s ∷ f) h =
           ap₂ (λ (p : RuleSymbol) (ps : List RuleSymbol). p ∷ ps)
-          (one s (is_variable_number db s) h.0) (go f h.1)
+          (one s (is_variable_number db s) h.0) (symbol_by_symbol f h.1)
 
   numbered_first : (numbers : List ℕ) → AreFirstNumbers db hs numbers → (ps : List (ℕ × ℕ))
       → AllByRecursion Both (paired ps)
@@ -195,14 +197,18 @@ module _ (db : List Statement) (hs : List Formula) where
       → All (λ (p : ℕ × ℕ). (p.0 < length hs) × (p.1 < length hs))
       (map {B = ℕ × ℕ} (λ (p : Pair). (floating_index db hs p.low, floating_index db hs p.high)) ps)
   pairs_below ps h =
-      All-from_recursion (λ (p : ℕ × ℕ). (p.0 < length hs) × (p.1 < length hs)) _ (go ps h)
+      All-from_recursion (λ (p : ℕ × ℕ). (p.0 < length hs) × (p.1 < length hs)) _
+      (each_is_below ps h)
     where
-      go : (ps : List Pair) → AllByRecursion Both ps
+      each_is_below : (ps : List Pair) → AllByRecursion Both ps
           → AllByRecursion (λ (p : ℕ × ℕ). (p.0 < length hs) × (p.1 < length hs))
           (map {B = ℕ × ℕ}
           (λ (p : Pair). (floating_index db hs p.low, floating_index db hs p.high)) ps)
-      go [] h = tt
-      go (p ∷ ps) h = ((first_below db hs p.low h.0.0, first_below db hs p.high h.0.1), go ps h.1)
+      each_is_below [] h = tt
+      each_is_below (p ∷ ps) h = (
+        (first_below db hs p.low h.0.0, first_below db hs p.high h.0.1),
+        each_is_below ps h.1,
+      )
 
   pairs_same : (ps : List (ℕ × ℕ))
       → map {B = ℕ × ℕ} (λ (p : ℕ × ℕ). (floating_index db hs p.0, floating_index db hs p.1)) ps

@@ -23,11 +23,11 @@ use Rattle.mm_scope.proofs.BoundsLaw.{symbols_known}
 
 one_kind : (x : Option WordEntry) → is_constant_entry x ≡ true → is_variable_entry x ≡ false
 one_kind None e = refl
-one_kind (Some e) h = by e.is_variable h
+one_kind (Some e) h = by_values e.is_variable h
   where
-    by : (b : Bool) → not b ≡ true → b ≡ false
-    by true h = absurd (true≢false (sym h))
-    by false h = refl
+    by_values : (b : Bool) → not b ≡ true → b ≡ false
+    by_values true h = absurd (true≢false (sym h))
+    by_values false h = refl
 
 pub sound_is : (db : List Statement) (look : List ℕ → Option Symbol) (labels : List ℕ → Option ℕ)
     → (b : BlockLists)

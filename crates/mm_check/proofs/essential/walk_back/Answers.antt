@@ -96,7 +96,8 @@ loop-i-preserved g c =
 pub returns : goal.returns
 returns g c =
     let none : c.loop-i.i ≡ 0 = omega (arith, c.loop-i-test.false) in
-    walk_end c.args.db.now.statements c.args.theorem c.args.steps.now.steps c.requires.steps.complete
+    walk_end c.args.db.now.statements c.args.theorem c.args.steps.now.steps
+    c.requires.steps.complete
     c.loop-i.waiting.items c.loop-i.wanted.items c.loop-i.noted
     (subst (λ n. Walked c.args.db.now.statements c.args.theorem c.args.steps.now.steps n
     c.loop-i.waiting.items c.loop-i.wanted.items c.loop-i.noted) none c.loop-i.invariant)

@@ -5,11 +5,13 @@ use Rattle.mm_spec.specs.Derivation.{is_disjoint_from, are_all_disjoint}
 use Rattle.mm_spec.specs.Citation.{context_at}
 use Rattle.mm_machine.proofs.arena.are_all_disjoint.Goals as goal
 
-pub returns-then-not-is_disjoint_from-clause-value : goal.returns-then-not-is_disjoint_from-clause-value
+pub returns-then-not-is_disjoint_from-clause-value :
+    goal.returns-then-not-is_disjoint_from-clause-value
 returns-then-not-is_disjoint_from-clause-value g c =
     sym (list_all_at (λ s. is_disjoint_from (context_at c.args.db.now.statements c.args.theorem) s
     c.args.second.now) c.args.first.now c.loop-s.s-index c.s-item.result c.loop-s-test.true
-    (ap (λ s. is_disjoint_from (context_at c.args.db.now.statements c.args.theorem) s c.args.second.now)
+    (ap (λ s. is_disjoint_from (context_at c.args.db.now.statements c.args.theorem) s
+    c.args.second.now)
     (sym c.s-item.is) ∙ sym c.is_disjoint_from.ensures.value ∙ c.if-not-is_disjoint_from.true))
 
 pub loop-s-preserved : goal.loop-s-preserved
@@ -18,7 +20,8 @@ loop-s-preserved g c = record {
       list_all_more (λ s. is_disjoint_from (context_at c.args.db.now.statements c.args.theorem) s
       c.args.second.now) c.args.first.now c.loop-s.s-index c.s-item.result c.loop-s-test.true
       ∙ ap₂ (λ a b. a && b) c.loop-s.invariant.so_far
-      (ap (λ s. is_disjoint_from (context_at c.args.db.now.statements c.args.theorem) s c.args.second.now)
+      (ap (λ s. is_disjoint_from (context_at c.args.db.now.statements c.args.theorem) s
+      c.args.second.now)
       (sym c.s-item.is) ∙ sym c.is_disjoint_from.ensures.value ∙ c.if-not-is_disjoint_from.false);
   cache = c.is_disjoint_from.ensures.cache;
 }

@@ -6,6 +6,7 @@ use Rattle.mm_machine.proofs.arena.are_all_disjoint.Given as goal
 
 abbrev pub invariant-loop-s : goal.invariant-loop-s
 invariant-loop-s g l = record {
-  so_far : are_all_disjoint (context_at l.db.statements l.theorem) (take l.s-index l.first) l.second ≡ true;
+  so_far : are_all_disjoint (context_at l.db.statements l.theorem) (take l.s-index l.first) l.second
+      ≡ true;
   cache : AreDisjointAt l.db.statements l.theorem l.cache;
 }

@@ -20,7 +20,8 @@ fails_at test (q ∷ ps) zero h e = ap (λ b. b && list_all test ps) e
 fails_at test (q ∷ ps) (suc i) h e =
     ap (λ b. test q && b) (fails_at test ps i (omega arith) e) ∙ and-false (test q)
 
-pub returns-then-not-are_all_disjoint-clause-value : goal.returns-then-not-are_all_disjoint-clause-value
+pub returns-then-not-are_all_disjoint-clause-value :
+    goal.returns-then-not-are_all_disjoint-clause-value
 returns-then-not-are_all_disjoint-clause-value g c =
     let context = context_at c.args.db.now.statements c.args.theorem in
     let xs = c.args.symbols.now in
@@ -56,7 +57,8 @@ formula-second-requires g c =
     c.span_of-in-loop-pair.ensures
 
 pub are_all_disjoint-requires-clause-first : goal.are_all_disjoint-requires-clause-first
-are_all_disjoint-requires-clause-first g c = let n = length (symbol_names c.args.db.now.statements) in
+are_all_disjoint-requires-clause-first g c = let n = length (symbol_names c.args.db.now.statements)
+    in
     subst (All (λ s. s < n)) (sym c.formula-first.ensures)
     (symbols_known n c.args.symbols.now c.span_of.result c.requires.premises.known.own
     c.requires.premises.known.kept)

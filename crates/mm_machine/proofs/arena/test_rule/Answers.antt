@@ -22,7 +22,8 @@ returns-then-not-all_fit-clause-judged g c =
     (take_rest stack (length stack - n)) c.requires.stack.inside _ refl false _
     (sym c.if-not-all_fit.true ∙ c.all_fit.ensures) refl
 
-pub returns-then-not-pairs_are_disjoint-clause-judged : goal.returns-then-not-pairs_are_disjoint-clause-judged
+pub returns-then-not-pairs_are_disjoint-clause-judged :
+    goal.returns-then-not-pairs_are_disjoint-clause-judged
 returns-then-not-pairs_are_disjoint-clause-judged g c =
     let stack = c.args.stack.now in
     let n = length c.hypotheses-hypotheses.result.now in

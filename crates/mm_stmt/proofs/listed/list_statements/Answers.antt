@@ -34,7 +34,8 @@ returns g c =
     record {
       kinds_are = c.in_ok-kinds.ensures;
       theorems_are =
-          c.in_ok-theorems.ensures.theorems ∙ theorems_by_kind (counted w db) c.deref.result.now kinds;
+          c.in_ok-theorems.ensures.theorems ∙ theorems_by_kind (counted w
+          db) c.deref.result.now kinds;
       axioms_are =
           c.in_ok-theorems.ensures.axioms ∙ axioms_by_kind (counted w db) c.deref.result.now kinds;
       spaced_are =
