@@ -1,6 +1,6 @@
 -- The beginning and the end of a proof.
-use Rattle.std.proofs.Common.{◌≡◌, ℕ, ◌<◌, ◌∷◌, [], List, length, slice_get, Some, None, Option,
-Bool}
+use Rattle.std.proofs.Common.{◌≡◌, ℕ, ◌<◌, ◌∷◌, [], List, length, slice_get, Some, None, Option}
+use Rattle.std.proofs.Common.{Bool}
 use Rattle.std.proofs.Common.{sym, subst, inr, true, false, refl, true≢false, arith}
 use Rattle.std.specs.Prelude.{Decides}
 use Rattle.std.specs.List.{list_any}

@@ -12,8 +12,8 @@ use Rattle.mm_spec.specs.Output.{ProofFault, proof_end}
 use Rattle.mm_spec.specs.Laws.Stack.{IsGood}
 use Rattle.mm_machine.specs.State.{reason_of}
 use Rattle.mm_machine.specs.declared.machine.StepRefused.{StepRefused}
-use Rattle.mm_machine.specs.declared.machine.StepRefused.TheVariants.{Fault as Reasoned, Memory as
-Full}
+use Rattle.mm_machine.specs.declared.machine.StepRefused.TheVariants.{Fault as Reasoned}
+use Rattle.mm_machine.specs.declared.machine.StepRefused.TheVariants.{Memory as Full}
 use Rattle.mm_check.specs.declared.checker.CheckRefused.{CheckRefused}
 use Rattle.mm_check.specs.declared.checker.CheckRefused.TheVariants.{Fault as Faulty, Memory}
 

@@ -17,10 +17,10 @@ use Rattle.mm_machine.specs.Arena.{arena, symbols_of, span, no_symbols, span_for
 use Rattle.mm_machine.specs.State.{span_formulas, made_of, Follow, first_own, IsStack, IsStackOf}
 use Rattle.mm_machine.specs.State.{IsMarkedEntry}
 use Rattle.mm_machine.specs.State.{Moves}
-use Rattle.mm_machine.proofs.GrowLaw.{Stays, all_stay, stay_inside, stay_formulas, own_more,
-kept_more}
-use Rattle.mm_machine.proofs.GrowLaw.{kept_in, kept_formula, formula_new, new_in, formulas_push,
-formulas_take}
+use Rattle.mm_machine.proofs.GrowLaw.{Stays, all_stay, stay_inside, stay_formulas, own_more}
+use Rattle.mm_machine.proofs.GrowLaw.{kept_more}
+use Rattle.mm_machine.proofs.GrowLaw.{kept_in, kept_formula, formula_new, new_in, formulas_push}
+use Rattle.mm_machine.proofs.GrowLaw.{formulas_take}
 
 abbrev One : Store → Span → ℕ → List Span → ℕ → Type 0
 One p e from es to =

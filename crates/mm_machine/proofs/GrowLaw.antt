@@ -11,8 +11,8 @@ use Rattle.mm_machine.specs.declared.arena.Store.{Store}
 use Rattle.mm_machine.specs.declared.arena.Store.TheVariants.{Own, Kept}
 use Rattle.mm_rule.specs.declared.rule.RuleSymbol.{RuleSymbol}
 use Rattle.mm_rule.specs.declared.rule.RuleSymbol.TheVariants.{Constant, Variable}
-use Rattle.mm_machine.specs.Arena.{Arena, arena, symbols_of, span, no_symbols, rest, span_formula,
-IsIn}
+use Rattle.mm_machine.specs.Arena.{Arena, arena, symbols_of, span, no_symbols, rest, span_formula}
+use Rattle.mm_machine.specs.Arena.{IsIn}
 use Rattle.mm_rule.specs.Rule.{IsKnown, IsBelow}
 use Rattle.mm_rule.proofs.SliceLaw.{stretch_more}
 use Rattle.mm_machine.specs.Replaced.{replaced_part, replaced}

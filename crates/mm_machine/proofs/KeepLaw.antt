@@ -5,8 +5,8 @@ use Rattle.mm_spec.specs.Derivation.{Formula}
 use Rattle.mm_machine.specs.declared.arena.Span.{Span}
 use Rattle.mm_machine.specs.Arena.{arena, span_formula}
 use Rattle.mm_machine.specs.State.{span_formulas, IsStack, IsMarkedEntry, IsMachine, Moves}
-use Rattle.mm_machine.proofs.GrowLaw.{all_stay, stay_formulas, kept_more, kept_all_in,
-kept_all_more}
+use Rattle.mm_machine.proofs.GrowLaw.{all_stay, stay_formulas, kept_more, kept_all_in}
+use Rattle.mm_machine.proofs.GrowLaw.{kept_all_more}
 use Rattle.mm_machine.proofs.GrowLaw.{formulas_push}
 use Rattle.mm_machine.proofs.MarksLaw.{rising_more}
 

@@ -17,8 +17,8 @@ use Rattle.mm_rule.specs.declared.rule.RuleSymbol.{RuleSymbol}
 use Rattle.mm_rule.specs.Rule.{Compiled, IsCompiled, IsBelow, IsKnown}
 use Rattle.mm_machine.specs.Arena.{Arena, arena, AreEntries}
 use Rattle.mm_machine.specs.Replaced.{replaced}
-use Rattle.mm_machine.specs.State.{span_formulas, applied, entries_after, TestsRule, IsStack,
-IsStackOf}
+use Rattle.mm_machine.specs.State.{span_formulas, applied, entries_after, TestsRule, IsStack}
+use Rattle.mm_machine.specs.State.{IsStackOf}
 use Rattle.mm_machine.specs.State.{MachineState, IsMachine}
 use Rattle.mm_machine.specs.Stops.{Stops, IsApplied}
 use Rattle.mm_machine.proofs.FollowLaw.{on_ok, on_err}

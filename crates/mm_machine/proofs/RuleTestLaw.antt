@@ -20,8 +20,8 @@ use Rattle.mm_spec.specs.Statement.{Statement}
 use Rattle.mm_spec.specs.Frame.{is_variable_number, frame_at}
 use Rattle.mm_spec.specs.Citation.{context_at}
 use Rattle.mm_machine.specs.Arena.{Arena, symbols_of, no_symbols, span_formula, IsIn}
-use Rattle.mm_rule.specs.Rule.{floating_index, parts_of, part_count, all_parts, Compiled,
-IsCompiled}
+use Rattle.mm_rule.specs.Rule.{floating_index, parts_of, part_count, all_parts, Compiled}
+use Rattle.mm_rule.specs.Rule.{IsCompiled}
 use Rattle.mm_machine.specs.Replaced.{stands, replaced_part}
 use Rattle.mm_machine.specs.Replaced.{replaced}
 use Rattle.mm_machine.specs.State.{span_formulas, applied}

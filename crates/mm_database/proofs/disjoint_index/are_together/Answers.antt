@@ -4,11 +4,10 @@ use Rattle.std.proofs.lemmas.Bool.{cases_lt, lt-ltb}
 use Rattle.mm_outline.specs.Blocks.{end_of}
 use Rattle.mm_database.specs.Pairs.{has_pair}
 use Rattle.mm_database.specs.DisjointIndex.{PairLists}
-use Rattle.mm_database.proofs.DisjointIndexLaw.{none_on_left, none_on_right, none_at_end, none_left,
-sooner}
+use Rattle.mm_database.proofs.DisjointIndexLaw.{none_on_left, none_on_right, none_at_end, none_left}
+use Rattle.mm_database.proofs.DisjointIndexLaw.{sooner}
 use Rattle.mm_database.proofs.DisjointIndexLaw.{at_has, parted_here, symbol_here, no_symbol_here}
-use Rattle.mm_database.proofs.disjoint_index.are_together.Goals as goal
-use Rattle.mm_database.proofs.disjoint_index.are_together.Goals.{else-one-other-via-then-one-other+else-is_open_at}
+use Rattle.mm_database.proofs.disjoint_index.are_together.Goals as goal use Rattle.mm_database.proofs.disjoint_index.are_together.Goals.{else-one-other-via-then-one-other+else-is_open_at}
 use Rattle.mm_database.proofs.disjoint_index.are_together.Goals.{else-one-other-via-else-one-other}
 
 pub returns-then-is_open_at-clause-found : goal.returns-then-is_open_at-clause-found
