@@ -21,7 +21,8 @@ use Rattle.mm_outline.specs.Blocks.{BlockLists}
 use Rattle.mm_outline.specs.Parts.{statement_of}
 use Rattle.mm_outline.specs.Statements.{statements}
 use Rattle.mm_outline.specs.declared.parts.Kind.{Kind}
-use Rattle.mm_outline.specs.declared.parts.Kind.TheVariants as kind use Rattle.mm_outline.specs.declared.parts.Outline.{Outline}
+use Rattle.mm_outline.specs.declared.parts.Kind.TheVariants as kind
+use Rattle.mm_outline.specs.declared.parts.Outline.{Outline}
 use Rattle.mm_database.specs.Database.{kind_of, Contents, contents}
 use Rattle.mm_database.specs.Labels.{AreLabels}
 use Rattle.mm_database.specs.Parsed.{Parsed, parsed}

@@ -21,7 +21,8 @@ use Rattle.mm_outline.specs.Parts.{AreWithin, HasEnd, IsOutline, as_tokens, betw
 use Rattle.mm_outline.specs.Parts.{statement_of, token_of}
 use Rattle.mm_outline.specs.Statements.{statements}
 use Rattle.mm_outline.specs.declared.parts.Kind.{Kind}
-use Rattle.mm_outline.specs.declared.parts.Kind.TheVariants as kind use Rattle.mm_outline.specs.declared.parts.Outline.{Outline}
+use Rattle.mm_outline.specs.declared.parts.Kind.TheVariants as kind
+use Rattle.mm_outline.specs.declared.parts.Outline.{Outline}
 use Rattle.mm_outline.proofs.StatementsLaw.{get_mapped, statement_is}
 use Rattle.mm_database.specs.Database.{Contents, contents, kind_of}
 use Rattle.mm_database.specs.Kept.{AreKept, IsKept, kept_words, label_tokens}

@@ -21,7 +21,8 @@ use Rattle.mm_spec.proofs.OpenedLaw.{counted_length, got_axiom}
 use Rattle.mm_outline.specs.Parts.{statement_of}
 use Rattle.mm_outline.specs.Statements.{statements}
 use Rattle.mm_outline.specs.declared.parts.Kind.{Kind}
-use Rattle.mm_outline.specs.declared.parts.Kind.TheVariants as kind use Rattle.mm_outline.specs.declared.parts.Outline.{Outline}
+use Rattle.mm_outline.specs.declared.parts.Kind.TheVariants as kind
+use Rattle.mm_outline.specs.declared.parts.Outline.{Outline}
 use Rattle.mm_database.specs.Kinds.{counted_as, kind_of, is_theorem_kind, is_axiom_kind, numbers_of}
 use Rattle.mm_database.specs.Kinds.{is_assertion_kind, is_essential_kind, is_floating_kind}
 use Rattle.mm_database.specs.Kinds.{is_disjoint_kind}

@@ -9,7 +9,8 @@ use Rattle.mm_spec.specs.Statement.{axiomatic, provable, opening, closing}
 use Rattle.mm_spec.specs.Scope.{is_active, active, statement_at}
 use Rattle.mm_spec.specs.Derivation.{is_member}
 use Rattle.mm_spec.specs.Frame.{formula_at, is_disjoint_statement, active_of}
-use Rattle.mm_outline.specs.declared.parts.Kind.TheVariants as kind use Rattle.mm_database.specs.Database.{kind_of}
+use Rattle.mm_outline.specs.declared.parts.Kind.TheVariants as kind
+use Rattle.mm_database.specs.Database.{kind_of}
 use Rattle.mm_database.specs.Together.{are_together_at}
 use Rattle.mm_spec.proofs.MemberLaw.{member_filter, member_range, any_of}
 

@@ -11,8 +11,10 @@ use Rattle.mm_spec.specs.declared.Fault.{Fault}
 use Rattle.mm_spec.specs.declared.Word.{Word}
 use Rattle.mm_spec.specs.Laws.Words.{IsWord}
 use Rattle.mm_spec.specs.Readings.{bytes_of}
-use Rattle.mm_spec.specs.Lexed as lexed use Rattle.mm_spec.specs.Statement.{Statement, provable}
-use Rattle.mm_spec.specs.Lexed as lexed use Rattle.mm_spec.specs.Statement.{spelled}
+use Rattle.mm_spec.specs.Lexed as lexed
+use Rattle.mm_spec.specs.Statement.{Statement, provable}
+use Rattle.mm_spec.specs.Lexed as lexed
+use Rattle.mm_spec.specs.Statement.{spelled}
 use Rattle.mm_spec.specs.Opened.{counted}
 use Rattle.mm_spec.specs.Lexed.{lexed_of}
 use Rattle.mm_spec.specs.Output.{IsRead}

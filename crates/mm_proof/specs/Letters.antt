@@ -6,7 +6,8 @@ use Rattle.mm_spec.specs.declared.Word.{Word}
 use Rattle.mm_spec.specs.Text.{Token}
 use Rattle.mm_spec.specs.Statement.{Statement}
 use Rattle.mm_spec.specs.NormalProof.{usable, proof_label_faults}
-use Rattle.mm_spec.specs.Steps as spec use Rattle.mm_spec.specs.Steps.{PlacedStep}
+use Rattle.mm_spec.specs.Steps as spec
+use Rattle.mm_spec.specs.Steps.{PlacedStep}
 use Rattle.mm_spec.specs.CompressedProof.{Compressed, Letter, groups, group_steps, group_faults}
 use Rattle.mm_spec.specs.CompressedProof.{bracketed, letter_faults, letters_from}
 use Rattle.mm_outline.specs.Parts.{as_tokens}

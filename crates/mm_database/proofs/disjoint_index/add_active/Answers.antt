@@ -4,7 +4,8 @@ use Rattle.mm_outline.specs.Blocks.{end_of}
 use Rattle.mm_database.specs.DisjointIndex.{PairLists}
 use Rattle.mm_database.proofs.DisjointIndexLaw.{added_open, added_closed, added_end, parted_here}
 use Rattle.mm_database.proofs.DisjointIndexLaw.{symbol_here, no_symbol_here}
-use Rattle.mm_database.proofs.disjoint_index.add_active.Goals as goal use Rattle.mm_database.proofs.disjoint_index.add_active.Goals.{then-is_open_at+in_ok-push}
+use Rattle.mm_database.proofs.disjoint_index.add_active.Goals as goal
+use Rattle.mm_database.proofs.disjoint_index.add_active.Goals.{then-is_open_at+in_ok-push}
 use Rattle.mm_database.proofs.disjoint_index.add_active.Goals.{else-is_open_at}
 
 pub loop-pairs-preserved : goal.loop-pairs-preserved

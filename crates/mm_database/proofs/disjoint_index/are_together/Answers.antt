@@ -7,7 +7,8 @@ use Rattle.mm_database.specs.DisjointIndex.{PairLists}
 use Rattle.mm_database.proofs.DisjointIndexLaw.{none_on_left, none_on_right, none_at_end, none_left}
 use Rattle.mm_database.proofs.DisjointIndexLaw.{sooner}
 use Rattle.mm_database.proofs.DisjointIndexLaw.{at_has, parted_here, symbol_here, no_symbol_here}
-use Rattle.mm_database.proofs.disjoint_index.are_together.Goals as goal use Rattle.mm_database.proofs.disjoint_index.are_together.Goals.{else-one-other-via-then-one-other+else-is_open_at}
+use Rattle.mm_database.proofs.disjoint_index.are_together.Goals as goal
+use Rattle.mm_database.proofs.disjoint_index.are_together.Goals.{else-one-other-via-then-one-other+else-is_open_at}
 use Rattle.mm_database.proofs.disjoint_index.are_together.Goals.{else-one-other-via-else-one-other}
 
 pub returns-then-is_open_at-clause-found : goal.returns-then-is_open_at-clause-found

@@ -1,7 +1,8 @@
 use Rattle.std.proofs.Common.{◌≤◌, length, get_or, arith}
 use Rattle.mm_spec.specs.Frame.{is_essential}
 use Rattle.mm_frame.proofs.LatestLaw.{walked_next, walked_end}
-use Rattle.mm_frame.proofs.active.active_essentials.Goals as goal use Rattle.mm_spec.proofs.MemberLaw.{essential_local}
+use Rattle.mm_frame.proofs.active.active_essentials.Goals as goal
+use Rattle.mm_spec.proofs.MemberLaw.{essential_local}
 
 pub loop-last-preserved : goal.loop-last-preserved
 loop-last-preserved g c =

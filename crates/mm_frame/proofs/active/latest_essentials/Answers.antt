@@ -4,7 +4,8 @@ use Rattle.mm_spec.specs.Frame.{is_essential}
 use Rattle.mm_outline.specs.Blocks.{never}
 use Rattle.mm_frame.specs.Latest.{IsLatest}
 use Rattle.mm_frame.proofs.LatestLaw.{candidate_self, candidate_other, each_pushed}
-use Rattle.mm_frame.proofs.active.latest_essentials.Goals as goal use Rattle.mm_frame.proofs.active.latest_essentials.Goals.{then-is_essential, else-is_essential}
+use Rattle.mm_frame.proofs.active.latest_essentials.Goals as goal
+use Rattle.mm_frame.proofs.active.latest_essentials.Goals.{then-is_essential, else-is_essential}
 
 pub last_open-last-requires-clause-first : goal.last_open-last-requires-clause-first
 last_open-last-requires-clause-first g c =

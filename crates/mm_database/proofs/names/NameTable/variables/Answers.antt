@@ -4,7 +4,8 @@ use Rattle.std.proofs.lemmas.Bool.{cases_lt}
 use Rattle.std.proofs.lemmas.List.{get_or_push, get_or_append_left}
 use Rattle.std.proofs.lemmas.Option.{slice_get_within}
 use Rattle.mm_database.specs.Names.{find, is_variable_in, KnownNames, names_of}
-use Rattle.mm_database.proofs.names.NameTable.variables.Goals as goal use Rattle.mm_database.proofs.names.NameTable.variables.Goals.{in-Some, in-None}
+use Rattle.mm_database.proofs.names.NameTable.variables.Goals as goal
+use Rattle.mm_database.proofs.names.NameTable.variables.Goals.{in-Some, in-None}
 use Rattle.mm_database.proofs.NamesLaw.{name_at, map_len}
 
 pub loop-i-preserved : goal.loop-i-preserved
