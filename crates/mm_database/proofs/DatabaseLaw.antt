@@ -25,14 +25,15 @@ use Rattle.mm_outline.specs.declared.parts.Kind.TheVariants as kind
 use Rattle.mm_outline.specs.declared.parts.Outline.{Outline}
 use Rattle.mm_database.specs.Database.{kind_of, Contents, contents}
 use Rattle.mm_database.specs.Labels.{AreLabels}
-use Rattle.mm_database.specs.Parsed.{Parsed, parsed}
+use Rattle.mm_database.specs.ParsedStatements.{ParsedStatements, parsed_statements}
 
 -- each statement has an outline
 pub outline_there : (text : List ℕ) (ws : List Word) (os : List Outline) (b : BlockLists)
-    → (p : Parsed) → parsed text (statements text ws os) b ≡ p → (k : ℕ) → k < length p.list
+    → (p : ParsedStatements) → parsed_statements text (statements text ws os) b ≡ p → (k : ℕ) → k
+    < length p.list
     → k < length os
 outline_there text ws os b p e k h =
-    let n = ap (λ (q : Parsed). length q.list) e in
+    let n = ap (λ (q : ParsedStatements). length q.list) e in
     omega (arith, h, n, length-map os (statement_of text ws))
 
 -- there are as many statements as were read

@@ -118,45 +118,45 @@ are_known db b blocks ps are p l =
 -- ---- what stands before a place
 
 -- so many pairs stand before that of the symbol and the place
-pub record Parted (ps : List (ℕ × ℕ)) (x at start : ℕ) : Type 0 where
+pub record IsPartedAt (ps : List (ℕ × ℕ)) (x at start : ℕ) : Type 0 where
   pub within : start ≤ length ps
   pub before : (p : ℕ) → p < start → is_pair_before (get_or ps p (0, 0)) x at ≡ true
   pub after : (p : ℕ) → start ≤ p → p < length ps → is_pair_before (get_or ps p (0, 0)) x at ≡ false
 
 -- the same by the values that the code has
 module _ (qs ps : List (ℕ × ℕ)) (y x : ℕ) (same : qs ≡ ps) (is : y ≡ x) where
-  pub parted_here : (at start : ℕ) → start ≤ length qs
+  pub parted_by_values : (at start : ℕ) → start ≤ length qs
       → ((p : ℕ) → p < start → is_pair_before (get_or qs p (0, 0)) y at ≡ true)
       → ((p : ℕ) → start ≤ p → p < length qs → is_pair_before (get_or qs p (0, 0)) y at ≡ false)
-      → Parted ps x at start
-  parted_here at start w b a = rw (← same, ← is) (record { within = w; before = b; after = a })
+      → IsPartedAt ps x at start
+  parted_by_values at start w b a = rw (← same, ← is) (record { within = w; before = b; after = a })
 
-  pub symbol_here : (p : ℕ) → (get_or qs p (0, 0)).0 ≡ y → (get_or ps p (0, 0)).0 ≡ x
-  symbol_here p e = rw (← same, ← is) e
+  pub symbol_by_values : (p : ℕ) → (get_or qs p (0, 0)).0 ≡ y → (get_or ps p (0, 0)).0 ≡ x
+  symbol_by_values p e = rw (← same, ← is) e
 
-  pub no_symbol_here : (p : ℕ) → (get_or qs p (0, 0)).0 ≢ y → (get_or ps p (0, 0)).0 ≢ x
-  no_symbol_here p n = rw (← same, ← is) n
+  pub other_symbol_by_values : (p : ℕ) → (get_or qs p (0, 0)).0 ≢ y → (get_or ps p (0, 0)).0 ≢ x
+  other_symbol_by_values p n = rw (← same, ← is) n
 
 -- ---- what is added of one symbol
 
--- those from `left` on have been looked at
-pub record Added (b : BlockLists) (ps : List (ℕ × ℕ)) (x at start left : ℕ)
+-- those from `end` on have been looked at
+pub record AddsFromEnd (b : BlockLists) (ps : List (ℕ × ℕ)) (x at start end : ℕ)
     (old now : List (ℕ × ℕ)) : Type 0 where
-  pub inside : left ≤ start
+  pub inside : end ≤ start
   pub kept : (j y : ℕ) → has_pair old j y ≡ true → has_pair now j y ≡ true
   pub only : (j y : ℕ) → has_pair now j y ≡ true
       → (has_pair old j y ≡ true)
       ⊎ ((y ≡ x) × (has_pair ps x j ≡ true) × (is_active_local b j at ≡ true))
-  pub all : (p : ℕ) → left ≤ p → p < start → (get_or ps p (0, 0)).0 ≡ x
+  pub all : (p : ℕ) → end ≤ p → p < start → (get_or ps p (0, 0)).0 ≡ x
       → nat_le at (end_of b (get_or ps p (0, 0)).1) ≡ true
       → has_pair now (get_or ps p (0, 0)).1 x ≡ true
 
 module _ (b : BlockLists) (ps : List (ℕ × ℕ)) (rising : AreRising ps) (x at start : ℕ)
-    (parted : Parted ps x at start)
+    (parted : IsPartedAt ps x at start)
   where
     -- before the place, where the symbol is that
-    pub sooner : (p : ℕ) → p < start → (get_or ps p (0, 0)).0 ≡ x → (get_or ps p (0, 0)).1 < at
-    sooner p l e = by_symbol (before_is (get_or ps p (0, 0)) x at (parted.before p l))
+    pub is_before : (p : ℕ) → p < start → (get_or ps p (0, 0)).0 ≡ x → (get_or ps p (0, 0)).1 < at
+    is_before p l e = by_symbol (before_is (get_or ps p (0, 0)) x at (parted.before p l))
       where
         by_symbol : IsBefore (get_or ps p (0, 0)).0 (get_or ps p (0, 0)).1 x at
             → (get_or ps p (0, 0)).1 < at
@@ -164,26 +164,27 @@ module _ (b : BlockLists) (ps : List (ℕ × ℕ)) (rising : AreRising ps) (x at
         by_symbol (inr (s, m)) = m
 
     -- one that is open is added
-    pub added_open : (left next : ℕ) (old now : List (ℕ × ℕ)) → Added b ps x at start left old now
-        → 0 < left → (get_or ps (left - 1) (0, 0)).0 ≡ x
-        → nat_le at (end_of b (get_or ps (left - 1) (0, 0)).1) ≡ true
-        → next < left
-        → ((p : ℕ) → next ≤ p → p + 1 < left
+    pub added_open : (end next : ℕ) (old now : List (ℕ × ℕ))
+        → AddsFromEnd b ps x at start end old now
+        → 0 < end → (get_or ps (end - 1) (0, 0)).0 ≡ x
+        → nat_le at (end_of b (get_or ps (end - 1) (0, 0)).1) ≡ true
+        → next < end
+        → ((p : ℕ) → next ≤ p → p + 1 < end
         → nat_le at (end_of b (get_or ps p (0, 0)).1) ≡ false)
-        → Added b ps x at start next old (now ++ ((get_or ps (left - 1) (0, 0)).1, x) ∷ [])
-    added_open left next old now a some s o less passed = record {
+        → AddsFromEnd b ps x at start next old (now ++ ((get_or ps (end - 1) (0, 0)).1, x) ∷ [])
+    added_open end next old now a some s o less passed = record {
       inside = let i = a.inside in omega (arith, i, less);
       kept = λ j y e. longer j y (a.kept j y e);
       only =
           λ j y e. only j y (has_pair now j y) refl
           (sym (list_any-append (λ p. nat_eq j p.0 && nat_eq y p.1) now ((m, x) ∷ [])) ∙ e);
-      all = λ p l h e f. all p l h e f (cases_order (p + 1) left);
+      all = λ p l h e f. all p l h e f (cases_order (p + 1) end);
     }
       where
         m : ℕ
-        m = (get_or ps (left - 1) (0, 0)).1
+        m = (get_or ps (end - 1) (0, 0)).1
 
-        here : left - 1 < start
+        here : end - 1 < start
         here = let i = a.inside in omega (arith, i, some)
 
         longer : (j y : ℕ) → has_pair now j y ≡ true → has_pair (now ++ (m, x) ∷ []) j y ≡ true
@@ -203,18 +204,18 @@ module _ (b : BlockLists) (ps : List (ℕ × ℕ)) (rising : AreRising ps) (x at
             inr (
               sy,
               ap₂ (λ u v. has_pair ps u v) (sym s) sj
-                  ∙ at_has ps (left - 1) (0, 0) (let w = parted.within in omega (arith, here, w)),
+                  ∙ at_has ps (end - 1) (0, 0) (let w = parted.within in omega (arith, here, w)),
               ap₂ (λ u v. u && v)
-                  (ap (λ j. nat_lt j at) sj ∙ lt-ltb m at (sooner (left - 1) here s))
+                  (ap (λ j. nat_lt j at) sj ∙ lt-ltb m at (is_before (end - 1) here s))
                   (ap (λ j. nat_le at (end_of b j)) sj ∙ o),
             )
 
         all : (p : ℕ) → next ≤ p → p < start → (get_or ps p (0, 0)).0 ≡ x
             → nat_le at (end_of b (get_or ps p (0, 0)).1) ≡ true
-            → (p + 1 ≡ left) ⊎ ((p + 1 < left) ⊎ (left < p + 1))
+            → (p + 1 ≡ end) ⊎ ((p + 1 < end) ⊎ (end < p + 1))
             → has_pair (now ++ (m, x) ∷ []) (get_or ps p (0, 0)).1 x ≡ true
         all p l h e f (inl q) =
-            let sp : p ≡ left - 1 = omega (arith, q) in
+            let sp : p ≡ end - 1 = omega (arith, q) in
             list_any-append (λ r. nat_eq (get_or ps p (0, 0)).1 r.0 && nat_eq x r.1) now
             ((m, x) ∷ [])
             ∙ ap (λ c. has_pair now (get_or ps p (0, 0)).1 x || (c || false))
@@ -227,34 +228,35 @@ module _ (b : BlockLists) (ps : List (ℕ × ℕ)) (rising : AreRising ps) (x at
             longer (get_or ps p (0, 0)).1 x (a.all p (omega (arith, q)) h e f)
 
     -- one that is not is passed over
-    pub added_closed : (left next : ℕ) (old now : List (ℕ × ℕ)) → Added b ps x at start left old now
-        → 0 < left → nat_le at (end_of b (get_or ps (left - 1) (0, 0)).1) ≡ false
-        → next < left
-        → ((p : ℕ) → next ≤ p → p + 1 < left
+    pub added_closed : (end next : ℕ) (old now : List (ℕ × ℕ))
+        → AddsFromEnd b ps x at start end old now
+        → 0 < end → nat_le at (end_of b (get_or ps (end - 1) (0, 0)).1) ≡ false
+        → next < end
+        → ((p : ℕ) → next ≤ p → p + 1 < end
         → nat_le at (end_of b (get_or ps p (0, 0)).1) ≡ false)
-        → Added b ps x at start next old now
-    added_closed left next old now a some o less passed = record {
+        → AddsFromEnd b ps x at start next old now
+    added_closed end next old now a some o less passed = record {
       inside = let i = a.inside in omega (arith, i, less);
       kept = a.kept;
       only = a.only;
-      all = λ p l h e f. all p l h e f (cases_order (p + 1) left);
+      all = λ p l h e f. all p l h e f (cases_order (p + 1) end);
     }
       where
         all : (p : ℕ) → next ≤ p → p < start → (get_or ps p (0, 0)).0 ≡ x
             → nat_le at (end_of b (get_or ps p (0, 0)).1) ≡ true
-            → (p + 1 ≡ left) ⊎ ((p + 1 < left) ⊎ (left < p + 1))
+            → (p + 1 ≡ end) ⊎ ((p + 1 < end) ⊎ (end < p + 1))
             → has_pair now (get_or ps p (0, 0)).1 x ≡ true
         all p l h e f (inl q) =
-            let sp : p ≡ left - 1 = omega (arith, q) in
+            let sp : p ≡ end - 1 = omega (arith, q) in
             absurd (true≢false
             (sym f ∙ ap (λ i. nat_le at (end_of b (get_or ps i (0, 0)).1)) sp ∙ o))
         all p l h e f (inr (inl q)) = absurd (true≢false (sym f ∙ passed p l q))
         all p l h e f (inr (inr q)) = a.all p (omega (arith, q)) h e f
 
     -- none further down has the symbol
-    pub none_left : (left : ℕ) → left ≤ start → (0 < left → (get_or ps (left - 1) (0, 0)).0 ≢ x)
-        → (p : ℕ) → p < left → (get_or ps p (0, 0)).0 ≡ x → ⊥
-    none_left left i n p l e = by_equality (cases_eq p (left - 1))
+    pub none_before_end : (end : ℕ) → end ≤ start → (0 < end → (get_or ps (end - 1) (0, 0)).0 ≢ x)
+        → (p : ℕ) → p < end → (get_or ps p (0, 0)).0 ≡ x → ⊥
+    none_before_end end i n p l e = by_equality (cases_eq p (end - 1))
       where
         below : (q : ℕ) → q < start → (get_or ps q (0, 0)).0 ≤ x
         below q h = low (before_is (get_or ps q (0, 0)) x at (parted.before q h))
@@ -265,20 +267,20 @@ module _ (b : BlockLists) (ps : List (ℕ × ℕ)) (rising : AreRising ps) (x at
             low (inr (s, m)) = omega (arith, s)
 
         above : IsBefore (get_or ps p (0, 0)).0 (get_or ps p (0, 0)).1
-            (get_or ps (left - 1) (0, 0)).0
-            (get_or ps (left - 1) (0, 0)).1
-            → x ≤ (get_or ps (left - 1) (0, 0)).0
+            (get_or ps (end - 1) (0, 0)).0
+            (get_or ps (end - 1) (0, 0)).1
+            → x ≤ (get_or ps (end - 1) (0, 0)).0
         above (inl m) = omega (arith, m, e)
         above (inr (s, m)) = omega (arith, s, e)
 
-        by_equality : (p ≡ left - 1) ⊎ (p ≢ left - 1) → ⊥
+        by_equality : (p ≡ end - 1) ⊎ (p ≢ end - 1) → ⊥
         by_equality (inl s) = n (omega (arith, l)) (sym (ap (λ i. (get_or ps i (0, 0)).0) s) ∙ e)
         by_equality (inr t) =
             let w = parted.within in
             let u =
-            above (rising_at ps rising p (left - 1) (0, 0) (omega (arith, l, t))
+            above (rising_at ps rising p (end - 1) (0, 0) (omega (arith, l, t))
             (omega (arith, l, i, w))) in
-            let v = below (left - 1) (omega (arith, l, i)) in
+            let v = below (end - 1) (omega (arith, l, i)) in
             n (omega (arith, l)) (omega (arith, u, v))
 
     -- one that has the symbol and is active stands before the place
@@ -293,12 +295,12 @@ module _ (b : BlockLists) (ps : List (ℕ × ℕ)) (rising : AreRising ps) (x at
             absurd (true≢false
             (sym (is_pair_before_if (get_or ps p (0, 0)) x at (inr (e, m))) ∙ parted.after p h l))
 
-    pub added_end : (left : ℕ) (old now : List (ℕ × ℕ)) → Added b ps x at start left old now
-        → (0 < left → (get_or ps (left - 1) (0, 0)).0 ≢ x)
+    pub all_are_added : (end : ℕ) (old now : List (ℕ × ℕ)) → AddsFromEnd b ps x at start end old now
+        → (0 < end → (get_or ps (end - 1) (0, 0)).0 ≢ x)
         → (j y : ℕ)
         → has_pair now j y
         ≡ (has_pair old j y || (nat_eq y x && (has_pair ps x j && is_active_local b j at)))
-    added_end left old now a n j y =
+    all_are_added end old now a n j y =
         same_tests (has_pair now j y)
         (has_pair old j y || (nat_eq y x && (has_pair ps x j && is_active_local b j at)))
         (λ e. forth (a.only j y e)) (λ e. back (has_pair old j y) refl e)
@@ -320,11 +322,11 @@ module _ (b : BlockLists) (ps : List (ℕ × ℕ)) (rising : AreRising ps) (x at
             let m = ltb-true j at (and_parts (nat_lt j at) (nat_le at (end_of b j)) o).0 in
             let r = (and_parts (nat_lt j at) (nat_le at (end_of b j)) o).1 in
             let l = inside_if p w.1 w.2 (let e = w.3 in omega (arith, m, e)) in
-            there p l w.2 w.3 r (cases_lt p left)
+            there p l w.2 w.3 r (cases_lt p end)
           where
             there : (p : ℕ) → p < start → (get_or ps p (0, 0)).0 ≡ x → (get_or ps p (0, 0)).1 ≡ j
-                → nat_le at (end_of b j) ≡ true → (p < left) ⊎ (left ≤ p) → has_pair now j x ≡ true
-            there p l e f r (inl q) = absurd (none_left left a.inside n p q e)
+                → nat_le at (end_of b j) ≡ true → (p < end) ⊎ (end ≤ p) → has_pair now j x ≡ true
+            there p l e f r (inl q) = absurd (none_before_end end a.inside n p q e)
             there p l e f r (inr q) =
                 ap (λ i. has_pair now i x) (sym f)
                 ∙ a.all p q l e (ap (λ i. nat_le at (end_of b i)) f ∙ r)
@@ -344,26 +346,26 @@ module _ (b : BlockLists) (ps : List (ℕ × ℕ)) (rising : AreRising ps) (x at
 -- ---- whether two symbols have one together
 
 -- what both have stands before where the search is
-pub record NoneInCommon (b : BlockLists) (ps : List (ℕ × ℕ)) (x y at left right : ℕ) : Type 0 where
+pub record NoneInCommon (b : BlockLists) (ps : List (ℕ × ℕ)) (x y at x_end y_end : ℕ) : Type 0 where
   pub met : (p q : ℕ) → p < length ps → q < length ps → (get_or ps p (0, 0)).0 ≡ x
       → (get_or ps q (0, 0)).0 ≡ y → (get_or ps p (0, 0)).1 ≡ (get_or ps q (0, 0)).1
-      → is_active_local b (get_or ps p (0, 0)).1 at ≡ true → (p < left) × (q < right)
+      → is_active_local b (get_or ps p (0, 0)).1 at ≡ true → (p < x_end) × (q < y_end)
 
 module _ (b : BlockLists) (ps : List (ℕ × ℕ)) (rising : AreRising ps) (x y at : ℕ) where
-  pub none_at_start : (left right : ℕ) → left ≤ length ps → right ≤ length ps
-      → ((p : ℕ) → p < left → is_pair_before (get_or ps p (0, 0)) x at ≡ true)
-      → ((p : ℕ) → left ≤ p → p < length ps → is_pair_before (get_or ps p (0, 0)) x at ≡ false)
-      → ((p : ℕ) → p < right → is_pair_before (get_or ps p (0, 0)) y at ≡ true)
-      → ((p : ℕ) → right ≤ p → p < length ps → is_pair_before (get_or ps p (0, 0)) y at ≡ false)
-      → NoneInCommon b ps x y at left right
-  none_at_start left right l r bl al br ar = record {
+  pub none_at_start : (x_end y_end : ℕ) → x_end ≤ length ps → y_end ≤ length ps
+      → ((p : ℕ) → p < x_end → is_pair_before (get_or ps p (0, 0)) x at ≡ true)
+      → ((p : ℕ) → x_end ≤ p → p < length ps → is_pair_before (get_or ps p (0, 0)) x at ≡ false)
+      → ((p : ℕ) → p < y_end → is_pair_before (get_or ps p (0, 0)) y at ≡ true)
+      → ((p : ℕ) → y_end ≤ p → p < length ps → is_pair_before (get_or ps p (0, 0)) y at ≡ false)
+      → NoneInCommon b ps x y at x_end y_end
+  none_at_start x_end y_end l r bl al br ar = record {
     met = λ p q h i e f s o.
         let m =
         ltb-true (get_or ps p (0, 0)).1 at
         (and_parts (nat_lt (get_or ps p (0, 0)).1 at)
         (nat_le at (end_of b (get_or ps p (0, 0)).1)) o).0 in (
-          inside_if b ps rising x at left (record { within = l; before = bl; after = al }) p h e m,
-          inside_if b ps rising y at right (record { within = r; before = br; after = ar }) q
+          inside_if b ps rising x at x_end (record { within = l; before = bl; after = al }) p h e m,
+          inside_if b ps rising y at y_end (record { within = r; before = br; after = ar }) q
               i f (omega (arith, m, s)),
         );
   }
@@ -393,81 +395,81 @@ module _ (b : BlockLists) (ps : List (ℕ × ℕ)) (rising : AreRising ps) (x y 
 
   -- the last of the one is of a later statement than the last of the other, or of the same, whose
   -- block is closed
-  pub none_on_left : (left right next : ℕ) → NoneInCommon b ps x y at left right → 0 < left
-      → left ≤ length ps → 0 < right → right ≤ length ps → (get_or ps (right - 1) (0, 0)).0 ≡ y
-      → ((get_or ps (right - 1) (0, 0)).1 < (get_or ps (left - 1) (0, 0)).1)
-      ⊎ (nat_le at (end_of b (get_or ps (left - 1) (0, 0)).1) ≡ false)
-      → ((p : ℕ) → next ≤ p → p + 1 < left → nat_le at (end_of b (get_or ps p (0, 0)).1) ≡ false)
-      → NoneInCommon b ps x y at next right
-  none_on_left left right next a sl wl sr wr ey why passed =
+  pub none_before_x_end : (x_end y_end next : ℕ) → NoneInCommon b ps x y at x_end y_end → 0 < x_end
+      → x_end ≤ length ps → 0 < y_end → y_end ≤ length ps → (get_or ps (y_end - 1) (0, 0)).0 ≡ y
+      → ((get_or ps (y_end - 1) (0, 0)).1 < (get_or ps (x_end - 1) (0, 0)).1)
+      ⊎ (nat_le at (end_of b (get_or ps (x_end - 1) (0, 0)).1) ≡ false)
+      → ((p : ℕ) → next ≤ p → p + 1 < x_end → nat_le at (end_of b (get_or ps p (0, 0)).1) ≡ false)
+      → NoneInCommon b ps x y at next y_end
+  none_before_x_end x_end y_end next a sl wl sr wr ey why passed =
       record {
         met = λ p q h i e f s o. let m = a.met p q h i e f s o in
             (is_before_next p q m.0 m.1 f s o (cases_lt p next) why, m.1);
       }
     where
-      is_before_next : (p q : ℕ) → p < left → q < right → (get_or ps q (0, 0)).0 ≡ y
+      is_before_next : (p q : ℕ) → p < x_end → q < y_end → (get_or ps q (0, 0)).0 ≡ y
           → (get_or ps p (0, 0)).1 ≡ (get_or ps q (0, 0)).1
           → is_active_local b (get_or ps p (0, 0)).1 at ≡ true → (p < next) ⊎ (next ≤ p)
-          → ((get_or ps (right - 1) (0, 0)).1 < (get_or ps (left - 1) (0, 0)).1)
-          ⊎ (nat_le at (end_of b (get_or ps (left - 1) (0, 0)).1) ≡ false) → p < next
+          → ((get_or ps (y_end - 1) (0, 0)).1 < (get_or ps (x_end - 1) (0, 0)).1)
+          ⊎ (nat_le at (end_of b (get_or ps (x_end - 1) (0, 0)).1) ≡ false) → p < next
       is_before_next p q l r f s o (inl m) w = m
-      is_before_next p q l r f s o (inr m) w = absurd (last (cases_lt (p + 1) left) w)
+      is_before_next p q l r f s o (inr m) w = absurd (last (cases_lt (p + 1) x_end) w)
         where
-          last : (p + 1 < left) ⊎ (left ≤ p + 1)
-              → ((get_or ps (right - 1) (0, 0)).1 < (get_or ps (left - 1) (0, 0)).1)
-              ⊎ (nat_le at (end_of b (get_or ps (left - 1) (0, 0)).1) ≡ false) → ⊥
+          last : (p + 1 < x_end) ⊎ (x_end ≤ p + 1)
+              → ((get_or ps (y_end - 1) (0, 0)).1 < (get_or ps (x_end - 1) (0, 0)).1)
+              ⊎ (nat_le at (end_of b (get_or ps (x_end - 1) (0, 0)).1) ≡ false) → ⊥
           last (inl n) w = closed p (passed p m n) o
           last (inr n) (inr c) =
-              let t : p ≡ left - 1 = omega (arith, l, n) in
+              let t : p ≡ x_end - 1 = omega (arith, l, n) in
               closed p (ap (λ i. nat_le at (end_of b (get_or ps i (0, 0)).1)) t ∙ c) o
           last (inr n) (inl c) =
-              let t : p ≡ left - 1 = omega (arith, l, n) in
+              let t : p ≡ x_end - 1 = omega (arith, l, n) in
               let u = ap (λ i. (get_or ps i (0, 0)).1) t in
               let v =
-              order_of q (right - 1) (omega (arith, r)) (omega (arith, sr, wr)) (f ∙ sym ey) in
+              order_of q (y_end - 1) (omega (arith, r)) (omega (arith, sr, wr)) (f ∙ sym ey) in
               omega (arith, u, v, s, c)
 
-  pub none_on_right : (left right next : ℕ) → NoneInCommon b ps x y at left right → 0 < left
-      → left ≤ length ps → 0 < right → right ≤ length ps → (get_or ps (left - 1) (0, 0)).0 ≡ x
-      → (get_or ps (left - 1) (0, 0)).1 < (get_or ps (right - 1) (0, 0)).1
-      → ((p : ℕ) → next ≤ p → p + 1 < right → nat_le at (end_of b (get_or ps p (0, 0)).1) ≡ false)
-      → NoneInCommon b ps x y at left next
-  none_on_right left right next a sl wl sr wr ex why passed =
+  pub none_before_y_end : (x_end y_end next : ℕ) → NoneInCommon b ps x y at x_end y_end → 0 < x_end
+      → x_end ≤ length ps → 0 < y_end → y_end ≤ length ps → (get_or ps (x_end - 1) (0, 0)).0 ≡ x
+      → (get_or ps (x_end - 1) (0, 0)).1 < (get_or ps (y_end - 1) (0, 0)).1
+      → ((p : ℕ) → next ≤ p → p + 1 < y_end → nat_le at (end_of b (get_or ps p (0, 0)).1) ≡ false)
+      → NoneInCommon b ps x y at x_end next
+  none_before_y_end x_end y_end next a sl wl sr wr ex why passed =
       record {
         met = λ p q h i e f s o. let m = a.met p q h i e f s o in
             (m.0, is_before_next p q m.0 m.1 e s o (cases_lt q next));
       }
     where
-      is_before_next : (p q : ℕ) → p < left → q < right → (get_or ps p (0, 0)).0 ≡ x
+      is_before_next : (p q : ℕ) → p < x_end → q < y_end → (get_or ps p (0, 0)).0 ≡ x
           → (get_or ps p (0, 0)).1 ≡ (get_or ps q (0, 0)).1
           → is_active_local b (get_or ps p (0, 0)).1 at ≡ true → (q < next) ⊎ (next ≤ q) → q < next
       is_before_next p q l r e s o (inl m) = m
-      is_before_next p q l r e s o (inr m) = absurd (last (cases_lt (q + 1) right))
+      is_before_next p q l r e s o (inr m) = absurd (last (cases_lt (q + 1) y_end))
         where
-          last : (q + 1 < right) ⊎ (right ≤ q + 1) → ⊥
+          last : (q + 1 < y_end) ⊎ (y_end ≤ q + 1) → ⊥
           last (inl n) = closed q (passed q m n) (ap (λ j. is_active_local b j at) (sym s) ∙ o)
           last (inr n) =
-              let t : q ≡ right - 1 = omega (arith, r, n) in
+              let t : q ≡ y_end - 1 = omega (arith, r, n) in
               let u = ap (λ i. (get_or ps i (0, 0)).1) t in
               let v =
-              order_of p (left - 1) (omega (arith, l)) (omega (arith, sl, wl)) (e ∙ sym ex) in
+              order_of p (x_end - 1) (omega (arith, l)) (omega (arith, sl, wl)) (e ∙ sym ex) in
               omega (arith, u, v, s, why)
 
-  -- one of the two has none left
-  pub none_at_end : (left right : ℕ) → NoneInCommon b ps x y at left right
-      → ((p : ℕ) → p < left → (get_or ps p (0, 0)).0 ≡ x → ⊥)
-      ⊎ ((p : ℕ) → p < right → (get_or ps p (0, 0)).0 ≡ y → ⊥)
+  -- one of the two has none x_end
+  pub none_at_end : (x_end y_end : ℕ) → NoneInCommon b ps x y at x_end y_end
+      → ((p : ℕ) → p < x_end → (get_or ps p (0, 0)).0 ≡ x → ⊥)
+      ⊎ ((p : ℕ) → p < y_end → (get_or ps p (0, 0)).0 ≡ y → ⊥)
       → (j : ℕ) → has_pair ps x j ≡ true → has_pair ps y j ≡ true → is_active_local b j at ≡ false
-  none_at_end left right a none j hx hy = false_from_ne_true (is_active_local b j at) (λ o.
+  none_at_end x_end y_end a none j hx hy = false_from_ne_true (is_active_local b j at) (λ o.
       let w = has_at ps x j hx in
       let v = has_at ps y j hy in
       let m =
       a.met w.0 v.0 w.1 v.1 w.2 v.2 (w.3 ∙ sym v.3) (ap (λ i. is_active_local b i at) w.3 ∙ o) in
       by_exhausted_symbol w.0 v.0 m.0 m.1 w.2 v.2 none)
     where
-      by_exhausted_symbol : (p q : ℕ) → p < left → q < right → (get_or ps p (0, 0)).0 ≡ x
+      by_exhausted_symbol : (p q : ℕ) → p < x_end → q < y_end → (get_or ps p (0, 0)).0 ≡ x
           → (get_or ps q (0, 0)).0 ≡ y
-          → ((p : ℕ) → p < left → (get_or ps p (0, 0)).0 ≡ x → ⊥)
-          ⊎ ((p : ℕ) → p < right → (get_or ps p (0, 0)).0 ≡ y → ⊥) → ⊥
+          → ((p : ℕ) → p < x_end → (get_or ps p (0, 0)).0 ≡ x → ⊥)
+          ⊎ ((p : ℕ) → p < y_end → (get_or ps p (0, 0)).0 ≡ y → ⊥) → ⊥
       by_exhausted_symbol p q l r e f (inl n) = n p l e
       by_exhausted_symbol p q l r e f (inr n) = n q r f

@@ -13,7 +13,7 @@ use Rattle.mm_spec.specs.Text.{Bytes, is_in}
 use Rattle.mm_spec.specs.Frame.{index_of}
 use Rattle.mm_database.specs.declared.name.Name.{Name}
 use Rattle.mm_database.specs.Names.{find, names_of, with_name}
-use Rattle.mm_database.proofs.SymbolsLaw.{keys_in, missing_place}
+use Rattle.mm_database.proofs.SymbolsLaw.{keys_in, missing_index}
 
 -- the keys of a map with one entry more
 pub names_inserted : {V : Type 0} (es : List (Name × V)) (k : Name) (v : V)
@@ -64,14 +64,14 @@ pub missing_number : {V : Type 0} (w : Bytes) (es : List (Name × V)) → find e
     → length es ≡ index_of w (names_of es)
 missing_number w es h =
     map_len es
-    ∙ missing_place w (names_of es)
+    ∙ missing_index w (names_of es)
     (sym (keys_in w (keys_of es)) ∙ sym (is_some-lookup (λ k. bytes_eq w k.bytes.now) es)
     ∙ ap is_some h)
 
 -- a name's place
-pub place_le : (w : Bytes) (ns : List Bytes) → index_of w ns ≤ length ns
-place_le w [] = omega arith
-place_le w (n ∷ ns) = by_equality (bytes_eq w n) (place_le w ns)
+pub index_le : (w : Bytes) (ns : List Bytes) → index_of w ns ≤ length ns
+index_le w [] = omega arith
+index_le w (n ∷ ns) = by_equality (bytes_eq w n) (index_le w ns)
   where
     by_equality : (b : Bool) → index_of w ns ≤ length ns
         → elim b [ true ↦ 0 | false ↦ suc (index_of w ns) ] ≤ suc (length ns)

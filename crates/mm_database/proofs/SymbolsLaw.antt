@@ -125,10 +125,10 @@ first_added ws w =
     ∙ ap (λ b. first_occurrences [] ws ++ if_new b w) (sym (in_first ws [] w refl))
 
 -- a name's place
-pub place_in : (ns : List Bytes) (w : Bytes) → is_in w ns ≡ true
+pub index_in : (ns : List Bytes) (w : Bytes) → is_in w ns ≡ true
     → slice_get ns (index_of w ns) ≡ Some w
-place_in [] w h = absurd (true≢false (sym h))
-place_in (n ∷ ns) w h = by_equality (place_in ns w) (bytes_eq w n) refl
+index_in [] w h = absurd (true≢false (sym h))
+index_in (n ∷ ns) w h = by_equality (index_in ns w) (bytes_eq w n) refl
   where
     by_equality : (is_in w ns ≡ true → slice_get ns (index_of w ns) ≡ Some w) → (b : Bool)
         → bytes_eq w n ≡ b
@@ -149,12 +149,13 @@ get_in (n ∷ ns) zero w h =
 get_in (n ∷ ns) (suc s) w h = ap (λ b. bytes_eq w n || b) (get_in ns s w h) ∙ or-true (bytes_eq w n)
 
 -- each name stands once
-pub place_get : (ws e : List Bytes) (s : ℕ) (w : Bytes)
+pub index_of_got : (ws e : List Bytes) (s : ℕ) (w : Bytes)
     → slice_get (first_occurrences e ws) s ≡ Some w → index_of w (first_occurrences e ws) ≡ s
-place_get [] e zero w h = absurd (let q : None ≡ Some w = h in cc)
-place_get [] e (suc s) w h = absurd (let q : None ≡ Some w = h in cc)
-place_get (v ∷ ws) e s w h =
-    by_membership (λ r. place_get ws e r w) (λ r. place_get ws (v ∷ e) r w) (is_in v e) refl s h
+index_of_got [] e zero w h = absurd (let q : None ≡ Some w = h in cc)
+index_of_got [] e (suc s) w h = absurd (let q : None ≡ Some w = h in cc)
+index_of_got (v ∷ ws) e s w h =
+    by_membership (λ r. index_of_got ws e r w) (λ r. index_of_got ws (v ∷ e) r w) (is_in v e) refl s
+    h
   where
     head : (t : List Bytes) (s : ℕ) → slice_get (v ∷ t) s ≡ Some w → is_in v t ≡ false
         → ((r : ℕ) → slice_get t r ≡ Some w → index_of w t ≡ r) → index_of w (v ∷ t) ≡ s
@@ -186,9 +187,9 @@ place_get (v ∷ ws) e s w h =
         (not_first ws (v ∷ e) v (ap (λ b. b || is_in v e) (itself v))) g
 
 -- where the code finds a name
-pub place_position : (w : Bytes) (ks : List (Name))
+pub position_is_index : (w : Bytes) (ks : List (Name))
     → position_or_len (λ k. bytes_eq w k.bytes.now) ks ≡ index_of w (map (λ k. k.bytes.now) ks)
-place_position w ks =
+position_is_index w ks =
     sym (is_position_or_len (λ (xs : List (Name)). index_of w (map (λ k. k.bytes.now) xs))
     (λ k. bytes_eq w k.bytes.now) refl
     (λ x xs. step (bytes_eq w x.bytes.now) (index_of w (map (λ k. k.bytes.now) xs))) ks)
@@ -203,12 +204,12 @@ keys_in w [] = refl
 keys_in w (k ∷ ks) = ap (λ b. bytes_eq w k.bytes.now || b) (keys_in w ks)
 
 -- the place of a name that is found, and of one that is not
-pub found_place : (w : Bytes) (ks : List (Name)) (n : ℕ)
+pub found_index : (w : Bytes) (ks : List (Name)) (n : ℕ)
     → position (λ k. bytes_eq w k.bytes.now) ks ≡ Some n
     → n ≡ index_of w (map (λ k. k.bytes.now) ks)
-found_place w ks n h =
+found_index w ks n h =
     by_presence (nat_lt (position_or_len (λ k. bytes_eq w k.bytes.now) ks) (length ks)) h
-    ∙ place_position w ks
+    ∙ position_is_index w ks
   where
     by_presence : (b : Bool) → cond b (Some (position_or_len (λ k. bytes_eq w k.bytes.now) ks)) None
         ≡ Some n
@@ -217,9 +218,9 @@ found_place w ks n h =
         ≡ Some n = e in cc
     by_presence false e = let q : None ≡ Some n = e in cc
 
-pub missing_place : (w : Bytes) (ns : List Bytes) → is_in w ns ≡ false → length ns ≡ index_of w ns
-missing_place w [] h = refl
-missing_place w (n ∷ ns) h = by_equality (bytes_eq w n) refl (missing_place w ns)
+pub missing_index : (w : Bytes) (ns : List Bytes) → is_in w ns ≡ false → length ns ≡ index_of w ns
+missing_index w [] h = refl
+missing_index w (n ∷ ns) h = by_equality (bytes_eq w n) refl (missing_index w ns)
   where
     by_equality : (b : Bool) → bytes_eq w n ≡ b → (is_in w ns ≡ false → length ns ≡ index_of w ns)
         → suc (length ns) ≡ index_of w (n ∷ ns)
@@ -242,15 +243,15 @@ others_too true b e = absurd (true≢false (sym e))
 others_too false b e = e
 
 -- the place of a name is where it stands
-pub place_distinct : (ns : List Bytes) → are_distinct ns ≡ true → (i : ℕ) (w : Bytes)
+pub index_distinct : (ns : List Bytes) → are_distinct ns ≡ true → (i : ℕ) (w : Bytes)
     → slice_get ns i ≡ Some w → i ≡ index_of w ns
-place_distinct [] d zero w e = absurd (let q : None ≡ Some w = e in cc)
-place_distinct [] d (suc i) w e = absurd (let q : None ≡ Some w = e in cc)
-place_distinct (n ∷ ns) d zero w e =
+index_distinct [] d zero w e = absurd (let q : None ≡ Some w = e in cc)
+index_distinct [] d (suc i) w e = absurd (let q : None ≡ Some w = e in cc)
+index_distinct (n ∷ ns) d zero w e =
     sym (ap (λ b. elim b [ true ↦ 0 | false ↦ suc (index_of w ns) ])
     (ap (bytes_eq w) (list_head e) ∙ itself w))
-place_distinct (n ∷ ns) d (suc i) w e =
-    by_equality (bytes_eq w n) refl (place_distinct ns (others_too (is_in n ns) (are_distinct ns) d)
+index_distinct (n ∷ ns) d (suc i) w e =
+    by_equality (bytes_eq w n) refl (index_distinct ns (others_too (is_in n ns) (are_distinct ns) d)
     i w e)
   where
     by_equality : (b : Bool) → bytes_eq w n ≡ b → i ≡ index_of w ns

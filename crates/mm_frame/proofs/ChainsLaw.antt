@@ -20,7 +20,7 @@ use Rattle.mm_outline.proofs.StatementsLaw.{is_there}
 use Rattle.mm_frame.specs.Chains.{IsRisingFrom, IsLinkChain, AreLinked, HasChain, AreChains}
 use Rattle.mm_database.specs.DisjointIndex.{has_symbol}
 use Rattle.mm_database.specs.Pairs.{has_pair, IsBefore, AreRising}
-use Rattle.mm_database.specs.Parsed.{IsSound}
+use Rattle.mm_database.specs.ParsedStatements.{IsSound}
 
 -- ---- one chain
 

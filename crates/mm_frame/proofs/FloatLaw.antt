@@ -24,7 +24,7 @@ use Rattle.mm_spec.specs.Frame.{formula_of}
 use Rattle.mm_spec.proofs.FindsLaw.{range_any}
 use Rattle.mm_spec.proofs.FaultlessLaw.{append_none, least_none}
 use Rattle.mm_outline.specs.Typed.{has_word, typed_words}
-use Rattle.mm_database.specs.Parsed.{IsSound, typed_at}
+use Rattle.mm_database.specs.ParsedStatements.{IsSound, typed_at}
 use Rattle.mm_outline.proofs.FaultlessLaw.{floating_new}
 use Rattle.mm_outline.proofs.AmongLaw.{typed_in, among_active}
 

@@ -13,7 +13,7 @@ use Rattle.mm_spec.specs.Citation.{is_assertion}
 use Rattle.mm_spec.specs.Frame.{symbol_names}
 use Rattle.mm_outline.specs.Blocks.{never}
 use Rattle.mm_database.specs.Frames.{Mandatory, mandatory_at, frame_or_none, frames_before}
-use Rattle.mm_database.specs.Parsed.{IsSound, typed_at}
+use Rattle.mm_database.specs.ParsedStatements.{IsSound, typed_at}
 use Rattle.mm_frame.specs.Hypotheses.{AreTyped}
 use Rattle.mm_frame.proofs.NestedLaw.{stays_earlier}
 use Rattle.mm_frame.proofs.FloatLaw.{typed_float, typed_once, variable_below}

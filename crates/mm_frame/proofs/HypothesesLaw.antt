@@ -21,7 +21,7 @@ use Rattle.mm_spec.proofs.MemberLaw.{any_witness, any_of, same_any, member_flat}
 use Rattle.mm_spec.proofs.ListLaw.{member_at}
 use Rattle.mm_outline.specs.Blocks.{never}
 use Rattle.mm_frame.specs.Latest.{is_staying}
-use Rattle.mm_database.specs.Parsed.{IsSound, typed_at}
+use Rattle.mm_database.specs.ParsedStatements.{IsSound, typed_at}
 use Rattle.mm_frame.specs.Hypotheses.{AreTyped, is_float_of}
 use Rattle.mm_spec.proofs.RisingLaw.{Rising, filter_is}
 use Rattle.mm_frame.proofs.FloatLaw.{typed_float, floating_typed, formula_is, floating_is}

@@ -6,8 +6,9 @@
 -- (`DisjointLaw.antt`) the pairs.
 -- (`SkipsLaw.antt`: the loops of `skips_of`; `LoopsLaw.antt`: one more element in the loops that
 -- collect.)
--- The loop of `frames_of` adds to the frames by `frames_more` (`FramesLaw.antt`). So `gather` has
--- `IsBeside`.
+-- The loop of `frames_of` adds to the frames by `frames_more` (`FramesLaw.antt`). So
+-- `frame_tables_of` has
+-- `AreFrameTables`.
 pub mod DisjointLaw
 pub mod FloatLaw
 pub mod FramesLaw

@@ -6,7 +6,7 @@ use Rattle.mm_spec.specs.Frame.{symbol_names}
 use Rattle.mm_spec.specs.Derivation.{is_member}
 use Rattle.mm_spec.specs.Scope.{stays}
 use Rattle.mm_outline.specs.Blocks.{never}
-use Rattle.mm_database.specs.Parsed.{typed_at}
+use Rattle.mm_database.specs.ParsedStatements.{typed_at}
 
 -- the symbols with this stamp are those that have been found
 pub record AreStamps (n stamp : ℕ) (seen found : List ℕ) : Type 0 where

@@ -5,9 +5,9 @@ ghost use Rattle.mm_spec.specs.Frame.{symbol_names};
 ghost use Rattle.mm_database.specs.Frames.{frames_before, mandatory_at, mandatory_in};
 ghost use Rattle.mm_database.specs.DisjointIndex.{IsDisjointIndex};
 ghost use Rattle.mm_frame.specs.Sources.{AreSources};
-ghost use Rattle.mm_database.specs.Parsed.{IsSound};
+ghost use Rattle.mm_database.specs.ParsedStatements.{IsSound};
 ghost use Rattle.mm_frame.specs.Hypotheses.{AreReady, AreTyped, IsFresh};
-ghost use Rattle.mm_database.specs.Beside.{IsBeside};
+ghost use Rattle.mm_database.specs.FrameTables.{AreFrameTables};
 
 use crate::active::latest_essentials;
 use crate::disjoint::mandatory_pairs;
@@ -15,7 +15,7 @@ use crate::disjoint_index::disjoint_index_of;
 use crate::hypotheses::hypotheses;
 use crate::sources::Sources;
 use mm_database::disjoint_index::DisjointIndex;
-use mm_database::frames::{Beside, Frame, Frames};
+use mm_database::frames::{FrameTables, Frame, Frames};
 use mm_database::statements::Statements;
 use mm_outline::blocks::NEVER;
 use mm_outline::symbol::Sym;
@@ -173,16 +173,16 @@ pub(crate) fn frames_of<A: Allocator + Copy>(
 }
 
 /// Returns all that is kept beside lawful statements.
-pub fn gather<A: Allocator + Copy>(
+pub fn frame_tables_of<A: Allocator + Copy>(
     alloc: A,
     statements: &Statements<A>,
-) -> Result<Beside<A>, AllocError>
+) -> Result<FrameTables<A>, AllocError>
     ensures { IfOk result
-        (λ b. IsBeside statements.now.list statements.now.blocks b) }
+        (λ b. AreFrameTables statements.now.list statements.now.blocks b) }
 {
     let disjoint_index = disjoint_index_of(alloc, statements)?;
     let frames = frames_of(alloc, statements, &disjoint_index)?;
-    Ok(Beside {
+    Ok(FrameTables {
         disjoint_index,
         frames,
     })

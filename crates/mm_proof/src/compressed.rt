@@ -11,7 +11,7 @@ ghost use Rattle.mm_proof.specs.Refused.{StartsWith};
 use crate::labels::usable_label;
 use crate::letters::LettersRead;
 use crate::refused::{ProofRefused, refused};
-use crate::room::with_room;
+use mm_database::room::with_room;
 use mm_database::{Code, Database, Word};
 use mm_steps::Steps;
 use std::alloc::Allocator;

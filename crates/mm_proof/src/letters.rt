@@ -16,7 +16,7 @@ ghost use Rattle.mm_proof.specs.Refused.{StartsWith};
 
 use crate::digits::{LetterKind, letter_of, with_digit};
 use crate::refused::{ProofRefused, refused};
-use crate::room::with_room;
+use mm_database::room::with_room;
 use mm_database::{Code, Word};
 use mm_steps::{Step, Steps};
 use std::alloc::{AllocError, Allocator};

@@ -6,12 +6,12 @@
 //! one, and that the fault is the fault there (`Rattle.mm_spec.specs.Output.IsRead`).
 #![tactic(auto)]
 
-mod kept;
 mod kinds;
-mod listed;
 mod reader;
 mod reading;
-mod spaced;
+mod retained_words;
+mod spaced_labels;
+mod statement_lists;
 
 pub use mm_database::{Code, Database, Fault, Frame, Kind, Sym, Word};
 pub use reader::{read, read_owned};

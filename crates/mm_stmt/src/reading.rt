@@ -5,7 +5,7 @@ ghost use Rattle.mm_spec.specs.Lexed.{tokens_of};
 ghost use Rattle.mm_outline.specs.Statements.{statements};
 ghost use Rattle.mm_scope.specs.Keeps.{IsKeptOf, kept_by, reading_of};
 ghost use Rattle.mm_database.specs.Names.{names_of};
-ghost use Rattle.mm_database.specs.Parsed.{IsSound};
+ghost use Rattle.mm_database.specs.ParsedStatements.{IsSound};
 
 use mm_database::reading::Reading;
 use mm_scope::reading::Outlined;
@@ -23,6 +23,6 @@ pub(crate) fn reading_of<'a, A: Allocator + Copy>(
     requires few_symbols { length (names_of read.scope.names.symbols) < 2 ^ 31 }
     ensures { IfOk result (λ r. r ≡ reading_of text.now read.entry) }
 {
-    let variables = read.scope.names.variables(alloc)?;
-    Ok(read.into_reading(text, variables))
+    let variable_flags = read.scope.names.variable_flags(alloc)?;
+    Ok(read.into_reading(text, variable_flags))
 }

@@ -21,5 +21,5 @@ pub returns : goal.returns
 returns g c =
     c.is_active.ensures
     ∙ ap (λ (f : ℕ → ℕ → Bool). f c.args.statement c.args.at)
-    (sym (counted_active c.self.inside.with_open c.self.inside.read.statements.list))
+    (sym (counted_active c.self.inside.with_open c.self.inside.reading.statements.list))
     ∙ ap (λ (n : Contents). is_active n.statements c.args.statement c.args.at) c.self.view_is

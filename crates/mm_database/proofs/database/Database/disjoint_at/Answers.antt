@@ -13,13 +13,13 @@ pub are_together-requires : goal.are_together-requires
 are_together-requires g c = record {
   ordered =
       rw c.blocks-else-are_together_near.ensures.blocks
-      c.self.invariant.beside_is.disjoint_index.ordered;
+      c.self.invariant.frame_tables_are.disjoint_index.ordered;
 }
 
 pub returns-else-are_together_near : goal.returns-else-are_together_near
 returns-else-are_together_near g c =
     let w = c.self.inside.with_open in
-    let s = c.self.inside.read.statements in
+    let s = c.self.inside.reading.statements in
     let db = counted w s.list in
     let k = c.args.statement in
     let x = c.args.x in
@@ -31,7 +31,7 @@ returns-else-are_together_near g c =
     ne_eqb x y (λ e. c.if-number.true (c.number.ensures ∙ e ∙ sym c.number-2.ensures)) in
     let blocks = c.blocks-else-are_together_near.ensures in
     together_is s.list s.blocks blocks.theirs k within _
-    c.self.invariant.beside_is.disjoint_index.are c.are_together.result x y
+    c.self.invariant.frame_tables_are.disjoint_index.are c.are_together.result x y
     (rw (← blocks.blocks) c.are_together.ensures.found)
     (rw (← blocks.blocks) c.are_together.ensures.none)
     ∙ sym (together_held w s.list k x y) ∙ sym (ap (λ t. not t && are_together_at db k x y) apart)

@@ -15,13 +15,13 @@ pub returns-clause-formula : goal.returns-clause-formula
 returns-clause-formula g c =
     c.formula.ensures.formula
     ∙ ap (λ (f : ℕ → Formula). f c.args.statement)
-    (sym (counted_formula c.self.inside.with_open c.self.inside.read.statements.list))
+    (sym (counted_formula c.self.inside.with_open c.self.inside.reading.statements.list))
     ∙ ap (λ (n : Contents). formula_at n.statements c.args.statement) c.self.view_is
 
 pub returns-clause-known : goal.returns-clause-known
 returns-clause-known g c =
     let names =
-    sym (counted_names c.self.inside.with_open c.self.inside.read.statements.list)
+    sym (counted_names c.self.inside.with_open c.self.inside.reading.statements.list)
     ∙ ap (λ (n : Contents). symbol_names n.statements) c.self.view_is in
     subst (λ (ns : List Bytes). All (λ s. s < length ns) c.formula.result.now) names
     c.formula.ensures.known

@@ -15,8 +15,8 @@ returns-clause-complete g c =
 
 pub returns-clause-few : goal.returns-clause-few
 returns-clause-few g c =
-    let s = c.self.inside.read.statements in
-    let few = statements_few s.text s.list c.self.inside.read.fault c.self.invariant.read in
+    let s = c.self.inside.reading.statements in
+    let few = statements_few s.text s.list c.self.inside.reading.fault c.self.invariant.read in
     let text = ap (λ (n : Contents). length n.text) c.self.view_is in
     let len = c.len.ensures.len in
     omega (arith, few, text, len)

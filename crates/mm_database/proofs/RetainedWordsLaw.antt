@@ -25,9 +25,9 @@ use Rattle.mm_outline.specs.declared.parts.Kind.TheVariants as kind
 use Rattle.mm_outline.specs.declared.parts.Outline.{Outline}
 use Rattle.mm_outline.proofs.StatementsLaw.{get_mapped, statement_is}
 use Rattle.mm_database.specs.Database.{Contents, contents, kind_of}
-use Rattle.mm_database.specs.Kept.{AreKept, IsKept, kept_words, label_tokens}
+use Rattle.mm_database.specs.RetainedWords.{AreRetained, IsRetained, retained_words, label_tokens}
 use Rattle.mm_outline.specs.Parts.{is_labelled_kind}
-use Rattle.mm_database.specs.Kept.{label_word, last_place}
+use Rattle.mm_database.specs.RetainedWords.{label_word, last_place}
 use Rattle.mm_database.proofs.KindsLaw.{theorem_at}
 
 -- ---- what is kept of an outline is that of its statement
@@ -92,9 +92,9 @@ module _ (text : List ℕ) (ws : List Word) where
             within_one (o.keyword - 1) (omega (arith, a, b, e))
         by_label false = λ k d l. absurd (omega arith)
 
-    kept_is : (o : Outline) → IsOutline o × (o.end < length ws)
-        → IsKept text (statement_of text ws o) (kept_words ws o)
-    kept_is o h = record {
+    retained_is : (o : Outline) → IsOutline o × (o.end < length ws)
+        → IsRetained text (statement_of text ws o) (retained_words ws o)
+    retained_is o h = record {
       label = label_word ws o;
       proof = slice_range ws (o.middle + 1) o.end;
       last = nth_word ws o.end;
@@ -110,16 +110,16 @@ module _ (text : List ℕ) (ws : List Word) where
       last_is = last_made o.kind o.keyword o.middle o.end h.0.4;
     }
 
-    pub kept_are : (os : List Outline) → All (λ o. IsOutline o × (o.end < length ws)) os
-        → AreKept text (statements text ws os) (map (kept_words ws) os)
-    kept_are os h =
+    pub retained_are : (os : List Outline) → All (λ o. IsOutline o × (o.end < length ws)) os
+        → AreRetained text (statements text ws os) (map (retained_words ws) os)
+    retained_are os h =
         record {
-          count = length-map os (kept_words ws) ∙ sym (length-map os (statement_of text ws));
+          count = length-map os (retained_words ws) ∙ sym (length-map os (statement_of text ws));
           each = each;
         }
       where
         each : (k : ℕ) (s : Statement) → slice_get (statements text ws os) k ≡ Some s
-            → IsKept text s (get_or (map (kept_words ws) os) k [])
+            → IsRetained text s (get_or (map (retained_words ws) os) k [])
         each k s e =
             let d : Outline = record { kind = kind.Open; keyword = 0; middle = 0; end = 0 } in
             let n = length-map os (statement_of text ws) in
@@ -128,9 +128,10 @@ module _ (text : List ℕ) (ws : List Word) where
             let is : Some (statement_of text ws (get_or os k d)) ≡ Some s =
             sym (statement_is text ws os k d l) ∙ e in
             let same : statement_of text ws (get_or os k d) ≡ s = cc in
-            subst (λ t. IsKept text t (get_or (map (kept_words ws) os) k [])) same
-            (subst (IsKept text (statement_of text ws (get_or os k d)))
-            (sym (get_mapped (kept_words ws) os k d [] l)) (kept_is (get_or os k d) (h k d l)))
+            subst (λ t. IsRetained text t (get_or (map (retained_words ws) os) k [])) same
+            (subst (IsRetained text (statement_of text ws (get_or os k d)))
+            (sym (get_mapped (retained_words ws) os k d [] l))
+            (retained_is (get_or os k d) (h k d l)))
 
 -- ---- what the kept words of a statement answer
 
@@ -198,13 +199,13 @@ module _ (text : List ℕ) (db : List Statement) (w : Bool) (fault : Option Faul
       ∙ ap (option_map (λ t. t.word))
       (has_none s (ap is_labelled_kind (kind_here x kind) ∙ labelled)))
 
-  module _ (kept : List (List Word)) (h : AreKept text db kept) where
-    pub kept_below : k < length kept
-    kept_below = let c = h.count in let l = below in omega (arith, c, l)
+  module _ (retained : List (List Word)) (h : AreRetained text db retained) where
+    pub retained_below : k < length retained
+    retained_below = let c = h.count in let l = below in omega (arith, c, l)
 
-    module _ (words : List Word) (e : words ≡ get_or kept k []) where
-      one : IsKept text s words
-      one = subst (IsKept text s) (sym e) (h.each k s got)
+    module _ (words : List Word) (e : words ≡ get_or retained k []) where
+      one : IsRetained text s words
+      one = subst (IsRetained text s) (sym e) (h.each k s got)
 
       front : words ≡ (one.label ++ one.proof) ++ one.last ∷ []
       front = one.words_are ∙ sym (append_assoc one.label one.proof (one.last ∷ []))
@@ -212,17 +213,17 @@ module _ (text : List ℕ) (db : List Statement) (w : Bool) (fault : Option Faul
       long : length words ≡ length (one.label ++ one.proof) + 1
       long = ap length front ∙ length-append (one.label ++ one.proof) (one.last ∷ [])
 
-      pub some_kept : 0 < length words
-      some_kept = omega (arith, long)
+      pub some_are_retained : 0 < length words
+      some_are_retained = omega (arith, long)
 
       pub word_within : AreWithin text words
       word_within = one.within
 
       -- the last token
-      pub last_kept : (d : Word)
+      pub last_is_retained : (d : Word)
           → option_map last_place (slice_get n.statements k)
           ≡ Some (get_or words (length words - 1) d).start
-      last_kept d =
+      last_is_retained d =
           let m : length words - 1 ≡ length (one.label ++ one.proof) = omega (arith, long) in
           let last =
           ap₂ (λ ys i. get_or ys i d) front m
@@ -256,8 +257,8 @@ module _ (text : List ℕ) (db : List Statement) (w : Bool) (fault : Option Faul
         two : length words ≡ suc (length one.proof + 1)
         two = ap length begins ∙ ap suc (length-append one.proof (one.last ∷ []))
 
-        long_kept : 2 ≤ length words
-        long_kept = omega (arith, two)
+        two_are_retained : 2 ≤ length words
+        two_are_retained = omega (arith, two)
 
         -- the words of the proof
         proof_words : slice_range words 1 (length words - 1) ≡ one.proof
@@ -267,11 +268,11 @@ module _ (text : List ℕ) (db : List Statement) (w : Bool) (fault : Option Faul
             ∙ take-append_seam one.proof (one.last ∷ [])
 
       -- the label
-      pub label_kept : (x : Kind) → option_map kind_of (slice_get db k) ≡ Some x
+      pub label_is_retained : (x : Kind) → option_map kind_of (slice_get db k) ≡ Some x
           → is_labelled_kind x ≡ true → (d : Word)
           → Some (slice_range text (get_or words 0 d).start (get_or words 0 d).end)
           ≡ option_map (λ t. t.word) (option_and_then label_of (slice_get n.statements k))
-      label_kept x kind labelled d = label_first x (kind_here x kind) labelled d
+      label_is_retained x kind labelled d = label_first x (kind_here x kind) labelled d
 
       module _ (counts : option_map kind_of (slice_get n.statements k) ≡ Some kind.Theorem) where
         theorem : (kind_of s ≡ kind.Theorem) × (slice_get (counted w db) k ≡ Some s)
@@ -281,11 +282,11 @@ module _ (text : List ℕ) (db : List Statement) (w : Bool) (fault : Option Faul
             ≡ Some kind.Theorem) (sym is) counts)
 
         pub theorem_long : 2 ≤ length words
-        theorem_long = long_kept kind.Theorem theorem.0 refl
+        theorem_long = two_are_retained kind.Theorem theorem.0 refl
 
-        pub proof_kept : option_map proof_of (slice_get n.statements k)
+        pub proof_is_retained : option_map proof_of (slice_get n.statements k)
             ≡ Some (as_tokens n.text (slice_range words 1 (length words - 1)))
-        proof_kept =
+        proof_is_retained =
             subst (λ (n : Contents). option_map proof_of (slice_get n.statements k)
             ≡ Some (as_tokens n.text (slice_range words 1 (length words - 1)))) is
             (ap (option_map proof_of) theorem.1 ∙ ap Some (sym one.proof_is)

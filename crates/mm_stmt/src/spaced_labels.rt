@@ -42,11 +42,11 @@ pub fn spaced_labels_of<A: Allocator + Copy>(
         theorems.now) }
 {
     let mut bytes = Vec::new(alloc);
-    let mut places = Vec::new(alloc);
+    let mut ends = Vec::new(alloc);
     for theorem in theorems {
         bytes.push(b' ')?;
         bytes.extend_from_slice(label_of(text, tokens, outlines, *theorem))?;
-        end_list(&bytes, &mut places)?;
+        end_list(&bytes, &mut ends)?;
     }
-    Ok(Lists::from_ends(bytes, places))
+    Ok(Lists::from_ends(bytes, ends))
 }

@@ -2,22 +2,22 @@
 
 ghost use Rattle.std.specs.Prelude.{◌≡◌, ◌<◌, ◌+◌, ◌++◌, All, IfOk, OnOk, length, map};
 ghost use Rattle.mm_outline.specs.Parts.{IsOutline};
-ghost use Rattle.mm_database.specs.Kept.{kept_words};
+ghost use Rattle.mm_database.specs.RetainedWords.{retained_words};
 
 use mm_lists::{Lists, end_list};
 use mm_outline::parts::Outline;
 use mm_spec::Word;
 use std::alloc::{AllocError, Allocator};
 
-/// Appends the kept words of a statement.
-fn keep<A: Allocator>(
+/// Appends the words of a statement that are needed again.
+fn retain_words<A: Allocator>(
     tokens: &[Word],
     outline: Outline,
     words: &mut Vec<Word, A>,
 ) -> Result<(), AllocError>
     requires outline { IsOutline outline }
     requires within { outline.end < length tokens.now }
-    ensures { OnOk result (words.new.items ≡ words.old.items ++ kept_words tokens.now outline) }
+    ensures { OnOk result (words.new.items ≡ words.old.items ++ retained_words tokens.now outline) }
 {
     if outline.kind.has_label() {
         words.push(tokens[outline.keyword as usize - 1])?;
@@ -30,20 +30,20 @@ fn keep<A: Allocator>(
     Ok(())
 }
 
-/// Returns the kept words of all statements.
-pub(crate) fn keep_all<A: Allocator + Copy>(
+/// Returns for each statement the words that are needed again.
+pub(crate) fn retain_all_words<A: Allocator + Copy>(
     alloc: A,
     tokens: &[Word],
     outlines: &[Outline],
 ) -> Result<Lists<Word, A>, AllocError>
     requires { All (λ o. IsOutline o × (o.end < length tokens.now)) outlines.now }
-    ensures { IfOk result (λ k. k ≡ map (kept_words tokens.now) outlines.now) }
+    ensures { IfOk result (λ k. k ≡ map (retained_words tokens.now) outlines.now) }
 {
     let mut words = Vec::new(alloc);
-    let mut places = Vec::new(alloc);
+    let mut ends = Vec::new(alloc);
     for outline in outlines {
-        keep(tokens, *outline, &mut words)?;
-        end_list(&words, &mut places)?;
+        retain_words(tokens, *outline, &mut words)?;
+        end_list(&words, &mut ends)?;
     }
-    Ok(Lists::from_ends(words, places))
+    Ok(Lists::from_ends(words, ends))
 }

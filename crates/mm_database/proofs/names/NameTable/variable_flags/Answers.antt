@@ -4,14 +4,14 @@ use Rattle.std.proofs.lemmas.Bool.{cases_lt}
 use Rattle.std.proofs.lemmas.List.{get_or_push, get_or_append_left}
 use Rattle.std.proofs.lemmas.Option.{slice_get_within}
 use Rattle.mm_database.specs.Names.{find, is_variable_in, KnownNames, names_of}
-use Rattle.mm_database.proofs.names.NameTable.variables.Goals as goal
-use Rattle.mm_database.proofs.names.NameTable.variables.Goals.{in-Some, in-None}
+use Rattle.mm_database.proofs.names.NameTable.variable_flags.Goals as goal
+use Rattle.mm_database.proofs.names.NameTable.variable_flags.Goals.{in-Some, in-None}
 use Rattle.mm_database.proofs.NamesLaw.{name_at, map_len}
 
 pub loop-i-preserved : goal.loop-i-preserved
 loop-i-preserved g c =
     let es = c.self.inside.symbols.entries in
-    let vs = c.loop-i.variables.items in
+    let vs = c.loop-i.variable_flags.items in
     let v = c.match-get_index.is_variable in
     let i = c.loop-i.i in
     let inv = c.loop-i.invariant in
@@ -58,11 +58,12 @@ pub returns-clause-each : goal.returns-clause-each
 returns-clause-each g c =
     let es = c.self.inside.symbols.entries in
     let each : (i : ℕ) (w : List ℕ) → slice_get (names_of es) i ≡ Some w
-    → get_or c.loop-i.variables.items i false ≡ is_variable_in (find es w) =
+    → get_or c.loop-i.variable_flags.items i false ≡ is_variable_in (find es w) =
     λ (i : ℕ) (w : List ℕ) h.
     let inside = slice_get_within (names_of es) i w h in
     let n = map_len es in
     c.loop-i.invariant.each i w (omega (arith, inside, n)) h in
     subst (λ (n : KnownNames). (i : ℕ) (w : List ℕ) → slice_get (names_of n.symbols) i ≡ Some w
-    → get_or c.loop-i.variables.items i false ≡ is_variable_in (find n.symbols w)) c.self.view_is
+    → get_or c.loop-i.variable_flags.items i false ≡ is_variable_in (find n.symbols w))
+    c.self.view_is
     each

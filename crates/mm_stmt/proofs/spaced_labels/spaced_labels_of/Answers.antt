@@ -4,7 +4,7 @@ use Rattle.std.proofs.lemmas.List.{take_more, map-append}
 use Rattle.mm_spec.specs.Output.{label_at}
 use Rattle.mm_outline.specs.Statements.{statements}
 use Rattle.mm_lists.proofs.ListsLaw.{joined_all, more_joined, none_joined}
-use Rattle.mm_stmt.proofs.spaced.spaced_labels_of.Goals as goal
+use Rattle.mm_stmt.proofs.spaced_labels.spaced_labels_of.Goals as goal
 
 pub label_of-requires-clause-theorem : goal.label_of-requires-clause-theorem
 label_of-requires-clause-theorem g c =
@@ -26,11 +26,11 @@ loop-theorem-preserved g c =
     ∙ append_assoc bytes (32 ∷ []) c.label_of.result.now
     ∙ ap (λ l. bytes ++ 32 ∷ l) c.label_of.ensures in
     rw (more, c.in_ok-end_list.ensures.ok, longer)
-    (more_joined (map name (take i ks)) (name k) bytes c.loop-theorem.places.items
+    (more_joined (map name (take i ks)) (name k) bytes c.loop-theorem.ends.items
     c.loop-theorem.invariant)
 
 pub loop-theorem-init : goal.loop-theorem-init
-loop-theorem-init g c = none_joined _ _ c.new-bytes.ensures.items c.new-places.ensures.items
+loop-theorem-init g c = none_joined _ _ c.new-bytes.ensures.items c.new-ends.ensures.items
 
 pub from_ends-requires : goal.from_ends-requires
 from_ends-requires g c =

@@ -13,8 +13,9 @@ abbrev pub label_word : List Word → Outline → List Word
 label_word ws o = if is_labelled_kind o.kind then nth_word ws (o.keyword - 1) ∷ [] else []
 
 -- the label if there is one, the words of the proof if there is one, and the last token
-abbrev pub kept_words : List Word → Outline → List Word
-kept_words ws o = label_word ws o ++ (slice_range ws (o.middle + 1) o.end ++ nth_word ws o.end ∷ [])
+abbrev pub retained_words : List Word → Outline → List Word
+retained_words ws o = label_word ws o ++ (slice_range ws (o.middle + 1) o.end
+    ++ nth_word ws o.end ∷ [])
 
 -- the place of a statement's last token
 abbrev pub last_place : Statement → ℕ
@@ -33,7 +34,7 @@ abbrev pub label_tokens : Statement → List Token
 label_tokens s = elim (label_of s) [ None ↦ [] | Some l ↦ l ∷ [] ]
 
 -- the words are the label of the statement, if it has one, those of its proof, and its last token
-pub record IsKept (text : List ℕ) (s : Statement) (words : List Word) : Type 0 where
+pub record IsRetained (text : List ℕ) (s : Statement) (words : List Word) : Type 0 where
   pub label : List Word
   pub proof : List Word
   pub last : Word
@@ -44,7 +45,8 @@ pub record IsKept (text : List ℕ) (s : Statement) (words : List Word) : Type 0
   pub last_is : last.start ≡ last_place s
 
 -- the kept words of each statement
-pub record AreKept (text : List ℕ) (db : List Statement) (kept : List (List Word)) : Type 0 where
-  pub count : length kept ≡ length db
-  pub each : (k : ℕ) (s : Statement) → slice_get db k ≡ Some s
-      → IsKept text s (slice_index_or kept k [])
+pub record AreRetained (text : List ℕ) (db : List Statement) (retained : List (List Word)) : Type 0
+  where
+    pub count : length retained ≡ length db
+    pub each : (k : ℕ) (s : Statement) → slice_get db k ≡ Some s
+        → IsRetained text s (slice_index_or retained k [])

@@ -11,13 +11,13 @@ use Rattle.mm_outline.specs.Blocks.{BlockLists, IsBlocks}
 use Rattle.mm_database.specs.Numbered.{AreNumbered}
 
 -- a text, its statements as they were read, and the blocks in which these are
-pub record Parsed : Type 0 where
+pub record ParsedStatements : Type 0 where
   pub text : List ℕ
   pub list : List Statement
   pub blocks : BlockLists
 
-abbrev pub parsed : List ℕ → List Statement → BlockLists → Parsed
-parsed text db b = record { text = text; list = db; blocks = b }
+abbrev pub parsed_statements : List ℕ → List Statement → BlockLists → ParsedStatements
+parsed_statements text db b = record { text = text; list = db; blocks = b }
 
 -- the statements are lawful, no constant is a variable too, and each symbol has a number
 pub record IsSound (db : List Statement) : Type 0 where
@@ -28,15 +28,15 @@ pub record IsSound (db : List Statement) : Type 0 where
   pub below : (k : ℕ) → k < length db → All (λ s. s < length (symbol_names db)) (formula_at db k)
 
 -- what is kept of sound statements is theirs: blocks, formulas, and which symbols are variables
-pub record AreParts (db : List Statement) (b : BlockLists) (formulas : List (List ℕ))
-    (marks : List Bool) : Type 0 where
+pub record AreParsedStatements (db : List Statement) (b : BlockLists) (formulas : List (List ℕ))
+    (variable_flags : List Bool) : Type 0 where
   pub sound : IsSound db
   pub blocks : IsBlocks db b
   pub numbered : AreNumbered db formulas
-  pub few_symbols : length marks < 2 ^ 31
-  pub count : length marks ≡ length (symbol_names db)
+  pub few_symbols : length variable_flags < 2 ^ 31
+  pub count : length variable_flags ≡ length (symbol_names db)
   pub variable : (s : ℕ) → s < length (symbol_names db)
-      → get_or marks s false ≡ is_variable_number db s
+      → get_or variable_flags s false ≡ is_variable_number db s
 
 -- the variable of a `$f`
 abbrev pub typed_at : List Statement → ℕ → Option ℕ

@@ -2,13 +2,13 @@ use Rattle.std.proofs.Common.{◌∙◌, sym, ap, arith}
 use Rattle.std.specs.Map.{keys_of}
 use Rattle.mm_spec.specs.Frame.{index_of}
 use Rattle.mm_database.specs.Names.{find, KnownNames, names_of}
-use Rattle.mm_database.proofs.SymbolsLaw.{found_place}
+use Rattle.mm_database.proofs.SymbolsLaw.{found_index}
 use Rattle.mm_database.proofs.NamesLaw.{missing_number}
-use Rattle.mm_database.proofs.names.NameTable.looked_up.Goals as goal
+use Rattle.mm_database.proofs.names.NameTable.looked_up_symbol.Goals as goal
 
 pub returns-in-Some-clause-number : goal.returns-in-Some-clause-number
 returns-in-Some-clause-number g c =
-    found_place c.args.word.now (keys_of c.self.inside.symbols.entries) c.in-Some.number
+    found_index c.args.word.now (keys_of c.self.inside.symbols.entries) c.in-Some.number
     (sym c.in-Some.ensures.index)
     ∙ ap (λ (n : KnownNames). index_of c.args.word.now (names_of n.symbols)) c.self.view_is
 
