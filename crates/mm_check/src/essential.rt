@@ -45,24 +45,24 @@ impl<A: Allocator> Flags<A> {
     /// essential nodes.
     pub fn keep_cited(
         &mut self,
-        db: &Database<A>,
+        database: &Database<A>,
         theorem: u32,
         steps: &Steps<A>,
         essential: bool,
         noted: &mut Noted<A>,
     ) -> Result<(), AllocError>
-        requires steps { AreStepsOf db.now.statements theorem steps.now.steps }
-        requires valid { (d : Trees) × IsProof db.now.statements theorem d }
+        requires steps { AreStepsOf database.now.statements theorem steps.now.steps }
+        requires valid { (d : Trees) × IsProof database.now.statements theorem d }
         requires noted { (a : ℕ)
-            → Decides (is_member noted.old a) (Cites db.now.statements false theorem a) }
+            → Decides (is_member noted.old a) (Cites database.now.statements false theorem a) }
         ensures { OnOk result
             ((a : ℕ)
             → Decides (is_member noted.new a)
-            (Cites db.now.statements essential theorem a)) }
+            (Cites database.now.statements essential theorem a)) }
     {
         if essential {
             walk_back(
-                db,
+                database,
                 theorem,
                 steps,
                 noted,
@@ -102,28 +102,28 @@ fn pop_flag<A: Allocator>(waiting: &mut Vec<bool, A>) -> bool
 }
 
 /// Whether the child for a hypothesis is essential: its parent is, and the hypothesis is a `$e`.
-fn flag_for<A: Allocator>(db: &Database<A>, h: u32, is_essential: bool) -> bool
-    requires { h < length db.now.statements }
+fn flag_for<A: Allocator>(database: &Database<A>, hypothesis: u32, is_essential: bool) -> bool
+    requires { hypothesis < length database.now.statements }
     ensures { result
-        ≡ (is_essential && list_any is_essential_statement (statement_at db.now.statements h)) }
+        ≡ (is_essential && list_any is_essential_statement (statement_at database.now.statements hypothesis)) }
 {
-    is_essential && is_essential_hypothesis(db, h)
+    is_essential && is_essential_hypothesis(database, hypothesis)
 }
 
-/// Pushes a flag for each child of a node whose label is assertion `k`. `is_essential` says whether
+/// Pushes a flag for each child of a node whose label is assertion `assertion`. `is_essential` says whether
 /// the node is essential.
 fn push_flags<A: Allocator>(
-    db: &Database<A>,
-    k: u32,
+    database: &Database<A>,
+    assertion: u32,
     is_essential: bool,
     waiting: &mut Vec<bool, A>,
 ) -> Result<(), AllocError>
-    requires { is_assertion_at db.now.statements k ≡ true }
+    requires { is_assertion_at database.now.statements assertion ≡ true }
     ensures { OnOk result
-        (waiting.new.items ≡ waiting.old.items ++ child_flags db.now.statements is_essential k) }
+        (waiting.new.items ≡ waiting.old.items ++ child_flags database.now.statements is_essential assertion) }
 {
-    for h in hyps(db, k) {
-        waiting.push(flag_for(db, *h, is_essential))?;
+    for hypothesis in hyps(database, assertion) {
+        waiting.push(flag_for(database, *hypothesis, is_essential))?;
     }
     Ok(())
 }
@@ -132,34 +132,34 @@ fn push_flags<A: Allocator>(
 /// the step is essential, notes its assertion, or sets `wanted` for the step whose subproof it
 /// repeats.
 fn undo<A: Allocator>(
-    db: &Database<A>,
+    database: &Database<A>,
     step: Step,
     is_essential: bool,
     noted: &mut Noted<A>,
     waiting: &mut Vec<bool, A>,
     wanted: &mut [bool],
 ) -> Result<(), AllocError>
-    requires known { labels (as_step step) (length db.now.statements) }
+    requires known { labels (as_step step) (length database.now.statements) }
     requires earlier { IsEarlier (as_step step) (length wanted.old) }
     ensures noted { OnOk result
         ((a : ℕ)
         → is_member noted.new a
         ≡ (is_member noted.old a
         || (is_essential
-        && (is_labelled_step (as_step step) a && is_assertion_at db.now.statements a)))) }
+        && (is_labelled_step (as_step step) a && is_assertion_at database.now.statements a)))) }
     ensures waiting { OnOk result
         (waiting.new.items
-        ≡ waiting.old.items ++ taken_flags db.now.statements is_essential (as_step step)) }
+        ≡ waiting.old.items ++ taken_flags database.now.statements is_essential (as_step step)) }
     ensures wanted { OnOk result
         (wanted.new ≡ wanted_flags is_essential (as_step step) wanted.old) }
 {
     if is_essential {
-        noted.cite(db, step)?;
+        noted.cite(database, step)?;
     }
     match step {
         Step::Label(k) => {
-            if is_assertion(db, k) {
-                push_flags(db, k, is_essential, waiting)?;
+            if is_assertion(database, k) {
+                push_flags(database, k, is_essential, waiting)?;
             }
         }
         Step::Marked(j) => {
@@ -175,25 +175,25 @@ fn undo<A: Allocator>(
 /// the pass reaches a step, the flags say whether the entry that it pushed is essential, and
 /// whether an essential later step repeats its subproof.
 fn walk_back<A: Allocator>(
-    db: &Database<A>,
+    database: &Database<A>,
     theorem: u32,
     steps: &Steps<A>,
     noted: &mut Noted<A>,
     waiting: &mut Vec<bool, A>,
     wanted: &mut Vec<bool, A>,
 ) -> Result<(), AllocError>
-    requires steps { AreStepsOf db.now.statements theorem steps.now.steps }
-    requires valid { (d : Trees) × IsProof db.now.statements theorem d }
+    requires steps { AreStepsOf database.now.statements theorem steps.now.steps }
+    requires valid { (d : Trees) × IsProof database.now.statements theorem d }
     ensures { OnOk result
         ((a : ℕ)
-        → Decides (is_member noted.new a) (Cites db.now.statements true theorem a)) }
+        → Decides (is_member noted.new a) (Cites database.now.statements true theorem a)) }
 {
     noted.clear();
     restart(steps.len(), waiting, wanted)?;
     for i in (0..steps.len()).rev() {
         let flag = pop_flag(waiting);
         let is_essential = flag || wanted[i];
-        undo(db, steps.step(i), is_essential, noted, waiting, wanted)?;
+        undo(database, steps.step(i), is_essential, noted, waiting, wanted)?;
     }
     Ok(())
 }

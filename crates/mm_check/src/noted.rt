@@ -50,43 +50,43 @@ impl<A: Allocator> Noted<A> {
         empty(&mut self.numbers);
     }
 
-    /// Whether `k` is in `numbers` at the index that `places` gives for it. If it isn't, it may
+    /// Whether `statement` is in `numbers` at the index that `places` gives for it. If it isn't, it may
     /// still be in `numbers`.
-    fn has(&self, k: u32) -> bool
-        ensures { result ≡ true → is_member self.now k ≡ true }
+    fn has(&self, statement: u32) -> bool
+        ensures { result ≡ true → is_member self.now statement ≡ true }
     {
-        let i = k as usize;
-        if i >= self.places.len() {
+        let index = statement as usize;
+        if index >= self.places.len() {
             return false;
         }
-        let place = self.places[i] as usize;
-        place < self.numbers.len() && self.numbers[place] == k
+        let place = self.places[index] as usize;
+        place < self.numbers.len() && self.numbers[place] == statement
     }
 
     /// Notes a statement, unless it is in `numbers` where `places` says.
     #[inline(always)]
-    pub fn note(&mut self, k: u32) -> Result<(), AllocError>
+    pub fn note(&mut self, statement: u32) -> Result<(), AllocError>
         ensures { OnOk result
-            ((a : ℕ) → is_member self.new a ≡ (is_member self.old a || (a == k))) }
+            ((a : ℕ) → is_member self.new a ≡ (is_member self.old a || (a == statement))) }
     {
-        if !self.has(k) {
-            put_number(&mut self.places, k as usize, self.numbers.len());
-            self.numbers.push(k)?;
+        if !self.has(statement) {
+            put_number(&mut self.places, statement as usize, self.numbers.len());
+            self.numbers.push(statement)?;
         }
         Ok(())
     }
 
     /// Notes the assertion that a step applies.
-    pub fn cite(&mut self, db: &Database<A>, step: Step) -> Result<(), AllocError>
-        requires known { labels (as_step step) (length db.now.statements) }
+    pub fn cite(&mut self, database: &Database<A>, step: Step) -> Result<(), AllocError>
+        requires known { labels (as_step step) (length database.now.statements) }
         ensures { OnOk result
             ((a : ℕ)
             → is_member self.new a
             ≡ (is_member self.old a
-            || (is_labelled_step (as_step step) a && is_assertion_at db.now.statements a))) }
+            || (is_labelled_step (as_step step) a && is_assertion_at database.now.statements a))) }
     {
         if let Step::Label(k) = step {
-            if is_assertion(db, k) {
+            if is_assertion(database, k) {
                 self.note(k)?;
             }
         }

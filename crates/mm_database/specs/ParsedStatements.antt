@@ -39,6 +39,6 @@ pub record AreParsedStatements (db : List Statement) (b : BlockLists) (formulas 
       → get_or variable_flags s false ≡ is_variable_number db s
 
 -- the variable of a `$f`
-abbrev pub typed_at : List Statement → ℕ → Option ℕ
-typed_at db k =
+abbrev pub typed_variable_at : List Statement → ℕ → Option ℕ
+typed_variable_at db k =
     if list_any is_floating (statement_at db k) then slice_get (formula_at db k) 1 else None

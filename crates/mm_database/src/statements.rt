@@ -13,7 +13,7 @@ ghost use Rattle.mm_outline.specs.Statements.{statements, active_kind};
 ghost use Rattle.mm_database.specs.Kinds.{kind_of, is_essential_kind, is_floating_kind};
 ghost use Rattle.mm_database.specs.Kinds.{is_disjoint_kind, is_assertion_kind};
 ghost use Rattle.mm_database.specs.ParsedStatements.{parsed_statements, AreParsedStatements};
-ghost use Rattle.mm_database.specs.ParsedStatements.{IsSound, typed_at};
+ghost use Rattle.mm_database.specs.ParsedStatements.{IsSound, typed_variable_at};
 
 use mm_lists::Lists;
 use mm_outline::blocks::Blocks;
@@ -181,9 +181,9 @@ impl<'a, A: Allocator> Statements<'a, A> {
     }
 
     /// Returns the variable that a `$f` types, or `None` if the statement isn't a `$f`.
-    pub fn typed(&self, statement: u32) -> Option<Sym>
+    pub fn typed_variable(&self, statement: u32) -> Option<Sym>
         requires { statement < length self.now.list }
-        ensures { result ≡ typed_at self.now.list statement }
+        ensures { result ≡ typed_variable_at self.now.list statement }
     {
         if self.is_floating(statement) {
             self.formula(statement).get(1).copied()

@@ -24,7 +24,7 @@ use Rattle.mm_spec.specs.Frame.{formula_of}
 use Rattle.mm_spec.proofs.FindsLaw.{range_any}
 use Rattle.mm_spec.proofs.FaultlessLaw.{append_none, least_none}
 use Rattle.mm_outline.specs.Typed.{has_word, typed_words}
-use Rattle.mm_database.specs.ParsedStatements.{IsSound, typed_at}
+use Rattle.mm_database.specs.ParsedStatements.{IsSound, typed_variable_at}
 use Rattle.mm_outline.proofs.FaultlessLaw.{floating_new}
 use Rattle.mm_outline.proofs.AmongLaw.{typed_in, among_active}
 
@@ -126,7 +126,7 @@ module _ (db : List Statement) (sound : IsSound db) where
         constant = constant_there (names_before db k) a c x n;
       }
 
-  pub typed_float : (k v : ℕ) → k < length db → typed_at db k ≡ Some v → IsFloat db k v
+  pub typed_float : (k v : ℕ) → k < length db → typed_variable_at db k ≡ Some v → IsFloat db k v
   typed_float k v h e = by_statement (slice_get db k) refl e
     where
       by_statement : (o : Option Statement) → slice_get db k ≡ o → typed_of db o ≡ Some v
@@ -146,12 +146,12 @@ module _ (db : List Statement) (sound : IsSound db) where
   -- a `$f` has a variable
   pub floating_typed : (k : ℕ) → k < length db
       → list_any is_floating (list_at (slice_get db k)) ≡ true
-      → (v : ℕ) × (typed_at db k ≡ Some v) × IsFloat db k v
+      → (v : ℕ) × (typed_variable_at db k ≡ Some v) × IsFloat db k v
   floating_typed k h t = by_statement (slice_get db k) refl t
     where
       by_statement : (o : Option Statement) → slice_get db k ≡ o → list_any is_floating (list_at o)
           ≡ true
-          → (v : ℕ) × (typed_at db k ≡ Some v) × IsFloat db k v
+          → (v : ℕ) × (typed_variable_at db k ≡ Some v) × IsFloat db k v
       by_statement None e t = absurd (true≢false (sym t))
       by_statement (Some (constants a xs d)) e t = absurd (true≢false (sym t))
       by_statement (Some (variables a xs d)) e t = absurd (true≢false (sym t))

@@ -21,8 +21,8 @@ use Rattle.mm_spec.proofs.MemberLaw.{any_witness, any_of, same_any, member_flat}
 use Rattle.mm_spec.proofs.ListLaw.{member_at}
 use Rattle.mm_outline.specs.Blocks.{never}
 use Rattle.mm_frame.specs.Latest.{is_staying}
-use Rattle.mm_database.specs.ParsedStatements.{IsSound, typed_at}
-use Rattle.mm_frame.specs.Hypotheses.{AreTyped, is_float_of}
+use Rattle.mm_database.specs.ParsedStatements.{IsSound, typed_variable_at}
+use Rattle.mm_frame.specs.Hypotheses.{AreLastFloats, is_float_of}
 use Rattle.mm_spec.proofs.RisingLaw.{Rising, filter_is}
 use Rattle.mm_frame.proofs.FloatLaw.{typed_float, floating_typed, formula_is, floating_is}
 use Rattle.mm_frame.proofs.FloatLaw.{typecode_constant, variable_below, float_active}
@@ -131,7 +131,7 @@ module _ (db : List Statement) (k : ℕ) where
       || (list_any is_floating (statement_at db j)
       && list_any (is_member (mandatory_variables db k)) (formula_at db j))
 
-  module _ (sound : IsSound db) (h : k ≤ length db) (ts : List ℕ) (typed : AreTyped db k ts)
+  module _ (sound : IsSound db) (h : k ≤ length db) (ts : List ℕ) (typed : AreLastFloats db k ts)
       (found : List ℕ)
       (found_is : (x : ℕ) → is_member found x ≡ is_member (mandatory_variables db k) x) where
     -- an active `$f` of a mandatory variable is found
@@ -185,7 +185,7 @@ module _ (db : List Statement) (k : ℕ) where
         ∙ ap not (eq-eqb t never z))) in
         let l : j < k = subst (λ i. i < k) (sym same) s.0 in
         let n : j < length db = omega arith in
-        let at : typed_at db j ≡ Some v = ap (typed_at db) same ∙ s.1 in
+        let at : typed_variable_at db j ≡ Some v = ap (typed_variable_at db) same ∙ s.1 in
         let x = typed_float db sound j v n at in
         let c = index_of x.typecode.word (symbol_names db) in (
           float_active db sound j v n x k l ∙ ap (λ i. stays db i k) same

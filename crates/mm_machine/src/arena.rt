@@ -204,59 +204,59 @@ fn all_fit(symbols: &Symbols, rule: &Rule, premises: &[Span]) -> bool
 /// Whether two symbols are disjoint at the theorem: they aren't both variables, or an active `$d`
 /// has both. The first pairs that are found to be disjoint are kept in `cache`.
 fn are_disjoint<A: Allocator>(
-    db: &Database<A>,
+    database: &Database<A>,
     theorem: u32,
-    s: Sym,
-    t: Sym,
+    first: Sym,
+    second: Sym,
     cache: &mut DisjointCache<A>,
 ) -> bool
-    requires theorem { theorem < length db.now.statements }
-    requires s { s < length (symbol_names db.now.statements) }
-    requires t { t < length (symbol_names db.now.statements) }
-    requires cache { AreDisjointAt db.now.statements theorem cache.old }
-    ensures value { result ≡ disjoint_pair (context_at db.now.statements theorem) s t }
-    ensures cache { AreDisjointAt db.now.statements theorem cache.new }
+    requires theorem { theorem < length database.now.statements }
+    requires first { first < length (symbol_names database.now.statements) }
+    requires second { second < length (symbol_names database.now.statements) }
+    requires cache { AreDisjointAt database.now.statements theorem cache.old }
+    ensures value { result ≡ disjoint_pair (context_at database.now.statements theorem) first second }
+    ensures cache { AreDisjointAt database.now.statements theorem cache.new }
 {
-    if cache.has(s, t) {
+    if cache.has(first, second) {
         return true;
     }
-    if !are_disjoint_by(db, theorem, s, t) {
+    if !are_disjoint_by(database, theorem, first, second) {
         return false;
     }
-    cache.keep(s, t);
+    cache.keep(first, second);
     true
 }
 
 /// The same, without `cache`.
-fn are_disjoint_by<A: Allocator>(db: &Database<A>, theorem: u32, s: Sym, t: Sym) -> bool
-    requires theorem { theorem < length db.now.statements }
-    requires s { s < length (symbol_names db.now.statements) }
-    requires t { t < length (symbol_names db.now.statements) }
-    ensures { result ≡ disjoint_pair (context_at db.now.statements theorem) s t }
+fn are_disjoint_by<A: Allocator>(database: &Database<A>, theorem: u32, first: Sym, second: Sym) -> bool
+    requires theorem { theorem < length database.now.statements }
+    requires first { first < length (symbol_names database.now.statements) }
+    requires second { second < length (symbol_names database.now.statements) }
+    ensures { result ≡ disjoint_pair (context_at database.now.statements theorem) first second }
 {
-    !(db.is_variable(s) && db.is_variable(t)) || (!(s == t) && db.disjoint_at(theorem, s, t))
+    !(database.is_variable(first) && database.is_variable(second)) || (!(first == second) && database.disjoint_at(theorem, first, second))
 }
 
 /// Whether a symbol is disjoint from each of the others.
 fn is_disjoint_from<A: Allocator>(
-    db: &Database<A>,
+    database: &Database<A>,
     theorem: u32,
-    s: Sym,
+    symbol: Sym,
     others: &[Sym],
     cache: &mut DisjointCache<A>,
 ) -> bool
-    requires theorem { theorem < length db.now.statements }
-    requires s { s < length (symbol_names db.now.statements) }
-    requires others { All (λ s. s < length (symbol_names db.now.statements)) others.now }
-    requires cache { AreDisjointAt db.now.statements theorem cache.old }
-    ensures value { result ≡ disjoint_symbol (context_at db.now.statements theorem) s others.now }
-    ensures cache { AreDisjointAt db.now.statements theorem cache.new }
+    requires theorem { theorem < length database.now.statements }
+    requires symbol { symbol < length (symbol_names database.now.statements) }
+    requires others { All (λ symbol. symbol < length (symbol_names database.now.statements)) others.now }
+    requires cache { AreDisjointAt database.now.statements theorem cache.old }
+    ensures value { result ≡ disjoint_symbol (context_at database.now.statements theorem) symbol others.now }
+    ensures cache { AreDisjointAt database.now.statements theorem cache.new }
 {
-    if !db.is_variable(s) {
+    if !database.is_variable(symbol) {
         return true;
     }
-    for t in others {
-        if db.is_variable(*t) && !are_disjoint(db, theorem, s, *t, cache) {
+    for other in others {
+        if database.is_variable(*other) && !are_disjoint(database, theorem, symbol, *other, cache) {
             return false;
         }
     }
@@ -265,22 +265,22 @@ fn is_disjoint_from<A: Allocator>(
 
 /// Whether each variable of `first` is disjoint from each variable of `second`.
 fn are_all_disjoint<A: Allocator>(
-    db: &Database<A>,
+    database: &Database<A>,
     theorem: u32,
     first: &[Sym],
     second: &[Sym],
     cache: &mut DisjointCache<A>,
 ) -> bool
-    requires theorem { theorem < length db.now.statements }
-    requires first { All (λ s. s < length (symbol_names db.now.statements)) first.now }
-    requires second { All (λ s. s < length (symbol_names db.now.statements)) second.now }
-    requires cache { AreDisjointAt db.now.statements theorem cache.old }
+    requires theorem { theorem < length database.now.statements }
+    requires first { All (λ symbol. symbol < length (symbol_names database.now.statements)) first.now }
+    requires second { All (λ symbol. symbol < length (symbol_names database.now.statements)) second.now }
+    requires cache { AreDisjointAt database.now.statements theorem cache.old }
     ensures value { result
-        ≡ disjoint_lists (context_at db.now.statements theorem) first.now second.now }
-    ensures cache { AreDisjointAt db.now.statements theorem cache.new }
+        ≡ disjoint_lists (context_at database.now.statements theorem) first.now second.now }
+    ensures cache { AreDisjointAt database.now.statements theorem cache.new }
 {
-    for s in first {
-        if !is_disjoint_from(db, theorem, *s, second, cache) {
+    for symbol in first {
+        if !is_disjoint_from(database, theorem, *symbol, second, cache) {
             return false;
         }
     }
@@ -290,29 +290,29 @@ fn are_all_disjoint<A: Allocator>(
 /// Whether for each pair of variables, each variable in what replaces the first is disjoint from
 /// each variable in what replaces the second.
 fn pairs_are_disjoint<A: Allocator>(
-    db: &Database<A>,
+    database: &Database<A>,
     theorem: u32,
     symbols: &Symbols,
     premises: &[Span],
     pairs: &[(u32, u32)],
     cache: &mut DisjointCache<A>,
 ) -> bool
-    requires theorem { theorem < length db.now.statements }
-    requires premises { AreEntries (length (symbol_names db.now.statements)) symbols.now
+    requires theorem { theorem < length database.now.statements }
+    requires premises { AreEntries (length (symbol_names database.now.statements)) symbols.now
         premises.now }
     requires pairs { All
         (λ (p : ℕ × ℕ). (p.0 < length premises.now) × (p.1 < length premises.now)) pairs.now }
-    requires cache { AreDisjointAt db.now.statements theorem cache.old }
+    requires cache { AreDisjointAt database.now.statements theorem cache.old }
     ensures value { result
         ≡ list_all
-        (λ (p : ℕ × ℕ). disjoint_lists (context_at db.now.statements theorem)
+        (λ (p : ℕ × ℕ). disjoint_lists (context_at database.now.statements theorem)
         (stands symbols.now premises.now p.0) (stands symbols.now premises.now p.1)) pairs.now }
-    ensures cache { AreDisjointAt db.now.statements theorem cache.new }
+    ensures cache { AreDisjointAt database.now.statements theorem cache.new }
 {
     for pair in pairs {
         let first = symbols.formula(span_of(premises, pair.0));
         let second = symbols.formula(span_of(premises, pair.1));
-        if !are_all_disjoint(db, theorem, first, second, cache) {
+        if !are_all_disjoint(database, theorem, first, second, cache) {
             return false;
         }
     }
@@ -365,19 +365,19 @@ pub fn build<A: Allocator>(
 /// Returns how many of the entries stay, or why the step fails.
 #[inline(always)]
 pub fn test_rule<A: Allocator>(
-    db: &Database<A>,
+    database: &Database<A>,
     theorem: u32,
     rule: &Rule,
     symbols: &Symbols,
     stack: &[Span],
     cache: &mut DisjointCache<A>,
 ) -> Result<usize, Reason>
-    requires theorem { theorem < length db.now.statements }
-    requires rule { IsCompiled db.now.statements rule.now }
-    requires stack { AreEntries (length (symbol_names db.now.statements)) symbols.now stack.now }
-    requires cache { AreDisjointAt db.now.statements theorem cache.old }
-    ensures cache { AreDisjointAt db.now.statements theorem cache.new }
-    ensures judged { TestsRule db.now.statements theorem rule.now symbols.now stack.now result }
+    requires theorem { theorem < length database.now.statements }
+    requires rule { IsCompiled database.now.statements rule.now }
+    requires stack { AreEntries (length (symbol_names database.now.statements)) symbols.now stack.now }
+    requires cache { AreDisjointAt database.now.statements theorem cache.old }
+    ensures cache { AreDisjointAt database.now.statements theorem cache.new }
+    ensures judged { TestsRule database.now.statements theorem rule.now symbols.now stack.now result }
 {
     let hypotheses = rule.hypotheses();
     if stack.len() < hypotheses.len() {
@@ -389,7 +389,7 @@ pub fn test_rule<A: Allocator>(
         return Err(Reason::Unmatched);
     }
     let pairs = rule.pairs();
-    if !pairs_are_disjoint(db, theorem, symbols, premises, pairs, cache) {
+    if !pairs_are_disjoint(database, theorem, symbols, premises, pairs, cache) {
         return Err(Reason::NotDisjoint);
     }
     Ok(below)

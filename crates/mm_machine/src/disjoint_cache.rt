@@ -30,8 +30,8 @@ impl<A: Allocator> Model for DisjointCache<A> {
 }
 
 /// The slot of a pair.
-fn slot_of(s: Sym, t: Sym) -> usize {
-    (s.number() as usize * 61 + t.number() as usize) % PAIR_SLOTS
+fn slot_of(low: Sym, high: Sym) -> usize {
+    (low.number() as usize * 61 + high.number() as usize) % PAIR_SLOTS
 }
 
 impl<A: Allocator> DisjointCache<A> {
@@ -56,19 +56,19 @@ impl<A: Allocator> DisjointCache<A> {
         if slot >= self.slots.len() {
             return false;
         }
-        let n = self.slots[slot] as usize;
-        n < self.pairs.len() && self.pairs[n].0 == low && self.pairs[n].1 == high
+        let index = self.slots[slot] as usize;
+        index < self.pairs.len() && self.pairs[index].0 == low && self.pairs[index].1 == high
     }
 
     /// Whether two symbols are known to be disjoint: in one order or the other they are a pair.
     #[inline(always)]
-    pub fn has(&self, s: Sym, t: Sym) -> bool
-        ensures { result ≡ true → HasPair self.now s t ⊎ HasPair self.now t s }
+    pub fn has(&self, first: Sym, second: Sym) -> bool
+        ensures { result ≡ true → HasPair self.now first second ⊎ HasPair self.now second first }
     {
-        if s.number() < t.number() {
-            self.has_pair(s, t)
+        if first.number() < second.number() {
+            self.has_pair(first, second)
         } else {
-            self.has_pair(t, s)
+            self.has_pair(second, first)
         }
     }
 
@@ -76,33 +76,33 @@ impl<A: Allocator> DisjointCache<A> {
     fn keep_pair(&mut self, low: Sym, high: Sym)
         ensures { KeepsPair self.old low high self.new }
     {
-        let n = self.pairs.len();
-        if n < PAIR_SLOTS {
+        let index = self.pairs.len();
+        if index < PAIR_SLOTS {
             match self.pairs.push((low, high)) {
-                Ok(()) => put_number(&mut self.slots, slot_of(low, high), n),
+                Ok(()) => put_number(&mut self.slots, slot_of(low, high), index),
                 Err(_) => {}
             }
         }
     }
 
     /// Keeps a pair of disjoint symbols, given in either order.
-    pub fn keep(&mut self, s: Sym, t: Sym)
-        ensures { KeepsPair self.old s t self.new ⊎ KeepsPair self.old t s self.new }
+    pub fn keep(&mut self, first: Sym, second: Sym)
+        ensures { KeepsPair self.old first second self.new ⊎ KeepsPair self.old second first self.new }
     {
-        if s.number() < t.number() {
-            self.keep_pair(s, t);
+        if first.number() < second.number() {
+            self.keep_pair(first, second);
         } else {
-            self.keep_pair(t, s);
+            self.keep_pair(second, first);
         }
     }
 
     /// Forgets all pairs, then keeps those of a theorem's frame.
-    pub fn restart(&mut self, db: &Database<A>, theorem: u32)
-        requires { is_assertion_at db.now.statements theorem ≡ true }
-        ensures { AreDisjointAt db.now.statements theorem self.new }
+    pub fn restart(&mut self, database: &Database<A>, theorem: u32)
+        requires { is_assertion_at database.now.statements theorem ≡ true }
+        ensures { AreDisjointAt database.now.statements theorem self.new }
     {
         self.pairs.clear();
-        for pair in pairs(db, theorem) {
+        for pair in pairs(database, theorem) {
             self.keep_pair(pair.0, pair.1);
         }
     }

@@ -186,23 +186,23 @@ impl<A: Allocator> Machine<A> {
     #[inline(always)]
     pub fn apply(
         &mut self,
-        db: &Database<A>,
+        database: &Database<A>,
         theorem: u32,
         rule: &Rule,
         cache: &mut DisjointCache<A>,
     ) -> Result<(), StepRefused>
-        requires theorem { theorem < length db.now.statements }
-        requires rule { IsCompiled db.now.statements rule.now }
-        requires width { self.old.width ≡ length (symbol_names db.now.statements) }
-        requires cache { AreDisjointAt db.now.statements theorem cache.old }
-        ensures cache { AreDisjointAt db.now.statements theorem cache.new }
-        ensures step { IsApplied db.now.statements theorem rule.now.assertion self.old self.new
+        requires theorem { theorem < length database.now.statements }
+        requires rule { IsCompiled database.now.statements rule.now }
+        requires width { self.old.width ≡ length (symbol_names database.now.statements) }
+        requires cache { AreDisjointAt database.now.statements theorem cache.old }
+        ensures cache { AreDisjointAt database.now.statements theorem cache.new }
+        ensures step { IsApplied database.now.statements theorem rule.now.assertion self.old self.new
             result }
     {
         if rule.hypotheses().is_empty() {
-            self.apply_alone(db, theorem, rule)
+            self.apply_alone(database, theorem, rule)
         } else {
-            self.apply_to_premises(db, theorem, rule, cache)
+            self.apply_to_premises(database, theorem, rule, cache)
         }
     }
 
@@ -210,17 +210,17 @@ impl<A: Allocator> Machine<A> {
     #[inline(always)]
     fn apply_alone(
         &mut self,
-        db: &Database<A>,
+        database: &Database<A>,
         _theorem: u32,
         rule: &Rule,
     ) -> Result<(), StepRefused>
-        requires rule { IsCompiled db.now.statements rule.now }
+        requires rule { IsCompiled database.now.statements rule.now }
         requires alone { length rule.now.hypotheses ≡ 0 }
-        requires width { self.old.width ≡ length (symbol_names db.now.statements) }
-        ensures step { IsApplied db.now.statements _theorem rule.now.assertion self.old self.new
+        requires width { self.old.width ≡ length (symbol_names database.now.statements) }
+        ensures step { IsApplied database.now.statements _theorem rule.now.assertion self.old self.new
             result }
     {
-        let symbols = formula(db, rule.assertion());
+        let symbols = formula(database, rule.assertion());
         if symbols.len() > FORMULA_LIMIT {
             return Err(StepRefused::Fault(Reason::TooLong));
         }
@@ -234,24 +234,24 @@ impl<A: Allocator> Machine<A> {
     #[inline(always)]
     fn apply_to_premises(
         &mut self,
-        db: &Database<A>,
+        database: &Database<A>,
         theorem: u32,
         rule: &Rule,
         cache: &mut DisjointCache<A>,
     ) -> Result<(), StepRefused>
-        requires theorem { theorem < length db.now.statements }
-        requires rule { IsCompiled db.now.statements rule.now }
-        requires width { self.old.width ≡ length (symbol_names db.now.statements) }
-        requires cache { AreDisjointAt db.now.statements theorem cache.old }
-        ensures cache { AreDisjointAt db.now.statements theorem cache.new }
-        ensures step { IsApplied db.now.statements theorem rule.now.assertion self.old self.new
+        requires theorem { theorem < length database.now.statements }
+        requires rule { IsCompiled database.now.statements rule.now }
+        requires width { self.old.width ≡ length (symbol_names database.now.statements) }
+        requires cache { AreDisjointAt database.now.statements theorem cache.old }
+        ensures cache { AreDisjointAt database.now.statements theorem cache.new }
+        ensures step { IsApplied database.now.statements theorem rule.now.assertion self.old self.new
             result }
     {
         let symbols = Symbols {
             own: self.own.as_slice(),
             kept: self.kept.as_slice(),
         };
-        match test_rule(db, theorem, rule, &symbols, &self.stack, cache) {
+        match test_rule(database, theorem, rule, &symbols, &self.stack, cache) {
             Err(reason) => Err(StepRefused::Fault(reason)),
             Ok(below) => put_formula(
                 below,

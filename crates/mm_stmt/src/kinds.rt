@@ -98,10 +98,10 @@ pub(crate) fn assertions_of<A: Allocator + Copy>(
 {
     let mut theorems = Vec::new(alloc);
     let mut axioms = Vec::new(alloc);
-    for k in 0..kinds.len() as u32 {
-        match kinds[k as usize] {
-            Kind::Theorem => theorems.push(k)?,
-            Kind::Axiom => axioms.push(k)?,
+    for statement in 0..kinds.len() as u32 {
+        match kinds[statement as usize] {
+            Kind::Theorem => theorems.push(statement)?,
+            Kind::Axiom => axioms.push(statement)?,
             _ => {}
         }
     }

@@ -5,9 +5,9 @@ ghost use Rattle.mm_spec.specs.Lexed.{tokens_of, lexical_fault, lexed_of};
 ghost use Rattle.mm_spec.specs.Opened.{counted};
 ghost use Rattle.mm_spec.specs.Output.{IsRead};
 
+use crate::reading::reading_of;
 use crate::retained_words::retain_all_words;
 use crate::statement_lists::list_statements;
-use crate::reading::reading_of;
 use mm_database::Database;
 use mm_database::tables::StatementTables;
 use mm_frame::frames::frame_tables_of;

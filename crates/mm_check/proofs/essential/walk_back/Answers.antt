@@ -17,7 +17,7 @@ loop-i-init g c =
     let steps = c.args.steps.now.steps in
     let wanted = c.in_ok-restart.ensures.wanted ∙ ap (λ n. replicate n false) c.len.ensures in
     rw c.len-i.ensures
-    (walk_start c.args.db.now.statements c.args.theorem steps c.requires.steps.complete
+    (walk_start c.args.database.now.statements c.args.theorem steps c.requires.steps.complete
     c.restart.new.waiting.items c.restart.new.wanted.items c.clear.new.self
     c.requires.steps.are c.requires.valid c.in_ok-restart.ensures.waiting wanted
     c.clear.ensures)
@@ -28,13 +28,13 @@ pop_flag-flag-requires g c =
     let inside : c.loop-i.i - 1 < length steps =
     omega (arith, c.loop-i-test.true, c.loop-i.auto.i, c.len-i.ensures) in
     let next : c.loop-i.i ≡ suc (c.loop-i.i - 1) = omega (arith, c.loop-i-test.true) in
-    walk_some c.args.db.now.statements c.args.theorem steps c.loop-i.i
+    walk_some c.args.database.now.statements c.args.theorem steps c.loop-i.i
     (c.loop-i.i - 1) c.loop-i.waiting.items c.loop-i.wanted.items c.loop-i.noted
     c.loop-i.invariant inside next
 
 pub undo-requires-clause-known : goal.undo-requires-clause-known
 undo-requires-clause-known g c =
-    let db = c.args.db.now.statements in
+    let db = c.args.database.now.statements in
     let steps = c.args.steps.now.steps in
     let i = c.loop-i.i - 1 in
     let inside : i < length steps =
@@ -45,7 +45,7 @@ undo-requires-clause-known g c =
 
 pub undo-requires-clause-earlier : goal.undo-requires-clause-earlier
 undo-requires-clause-earlier g c =
-    let db = c.args.db.now.statements in
+    let db = c.args.database.now.statements in
     let steps = c.args.steps.now.steps in
     let i = c.loop-i.i - 1 in
     let inside : i < length steps =
@@ -58,7 +58,7 @@ undo-requires-clause-earlier g c =
 
 pub loop-i-preserved : goal.loop-i-preserved
 loop-i-preserved g c =
-    let db = c.args.db.now.statements in
+    let db = c.args.database.now.statements in
     let steps = c.args.steps.now.steps in
     let i = c.loop-i.i - 1 in
     let wanted = c.loop-i.wanted.items in
@@ -96,8 +96,8 @@ loop-i-preserved g c =
 pub returns : goal.returns
 returns g c =
     let none : c.loop-i.i ≡ 0 = omega (arith, c.loop-i-test.false) in
-    walk_end c.args.db.now.statements c.args.theorem c.args.steps.now.steps
+    walk_end c.args.database.now.statements c.args.theorem c.args.steps.now.steps
     c.requires.steps.complete
     c.loop-i.waiting.items c.loop-i.wanted.items c.loop-i.noted
-    (subst (λ n. Walked c.args.db.now.statements c.args.theorem c.args.steps.now.steps n
+    (subst (λ n. Walked c.args.database.now.statements c.args.theorem c.args.steps.now.steps n
     c.loop-i.waiting.items c.loop-i.wanted.items c.loop-i.noted) none c.loop-i.invariant)

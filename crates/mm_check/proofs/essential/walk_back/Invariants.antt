@@ -3,4 +3,4 @@ use Rattle.mm_check.proofs.essential.walk_back.Given as goal
 
 abbrev pub invariant-loop-i : goal.invariant-loop-i
 invariant-loop-i g l =
-    Walked l.db.statements l.theorem l.steps.steps l.i l.waiting.items l.wanted.items l.noted
+    Walked l.database.statements l.theorem l.steps.steps l.i l.waiting.items l.wanted.items l.noted

@@ -7,27 +7,27 @@ use Rattle.mm_frame.proofs.HypothesesLaw.{found_below, hypotheses_are}
 use Rattle.std.proofs.lemmas.Result.{IfOk-from_err}
 use Rattle.mm_frame.proofs.hypotheses.hypotheses.Goals as goal
 
-pub add_floats-requires-clause-found : goal.add_floats-requires-clause-found
-add_floats-requires-clause-found g c =
+pub add_floats-requires-clause-variables : goal.add_floats-requires-clause-variables
+add_floats-requires-clause-variables g c =
     let db = c.args.sources.now.statements.now.list in
     subst (λ (xs : List ℕ). All (λ s. s < length (symbol_names db)) xs)
     (sym c.deref-2.ensures.value)
-    (found_below db c.args.assertion c.mandatory_variables.new.found.items
-    c.in_ok-mandatory_variables.ensures.found)
+    (found_below db c.args.assertion c.mandatory_variables.new.variables.items
+    c.in_ok-mandatory_variables.ensures.variables)
 
 pub returns-clause-hyps : goal.returns-clause-hyps
 returns-clause-hyps g c =
     let db = c.args.sources.now.statements.now.list in
     let k = c.args.assertion in
-    let ts = c.args.typed.now in
+    let ts = c.args.last_floats.now in
     let h = c.requires.assertion in
     let l : k ≤ length db = omega (arith, h) in
-    hypotheses_are db k c.requires.sources.sound l ts c.requires.ready.typed_are
-    c.mandatory_variables.new.found.items c.in_ok-mandatory_variables.ensures.found
+    hypotheses_are db k c.requires.sources.sound l ts c.requires.ready.last_floats_are
+    c.mandatory_variables.new.variables.items c.in_ok-mandatory_variables.ensures.variables
     c.active_essentials.new.into.items
-    c.sort_and_dedup.new.numbers.items
-    c.in_ok-active_essentials.ensures c.sort_and_dedup.ensures.rising
-    (λ j. c.sort_and_dedup.ensures.same j ∙ c.in_ok-add_floats.ensures j
+    c.sort_and_dedup_numbers.new.numbers.items
+    c.in_ok-active_essentials.ensures c.sort_and_dedup_numbers.ensures.rising
+    (λ j. c.sort_and_dedup_numbers.ensures.same j ∙ c.in_ok-add_floats.ensures j
     ∙ ap (λ xs. is_member c.active_essentials.new.into.items j
     || list_any (is_float_of db k ts j) xs) c.deref-2.ensures.value)
 
@@ -45,9 +45,9 @@ pub returns-in_err-active_essentials-clause-stamps :
 returns-in_err-active_essentials-clause-stamps g c =
     IfOk-from_err c.from_residual.result _ c.from_residual.ensures.0
 
-pub returns-in_err-active_essentials-clause-found :
-    goal.returns-in_err-active_essentials-clause-found
-returns-in_err-active_essentials-clause-found g c =
+pub returns-in_err-active_essentials-clause-variables :
+    goal.returns-in_err-active_essentials-clause-variables
+returns-in_err-active_essentials-clause-variables g c =
     IfOk-from_err c.from_residual.result _ c.from_residual.ensures.0
 
 pub returns-in_err-mandatory_variables-clause-stamps :
@@ -56,9 +56,9 @@ returns-in_err-mandatory_variables-clause-stamps g c =
     IfOk-from_err c.from_residual-in_err-mandatory_variables.result _
     c.from_residual-in_err-mandatory_variables.ensures.0
 
-pub returns-in_err-mandatory_variables-clause-found :
-    goal.returns-in_err-mandatory_variables-clause-found
-returns-in_err-mandatory_variables-clause-found g c =
+pub returns-in_err-mandatory_variables-clause-variables :
+    goal.returns-in_err-mandatory_variables-clause-variables
+returns-in_err-mandatory_variables-clause-variables g c =
     IfOk-from_err c.from_residual-in_err-mandatory_variables.result _
     c.from_residual-in_err-mandatory_variables.ensures.0
 

@@ -17,11 +17,11 @@ formula-requires-in-loop-essential g c =
     i c.loop-essential-test.true in
     omega (arith, l, h)
 
-pub returns-clause-found : goal.returns-clause-found
-returns-clause-found g c = λ x.
+pub returns-clause-variables : goal.returns-clause-variables
+returns-clause-variables g c = λ x.
     let db = c.args.statements.now.list in
     let xs = c.args.essentials.now in
-    c.loop-essential.invariant.found x
+    c.loop-essential.invariant.variables x
     ∙ ap (λ ys. is_variable_number db x
     && (is_member (formula_at db c.args.assertion) x
     || list_any (λ j. is_member (formula_at db j) x) ys))
@@ -31,19 +31,19 @@ returns-clause-found g c = λ x.
 pub add_variables-requires-clause-stamps : goal.add_variables-requires-clause-stamps
 add_variables-requires-clause-stamps g c =
     stamps_fresh (length (symbol_names c.args.statements.now.list)) c.args.assertion
-    c.args.seen.now.items
+    c.args.stamps.now.items
     c.clear.new.self.items c.requires.fresh.count c.requires.fresh.within c.clear.ensures.items
 
 pub loop-essential-init : goal.loop-essential-init
 loop-essential-init g c = record {
   stamps = c.in_ok-add_variables.ensures.stamps;
-  found =
+  variables =
       λ x.
       mandatory_first x c.clear.new.self.items c.formula.result.now
       (formula_at c.args.statements.now.list c.args.assertion) _
       (is_variable_number c.args.statements.now.list x)
       (ap length c.clear.ensures.items) c.formula.ensures.formula
-      (c.in_ok-add_variables.ensures.found x);
+      (c.in_ok-add_variables.ensures.variables x);
 }
 
 pub add_variables-requires-in-loop-essential-clause-symbols :
@@ -58,13 +58,13 @@ add_variables-requires-in-loop-essential-clause-stamps g c = c.loop-essential.in
 pub loop-essential-preserved : goal.loop-essential-preserved
 loop-essential-preserved g c = record {
   stamps = c.in_ok-add_variables-2.ensures.stamps;
-  found =
+  variables =
       λ x.
       mandatory_next x (formula_at c.args.statements.now.list) c.args.essentials.now
       c.loop-essential.essential-index 0 c.formula-in-loop-essential.result.now _ _
       (is_variable_number c.args.statements.now.list x)
       (is_member (formula_at c.args.statements.now.list c.args.assertion) x)
       c.loop-essential-test.true
-      c.formula-in-loop-essential.ensures.formula (c.loop-essential.invariant.found x)
-      (c.in_ok-add_variables-2.ensures.found x);
+      c.formula-in-loop-essential.ensures.formula (c.loop-essential.invariant.variables x)
+      (c.in_ok-add_variables-2.ensures.variables x);
 }

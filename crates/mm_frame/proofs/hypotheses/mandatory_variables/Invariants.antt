@@ -7,10 +7,10 @@ use Rattle.mm_frame.proofs.hypotheses.mandatory_variables.Given as goal
 
 abbrev pub invariant-loop-essential : goal.invariant-loop-essential
 invariant-loop-essential g l = record {
-  stamps : AreStamps (length (symbol_names l.statements.list)) (l.assertion + 1) l.seen.items
-      l.found.items;
-  found : (x : ℕ)
-      → is_member l.found.items x
+  stamps : AreStamps (length (symbol_names l.statements.list)) (l.assertion + 1) l.stamps.items
+      l.variables.items;
+  variables : (x : ℕ)
+      → is_member l.variables.items x
       ≡ (is_variable_number l.statements.list x
       && (is_member (formula_at l.statements.list l.assertion) x
       || list_any (λ j. is_member (formula_at l.statements.list j) x)

@@ -4,8 +4,8 @@ use Rattle.mm_machine.proofs.arena.are_disjoint.Goals as goal
 
 pub returns-then-has-clause-value : goal.returns-then-has-clause-value
 returns-then-has-clause-value g c =
-    sym (either_disjoint c.args.db.now.statements c.args.theorem c.args.cache.now c.requires.cache
-    c.args.s c.args.t (c.has.ensures c.if-has.true))
+    sym (either_disjoint c.args.database.now.statements c.args.theorem c.args.cache.now c.requires.cache
+    c.args.first c.args.second (c.has.ensures c.if-has.true))
 
 pub returns-then-not-are_disjoint_by-clause-cache :
     goal.returns-then-not-are_disjoint_by-clause-cache
@@ -13,6 +13,6 @@ returns-then-not-are_disjoint_by-clause-cache g c = c.requires.cache
 
 pub returns-clause-cache : goal.returns-clause-cache
 returns-clause-cache g c =
-    either_kept c.args.db.now.statements c.args.theorem c.args.cache.now c.requires.cache
-    c.args.s c.args.t c.keep.new.self
+    either_kept c.args.database.now.statements c.args.theorem c.args.cache.now c.requires.cache
+    c.args.first c.args.second c.keep.new.self
     (sym c.are_disjoint_by.ensures ∙ c.if-not-are_disjoint_by.false) c.keep.ensures

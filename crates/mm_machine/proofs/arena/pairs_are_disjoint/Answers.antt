@@ -23,7 +23,7 @@ fails_at test (q ∷ ps) (suc i) h e =
 pub returns-then-not-are_all_disjoint-clause-value :
     goal.returns-then-not-are_all_disjoint-clause-value
 returns-then-not-are_all_disjoint-clause-value g c =
-    let context = context_at c.args.db.now.statements c.args.theorem in
+    let context = context_at c.args.database.now.statements c.args.theorem in
     let xs = c.args.symbols.now in
     let es = c.args.premises.now in
     let p = get_or c.args.pairs.now c.loop-pair.pair-index (0, 0) in
@@ -38,7 +38,7 @@ returns-then-not-are_all_disjoint-clause-value g c =
 
 pub are_all_disjoint-requires-clause-second : goal.are_all_disjoint-requires-clause-second
 are_all_disjoint-requires-clause-second g c =
-    let n = length (symbol_names c.args.db.now.statements) in
+    let n = length (symbol_names c.args.database.now.statements) in
     subst (All (λ s. s < n)) (sym c.formula-second.ensures)
     (symbols_known n c.args.symbols.now c.span_of-in-loop-pair.result c.requires.premises.known.own
     c.requires.premises.known.kept)
@@ -57,7 +57,7 @@ formula-second-requires g c =
     c.span_of-in-loop-pair.ensures
 
 pub are_all_disjoint-requires-clause-first : goal.are_all_disjoint-requires-clause-first
-are_all_disjoint-requires-clause-first g c = let n = length (symbol_names c.args.db.now.statements)
+are_all_disjoint-requires-clause-first g c = let n = length (symbol_names c.args.database.now.statements)
     in
     subst (All (λ s. s < n)) (sym c.formula-first.ensures)
     (symbols_known n c.args.symbols.now c.span_of.result c.requires.premises.known.own
@@ -67,7 +67,7 @@ pub loop-pair-preserved : goal.loop-pair-preserved
 loop-pair-preserved g c = grind (arith, common_steps)
 
 pub returns-clause-value : goal.returns-clause-value
-returns-clause-value g c = let context = context_at c.args.db.now.statements c.args.theorem in
+returns-clause-value g c = let context = context_at c.args.database.now.statements c.args.theorem in
     let xs = c.args.symbols.now in
     let es = c.args.premises.now in
     sym (ap

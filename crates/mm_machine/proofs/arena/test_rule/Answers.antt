@@ -6,7 +6,7 @@ use Rattle.mm_machine.proofs.arena.test_rule.Goals as goal
 
 pub returns-then-stack-hypotheses-clause-judged : goal.returns-then-stack-hypotheses-clause-judged
 returns-then-stack-hypotheses-clause-judged g c =
-    few_at c.args.db.now.statements c.args.theorem c.args.rule.now c.args.symbols.now
+    few_at c.args.database.now.statements c.args.theorem c.args.rule.now c.args.symbols.now
     c.args.stack.now c.requires.rule
     (let l = c.if-stack-hypotheses.true in let n = ap length c.hypotheses-hypotheses.ensures in
     omega (arith, l, n))
@@ -15,7 +15,7 @@ pub returns-then-not-all_fit-clause-judged : goal.returns-then-not-all_fit-claus
 returns-then-not-all_fit-clause-judged g c =
     let stack = c.args.stack.now in
     let n = length c.hypotheses-hypotheses.result.now in
-    judged_at c.args.db.now.statements c.args.theorem c.args.rule.now c.args.symbols.now stack
+    judged_at c.args.database.now.statements c.args.theorem c.args.rule.now c.args.symbols.now stack
     (slice_range stack (length stack - n) (length stack)) n (length stack - n) c.requires.rule
     (ap length c.hypotheses-hypotheses.ensures) (let l = c.if-stack-hypotheses.false in omega
     (arith, l)) refl
@@ -27,7 +27,7 @@ pub returns-then-not-pairs_are_disjoint-clause-judged :
 returns-then-not-pairs_are_disjoint-clause-judged g c =
     let stack = c.args.stack.now in
     let n = length c.hypotheses-hypotheses.result.now in
-    judged_at c.args.db.now.statements c.args.theorem c.args.rule.now c.args.symbols.now stack
+    judged_at c.args.database.now.statements c.args.theorem c.args.rule.now c.args.symbols.now stack
     (slice_range stack (length stack - n) (length stack)) n (length stack - n) c.requires.rule
     (ap length c.hypotheses-hypotheses.ensures) (let l = c.if-stack-hypotheses.false in omega
     (arith, l)) refl
@@ -41,7 +41,7 @@ returns-clause-judged g c =
     let n = length c.hypotheses-hypotheses.result.now in
     let l = c.if-stack-hypotheses.false in (
       (let n = ap length c.hypotheses-hypotheses.ensures in omega (arith, l, n)),
-      judged_at c.args.db.now.statements c.args.theorem c.args.rule.now c.args.symbols.now stack
+      judged_at c.args.database.now.statements c.args.theorem c.args.rule.now c.args.symbols.now stack
           (slice_range stack (length stack - n) (length stack)) n (length stack - n) c.requires.rule
           (ap length c.hypotheses-hypotheses.ensures) (omega (arith, l)) refl
           (take_rest stack (length stack - n)) c.requires.stack.inside c.pairs-pairs.result.now

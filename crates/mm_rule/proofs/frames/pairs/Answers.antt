@@ -6,10 +6,10 @@ use Rattle.mm_rule.proofs.frames.pairs.Goals as goal
 
 pub returns-clause-below : goal.returns-clause-below
 returns-clause-below g c =
-    pairs_below c.args.db.now.statements c.args.k c.as_slice.result.now
+    pairs_below c.args.database.now.statements c.args.assertion c.as_slice.result.now
     (ap paired c.as_slice.ensures.value ∙ c.frame.ensures.pairs)
 
 pub returns-clause-disjoint : goal.returns-clause-disjoint
 returns-clause-disjoint g c =
-    pairs_disjoint c.args.db.now.statements c.args.k c.as_slice.result.now
+    pairs_disjoint c.args.database.now.statements c.args.assertion c.as_slice.result.now
     (ap paired c.as_slice.ensures.value ∙ c.frame.ensures.pairs)

@@ -87,7 +87,7 @@ new-requires g c =
     lent outlined.kept in
     let statement_lists =
     subst (λ (us : List Word). AreStatementLists (counted w (statements text us os))
-        c.in_ok-statement_lists.statement_lists)
+    c.in_ok-statement_lists.statement_lists)
     lent (rw (sym c.deref.ensures.value) c.in_ok-statement_lists.ensures) in
     let same = c.in_ok-reading.ensures in
     subst (λ (r : Reading _). IsDatabase w r (record {

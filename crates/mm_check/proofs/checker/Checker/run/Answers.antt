@@ -5,7 +5,7 @@ use Rattle.mm_check.proofs.checker.Checker.run.Goals as goal
 
 pub loop-i-init : goal.loop-i-init
 loop-i-init g c =
-    let db = c.args.db.now.statements in
+    let db = c.args.database.now.statements in
     begins db c.args.theorem c.args.steps.now.steps c.restart.new.self _ c.clear.new.self
     c.restart-2.new.self _
     (subst (λ (s : CheckerState). IsMadeFor db s) (sym c.self.view_is) c.requires.made_for)

@@ -6,19 +6,19 @@ use Rattle.mm_check.proofs.checker.Checker.take.Goals as goal
 
 pub perform-requires-clause-ready : goal.perform-requires-clause-ready
 perform-requires-clause-ready g c =
-    ready c.args.db.now.statements c.args.theorem c.args.steps.now.steps c.args.i c.args.self.now
+    ready c.args.database.now.statements c.args.theorem c.args.steps.now.steps c.args.i c.args.self.now
     c.requires.performed c.requires.step (as_step c.step.result) c.step.ensures
 
 pub returns-in-Err-clause-fault : goal.returns-in-Err-clause-fault
 returns-in-Err-clause-fault g c =
     rw c.refusal.ensures
-    (stops_here c.args.db.now.statements c.args.theorem c.args.steps.now.steps c.args.i
+    (stops_here c.args.database.now.statements c.args.theorem c.args.steps.now.steps c.args.i
     c.args.self.now c.requires.performed c.requires.step (as_step c.step.result) c.step.ensures
     c.place.result c.in-Err.stopped c.place.ensures c.in-Err.ensures.stopped)
 
 pub returns-in_ok-mark-clause-performed : goal.returns-in_ok-mark-clause-performed
 returns-in_ok-mark-clause-performed g c =
-    let db = c.args.db.now.statements in
+    let db = c.args.database.now.statements in
     let t = c.args.theorem in
     let a = as_step c.step.result in
     performs_next db t c.args.steps.now.steps c.args.i c.args.self.now c.requires.performed
@@ -31,7 +31,7 @@ returns-in_ok-mark-clause-performed g c =
 
 pub returns-else-is_marked-clause-performed : goal.returns-else-is_marked-clause-performed
 returns-else-is_marked-clause-performed g c =
-    performs_next c.args.db.now.statements c.args.theorem c.args.steps.now.steps c.args.i
+    performs_next c.args.database.now.statements c.args.theorem c.args.steps.now.steps c.args.i
     c.args.self.now c.requires.performed c.requires.step (as_step c.step.result) c.step.ensures
     c.perform.new.self c.perform.new.self.machine false
     (sym c.is_marked.ensures ∙ c.if-is_marked.false) c.in_default.ensures.performs

@@ -9,12 +9,12 @@ returns-then-essential g c =
     subst (λ b. OnOk c.walk_back.result
     ((a : ℕ)
     → Decides (is_member c.walk_back.new.noted a)
-    (Cites c.args.db.now.statements b c.args.theorem a)))
+    (Cites c.args.database.now.statements b c.args.theorem a)))
     (sym c.if-essential.true) c.walk_back.ensures
 
 pub returns-else-essential : goal.returns-else-essential
 returns-else-essential g c =
     subst (λ b. (a : ℕ)
     → Decides (is_member c.args.noted.now a)
-    (Cites c.args.db.now.statements b c.args.theorem a))
+    (Cites c.args.database.now.statements b c.args.theorem a))
     (sym c.if-essential.false) c.requires.noted

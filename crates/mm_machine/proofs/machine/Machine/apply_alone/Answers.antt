@@ -8,7 +8,7 @@ use Rattle.mm_machine.proofs.machine.Machine.apply_alone.Goals as goal
 
 pub returns-then-symbols-gt-FORMULA_LIMIT : goal.returns-then-symbols-gt-FORMULA_LIMIT
 returns-then-symbols-gt-FORMULA_LIMIT g c =
-    let db = c.args.db.now.statements in
+    let db = c.args.database.now.statements in
     let is = c.formula-symbols.ensures.are ∙ ap (formula_at db) c.assertion.ensures in
     let n = ap length is in
     record {
@@ -23,7 +23,7 @@ returns-then-symbols-gt-FORMULA_LIMIT g c =
 
 pub returns-in-Ok : goal.returns-in-Ok
 returns-in-Ok g c =
-    let db = c.args.db.now.statements in
+    let db = c.args.database.now.statements in
     let before = c.args.self.now in
     let es = before.stack in
     let symbols = c.formula-symbols.result.now in

@@ -14,11 +14,11 @@ use Rattle.mm_machine.proofs.machine.Machine.apply_to_premises.Goals as goal
 
 -- the test of the rule, on the lists of the machine
 tested : (g : Over) (c : In-Ok g)
-    → TestsRule c.args.db.now.statements c.args.theorem c.args.rule.now
+    → TestsRule c.args.database.now.statements c.args.theorem c.args.rule.now
     (arena c.self.inside.own c.self.inside.kept) c.self.inside.stack.items (Ok c.in-Ok.below)
 tested g c =
     let i = c.self.inside in
-    judged_here c.args.db.now.statements c.args.theorem c.args.rule.now
+    judged_here c.args.database.now.statements c.args.theorem c.args.rule.now
     i.own c.as_slice.result.now i.kept c.as_slice-2.result.now
     i.stack.items c.deref.result.now (Ok c.in-Ok.below)
     c.as_slice.ensures c.as_slice-2.ensures c.deref.ensures.value c.in-Ok.ensures.judged
@@ -26,7 +26,7 @@ tested g c =
 pub invariant_of-self : goal.invariant_of-self
 invariant_of-self g c =
     let i = c.self.inside in
-    let db = c.args.db.now.statements in
+    let db = c.args.database.now.statements in
     let width : i.width ≡ length (symbol_names db) =
     ap (λ s. s.width) c.self.view_is ∙ c.requires.width in
     next_machine i.own i.kept i.stack.items i.marks.items i.marked.items i.width c.self.invariant
@@ -40,7 +40,7 @@ invariant_of-self g c =
 pub returns-in-Err-clause-step : goal.returns-in-Err-clause-step
 returns-in-Err-clause-step g c =
     let i = c.self.inside in
-    let db = c.args.db.now.statements in
+    let db = c.args.database.now.statements in
     record {
       applies = tt;
       stopped =
@@ -55,7 +55,7 @@ returns-in-Err-clause-step g c =
 pub returns-in-Ok-clause-step : goal.returns-in-Ok-clause-step
 returns-in-Ok-clause-step g c =
     let i = c.self.inside in
-    let db = c.args.db.now.statements in
+    let db = c.args.database.now.statements in
     let t = c.args.theorem in
     let a = c.args.rule.now.assertion in
     let done = c.put_formula in
@@ -82,7 +82,7 @@ pub test_rule-requires-clause-stack : goal.test_rule-requires-clause-stack
 test_rule-requires-clause-stack g c =
     let i = c.self.inside in
     entries_here i.own i.kept i.stack.items i.marks.items i.marked.items i.width c.self.invariant
-    (length (symbol_names c.args.db.now.statements)) c.as_slice.result.now
+    (length (symbol_names c.args.database.now.statements)) c.as_slice.result.now
     c.as_slice-2.result.now c.deref.result.now
     (ap (λ s. s.width) c.self.view_is ∙ c.requires.width)
     c.as_slice.ensures c.as_slice-2.ensures c.deref.ensures.value
@@ -95,7 +95,7 @@ put_formula-requires-clause-below g c =
 pub put_formula-requires-clause-formula : goal.put_formula-requires-clause-formula
 put_formula-requires-clause-formula g c =
     let i = c.self.inside in
-    parts_below c.args.db.now.statements c.args.theorem c.args.rule.now i.own i.kept
+    parts_below c.args.database.now.statements c.args.theorem c.args.rule.now i.own i.kept
     c.as_slice-in-Ok.result.now i.stack.items c.in-Ok.below c.formula.result.now
     c.as_slice-in-Ok.ensures c.formula.ensures
     (tested g (goal.at.put_formula-requires-clause-formula g c).In-Ok) c.requires.rule

@@ -6,13 +6,13 @@ use Rattle.mm_rules.proofs.rules.Rules.rule.Goals as goal
 
 pub returns-clause-rule : goal.returns-clause-rule
 returns-clause-rule g c =
-    let db = c.args._db.now.statements in
+    let db = c.args._database.now.statements in
     let i = c.self.inside in
     let l = rule_lists i.ranges.items i.hypotheses.items i.pairs.items i.parts.items in
     let h : AreRules db l =
     subst (λ (z : RuleLists). AreRules db z) (sym c.self.view_is) c.requires.rules in
     let s = c.index-ranges.result.now in
-    let n = c.args.n in
+    let n = c.args.number in
     let inside : n < length i.ranges.items =
     subst (λ (z : RuleLists). n < length z.ranges) (sym c.self.view_is) c.requires.ranges in
     let one : HasRule db l s =

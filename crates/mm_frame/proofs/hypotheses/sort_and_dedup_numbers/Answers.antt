@@ -3,7 +3,7 @@ use Rattle.std.specs.List.{dedup}
 use Rattle.std.proofs.lemmas.List.Filters.{dedup_is}
 use Rattle.std.proofs.lemmas.Map.Keys.{IsStrictlyIncreasing-dedup}
 use Rattle.mm_spec.proofs.ListLaw.{sort_and_dedup_same}
-use Rattle.mm_frame.proofs.hypotheses.sort_and_dedup.Goals as goal
+use Rattle.mm_frame.proofs.hypotheses.sort_and_dedup_numbers.Goals as goal
 
 pub returns-clause-rising : goal.returns-clause-rising
 returns-clause-rising g c =

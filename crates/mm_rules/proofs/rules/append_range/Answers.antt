@@ -1,5 +1,5 @@
 use Rattle.std.proofs.lemmas.Result.{IfOk-from_err}
-use Rattle.mm_rules.proofs.rules.put.Goals as goal
+use Rattle.mm_rules.proofs.rules.append_range.Goals as goal
 
 pub returns-in_err-extend_from_slice-clause-items :
     goal.returns-in_err-extend_from_slice-clause-items

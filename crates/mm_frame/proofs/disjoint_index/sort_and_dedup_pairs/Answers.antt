@@ -1,7 +1,7 @@
 use Rattle.std.proofs.Common.{nat_eq, ◌&&◌}
 use Rattle.std.proofs.lemmas.List.Filters.{dedup_is}
 use Rattle.mm_frame.proofs.PairsLaw.{strict_rising, sort_and_dedup_same}
-use Rattle.mm_frame.proofs.disjoint_index.sort_and_dedup.Goals as goal
+use Rattle.mm_frame.proofs.disjoint_index.sort_and_dedup_pairs.Goals as goal
 
 pub returns-clause-rising : goal.returns-clause-rising
 returns-clause-rising g c =
