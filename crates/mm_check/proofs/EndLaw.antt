@@ -31,17 +31,18 @@ use Rattle.mm_check.proofs.ReachLaw.{derives, ends_with, end_is}
 module _ (db : List Statement) (t : ℕ) (steps : List PlacedStep) where
   -- no step is performed yet
   pub begins : (m : MachineState) (rules : RuleLists) (noted : List ℕ) (cache : List (ℕ × ℕ))
-      → (width : ℕ)
-      → AreOf db width rules → AreStepsOf db t steps → m ≡ machine_state [] [] [] width → noted ≡ []
+      → (symbol_count : ℕ)
+      → AreOf db symbol_count rules → AreStepsOf db t steps → m
+      ≡ machine_state [] [] [] symbol_count → noted ≡ []
       → AreDisjointAt db t cache → HasPerformed db t steps 0 (checker_state m rules noted cache)
-  begins m rules noted cache width made are fresh none p = record {
+  begins m rules noted cache symbol_count made are fresh none p = record {
     at = record {
       made_for = rw fresh made;
       theorem = by_statement (slice_get db t) refl are.theorem;
       disjoint_are = p;
     };
     are_steps = are;
-    ran = none_ran db t steps m noted width fresh none;
+    ran = none_ran db t steps m noted symbol_count fresh none;
   }
     where
       by_statement : (o : Option Statement) → slice_get db t ≡ o

@@ -176,10 +176,11 @@ module _ (db : List Statement) (t : ℕ) (steps : List PlacedStep) (i : ℕ) (c 
               subst (Contains (d.machine.marks ++ i ∷ [])) q (Contains-push d.machine.marks i)
 
   pub performs_next : (d : CheckerState) (m : MachineState) (b : Bool) → is_marked steps i ≡ b
-      → Performs db t a c d → IsAt db t d → m ≡ with_mark b i d.machine → m.width ≡ d.machine.width
+      → Performs db t a c d → IsAt db t d → m ≡ with_mark b i d.machine → m.symbol_count
+      ≡ d.machine.symbol_count
       → HasPerformed db t steps (i + 1) (checker_state m d.rules d.noted d.cache)
-  performs_next d m b is_b made at kept width = record {
-    at = rw width at;
+  performs_next d m b is_b made at kept symbol_count = record {
+    at = rw symbol_count at;
     are_steps = p.are_steps;
     ran = next_ran d m b is_b made kept;
   }

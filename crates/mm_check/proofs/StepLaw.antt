@@ -27,7 +27,7 @@ module _ (db : List Statement) (t : ℕ) where
       → get_or c.machine.marks n 0 ≡ j
       → m
       ≡ machine_state (c.machine.stack ++ get_or c.machine.formulas n [] ∷ []) c.machine.marks
-      c.machine.formulas c.machine.width
+      c.machine.formulas c.machine.symbol_count
       → Performs db t (marked j) c (checker_state m c.rules c.noted c.cache)
   repeats c j n m inside is made =
       let out : Option Formula → Result (List Formula) Reason =

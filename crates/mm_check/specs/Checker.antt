@@ -29,25 +29,26 @@ checker_state machine rules noted cache =
     record { machine = machine; rules = rules; noted = noted; cache = cache }
 
 -- the number of symbols and the rules are those of the database, whose frames are complete
-pub record AreOf (db : List Statement) (width : ℕ) (rules : RuleLists) : Type 0 where
-  pub width_is : width ≡ length (symbol_names db)
+pub record AreOf (db : List Statement) (symbol_count : ℕ) (rules : RuleLists) : Type 0 where
+  pub symbol_count_is : symbol_count ≡ length (symbol_names db)
   pub rules_are : AreRules db rules
   pub complete : AreComplete db
 
 -- the checker is made for the theorems of the database
 abbrev pub IsMadeFor : List Statement → CheckerState → Type 0
-IsMadeFor db c = AreOf db c.machine.width c.rules
+IsMadeFor db c = AreOf db c.machine.symbol_count c.rules
 
 -- they are, and the pairs of symbols are disjoint at the theorem
-pub record AreAt (db : List Statement) (t width : ℕ) (rules : RuleLists) (cache : List (ℕ × ℕ)) :
+pub record AreAt (db : List Statement) (t symbol_count : ℕ) (rules : RuleLists)
+    (cache : List (ℕ × ℕ)) :
     Type 0 where
-  pub made_for : AreOf db width rules
+  pub made_for : AreOf db symbol_count rules
   pub theorem : t < length db
   pub disjoint_are : AreDisjointAt db t cache
 
 -- it checks the proof of the theorem
 abbrev pub IsAt : List Statement → ℕ → CheckerState → Type 0
-IsAt db t c = AreAt db t c.machine.width c.rules c.cache
+IsAt db t c = AreAt db t c.machine.symbol_count c.rules c.cache
 
 -- it has performed the first `i` of the steps
 pub record HasPerformed (db : List Statement) (t : ℕ) (steps : List PlacedStep) (i : ℕ)

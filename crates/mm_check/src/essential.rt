@@ -105,12 +105,14 @@ fn pop_flag<A: Allocator>(waiting: &mut Vec<bool, A>) -> bool
 fn flag_for<A: Allocator>(database: &Database<A>, hypothesis: u32, is_essential: bool) -> bool
     requires { hypothesis < length database.now.statements }
     ensures { result
-        ≡ (is_essential && list_any is_essential_statement (statement_at database.now.statements hypothesis)) }
+        ≡ (is_essential && list_any is_essential_statement
+        (statement_at database.now.statements hypothesis)) }
 {
     is_essential && is_essential_hypothesis(database, hypothesis)
 }
 
-/// Pushes a flag for each child of a node whose label is assertion `assertion`. `is_essential` says whether
+/// Pushes a flag for each child of a node whose label is assertion `assertion`. `is_essential` says
+/// whether
 /// the node is essential.
 fn push_flags<A: Allocator>(
     database: &Database<A>,
@@ -120,7 +122,8 @@ fn push_flags<A: Allocator>(
 ) -> Result<(), AllocError>
     requires { is_assertion_at database.now.statements assertion ≡ true }
     ensures { OnOk result
-        (waiting.new.items ≡ waiting.old.items ++ child_flags database.now.statements is_essential assertion) }
+        (waiting.new.items ≡ waiting.old.items
+        ++ child_flags database.now.statements is_essential assertion) }
 {
     for hypothesis in hyps(database, assertion) {
         waiting.push(flag_for(database, *hypothesis, is_essential))?;
@@ -193,7 +196,14 @@ fn walk_back<A: Allocator>(
     for i in (0..steps.len()).rev() {
         let flag = pop_flag(waiting);
         let is_essential = flag || wanted[i];
-        undo(database, steps.step(i), is_essential, noted, waiting, wanted)?;
+        undo(
+            database,
+            steps.step(i),
+            is_essential,
+            noted,
+            waiting,
+            wanted,
+        )?;
     }
     Ok(())
 }

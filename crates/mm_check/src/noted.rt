@@ -50,7 +50,8 @@ impl<A: Allocator> Noted<A> {
         empty(&mut self.numbers);
     }
 
-    /// Whether `statement` is in `numbers` at the index that `places` gives for it. If it isn't, it may
+    /// Whether `statement` is in `numbers` at the index that `places` gives for it. If it isn't, it
+    /// may
     /// still be in `numbers`.
     fn has(&self, statement: u32) -> bool
         ensures { result ≡ true → is_member self.now statement ≡ true }

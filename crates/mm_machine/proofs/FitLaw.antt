@@ -9,7 +9,7 @@ use Rattle.mm_rule.specs.declared.rule.Hypothesis.TheVariants.{Floating, Essenti
 use Rattle.mm_rule.specs.declared.rule.RuleSymbol.{RuleSymbol}
 use Rattle.mm_rule.specs.Rule.{part_count, hypothesis_parts, all_parts, count_parts}
 use Rattle.mm_machine.specs.declared.arena.Span.{Span}
-use Rattle.mm_machine.specs.Arena.{Arena, no_symbols, rest, span_formula}
+use Rattle.mm_machine.specs.Arena.{Arena, no_symbols, without_first, span_formula}
 use Rattle.mm_machine.specs.Replaced.{replaced}
 
 module _ (xs : Arena) (es : List Span) (parts : List RuleSymbol) (hs : List Hypothesis) where
@@ -37,7 +37,7 @@ module _ (xs : Arena) (es : List Span) (parts : List RuleSymbol) (hs : List Hypo
     pub typed_tested : (t : ℕ) → h ≡ Floating t
         → one
         ≡ bytes_eq (span_formula xs (get_or es j no_symbols))
-        (t ∷ span_formula xs (rest (get_or es j no_symbols)))
+        (t ∷ span_formula xs (without_first (get_or es j no_symbols)))
         → next ≡ at → IsTested j at h one next
     typed_tested t is e n =
         rw is
@@ -45,7 +45,7 @@ module _ (xs : Arena) (es : List Span) (parts : List RuleSymbol) (hs : List Hypo
           next_is = omega (arith, n);
           one_is = e
               ∙ ap (λ z. bytes_eq (span_formula xs (get_or es j no_symbols)) (t ∷ z))
-              (sym (append-nil (span_formula xs (rest (get_or es j no_symbols)))));
+              (sym (append-nil (span_formula xs (without_first (get_or es j no_symbols)))));
         })
 
     pub essential_tested : (n : ℕ) → h ≡ Essential n
@@ -81,9 +81,9 @@ module _ (xs : Arena) (es : List Span) (parts : List RuleSymbol) (hs : List Hypo
           (drop-drop (part_count h) at parts ∙ ap (λ n. drop n parts) (sym tested.next_is)) more
           ∙ ap (λ b. b && fit_from (j + 1) next) (sym tested.one_is)
 
-      pub kept_next : at + count_parts (drop j hs) ≡ length parts
+      pub marked_next : at + count_parts (drop j hs) ≡ length parts
           → next + count_parts (drop (j + 1) hs) ≡ length parts
-      kept_next kept =
+      marked_next marked =
           let here : count_parts (drop j hs) ≡ part_count h + count_parts (drop (j + 1) hs) =
           ap count_parts hs_here in
-          let n = tested.next_is in omega (arith, here, kept, n)
+          let n = tested.next_is in omega (arith, here, marked, n)

@@ -22,7 +22,7 @@ use Rattle.mm_spec.specs.Citation.{context_at}
 use Rattle.mm_machine.specs.Arena.{Arena, symbols_of, no_symbols, span_formula, IsIn}
 use Rattle.mm_rule.specs.Rule.{floating_index, parts_of, part_count, all_parts, Compiled}
 use Rattle.mm_rule.specs.Rule.{IsCompiled}
-use Rattle.mm_machine.specs.Replaced.{stands, replaced_part}
+use Rattle.mm_machine.specs.Replaced.{replacement, replaced_part}
 use Rattle.mm_machine.specs.Replaced.{replaced}
 use Rattle.mm_machine.specs.State.{span_formulas, applied}
 use Rattle.mm_rule.proofs.FirstLaw.{first_below, found_first}
@@ -39,9 +39,9 @@ module _ (db : List Statement) (t : ℕ) (hs : List Formula) (xs : Arena) (es : 
   abbrev pub σ : Substitution
   σ = found (context_at db t) hs (span_formulas xs es)
 
-  pub stands_is : (x : ℕ) → IsBound (context_at db t) hs x
-      → stands xs es (floating_index db hs x) ≡ σ x
-  stands_is x b =
+  pub replacement_is : (x : ℕ) → IsBound (context_at db t) hs x
+      → replacement xs es (floating_index db hs x) ≡ σ x
+  replacement_is x b =
       let j = floating_index db hs x in
       let below : j < length hs = first_below db hs x b in
       let here : IsIn xs (get_or es j no_symbols) =
@@ -62,7 +62,7 @@ module _ (db : List Statement) (t : ℕ) (hs : List Formula) (xs : Arena) (es : 
       by_is_variable : (v : Bool) → (IsTrue v → IsBound (context_at db t) hs s)
           → replaced_part xs es (cond v (Variable (floating_index db hs s)) (Constant s))
           ≡ cond v (σ s) (s ∷ [])
-      by_is_variable true h = stands_is s (h refl)
+      by_is_variable true h = replacement_is s (h refl)
       by_is_variable false h = refl
 
   pub all_same : (fs : List Formula) → AllByRecursion (AreBound (context_at db t) hs) fs
@@ -71,7 +71,7 @@ module _ (db : List Statement) (t : ℕ) (hs : List Formula) (xs : Arena) (es : 
   all_same (f ∷ fs) b = ap₂ (λ u us. u ∷ us) (one_same f b.0) (all_same fs b.1)
 
   abbrev pub cache : ℕ × ℕ → Bool
-  cache p = are_all_disjoint (context_at db t) (stands xs es p.0) (stands xs es p.1)
+  cache p = are_all_disjoint (context_at db t) (replacement xs es p.0) (replacement xs es p.1)
 
   pub disjoint_same : (pairs : List Pair)
       → AllByRecursion
@@ -82,7 +82,8 @@ module _ (db : List Statement) (t : ℕ) (hs : List Formula) (xs : Arena) (es : 
   disjoint_same [] b = refl
   disjoint_same (p ∷ pairs) b =
       ap₂ (λ u v. u && v)
-      (ap₂ (are_all_disjoint (context_at db t)) (stands_is p.low b.0.0) (stands_is p.high b.0.1))
+      (ap₂ (are_all_disjoint (context_at db t)) (replacement_is p.low b.0.0)
+      (replacement_is p.high b.0.1))
       (disjoint_same pairs b.1)
 
 pub length_all_parts : (parts : List RuleSymbol) (j : ℕ) (more : List Hypothesis)
@@ -106,8 +107,8 @@ pub judged : (db : List Statement) (t : ℕ) (c : Compiled) (xs : Arena) (stack 
     ≡ same (span_formulas xs premises)
     (map (replaced xs premises) (all_parts c.parts 0 c.hypotheses))
     → b2 ≡ list_all
-    (λ (p : ℕ × ℕ). are_all_disjoint (context_at db t) (stands xs premises p.0)
-    (stands xs premises p.1))
+    (λ (p : ℕ × ℕ). are_all_disjoint (context_at db t) (replacement xs premises p.0)
+    (replacement xs premises p.1))
     c.pairs
     → applied db t c.assertion (span_formulas xs stack)
     ≡ pick true b1 b2 (nat_le (length (replaced xs premises c.formula)) formula_limit)
@@ -158,8 +159,8 @@ pub judged_at : (db : List Statement) (t : ℕ) (c : Compiled) (xs : Arena)
     ≡ same (span_formulas xs premises)
     (map (replaced xs premises) (all_parts c.parts 0 c.hypotheses))
     → b2 ≡ list_all
-    (λ (p : ℕ × ℕ). are_all_disjoint (context_at db t) (stands xs premises p.0)
-    (stands xs premises p.1)) ps
+    (λ (p : ℕ × ℕ). are_all_disjoint (context_at db t) (replacement xs premises p.0)
+    (replacement xs premises p.1)) ps
     → applied db t c.assertion (span_formulas xs stack)
     ≡ pick true b1 b2 (nat_le (length (replaced xs (drop below stack) c.formula)) formula_limit)
     (take below (span_formulas xs stack) ++ replaced xs (drop below stack) c.formula ∷ [])
@@ -174,10 +175,11 @@ judged_at db t c xs stack premises n below rule count fits at top all ps ps_are 
     (map (replaced xs z) (all_parts c.parts 0 c.hypotheses))) top)
     (e2 ∙ ap
     (λ z. list_all
-    (λ (p : ℕ × ℕ). are_all_disjoint (context_at db t) (stands xs z p.0) (stands xs z p.1)) ps) top
+    (λ (p : ℕ × ℕ). are_all_disjoint (context_at db t) (replacement xs z p.0)
+    (replacement xs z p.1)) ps) top
     ∙ ap (λ z. list_all
-    (λ (p : ℕ × ℕ). are_all_disjoint (context_at db t) (stands xs (drop below stack) p.0)
-    (stands xs (drop below stack) p.1)) z) ps_are)
+    (λ (p : ℕ × ℕ). are_all_disjoint (context_at db t) (replacement xs (drop below stack) p.0)
+    (replacement xs (drop below stack) p.1)) z) ps_are)
     ∙ ap (λ b. pick true b1 b2
     (nat_le (length (replaced xs (drop below stack) c.formula)) formula_limit)
     (take b (span_formulas xs stack) ++ replaced xs (drop below stack) c.formula ∷ [])) (sym here)

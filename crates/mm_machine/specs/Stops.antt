@@ -26,4 +26,4 @@ pub record IsApplied {T : Type 0} (db : List Statement) (t a : ℕ) (s s' : Mach
     (said : Result T StepRefused) : Type 0 where
   pub applies : OnOk said (Applies db t a s s')
   pub stopped : IfErr said (λ e. Stops e (applied db t a s.stack))
-  pub width : s'.width ≡ s.width
+  pub symbol_count : s'.symbol_count ≡ s.symbol_count

@@ -13,7 +13,7 @@ ghost use Rattle.mm_spec.specs.Citation.{context_at};
 ghost use Rattle.mm_spec.specs.Laws.Stack.{same};
 ghost use Rattle.mm_machine.specs.Arena.{
   no_symbols,
-  rest,
+  without_first,
   symbols_of,
   span_formula,
   IsIn,
@@ -21,7 +21,7 @@ ghost use Rattle.mm_machine.specs.Arena.{
 };
 ghost use Rattle.mm_machine.specs.DisjointCache.{AreDisjointAt};
 ghost use Rattle.mm_rule.specs.Rule.{IsBelow, IsCompiled, all_parts, count_parts};
-ghost use Rattle.mm_machine.specs.Replaced.{stands};
+ghost use Rattle.mm_machine.specs.Replaced.{replacement};
 ghost use Rattle.mm_machine.specs.Replaced.{replaced};
 ghost use Rattle.mm_machine.specs.State.{TestsRule};
 
@@ -35,10 +35,10 @@ use std::marker::Model;
 /// The list that contains a formula.
 #[derive(Clone, Copy, Drop)]
 pub enum Store {
-    /// The list of the formulas that only the stack holds.
-    Own,
-    /// The list of the marked formulas.
-    Kept,
+    /// The list of the formulas that aren't those of marked steps, and that only the stack holds.
+    Unmarked,
+    /// The list of the formulas of marked steps.
+    Marked,
 }
 
 /// A stretch of one of the lists of symbols.
@@ -52,8 +52,8 @@ pub struct Span {
 /// The lists of symbols.
 #[derive(Drop)]
 pub struct Symbols<'a> {
-    pub own: &'a [Sym],
-    pub kept: &'a [Sym],
+    pub unmarked: &'a [Sym],
+    pub marked: &'a [Sym],
 }
 
 impl<'a> Model for Symbols<'a> {
@@ -61,7 +61,7 @@ impl<'a> Model for Symbols<'a> {
 
     ghost Value = { Arena };
 
-    ghost view = { λ s. arena s.own.now s.kept.now };
+    ghost view = { λ s. arena s.unmarked.now s.marked.now };
 }
 
 impl<'a> Symbols<'a> {
@@ -70,8 +70,8 @@ impl<'a> Symbols<'a> {
         ensures { result.now ≡ symbols_of self.now store }
     {
         match store {
-            Store::Own => self.own,
-            Store::Kept => self.kept,
+            Store::Unmarked => self.unmarked,
+            Store::Marked => self.marked,
         }
     }
 
@@ -93,9 +93,9 @@ pub enum Reason {
     TooLong,
 }
 
-/// Whether the stretch of list `store` from place `from` to place `to` begins with the formula of
+/// Whether the stretch of list `store` from index `from` to index `to` begins with the formula of
 /// an entry.
-fn begins(symbols: &Symbols, store: Store, from: usize, to: usize, span: Span) -> bool
+fn begins_with(symbols: &Symbols, store: Store, from: usize, to: usize, span: Span) -> bool
     requires order { from ≤ to }
     requires within { to ≤ length (symbols_of symbols.now store) }
     requires span { IsIn symbols.now span }
@@ -107,8 +107,8 @@ fn begins(symbols: &Symbols, store: Store, from: usize, to: usize, span: Span) -
 }
 
 /// An entry without its first symbol.
-fn rest_of(span: Span) -> Span
-    ensures { result ≡ rest span }
+fn span_without_first(span: Span) -> Span
+    ensures { result ≡ without_first span }
 {
     let end = span.end;
     Span {
@@ -123,11 +123,11 @@ fn rest_of(span: Span) -> Span
 }
 
 /// What replaces the variable of hypothesis `j`.
-pub fn span_of(premises: &[Span], j: u32) -> Span
+pub fn replacement_of(premises: &[Span], j: u32) -> Span
     requires { j < length premises.now }
-    ensures { result ≡ rest (get_or premises.now j no_symbols) }
+    ensures { result ≡ without_first (get_or premises.now j no_symbols) }
 {
-    rest_of(premises[j as usize])
+    span_without_first(premises[j as usize])
 }
 
 /// Whether an entry is the wanted formula with its variables replaced.
@@ -145,8 +145,8 @@ fn fits(symbols: &Symbols, premises: &[Span], wanted: &[RuleSymbol], premise: Sp
     for part in wanted {
         match *part {
             RuleSymbol::Variable(j) => {
-                let span = span_of(premises, j);
-                if !begins(symbols, premise.store, at, premise.end, span) {
+                let span = replacement_of(premises, j);
+                if !begins_with(symbols, premise.store, at, premise.end, span) {
                     return false;
                 }
                 at += span.end - span.start;
@@ -167,7 +167,7 @@ fn is_typed(symbols: &Symbols, typecode: Sym, premise: Span) -> bool
     requires premise { IsIn symbols.now premise }
     ensures { result
         ≡ bytes_eq (span_formula symbols.now premise)
-        (typecode ∷ span_formula symbols.now (rest premise)) }
+        (typecode ∷ span_formula symbols.now (without_first premise)) }
 {
     premise.start < premise.end && symbols.list(premise.store)[premise.start] == typecode
 }
@@ -177,7 +177,7 @@ fn is_typed(symbols: &Symbols, typecode: Sym, premise: Span) -> bool
 fn all_fit(symbols: &Symbols, rule: &Rule, premises: &[Span]) -> bool
     requires premises { All (IsIn symbols.now) premises.now }
     requires count { length premises.now ≡ length rule.now.hypotheses }
-    requires kept { count_parts rule.now.hypotheses ≡ length rule.now.parts }
+    requires marked { count_parts rule.now.hypotheses ≡ length rule.now.parts }
     requires parts { All (IsBelow (length premises.now)) rule.now.parts }
     ensures { result
         ≡ same (map (span_formula symbols.now) premises.now)
@@ -185,7 +185,7 @@ fn all_fit(symbols: &Symbols, rule: &Rule, premises: &[Span]) -> bool
 {
     let mut at = 0;
     for (j, hypothesis) in rule.hypotheses.iter().enumerate() {
-        let is_one = match *hypothesis {
+        let is_fitting = match *hypothesis {
             Hypothesis::Floating(typecode) => is_typed(symbols, typecode, premises[j]),
             Hypothesis::Essential(count) => {
                 let end = at + count as usize;
@@ -194,7 +194,7 @@ fn all_fit(symbols: &Symbols, rule: &Rule, premises: &[Span]) -> bool
                 fits(symbols, premises, wanted, premises[j])
             }
         };
-        if !is_one {
+        if !is_fitting {
             return false;
         }
     }
@@ -202,7 +202,7 @@ fn all_fit(symbols: &Symbols, rule: &Rule, premises: &[Span]) -> bool
 }
 
 /// Whether two symbols are disjoint at the theorem: they aren't both variables, or an active `$d`
-/// has both. The first pairs that are found to be disjoint are kept in `cache`.
+/// has both. The first pairs that are found to be disjoint are added to `cache`.
 fn are_disjoint<A: Allocator>(
     database: &Database<A>,
     theorem: u32,
@@ -214,27 +214,34 @@ fn are_disjoint<A: Allocator>(
     requires first { first < length (symbol_names database.now.statements) }
     requires second { second < length (symbol_names database.now.statements) }
     requires cache { AreDisjointAt database.now.statements theorem cache.old }
-    ensures value { result ≡ disjoint_pair (context_at database.now.statements theorem) first second }
+    ensures value { result ≡ disjoint_pair (context_at database.now.statements
+        theorem) first second }
     ensures cache { AreDisjointAt database.now.statements theorem cache.new }
 {
     if cache.has(first, second) {
         return true;
     }
-    if !are_disjoint_by(database, theorem, first, second) {
+    if !are_disjoint_in_database(database, theorem, first, second) {
         return false;
     }
-    cache.keep(first, second);
+    cache.insert(first, second);
     true
 }
 
 /// The same, without `cache`.
-fn are_disjoint_by<A: Allocator>(database: &Database<A>, theorem: u32, first: Sym, second: Sym) -> bool
+fn are_disjoint_in_database<A: Allocator>(
+    database: &Database<A>,
+    theorem: u32,
+    first: Sym,
+    second: Sym,
+) -> bool
     requires theorem { theorem < length database.now.statements }
     requires first { first < length (symbol_names database.now.statements) }
     requires second { second < length (symbol_names database.now.statements) }
     ensures { result ≡ disjoint_pair (context_at database.now.statements theorem) first second }
 {
-    !(database.is_variable(first) && database.is_variable(second)) || (!(first == second) && database.disjoint_at(theorem, first, second))
+    !(database.is_variable(first) && database.is_variable(second))
+        || (!(first == second) && database.disjoint_at(theorem, first, second))
 }
 
 /// Whether a symbol is disjoint from each of the others.
@@ -247,9 +254,11 @@ fn is_disjoint_from<A: Allocator>(
 ) -> bool
     requires theorem { theorem < length database.now.statements }
     requires symbol { symbol < length (symbol_names database.now.statements) }
-    requires others { All (λ symbol. symbol < length (symbol_names database.now.statements)) others.now }
+    requires others { All (λ symbol. symbol < length (symbol_names database.now.statements))
+        others.now }
     requires cache { AreDisjointAt database.now.statements theorem cache.old }
-    ensures value { result ≡ disjoint_symbol (context_at database.now.statements theorem) symbol others.now }
+    ensures value { result ≡ disjoint_symbol (context_at database.now.statements
+        theorem) symbol others.now }
     ensures cache { AreDisjointAt database.now.statements theorem cache.new }
 {
     if !database.is_variable(symbol) {
@@ -272,8 +281,10 @@ fn are_all_disjoint<A: Allocator>(
     cache: &mut DisjointCache<A>,
 ) -> bool
     requires theorem { theorem < length database.now.statements }
-    requires first { All (λ symbol. symbol < length (symbol_names database.now.statements)) first.now }
-    requires second { All (λ symbol. symbol < length (symbol_names database.now.statements)) second.now }
+    requires first { All (λ symbol. symbol < length (symbol_names database.now.statements))
+        first.now }
+    requires second { All (λ symbol. symbol < length (symbol_names database.now.statements))
+        second.now }
     requires cache { AreDisjointAt database.now.statements theorem cache.old }
     ensures value { result
         ≡ disjoint_lists (context_at database.now.statements theorem) first.now second.now }
@@ -306,12 +317,13 @@ fn pairs_are_disjoint<A: Allocator>(
     ensures value { result
         ≡ list_all
         (λ (p : ℕ × ℕ). disjoint_lists (context_at database.now.statements theorem)
-        (stands symbols.now premises.now p.0) (stands symbols.now premises.now p.1)) pairs.now }
+        (replacement symbols.now premises.now p.0) (replacement symbols.now premises.now p.1))
+        pairs.now }
     ensures cache { AreDisjointAt database.now.statements theorem cache.new }
 {
     for pair in pairs {
-        let first = symbols.formula(span_of(premises, pair.0));
-        let second = symbols.formula(span_of(premises, pair.1));
+        let first = symbols.formula(replacement_of(premises, pair.0));
+        let second = symbols.formula(replacement_of(premises, pair.1));
         if !are_all_disjoint(database, theorem, first, second, cache) {
             return false;
         }
@@ -331,34 +343,34 @@ fn append_symbols<A: Allocator>(symbols: &[Sym], list: &mut Vec<Sym, A>) -> Resu
     }
 }
 
-/// Builds a formula with its variables replaced in `made`, and returns whether its length is within
+/// Builds a formula with its variables replaced in `list`, and returns whether its length is within
 /// the limit. Only then is it complete.
 pub fn build<A: Allocator>(
     symbols: &Symbols,
     premises: &[Span],
     formula: &[RuleSymbol],
-    made: &mut Vec<Sym, A>,
+    list: &mut Vec<Sym, A>,
 ) -> Result<bool, AllocError>
     requires premises { All (IsIn symbols.now) premises.now }
     requires formula { All (IsBelow (length premises.now)) formula.now }
     ensures short { IfOk result
         (λ b. b ≡ nat_le (length (replaced symbols.now premises.now formula.now)) formula_limit) }
     ensures made { IfOk result
-        (λ b. b ≡ true → made.new.items ≡ replaced symbols.now premises.now formula.now) }
+        (λ b. b ≡ true → list.new.items ≡ replaced symbols.now premises.now formula.now) }
 {
-    made.clear();
+    list.clear();
     for part in formula {
         match *part {
             RuleSymbol::Variable(j) => {
-                append_symbols(symbols.formula(span_of(premises, j)), made)?;
-                if made.len() > FORMULA_LIMIT {
+                append_symbols(symbols.formula(replacement_of(premises, j)), list)?;
+                if list.len() > FORMULA_LIMIT {
                     return Ok(false);
                 }
             }
-            RuleSymbol::Constant(s) => made.push(s)?,
+            RuleSymbol::Constant(s) => list.push(s)?,
         }
     }
-    Ok(made.len() <= FORMULA_LIMIT)
+    Ok(list.len() <= FORMULA_LIMIT)
 }
 
 /// Tests an assertion's step on the entries of the stack, except for the length of its formula.
@@ -374,7 +386,8 @@ pub fn test_rule<A: Allocator>(
 ) -> Result<usize, Reason>
     requires theorem { theorem < length database.now.statements }
     requires rule { IsCompiled database.now.statements rule.now }
-    requires stack { AreEntries (length (symbol_names database.now.statements)) symbols.now stack.now }
+    requires stack { AreEntries (length (symbol_names database.now.statements)) symbols.now
+        stack.now }
     requires cache { AreDisjointAt database.now.statements theorem cache.old }
     ensures cache { AreDisjointAt database.now.statements theorem cache.new }
     ensures judged { TestsRule database.now.statements theorem rule.now symbols.now stack.now result }

@@ -1,7 +1,7 @@
 //! Pairs of symbols that are known to be disjoint at a theorem.
 
 ghost use Rattle.std.specs.Prelude.{◌≡◌, ◌⊎◌, [], true, IfOk};
-ghost use Rattle.mm_machine.specs.DisjointCache.{AreDisjointAt, HasPair, KeepsPair};
+ghost use Rattle.mm_machine.specs.DisjointCache.{AreDisjointAt, HasPair, InsertsPair};
 ghost use Rattle.mm_rule.specs.Assertions.{is_assertion_at};
 
 use mm_database::{Database, Sym};
@@ -9,7 +9,7 @@ use mm_rule::{pairs, put_number};
 use std::alloc::{AllocError, Allocator};
 use std::marker::Model;
 
-/// How many pairs are kept at most, and the number of slots that say where a pair is.
+/// How many pairs the cache has at most, and the number of slots that say where a pair is.
 const PAIR_SLOTS: usize = 1_024;
 
 /// Pairs of symbols that are disjoint at a theorem, the lower symbol first: those of its frame, and
@@ -17,7 +17,7 @@ const PAIR_SLOTS: usize = 1_024;
 #[derive(Drop)]
 pub struct DisjointCache<A: Allocator> {
     pairs: Vec<(Sym, Sym), A>,
-    /// For each slot, where its pair may be in `pairs`.
+    /// For each slot the index at which its pair may be in `pairs`.
     slots: Vec<u32, A>,
 }
 
@@ -29,7 +29,8 @@ impl<A: Allocator> Model for DisjointCache<A> {
     ghost view = { λ a. a.pairs.items };
 }
 
-/// The slot of a pair.
+/// The slot of a pair. The factor is prime to the number of slots, so pairs of one high symbol and
+/// neighbouring low ones have different slots.
 fn slot_of(low: Sym, high: Sym) -> usize {
     (low.number() as usize * 61 + high.number() as usize) % PAIR_SLOTS
 }
@@ -72,9 +73,9 @@ impl<A: Allocator> DisjointCache<A> {
         }
     }
 
-    /// Keeps a pair of disjoint symbols, the lower first, if there is room for it.
-    fn keep_pair(&mut self, low: Sym, high: Sym)
-        ensures { KeepsPair self.old low high self.new }
+    /// Adds a pair of disjoint symbols, the lower first, if there is room for it.
+    fn insert_pair(&mut self, low: Sym, high: Sym)
+        ensures { InsertsPair self.old low high self.new }
     {
         let index = self.pairs.len();
         if index < PAIR_SLOTS {
@@ -85,25 +86,26 @@ impl<A: Allocator> DisjointCache<A> {
         }
     }
 
-    /// Keeps a pair of disjoint symbols, given in either order.
-    pub fn keep(&mut self, first: Sym, second: Sym)
-        ensures { KeepsPair self.old first second self.new ⊎ KeepsPair self.old second first self.new }
+    /// Adds a pair of disjoint symbols, given in either order, if there is room for it.
+    pub fn insert(&mut self, first: Sym, second: Sym)
+        ensures { InsertsPair self.old first second self.new
+            ⊎ InsertsPair self.old second first self.new }
     {
         if first.number() < second.number() {
-            self.keep_pair(first, second);
+            self.insert_pair(first, second);
         } else {
-            self.keep_pair(second, first);
+            self.insert_pair(second, first);
         }
     }
 
-    /// Forgets all pairs, then keeps those of a theorem's frame.
+    /// Removes all pairs, then adds those of a theorem's frame.
     pub fn restart(&mut self, database: &Database<A>, theorem: u32)
         requires { is_assertion_at database.now.statements theorem ≡ true }
         ensures { AreDisjointAt database.now.statements theorem self.new }
     {
         self.pairs.clear();
         for pair in pairs(database, theorem) {
-            self.keep_pair(pair.0, pair.1);
+            self.insert_pair(pair.0, pair.1);
         }
     }
 }

@@ -7,12 +7,12 @@ ghost use Rattle.mm_machine.specs.Arena.{IsIn};
 ghost use Rattle.mm_rule.specs.Rule.{IsBelow};
 ghost use Rattle.mm_machine.specs.Replaced.{replaced};
 
-use crate::arena::{Span, Symbols, span_of};
+use crate::arena::{Span, Symbols, replacement_of};
 use mm_database::Sym;
 use mm_rule::RuleSymbol;
 use mm_spec::FORMULA_LIMIT;
 
-/// Writes a symbol at place `at`.
+/// Writes a symbol at index `at`.
 #[inline(always)]
 fn put_symbol(s: Sym, list: &mut [Sym], at: usize)
     requires { at < length list.old }
@@ -22,7 +22,7 @@ fn put_symbol(s: Sym, list: &mut [Sym], at: usize)
     list[at] = s;
 }
 
-/// Writes two symbols from place `at` on.
+/// Writes two symbols from index `at` on.
 #[inline(always)]
 fn put_two(symbols: &[Sym], list: &mut [Sym], at: usize)
     requires two { length symbols.now ≡ 2 }
@@ -34,7 +34,7 @@ fn put_two(symbols: &[Sym], list: &mut [Sym], at: usize)
     put_symbol(symbols[1], list, at + 1);
 }
 
-/// Writes four symbols from place `at` on. All are read before the first is written, so that a
+/// Writes four symbols from index `at` on. All are read before the first is written, so that a
 /// compiler needs no test whether the lists overlap, and copies them at once.
 #[inline(always)]
 fn put_four(symbols: &[Sym], list: &mut [Sym], at: usize)
@@ -50,7 +50,7 @@ fn put_four(symbols: &[Sym], list: &mut [Sym], at: usize)
     put_symbol(last, list, at + 3);
 }
 
-/// Writes symbols from place `at` on.
+/// Writes symbols from index `at` on.
 #[inline(always)]
 fn put_all(symbols: &[Sym], list: &mut [Sym], at: usize)
     requires { at + length symbols.now ≤ length list.old }
@@ -95,7 +95,7 @@ fn put_ends(symbols: &[Sym], list: &mut [Sym], at: usize, width: usize)
     put_width(&symbols[left..], list, at + left);
 }
 
-/// Writes what replaces a variable from place `at` on. It mostly is short.
+/// Writes what replaces a variable from index `at` on. It mostly is short.
 #[inline(always)]
 pub fn put_symbols(symbols: &[Sym], list: &mut [Sym], at: usize)
     requires { at + length symbols.now ≤ length list.old }
@@ -135,12 +135,12 @@ pub fn fill(
         (λ n. take n list.new ≡ replaced symbols.now premises.now formula.now) }
 {
     let mut at = 0;
-    // What is left of the list, if each part that is to come takes one place.
+    // How many elements of the list are left over, if each part that is to come takes one.
     let mut room = list.len().checked_sub(formula.len())?;
     for part in formula {
         match *part {
             RuleSymbol::Variable(j) => {
-                let replacement = symbols.formula(span_of(premises, j));
+                let replacement = symbols.formula(replacement_of(premises, j));
                 if replacement.len() > room + 1 {
                     return None;
                 }

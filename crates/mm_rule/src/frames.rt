@@ -59,7 +59,8 @@ pub fn pairs<'b, A: Allocator>(database: &'b Database<A>, assertion: u32) -> &'b
     requires { is_assertion_at database.now.statements assertion ≡ true }
     ensures are { paired result.now ≡ mandatory_pairs database.now.statements assertion }
     ensures disjoint { All
-        (λ (p : ℕ × ℕ). are_disjoint (context_at database.now.statements assertion) p.0 p.1 ≡ true) result.now }
+        (λ (p : ℕ × ℕ). are_disjoint (context_at database.now.statements assertion) p.0 p.1 ≡ true)
+        result.now }
     ensures below { All
         (λ (p : ℕ × ℕ). (p.0 < length (symbol_names database.now.statements))
         × (p.1 < length (symbol_names database.now.statements))) result.now }

@@ -47,11 +47,11 @@ pub record AreCompiled (db : List Statement) (hyps : List ℕ) (hypotheses : Lis
 
 -- a compiler of rules: how many symbols it knows, and the rule that it compiled last
 pub record CompilerState : Type 0 where
-  pub width : ℕ
+  pub symbol_count : ℕ
   pub rule : Compiled
 
 abbrev pub compiler_state : ℕ → Compiled → CompilerState
-compiler_state width rule = record { width = width; rule = rule }
+compiler_state symbol_count rule = record { symbol_count = symbol_count; rule = rule }
 
 -- the rules of a database: a list of their ranges, and the lists that all rules share
 pub record RuleLists : Type 0 where

@@ -24,11 +24,13 @@ fn variable_of<A: Allocator>(database: &Database<A>, hypothesis: u32) -> Option<
     ensures some { IfSome result
         (λ y. (y < length (symbol_names database.now.statements))
         × ((x : ℕ)
-        → binds (context_at database.now.statements 0) x (formula_at database.now.statements hypothesis)
+        → binds (context_at database.now.statements 0) x
+        (formula_at database.now.statements hypothesis)
         ≡ nat_eq x y)) }
     ensures none { IfNone result
         ((x : ℕ)
-        → binds (context_at database.now.statements 0) x (formula_at database.now.statements hypothesis) ≡ false) }
+        → binds (context_at database.now.statements 0) x
+        (formula_at database.now.statements hypothesis) ≡ false) }
 {
     let formula = database.formula(hypothesis);
     if formula.len() == 2 && !database.is_variable(formula[0]) && database.is_variable(formula[1]) {
@@ -56,10 +58,11 @@ fn number_of(numbers: &[u32], symbol: Sym) -> u32
 
 /// Sets the number of each variable that has a `$f` to the index of its first one in `hyps`.
 fn number_variables<A: Allocator>(database: &Database<A>, hyps: &[u32], numbers: &mut [u32])
-    requires width { length numbers.old ≡ length (symbol_names database.now.statements) }
+    requires symbol_count { length numbers.old ≡ length (symbol_names database.now.statements) }
     requires hyps { All (λ h. h < length database.now.statements) hyps.now }
     requires few { length hyps.now < 2 ^ 32 }
-    ensures { AreFirstNumbers database.now.statements (map (formula_at database.now.statements) hyps.now)
+    ensures { AreFirstNumbers database.now.statements
+        (map (formula_at database.now.statements) hyps.now)
         numbers.new }
 {
     let mut j = hyps.len();
@@ -74,7 +77,7 @@ fn number_variables<A: Allocator>(database: &Database<A>, hyps: &[u32], numbers:
 
 /// A symbol as a part of a rule: a variable is given by its number.
 fn compile_symbol<A: Allocator>(database: &Database<A>, numbers: &[u32], symbol: Sym) -> RuleSymbol
-    requires width { length numbers.now ≡ length (symbol_names database.now.statements) }
+    requires symbol_count { length numbers.now ≡ length (symbol_names database.now.statements) }
     requires known { symbol < length (symbol_names database.now.statements) }
     ensures { result ≡ numbered_part database.now.statements numbers.now symbol }
 {
@@ -92,8 +95,9 @@ fn compile_formula<A: Allocator>(
     formula: &[Sym],
     parts: &mut Vec<RuleSymbol, A>,
 ) -> Result<(), AllocError>
-    requires width { length numbers.now ≡ length (symbol_names database.now.statements) }
-    requires known { All (λ symbol. symbol < length (symbol_names database.now.statements)) formula.now }
+    requires symbol_count { length numbers.now ≡ length (symbol_names database.now.statements) }
+    requires known { All (λ symbol. symbol < length (symbol_names database.now.statements))
+        formula.now }
     ensures { OnOk result
         (parts.new.items
         ≡ parts.old.items ++ numbered_parts database.now.statements numbers.now formula.now) }
@@ -112,7 +116,7 @@ fn is_first_floating<A: Allocator>(
     index: usize,
     formula: &[Sym],
 ) -> bool
-    requires width { length numbers.now ≡ length (symbol_names database.now.statements) }
+    requires symbol_count { length numbers.now ≡ length (symbol_names database.now.statements) }
     requires known { All (λ s. s < length (symbol_names database.now.statements)) formula.now }
     ensures { result ≡ true
         → (0 < length formula.now)
@@ -133,12 +137,13 @@ fn compile_hypotheses<A: Allocator>(
     hypotheses: &mut Vec<Hypothesis, A>,
     parts: &mut Vec<RuleSymbol, A>,
 ) -> Result<(), AllocError>
-    requires width { length numbers.now ≡ length (symbol_names database.now.statements) }
+    requires symbol_count { length numbers.now ≡ length (symbol_names database.now.statements) }
     requires placed { AreFirstNumbers database.now.statements
         (map (formula_at database.now.statements) hyps.now) numbers.now }
     requires hyps { All (λ hypothesis. hypothesis < length database.now.statements) hyps.now }
     requires bound { All
-        (λ hypothesis. AreCovered database.now.statements (map (formula_at database.now.statements) hyps.now)
+        (λ hypothesis. AreCovered database.now.statements
+        (map (formula_at database.now.statements) hyps.now)
         (formula_at database.now.statements hypothesis)) hyps.now }
     ensures { OnOk result
         (AreCompiled database.now.statements hyps.now hypotheses.new.items parts.new.items) }
@@ -186,7 +191,8 @@ pub struct RuleCompiler<A: Allocator> {
     pairs: Vec<(u32, u32), A>,
     parts: Vec<RuleSymbol, A>,
     formula: Vec<RuleSymbol, A>,
-    /// For each variable of the rule the index of its first `$f` among the mandatory hypotheses. What
+    /// For each variable of the rule the index of its first `$f` among the mandatory hypotheses.
+    /// What
     /// other symbols have here means nothing.
     numbers: Vec<u32, A>,
 }
@@ -221,7 +227,7 @@ impl<A: Allocator> RuleCompiler<A> {
     pub fn new(alloc: A, database: &Database<A>) -> Result<Self, AllocError>
     where
         A: Copy,
-        ensures { IfOk result (λ m. m.width ≡ length (symbol_names database.now.statements)) }
+        ensures { IfOk result (λ m. m.symbol_count ≡ length (symbol_names database.now.statements)) }
     {
         Ok(RuleCompiler {
             assertion: 0,
@@ -251,8 +257,9 @@ impl<A: Allocator> RuleCompiler<A> {
         requires assertion { is_assertion_at database.now.statements assertion ≡ true }
         requires complete { IsComplete (context_at database.now.statements 0)
             (frame_at database.now.statements assertion) }
-        requires width { self.old.width ≡ length (symbol_names database.now.statements) }
-        ensures width { self.new.width ≡ self.old.width }
+        requires symbol_count { self.old.symbol_count
+            ≡ length (symbol_names database.now.statements) }
+        ensures symbol_count { self.new.symbol_count ≡ self.old.symbol_count }
         ensures assertion { OnOk result (self.new.rule.assertion ≡ assertion) }
         ensures made { OnOk result (IsCompiled database.now.statements self.new.rule) }
     {

@@ -18,7 +18,8 @@ use mm_rule::{
 use std::alloc::{AllocError, Allocator};
 use std::marker::Model;
 
-/// The elements of rules are their hypotheses, pairs and symbols. As many of them as this may be held
+/// The elements of rules are their hypotheses, pairs and symbols. As many of them as this may be
+/// held
 /// whatever the length of the text.
 const MIN_LIMIT: usize = 8_388_608;
 
@@ -79,7 +80,8 @@ impl<A: Allocator> Model for Rules<A> {
     ghost view = { λ r. rule_lists r.ranges.items r.hypotheses.items r.pairs.items r.parts.items };
 }
 
-/// How many elements may be held: once there are so many, no more rules are held. So frames that are
+/// How many elements may be held: once there are so many, no more rules are held. So frames that
+/// are
 /// much longer than the text aren't all held.
 fn element_limit<A: Allocator>(database: &Database<A>) -> usize {
     MIN_LIMIT.max(database.text().len() / BYTES_FOR_ONE_ELEMENT)
@@ -221,7 +223,8 @@ impl<A: Allocator> Rules<A> {
         Ok(rules)
     }
 
-    /// Compiles the rule of a statement and holds it, if this is an assertion and the limit permits.
+    /// Compiles the rule of a statement and holds it, if this is an assertion and the limit
+    /// permits.
     fn hold_rule(
         &mut self,
         database: &Database<A>,
@@ -230,9 +233,10 @@ impl<A: Allocator> Rules<A> {
     ) -> Result<(), AllocError>
         requires statement { statement < length database.now.statements }
         requires complete { AreComplete database.now.statements }
-        requires width { compiler.old.width ≡ length (symbol_names database.now.statements) }
+        requires symbol_count { compiler.old.symbol_count
+            ≡ length (symbol_names database.now.statements) }
         requires rules { AreRules database.now.statements self.old }
-        ensures width { compiler.new.width ≡ compiler.old.width }
+        ensures symbol_count { compiler.new.symbol_count ≡ compiler.old.symbol_count }
         ensures rules { OnOk result (AreRules database.now.statements self.new) }
     {
         if !is_assertion(database, statement) {
@@ -287,7 +291,8 @@ impl<A: Allocator> Rules<A> {
         Ok(())
     }
 
-    /// The number of an assertion's rule, which is its index in `ranges`; `None` if the rule isn't held.
+    /// The number of an assertion's rule, which is its index in `ranges`; `None` if the rule isn't
+    /// held.
     pub fn find(&self, assertion: u32) -> Option<usize>
         ensures { IfSome result (λ number. IsRuleNumber self.now number assertion) }
     {

@@ -8,7 +8,8 @@ use Rattle.mm_check.proofs.essential.push_flags.Goals as goal
 pub returns : goal.returns
 returns g c =
     let hs = c.hyps-hypothesis-items.result.now in
-    let all : length hs ≤ c.loop-hypothesis.hypothesis-index = omega (arith, c.loop-hypothesis-test.false) in
+    let all : length hs ≤ c.loop-hypothesis.hypothesis-index = omega
+    (arith, c.loop-hypothesis-test.false) in
     c.loop-hypothesis.invariant
     ∙ ap (λ (ks : List ℕ). c.args.waiting.now.items
     ++ map (λ h. c.args.is_essential

@@ -5,7 +5,7 @@ use Rattle.std.proofs.lemmas.Grind.{common_steps}
 use Rattle.mm_rule.specs.Rule.{Compiled}
 use Rattle.mm_machine.specs.Arena.{no_symbols, span_formula}
 use Rattle.mm_machine.specs.Replaced.{replaced}
-use Rattle.mm_machine.proofs.FitLaw.{fit_from, fit_end, fit_next, kept_next, IsTested}
+use Rattle.mm_machine.proofs.FitLaw.{fit_from, fit_end, fit_next, marked_next, IsTested}
 use Rattle.mm_machine.proofs.FitLaw.{typed_tested, essential_tested}
 use Rattle.mm_machine.proofs.arena.all_fit.Goals.{in-Floating, in-Essential}
 use Rattle.mm_machine.proofs.arena.all_fit.Goals as goal
@@ -22,11 +22,11 @@ offset_bounds-premises-j-in-Essential c =
     (ap (λ (r : Compiled). r.hypotheses) c.rule.view_is) c.loop-j-test.true in
     omega (arith, inside, c.requires.count)
 
-pub fits-is_one-requires-clause-wanted : goal.fits-is_one-requires-clause-wanted
-fits-is_one-requires-clause-wanted c = grind (arith, common_steps)
+pub fits-is_fitting-requires-clause-wanted : goal.fits-is_fitting-requires-clause-wanted
+fits-is_fitting-requires-clause-wanted c = grind (arith, common_steps)
 
-pub returns-then-not-is_one : goal.returns-then-not-is_one
-returns-then-not-is_one c =
+pub returns-then-not-is_fitting : goal.returns-then-not-is_fitting
+returns-then-not-is_fitting c =
     let xs = c.args.symbols.now in
     let es = c.args.premises.now in
     let parts = c.args.rule.now.parts in
@@ -34,7 +34,7 @@ returns-then-not-is_one c =
     let j = c.loop-j.j in
     let at = c.loop-j.at in
     let h = c.hypothesis-item.result in
-    let one = c.match-hypothesis.is_one in
+    let one = c.match-hypothesis.is_fitting in
     let next = c.match-hypothesis.at in
     let hs_are : c.rule.inside.hypotheses.now ≡ hs =
     ap (λ (r : Compiled). r.hypotheses) c.rule.view_is in
@@ -47,16 +47,16 @@ returns-then-not-is_one c =
     let tested : IsTested xs es parts hs j at h one next =
     elim c.match-hypothesis.branch [
       | in-Floating w ↦ typed_tested xs es parts hs j at h one next w.in-Floating.typecode
-          w.in-Floating.is (w.is_one-is ∙ w.is_typed-is_one.ensures) w.at-is
+          w.in-Floating.is (w.is_fitting-is ∙ w.is_typed-is_fitting.ensures) w.at-is
       | in-Essential w ↦ let n = w.in-Essential.count in
           essential_tested xs es parts hs j at h one next n w.in-Essential.is
-          (w.is_one-is ∙ w.fits-is_one.ensures
+          (w.is_fitting-is ∙ w.fits-is_fitting.ensures
           ∙ ap (λ z. bytes_eq (span_formula xs (get_or es j no_symbols))
           (replaced xs es (take ((at + n) - at) (drop at z)))) parts_are) w.at-is
     ] in
     sym (c.loop-j.invariant.left
     ∙ fit_next xs es parts hs j at h one next tested inside many h_is
-    ∙ ap (λ b. b && fit_from xs es parts hs (j + 1) next) c.if-not-is_one.true)
+    ∙ ap (λ b. b && fit_from xs es parts hs (j + 1) next) c.if-not-is_fitting.true)
 
 pub loop-j-preserved : goal.loop-j-preserved
 loop-j-preserved c =
@@ -67,7 +67,7 @@ loop-j-preserved c =
     let j = c.loop-j.j in
     let at = c.loop-j.at in
     let h = c.hypothesis-item.result in
-    let one = c.match-hypothesis.is_one in
+    let one = c.match-hypothesis.is_fitting in
     let next = c.match-hypothesis.at in
     let hs_are : c.rule.inside.hypotheses.now ≡ hs =
     ap (λ (r : Compiled). r.hypotheses) c.rule.view_is in
@@ -80,19 +80,19 @@ loop-j-preserved c =
     let tested : IsTested xs es parts hs j at h one next =
     elim c.match-hypothesis.branch [
       | in-Floating w ↦ typed_tested xs es parts hs j at h one next w.in-Floating.typecode
-          w.in-Floating.is (w.is_one-is ∙ w.is_typed-is_one.ensures) w.at-is
+          w.in-Floating.is (w.is_fitting-is ∙ w.is_typed-is_fitting.ensures) w.at-is
       | in-Essential w ↦ let n = w.in-Essential.count in
           essential_tested xs es parts hs j at h one next n w.in-Essential.is
-          (w.is_one-is ∙ w.fits-is_one.ensures
+          (w.is_fitting-is ∙ w.fits-is_fitting.ensures
           ∙ ap (λ z. bytes_eq (span_formula xs (get_or es j no_symbols))
           (replaced xs es (take ((at + n) - at) (drop at z)))) parts_are) w.at-is
     ] in
     record {
-      kept = kept_next xs es parts hs j at h one next tested inside many h_is
-          c.loop-j.invariant.kept;
+      marked = marked_next xs es parts hs j at h one next tested inside many h_is
+          c.loop-j.invariant.marked;
       left = c.loop-j.invariant.left
           ∙ fit_next xs es parts hs j at h one next tested inside many h_is
-          ∙ ap (λ b. b && fit_from xs es parts hs (j + 1) next) c.if-not-is_one.false;
+          ∙ ap (λ b. b && fit_from xs es parts hs (j + 1) next) c.if-not-is_fitting.false;
     }
 
 pub returns : goal.returns

@@ -25,7 +25,8 @@ returns-then-not-is_variable-clause-value g c =
 
 pub returns-then-not-are_disjoint-clause-value : goal.returns-then-not-are_disjoint-clause-value
 returns-then-not-are_disjoint-clause-value g c =
-    let disjoint = are_disjoint (context_at c.args.database.now.statements c.args.theorem) c.args.symbol in
+    let disjoint = are_disjoint (context_at c.args.database.now.statements c.args.theorem)
+    c.args.symbol in
     sym (list_all_at disjoint c.args.others.now c.loop-other.other-index c.other-item.result
     c.loop-other-test.true
     (ap disjoint (sym c.other-item.is) ∙ sym c.are_disjoint.ensures.value
@@ -36,6 +37,7 @@ loop-other-preserved g c = grind (arith, common_steps)
 
 pub returns-clause-value : goal.returns-clause-value
 returns-clause-value g c =
-    sym (ap (is_disjoint_from (context_at c.args.database.now.statements c.args.theorem) c.args.symbol)
+    sym (ap (is_disjoint_from (context_at c.args.database.now.statements c.args.theorem)
+    c.args.symbol)
     (sym (take_all c.loop-other.other-index c.args.others.now c.loop-other-test.false))
     ∙ c.loop-other.invariant.so_far)

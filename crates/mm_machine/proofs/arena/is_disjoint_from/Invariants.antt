@@ -6,7 +6,8 @@ use Rattle.mm_machine.proofs.arena.is_disjoint_from.Given as goal
 
 abbrev pub invariant-loop-other : goal.invariant-loop-other
 invariant-loop-other g l = record {
-  so_far : is_disjoint_from (context_at l.database.statements l.theorem) l.symbol (take l.other-index l.others)
+  so_far : is_disjoint_from (context_at l.database.statements l.theorem) l.symbol
+      (take l.other-index l.others)
       ≡ true;
   cache : AreDisjointAt l.database.statements l.theorem l.cache;
 }

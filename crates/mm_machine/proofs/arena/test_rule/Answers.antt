@@ -41,7 +41,8 @@ returns-clause-judged g c =
     let n = length c.hypotheses-hypotheses.result.now in
     let l = c.if-stack-hypotheses.false in (
       (let n = ap length c.hypotheses-hypotheses.ensures in omega (arith, l, n)),
-      judged_at c.args.database.now.statements c.args.theorem c.args.rule.now c.args.symbols.now stack
+      judged_at c.args.database.now.statements c.args.theorem c.args.rule.now c.args.symbols.now
+          stack
           (slice_range stack (length stack - n) (length stack)) n (length stack - n) c.requires.rule
           (ap length c.hypotheses-hypotheses.ensures) (omega (arith, l)) refl
           (take_rest stack (length stack - n)) c.requires.stack.inside c.pairs-pairs.result.now

@@ -5,4 +5,5 @@ use Rattle.mm_rules.proofs.compile.compile_formula.Given as goal
 abbrev pub invariant-loop-symbol : goal.invariant-loop-symbol
 invariant-loop-symbol g l =
     l.parts.items
-    ≡ l.initial.parts.items ++ numbered_parts l.database.statements l.numbers (take l.symbol-index l.formula)
+    ≡ l.initial.parts.items ++ numbered_parts l.database.statements l.numbers (take l.symbol-index
+    l.formula)

@@ -3,4 +3,5 @@ use Rattle.mm_rules.specs.Rules.{numbered_pairs}
 use Rattle.mm_rules.proofs.compile.compile_pairs.Given as goal
 
 abbrev pub invariant-loop-pair : goal.invariant-loop-pair
-invariant-loop-pair g l = l.pairs.items ≡ numbered_pairs l.numbers (take l.pair-index l.symbol_pairs)
+invariant-loop-pair g l = l.pairs.items ≡ numbered_pairs l.numbers (take l.pair-index
+    l.symbol_pairs)

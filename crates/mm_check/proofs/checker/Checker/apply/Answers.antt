@@ -20,7 +20,7 @@ returns-in_err-apply-clause-at g c =
     subst (λ (s : CheckerState). IsAt c.args.database.now.statements c.args.theorem s)
     (sym c.self.view_is) c.requires.at in
     record {
-      made_for = rw c.apply.ensures.step.width at.made_for;
+      made_for = rw c.apply.ensures.step.symbol_count at.made_for;
       theorem = at.theorem;
       disjoint_are = c.apply.ensures.cache;
     }
@@ -33,7 +33,8 @@ returns-in_err-apply-clause-stopped g c =
     let e = c.in_err-apply.field-0.0 in
     let p = err_from_is_err_and c.from_residual.result c.from_residual.ensures.1 in
     rw (p.1, p.2, ← c.self.view_is)
-    (stops db t (checker_state i.machine i.rules.now i.noted i.cache) c.args.assertion c.requires.good
+    (stops db t (checker_state i.machine i.rules.now i.noted i.cache) c.args.assertion
+    c.requires.good
     c.requires.assertion e
     (subst (λ a. Stops e (applied db t a i.machine.stack)) c.rule_of-rule.ensures.is
     c.in_err-apply.ensures.step.stopped))
@@ -44,7 +45,7 @@ returns-clause-at g c =
     subst (λ (s : CheckerState). IsAt c.args.database.now.statements c.args.theorem s)
     (sym c.self.view_is) c.requires.at in
     record {
-      made_for = rw c.apply.ensures.step.width at.made_for;
+      made_for = rw c.apply.ensures.step.symbol_count at.made_for;
       theorem = at.theorem;
       disjoint_are = c.apply.ensures.cache;
     }

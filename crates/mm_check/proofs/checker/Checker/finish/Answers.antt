@@ -4,7 +4,8 @@ use Rattle.mm_check.proofs.checker.Checker.finish.Goals as goal
 
 pub returns-in-Err-clause-refused : goal.returns-in-Err-clause-refused
 returns-in-Err-clause-refused g c =
-    ends_here c.args.database.now.statements c.args.theorem c.args.steps.now.steps _ _ c.self.view_is
+    ends_here c.args.database.now.statements c.args.theorem c.args.steps.now.steps _ _
+    c.self.view_is
     c.requires c.end_at.result c.in-Err.code c.end_at.ensures c.in-Err.ensures.other
 
 pub keep_cited-requires-clause-valid : goal.keep_cited-requires-clause-valid
@@ -14,14 +15,16 @@ keep_cited-requires-clause-valid g c =
 
 pub keep_cited-requires-clause-noted : goal.keep_cited-requires-clause-noted
 keep_cited-requires-clause-noted g c =
-    cites_are c.args.database.now.statements c.args.theorem c.args.steps.now.steps _ _ c.self.view_is
+    cites_are c.args.database.now.statements c.args.theorem c.args.steps.now.steps _ _
+    c.self.view_is
     c.requires c.in_default.ensures.one
 
 pub returns-clause-valid : goal.returns-clause-valid
 returns-clause-valid g c =
     let ok = c.in_ok-cites.ensures in (
       refl,
-      is_checked c.args.database.now.statements c.args.theorem c.args.steps.now.steps _ _ c.self.view_is
+      is_checked c.args.database.now.statements c.args.theorem c.args.steps.now.steps _ _
+          c.self.view_is
           c.requires c.in_default.ensures.one c.args.essential _ _ c.in_ok-keep_cited.ensures
           ok.rising
           ok.same,

@@ -6,7 +6,8 @@ use Rattle.mm_check.proofs.checker.Checker.take.Goals as goal
 
 pub perform-requires-clause-ready : goal.perform-requires-clause-ready
 perform-requires-clause-ready g c =
-    ready c.args.database.now.statements c.args.theorem c.args.steps.now.steps c.args.i c.args.self.now
+    ready c.args.database.now.statements c.args.theorem c.args.steps.now.steps c.args.i
+    c.args.self.now
     c.requires.performed c.requires.step (as_step c.step.result) c.step.ensures
 
 pub returns-in-Err-clause-fault : goal.returns-in-Err-clause-fault
@@ -27,7 +28,7 @@ returns-in_ok-mark-clause-performed g c =
     (subst (λ (s : CheckerState). Performs db t a c.args.self.now s) (sym c.self.view_is)
     c.in_default.ensures.performs)
     (subst (λ (s : CheckerState). IsAt db t s) (sym c.self.view_is) c.perform.ensures.at)
-    c.in_ok-mark.ensures.ok c.mark.ensures.width
+    c.in_ok-mark.ensures.ok c.mark.ensures.symbol_count
 
 pub returns-else-is_marked-clause-performed : goal.returns-else-is_marked-clause-performed
 returns-else-is_marked-clause-performed g c =

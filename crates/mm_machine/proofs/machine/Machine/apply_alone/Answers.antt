@@ -17,7 +17,7 @@ returns-then-symbols-gt-FORMULA_LIMIT g c =
         stopped =
             alone_long db c.args._theorem c.args.rule.now c.requires.rule c.requires.alone
             c.args.self.now.stack (omega (arith, n, c.if-symbols-gt-FORMULA_LIMIT.true));
-        width = refl;
+        symbol_count = refl;
       };
     }
 
@@ -29,7 +29,8 @@ returns-in-Ok g c =
     let symbols = c.formula-symbols.result.now in
     let is = c.formula-symbols.ensures.are ∙ ap (formula_at db) c.assertion.ensures in
     let n = ap length is in
-    let after = machine_state (es ++ symbols ∷ []) before.marks before.formulas before.width in
+    let after = machine_state (es ++ symbols ∷ []) before.marks before.formulas before.symbol_count
+    in
     record {
       step = record {
         applies =
@@ -45,6 +46,6 @@ returns-in-Ok g c =
               formulas = refl;
             });
         stopped = tt;
-        width = c.in-Ok.ensures.width;
+        symbol_count = c.in-Ok.ensures.symbol_count;
       };
     }

@@ -17,7 +17,8 @@ compile_hypotheses-requires-clause-bound g c =
     (map (formula_at db) h)) (sym c.hyps-hyps.ensures.are) c.requires.complete.hypotheses)
 
 pub formula-requires : goal.formula-requires
-formula-requires g c = is_there is_assertion c.args.database.now.statements c.args.assertion c.requires.assertion
+formula-requires g c = is_there is_assertion c.args.database.now.statements c.args.assertion
+    c.requires.assertion
 
 pub returns-clause-made : goal.returns-clause-made
 returns-clause-made g c =
@@ -33,7 +34,8 @@ returns-clause-made g c =
     let bound =
     covered db hs f
     (subst (λ h. AreBound (context_at db 0) (map (formula_at db) h) f) (sym c.hyps-hyps.ensures.are)
-    (subst (AreBound (context_at db 0) (map (formula_at db) (mandatory_hypotheses db c.args.assertion)))
+    (subst (AreBound (context_at db 0) (map (formula_at db)
+    (mandatory_hypotheses db c.args.assertion)))
     (sym c.formula.ensures.formula) c.requires.complete.formula)) in
     let last = c.deref-3.result.now in
     let same =
@@ -42,7 +44,8 @@ returns-clause-made g c =
     c.self.inside.numbers.items c.self.inside.numbers.len last
     c.deref-3.ensures.value (omega arith) c.number_variables.ensures) f bound in
     on_ok_weaker c.compile_formula.result
-    (λ made. made_rule db c.args.assertion c.requires.assertion c.requires.complete hyps c.pairs.result.now
+    (λ made. made_rule db c.args.assertion c.requires.assertion c.requires.complete hyps
+    c.pairs.result.now
     f numbers c.compile_hypotheses.new.hypotheses.items c.compile_pairs.new.pairs.items
     c.compile_hypotheses.new.parts.items c.compile_formula.new.parts.items
     c.hyps-hyps.ensures.are c.pairs.ensures.are c.formula.ensures.formula

@@ -5,6 +5,6 @@ use Rattle.mm_rules.proofs.rules.Rules.new.Given as goal
 
 abbrev pub invariant-loop-statement : goal.invariant-loop-statement
 invariant-loop-statement g l = record {
-  width : l.compiler.width ≡ length (symbol_names l.database.statements);
+  symbol_count : l.compiler.symbol_count ≡ length (symbol_names l.database.statements);
   rules : AreRules l.database.statements l.rules;
 }

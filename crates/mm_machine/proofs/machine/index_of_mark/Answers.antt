@@ -1,12 +1,12 @@
 use Rattle.mm_machine.proofs.MarksLaw.{not_absent}
-use Rattle.mm_machine.proofs.machine.find.Goals as goal
+use Rattle.mm_machine.proofs.machine.index_of_mark.Goals as goal
 
 pub returns-in-Err-clause-below : goal.returns-in-Err-clause-below
 returns-in-Err-clause-below c =
-    absurd (not_absent c.args.numbers.now c.args.number c.in-Err.n c.in-Err.ensures.position
+    absurd (not_absent c.args.numbers.now c.args.number c.in-Err.gap c.in-Err.ensures.position
     c.requires.rising c.requires.present)
 
 pub returns-in-Err-clause-is : goal.returns-in-Err-clause-is
 returns-in-Err-clause-is c =
-    absurd (not_absent c.args.numbers.now c.args.number c.in-Err.n c.in-Err.ensures.position
+    absurd (not_absent c.args.numbers.now c.args.number c.in-Err.gap c.in-Err.ensures.position
     c.requires.rising c.requires.present)

@@ -1,9 +1,9 @@
 use Rattle.std.proofs.Common.{arith}
 use Rattle.std.proofs.lemmas.Grind.{common_steps}
-use Rattle.mm_machine.proofs.machine.first_own.Goals as goal
+use Rattle.mm_machine.proofs.machine.first_unmarked.Goals as goal
 
-pub returns-in-Own : goal.returns-in-Own
-returns-in-Own c = grind (arith, common_steps)
+pub returns-in-Unmarked : goal.returns-in-Unmarked
+returns-in-Unmarked c = grind (arith, common_steps)
 
 pub loop-entry-preserved : goal.loop-entry-preserved
 loop-entry-preserved c = grind (arith, common_steps)

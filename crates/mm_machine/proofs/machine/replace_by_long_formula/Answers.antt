@@ -4,66 +4,69 @@ use Rattle.mm_machine.proofs.GrowLaw.{stretch_in}
 use Rattle.mm_machine.specs.Arena.{arena}
 use Rattle.mm_machine.specs.Replaced.{replaced}
 use Rattle.mm_machine.proofs.PlacedLaw.{placed, made_known, too_long_here, same_formula, same_count}
-use Rattle.mm_machine.proofs.machine.put_long.Given.{Over}
-use Rattle.mm_machine.proofs.machine.put_long.Goals.{After-put}
-use Rattle.mm_machine.proofs.machine.put_long.Goals as goal
+use Rattle.mm_machine.proofs.machine.replace_by_long_formula.Given.{Over}
+use Rattle.mm_machine.proofs.machine.replace_by_long_formula.Goals.{After-replace_from}
+use Rattle.mm_machine.proofs.machine.replace_by_long_formula.Goals as goal
 
 -- the formula that was made
-made_here : (g : Over) (c : After-put g)
+made_here : (g : Over) (c : After-replace_from g)
     → c.deref-in-Ok-true.result.now
-    ≡ replaced (arena c.args.own.now c.args.kept.now) (drop c.args.below c.args.stack.now.items)
+    ≡ replaced (arena c.args.unmarked.now c.args.marked.now)
+    (drop c.args.below c.args.stack.now.items)
     c.args.formula.now
 made_here g c =
     c.deref-in-Ok-true.ensures.value ∙ c.in-Ok-true.ensures.made c.in-Ok-true.field-0-test
-    ∙ same_formula c.args.own.now c.args.kept.now c.args.stack.now.items c.args.below
+    ∙ same_formula c.args.unmarked.now c.args.marked.now c.args.stack.now.items c.args.below
     c.args.formula.now c.as_slice.result.now c.deref.result.now c.as_slice.ensures
     c.deref.ensures.value
 
-pub returns-in-Err-put-clause-stack : goal.returns-in-Err-put-clause-stack
-returns-in-Err-put-clause-stack g c = λ w known is.
-    c.put.ensures.stack w c.args.kept.now
-    (made_known c.args.own.now c.args.kept.now c.args.stack.now.items c.args.below
+pub returns-in-Err-replace_from-clause-stack : goal.returns-in-Err-replace_from-clause-stack
+returns-in-Err-replace_from-clause-stack g c = λ w known is.
+    c.replace_from.ensures.stack w c.args.marked.now
+    (made_known c.args.unmarked.now c.args.marked.now c.args.stack.now.items c.args.below
     c.args.formula.now c.deref-in-Ok-true.result.now
-    (made_here g (goal.at.returns-in-Err-put-clause-stack g c).After-put) w is known) is
+    (made_here g (goal.at.returns-in-Err-replace_from-clause-stack g c).After-replace_from) w is
+    known) is
 
 pub returns-in-Ok-clause-stack : goal.returns-in-Ok-clause-stack
 returns-in-Ok-clause-stack g c = λ w known is.
-    c.put.ensures.stack w c.args.kept.now
-    (made_known c.args.own.now c.args.kept.now c.args.stack.now.items c.args.below
+    c.replace_from.ensures.stack w c.args.marked.now
+    (made_known c.args.unmarked.now c.args.marked.now c.args.stack.now.items c.args.below
     c.args.formula.now c.deref-in-Ok-true.result.now
-    (made_here g (goal.at.returns-in-Ok-clause-stack g c).After-put) w is known) is
+    (made_here g (goal.at.returns-in-Ok-clause-stack g c).After-replace_from) w is known) is
 
 pub returns-in-Ok-clause-made : goal.returns-in-Ok-clause-made
 returns-in-Ok-clause-made g c =
     let first =
     c.deref-in-Ok-true.ensures.value ∙ c.in-Ok-true.ensures.made c.in-Ok-true.field-0-test in
-    placed c.args.own.now c.args.kept.now c.args.stack.now.items c.args.below c.args.formula.now
+    placed c.args.unmarked.now c.args.marked.now c.args.stack.now.items c.args.below
+    c.args.formula.now
     c.deref-in-Ok-true.result.now
-    (made_here g (goal.at.returns-in-Ok-clause-made g c).After-put)
+    (made_here g (goal.at.returns-in-Ok-clause-made g c).After-replace_from)
     (ap (λ z. nat_le (length z) formula_limit) first ∙ sym c.in-Ok-true.ensures.short
     ∙ c.in-Ok-true.field-0-test)
-    ∙ ap Ok (sym (c.in-Ok.ensures.formulas c.args.kept.now c.requires.stack))
+    ∙ ap Ok (sym (c.in-Ok.ensures.formulas c.args.marked.now c.requires.stack))
 
 pub returns-in-Ok-false-clause-stopped : goal.returns-in-Ok-false-clause-stopped
 returns-in-Ok-false-clause-stopped g c =
     let same =
-    same_formula c.args.own.now c.args.kept.now c.args.stack.now.items c.args.below
+    same_formula c.args.unmarked.now c.args.marked.now c.args.stack.now.items c.args.below
     c.args.formula.now c.as_slice.result.now c.deref.result.now c.as_slice.ensures
     c.deref.ensures.value in
-    too_long_here c.args.own.now c.args.kept.now c.args.stack.now.items c.args.below
+    too_long_here c.args.unmarked.now c.args.marked.now c.args.stack.now.items c.args.below
     c.args.formula.now
     (ap (λ z. nat_le (length z) formula_limit) (sym same) ∙ sym c.in-Ok-false.ensures.short
     ∙ c.in-Ok-false.field-0-test)
 
 pub build-requires-clause-premises : goal.build-requires-clause-premises
 build-requires-clause-premises g c =
-    stretch_in (arena c.as_slice.result.now c.args.kept.now) c.deref.result.now
+    stretch_in (arena c.as_slice.result.now c.args.marked.now) c.deref.result.now
     c.args.below (length c.deref.result.now)
     (rw (c.as_slice.ensures, c.deref.ensures.value) c.requires.stack.inside)
 
 pub build-requires-clause-formula : goal.build-requires-clause-formula
 build-requires-clause-formula g c =
-    same_count c.args.own.now c.args.kept.now c.args.stack.now.items c.args.below
+    same_count c.args.unmarked.now c.args.marked.now c.args.stack.now.items c.args.below
     c.args.formula.now c.deref.result.now c.deref.ensures.value c.requires.formula
 
 pub returns-in-Err-clause-stack : goal.returns-in-Err-clause-stack
