@@ -23,7 +23,7 @@ use Rattle.mm_machine.specs.DisjointCache.{AreDisjointAt}
 use Rattle.mm_machine.specs.State.{MachineState, machine_state}
 use Rattle.mm_check.specs.Contract.{IsChecked}
 use Rattle.mm_check.specs.Reached.{Reached, AreStepsOf, steps_of}
-use Rattle.mm_check.specs.Checker.{CheckerState, checker_state, AreOf, HasPerformed}
+use Rattle.mm_check.specs.Checker.{CheckerState, checker_state, AreOfDatabase, HasPerformed}
 use Rattle.mm_check.proofs.CitesLaw.{all_cited}
 use Rattle.mm_check.proofs.RanLaw.{none_ran}
 use Rattle.mm_check.proofs.ReachLaw.{derives, ends_with, end_is}
@@ -32,7 +32,7 @@ module _ (db : List Statement) (t : ℕ) (steps : List PlacedStep) where
   -- no step is performed yet
   pub begins : (m : MachineState) (rules : RuleLists) (noted : List ℕ) (cache : List (ℕ × ℕ))
       → (symbol_count : ℕ)
-      → AreOf db symbol_count rules → AreStepsOf db t steps → m
+      → AreOfDatabase db symbol_count rules → AreStepsOf db t steps → m
       ≡ machine_state [] [] [] symbol_count → noted ≡ []
       → AreDisjointAt db t cache → HasPerformed db t steps 0 (checker_state m rules noted cache)
   begins m rules noted cache symbol_count made are fresh none p = record {

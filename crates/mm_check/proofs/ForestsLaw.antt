@@ -61,8 +61,7 @@ forest_next (r ∷ forests) rest next = forest_next forests rest next
 
 module _ (c : Context) where
   -- Step n makes a tree of the last ones of the forest before it, or adds a copy of the tree that
-  -- an
-  -- earlier step ended.
+  -- an earlier step ended.
   abbrev pub IsMove : List Trees → ℕ → Step → Type 0
   IsMove forests n (label l) =
       (ts : Trees) × (f : Formula) × (cs : Trees) × (forest_at forests (suc n) ≡ more ts l f cs)

@@ -18,9 +18,9 @@ use Rattle.mm_machine.specs.State.{MachineState, machine_state, with_mark, reaso
 use Rattle.mm_machine.specs.declared.machine.StepRefused.{StepRefused}
 use Rattle.mm_machine.specs.declared.machine.StepRefused.TheVariants.{Fault, Memory}
 use Rattle.mm_check.specs.Contract.{IsReady, StepRefuses, refusal_at}
-use Rattle.mm_check.specs.Checker.{CheckerState, checker_state, IsAt, HasPerformed, Performs}
+use Rattle.mm_check.specs.Checker.{CheckerState, checker_state, IsAtTheorem, HasPerformed, Performs}
 use Rattle.mm_check.specs.Checker.{IsStopped}
-use Rattle.mm_check.specs.Reached.{Reached, Ran, AreEndFormulas, steps_of}
+use Rattle.mm_check.specs.Reached.{Reached, HasRun, AreEndFormulas, steps_of}
 use Rattle.mm_check.proofs.ReachLaw.{starts, next, take_step, good_here, fails}
 
 get_front : (ends more : List Formula) (j : ℕ) (f : Formula) → slice_get ends j ≡ Some f
@@ -99,9 +99,9 @@ module _ (db : List Statement) (t : ℕ) (steps : List PlacedStep) (i : ℕ) (c 
 
   -- what is kept after the step
   next_ran : (d : CheckerState) (m : MachineState) (b : Bool) → is_marked steps i ≡ b
-      → Performs db t a c d → m ≡ with_mark b i d.machine → Ran db t steps (i + 1) m d.noted
+      → Performs db t a c d → m ≡ with_mark b i d.machine → HasRun db t steps (i + 1) m d.noted
   next_ran d m b is_b made kept =
-      subst (λ o. Ran db t steps (i + 1) o d.noted) (sym kept) (by_mark b is_b)
+      subst (λ o. HasRun db t steps (i + 1) o d.noted) (sym kept) (by_mark b is_b)
     where
       ends : List Formula
       ends = p.ran.ends ++ top d.machine.stack ∷ []
@@ -142,7 +142,7 @@ module _ (db : List Statement) (t : ℕ) (steps : List PlacedStep) (i : ℕ) (c 
       earlier j l m = subst (λ z. Contains z j) (sym made.marks) (p.ran.present j l m)
 
       by_mark : (b : Bool) → is_marked steps i ≡ b
-          → Ran db t steps (i + 1) (with_mark b i d.machine) d.noted
+          → HasRun db t steps (i + 1) (with_mark b i d.machine) d.noted
       by_mark false e = record {
         ends = ends;
         count = count;
@@ -176,7 +176,7 @@ module _ (db : List Statement) (t : ℕ) (steps : List PlacedStep) (i : ℕ) (c 
               subst (Contains (d.machine.marks ++ i ∷ [])) q (Contains-push d.machine.marks i)
 
   pub performs_next : (d : CheckerState) (m : MachineState) (b : Bool) → is_marked steps i ≡ b
-      → Performs db t a c d → IsAt db t d → m ≡ with_mark b i d.machine → m.symbol_count
+      → Performs db t a c d → IsAtTheorem db t d → m ≡ with_mark b i d.machine → m.symbol_count
       ≡ d.machine.symbol_count
       → HasPerformed db t steps (i + 1) (checker_state m d.rules d.noted d.cache)
   performs_next d m b is_b made at kept symbol_count = record {
@@ -189,7 +189,7 @@ module _ (db : List Statement) (t : ℕ) (steps : List PlacedStep) (i : ℕ) (c 
 pub none_ran : (db : List Statement) (t : ℕ) (steps : List PlacedStep) (s : MachineState)
     → (noted : List ℕ)
     → (w : ℕ)
-    → s ≡ machine_state [] [] [] w → noted ≡ [] → Ran db t steps 0 s noted
+    → s ≡ machine_state [] [] [] w → noted ≡ [] → HasRun db t steps 0 s noted
 none_ran db t steps s noted w e n = rw e (record {
   ends = [];
   count = refl;

@@ -76,14 +76,14 @@ module _ (c : Context) where
       (subst (λ z. is_member z a ≡ true) h.3.2 (last_member h.3.0 h.1 a h.3.3 m)))
 
 -- one step more
-pub next : (db : List Statement) (t : ℕ) (done : List Step) (stack ends : List Formula)
+pub next : (db : List Statement) (t : ℕ) (steps_so_far : List Step) (stack ends : List Formula)
     → (noted : List ℕ) (s : Step) (out : List Formula) (then : List ℕ)
-    → Reached db t done stack ends noted → IsGoodStep (context_at db t) (length ends) s
+    → Reached db t steps_so_far stack ends noted → IsGoodStep (context_at db t) (length ends) s
     → step_entries (context_at db t) s ends stack ≡ Ok out
     → ((a : ℕ)
     → is_member then a ≡ (is_member noted a || (is_labelled_step s a && is_assertion_at db a)))
-    → Reached db t (done ++ s ∷ []) out (ends ++ top out ∷ []) then
-next db t done stack ends noted s out then r good made notes =
+    → Reached db t (steps_so_far ++ s ∷ []) out (ends ++ top out ∷ []) then
+next db t steps_so_far stack ends noted s out then r good made notes =
     let c = context_at db t in
     let same : step_entries c s ends (formulas r.forest) ≡ Ok out =
     ap (step_entries c s ends) r.entries_are ∙ made in
@@ -98,7 +98,8 @@ next db t done stack ends noted s out then r good made notes =
       lists = r.lists ++ postfix g.0 ∷ [];
       after = after_more c r.lists ends (postfix g.0) (top out) r.after (g.0, g.1, refl, g.4);
       plain =
-          λ rest all h. subst (λ z. Plain c [] [] z all) (sym (append_assoc done (s ∷ []) rest))
+          λ rest all h. subst (λ z. Plain c [] [] z all)
+          (sym (append_assoc steps_so_far (s ∷ []) rest))
           (r.plain (s ∷ rest) all (postfix g.0, g.2, h));
       within =
           within_more r.lists (postfix r.forest) (postfix g.0) r.within

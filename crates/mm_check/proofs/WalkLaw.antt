@@ -22,27 +22,29 @@ use Rattle.mm_spec.proofs.CitedLaw.{proof_unique}
 use Rattle.mm_steps.specs.Read.{step_at, IsEarlier}
 use Rattle.mm_rule.specs.Assertions.{is_assertion_at}
 use Rattle.mm_check.specs.Contract.{is_labelled_step}
-use Rattle.mm_check.specs.Flags.{child_flags, taken_flags, wanted_flags}
+use Rattle.mm_check.specs.Flags.{child_flags, taken_flags, step_flags_after}
 use Rattle.mm_check.specs.Reached.{steps_of}
 use Rattle.mm_check.proofs.CompilerStateLaw.{assertion_rule, hypothesis_rule}
 use Rattle.mm_check.proofs.ReachLaw.{good_here}
 use Rattle.mm_check.proofs.ForestsLaw.{forest_at, IsMove, AreMoves, move_at, proof_rows}
-use Rattle.mm_check.proofs.BackLaw.{flag_at, size_join, wanted_count, Left, label_back, marked_back}
+use Rattle.mm_check.proofs.BackLaw.{flag_at, size_join, step_flags_count, IsToBeFound, label_back}
+use Rattle.mm_check.proofs.BackLaw.{marked_back}
 
 -- The nodes of the proof are noted or still to be found, when so many first steps are left.
 pub record Walked (db : List Statement) (t : ℕ) (steps : List PlacedStep) (i : ℕ)
-    (waiting wanted : List Bool) (noted : List ℕ) : Type 0 where
+    (entry_flags step_flags : List Bool) (noted : List ℕ) : Type 0 where
   pub derivation : Trees
   pub proof : IsProof db t derivation
   pub forests : List Trees
   pub moves : AreMoves (context_at db t) forests 0 (steps_of steps)
-  pub many : length wanted ≡ length steps
-  pub fits : length waiting ≡ size (forest_at forests i)
+  pub many : length step_flags ≡ length steps
+  pub fits : length entry_flags ≡ size (forest_at forests i)
   pub asserted : (a : ℕ) → is_member noted a ≡ true → is_assertion_at db a ≡ true
   pub exact : (a : ℕ) → is_assertion_at db a ≡ true
       → HasNode (child_counts db true) each_place derivation a
-      ↔ ((is_member noted a ≡ true) ⊎ Left (child_counts db true) (forest_at forests) i waiting
-      wanted a)
+      ↔ ((is_member noted a ≡ true) ⊎ IsToBeFound (child_counts db true) (forest_at forests) i
+      entry_flags
+      step_flags a)
 
 -- ---- the premises of a label
 
@@ -111,19 +113,21 @@ module _ (db : List Statement) (t : ℕ) (b : Bool) (l : ℕ) (cs : Trees) (f : 
 
 -- ---- one step
 
-module _ (db : List Statement) (t : ℕ) (steps : List PlacedStep) (i : ℕ) (ws wanted : List Bool)
-    (noted : List ℕ) (flag b : Bool) (r : Walked db t steps (suc i) (ws ++ flag ∷ []) wanted noted)
-    (inside : i < length steps) (is : b ≡ (flag || flag_at wanted i)) where
+module _ (db : List Statement) (t : ℕ) (steps : List PlacedStep) (i : ℕ) (ws step_flags : List Bool)
+    (noted : List ℕ) (flag b : Bool) (r : Walked db t steps (suc i) (ws ++ flag ∷ []) step_flags
+    noted)
+    (inside : i < length steps) (is : b ≡ (flag || flag_at step_flags i)) where
   abbrev Before : Step → ℕ → Type 0
   Before s a =
-      Left (child_counts db true) (forest_at r.forests) i (ws ++ taken_flags db b s)
-      (wanted_flags b s wanted) a
+      IsToBeFound (child_counts db true) (forest_at r.forests) i (ws ++ taken_flags db b s)
+      (step_flags_after b s step_flags) a
 
   -- what the step does to the nodes that are still to be found
   record Undone (s : Step) : Type 0 where
     pub fits : length (ws ++ taken_flags db b s) ≡ size (forest_at r.forests i)
     pub nodes : (a : ℕ)
-        → Left (child_counts db true) (forest_at r.forests) (suc i) (ws ++ flag ∷ []) wanted a
+        → IsToBeFound (child_counts db true) (forest_at r.forests) (suc i) (ws ++ flag ∷ [])
+        step_flags a
         ↔ (((b ≡ true) × (is_labelled_step s a ≡ true)) ⊎ Before s a)
 
   undone : (s : Step) → IsMove (context_at db t) r.forests i s → IsGoodStep (context_at db t) i s
@@ -150,11 +154,12 @@ module _ (db : List Statement) (t : ℕ) (steps : List PlacedStep) (i : ℕ) (ws
       count = let e = r.fits in omega (arith, e, length-append ws (flag ∷ []), ap size here)
 
       both : (a : ℕ)
-          → Left (child_counts db true) (forest_at r.forests) (suc i) (ws ++ flag ∷ []) wanted a
+          → IsToBeFound (child_counts db true) (forest_at r.forests) (suc i) (ws ++ flag ∷ [])
+          step_flags a
           ↔ (((b ≡ true) × (a ≡ l)) ⊎ Before (label l) a)
       both a =
           label_back (child_counts db true)
-          (forest_at r.forests) i ws wanted flag b is a l ts f cs here before count
+          (forest_at r.forests) i ws step_flags flag b is a l ts f cs here before count
           (taken_flags db b (label l)) fl.from fl.to
 
       down : (a : ℕ) → ((b ≡ true) × (a ≡ l)) ⊎ Before (label l) a
@@ -175,11 +180,12 @@ module _ (db : List Statement) (t : ℕ) (steps : List PlacedStep) (i : ℕ) (ws
       count = let e = r.fits in omega (arith, e, length-append ws (flag ∷ []), ap size here)
 
       both : (a : ℕ)
-          → Left (child_counts db true) (forest_at r.forests) (suc i) (ws ++ flag ∷ []) wanted a
+          → IsToBeFound (child_counts db true) (forest_at r.forests) (suc i) (ws ++ flag ∷ [])
+          step_flags a
           ↔ Before (marked j) a
       both a =
           marked_back (child_counts db true)
-          (forest_at r.forests) i ws wanted flag b is a j l f cs earlier here copy count
+          (forest_at r.forests) i ws step_flags flag b is a j l f cs earlier here copy count
           (let e = r.many in omega (arith, e, inside))
 
       only : (a : ℕ) → ((b ≡ true) × (false ≡ true)) ⊎ Before (marked j) a → Before (marked j) a
@@ -191,13 +197,13 @@ module _ (db : List Statement) (t : ℕ) (steps : List PlacedStep) (i : ℕ) (ws
       → ((a : ℕ)
       → is_member out a
       ≡ (is_member noted a || (b && (is_labelled_step s a && is_assertion_at db a))))
-      → Walked db t steps i (ws ++ taken_flags db b s) (wanted_flags b s wanted) out
+      → Walked db t steps i (ws ++ taken_flags db b s) (step_flags_after b s step_flags) out
   walk_step s out good at notes = record {
     derivation = r.derivation;
     proof = r.proof;
     forests = r.forests;
     moves = r.moves;
-    many = wanted_count b s wanted ∙ r.many;
+    many = step_flags_count b s step_flags ∙ r.many;
     fits = u.fits;
     asserted =
         λ a m. known a
@@ -245,7 +251,8 @@ module _ (db : List Statement) (t : ℕ) (steps : List PlacedStep) (i : ℕ) (ws
 
       down : (a : ℕ) → is_assertion_at db a ≡ true
           → (is_member noted a ≡ true)
-          ⊎ Left (child_counts db true) (forest_at r.forests) (suc i) (ws ++ flag ∷ []) wanted a
+          ⊎ IsToBeFound (child_counts db true) (forest_at r.forests) (suc i) (ws ++ flag ∷ [])
+          step_flags a
           → (is_member out a ≡ true) ⊎ Before s a
       down a k (inl h) = inl (old_noted a h)
       down a k (inr h) = by_step ((u.nodes a).0 h)
@@ -257,7 +264,8 @@ module _ (db : List Statement) (t : ℕ) (steps : List PlacedStep) (i : ℕ) (ws
 
       up : (a : ℕ) → is_assertion_at db a ≡ true → (is_member out a ≡ true) ⊎ Before s a
           → (is_member noted a ≡ true)
-          ⊎ Left (child_counts db true) (forest_at r.forests) (suc i) (ws ++ flag ∷ []) wanted a
+          ⊎ IsToBeFound (child_counts db true) (forest_at r.forests) (suc i) (ws ++ flag ∷ [])
+          step_flags a
       up a k (inl h) =
           by_membership (or_cases (is_member noted a)
           (b && (is_labelled_step s a && is_assertion_at db a))
@@ -266,7 +274,8 @@ module _ (db : List Statement) (t : ℕ) (steps : List PlacedStep) (i : ℕ) (ws
           by_membership : (is_member noted a ≡ true)
               ⊎ ((b && (is_labelled_step s a && is_assertion_at db a)) ≡ true)
               → (is_member noted a ≡ true)
-              ⊎ Left (child_counts db true) (forest_at r.forests) (suc i) (ws ++ flag ∷ []) wanted a
+              ⊎ IsToBeFound (child_counts db true) (forest_at r.forests) (suc i) (ws ++ flag ∷ [])
+              step_flags a
           by_membership (inl h) = inl h
           by_membership (inr h) =
               let p = and_parts b (is_labelled_step s a && is_assertion_at db a) h in
@@ -283,9 +292,10 @@ some_row c forests i (marked j) (earlier, l, f, cs, here, copy) =
     let e = ap size here in omega (arith, e)
 
 module _ (db : List Statement) (t : ℕ) (steps : List PlacedStep) (n i : ℕ)
-    (waiting wanted : List Bool) (noted : List ℕ) (r : Walked db t steps n waiting wanted noted)
+    (entry_flags step_flags : List Bool) (noted : List ℕ)
+    (r : Walked db t steps n entry_flags step_flags noted)
     (inside : i < length steps) (next : n ≡ suc i) where
-  pub walk_some : 0 < length waiting
+  pub walk_some : 0 < length entry_flags
   walk_some =
       let m =
       move_at (context_at db t) r.forests 0 (steps_of steps) i
@@ -300,19 +310,19 @@ module _ (db : List Statement) (t : ℕ) (steps : List PlacedStep) (n i : ℕ)
   -- the same by the values that the code has
   pub walk_here : (ws : List Bool) (flag b : Bool) (s : Step) (flags wants : List Bool)
       → (out : List ℕ)
-      → waiting ≡ ws ++ flag ∷ [] → b ≡ (flag || flag_at wanted i)
+      → entry_flags ≡ ws ++ flag ∷ [] → b ≡ (flag || flag_at step_flags i)
       → AreGoodSteps (context_at db t) 0 (steps_of steps) → s ≡ (step_at steps i).step
-      → flags ≡ ws ++ taken_flags db b s → wants ≡ wanted_flags b s wanted
+      → flags ≡ ws ++ taken_flags db b s → wants ≡ step_flags_after b s step_flags
       → ((a : ℕ)
       → is_member out a
       ≡ (is_member noted a || (b && (is_labelled_step s a && is_assertion_at db a))))
       → Walked db t steps i flags wants out
   walk_here ws flag b s flags wants out popped is good at put want notes =
-      let r' : Walked db t steps (suc i) (ws ++ flag ∷ []) wanted noted =
-      subst (λ m. Walked db t steps m (ws ++ flag ∷ []) wanted noted) next
-      (subst (λ z. Walked db t steps n z wanted noted) popped r) in
+      let r' : Walked db t steps (suc i) (ws ++ flag ∷ []) step_flags noted =
+      subst (λ m. Walked db t steps m (ws ++ flag ∷ []) step_flags noted) next
+      (subst (λ z. Walked db t steps n z step_flags noted) popped r) in
       rw (put, want)
-      (walk_step db t steps i ws wanted noted flag b r' inside is s out good at notes)
+      (walk_step db t steps i ws step_flags noted flag b r' inside is s out good at notes)
 
 -- a good step takes up an earlier one
 pub earlier_of : (c : Context) (i n : ℕ) (s : Step) → i < n → IsGoodStep c i s → IsEarlier s n
@@ -322,11 +332,11 @@ earlier_of c i n (marked j) h good = omega (arith, h, good)
 -- ---- the first and the last
 
 module _ (db : List Statement) (t : ℕ) (steps : List PlacedStep) (complete : AreComplete db) where
-  pub walk_start : (waiting wanted : List Bool) (noted : List ℕ) → steps ≡ steps_at db t
-      → ((d : Trees) × IsProof db t d) → waiting ≡ true ∷ []
-      → wanted ≡ replicate (length steps) false → noted ≡ []
-      → Walked db t steps (length steps) waiting wanted noted
-  walk_start waiting wanted noted are (d, p) one all bare =
+  pub walk_start : (entry_flags step_flags : List Bool) (noted : List ℕ) → steps ≡ steps_at db t
+      → ((d : Trees) × IsProof db t d) → entry_flags ≡ true ∷ []
+      → step_flags ≡ replicate (length steps) false → noted ≡ []
+      → Walked db t steps (length steps) entry_flags step_flags noted
+  walk_start entry_flags step_flags noted are (d, p) one all bare =
       start (proof_rows (context_at db t) (complete t) (steps_of steps) (formula_at db t) d here)
     where
       here : Derives (context_at db t) (steps_of steps) (formula_at db t) d
@@ -334,7 +344,7 @@ module _ (db : List Statement) (t : ℕ) (steps : List PlacedStep) (complete : A
 
       start : ((forests : List Trees) × AreMoves (context_at db t) forests 0 (steps_of steps)
           × (forest_at forests (length (steps_of steps)) ≡ d))
-          → Walked db t steps (length steps) waiting wanted noted
+          → Walked db t steps (length steps) entry_flags step_flags noted
       start (forests, moves, last) = record {
         derivation = d;
         proof = p;
@@ -363,30 +373,30 @@ module _ (db : List Statement) (t : ℕ) (steps : List PlacedStep) (complete : A
           root p q a e (inr h) = inr (e, h.1)
 
           down : (a : ℕ) → HasNode counts each_place d a
-              → HasNode counts (flag_at waiting) (forest_at forests (length steps)) a
+              → HasNode counts (flag_at entry_flags) (forest_at forests (length steps)) a
           down a h =
-              subst (λ u. HasNode counts (flag_at waiting) u a) (sym (at_end ∙ here.2))
-              (root each_place (flag_at waiting) a (ap (λ ws. flag_at ws 0) one)
+              subst (λ u. HasNode counts (flag_at entry_flags) u a) (sym (at_end ∙ here.2))
+              (root each_place (flag_at entry_flags) a (ap (λ ws. flag_at ws 0) one)
               (subst (λ u. HasNode counts each_place u a) here.2 h))
 
           up : (a : ℕ)
               → (is_member noted a ≡ true)
-              ⊎ Left counts (forest_at forests) (length steps) waiting wanted a
+              ⊎ IsToBeFound counts (forest_at forests) (length steps) entry_flags step_flags a
               → HasNode counts each_place d a
           up a (inl h) = absurd (true≢false (sym h ∙ ap (λ l. is_member l a) bare))
           up a (inr (inl h)) =
               subst (λ u. HasNode counts each_place u a) (sym here.2)
-              (root (flag_at waiting) each_place a refl
-              (subst (λ u. HasNode counts (flag_at waiting) u a) (at_end ∙ here.2) h))
+              (root (flag_at entry_flags) each_place a refl
+              (subst (λ u. HasNode counts (flag_at entry_flags) u a) (at_end ∙ here.2) h))
           up a (inr (inr h)) =
               absurd (true≢false
               (sym h.2 ∙ ap (λ ws. flag_at ws h.0) all
               ∙ get_or-replicate (length steps) h.0 false false h.1))
 
-  pub walk_end : (waiting wanted : List Bool) (noted : List ℕ)
-      → Walked db t steps 0 waiting wanted noted → (a : ℕ)
+  pub walk_end : (entry_flags step_flags : List Bool) (noted : List ℕ)
+      → Walked db t steps 0 entry_flags step_flags noted → (a : ℕ)
       → Decides (is_member noted a) (Cites db true t a)
-  walk_end waiting wanted noted r a = (
+  walk_end entry_flags step_flags noted r a = (
     λ m. let k = r.asserted a m in (k, r.derivation, r.proof, (r.exact a k).1 (inl m)),
     λ c. by_membership ((r.exact a c.0).0
         (subst (λ d. HasNode (child_counts db true) each_place d a)
@@ -394,7 +404,7 @@ module _ (db : List Statement) (t : ℕ) (steps : List PlacedStep) (complete : A
   )
     where
       by_membership : (is_member noted a ≡ true)
-          ⊎ Left (child_counts db true) (forest_at r.forests) 0 waiting wanted a
+          ⊎ IsToBeFound (child_counts db true) (forest_at r.forests) 0 entry_flags step_flags a
           → is_member noted a ≡ true
       by_membership (inl h) = h
       by_membership (inr (inl h)) = absurd h

@@ -16,13 +16,13 @@ use std::marker::Model;
 /// The assertions that were noted as cited, by the numbers of their statements. It is kept from
 /// proof to proof so that its memory is reused.
 #[derive(Drop)]
-pub struct Noted<A: Allocator> {
+pub struct NotedAssertions<A: Allocator> {
     numbers: Vec<u32, A>,
-    /// Where a statement may be in `numbers`.
-    places: Vec<u32, A>,
+    /// For each statement the index at which it may be in `numbers`.
+    indices: Vec<u32, A>,
 }
 
-impl<A: Allocator> Model for Noted<A> {
+impl<A: Allocator> Model for NotedAssertions<A> {
     ghost use Rattle.std.specs.Prelude.{ℕ, List};
 
     ghost Value = { List ℕ };
@@ -30,16 +30,16 @@ impl<A: Allocator> Model for Noted<A> {
     ghost view = { λ n. n.numbers.items };
 }
 
-impl<A: Allocator> Noted<A> {
+impl<A: Allocator> NotedAssertions<A> {
     /// No assertions. `count` is the number of statements of the database.
     pub fn new(alloc: A, count: usize) -> Result<Self, AllocError>
     where
         A: Copy,
         ensures { IfOk result (λ n. n ≡ []) }
     {
-        Ok(Noted {
+        Ok(NotedAssertions {
             numbers: Vec::new(alloc),
-            places: vec![in alloc; 0; count]?,
+            indices: vec![in alloc; 0; count]?,
         })
     }
 
@@ -50,35 +50,34 @@ impl<A: Allocator> Noted<A> {
         empty(&mut self.numbers);
     }
 
-    /// Whether `statement` is in `numbers` at the index that `places` gives for it. If it isn't, it
-    /// may
-    /// still be in `numbers`.
+    /// Whether `statement` is in `numbers` at the index that `indices` gives for it. If it isn't,
+    /// it may still be in `numbers`.
     fn has(&self, statement: u32) -> bool
         ensures { result ≡ true → is_member self.now statement ≡ true }
     {
         let index = statement as usize;
-        if index >= self.places.len() {
+        if index >= self.indices.len() {
             return false;
         }
-        let place = self.places[index] as usize;
-        place < self.numbers.len() && self.numbers[place] == statement
+        let number_index = self.indices[index] as usize;
+        number_index < self.numbers.len() && self.numbers[number_index] == statement
     }
 
-    /// Notes a statement, unless it is in `numbers` where `places` says.
+    /// Adds a statement, unless it is in `numbers` at the index that `indices` gives for it.
     #[inline(always)]
-    pub fn note(&mut self, statement: u32) -> Result<(), AllocError>
+    pub fn add(&mut self, statement: u32) -> Result<(), AllocError>
         ensures { OnOk result
             ((a : ℕ) → is_member self.new a ≡ (is_member self.old a || (a == statement))) }
     {
         if !self.has(statement) {
-            put_number(&mut self.places, statement as usize, self.numbers.len());
+            put_number(&mut self.indices, statement as usize, self.numbers.len());
             self.numbers.push(statement)?;
         }
         Ok(())
     }
 
-    /// Notes the assertion that a step applies.
-    pub fn cite(&mut self, database: &Database<A>, step: Step) -> Result<(), AllocError>
+    /// Adds the assertion that a step applies, if it applies one.
+    pub fn add_applied(&mut self, database: &Database<A>, step: Step) -> Result<(), AllocError>
         requires known { labels (as_step step) (length database.now.statements) }
         ensures { OnOk result
             ((a : ℕ)
@@ -88,7 +87,7 @@ impl<A: Allocator> Noted<A> {
     {
         if let Step::Label(k) = step {
             if is_assertion(database, k) {
-                self.note(k)?;
+                self.add(k)?;
             }
         }
         Ok(())

@@ -4,11 +4,9 @@
 -- is none (`no_longer_with`, `LongestLaw.antt`); kinds by `kind_tells`, and theorems by
 -- `theorems_by_kind` (`KindsLaw.antt`). Lists that are kept one after the other are the lists that
 -- were joined (`more_joined`, `part_between`, `CutsLaw.antt`): labels and proofs
--- (`label_is_retained` and
--- `proof_is_retained`, `RetainedWordsLaw.antt`), and the labels of theorems (`spaced_slice`,
--- `SpacedLaw.antt`).
--- A frame is found by its place, which stays its own as frames are added (`frame_at_index` and
--- `frames_at_more`, `FrameIndicesLaw.antt`).
+-- (`label_is_retained` and `proof_is_retained`, `RetainedWordsLaw.antt`), and the labels of
+-- theorems (`spaced_slice`, `SpacedLaw.antt`). A frame is found by its place, which stays its own
+-- as frames are added (`frame_at_index` and `frames_at_more`, `FrameIndicesLaw.antt`).
 -- `are_together` finds a `$d` of two variables by `none_before_end` and `none_right`
 -- (`DisjointIndexLaw.antt`), among pairs that begin where `StartsLaw.antt` says, and `together_is`
 -- (`TogetherLaw.antt`) says what that answers; `near_is` (`NearLaw.antt`) says it of a `$d` found

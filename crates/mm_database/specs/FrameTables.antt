@@ -7,8 +7,8 @@ use Rattle.mm_database.specs.DisjointIndex.{IsDisjointIndex}
 use Rattle.mm_database.specs.declared.frames.FrameTables.{FrameTables}
 
 module _ {A : Type 0} where
-  -- The tables are those of the statements: the index has each variable with each `$d` that
-  -- has it, and what may be skipped by these blocks; the frames are those of the assertions.
+  -- The tables are those of the statements: the index has each variable with each `$d` that has it,
+  -- and what may be skipped by these blocks; the frames are those of the assertions.
   pub record AreFrameTables (db : List Statement) (blocks : BlockLists)
       (frame_tables : FrameTables A) : Type 0 where
     pub disjoint_index : IsDisjointIndex db blocks frame_tables.disjoint_index

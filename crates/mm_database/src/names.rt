@@ -86,8 +86,7 @@ impl<'a, A: Allocator> Model for NameTable<'a, A> {
 }
 
 /// Returns the index of the guess for a symbol. The factors only spread usual symbols, most of
-/// which
-/// have one or two bytes, over the guesses.
+/// which have one or two bytes, over the guesses.
 fn symbol_guess_index(word: &[u8]) -> usize {
     match (word.first(), word.last()) {
         (Some(first), Some(last)) => {

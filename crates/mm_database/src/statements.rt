@@ -64,8 +64,7 @@ impl<'a, A: Allocator> Model for Statements<'a, A> {
 
 impl<'a, A: Allocator> Statements<'a, A> {
     /// Returns the statements of these outlines, with what was found of them. `variable_flags` says
-    /// for
-    /// each symbol whether it is a variable.
+    /// for each symbol whether it is a variable.
     pub fn new(
         text: &'a [u8],
         outlines: Vec<Outline, A>,

@@ -75,8 +75,7 @@ fn add_variables<A: Allocator>(
 }
 
 /// Marks the mandatory variables of an assertion, and lists them in `variables`. Replaces what
-/// `variables`
-/// has.
+/// `variables` has.
 fn mandatory_variables<A: Allocator>(
     statements: &Statements<A>,
     essentials: &[u32],
@@ -156,8 +155,7 @@ fn sort_and_dedup_numbers<A: Allocator>(numbers: &mut Vec<u32, A>)
 }
 
 /// Lists the mandatory hypotheses of an assertion in `hyps` and its mandatory variables in
-/// `variables`,
-/// and marks these variables. Replaces what the two lists have.
+/// `variables`, and marks these variables. Replaces what the two lists have.
 pub(crate) fn hypotheses<A: Allocator>(
     sources: &Sources<A>,
     last_floats: &[u32],

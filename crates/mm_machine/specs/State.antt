@@ -68,9 +68,7 @@ pub record IsStack (unmarked marked : List ℕ) (es : List Span) : Type 0 where
   pub follow : Follow 0 es (length unmarked)
 
 -- the stack of a machine for `symbol_count` symbols: entries as above, over symbols that are each
--- less
--- than
--- that
+-- less than that
 pub record IsStackOf (symbol_count : ℕ) (unmarked marked : List ℕ) (es : List Span) : Type 0 where
   pub known : IsArena symbol_count (arena unmarked marked)
   pub is_stack : IsStack unmarked marked es

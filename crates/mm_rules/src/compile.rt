@@ -192,8 +192,7 @@ pub struct RuleCompiler<A: Allocator> {
     parts: Vec<RuleSymbol, A>,
     formula: Vec<RuleSymbol, A>,
     /// For each variable of the rule the index of its first `$f` among the mandatory hypotheses.
-    /// What
-    /// other symbols have here means nothing.
+    /// What other symbols have here means nothing.
     numbers: Vec<u32, A>,
 }
 

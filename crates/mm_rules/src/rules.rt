@@ -19,8 +19,7 @@ use std::alloc::{AllocError, Allocator};
 use std::marker::Model;
 
 /// The elements of rules are their hypotheses, pairs and symbols. As many of them as this may be
-/// held
-/// whatever the length of the text.
+/// held whatever the length of the text.
 const MIN_LIMIT: usize = 8_388_608;
 
 /// In a long text, one element may be held for so many bytes. Databases as they are written have
@@ -81,8 +80,7 @@ impl<A: Allocator> Model for Rules<A> {
 }
 
 /// How many elements may be held: once there are so many, no more rules are held. So frames that
-/// are
-/// much longer than the text aren't all held.
+/// are much longer than the text aren't all held.
 fn element_limit<A: Allocator>(database: &Database<A>) -> usize {
     MIN_LIMIT.max(database.text().len() / BYTES_FOR_ONE_ELEMENT)
 }

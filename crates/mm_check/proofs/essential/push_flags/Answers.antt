@@ -11,7 +11,7 @@ returns g c =
     let all : length hs ≤ c.loop-hypothesis.hypothesis-index = omega
     (arith, c.loop-hypothesis-test.false) in
     c.loop-hypothesis.invariant
-    ∙ ap (λ (ks : List ℕ). c.args.waiting.now.items
+    ∙ ap (λ (ks : List ℕ). c.args.entry_flags.now.items
     ++ map (λ h. c.args.is_essential
     && list_any is_essential (statement_at c.args.database.now.statements h)) ks)
     (take_all c.loop-hypothesis.hypothesis-index hs all

@@ -8,13 +8,13 @@ returns-in-Err-clause-refused g c =
     c.self.view_is
     c.requires c.end_at.result c.in-Err.code c.end_at.ensures c.in-Err.ensures.other
 
-pub keep_cited-requires-clause-valid : goal.keep_cited-requires-clause-valid
-keep_cited-requires-clause-valid g c =
+pub retain_cited-requires-clause-valid : goal.retain_cited-requires-clause-valid
+retain_cited-requires-clause-valid g c =
     proof_is c.args.database.now.statements c.args.theorem c.args.steps.now.steps _ _ c.self.view_is
     c.requires c.in_default.ensures.one
 
-pub keep_cited-requires-clause-noted : goal.keep_cited-requires-clause-noted
-keep_cited-requires-clause-noted g c =
+pub retain_cited-requires-clause-noted : goal.retain_cited-requires-clause-noted
+retain_cited-requires-clause-noted g c =
     cites_are c.args.database.now.statements c.args.theorem c.args.steps.now.steps _ _
     c.self.view_is
     c.requires c.in_default.ensures.one
@@ -25,7 +25,7 @@ returns-clause-valid g c =
       refl,
       is_checked c.args.database.now.statements c.args.theorem c.args.steps.now.steps _ _
           c.self.view_is
-          c.requires c.in_default.ensures.one c.args.essential _ _ c.in_ok-keep_cited.ensures
+          c.requires c.in_default.ensures.one c.args.essential _ _ c.in_ok-retain_cited.ensures
           ok.rising
           ok.same,
     )

@@ -4,7 +4,7 @@ use Rattle.std.proofs.lemmas.List.Filters.{dedup_is}
 use Rattle.std.proofs.lemmas.Map.Keys.{IsStrictlyIncreasing-dedup}
 use Rattle.mm_spec.specs.Derivation.{is_member}
 use Rattle.mm_spec.proofs.ListLaw.{sort_and_dedup_same}
-use Rattle.mm_check.proofs.noted.Noted.sorted.Goals as goal
+use Rattle.mm_check.proofs.noted.NotedAssertions.sorted.Goals as goal
 
 pub returns-clause-rising : goal.returns-clause-rising
 returns-clause-rising g c =

@@ -1,5 +1,5 @@
 use Rattle.std.proofs.lemmas.Result.{IfOk-from_err}
-use Rattle.mm_check.proofs.essential.undo.Goals as goal
+use Rattle.mm_check.proofs.essential.undo_step.Goals as goal
 
 pub returns-in_err-push_flags-in-Label-clause-noted :
     goal.returns-in_err-push_flags-in-Label-clause-noted
@@ -7,14 +7,14 @@ returns-in_err-push_flags-in-Label-clause-noted g c =
     IfOk-from_err c.from_residual-in_err-push_flags-in-Label.result _
     c.from_residual-in_err-push_flags-in-Label.ensures.0
 
-pub returns-in_err-push_flags-in-Label-clause-waiting :
-    goal.returns-in_err-push_flags-in-Label-clause-waiting
-returns-in_err-push_flags-in-Label-clause-waiting g c =
+pub returns-in_err-push_flags-in-Label-clause-entry_flags :
+    goal.returns-in_err-push_flags-in-Label-clause-entry_flags
+returns-in_err-push_flags-in-Label-clause-entry_flags g c =
     IfOk-from_err c.from_residual-in_err-push_flags-in-Label.result _
     c.from_residual-in_err-push_flags-in-Label.ensures.0
 
-pub returns-in_err-push_flags-in-Label-clause-wanted :
-    goal.returns-in_err-push_flags-in-Label-clause-wanted
-returns-in_err-push_flags-in-Label-clause-wanted g c =
+pub returns-in_err-push_flags-in-Label-clause-step_flags :
+    goal.returns-in_err-push_flags-in-Label-clause-step_flags
+returns-in_err-push_flags-in-Label-clause-step_flags g c =
     IfOk-from_err c.from_residual-in_err-push_flags-in-Label.result _
     c.from_residual-in_err-push_flags-in-Label.ensures.0

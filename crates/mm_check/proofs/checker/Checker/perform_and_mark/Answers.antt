@@ -1,8 +1,8 @@
 use Rattle.std.proofs.Common.{true, false, refl, sym, ◌∙◌, subst}
 use Rattle.mm_steps.specs.Read.{as_step}
-use Rattle.mm_check.specs.Checker.{CheckerState, IsAt, Performs}
+use Rattle.mm_check.specs.Checker.{CheckerState, IsAtTheorem, Performs}
 use Rattle.mm_check.proofs.RanLaw.{ready, stops_here, performs_next}
-use Rattle.mm_check.proofs.checker.Checker.take.Goals as goal
+use Rattle.mm_check.proofs.checker.Checker.perform_and_mark.Goals as goal
 
 pub perform-requires-clause-ready : goal.perform-requires-clause-ready
 perform-requires-clause-ready g c =
@@ -27,7 +27,7 @@ returns-in_ok-mark-clause-performed g c =
     (sym c.is_marked.ensures ∙ c.if-is_marked.true)
     (subst (λ (s : CheckerState). Performs db t a c.args.self.now s) (sym c.self.view_is)
     c.in_default.ensures.performs)
-    (subst (λ (s : CheckerState). IsAt db t s) (sym c.self.view_is) c.perform.ensures.at)
+    (subst (λ (s : CheckerState). IsAtTheorem db t s) (sym c.self.view_is) c.perform.ensures.at)
     c.in_ok-mark.ensures.ok c.mark.ensures.symbol_count
 
 pub returns-else-is_marked-clause-performed : goal.returns-else-is_marked-clause-performed
