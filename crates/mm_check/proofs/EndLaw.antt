@@ -35,9 +35,9 @@ module _ (db : List Statement) (t : ℕ) (steps : List PlacedStep) where
       → AreOfDatabase db symbol_count rules → AreStepsOf db t steps → m
       ≡ machine_state [] [] [] symbol_count → noted ≡ []
       → AreDisjointAt db t cache → HasPerformed db t steps 0 (checker_state m rules noted cache)
-  begins m rules noted cache symbol_count made are fresh none p = record {
+  begins m rules noted cache symbol_count of_database are fresh none p = record {
     at = record {
-      made_for = rw fresh made;
+      made_for = rw fresh of_database;
       theorem = by_statement (slice_get db t) refl are.theorem;
       disjoint_are = p;
     };

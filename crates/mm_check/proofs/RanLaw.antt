@@ -100,7 +100,7 @@ module _ (db : List Statement) (t : ℕ) (steps : List PlacedStep) (i : ℕ) (c 
   -- what is kept after the step
   next_ran : (d : CheckerState) (m : MachineState) (b : Bool) → is_marked steps i ≡ b
       → Performs db t a c d → m ≡ with_mark b i d.machine → HasRun db t steps (i + 1) m d.noted
-  next_ran d m b is_b made kept =
+  next_ran d m b is_b entries_are kept =
       subst (λ o. HasRun db t steps (i + 1) o d.noted) (sym kept) (by_mark b is_b)
     where
       ends : List Formula
@@ -119,17 +119,18 @@ module _ (db : List Statement) (t : ℕ) (steps : List PlacedStep) (i : ℕ) (c 
       reached =
           rw (take_step steps i inside, ← is)
           (next db t (steps_of (take i steps)) c.machine.stack p.ran.ends c.noted a d.machine.stack
-          d.noted p.ran.reached good_step (made.made p.ran.ends p.ran.agree) made.noted)
+          d.noted p.ran.reached good_step (entries_are.entries_are p.ran.ends p.ran.agree)
+          entries_are.noted)
 
       agree : AreEndFormulas ends d.machine.marks d.machine.formulas
       agree =
-          rw (made.marks, made.formulas)
+          rw (entries_are.marks, entries_are.formulas)
           (agree_more p.ran.ends (top d.machine.stack ∷ []) c.machine.marks c.machine.formulas
           p.ran.agree)
 
       before : All (λ j. j < i + 1) d.machine.marks
       before =
-          rw made.marks
+          rw entries_are.marks
           (All-weaker (λ j. j < i) (λ j. j < i + 1) (λ j h. omega (arith, h)) c.machine.marks
           p.ran.before)
 
@@ -139,7 +140,7 @@ module _ (db : List Statement) (t : ℕ) (steps : List PlacedStep) (i : ℕ) (c 
           (get_last p.ran.ends (top d.machine.stack))
 
       earlier : (j : ℕ) → j < i → is_marked steps j ≡ true → Contains d.machine.marks j
-      earlier j l m = subst (λ z. Contains z j) (sym made.marks) (p.ran.present j l m)
+      earlier j l m = subst (λ z. Contains z j) (sym entries_are.marks) (p.ran.present j l m)
 
       by_mark : (b : Bool) → is_marked steps i ≡ b
           → HasRun db t steps (i + 1) (with_mark b i d.machine) d.noted
@@ -179,10 +180,10 @@ module _ (db : List Statement) (t : ℕ) (steps : List PlacedStep) (i : ℕ) (c 
       → Performs db t a c d → IsAtTheorem db t d → m ≡ with_mark b i d.machine → m.symbol_count
       ≡ d.machine.symbol_count
       → HasPerformed db t steps (i + 1) (checker_state m d.rules d.noted d.cache)
-  performs_next d m b is_b made at kept symbol_count = record {
+  performs_next d m b is_b entries_are at kept symbol_count = record {
     at = rw symbol_count at;
     are_steps = p.are_steps;
-    ran = next_ran d m b is_b made kept;
+    ran = next_ran d m b is_b entries_are kept;
   }
 
 -- no step so far

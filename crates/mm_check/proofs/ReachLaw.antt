@@ -83,10 +83,10 @@ pub next : (db : List Statement) (t : ℕ) (steps_so_far : List Step) (stack end
     → ((a : ℕ)
     → is_member then a ≡ (is_member noted a || (is_labelled_step s a && is_assertion_at db a)))
     → Reached db t (steps_so_far ++ s ∷ []) out (ends ++ top out ∷ []) then
-next db t steps_so_far stack ends noted s out then r good made notes =
+next db t steps_so_far stack ends noted s out then r good entries_are notes =
     let c = context_at db t in
     let same : step_entries c s ends (formulas r.forest) ≡ Ok out =
-    ap (step_entries c s ends) r.entries_are ∙ made in
+    ap (step_entries c s ends) r.entries_are ∙ entries_are in
     let g =
     subst (Grown c r.lists r.forest s) same
     (grows c r.lists ends r.forest s r.derivations r.after good) in
@@ -118,11 +118,11 @@ pub fails : (db : List Statement) (t : ℕ) (steps : List PlacedStep) (i : ℕ)
     → IsGoodStep (context_at db t) (length ends) (step_at steps i).step
     → step_entries (context_at db t) (step_at steps i).step ends stack ≡ Err reason
     → StepFault (context_at db t) steps (fault (step_at steps i).at (code_of reason))
-fails db t steps i stack ends noted reason h r good made =
+fails db t steps i stack ends noted reason h r good entries_are =
     let c = context_at db t in
     let s = step_at steps i in
     let same : step_entries c s.step ends (formulas r.forest) ≡ Err reason =
-    ap (step_entries c s.step ends) r.entries_are ∙ made in
+    ap (step_entries c s.step ends) r.entries_are ∙ entries_are in
     let g =
     subst (Grown c r.lists r.forest s.step) same
     (grows c r.lists ends r.forest s.step r.derivations r.after good) in

@@ -29,17 +29,17 @@ module _ (db : List Statement) (t : ℕ) where
       ≡ machine_state (c.machine.stack ++ get_or c.machine.formulas n [] ∷ []) c.machine.marks
       c.machine.formulas c.machine.symbol_count
       → Performs db t (marked j) c (checker_state m c.rules c.noted c.cache)
-  repeats c j n m inside is made =
+  repeats c j n m inside is entries_are =
       let out : Option Formula → Result (List Formula) Reason =
       λ o. elim o [ None ↦ Ok c.machine.stack | Some f ↦ Ok (c.machine.stack ++ f ∷ []) ] in
       record {
-        made =
+        entries_are =
             λ ends agree. ap out (sym (ap (slice_get ends) is)
             ∙ agree_at ends c.machine.marks c.machine.formulas n agree inside)
-            ∙ ap Ok (sym (ap (λ s. s.stack) made));
-        marks = ap (λ s. s.marks) made;
-        formulas = ap (λ s. s.formulas) made;
-        entry = rw made (one_more c.machine.stack (get_or c.machine.formulas n []));
+            ∙ ap Ok (sym (ap (λ s. s.stack) entries_are));
+        marks = ap (λ s. s.marks) entries_are;
+        formulas = ap (λ s. s.formulas) entries_are;
+        entry = rw entries_are (one_more c.machine.stack (get_or c.machine.formulas n []));
         noted = λ x. sym (or-false (is_member c.noted x));
       }
 
@@ -50,11 +50,11 @@ module _ (db : List Statement) (t : ℕ) where
         → m.formulas ≡ c.machine.formulas → 0 < length m.stack
         → ((x : ℕ) → is_member noted x ≡ (is_member c.noted x || (x == a)))
         → Performs db t (label a) c (checker_state m c.rules noted cache)
-    applies m noted cache made marks formulas entry notes = record {
-      made =
+    applies m noted cache entries_are marks formulas entry notes = record {
+      entries_are =
           λ ends agree. ap (λ r. step (context_at db t) r c.machine.stack)
           (assertion_rule db t a is good)
-          ∙ made;
+          ∙ entries_are;
       marks = marks;
       formulas = formulas;
       entry = entry;

@@ -60,7 +60,7 @@ pub record HasPerformed (db : List Statement) (t : ℕ) (steps : List PlacedStep
 -- one step leads from the checker to the next: its entries are those after the step, and its
 -- assertion is noted
 pub record Performs (db : List Statement) (t : ℕ) (a : Step) (c d : CheckerState) : Type 0 where
-  pub made : (ends : List Formula) → AreEndFormulas ends c.machine.marks c.machine.formulas
+  pub entries_are : (ends : List Formula) → AreEndFormulas ends c.machine.marks c.machine.formulas
       → step_entries (context_at db t) a ends c.machine.stack ≡ Ok d.machine.stack
   pub marks : d.machine.marks ≡ c.machine.marks
   pub formulas : d.machine.formulas ≡ c.machine.formulas

@@ -111,8 +111,8 @@ fn flag_for<A: Allocator>(database: &Database<A>, hypothesis: u32, is_essential:
     is_essential && is_essential_hypothesis(database, hypothesis)
 }
 
-/// Pushes a flag for each child of a node whose label is assertion `assertion`. `is_essential` says
-/// whether the node is essential.
+/// Pushes a flag for each child of a node whose label is the assertion. `is_essential` says whether
+/// the node is essential.
 fn push_flags<A: Allocator>(
     database: &Database<A>,
     assertion: u32,

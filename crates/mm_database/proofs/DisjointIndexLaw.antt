@@ -143,7 +143,7 @@ module _ (qs ps : List (ℕ × ℕ)) (y x : ℕ) (same : qs ≡ ps) (is : y ≡ 
 pub record AddsFromEnd (b : BlockLists) (ps : List (ℕ × ℕ)) (x at start end : ℕ)
     (old now : List (ℕ × ℕ)) : Type 0 where
   pub inside : end ≤ start
-  pub kept : (j y : ℕ) → has_pair old j y ≡ true → has_pair now j y ≡ true
+  pub old_stay : (j y : ℕ) → has_pair old j y ≡ true → has_pair now j y ≡ true
   pub only : (j y : ℕ) → has_pair now j y ≡ true
       → (has_pair old j y ≡ true)
       ⊎ ((y ≡ x) × (has_pair ps x j ≡ true) × (is_active_local b j at ≡ true))
@@ -174,7 +174,7 @@ module _ (b : BlockLists) (ps : List (ℕ × ℕ)) (rising : AreRising ps) (x at
         → AddsFromEnd b ps x at start next old (now ++ ((get_or ps (end - 1) (0, 0)).1, x) ∷ [])
     added_open end next old now a some s o less passed = record {
       inside = let i = a.inside in omega (arith, i, less);
-      kept = λ j y e. longer j y (a.kept j y e);
+      old_stay = λ j y e. longer j y (a.old_stay j y e);
       only =
           λ j y e. only j y (has_pair now j y) refl
           (sym (list_any-append (λ p. nat_eq j p.0 && nat_eq y p.1) now ((m, x) ∷ [])) ∙ e);
@@ -237,7 +237,7 @@ module _ (b : BlockLists) (ps : List (ℕ × ℕ)) (rising : AreRising ps) (x at
         → AddsFromEnd b ps x at start next old now
     added_closed end next old now a some o less passed = record {
       inside = let i = a.inside in omega (arith, i, less);
-      kept = a.kept;
+      old_stay = a.old_stay;
       only = a.only;
       all = λ p l h e f. all p l h e f (cases_order (p + 1) end);
     }
@@ -334,7 +334,7 @@ module _ (b : BlockLists) (ps : List (ℕ × ℕ)) (rising : AreRising ps) (x at
         back : (c : Bool) → has_pair old j y ≡ c
             → (c || (nat_eq y x && (has_pair ps x j && is_active_local b j at))) ≡ true
             → has_pair now j y ≡ true
-        back true e h = a.kept j y e
+        back true e h = a.old_stay j y e
         back false e h =
             let s =
             eqb-true y x (and_parts (nat_eq y x) (has_pair ps x j && is_active_local b j at) h).0 in

@@ -10,8 +10,8 @@
 -- `are_together` finds a `$d` of two variables by `none_before_end` and `none_right`
 -- (`DisjointIndexLaw.antt`), among pairs that begin where `StartsLaw.antt` says, and `together_is`
 -- (`TogetherLaw.antt`) says what that answers; `near_is` (`NearLaw.antt`) says it of a `$d` found
--- shortly before a statement. `labels_held` and others (`HeldLaw.antt`) transfer what is known of
--- the statements that were read to these as they count.
+-- shortly before a statement. `labels_counted` and others (`CountedLaw.antt`) transfer what is
+-- known of the statements that were read to these as they count.
 pub mod SymbolsLaw
 pub mod NamesLaw
 pub mod LongestLaw
@@ -22,7 +22,7 @@ pub mod FrameIndicesLaw
 pub mod KindsLaw
 pub mod SpacedLaw
 pub mod RetainedWordsLaw
-pub mod HeldLaw
+pub mod CountedLaw
 pub mod LengthLaw
 pub mod DatabaseLaw
 pub mod NearLaw

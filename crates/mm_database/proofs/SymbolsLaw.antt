@@ -17,11 +17,11 @@ use Rattle.mm_database.specs.Names.{are_distinct, with_name}
 pub itself : (w : Bytes) → bytes_eq w w ≡ true
 itself w = (bytes_eq-Decides w w).1 refl
 
-turned : (a b c : Bool) → ((a || b) || c) ≡ (b || (a || c))
-turned true true c = refl
-turned true false c = refl
-turned false true c = refl
-turned false false c = refl
+or_rotate : (a b c : Bool) → ((a || b) || c) ≡ (b || (a || c))
+or_rotate true true c = refl
+or_rotate true false c = refl
+or_rotate false true c = refl
+or_rotate false false c = refl
 
 -- the word, if it is new
 abbrev pub if_new : Bool → Bytes → List Bytes
@@ -68,7 +68,7 @@ first_snoc (v ∷ ws) e w = by_membership (is_in v e) refl (first_snoc ws e w)
     by_membership false h r s =
         first_step e v (ws ++ w ∷ []) false h ∙ ap (λ l. v ∷ l) s
         ∙ ap (λ b. (v ∷ first_occurrences (v ∷ e) ws) ++ if_new b w)
-        (turned (bytes_eq w v) (is_in w e) (is_in w ws))
+        (or_rotate (bytes_eq w v) (is_in w e) (is_in w ws))
         ∙ sym (ap (λ l. l ++ if_new (is_in w e || (bytes_eq w v || is_in w ws)) w)
         (first_step e v ws false h))
 
@@ -231,16 +231,16 @@ missing_index w (n ∷ ns) h = by_equality (bytes_eq w n) refl (missing_index w 
 
 -- ---- names of which none stands twice
 
-list_head : {X : Type 0} {a b : X} → Some a ≡ Some b → a ≡ b
-list_head e = cc
+some_injective : {X : Type 0} {a b : X} → Some a ≡ Some b → a ≡ b
+some_injective e = cc
 
-not_there : (a b : Bool) → (not a && b) ≡ true → a ≡ false
-not_there true b e = sym e
-not_there false b e = refl
+left_is_false : (a b : Bool) → (not a && b) ≡ true → a ≡ false
+left_is_false true b e = sym e
+left_is_false false b e = refl
 
-others_too : (a b : Bool) → (not a && b) ≡ true → b ≡ true
-others_too true b e = absurd (true≢false (sym e))
-others_too false b e = e
+right_is_true : (a b : Bool) → (not a && b) ≡ true → b ≡ true
+right_is_true true b e = absurd (true≢false (sym e))
+right_is_true false b e = e
 
 -- the place of a name is where it stands
 pub index_distinct : (ns : List Bytes) → are_distinct ns ≡ true → (i : ℕ) (w : Bytes)
@@ -249,9 +249,10 @@ index_distinct [] d zero w e = absurd (let q : None ≡ Some w = e in cc)
 index_distinct [] d (suc i) w e = absurd (let q : None ≡ Some w = e in cc)
 index_distinct (n ∷ ns) d zero w e =
     sym (ap (λ b. elim b [ true ↦ 0 | false ↦ suc (index_of w ns) ])
-    (ap (bytes_eq w) (list_head e) ∙ itself w))
+    (ap (bytes_eq w) (some_injective e) ∙ itself w))
 index_distinct (n ∷ ns) d (suc i) w e =
-    by_equality (bytes_eq w n) refl (index_distinct ns (others_too (is_in n ns) (are_distinct ns) d)
+    by_equality (bytes_eq w n) refl (index_distinct ns
+    (right_is_true (is_in n ns) (are_distinct ns) d)
     i w e)
   where
     by_equality : (b : Bool) → bytes_eq w n ≡ b → i ≡ index_of w ns
@@ -259,7 +260,7 @@ index_distinct (n ∷ ns) d (suc i) w e =
     by_equality true s r =
         absurd (true≢false
         (sym (get_in ns i w e) ∙ ap (λ x. is_in x ns) (same_word w n s)
-        ∙ not_there (is_in n ns) (are_distinct ns) d))
+        ∙ left_is_false (is_in n ns) (are_distinct ns) d))
     by_equality false s r = ap suc r
 
 distinct_push : (ns : List Bytes) (w : Bytes) → are_distinct ns ≡ true → is_in w ns ≡ false
@@ -268,9 +269,9 @@ distinct_push [] w d h = refl
 distinct_push (n ∷ ns) w d h =
     ap₂ (λ a b. not a && b)
     (list_any-append (bytes_eq n) ns (w ∷ [])
-    ∙ ap₂ (λ a b. a || (b || false)) (not_there (is_in n ns) (are_distinct ns) d)
+    ∙ ap₂ (λ a b. a || (b || false)) (left_is_false (is_in n ns) (are_distinct ns) d)
     (differ (bytes_eq n w) refl))
-    (distinct_push ns w (others_too (is_in n ns) (are_distinct ns) d)
+    (distinct_push ns w (right_is_true (is_in n ns) (are_distinct ns) d)
     (or_parts (bytes_eq w n) (is_in w ns) h).1)
   where
     differ : (b : Bool) → bytes_eq n w ≡ b → b ≡ false

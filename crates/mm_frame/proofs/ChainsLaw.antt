@@ -25,10 +25,11 @@ use Rattle.mm_database.specs.ParsedStatements.{IsSound}
 -- ---- one chain
 
 -- a link more at the end of the list changes no chain
-chain_kept : (links : List (ℕ × ℕ)) (l : ℕ × ℕ) (n : ℕ) (js : List ℕ) → IsLinkChain links n js
+chain_with_more_links : (links : List (ℕ × ℕ)) (l : ℕ × ℕ) (n : ℕ) (js : List ℕ)
+    → IsLinkChain links n js
     → IsLinkChain (links ++ l ∷ []) n js
-chain_kept links l n [] h = h
-chain_kept links l n (j ∷ js) h =
+chain_with_more_links links l n [] h = h
+chain_with_more_links links l n (j ∷ js) h =
     let some = h.0 in
     let within = h.1 in
     let long = length-append links (l ∷ []) in
@@ -38,7 +39,7 @@ chain_kept links l n (j ∷ js) h =
       omega (arith, within, long),
       ap (λ (q : ℕ × ℕ). q.0) same ∙ h.2,
       subst (λ (q : ℕ × ℕ). IsLinkChain (links ++ l ∷ []) q.1 js) (sym same)
-          (chain_kept links l (get_or links (n - 1) (0, 0)).1 js h.3),
+          (chain_with_more_links links l (get_or links (n - 1) (0, 0)).1 js h.3),
     )
 
 -- the new link stands in front
@@ -52,22 +53,23 @@ chain_more links k n js h =
       omega (arith, long),
       ap (λ (q : ℕ × ℕ). q.0) last,
       subst (λ (q : ℕ × ℕ). IsLinkChain (links ++ (k, n) ∷ []) q.1 js) (sym last)
-          (chain_kept links (k, n) n js h),
+          (chain_with_more_links links (k, n) n js h),
     )
 
 -- a chain that doesn't begin with k, and has nothing before k, has only later statements
-raised : (links : List (ℕ × ℕ)) (n k : ℕ) (js : List ℕ) → IsLinkChain links n js → IsRisingFrom k js
+rising_from_next : (links : List (ℕ × ℕ)) (n k : ℕ) (js : List ℕ) → IsLinkChain links n js
+    → IsRisingFrom k js
     → (0 < n → (get_or links (n - 1) (0, 0)).0 ≡ k → ⊥) → IsRisingFrom (k + 1) js
-raised links n k [] c r other = tt
-raised links n k (j ∷ js) c r other = (by_equality (cases_eq j k), r.1)
+rising_from_next links n k [] c r other = tt
+rising_from_next links n k (j ∷ js) c r other = (by_equality (cases_eq j k), r.1)
   where
     by_equality : (j ≡ k) ⊎ (j ≢ k) → k + 1 ≤ j
     by_equality (inl e) = absurd (other c.0 (c.2 ∙ e))
     by_equality (inr ne) = let l = r.0 in omega (arith, l, ne)
 
-lowered : (a b : ℕ) (js : List ℕ) → a ≤ b → IsRisingFrom b js → IsRisingFrom a js
-lowered a b [] l r = tt
-lowered a b (j ∷ js) l r = (let m = r.0 in omega (arith, l, m), r.1)
+rising_from_lower : (a b : ℕ) (js : List ℕ) → a ≤ b → IsRisingFrom b js → IsRisingFrom a js
+rising_from_lower a b [] l r = tt
+rising_from_lower a b (j ∷ js) l r = (let m = r.0 in omega (arith, l, m), r.1)
 
 -- a chain that begins with k has it
 begins : (links : List (ℕ × ℕ)) (n k : ℕ) (js : List ℕ) → IsLinkChain links n js → 0 < n
@@ -81,8 +83,8 @@ same_chain : (has now : ℕ → Bool) (a b : ℕ) (links : List (ℕ × ℕ)) (n
 same_chain has now a b links n l same h = record {
   statements = h.statements;
   chain = h.chain;
-  rising = lowered a b h.statements l h.rising;
-  are = λ j. h.are j ∙ same j;
+  rising = rising_from_lower a b h.statements l h.rising;
+  members_are = λ j. h.members_are j ∙ same j;
 }
 
 -- ---- a statement in front of a chain
@@ -145,7 +147,7 @@ module _ (has : ℕ → ℕ → Bool) (heads : List ℕ) (links : List (ℕ × �
       where
         has_it : has x k ≡ true
         has_it =
-            sym ((h x here).are k)
+            sym ((h x here).members_are k)
             ∙ begins links (get_or heads x 0) k (h x here).statements (h x here).chain some first
 
         by_equality : (j : ℕ) → (y ≡ x) ⊎ (y ≢ x) → (j ≡ k) ⊎ (j ≢ k)
@@ -175,7 +177,7 @@ module _ (has : ℕ → ℕ → Bool) (heads : List ℕ) (links : List (ℕ × �
             → (nat_eq j k || is_member old.statements j)
             ≡ (has y j || (nat_eq y s && nat_eq j k))
         front j e =
-            ap (λ b. nat_eq j k || b) (old.are j ∙ ap (λ z. has z j) (sym e))
+            ap (λ b. nat_eq j k || b) (old.members_are j ∙ ap (λ z. has z j) (sym e))
             ∙ turned (nat_eq j k) (has y j)
             ∙ sym (ap (λ b. has y j || (b && nat_eq j k)) (eq-eqb y s (e ∙ sym is)))
           where
@@ -198,9 +200,10 @@ module _ (has : ℕ → ℕ → Bool) (heads : List ℕ) (links : List (ℕ × �
               (chain_more links k (get_or heads x 0) old.statements old.chain);
           rising = (
             omega arith,
-            raised links (get_or heads x 0) k old.statements old.chain old.rising other_first,
+            rising_from_next links (get_or heads x 0) k old.statements old.chain old.rising
+                other_first,
           );
-          are = λ j. front j e;
+          members_are = λ j. front j e;
         }
         by_equality (inr n) =
             let c = length-set heads x (length links + 1) in
@@ -212,10 +215,11 @@ module _ (has : ℕ → ℕ → Bool) (heads : List ℕ) (links : List (ℕ × �
                   subst
                   (λ n. IsLinkChain (links ++ (k, get_or heads x 0) ∷ []) n other.statements)
                   (sym (get_or-set_other heads x y (length links + 1) 0 n))
-                  (chain_kept links (k, get_or heads x 0) (get_or heads y 0) other.statements
+                  (chain_with_more_links links (k, get_or heads x 0) (get_or heads y 0)
+                  other.statements
                   other.chain);
               rising = other.rising;
-              are = λ j. other.are j
+              members_are = λ j. other.members_are j
                   ∙ sym (ap (λ b. has y j || (b && nat_eq j k))
                   (ne_eqb y s (λ e. n (e ∙ is)))
                   ∙ or-false (has y j));
@@ -259,7 +263,7 @@ none_yet db heads empty x l = record {
   statements = [];
   chain = empty x l;
   rising = tt;
-  are = λ j. sym (by_values j (nat_le (length db) j) refl (has_symbol db x j) refl);
+  members_are = λ j. sym (by_values j (nat_le (length db) j) refl (has_symbol db x j) refl);
 }
   where
     by_values : (j : ℕ) (a : Bool) → nat_le (length db) j ≡ a → (b : Bool) → has_symbol db x j ≡ b
@@ -411,7 +415,7 @@ module _ (links : List (ℕ × ℕ)) (symbol : ℕ) (old now : List (ℕ × ℕ)
 -- the pairs of the symbols before x
 pub record ArePairsTo (db : List Statement) (x : ℕ) (ps : List (ℕ × ℕ)) : Type 0 where
   pub rising : AreRising ps
-  pub are : (y j : ℕ) → has_pair ps y j ≡ (nat_lt y x && has_symbol db y j)
+  pub members_are : (y j : ℕ) → has_pair ps y j ≡ (nat_lt y x && has_symbol db y j)
 
 rising_append : (ps qs : List (ℕ × ℕ)) → AreRising ps → AreRising qs
     → ((a b x y : ℕ) → has_pair ps a b ≡ true → has_pair qs x y ≡ true → IsBefore a b x y)
@@ -490,9 +494,9 @@ pairs_more db x n links ps qs h a is =
       rising =
           rising_append ps row a.rising (rising_row x 0 h.statements h.rising)
           (λ b c y j e f. inl (later b c y j e f));
-      are = λ y j.
+      members_are = λ y j.
           list_any-append (λ q. nat_eq y q.0 && nat_eq j q.1) ps row
-          ∙ ap₂ (λ b c. b || c) (a.are y j) (has_row x h.statements y j)
+          ∙ ap₂ (λ b c. b || c) (a.members_are y j) (has_row x h.statements y j)
           ∙ by_equality y j (cases_eq y x) ∙ sym (ap (λ b. b && has_symbol db y j) (lt_next y x));
     })
   where
@@ -501,7 +505,8 @@ pairs_more db x n links ps qs h a is =
 
     later : (b c y j : ℕ) → has_pair ps b c ≡ true → has_pair row y j ≡ true → b < y
     later b c y j e f =
-        let l = ltb-true b x (and_parts (nat_lt b x) (has_symbol db b c) (sym (a.are b c) ∙ e)).0 in
+        let l = ltb-true b x (and_parts (nat_lt b x) (has_symbol db b c)
+        (sym (a.members_are b c) ∙ e)).0 in
         let s =
         eqb-true y x
         (and_parts (nat_eq y x) (is_member h.statements j)
@@ -514,7 +519,7 @@ pairs_more db x n links ps qs h a is =
     by_equality y j (inl e) =
         ap₂ (λ b c. (b && has_symbol db y j) || (c && is_member h.statements j))
         (le-ltb y x (omega (arith, e))) (eq-eqb y x e)
-        ∙ h.are j ∙ ap (λ z. has_symbol db z j) (sym e)
+        ∙ h.members_are j ∙ ap (λ z. has_symbol db z j) (sym e)
         ∙ sym (ap₂ (λ b c. (b || c) && has_symbol db y j) (le-ltb y x (omega (arith, e)))
         (eq-eqb y x e))
     by_equality y j (inr n) =
@@ -528,7 +533,7 @@ pairs_more db x n links ps qs h a is =
 pub pairs_all : (db : List Statement) (x : ℕ) (ps : List (ℕ × ℕ))
     → ((y j : ℕ) → has_symbol db y j ≡ true → y < x) → ArePairsTo db x ps
     → (y j : ℕ) → has_pair ps y j ≡ has_symbol db y j
-pairs_all db x ps all a y j = a.are y j ∙ by_has_symbol (has_symbol db y j) refl
+pairs_all db x ps all a y j = a.members_are y j ∙ by_has_symbol (has_symbol db y j) refl
   where
     by_has_symbol : (b : Bool) → has_symbol db y j ≡ b → (nat_lt y x && b) ≡ b
     by_has_symbol false e = and-false (nat_lt y x)

@@ -137,7 +137,7 @@ pub(crate) fn pairs_by_symbol<A: Allocator + Copy>(
     statements: &Statements<A>,
 ) -> Result<Vec<(u32, u32), A>, AllocError>
     ensures rising { IfOk result (λ v. AreRising v.items) }
-    ensures are { IfOk result (λ v. (x j : ℕ) → has_pair v.items x j
+    ensures members_are { IfOk result (λ v. (x j : ℕ) → has_pair v.items x j
         ≡ has_symbol statements.now.list x j) }
 {
     let chains = chains_of(alloc, statements)?;

@@ -95,10 +95,10 @@ fn symbol_pairs<A: Allocator + Copy>(
     Ok(symbols)
 }
 
-/// Returns the mandatory pairs of an assertion, by its mandatory variables `variables`. The cost is
-/// one step for each active `$d` of each of these variables, and one for each pair in each of these
-/// `$d`. `variables_by_statement` and `pairs_by_statement` are filled with these; what they had
-/// before is removed.
+/// Returns the mandatory pairs of an assertion, by its mandatory variables. The cost is one step
+/// for each active `$d` of each of these variables, and one for each pair in each of these `$d`.
+/// `variables_by_statement` and `pairs_by_statement` are filled with these; what they had before is
+/// removed.
 pub(crate) fn mandatory_pairs<A: Allocator + Copy>(
     alloc: A,
     sources: &Sources<A>,

@@ -15,7 +15,7 @@ use Rattle.mm_spec.specs.Frame.{is_variable_number, formula_at, frame_at}
 use Rattle.mm_spec.specs.Citation.{context_at}
 use Rattle.mm_spec.specs.Laws.Stack.{found, same, pick, apply, step}
 use Rattle.mm_rule.specs.declared.rule.RuleSymbol.TheVariants.{Constant, Variable}
-use Rattle.mm_rule.specs.Rule.{floating_index, parts_of, IsBelow, Compiled, IsCompiled}
+use Rattle.mm_rule.specs.Rule.{floating_index, parts_of, IsVariableBelow, Compiled, IsCompiled}
 use Rattle.mm_machine.specs.State.{applied}
 use Rattle.mm_machine.proofs.RuleTestLaw.{length_all_parts}
 
@@ -50,13 +50,13 @@ module _ (c : Context) (a : Frame) (hypotheses : a.hypotheses ≡ []) (pairs : a
       ∙ ap (λ f. pick true true true (nat_le (length f) formula_limit) (es ++ f ∷ [])) (stays σ)
 
 module _ (db : List Statement) (t : ℕ) (hs : List Formula) (σ : Substitution) where
-  no_variables : (f : Formula) → AllByRecursion (IsBelow 0) (parts_of db hs f)
+  no_variables : (f : Formula) → AllByRecursion (IsVariableBelow 0) (parts_of db hs f)
       → substitute (context_at db t) σ f ≡ f
   no_variables [] h = refl
   no_variables (s ∷ f) h =
       ap₂ (λ u v. u ++ v) (one (is_variable_number db s) h.0) (no_variables f h.1)
     where
-      one : (v : Bool) → IsBelow 0 (cond v (Variable (floating_index db hs s)) (Constant s))
+      one : (v : Bool) → IsVariableBelow 0 (cond v (Variable (floating_index db hs s)) (Constant s))
           → cond v (σ s) (s ∷ []) ≡ s ∷ []
       one true l = absurd (omega (arith, l))
       one false l = refl
@@ -90,11 +90,11 @@ module _ (db : List Statement) (t : ℕ) (c : Compiled) (rule : IsCompiled db c)
       )) in
       nothing_in frame.pairs (omega (arith, few, same))
 
-  below : AllByRecursion (IsBelow 0) (parts_of db frame.hypotheses f)
+  below : AllByRecursion (IsVariableBelow 0) (parts_of db frame.hypotheses f)
   below =
-      recursion_from_All (IsBelow 0) (parts_of db frame.hypotheses f)
-      (subst (All (IsBelow 0)) rule.formula_is
-      (subst (λ n. All (IsBelow n) c.formula) none rule.formula_in))
+      recursion_from_All (IsVariableBelow 0) (parts_of db frame.hypotheses f)
+      (subst (All (IsVariableBelow 0)) rule.formula_is
+      (subst (λ n. All (IsVariableBelow n) c.formula) none rule.formula_in))
 
   pushed : (es : List Formula) → applied db t c.assertion es
       ≡ pick true true true (nat_le (length f) formula_limit) (es ++ f ∷ [])

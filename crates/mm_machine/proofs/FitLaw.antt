@@ -7,7 +7,7 @@ use Rattle.mm_spec.specs.Laws.Stack.{same}
 use Rattle.mm_rule.specs.declared.rule.Hypothesis.{Hypothesis}
 use Rattle.mm_rule.specs.declared.rule.Hypothesis.TheVariants.{Floating, Essential}
 use Rattle.mm_rule.specs.declared.rule.RuleSymbol.{RuleSymbol}
-use Rattle.mm_rule.specs.Rule.{part_count, hypothesis_parts, all_parts, count_parts}
+use Rattle.mm_rule.specs.Rule.{part_count, hypothesis_parts, all_parts, total_part_count}
 use Rattle.mm_machine.specs.declared.arena.Span.{Span}
 use Rattle.mm_machine.specs.Arena.{Arena, no_symbols, without_first, span_formula}
 use Rattle.mm_machine.specs.Replaced.{replaced}
@@ -81,9 +81,10 @@ module _ (xs : Arena) (es : List Span) (parts : List RuleSymbol) (hs : List Hypo
           (drop-drop (part_count h) at parts ∙ ap (λ n. drop n parts) (sym tested.next_is)) more
           ∙ ap (λ b. b && fit_from (j + 1) next) (sym tested.one_is)
 
-      pub marked_next : at + count_parts (drop j hs) ≡ length parts
-          → next + count_parts (drop (j + 1) hs) ≡ length parts
+      pub marked_next : at + total_part_count (drop j hs) ≡ length parts
+          → next + total_part_count (drop (j + 1) hs) ≡ length parts
       marked_next marked =
-          let here : count_parts (drop j hs) ≡ part_count h + count_parts (drop (j + 1) hs) =
-          ap count_parts hs_here in
+          let here : total_part_count (drop j hs)
+          ≡ part_count h + total_part_count (drop (j + 1) hs) =
+          ap total_part_count hs_here in
           let n = tested.next_is in omega (arith, here, marked, n)

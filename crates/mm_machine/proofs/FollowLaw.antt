@@ -434,8 +434,8 @@ module _ (unmarked marked : List ℕ) (es : List Span) (last : ℕ) (e : Span)
     pub moved_here : (unmarked' marked' : List ℕ) (m : Span) → unmarked' ≡ cut_unmarked → marked'
         ≡ marked ++ moved
         → m ≡ entry' → IsMoved unmarked marked es unmarked' marked' (slice_set es last m) m
-    moved_here unmarked' marked' m cut grown made =
-        rw (cut, grown, made)
+    moved_here unmarked' marked' m cut grown span_is =
+        rw (cut, grown, span_is)
         (record {
           is_stack = moved_stack;
           says = moved_formulas;

@@ -14,7 +14,7 @@ use Rattle.mm_rule.specs.declared.rule.RuleSymbol.TheVariants.{Constant, Variabl
 use Rattle.mm_machine.specs.Arena.{Arena, arena, symbols_of, span, no_symbols, without_first}
 use Rattle.mm_machine.specs.Arena.{span_formula}
 use Rattle.mm_machine.specs.Arena.{IsIn}
-use Rattle.mm_rule.specs.Rule.{IsKnown, IsBelow}
+use Rattle.mm_rule.specs.Rule.{IsConstantBelow, IsVariableBelow}
 use Rattle.mm_rule.proofs.SliceLaw.{stretch_more}
 use Rattle.mm_machine.specs.Replaced.{replaced_part, replaced}
 use Rattle.mm_machine.specs.State.{span_formulas, appended_span, IsMarkedEntry}
@@ -147,14 +147,14 @@ symbols_known n a e ho hk =
 -- what parts say is of symbols of the database
 pub replaced_known : (n : ℕ) (a : Arena) (es : List Span) (f : List RuleSymbol)
     → All (λ s. s < n) a.unmarked
-    → All (λ s. s < n) a.marked → All (IsKnown n) f → All (λ s. s < n) (replaced a es f)
-replaced_known n a es f ho hk hf = symbol_by_symbol f (recursion_from_All (IsKnown n) f hf)
+    → All (λ s. s < n) a.marked → All (IsConstantBelow n) f → All (λ s. s < n) (replaced a es f)
+replaced_known n a es f ho hk hf = symbol_by_symbol f (recursion_from_All (IsConstantBelow n) f hf)
   where
-    span : (p : RuleSymbol) → IsKnown n p → All (λ s. s < n) (replaced_part a es p)
+    span : (p : RuleSymbol) → IsConstantBelow n p → All (λ s. s < n) (replaced_part a es p)
     span (Variable j) h = symbols_known n a (without_first (get_or es j no_symbols)) ho hk
     span (Constant s) h = All-from_recursion (λ s. s < n) (s ∷ []) (h, tt)
 
-    symbol_by_symbol : (f : List RuleSymbol) → AllByRecursion (IsKnown n) f
+    symbol_by_symbol : (f : List RuleSymbol) → AllByRecursion (IsConstantBelow n) f
         → All (λ s. s < n) (replaced a es f)
     symbol_by_symbol [] h = All-nil (λ s. s < n)
     symbol_by_symbol (p ∷ f) h = All-append (λ s. s < n) _ _ (span p h.0) (symbol_by_symbol f h.1)
@@ -179,7 +179,8 @@ premise_in a es j e h l is =
 
 pub variable_in : (a : Arena) (es : List Span) (parts : List RuleSymbol) (i : ℕ) (p : RuleSymbol)
     (j : ℕ)
-    → (e : Span) → All (IsIn a) es → All (IsBelow (length es)) parts → i < length parts
+    → (e : Span) → All (IsIn a) es → All (IsVariableBelow (length es)) parts → i < length parts
     → p ≡ get_or parts i p → p ≡ Variable j → e ≡ without_first (get_or es j no_symbols) → IsIn a e
-variable_in a es parts i p j e h below l here is made =
-    premise_in a es j e h (subst (IsBelow (length es)) (sym here ∙ is) (below i p l)) made
+variable_in a es parts i p j e h below l here is replacement_is =
+    premise_in a es j e h (subst (IsVariableBelow (length es)) (sym here ∙ is) (below i p l))
+    replacement_is

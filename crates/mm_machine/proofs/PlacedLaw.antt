@@ -14,7 +14,7 @@ use Rattle.mm_machine.specs.declared.arena.Span.{Span}
 use Rattle.mm_machine.specs.declared.arena.Reason.{Reason}
 use Rattle.mm_machine.specs.declared.machine.StepRefused.{StepRefused}
 use Rattle.mm_rule.specs.declared.rule.RuleSymbol.{RuleSymbol}
-use Rattle.mm_rule.specs.Rule.{Compiled, IsCompiled, IsBelow, IsKnown}
+use Rattle.mm_rule.specs.Rule.{Compiled, IsCompiled, IsVariableBelow, IsConstantBelow}
 use Rattle.mm_machine.specs.Arena.{Arena, arena, AreEntries}
 use Rattle.mm_machine.specs.Replaced.{replaced}
 use Rattle.mm_machine.specs.State.{span_formulas, applied, entries_after, TestsRule, IsStack}
@@ -27,18 +27,19 @@ use Rattle.mm_machine.proofs.GrowLaw.{replaced_known}
 -- ---- the formula
 
 module _ (unmarked marked : List ℕ) (stack : List Span) (below : ℕ) (parts : List RuleSymbol) where
-  module _ (made : Formula) (is : made ≡ replaced (arena unmarked marked) (drop below stack) parts)
+  module _ (formula : Formula) (is : formula ≡ replaced (arena unmarked marked) (drop below
+      stack) parts)
     where
-      pub placed : nat_le (length made) formula_limit ≡ true
+      pub placed : nat_le (length formula) formula_limit ≡ true
           → entries_after (arena unmarked marked) stack below parts
-          ≡ Ok (take below (span_formulas (arena unmarked marked) stack) ++ made ∷ [])
+          ≡ Ok (take below (span_formulas (arena unmarked marked) stack) ++ formula ∷ [])
       placed l =
           ap₂ (λ b z. pick true true true b
           (take below (span_formulas (arena unmarked marked) stack) ++ z ∷ []))
           (ap (λ z. nat_le (length z) formula_limit) (sym is) ∙ l) (sym is)
 
-      pub made_known : (w : ℕ) → IsStackOf w unmarked marked stack → All (IsKnown w) parts
-          → All (λ s. s < w) made
+      pub made_known : (w : ℕ) → IsStackOf w unmarked marked stack → All (IsConstantBelow w) parts
+          → All (λ s. s < w) formula
       made_known w h known =
           subst (All (λ s. s < w)) (sym is)
           (replaced_known w (arena unmarked marked) (drop below stack) parts h.known.unmarked
@@ -60,10 +61,10 @@ module _ (unmarked marked : List ℕ) (stack : List Span) (below : ℕ) (parts :
       rw (e1, e2) (ap (λ z. replaced (arena unmarked marked) z parts) (take_rest stack below))
 
   pub same_count : (stack' : List Span) → stack' ≡ stack
-      → All (IsBelow (length (drop below stack))) parts
-      → All (IsBelow (length (slice_range stack' below (length stack')))) parts
+      → All (IsVariableBelow (length (drop below stack))) parts
+      → All (IsVariableBelow (length (slice_range stack' below (length stack')))) parts
   same_count stack' e h =
-      subst (λ z. All (IsBelow (length z)) parts)
+      subst (λ z. All (IsVariableBelow (length z)) parts)
       (sym (ap (λ z. slice_range z below (length z)) e ∙ take_rest stack below)) h
 
 pub short_enough : (n : ℕ) (xs : List ℕ) → n ≤ formula_limit
@@ -79,15 +80,15 @@ some_entry a es below parts out h =
     first : List Formula
     first = take below (span_formulas a es)
 
-    made : Formula
-    made = replaced a (drop below es) parts
+    formula : Formula
+    formula = replaced a (drop below es) parts
 
-    by_length_test : (b : Bool) → pick true true true b (first ++ made ∷ []) ≡ Ok out → 0
+    by_length_test : (b : Bool) → pick true true true b (first ++ formula ∷ []) ≡ Ok out → 0
         < length out
     by_length_test false e = absurd (cc)
     by_length_test true e =
-        let same : first ++ made ∷ [] ≡ out = cc in
-        let n = ap length same in omega (arith, n, length-append first (made ∷ []))
+        let same : first ++ formula ∷ [] ≡ out = cc in
+        let n = ap length same in omega (arith, n, length-append first (formula ∷ []))
 
 -- ---- the step
 
@@ -142,14 +143,14 @@ module _ (db : List Statement) (t : ℕ) (c : Compiled) (unmarked marked marked'
         (span_formulas (arena unmarked marked) stack)))
     step_stopped h = on_err r (λ e s. subst (Stops e) (sym said) s) h
 
-  pub parts_below : IsCompiled db c → All (IsBelow (length (drop below stack))) parts
+  pub parts_below : IsCompiled db c → All (IsVariableBelow (length (drop below stack))) parts
   parts_below rule =
       let count : length c.hypotheses ≡ length (drop below stack) =
       (let n = tested.0 in omega (arith, n, length-drop below stack)) in
-      rw parts_are (subst (λ n. All (IsBelow n) c.formula) count rule.formula_in)
+      rw parts_are (subst (λ n. All (IsVariableBelow n) c.formula) count rule.formula_in)
 
   pub parts_known : IsCompiled db c → (symbol_count : ℕ) → symbol_count ≡ length (symbol_names db)
-      → All (IsKnown symbol_count) parts
+      → All (IsConstantBelow symbol_count) parts
   parts_known rule symbol_count is = rw (parts_are, is) rule.formula_known
 
 -- the answer of a step that changes the entries alone
@@ -158,13 +159,13 @@ pub applied_of : {T : Type 0} (db : List Statement) (t a : ℕ) (s s' : MachineS
     → OnOk r (0 < length s'.stack) → IfErr r (λ e. Stops e (applied db t a s.stack))
     → s'.marks ≡ s.marks → s'.formulas ≡ s.formulas → s'.symbol_count ≡ s.symbol_count
     → IsApplied db t a s s' r
-applied_of db t a s s' (Ok x) made entry stopped marks formulas symbol_count = record {
-  applies = record { made = made; entry = entry; marks = marks; formulas = formulas };
+applied_of db t a s s' (Ok x) entries_are entry stopped marks formulas symbol_count = record {
+  applies = record { entries_are = entries_are; entry = entry; marks = marks; formulas = formulas };
   stopped = stopped;
   symbol_count = symbol_count;
 }
-applied_of db t a s s' (Err e) made entry stopped marks formulas symbol_count =
-    record { applies = made; stopped = stopped; symbol_count = symbol_count }
+applied_of db t a s s' (Err e) entries_are entry stopped marks formulas symbol_count =
+    record { applies = entries_are; stopped = stopped; symbol_count = symbol_count }
 
 -- ---- the machine
 
@@ -185,8 +186,8 @@ module _ (unmarked marked : List ℕ) (es : List Span) (marks : List ℕ) (marke
   pub next_machine : (parts : List RuleSymbol) (unmarked' marked' : List ℕ) (es' : List Span)
       → marked'
       ≡ marked
-      → All (IsKnown symbol_count) parts
-      → ((w : ℕ) → All (IsKnown w) parts → IsStackOf w unmarked marked' es
+      → All (IsConstantBelow symbol_count) parts
+      → ((w : ℕ) → All (IsConstantBelow w) parts → IsStackOf w unmarked marked' es
       → IsStackOf w unmarked' marked' es')
       → IsMachine unmarked' marked es' marks marked_spans symbol_count
   next_machine parts unmarked' marked' es' same known step = record {

@@ -15,7 +15,7 @@ Stops Memory r = Unit {0}
 -- At theorem `t` the step of assertion `a` leads from the state `s` to the state `s'`. It changes
 -- the entries alone, and there is at least the one that it pushes.
 pub record Applies (db : List Statement) (t a : ℕ) (s s' : MachineState) : Type 0 where
-  pub made : applied db t a s.stack ≡ Ok s'.stack
+  pub entries_are : applied db t a s.stack ≡ Ok s'.stack
   pub entry : 0 < length s'.stack
   pub marks : s'.marks ≡ s.marks
   pub formulas : s'.formulas ≡ s.formulas

@@ -20,7 +20,7 @@ ghost use Rattle.mm_machine.specs.Arena.{
   AreEntries,
 };
 ghost use Rattle.mm_machine.specs.DisjointCache.{AreDisjointAt};
-ghost use Rattle.mm_rule.specs.Rule.{IsBelow, IsCompiled, all_parts, count_parts};
+ghost use Rattle.mm_rule.specs.Rule.{IsVariableBelow, IsCompiled, all_parts, total_part_count};
 ghost use Rattle.mm_machine.specs.Replaced.{replacement};
 ghost use Rattle.mm_machine.specs.Replaced.{replaced};
 ghost use Rattle.mm_machine.specs.State.{TestsRule};
@@ -134,7 +134,7 @@ pub fn replacement_of(premises: &[Span], j: u32) -> Span
 #[inline(always)]
 fn fits(symbols: &Symbols, premises: &[Span], wanted: &[RuleSymbol], premise: Span) -> bool
     requires premises { All (IsIn symbols.now) premises.now }
-    requires wanted { All (IsBelow (length premises.now)) wanted.now }
+    requires wanted { All (IsVariableBelow (length premises.now)) wanted.now }
     requires premise { IsIn symbols.now premise }
     ensures { result
         ≡ bytes_eq (span_formula symbols.now premise)
@@ -177,8 +177,8 @@ fn is_typed(symbols: &Symbols, typecode: Sym, premise: Span) -> bool
 fn all_fit(symbols: &Symbols, rule: &Rule, premises: &[Span]) -> bool
     requires premises { All (IsIn symbols.now) premises.now }
     requires count { length premises.now ≡ length rule.now.hypotheses }
-    requires marked { count_parts rule.now.hypotheses ≡ length rule.now.parts }
-    requires parts { All (IsBelow (length premises.now)) rule.now.parts }
+    requires marked { total_part_count rule.now.hypotheses ≡ length rule.now.parts }
+    requires parts { All (IsVariableBelow (length premises.now)) rule.now.parts }
     ensures { result
         ≡ same (map (span_formula symbols.now) premises.now)
         (map (replaced symbols.now premises.now) (all_parts rule.now.parts 0 rule.now.hypotheses)) }
@@ -352,10 +352,10 @@ pub fn build<A: Allocator>(
     list: &mut Vec<Sym, A>,
 ) -> Result<bool, AllocError>
     requires premises { All (IsIn symbols.now) premises.now }
-    requires formula { All (IsBelow (length premises.now)) formula.now }
+    requires formula { All (IsVariableBelow (length premises.now)) formula.now }
     ensures short { IfOk result
         (λ b. b ≡ nat_le (length (replaced symbols.now premises.now formula.now)) formula_limit) }
-    ensures made { IfOk result
+    ensures built { IfOk result
         (λ b. b ≡ true → list.new.items ≡ replaced symbols.now premises.now formula.now) }
 {
     list.clear();

@@ -4,7 +4,7 @@ ghost use Rattle.std.specs.Prelude.{◌≡◌, ◌<◌, ◌≤◌, ◌+◌, ◌*
 ghost use Rattle.std.specs.Prelude.{IfSome};
 ghost use Rattle.mm_spec.specs.Limits.{formula_limit};
 ghost use Rattle.mm_machine.specs.Arena.{IsIn};
-ghost use Rattle.mm_rule.specs.Rule.{IsBelow};
+ghost use Rattle.mm_rule.specs.Rule.{IsVariableBelow};
 ghost use Rattle.mm_machine.specs.Replaced.{replaced};
 
 use crate::arena::{Span, Symbols, replacement_of};
@@ -128,7 +128,7 @@ pub fn fill(
     list: &mut [Sym],
 ) -> Option<usize>
     requires premises { All (IsIn symbols.now) premises.now }
-    requires formula { All (IsBelow (length premises.now)) formula.now }
+    requires formula { All (IsVariableBelow (length premises.now)) formula.now }
     ensures within { IfSome result (λ n. n ≤ length list.new) }
     ensures short { IfSome result (λ n. n ≤ formula_limit) }
     ensures is { IfSome result

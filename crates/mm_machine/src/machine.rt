@@ -6,7 +6,7 @@ ghost use Rattle.std.specs.Prelude.{OnErr, Ok, vec_len};
 ghost use Rattle.std.specs.List.{Contains};
 ghost use Rattle.mm_spec.specs.Frame.{symbol_names};
 ghost use Rattle.mm_spec.specs.Laws.Stack.{top};
-ghost use Rattle.mm_rule.specs.Rule.{IsBelow, IsKnown, IsCompiled};
+ghost use Rattle.mm_rule.specs.Rule.{IsVariableBelow, IsConstantBelow, IsCompiled};
 ghost use Rattle.mm_machine.specs.Arena.{arena, span_formula};
 ghost use Rattle.mm_machine.specs.DisjointCache.{AreDisjointAt};
 ghost use Rattle.mm_machine.specs.State.{machine_state, with_mark, Repeats, span_formulas};
@@ -171,7 +171,7 @@ impl<A: Allocator> Machine<A> {
         Ok(())
     }
 
-    /// Adds the top formula, with which step `step` ended, to those of the marked steps.
+    /// Adds the top formula, with which this step ended, to those of the marked steps.
     pub fn mark(&mut self, step: usize) -> Result<(), AllocError>
         requires entry { 0 < length self.old.stack }
         requires later { All (λ j. j < step) self.old.marks }
@@ -358,7 +358,7 @@ fn move_to_marked<A: Allocator>(
     ensures formulas { span_formulas (arena unmarked.new marked.new) stack.new.items
         ≡ span_formulas (arena unmarked.old marked.old) stack.old.items }
     ensures moved { Moves unmarked.old marked.old unmarked.new marked.new }
-    ensures made { IfOk result
+    ensures entry_is { IfOk result
         (λ e. IsMarkedEntry marked.new e
         × (span_formula (arena [] marked.new) e
         ≡ top (span_formulas (arena unmarked.old marked.old) stack.old.items))) }
@@ -395,12 +395,12 @@ fn replace_by_formula<A: Allocator>(
     long: &mut Vec<Sym, A>,
 ) -> Result<(), StepRefused>
     requires below { below ≤ vec_len stack.old }
-    requires formula { All (IsBelow (length (drop below stack.old.items))) formula.now }
+    requires formula { All (IsVariableBelow (length (drop below stack.old.items))) formula.now }
     requires stack { IsStack unmarked.old marked.now stack.old.items }
-    ensures stack { (w : ℕ) → All (IsKnown w) formula.now
+    ensures stack { (w : ℕ) → All (IsConstantBelow w) formula.now
         → IsStackOf w unmarked.old marked.now stack.old.items
         → IsStackOf w unmarked.new marked.now stack.new.items }
-    ensures made { OnOk result
+    ensures entries { OnOk result
         (entries_after (arena unmarked.old marked.now) stack.old.items below formula.now
         ≡ Ok (span_formulas (arena unmarked.new marked.now) stack.new.items)) }
     ensures stopped { IfErr result
@@ -431,12 +431,12 @@ fn replace_by_long_formula<A: Allocator>(
     long: &mut Vec<Sym, A>,
 ) -> Result<(), StepRefused>
     requires below { below ≤ vec_len stack.old }
-    requires formula { All (IsBelow (length (drop below stack.old.items))) formula.now }
+    requires formula { All (IsVariableBelow (length (drop below stack.old.items))) formula.now }
     requires stack { IsStack unmarked.old marked.now stack.old.items }
-    ensures stack { (w : ℕ) → All (IsKnown w) formula.now
+    ensures stack { (w : ℕ) → All (IsConstantBelow w) formula.now
         → IsStackOf w unmarked.old marked.now stack.old.items
         → IsStackOf w unmarked.new marked.now stack.new.items }
-    ensures made { OnOk result
+    ensures entries { OnOk result
         (entries_after (arena unmarked.old marked.now) stack.old.items below formula.now
         ≡ Ok (span_formulas (arena unmarked.new marked.now) stack.new.items)) }
     ensures stopped { IfErr result

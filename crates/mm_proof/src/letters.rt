@@ -23,7 +23,7 @@ use std::alloc::{AllocError, Allocator};
 use std::marker::Model;
 
 /// The number of marks for which room is reserved at first. Most proofs have fewer.
-const ROOM: usize = 64;
+const MARKS_ROOM: usize = 64;
 
 /// The number to which the next letter belongs, if that is a letter of a number.
 #[derive(Clone, Copy)]
@@ -36,7 +36,7 @@ pub(crate) struct BegunNumber {
 }
 
 /// A number with one more digit.
-fn begun_by(number: BegunNumber, base: u64, digit: u64) -> BegunNumber
+fn with_next_digit(number: BegunNumber, base: u64, digit: u64) -> BegunNumber
     requires base { base ≤ 20 }
     requires digit { digit ≤ 20 }
     ensures at { result.at ≡ number.at }
@@ -81,17 +81,17 @@ impl<A: Allocator> Model for LettersRead<A> {
 }
 
 impl<A: Allocator> LettersRead<A> {
-    /// No letters read yet, of at most `most` letters. `labels` has the statements whose labels
-    /// have numbers.
-    pub(crate) fn none(alloc: A, theorem: u32, labels: Vec<u32, A>, most: usize) -> Self
+    /// No letters read yet, of at most `max_letters` letters. `labels` has the statements whose
+    /// labels have numbers.
+    pub(crate) fn none(alloc: A, theorem: u32, labels: Vec<u32, A>, max_letters: usize) -> Self
     where
         A: Copy,
         ensures { result ≡ letters_state theorem labels.items [] None [] }
     {
         LettersRead {
             labels,
-            marks: with_room(alloc, ROOM),
-            steps: Steps::none(alloc, theorem, most),
+            marks: with_room(alloc, MARKS_ROOM),
+            steps: Steps::none(alloc, theorem, max_letters),
         }
     }
 
@@ -104,7 +104,7 @@ impl<A: Allocator> LettersRead<A> {
 
     /// The step that a number names, if it names one. `value` is the number's value, or the
     /// greatest 64-bit number if that is smaller.
-    fn named(&self, value: u64) -> Option<Step>
+    fn step_named(&self, value: u64) -> Option<Step>
         requires { 0 < value }
         ensures step { (n : ℕ) → value ≡ saturated n
             → step_of self.now.labels self.now.marks n ≡ named_steps result }
@@ -151,8 +151,8 @@ impl<A: Allocator> LettersRead<A> {
         ensures refuses { IfErr result (λ e. (byte : ℕ) → IsLetter byte (Last digit)
             → RefusesLetters (with_number self.old (if_begun number)) (letter _at byte ∷ []) e) }
     {
-        let begun = begun_by(number, 20, digit);
-        let Some(step) = self.named(begun.value) else {
+        let begun = with_next_digit(number, 20, digit);
+        let Some(step) = self.step_named(begun.value) else {
             return Err(refused(begun.at, Code::NumberTooLarge));
         };
         self.add_step(begun.at, step)?;
@@ -190,7 +190,7 @@ impl<A: Allocator> LettersRead<A> {
     {
         match letter_of(byte) {
             LetterKind::Early(digit) => {
-                *number = begun_by(*number, 5, digit);
+                *number = with_next_digit(*number, 5, digit);
                 Ok(())
             }
             LetterKind::Last(digit) => {

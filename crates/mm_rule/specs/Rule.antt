@@ -42,19 +42,19 @@ all_parts parts j (a ∷ more) =
     hypothesis_parts parts j a ∷ all_parts (drop (part_count a) parts) (suc j) more
 
 -- how many parts are kept for all hypotheses
-abbrev pub count_parts : List Hypothesis → ℕ
-count_parts [] = 0
-count_parts (a ∷ more) = part_count a + count_parts more
+abbrev pub total_part_count : List Hypothesis → ℕ
+total_part_count [] = 0
+total_part_count (a ∷ more) = part_count a + total_part_count more
 
 -- if the part is a variable, its place is one of `n` hypotheses
-abbrev pub IsBelow : ℕ → RuleSymbol → Type 0
-IsBelow n (Constant s) = Unit {0}
-IsBelow n (Variable j) = j < n
+abbrev pub IsVariableBelow : ℕ → RuleSymbol → Type 0
+IsVariableBelow n (Constant s) = Unit {0}
+IsVariableBelow n (Variable j) = j < n
 
 -- if the part is a constant, it is one of `n` symbols
-abbrev pub IsKnown : ℕ → RuleSymbol → Type 0
-IsKnown n (Constant s) = s < n
-IsKnown n (Variable j) = Unit {0}
+abbrev pub IsConstantBelow : ℕ → RuleSymbol → Type 0
+IsConstantBelow n (Constant s) = s < n
+IsConstantBelow n (Variable j) = Unit {0}
 
 pub record Compiled : Type 0 where
   pub assertion : ℕ
@@ -79,12 +79,12 @@ compiled k hypotheses pairs parts formula =
 pub record IsCompiled (db : List Statement) (c : Compiled) : Type 0 where
   pub is_assertion : is_assertion_at db c.assertion ≡ true
   pub complete : IsComplete (context_at db 0) (frame_at db c.assertion)
-  pub count : count_parts c.hypotheses ≡ length c.parts
-  pub parts_in : All (IsBelow (length c.hypotheses)) c.parts
+  pub count : total_part_count c.hypotheses ≡ length c.parts
+  pub parts_in : All (IsVariableBelow (length c.hypotheses)) c.parts
   pub pairs_in : All (λ (p : ℕ × ℕ). (p.0 < length c.hypotheses) × (p.1 < length c.hypotheses))
       c.pairs
-  pub formula_in : All (IsBelow (length c.hypotheses)) c.formula
-  pub formula_known : All (IsKnown (length (symbol_names db))) c.formula
+  pub formula_in : All (IsVariableBelow (length c.hypotheses)) c.formula
+  pub formula_known : All (IsConstantBelow (length (symbol_names db))) c.formula
   pub hypotheses_are : all_parts c.parts 0 c.hypotheses
       ≡ map (parts_of db (frame_at db c.assertion).hypotheses) (frame_at db c.assertion).hypotheses
   pub pairs_are : c.pairs

@@ -18,7 +18,7 @@ use Rattle.mm_rule.specs.declared.rule.RuleSymbol.TheVariants.{Constant, Variabl
 use Rattle.mm_rule.specs.declared.rule.Hypothesis.{Hypothesis}
 use Rattle.mm_rule.specs.declared.rule.Hypothesis.TheVariants.{Floating, Essential}
 use Rattle.mm_rule.specs.Rule.{floating_index, parts_of, part_count, hypothesis_parts, all_parts}
-use Rattle.mm_rule.specs.Rule.{count_parts, IsBelow, IsKnown}
+use Rattle.mm_rule.specs.Rule.{total_part_count, IsVariableBelow, IsConstantBelow}
 use Rattle.mm_rule.specs.Rule.{compiled, IsCompiled}
 use Rattle.mm_rules.specs.Rules.{AreCovered, AreFirstNumbers, AreCompiled, numbered_parts}
 use Rattle.mm_rules.specs.Rules.{numbered_pairs}
@@ -57,7 +57,7 @@ first_stays parts more n (Essential k) h = take-append-le k parts more h
 
 -- and one hypothesis more, for which they are kept
 all_parts_push : (parts more : List RuleSymbol) (n : ℕ) (xs : List Hypothesis) (a : Hypothesis)
-    → count_parts xs ≡ length parts
+    → total_part_count xs ≡ length parts
     → all_parts (parts ++ more) n (xs ++ a ∷ [])
     ≡ all_parts parts n xs ++ hypothesis_parts more (n + length xs) a ∷ []
 all_parts_push parts more n [] a h =
@@ -68,7 +68,7 @@ all_parts_push parts more n (x ∷ xs) a h =
     let e : suc n + length xs ≡ n + suc (length xs) = omega arith in
     let within : part_count x ≤ length parts = omega (arith, h) in
     let rest = drop (part_count x) parts in
-    let kept : count_parts xs ≡ length rest =
+    let kept : total_part_count xs ≡ length rest =
     omega (arith, h, length-drop (part_count x) parts) in
     ap₂ (λ u us. u ∷ us) (first_stays parts more n x within)
     (ap (λ z. all_parts z (suc n) (xs ++ a ∷ [])) (drop-append-le (part_count x) parts more within)
@@ -76,14 +76,14 @@ all_parts_push parts more n (x ∷ xs) a h =
     ∙ ap (λ m. all_parts rest (suc n) xs ++ hypothesis_parts more m a ∷ []) e)
 
 count_push : (xs : List Hypothesis) (a : Hypothesis)
-    → count_parts (xs ++ a ∷ []) ≡ count_parts xs + part_count a
+    → total_part_count (xs ++ a ∷ []) ≡ total_part_count xs + part_count a
 count_push [] a = omega arith
 count_push (x ∷ xs) a = let e = count_push xs a in omega (arith, e)
 
 -- what one hypothesis more asks: a typecode
 pub typed_more : (parts : List RuleSymbol) (xs : List Hypothesis) (j t : ℕ)
     → (us : List (List RuleSymbol))
-    → length xs ≡ j → count_parts xs ≡ length parts → all_parts parts 0 xs ≡ us
+    → length xs ≡ j → total_part_count xs ≡ length parts → all_parts parts 0 xs ≡ us
     → all_parts parts 0 (xs ++ Floating t ∷ []) ≡ us ++ (Constant t ∷ Variable j ∷ []) ∷ []
 typed_more parts xs j t us n kept e =
     let at : 0 + length xs ≡ j = omega (arith, n) in
@@ -92,54 +92,55 @@ typed_more parts xs j t us n kept e =
     ∙ ap₂ (λ u m. u ++ hypothesis_parts [] m (Floating t) ∷ []) e at
 
 pub typed_kept : (parts : List RuleSymbol) (xs : List Hypothesis) (t : ℕ)
-    → count_parts xs ≡ length parts → count_parts (xs ++ Floating t ∷ []) ≡ length parts
+    → total_part_count xs ≡ length parts → total_part_count (xs ++ Floating t ∷ []) ≡ length parts
 typed_kept parts xs t kept = let e = count_push xs (Floating t) in omega (arith, e, kept)
 
 -- or the parts of its formula
 module _ (parts more : List RuleSymbol) (xs : List Hypothesis) (n : ℕ) (long : n ≡ length more)
-    (kept : count_parts xs ≡ length parts) where
+    (kept : total_part_count xs ≡ length parts) where
   pub essential_more : (us : List (List RuleSymbol)) → all_parts parts 0 xs ≡ us
       → all_parts (parts ++ more) 0 (xs ++ Essential n ∷ []) ≡ us ++ more ∷ []
   essential_more us e =
       all_parts_push parts more 0 xs (Essential n) kept
       ∙ ap₂ (λ u z. u ++ z ∷ []) e (take_all n more (omega (arith, long)))
 
-  pub essential_kept : count_parts (xs ++ Essential n ∷ []) ≡ length (parts ++ more)
+  pub essential_kept : total_part_count (xs ++ Essential n ∷ []) ≡ length (parts ++ more)
   essential_kept =
       let e = count_push xs (Essential n) in
       omega (arith, e, kept, long, length-append parts more)
 
 module _ (db : List Statement) (hs : List Formula) where
   pub parts_below : (f : Formula) → AreCovered db hs f
-      → All (IsBelow (length hs)) (parts_of db hs f)
+      → All (IsVariableBelow (length hs)) (parts_of db hs f)
   parts_below f h =
-      All-from_recursion (IsBelow (length hs)) (parts_of db hs f)
+      All-from_recursion (IsVariableBelow (length hs)) (parts_of db hs f)
       (each_is_below f (recursion_from_All
       (λ x. is_variable_number db x ≡ true → IsBound (context_at db 0) hs x) f h))
     where
       one : (s : ℕ) (v : Bool) → (v ≡ true → IsBound (context_at db 0) hs s)
-          → IsBelow (length hs) (cond v (Variable (floating_index db hs s)) (Constant s))
+          → IsVariableBelow (length hs) (cond v (Variable (floating_index db hs s)) (Constant s))
       one s true b = first_below db hs s (b refl)
       one s false b = tt
 
       each_is_below : (f : Formula)
           → AllByRecursion (λ x. is_variable_number db x ≡ true → IsBound (context_at db 0) hs x) f
-          → AllByRecursion (IsBelow (length hs)) (parts_of db hs f)
+          → AllByRecursion (IsVariableBelow (length hs)) (parts_of db hs f)
       each_is_below [] h = tt
       each_is_below (s ∷ f) h = (one s (is_variable_number db s) h.0, each_is_below f h.1)
 
-  pub parts_known : (n : ℕ) (f : Formula) → All (λ s. s < n) f → All (IsKnown n) (parts_of db hs f)
+  pub parts_known : (n : ℕ) (f : Formula) → All (λ s. s < n) f
+      → All (IsConstantBelow n) (parts_of db hs f)
   parts_known n f h =
-      All-from_recursion (IsKnown n) (parts_of db hs f)
+      All-from_recursion (IsConstantBelow n) (parts_of db hs f)
       (each_is_known f (recursion_from_All (λ s. s < n) f h))
     where
       one : (s : ℕ) (v : Bool) → s < n
-          → IsKnown n (cond v (Variable (floating_index db hs s)) (Constant s))
+          → IsConstantBelow n (cond v (Variable (floating_index db hs s)) (Constant s))
       one s true l = tt
       one s false l = l
 
       each_is_known : (f : Formula) → AllByRecursion (λ s. s < n) f
-          → AllByRecursion (IsKnown n) (parts_of db hs f)
+          → AllByRecursion (IsConstantBelow n) (parts_of db hs f)
       each_is_known [] h = tt
       each_is_known (s ∷ f) h = (one s (is_variable_number db s) h.0, each_is_known f h.1)
 
@@ -233,10 +234,10 @@ module _ (db : List Statement) (a : ℕ) (is : is_assertion_at db a ≡ true)
       → AreFirstNumbers db frame_hyps numbers → pairs ≡ numbered_pairs numbers from
       → formula ≡ parts_of db frame_hyps f
       → IsCompiled db (compiled a hypotheses pairs parts formula)
-  rule_is from f numbers hypotheses pairs parts formula pairs_is f_is known made placed
+  rule_is from f numbers hypotheses pairs parts formula pairs_is f_is known compiled_parts placed
       pairs_made formula_made =
       let same : length hypotheses ≡ length frame_hyps =
-      made.count ∙ sym (length-map (mandatory_hypotheses db a) (formula_at db)) in
+      compiled_parts.count ∙ sym (length-map (mandatory_hypotheses db a) (formula_at db)) in
       let bound = subst (λ (ps : List Pair). AllByRecursion (Both db frame_hyps) ps) (sym pairs_is)
       complete.pairs in
       let pairs_are : pairs
@@ -253,8 +254,9 @@ module _ (db : List Statement) (a : ℕ) (is : is_assertion_at db a ≡ true)
       record {
         is_assertion = is;
         complete = complete;
-        count = made.kept;
-        parts_in = subst (λ n. All (IsBelow n) parts) (sym made.count) made.below;
+        count = compiled_parts.kept;
+        parts_in = subst (λ n. All (IsVariableBelow n) parts) (sym compiled_parts.count)
+            compiled_parts.below;
         pairs_in =
             rw (pairs_are, same) (pairs_below db frame_hyps (mandatory_pairs db a) complete.pairs);
         formula_in =
@@ -263,12 +265,12 @@ module _ (db : List Statement) (a : ℕ) (is : is_assertion_at db a ≡ true)
             (covered db frame_hyps (formula_at db a) complete.formula));
         formula_known =
             rw formula_made (parts_known db frame_hyps (length (symbol_names db)) f known);
-        hypotheses_are = made.parts_are;
+        hypotheses_are = compiled_parts.parts_are;
         pairs_are = pairs_are;
         formula_is = formula_are;
       }
 
-  pub made_rule : (hyps : List ℕ) (from : List (ℕ × ℕ)) (f : Formula) (numbers : List ℕ)
+  pub is_compiled_rule : (hyps : List ℕ) (from : List (ℕ × ℕ)) (f : Formula) (numbers : List ℕ)
       → (hypotheses : List Hypothesis) (pairs : List (ℕ × ℕ)) (parts formula : List RuleSymbol)
       → hyps ≡ mandatory_hypotheses db a → paired from ≡ mandatory_pairs db a → f ≡ formula_at db a
       → All (λ s. s < length (symbol_names db)) f
@@ -276,10 +278,11 @@ module _ (db : List Statement) (a : ℕ) (is : is_assertion_at db a ≡ true)
       → AreFirstNumbers db (map (formula_at db) hyps) numbers → pairs ≡ numbered_pairs numbers from
       → formula ≡ parts_of db (map (formula_at db) hyps) f
       → IsCompiled db (compiled a hypotheses pairs parts formula)
-  made_rule hyps from f numbers hypotheses pairs parts formula hyps_is pairs_is f_is known made
+  is_compiled_rule hyps from f numbers hypotheses pairs parts formula hyps_is pairs_is f_is known
+  compiled_parts
       placed pairs_made formula_made =
       rule_is from f numbers hypotheses pairs parts formula pairs_is f_is known
-      (subst (λ (h : List ℕ). AreCompiled db h hypotheses parts) hyps_is made)
+      (subst (λ (h : List ℕ). AreCompiled db h hypotheses parts) hyps_is compiled_parts)
       (subst (λ (h : List ℕ). AreFirstNumbers db (map (formula_at db) h) numbers) hyps_is placed)
       pairs_made
       (subst (λ (h : List ℕ). formula ≡ parts_of db (map (formula_at db) h) f) hyps_is formula_made)

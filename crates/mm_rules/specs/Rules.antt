@@ -12,7 +12,7 @@ use Rattle.mm_rule.specs.declared.rule.Hypothesis.{Hypothesis}
 use Rattle.mm_rules.specs.declared.rules.RuleRanges.{RuleRanges}
 use Rattle.mm_rules.specs.declared.rules.IndexRange.{IndexRange}
 use Rattle.mm_rule.specs.Rule.{Compiled, compiled, IsCompiled, floating_index, parts_of, all_parts}
-use Rattle.mm_rule.specs.Rule.{count_parts, IsBelow}
+use Rattle.mm_rule.specs.Rule.{total_part_count, IsVariableBelow}
 
 -- for each variable that has a `$f`, the list has the place of the first one
 abbrev pub AreFirstNumbers : List Statement → List Formula → List ℕ → Type 0
@@ -42,8 +42,8 @@ pub record AreCompiled (db : List Statement) (hyps : List ℕ) (hypotheses : Lis
   pub parts_are : all_parts parts 0 hypotheses
       ≡ map (parts_of db (map (formula_at db) hyps)) (map (formula_at db) hyps)
   pub count : length hypotheses ≡ length hyps
-  pub kept : count_parts hypotheses ≡ length parts
-  pub below : All (IsBelow (length hyps)) parts
+  pub kept : total_part_count hypotheses ≡ length parts
+  pub below : All (IsVariableBelow (length hyps)) parts
 
 -- a compiler of rules: how many symbols it knows, and the rule that it compiled last
 pub record CompilerState : Type 0 where

@@ -251,7 +251,7 @@ impl<A: Allocator> RuleCompiler<A> {
         }
     }
 
-    /// Compiles the rule of assertion `assertion`.
+    /// Compiles the rule of an assertion.
     pub fn compile(&mut self, database: &Database<A>, assertion: u32) -> Result<(), AllocError>
         requires assertion { is_assertion_at database.now.statements assertion ≡ true }
         requires complete { IsComplete (context_at database.now.statements 0)

@@ -306,7 +306,7 @@ impl<A: Allocator> Rules<A> {
         }
     }
 
-    /// The rule with number `number`.
+    /// The rule with this number.
     pub fn rule(&self, _database: &Database<A>, number: usize) -> Rule<'_>
         requires rules { AreRules _database.now.statements self.now }
         requires ranges { number < length self.now.ranges }

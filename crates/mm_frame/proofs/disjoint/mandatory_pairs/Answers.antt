@@ -18,7 +18,8 @@ returns g c = ok_then c.symbol_pairs.result c.symbol_pairs.ensures (λ v e.
     let ps = c.args.sources.now.disjoint_index.now.pairs in
     let variables = c.args.variables.now in
     e ∙ ap (map (λ p. pair p.0 p.1)) c.deref-2.ensures.value
-    ∙ pairs_are db b c.blocks-2.ensures.theirs k h ps c.requires.sources.index_is.are variables
+    ∙ pairs_are db b c.blocks-2.ensures.theirs k h ps c.requires.sources.index_is.members_are
+    variables
     c.sort_and_dedup_pairs.new.pairs.items
     c.requires.variables
     (λ j y. c.sort_and_dedup_pairs.ensures.same j y

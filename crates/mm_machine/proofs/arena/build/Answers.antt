@@ -39,9 +39,9 @@ formula-requires g c =
     c.requires.formula
     c.loop-part-test.true c.part-item.is c.in-Variable.is c.replacement_of.ensures
 
-pub returns-then-len-gt-FORMULA_LIMIT-clause-made :
-    goal.returns-then-len-gt-FORMULA_LIMIT-clause-made
-returns-then-len-gt-FORMULA_LIMIT-clause-made g c = λ e. absurd (cc)
+pub returns-then-len-gt-FORMULA_LIMIT-clause-built :
+    goal.returns-then-len-gt-FORMULA_LIMIT-clause-built
+returns-then-len-gt-FORMULA_LIMIT-clause-built g c = λ e. absurd (cc)
 
 pub loop-part-preserved : goal.loop-part-preserved
 loop-part-preserved g c =
@@ -69,15 +69,15 @@ loop-part-preserved g c =
 
 pub returns-clause-short : goal.returns-clause-short
 returns-clause-short g c =
-    let made : c.loop-part.list.items
+    let list_is : c.loop-part.list.items
     ≡ replaced c.args.symbols.now c.args.premises.now c.args.formula.now =
     c.loop-part.invariant ∙ ap (replaced c.args.symbols.now c.args.premises.now)
     (take_all c.loop-part.part-index c.args.formula.now c.loop-part-test.false) in
     ap (λ n. nat_le n formula_limit)
-    (c.len-2.ensures ∙ c.loop-part.list.ok.0 ∙ ap length made)
+    (c.len-2.ensures ∙ c.loop-part.list.ok.0 ∙ ap length list_is)
 
-pub returns-clause-made : goal.returns-clause-made
-returns-clause-made g c = λ short.
+pub returns-clause-built : goal.returns-clause-built
+returns-clause-built g c = λ short.
     c.loop-part.invariant ∙ ap (replaced c.args.symbols.now c.args.premises.now)
     (take_all c.loop-part.part-index c.args.formula.now c.loop-part-test.false)
 
@@ -86,7 +86,7 @@ pub returns-in_err-append_symbols-in-Variable-clause-short :
 returns-in_err-append_symbols-in-Variable-clause-short g c =
     IfOk-from_err c.from_residual.result _ c.from_residual.ensures.0
 
-pub returns-in_err-append_symbols-in-Variable-clause-made :
-    goal.returns-in_err-append_symbols-in-Variable-clause-made
-returns-in_err-append_symbols-in-Variable-clause-made g c =
+pub returns-in_err-append_symbols-in-Variable-clause-built :
+    goal.returns-in_err-append_symbols-in-Variable-clause-built
+returns-in_err-append_symbols-in-Variable-clause-built g c =
     IfOk-from_err c.from_residual.result _ c.from_residual.ensures.0

@@ -16,8 +16,8 @@ returns-in_err-append-in-Unmarked-clause-moved g c =
 pub returns-in-Marked-clause-moved : goal.returns-in-Marked-clause-moved
 returns-in-Marked-clause-moved g c = no_move c.args.unmarked.now c.args.marked.now
 
-pub returns-in-Marked-clause-made : goal.returns-in-Marked-clause-made
-returns-in-Marked-clause-made g c =
+pub returns-in-Marked-clause-entry_is : goal.returns-in-Marked-clause-entry_is
+returns-in-Marked-clause-entry_is g c =
     let unmarked = c.args.unmarked.now in
     let marked = c.args.marked.now in
     let es = c.args.stack.now.items in
@@ -55,13 +55,13 @@ moved g c =
     ∙ ap (λ z. marked ++ slice_range z e.start e.end) c.as_slice.ensures in
     let start : c.len-start.result ≡ length marked = search rules in
     let end : c.len.result ≡ length c.append.new.self = search rules in
-    let made : span Marked c.len-start.result c.len.result
+    let span_is : span Marked c.len-start.result c.len.result
     ≡ span Marked (length marked) (length (marked ++ more)) = ap₂ (span Marked) start
     (end ∙ ap length grown) in
     moved_here unmarked marked es last e is_last is c.requires.stack c.in-Unmarked.is
     c.truncate.new.self
     c.append.new.self
-    (span Marked c.len-start.result c.len.result) c.truncate.ensures grown made
+    (span Marked c.len-start.result c.len.result) c.truncate.ensures grown span_is
 
 pub returns-in_ok-append-in-Unmarked-clause-stack :
     goal.returns-in_ok-append-in-Unmarked-clause-stack
@@ -75,7 +75,7 @@ pub returns-in_ok-append-in-Unmarked-clause-moved :
     goal.returns-in_ok-append-in-Unmarked-clause-moved
 returns-in_ok-append-in-Unmarked-clause-moved g c = (moved g c).moves
 
-pub returns-in_ok-append-in-Unmarked-clause-made :
-    goal.returns-in_ok-append-in-Unmarked-clause-made
-returns-in_ok-append-in-Unmarked-clause-made g c =
+pub returns-in_ok-append-in-Unmarked-clause-entry_is :
+    goal.returns-in_ok-append-in-Unmarked-clause-entry_is
+returns-in_ok-append-in-Unmarked-clause-entry_is g c =
     ((moved g c).is_marked, (moved g c).on_top)

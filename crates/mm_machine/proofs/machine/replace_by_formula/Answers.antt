@@ -7,13 +7,13 @@ use Rattle.mm_machine.proofs.machine.replace_by_formula.Given.{Over}
 use Rattle.mm_machine.proofs.machine.replace_by_formula.Goals.{In-Some}
 use Rattle.mm_machine.proofs.machine.replace_by_formula.Goals as goal
 
--- the formula that was made
-made_here : (g : Over) (c : In-Some g)
+-- the formula that was built
+formula_is : (g : Over) (c : In-Some g)
     → take c.in-Some.n c.fill.new.list
     ≡ replaced (arena c.args.unmarked.now c.args.marked.now)
     (drop c.args.below c.args.stack.now.items)
     c.args.formula.now
-made_here g c =
+formula_is g c =
     c.in-Some.ensures.is
     ∙ same_formula c.args.unmarked.now c.args.marked.now c.args.stack.now.items c.args.below
     c.args.formula.now c.as_slice.result.now c.deref.result.now c.as_slice.ensures
@@ -24,21 +24,21 @@ returns-in-Err-clause-stack g c = λ w known is.
     c.replace_from.ensures.stack w c.args.marked.now
     (made_known c.args.unmarked.now c.args.marked.now c.args.stack.now.items c.args.below
     c.args.formula.now (take c.in-Some.n c.fill.new.list)
-    (made_here g (goal.at.returns-in-Err-clause-stack g c).In-Some) w is known) is
+    (formula_is g (goal.at.returns-in-Err-clause-stack g c).In-Some) w is known) is
 
 pub returns-in-Ok-clause-stack : goal.returns-in-Ok-clause-stack
 returns-in-Ok-clause-stack g c = λ w known is.
     c.replace_from.ensures.stack w c.args.marked.now
     (made_known c.args.unmarked.now c.args.marked.now c.args.stack.now.items c.args.below
     c.args.formula.now (take c.in-Some.n c.fill.new.list)
-    (made_here g (goal.at.returns-in-Ok-clause-stack g c).In-Some) w is known) is
+    (formula_is g (goal.at.returns-in-Ok-clause-stack g c).In-Some) w is known) is
 
-pub returns-in-Ok-clause-made : goal.returns-in-Ok-clause-made
-returns-in-Ok-clause-made g c =
+pub returns-in-Ok-clause-entries : goal.returns-in-Ok-clause-entries
+returns-in-Ok-clause-entries g c =
     placed c.args.unmarked.now c.args.marked.now c.args.stack.now.items c.args.below
     c.args.formula.now
     (take c.in-Some.n c.fill.new.list)
-    (made_here g (goal.at.returns-in-Ok-clause-made g c).In-Some)
+    (formula_is g (goal.at.returns-in-Ok-clause-entries g c).In-Some)
     (short_enough c.in-Some.n c.fill.new.list c.in-Some.ensures.short)
     ∙ ap Ok (sym (c.in-Ok.ensures.formulas c.args.marked.now c.requires.stack))
 

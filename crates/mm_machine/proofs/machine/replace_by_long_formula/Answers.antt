@@ -8,14 +8,14 @@ use Rattle.mm_machine.proofs.machine.replace_by_long_formula.Given.{Over}
 use Rattle.mm_machine.proofs.machine.replace_by_long_formula.Goals.{After-replace_from}
 use Rattle.mm_machine.proofs.machine.replace_by_long_formula.Goals as goal
 
--- the formula that was made
-made_here : (g : Over) (c : After-replace_from g)
+-- the formula that was built
+formula_is : (g : Over) (c : After-replace_from g)
     → c.deref-in-Ok-true.result.now
     ≡ replaced (arena c.args.unmarked.now c.args.marked.now)
     (drop c.args.below c.args.stack.now.items)
     c.args.formula.now
-made_here g c =
-    c.deref-in-Ok-true.ensures.value ∙ c.in-Ok-true.ensures.made c.in-Ok-true.field-0-test
+formula_is g c =
+    c.deref-in-Ok-true.ensures.value ∙ c.in-Ok-true.ensures.built c.in-Ok-true.field-0-test
     ∙ same_formula c.args.unmarked.now c.args.marked.now c.args.stack.now.items c.args.below
     c.args.formula.now c.as_slice.result.now c.deref.result.now c.as_slice.ensures
     c.deref.ensures.value
@@ -25,7 +25,7 @@ returns-in-Err-replace_from-clause-stack g c = λ w known is.
     c.replace_from.ensures.stack w c.args.marked.now
     (made_known c.args.unmarked.now c.args.marked.now c.args.stack.now.items c.args.below
     c.args.formula.now c.deref-in-Ok-true.result.now
-    (made_here g (goal.at.returns-in-Err-replace_from-clause-stack g c).After-replace_from) w is
+    (formula_is g (goal.at.returns-in-Err-replace_from-clause-stack g c).After-replace_from) w is
     known) is
 
 pub returns-in-Ok-clause-stack : goal.returns-in-Ok-clause-stack
@@ -33,16 +33,16 @@ returns-in-Ok-clause-stack g c = λ w known is.
     c.replace_from.ensures.stack w c.args.marked.now
     (made_known c.args.unmarked.now c.args.marked.now c.args.stack.now.items c.args.below
     c.args.formula.now c.deref-in-Ok-true.result.now
-    (made_here g (goal.at.returns-in-Ok-clause-stack g c).After-replace_from) w is known) is
+    (formula_is g (goal.at.returns-in-Ok-clause-stack g c).After-replace_from) w is known) is
 
-pub returns-in-Ok-clause-made : goal.returns-in-Ok-clause-made
-returns-in-Ok-clause-made g c =
+pub returns-in-Ok-clause-entries : goal.returns-in-Ok-clause-entries
+returns-in-Ok-clause-entries g c =
     let first =
-    c.deref-in-Ok-true.ensures.value ∙ c.in-Ok-true.ensures.made c.in-Ok-true.field-0-test in
+    c.deref-in-Ok-true.ensures.value ∙ c.in-Ok-true.ensures.built c.in-Ok-true.field-0-test in
     placed c.args.unmarked.now c.args.marked.now c.args.stack.now.items c.args.below
     c.args.formula.now
     c.deref-in-Ok-true.result.now
-    (made_here g (goal.at.returns-in-Ok-clause-made g c).After-replace_from)
+    (formula_is g (goal.at.returns-in-Ok-clause-entries g c).After-replace_from)
     (ap (λ z. nat_le (length z) formula_limit) first ∙ sym c.in-Ok-true.ensures.short
     ∙ c.in-Ok-true.field-0-test)
     ∙ ap Ok (sym (c.in-Ok.ensures.formulas c.args.marked.now c.requires.stack))

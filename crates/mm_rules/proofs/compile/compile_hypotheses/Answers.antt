@@ -5,7 +5,7 @@ use Rattle.std.proofs.lemmas.List.Elements.{All-append}
 use Rattle.mm_spec.specs.Frame.{formula_at}
 use Rattle.mm_rule.specs.declared.rule.RuleSymbol.TheVariants.{Constant, Variable}
 use Rattle.mm_rule.specs.declared.rule.Hypothesis.TheVariants.{Floating, Essential}
-use Rattle.mm_rule.specs.Rule.{part_of, parts_of, IsBelow}
+use Rattle.mm_rule.specs.Rule.{part_of, parts_of, IsVariableBelow}
 use Rattle.mm_rules.specs.Rules.{AreCovered, numbered_parts}
 use Rattle.mm_rules.proofs.RuleLaw.{map_take_more, map_push, typed_more, typed_kept}
 use Rattle.mm_rules.proofs.RuleLaw.{essential_more, essential_kept, parts_below, numbered_same}
@@ -45,8 +45,8 @@ loop-index-preserved g c =
           let one : parts_of db hs f ≡ Constant t ∷ Variable j ∷ [] =
           sym same ∙ first.1 ∙ ap (λ z. Constant z ∷ Variable j ∷ []) typecode in
           rw (w.hypotheses-is, w.parts-is, w.in_ok-push.ensures.items) (record {
-            made =
-                typed_more parts hypotheses j t us v.count v.kept v.made
+            parts_are =
+                typed_more parts hypotheses j t us v.count v.kept v.parts_are
                 ∙ ap (λ z. us ++ z ∷ []) (sym one) ∙ sym next;
             count = omega (arith, v.count, length-append hypotheses (Floating t ∷ []));
             kept = typed_kept parts hypotheses t v.kept;
@@ -64,12 +64,13 @@ loop-index-preserved g c =
             w.in_ok-push-2.ensures.items,
             grown,
           ) (record {
-            made = essential_more parts more hypotheses n long v.kept us v.made ∙ sym next;
+            parts_are = essential_more parts more hypotheses n long v.kept us v.parts_are
+                ∙ sym next;
             count = omega (arith, v.count, length-append hypotheses (Essential n ∷ []));
             kept = essential_kept parts more hypotheses n long v.kept;
             below =
-                All-append (IsBelow (length hyps)) parts more v.below
-                (subst (λ n. All (IsBelow n) more) (length-map hyps (formula_at db))
+                All-append (IsVariableBelow (length hyps)) parts more v.below
+                (subst (λ n. All (IsVariableBelow n) more) (length-map hyps (formula_at db))
                 (parts_below db hs f covered));
           })
     ]
@@ -82,7 +83,7 @@ returns g c = let db = c.args.database.now.statements in
     let hs = map (formula_at db) c.args.hyps.now in
     record {
       parts_are =
-          c.loop-index.invariant.made
+          c.loop-index.invariant.parts_are
           ∙ ap (λ z. map (parts_of db hs) (map (formula_at db) z))
           (take_all c.loop-index.index c.args.hyps.now c.loop-index-test.false);
       count =

@@ -60,6 +60,7 @@ returns-clause-performs g c =
           (applies db t _ c.args.assertion c.requires.good c.requires.assertion c.apply.new.self
           c.add.new.self c.apply.new.cache
           (subst (λ a. applied db t a c.self.inside.machine.stack ≡ Ok c.apply.new.self.stack)
-          c.rule_of-rule.ensures.is ok.made) ok.marks ok.formulas ok.entry w.in-Ok-add.ensures)
+          c.rule_of-rule.ensures.is ok.entries_are) ok.marks ok.formulas ok.entry
+          w.in-Ok-add.ensures)
       | in-Err-add w ↦ rw w.result-is tt
     ]

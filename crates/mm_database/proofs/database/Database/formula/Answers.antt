@@ -4,12 +4,13 @@ use Rattle.mm_spec.specs.Frame.{symbol_names, formula_at}
 use Rattle.mm_spec.specs.Text.{Bytes}
 use Rattle.mm_spec.proofs.OpenedLaw.{counted_formula, counted_names}
 use Rattle.mm_database.specs.Database.{Contents}
-use Rattle.mm_database.proofs.DatabaseLaw.{as_many}
+use Rattle.mm_database.proofs.DatabaseLaw.{as_many_statements}
 use Rattle.mm_database.proofs.database.Database.formula.Goals as goal
 
 pub formula-requires : goal.formula-requires
 formula-requires g c =
-    let n = as_many _ _ _ _ _ c.self.view_is in let there = c.requires in omega (arith, n, there)
+    let n = as_many_statements _ _ _ _ _ c.self.view_is in let there = c.requires in omega
+    (arith, n, there)
 
 pub returns-clause-formula : goal.returns-clause-formula
 returns-clause-formula g c =

@@ -9,7 +9,7 @@ use Rattle.mm_spec.specs.Frame.{mandatory_hypotheses, mandatory_pairs}
 use Rattle.mm_spec.proofs.OpenedLaw.{counted_any, counted_hypotheses, counted_pairs}
 use Rattle.mm_database.specs.Database.{Contents}
 use Rattle.mm_database.specs.Frames.{Mandatory, mandatory_at, mandatory_in}
-use Rattle.mm_database.proofs.DatabaseLaw.{as_many}
+use Rattle.mm_database.proofs.DatabaseLaw.{as_many_statements}
 use Rattle.mm_database.proofs.FrameIndicesLaw.{frame_there}
 use Rattle.mm_database.proofs.database.Database.frame.Goals as goal
 
@@ -47,7 +47,7 @@ returns g c =
           ∙ ap (λ (f : ℕ → List Pair). f k) (sym (counted_pairs with_open db))
           ∙ ap (λ (n : Contents). mandatory_pairs n.statements k) c.self.view_is;
       few =
-          (let same = as_many _ _ _ _ _ c.self.view_is in
+          (let same = as_many_statements _ _ _ _ _ c.self.view_is in
           let few = c.self.invariant.few in
           omega (arith, same, few));
     }

@@ -1,6 +1,6 @@
 use Rattle.std.proofs.Common.{◌∙◌, length, get_or, take, drop, ◌-◌, Some, sym, ap, arith}
 use Rattle.mm_database.specs.Database.{Contents}
-use Rattle.mm_database.proofs.DatabaseLaw.{as_many}
+use Rattle.mm_database.proofs.DatabaseLaw.{as_many_statements}
 use Rattle.mm_database.proofs.RetainedWordsLaw.{retained_below, some_are_retained, word_within}
 use Rattle.mm_database.proofs.RetainedWordsLaw.{label_is_retained}
 use Rattle.mm_database.proofs.RetainedWordsLaw.{label_missing}
@@ -8,7 +8,8 @@ use Rattle.mm_database.proofs.database.Database.label.Goals as goal
 
 pub kind-requires : goal.kind-requires
 kind-requires g c =
-    let n = as_many _ _ _ _ _ c.self.view_is in let there = c.requires in omega (arith, n, there)
+    let n = as_many_statements _ _ _ _ _ c.self.view_is in let there = c.requires in omega
+    (arith, n, there)
 
 pub get-requires : goal.get-requires
 get-requires g c = retained_below _ _ _ _ _ c.self.view_is _ c.requires _

@@ -1,12 +1,12 @@
 use Rattle.std.proofs.Common.{◌∙◌, length, subst, sym, ap, arith}
 use Rattle.mm_spec.specs.Laws.Complete.{AreComplete}
 use Rattle.mm_database.specs.Database.{Contents}
-use Rattle.mm_database.proofs.DatabaseLaw.{as_many, read_complete}
+use Rattle.mm_database.proofs.DatabaseLaw.{as_many_statements, read_complete}
 use Rattle.mm_database.proofs.LengthLaw.{statements_few}
 use Rattle.mm_database.proofs.database.Database.len.Goals as goal
 
 pub returns-clause-len : goal.returns-clause-len
-returns-clause-len g c = c.len.ensures.len ∙ sym (as_many _ _ _ _ _ c.self.view_is)
+returns-clause-len g c = c.len.ensures.len ∙ sym (as_many_statements _ _ _ _ _ c.self.view_is)
 
 pub returns-clause-complete : goal.returns-clause-complete
 returns-clause-complete g c =

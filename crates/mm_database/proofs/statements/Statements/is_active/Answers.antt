@@ -9,7 +9,7 @@ use Rattle.mm_outline.specs.Parts.{statement_of}
 use Rattle.mm_outline.specs.Statements.{active_kind}
 use Rattle.mm_outline.proofs.ActiveLaw.{active_is}
 use Rattle.mm_database.specs.ParsedStatements.{ParsedStatements}
-use Rattle.mm_database.proofs.DatabaseLaw.{outline_there}
+use Rattle.mm_database.proofs.DatabaseLaw.{has_outline}
 use Rattle.mm_database.proofs.statements.Statements.is_active.Goals as goal
 
 pub returns-then-statement-at : goal.returns-then-statement-at
@@ -25,7 +25,7 @@ returns-then-statement-at g c =
     let m = length-map os (statement_of f.text.now ws) in
     let at = c.requires.at in
     let within : k ≤ length os = omega (arith, n, m, at) in
-    let there = outline_there f.text.now ws os b _ c.self.view_is j c.requires.statement in
+    let there = has_outline f.text.now ws os b _ c.self.view_is j c.requires.statement in
     let law = active_is f.text.now ws os b c.self.invariant.blocks j k there within o in
     let test : (nat_lt j k && active_kind (get_or os j o).kind (nat_le k (end_of b j)))
     ≡ active_kind o.kind (nat_le k (end_of b j)) =

@@ -37,7 +37,7 @@ returns-in-Ok g c =
             subst (Applies db c.args._theorem c.args.rule.now.assertion before)
             (sym c.in-Ok.ensures.ok)
             (record {
-              made =
+              entries_are =
                   alone_made db c.args._theorem c.args.rule.now c.requires.rule c.requires.alone es
                   (omega (arith, n, c.if-symbols-gt-FORMULA_LIMIT.false))
                   ∙ ap (λ f. Ok (es ++ f ∷ [])) (sym is);

@@ -59,24 +59,27 @@ returns-in-Ok-clause-step g c =
     let db = c.args.database.now.statements in
     let t = c.args.theorem in
     let a = c.args.rule.now.assertion in
-    let done = c.replace_by_formula in
+    let replacing = c.replace_by_formula in
     let judged = tested g (goal.at.returns-in-Ok-clause-step g c).In-Ok in
     let formulas = span_formulas (arena [] i.marked) i.marked_spans.items in
     let entries = span_formulas (arena i.unmarked i.marked) i.stack.items in
     let before = machine_state entries i.marks.items formulas i.symbol_count in
-    let left = span_formulas (arena done.new.unmarked i.marked) done.new.stack.items in
+    let left = span_formulas (arena replacing.new.unmarked i.marked) replacing.new.stack.items in
     let after = machine_state left i.marks.items formulas i.symbol_count in
-    subst (λ (s : MachineState). IsApplied db t a s after done.result) c.self.view_is
-    (applied_of db t a before after done.result
+    subst (λ (s : MachineState). IsApplied db t a s after replacing.result) c.self.view_is
+    (applied_of db t a before after replacing.result
     (step_made db t c.args.rule.now i.unmarked i.marked c.as_slice-in-Ok.result.now
     i.stack.items c.in-Ok.below c.formula.result.now c.as_slice-in-Ok.ensures c.formula.ensures
-    judged done.result done.new.unmarked done.new.stack.items done.ensures.made)
+    judged replacing.result replacing.new.unmarked replacing.new.stack.items
+    replacing.ensures.entries)
     (step_entry db t c.args.rule.now i.unmarked i.marked c.as_slice-in-Ok.result.now
     i.stack.items c.in-Ok.below c.formula.result.now c.as_slice-in-Ok.ensures c.formula.ensures
-    judged done.result done.new.unmarked done.new.stack.items done.ensures.made)
+    judged replacing.result replacing.new.unmarked replacing.new.stack.items
+    replacing.ensures.entries)
     (step_stopped db t c.args.rule.now i.unmarked i.marked c.as_slice-in-Ok.result.now
     i.stack.items c.in-Ok.below c.formula.result.now c.as_slice-in-Ok.ensures c.formula.ensures
-    judged done.result done.new.unmarked done.new.stack.items done.ensures.stopped)
+    judged replacing.result replacing.new.unmarked replacing.new.stack.items
+    replacing.ensures.stopped)
     refl refl refl)
 
 pub test_rule-requires-clause-stack : goal.test_rule-requires-clause-stack

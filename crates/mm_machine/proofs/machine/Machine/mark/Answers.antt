@@ -36,7 +36,7 @@ invariant_of-self-in_err-push-2 g c =
     (moved_machine i.unmarked i.marked i.stack.items i.marks.items i.marked_spans.items
     i.symbol_count
     new.unmarked new.marked new.stack.items c.self.invariant c.move_to_marked.ensures.moved
-    c.move_to_marked.ensures.stack) c.in_ok-span.ensures.made.0)
+    c.move_to_marked.ensures.stack) c.in_ok-span.ensures.entry_is.0)
 
 pub invariant_of-self-2 : goal.invariant_of-self-2
 invariant_of-self-2 g c =
@@ -51,7 +51,7 @@ invariant_of-self-2 g c =
     (moved_machine i.unmarked i.marked i.stack.items i.marks.items i.marked_spans.items
     i.symbol_count
     new.unmarked new.marked new.stack.items c.self.invariant c.move_to_marked.ensures.moved
-    c.move_to_marked.ensures.stack) c.in_ok-span.ensures.made.0 later)
+    c.move_to_marked.ensures.stack) c.in_ok-span.ensures.entry_is.0 later)
 
 pub returns-clause-ok : goal.returns-clause-ok
 returns-clause-ok g c =
@@ -64,7 +64,7 @@ returns-clause-ok g c =
     ∙ marked_spans_formulas i.unmarked i.marked new.unmarked new.marked i.marked_spans.items
     c.in_ok-span.span
     (top old) c.move_to_marked.ensures.moved c.self.invariant.spans_are_marked
-    c.in_ok-span.ensures.made.1 in
+    c.in_ok-span.ensures.entry_is.1 in
     ap (λ z. machine_state z c.push-2.new.self.items
     (span_formulas (arena [] new.marked) c.push.new.self.items) i.symbol_count)
     c.move_to_marked.ensures.formulas

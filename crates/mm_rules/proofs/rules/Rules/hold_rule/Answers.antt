@@ -14,5 +14,5 @@ returns-clause-rules g c =
     on_ok_weaker c.add.result
     (λ keeps. keeps c.args.database.now.statements c.requires.rules
     (subst (IsCompiled c.args.database.now.statements) (sym c.rule-rule.ensures)
-    c.in_ok-compile.ensures.made))
+    c.in_ok-compile.ensures.compiled_rule))
     c.add.ensures

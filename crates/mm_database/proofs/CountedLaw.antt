@@ -15,14 +15,14 @@ use Rattle.mm_database.specs.Labels.{AreLabels}
 use Rattle.mm_database.specs.Together.{are_together_at}
 
 module _ (w : Bool) (db : List Statement) where
-  abbrev held_db : List Statement
-  held_db = counted w db
+  abbrev counted_db : List Statement
+  counted_db = counted w db
 
-  shorter : (k : ℕ) → k < length held_db → k < length db
+  shorter : (k : ℕ) → k < length counted_db → k < length db
   shorter k h = subst (λ n. k < n) (counted_length w db) h
 
-  pub labels_held : (find : List ℕ → Option ℕ) → AreLabels db find → AreLabels held_db find
-  labels_held find h = record {
+  pub labels_counted : (find : List ℕ → Option ℕ) → AreLabels db find → AreLabels counted_db find
+  labels_counted find h = record {
     found =
         λ x k e. let f = h.found x k e in
         (subst (λ n. k < n) (sym (counted_length w db)) f.0, same x k ∙ f.1);
@@ -31,16 +31,16 @@ module _ (w : Bool) (db : List Statement) where
   }
     where
       same : (x : List ℕ) (k : ℕ)
-          → list_any (is_labelled x) (statement_at held_db k)
+          → list_any (is_labelled x) (statement_at counted_db k)
           ≡ list_any (is_labelled x) (statement_at db k)
       same x k = counted_any w db (is_labelled x) (λ l k xs e ps d. refl) k
 
   -- whether some active `$d` has both symbols
-  pub together_held : (k x y : ℕ) → are_together_at held_db k x y ≡ are_together_at db k x y
-  together_held k x y =
-      ap (λ (f : ℕ → Formula). any f (disjoint_in held_db) (is_active held_db))
+  pub together_counted : (k x y : ℕ) → are_together_at counted_db k x y ≡ are_together_at db k x y
+  together_counted k x y =
+      ap (λ (f : ℕ → Formula). any f (disjoint_in counted_db) (is_active counted_db))
       (counted_formula w db)
-      ∙ ap (λ t. any (formula_at db) t (is_active held_db))
+      ∙ ap (λ t. any (formula_at db) t (is_active counted_db))
       (fun_ext (λ j. counted_any w db is_disjoint_statement (λ l k xs e ps d. refl) j))
       ∙ ap (λ (a : ℕ → ℕ → Bool). any (formula_at db) (disjoint_in db) a) (counted_active w db)
     where
