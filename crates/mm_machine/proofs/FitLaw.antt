@@ -81,10 +81,10 @@ module _ (xs : Arena) (es : List Span) (parts : List RuleSymbol) (hs : List Hypo
           (drop-drop (part_count h) at parts ∙ ap (λ n. drop n parts) (sym tested.next_is)) more
           ∙ ap (λ b. b && fit_from (j + 1) next) (sym tested.one_is)
 
-      pub marked_next : at + total_part_count (drop j hs) ≡ length parts
+      pub part_count_next : at + total_part_count (drop j hs) ≡ length parts
           → next + total_part_count (drop (j + 1) hs) ≡ length parts
-      marked_next marked =
+      part_count_next part_count_is =
           let here : total_part_count (drop j hs)
           ≡ part_count h + total_part_count (drop (j + 1) hs) =
           ap total_part_count hs_here in
-          let n = tested.next_is in omega (arith, here, marked, n)
+          let n = tested.next_is in omega (arith, here, part_count_is, n)

@@ -177,7 +177,7 @@ fn is_typed(symbols: &Symbols, typecode: Sym, premise: Span) -> bool
 fn all_fit(symbols: &Symbols, rule: &Rule, premises: &[Span]) -> bool
     requires premises { All (IsIn symbols.now) premises.now }
     requires count { length premises.now ≡ length rule.now.hypotheses }
-    requires marked { total_part_count rule.now.hypotheses ≡ length rule.now.parts }
+    requires part_count_is { total_part_count rule.now.hypotheses ≡ length rule.now.parts }
     requires parts { All (IsVariableBelow (length premises.now)) rule.now.parts }
     ensures { result
         ≡ same (map (span_formula symbols.now) premises.now)

@@ -68,11 +68,11 @@ all_parts_push parts more n (x ∷ xs) a h =
     let e : suc n + length xs ≡ n + suc (length xs) = omega arith in
     let within : part_count x ≤ length parts = omega (arith, h) in
     let rest = drop (part_count x) parts in
-    let kept : total_part_count xs ≡ length rest =
+    let part_count_is : total_part_count xs ≡ length rest =
     omega (arith, h, length-drop (part_count x) parts) in
     ap₂ (λ u us. u ∷ us) (first_stays parts more n x within)
     (ap (λ z. all_parts z (suc n) (xs ++ a ∷ [])) (drop-append-le (part_count x) parts more within)
-    ∙ all_parts_push rest more (suc n) xs a kept
+    ∙ all_parts_push rest more (suc n) xs a part_count_is
     ∙ ap (λ m. all_parts rest (suc n) xs ++ hypothesis_parts more m a ∷ []) e)
 
 count_push : (xs : List Hypothesis) (a : Hypothesis)
@@ -85,29 +85,29 @@ pub typed_more : (parts : List RuleSymbol) (xs : List Hypothesis) (j t : ℕ)
     → (us : List (List RuleSymbol))
     → length xs ≡ j → total_part_count xs ≡ length parts → all_parts parts 0 xs ≡ us
     → all_parts parts 0 (xs ++ Floating t ∷ []) ≡ us ++ (Constant t ∷ Variable j ∷ []) ∷ []
-typed_more parts xs j t us n kept e =
+typed_more parts xs j t us n part_count_is e =
     let at : 0 + length xs ≡ j = omega (arith, n) in
     ap (λ z. all_parts z 0 (xs ++ Floating t ∷ [])) (sym (append-nil parts))
-    ∙ all_parts_push parts [] 0 xs (Floating t) kept
+    ∙ all_parts_push parts [] 0 xs (Floating t) part_count_is
     ∙ ap₂ (λ u m. u ++ hypothesis_parts [] m (Floating t) ∷ []) e at
 
-pub typed_kept : (parts : List RuleSymbol) (xs : List Hypothesis) (t : ℕ)
+pub typed_part_count : (parts : List RuleSymbol) (xs : List Hypothesis) (t : ℕ)
     → total_part_count xs ≡ length parts → total_part_count (xs ++ Floating t ∷ []) ≡ length parts
-typed_kept parts xs t kept = let e = count_push xs (Floating t) in omega (arith, e, kept)
+typed_part_count parts xs t part_count_is = let e = count_push xs (Floating t) in omega (arith, e, part_count_is)
 
 -- or the parts of its formula
 module _ (parts more : List RuleSymbol) (xs : List Hypothesis) (n : ℕ) (long : n ≡ length more)
-    (kept : total_part_count xs ≡ length parts) where
+    (part_count_is : total_part_count xs ≡ length parts) where
   pub essential_more : (us : List (List RuleSymbol)) → all_parts parts 0 xs ≡ us
       → all_parts (parts ++ more) 0 (xs ++ Essential n ∷ []) ≡ us ++ more ∷ []
   essential_more us e =
-      all_parts_push parts more 0 xs (Essential n) kept
+      all_parts_push parts more 0 xs (Essential n) part_count_is
       ∙ ap₂ (λ u z. u ++ z ∷ []) e (take_all n more (omega (arith, long)))
 
-  pub essential_kept : total_part_count (xs ++ Essential n ∷ []) ≡ length (parts ++ more)
-  essential_kept =
+  pub essential_part_count : total_part_count (xs ++ Essential n ∷ []) ≡ length (parts ++ more)
+  essential_part_count =
       let e = count_push xs (Essential n) in
-      omega (arith, e, kept, long, length-append parts more)
+      omega (arith, e, part_count_is, long, length-append parts more)
 
 module _ (db : List Statement) (hs : List Formula) where
   pub parts_below : (f : Formula) → AreCovered db hs f
@@ -254,7 +254,7 @@ module _ (db : List Statement) (a : ℕ) (is : is_assertion_at db a ≡ true)
       record {
         is_assertion = is;
         complete = complete;
-        count = compiled_parts.kept;
+        count = compiled_parts.part_count_is;
         parts_in = subst (λ n. All (IsVariableBelow n) parts) (sym compiled_parts.count)
             compiled_parts.below;
         pairs_in =
@@ -279,8 +279,7 @@ module _ (db : List Statement) (a : ℕ) (is : is_assertion_at db a ≡ true)
       → formula ≡ parts_of db (map (formula_at db) hyps) f
       → IsCompiled db (compiled a hypotheses pairs parts formula)
   is_compiled_rule hyps from f numbers hypotheses pairs parts formula hyps_is pairs_is f_is known
-  compiled_parts
-      placed pairs_made formula_made =
+      compiled_parts placed pairs_made formula_made =
       rule_is from f numbers hypotheses pairs parts formula pairs_is f_is known
       (subst (λ (h : List ℕ). AreCompiled db h hypotheses parts) hyps_is compiled_parts)
       (subst (λ (h : List ℕ). AreFirstNumbers db (map (formula_at db) h) numbers) hyps_is placed)

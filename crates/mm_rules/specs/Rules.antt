@@ -14,10 +14,10 @@ use Rattle.mm_rules.specs.declared.rules.IndexRange.{IndexRange}
 use Rattle.mm_rule.specs.Rule.{Compiled, compiled, IsCompiled, floating_index, parts_of, all_parts}
 use Rattle.mm_rule.specs.Rule.{total_part_count, IsVariableBelow}
 
--- for each variable that has a `$f`, the list has the place of the first one
+-- for each variable that has a `$f`, the list has the index of the first one among the hypotheses
 abbrev pub AreFirstNumbers : List Statement → List Formula → List ℕ → Type 0
-AreFirstNumbers db hs places =
-    (x : ℕ) → IsBound (context_at db 0) hs x → get_or places x 0 ≡ floating_index db hs x
+AreFirstNumbers db hs numbers =
+    (x : ℕ) → IsBound (context_at db 0) hs x → get_or numbers x 0 ≡ floating_index db hs x
 
 -- each variable of the formula has a `$f`
 abbrev pub AreCovered : List Statement → List Formula → Formula → Type 0
@@ -36,13 +36,13 @@ abbrev pub numbered_pairs : List ℕ → List (ℕ × ℕ) → List (ℕ × ℕ)
 numbered_pairs numbers ps = map (λ (p : ℕ × ℕ). (get_or numbers p.0 0, get_or numbers p.1 0)) ps
 
 -- The lists have what the hypotheses `hyps` require: for each of them the parts of its formula, in
--- which a variable is given by the place of its `$f`.
+-- which a variable is given by the index of its `$f`.
 pub record AreCompiled (db : List Statement) (hyps : List ℕ) (hypotheses : List Hypothesis)
     (parts : List RuleSymbol) : Type 0 where
   pub parts_are : all_parts parts 0 hypotheses
       ≡ map (parts_of db (map (formula_at db) hyps)) (map (formula_at db) hyps)
   pub count : length hypotheses ≡ length hyps
-  pub kept : total_part_count hypotheses ≡ length parts
+  pub part_count_is : total_part_count hypotheses ≡ length parts
   pub below : All (IsVariableBelow (length hyps)) parts
 
 -- a compiler of rules: how many symbols it knows, and the rule that it compiled last

@@ -260,7 +260,7 @@ impl<A: Allocator> RuleCompiler<A> {
             ≡ length (symbol_names database.now.statements) }
         ensures symbol_count { self.new.symbol_count ≡ self.old.symbol_count }
         ensures assertion { OnOk result (self.new.rule.assertion ≡ assertion) }
-        ensures made { OnOk result (IsCompiled database.now.statements self.new.rule) }
+        ensures compiled_rule { OnOk result (IsCompiled database.now.statements self.new.rule) }
     {
         let hyps = hyps(database, assertion);
         self.assertion = assertion;

@@ -5,7 +5,7 @@ use Rattle.std.proofs.lemmas.Grind.{common_steps}
 use Rattle.mm_rule.specs.Rule.{Compiled}
 use Rattle.mm_machine.specs.Arena.{no_symbols, span_formula}
 use Rattle.mm_machine.specs.Replaced.{replaced}
-use Rattle.mm_machine.proofs.FitLaw.{fit_from, fit_end, fit_next, marked_next, IsTested}
+use Rattle.mm_machine.proofs.FitLaw.{fit_from, fit_end, fit_next, part_count_next, IsTested}
 use Rattle.mm_machine.proofs.FitLaw.{typed_tested, essential_tested}
 use Rattle.mm_machine.proofs.arena.all_fit.Goals.{in-Floating, in-Essential}
 use Rattle.mm_machine.proofs.arena.all_fit.Goals as goal
@@ -88,8 +88,8 @@ loop-j-preserved c =
           (replaced xs es (take ((at + n) - at) (drop at z)))) parts_are) w.at-is
     ] in
     record {
-      marked = marked_next xs es parts hs j at h one next tested inside many h_is
-          c.loop-j.invariant.marked;
+      part_count_is = part_count_next xs es parts hs j at h one next tested inside many h_is
+          c.loop-j.invariant.part_count_is;
       left = c.loop-j.invariant.left
           ∙ fit_next xs es parts hs j at h one next tested inside many h_is
           ∙ ap (λ b. b && fit_from xs es parts hs (j + 1) next) c.if-not-is_fitting.false;

@@ -7,8 +7,8 @@ use Rattle.mm_rule.specs.declared.rule.RuleSymbol.TheVariants.{Constant, Variabl
 use Rattle.mm_rule.specs.declared.rule.Hypothesis.TheVariants.{Floating, Essential}
 use Rattle.mm_rule.specs.Rule.{part_of, parts_of, IsVariableBelow}
 use Rattle.mm_rules.specs.Rules.{AreCovered, numbered_parts}
-use Rattle.mm_rules.proofs.RuleLaw.{map_take_more, map_push, typed_more, typed_kept}
-use Rattle.mm_rules.proofs.RuleLaw.{essential_more, essential_kept, parts_below, numbered_same}
+use Rattle.mm_rules.proofs.RuleLaw.{map_take_more, map_push, typed_more, typed_part_count}
+use Rattle.mm_rules.proofs.RuleLaw.{essential_more, essential_part_count, parts_below, numbered_same}
 use Rattle.mm_rules.proofs.compile.compile_hypotheses.Goals.{then-is_first_floating+in_ok-push}
 use Rattle.mm_rules.proofs.compile.compile_hypotheses.Goals.{else-is_first_floating+in_ok-compile_formula+in_ok-push-2}
 use Rattle.mm_rules.proofs.compile.compile_hypotheses.Goals as goal
@@ -46,10 +46,10 @@ loop-index-preserved g c =
           sym same ∙ first.1 ∙ ap (λ z. Constant z ∷ Variable j ∷ []) typecode in
           rw (w.hypotheses-is, w.parts-is, w.in_ok-push.ensures.items) (record {
             parts_are =
-                typed_more parts hypotheses j t us v.count v.kept v.parts_are
+                typed_more parts hypotheses j t us v.count v.part_count_is v.parts_are
                 ∙ ap (λ z. us ++ z ∷ []) (sym one) ∙ sym next;
             count = omega (arith, v.count, length-append hypotheses (Floating t ∷ []));
-            kept = typed_kept parts hypotheses t v.kept;
+            part_count_is = typed_part_count parts hypotheses t v.part_count_is;
             below = v.below;
           })
       | else-is_first_floating+in_ok-compile_formula+in_ok-push-2 w ↦
@@ -64,10 +64,10 @@ loop-index-preserved g c =
             w.in_ok-push-2.ensures.items,
             grown,
           ) (record {
-            parts_are = essential_more parts more hypotheses n long v.kept us v.parts_are
+            parts_are = essential_more parts more hypotheses n long v.part_count_is us v.parts_are
                 ∙ sym next;
             count = omega (arith, v.count, length-append hypotheses (Essential n ∷ []));
-            kept = essential_kept parts more hypotheses n long v.kept;
+            part_count_is = essential_part_count parts more hypotheses n long v.part_count_is;
             below =
                 All-append (IsVariableBelow (length hyps)) parts more v.below
                 (subst (λ n. All (IsVariableBelow n) more) (length-map hyps (formula_at db))
@@ -89,6 +89,6 @@ returns g c = let db = c.args.database.now.statements in
       count =
           let n = c.loop-index.invariant.count in let l = c.loop-index-test.false in
           omega (arith, n, l);
-      kept = c.loop-index.invariant.kept;
+      part_count_is = c.loop-index.invariant.part_count_is;
       below = c.loop-index.invariant.below;
     }

@@ -9,6 +9,6 @@ invariant-loop-index g l = record {
       ≡ map (parts_of l.database.statements (map (formula_at l.database.statements) l.hyps))
       (map (formula_at l.database.statements) (take l.index l.hyps));
   count : length l.hypotheses.items ≡ l.index;
-  kept : total_part_count l.hypotheses.items ≡ length l.parts.items;
+  part_count_is : total_part_count l.hypotheses.items ≡ length l.parts.items;
   below : All (IsVariableBelow (length l.hyps)) l.parts.items;
 }
