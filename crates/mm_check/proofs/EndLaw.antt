@@ -22,7 +22,7 @@ use Rattle.mm_rules.specs.Rules.{RuleLists}
 use Rattle.mm_machine.specs.DisjointCache.{AreDisjointAt}
 use Rattle.mm_machine.specs.State.{MachineState, machine_state}
 use Rattle.mm_check.specs.Contract.{IsChecked}
-use Rattle.mm_check.specs.Reached.{Reached, AreStepsOf, steps_of}
+use Rattle.mm_check.specs.IsReached.{IsReached, AreStepsOf, steps_of}
 use Rattle.mm_check.specs.Checker.{CheckerState, checker_state, AreOfDatabase, HasPerformed}
 use Rattle.mm_check.proofs.CitesLaw.{all_cited}
 use Rattle.mm_check.proofs.RanLaw.{none_ran}
@@ -55,10 +55,10 @@ module _ (db : List Statement) (t : ℕ) (steps : List PlacedStep) where
     abbrev ends : List Formula
     ends = p.ran.ends
 
-    abbrev all : Reached db t (steps_of steps) c.machine.stack ends c.noted
+    abbrev all : IsReached db t (steps_of steps) c.machine.stack ends c.noted
     all =
         rw view
-        (subst (λ z. Reached db t (steps_of z) d.machine.stack ends d.noted)
+        (subst (λ z. IsReached db t (steps_of z) d.machine.stack ends d.noted)
         (take_all (length steps) steps (omega arith)) p.ran.reached)
 
     module _ (one : c.machine.stack ≡ formula_at db t ∷ []) where

@@ -20,7 +20,7 @@ use Rattle.mm_machine.specs.declared.machine.StepRefused.TheVariants.{Fault, Mem
 use Rattle.mm_check.specs.Contract.{IsReady, StepRefuses, refusal_at}
 use Rattle.mm_check.specs.Checker.{CheckerState, checker_state, IsAtTheorem, HasPerformed, Performs}
 use Rattle.mm_check.specs.Checker.{IsStopped}
-use Rattle.mm_check.specs.Reached.{Reached, HasRun, AreEndFormulas, steps_of}
+use Rattle.mm_check.specs.IsReached.{IsReached, HasRun, AreEndFormulas, steps_of}
 use Rattle.mm_check.proofs.ReachLaw.{starts, next, take_step, good_here, fails}
 
 get_front : (ends more : List Formula) (j : ℕ) (f : Formula) → slice_get ends j ≡ Some f
@@ -115,7 +115,7 @@ module _ (db : List Statement) (t : ℕ) (steps : List PlacedStep) (i : ℕ) (c 
                 (top d.machine.stack ∷ []),
           )
 
-      reached : Reached db t (steps_of (take (i + 1) steps)) d.machine.stack ends d.noted
+      reached : IsReached db t (steps_of (take (i + 1) steps)) d.machine.stack ends d.noted
       reached =
           rw (take_step steps i inside, ← is)
           (next db t (steps_of (take i steps)) c.machine.stack p.ran.ends c.noted a d.machine.stack

@@ -26,7 +26,7 @@ use Rattle.mm_spec.specs.Output.{is_theorem_at, proof_end}
 use Rattle.mm_database.specs.Database.{last_place}
 use Rattle.mm_rule.specs.Assertions.{is_assertion_at}
 use Rattle.mm_check.specs.Contract.{is_labelled_step}
-use Rattle.mm_check.specs.Reached.{Reached, steps_of}
+use Rattle.mm_check.specs.IsReached.{IsReached, steps_of}
 
 or_weak : (a b : Bool) → (b ≡ true → a ≡ true) → (a || b) ≡ (a || false)
 or_weak true b f = refl
@@ -78,11 +78,11 @@ module _ (c : Context) where
 -- one step more
 pub next : (db : List Statement) (t : ℕ) (steps_so_far : List Step) (stack ends : List Formula)
     → (noted : List ℕ) (s : Step) (out : List Formula) (then : List ℕ)
-    → Reached db t steps_so_far stack ends noted → IsGoodStep (context_at db t) (length ends) s
+    → IsReached db t steps_so_far stack ends noted → IsGoodStep (context_at db t) (length ends) s
     → step_entries (context_at db t) s ends stack ≡ Ok out
     → ((a : ℕ)
     → is_member then a ≡ (is_member noted a || (is_labelled_step s a && is_assertion_at db a)))
-    → Reached db t (steps_so_far ++ s ∷ []) out (ends ++ top out ∷ []) then
+    → IsReached db t (steps_so_far ++ s ∷ []) out (ends ++ top out ∷ []) then
 next db t steps_so_far stack ends noted s out then r good entries_are notes =
     let c = context_at db t in
     let same : step_entries c s ends (formulas r.forest) ≡ Ok out =
@@ -114,7 +114,7 @@ next db t steps_so_far stack ends noted s out then r good entries_are notes =
 -- a step that fails
 pub fails : (db : List Statement) (t : ℕ) (steps : List PlacedStep) (i : ℕ)
     → (stack ends : List Formula) (noted : List ℕ) (reason : Reason)
-    → i < length steps → Reached db t (steps_of (take i steps)) stack ends noted
+    → i < length steps → IsReached db t (steps_of (take i steps)) stack ends noted
     → IsGoodStep (context_at db t) (length ends) (step_at steps i).step
     → step_entries (context_at db t) (step_at steps i).step ends stack ≡ Err reason
     → StepFault (context_at db t) steps (fault (step_at steps i).at (code_of reason))
@@ -144,7 +144,7 @@ fails db t steps i stack ends noted reason h r good entries_are =
     }
 
 module _ (db : List Statement) (t : ℕ) (steps : List PlacedStep) (stack ends : List Formula)
-    (noted : List ℕ) (r : Reached db t (steps_of steps) stack ends noted) where
+    (noted : List ℕ) (r : IsReached db t (steps_of steps) stack ends noted) where
   plain_all : Plain (context_at db t) [] [] (steps_of steps) (postfix r.forest)
   plain_all =
       subst (λ z. Plain (context_at db t) [] [] z (postfix r.forest)) (append-nil (steps_of steps))
@@ -204,7 +204,7 @@ take_step steps i h =
 
 -- no step so far
 pub starts : (db : List Statement) (t : ℕ) (stack ends : List Formula) (noted : List ℕ)
-    → stack ≡ [] → ends ≡ [] → noted ≡ [] → Reached db t [] stack ends noted
+    → stack ≡ [] → ends ≡ [] → noted ≡ [] → IsReached db t [] stack ends noted
 starts db t stack ends noted e f n =
     rw (e, f, n)
     (record {

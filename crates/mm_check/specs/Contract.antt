@@ -18,12 +18,12 @@ use Rattle.mm_check.specs.declared.checker.CheckRefused.{CheckRefused}
 use Rattle.mm_check.specs.declared.checker.CheckRefused.TheVariants.{Fault as Faulty, Memory}
 
 -- a theorem, and the assertions that its proof cites
-pub record Cited : Type 0 where
+pub record TheoremCitations : Type 0 where
   pub theorem : ℕ
   pub cites : List ℕ
 
-abbrev pub cited : ℕ → List ℕ → Cited
-cited t cites = record { theorem = t; cites = cites }
+abbrev pub theorem_citations : ℕ → List ℕ → TheoremCitations
+theorem_citations t cites = record { theorem = t; cites = cites }
 
 -- the theorem has a proof, and these are the assertions that it cites, in ascending order, each
 -- once

@@ -17,7 +17,7 @@ use Rattle.mm_rule.specs.Assertions.{is_assertion_at}
 
 -- After the steps there is a forest of derivations: its formulas are the entries, the ends are the
 -- last formulas of the earlier forests, and its assertions were noted.
-pub record Reached (db : List Statement) (t : ℕ) (steps_so_far : List Step)
+pub record IsReached (db : List Statement) (t : ℕ) (steps_so_far : List Step)
     (stack ends : List Formula)
     (noted : List ℕ) : Type 0 where
   pub forest : Trees
@@ -47,7 +47,7 @@ pub record HasRun (db : List Statement) (t : ℕ) (steps : List PlacedStep) (i :
     (noted : List ℕ) : Type 0 where
   pub ends : List Formula
   pub count : length ends ≡ i
-  pub reached : Reached db t (steps_of (take i steps)) s.stack ends noted
+  pub reached : IsReached db t (steps_of (take i steps)) s.stack ends noted
   pub agree : AreEndFormulas ends s.marks s.formulas
   pub before : All (λ j. j < i) s.marks
   pub present : (j : ℕ) → j < i → is_marked steps j ≡ true → Contains s.marks j

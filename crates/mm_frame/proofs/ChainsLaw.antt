@@ -365,7 +365,7 @@ symbol_below db sound x j e =
     and_parts (list_any is_disjoint_statement (statement_at db j)) (is_member (formula_at db j) x)
     e in
     let there = is_there is_disjoint_statement db j parts.0 in
-    member_below (length (symbol_names db)) x (formula_at db j) (sound.below j there) parts.1
+    member_below (length (symbol_names db)) x (formula_at db j) (sound.symbols_have_numbers j there) parts.1
 
 -- ---- the pairs of one chain
 

@@ -186,13 +186,13 @@ module _ (db : List Statement) (sound : IsSound db) where
     typecode_below : index_of f.typecode.word (symbol_names db) < length (symbol_names db)
     typecode_below =
         subst (λ (xs : List ℕ). get_or xs 0 0 < length (symbol_names db)) formula_is
-        (sound.below k h 0 0
+        (sound.symbols_have_numbers k h 0 0
         (subst (λ (xs : List ℕ). 0 < length xs) (sym formula_is) (omega arith)))
 
     pub variable_below : v < length (symbol_names db)
     variable_below =
         subst (λ (xs : List ℕ). get_or xs 1 0 < length (symbol_names db)) formula_is
-        (sound.below k h 1 0
+        (sound.symbols_have_numbers k h 1 0
         (subst (λ (xs : List ℕ). 1 < length xs) (sym formula_is) (omega arith)))
 
     -- its typecode is no variable
@@ -201,7 +201,7 @@ module _ (db : List Statement) (sound : IsSound db) where
     typecode_constant =
         ap (λ o. elim o [ None ↦ false | Some w ↦ is_in w (flat_map variables_of db) ])
         (place_get f.typecode.word (symbol_names db) typecode_below)
-        ∙ sound.apart f.typecode.word
+        ∙ sound.no_constant_is_variable f.typecode.word
         (sym (ap (λ xs. is_in f.typecode.word (flat_map constants_of xs))
         (take-append-drop k db))
         ∙ ap (is_in f.typecode.word) (flat_map-append constants_of (take k db) (drop k db))

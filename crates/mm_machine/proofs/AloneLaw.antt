@@ -15,7 +15,7 @@ use Rattle.mm_spec.specs.Frame.{is_variable_number, formula_at, frame_at}
 use Rattle.mm_spec.specs.Citation.{context_at}
 use Rattle.mm_spec.specs.Laws.Stack.{found, same, pick, apply, step}
 use Rattle.mm_rule.specs.declared.rule.RuleSymbol.TheVariants.{Constant, Variable}
-use Rattle.mm_rule.specs.Rule.{floating_index, parts_of, IsVariableBelow, Compiled, IsCompiled}
+use Rattle.mm_rule.specs.Rule.{floating_index, parts_of, IsVariableBelow, CompiledRule, IsCompiled}
 use Rattle.mm_machine.specs.State.{applied}
 use Rattle.mm_machine.proofs.RuleTestLaw.{length_all_parts}
 
@@ -61,7 +61,7 @@ module _ (db : List Statement) (t : ℕ) (hs : List Formula) (σ : Substitution)
       one true l = absurd (omega (arith, l))
       one false l = refl
 
-module _ (db : List Statement) (t : ℕ) (c : Compiled) (rule : IsCompiled db c)
+module _ (db : List Statement) (t : ℕ) (c : CompiledRule) (rule : IsCompiled db c)
     (none : length c.hypotheses ≡ 0) where
   abbrev frame : Frame
   frame = frame_at db c.assertion

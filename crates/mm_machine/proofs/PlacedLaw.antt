@@ -14,7 +14,7 @@ use Rattle.mm_machine.specs.declared.arena.Span.{Span}
 use Rattle.mm_machine.specs.declared.arena.Reason.{Reason}
 use Rattle.mm_machine.specs.declared.machine.StepRefused.{StepRefused}
 use Rattle.mm_rule.specs.declared.rule.RuleSymbol.{RuleSymbol}
-use Rattle.mm_rule.specs.Rule.{Compiled, IsCompiled, IsVariableBelow, IsConstantBelow}
+use Rattle.mm_rule.specs.Rule.{CompiledRule, IsCompiled, IsVariableBelow, IsConstantBelow}
 use Rattle.mm_machine.specs.Arena.{Arena, arena, AreEntries}
 use Rattle.mm_machine.specs.Replaced.{replaced}
 use Rattle.mm_machine.specs.State.{span_formulas, applied, entries_after, TestsRule, IsStack}
@@ -93,7 +93,7 @@ some_entry a es below parts out h =
 -- ---- the step
 
 -- the test, by the lists that the code has
-pub judged_here : (db : List Statement) (t : ℕ) (c : Compiled)
+pub judged_here : (db : List Statement) (t : ℕ) (c : CompiledRule)
     (unmarked unmarked' marked marked' : List ℕ)
     → (stack stack' : List Span) (r : Result ℕ Reason) → unmarked' ≡ unmarked → marked' ≡ marked
     → stack' ≡ stack → TestsRule db t c (arena unmarked' marked') stack' r
@@ -103,7 +103,7 @@ judged_here db t c unmarked unmarked' marked marked' stack stack' r e1 e2 e3 h =
     (subst (λ (z : List ℕ). TestsRule db t c (arena unmarked' z) stack r) e2
     (subst (λ (z : List Span). TestsRule db t c (arena unmarked' marked') z r) e3 h))
 
-module _ (db : List Statement) (t : ℕ) (c : Compiled) (unmarked marked marked' : List ℕ)
+module _ (db : List Statement) (t : ℕ) (c : CompiledRule) (unmarked marked marked' : List ℕ)
     (stack : List Span)
     (below : ℕ) (parts : List RuleSymbol) (same : marked' ≡ marked) (parts_are : parts ≡ c.formula)
     (tested : TestsRule db t c (arena unmarked marked) stack (Ok below)) where

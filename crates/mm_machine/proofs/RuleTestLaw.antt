@@ -20,7 +20,7 @@ use Rattle.mm_spec.specs.Statement.{Statement}
 use Rattle.mm_spec.specs.Frame.{is_variable_number, frame_at}
 use Rattle.mm_spec.specs.Citation.{context_at}
 use Rattle.mm_machine.specs.Arena.{Arena, symbols_of, no_symbols, span_formula, IsIn}
-use Rattle.mm_rule.specs.Rule.{floating_index, parts_of, part_count, all_parts, Compiled}
+use Rattle.mm_rule.specs.Rule.{floating_index, parts_of, part_count, all_parts, CompiledRule}
 use Rattle.mm_rule.specs.Rule.{IsCompiled}
 use Rattle.mm_machine.specs.Replaced.{replacement, replaced_part}
 use Rattle.mm_machine.specs.Replaced.{replaced}
@@ -99,7 +99,7 @@ map_drop xs (suc n) [] = refl
 map_drop xs (suc n) (e ∷ es) = map_drop xs n es
 
 -- the step of an assertion, by the tests that the code makes
-pub judged : (db : List Statement) (t : ℕ) (c : Compiled) (xs : Arena) (stack premises : List Span)
+pub judged : (db : List Statement) (t : ℕ) (c : CompiledRule) (xs : Arena) (stack premises : List Span)
     → IsCompiled db c → length c.hypotheses ≤ length stack
     → premises ≡ drop (length stack - length c.hypotheses) stack → All (IsIn xs) premises
     → length premises ≡ length c.hypotheses → (b1 b2 : Bool)
@@ -150,7 +150,7 @@ judged db t c xs stack premises rule fits top inside many b1 b2 e1 e2 =
     ∙ ap (λ z. pick true b1 b2 (nat_le (length z) formula_limit) (take m es ++ z ∷ [])) f
 
 -- the same by the values that the code has
-pub judged_at : (db : List Statement) (t : ℕ) (c : Compiled) (xs : Arena)
+pub judged_at : (db : List Statement) (t : ℕ) (c : CompiledRule) (xs : Arena)
     → (stack premises : List Span) (n below : ℕ)
     → IsCompiled db c → n ≡ length c.hypotheses → n ≤ length stack → below ≡ length stack - n
     → premises ≡ drop below stack → All (IsIn xs) stack → (ps : List (ℕ × ℕ)) → ps ≡ c.pairs
@@ -185,7 +185,7 @@ judged_at db t c xs stack premises n below rule count fits at top all ps ps_are 
     (take b (span_formulas xs stack) ++ replaced xs (drop below stack) c.formula ∷ [])) (sym here)
 
 -- too few entries
-pub few_at : (db : List Statement) (t : ℕ) (c : Compiled) (xs : Arena) (stack : List Span)
+pub few_at : (db : List Statement) (t : ℕ) (c : CompiledRule) (xs : Arena) (stack : List Span)
     → IsCompiled db c → length stack < length c.hypotheses
     → applied db t c.assertion (span_formulas xs stack) ≡ Err too_few
 few_at db t c xs stack rule few =

@@ -15,7 +15,7 @@ use Rattle.mm_machine.specs.declared.arena.Reason.TheVariants.{TooLong}
 use Rattle.mm_machine.specs.declared.arena.Store.TheVariants.{Unmarked, Marked}
 use Rattle.mm_machine.specs.Arena.{Arena, arena, span, span_formula, IsIn, IsArena}
 use Rattle.mm_rule.specs.declared.rule.RuleSymbol.{RuleSymbol}
-use Rattle.mm_rule.specs.Rule.{Compiled}
+use Rattle.mm_rule.specs.Rule.{CompiledRule}
 use Rattle.mm_machine.specs.Replaced.{replaced}
 
 -- the formulas of the entries, the marked steps so far, the formulas with which they ended, and how
@@ -122,7 +122,7 @@ entries_after a es below parts =
 
 -- what a test of a rule says: how many entries stay below the formula that the step pushes if it is
 -- short enough, or why the step fails
-abbrev pub TestsRule : List Statement → ℕ → Compiled → Arena → List Span → Result ℕ Reason → Type 0
+abbrev pub TestsRule : List Statement → ℕ → CompiledRule → Arena → List Span → Result ℕ Reason → Type 0
 TestsRule db t c symbols stack (Ok below) =
     (length stack ≡ below + length c.hypotheses)
     × (applied db t c.assertion (span_formulas symbols stack)

@@ -22,7 +22,7 @@ pub record Applies (db : List Statement) (t a : ℕ) (s s' : MachineState) : Typ
 
 -- what the machine says of that step, and the state that it leaves
 pub record IsApplied {T : Type 0} (db : List Statement) (t a : ℕ) (s s' : MachineState)
-    (said : Result T StepRefused) : Type 0 where
-  pub applies : OnOk said (Applies db t a s s')
-  pub stopped : IfErr said (λ e. Stops e (applied db t a s.stack))
+    (answer : Result T StepRefused) : Type 0 where
+  pub applies : OnOk answer (Applies db t a s s')
+  pub stopped : IfErr answer (λ e. Stops e (applied db t a s.stack))
   pub symbol_count : s'.symbol_count ≡ s.symbol_count

@@ -16,8 +16,8 @@ use mm_spec::FORMULA_LIMIT;
 #[inline(always)]
 fn put_symbol(s: Sym, list: &mut [Sym], at: usize)
     requires { at < length list.old }
-    ensures same { length list.new ≡ length list.old }
-    ensures is { take (at + 1) list.new ≡ take at list.old ++ s ∷ [] }
+    ensures same_length { length list.new ≡ length list.old }
+    ensures written { take (at + 1) list.new ≡ take at list.old ++ s ∷ [] }
 {
     list[at] = s;
 }
@@ -27,8 +27,8 @@ fn put_symbol(s: Sym, list: &mut [Sym], at: usize)
 fn put_two(symbols: &[Sym], list: &mut [Sym], at: usize)
     requires two { length symbols.now ≡ 2 }
     requires room { at + 2 ≤ length list.old }
-    ensures same { length list.new ≡ length list.old }
-    ensures is { take (at + 2) list.new ≡ take at list.old ++ symbols.now }
+    ensures same_length { length list.new ≡ length list.old }
+    ensures written { take (at + 2) list.new ≡ take at list.old ++ symbols.now }
 {
     put_symbol(symbols[0], list, at);
     put_symbol(symbols[1], list, at + 1);
@@ -40,8 +40,8 @@ fn put_two(symbols: &[Sym], list: &mut [Sym], at: usize)
 fn put_four(symbols: &[Sym], list: &mut [Sym], at: usize)
     requires four { length symbols.now ≡ 4 }
     requires room { at + 4 ≤ length list.old }
-    ensures same { length list.new ≡ length list.old }
-    ensures is { take (at + 4) list.new ≡ take at list.old ++ symbols.now }
+    ensures same_length { length list.new ≡ length list.old }
+    ensures written { take (at + 4) list.new ≡ take at list.old ++ symbols.now }
 {
     let (first, second, third, last) = (symbols[0], symbols[1], symbols[2], symbols[3]);
     put_symbol(first, list, at);
@@ -54,8 +54,8 @@ fn put_four(symbols: &[Sym], list: &mut [Sym], at: usize)
 #[inline(always)]
 fn put_all(symbols: &[Sym], list: &mut [Sym], at: usize)
     requires { at + length symbols.now ≤ length list.old }
-    ensures same { length list.new ≡ length list.old }
-    ensures is { take (at + length symbols.now) list.new ≡ take at list.old ++ symbols.now }
+    ensures same_length { length list.new ≡ length list.old }
+    ensures written { take (at + length symbols.now) list.new ≡ take at list.old ++ symbols.now }
 {
     let end = at + symbols.len();
     list[at..end].copy_from_slice(symbols);
@@ -65,8 +65,8 @@ fn put_all(symbols: &[Sym], list: &mut [Sym], at: usize)
 #[inline(always)]
 fn put_width(symbols: &[Sym], list: &mut [Sym], at: usize)
     requires { at + length symbols.now ≤ length list.old }
-    ensures same { length list.new ≡ length list.old }
-    ensures is { take (at + length symbols.now) list.new ≡ take at list.old ++ symbols.now }
+    ensures same_length { length list.new ≡ length list.old }
+    ensures written { take (at + length symbols.now) list.new ≡ take at list.old ++ symbols.now }
 {
     if symbols.len() == 2 {
         put_two(symbols, list, at);
@@ -87,8 +87,8 @@ fn put_ends(symbols: &[Sym], list: &mut [Sym], at: usize, width: usize)
     requires many { width ≤ length symbols.now }
     requires few { length symbols.now ≤ 2 * width }
     requires room { at + length symbols.now ≤ length list.old }
-    ensures same { length list.new ≡ length list.old }
-    ensures is { take (at + length symbols.now) list.new ≡ take at list.old ++ symbols.now }
+    ensures same_length { length list.new ≡ length list.old }
+    ensures written { take (at + length symbols.now) list.new ≡ take at list.old ++ symbols.now }
 {
     let left = symbols.len() - width;
     put_width(&symbols[..width], list, at);
@@ -99,8 +99,8 @@ fn put_ends(symbols: &[Sym], list: &mut [Sym], at: usize, width: usize)
 #[inline(always)]
 pub fn put_symbols(symbols: &[Sym], list: &mut [Sym], at: usize)
     requires { at + length symbols.now ≤ length list.old }
-    ensures same { length list.new ≡ length list.old }
-    ensures is { take (at + length symbols.now) list.new ≡ take at list.old ++ symbols.now }
+    ensures same_length { length list.new ≡ length list.old }
+    ensures written { take (at + length symbols.now) list.new ≡ take at list.old ++ symbols.now }
 {
     let count = symbols.len();
     if count <= 1 {
@@ -131,21 +131,21 @@ pub fn fill(
     requires formula { All (IsVariableBelow (length premises.now)) formula.now }
     ensures within { IfSome result (λ n. n ≤ length list.new) }
     ensures short { IfSome result (λ n. n ≤ formula_limit) }
-    ensures is { IfSome result
+    ensures written { IfSome result
         (λ n. take n list.new ≡ replaced symbols.now premises.now formula.now) }
 {
     let mut at = 0;
     // How many elements of the list are left over, if each part that is to come takes one.
-    let mut room = list.len().checked_sub(formula.len())?;
+    let mut spare = list.len().checked_sub(formula.len())?;
     for part in formula {
         match *part {
             RuleSymbol::Variable(j) => {
                 let replacement = symbols.formula(replacement_of(premises, j));
-                if replacement.len() > room + 1 {
+                if replacement.len() > spare + 1 {
                     return None;
                 }
                 put_symbols(replacement, list, at);
-                room = room + 1 - replacement.len();
+                spare = spare + 1 - replacement.len();
                 at += replacement.len();
             }
             RuleSymbol::Constant(s) => {

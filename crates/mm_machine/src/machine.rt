@@ -97,7 +97,7 @@ fn index_of_mark(numbers: &[usize], number: usize, slots: &[u32]) -> usize
     requires rising { IsRising numbers.now }
     requires present { Contains numbers.now number }
     ensures below { result < length numbers.now }
-    ensures is { get_or numbers.now result 0 ≡ number }
+    ensures found { get_or numbers.now result 0 ≡ number }
 {
     let slot = number % MARK_SLOTS;
     if slot < slots.len() {

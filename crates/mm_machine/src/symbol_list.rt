@@ -44,7 +44,7 @@ fn make_room<A: Allocator>(
     requires { count ≤ vec_len buffer.old }
     ensures room { OnOk result (count + more ≤ vec_len buffer.new) }
     ensures longer { vec_len buffer.old ≤ vec_len buffer.new }
-    ensures same { take count buffer.new.items ≡ take count buffer.old.items }
+    ensures same_symbols { take count buffer.new.items ≡ take count buffer.old.items }
 {
     match count.checked_add(more) {
         None => Err(AllocError),

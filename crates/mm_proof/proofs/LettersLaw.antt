@@ -133,11 +133,11 @@ pub last_reads : (t : ℕ) (labels marks : List ℕ) (number : Option BegunNumbe
     → is_early byte ≡ false → is_last byte ≡ true
     → ((n : ℕ) → saturated (20 * (begun_at number place).value + (byte - 64)) ≡ saturated n
     → step_of labels marks n ≡ s ∷ [])
-    → (all left : List Letter)
-    → Continues (letters_state t labels marks number steps) all (letter place byte ∷ left)
+    → (all unread : List Letter)
+    → Continues (letters_state t labels marks number steps) all (letter place byte ∷ unread)
     → Continues
-    (letters_state t labels marks None (steps ++ placed (begun_at number place).at s ∷ [])) all left
-last_reads t labels marks number steps place byte s e l named all left h =
+    (letters_state t labels marks None (steps ++ placed (begun_at number place).at s ∷ [])) all unread
+last_reads t labels marks number steps place byte s e l named all unread h =
     record {
       early = [];
       begins = refl;
@@ -161,16 +161,16 @@ last_reads t labels marks number steps place byte s e l named all left h =
     g = group h.early place byte
 
     gs : List Group
-    gs = (groups [] left).0
+    gs = (groups [] unread).0
 
     is : step_of labels marks (value g) ≡ s ∷ []
     is = named (value g) (saturated_value number h.early place byte h.begins)
 
-    split : groups h.early (letter place byte ∷ left) ≡ (g ∷ gs, (groups [] left).1)
+    split : groups h.early (letter place byte ∷ unread) ≡ (g ∷ gs, (groups [] unread).1)
     split =
         ap (λ b. elim b [
-          | true ↦ groups (h.early ++ letter place byte ∷ []) left
-          | false ↦ let r = groups [] left in
+          | true ↦ groups (h.early ++ letter place byte ∷ []) unread
+          | false ↦ let r = groups [] unread in
               (record { early = h.early; last = letter place byte } ∷ r.0, r.1)
         ]) e
 
@@ -222,10 +222,10 @@ pub early_reads : (t : ℕ) (labels marks : List ℕ) (number : Option BegunNumb
     → (place byte : ℕ) (begun : BegunNumber) → is_early byte ≡ true
     → begun.at ≡ (begun_at number place).at
     → begun.value ≡ saturated (5 * (begun_at number place).value + (byte - 84))
-    → (all left : List Letter)
-    → Continues (letters_state t labels marks number steps) all (letter place byte ∷ left)
-    → Continues (letters_state t labels marks (Some begun) steps) all left
-early_reads t labels marks number steps place byte begun e place_is value_is all left h =
+    → (all unread : List Letter)
+    → Continues (letters_state t labels marks number steps) all (letter place byte ∷ unread)
+    → Continues (letters_state t labels marks (Some begun) steps) all unread
+early_reads t labels marks number steps place byte begun e place_is value_is all unread h =
     record {
       early = h.early ++ x ∷ [];
       begins = begins number h.early h.begins place_is value_is;
@@ -238,11 +238,11 @@ early_reads t labels marks number steps place byte begun e place_is value_is all
     x : Letter
     x = letter place byte
 
-    split : groups h.early (x ∷ left) ≡ groups (h.early ++ x ∷ []) left
+    split : groups h.early (x ∷ unread) ≡ groups (h.early ++ x ∷ []) unread
     split =
         ap (λ b. elim b [
-          | true ↦ groups (h.early ++ x ∷ []) left
-          | false ↦ let r = groups [] left in (record { early = h.early; last = x } ∷ r.0, r.1)
+          | true ↦ groups (h.early ++ x ∷ []) unread
+          | false ↦ let r = groups [] unread in (record { early = h.early; last = x } ∷ r.0, r.1)
         ]) e
 
     more : (n : ℕ) (es : List Letter)
@@ -298,43 +298,43 @@ pub last_here : (t : ℕ) (labels marks : List ℕ) (number : BegunNumber) (step
     → BeginsAt number place → is_early byte ≡ false → is_last byte ≡ true
     → ((n : ℕ) → saturated (20 * number.value + (byte - 64)) ≡ saturated n
     → step_of labels marks n ≡ s ∷ [])
-    → (all left : List Letter)
+    → (all unread : List Letter)
     → Continues (letters_state t labels marks (if_begun number) steps) all
-    (letter place byte ∷ left)
-    → Continues (letters_state t labels marks None (steps ++ placed number.at s ∷ [])) all left
-last_here t labels marks number steps place byte s b e l named all left h =
+    (letter place byte ∷ unread)
+    → Continues (letters_state t labels marks None (steps ++ placed number.at s ∷ [])) all unread
+last_here t labels marks number steps place byte s b e l named all unread h =
     let is = begun_is number place b in
     subst (λ (b : BegunNumber). Continues (letters_state t labels marks None
-    (steps ++ placed b.at s ∷ [])) all left) is
+    (steps ++ placed b.at s ∷ [])) all unread) is
     (last_reads t labels marks (if_begun number) steps place byte s e l
     (λ n q. named n (ap (λ (b : BegunNumber). saturated (20 * b.value + (byte - 64))) (sym is) ∙ q))
-    all left h)
+    all unread h)
 
 -- an early letter of this number
 pub early_here : (t : ℕ) (labels marks : List ℕ) (number : BegunNumber) (steps : List PlacedStep)
     → (place byte : ℕ) (next : BegunNumber) → BeginsAt number place → is_early byte ≡ true
     → next.at ≡ number.at → next.value ≡ saturated (5 * number.value + (byte - 84))
-    → (all left : List Letter)
+    → (all unread : List Letter)
     → Continues (letters_state t labels marks (if_begun number) steps) all
-    (letter place byte ∷ left)
-    → Continues (letters_state t labels marks (if_begun next) steps) all left
-early_here t labels marks number steps place byte next b e place_is value_is all left h =
+    (letter place byte ∷ unread)
+    → Continues (letters_state t labels marks (if_begun next) steps) all unread
+early_here t labels marks number steps place byte next b e place_is value_is all unread h =
     let is = begun_is number place b in
     let d = early_digit byte (byte - 84) e refl in
     let some : 0 < next.value = omega (arith, value_is, d.0) in
-    subst (λ o. Continues (letters_state t labels marks o steps) all left)
+    subst (λ o. Continues (letters_state t labels marks o steps) all unread)
     (sym (some_begun next some))
     (early_reads t labels marks (if_begun number) steps place byte next e
     (place_is ∙ ap (λ (b : BegunNumber). b.at) (sym is))
-    (value_is ∙ ap (λ (b : BegunNumber). saturated (5 * b.value + (byte - 84))) (sym is)) all left
+    (value_is ∙ ap (λ (b : BegunNumber). saturated (5 * b.value + (byte - 84))) (sym is)) all unread
     h)
 
 -- a `Z` after the last letter of a number
 pub mark_reads : (t : ℕ) (labels marks : List ℕ) (steps : List PlacedStep) (place : ℕ)
-    → (length steps == 0) ≡ false → (all left : List Letter)
-    → Continues (letters_state t labels marks None steps) all (letter place 90 ∷ left)
-    → Continues (letters_state t labels (marks ++ (length steps - 1) ∷ []) None steps) all left
-mark_reads t labels marks steps place some all left h =
+    → (length steps == 0) ≡ false → (all unread : List Letter)
+    → Continues (letters_state t labels marks None steps) all (letter place 90 ∷ unread)
+    → Continues (letters_state t labels (marks ++ (length steps - 1) ∷ []) None steps) all unread
+mark_reads t labels marks steps place some all unread h =
     record {
       early = [];
       begins = refl;
@@ -348,11 +348,11 @@ mark_reads t labels marks steps place some all left h =
     }
   where
     gs : List Group
-    gs = (groups [] left).0
+    gs = (groups [] unread).0
 
-    split : groups h.early (letter place 90 ∷ left)
-        ≡ (group [] place 90 ∷ gs, (groups [] left).1)
-    split = ap (λ es. groups es (letter place 90 ∷ left)) h.begins
+    split : groups h.early (letter place 90 ∷ unread)
+        ≡ (group [] place 90 ∷ gs, (groups [] unread).1)
+    split = ap (λ es. groups es (letter place 90 ∷ unread)) h.begins
 
     longer : length (marks ++ (length steps - 1) ∷ []) ≡ length marks + 1
     longer = length-append marks ((length steps - 1) ∷ [])

@@ -12,7 +12,7 @@ use Rattle.mm_spec.specs.Frame.{mandatory_pairs, disjoint_at, active_of, is_disj
 use Rattle.mm_spec.specs.Frame.{pairs_of}
 use Rattle.mm_spec.specs.Citation.{context_at}
 use Rattle.mm_spec.proofs.FindsLaw.{each_filter, each_any}
-use Rattle.mm_rule.specs.Assertions.{paired}
+use Rattle.mm_rule.specs.Assertions.{as_pairs}
 
 eq_sym : (x y : ℕ) → (x == y) ≡ (y == x)
 eq_sym x y = by_equality (x == y) (y == x) refl refl
@@ -55,7 +55,7 @@ module _ (db : List Statement) (k : ℕ) where
       by_values true false l h = h
 
   -- the pairs of a frame are disjoint at its assertion
-  pub pairs_disjoint : (ps : List (ℕ × ℕ)) → paired ps ≡ mandatory_pairs db k
+  pub pairs_disjoint : (ps : List (ℕ × ℕ)) → as_pairs ps ≡ mandatory_pairs db k
       → All (λ (p : ℕ × ℕ). are_disjoint (context_at db k) p.0 p.1 ≡ true) ps
   pairs_disjoint ps e =
       All-from_recursion (λ (p : ℕ × ℕ). are_disjoint (context_at db k) p.0 p.1 ≡ true) ps
@@ -83,7 +83,7 @@ module _ (db : List Statement) (k : ℕ) where
           (last (nat_lt p.low p.high) (is_member (mandatory_variables db k) p.low)
           (is_member (mandatory_variables db k) p.high) (disjoint_at db k p.low p.high) h)))
 
-      back : (ps : List (ℕ × ℕ)) → AllByRecursion Is (paired ps)
+      back : (ps : List (ℕ × ℕ)) → AllByRecursion Is (as_pairs ps)
           → AllByRecursion (λ (p : ℕ × ℕ). are_disjoint (context_at db k) p.0 p.1 ≡ true) ps
       back [] h = tt
       back (p ∷ ps) h = (h.0, back ps h.1)

@@ -15,7 +15,7 @@ use Rattle.mm_spec.specs.Frame.{formula_at, mandatory_variables, mandatory_hypot
 use Rattle.mm_spec.specs.Frame.{mandatory_pairs, disjoint_at, pairs_of}
 use Rattle.mm_spec.proofs.FindsLaw.{is_before, each_filter, each_any, member_filter}
 use Rattle.mm_spec.proofs.BoolLaw.{middle_parts}
-use Rattle.mm_rule.specs.Assertions.{paired}
+use Rattle.mm_rule.specs.Assertions.{as_pairs}
 
 weaker : (P Q : ℕ → Type 0) → ((x : ℕ) → P x → Q x) → (xs : List ℕ) → AllByRecursion P xs
     → AllByRecursion Q xs
@@ -69,7 +69,7 @@ mandatory_below : (db : List Statement) (k x : ℕ) → is_member (mandatory_var
 mandatory_below db k x e = variable_below db x (member_filter (is_variable_number db) _ x e).0
 
 pub pairs_below : (db : List Statement) (k : ℕ) (ps : List (ℕ × ℕ))
-    → paired ps ≡ mandatory_pairs db k
+    → as_pairs ps ≡ mandatory_pairs db k
     → All (λ (p : ℕ × ℕ). (p.0 < length (symbol_names db)) × (p.1 < length (symbol_names db))) ps
 pairs_below db k ps e =
     All-from_recursion
@@ -93,7 +93,7 @@ pairs_below db k ps e =
         (is_member (mandatory_variables db k) p.high) (disjoint_at db k p.low p.high) h in
         (mandatory_below db k p.low q.0, mandatory_below db k p.high q.1)))
 
-    back : (ps : List (ℕ × ℕ)) → AllByRecursion Low (paired ps)
+    back : (ps : List (ℕ × ℕ)) → AllByRecursion Low (as_pairs ps)
         → AllByRecursion
         (λ (p : ℕ × ℕ). (p.0 < length (symbol_names db)) × (p.1 < length (symbol_names db))) ps
     back [] h = tt

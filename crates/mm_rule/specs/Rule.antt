@@ -56,16 +56,16 @@ abbrev pub IsConstantBelow : ℕ → RuleSymbol → Type 0
 IsConstantBelow n (Constant s) = s < n
 IsConstantBelow n (Variable j) = Unit {0}
 
-pub record Compiled : Type 0 where
+pub record CompiledRule : Type 0 where
   pub assertion : ℕ
   pub hypotheses : List Hypothesis
   pub pairs : List (ℕ × ℕ)
   pub parts : List RuleSymbol
   pub formula : List RuleSymbol
 
-abbrev pub compiled : ℕ → List Hypothesis → List (ℕ × ℕ) → List RuleSymbol → List RuleSymbol
-    → Compiled
-compiled k hypotheses pairs parts formula =
+abbrev pub compiled_rule : ℕ → List Hypothesis → List (ℕ × ℕ) → List RuleSymbol → List RuleSymbol
+    → CompiledRule
+compiled_rule k hypotheses pairs parts formula =
     record {
       assertion = k;
       hypotheses = hypotheses;
@@ -76,7 +76,7 @@ compiled k hypotheses pairs parts formula =
     }
 
 -- the rule is the frame of its assertion, with each variable given by the index of its `$f`
-pub record IsCompiled (db : List Statement) (c : Compiled) : Type 0 where
+pub record IsCompiled (db : List Statement) (c : CompiledRule) : Type 0 where
   pub is_assertion : is_assertion_at db c.assertion ≡ true
   pub complete : IsComplete (context_at db 0) (frame_at db c.assertion)
   pub count : total_part_count c.hypotheses ≡ length c.parts

@@ -7,7 +7,7 @@ ghost use Rattle.mm_spec.specs.Frame.{is_essential, symbol_names, mandatory_hypo
 ghost use Rattle.mm_spec.specs.Frame.{mandatory_pairs, formula_at};
 ghost use Rattle.mm_spec.specs.Derivation.{are_disjoint};
 ghost use Rattle.mm_spec.specs.Citation.{context_at};
-ghost use Rattle.mm_rule.specs.Assertions.{paired};
+ghost use Rattle.mm_rule.specs.Assertions.{as_pairs};
 ghost use Rattle.mm_rule.specs.Assertions.{is_assertion_at};
 
 use mm_database::{Database, Kind, Sym};
@@ -57,7 +57,7 @@ pub fn formula<'b, A: Allocator>(database: &'b Database<A>, assertion: u32) -> &
 /// The mandatory pairs of an assertion.
 pub fn pairs<'b, A: Allocator>(database: &'b Database<A>, assertion: u32) -> &'b [(Sym, Sym)]
     requires { is_assertion_at database.now.statements assertion ≡ true }
-    ensures are { paired result.now ≡ mandatory_pairs database.now.statements assertion }
+    ensures are { as_pairs result.now ≡ mandatory_pairs database.now.statements assertion }
     ensures disjoint { All
         (λ (p : ℕ × ℕ). are_disjoint (context_at database.now.statements assertion) p.0 p.1 ≡ true)
         result.now }

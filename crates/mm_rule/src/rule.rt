@@ -41,11 +41,11 @@ pub struct Rule<'a> {
 }
 
 impl<'a> Model for Rule<'a> {
-    ghost use Rattle.mm_rule.specs.Rule.{Compiled, compiled};
+    ghost use Rattle.mm_rule.specs.Rule.{CompiledRule, compiled_rule};
 
-    ghost Value = { Compiled };
+    ghost Value = { CompiledRule };
 
-    ghost view = { λ r. compiled r.assertion r.hypotheses.now r.pairs.now r.parts.now
+    ghost view = { λ r. compiled_rule r.assertion r.hypotheses.now r.pairs.now r.parts.now
         r.formula.now };
 }
 

@@ -19,10 +19,10 @@ use Rattle.mm_rule.specs.declared.rule.Hypothesis.{Hypothesis}
 use Rattle.mm_rule.specs.declared.rule.Hypothesis.TheVariants.{Floating, Essential}
 use Rattle.mm_rule.specs.Rule.{floating_index, parts_of, part_count, hypothesis_parts, all_parts}
 use Rattle.mm_rule.specs.Rule.{total_part_count, IsVariableBelow, IsConstantBelow}
-use Rattle.mm_rule.specs.Rule.{compiled, IsCompiled}
+use Rattle.mm_rule.specs.Rule.{compiled_rule, IsCompiled}
 use Rattle.mm_rules.specs.Rules.{AreCovered, AreFirstNumbers, AreCompiled, numbered_parts}
 use Rattle.mm_rules.specs.Rules.{numbered_pairs}
-use Rattle.mm_rule.specs.Assertions.{paired}
+use Rattle.mm_rule.specs.Assertions.{as_pairs}
 use Rattle.mm_rule.specs.Assertions.{is_assertion_at}
 use Rattle.mm_rule.proofs.FirstLaw.{first_below}
 
@@ -185,7 +185,7 @@ module _ (db : List Statement) (hs : List Formula) where
           (one s (is_variable_number db s) h.0) (symbol_by_symbol f h.1)
 
   numbered_first : (numbers : List ℕ) → AreFirstNumbers db hs numbers → (ps : List (ℕ × ℕ))
-      → AllByRecursion Both (paired ps)
+      → AllByRecursion Both (as_pairs ps)
       → numbered_pairs numbers ps
       ≡ map {B = ℕ × ℕ} (λ (p : ℕ × ℕ). (floating_index db hs p.0, floating_index db hs p.1)) ps
   numbered_first numbers placed [] h = refl
@@ -214,7 +214,7 @@ module _ (db : List Statement) (hs : List Formula) where
   pairs_same : (ps : List (ℕ × ℕ))
       → map {B = ℕ × ℕ} (λ (p : ℕ × ℕ). (floating_index db hs p.0, floating_index db hs p.1)) ps
       ≡ map {B = ℕ × ℕ}
-      (λ (p : Pair). (floating_index db hs p.low, floating_index db hs p.high)) (paired ps)
+      (λ (p : Pair). (floating_index db hs p.low, floating_index db hs p.high)) (as_pairs ps)
   pairs_same [] = refl
   pairs_same (p ∷ ps) =
       ap (λ z. (floating_index db hs p.0, floating_index db hs p.1) ∷ z) (pairs_same ps)
@@ -228,12 +228,12 @@ module _ (db : List Statement) (a : ℕ) (is : is_assertion_at db a ≡ true)
   rule_is : (from : List (ℕ × ℕ)) (f : Formula) (numbers : List ℕ) (hypotheses : List Hypothesis)
       (pairs : List (ℕ × ℕ))
       → (parts formula : List RuleSymbol)
-      → paired from ≡ mandatory_pairs db a → f ≡ formula_at db a
+      → as_pairs from ≡ mandatory_pairs db a → f ≡ formula_at db a
       → All (λ s. s < length (symbol_names db)) f
       → AreCompiled db (mandatory_hypotheses db a) hypotheses parts
       → AreFirstNumbers db frame_hyps numbers → pairs ≡ numbered_pairs numbers from
       → formula ≡ parts_of db frame_hyps f
-      → IsCompiled db (compiled a hypotheses pairs parts formula)
+      → IsCompiled db (compiled_rule a hypotheses pairs parts formula)
   rule_is from f numbers hypotheses pairs parts formula pairs_is f_is known compiled_parts placed
       pairs_made formula_made =
       let same : length hypotheses ≡ length frame_hyps =
@@ -272,12 +272,12 @@ module _ (db : List Statement) (a : ℕ) (is : is_assertion_at db a ≡ true)
 
   pub is_compiled_rule : (hyps : List ℕ) (from : List (ℕ × ℕ)) (f : Formula) (numbers : List ℕ)
       → (hypotheses : List Hypothesis) (pairs : List (ℕ × ℕ)) (parts formula : List RuleSymbol)
-      → hyps ≡ mandatory_hypotheses db a → paired from ≡ mandatory_pairs db a → f ≡ formula_at db a
+      → hyps ≡ mandatory_hypotheses db a → as_pairs from ≡ mandatory_pairs db a → f ≡ formula_at db a
       → All (λ s. s < length (symbol_names db)) f
       → AreCompiled db hyps hypotheses parts
       → AreFirstNumbers db (map (formula_at db) hyps) numbers → pairs ≡ numbered_pairs numbers from
       → formula ≡ parts_of db (map (formula_at db) hyps) f
-      → IsCompiled db (compiled a hypotheses pairs parts formula)
+      → IsCompiled db (compiled_rule a hypotheses pairs parts formula)
   is_compiled_rule hyps from f numbers hypotheses pairs parts formula hyps_is pairs_is f_is known
       compiled_parts placed pairs_made formula_made =
       rule_is from f numbers hypotheses pairs parts formula pairs_is f_is known

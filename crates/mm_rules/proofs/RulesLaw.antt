@@ -8,7 +8,7 @@ use Rattle.mm_rule.specs.declared.rule.RuleSymbol.{RuleSymbol}
 use Rattle.mm_rule.specs.declared.rule.Hypothesis.{Hypothesis}
 use Rattle.mm_rules.specs.declared.rules.RuleRanges.{RuleRanges}
 use Rattle.mm_rules.specs.declared.rules.IndexRange.{IndexRange}
-use Rattle.mm_rule.specs.Rule.{compiled, IsCompiled}
+use Rattle.mm_rule.specs.Rule.{compiled_rule, IsCompiled}
 use Rattle.mm_rules.specs.Rules.{rule_lists, elements_in, IsIndexRange, HasRule}
 use Rattle.mm_rules.specs.Rules.{AreRules}
 use Rattle.mm_rule.proofs.SliceLaw.{stretch_more}
@@ -63,7 +63,7 @@ module _ (db : List Statement) (ranges : List RuleRanges) (hypotheses a : List H
         pairs = longer pairs p s.pairs h.pairs;
         parts = longer (parts ++ q) f s.parts parts1;
         formula = longer (parts ++ q) f s.formula formula1;
-        compiled = rw (e1, e2, e3, e4) h.compiled;
+        is_compiled = rw (e1, e2, e3, e4) h.is_compiled;
       }
 
   all_stay : (new rest : List RuleRanges) → All
@@ -79,7 +79,7 @@ module _ (db : List Statement) (ranges : List RuleRanges) (hypotheses a : List H
       (parts_to : s.parts.end ≡ length (parts ++ q))
       (formula_from : s.formula.start ≡ length (parts ++ q))
       (formula_to : s.formula.end ≡ length ((parts ++ q) ++ f))
-      (is : IsCompiled db (compiled s.assertion a p q f)) where
+      (is : IsCompiled db (compiled_rule s.assertion a p q f)) where
     rule_is_new : (new : List RuleRanges)
         → HasRule db (rule_lists new (hypotheses ++ a) (pairs ++ p) ((parts ++ q) ++ f)) s
     rule_is_new new =
@@ -97,7 +97,7 @@ module _ (db : List Statement) (ranges : List RuleRanges) (hypotheses a : List H
           pairs = last_in pairs p s.pairs pairs_from pairs_to;
           parts = longer (parts ++ q) f s.parts inside;
           formula = last_in (parts ++ q) f s.formula formula_from formula_to;
-          compiled = rw (e1, e2, e3, e4) is;
+          is_compiled = rw (e1, e2, e3, e4) is;
         }
 
     pub added : AreRules db (rule_lists ranges hypotheses pairs parts)
@@ -119,7 +119,7 @@ pub added_at : (db : List Statement) (ranges ranges' : List RuleRanges)
     hypotheses'
     → s.pairs.start ≡ length pairs → s.pairs.end ≡ length pairs' → s.parts.start ≡ length parts
     → s.parts.end ≡ length mid → s.formula.start ≡ length mid → s.formula.end ≡ length parts'
-    → IsCompiled db (compiled s.assertion a p q f) → AreRules db
+    → IsCompiled db (compiled_rule s.assertion a p q f) → AreRules db
     (rule_lists ranges hypotheses pairs parts)
     → AreRules db (rule_lists ranges' hypotheses' pairs' parts')
 added_at db ranges ranges' hypotheses a hypotheses' pairs p pairs' parts q f mid parts' s e1

@@ -11,7 +11,7 @@ use Rattle.mm_rule.specs.declared.rule.RuleSymbol.TheVariants.{Constant, Variabl
 use Rattle.mm_rule.specs.declared.rule.Hypothesis.{Hypothesis}
 use Rattle.mm_rules.specs.declared.rules.RuleRanges.{RuleRanges}
 use Rattle.mm_rules.specs.declared.rules.IndexRange.{IndexRange}
-use Rattle.mm_rule.specs.Rule.{Compiled, compiled, IsCompiled, floating_index, parts_of, all_parts}
+use Rattle.mm_rule.specs.Rule.{CompiledRule, compiled_rule, IsCompiled, floating_index, parts_of, all_parts}
 use Rattle.mm_rule.specs.Rule.{total_part_count, IsVariableBelow}
 
 -- for each variable that has a `$f`, the list has the index of the first one among the hypotheses
@@ -48,9 +48,9 @@ pub record AreCompiled (db : List Statement) (hyps : List ℕ) (hypotheses : Lis
 -- a compiler of rules: how many symbols it knows, and the rule that it compiled last
 pub record CompilerState : Type 0 where
   pub symbol_count : ℕ
-  pub rule : Compiled
+  pub rule : CompiledRule
 
-abbrev pub compiler_state : ℕ → Compiled → CompilerState
+abbrev pub compiler_state : ℕ → CompiledRule → CompilerState
 compiler_state symbol_count rule = record { symbol_count = symbol_count; rule = rule }
 
 -- the rules of a database: a list of their ranges, and the lists that all rules share
@@ -84,7 +84,7 @@ module _ {X : Type 0} where
   elements_in xs s = slice_range xs s.start s.end
 
 -- how many hypotheses, pairs and symbols a rule has together
-abbrev pub rule_size : Compiled → ℕ
+abbrev pub rule_size : CompiledRule → ℕ
 rule_size c = length c.hypotheses + length c.pairs + length c.parts + length c.formula
 
 -- how many the rules have together
@@ -92,9 +92,9 @@ abbrev pub lists_size : RuleLists → ℕ
 lists_size l = length l.hypotheses + length l.pairs + length l.parts
 
 -- the rule in these ranges
-abbrev pub rule_in : RuleLists → RuleRanges → Compiled
+abbrev pub rule_in : RuleLists → RuleRanges → CompiledRule
 rule_in l s =
-    compiled s.assertion (elements_in l.hypotheses s.hypotheses) (elements_in l.pairs s.pairs)
+    compiled_rule s.assertion (elements_in l.hypotheses s.hypotheses) (elements_in l.pairs s.pairs)
     (elements_in l.parts s.parts) (elements_in l.parts s.formula)
 
 -- a range of a list of `n` elements
@@ -108,7 +108,7 @@ pub record HasRule (db : List Statement) (l : RuleLists) (s : RuleRanges) : Type
   pub pairs : IsIndexRange (length l.pairs) s.pairs
   pub parts : IsIndexRange (length l.parts) s.parts
   pub formula : IsIndexRange (length l.parts) s.formula
-  pub compiled : IsCompiled db (rule_in l s)
+  pub is_compiled : IsCompiled db (rule_in l s)
 
 abbrev pub AreRules : List Statement → RuleLists → Type 0
 AreRules db l = All (HasRule db l) l.ranges
@@ -123,6 +123,6 @@ pub record IsRuleNumber (l : RuleLists) (n a : ℕ) : Type 0 where
   pub is : (get_or l.ranges n no_ranges).assertion ≡ a
 
 -- the rule is that of assertion `a`
-pub record IsRuleOf (db : List Statement) (c : Compiled) (a : ℕ) : Type 0 where
-  pub compiled : IsCompiled db c
+pub record IsRuleOf (db : List Statement) (c : CompiledRule) (a : ℕ) : Type 0 where
+  pub is_compiled : IsCompiled db c
   pub is : c.assertion ≡ a

@@ -213,12 +213,12 @@ impl<A: Allocator> Drop for RuleCompiler<A> {
 impl<A: Allocator> Model for RuleCompiler<A> {
     ghost use Rattle.std.specs.Prelude.{length};
     ghost use Rattle.mm_rules.specs.Rules.{CompilerState, compiler_state};
-    ghost use Rattle.mm_rule.specs.Rule.{compiled};
+    ghost use Rattle.mm_rule.specs.Rule.{compiled_rule};
 
     ghost Value = { CompilerState };
 
     ghost view = { λ m. compiler_state (length m.numbers.items)
-        (compiled m.assertion m.hypotheses.items m.pairs.items m.parts.items m.formula.items) };
+        (compiled_rule m.assertion m.hypotheses.items m.pairs.items m.parts.items m.formula.items) };
 }
 
 impl<A: Allocator> RuleCompiler<A> {

@@ -38,9 +38,9 @@ pub sound_is : (db : List Statement) (look : List ℕ → Option Symbol) (labels
 sound_is db look labels b x few lawful below = record {
   few = few;
   lawful = lawful;
-  apart =
+  no_constant_is_variable =
       λ w e. let k = x.symbols w in k.variable ∙ one_kind (entry_of (look w)) (sym k.constant ∙ e);
-  below = below;
+  symbols_have_numbers = below;
 }
 
 -- what has been read is lawful

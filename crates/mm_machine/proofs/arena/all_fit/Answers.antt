@@ -2,7 +2,7 @@ use Rattle.std.proofs.Common.{◌≡◌, ◌+◌, ◌-◌, ◌<◌, ◌≤◌, �
 use Rattle.std.proofs.Common.{bytes_eq, sym}
 use Rattle.std.proofs.Common.{ap, ◌∙◌, subst, arith}
 use Rattle.std.proofs.lemmas.Grind.{common_steps}
-use Rattle.mm_rule.specs.Rule.{Compiled}
+use Rattle.mm_rule.specs.Rule.{CompiledRule}
 use Rattle.mm_machine.specs.Arena.{no_symbols, span_formula}
 use Rattle.mm_machine.specs.Replaced.{replaced}
 use Rattle.mm_machine.proofs.FitLaw.{fit_from, fit_end, fit_next, part_count_next, IsTested}
@@ -13,13 +13,13 @@ use Rattle.mm_machine.proofs.arena.all_fit.Goals as goal
 pub offset_bounds-premises-j : goal.offset_bounds-premises-j
 offset_bounds-premises-j c =
     let inside = subst (λ z. c.loop-j.j < length z)
-    (ap (λ (r : Compiled). r.hypotheses) c.rule.view_is) c.loop-j-test.true in
+    (ap (λ (r : CompiledRule). r.hypotheses) c.rule.view_is) c.loop-j-test.true in
     omega (arith, inside, c.requires.count)
 
 pub offset_bounds-premises-j-in-Essential : goal.offset_bounds-premises-j-in-Essential
 offset_bounds-premises-j-in-Essential c =
     let inside = subst (λ z. c.loop-j.j < length z)
-    (ap (λ (r : Compiled). r.hypotheses) c.rule.view_is) c.loop-j-test.true in
+    (ap (λ (r : CompiledRule). r.hypotheses) c.rule.view_is) c.loop-j-test.true in
     omega (arith, inside, c.requires.count)
 
 pub fits-is_fitting-requires-clause-wanted : goal.fits-is_fitting-requires-clause-wanted
@@ -37,9 +37,9 @@ returns-then-not-is_fitting c =
     let one = c.match-hypothesis.is_fitting in
     let next = c.match-hypothesis.at in
     let hs_are : c.rule.inside.hypotheses.now ≡ hs =
-    ap (λ (r : Compiled). r.hypotheses) c.rule.view_is in
+    ap (λ (r : CompiledRule). r.hypotheses) c.rule.view_is in
     let parts_are : c.rule.inside.parts.now ≡ parts =
-    ap (λ (r : Compiled). r.parts) c.rule.view_is in
+    ap (λ (r : CompiledRule). r.parts) c.rule.view_is in
     let inside : j < length hs = subst (λ z. j < length z) hs_are c.loop-j-test.true in
     let many : j < length es = omega (arith, inside, c.requires.count) in
     let h_is : h ≡ get_or hs j h =
@@ -70,9 +70,9 @@ loop-j-preserved c =
     let one = c.match-hypothesis.is_fitting in
     let next = c.match-hypothesis.at in
     let hs_are : c.rule.inside.hypotheses.now ≡ hs =
-    ap (λ (r : Compiled). r.hypotheses) c.rule.view_is in
+    ap (λ (r : CompiledRule). r.hypotheses) c.rule.view_is in
     let parts_are : c.rule.inside.parts.now ≡ parts =
-    ap (λ (r : Compiled). r.parts) c.rule.view_is in
+    ap (λ (r : CompiledRule). r.parts) c.rule.view_is in
     let inside : j < length hs = subst (λ z. j < length z) hs_are c.loop-j-test.true in
     let many : j < length es = omega (arith, inside, c.requires.count) in
     let h_is : h ≡ get_or hs j h =
@@ -99,7 +99,7 @@ pub returns : goal.returns
 returns c =
     let hs = c.args.rule.now.hypotheses in
     let j = c.loop-j.j in
-    let all = subst (λ z. length z ≤ j) (ap (λ (r : Compiled). r.hypotheses) c.rule.view_is)
+    let all = subst (λ z. length z ≤ j) (ap (λ (r : CompiledRule). r.hypotheses) c.rule.view_is)
     c.loop-j-test.false in
     sym (c.loop-j.invariant.left
     ∙ fit_end c.args.symbols.now c.args.premises.now c.args.rule.now.parts hs j c.loop-j.at all

@@ -21,5 +21,5 @@ pub returns-then-at-gt-FORMULA_LIMIT-clause-short :
     goal.returns-then-at-gt-FORMULA_LIMIT-clause-short
 returns-then-at-gt-FORMULA_LIMIT-clause-short c = tt
 
-pub returns-clause-is : goal.returns-clause-is
-returns-clause-is c = grind (arith, common_steps)
+pub returns-clause-written : goal.returns-clause-written
+returns-clause-written c = grind (arith, common_steps)

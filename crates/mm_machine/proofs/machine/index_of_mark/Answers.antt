@@ -6,7 +6,7 @@ returns-in-Err-clause-below c =
     absurd (not_absent c.args.numbers.now c.args.number c.in-Err.gap c.in-Err.ensures.position
     c.requires.rising c.requires.present)
 
-pub returns-in-Err-clause-is : goal.returns-in-Err-clause-is
-returns-in-Err-clause-is c =
+pub returns-in-Err-clause-found : goal.returns-in-Err-clause-found
+returns-in-Err-clause-found c =
     absurd (not_absent c.args.numbers.now c.args.number c.in-Err.gap c.in-Err.ensures.position
     c.requires.rising c.requires.present)

@@ -14,7 +14,7 @@ formula_is : (g : Over) (c : In-Some g)
     (drop c.args.below c.args.stack.now.items)
     c.args.formula.now
 formula_is g c =
-    c.in-Some.ensures.is
+    c.in-Some.ensures.written
     ∙ same_formula c.args.unmarked.now c.args.marked.now c.args.stack.now.items c.args.below
     c.args.formula.now c.as_slice.result.now c.deref.result.now c.as_slice.ensures
     c.deref.ensures.value

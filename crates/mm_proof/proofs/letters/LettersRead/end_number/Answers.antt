@@ -21,7 +21,7 @@ returns-clause-reads g c = λ byte k.
 
 pub returns-in_err-add_step-clause-refuses : goal.returns-in_err-add_step-clause-refuses
 returns-in_err-add_step-clause-refuses g c =
-    err_same c.from_residual.result Memory _ c.from_residual.ensures.1 (λ byte k all left h. tt)
+    err_same c.from_residual.result Memory _ c.from_residual.ensures.1 (λ byte k all unread h. tt)
 
 pub returns-clause-stands : goal.returns-clause-stands
 returns-clause-stands g c =

@@ -1,5 +1,5 @@
 use Rattle.std.proofs.Common.{sym, subst}
-use Rattle.mm_rule.specs.Rule.{Compiled, IsCompiled}
+use Rattle.mm_rule.specs.Rule.{CompiledRule, IsCompiled}
 use Rattle.mm_rules.specs.Rules.{RuleLists, AreRules, rule_ranges}
 use Rattle.mm_rules.proofs.RulesLaw.{added_at}
 use Rattle.mm_rules.proofs.rules.Rules.add.Goals as goal
@@ -21,5 +21,5 @@ returns g c =
     c.in_ok-push.ensures.items a.ensures.items p.ensures.items q.ensures.items f.ensures.items
     a.ensures.start a.ensures.end p.ensures.start p.ensures.end q.ensures.start q.ensures.end
     f.ensures.start f.ensures.end
-    (subst (λ (z : Compiled). IsCompiled db z) (sym c.rule.view_is) rule)
+    (subst (λ (z : CompiledRule). IsCompiled db z) (sym c.rule.view_is) rule)
     (subst (λ (z : RuleLists). AreRules db z) (sym c.self.view_is) rules)

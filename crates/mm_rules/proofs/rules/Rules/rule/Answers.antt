@@ -24,7 +24,7 @@ returns-clause-rule g c =
     let parts = c.elements-3.ensures ∙ ap (λ z. elements_in z s.parts) c.deref-3.ensures.value in
     let formula = c.elements-4.ensures
     ∙ ap (λ z. elements_in z s.formula) c.deref-4.ensures.value in
-    rw (hypotheses, pairs, parts, formula) one.compiled
+    rw (hypotheses, pairs, parts, formula) one.is_compiled
 
 pub returns-clause-assertion : goal.returns-clause-assertion
 returns-clause-assertion g c = grind (arith, common_steps)
