@@ -51,7 +51,7 @@ module _ (counts : ℕ → ℕ → Bool) where
 
   join_parts : (p : ℕ → Bool) (ts us : Trees) (a : ℕ) → HasNode counts p (ts ⧺ us) a
       → HasNode counts p ts a ⊎ HasNode counts (λ n. p (size ts + n)) us a
-  join_parts p ts none a h = inl h
+  join_parts p ts none a has_node = inl has_node
   join_parts p ts (more us l f cs) a (inl h) = by_part (join_parts p ts us a h)
     where
       by_part : HasNode counts p ts a ⊎ HasNode counts (λ n. p (size ts + n)) us a
@@ -158,8 +158,8 @@ module _ (counts : ℕ → ℕ → Bool) (at : ℕ → Trees) where
     found : (rest : Trees) (l : ℕ) (f : Formula) (cs : Trees) → at (suc i) ≡ more rest l f cs
         → length ws ≡ size rest → b ≡ true → (a ≡ l) ⊎ HasNode counts (counts l) cs a
         → IsToBeFound (suc i) (ws ++ flag ∷ []) step_flags a
-    found rest l f cs here count e h = by_flag_kind
-        (or_cases flag (flag_at step_flags i) (sym is ∙ e))
+    found rest l f cs here count b_true h = by_flag_kind
+        (or_cases flag (flag_at step_flags i) (sym is ∙ b_true))
       where
         by_flag_kind : (flag ≡ true) ⊎ (flag_at step_flags i ≡ true)
             → IsToBeFound (suc i) (ws ++ flag ∷ []) step_flags a
@@ -283,11 +283,11 @@ module _ (counts : ℕ → ℕ → Bool) (at : ℕ → Trees) where
 
       tree_down : b ≡ true → (a ≡ l) ⊎ HasNode counts (counts l) cs a
           → IsToBeFound i (ws ++ []) (step_flags_after b (marked j) step_flags) a
-      tree_down e h =
+      tree_down b_true h =
           inr (
             j,
             earlier,
-            repeated_step_has_flag j step_flags (omega (arith, earlier, inside)) b e,
+            repeated_step_has_flag j step_flags (omega (arith, earlier, inside)) b b_true,
             subst
                 (λ t. HasNode counts each_place t a) (sym copy) (inr (refl, h)),
           )

@@ -29,13 +29,13 @@ module _ (db : List Statement) (t j : ℕ) where
 
       by_activity : (b : Bool) → is_active db j t ≡ b → (o : Option Statement) → slice_get db j ≡ o
           → IsGood (context_at db t) (out b o) → Stands
-      by_activity false e o f g = absurd g
-      by_activity true e None f g = absurd g
-      by_activity true e (Some s) f g =
+      by_activity false e o f is_good = absurd is_good
+      by_activity true active_at_t None f g = absurd g
+      by_activity true active_at_t (Some s) f g =
           record {
             statement = s;
             stands = f;
-            rule = ap (λ b. out b (slice_get db j)) e ∙ ap (λ o. out true o) f;
+            rule = ap (λ b. out b (slice_get db j)) active_at_t ∙ ap (λ o. out true o) f;
           }
 
   pub good_below : IsGood (context_at db t) (rule_at db t j) → j < length db

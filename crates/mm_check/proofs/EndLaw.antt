@@ -35,11 +35,11 @@ module _ (db : List Statement) (t : ℕ) (steps : List PlacedStep) where
       → AreOfDatabase db symbol_count rules → AreStepsOf db t steps → m
       ≡ machine_state [] [] [] symbol_count → noted ≡ []
       → AreDisjointAt db t cache → HasPerformed db t steps 0 (checker_state m rules noted cache)
-  begins m rules noted cache symbol_count of_database are fresh none p = record {
+  begins m rules noted cache symbol_count of_database are fresh none are_disjoint_at = record {
     at = record {
       made_for = rw fresh of_database;
       theorem = by_statement (slice_get db t) refl are.theorem;
-      disjoint_are = p;
+      disjoint_are = are_disjoint_at;
     };
     are_steps = are;
     ran = none_ran db t steps m noted symbol_count fresh none;
@@ -89,7 +89,7 @@ module _ (db : List Statement) (t : ℕ) (steps : List PlacedStep) where
     pub ends_here : (at : ℕ) (code : Code) → option_map last_place (slice_get db t) ≡ Some at
         → IsEndCode (context_at db t) c.machine.stack (formula_at db t) code
         → ProofFault db t (proof_end (slice_get db t)) (fault at code)
-    ends_here at code last h =
+    ends_here at code last is_end_code =
         let f = formula_at db t in
         inr (
           p.are_steps.sound,
@@ -99,5 +99,5 @@ module _ (db : List Statement) (t : ℕ) (steps : List PlacedStep) where
               p.are_steps.are
               (subst (λ n. ProofEndFault (context_at db t) steps f n (fault at code))
               (sym (end_is db t at p.are_steps.theorem last))
-              (ends_with db t steps c.machine.stack ends c.noted all at code f h))),
+              (ends_with db t steps c.machine.stack ends c.noted all at code f is_end_code))),
         )

@@ -88,8 +88,8 @@ module _ (c : Context) where
   front_row : (forest : Trees) (old rest : List ℕ) → AreDerivations c forest → postfix forest ≡ old
       ++ rest
       → RowOf old
-  front_row none [] rest d e = (none, tt, refl)
-  front_row none (x ∷ old) rest d e = absurd (cc)
+  front_row none [] rest are_derivations e = (none, tt, refl)
+  front_row none (x ∷ old) rest are_derivations e = absurd (cc)
   front_row (more ts l f cs) old rest d e =
       by_cut (cuts (postfix ts) (postfix cs ++ l ∷ []) old rest e) (λ k q. front_row ts old k d.0 q)
       (λ old' k q. front_row cs old' k d.1 q)
@@ -178,14 +178,14 @@ module _ (c : Context) where
         → AreDerivations c next → postfix next ≡ postfix forest ++ l ∷ [] → forest_at forests n
         ≡ forest
         → forest_at forests (suc n) ≡ next → IsMove forests n (label l)
-    move_label forests n forest none l d e p here then =
+    move_label forests n forest none l are_derivations e p here then =
         absurd (omega (arith, ap length p, length-append (postfix forest) (l ∷ [])))
-    move_label forests n forest (more ts k f cs) l d e p here then =
+    move_label forests n forest (more ts k f cs) l are_derivations e p here then =
         let q =
         same_from_push (postfix ts ++ postfix cs) (postfix forest) k l
         (append_assoc (postfix ts) (postfix cs) (k ∷ []) ∙ p) in
         let is =
-        same_forest c fine forest (ts ⧺ cs) d (derivations_join ts cs e.0 e.1)
+        same_forest c fine forest (ts ⧺ cs) are_derivations (derivations_join ts cs e.0 e.1)
         (sym q.0 ∙ sym (postfix_join ts cs)) in (
           ts,
           f,
@@ -201,7 +201,7 @@ module _ (c : Context) where
         → Adds c lists (postfix forest) (marked j) (postfix next)
         → forest_at forests (length forests) ≡ forest
         → IsMove (forests ++ next ∷ rest) (length forests) (marked j)
-    move_marked lists forests rest forest next j a d e adds here =
+    move_marked lists forests rest forest next j a are_derivations e adds here =
         let at = are_at lists forests j adds.0 a adds.2 in
         let from = adds.3 in
         let same = same_forest c fine (get_or forests j none) from.0 at.1 from.1 (at.2 ∙ sym from.2)
@@ -210,21 +210,21 @@ module _ (c : Context) where
       where
         copy : (r : Trees) → AreDerivations c r → IsLastTree r adds.1 → get_or forests j none ≡ r
             → j < length forests → IsMove (forests ++ next ∷ rest) (length forests) (marked j)
-        copy none dr x same h = absurd x
-        copy (more ts l f cs) dr x same h =
+        copy none dr is_last_tree same j_lt_length_forests = absurd is_last_tree
+        copy (more ts l f cs) dr x same j_lt_length_forests =
             let is : next ≡ more forest l f cs =
-            same_forest c fine next (more forest l f cs) e (d, dr.1, dr.2)
+            same_forest c fine next (more forest l f cs) e (are_derivations, dr.1, dr.2)
             (adds.4 ∙ ap (λ z. postfix forest ++ z) x) in
             let before : forest_at (forests ++ next ∷ rest) (length forests) ≡ forest =
             forest_front forests (next ∷ rest) (length forests) (omega arith) ∙ here in (
-              h,
+              j_lt_length_forests,
               l,
               f,
               cs,
               forest_next forests rest next ∙ is
                   ∙ ap (λ z. more z l f cs) (sym before),
               ap last_tree
-                  (forest_front forests (next ∷ rest) (suc j) h ∙ same),
+                  (forest_front forests (next ∷ rest) (suc j) j_lt_length_forests ∙ same),
             )
 
     move_here : (lists : List (List ℕ)) (forests rest : List Trees) (forest next : Trees) (s : Step)
@@ -232,12 +232,12 @@ module _ (c : Context) where
         → Adds c lists (postfix forest) s (postfix next) → forest_at forests (length forests)
         ≡ forest
         → IsMove (forests ++ next ∷ rest) (length forests) s
-    move_here lists forests rest forest next (label l) a d e adds here =
-        move_label (forests ++ next ∷ rest) (length forests) forest next l d e adds
+    move_here lists forests rest forest next (label l) a are_derivations e adds here =
+        move_label (forests ++ next ∷ rest) (length forests) forest next l are_derivations e adds
         (forest_front forests (next ∷ rest) (length forests) (omega arith) ∙ here)
         (forest_next forests rest next)
-    move_here lists forests rest forest next (marked j) a d e adds here =
-        move_marked lists forests rest forest next j a d e adds here
+    move_here lists forests rest forest next (marked j) a are_derivations e adds here =
+        move_marked lists forests rest forest next j a are_derivations e adds here
 
     -- the forests after the steps that are left
     record Built (forests : List Trees) (steps : List Step) (d : Trees) : Type 0 where

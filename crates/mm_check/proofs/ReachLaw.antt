@@ -83,31 +83,35 @@ pub next : (db : List Statement) (t : ℕ) (steps_so_far : List Step) (stack end
     → ((a : ℕ)
     → is_member then a ≡ (is_member noted a || (is_labelled_step s a && is_assertion_at db a)))
     → IsReached db t (steps_so_far ++ s ∷ []) out (ends ++ top out ∷ []) then
-next db t steps_so_far stack ends noted s out then r good entries_are notes =
+next db t steps_so_far stack ends noted s out then is_reached good entries_are notes =
     let c = context_at db t in
-    let same : step_entries c s ends (formulas r.forest) ≡ Ok out =
-    ap (step_entries c s ends) r.entries_are ∙ entries_are in
+    let same : step_entries c s ends (formulas is_reached.forest) ≡ Ok out =
+    ap (step_entries c s ends) is_reached.entries_are ∙ entries_are in
     let g =
-    subst (Grown c r.lists r.forest s) same
-    (grows c r.lists ends r.forest s r.derivations r.after good) in
-    let members = adds_member c r.lists (postfix r.forest) (postfix g.0) s g.2 r.within in
+    subst (Grown c is_reached.lists is_reached.forest s) same
+    (grows c is_reached.lists ends is_reached.forest s is_reached.derivations is_reached.after good)
+    in
+    let members = adds_member c is_reached.lists (postfix is_reached.forest) (postfix g.0) s g.2
+    is_reached.within in
     record {
       forest = g.0;
       derivations = g.1;
       entries_are = g.3;
-      lists = r.lists ++ postfix g.0 ∷ [];
-      after = after_more c r.lists ends (postfix g.0) (top out) r.after (g.0, g.1, refl, g.4);
+      lists = is_reached.lists ++ postfix g.0 ∷ [];
+      after = after_more c is_reached.lists ends (postfix g.0) (top out) is_reached.after
+          (g.0, g.1, refl, g.4);
       plain =
           λ rest all h. subst (λ z. Plain c [] [] z all)
           (sym (append_assoc steps_so_far (s ∷ []) rest))
-          (r.plain (s ∷ rest) all (postfix g.0, g.2, h));
+          (is_reached.plain (s ∷ rest) all (postfix g.0, g.2, h));
       within =
-          within_more r.lists (postfix r.forest) (postfix g.0) r.within
+          within_more is_reached.lists (postfix is_reached.forest) (postfix g.0) is_reached.within
           (λ a m. members a ∙ or_left _ _ m);
       noted_are =
           λ a. notes a
-          ∙ ap (λ b. b || (is_labelled_step s a && is_assertion_at db a)) (r.noted_are a)
-          ∙ spread (is_member (postfix r.forest) a) (is_labelled_step s a) (is_assertion_at db a)
+          ∙ ap (λ b. b || (is_labelled_step s a && is_assertion_at db a)) (is_reached.noted_are a)
+          ∙ spread (is_member (postfix is_reached.forest) a) (is_labelled_step s a)
+          (is_assertion_at db a)
           ∙ ap (λ b. b && is_assertion_at db a) (sym (members a));
     }
 
@@ -118,26 +122,28 @@ pub fails : (db : List Statement) (t : ℕ) (steps : List PlacedStep) (i : ℕ)
     → IsGoodStep (context_at db t) (length ends) (step_at steps i).step
     → step_entries (context_at db t) (step_at steps i).step ends stack ≡ Err reason
     → StepFault (context_at db t) steps (fault (step_at steps i).at (code_of reason))
-fails db t steps i stack ends noted reason h r good entries_are =
+fails db t steps i stack ends noted reason i_lt_length_steps is_reached good entries_are =
     let c = context_at db t in
     let s = step_at steps i in
-    let same : step_entries c s.step ends (formulas r.forest) ≡ Err reason =
-    ap (step_entries c s.step ends) r.entries_are ∙ entries_are in
+    let same : step_entries c s.step ends (formulas is_reached.forest) ≡ Err reason =
+    ap (step_entries c s.step ends) is_reached.entries_are ∙ entries_are in
     let g =
-    subst (Grown c r.lists r.forest s.step) same
-    (grows c r.lists ends r.forest s.step r.derivations r.after good) in
+    subst (Grown c is_reached.lists is_reached.forest s.step) same
+    (grows c is_reached.lists ends is_reached.forest s.step is_reached.derivations is_reached.after
+    good) in
     record {
       before = take i steps;
       first = s;
       after = drop (i + 1) steps;
       splits =
           sym (take-append-drop i steps)
-          ∙ ap (λ z. take i steps ++ z) (drop_more steps i (placed 0 (label 0)) h);
-      forest = r.forest;
-      derivations = r.derivations;
+          ∙ ap (λ z. take i steps ++ z) (drop_more steps i (placed 0 (label 0)) i_lt_length_steps);
+      forest = is_reached.forest;
+      derivations = is_reached.derivations;
       plain =
-          subst (λ z. Plain c [] [] z (postfix r.forest)) (append-nil (steps_of (take i steps)))
-          (r.plain [] (postfix r.forest) refl);
+          subst (λ z. Plain c [] [] z (postfix is_reached.forest))
+          (append-nil (steps_of (take i steps)))
+          (is_reached.plain [] (postfix is_reached.forest) refl);
       reason = reason;
       fails = g;
       is = refl;
@@ -169,12 +175,12 @@ module _ (db : List Statement) (t : ℕ) (steps : List PlacedStep) (stack ends :
   pub ends_with : (end : ℕ) (code : Code) (formula : Formula)
       → IsEndCode (context_at db t) stack formula code
       → ProofEndFault (context_at db t) steps formula end (fault end code)
-  ends_with end code formula h = record {
+  ends_with end code formula is_end_code = record {
     forest = r.forest;
     derivations = r.derivations;
     plain = plain_all;
     code = code;
-    fails = subst (λ z. IsEndCode (context_at db t) z formula code) (sym r.entries_are) h;
+    fails = subst (λ z. IsEndCode (context_at db t) z formula code) (sym r.entries_are) is_end_code;
     is = refl;
   }
 

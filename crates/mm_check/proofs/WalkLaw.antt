@@ -254,19 +254,19 @@ module _ (db : List Statement) (t : ℕ) (steps : List PlacedStep) (i : ℕ) (ws
           ⊎ IsToBeFound (child_counts db true) (forest_at r.forests) (suc i) (ws ++ flag ∷ [])
           step_flags a
           → (is_member out a ≡ true) ⊎ Before s a
-      down a k (inl h) = inl (old_noted a h)
-      down a k (inr h) = by_step ((u.nodes a).0 h)
+      down a a_is_assertion (inl h) = inl (old_noted a h)
+      down a a_is_assertion (inr h) = by_step ((u.nodes a).0 h)
         where
           by_step : ((b ≡ true) × (is_labelled_step s a ≡ true)) ⊎ Before s a
               → (is_member out a ≡ true) ⊎ Before s a
-          by_step (inl h) = inl (new_noted a k h.0 h.1)
+          by_step (inl h) = inl (new_noted a a_is_assertion h.0 h.1)
           by_step (inr h) = inr h
 
       up : (a : ℕ) → is_assertion_at db a ≡ true → (is_member out a ≡ true) ⊎ Before s a
           → (is_member noted a ≡ true)
           ⊎ IsToBeFound (child_counts db true) (forest_at r.forests) (suc i) (ws ++ flag ∷ [])
           step_flags a
-      up a k (inl h) =
+      up a a_is_assertion (inl h) =
           by_membership (or_cases (is_member noted a)
           (b && (is_labelled_step s a && is_assertion_at db a))
           (sym (notes a) ∙ h))
@@ -281,7 +281,7 @@ module _ (db : List Statement) (t : ℕ) (steps : List PlacedStep) (i : ℕ) (ws
               let p = and_parts b (is_labelled_step s a && is_assertion_at db a) h in
               inr ((u.nodes a).1
               (inl (p.0, (and_parts (is_labelled_step s a) (is_assertion_at db a) p.1).0)))
-      up a k (inr h) = inr ((u.nodes a).1 (inr h))
+      up a a_is_assertion (inr h) = inr ((u.nodes a).1 (inr h))
 
 -- the forest after a step is not empty
 some_row : (c : Context) (forests : List Trees) (i : ℕ) (s : Step) → IsMove c forests i s

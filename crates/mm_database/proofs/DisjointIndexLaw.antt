@@ -90,14 +90,14 @@ before_through a b c d e f (inr (s, l)) (inr (t, m)) = inr (omega arith, omega a
 
 pub partitioned : (ps : List (ℕ × ℕ)) → AreRising ps → (x y : ℕ)
     → IsPartitionedBy (λ p. is_pair_before p x y) ps
-partitioned ps h x y i j d l m e = by_equality (cases_eq i j)
+partitioned ps are_rising x y i j d l m e = by_equality (cases_eq i j)
   where
     by_equality : (i ≡ j) ⊎ (i ≢ j) → is_pair_before (get_or ps i d) x y ≡ true
     by_equality (inl s) = ap (λ k. is_pair_before (get_or ps k d) x y) s ∙ e
     by_equality (inr n) =
         is_pair_before_if (get_or ps i d) x y
         (before_through (get_or ps i d).0 (get_or ps i d).1 (get_or ps j d).0 (get_or ps j d).1 x y
-        (rising_at ps h i j d (omega arith) m) (before_is (get_or ps j d) x y e))
+        (rising_at ps are_rising i j d (omega arith) m) (before_is (get_or ps j d) x y e))
 
 -- ---- the blocks of the pairs
 
@@ -196,7 +196,7 @@ module _ (b : BlockLists) (ps : List (ℕ × ℕ)) (rising : AreRising ps) (x at
             → (c || ((nat_eq j m && nat_eq y x) || false)) ≡ true
             → (has_pair old j y ≡ true)
             ⊎ ((y ≡ x) × (has_pair ps x j ≡ true) × (is_active_local b j at ≡ true))
-        only j y true e h = a.only j y e
+        only j y true has_pair_x_y h = a.only j y has_pair_x_y
         only j y false e h =
             let t = sym (or-false (nat_eq j m && nat_eq y x)) ∙ h in
             let sj = eqb-true j m (and_parts (nat_eq j m) (nat_eq y x) t).0 in
@@ -214,7 +214,7 @@ module _ (b : BlockLists) (ps : List (ℕ × ℕ)) (rising : AreRising ps) (x at
             → nat_le at (end_of b (get_or ps p (0, 0)).1) ≡ true
             → (p + 1 ≡ end) ⊎ ((p + 1 < end) ⊎ (end < p + 1))
             → has_pair (now ++ (m, x) ∷ []) (get_or ps p (0, 0)).1 x ≡ true
-        all p l h e f (inl q) =
+        all p next_le_p p_lt_start e f (inl q) =
             let sp : p ≡ end - 1 = omega (arith, q) in
             list_any-append (λ r. nat_eq (get_or ps p (0, 0)).1 r.0 && nat_eq x r.1) now
             ((m, x) ∷ [])
@@ -223,9 +223,10 @@ module _ (b : BlockLists) (ps : List (ℕ × ℕ)) (rising : AreRising ps) (x at
             (eq-eqb (get_or ps p (0, 0)).1 m (ap (λ i. (get_or ps i (0, 0)).1) sp))
             (eq-eqb x x refl))
             ∙ or-true (has_pair now (get_or ps p (0, 0)).1 x)
-        all p l h e f (inr (inl q)) = absurd (true≢false (sym f ∙ passed p l q))
-        all p l h e f (inr (inr q)) =
-            longer (get_or ps p (0, 0)).1 x (a.all p (omega (arith, q)) h e f)
+        all p next_le_p p_lt_start e f (inr (inl q)) = absurd
+            (true≢false (sym f ∙ passed p next_le_p q))
+        all p next_le_p p_lt_start e f (inr (inr q)) =
+            longer (get_or ps p (0, 0)).1 x (a.all p (omega (arith, q)) p_lt_start e f)
 
     -- one that is not is passed over
     pub added_closed : (end next : ℕ) (old now : List (ℕ × ℕ))
@@ -246,17 +247,18 @@ module _ (b : BlockLists) (ps : List (ℕ × ℕ)) (rising : AreRising ps) (x at
             → nat_le at (end_of b (get_or ps p (0, 0)).1) ≡ true
             → (p + 1 ≡ end) ⊎ ((p + 1 < end) ⊎ (end < p + 1))
             → has_pair now (get_or ps p (0, 0)).1 x ≡ true
-        all p l h e f (inl q) =
+        all p next_le_p p_lt_start e f (inl q) =
             let sp : p ≡ end - 1 = omega (arith, q) in
             absurd (true≢false
             (sym f ∙ ap (λ i. nat_le at (end_of b (get_or ps i (0, 0)).1)) sp ∙ o))
-        all p l h e f (inr (inl q)) = absurd (true≢false (sym f ∙ passed p l q))
-        all p l h e f (inr (inr q)) = a.all p (omega (arith, q)) h e f
+        all p next_le_p p_lt_start e f (inr (inl q)) = absurd
+            (true≢false (sym f ∙ passed p next_le_p q))
+        all p next_le_p p_lt_start e f (inr (inr q)) = a.all p (omega (arith, q)) p_lt_start e f
 
     -- none further down has the symbol
     pub none_before_end : (end : ℕ) → end ≤ start → (0 < end → (get_or ps (end - 1) (0, 0)).0 ≢ x)
         → (p : ℕ) → p < end → (get_or ps p (0, 0)).0 ≡ x → ⊥
-    none_before_end end i n p l e = by_equality (cases_eq p (end - 1))
+    none_before_end end i n p p_lt_end e = by_equality (cases_eq p (end - 1))
       where
         below : (q : ℕ) → q < start → (get_or ps q (0, 0)).0 ≤ x
         below q h = low (before_is (get_or ps q (0, 0)) x at (parted.before q h))
@@ -274,26 +276,28 @@ module _ (b : BlockLists) (ps : List (ℕ × ℕ)) (rising : AreRising ps) (x at
         above (inr (s, m)) = omega (arith, s, e)
 
         by_equality : (p ≡ end - 1) ⊎ (p ≢ end - 1) → ⊥
-        by_equality (inl s) = n (omega (arith, l)) (sym (ap (λ i. (get_or ps i (0, 0)).0) s) ∙ e)
+        by_equality (inl s) = n (omega (arith, p_lt_end))
+            (sym (ap (λ i. (get_or ps i (0, 0)).0) s) ∙ e)
         by_equality (inr t) =
             let w = parted.within in
             let u =
-            above (rising_at ps rising p (end - 1) (0, 0) (omega (arith, l, t))
-            (omega (arith, l, i, w))) in
-            let v = below (end - 1) (omega (arith, l, i)) in
-            n (omega (arith, l)) (omega (arith, u, v))
+            above (rising_at ps rising p (end - 1) (0, 0) (omega (arith, p_lt_end, t))
+            (omega (arith, p_lt_end, i, w))) in
+            let v = below (end - 1) (omega (arith, p_lt_end, i)) in
+            n (omega (arith, p_lt_end)) (omega (arith, u, v))
 
     -- one that has the symbol and is active stands before the place
     pub inside_if : (p : ℕ) → p < length ps → (get_or ps p (0, 0)).0 ≡ x
         → (get_or ps p (0, 0)).1 < at
         → p < start
-    inside_if p l e m = by_order (cases_lt p start)
+    inside_if p p_lt_length_ps e m = by_order (cases_lt p start)
       where
         by_order : (p < start) ⊎ (start ≤ p) → p < start
         by_order (inl h) = h
         by_order (inr h) =
             absurd (true≢false
-            (sym (is_pair_before_if (get_or ps p (0, 0)) x at (inr (e, m))) ∙ parted.after p h l))
+            (sym (is_pair_before_if (get_or ps p (0, 0)) x at (inr (e, m)))
+            ∙ parted.after p h p_lt_length_ps))
 
     pub all_are_added : (end : ℕ) (old now : List (ℕ × ℕ)) → AddsFromEnd b ps x at start end old now
         → (0 < end → (get_or ps (end - 1) (0, 0)).0 ≢ x)
@@ -316,11 +320,12 @@ module _ (b : BlockLists) (ps : List (ℕ × ℕ)) (rising : AreRising ps) (x at
             ∙ or-true (has_pair old j y)
 
         found : has_pair ps x j ≡ true → is_active_local b j at ≡ true → has_pair now j x ≡ true
-        found h o =
-            let w = has_at ps x j h in
+        found has_pair_x_j j_is_active =
+            let w = has_at ps x j has_pair_x_j in
             let p = w.0 in
-            let m = ltb-true j at (and_parts (nat_lt j at) (nat_le at (end_of b j)) o).0 in
-            let r = (and_parts (nat_lt j at) (nat_le at (end_of b j)) o).1 in
+            let m = ltb-true j at (and_parts (nat_lt j at) (nat_le at (end_of b j))
+            j_is_active).0 in
+            let r = (and_parts (nat_lt j at) (nat_le at (end_of b j)) j_is_active).1 in
             let l = inside_if p w.1 w.2 (let e = w.3 in omega (arith, m, e)) in
             there p l w.2 w.3 r (cases_lt p end)
           where
@@ -334,7 +339,7 @@ module _ (b : BlockLists) (ps : List (ℕ × ℕ)) (rising : AreRising ps) (x at
         back : (c : Bool) → has_pair old j y ≡ c
             → (c || (nat_eq y x && (has_pair ps x j && is_active_local b j at))) ≡ true
             → has_pair now j y ≡ true
-        back true e h = a.old_stay j y e
+        back true has_pair_x_y h = a.old_stay j y has_pair_x_y
         back false e h =
             let s =
             eqb-true y x (and_parts (nat_eq y x) (has_pair ps x j && is_active_local b j at) h).0 in
@@ -358,14 +363,16 @@ module _ (b : BlockLists) (ps : List (ℕ × ℕ)) (rising : AreRising ps) (x y 
       → ((p : ℕ) → p < y_end → is_pair_before (get_or ps p (0, 0)) y at ≡ true)
       → ((p : ℕ) → y_end ≤ p → p < length ps → is_pair_before (get_or ps p (0, 0)) y at ≡ false)
       → NoneInCommon b ps x y at x_end y_end
-  none_at_start x_end y_end l r bl al br ar = record {
+  none_at_start x_end y_end x_end_le_length_ps y_end_le_length_ps bl al br ar = record {
     met = λ p q h i e f s o.
         let m =
         ltb-true (get_or ps p (0, 0)).1 at
         (and_parts (nat_lt (get_or ps p (0, 0)).1 at)
         (nat_le at (end_of b (get_or ps p (0, 0)).1)) o).0 in (
-          inside_if b ps rising x at x_end (record { within = l; before = bl; after = al }) p h e m,
-          inside_if b ps rising y at y_end (record { within = r; before = br; after = ar }) q
+          inside_if b ps rising x at x_end (record
+              { within = x_end_le_length_ps; before = bl; after = al }) p h e m,
+          inside_if b ps rising y at y_end (record
+              { within = y_end_le_length_ps; before = br; after = ar }) q
               i f (omega (arith, m, s)),
         );
   }
@@ -373,11 +380,12 @@ module _ (b : BlockLists) (ps : List (ℕ × ℕ)) (rising : AreRising ps) (x y 
   -- the pair of the lower statement comes first
   order_of : (q r : ℕ) → q ≤ r → r < length ps → (get_or ps q (0, 0)).0 ≡ (get_or ps r (0, 0)).0
       → (get_or ps q (0, 0)).1 ≤ (get_or ps r (0, 0)).1
-  order_of q r l h e = by_equality (cases_eq q r)
+  order_of q r q_le_r r_lt_length_ps e = by_equality (cases_eq q r)
     where
       by_equality : (q ≡ r) ⊎ (q ≢ r) → (get_or ps q (0, 0)).1 ≤ (get_or ps r (0, 0)).1
       by_equality (inl s) = let t = ap (λ i. (get_or ps i (0, 0)).1) s in omega (arith, t)
-      by_equality (inr n) = less (rising_at ps rising q r (0, 0) (omega (arith, l, n)) h)
+      by_equality (inr n) = less (rising_at ps rising q r (0, 0) (omega (arith, q_le_r, n))
+          r_lt_length_ps)
         where
           less : IsBefore (get_or ps q (0, 0)).0 (get_or ps q (0, 0)).1 (get_or ps r (0, 0)).0
               (get_or ps r (0, 0)).1
@@ -412,21 +420,24 @@ module _ (b : BlockLists) (ps : List (ℕ × ℕ)) (rising : AreRising ps) (x y 
           → is_active_local b (get_or ps p (0, 0)).1 at ≡ true → (p < next) ⊎ (next ≤ p)
           → ((get_or ps (y_end - 1) (0, 0)).1 < (get_or ps (x_end - 1) (0, 0)).1)
           ⊎ (nat_le at (end_of b (get_or ps (x_end - 1) (0, 0)).1) ≡ false) → p < next
-      is_before_next p q l r f s o (inl m) w = m
-      is_before_next p q l r f s o (inr m) w = absurd (last (cases_lt (p + 1) x_end) w)
+      is_before_next p q p_lt_x_end q_lt_y_end f s j_is_active (inl m) w = m
+      is_before_next p q p_lt_x_end q_lt_y_end f s j_is_active (inr m) w = absurd
+          (last (cases_lt (p + 1) x_end) w)
         where
           last : (p + 1 < x_end) ⊎ (x_end ≤ p + 1)
               → ((get_or ps (y_end - 1) (0, 0)).1 < (get_or ps (x_end - 1) (0, 0)).1)
               ⊎ (nat_le at (end_of b (get_or ps (x_end - 1) (0, 0)).1) ≡ false) → ⊥
-          last (inl n) w = closed p (passed p m n) o
+          last (inl n) w = closed p (passed p m n) j_is_active
           last (inr n) (inr c) =
-              let t : p ≡ x_end - 1 = omega (arith, l, n) in
-              closed p (ap (λ i. nat_le at (end_of b (get_or ps i (0, 0)).1)) t ∙ c) o
+              let t : p ≡ x_end - 1 = omega (arith, p_lt_x_end, n) in
+              closed p (ap (λ i. nat_le at (end_of b (get_or ps i (0, 0)).1)) t ∙ c)
+              j_is_active
           last (inr n) (inl c) =
-              let t : p ≡ x_end - 1 = omega (arith, l, n) in
+              let t : p ≡ x_end - 1 = omega (arith, p_lt_x_end, n) in
               let u = ap (λ i. (get_or ps i (0, 0)).1) t in
               let v =
-              order_of q (y_end - 1) (omega (arith, r)) (omega (arith, sr, wr)) (f ∙ sym ey) in
+              order_of q (y_end - 1) (omega (arith, q_lt_y_end)) (omega (arith, sr, wr))
+              (f ∙ sym ey) in
               omega (arith, u, v, s, c)
 
   pub none_before_y_end : (x_end y_end next : ℕ) → NoneInCommon b ps x y at x_end y_end → 0 < x_end
@@ -443,16 +454,19 @@ module _ (b : BlockLists) (ps : List (ℕ × ℕ)) (rising : AreRising ps) (x y 
       is_before_next : (p q : ℕ) → p < x_end → q < y_end → (get_or ps p (0, 0)).0 ≡ x
           → (get_or ps p (0, 0)).1 ≡ (get_or ps q (0, 0)).1
           → is_active_local b (get_or ps p (0, 0)).1 at ≡ true → (q < next) ⊎ (next ≤ q) → q < next
-      is_before_next p q l r e s o (inl m) = m
-      is_before_next p q l r e s o (inr m) = absurd (last (cases_lt (q + 1) y_end))
+      is_before_next p q p_lt_x_end q_lt_y_end e s j_is_active (inl m) = m
+      is_before_next p q p_lt_x_end q_lt_y_end e s j_is_active (inr m) = absurd
+          (last (cases_lt (q + 1) y_end))
         where
           last : (q + 1 < y_end) ⊎ (y_end ≤ q + 1) → ⊥
-          last (inl n) = closed q (passed q m n) (ap (λ j. is_active_local b j at) (sym s) ∙ o)
+          last (inl n) = closed q (passed q m n)
+              (ap (λ j. is_active_local b j at) (sym s) ∙ j_is_active)
           last (inr n) =
-              let t : q ≡ y_end - 1 = omega (arith, r, n) in
+              let t : q ≡ y_end - 1 = omega (arith, q_lt_y_end, n) in
               let u = ap (λ i. (get_or ps i (0, 0)).1) t in
               let v =
-              order_of p (x_end - 1) (omega (arith, l)) (omega (arith, sl, wl)) (e ∙ sym ex) in
+              order_of p (x_end - 1) (omega (arith, p_lt_x_end)) (omega (arith, sl, wl))
+              (e ∙ sym ex) in
               omega (arith, u, v, s, why)
 
   -- one of the two has none x_end

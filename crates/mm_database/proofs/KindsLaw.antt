@@ -128,10 +128,10 @@ pub kinds_more : (text : List ℕ) (ws : List Word) (os : List Outline) (w : Boo
     → map kind_of (counted w (statements text ws (take (i + 1) os)))
     ≡ map kind_of (counted w (statements text ws (take i os)))
     ++ kind_of (counted_as w (statement_of text ws (get_or os i d))) ∷ []
-kinds_more text ws os w i d h =
+kinds_more text ws os w i d i_lt_length_os =
     let s = statement_of text ws (get_or os i d) in
     let before = statements text ws (take i os) in
-    ap (λ os. map kind_of (counted w (statements text ws os))) (take_more os i d h)
+    ap (λ os. map kind_of (counted w (statements text ws os))) (take_more os i d i_lt_length_os)
     ∙ ap (λ db. map kind_of (counted w db))
     (map-append (statement_of text ws) (take i os) (get_or os i d ∷ []))
     ∙ ap (map kind_of) (counted_more w before s)

@@ -21,7 +21,7 @@ starts_none ps = record { each = λ x l. absurd (omega arith); known = λ p l. a
 -- later pairs are of no earlier symbol
 no_lower : (ps : List (ℕ × ℕ)) → AreRising ps → (i j : ℕ) → i ≤ j → j < length ps
     → (get_or ps i (0, 0)).0 ≤ (get_or ps j (0, 0)).0
-no_lower ps r i j le lt = by_equality (cases_eq i j)
+no_lower ps are_rising i j le lt = by_equality (cases_eq i j)
   where
     low : IsBefore (get_or ps i (0, 0)).0 (get_or ps i (0, 0)).1 (get_or ps j (0, 0)).0
         (get_or ps j (0, 0)).1
@@ -31,7 +31,7 @@ no_lower ps r i j le lt = by_equality (cases_eq i j)
 
     by_equality : (i ≡ j) ⊎ (i ≡ j → ⊥) → (get_or ps i (0, 0)).0 ≤ (get_or ps j (0, 0)).0
     by_equality (inl e) = let s = ap (λ k. (get_or ps k (0, 0)).0) e in omega (arith, s)
-    by_equality (inr ne) = low (rising_at ps r i j (0, 0) (omega arith) lt)
+    by_equality (inr ne) = low (rising_at ps are_rising i j (0, 0) (omega arith) lt)
 
 -- a symbol more, up to that of pair n
 pub starts_more : (ps : List (ℕ × ℕ)) (n : ℕ) (starts : List ℕ) → AreRising ps → n < length ps
@@ -122,12 +122,12 @@ module _ (ps : List (ℕ × ℕ)) (rising : AreRising ps) (x at from to : ℕ) (
           → IsBefore (get_or ps (from + i) d).0 (get_or ps (from + i) d).1
           (get_or ps (from + j) d).0 (get_or ps (from + j) d).1
           → (get_or ps (from + i) d).1 < (get_or ps (from + j) d).1
-      low k (inl s) =
+      low i_lt_j (inl s) =
           let n = long in
-          let a = here (from + i) d (omega arith) (omega (arith, k, n)) in
+          let a = here (from + i) d (omega arith) (omega (arith, i_lt_j, n)) in
           let b = here (from + j) d (omega arith) (omega (arith, n)) in
           absurd (omega (arith, a, b, s))
-      low k (inr (s, t)) = t
+      low i_lt_j (inr (s, t)) = t
 
       by_equality : (i ≡ j) ⊎ (i ≡ j → ⊥) → nat_lt (get_or (slice_range ps from to) i d).1 at ≡ true
       by_equality (inl s) = ap (λ k. nat_lt (get_or (slice_range ps from to) k d).1 at) s ∙ e
@@ -164,18 +164,18 @@ module _ (ps : List (ℕ × ℕ)) (rising : AreRising ps) (x at from to : ℕ) (
 
     pub after_point : (p : ℕ) → from + n ≤ p → p < length ps
         → is_pair_before (get_or ps p (0, 0)) x at ≡ false
-    after_point p l m =
+    after_point p l p_lt_length_ps =
         false_from_ne_true (is_pair_before (get_or ps p (0, 0)) x at)
         (λ e. never (before_is (get_or ps p (0, 0)) x at e) (cases_lt p to))
       where
         never : IsBefore (get_or ps p (0, 0)).0 (get_or ps p (0, 0)).1 x at → (p < to) ⊎ (to ≤ p)
             → ⊥
-        never b (inr k) = up b
+        never is_before (inr k) = up is_before
           where
             up : IsBefore (get_or ps p (0, 0)).0 (get_or ps p (0, 0)).1 x at → ⊥
-            up (inl s) = let h = last.after p k m in omega (arith, h, s)
-            up (inr (s, t)) = let h = last.after p k m in omega (arith, h, s)
-        never b (inl k) = up b
+            up (inl s) = let h = last.after p k p_lt_length_ps in omega (arith, h, s)
+            up (inr (s, t)) = let h = last.after p k p_lt_length_ps in omega (arith, h, s)
+        never is_before (inl k) = up is_before
           where
             low : from ≤ p
             low = omega arith

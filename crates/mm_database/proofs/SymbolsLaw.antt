@@ -60,11 +60,11 @@ first_snoc (v ∷ ws) e w = by_membership (is_in v e) refl (first_snoc ws e w)
         ≡ first_occurrences (v ∷ e) ws ++ if_new ((bytes_eq w v || is_in w e) || is_in w ws) w
         → first_occurrences e (v ∷ (ws ++ w ∷ []))
         ≡ first_occurrences e (v ∷ ws) ++ if_new (is_in w e || (bytes_eq w v || is_in w ws)) w
-    by_membership true h r s =
-        first_step e v (ws ++ w ∷ []) true h ∙ r
-        ∙ ap (λ b. first_occurrences e ws ++ if_new b w) (known h (bytes_eq w v) refl)
+    by_membership true word_in_e r s =
+        first_step e v (ws ++ w ∷ []) true word_in_e ∙ r
+        ∙ ap (λ b. first_occurrences e ws ++ if_new b w) (known word_in_e (bytes_eq w v) refl)
         ∙ sym (ap (λ l. l ++ if_new (is_in w e || (bytes_eq w v || is_in w ws)) w)
-        (first_step e v ws true h))
+        (first_step e v ws true word_in_e))
     by_membership false h r s =
         first_step e v (ws ++ w ∷ []) false h ∙ ap (λ l. v ∷ l) s
         ∙ ap (λ b. (v ∷ first_occurrences (v ∷ e) ws) ++ if_new b w)
@@ -83,10 +83,10 @@ in_first (v ∷ ws) e w h =
         → (is_in w (v ∷ e) ≡ false → is_in w (first_occurrences (v ∷ e) ws) ≡ is_in w ws)
         → (b : Bool) → is_in v e ≡ b → (s : Bool) → bytes_eq w v ≡ s
         → is_in w (first_occurrences e (v ∷ ws)) ≡ (bytes_eq w v || is_in w ws)
-    by_head r t true k true s = absurd (true≢false
-        (sym (ap (λ x. is_in x e) (same_word w v s) ∙ k) ∙ h))
-    by_head r t true k false s =
-        ap (is_in w) (first_step e v ws true k) ∙ r ∙ sym (ap (λ b. b || is_in w ws) s)
+    by_head r t true word_in_e true s = absurd (true≢false
+        (sym (ap (λ x. is_in x e) (same_word w v s) ∙ word_in_e) ∙ h))
+    by_head r t true word_in_e false s =
+        ap (is_in w) (first_step e v ws true word_in_e) ∙ r ∙ sym (ap (λ b. b || is_in w ws) s)
     by_head r t false k true s =
         ap (is_in w) (first_step e v ws false k)
         ∙ ap (λ b. b || is_in w (first_occurrences (v ∷ e) ws)) s
@@ -98,21 +98,21 @@ in_first (v ∷ ws) e w h =
 
 not_first : (ws e : List Bytes) (w : Bytes) → is_in w e ≡ true
     → is_in w (first_occurrences e ws) ≡ false
-not_first [] e w h = refl
-not_first (v ∷ ws) e w h =
-    by_head (not_first ws e w h) (not_first ws (v ∷ e) w) (is_in v e) refl (bytes_eq w v) refl
+not_first [] e w word_in_e = refl
+not_first (v ∷ ws) e w word_in_e =
+    by_head (not_first ws e w word_in_e) (not_first ws (v ∷ e) w) (is_in v e) refl (bytes_eq w v) refl
   where
     by_head : is_in w (first_occurrences e ws) ≡ false
         → (is_in w (v ∷ e) ≡ true → is_in w (first_occurrences (v ∷ e) ws) ≡ false) → (b : Bool)
         → is_in v e ≡ b → (s : Bool) → bytes_eq w v ≡ s
         → is_in w (first_occurrences e (v ∷ ws)) ≡ false
-    by_head r t true k s q = ap (is_in w) (first_step e v ws true k) ∙ r
+    by_head r t true word_in_e s q = ap (is_in w) (first_step e v ws true word_in_e) ∙ r
     by_head r t false k true s = absurd (true≢false
-        (sym h ∙ ap (λ x. is_in x e) (same_word w v s) ∙ k))
+        (sym word_in_e ∙ ap (λ x. is_in x e) (same_word w v s) ∙ k))
     by_head r t false k false s =
         ap (is_in w) (first_step e v ws false k)
         ∙ ap (λ b. b || is_in w (first_occurrences (v ∷ e) ws)) s
-        ∙ t (ap (λ a. a || is_in w e) s ∙ h)
+        ∙ t (ap (λ a. a || is_in w e) s ∙ word_in_e)
 
 -- the names with a word more
 abbrev pub added : List Bytes → Bytes → List Bytes
@@ -177,9 +177,9 @@ index_of_got (v ∷ ws) e s w h =
         → index_of w (first_occurrences (v ∷ e) ws) ≡ r)
         → (b : Bool) → is_in v e ≡ b → (s : ℕ) → slice_get (first_occurrences e (v ∷ ws)) s ≡ Some w
         → index_of w (first_occurrences e (v ∷ ws)) ≡ s
-    by_membership f g true k s q =
-        ap (index_of w) (first_step e v ws true k)
-        ∙ f s (sym (ap (λ l. slice_get l s) (first_step e v ws true k)) ∙ q)
+    by_membership f g true word_in_e s q =
+        ap (index_of w) (first_step e v ws true word_in_e)
+        ∙ f s (sym (ap (λ l. slice_get l s) (first_step e v ws true word_in_e)) ∙ q)
     by_membership f g false k s q =
         ap (index_of w) (first_step e v ws false k)
         ∙ head (first_occurrences (v ∷ e) ws) s

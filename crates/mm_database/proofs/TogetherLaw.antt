@@ -52,8 +52,8 @@ module _ (db : List Statement) (b : BlockLists) (blocks : IsBlocks db b) (k : �
         same_tests r (are_together_at db k x y) forth (λ e. back r refl e)
       where
         forth : r ≡ true → are_together_at db k x y ≡ true
-        forth e =
-            let w = found e in
+        forth r_true =
+            let w = found r_true in
             let j = w.0 in
             let ex = sym (are x j) ∙ w.1 in
             let ey = sym (are y j) ∙ w.2 in
@@ -69,11 +69,11 @@ module _ (db : List Statement) (b : BlockLists) (blocks : IsBlocks db b) (k : �
             (is_member (formula_at db j) y) ey).1)
 
         back : (c : Bool) → r ≡ c → are_together_at db k x y ≡ true → r ≡ true
-        back true e t = e
-        back false e t =
+        back true r_true x_and_y_together = r_true
+        back false r_false x_and_y_together =
             let w =
             any_witness (λ j. is_member (formula_at db j) x && is_member (formula_at db j) y)
-            (active_of is_disjoint_statement db k) t in
+            (active_of is_disjoint_statement db k) x_and_y_together in
             let j = w.0 in
             let d = kind_of_active j w.1 in
             let ex =
@@ -82,4 +82,4 @@ module _ (db : List Statement) (b : BlockLists) (blocks : IsBlocks db b) (k : �
             let ey =
             are y j ∙ ap₂ (λ p q. p && q) d
             (and_parts (is_member (formula_at db j) x) (is_member (formula_at db j) y) w.2).1 in
-            absurd (true≢false (sym (active_local_is j d ∙ w.1) ∙ none e j ex ey))
+            absurd (true≢false (sym (active_local_is j d ∙ w.1) ∙ none r_false j ex ey))

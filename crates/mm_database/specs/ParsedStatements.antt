@@ -25,7 +25,8 @@ pub record IsSound (db : List Statement) : Type 0 where
   pub lawful : (k : ℕ) → k < length db → scope_fault db k ≡ None
   pub no_constant_is_variable : (w : Bytes) → is_in w (flat_map constants_of db) ≡ true
       → is_in w (flat_map variables_of db) ≡ false
-  pub symbols_have_numbers : (k : ℕ) → k < length db → All (λ s. s < length (symbol_names db)) (formula_at db k)
+  pub symbols_have_numbers : (k : ℕ) → k < length db
+      → All (λ s. s < length (symbol_names db)) (formula_at db k)
 
 -- what is kept of sound statements is theirs: blocks, formulas, and which symbols are variables
 pub record AreParsedStatements (db : List Statement) (b : BlockLists) (formulas : List (List ℕ))

@@ -45,7 +45,7 @@ chain_with_more_links links l n (j ∷ js) h =
 -- the new link stands in front
 chain_more : (links : List (ℕ × ℕ)) (k n : ℕ) (js : List ℕ) → IsLinkChain links n js
     → IsLinkChain (links ++ (k, n) ∷ []) (length links + 1) (k ∷ js)
-chain_more links k n js h =
+chain_more links k n js is_link_chain =
     let long = length-append links ((k, n) ∷ []) in
     let last : get_or (links ++ (k, n) ∷ []) (length links + 1 - 1) (0, 0) ≡ (k, n) =
     get_or_push links (k, n) (0, 0) (length links + 1 - 1) (omega arith) in (
@@ -53,7 +53,7 @@ chain_more links k n js h =
       omega (arith, long),
       ap (λ (q : ℕ × ℕ). q.0) last,
       subst (λ (q : ℕ × ℕ). IsLinkChain (links ++ (k, n) ∷ []) q.1 js) (sym last)
-          (chain_with_more_links links (k, n) n js h),
+          (chain_with_more_links links (k, n) n js is_link_chain),
     )
 
 -- a chain that doesn't begin with k, and has nothing before k, has only later statements
@@ -141,14 +141,16 @@ module _ (has : ℕ → ℕ → Bool) (heads : List ℕ) (links : List (ℕ × �
     pub begun : 0 < get_or heads x 0 → (get_or links (get_or heads x 0 - 1) (0, 0)).0 ≡ k
         → AreChains has k heads links
         → AreChains (λ y j. has y j || (nat_eq y s && nat_eq j k)) k heads links
-    begun some first h y l =
+    begun some first are_chains y l =
         same_chain (has y) (λ j. has y j || (nat_eq y s && nat_eq j k)) k k links
-        (get_or heads y 0) (omega arith) (λ j. by_equality j (cases_eq y x) (cases_eq j k)) (h y l)
+        (get_or heads y 0) (omega arith) (λ j. by_equality j (cases_eq y x) (cases_eq j k))
+        (are_chains y l)
       where
         has_it : has x k ≡ true
         has_it =
-            sym ((h x here).members_are k)
-            ∙ begins links (get_or heads x 0) k (h x here).statements (h x here).chain some first
+            sym ((are_chains x here).members_are k)
+            ∙ begins links (get_or heads x 0) k (are_chains x here).statements
+            (are_chains x here).chain some first
 
         by_equality : (j : ℕ) → (y ≡ x) ⊎ (y ≢ x) → (j ≡ k) ⊎ (j ≢ k)
             → has y j ≡ (has y j || (nat_eq y s && nat_eq j k))
@@ -176,10 +178,10 @@ module _ (has : ℕ → ℕ → Bool) (heads : List ℕ) (links : List (ℕ × �
         front : (j : ℕ) → y ≡ x
             → (nat_eq j k || is_member old.statements j)
             ≡ (has y j || (nat_eq y s && nat_eq j k))
-        front j e =
-            ap (λ b. nat_eq j k || b) (old.members_are j ∙ ap (λ z. has z j) (sym e))
+        front j y_is_x =
+            ap (λ b. nat_eq j k || b) (old.members_are j ∙ ap (λ z. has z j) (sym y_is_x))
             ∙ turned (nat_eq j k) (has y j)
-            ∙ sym (ap (λ b. has y j || (b && nat_eq j k)) (eq-eqb y s (e ∙ sym is)))
+            ∙ sym (ap (λ b. has y j || (b && nat_eq j k)) (eq-eqb y s (y_is_x ∙ sym is)))
           where
             turned : (a b : Bool) → (a || b) ≡ (b || a)
             turned true true = refl
@@ -237,13 +239,13 @@ pub more_symbols : (has : ℕ → ℕ → Bool) (xs : List ℕ) (i d s k : ℕ) 
     → s ≡ get_or xs i d → (x j : ℕ)
     → ((has x j || (is_member (take i xs) x && nat_eq j k)) || (nat_eq x s && nat_eq j k))
     ≡ (has x j || (is_member (take (i + 1) xs) x && nat_eq j k))
-more_symbols has xs i d s k l is x j =
+more_symbols has xs i d s k i_lt_length_xs is x j =
     by_values (has x j) (is_member (take i xs) x) (nat_eq x s) (nat_eq j k)
     ∙ sym (ap (λ b. has x j || (b && nat_eq j k)) longer)
   where
     longer : is_member (take (i + 1) xs) x ≡ (is_member (take i xs) x || nat_eq x s)
     longer =
-        ap (λ ys. is_member ys x) (take_more xs i d l)
+        ap (λ ys. is_member ys x) (take_more xs i d i_lt_length_xs)
         ∙ list_any-append (nat_eq x) (take i xs) (get_or xs i d ∷ [])
         ∙ ap (λ b. is_member (take i xs) x || b) (or-false (nat_eq x (get_or xs i d)))
         ∙ ap (λ y. is_member (take i xs) x || nat_eq x y) (sym is)
@@ -270,11 +272,11 @@ none_yet db heads empty x l = record {
         → (a && b) ≡ false
     by_values j false e b f = refl
     by_values j true e false f = refl
-    by_values j true e true f =
+    by_values j true e true has_symbol_x_j =
         let m =
         is_there is_disjoint_statement db j
         (and_parts (list_any is_disjoint_statement (statement_at db j))
-        (is_member (formula_at db j) x) f).0 in
+        (is_member (formula_at db j) x) has_symbol_x_j).0 in
         absurd (true≢false (sym e ∙ lt-leb (length db) j m))
 
 pub linked_none : (heads : List ℕ) → ((x : ℕ) → x < length heads → get_or heads x 0 ≡ 0)
@@ -365,7 +367,8 @@ symbol_below db sound x j e =
     and_parts (list_any is_disjoint_statement (statement_at db j)) (is_member (formula_at db j) x)
     e in
     let there = is_there is_disjoint_statement db j parts.0 in
-    member_below (length (symbol_names db)) x (formula_at db j) (sound.symbols_have_numbers j there) parts.1
+    member_below (length (symbol_names db)) x (formula_at db j) (sound.symbols_have_numbers j there)
+    parts.1
 
 -- ---- the pairs of one chain
 
@@ -385,7 +388,7 @@ module _ (links : List (ℕ × ℕ)) (symbol : ℕ) (old now : List (ℕ × ℕ)
   pub rest_less : (number : ℕ) → 0 < number → IsRest links symbol number old now all
       → IsRest links symbol (get_or links (number - 1) (0, 0)).1 old
       (now ++ (symbol, (get_or links (number - 1) (0, 0)).0) ∷ []) all
-  rest_less number some h = by_rest h.rest h.chain h.pairs
+  rest_less number some is_rest = by_rest is_rest.rest is_rest.chain is_rest.pairs
     where
       by_rest : (rest : List ℕ) → IsLinkChain links number rest
           → old ++ map (λ j. (symbol, j)) all ≡ now ++ map (λ j. (symbol, j)) rest
@@ -420,11 +423,11 @@ pub record ArePairsTo (db : List Statement) (x : ℕ) (ps : List (ℕ × ℕ)) :
 rising_append : (ps qs : List (ℕ × ℕ)) → AreRising ps → AreRising qs
     → ((a b x y : ℕ) → has_pair ps a b ≡ true → has_pair qs x y ≡ true → IsBefore a b x y)
     → AreRising (ps ++ qs)
-rising_append [] qs r s h = s
-rising_append (p ∷ ps) qs r s h = (
+rising_append [] qs r are_rising h = are_rising
+rising_append (p ∷ ps) qs r are_rising h = (
   λ x y e. by_membership x y (or_cases (has_pair ps x y) (has_pair qs x y)
       (sym (list_any-append (λ q. nat_eq x q.0 && nat_eq y q.1) ps qs) ∙ e)),
-  rising_append ps qs r.1 s
+  rising_append ps qs r.1 are_rising
       (λ a b x y e f. h a b x y
       (or_right (nat_eq a p.0 && nat_eq b p.1) (has_pair ps a b) e) f),
 )
@@ -489,14 +492,14 @@ lt_next y x = by_order (cases_order y x)
 pub pairs_more : (db : List Statement) (x n : ℕ) (links ps qs : List (ℕ × ℕ))
     (h : HasChain (has_symbol db x) 0 links n) → ArePairsTo db x ps
     → qs ≡ ps ++ map (λ j. (x, j)) h.statements → ArePairsTo db (x + 1) qs
-pairs_more db x n links ps qs h a is =
+pairs_more db x n links ps qs h are_pairs_to is =
     subst (ArePairsTo db (x + 1)) (sym is) (record {
       rising =
-          rising_append ps row a.rising (rising_row x 0 h.statements h.rising)
+          rising_append ps row are_pairs_to.rising (rising_row x 0 h.statements h.rising)
           (λ b c y j e f. inl (later b c y j e f));
       members_are = λ y j.
           list_any-append (λ q. nat_eq y q.0 && nat_eq j q.1) ps row
-          ∙ ap₂ (λ b c. b || c) (a.members_are y j) (has_row x h.statements y j)
+          ∙ ap₂ (λ b c. b || c) (are_pairs_to.members_are y j) (has_row x h.statements y j)
           ∙ by_equality y j (cases_eq y x) ∙ sym (ap (λ b. b && has_symbol db y j) (lt_next y x));
     })
   where
@@ -506,7 +509,7 @@ pairs_more db x n links ps qs h a is =
     later : (b c y j : ℕ) → has_pair ps b c ≡ true → has_pair row y j ≡ true → b < y
     later b c y j e f =
         let l = ltb-true b x (and_parts (nat_lt b x) (has_symbol db b c)
-        (sym (a.members_are b c) ∙ e)).0 in
+        (sym (are_pairs_to.members_are b c) ∙ e)).0 in
         let s =
         eqb-true y x
         (and_parts (nat_eq y x) (is_member h.statements j)

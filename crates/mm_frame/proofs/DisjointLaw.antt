@@ -76,9 +76,9 @@ module _ (by_statement : List (ℕ × ℕ)) (rising : AreRising by_statement) (p
       → at < length by_statement → (get_or by_statement at (0, 0)).0 ≡ j
       → AddsLater by_statement place (at + 1) old
       (now ++ (low, (get_or by_statement at (0, 0)).1) ∷ [])
-  after_next at old now b l s = record {
+  after_next at old now b at_lt_length_by_statement s = record {
     further = let f = b.further in omega (arith, f);
-    within = omega (arith, l);
+    within = omega (arith, at_lt_length_by_statement);
     same = λ p h m. same p h m (cases_eq p at);
     old_stay = λ x y e. longer x y (b.old_stay x y e);
     only =
@@ -105,7 +105,7 @@ module _ (by_statement : List (ℕ × ℕ)) (rising : AreRising by_statement) (p
           → (has_pair old x y ≡ true)
           ⊎ ((x ≡ low) × (p : ℕ) × (place < p) × (p < at + 1)
           × ((get_or by_statement p (0, 0)).1 ≡ y))
-      only x y true e h = longer_one (b.only x y e)
+      only x y true has_pair_x_y h = longer_one (b.only x y has_pair_x_y)
         where
           longer_one : (has_pair old x y ≡ true)
               ⊎ ((x ≡ low) × (p : ℕ) × (place < p) × (p < at)
@@ -129,7 +129,7 @@ module _ (by_statement : List (ℕ × ℕ)) (rising : AreRising by_statement) (p
 
       all : (p : ℕ) → place < p → p < at + 1 → (p ≡ at) ⊎ (p ≢ at)
           → has_pair (now ++ (low, high) ∷ []) low (get_or by_statement p (0, 0)).1 ≡ true
-      all p h m (inl e) =
+      all p place_lt_p p_lt_next_at (inl e) =
           list_any-append (λ q. nat_eq low q.0 && nat_eq (get_or by_statement p (0, 0)).1 q.1) now
           ((low, high) ∷ [])
           ∙ ap (λ c. has_pair now low (get_or by_statement p (0, 0)).1 || (c || false))
@@ -137,8 +137,8 @@ module _ (by_statement : List (ℕ × ℕ)) (rising : AreRising by_statement) (p
           (eq-eqb (get_or by_statement p (0, 0)).1 high
           (ap (λ i. (get_or by_statement i (0, 0)).1) e)))
           ∙ or-true (has_pair now low (get_or by_statement p (0, 0)).1)
-      all p h m (inr n) = longer low (get_or by_statement p (0, 0)).1
-          (b.all p h (omega (arith, m, n)))
+      all p place_lt_p p_lt_next_at (inr n) = longer low (get_or by_statement p (0, 0)).1
+          (b.all p place_lt_p (omega (arith, p_lt_next_at, n)))
 
   pub after_end : (at : ℕ) (old now : List (ℕ × ℕ)) → AddsLater by_statement place at old now
       → (at < length by_statement → (get_or by_statement at (0, 0)).0 ≢ j)
@@ -177,7 +177,7 @@ module _ (by_statement : List (ℕ × ℕ)) (rising : AreRising by_statement) (p
       from : (p : ℕ) → p < length by_statement → (get_or by_statement p (0, 0)).0 ≡ j → low
           < (get_or by_statement p (0, 0)).1
           → (place < p) × (p < at)
-      from p l s m = (first (cases_order place p), last (cases_lt p at))
+      from p p_lt_length_by_statement s m = (first (cases_order place p), last (cases_lt p at))
         where
           down : IsBefore (get_or by_statement p (0, 0)).0 (get_or by_statement p (0, 0)).1 j low
               → ⊥
@@ -194,8 +194,8 @@ module _ (by_statement : List (ℕ × ℕ)) (rising : AreRising by_statement) (p
           up : at < length by_statement → at ≤ p
               → IsBefore j low (get_or by_statement at (0, 0)).0 (get_or by_statement at (0, 0)).1
               → ⊥
-          up u v (inr (e, w)) = stop u (sym e)
-          up u v (inl w) = again (cases_eq at p)
+          up at_lt_length_by_statement at_le_p (inr (e, w)) = stop at_lt_length_by_statement (sym e)
+          up at_lt_length_by_statement at_le_p (inl w) = again (cases_eq at p)
             where
               over : IsBefore (get_or by_statement at (0, 0)).0 (get_or by_statement at (0, 0)).1
                   (get_or by_statement p (0, 0)).0 (get_or by_statement p (0, 0)).1
@@ -206,19 +206,21 @@ module _ (by_statement : List (ℕ × ℕ)) (rising : AreRising by_statement) (p
               again : (at ≡ p) ⊎ (at ≢ p) → ⊥
               again (inl e) = let t = ap (λ i. (get_or by_statement i (0, 0)).0) e in omega
                   (arith, t, w, s)
-              again (inr n) = over (rising_at by_statement rising at p (0, 0) (omega (arith, v, n))
-                  l)
+              again (inr n) = over (rising_at by_statement rising at p (0, 0)
+                  (omega (arith, at_le_p, n))
+                  p_lt_length_by_statement)
 
           last : (p < at) ⊎ (at ≤ p) → p < at
           last (inl u) = u
           last (inr u) =
-              absurd (up (omega (arith, u, l)) u
-              (rising_at by_statement rising place at (0, 0) b.further (omega (arith, u, l))))
+              absurd (up (omega (arith, u, p_lt_length_by_statement)) u
+              (rising_at by_statement rising place at (0, 0) b.further
+              (omega (arith, u, p_lt_length_by_statement))))
 
       back : (c : Bool) → has_pair old x y ≡ c
           → (c || (nat_eq x low && (has_pair by_statement j y && nat_lt x y))) ≡ true
           → has_pair now x y ≡ true
-      back true e h = b.old_stay x y e
+      back true has_pair_x_y h = b.old_stay x y has_pair_x_y
       back false e h =
           let s = eqb-true x low (and_parts (nat_eq x low) (has_pair by_statement j y && nat_lt x y)
           h).0 in
@@ -255,11 +257,12 @@ one_more false m q r l y s e = by_equality (cases_eq y s)
 
 module _ (db : List Statement) (b : BlockLists) (blocks : IsBlocks db b) (k : ℕ)
     (h : k ≤ length db) (ps : List (ℕ × ℕ))
-    (are : (x j : ℕ) → has_pair ps x j ≡ has_symbol db x j) (found : List ℕ)
+    (are : (x j : ℕ) → has_pair ps x j ≡ has_symbol db x j) (variables : List ℕ)
     (by_statement : List (ℕ × ℕ))
-    (found_is : (x : ℕ) → is_member found x ≡ is_member (mandatory_variables db k) x)
+    (variables_are : (x : ℕ) → is_member variables x ≡ is_member (mandatory_variables db k) x)
     (had_is : (j y : ℕ)
-    → has_pair by_statement j y ≡ (is_member found y && (has_pair ps y j && is_active_local b j k)))
+    → has_pair by_statement j y ≡ (is_member variables y
+    && (has_pair ps y j && is_active_local b j k)))
   where
     abbrev vs : List ℕ
     vs = mandatory_variables db k
@@ -284,15 +287,16 @@ module _ (db : List Statement) (b : BlockLists) (blocks : IsBlocks db b) (k : �
     had_then : (j y : ℕ) → has_pair by_statement j y ≡ true
         → (is_member vs y ≡ true) × (is_member (formula_at db j) y ≡ true)
         × (is_member (active_of is_disjoint_statement db k) j ≡ true)
-    had_then j y e =
-        let f = sym (had_is j y) ∙ e in
-        let r = (and_parts (is_member found y) (has_pair ps y j && is_active_local b j k) f).1 in
+    had_then j y has_pair_x_y =
+        let f = sym (had_is j y) ∙ has_pair_x_y in
+        let r = (and_parts (is_member variables y) (has_pair ps y j && is_active_local b j k) f).1
+        in
         let s = sym (are y j) ∙ (and_parts (has_pair ps y j) (is_active_local b j k) r).0 in
         let d =
         (and_parts (list_any is_disjoint_statement (statement_at db j))
         (is_member (formula_at db j) y) s).0 in (
-          sym (found_is y)
-              ∙ (and_parts (is_member found y) (has_pair ps y j && is_active_local b j k) f).0,
+          sym (variables_are y)
+              ∙ (and_parts (is_member variables y) (has_pair ps y j && is_active_local b j k) f).0,
           (and_parts (list_any is_disjoint_statement (statement_at db j))
               (is_member (formula_at db j) y) s).1,
           sym (active_local_is db b blocks k h j d)
@@ -300,11 +304,12 @@ module _ (db : List Statement) (b : BlockLists) (blocks : IsBlocks db b) (k : �
         )
 
     had_if : (j y : ℕ) → is_member vs y ≡ true → is_member (formula_at db j) y ≡ true
-        → is_member (active_of is_disjoint_statement db k) j ≡ true → has_pair by_statement j y ≡ true
+        → is_member (active_of is_disjoint_statement db k) j ≡ true → has_pair by_statement j y
+        ≡ true
     had_if j y m f a =
         let d = kind_of_active db b blocks k h j a in
         had_is j y
-        ∙ ap₂ (λ p q. p && q) (found_is y ∙ m)
+        ∙ ap₂ (λ p q. p && q) (variables_are y ∙ m)
         (ap₂ (λ p q. p && q) (are y j ∙ ap₂ (λ p q. p && q) d f)
         (active_local_is db b blocks k h j d ∙ a))
 

@@ -93,27 +93,27 @@ module _ (db : List Statement) (sound : IsSound db) where
       → list_any is_floating (elim o [ None ↦ [] | Some s ↦ s ∷ [] ]) ≡ true
       → (slice_get (flat_map (formula_of db) (elim o [ None ↦ [] | Some s ↦ s ∷ [] ])) 1 ≡ Some v)
       → IsFloat db k v
-  float_of k v h None e t f = absurd (true≢false (sym t))
-  float_of k v h (Some (constants a xs d)) e t f = absurd (true≢false (sym t))
-  float_of k v h (Some (variables a xs d)) e t f = absurd (true≢false (sym t))
-  float_of k v h (Some (disjoint a xs d)) e t f = absurd (true≢false (sym t))
-  float_of k v h (Some (essential l a xs d)) e t f = absurd (true≢false (sym t))
-  float_of k v h (Some (axiomatic l a xs d)) e t f = absurd (true≢false (sym t))
-  float_of k v h (Some (provable l a xs q ps d)) e t f = absurd (true≢false (sym t))
-  float_of k v h (Some (opening a)) e t f = absurd (true≢false (sym t))
-  float_of k v h (Some (closing a)) e t f = absurd (true≢false (sym t))
-  float_of k v h (Some (floating l a [] d)) e t f = absurd (cc)
-  float_of k v h (Some (floating l a (c ∷ []) d)) e t f = absurd (cc)
-  float_of k v h (Some (floating l a (c ∷ x ∷ y ∷ ys) d)) e t f =
+  float_of k v k_lt_length_db None e t f = absurd (true≢false (sym t))
+  float_of k v k_lt_length_db (Some (constants a xs d)) e t f = absurd (true≢false (sym t))
+  float_of k v k_lt_length_db (Some (variables a xs d)) e t f = absurd (true≢false (sym t))
+  float_of k v k_lt_length_db (Some (disjoint a xs d)) e t f = absurd (true≢false (sym t))
+  float_of k v k_lt_length_db (Some (essential l a xs d)) e t f = absurd (true≢false (sym t))
+  float_of k v k_lt_length_db (Some (axiomatic l a xs d)) e t f = absurd (true≢false (sym t))
+  float_of k v k_lt_length_db (Some (provable l a xs q ps d)) e t f = absurd (true≢false (sym t))
+  float_of k v k_lt_length_db (Some (opening a)) e t f = absurd (true≢false (sym t))
+  float_of k v k_lt_length_db (Some (closing a)) e t f = absurd (true≢false (sym t))
+  float_of k v k_lt_length_db (Some (floating l a [] d)) e t f = absurd (cc)
+  float_of k v k_lt_length_db (Some (floating l a (c ∷ []) d)) e t f = absurd (cc)
+  float_of k v k_lt_length_db (Some (floating l a (c ∷ x ∷ y ∷ ys) d)) e t f =
       absurd (let n = (append_none (label_faults (names_before db k) l)
       (floating_faults (names_before db k) a (c ∷ x ∷ y ∷ ys))
-      (law k h (floating l a (c ∷ x ∷ y ∷ ys) d) e)).1 in
+      (law k k_lt_length_db (floating l a (c ∷ x ∷ y ∷ ys) d) e)).1 in
       cc)
-  float_of k v h (Some (floating l a (c ∷ x ∷ []) d)) e t f =
+  float_of k v k_lt_length_db (Some (floating l a (c ∷ x ∷ []) d)) e t f =
       let n =
       (append_none (label_faults (names_before db k) l)
       (floating_faults (names_before db k) a (c ∷ x ∷ []))
-      (law k h (floating l a (c ∷ x ∷ []) d) e)).1 in
+      (law k k_lt_length_db (floating l a (c ∷ x ∷ []) d) e)).1 in
       record {
         label = l;
         keyword = a;
@@ -127,7 +127,7 @@ module _ (db : List Statement) (sound : IsSound db) where
       }
 
   pub typed_float : (k v : ℕ) → k < length db → typed_variable_at db k ≡ Some v → IsFloat db k v
-  typed_float k v h e = by_statement (slice_get db k) refl e
+  typed_float k v k_lt_length_db e = by_statement (slice_get db k) refl e
     where
       by_statement : (o : Option Statement) → slice_get db k ≡ o → typed_of db o ≡ Some v
           → IsFloat db k v
@@ -140,14 +140,14 @@ module _ (db : List Statement) (sound : IsSound db) where
               (flat_map (formula_of db) (elim o [ None ↦ [] | Some s ↦ s ∷ [] ])) 1 else None)
               ≡ Some v
               → IsFloat db k v
-          by_floating true p q = float_of k v h o s p q
+          by_floating true p q = float_of k v k_lt_length_db o s p q
           by_floating false p q = absurd (cc)
 
   -- a `$f` has a variable
   pub floating_typed : (k : ℕ) → k < length db
       → list_any is_floating (list_at (slice_get db k)) ≡ true
       → (v : ℕ) × (typed_variable_at db k ≡ Some v) × IsFloat db k v
-  floating_typed k h t = by_statement (slice_get db k) refl t
+  floating_typed k k_lt_length_db t = by_statement (slice_get db k) refl t
     where
       by_statement : (o : Option Statement) → slice_get db k ≡ o → list_any is_floating (list_at o)
           ≡ true
@@ -163,16 +163,17 @@ module _ (db : List Statement) (sound : IsSound db) where
       by_statement (Some (closing a)) e t = absurd (true≢false (sym t))
       by_statement (Some (floating l a [] d)) e t =
           absurd (let n = (append_none (label_faults (names_before db k) l)
-          (floating_faults (names_before db k) a []) (law k h (floating l a [] d) e)).1 in
+          (floating_faults (names_before db k) a []) (law k k_lt_length_db (floating l a [] d) e)).1
+          in
           cc)
       by_statement (Some (floating l a (c ∷ []) d)) e t =
           absurd (let n = (append_none (label_faults (names_before db k) l)
           (floating_faults (names_before db k) a (c ∷ []))
-          (law k h (floating l a (c ∷ []) d) e)).1 in
+          (law k k_lt_length_db (floating l a (c ∷ []) d) e)).1 in
           cc)
       by_statement (Some (floating l a (c ∷ x ∷ xs) d)) e t =
           let v = index_of x.word (symbol_names db) in let is = ap (typed_of db) e in
-          (v, is, typed_float k v h is)
+          (v, is, typed_float k v k_lt_length_db is)
 
   module _ (k v : ℕ) (h : k < length db) (f : IsFloat db k v) where
     pub formula_is : formula_at db k ≡ index_of f.typecode.word (symbol_names db) ∷ v ∷ []
@@ -215,21 +216,23 @@ module _ (db : List Statement) (sound : IsSound db) where
   -- a variable has one active `$f`
   pub typed_once : (j k v : ℕ) → j < k → k < length db → IsFloat db j v → IsFloat db k v
       → stays db j k ≡ true → ⊥
-  typed_once j k v l h f g e =
+  typed_once j k v j_lt_k k_lt_length_db is_float g e =
       let i : j < length db = omega arith in
-      let bj = subst (λ n. n < length (symbol_names db)) (sym f.number) (variable_below j v i f) in
-      let bk = subst (λ n. n < length (symbol_names db)) (sym g.number) (variable_below k v h g) in
+      let bj = subst (λ n. n < length (symbol_names db)) (sym is_float.number)
+      (variable_below j v i is_float) in
+      let bk = subst (λ n. n < length (symbol_names db)) (sym g.number)
+      (variable_below k v k_lt_length_db g) in
       let same =
       same_Some _ _
-      (sym (place_get f.variable.word (symbol_names db) bj)
-      ∙ ap (slice_get (symbol_names db)) (f.number ∙ sym g.number)
+      (sym (place_get is_float.variable.word (symbol_names db) bj)
+      ∙ ap (slice_get (symbol_names db)) (is_float.number ∙ sym g.number)
       ∙ place_get g.variable.word (symbol_names db) bk) in
       let w = g.variable.word in
       let there =
-      ap (λ o. is_in w (flat_map typed_words (list_at o))) f.is
-      ∙ ap (λ b. b || false) ((bytes_eq-Decides w f.variable.word).1 (sym same)) in
+      ap (λ o. is_in w (flat_map typed_words (list_at o))) is_float.is
+      ∙ ap (λ b. b || false) ((bytes_eq-Decides w is_float.variable.word).1 (sym same)) in
       true≢false
       (sym (range_any (λ i. is_active db i k && has_word db typed_words w i) k 0 j (omega arith)
-      (omega arith) (ap₂ (λ a b. a && b) (float_active j v i f k l ∙ e) there))
+      (omega arith) (ap₂ (λ a b. a && b) (float_active j v i is_float k j_lt_k ∙ e) there))
       ∙ sym (among_active db typed_words w (λ i. is_active db i k) k 0)
       ∙ sym (typed_in w (active_statements db k)) ∙ g.untyped)

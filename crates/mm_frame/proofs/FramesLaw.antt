@@ -78,14 +78,14 @@ typed_some db sound k v ts few t e = record {
     alone : (j u : ℕ) → j < k + 1 → u < length (symbol_names db) → typed_variable_at db j ≡ Some u
         → stays db j (k + 1) ≡ true → (j < k) ⊎ (k ≤ j) → (u ≡ v) ⊎ (u ≢ v)
         → get_or (set ts v k) u 0 ≡ j
-    alone j u h l is on (inl m) (inl s) =
+    alone j u j_lt_next_k l is on (inl m) (inl s) =
         absurd (typed_once db sound j k v m few
         (typed_float db sound j v (omega arith) (is ∙ ap Some s)) (typed_float db sound k v few e)
         (stays_earlier db j k (k + 1) (omega arith) (omega arith) on))
-    alone j u h l is on (inl m) (inr n) =
+    alone j u j_lt_next_k l is on (inl m) (inr n) =
         get_or-set_other ts v u k 0 n
         ∙ t.alone j u m l is (stays_earlier db j k (k + 1) (omega arith) (omega arith) on)
-    alone j u h l is on (inr m) q =
+    alone j u j_lt_next_k l is on (inr m) q =
         let same : k ≡ j = omega arith in
         let s = same_Some _ _ (sym is ∙ sym (ap (typed_variable_at db) same) ∙ e) in
         ap (λ i. get_or (set ts v k) i 0) s ∙ here ∙ same

@@ -41,9 +41,9 @@ module _ (test : Statement → Bool) (db : List Statement) where
   -- a candidate that is not open gives way to the last one active at it
   pub candidate_next : (k last next : ℕ) → IsCandidate test db k last → last ≢ never
       → stays db last k ≡ false → IsLatest test db last next → IsCandidate test db k next
-  candidate_next k last next c ne out x = record {
+  candidate_next k last next is_candidate ne out is_latest = record {
     found =
-        λ n. let f = x.found n in let g = c.found ne in (
+        λ n. let f = is_latest.found n in let g = is_candidate.found ne in (
           (let a = f.0 in let b = g.0 in omega (arith, a, b)),
           (and_parts
               (list_any test (statement_at db next)) (stays db next last) f.1).0,
@@ -54,17 +54,17 @@ module _ (test : Statement → Bool) (db : List Statement) where
       by_order : (i : ℕ) → i < k → (next < i) ⊎ (next ≡ never) → (i ≡ last)
           ⊎ ((i < last) ⊎ (last < i))
           → is_staying test db i k ≡ false
-      by_order i h o (inr (inl l)) =
+      by_order i i_lt_k o (inr (inl l)) =
           false_from_ne_true (is_staying test db i k)
           (λ t. true≢false
           (sym (on_earlier i last k (omega arith) (let g = (c.found ne).0 in omega (arith, g)) t)
           ∙ x.after i l o))
-      by_order i h o (inl e) =
+      by_order i i_lt_k o (inl e) =
           subst (λ i. is_staying test db i k ≡ false) (sym e)
           (false_from_ne_true (is_staying test db last k)
           (λ t. true≢false
           (sym (and_parts (list_any test (statement_at db last)) (stays db last k) t).1 ∙ out)))
-      by_order i h o (inr (inr g)) = c.after i h (inl g)
+      by_order i i_lt_k o (inr (inr g)) = c.after i i_lt_k (inl g)
 
   pub candidate_open : (k last : ℕ) → IsCandidate test db k last
       → (last ≢ never → stays db last k ≡ true) → IsLatest test db k last
@@ -87,9 +87,9 @@ module _ (test : Statement → Bool) (db : List Statement) where
 
   pub candidate_other : (k last : ℕ) → list_any test (statement_at db k) ≡ false
       → IsLatest test db k last → IsCandidate test db (k + 1) last
-  candidate_other k last e x = record {
+  candidate_other k last e is_latest = record {
     found =
-        λ n. let f = x.found n in (
+        λ n. let f = is_latest.found n in (
           (let l = f.0 in omega (arith, l)),
           (and_parts (list_any test (statement_at db last))
               (stays db last k) f.1).0,
@@ -112,7 +112,7 @@ module _ (test : Statement → Bool) (db : List Statement) where
 
   pub height_less : (k last next : ℕ) → last ≢ never → IsLatest test db last next
       → height next < height last
-  height_less k last next ne x = by_presence (cases_eq next never)
+  height_less k last next ne is_latest = by_presence (cases_eq next never)
     where
       full : height last ≡ last + 1
       full = ap (λ b. cond b 0 (last + 1)) (ne_eqb last never ne)
@@ -123,7 +123,7 @@ module _ (test : Statement → Bool) (db : List Statement) where
           omega (arith, z, full)
       by_presence (inr n) =
           let z : height next ≡ next + 1 = ap (λ b. cond b 0 (next + 1)) (ne_eqb next never n) in
-          let f = (x.found n).0 in omega (arith, z, full, f)
+          let f = (is_latest.found n).0 in omega (arith, z, full, f)
 
   -- ---- the walk
 
@@ -151,15 +151,15 @@ module _ (test : Statement → Bool) (db : List Statement) where
   pub walked_next : (k : ℕ) (xs : List ℕ) (last next : ℕ) → k ≤ length db
       → IsWalked k xs last → last ≢ never → IsLatest test db last next
       → IsWalked k (xs ++ last ∷ []) next
-  walked_next k xs last next few w ne x = record {
+  walked_next k xs last next few is_walked ne is_latest = record {
     found =
-        λ n. let f = x.found n in let l = here.0 in (
+        λ n. let f = is_latest.found n in let l = here.0 in (
           (let a = f.0 in omega (arith, a, l)),
           on_nested next last k f.0 (omega (arith, l)) here.1
               ∙ f.1,
         );
     only = λ i e. only i e;
-    all = λ i h e. all i h e (w.all i h e);
+    all = λ i h e. all i h e (is_walked.all i h e);
   }
     where
       here : (last < k) × (is_staying test db last k ≡ true)
@@ -167,8 +167,8 @@ module _ (test : Statement → Bool) (db : List Statement) where
 
       only : (i : ℕ) → is_member (xs ++ last ∷ []) i ≡ true
           → (i < k) × (is_staying test db i k ≡ true)
-      only i e = by_values (is_member xs i) (nat_eq i last) refl refl
-          (sym (member_push xs last i) ∙ e)
+      only i i_is_member = by_values (is_member xs i) (nat_eq i last) refl refl
+          (sym (member_push xs last i) ∙ i_is_member)
         where
           by_values : (a b : Bool) → is_member xs i ≡ a → nat_eq i last ≡ b → (a || b) ≡ true
               → (i < k) × (is_staying test db i k ≡ true)
@@ -180,20 +180,23 @@ module _ (test : Statement → Bool) (db : List Statement) where
       all : (i : ℕ) → i < k → is_staying test db i k ≡ true
           → (is_member xs i ≡ true) ⊎ ((last ≢ never) × (i ≤ last))
           → (is_member (xs ++ last ∷ []) i ≡ true) ⊎ ((next ≢ never) × (i ≤ next))
-      all i h e (inl m) = inl (member_push xs last i ∙ ap (λ b. b || nat_eq i last) m)
-      all i h e (inr (n, l)) = by_order (cases_lt i last)
+      all i i_lt_k staying_at_k (inl m) = inl (member_push xs last i
+          ∙ ap (λ b. b || nat_eq i last) m)
+      all i i_lt_k staying_at_k (inr (n, l)) = by_order (cases_lt i last)
         where
           by_presence : i < last → (next ≡ never) ⊎ (next ≢ never) → (next < i) ⊎ (i ≤ next)
               → (next ≢ never) × (i ≤ next)
-          by_presence m (inl n) b =
+          by_presence i_lt_last (inl n) b =
               absurd (true≢false
-              (sym (on_earlier i last k (omega arith) (let l = here.0 in omega (arith, l)) e)
-              ∙ x.after i m (inr n)))
-          by_presence m (inr n) (inl l) =
+              (sym (on_earlier i last k (omega arith) (let l = here.0 in omega (arith, l))
+              staying_at_k)
+              ∙ x.after i i_lt_last (inr n)))
+          by_presence i_lt_last (inr n) (inl l) =
               absurd (true≢false
-              (sym (on_earlier i last k (omega arith) (let l = here.0 in omega (arith, l)) e)
-              ∙ x.after i m (inl l)))
-          by_presence m (inr n) (inr l) = (n, l)
+              (sym (on_earlier i last k (omega arith) (let l = here.0 in omega (arith, l))
+              staying_at_k)
+              ∙ x.after i i_lt_last (inl l)))
+          by_presence i_lt_last (inr n) (inr l) = (n, l)
 
           by_order : (i < last) ⊎ (last ≤ i)
               → (is_member (xs ++ last ∷ []) i ≡ true) ⊎ ((next ≢ never) × (i ≤ next))
@@ -205,9 +208,9 @@ module _ (test : Statement → Bool) (db : List Statement) where
 
   pub walked_end : IsLocalTest test → (k : ℕ) (xs : List ℕ) (last : ℕ) → IsWalked k xs last
       → last ≡ never → (i : ℕ) → is_member xs i ≡ is_member (active_of test db k) i
-  walked_end local k xs last w e i =
+  walked_end local k xs last is_walked last_is_never i =
       same_tests (is_member xs i) (nat_lt i k && is_staying test db i k)
-      (λ m. let f = w.only i m in ap₂ (λ a b. a && b) (lt-ltb i k f.0) f.1)
+      (λ m. let f = is_walked.only i m in ap₂ (λ a b. a && b) (lt-ltb i k f.0) f.1)
       (λ t. by_order t (cases_lt i k))
       ∙ sym (active_member test db local k i)
     where
@@ -216,13 +219,13 @@ module _ (test : Statement → Bool) (db : List Statement) where
       by_order t (inr l) =
           absurd (true≢false
           (sym (and_parts (nat_lt i k) (is_staying test db i k) t).0 ∙ le-ltb i k l))
-      by_order t (inl l) = by_membership (w.all i l
+      by_order t (inl l) = by_membership (is_walked.all i l
           (and_parts (nat_lt i k) (is_staying test db i k) t).1)
         where
           by_membership : (is_member xs i ≡ true) ⊎ ((last ≢ never) × (i ≤ last)) → is_member xs i
               ≡ true
           by_membership (inl m) = m
-          by_membership (inr (n, l)) = absurd (n e)
+          by_membership (inr (n, l)) = absurd (n last_is_never)
 
 -- one more at the end of the list
 pub each_pushed : (test : Statement → Bool) (db : List Statement) (xs ys : List ℕ) (last k : ℕ)
@@ -232,18 +235,18 @@ pub each_pushed : (test : Statement → Bool) (db : List Statement) (xs ys : Lis
       count : length ys ≡ k + 1 + 1;
       each : (i : ℕ) → i ≤ k + 1 → IsLatest test db i (get_or ys i 0);
     }
-each_pushed test db xs ys last k n e old new = record {
-  count = ap length e ∙ length-append xs (last ∷ []) ∙ ap (λ m. m + 1) n;
+each_pushed test db xs ys last k length_xs_is_next_k e old new = record {
+  count = ap length e ∙ length-append xs (last ∷ []) ∙ ap (λ m. m + 1) length_xs_is_next_k;
   each = λ i h. by_order i h (cases_lt i (k + 1));
 }
   where
     by_order : (i : ℕ) → i ≤ k + 1 → (i < k + 1) ⊎ (k + 1 ≤ i) → IsLatest test db i (get_or ys i 0)
-    by_order i h (inl l) =
+    by_order i i_le_next_k (inl l) =
         subst (IsLatest test db i)
         (sym (ap (λ zs. get_or zs i 0) e
         ∙ get_or_append_left xs (last ∷ []) 0 i (omega (arith, n, l)))) (old i (omega arith))
-    by_order i h (inr l) =
-        let same : i ≡ length xs = omega (arith, n, h, l) in
+    by_order i i_le_next_k (inr l) =
+        let same : i ≡ length xs = omega (arith, n, i_le_next_k, l) in
         let j : i ≡ k + 1 = omega arith in
         subst (IsLatest test db i)
         (sym (ap (λ zs. get_or zs i 0) e ∙ ap (λ q. get_or (xs ++ last ∷ []) q 0) same

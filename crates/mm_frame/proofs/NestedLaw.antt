@@ -17,14 +17,15 @@ module _ (db : List Statement) where
 
   -- to the end of the inner one is to where it began
   pub stays_nested : (i j k : ℕ) → i < j → j ≤ k → stays db j k ≡ true → stays db i k ≡ stays db i j
-  stays_nested i j k h l e =
-      same_tests (stays db i k) (stays db i j) (stays_earlier i j k (omega arith) l)
+  stays_nested i j k i_lt_j j_le_k e =
+      same_tests (stays db i k) (stays db i j) (stays_earlier i j k (omega arith) j_le_k)
       (λ f. (stays_exact db i k (omega arith)).1
-      (outer ((stays_exact db i j (omega arith)).0 f) ((stays_exact db j k l).0 e)))
+      (outer ((stays_exact db i j (omega arith)).0 f) ((stays_exact db j k j_le_k).0 e)))
     where
       outer : InBlock db i j → InBlock db j k → InBlock db i k
       outer f g m a b = by_order (cases_lt j m)
         where
           by_order : (j < m) ⊎ (m ≤ j) → depth db i ≤ depth db m
-          by_order (inl q) = let x = f j h (omega arith) in let y = g m q b in omega (arith, x, y)
+          by_order (inl q) = let x = f j i_lt_j (omega arith) in let y = g m q b in omega
+              (arith, x, y)
           by_order (inr q) = f m a q

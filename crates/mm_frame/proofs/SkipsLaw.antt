@@ -29,9 +29,12 @@ module _ (b : BlockLists) (ps : List (ℕ × ℕ)) where
       → (nat_eq (pair_at (first - 1)).0 (pair_at at).0
       && nat_le (end_of b (pair_at (first - 1)).1) (end_of b (pair_at at).1)) ≡ true
       → (s ≤ first - 1) × Covers b ps s (first - 1) → (s ≤ at) × Covers b ps s at
-  covers_before first at s l m c t d =
-      let n = d.0 in
-      (omega (arith, l, m, n), λ p from to. by_order p from to (cases_lt p first))
+  covers_before first at s first_positive first_le_at c t d =
+      let n = d.0 in (
+        omega (arith, first_positive, first_le_at, n),
+        λ p from to. by_order p from to
+            (cases_lt p first),
+      )
     where
       parts : (nat_eq (pair_at (first - 1)).0 (pair_at at).0 ≡ true)
           × (nat_le (end_of b (pair_at (first - 1)).1) (end_of b (pair_at at).1) ≡ true)
@@ -70,13 +73,13 @@ module _ (b : BlockLists) (ps : List (ℕ × ℕ)) where
     where
       by_order : (q : ℕ) → (q < at) ⊎ (at ≤ q) → q < at + 1
           → (get_or more q 0 ≤ q) × Covers b ps (get_or more q 0) q
-      by_order q (inl h) l =
+      by_order q (inl h) q_lt_next_at =
           let n = a.0 in
           subst (λ x. (x ≤ q) × Covers b ps x q)
           (sym (ap (λ xs. get_or xs q 0) e
           ∙ get_or_append_left skips (s ∷ []) 0 q (omega (arith, h, n)))) (a.1 q h)
-      by_order q (inr h) l =
-          let i : at ≡ q = omega (arith, h, l) in
+      by_order q (inr h) q_lt_next_at =
+          let i : at ≡ q = omega (arith, h, q_lt_next_at) in
           subst (λ j. (get_or more j 0 ≤ j) × Covers b ps (get_or more j 0) j) i
           (subst (λ x. (x ≤ at) × Covers b ps x at)
           (sym (ap (λ xs. get_or xs at 0) e ∙ ap (λ j. get_or (skips ++ s ∷ []) j 0) (sym a.0)

@@ -39,10 +39,10 @@ module _ (xs : Arena) (es : List Span) (parts : List RuleSymbol) (hs : List Hypo
         ≡ bytes_eq (span_formula xs (get_or es j no_symbols))
         (t ∷ span_formula xs (without_first (get_or es j no_symbols)))
         → next ≡ at → IsTested j at h one next
-    typed_tested t is e n =
+    typed_tested t is e next_is_at =
         rw is
         (record {
-          next_is = omega (arith, n);
+          next_is = omega (arith, next_is_at);
           one_is = e
               ∙ ap (λ z. bytes_eq (span_formula xs (get_or es j no_symbols)) (t ∷ z))
               (sym (append-nil (span_formula xs (without_first (get_or es j no_symbols)))));

@@ -74,9 +74,10 @@ rises from (e ∷ es) to h = by_store e.store (λ f. rises f es to) h
 
 pub unmarked_follows : (from : ℕ) (es : List Span) (to n : ℕ) → to ≤ n → Follow from es to
     → Follow from (es ++ span Unmarked to n ∷ []) n
-unmarked_follows from [] to n l h =
-    let e : from ≡ to = h in (sym e, (let m : from ≤ n = omega (arith, e, l) in m), refl)
-unmarked_follows from (e ∷ es) to n l h = by_store e.store (λ f. unmarked_follows f es to n l) h
+unmarked_follows from [] to n to_le_n h =
+    let e : from ≡ to = h in (sym e, (let m : from ≤ n = omega (arith, e, to_le_n) in m), refl)
+unmarked_follows from (e ∷ es) to n to_le_n h = by_store e.store
+    (λ f. unmarked_follows f es to n to_le_n) h
   where
     by_store : (p : Store) → ((f : ℕ) → Follow f es to → Follow f (es ++ span Unmarked to n ∷ []) n)
         → One p e from es to → One p e from (es ++ span Unmarked to n ∷ []) n
@@ -103,21 +104,21 @@ marked_follows from (x ∷ es) to e q h = by_store x.store (λ f. marked_follows
 stay_cut : (unmarked marked : List ℕ) (from : ℕ) (es : List Span) (n : ℕ) → n ≤ length unmarked
     → Follow from es n → AllByRecursion (IsIn (arena unmarked marked)) es
     → AllByRecursion (Stays (arena unmarked marked) (arena (take n unmarked) marked)) es
-stay_cut unmarked marked from [] n l h i = tt
-stay_cut unmarked marked from (e ∷ es) n l h i =
+stay_cut unmarked marked from [] n n_le_length_unmarked h i = tt
+stay_cut unmarked marked from (e ∷ es) n n_le_length_unmarked h i =
     by_store e.store e.start e.end i.0.rising i.0.within
-    (λ f g. stay_cut unmarked marked f es n l g i.1)
+    (λ f g. stay_cut unmarked marked f es n n_le_length_unmarked g i.1)
     (λ f g. rises f es n g) h
   where
     stays : (p : Store) (s t : ℕ) → s ≤ t → t ≤ length (symbols_of (arena (take n unmarked) marked)
         p)
         → Stays (arena unmarked marked) (arena (take n unmarked) marked) (span p s t)
-    stays p s t r w =
+    stays p s t s_le_t w =
         let m =
         unmarked_more (take n unmarked) marked (drop n unmarked) (span p s t)
-        (record { rising = r; within = w }) in
+        (record { rising = s_le_t; within = w }) in
         record {
-          inside = record { rising = r; within = w };
+          inside = record { rising = s_le_t; within = w };
           same = sym m.same
               ∙ ap (λ z. span_formula (arena z marked) (span p s t)) (take-append-drop n unmarked);
         }
@@ -128,13 +129,19 @@ stay_cut unmarked marked from (e ∷ es) n l h i =
         → ((f : ℕ) → Follow f es n → f ≤ n) → One p (span p s t) from es n
         → AllByRecursion (Stays (arena unmarked marked) (arena (take n unmarked) marked))
         (span p s t ∷ es)
-    by_store Unmarked s t r w on up h =
+    by_store Unmarked s t s_le_t w on up h =
         let u = up t h.2 in (
-          stays Unmarked s t r (omega (arith, u, l, length-take n unmarked)),
+          stays Unmarked s t s_le_t (omega (
+            arith,
+            u,
+            n_le_length_unmarked,
+            length-take n
+                unmarked,
+          )),
           on
               t h.2,
         )
-    by_store Marked s t r w on up h = (stays Marked s t r w, on from h)
+    by_store Marked s t s_le_t w on up h = (stays Marked s t s_le_t w, on from h)
 
 set_last : (xs : List Span) (n : ℕ) (e m : Span) → length xs ≡ n
     → slice_set (xs ++ e ∷ []) n m ≡ xs ++ m ∷ []
@@ -475,17 +482,18 @@ module _ {T E : Type 0} where
       → OnOk r (es' ≡ es ++ appended_span unmarked f ∷ []) → OnErr r (unmarked' ≡ unmarked)
       → OnErr r (es' ≡ es)
       → IsStackOf w unmarked' marked es'
-  add_stack_of (Ok x) w unmarked marked f unmarked' es es' h k a b c d =
+  add_stack_of (Ok x) w unmarked marked f unmarked' es es' is_stack_of k a b c d =
       rw (a, b)
       (record {
         known =
             record {
-              unmarked = All-append (λ s. s < w) unmarked f h.known.unmarked k;
-              marked = h.known.marked;
+              unmarked = All-append (λ s. s < w) unmarked f is_stack_of.known.unmarked k;
+              marked = is_stack_of.known.marked;
             };
-        is_stack = add_stack unmarked marked es h.is_stack f;
+        is_stack = add_stack unmarked marked es is_stack_of.is_stack f;
       })
-  add_stack_of (Err e) w unmarked marked f unmarked' es es' h k a b c d = rw (c, d) h
+  add_stack_of (Err e) w unmarked marked f unmarked' es es' is_stack_of k a b c d = rw (c, d)
+      is_stack_of
 
   pub add_says : (r : Result T E) (unmarked marked f unmarked' : List ℕ) (es es' : List Span)
       → IsStack unmarked marked es → OnOk r (unmarked' ≡ unmarked ++ f)

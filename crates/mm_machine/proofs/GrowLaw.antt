@@ -47,7 +47,8 @@ stay_formulas a b (e ∷ es) h = ap₂ (λ u us. u ∷ us) h.0.same (stay_formul
 -- more symbols of unmarked formulas
 pub unmarked_more : (unmarked marked more : List ℕ) (e : Span) → IsIn (arena unmarked marked) e
     → Stays (arena unmarked marked) (arena (unmarked ++ more) marked) e
-unmarked_more unmarked marked more e h = by_store e.store e.start e.end h.rising h.within
+unmarked_more unmarked marked more e is_in = by_store e.store e.start e.end is_in.rising
+    is_in.within
   where
     by_store : (p : Store) (s t : ℕ) → s ≤ t → t ≤ length (symbols_of (arena unmarked marked) p)
         → Stays (arena unmarked marked) (arena (unmarked ++ more) marked) (span p s t)
@@ -61,7 +62,7 @@ unmarked_more unmarked marked more e h = by_store e.store e.start e.end h.rising
 -- more symbols of marked formulas
 pub marked_more : (unmarked marked more : List ℕ) (e : Span) → IsIn (arena unmarked marked) e
     → Stays (arena unmarked marked) (arena unmarked (marked ++ more)) e
-marked_more unmarked marked more e h = by_store e.store e.start e.end h.rising h.within
+marked_more unmarked marked more e is_in = by_store e.store e.start e.end is_in.rising is_in.within
   where
     by_store : (p : Store) (s t : ℕ) → s ≤ t → t ≤ length (symbols_of (arena unmarked marked) p)
         → Stays (arena unmarked marked) (arena unmarked (marked ++ more)) (span p s t)

@@ -16,8 +16,9 @@ pub moved_machine : (unmarked marked : List ℕ) (es : List Span) (marks : List 
     → IsMachine unmarked marked es marks marked_spans symbol_count
     → Moves unmarked marked unmarked' marked' → IsStack unmarked' marked' es'
     → IsMachine unmarked' marked' es' marks marked_spans symbol_count
-moved_machine unmarked marked es marks marked_spans symbol_count unmarked' marked' es' m v s =
-    let k = v.known symbol_count m.stack.known.unmarked in
+moved_machine unmarked marked es marks marked_spans symbol_count unmarked' marked' es' is_machine v
+    s =
+    let k = v.known symbol_count is_machine.stack.known.unmarked in
     record {
       stack =
           record {
@@ -26,14 +27,15 @@ moved_machine unmarked marked es marks marked_spans symbol_count unmarked' marke
                   unmarked = k.1;
                   marked =
                       rw v.marked_is
-                      (All-append (λ s. s < symbol_count) marked v.more m.stack.known.marked k.0);
+                      (All-append (λ s. s < symbol_count) marked v.more
+                      is_machine.stack.known.marked k.0);
                 };
             is_stack = s;
           };
       spans_are_marked = rw v.marked_is (marked_all_more marked v.more marked_spans
-          m.spans_are_marked);
-      rising = m.rising;
-      count = m.count;
+          is_machine.spans_are_marked);
+      rising = is_machine.rising;
+      count = is_machine.count;
     }
 
 pub marked_spans_more : (unmarked marked : List ℕ) (es : List Span) (marks : List ℕ)
@@ -41,12 +43,14 @@ pub marked_spans_more : (unmarked marked : List ℕ) (es : List Span) (marks : L
     → (symbol_count : ℕ) (e : Span)
     → IsMachine unmarked marked es marks marked_spans symbol_count → IsMarkedEntry marked e
     → IsMachine unmarked marked es marks (marked_spans ++ e ∷ []) symbol_count
-marked_spans_more unmarked marked es marks marked_spans symbol_count e m k = record {
-  stack = m.stack;
-  spans_are_marked = All-push (IsMarkedEntry marked) marked_spans e m.spans_are_marked k;
-  rising = m.rising;
-  count = omega (arith, m.count, length-append marked_spans (e ∷ []));
-}
+marked_spans_more unmarked marked es marks marked_spans symbol_count e is_machine is_marked_entry =
+    record {
+      stack = is_machine.stack;
+      spans_are_marked = All-push (IsMarkedEntry marked) marked_spans e is_machine.spans_are_marked
+          is_marked_entry;
+      rising = is_machine.rising;
+      count = omega (arith, is_machine.count, length-append marked_spans (e ∷ []));
+    }
 
 pub both_more : (unmarked marked : List ℕ) (es : List Span) (marks : List ℕ)
     (marked_spans : List Span)
@@ -54,18 +58,20 @@ pub both_more : (unmarked marked : List ℕ) (es : List Span) (marks : List ℕ)
     → IsMachine unmarked marked es marks marked_spans symbol_count → IsMarkedEntry marked e
     → All (λ j. j < step) marks
     → IsMachine unmarked marked es (marks ++ step ∷ []) (marked_spans ++ e ∷ []) symbol_count
-both_more unmarked marked es marks marked_spans symbol_count e step m k later = record {
-  stack = m.stack;
-  spans_are_marked = All-push (IsMarkedEntry marked) marked_spans e m.spans_are_marked k;
-  rising = rising_more marks step m.rising later;
-  count = omega (
-    arith,
-    m.count,
-    length-append marked_spans (e ∷ []),
-    length-append marks
-        (step ∷ []),
-  );
-}
+both_more unmarked marked es marks marked_spans symbol_count e step is_machine is_marked_entry later
+    = record {
+      stack = is_machine.stack;
+      spans_are_marked = All-push (IsMarkedEntry marked) marked_spans e is_machine.spans_are_marked
+          is_marked_entry;
+      rising = rising_more marks step is_machine.rising later;
+      count = omega (
+        arith,
+        is_machine.count,
+        length-append marked_spans (e ∷ []),
+        length-append marks
+            (step ∷ []),
+      );
+    }
 
 -- the formulas of the marked steps, and one more
 pub marked_spans_formulas : (unmarked marked unmarked' marked' : List ℕ) (marked_spans : List Span)

@@ -11,16 +11,17 @@ use Rattle.mm_machine.specs.State.{IsRising}
 
 pub not_absent : (xs : List ℕ) (x n : ℕ) → IsBinarySearchResult (λ y. nat_cmp y x) xs (Err n)
     → IsRising xs → Contains xs x → ⊥
-not_absent xs x n h up there = by_order (cases_lt there.0 n)
+not_absent xs x n is_binary_search_result up there = by_order (cases_lt there.0 n)
   where
     found : get_or xs there.0 0 ≡ x
     found = get_or_default xs there.0 0 x there.1 ∙ there.2
 
     by_order : (there.0 < n) ⊎ (n ≤ there.0) → ⊥
     by_order (inl l) =
-        let s = searched xs x (Err n) h up in let b = s.1 there.0 l in omega (arith, b, found)
+        let s = searched xs x (Err n) is_binary_search_result up in let b = s.1 there.0 l in omega
+        (arith, b, found)
     by_order (inr l) =
-        let s = searched xs x (Err n) h up in let b = s.2 there.0 l there.1 in
+        let s = searched xs x (Err n) is_binary_search_result up in let b = s.2 there.0 l there.1 in
         omega (arith, b, found)
 
 -- a greater one more

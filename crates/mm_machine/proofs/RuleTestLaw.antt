@@ -41,9 +41,9 @@ module _ (db : List Statement) (t : ℕ) (hs : List Formula) (xs : Arena) (es : 
 
   pub replacement_is : (x : ℕ) → IsBound (context_at db t) hs x
       → replacement xs es (floating_index db hs x) ≡ σ x
-  replacement_is x b =
+  replacement_is x is_bound =
       let j = floating_index db hs x in
-      let below : j < length hs = first_below db hs x b in
+      let below : j < length hs = first_below db hs x is_bound in
       let here : IsIn xs (get_or es j no_symbols) =
       All-get_or (IsIn xs) es j no_symbols (omega (arith, below, count)) inside in
       let many : length (span_formulas xs es) ≡ length hs =
@@ -51,7 +51,7 @@ module _ (db : List Statement) (t : ℕ) (hs : List Formula) (xs : Arena) (es : 
       formula_tail (symbols_of xs (get_or es j no_symbols).store) (get_or es j no_symbols).start
       (get_or es j no_symbols).end here.rising
       ∙ ap tail (span_formula_at xs es j (omega (arith, below, count)))
-      ∙ sym (found_first db t hs (span_formulas xs es) x many b)
+      ∙ sym (found_first db t hs (span_formulas xs es) x many is_bound)
 
   pub one_same : (f : Formula) → AreBound (context_at db t) hs f
       → replaced xs es (parts_of db hs f) ≡ substitute (context_at db t) σ f
@@ -99,7 +99,8 @@ map_drop xs (suc n) [] = refl
 map_drop xs (suc n) (e ∷ es) = map_drop xs n es
 
 -- the step of an assertion, by the tests that the code makes
-pub judged : (db : List Statement) (t : ℕ) (c : CompiledRule) (xs : Arena) (stack premises : List Span)
+pub judged : (db : List Statement) (t : ℕ) (c : CompiledRule) (xs : Arena)
+    (stack premises : List Span)
     → IsCompiled db c → length c.hypotheses ≤ length stack
     → premises ≡ drop (length stack - length c.hypotheses) stack → All (IsIn xs) premises
     → length premises ≡ length c.hypotheses → (b1 b2 : Bool)

@@ -80,7 +80,8 @@ module _ (all : Arena) (es : List Span) (xs : List ℕ) (w : List RuleSymbol) (i
 -- whether a stretch begins with one symbol
 pub first_is : (xs : List ℕ) (a e s : ℕ) → a < e → e ≤ length xs
     → starts_with nat_eq (slice_range xs a e) (s ∷ []) ≡ nat_eq s (get_or xs a 0)
-first_is xs a e s h l = by_first_symbol (e - a) (drop a xs) (drop_more xs a 0 (omega arith))
+first_is xs a e s a_lt_e e_le_length_xs = by_first_symbol (e - a) (drop a xs)
+    (drop_more xs a 0 (omega arith))
     (omega arith)
   where
     by_first_symbol : (n : ℕ) (ys : List ℕ) → ys ≡ get_or xs a 0 ∷ drop (a + 1) xs → 0 < n
@@ -109,7 +110,7 @@ fits_in xs a e u h s =
 -- the entry without its first symbol
 pub formula_tail : (xs : List ℕ) (a e : ℕ) → a ≤ e
     → slice_range xs (min (a + 1) e) e ≡ tail (slice_range xs a e)
-formula_tail xs a e h = by_order (cases_lt a e)
+formula_tail xs a e a_le_e = by_order (cases_lt a e)
   where
     tail_is : (zs : List ℕ) → tail zs ≡ drop 1 zs
     tail_is [] = refl

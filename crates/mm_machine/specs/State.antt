@@ -122,7 +122,8 @@ entries_after a es below parts =
 
 -- what a test of a rule says: how many entries stay below the formula that the step pushes if it is
 -- short enough, or why the step fails
-abbrev pub TestsRule : List Statement → ℕ → CompiledRule → Arena → List Span → Result ℕ Reason → Type 0
+abbrev pub TestsRule : List Statement → ℕ → CompiledRule → Arena → List Span → Result ℕ Reason
+    → Type 0
 TestsRule db t c symbols stack (Ok below) =
     (length stack ≡ below + length c.hypotheses)
     × (applied db t c.assertion (span_formulas symbols stack)

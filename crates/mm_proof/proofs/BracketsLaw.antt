@@ -100,10 +100,10 @@ module _ (db : List Statement) (k end : ℕ) where
       → flat_map (proof_label_faults db k) (as_tokens text (take n words)) ≡ []
       → compressed_faults db k end (bracketed (as_tokens text words))
       ≡ letter_faults (length labels) end (letters_of (as_tokens text (drop (n + 1) words)))
-  faults_closed text words n xs labels l mandatory many is sound =
+  faults_closed text words n xs labels n_lt_length_words mandatory many is sound =
       let m = ap length mandatory in
       let c = length-map (take n words) (token_of text) in
-      let d = length-take-le n words (omega (arith, l)) in
+      let d = length-take-le n words (omega (arith, n_lt_length_words)) in
       ap (compressed_faults db k end) is
       ∙ closed_faults (as_tokens text (take n words)) (as_tokens text (drop (n + 1) words))
       (length labels) sound (omega (arith, many, m, c, d))

@@ -136,21 +136,22 @@ pub last_reads : (t : ℕ) (labels marks : List ℕ) (number : Option BegunNumbe
     → (all unread : List Letter)
     → Continues (letters_state t labels marks number steps) all (letter place byte ∷ unread)
     → Continues
-    (letters_state t labels marks None (steps ++ placed (begun_at number place).at s ∷ [])) all unread
-last_reads t labels marks number steps place byte s e l named all unread h =
+    (letters_state t labels marks None (steps ++ placed (begun_at number place).at s ∷ [])) all
+    unread
+last_reads t labels marks number steps place byte s e byte_is_last named all unread h =
     record {
       early = [];
       begins = refl;
       steps =
           h.steps ∙ ap (λ r. steps ++ group_steps labels marks (length steps) r.0) split
           ∙ ap (λ z. steps ++ z)
-          (ap (stepped gs) l
+          (ap (stepped gs) byte_is_last
           ∙ ap (λ ss. map (placed (starts_at g)) ss
           ++ group_steps labels marks (length steps + 1) gs) is)
           ∙ more;
       faults =
           h.faults ∙ ap (λ r. group_faults (length labels) (length marks) (length steps) r.0) split
-          ∙ ap (λ b. both b (byte == 90)) l ∙ ap (both true) (no_mark byte l)
+          ∙ ap (λ b. both b (byte == 90)) byte_is_last ∙ ap (both true) (no_mark byte byte_is_last)
           ∙ ap (λ b. at (starts_at g) (when b NumberTooLarge)
           ++ group_faults (length labels) (length marks) (length steps + 1) gs) within
           ∙ ap (λ n. group_faults (length labels) (length marks) n gs) (sym longer);
@@ -225,7 +226,8 @@ pub early_reads : (t : ℕ) (labels marks : List ℕ) (number : Option BegunNumb
     → (all unread : List Letter)
     → Continues (letters_state t labels marks number steps) all (letter place byte ∷ unread)
     → Continues (letters_state t labels marks (Some begun) steps) all unread
-early_reads t labels marks number steps place byte begun e place_is value_is all unread h =
+early_reads t labels marks number steps place byte begun byte_is_early place_is value_is all unread
+    h =
     record {
       early = h.early ++ x ∷ [];
       begins = begins number h.early h.begins place_is value_is;
@@ -243,7 +245,7 @@ early_reads t labels marks number steps place byte begun e place_is value_is all
         ap (λ b. elim b [
           | true ↦ groups (h.early ++ x ∷ []) unread
           | false ↦ let r = groups [] unread in (record { early = h.early; last = x } ∷ r.0, r.1)
-        ]) e
+        ]) byte_is_early
 
     more : (n : ℕ) (es : List Letter)
         → fold (λ (n : ℕ) (y : Letter). 5 * n + (y.byte - 84)) n (es ++ x ∷ [])
@@ -302,11 +304,11 @@ pub last_here : (t : ℕ) (labels marks : List ℕ) (number : BegunNumber) (step
     → Continues (letters_state t labels marks (if_begun number) steps) all
     (letter place byte ∷ unread)
     → Continues (letters_state t labels marks None (steps ++ placed number.at s ∷ [])) all unread
-last_here t labels marks number steps place byte s b e l named all unread h =
+last_here t labels marks number steps place byte s b e byte_is_last named all unread h =
     let is = begun_is number place b in
     subst (λ (b : BegunNumber). Continues (letters_state t labels marks None
     (steps ++ placed b.at s ∷ [])) all unread) is
-    (last_reads t labels marks (if_begun number) steps place byte s e l
+    (last_reads t labels marks (if_begun number) steps place byte s e byte_is_last
     (λ n q. named n (ap (λ (b : BegunNumber). saturated (20 * b.value + (byte - 64))) (sym is) ∙ q))
     all unread h)
 
@@ -318,13 +320,14 @@ pub early_here : (t : ℕ) (labels marks : List ℕ) (number : BegunNumber) (ste
     → Continues (letters_state t labels marks (if_begun number) steps) all
     (letter place byte ∷ unread)
     → Continues (letters_state t labels marks (if_begun next) steps) all unread
-early_here t labels marks number steps place byte next b e place_is value_is all unread h =
+early_here t labels marks number steps place byte next b byte_is_early place_is value_is all unread
+    h =
     let is = begun_is number place b in
-    let d = early_digit byte (byte - 84) e refl in
+    let d = early_digit byte (byte - 84) byte_is_early refl in
     let some : 0 < next.value = omega (arith, value_is, d.0) in
     subst (λ o. Continues (letters_state t labels marks o steps) all unread)
     (sym (some_begun next some))
-    (early_reads t labels marks (if_begun number) steps place byte next e
+    (early_reads t labels marks (if_begun number) steps place byte next byte_is_early
     (place_is ∙ ap (λ (b : BegunNumber). b.at) (sym is))
     (value_is ∙ ap (λ (b : BegunNumber). saturated (5 * b.value + (byte - 84))) (sym is)) all unread
     h)

@@ -35,14 +35,14 @@ all_bytes (x ∷ xs) = ap (λ b. is_early x.byte && b) (all_bytes xs)
 
 pub made : (bs : List ℕ) (b n : ℕ) → list_all is_early bs ≡ true → is_last b ≡ true
     → early_bytes bs * 20 + (b - 64) ≡ n → IsNumber (bs ++ b ∷ []) n
-made bs b n e l v =
+made bs b n e b_is_last v =
     let xs = letters_from 0 bs in
     let g : Group = record { early = xs; last = record { at = 0; byte = b } } in
     record {
       group = g;
       spelled = ap (λ z. z ++ b ∷ []) (bytes_from 0 bs);
       early = all_bytes xs ∙ ap (list_all is_early) (bytes_from 0 bs) ∙ e;
-      last = l;
+      last = b_is_last;
       is = ap (λ z. z * 20 + (b - 64)) (fold_bytes 0 xs ∙ ap early_bytes (bytes_from 0 bs)) ∙ v;
     }
 
@@ -52,15 +52,17 @@ pub record IsSpelled (bs : List ℕ) (b n : ℕ) : Type 0 where
   pub is : early_bytes bs * 20 + (b - 64) ≡ n
 
 pub spelled : (bs : List ℕ) (b n : ℕ) → IsNumber (bs ++ b ∷ []) n → IsSpelled bs b n
-spelled bs b n h =
-    let p = same_from_push (bytes h.group.early) bs h.group.last.byte b h.spelled in
+spelled bs b n is_number =
+    let p = same_from_push (bytes is_number.group.early) bs is_number.group.last.byte b
+    is_number.spelled in
     record {
-      early = ap (list_all is_early) (sym p.0) ∙ sym (all_bytes h.group.early) ∙ h.early;
-      last = ap is_last (sym p.1) ∙ h.last;
+      early = ap (list_all is_early) (sym p.0) ∙ sym (all_bytes is_number.group.early)
+          ∙ is_number.early;
+      last = ap is_last (sym p.1) ∙ is_number.last;
       is =
           ap₂ (λ z y. z * 20 + (y - 64))
-          (ap early_bytes (sym p.0) ∙ sym (fold_bytes 0 h.group.early)) (sym p.1)
-          ∙ h.is;
+          (ap early_bytes (sym p.0) ∙ sym (fold_bytes 0 is_number.group.early)) (sym p.1)
+          ∙ is_number.is;
     }
 
 pub each_early : (bs : List ℕ) (i d : ℕ) → list_all is_early bs ≡ true → i < length bs

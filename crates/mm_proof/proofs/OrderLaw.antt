@@ -55,13 +55,15 @@ earlier f g l =
 
 join_runs : (from mid to : ℕ) (xs ys : List Fault) → from ≤ mid → mid ≤ to → Run from mid xs
     → Run mid to ys → Run from to (xs ++ ys)
-join_runs from mid to xs ys a b h k = record {
+join_runs from mid to xs ys from_le_mid mid_le_to h k = record {
   low =
       each_append (λ f. from ≤ f.at) xs ys h.low
-      (each_map (λ f. mid ≤ f.at) (λ f. from ≤ f.at) ys (λ f l. omega (arith, a, l)) k.low);
+      (each_map (λ f. mid ≤ f.at) (λ f. from ≤ f.at) ys (λ f l. omega (arith, from_le_mid, l))
+      k.low);
   high =
       each_append (λ f. f.at < to) xs ys
-      (each_map (λ f. f.at < mid) (λ f. f.at < to) xs (λ f l. omega (arith, b, l)) h.high) k.high;
+      (each_map (λ f. f.at < mid) (λ f. f.at < to) xs (λ f l. omega (arith, mid_le_to, l)) h.high)
+      k.high;
   sorted = joined_is_sorted xs h.high h.sorted;
 }
   where
@@ -154,8 +156,8 @@ letters_rise from end (t ∷ ts) o =
 
 mark_run : (from place : ℕ) (a b : Bool) → from ≤ place
     → Run from (place + 1) (at place (when a OpenNumber ++ when b MarkBeforeStep))
-mark_run from place true true l = record {
-  low = (l, (l, tt));
+mark_run from place true true from_le_place = record {
+  low = (from_le_place, (from_le_place, tt));
   high = (omega arith, (omega arith, tt));
   sorted = (
     (
@@ -175,7 +177,8 @@ module _ (labels end : ℕ) where
       → Run from (place + 1)
       (group_fault labels marks count
       (record { early = early; last = record { at = place; byte = byte } }))
-  group_run from now place byte early marks count o l = by_letter_kind (is_last byte) (byte == 90)
+  group_run from now place byte early marks count o now_le_place = by_letter_kind (is_last byte)
+      (byte == 90)
       (byte == 63)
     where
       g : Group
@@ -183,18 +186,18 @@ module _ (labels end : ℕ) where
 
       low : (early : List Letter) → IsOpenAt from early now
           → from ≤ starts_at (record { early = early; last = record { at = place; byte = byte } })
-      low [] o = omega (arith, o, l)
+      low [] o = omega (arith, o, now_le_place)
       low (x ∷ xs) o = o.0
 
       high : (early : List Letter) → IsOpenAt from early now
           → starts_at (record { early = early; last = record { at = place; byte = byte } })
           < place + 1
       high [] o = omega arith
-      high (x ∷ xs) o = let h = o.1 in omega (arith, h, l)
+      high (x ∷ xs) o = let h = o.1 in omega (arith, h, now_le_place)
 
       within : (early : List Letter) → IsOpenAt from early now → from ≤ place
-      within [] o = omega (arith, o, l)
-      within (x ∷ xs) o = let h = o.0 in let k = o.1 in omega (arith, h, k, l)
+      within [] o = omega (arith, o, now_le_place)
+      within (x ∷ xs) o = let h = o.0 in let k = o.1 in omega (arith, h, k, now_le_place)
 
       by_letter_kind : (a b c : Bool) → Run from (place + 1) (elim a [
         | true ↦ at (starts_at g) (when (nat_lt (labels + marks) (value g)) NumberTooLarge)
@@ -231,8 +234,9 @@ module _ (labels end : ℕ) where
 
   left_run : (xs early : List Letter) (from now marks count : ℕ) → IsOpenAt from early now
       → Rise now xs end → Run from (end + 1) (left_faults early marks count xs)
-  left_run [] early from now marks count o r =
-      when_run from (end + 1) end (nat_lt 0 (length early)) OpenNumber (end_low from now early o r)
+  left_run [] early from now marks count is_open_at r =
+      when_run from (end + 1) end (nat_lt 0 (length early)) OpenNumber
+      (end_low from now early is_open_at r)
       (omega arith)
   left_run (x ∷ xs) early from now marks count o r =
       by_mark (is_early x.byte)

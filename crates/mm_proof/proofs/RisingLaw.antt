@@ -111,21 +111,21 @@ proof_follows : (text : List ℕ) (db : List Statement) (fault : Option Fault)
     → (k : ℕ) (l : Token) (p : ℕ) (xs : List Token) (e : ℕ) (ps : List Token) (d : ℕ)
     → slice_get db k ≡ Some (provable l p xs e ps d)
     → AllPairs Follows (ps ++ token d (codes "$.") ∷ [])
-proof_follows text db fault r k l p xs e ps d is =
+proof_follows text db fault is_read k l p xs e ps d is =
     let s = provable l p xs e ps d in
     let a =
-    spelled_in r.statements k s
-    (subst (λ z. slice_get z k ≡ Some s) (sym r.splits) (get_front db r.rest k s is)) in
+    spelled_in is_read.statements k s
+    (subst (λ z. slice_get z k ≡ Some s) (sym is_read.splits) (get_front db is_read.rest k s is)) in
     let ts = map (λ w. token w.start (bytes_of text w)) (lexed.tokens_of text) in
-    let whole : ts ≡ a.before ++ (spelled s ++ (a.after ++ r.are_statements.rest)) =
-    r.are_statements.splits ∙ ap (λ z. z ++ r.are_statements.rest) a.is
-    ∙ append_assoc a.before (spelled s ++ a.after) r.are_statements.rest
-    ∙ ap (λ z. a.before ++ z) (append_assoc (spelled s) a.after r.are_statements.rest) in
+    let whole : ts ≡ a.before ++ (spelled s ++ (a.after ++ is_read.are_statements.rest)) =
+    is_read.are_statements.splits ∙ ap (λ z. z ++ is_read.are_statements.rest) a.is
+    ∙ append_assoc a.before (spelled s ++ a.after) is_read.are_statements.rest
+    ∙ ap (λ z. a.before ++ z) (append_assoc (spelled s) a.after is_read.are_statements.rest) in
     let all : AllPairs Follows ts =
     begins_after text (lexed.tokens_of text) (tokens_are_words text) (tokens_rising text) in
     pairs_in (ps ++ token d (codes "$.") ∷ []) (spelled s) inner
     (pairs_in (spelled s) ts
-    (record { before = a.before; after = a.after ++ r.are_statements.rest; is = whole }) all)
+    (record { before = a.before; after = a.after ++ is_read.are_statements.rest; is = whole }) all)
   where
     inner : StandsIn (ps ++ token d (codes "$.") ∷ []) (spelled (provable l p xs e ps d))
     inner = record {
@@ -153,10 +153,10 @@ pub proof_rising : (text : List ℕ) (db : List Statement) (w : Bool) (fault : O
     → counts ≡ counted w db
     → (k : ℕ) (l : Token) (p : ℕ) (xs : List Token) (e : ℕ) (ps : List Token) (d : ℕ)
     → slice_get counts k ≡ Some (provable l p xs e ps d) → AllPairs Earlier ps
-proof_rising text db w fault r counts are k l p xs e ps d is =
+proof_rising text db w fault is_read counts are k l p xs e ps d is =
     λ i j x less here. let f =
     pairs_front Follows ps (token d (codes "$.") ∷ [])
-    (proof_follows text db fault r k l p xs e ps d
+    (proof_follows text db fault is_read k l p xs e ps d
     (was_read db w counts are k l p xs e ps d is)) i j x less here in
     let a = f.0 in let b = f.1 in omega (arith, a, b)
 

@@ -36,13 +36,14 @@ module _ (db : List Statement) (k : ℕ) (w : Bytes) where
 
   pub active_usable : (j : ℕ) → ((i : ℕ) → labelled i ≡ true → i ≡ j) → labelled j ≡ true
       → is_active db j k ≡ true → usable db k w ≡ j ∷ []
-  active_usable j only l a =
+  active_usable j only l active_at_k =
       filter_is passes k 0 (j ∷ []) ((omega arith), tt) before
       (λ i low up. by_equality i (nat_eq i j) refl)
     where
       before : (i : ℕ) → (nat_eq i j || false) ≡ true → i < 0 + k
       before i e =
-          let same : i ≡ j = eqb-true i j (lone (nat_eq i j) e) in let h = is_before db j k a in
+          let same : i ≡ j = eqb-true i j (lone (nat_eq i j) e) in let h = is_before db j k
+          active_at_k in
           omega (arith, same, h)
 
       other : (i : ℕ) → nat_eq i j ≡ false → (c : Bool) → labelled i ≡ c → passes i ≡ false
@@ -50,5 +51,5 @@ module _ (db : List Statement) (k : ℕ) (w : Bytes) where
       other i e false l = ap (λ b. is_active db i k && b) l ∙ and-false (is_active db i k)
 
       by_equality : (i : ℕ) (b : Bool) → nat_eq i j ≡ b → passes i ≡ (b || false)
-      by_equality i true e = ap passes (eqb-true i j e) ∙ ap₂ (λ x y. x && y) a l
+      by_equality i true e = ap passes (eqb-true i j e) ∙ ap₂ (λ x y. x && y) active_at_k l
       by_equality i false e = other i e (labelled i) refl

@@ -54,7 +54,8 @@ Begins (Some b) early =
     (first : Letter) × (more : List Letter) × (early ≡ first ∷ more) × (b.at ≡ first.at)
     × (b.value ≡ saturated (early_value early))
 
--- Of the letters `all`, the letters `unread` are left to be read. The steps of `all` are the steps so
+-- Of the letters `all`, the letters `unread` are left to be read. The steps of `all` are the steps
+-- so
 -- far and those of `unread`, and the faults of `all` are those of `unread`.
 pub record Continues (s : LettersState) (all unread : List Letter) : Type 0 where
   pub early : List Letter

@@ -93,7 +93,8 @@ typed_more parts xs j t us n part_count_is e =
 
 pub typed_part_count : (parts : List RuleSymbol) (xs : List Hypothesis) (t : ℕ)
     → total_part_count xs ≡ length parts → total_part_count (xs ++ Floating t ∷ []) ≡ length parts
-typed_part_count parts xs t part_count_is = let e = count_push xs (Floating t) in omega (arith, e, part_count_is)
+typed_part_count parts xs t part_count_is = let e = count_push xs (Floating t) in omega
+    (arith, e, part_count_is)
 
 -- or the parts of its formula
 module _ (parts more : List RuleSymbol) (xs : List Hypothesis) (n : ℕ) (long : n ≡ length more)
@@ -272,7 +273,8 @@ module _ (db : List Statement) (a : ℕ) (is : is_assertion_at db a ≡ true)
 
   pub is_compiled_rule : (hyps : List ℕ) (from : List (ℕ × ℕ)) (f : Formula) (numbers : List ℕ)
       → (hypotheses : List Hypothesis) (pairs : List (ℕ × ℕ)) (parts formula : List RuleSymbol)
-      → hyps ≡ mandatory_hypotheses db a → as_pairs from ≡ mandatory_pairs db a → f ≡ formula_at db a
+      → hyps ≡ mandatory_hypotheses db a → as_pairs from ≡ mandatory_pairs db a → f
+      ≡ formula_at db a
       → All (λ s. s < length (symbol_names db)) f
       → AreCompiled db hyps hypotheses parts
       → AreFirstNumbers db (map (formula_at db) hyps) numbers → pairs ≡ numbered_pairs numbers from

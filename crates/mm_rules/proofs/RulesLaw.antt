@@ -47,23 +47,23 @@ module _ (db : List Statement) (ranges : List RuleRanges) (hypotheses a : List H
   rule_stays : (new : List RuleRanges) (s : RuleRanges) → HasRule db
       (rule_lists ranges hypotheses pairs parts) s
       → HasRule db (rule_lists new (hypotheses ++ a) (pairs ++ p) ((parts ++ q) ++ f)) s
-  rule_stays new s h =
-      let parts1 = longer parts q s.parts h.parts in
-      let formula1 = longer parts q s.formula h.formula in
+  rule_stays new s has_rule =
+      let parts1 = longer parts q s.parts has_rule.parts in
+      let formula1 = longer parts q s.formula has_rule.formula in
       let e1 : elements_in (hypotheses ++ a) s.hypotheses ≡ elements_in hypotheses s.hypotheses =
-      stays hypotheses a s.hypotheses h.hypotheses in
+      stays hypotheses a s.hypotheses has_rule.hypotheses in
       let e2 : elements_in (pairs ++ p) s.pairs ≡ elements_in pairs s.pairs =
-      stays pairs p s.pairs h.pairs in
+      stays pairs p s.pairs has_rule.pairs in
       let e3 : elements_in ((parts ++ q) ++ f) s.parts ≡ elements_in parts s.parts =
-      stays (parts ++ q) f s.parts parts1 ∙ stays parts q s.parts h.parts in
+      stays (parts ++ q) f s.parts parts1 ∙ stays parts q s.parts has_rule.parts in
       let e4 : elements_in ((parts ++ q) ++ f) s.formula ≡ elements_in parts s.formula =
-      stays (parts ++ q) f s.formula formula1 ∙ stays parts q s.formula h.formula in
+      stays (parts ++ q) f s.formula formula1 ∙ stays parts q s.formula has_rule.formula in
       record {
-        hypotheses = longer hypotheses a s.hypotheses h.hypotheses;
-        pairs = longer pairs p s.pairs h.pairs;
+        hypotheses = longer hypotheses a s.hypotheses has_rule.hypotheses;
+        pairs = longer pairs p s.pairs has_rule.pairs;
         parts = longer (parts ++ q) f s.parts parts1;
         formula = longer (parts ++ q) f s.formula formula1;
-        is_compiled = rw (e1, e2, e3, e4) h.is_compiled;
+        is_compiled = rw (e1, e2, e3, e4) has_rule.is_compiled;
       }
 
   all_stay : (new rest : List RuleRanges) → All
@@ -124,8 +124,9 @@ pub added_at : (db : List Statement) (ranges ranges' : List RuleRanges)
     → AreRules db (rule_lists ranges' hypotheses' pairs' parts')
 added_at db ranges ranges' hypotheses a hypotheses' pairs p pairs' parts q f mid parts' s e1
     e2 e3 e4 e5 f1
-    t1 f2 t2 f3 t3 f4 t4 is h =
+    t1 f2 t2 f3 t3 f4 t4 is are_rules =
     let all : parts' ≡ (parts ++ q) ++ f = e5 ∙ ap (λ z. z ++ f) e4 in
     rw (e1, e2, e3, all)
     (added db ranges hypotheses a pairs p parts q f s f1 (t1 ∙ ap length e2) f2
-    (t2 ∙ ap length e3) f3 (t3 ∙ ap length e4) (f4 ∙ ap length e4) (t4 ∙ ap length all) is h)
+    (t2 ∙ ap length e3) f3 (t3 ∙ ap length e4) (f4 ∙ ap length e4) (t4 ∙ ap length all) is
+    are_rules)

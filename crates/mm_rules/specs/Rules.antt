@@ -11,7 +11,8 @@ use Rattle.mm_rule.specs.declared.rule.RuleSymbol.TheVariants.{Constant, Variabl
 use Rattle.mm_rule.specs.declared.rule.Hypothesis.{Hypothesis}
 use Rattle.mm_rules.specs.declared.rules.RuleRanges.{RuleRanges}
 use Rattle.mm_rules.specs.declared.rules.IndexRange.{IndexRange}
-use Rattle.mm_rule.specs.Rule.{CompiledRule, compiled_rule, IsCompiled, floating_index, parts_of, all_parts}
+use Rattle.mm_rule.specs.Rule.{CompiledRule, compiled_rule, IsCompiled, floating_index, parts_of}
+use Rattle.mm_rule.specs.Rule.{all_parts}
 use Rattle.mm_rule.specs.Rule.{total_part_count, IsVariableBelow}
 
 -- for each variable that has a `$f`, the list has the index of the first one among the hypotheses

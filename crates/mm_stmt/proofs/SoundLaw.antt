@@ -80,9 +80,9 @@ pub are_symbols : (db : List Statement) (look : List ℕ → Option Symbol) (lab
     → ((s : ℕ) (w : List ℕ) → slice_get names s ≡ Some w
     → get_or kinds s false ≡ is_variable_in (look w))
     → AreSymbols db names kinds
-are_symbols db look labels b x names kinds e n h = record {
+are_symbols db look labels b x names kinds e length_kinds_is_length_names h = record {
   names_are = e;
-  count = n;
+  count = length_kinds_is_length_names;
   variable = λ s l.
       let w = get_or names s [] in
       let there = slice_get-get_or names s [] l in

@@ -3,7 +3,7 @@ use Rattle.std.specs.List.{list_any}
 use Rattle.mm_spec.specs.Derivation.{is_member}
 use Rattle.mm_spec.specs.Frame.{symbol_names}
 use Rattle.mm_frame.specs.Hypotheses.{is_float_of}
-use Rattle.mm_frame.proofs.HypothesesLaw.{found_below, hypotheses_are}
+use Rattle.mm_frame.proofs.HypothesesLaw.{variables_below, hypotheses_are}
 use Rattle.std.proofs.lemmas.Result.{IfOk-from_err}
 use Rattle.mm_frame.proofs.hypotheses.hypotheses.Goals as goal
 
@@ -12,7 +12,7 @@ add_floats-requires-clause-variables g c =
     let db = c.args.sources.now.statements.now.list in
     subst (λ (xs : List ℕ). All (λ s. s < length (symbol_names db)) xs)
     (sym c.deref-2.ensures.value)
-    (found_below db c.args.assertion c.mandatory_variables.new.variables.items
+    (variables_below db c.args.assertion c.mandatory_variables.new.variables.items
     c.in_ok-mandatory_variables.ensures.variables)
 
 pub returns-clause-hyps : goal.returns-clause-hyps

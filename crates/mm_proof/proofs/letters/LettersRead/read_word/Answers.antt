@@ -14,7 +14,8 @@ loop-i-init g c =
       labels = refl;
       stands = record { stands = c.requires.stands; begins = c.begin_at.ensures.at };
       reads =
-          λ all unread h. subst (λ o. Continues (with_number c.args.self.now o) all (all_of ++ unread))
+          λ all unread h. subst (λ o. Continues (with_number c.args.self.now o) all
+          (all_of ++ unread))
           (sym c.begin_at.ensures.same) h;
     }
 
