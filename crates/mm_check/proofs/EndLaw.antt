@@ -67,7 +67,7 @@ module _ (db : List Statement) (t : ℕ) (steps : List PlacedStep) where
       proof_is = (
         all.forest,
         subst (λ ps. Derives (context_at db t) (steps_of ps) (formula_at db t) all.forest)
-            p.are_steps.are
+            p.are_steps.steps_are
             (derives db t steps c.machine.stack ends c.noted all (formula_at db t) one),
       )
 
@@ -96,7 +96,7 @@ module _ (db : List Statement) (t : ℕ) (steps : List PlacedStep) where
           inr (subst
               (λ ps.
               ProofEndFault (context_at db t) ps f (proof_end (slice_get db t)) (fault at code))
-              p.are_steps.are
+              p.are_steps.steps_are
               (subst (λ n. ProofEndFault (context_at db t) steps f n (fault at code))
               (sym (end_is db t at p.are_steps.theorem last))
               (ends_with db t steps c.machine.stack ends c.noted all at code f is_end_code))),

@@ -56,6 +56,6 @@ pub record HasRun (db : List Statement) (t : ℕ) (steps : List PlacedStep) (i :
 pub record AreStepsOf (db : List Statement) (t : ℕ) (steps : List PlacedStep) : Type 0 where
   pub complete : AreComplete db
   pub theorem : IsTrue (is_theorem_at db t)
-  pub are : steps ≡ steps_at db t
+  pub steps_are : steps ≡ steps_at db t
   pub sound : reading_faults_at db t ≡ []
   pub good : AreGoodSteps (context_at db t) 0 (steps_of steps)

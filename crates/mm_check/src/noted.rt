@@ -17,6 +17,7 @@ use std::marker::Model;
 /// proof to proof so that its memory is reused.
 #[derive(Drop)]
 pub struct NotedAssertions<A: Allocator> {
+    /// The statement numbers of the assertions, in the order in which they were noted.
     numbers: Vec<u32, A>,
     /// For each statement the index at which it may be in `numbers`.
     indices: Vec<u32, A>,

@@ -41,7 +41,7 @@ pub enum Store {
     Marked,
 }
 
-/// A stretch of one of the lists of symbols.
+/// A stretch of one of the lists of symbols: from index `start` up to, but not including, `end`.
 #[derive(Clone, Copy, Drop)]
 pub struct Span {
     pub store: Store,
@@ -49,10 +49,12 @@ pub struct Span {
     pub end: usize,
 }
 
-/// The lists of symbols.
+/// The lists of symbols, in which the formulas of the entries are stretches.
 #[derive(Drop)]
 pub struct Symbols<'a> {
+    /// The symbols of the formulas that aren't those of marked steps.
     pub unmarked: &'a [Sym],
+    /// The symbols of the formulas of marked steps.
     pub marked: &'a [Sym],
 }
 
@@ -65,7 +67,7 @@ impl<'a> Model for Symbols<'a> {
 }
 
 impl<'a> Symbols<'a> {
-    /// One of the lists.
+    /// Returns one of the lists.
     fn list(&self, store: Store) -> &'a [Sym]
         ensures { result.now ≡ symbols_of self.now store }
     {
@@ -87,9 +89,13 @@ impl<'a> Symbols<'a> {
 /// Why a step isn't a step of a derivation.
 #[derive(Clone, Copy, Drop)]
 pub enum Reason {
+    /// There are fewer entries than hypotheses.
     TooFew,
+    /// An entry isn't what its hypothesis requires.
     Unmatched,
+    /// Two variables that have to be disjoint aren't.
     NotDisjoint,
+    /// The formula of the step has more symbols than the limit.
     TooLong,
 }
 

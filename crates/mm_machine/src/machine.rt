@@ -34,7 +34,9 @@ const MAX_SHORT_FORMULA: usize = 1_024;
 /// Why a step wasn't performed.
 #[derive(Drop)]
 pub enum StepRefused {
+    /// It isn't a step of a derivation.
     Fault(Reason),
+    /// Out of memory.
     Memory,
 }
 
@@ -44,6 +46,7 @@ pub enum StepRefused {
 pub struct Machine<A: Allocator> {
     unmarked: SymbolList<A>,
     marked: SymbolList<A>,
+    /// The entries, from bottom to top.
     stack: Vec<Span, A>,
     /// The indices of the marked steps so far.
     marks: Vec<usize, A>,

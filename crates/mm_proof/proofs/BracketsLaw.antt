@@ -18,7 +18,7 @@ use Rattle.mm_spec.specs.CompressedProof.{group_steps}
 use Rattle.mm_outline.specs.Parts.{as_tokens, token_of}
 use Rattle.mm_spec.specs.Steps.{PlacedStep}
 use Rattle.mm_steps.specs.Read.{read}
-use Rattle.mm_proof.specs.Letters.{InOrder, closed_brackets}
+use Rattle.mm_proof.specs.Letters.{AreInOrder, closed_brackets}
 
 -- a compressed proof with further labels before it
 abbrev pub after : List Token → Compressed → Compressed
@@ -121,19 +121,19 @@ read_steps db k p labels ls xs t steps e h same is =
     ∙ ap (compressed_steps db k) (sym e))
 
 -- the words from a place on are in order
-order_from : (from to end : ℕ) (ts : List Token) → from ≤ to → InOrder to ts end
-    → InOrder from ts end
+order_from : (from to end : ℕ) (ts : List Token) → from ≤ to → AreInOrder to ts end
+    → AreInOrder from ts end
 order_from from to end [] l o = omega (arith, o)
 order_from from to end (t ∷ ts) l o = (let h = o.0 in omega (arith, h), o.1, o.2)
 
 -- after the first word
 pub order_rest : (text : List ℕ) (w : Word) (ws : List Word) (from end : ℕ)
-    → InOrder from (as_tokens text (w ∷ ws)) end → InOrder 0 (as_tokens text ws) end
+    → AreInOrder from (as_tokens text (w ∷ ws)) end → AreInOrder 0 (as_tokens text ws) end
 order_rest text w ws from end o =
     order_from 0 (w.start + length (token_of text w).word) end (as_tokens text ws) (omega arith) o.2
 
 pub order_drop : (text : List ℕ) (ws : List Word) (n from end : ℕ)
-    → InOrder from (as_tokens text ws) end → InOrder 0 (as_tokens text (drop n ws)) end
+    → AreInOrder from (as_tokens text ws) end → AreInOrder 0 (as_tokens text (drop n ws)) end
 order_drop text ws zero from end o = order_from 0 from end (as_tokens text ws) (omega arith) o
 order_drop text [] (suc n) from end o = omega arith
 order_drop text (w ∷ ws) (suc n) from end o =

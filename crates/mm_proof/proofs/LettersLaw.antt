@@ -25,7 +25,7 @@ use Rattle.mm_spec.specs.declared.Word.{Word as Place}
 use Rattle.mm_outline.specs.Parts.{as_tokens, token_of}
 use Rattle.mm_proof.specs.Number.{saturated}
 use Rattle.mm_proof.specs.Letters.{LettersState, letters_state, letter, Begins, Continues}
-use Rattle.mm_proof.specs.Letters.{StandsAt, BeginsAt, if_begun, InOrder, early_value}
+use Rattle.mm_proof.specs.Letters.{StandsAt, BeginsAt, if_begun, AreInOrder, early_value}
 use Rattle.mm_proof.specs.Refused.{StartsWith}
 use Rattle.mm_proof.specs.declared.refused.ProofRefused.{ProofRefused}
 use Rattle.mm_proof.specs.declared.refused.ProofRefused.TheVariants.{Fault as Faulty, Memory}
@@ -64,7 +64,7 @@ letters_end text i end l =
 
 -- what was read stands before the words that are left
 abbrev pub StandsBefore : LettersState → List Token → ℕ → Type 0
-StandsBefore s ts end = (from : ℕ) × StandsAt s from × InOrder from ts end
+StandsBefore s ts end = (from : ℕ) × StandsAt s from × AreInOrder from ts end
 
 -- the same after the first of these words
 pub stands_after : (s new : LettersState) (text : List ℕ) (w : Place) (ws : List Place) (end : ℕ)
@@ -420,7 +420,7 @@ all_steps s all h = sym (h.steps ∙ append-nil s.steps)
 
 -- words in order have letters
 pub some_letters : (from end : ℕ) (text : List ℕ) (ws : List Place)
-    → InOrder from (as_tokens text ws) end → (length ws == 0) ≡ false
+    → AreInOrder from (as_tokens text ws) end → (length ws == 0) ≡ false
     → ¬ (letters_of (as_tokens text ws) ≡ [])
 some_letters from end text [] o l e = absurd (true≢false l)
 some_letters from end text (v ∷ ws) o l e = by_first_word (token_of text v).word o.1 e

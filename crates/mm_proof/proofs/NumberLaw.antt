@@ -43,7 +43,8 @@ made bs b n e b_is_last v =
       spelled = ap (λ z. z ++ b ∷ []) (bytes_from 0 bs);
       early = all_bytes xs ∙ ap (list_all is_early) (bytes_from 0 bs) ∙ e;
       last = b_is_last;
-      is = ap (λ z. z * 20 + (b - 64)) (fold_bytes 0 xs ∙ ap early_bytes (bytes_from 0 bs)) ∙ v;
+      value_is = ap (λ z. z * 20 + (b - 64)) (fold_bytes 0 xs ∙ ap early_bytes (bytes_from 0 bs))
+          ∙ v;
     }
 
 pub record IsSpelled (bs : List ℕ) (b n : ℕ) : Type 0 where
@@ -62,7 +63,7 @@ spelled bs b n is_number =
       is =
           ap₂ (λ z y. z * 20 + (y - 64))
           (ap early_bytes (sym p.0) ∙ sym (fold_bytes 0 is_number.group.early)) (sym p.1)
-          ∙ is_number.is;
+          ∙ is_number.value_is;
     }
 
 pub each_early : (bs : List ℕ) (i d : ℕ) → list_all is_early bs ≡ true → i < length bs
@@ -102,7 +103,7 @@ pub saturated_none : {E : Type 0} (r : Result ℕ E) (bs : List ℕ) (b v w : �
     → v ≡ saturated (early_bytes bs) → w ≡ saturated (20 * v + (b - 64))
     → IfNone (result_ok r) ((n : ℕ) → IsNumber (bs ++ b ∷ []) n → 4294967295 < n)
 saturated_none (Ok x) bs b v w o e f = tt
-saturated_none (Err x) bs b v w o e f = λ n h. by_size n (spelled bs b n h).is
+saturated_none (Err x) bs b v w o e f = λ n h. by_size n (spelled bs b n h).value_is
     (cases_lt w 4294967296)
   where
     by_size : (n : ℕ) → early_bytes bs * 20 + (b - 64) ≡ n → (w < 4294967296) ⊎ (4294967296 ≤ w)

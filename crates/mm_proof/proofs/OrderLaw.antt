@@ -21,7 +21,7 @@ use Rattle.mm_spec.specs.CompressedProof.{Compressed, bracketed, with_label, Let
 use Rattle.mm_spec.specs.CompressedProof.{letters_of, Group, is_early, is_last, groups, value}
 use Rattle.mm_spec.specs.CompressedProof.{starts_at, group_fault, group_faults, letter_faults}
 use Rattle.mm_spec.specs.CompressedProof.{compressed_faults}
-use Rattle.mm_proof.specs.Letters.{InOrder}
+use Rattle.mm_proof.specs.Letters.{AreInOrder}
 use Rattle.mm_proof.specs.Refused.{IsProofRefusal, StartsWith}
 use Rattle.mm_proof.specs.declared.refused.ProofRefused.{ProofRefused}
 use Rattle.mm_proof.specs.declared.refused.ProofRefused.TheVariants.{Fault as Faulty, Memory}
@@ -147,7 +147,7 @@ rise_word place end (b ∷ bs) rest r = (
       (rise_from (place + 1 + length bs) (place + suc (length bs)) end rest (omega arith) r),
 )
 
-letters_rise : (from end : ℕ) (ts : List Token) → InOrder from ts end
+letters_rise : (from end : ℕ) (ts : List Token) → AreInOrder from ts end
     → Rise from (letters_of ts) end
 letters_rise from end [] o = o
 letters_rise from end (t ∷ ts) o =
@@ -328,7 +328,7 @@ label_run db k t = by_usability (usable db k t.word)
     by_usability [] = one_run t.at (t.at + 1) t.at UnusableLabel (omega arith) (omega arith)
     by_usability (j ∷ js) = no_run t.at (t.at + 1)
 
-order_low : (from end : ℕ) (ts : List Token) → InOrder from ts end → from ≤ end
+order_low : (from end : ℕ) (ts : List Token) → AreInOrder from ts end → from ≤ end
 order_low from end [] o = o
 order_low from end (t ∷ ts) o =
     let h = o.0 in let k = order_low (t.at + length t.word) end ts o.2 in omega (arith, h, k)
@@ -340,7 +340,7 @@ module _ (db : List Statement) (k end : ℕ) where
       ++ elim p.letters
       [ None ↦ fault end OpenBrackets ∷ [] | Some us ↦ letter_faults n end (letters_of us) ]
 
-  brackets_run : (n from : ℕ) (ts : List Token) → InOrder from ts end
+  brackets_run : (n from : ℕ) (ts : List Token) → AreInOrder from ts end
       → Run from (end + 1) (faults_of n (bracketed ts))
   brackets_run n from [] o = one_run from (end + 1) end OpenBrackets o (omega arith)
   brackets_run n from (t ∷ ts) o =
@@ -374,7 +374,7 @@ module _ (db : List Statement) (k end : ℕ) where
           (from_run (t.at + 1) (t.at + length t.word) (end + 1) _ (omega (arith, long)) h))
 
   -- the first fault that is found is the first
-  pub first_fault : (from : ℕ) (ts : List Token) (e : ProofRefused) → InOrder from ts end
+  pub first_fault : (from : ℕ) (ts : List Token) (e : ProofRefused) → AreInOrder from ts end
       → StartsWith (compressed_faults db k end (bracketed ts)) e
       → IsProofRefusal (compressed_faults db k end (bracketed ts)) e
   first_fault from ts Memory o s = tt

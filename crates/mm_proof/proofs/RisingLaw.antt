@@ -21,7 +21,7 @@ use Rattle.mm_spec.specs.Output.{IsRead}
 use Rattle.mm_spec.proofs.OpenedLaw.{theorem_read}
 use Rattle.mm_spec.proofs.ListLaw.{pairs_head, pairs_tail}
 use Rattle.mm_outline.proofs.TokensLaw.{tokens_rising, tokens_are_words}
-use Rattle.mm_proof.specs.Letters.{InOrder}
+use Rattle.mm_proof.specs.Letters.{AreInOrder}
 use Rattle.mm_proof.proofs.LeastLaw.{Earlier, pairs_back}
 
 -- the words rise, and have bytes
@@ -161,7 +161,7 @@ proof_rising text db w fault is_read counts are k l p xs e ps d is =
     let a = f.0 in let b = f.1 in omega (arith, a, b)
 
 in_order : (from : ℕ) (ts : List Token) (d : Token) → AllPairs Follows (ts ++ d ∷ [])
-    → All (λ t. from ≤ t.at) (ts ++ d ∷ []) → InOrder from ts d.at
+    → All (λ t. from ≤ t.at) (ts ++ d ∷ []) → AreInOrder from ts d.at
 in_order from [] d p a = All-head (λ (t : Token). from ≤ t.at) d [] a
 in_order from (t ∷ ts) d p a =
     let after = pairs_head Follows t (ts ++ d ∷ []) p in (
@@ -181,7 +181,7 @@ pub proof_in_order : (text : List ℕ) (db : List Statement) (w : Bool) (fault :
     → IsRead (length text) (lexed_of text) db fault → (counts : List Statement)
     → counts ≡ counted w db
     → (k : ℕ) (l : Token) (p : ℕ) (xs : List Token) (e : ℕ) (ps : List Token) (d : ℕ)
-    → slice_get counts k ≡ Some (provable l p xs e ps d) → InOrder 0 ps d
+    → slice_get counts k ≡ Some (provable l p xs e ps d) → AreInOrder 0 ps d
 proof_in_order text db w fault r counts are k l p xs e ps d is =
     in_order 0 ps (token d (codes "$."))
     (proof_follows text db fault r k l p xs e ps d (was_read db w counts are k l p xs e ps d is))

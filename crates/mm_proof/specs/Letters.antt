@@ -55,8 +55,7 @@ Begins (Some b) early =
     × (b.value ≡ saturated (early_value early))
 
 -- Of the letters `all`, the letters `unread` are left to be read. The steps of `all` are the steps
--- so
--- far and those of `unread`, and the faults of `all` are those of `unread`.
+-- so far and those of `unread`, and the faults of `all` are those of `unread`.
 pub record Continues (s : LettersState) (all unread : List Letter) : Type 0 where
   pub early : List Letter
   pub begins : Begins s.number early
@@ -106,16 +105,16 @@ RefusesLetters old xs e =
     → StartsWith (group_faults (length old.labels) 0 0 (groups [] all).0) e
 
 -- the step that a number names, if it names one
-abbrev pub named_steps : Option Step → List spec.Step
-named_steps None = []
-named_steps (Some s) = as_step s ∷ []
+abbrev pub step_as_list : Option Step → List spec.Step
+step_as_list None = []
+step_as_list (Some s) = as_step s ∷ []
 
 -- from place `from` on, each token is a word that isn't empty and doesn't begin before the end of
 -- the one before it, and none goes past `end`
-abbrev pub InOrder : ℕ → List Token → ℕ → Type 0
-InOrder from [] end = from ≤ end
-InOrder from (t ∷ ts) end =
-    (from ≤ t.at) × (1 ≤ length t.word) × InOrder (t.at + length t.word) ts end
+abbrev pub AreInOrder : ℕ → List Token → ℕ → Type 0
+AreInOrder from [] end = from ≤ end
+AreInOrder from (t ∷ ts) end =
+    (from ≤ t.at) × (1 ≤ length t.word) × AreInOrder (t.at + length t.word) ts end
 
 -- brackets that are closed, and the letters after them
 abbrev pub closed_brackets : List Token → List Token → Compressed

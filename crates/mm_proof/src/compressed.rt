@@ -5,7 +5,7 @@ ghost use Rattle.mm_spec.specs.CompressedProof.{bracketed, compressed_faults, co
 ghost use Rattle.mm_spec.specs.Output.{is_theorem_at};
 ghost use Rattle.mm_outline.specs.Parts.{as_tokens, AreWithin};
 ghost use Rattle.mm_steps.specs.Read.{read};
-ghost use Rattle.mm_proof.specs.Letters.{InOrder, ReadsLabels};
+ghost use Rattle.mm_proof.specs.Letters.{AreInOrder, ReadsLabels};
 ghost use Rattle.mm_proof.specs.Refused.{StartsWith};
 
 use crate::labels::usable_label;
@@ -72,7 +72,7 @@ pub(crate) fn read_compressed<A: Allocator + Copy>(
 ) -> Result<Steps<A>, ProofRefused>
     requires theorem { IsTrue (is_theorem_at database.now.statements theorem) }
     requires within { AreWithin database.now.text words.now }
-    requires in_order { InOrder 0 (as_tokens database.now.text words.now) end }
+    requires in_order { AreInOrder 0 (as_tokens database.now.text words.now) end }
     ensures steps { IfOk result
         (λ s. s ≡ read theorem
         (compressed_steps database.now.statements theorem

@@ -8,8 +8,9 @@ ghost use Rattle.mm_outline.specs.Parts.{as_tokens, AreWithin};
 ghost use Rattle.mm_steps.specs.Read.{read, as_step, IsEarlier};
 ghost use Rattle.mm_proof.specs.Number.{IsLetter, saturated};
 ghost use Rattle.mm_proof.specs.declared.digits.LetterKind.TheVariants.{Last};
-ghost use Rattle.mm_proof.specs.Letters.{letters_state, letter, with_number, named_steps, if_begun};
-ghost use Rattle.mm_proof.specs.Letters.{InOrder, StandsAt, IsReadUpTo, BeginsAt};
+ghost use Rattle.mm_proof.specs.Letters.{letters_state, letter, with_number, step_as_list};
+ghost use Rattle.mm_proof.specs.Letters.{if_begun};
+ghost use Rattle.mm_proof.specs.Letters.{AreInOrder, StandsAt, IsReadUpTo, BeginsAt};
 ghost use Rattle.mm_proof.specs.Letters.{word_letters, ReadsLetters, ReadsAllLetters};
 ghost use Rattle.mm_proof.specs.Letters.{RefusesLetters};
 ghost use Rattle.mm_proof.specs.Refused.{StartsWith};
@@ -35,7 +36,7 @@ pub(crate) struct BegunNumber {
     value: u64,
 }
 
-/// A number with one more digit.
+/// Returns a number with one more digit.
 fn with_next_digit(number: BegunNumber, base: u64, digit: u64) -> BegunNumber
     requires base { base ≤ 20 }
     requires digit { digit ≤ 20 }
@@ -67,6 +68,7 @@ pub(crate) struct LettersRead<A: Allocator> {
     labels: Vec<u32, A>,
     /// The steps that were marked, one for each `Z`.
     marks: Vec<u32, A>,
+    /// The steps that the numbers so far stand for.
     steps: Steps<A>,
 }
 
@@ -81,8 +83,8 @@ impl<A: Allocator> Model for LettersRead<A> {
 }
 
 impl<A: Allocator> LettersRead<A> {
-    /// No letters read yet, of at most `max_letters` letters. `labels` has the statements whose
-    /// labels have numbers.
+    /// Returns the state in which no letters are read yet, of at most `max_letters`. `labels` has
+    /// the statements whose labels have numbers.
     pub(crate) fn none(alloc: A, theorem: u32, labels: Vec<u32, A>, max_letters: usize) -> Self
     where
         A: Copy,
@@ -102,12 +104,12 @@ impl<A: Allocator> LettersRead<A> {
         self.steps
     }
 
-    /// The step that a number names, if it names one. `value` is the number's value, or the
+    /// Returns the step that a number names, if it names one. `value` is the number's value, or the
     /// greatest 64-bit number if that is smaller.
     fn step_named(&self, value: u64) -> Option<Step>
         requires { 0 < value }
         ensures step { (n : ℕ) → value ≡ saturated n
-            → step_of self.now.labels self.now.marks n ≡ named_steps result }
+            → step_of self.now.labels self.now.marks n ≡ step_as_list result }
         ensures large { IfNone result
             ((n : ℕ) → value ≡ saturated n → length self.now.labels + length self.now.marks < n) }
         ensures earlier { IfSome result
@@ -247,7 +249,7 @@ impl<A: Allocator> LettersRead<A> {
         end: u32,
     ) -> Result<(), ProofRefused>
         requires within { AreWithin text.now words.now }
-        requires in_order { InOrder 0 (as_tokens text.now words.now) end }
+        requires in_order { AreInOrder 0 (as_tokens text.now words.now) end }
         requires none { self.old ≡ letters_state self.old.theorem self.old.labels [] None [] }
         ensures reads { OnOk result
             (ReadsAllLetters self.old (letters_of (as_tokens text.now words.now)) end self.new) }

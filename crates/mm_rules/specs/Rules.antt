@@ -121,9 +121,9 @@ no_ranges =
 -- `n` is the number of the rule of assertion `a`
 pub record IsRuleNumber (l : RuleLists) (n a : ℕ) : Type 0 where
   pub inside : n < length l.ranges
-  pub is : (get_or l.ranges n no_ranges).assertion ≡ a
+  pub assertion_is : (get_or l.ranges n no_ranges).assertion ≡ a
 
 -- the rule is that of assertion `a`
 pub record IsRuleOf (db : List Statement) (c : CompiledRule) (a : ℕ) : Type 0 where
   pub is_compiled : IsCompiled db c
-  pub is : c.assertion ≡ a
+  pub assertion_is : c.assertion ≡ a

@@ -40,6 +40,7 @@ pub struct IndexRange {
 /// The ranges of a rule in the lists of all rules.
 #[derive(Clone, Copy, Drop)]
 pub struct RuleRanges {
+    /// The assertion whose rule this is.
     pub assertion: u32,
     pub hypotheses: IndexRange,
     pub pairs: IndexRange,
@@ -49,6 +50,7 @@ pub struct RuleRanges {
 
 /// The rules of the assertions of a database, as far as they are held. The workers share them.
 pub struct Rules<A: Allocator> {
+    /// The ranges of each rule in the lists below, which all rules share.
     ranges: Vec<RuleRanges, A>,
     hypotheses: Vec<Hypothesis, A>,
     pairs: Vec<(u32, u32), A>,
@@ -85,7 +87,7 @@ fn element_limit<A: Allocator>(database: &Database<A>) -> usize {
     MIN_LIMIT.max(database.text().len() / BYTES_FOR_ONE_ELEMENT)
 }
 
-/// About how long the lists of all rules will be.
+/// About how long the lists of all rules will be, so that they needn't be moved as they grow.
 #[derive(Drop)]
 struct Lengths {
     rules: usize,

@@ -78,6 +78,7 @@ pub(crate) fn kinds_of<A: Allocator + Copy>(
     Ok(kinds)
 }
 
+/// Whether a statement of this kind is a theorem.
 fn is_theorem(kind: Kind) -> bool
     ensures { result ≡ is_theorem_kind kind }
 {

@@ -1,4 +1,4 @@
-//! The labels of the theorems side by side.
+//! The labels of the theorems, each after a space, side by side in one list.
 
 ghost use Rattle.std.specs.Prelude.{◌≡◌, ◌<◌, ◌-◌, ◌∷◌, All, IfOk, IsTrue, length, map};
 ghost use Rattle.mm_spec.specs.Output.{is_theorem_at, label_at};
@@ -23,7 +23,7 @@ fn label_of<'a>(text: &'a [u8], tokens: &[Word], outlines: &[Outline], theorem: 
     word.bytes(text)
 }
 
-/// Returns the labels of the theorems, side by side.
+/// Returns the labels of the theorems, each after a space, side by side in one list.
 pub fn spaced_labels_of<A: Allocator + Copy>(
     alloc: A,
     text: &[u8],

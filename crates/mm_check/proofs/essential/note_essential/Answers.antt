@@ -20,7 +20,7 @@ loop-i-init g c =
     rw c.len-i.ensures
     (walk_start c.args.database.now.statements c.args.theorem steps c.requires.steps.complete
     c.reset_flags.new.entry_flags.items c.reset_flags.new.step_flags.items c.clear.new.self
-    c.requires.steps.are c.requires.valid c.in_ok-reset_flags.ensures.entry_flags step_flags
+    c.requires.steps.steps_are c.requires.valid c.in_ok-reset_flags.ensures.entry_flags step_flags
     c.clear.ensures)
 
 pub pop_flag-flag-requires : goal.pop_flag-flag-requires

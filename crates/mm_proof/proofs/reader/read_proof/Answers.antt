@@ -3,7 +3,7 @@ use Rattle.std.proofs.Common.{false, suc, arith, Some}
 use Rattle.mm_spec.specs.CompressedProof.{bracketed, compressed_faults}
 use Rattle.mm_spec.specs.Citation.{reading_faults_at}
 use Rattle.mm_outline.specs.Parts.{as_tokens, token_of, AreWithin}
-use Rattle.mm_proof.specs.Letters.{InOrder}
+use Rattle.mm_proof.specs.Letters.{AreInOrder}
 use Rattle.mm_proof.specs.Refused.{IsProofRefusal}
 use Rattle.mm_proof.proofs.RisingLaw.{proof_rising, proof_in_order}
 use Rattle.mm_proof.proofs.OrderLaw.{first_fault}
@@ -39,10 +39,10 @@ read_compressed-requires-clause-in_order g c =
     let t = theorem_is db c.args.theorem _ c.requires c.proof_words-words.ensures.words in
     let e = end_is db c.args.theorem c.end_at-end.result _ t c.end_at-end.ensures in
     let whole =
-    subst (λ ws. InOrder 0 (as_tokens text ws) t.dot) c.in-Some.ensures.cases.0
+    subst (λ ws. AreInOrder 0 (as_tokens text ws) t.dot) c.in-Some.ensures.cases.0
     (proof_in_order text c.args.database.now.read c.args.database.now.with_open _ c.len.ensures.read
     db c.len.ensures.counted c.args.theorem t.label t.keyword t.symbols t.equals _ t.dot t.is) in
-    subst (InOrder 0 (as_tokens text c.in-Some.rest.now)) e
+    subst (AreInOrder 0 (as_tokens text c.in-Some.rest.now)) e
     (order_rest text c.in-Some.first.now c.in-Some.rest.now 0 t.dot whole)
 
 pub returns-then-eq-clause-fault : goal.returns-then-eq-clause-fault
@@ -54,10 +54,11 @@ returns-then-eq-clause-fault g c =
     let t = theorem_is db c.args.theorem _ c.requires c.proof_words-words.ensures.words in
     let e = end_is db c.args.theorem c.end_at-end.result _ t c.end_at-end.ensures in
     let whole =
-    subst (λ ws. InOrder 0 (as_tokens text ws) t.dot) c.in-Some.ensures.cases.0
+    subst (λ ws. AreInOrder 0 (as_tokens text ws) t.dot) c.in-Some.ensures.cases.0
     (proof_in_order text c.args.database.now.read c.args.database.now.with_open _ c.len.ensures.read
     db c.len.ensures.counted c.args.theorem t.label t.keyword t.symbols t.equals _ t.dot t.is) in
-    let order = subst (InOrder 0 rest) e (order_rest text first c.in-Some.rest.now 0 t.dot whole) in
+    let order = subst (AreInOrder 0 rest) e (order_rest text first c.in-Some.rest.now 0 t.dot whole)
+    in
     let label = c.bytes.ensures ∙ ap (λ t. slice_range t first.start first.end) c.text.ensures in
     let test : bytes_eq (slice_range text first.start first.end) (codes "(") ≡ true =
     ap₂ bytes_eq (sym label) (sym c.as_slice.ensures) ∙ sym c.eq.ensures ∙ c.if-eq.true in

@@ -36,7 +36,7 @@ returns-in_err-apply-clause-stopped g c =
     (stops db t (checker_state i.machine i.rules.now i.noted i.cache) c.args.assertion
     c.requires.good
     c.requires.assertion e
-    (subst (λ a. Stops e (applied db t a i.machine.stack)) c.rule_of-rule.ensures.is
+    (subst (λ a. Stops e (applied db t a i.machine.stack)) c.rule_of-rule.ensures.assertion_is
     c.in_err-apply.ensures.step.stopped))
 
 pub returns-clause-at : goal.returns-clause-at
@@ -60,7 +60,7 @@ returns-clause-performs g c =
           (applies db t _ c.args.assertion c.requires.good c.requires.assertion c.apply.new.self
           c.add.new.self c.apply.new.cache
           (subst (λ a. applied db t a c.self.inside.machine.stack ≡ Ok c.apply.new.self.stack)
-          c.rule_of-rule.ensures.is ok.entries_are) ok.marks ok.formulas ok.entry
+          c.rule_of-rule.ensures.assertion_is ok.entries_are) ok.marks ok.formulas ok.entry
           w.in-Ok-add.ensures)
       | in-Err-add w ↦ rw w.result-is tt
     ]
