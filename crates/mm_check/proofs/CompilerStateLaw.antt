@@ -21,8 +21,8 @@ module _ (db : List Statement) (t j : ℕ) where
     pub stands : slice_get db j ≡ Some statement
     pub rule : rule_at db t j ≡ rule_of db j statement
 
-  stands_at : IsGood (context_at db t) (rule_at db t j) → Stands
-  stands_at good = by_activity (is_active db j t) refl (slice_get db j) refl good
+  good_label_stands : IsGood (context_at db t) (rule_at db t j) → Stands
+  good_label_stands good = by_activity (is_active db j t) refl (slice_get db j) refl good
     where
       out : Bool → Option Statement → Option Rule
       out b o = elim b [ false ↦ None | true ↦ elim o [ None ↦ None | Some s ↦ rule_of db j s ] ]
@@ -39,7 +39,7 @@ module _ (db : List Statement) (t j : ℕ) where
           }
 
   pub good_below : IsGood (context_at db t) (rule_at db t j) → j < length db
-  good_below good = let s = stands_at good in inside_of db j s.statement s.stands
+  good_below good = let s = good_label_stands good in inside_of db j s.statement s.stands
 
   at_is : (s : Statement) (b : Bool) → slice_get db j ≡ Some s → is_assertion_at db j ≡ b
       → list_any is_assertion (s ∷ []) ≡ b
@@ -49,7 +49,8 @@ module _ (db : List Statement) (t j : ℕ) where
   pub assertion_rule : is_assertion_at db j ≡ true → IsGood (context_at db t) (rule_at db t j)
       → rule_at db t j ≡ Some (assertion (frame_at db j))
   assertion_rule is good =
-      let s = stands_at good in s.rule ∙ by_statement s.statement (at_is s.statement true s.stands
+      let s = good_label_stands good in s.rule
+      ∙ by_statement s.statement (at_is s.statement true s.stands
       is)
     where
       by_statement : (s : Statement) → list_any is_assertion (s ∷ []) ≡ true
@@ -61,7 +62,7 @@ module _ (db : List Statement) (t j : ℕ) where
   pub hypothesis_rule : is_assertion_at db j ≡ false → IsGood (context_at db t) (rule_at db t j)
       → rule_at db t j ≡ Some (hypothesis (formula_at db j))
   hypothesis_rule is good =
-      let s = stands_at good in
+      let s = good_label_stands good in
       s.rule ∙ by_statement s.statement (at_is s.statement false s.stands is)
       (subst (IsGood (context_at db t)) s.rule good)
     where

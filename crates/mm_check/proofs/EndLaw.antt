@@ -26,24 +26,26 @@ use Rattle.mm_check.specs.IsReached.{IsReached, AreStepsOf, steps_of}
 use Rattle.mm_check.specs.Checker.{CheckerState, checker_state, AreOfDatabase, HasPerformed}
 use Rattle.mm_check.proofs.CitesLaw.{all_cited}
 use Rattle.mm_check.proofs.RanLaw.{none_ran}
-use Rattle.mm_check.proofs.ReachLaw.{derives, ends_with, end_is}
+use Rattle.mm_check.proofs.ReachLaw.{end_derives, ends_with, end_is}
 
 module _ (db : List Statement) (t : ℕ) (steps : List PlacedStep) where
   -- no step is performed yet
-  pub begins : (m : MachineState) (rules : RuleLists) (noted : List ℕ) (cache : List (ℕ × ℕ))
+  pub no_step_performed : (m : MachineState) (rules : RuleLists) (noted : List ℕ)
+      (cache : List (ℕ × ℕ))
       → (symbol_count : ℕ)
       → AreOfDatabase db symbol_count rules → AreStepsOf db t steps → m
       ≡ machine_state [] [] [] symbol_count → noted ≡ []
       → AreDisjointAt db t cache → HasPerformed db t steps 0 (checker_state m rules noted cache)
-  begins m rules noted cache symbol_count of_database are fresh none are_disjoint_at = record {
-    at = record {
-      made_for = rw fresh of_database;
-      theorem = by_statement (slice_get db t) refl are.theorem;
-      disjoint_are = are_disjoint_at;
-    };
-    are_steps = are;
-    ran = none_ran db t steps m noted symbol_count fresh none;
-  }
+  no_step_performed m rules noted cache symbol_count of_database are fresh none are_disjoint_at =
+      record {
+        at = record {
+          made_for = rw fresh of_database;
+          theorem = by_statement (slice_get db t) refl are.theorem;
+          disjoint_are = are_disjoint_at;
+        };
+        are_steps = are;
+        ran = none_ran db t steps m noted symbol_count fresh none;
+      }
     where
       by_statement : (o : Option Statement) → slice_get db t ≡ o
           → list_any is_theorem (elim o [ None ↦ [] | Some s ↦ s ∷ [] ]) ≡ true → t < length db
@@ -68,7 +70,7 @@ module _ (db : List Statement) (t : ℕ) (steps : List PlacedStep) where
         all.forest,
         subst (λ ps. Derives (context_at db t) (steps_of ps) (formula_at db t) all.forest)
             p.are_steps.steps_are
-            (derives db t steps c.machine.stack ends c.noted all (formula_at db t) one),
+            (end_derives db t steps c.machine.stack ends c.noted all (formula_at db t) one),
       )
 
       pub cites_are : (a : ℕ) → Decides (is_member c.noted a) (Cites db false t a)

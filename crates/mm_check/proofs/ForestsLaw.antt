@@ -24,14 +24,14 @@ last_tree (more ts l f cs) = tree l f cs
 -- ---- lists
 
 -- two ways to cut one list
-cuts : (xs ys us vs : List ℕ) → xs ++ ys ≡ us ++ vs
+two_cuts : (xs ys us vs : List ℕ) → xs ++ ys ≡ us ++ vs
     → ((k : List ℕ) × (xs ≡ us ++ k)) ⊎ ((k : List ℕ) × (us ≡ xs ++ k) × (ys ≡ k ++ vs))
-cuts [] ys us vs e = inr (us, refl, e)
-cuts (x ∷ xs) ys [] vs e = inl (x ∷ xs, refl)
-cuts (x ∷ xs) ys (u ∷ us) vs e =
+two_cuts [] ys us vs e = inr (us, refl, e)
+two_cuts (x ∷ xs) ys [] vs e = inl (x ∷ xs, refl)
+two_cuts (x ∷ xs) ys (u ∷ us) vs e =
     let h : x ≡ u = cc in
     let t : xs ++ ys ≡ us ++ vs = cc in
-    by_cut h (cuts xs ys us vs t)
+    by_cut h (two_cuts xs ys us vs t)
   where
     by_cut : x ≡ u → ((k : List ℕ) × (xs ≡ us ++ k))
         ⊎ ((k : List ℕ) × (us ≡ xs ++ k) × (ys ≡ k ++ vs))
@@ -91,7 +91,8 @@ module _ (c : Context) where
   front_row none [] rest are_derivations e = (none, tt, refl)
   front_row none (x ∷ old) rest are_derivations e = absurd (cc)
   front_row (more ts l f cs) old rest d e =
-      by_cut (cuts (postfix ts) (postfix cs ++ l ∷ []) old rest e) (λ k q. front_row ts old k d.0 q)
+      by_cut (two_cuts (postfix ts) (postfix cs ++ l ∷ []) old rest e)
+      (λ k q. front_row ts old k d.0 q)
       (λ old' k q. front_row cs old' k d.1 q)
     where
       whole : (k m : List ℕ) → old ≡ postfix ts ++ k → k ≡ postfix cs ++ m → l ∷ [] ≡ m ++ rest
@@ -130,7 +131,7 @@ module _ (c : Context) where
           → ((old' k : List ℕ) → postfix cs ≡ old' ++ k → RowOf old') → RowOf old
       by_cut (inl p) on in_children = on p.0 p.1
       by_cut (inr p) on in_children =
-          inner p.0 p.1 (cuts (postfix cs) (l ∷ []) p.0 rest p.2) in_children
+          inner p.0 p.1 (two_cuts (postfix cs) (l ∷ []) p.0 rest p.2) in_children
 
   -- the plain list only grows
   adds_more : (lists : List (List ℕ)) (old : List ℕ) (s : Step) (new : List ℕ)
@@ -284,11 +285,12 @@ module _ (c : Context) where
         so_many : length forests + suc (length steps) ≡ length (forests ++ next ∷ []) + length steps
         so_many = omega (arith, many)
 
-    build : (steps : List Step) (lists : List (List ℕ)) (forests : List Trees) (forest d : Trees)
+    forests_built : (steps : List Step) (lists : List (List ℕ)) (forests : List Trees)
+        (forest d : Trees)
         → Are lists forests → AreDerivations c forest → forest_at forests (length forests) ≡ forest
         → AreDerivations c d → Plain c lists (postfix forest) steps (postfix d)
         → Built forests steps d
-    build [] lists forests forest d a dr here dd h =
+    forests_built [] lists forests forest d a dr here dd h =
         let n : length forests + 0 ≡ length forests = omega arith in
         record {
           rest = [];
@@ -298,11 +300,11 @@ module _ (c : Context) where
               ∙ forest_front forests [] (length forests) (omega arith) ∙ here
               ∙ sym (same_forest c fine d forest dd dr h);
         }
-    build (s ∷ steps) lists forests forest d a dr here dd h =
+    forests_built (s ∷ steps) lists forests forest d a dr here dd h =
         let tail = plain_more steps (lists ++ h.0 ∷ []) h.0 (postfix d) h.2 in
         let r = front_row d h.0 tail.0 dd tail.1 in
         built_more lists forests forest d s steps a dr here h.0 h.1 r.0 r.1 r.2
-        (λ at_next. build steps (lists ++ h.0 ∷ []) (forests ++ r.0 ∷ []) r.0 d
+        (λ at_next. forests_built steps (lists ++ h.0 ∷ []) (forests ++ r.0 ∷ []) r.0 d
         (are_more lists forests h.0 r.0 a r.1 r.2) r.1 at_next dd
         (subst (λ z. Plain c (lists ++ h.0 ∷ []) z steps (postfix d)) (sym r.2) h.2))
 
@@ -310,7 +312,7 @@ module _ (c : Context) where
     pub proof_rows : (steps : List Step) (f : Formula) (d : Trees) → Derives c steps f d
         → (forests : List Trees) × AreMoves forests 0 steps × (forest_at forests (length steps) ≡ d)
     proof_rows steps f d h =
-        let b = build steps [] [] none d tt tt refl h.3 h.4 in
+        let b = forests_built steps [] [] none d tt tt refl h.3 h.4 in
         let count : length steps ≡ 0 + length steps = omega arith in
         (b.rest, b.moves, ap (forest_at b.rest) count ∙ b.last)
 

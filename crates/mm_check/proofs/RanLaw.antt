@@ -21,7 +21,8 @@ use Rattle.mm_check.specs.Contract.{IsReady, StepRefuses, refusal_at}
 use Rattle.mm_check.specs.Checker.{CheckerState, checker_state, IsAtTheorem, HasPerformed, Performs}
 use Rattle.mm_check.specs.Checker.{IsStopped}
 use Rattle.mm_check.specs.IsReached.{IsReached, HasRun, AreEndFormulas, steps_of}
-use Rattle.mm_check.proofs.ReachLaw.{starts, next, take_step, good_here, fails}
+use Rattle.mm_check.proofs.ReachLaw.{no_step_reached, next, take_step, step_at_is_good}
+use Rattle.mm_check.proofs.ReachLaw.{failing_step_refuses}
 
 get_front : (ends more : List Formula) (j : ℕ) (f : Formula) → slice_get ends j ≡ Some f
     → slice_get (ends ++ more) j ≡ Some f
@@ -60,9 +61,9 @@ agree_push ends (j ∷ marks) [] i f h e = absurd h
 agree_push ends (j ∷ marks) (g ∷ formulas) i f h e = (h.0, agree_push ends marks formulas i f h.1 e)
 
 -- a step that takes up an earlier one marks it
-takes_here : (steps : List PlacedStep) (i j : ℕ) → i < length steps
+repeated_step_is_marked : (steps : List PlacedStep) (i j : ℕ) → i < length steps
     → (step_at steps i).step ≡ marked j → is_marked steps j ≡ true
-takes_here steps i j h e =
+repeated_step_is_marked steps i j h e =
     list_any_at (λ s. takes_up j s.step) steps i (placed 0 (label 0)) h
     (ap (takes_up j) e ∙ eq-eqb j j refl)
 
@@ -71,12 +72,13 @@ module _ (db : List Statement) (t : ℕ) (steps : List PlacedStep) (i : ℕ) (c 
     (is : a ≡ (step_at steps i).step) where
   good_step : IsGoodStep (context_at db t) (length p.ran.ends) a
   good_step =
-      good_here (context_at db t) steps i (length p.ran.ends) a inside p.are_steps.good p.ran.count
+      step_at_is_good (context_at db t) steps i (length p.ran.ends) a inside p.are_steps.good
+      p.ran.count
       is
 
   -- the step can be made
-  pub ready : IsReady (context_at db t) c.machine.marks a
-  ready = by_step_kind a is good_step
+  pub step_is_ready : IsReady (context_at db t) c.machine.marks a
+  step_is_ready = by_step_kind a is good_step
     where
       by_step_kind : (a : Step) → a ≡ (step_at steps i).step
           → IsGoodStep (context_at db t) (length p.ran.ends) a
@@ -84,7 +86,7 @@ module _ (db : List Statement) (t : ℕ) (steps : List PlacedStep) (i : ℕ) (c 
       by_step_kind (label l) is g = g
       by_step_kind (marked j) is g =
           p.ran.present j (let c = p.ran.count in omega (arith, g, c))
-          (takes_here steps i j inside (sym is))
+          (repeated_step_is_marked steps i j inside (sym is))
 
   -- the fault of a step that was stopped
   pub stops_here : (at : ℕ) (e : StepRefused) → at ≡ (step_at steps i).at → IsStopped db t a c e
@@ -92,7 +94,8 @@ module _ (db : List Statement) (t : ℕ) (steps : List PlacedStep) (i : ℕ) (c 
   stops_here at Memory e stop = tt
   stops_here at (Fault reason) e stop =
       rw e
-      (fails db t steps i c.machine.stack p.ran.ends c.noted (reason_of reason) inside p.ran.reached
+      (failing_step_refuses db t steps i c.machine.stack p.ran.ends c.noted (reason_of reason)
+      inside p.ran.reached
       (subst (IsGoodStep (context_at db t) (length p.ran.ends)) is good_step)
       (subst (λ z. step_entries (context_at db t) z p.ran.ends c.machine.stack
       ≡ Err (reason_of reason)) is (stop p.ran.ends p.ran.agree)))
@@ -194,7 +197,7 @@ pub none_ran : (db : List Statement) (t : ℕ) (steps : List PlacedStep) (s : Ma
 none_ran db t steps s noted w e n = rw e (record {
   ends = [];
   count = refl;
-  reached = starts db t [] [] noted refl refl n;
+  reached = no_step_reached db t [] [] noted refl refl n;
   agree = tt;
   before = All-nil (λ j. j < 0);
   present = λ j l m. absurd (omega arith);

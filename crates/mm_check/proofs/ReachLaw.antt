@@ -28,17 +28,17 @@ use Rattle.mm_rule.specs.Assertions.{is_assertion_at}
 use Rattle.mm_check.specs.Contract.{is_labelled_step}
 use Rattle.mm_check.specs.IsReached.{IsReached, steps_of}
 
-or_weak : (a b : Bool) → (b ≡ true → a ≡ true) → (a || b) ≡ (a || false)
-or_weak true b f = refl
-or_weak false true f = sym (f refl)
-or_weak false false f = refl
+or_without_implied : (a b : Bool) → (b ≡ true → a ≡ true) → (a || b) ≡ (a || false)
+or_without_implied true b f = refl
+or_without_implied false true f = sym (f refl)
+or_without_implied false false f = refl
 
-spread : (a b c : Bool) → ((a && c) || (b && c)) ≡ ((a || b) && c)
-spread true true true = refl
-spread true true false = refl
-spread true false true = refl
-spread true false false = refl
-spread false b c = refl
+or_distributes : (a b c : Bool) → ((a && c) || (b && c)) ≡ ((a || b) && c)
+or_distributes true true true = refl
+or_distributes true true false = refl
+or_distributes true false true = refl
+or_distributes true false false = refl
+or_distributes false b c = refl
 
 abbrev Within : List (List ℕ) → List ℕ → Type 0
 Within lists all =
@@ -71,7 +71,7 @@ module _ (c : Context) where
       ∙ ap (λ b. is_member old a || b) (or-false (a == l))
   adds_member lists old new (marked j) h w a =
       ap (λ z. is_member z a) h.4 ∙ list_any-append (λ y. a == y) old h.1
-      ∙ or_weak (is_member old a) (is_member h.1 a)
+      ∙ or_without_implied (is_member old a) (is_member h.1 a)
       (λ m. within_at lists old h.0 j w h.2 a
       (subst (λ z. is_member z a ≡ true) h.3.2 (last_member h.3.0 h.1 a h.3.3 m)))
 
@@ -110,19 +110,20 @@ next db t steps_so_far stack ends noted s out then is_reached good entries_are n
       noted_are =
           λ a. notes a
           ∙ ap (λ b. b || (is_labelled_step s a && is_assertion_at db a)) (is_reached.noted_are a)
-          ∙ spread (is_member (postfix is_reached.forest) a) (is_labelled_step s a)
+          ∙ or_distributes (is_member (postfix is_reached.forest) a) (is_labelled_step s a)
           (is_assertion_at db a)
           ∙ ap (λ b. b && is_assertion_at db a) (sym (members a));
     }
 
 -- a step that fails
-pub fails : (db : List Statement) (t : ℕ) (steps : List PlacedStep) (i : ℕ)
+pub failing_step_refuses : (db : List Statement) (t : ℕ) (steps : List PlacedStep) (i : ℕ)
     → (stack ends : List Formula) (noted : List ℕ) (reason : Reason)
     → i < length steps → IsReached db t (steps_of (take i steps)) stack ends noted
     → IsGoodStep (context_at db t) (length ends) (step_at steps i).step
     → step_entries (context_at db t) (step_at steps i).step ends stack ≡ Err reason
     → StepFault (context_at db t) steps (fault (step_at steps i).at (code_of reason))
-fails db t steps i stack ends noted reason i_lt_length_steps is_reached good entries_are =
+failing_step_refuses db t steps i stack ends noted reason i_lt_length_steps is_reached good
+    entries_are =
     let c = context_at db t in
     let s = step_at steps i in
     let same : step_entries c s.step ends (formulas is_reached.forest) ≡ Err reason =
@@ -145,7 +146,7 @@ fails db t steps i stack ends noted reason i_lt_length_steps is_reached good ent
           (append-nil (steps_of (take i steps)))
           (is_reached.plain [] (postfix is_reached.forest) refl);
       reason = reason;
-      fails = g;
+      failing_step_refuses = g;
       is = refl;
     }
 
@@ -156,9 +157,9 @@ module _ (db : List Statement) (t : ℕ) (steps : List PlacedStep) (stack ends :
       subst (λ z. Plain (context_at db t) [] [] z (postfix r.forest)) (append-nil (steps_of steps))
       (r.plain [] (postfix r.forest) refl)
 
-  pub derives : (f : Formula) → stack ≡ f ∷ []
+  pub end_derives : (f : Formula) → stack ≡ f ∷ []
       → Derives (context_at db t) (steps_of steps) f r.forest
-  derives f e = one r.forest r.derivations (r.entries_are ∙ e) plain_all
+  end_derives f e = one r.forest r.derivations (r.entries_are ∙ e) plain_all
     where
       two : (xs : List Formula) (h g : Formula) → ¬ ((xs ++ h ∷ []) ++ g ∷ [] ≡ f ∷ [])
       two xs h g e =
@@ -180,7 +181,8 @@ module _ (db : List Statement) (t : ℕ) (steps : List PlacedStep) (stack ends :
     derivations = r.derivations;
     plain = plain_all;
     code = code;
-    fails = subst (λ z. IsEndCode (context_at db t) z formula code) (sym r.entries_are) is_end_code;
+    failing_step_refuses = subst (λ z. IsEndCode (context_at db t) z formula code)
+        (sym r.entries_are) is_end_code;
     is = refl;
   }
 
@@ -195,9 +197,10 @@ good_at c n (s ∷ steps) (suc i) h g =
     subst (λ m. IsGoodStep c m (step_at steps i).step) e
     (good_at c (suc n) steps i (omega arith) g.1)
 
-pub good_here : (c : Context) (steps : List PlacedStep) (i n : ℕ) (s : Step) → i < length steps
+pub step_at_is_good : (c : Context) (steps : List PlacedStep) (i n : ℕ) (s : Step) → i
+    < length steps
     → AreGoodSteps c 0 (steps_of steps) → n ≡ i → s ≡ (step_at steps i).step → IsGoodStep c n s
-good_here c steps i n s h g e is =
+step_at_is_good c steps i n s h g e is =
     let f : 0 + i ≡ n = omega arith in
     subst (λ z. IsGoodStep c n z) (sym is)
     (subst (λ m. IsGoodStep c m (step_at steps i).step) f (good_at c 0 steps i h g))
@@ -209,9 +212,9 @@ take_step steps i h =
     ∙ map-append (λ s. s.step) (take i steps) (step_at steps i ∷ [])
 
 -- no step so far
-pub starts : (db : List Statement) (t : ℕ) (stack ends : List Formula) (noted : List ℕ)
+pub no_step_reached : (db : List Statement) (t : ℕ) (stack ends : List Formula) (noted : List ℕ)
     → stack ≡ [] → ends ≡ [] → noted ≡ [] → IsReached db t [] stack ends noted
-starts db t stack ends noted e f n =
+no_step_reached db t stack ends noted e f n =
     rw (e, f, n)
     (record {
       forest = none;

@@ -23,13 +23,14 @@ module _ (db : List Statement) (t : ℕ) where
   one_more : (es : List Formula) (f : Formula) → 0 < length (es ++ f ∷ [])
   one_more es f = omega (arith, length-append es (f ∷ []))
 
-  pub repeats : (c : CheckerState) (j n : ℕ) (m : MachineState) → n < length c.machine.marks
+  pub repeated_step_performs : (c : CheckerState) (j n : ℕ) (m : MachineState) → n
+      < length c.machine.marks
       → get_or c.machine.marks n 0 ≡ j
       → m
       ≡ machine_state (c.machine.stack ++ get_or c.machine.formulas n [] ∷ []) c.machine.marks
       c.machine.formulas c.machine.symbol_count
       → Performs db t (marked j) c (checker_state m c.rules c.noted c.cache)
-  repeats c j n m inside is entries_are =
+  repeated_step_performs c j n m inside is entries_are =
       let out : Option Formula → Result (List Formula) Reason =
       λ o. elim o [ None ↦ Ok c.machine.stack | Some f ↦ Ok (c.machine.stack ++ f ∷ []) ] in
       record {

@@ -25,7 +25,7 @@ use Rattle.mm_check.specs.Contract.{is_labelled_step}
 use Rattle.mm_check.specs.Flags.{child_flags, taken_flags, step_flags_after}
 use Rattle.mm_check.specs.IsReached.{steps_of}
 use Rattle.mm_check.proofs.CompilerStateLaw.{assertion_rule, hypothesis_rule}
-use Rattle.mm_check.proofs.ReachLaw.{good_here}
+use Rattle.mm_check.proofs.ReachLaw.{step_at_is_good}
 use Rattle.mm_check.proofs.ForestsLaw.{forest_at, IsMove, AreMoves, move_at, proof_rows}
 use Rattle.mm_check.proofs.BackLaw.{flag_at, size_join, step_flags_count, IsToBeFound, label_back}
 use Rattle.mm_check.proofs.BackLaw.{marked_back}
@@ -130,9 +130,10 @@ module _ (db : List Statement) (t : ℕ) (steps : List PlacedStep) (i : ℕ) (ws
         step_flags a
         ↔ (((b ≡ true) × (is_labelled_step s a ≡ true)) ⊎ Before s a)
 
-  undone : (s : Step) → IsMove (context_at db t) r.forests i s → IsGoodStep (context_at db t) i s
+  undone_step : (s : Step) → IsMove (context_at db t) r.forests i s
+      → IsGoodStep (context_at db t) i s
       → Undone s
-  undone (label l) (ts, f, cs, here, before, follows) good = record {
+  undone_step (label l) (ts, f, cs, here, before, follows) good = record {
     fits =
         let c = fl.count in
         omega (
@@ -171,7 +172,7 @@ module _ (db : List Statement) (t : ℕ) (steps : List PlacedStep) (i : ℕ) (ws
           → ((b ≡ true) × (a ≡ l)) ⊎ Before (label l) a
       up a (inl h) = inl (h.0, eqb-true a l h.1)
       up a (inr h) = inr h
-  undone (marked j) (earlier, l, f, cs, here, copy) good = record {
+  undone_step (marked j) (earlier, l, f, cs, here, copy) good = record {
     fits = ap length (append-nil ws) ∙ count;
     nodes = λ a. (λ h. inr ((both a).0 h), λ h. (both a).1 (only a h));
   }
@@ -225,7 +226,7 @@ module _ (db : List Statement) (t : ℕ) (steps : List PlacedStep) (i : ℕ) (ws
           same m)
 
       u : Undone s
-      u = undone s move (good_here (context_at db t) steps i i s inside good refl at)
+      u = undone_step s move (step_at_is_good (context_at db t) steps i i s inside good refl at)
 
       known : (a : ℕ)
           → (is_member noted a ≡ true)

@@ -19,9 +19,9 @@ use Rattle.mm_rule.specs.Rule.{floating_index, parts_of, IsVariableBelow, Compil
 use Rattle.mm_machine.specs.State.{applied}
 use Rattle.mm_machine.proofs.RuleTestLaw.{length_all_parts}
 
-nothing_in : {X : Type 0} (xs : List X) → length xs ≡ 0 → xs ≡ []
-nothing_in [] h = refl
-nothing_in (x ∷ xs) h = absurd (omega (arith, h))
+empty_of_length_0 : {X : Type 0} (xs : List X) → length xs ≡ 0 → xs ≡ []
+empty_of_length_0 [] h = refl
+empty_of_length_0 (x ∷ xs) h = absurd (omega (arith, h))
 
 no_pairs : (ps : List (ℕ × ℕ)) → All (λ (p : ℕ × ℕ). (p.0 < 0) × (p.1 < 0)) ps → length ps ≡ 0
 no_pairs [] h = refl
@@ -74,7 +74,7 @@ module _ (db : List Statement) (t : ℕ) (c : CompiledRule) (rule : IsCompiled d
       let parts = ap length rule.hypotheses_are in
       let left = length_all_parts c.parts 0 c.hypotheses in
       let right = length-map frame.hypotheses (parts_of db frame.hypotheses) in
-      nothing_in frame.hypotheses (omega (arith, none, parts, left, right))
+      empty_of_length_0 frame.hypotheses (omega (arith, none, parts, left, right))
 
   pairs_are : frame.pairs ≡ []
   pairs_are =
@@ -88,7 +88,7 @@ module _ (db : List Statement) (t : ℕ) (c : CompiledRule) (rule : IsCompiled d
         floating_index db frame.hypotheses p.low,
         floating_index db frame.hypotheses p.high,
       )) in
-      nothing_in frame.pairs (omega (arith, few, same))
+      empty_of_length_0 frame.pairs (omega (arith, few, same))
 
   below : AllByRecursion (IsVariableBelow 0) (parts_of db frame.hypotheses f)
   below =
@@ -102,9 +102,9 @@ module _ (db : List Statement) (t : ℕ) (c : CompiledRule) (rule : IsCompiled d
       step_alone (context_at db t) frame hypotheses_are pairs_are
       (λ σ. no_variables db t frame.hypotheses σ f below) es
 
-  pub alone_made : (es : List Formula) → length f ≤ formula_limit
+  pub alone_entries : (es : List Formula) → length f ≤ formula_limit
       → applied db t c.assertion es ≡ Ok (es ++ f ∷ [])
-  alone_made es short =
+  alone_entries es short =
       pushed es ∙ ap (λ b. pick true true true b (es ++ f ∷ [])) (le-leb _ _ short)
 
   pub alone_long : (es : List Formula) → formula_limit < length f

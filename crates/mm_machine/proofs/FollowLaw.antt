@@ -64,9 +64,9 @@ rest_follows from (e ∷ xs) ys to h = by_store e.store (λ f. rest_follows f xs
     by_store Unmarked on h = on e.end h.2
     by_store Marked on h = on from h
 
-rises : (from : ℕ) (es : List Span) (to : ℕ) → Follow from es to → from ≤ to
-rises from [] to h = let e : from ≡ to = h in omega (arith, e)
-rises from (e ∷ es) to h = by_store e.store (λ f. rises f es to) h
+follow_rises : (from : ℕ) (es : List Span) (to : ℕ) → Follow from es to → from ≤ to
+follow_rises from [] to h = let e : from ≡ to = h in omega (arith, e)
+follow_rises from (e ∷ es) to h = by_store e.store (λ f. follow_rises f es to) h
   where
     by_store : (p : Store) → ((f : ℕ) → Follow f es to → f ≤ to) → One p e from es to → from ≤ to
     by_store Unmarked on h = let l = h.1 in let r = on e.end h.2 in omega (arith, l, r)
@@ -108,7 +108,7 @@ stay_cut unmarked marked from [] n n_le_length_unmarked h i = tt
 stay_cut unmarked marked from (e ∷ es) n n_le_length_unmarked h i =
     by_store e.store e.start e.end i.0.rising i.0.within
     (λ f g. stay_cut unmarked marked f es n n_le_length_unmarked g i.1)
-    (λ f g. rises f es n g) h
+    (λ f g. follow_rises f es n g) h
   where
     stays : (p : Store) (s t : ℕ) → s ≤ t → t ≤ length (symbols_of (arena (take n unmarked) marked)
         p)
@@ -160,7 +160,7 @@ module _ (unmarked marked : List ℕ) (front back : List Span)
   reach = first_unmarked back (length unmarked)
 
   pub reach_within : reach ≤ length unmarked
-  reach_within = rises reach back (length unmarked)
+  reach_within = follow_rises reach back (length unmarked)
       (rest_follows 0 front back (length unmarked) h.follow)
 
   reach_long : length (take reach unmarked) ≡ reach
@@ -206,13 +206,14 @@ module _ (unmarked marked : List ℕ) (front back : List Span)
 module _ (unmarked marked : List ℕ) (es : List Span) (n : ℕ) (unmarked' : List ℕ) (es' : List Span)
     (cut : es' ≡ take n es) (less : unmarked' ≡ take (first_unmarked (drop n es)
     (length unmarked)) unmarked) where
-  halves : es ≡ take n es ++ drop n es
-  halves = sym (take-append-drop n es)
+  take_then_drop : es ≡ take n es ++ drop n es
+  take_then_drop = sym (take-append-drop n es)
 
   pub cut_here : IsStack unmarked marked es → IsStack unmarked' marked es'
   cut_here h =
       rw (cut, less)
-      (cut_stack unmarked marked (take n es) (drop n es) (subst (IsStack unmarked marked) halves h))
+      (cut_stack unmarked marked (take n es) (drop n es)
+      (subst (IsStack unmarked marked) take_then_drop h))
 
   pub cut_says : IsStack unmarked marked es
       → span_formulas (arena unmarked' marked) es'
@@ -220,7 +221,7 @@ module _ (unmarked marked : List ℕ) (es : List Span) (n : ℕ) (unmarked' : Li
   cut_says h =
       rw (cut, less)
       (cut_formulas unmarked marked (take n es) (drop n es)
-      (subst (IsStack unmarked marked) halves h))
+      (subst (IsStack unmarked marked) take_then_drop h))
       ∙ formulas_take (arena unmarked marked) n es
 
   pub cut_stack_of : (w : ℕ) → IsStackOf w unmarked marked es → IsStackOf w unmarked' marked es'
@@ -301,7 +302,8 @@ pub record IsMoved (unmarked marked : List ℕ) (es : List Span) (unmarked' mark
     (es' : List Span)
     (m : Span) : Type 0 where
   pub is_stack : IsStack unmarked' marked' es'
-  pub says : span_formulas (arena unmarked' marked') es' ≡ span_formulas (arena unmarked marked) es
+  pub formulas_stay : span_formulas (arena unmarked' marked') es'
+      ≡ span_formulas (arena unmarked marked) es
   pub moves : Moves unmarked marked unmarked' marked'
   pub is_marked : IsMarkedEntry marked' m
   pub on_top : span_formula (arena [] marked') m ≡ top (span_formulas (arena unmarked marked) es)
@@ -312,14 +314,14 @@ module _ (unmarked marked : List ℕ) (es : List Span) (last : ℕ) (e : Span)
   abbrev pub front : List Span
   front = take last es
 
-  pub splits : es ≡ front ++ e ∷ []
-  splits =
+  pub split_before_last : es ≡ front ++ e ∷ []
+  split_before_last =
       sym (take_all (last + 1) es (omega (arith, is_last)))
       ∙ take_more es last no_symbols (omega (arith, is_last)) ∙ ap (λ z. front ++ z ∷ []) (sym is)
 
   last_top : span_formulas (arena unmarked marked) es
       ≡ span_formulas (arena unmarked marked) front ++ span_formula (arena unmarked marked) e ∷ []
-  last_top = ap (span_formulas (arena unmarked marked)) splits
+  last_top = ap (span_formulas (arena unmarked marked)) split_before_last
       ∙ formulas_push (arena unmarked marked) front e
 
   pub top_is : top (span_formulas (arena unmarked marked) es)
@@ -330,7 +332,7 @@ module _ (unmarked marked : List ℕ) (es : List Span) (last : ℕ) (e : Span)
       (span_formula (arena unmarked marked) e)
 
   split_stack : IsStack unmarked marked (front ++ e ∷ [])
-  split_stack = subst (IsStack unmarked marked) splits h
+  split_stack = subst (IsStack unmarked marked) split_before_last h
 
   pub last_in : IsIn (arena unmarked marked) e
   last_in =
@@ -391,7 +393,7 @@ module _ (unmarked marked : List ℕ) (es : List Span) (last : ℕ) (e : Span)
 
     pub set_is : (m : Span) → slice_set es last m ≡ front ++ m ∷ []
     set_is m =
-        ap (λ z. slice_set z last m) splits
+        ap (λ z. slice_set z last m) split_before_last
         ∙ set_last front last e m (length-take-le last es (omega (arith, is_last)))
 
     front_stack : IsStack cut_unmarked marked front
@@ -445,7 +447,7 @@ module _ (unmarked marked : List ℕ) (es : List Span) (last : ℕ) (e : Span)
         rw (cut, grown, span_is)
         (record {
           is_stack = moved_stack;
-          says = moved_formulas;
+          formulas_stay = moved_formulas;
           moves = moves_all;
           is_marked = new_marked;
           on_top = new_formula_is;

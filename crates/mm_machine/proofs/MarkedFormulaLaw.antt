@@ -52,13 +52,14 @@ marked_spans_more unmarked marked es marks marked_spans symbol_count e is_machin
       count = omega (arith, is_machine.count, length-append marked_spans (e ∷ []));
     }
 
-pub both_more : (unmarked marked : List ℕ) (es : List Span) (marks : List ℕ)
+pub mark_and_span_more : (unmarked marked : List ℕ) (es : List Span) (marks : List ℕ)
     (marked_spans : List Span)
     → (symbol_count : ℕ) (e : Span) (step : ℕ)
     → IsMachine unmarked marked es marks marked_spans symbol_count → IsMarkedEntry marked e
     → All (λ j. j < step) marks
     → IsMachine unmarked marked es (marks ++ step ∷ []) (marked_spans ++ e ∷ []) symbol_count
-both_more unmarked marked es marks marked_spans symbol_count e step is_machine is_marked_entry later
+mark_and_span_more unmarked marked es marks marked_spans symbol_count e step is_machine
+is_marked_entry later
     = record {
       stack = is_machine.stack;
       spans_are_marked = All-push (IsMarkedEntry marked) marked_spans e is_machine.spans_are_marked

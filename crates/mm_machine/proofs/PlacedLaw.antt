@@ -30,17 +30,18 @@ module _ (unmarked marked : List ℕ) (stack : List Span) (below : ℕ) (parts :
   module _ (formula : Formula) (is : formula ≡ replaced (arena unmarked marked) (drop below
       stack) parts)
     where
-      pub placed : nat_le (length formula) formula_limit ≡ true
+      pub entries_if_short : nat_le (length formula) formula_limit ≡ true
           → entries_after (arena unmarked marked) stack below parts
           ≡ Ok (take below (span_formulas (arena unmarked marked) stack) ++ formula ∷ [])
-      placed l =
+      entries_if_short l =
           ap₂ (λ b z. pick true true true b
           (take below (span_formulas (arena unmarked marked) stack) ++ z ∷ []))
           (ap (λ z. nat_le (length z) formula_limit) (sym is) ∙ l) (sym is)
 
-      pub made_known : (w : ℕ) → IsStackOf w unmarked marked stack → All (IsConstantBelow w) parts
+      pub formula_known : (w : ℕ) → IsStackOf w unmarked marked stack
+          → All (IsConstantBelow w) parts
           → All (λ s. s < w) formula
-      made_known w h known =
+      formula_known w h known =
           subst (All (λ s. s < w)) (sym is)
           (replaced_known w (arena unmarked marked) (drop below stack) parts h.known.unmarked
           h.known.marked known)
@@ -93,12 +94,12 @@ some_entry a es below parts out h =
 -- ---- the step
 
 -- the test, by the lists that the code has
-pub judged_here : (db : List Statement) (t : ℕ) (c : CompiledRule)
+pub rule_test_by_values : (db : List Statement) (t : ℕ) (c : CompiledRule)
     (unmarked unmarked' marked marked' : List ℕ)
     → (stack stack' : List Span) (r : Result ℕ Reason) → unmarked' ≡ unmarked → marked' ≡ marked
     → stack' ≡ stack → TestsRule db t c (arena unmarked' marked') stack' r
     → TestsRule db t c (arena unmarked marked) stack r
-judged_here db t c unmarked unmarked' marked marked' stack stack' r e1 e2 e3 h =
+rule_test_by_values db t c unmarked unmarked' marked marked' stack stack' r e1 e2 e3 h =
     subst (λ (z : List ℕ). TestsRule db t c (arena z marked) stack r) e1
     (subst (λ (z : List ℕ). TestsRule db t c (arena unmarked' z) stack r) e2
     (subst (λ (z : List Span). TestsRule db t c (arena unmarked' marked') z r) e3 h))

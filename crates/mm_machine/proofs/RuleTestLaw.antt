@@ -53,11 +53,12 @@ module _ (db : List Statement) (t : ℕ) (hs : List Formula) (xs : Arena) (es : 
       ∙ ap tail (span_formula_at xs es j (omega (arith, below, count)))
       ∙ sym (found_first db t hs (span_formulas xs es) x many is_bound)
 
-  pub one_same : (f : Formula) → AreBound (context_at db t) hs f
+  pub replaced_is_substituted : (f : Formula) → AreBound (context_at db t) hs f
       → replaced xs es (parts_of db hs f) ≡ substitute (context_at db t) σ f
-  one_same [] b = refl
-  one_same (s ∷ f) b = ap₂ (λ u v. u ++ v) (by_is_variable (is_variable_number db s) b.0)
-      (one_same f b.1)
+  replaced_is_substituted [] b = refl
+  replaced_is_substituted (s ∷ f) b = ap₂ (λ u v. u ++ v)
+      (by_is_variable (is_variable_number db s) b.0)
+      (replaced_is_substituted f b.1)
     where
       by_is_variable : (v : Bool) → (IsTrue v → IsBound (context_at db t) hs s)
           → replaced_part xs es (cond v (Variable (floating_index db hs s)) (Constant s))
@@ -65,10 +66,12 @@ module _ (db : List Statement) (t : ℕ) (hs : List Formula) (xs : Arena) (es : 
       by_is_variable true h = replacement_is s (h refl)
       by_is_variable false h = refl
 
-  pub all_same : (fs : List Formula) → AllByRecursion (AreBound (context_at db t) hs) fs
+  pub all_replaced_are_substituted : (fs : List Formula)
+      → AllByRecursion (AreBound (context_at db t) hs) fs
       → map (replaced xs es) (map (parts_of db hs) fs) ≡ map (substitute (context_at db t) σ) fs
-  all_same [] b = refl
-  all_same (f ∷ fs) b = ap₂ (λ u us. u ∷ us) (one_same f b.0) (all_same fs b.1)
+  all_replaced_are_substituted [] b = refl
+  all_replaced_are_substituted (f ∷ fs) b = ap₂ (λ u us. u ∷ us) (replaced_is_substituted f b.0)
+      (all_replaced_are_substituted fs b.1)
 
   abbrev pub cache : ℕ × ℕ → Bool
   cache p = are_all_disjoint (context_at db t) (replacement xs es p.0) (replacement xs es p.1)
@@ -133,13 +136,13 @@ judged db t c xs stack premises rule fits top inside many b1 b2 e1 e2 =
     let σ' : Substitution = σ db t hs xs premises inside count in
     let h : map (substitute (context_at db t) σ') hs
     ≡ map (replaced xs premises) (all_parts c.parts 0 c.hypotheses) = sym
-    (all_same db t hs xs premises inside count hs rule.complete.hypotheses)
+    (all_replaced_are_substituted db t hs xs premises inside count hs rule.complete.hypotheses)
     ∙ ap (map (replaced xs premises)) (sym rule.hypotheses_are) in
     let p : list_all (λ p. are_all_disjoint (context_at db t) (σ' p.low) (σ' p.high)) a.pairs ≡ b2 =
     sym (disjoint_same db t hs xs premises inside count a.pairs rule.complete.pairs)
     ∙ ap (list_all (cache db t hs xs premises inside count)) (sym rule.pairs_are) ∙ sym e2 in
     let f : substitute (context_at db t) σ' a.formula ≡ replaced xs premises c.formula =
-    sym (one_same db t hs xs premises inside count a.formula rule.complete.formula)
+    sym (replaced_is_substituted db t hs xs premises inside count a.formula rule.complete.formula)
     ∙ ap (replaced xs premises) (sym rule.formula_is) in
     ap₂ (λ b i. apply (context_at db t) a b (take i es) (drop i es)) enough n
     ∙ ap (λ z. apply (context_at db t) a true (take m es) z)
@@ -151,7 +154,7 @@ judged db t c xs stack premises rule fits top inside many b1 b2 e1 e2 =
     ∙ ap (λ z. pick true b1 b2 (nat_le (length z) formula_limit) (take m es ++ z ∷ [])) f
 
 -- the same by the values that the code has
-pub judged_at : (db : List Statement) (t : ℕ) (c : CompiledRule) (xs : Arena)
+pub rule_test_at : (db : List Statement) (t : ℕ) (c : CompiledRule) (xs : Arena)
     → (stack premises : List Span) (n below : ℕ)
     → IsCompiled db c → n ≡ length c.hypotheses → n ≤ length stack → below ≡ length stack - n
     → premises ≡ drop below stack → All (IsIn xs) stack → (ps : List (ℕ × ℕ)) → ps ≡ c.pairs
@@ -165,7 +168,7 @@ pub judged_at : (db : List Statement) (t : ℕ) (c : CompiledRule) (xs : Arena)
     → applied db t c.assertion (span_formulas xs stack)
     ≡ pick true b1 b2 (nat_le (length (replaced xs (drop below stack) c.formula)) formula_limit)
     (take below (span_formulas xs stack) ++ replaced xs (drop below stack) c.formula ∷ [])
-judged_at db t c xs stack premises n below rule count fits at top all ps ps_are b1 b2 e1 e2 =
+rule_test_at db t c xs stack premises n below rule count fits at top all ps ps_are b1 b2 e1 e2 =
     let here : below ≡ length stack - length c.hypotheses = omega (arith, at, count) in
     let many : length (drop below stack) ≡ length c.hypotheses =
     omega (arith, at, count, fits, length-drop below stack) in
@@ -186,10 +189,10 @@ judged_at db t c xs stack premises n below rule count fits at top all ps ps_are 
     (take b (span_formulas xs stack) ++ replaced xs (drop below stack) c.formula ∷ [])) (sym here)
 
 -- too few entries
-pub few_at : (db : List Statement) (t : ℕ) (c : CompiledRule) (xs : Arena) (stack : List Span)
+pub too_few_at : (db : List Statement) (t : ℕ) (c : CompiledRule) (xs : Arena) (stack : List Span)
     → IsCompiled db c → length stack < length c.hypotheses
     → applied db t c.assertion (span_formulas xs stack) ≡ Err too_few
-few_at db t c xs stack rule few =
+too_few_at db t c xs stack rule few =
     let a = frame_at db c.assertion in
     let es = span_formulas xs stack in
     let long : length es ≡ length stack = length-map stack (span_formula xs) in

@@ -25,12 +25,12 @@ and_assoc : (a b c : Bool) → (a && (b && c)) ≡ ((a && b) && c)
 and_assoc true b c = refl
 and_assoc false b c = refl
 
-peel : (u xs w : List ℕ)
+bytes_eq_append : (u xs w : List ℕ)
     → bytes_eq xs (u ++ w) ≡ (starts_with nat_eq xs u && bytes_eq (drop (length u) xs) w)
-peel [] xs w = refl
-peel (x ∷ u) [] w = refl
-peel (x ∷ u) (y ∷ ys) w =
-    ap₂ (λ a b. a && b) (eq_sym y x) (peel u ys w) ∙ and_assoc (nat_eq x y) _ _
+bytes_eq_append [] xs w = refl
+bytes_eq_append (x ∷ u) [] w = refl
+bytes_eq_append (x ∷ u) (y ∷ ys) w =
+    ap₂ (λ a b. a && b) (eq_sym y x) (bytes_eq_append u ys w) ∙ and_assoc (nat_eq x y) _ _
 
 drop_nil : (k : ℕ) → drop {A = ℕ} k [] ≡ []
 drop_nil zero = refl
@@ -73,7 +73,7 @@ module _ (all : Arena) (es : List Span) (xs : List ℕ) (w : List RuleSymbol) (i
       ap (λ z. bytes_eq (slice_range xs a e) (replaced all es z)) (drop_more w i p inside)
       ∙ ap (λ y. bytes_eq (slice_range xs a e) (y ++ replaced all es (drop (i + 1) w)))
       (ap (replaced_part all es) here ∙ is)
-      ∙ peel u (slice_range xs a e) (replaced all es (drop (i + 1) w))
+      ∙ bytes_eq_append u (slice_range xs a e) (replaced all es (drop (i + 1) w))
       ∙ ap (λ z. starts_with nat_eq (slice_range xs a e) u
       && bytes_eq z (replaced all es (drop (i + 1) w))) (rest_of xs a e (length u))
 
@@ -145,7 +145,7 @@ typed_is l a e t h w =
     ∙ ap (λ b. nat_eq (get_or l a 0) t && b) (bytes_same (slice_range l (a + 1) e))
     ∙ and-true (nat_eq (get_or l a 0) t)
 
-pub untyped : (l : List ℕ) (a e t : ℕ) (u : List ℕ) → e ≤ a
+pub not_typed : (l : List ℕ) (a e t : ℕ) (u : List ℕ) → e ≤ a
     → bytes_eq (slice_range l a e) (t ∷ u) ≡ false
-untyped l a e t u h =
+not_typed l a e t u h =
     let z : e - a ≡ 0 = omega arith in ap (λ n. bytes_eq (take n (drop a l)) (t ∷ u)) z

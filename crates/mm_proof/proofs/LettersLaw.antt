@@ -276,8 +276,8 @@ early_digit byte digit l e =
 abbrev begun : ℕ → ℕ → BegunNumber
 begun at value = record { at = at; value = value }
 
-begun_is : (b : BegunNumber) (place : ℕ) → BeginsAt b place → begun_at (if_begun b) place ≡ b
-begun_is b place h = by_zero (b.value == 0) refl
+begun_at_place : (b : BegunNumber) (place : ℕ) → BeginsAt b place → begun_at (if_begun b) place ≡ b
+begun_at_place b place h = by_zero (b.value == 0) refl
   where
     by_zero : (t : Bool) → (b.value == 0) ≡ t → begun_at (if t then None else Some b) place ≡ b
     by_zero true e =
@@ -305,7 +305,7 @@ pub last_here : (t : ℕ) (labels marks : List ℕ) (number : BegunNumber) (step
     (letter place byte ∷ unread)
     → Continues (letters_state t labels marks None (steps ++ placed number.at s ∷ [])) all unread
 last_here t labels marks number steps place byte s b e byte_is_last named all unread h =
-    let is = begun_is number place b in
+    let is = begun_at_place number place b in
     subst (λ (b : BegunNumber). Continues (letters_state t labels marks None
     (steps ++ placed b.at s ∷ [])) all unread) is
     (last_reads t labels marks (if_begun number) steps place byte s e byte_is_last
@@ -322,7 +322,7 @@ pub early_here : (t : ℕ) (labels marks : List ℕ) (number : BegunNumber) (ste
     → Continues (letters_state t labels marks (if_begun next) steps) all unread
 early_here t labels marks number steps place byte next b byte_is_early place_is value_is all unread
     h =
-    let is = begun_is number place b in
+    let is = begun_at_place number place b in
     let d = early_digit byte (byte - 84) byte_is_early refl in
     let some : 0 < next.value = omega (arith, value_is, d.0) in
     subst (λ o. Continues (letters_state t labels marks o steps) all unread)
@@ -377,10 +377,10 @@ fault_first n end (x ∷ xs) (Faulty f) h =
     (h.0 ++ last, ap (λ fs. fs ++ last) h.1)
 
 -- after the last letter, where a number is open and where none is
-is_run : (o : Option BegunNumber) (early : List Letter) → Begins o early
+has_early_letters : (o : Option BegunNumber) (early : List Letter) → Begins o early
     → nat_lt 0 (length early) ≡ is_some o
-is_run None early b = ap (λ es. nat_lt 0 (length es)) b
-is_run (Some n) early b =
+has_early_letters None early b = ap (λ es. nat_lt 0 (length es)) b
+has_early_letters (Some n) early b =
     ap (λ es. nat_lt 0 (length es)) b.2 ∙ lt-ltb 0 (suc (length b.1)) (omega arith)
 
 end_faults : (s : LettersState) (end : ℕ) (x : Letter) (xs : List Letter) → Continues s (x ∷ xs) []
@@ -388,7 +388,7 @@ end_faults : (s : LettersState) (end : ℕ) (x : Letter) (xs : List Letter) → 
 end_faults s end x xs h =
     ap (λ fs. fs ++ at end (when (nat_lt 0 (length (groups [] (x ∷ xs)).1)) OpenNumber)) h.faults
     ∙ ap (λ es. at end (when (nat_lt 0 (length es)) OpenNumber)) h.run
-    ∙ ap (λ b. at end (when b OpenNumber)) (is_run s.number h.early h.begins)
+    ∙ ap (λ b. at end (when b OpenNumber)) (has_early_letters s.number h.early h.begins)
 
 pub open_fault : (s : LettersState) (end : ℕ) (all : List Letter) → is_some s.number ≡ true
     → ¬ (all ≡ []) → Continues s all []

@@ -77,20 +77,20 @@ join_runs from mid to xs ys from_le_mid mid_le_to h k = record {
       joined_is_sorted xs l.1 s.1,
     )
 
-no_run : (from to : ℕ) → Run from to []
-no_run from to = record { low = tt; high = tt; sorted = tt }
+run_of_none : (from to : ℕ) → Run from to []
+run_of_none from to = record { low = tt; high = tt; sorted = tt }
 
-one_run : (from to place : ℕ) (c : Code) → from ≤ place → place < to
+run_of_one : (from to place : ℕ) (c : Code) → from ≤ place → place < to
     → Run from to (fault place c ∷ [])
-one_run from to place c l h = record { low = (l, tt); high = (h, tt); sorted = (tt, tt) }
+run_of_one from to place c l h = record { low = (l, tt); high = (h, tt); sorted = (tt, tt) }
 
-when_run : (from to place : ℕ) (b : Bool) (c : Code) → from ≤ place → place < to
+run_if : (from to place : ℕ) (b : Bool) (c : Code) → from ≤ place → place < to
     → Run from to (at place (when b c))
-when_run from to place true c l h = one_run from to place c l h
-when_run from to place false c l h = no_run from to
+run_if from to place true c l h = run_of_one from to place c l h
+run_if from to place false c l h = run_of_none from to
 
-from_run : (from low to : ℕ) (fs : List Fault) → from ≤ low → Run low to fs → Run from to fs
-from_run from low to fs l h =
+run_from_lower : (from low to : ℕ) (fs : List Fault) → from ≤ low → Run low to fs → Run from to fs
+run_from_lower from low to fs l h =
     record {
       low = each_map (λ f. low ≤ f.at) (λ f. from ≤ f.at) fs (λ f m. omega (arith, l, m)) h.low;
       high = h.high;
@@ -99,7 +99,7 @@ from_run from low to fs l h =
 
 -- the first of faults in order is the least
 least_sorted : (f : Fault) (fs : List Fault) → Sorted (f ∷ fs) → least (f ∷ fs) ≡ Some f
-least_sorted f fs s = by_fault (least fs) (kept fs s.0)
+least_sorted f fs s = by_fault (least fs) (before_least fs s.0)
   where
     Before : Option Fault → Type 0
     Before None = Unit {0}
@@ -110,10 +110,10 @@ least_sorted f fs s = by_fault (least fs) (kept fs s.0)
     two g h true p q = p
     two g h false p q = q
 
-    kept : (fs : List Fault) → AllByRecursion (λ (g : Fault). is_before f g ≡ true) fs
+    before_least : (fs : List Fault) → AllByRecursion (λ (g : Fault). is_before f g ≡ true) fs
         → Before (least fs)
-    kept [] a = tt
-    kept (g ∷ gs) a = more (least gs) (kept gs a.1)
+    before_least [] a = tt
+    before_least (g ∷ gs) a = more (least gs) (before_least gs a.1)
       where
         more : (o : Option Fault) → Before o → Before (lesser g o)
         more None p = a.0
@@ -168,8 +168,8 @@ mark_run from place true true from_le_place = record {
     (tt, tt),
   );
 }
-mark_run from place true false l = one_run from (place + 1) place OpenNumber l (omega arith)
-mark_run from place false b l = when_run from (place + 1) place b MarkBeforeStep l (omega arith)
+mark_run from place true false l = run_of_one from (place + 1) place OpenNumber l (omega arith)
+mark_run from place false b l = run_if from (place + 1) place b MarkBeforeStep l (omega arith)
 
 module _ (labels end : ℕ) where
   group_run : (from now place byte : ℕ) (early : List Letter) (marks count : ℕ)
@@ -208,13 +208,14 @@ module _ (labels end : ℕ) where
         ]
       ])
       by_letter_kind true b c =
-          when_run from (place + 1) (starts_at g) (nat_lt (labels + marks) (value g)) NumberTooLarge
+          run_if from (place + 1) (starts_at g) (nat_lt (labels + marks) (value g)) NumberTooLarge
           (low early o) (high early o)
       by_letter_kind false true c = mark_run from place (nat_lt 0 (length early)) (count == 0)
           (within early o)
       by_letter_kind false false true =
-          one_run from (place + 1) place IncompleteProof (within early o) (omega arith)
-      by_letter_kind false false false = one_run from (place + 1) place BadLetter (within early o)
+          run_of_one from (place + 1) place IncompleteProof (within early o) (omega arith)
+      by_letter_kind false false false = run_of_one from (place + 1) place BadLetter
+          (within early o)
           (omega arith)
 
   -- the faults of the letters from an open run on
@@ -235,7 +236,7 @@ module _ (labels end : ℕ) where
   left_run : (xs early : List Letter) (from now marks count : ℕ) → IsOpenAt from early now
       → Rise now xs end → Run from (end + 1) (left_faults early marks count xs)
   left_run [] early from now marks count is_open_at r =
-      when_run from (end + 1) end (nat_lt 0 (length early)) OpenNumber
+      run_if from (end + 1) end (nat_lt 0 (length early)) OpenNumber
       (end_low from now early is_open_at r)
       (omega arith)
   left_run (x ∷ xs) early from now marks count o r =
@@ -314,7 +315,7 @@ module _ (labels end : ℕ) where
 
   letters_run : (from : ℕ) (xs : List Letter) → Rise from xs end
       → Run from (end + 1) (letter_faults labels end xs)
-  letters_run from [] r = one_run from (end + 1) end EmptyProof r (omega arith)
+  letters_run from [] r = run_of_one from (end + 1) end EmptyProof r (omega arith)
   letters_run from (x ∷ xs) r = left_run (x ∷ xs) [] from from 0 0 (omega arith) r
 
 -- ---- brackets
@@ -325,8 +326,8 @@ label_run db k t = by_usability (usable db k t.word)
   where
     by_usability : (js : List ℕ)
         → Run t.at (t.at + 1) (elim js [ [] ↦ fault t.at UnusableLabel ∷ [] | j ∷ js ↦ [] ])
-    by_usability [] = one_run t.at (t.at + 1) t.at UnusableLabel (omega arith) (omega arith)
-    by_usability (j ∷ js) = no_run t.at (t.at + 1)
+    by_usability [] = run_of_one t.at (t.at + 1) t.at UnusableLabel (omega arith) (omega arith)
+    by_usability (j ∷ js) = run_of_none t.at (t.at + 1)
 
 order_low : (from end : ℕ) (ts : List Token) → AreInOrder from ts end → from ≤ end
 order_low from end [] o = o
@@ -342,7 +343,7 @@ module _ (db : List Statement) (k end : ℕ) where
 
   brackets_run : (n from : ℕ) (ts : List Token) → AreInOrder from ts end
       → Run from (end + 1) (faults_of n (bracketed ts))
-  brackets_run n from [] o = one_run from (end + 1) end OpenBrackets o (omega arith)
+  brackets_run n from [] o = run_of_one from (end + 1) end OpenBrackets o (omega arith)
   brackets_run n from (t ∷ ts) o =
       by_closing_bracket (bytes_eq t.word (codes ")"))
       (brackets_run n (t.at + length t.word) ts o.2)
@@ -370,8 +371,8 @@ module _ (db : List Statement) (k end : ℕ) where
           (sym (append_assoc (proof_label_faults db k t)
           (flat_map (proof_label_faults db k) (bracketed ts).labels) _))
           (join_runs from (t.at + 1) (end + 1) _ _ (omega (arith, low)) (omega (arith, before))
-          (from_run from t.at (t.at + 1) _ low (label_run db k t))
-          (from_run (t.at + 1) (t.at + length t.word) (end + 1) _ (omega (arith, long)) h))
+          (run_from_lower from t.at (t.at + 1) _ low (label_run db k t))
+          (run_from_lower (t.at + 1) (t.at + length t.word) (end + 1) _ (omega (arith, long)) h))
 
   -- the first fault that is found is the first
   pub first_fault : (from : ℕ) (ts : List Token) (e : ProofRefused) → AreInOrder from ts end

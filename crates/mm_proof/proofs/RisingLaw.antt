@@ -140,11 +140,12 @@ proof_follows text db fault is_read k l p xs e ps d is =
     }
 
 -- what counts as a theorem was read as it is
-was_read : (db : List Statement) (w : Bool) (counts : List Statement) → counts ≡ counted w db
+statement_as_read : (db : List Statement) (w : Bool) (counts : List Statement) → counts
+    ≡ counted w db
     → (k : ℕ) (l : Token) (p : ℕ) (xs : List Token) (e : ℕ) (ps : List Token) (d : ℕ)
     → slice_get counts k ≡ Some (provable l p xs e ps d)
     → slice_get db k ≡ Some (provable l p xs e ps d)
-was_read db w counts are k l p xs e ps d is =
+statement_as_read db w counts are k l p xs e ps d is =
     theorem_read w db k l p xs e ps d
     (subst (λ c. slice_get c k ≡ Some (provable l p xs e ps d)) are is)
 
@@ -157,7 +158,7 @@ proof_rising text db w fault is_read counts are k l p xs e ps d is =
     λ i j x less here. let f =
     pairs_front Follows ps (token d (codes "$.") ∷ [])
     (proof_follows text db fault is_read k l p xs e ps d
-    (was_read db w counts are k l p xs e ps d is)) i j x less here in
+    (statement_as_read db w counts are k l p xs e ps d is)) i j x less here in
     let a = f.0 in let b = f.1 in omega (arith, a, b)
 
 in_order : (from : ℕ) (ts : List Token) (d : Token) → AllPairs Follows (ts ++ d ∷ [])
@@ -184,5 +185,6 @@ pub proof_in_order : (text : List ℕ) (db : List Statement) (w : Bool) (fault :
     → slice_get counts k ≡ Some (provable l p xs e ps d) → AreInOrder 0 ps d
 proof_in_order text db w fault r counts are k l p xs e ps d is =
     in_order 0 ps (token d (codes "$."))
-    (proof_follows text db fault r k l p xs e ps d (was_read db w counts are k l p xs e ps d is))
+    (proof_follows text db fault r k l p xs e ps d
+    (statement_as_read db w counts are k l p xs e ps d is))
     (λ i x here. omega arith)

@@ -6,7 +6,7 @@ use Rattle.mm_spec.specs.Citation.{context_at}
 use Rattle.mm_steps.specs.Read.{as_step}
 use Rattle.mm_check.specs.Flags.{step_flags_after}
 use Rattle.mm_check.proofs.CompilerStateLaw.{good_labels}
-use Rattle.mm_check.proofs.ReachLaw.{good_here}
+use Rattle.mm_check.proofs.ReachLaw.{step_at_is_good}
 use Rattle.mm_check.proofs.BackLaw.{flag_at, step_flags_count}
 use Rattle.mm_check.proofs.WalkLaw.{Walked, walk_start, walk_some, walk_here, walk_end, earlier_of}
 use Rattle.mm_check.proofs.essential.note_essential.Goals.{then-flag, else-flag}
@@ -41,7 +41,7 @@ undo_step-requires-clause-known g c =
     let inside : i < length steps =
     omega (arith, c.loop-i-test.true, c.loop-i.auto.i, c.len-i.ensures) in
     good_labels db c.args.theorem i (as_step c.step.result)
-    (good_here (context_at db c.args.theorem) steps i i
+    (step_at_is_good (context_at db c.args.theorem) steps i i
     (as_step c.step.result) inside c.requires.steps.good refl c.step.ensures)
 
 pub undo_step-requires-clause-earlier : goal.undo_step-requires-clause-earlier
@@ -54,7 +54,7 @@ undo_step-requires-clause-earlier g c =
     let many = ap length c.deref_mut.ensures.value ∙ c.loop-i.invariant.many in
     earlier_of (context_at db c.args.theorem) i (length c.deref_mut.result.now)
     (as_step c.step.result) (omega (arith, inside, many))
-    (good_here (context_at db c.args.theorem) steps i i
+    (step_at_is_good (context_at db c.args.theorem) steps i i
     (as_step c.step.result) inside c.requires.steps.good refl c.step.ensures)
 
 pub loop-i-preserved : goal.loop-i-preserved

@@ -69,7 +69,7 @@ returns-in_ok-append-in-Unmarked-clause-stack g c = (moved g c).is_stack
 
 pub returns-in_ok-append-in-Unmarked-clause-formulas :
     goal.returns-in_ok-append-in-Unmarked-clause-formulas
-returns-in_ok-append-in-Unmarked-clause-formulas g c = (moved g c).says
+returns-in_ok-append-in-Unmarked-clause-formulas g c = (moved g c).formulas_stay
 
 pub returns-in_ok-append-in-Unmarked-clause-moved :
     goal.returns-in_ok-append-in-Unmarked-clause-moved

@@ -2,7 +2,8 @@ use Rattle.std.proofs.Common.{◌≡◌, Ok, length, take, drop, sym, ap, ◌∙
 use Rattle.mm_machine.proofs.GrowLaw.{stretch_in}
 use Rattle.mm_machine.specs.Arena.{arena}
 use Rattle.mm_machine.specs.Replaced.{replaced}
-use Rattle.mm_machine.proofs.PlacedLaw.{placed, made_known, same_formula, same_count, short_enough}
+use Rattle.mm_machine.proofs.PlacedLaw.{entries_if_short, formula_known, same_formula, same_count}
+use Rattle.mm_machine.proofs.PlacedLaw.{short_enough}
 use Rattle.mm_machine.proofs.machine.replace_by_formula.Given.{Over}
 use Rattle.mm_machine.proofs.machine.replace_by_formula.Goals.{In-Some}
 use Rattle.mm_machine.proofs.machine.replace_by_formula.Goals as goal
@@ -22,20 +23,20 @@ formula_is g c =
 pub returns-in-Err-clause-stack : goal.returns-in-Err-clause-stack
 returns-in-Err-clause-stack g c = λ w known is.
     c.replace_from.ensures.stack w c.args.marked.now
-    (made_known c.args.unmarked.now c.args.marked.now c.args.stack.now.items c.args.below
+    (formula_known c.args.unmarked.now c.args.marked.now c.args.stack.now.items c.args.below
     c.args.formula.now (take c.in-Some.n c.fill.new.list)
     (formula_is g (goal.at.returns-in-Err-clause-stack g c).In-Some) w is known) is
 
 pub returns-in-Ok-clause-stack : goal.returns-in-Ok-clause-stack
 returns-in-Ok-clause-stack g c = λ w known is.
     c.replace_from.ensures.stack w c.args.marked.now
-    (made_known c.args.unmarked.now c.args.marked.now c.args.stack.now.items c.args.below
+    (formula_known c.args.unmarked.now c.args.marked.now c.args.stack.now.items c.args.below
     c.args.formula.now (take c.in-Some.n c.fill.new.list)
     (formula_is g (goal.at.returns-in-Ok-clause-stack g c).In-Some) w is known) is
 
 pub returns-in-Ok-clause-entries : goal.returns-in-Ok-clause-entries
 returns-in-Ok-clause-entries g c =
-    placed c.args.unmarked.now c.args.marked.now c.args.stack.now.items c.args.below
+    entries_if_short c.args.unmarked.now c.args.marked.now c.args.stack.now.items c.args.below
     c.args.formula.now
     (take c.in-Some.n c.fill.new.list)
     (formula_is g (goal.at.returns-in-Ok-clause-entries g c).In-Some)

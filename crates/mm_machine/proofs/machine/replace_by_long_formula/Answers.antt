@@ -3,7 +3,8 @@ use Rattle.mm_spec.specs.Limits.{formula_limit}
 use Rattle.mm_machine.proofs.GrowLaw.{stretch_in}
 use Rattle.mm_machine.specs.Arena.{arena}
 use Rattle.mm_machine.specs.Replaced.{replaced}
-use Rattle.mm_machine.proofs.PlacedLaw.{placed, made_known, too_long_here, same_formula, same_count}
+use Rattle.mm_machine.proofs.PlacedLaw.{entries_if_short, formula_known, too_long_here}
+use Rattle.mm_machine.proofs.PlacedLaw.{same_formula, same_count}
 use Rattle.mm_machine.proofs.machine.replace_by_long_formula.Given.{Over}
 use Rattle.mm_machine.proofs.machine.replace_by_long_formula.Goals.{After-replace_from}
 use Rattle.mm_machine.proofs.machine.replace_by_long_formula.Goals as goal
@@ -23,7 +24,7 @@ formula_is g c =
 pub returns-in-Err-replace_from-clause-stack : goal.returns-in-Err-replace_from-clause-stack
 returns-in-Err-replace_from-clause-stack g c = λ w known is.
     c.replace_from.ensures.stack w c.args.marked.now
-    (made_known c.args.unmarked.now c.args.marked.now c.args.stack.now.items c.args.below
+    (formula_known c.args.unmarked.now c.args.marked.now c.args.stack.now.items c.args.below
     c.args.formula.now c.deref-in-Ok-true.result.now
     (formula_is g (goal.at.returns-in-Err-replace_from-clause-stack g c).After-replace_from) w is
     known) is
@@ -31,7 +32,7 @@ returns-in-Err-replace_from-clause-stack g c = λ w known is.
 pub returns-in-Ok-clause-stack : goal.returns-in-Ok-clause-stack
 returns-in-Ok-clause-stack g c = λ w known is.
     c.replace_from.ensures.stack w c.args.marked.now
-    (made_known c.args.unmarked.now c.args.marked.now c.args.stack.now.items c.args.below
+    (formula_known c.args.unmarked.now c.args.marked.now c.args.stack.now.items c.args.below
     c.args.formula.now c.deref-in-Ok-true.result.now
     (formula_is g (goal.at.returns-in-Ok-clause-stack g c).After-replace_from) w is known) is
 
@@ -39,7 +40,7 @@ pub returns-in-Ok-clause-entries : goal.returns-in-Ok-clause-entries
 returns-in-Ok-clause-entries g c =
     let first =
     c.deref-in-Ok-true.ensures.value ∙ c.in-Ok-true.ensures.built c.in-Ok-true.field-0-test in
-    placed c.args.unmarked.now c.args.marked.now c.args.stack.now.items c.args.below
+    entries_if_short c.args.unmarked.now c.args.marked.now c.args.stack.now.items c.args.below
     c.args.formula.now
     c.deref-in-Ok-true.result.now
     (formula_is g (goal.at.returns-in-Ok-clause-entries g c).After-replace_from)

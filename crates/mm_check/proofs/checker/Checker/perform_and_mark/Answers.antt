@@ -1,12 +1,12 @@
 use Rattle.std.proofs.Common.{true, false, refl, sym, ◌∙◌, subst}
 use Rattle.mm_steps.specs.Read.{as_step}
 use Rattle.mm_check.specs.Checker.{CheckerState, IsAtTheorem, Performs}
-use Rattle.mm_check.proofs.RanLaw.{ready, stops_here, performs_next}
+use Rattle.mm_check.proofs.RanLaw.{step_is_ready, stops_here, performs_next}
 use Rattle.mm_check.proofs.checker.Checker.perform_and_mark.Goals as goal
 
 pub perform-requires-clause-ready : goal.perform-requires-clause-ready
 perform-requires-clause-ready g c =
-    ready c.args.database.now.statements c.args.theorem c.args.steps.now.steps c.args.i
+    step_is_ready c.args.database.now.statements c.args.theorem c.args.steps.now.steps c.args.i
     c.args.self.now
     c.requires.performed c.requires.step (as_step c.step.result) c.step.ensures
 

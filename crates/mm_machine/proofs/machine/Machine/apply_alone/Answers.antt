@@ -3,7 +3,7 @@ use Rattle.std.proofs.Common.{length-append}
 use Rattle.mm_spec.specs.Frame.{formula_at}
 use Rattle.mm_machine.specs.State.{machine_state}
 use Rattle.mm_machine.specs.Stops.{Applies}
-use Rattle.mm_machine.proofs.AloneLaw.{alone_made, alone_long}
+use Rattle.mm_machine.proofs.AloneLaw.{alone_entries, alone_long}
 use Rattle.mm_machine.proofs.machine.Machine.apply_alone.Goals as goal
 
 pub returns-then-symbols-gt-FORMULA_LIMIT : goal.returns-then-symbols-gt-FORMULA_LIMIT
@@ -38,7 +38,8 @@ returns-in-Ok g c =
             (sym c.in-Ok.ensures.ok)
             (record {
               entries_are =
-                  alone_made db c.args._theorem c.args.rule.now c.requires.rule c.requires.alone es
+                  alone_entries db c.args._theorem c.args.rule.now c.requires.rule c.requires.alone
+                  es
                   (omega (arith, n, c.if-symbols-gt-FORMULA_LIMIT.false))
                   ∙ ap (λ f. Ok (es ++ f ∷ [])) (sym is);
               entry = omega (arith, length-append es (symbols ∷ []));

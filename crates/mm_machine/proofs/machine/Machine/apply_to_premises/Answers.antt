@@ -4,7 +4,7 @@ use Rattle.mm_machine.specs.Arena.{arena}
 use Rattle.mm_machine.specs.State.{MachineState, machine_state, TestsRule, span_formulas, applied}
 use Rattle.mm_machine.specs.State.{reason_of}
 use Rattle.mm_machine.specs.Stops.{IsApplied}
-use Rattle.mm_machine.proofs.PlacedLaw.{judged_here, step_made, step_entry, step_stopped}
+use Rattle.mm_machine.proofs.PlacedLaw.{rule_test_by_values, step_made, step_entry, step_stopped}
 use Rattle.mm_machine.proofs.PlacedLaw.{applied_of}
 use Rattle.mm_machine.proofs.PlacedLaw.{parts_below, parts_known, entries_here}
 use Rattle.mm_machine.proofs.PlacedLaw.{stack_here, next_machine}
@@ -18,7 +18,7 @@ tested : (g : Over) (c : In-Ok g)
     (arena c.self.inside.unmarked c.self.inside.marked) c.self.inside.stack.items (Ok c.in-Ok.below)
 tested g c =
     let i = c.self.inside in
-    judged_here c.args.database.now.statements c.args.theorem c.args.rule.now
+    rule_test_by_values c.args.database.now.statements c.args.theorem c.args.rule.now
     i.unmarked c.as_slice.result.now i.marked c.as_slice-2.result.now
     i.stack.items c.deref.result.now (Ok c.in-Ok.below)
     c.as_slice.ensures c.as_slice-2.ensures c.deref.ensures.value c.in-Ok.ensures.judged
@@ -47,7 +47,7 @@ returns-in-Err-clause-step g c =
       stopped =
           subst (λ (s : MachineState). applied db c.args.theorem c.args.rule.now.assertion s.stack
           ≡ Err (reason_of c.in-Err.reason)) c.self.view_is
-          (judged_here db c.args.theorem c.args.rule.now i.unmarked c.as_slice.result.now
+          (rule_test_by_values db c.args.theorem c.args.rule.now i.unmarked c.as_slice.result.now
           i.marked c.as_slice-2.result.now i.stack.items c.deref.result.now (Err c.in-Err.reason)
           c.as_slice.ensures c.as_slice-2.ensures c.deref.ensures.value c.in-Err.ensures.judged);
       symbol_count = refl;

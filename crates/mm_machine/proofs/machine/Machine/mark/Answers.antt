@@ -3,7 +3,7 @@ use Rattle.std.proofs.lemmas.Grind.{common_steps}
 use Rattle.mm_spec.specs.Laws.Stack.{top}
 use Rattle.mm_machine.specs.Arena.{arena}
 use Rattle.mm_machine.specs.State.{machine_state, span_formulas}
-use Rattle.mm_machine.proofs.MarkedFormulaLaw.{moved_machine, marked_spans_more, both_more}
+use Rattle.mm_machine.proofs.MarkedFormulaLaw.{moved_machine, marked_spans_more, mark_and_span_more}
 use Rattle.mm_machine.proofs.MarkedFormulaLaw.{marked_spans_formulas}
 use Rattle.mm_machine.proofs.machine.Machine.mark.Goals as goal
 
@@ -45,7 +45,7 @@ invariant_of-self-2 g c =
     let later : All (λ j. j < c.args.step) i.marks.items =
     subst (All (λ j. j < c.args.step)) (sym (ap (λ s. s.marks) c.self.view_is)) c.requires.later in
     rw (c.in_ok-push-2.ensures.items, c.in_ok-push.ensures.items)
-    (both_more new.unmarked new.marked new.stack.items i.marks.items i.marked_spans.items
+    (mark_and_span_more new.unmarked new.marked new.stack.items i.marks.items i.marked_spans.items
     i.symbol_count
     c.in_ok-span.span c.args.step
     (moved_machine i.unmarked i.marked i.stack.items i.marks.items i.marked_spans.items
