@@ -59,8 +59,7 @@ pub mark_and_span_more : (unmarked marked : List ℕ) (es : List Span) (marks : 
     → All (λ j. j < step) marks
     → IsMachine unmarked marked es (marks ++ step ∷ []) (marked_spans ++ e ∷ []) symbol_count
 mark_and_span_more unmarked marked es marks marked_spans symbol_count e step is_machine
-is_marked_entry later
-    = record {
+    is_marked_entry later = record {
       stack = is_machine.stack;
       spans_are_marked = All-push (IsMarkedEntry marked) marked_spans e is_machine.spans_are_marked
           is_marked_entry;
