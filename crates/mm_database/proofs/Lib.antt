@@ -5,9 +5,9 @@
 -- `theorems_by_kind` (`KindsLaw.antt`). Lists that are kept one after the other are the lists that
 -- were joined (`more_joined`, `part_between`, `CutsLaw.antt`): labels and proofs
 -- (`label_is_retained` and `proof_is_retained`, `RetainedWordsLaw.antt`), and the labels of
--- theorems (`spaced_slice`, `SpacedLaw.antt`). A frame is found by its place, which stays its own
+-- theorems (`spaced_slice`, `SpacedLaw.antt`). A frame is found by its index, which stays its own
 -- as frames are added (`frame_at_index` and `frames_at_more`, `FrameIndicesLaw.antt`).
--- `are_together` finds a `$d` of two variables by `none_before_end` and `none_right`
+-- `are_together` finds a `$d` of two variables by `none_before_x_end` and `none_before_y_end`
 -- (`DisjointIndexLaw.antt`), among pairs that begin where `StartsLaw.antt` says, and `together_is`
 -- (`TogetherLaw.antt`) says what that answers; `near_is` (`NearLaw.antt`) says it of a `$d` found
 -- shortly before a statement. `labels_counted` and others (`CountedLaw.antt`) transfer what is

@@ -12,7 +12,7 @@ ghost use Rattle.mm_database.specs.FrameTables.{AreFrameTables};
 use crate::active::latest_essentials;
 use crate::disjoint::mandatory_pairs;
 use crate::disjoint_index::disjoint_index_of;
-use crate::hypotheses::hypotheses;
+use crate::hypotheses::list_hypotheses;
 use crate::sources::Sources;
 use mm_database::disjoint_index::DisjointIndex;
 use mm_database::frames::{Frame, FrameTables, Frames};
@@ -99,7 +99,7 @@ fn frame_of<A: Allocator + Copy>(
     ensures frame { IfOk result
         (λ f. mandatory_in f ≡ mandatory_at sources.now.statements.now.list assertion) }
 {
-    hypotheses(
+    list_hypotheses(
         sources,
         last_floats,
         assertion,

@@ -76,7 +76,7 @@ fn add_variables<A: Allocator>(
 
 /// Marks the mandatory variables of an assertion, and lists them in `variables`. Replaces what
 /// `variables` has.
-fn mandatory_variables<A: Allocator>(
+fn list_mandatory_variables<A: Allocator>(
     statements: &Statements<A>,
     essentials: &[u32],
     assertion: u32,
@@ -156,7 +156,7 @@ fn sort_and_dedup_numbers<A: Allocator>(numbers: &mut Vec<u32, A>)
 
 /// Lists the mandatory hypotheses of an assertion in `hyps` and its mandatory variables in
 /// `variables`, and marks these variables. Replaces what the two lists have.
-pub(crate) fn hypotheses<A: Allocator>(
+pub(crate) fn list_hypotheses<A: Allocator>(
     sources: &Sources<A>,
     last_floats: &[u32],
     assertion: u32,
@@ -180,7 +180,7 @@ pub(crate) fn hypotheses<A: Allocator>(
 {
     let statements = sources.statements;
     active_essentials(statements, sources.essentials, assertion, hyps)?;
-    mandatory_variables(statements, hyps, assertion, stamps, variables)?;
+    list_mandatory_variables(statements, hyps, assertion, stamps, variables)?;
     add_floats(statements, last_floats, assertion, variables, hyps)?;
     sort_and_dedup_numbers(hyps);
     Ok(())

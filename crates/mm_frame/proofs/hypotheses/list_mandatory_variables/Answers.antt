@@ -5,7 +5,7 @@ use Rattle.mm_spec.specs.Frame.{symbol_names, is_variable_number, formula_at}
 use Rattle.mm_frame.proofs.HypothesesLaw.{mandatory_is, essential_before}
 use Rattle.mm_frame.proofs.StampsLaw.{stamps_fresh}
 use Rattle.mm_frame.proofs.LoopsLaw.{mandatory_first, mandatory_next}
-use Rattle.mm_frame.proofs.hypotheses.mandatory_variables.Goals as goal
+use Rattle.mm_frame.proofs.hypotheses.list_mandatory_variables.Goals as goal
 
 pub formula-requires-in-loop-essential : goal.formula-requires-in-loop-essential
 formula-requires-in-loop-essential g c =

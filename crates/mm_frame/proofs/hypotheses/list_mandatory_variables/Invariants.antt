@@ -3,7 +3,7 @@ use Rattle.std.specs.List.{list_any}
 use Rattle.mm_spec.specs.Derivation.{is_member}
 use Rattle.mm_spec.specs.Frame.{symbol_names, is_variable_number, formula_at}
 use Rattle.mm_frame.specs.Hypotheses.{AreStamps}
-use Rattle.mm_frame.proofs.hypotheses.mandatory_variables.Given as goal
+use Rattle.mm_frame.proofs.hypotheses.list_mandatory_variables.Given as goal
 
 abbrev pub invariant-loop-essential : goal.invariant-loop-essential
 invariant-loop-essential g l = record {
