@@ -12,7 +12,7 @@ use Rattle.mm_spec.specs.Laws.Stack.{IsGood, IsGoodStep}
 use Rattle.mm_spec.proofs.FindsLaw.{inside_of}
 use Rattle.mm_spec.specs.Steps.{Step, label, marked}
 use Rattle.mm_rule.specs.Assertions.{is_assertion_at}
-use Rattle.mm_check.specs.Contract.{labels}
+use Rattle.mm_check.specs.Contract.{IsLabelBelow}
 
 module _ (db : List Statement) (t j : ℕ) where
   -- the statement of a good label, and what it stands for
@@ -77,6 +77,6 @@ module _ (db : List Statement) (t j : ℕ) where
 
 -- the label of a good step is that of a statement
 pub good_labels : (db : List Statement) (t n : ℕ) (s : Step) → IsGoodStep (context_at db t) n s
-    → labels s (length db)
+    → IsLabelBelow s (length db)
 good_labels db t n (label l) good = good_below db t l good
 good_labels db t n (marked j) good = tt

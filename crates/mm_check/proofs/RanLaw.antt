@@ -19,7 +19,7 @@ use Rattle.mm_machine.specs.declared.machine.StepRefused.{StepRefused}
 use Rattle.mm_machine.specs.declared.machine.StepRefused.TheVariants.{Fault, Memory}
 use Rattle.mm_check.specs.Contract.{IsReady, StepRefuses, refusal_at}
 use Rattle.mm_check.specs.Checker.{CheckerState, checker_state, IsAtTheorem, HasPerformed, Performs}
-use Rattle.mm_check.specs.Checker.{IsStopped}
+use Rattle.mm_check.specs.Checker.{IsStepRefusal}
 use Rattle.mm_check.specs.IsReached.{IsReached, HasRun, AreEndFormulas, steps_of}
 use Rattle.mm_check.proofs.ReachLaw.{no_step_reached, next, take_step, step_at_is_good}
 use Rattle.mm_check.proofs.ReachLaw.{failing_step_refuses}
@@ -88,11 +88,12 @@ module _ (db : List Statement) (t : ℕ) (steps : List PlacedStep) (i : ℕ) (c 
           p.ran.present j (let c = p.ran.count in omega (arith, g, c))
           (repeated_step_is_marked steps i j inside (sym is))
 
-  -- the fault of a step that was stopped
-  pub stops_here : (at : ℕ) (e : StepRefused) → at ≡ (step_at steps i).at → IsStopped db t a c e
+  -- the fault of a step that was refused
+  pub step_refused_here : (at : ℕ) (e : StepRefused) → at ≡ (step_at steps i).at
+      → IsStepRefusal db t a c e
       → StepRefuses db t steps (refusal_at at e)
-  stops_here at Memory e stop = tt
-  stops_here at (Fault reason) e stop =
+  step_refused_here at Memory e stop = tt
+  step_refused_here at (Fault reason) e stop =
       rw e
       (failing_step_refuses db t steps i c.machine.stack p.ran.ends c.noted (reason_of reason)
       inside p.ran.reached

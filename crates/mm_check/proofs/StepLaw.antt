@@ -12,10 +12,10 @@ use Rattle.mm_spec.specs.Citation.{context_at}
 use Rattle.mm_spec.specs.Laws.Stack.{IsGood, step}
 use Rattle.mm_rule.specs.Assertions.{is_assertion_at}
 use Rattle.mm_machine.specs.State.{MachineState, machine_state, applied}
-use Rattle.mm_machine.specs.Stops.{Stops}
+use Rattle.mm_machine.specs.Applied.{IsRefusalOf}
 use Rattle.mm_machine.specs.declared.machine.StepRefused.{StepRefused}
 use Rattle.mm_check.specs.Checker.{CheckerState, checker_state}
-use Rattle.mm_check.specs.Checker.{Performs, IsStopped}
+use Rattle.mm_check.specs.Checker.{Performs, IsStepRefusal}
 use Rattle.mm_check.proofs.CompilerStateLaw.{assertion_rule}
 use Rattle.mm_check.proofs.RanLaw.{agree_at}
 
@@ -66,9 +66,9 @@ module _ (db : List Statement) (t : ℕ) where
         by_equality x false e = refl
         by_equality x true e = sym (ap (is_assertion_at db) (eqb-true x a e) ∙ is)
 
-    pub stops : (e : StepRefused) → Stops e (applied db t a c.machine.stack)
-        → IsStopped db t (label a) c e
+    pub stops : (e : StepRefused) → IsRefusalOf e (applied db t a c.machine.stack)
+        → IsStepRefusal db t (label a) c e
     stops e h =
-        λ ends agree. subst (Stops e)
+        λ ends agree. subst (IsRefusalOf e)
         (sym (ap (λ r. step (context_at db t) r c.machine.stack) (assertion_rule db t a is good)))
         h

@@ -11,7 +11,7 @@ use Rattle.mm_rule.specs.Assertions.{is_assertion_at}
 use Rattle.mm_rules.specs.Rules.{RuleLists, AreRules}
 use Rattle.mm_machine.specs.DisjointCache.{AreDisjointAt}
 use Rattle.mm_machine.specs.State.{MachineState}
-use Rattle.mm_machine.specs.Stops.{Stops}
+use Rattle.mm_machine.specs.Applied.{IsRefusalOf}
 use Rattle.mm_machine.specs.declared.machine.StepRefused.{StepRefused}
 use Rattle.mm_check.specs.Contract.{is_labelled_step}
 use Rattle.mm_check.specs.IsReached.{HasRun, AreEndFormulas, AreStepsOf}
@@ -59,18 +59,19 @@ pub record HasPerformed (db : List Statement) (t : ℕ) (steps : List PlacedStep
 
 -- one step leads from the checker to the next: its entries are those after the step, and its
 -- assertion is noted
-pub record Performs (db : List Statement) (t : ℕ) (a : Step) (c d : CheckerState) : Type 0 where
-  pub entries_are : (ends : List Formula) → AreEndFormulas ends c.machine.marks c.machine.formulas
-      → step_entries (context_at db t) a ends c.machine.stack ≡ Ok d.machine.stack
-  pub marks : d.machine.marks ≡ c.machine.marks
-  pub formulas : d.machine.formulas ≡ c.machine.formulas
-  pub entry : 0 < length d.machine.stack
+pub record Performs (db : List Statement) (t : ℕ) (a : Step) (old new : CheckerState) : Type 0 where
+  pub entries_are : (ends : List Formula) → AreEndFormulas ends old.machine.marks
+      old.machine.formulas
+      → step_entries (context_at db t) a ends old.machine.stack ≡ Ok new.machine.stack
+  pub marks : new.machine.marks ≡ old.machine.marks
+  pub formulas : new.machine.formulas ≡ old.machine.formulas
+  pub entry : 0 < length new.machine.stack
   pub noted : (x : ℕ)
-      → is_member d.noted x
-      ≡ (is_member c.noted x || (is_labelled_step a x && is_assertion_at db x))
+      → is_member new.noted x
+      ≡ (is_member old.noted x || (is_labelled_step a x && is_assertion_at db x))
 
--- the step is stopped for a reason for which it fails
-abbrev pub IsStopped : List Statement → ℕ → Step → CheckerState → StepRefused → Type 0
-IsStopped db t a c e =
+-- the step is refused for a reason for which it fails
+abbrev pub IsStepRefusal : List Statement → ℕ → Step → CheckerState → StepRefused → Type 0
+IsStepRefusal db t a c e =
     (ends : List Formula) → AreEndFormulas ends c.machine.marks c.machine.formulas
-    → Stops e (step_entries (context_at db t) a ends c.machine.stack)
+    → IsRefusalOf e (step_entries (context_at db t) a ends c.machine.stack)

@@ -44,15 +44,15 @@ abbrev pub StepRefuses : List Statement → ℕ → List PlacedStep → CheckRef
 StepRefuses db t steps (Faulty f) = StepFault (context_at db t) steps f
 StepRefuses db t steps Memory = Unit {0}
 
--- the refusal of a proof, a step of which was stopped at the place
+-- the refusal of a proof, a step of which was refused at the place
 abbrev pub refusal_at : ℕ → StepRefused → CheckRefused
 refusal_at at (Reasoned reason) = Faulty (fault at (code_of (reason_of reason)))
 refusal_at at Full = Memory
 
 -- if the step is a label, it is less than the number
-abbrev pub labels : Step → ℕ → Type 0
-labels (label l) n = l < n
-labels (marked j) n = Unit {0}
+abbrev pub IsLabelBelow : Step → ℕ → Type 0
+IsLabelBelow (label l) n = l < n
+IsLabelBelow (marked j) n = Unit {0}
 
 -- whether a step has the label
 abbrev pub is_labelled_step : Step → ℕ → Bool

@@ -9,7 +9,7 @@ ghost use Rattle.mm_spec.specs.Derivation.{Trees, is_member};
 ghost use Rattle.mm_spec.specs.Citation.{IsProof, Cites};
 ghost use Rattle.mm_steps.specs.Read.{as_step, IsEarlier};
 ghost use Rattle.mm_rule.specs.Assertions.{is_assertion_at};
-ghost use Rattle.mm_check.specs.Contract.{is_labelled_step, labels};
+ghost use Rattle.mm_check.specs.Contract.{is_labelled_step, IsLabelBelow};
 ghost use Rattle.mm_check.specs.Flags.{child_flags, taken_flags, step_flags_after};
 ghost use Rattle.mm_check.specs.IsReached.{AreStepsOf};
 
@@ -141,7 +141,7 @@ fn undo_step<A: Allocator>(
     entry_flags: &mut Vec<bool, A>,
     step_flags: &mut [bool],
 ) -> Result<(), AllocError>
-    requires known { labels (as_step step) (length database.now.statements) }
+    requires known { IsLabelBelow (as_step step) (length database.now.statements) }
     requires earlier { IsEarlier (as_step step) (length step_flags.old) }
     ensures noted { OnOk result
         ((a : ℕ)

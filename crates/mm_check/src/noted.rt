@@ -5,7 +5,7 @@ ghost use Rattle.std.specs.List.Sorted.{IsStrictlyIncreasing};
 ghost use Rattle.mm_spec.specs.Derivation.{is_member};
 ghost use Rattle.mm_steps.specs.Read.{as_step};
 ghost use Rattle.mm_rule.specs.Assertions.{is_assertion_at};
-ghost use Rattle.mm_check.specs.Contract.{labels, is_labelled_step};
+ghost use Rattle.mm_check.specs.Contract.{IsLabelBelow, is_labelled_step};
 
 use mm_database::Database;
 use mm_rule::{empty, is_assertion, put_number};
@@ -79,7 +79,7 @@ impl<A: Allocator> NotedAssertions<A> {
 
     /// Adds the assertion that a step applies, if it applies one.
     pub fn add_applied(&mut self, database: &Database<A>, step: Step) -> Result<(), AllocError>
-        requires known { labels (as_step step) (length database.now.statements) }
+        requires known { IsLabelBelow (as_step step) (length database.now.statements) }
         ensures { OnOk result
             ((a : ℕ)
             → is_member self.new a

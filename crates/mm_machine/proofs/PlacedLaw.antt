@@ -20,7 +20,7 @@ use Rattle.mm_machine.specs.Replaced.{replaced}
 use Rattle.mm_machine.specs.State.{span_formulas, applied, entries_after, TestsRule, IsStack}
 use Rattle.mm_machine.specs.State.{IsStackOf}
 use Rattle.mm_machine.specs.State.{MachineState, IsMachine}
-use Rattle.mm_machine.specs.Stops.{Stops, IsApplied}
+use Rattle.mm_machine.specs.Applied.{IsRefusalOf, IsApplied}
 use Rattle.mm_machine.proofs.FollowLaw.{on_ok, on_err}
 use Rattle.mm_machine.proofs.GrowLaw.{replaced_known}
 
@@ -138,11 +138,12 @@ module _ (db : List Statement) (t : ℕ) (c : CompiledRule) (unmarked marked mar
         (span_formulas (arena unmarked' marked') stack')
         e)) h
 
-    pub step_stopped : IfErr r (λ e. Stops e (entries_after (arena unmarked marked') stack below
+    pub step_refused : IfErr r (λ e. IsRefusalOf e
+        (entries_after (arena unmarked marked') stack below
         parts))
-        → IfErr r (λ e. Stops e (applied db t c.assertion
+        → IfErr r (λ e. IsRefusalOf e (applied db t c.assertion
         (span_formulas (arena unmarked marked) stack)))
-    step_stopped h = on_err r (λ e s. subst (Stops e) (sym said) s) h
+    step_refused h = on_err r (λ e s. subst (IsRefusalOf e) (sym said) s) h
 
   pub parts_below : IsCompiled db c → All (IsVariableBelow (length (drop below stack))) parts
   parts_below rule =
@@ -157,16 +158,16 @@ module _ (db : List Statement) (t : ℕ) (c : CompiledRule) (unmarked marked mar
 -- the answer of a step that changes the entries alone
 pub applied_of : {T : Type 0} (db : List Statement) (t a : ℕ) (s s' : MachineState)
     → (r : Result T StepRefused) → OnOk r (applied db t a s.stack ≡ Ok s'.stack)
-    → OnOk r (0 < length s'.stack) → IfErr r (λ e. Stops e (applied db t a s.stack))
+    → OnOk r (0 < length s'.stack) → IfErr r (λ e. IsRefusalOf e (applied db t a s.stack))
     → s'.marks ≡ s.marks → s'.formulas ≡ s.formulas → s'.symbol_count ≡ s.symbol_count
     → IsApplied db t a s s' r
-applied_of db t a s s' (Ok x) entries_are entry stopped marks formulas symbol_count = record {
+applied_of db t a s s' (Ok x) entries_are entry refused marks formulas symbol_count = record {
   applies = record { entries_are = entries_are; entry = entry; marks = marks; formulas = formulas };
-  stopped = stopped;
+  refused = refused;
   symbol_count = symbol_count;
 }
-applied_of db t a s s' (Err e) entries_are entry stopped marks formulas symbol_count =
-    record { applies = entries_are; stopped = stopped; symbol_count = symbol_count }
+applied_of db t a s s' (Err e) entries_are entry refused marks formulas symbol_count =
+    record { applies = entries_are; refused = refused; symbol_count = symbol_count }
 
 -- ---- the machine
 

@@ -13,7 +13,7 @@ ghost use Rattle.mm_machine.specs.State.{machine_state, with_mark, Repeats, span
 ghost use Rattle.mm_machine.specs.State.{first_unmarked as first_unmarked_of, appended_span};
 ghost use Rattle.mm_machine.specs.State.{entries_after};
 ghost use Rattle.mm_machine.specs.State.{IsStack, IsStackOf, IsRising, IsMarkedEntry, Moves};
-ghost use Rattle.mm_machine.specs.Stops.{Stops, IsApplied};
+ghost use Rattle.mm_machine.specs.Applied.{IsRefusalOf, IsApplied};
 
 use crate::arena::{Reason, Span, Store, Symbols, build, test_rule};
 use crate::disjoint_cache::DisjointCache;
@@ -406,8 +406,8 @@ fn replace_by_formula<A: Allocator>(
     ensures entries { OnOk result
         (entries_after (arena unmarked.old marked.now) stack.old.items below formula.now
         ≡ Ok (span_formulas (arena unmarked.new marked.now) stack.new.items)) }
-    ensures stopped { IfErr result
-        (λ e. Stops e
+    ensures refused { IfErr result
+        (λ e. IsRefusalOf e
         (entries_after (arena unmarked.old marked.now) stack.old.items below formula.now)) }
 {
     let symbols = Symbols {
@@ -442,8 +442,8 @@ fn replace_by_long_formula<A: Allocator>(
     ensures entries { OnOk result
         (entries_after (arena unmarked.old marked.now) stack.old.items below formula.now
         ≡ Ok (span_formulas (arena unmarked.new marked.now) stack.new.items)) }
-    ensures stopped { IfErr result
-        (λ e. Stops e
+    ensures refused { IfErr result
+        (λ e. IsRefusalOf e
         (entries_after (arena unmarked.old marked.now) stack.old.items below formula.now)) }
 {
     let symbols = Symbols {

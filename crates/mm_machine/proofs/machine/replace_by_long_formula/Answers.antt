@@ -48,8 +48,8 @@ returns-in-Ok-clause-entries g c =
     ∙ c.in-Ok-true.field-0-test)
     ∙ ap Ok (sym (c.in-Ok.ensures.formulas c.args.marked.now c.requires.stack))
 
-pub returns-in-Ok-false-clause-stopped : goal.returns-in-Ok-false-clause-stopped
-returns-in-Ok-false-clause-stopped g c =
+pub returns-in-Ok-false-clause-refused : goal.returns-in-Ok-false-clause-refused
+returns-in-Ok-false-clause-refused g c =
     let same =
     same_formula c.args.unmarked.now c.args.marked.now c.args.stack.now.items c.args.below
     c.args.formula.now c.as_slice.result.now c.deref.result.now c.as_slice.ensures

@@ -1,7 +1,7 @@
 use Rattle.std.proofs.Common.{◌≡◌, Ok, sym, subst}
 use Rattle.std.proofs.lemmas.Result.{err_from_is_err_and}
 use Rattle.mm_machine.specs.State.{applied}
-use Rattle.mm_machine.specs.Stops.{Stops}
+use Rattle.mm_machine.specs.Applied.{IsRefusalOf}
 use Rattle.mm_check.specs.Checker.{CheckerState, checker_state, IsAtTheorem}
 use Rattle.mm_check.proofs.StepLaw.{applies, stops}
 use Rattle.mm_check.proofs.checker.Checker.apply.Goals.{in-Ok-add, in-Err-add}
@@ -25,8 +25,8 @@ returns-in_err-apply-clause-at g c =
       disjoint_are = c.apply.ensures.cache;
     }
 
-pub returns-in_err-apply-clause-stopped : goal.returns-in_err-apply-clause-stopped
-returns-in_err-apply-clause-stopped g c =
+pub returns-in_err-apply-clause-refused : goal.returns-in_err-apply-clause-refused
+returns-in_err-apply-clause-refused g c =
     let db = c.args.database.now.statements in
     let t = c.args.theorem in
     let i = c.self.inside in
@@ -36,8 +36,8 @@ returns-in_err-apply-clause-stopped g c =
     (stops db t (checker_state i.machine i.rules.now i.noted i.cache) c.args.assertion
     c.requires.good
     c.requires.assertion e
-    (subst (λ a. Stops e (applied db t a i.machine.stack)) c.rule_of-rule.ensures.assertion_is
-    c.in_err-apply.ensures.step.stopped))
+    (subst (λ a. IsRefusalOf e (applied db t a i.machine.stack)) c.rule_of-rule.ensures.assertion_is
+    c.in_err-apply.ensures.step.refused))
 
 pub returns-clause-at : goal.returns-clause-at
 returns-clause-at g c =

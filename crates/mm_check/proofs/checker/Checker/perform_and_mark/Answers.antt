@@ -1,7 +1,7 @@
 use Rattle.std.proofs.Common.{true, false, refl, sym, ◌∙◌, subst}
 use Rattle.mm_steps.specs.Read.{as_step}
 use Rattle.mm_check.specs.Checker.{CheckerState, IsAtTheorem, Performs}
-use Rattle.mm_check.proofs.RanLaw.{step_is_ready, stops_here, performs_next}
+use Rattle.mm_check.proofs.RanLaw.{step_is_ready, step_refused_here, performs_next}
 use Rattle.mm_check.proofs.checker.Checker.perform_and_mark.Goals as goal
 
 pub perform-requires-clause-ready : goal.perform-requires-clause-ready
@@ -13,9 +13,9 @@ perform-requires-clause-ready g c =
 pub returns-in-Err-clause-fault : goal.returns-in-Err-clause-fault
 returns-in-Err-clause-fault g c =
     rw c.refusal.ensures
-    (stops_here c.args.database.now.statements c.args.theorem c.args.steps.now.steps c.args.i
+    (step_refused_here c.args.database.now.statements c.args.theorem c.args.steps.now.steps c.args.i
     c.args.self.now c.requires.performed c.requires.step (as_step c.step.result) c.step.ensures
-    c.place.result c.in-Err.stopped c.place.ensures c.in-Err.ensures.stopped)
+    c.place.result c.in-Err.refused c.place.ensures c.in-Err.ensures.refused)
 
 pub returns-in_ok-mark-clause-performed : goal.returns-in_ok-mark-clause-performed
 returns-in_ok-mark-clause-performed g c =

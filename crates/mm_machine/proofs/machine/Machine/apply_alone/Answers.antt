@@ -2,7 +2,7 @@ use Rattle.std.proofs.Common.{◌++◌, ◌∷◌, [], Ok, length, sym, ap, ◌�
 use Rattle.std.proofs.Common.{length-append}
 use Rattle.mm_spec.specs.Frame.{formula_at}
 use Rattle.mm_machine.specs.State.{machine_state}
-use Rattle.mm_machine.specs.Stops.{Applies}
+use Rattle.mm_machine.specs.Applied.{Applies}
 use Rattle.mm_machine.proofs.AloneLaw.{alone_entries, alone_long}
 use Rattle.mm_machine.proofs.machine.Machine.apply_alone.Goals as goal
 
@@ -14,7 +14,7 @@ returns-then-symbols-gt-FORMULA_LIMIT g c =
     record {
       step = record {
         applies = tt;
-        stopped =
+        refused =
             alone_long db c.args._theorem c.args.rule.now c.requires.rule c.requires.alone
             c.args.self.now.stack (omega (arith, n, c.if-symbols-gt-FORMULA_LIMIT.true));
         symbol_count = refl;
@@ -46,7 +46,7 @@ returns-in-Ok g c =
               marks = refl;
               formulas = refl;
             });
-        stopped = tt;
+        refused = tt;
         symbol_count = c.in-Ok.ensures.symbol_count;
       };
     }

@@ -3,8 +3,8 @@ use Rattle.mm_spec.specs.Frame.{symbol_names}
 use Rattle.mm_machine.specs.Arena.{arena}
 use Rattle.mm_machine.specs.State.{MachineState, machine_state, TestsRule, span_formulas, applied}
 use Rattle.mm_machine.specs.State.{reason_of}
-use Rattle.mm_machine.specs.Stops.{IsApplied}
-use Rattle.mm_machine.proofs.PlacedLaw.{rule_test_by_values, step_made, step_entry, step_stopped}
+use Rattle.mm_machine.specs.Applied.{IsApplied}
+use Rattle.mm_machine.proofs.PlacedLaw.{rule_test_by_values, step_made, step_entry, step_refused}
 use Rattle.mm_machine.proofs.PlacedLaw.{applied_of}
 use Rattle.mm_machine.proofs.PlacedLaw.{parts_below, parts_known, entries_here}
 use Rattle.mm_machine.proofs.PlacedLaw.{stack_here, next_machine}
@@ -44,7 +44,7 @@ returns-in-Err-clause-step g c =
     let db = c.args.database.now.statements in
     record {
       applies = tt;
-      stopped =
+      refused =
           subst (λ (s : MachineState). applied db c.args.theorem c.args.rule.now.assertion s.stack
           ≡ Err (reason_of c.in-Err.reason)) c.self.view_is
           (rule_test_by_values db c.args.theorem c.args.rule.now i.unmarked c.as_slice.result.now
@@ -76,10 +76,10 @@ returns-in-Ok-clause-step g c =
     i.stack.items c.in-Ok.below c.formula.result.now c.as_slice-in-Ok.ensures c.formula.ensures
     judged replacing.result replacing.new.unmarked replacing.new.stack.items
     replacing.ensures.entries)
-    (step_stopped db t c.args.rule.now i.unmarked i.marked c.as_slice-in-Ok.result.now
+    (step_refused db t c.args.rule.now i.unmarked i.marked c.as_slice-in-Ok.result.now
     i.stack.items c.in-Ok.below c.formula.result.now c.as_slice-in-Ok.ensures c.formula.ensures
     judged replacing.result replacing.new.unmarked replacing.new.stack.items
-    replacing.ensures.stopped)
+    replacing.ensures.refused)
     refl refl refl)
 
 pub test_rule-requires-clause-stack : goal.test_rule-requires-clause-stack

@@ -7,10 +7,10 @@ use Rattle.mm_machine.specs.declared.machine.StepRefused.{StepRefused}
 use Rattle.mm_machine.specs.declared.machine.StepRefused.TheVariants.{Fault, Memory}
 use Rattle.mm_machine.specs.State.{MachineState, reason_of, applied}
 
--- a step that was stopped for a reason fails for this reason
-abbrev pub Stops : StepRefused → Result (List Formula) SpecReason → Type 0
-Stops (Fault reason) r = r ≡ Err (reason_of reason)
-Stops Memory r = Unit {0}
+-- a step that was refused for a reason fails for this reason
+abbrev pub IsRefusalOf : StepRefused → Result (List Formula) SpecReason → Type 0
+IsRefusalOf (Fault reason) r = r ≡ Err (reason_of reason)
+IsRefusalOf Memory r = Unit {0}
 
 -- At theorem `t` the step of assertion `a` leads from the state `s` to the state `s'`. It changes
 -- the entries alone, and there is at least the one that it pushes.
@@ -24,5 +24,5 @@ pub record Applies (db : List Statement) (t a : ℕ) (s s' : MachineState) : Typ
 pub record IsApplied {T : Type 0} (db : List Statement) (t a : ℕ) (s s' : MachineState)
     (answer : Result T StepRefused) : Type 0 where
   pub applies : OnOk answer (Applies db t a s s')
-  pub stopped : IfErr answer (λ e. Stops e (applied db t a s.stack))
+  pub refused : IfErr answer (λ e. IsRefusalOf e (applied db t a s.stack))
   pub symbol_count : s'.symbol_count ≡ s.symbol_count
