@@ -22,7 +22,7 @@ use Rattle.mm_rules.specs.Rules.{RuleLists}
 use Rattle.mm_machine.specs.DisjointCache.{AreDisjointAt}
 use Rattle.mm_machine.specs.State.{MachineState, machine_state}
 use Rattle.mm_check.specs.Contract.{IsChecked}
-use Rattle.mm_check.specs.IsReached.{IsReached, AreStepsOf, steps_of}
+use Rattle.mm_check.specs.Reached.{IsReached, AreStepsOf, steps_of}
 use Rattle.mm_check.specs.Checker.{CheckerState, checker_state, AreOfDatabase, HasPerformed}
 use Rattle.mm_check.proofs.CitesLaw.{all_cited}
 use Rattle.mm_check.proofs.RanLaw.{none_ran}

@@ -20,7 +20,7 @@ use Rattle.mm_machine.specs.declared.machine.StepRefused.TheVariants.{Fault, Mem
 use Rattle.mm_check.specs.Contract.{IsReady, StepRefuses, refusal_at}
 use Rattle.mm_check.specs.Checker.{CheckerState, checker_state, IsAtTheorem, HasPerformed, Performs}
 use Rattle.mm_check.specs.Checker.{IsStepRefusal}
-use Rattle.mm_check.specs.IsReached.{IsReached, HasRun, AreEndFormulas, steps_of}
+use Rattle.mm_check.specs.Reached.{IsReached, HasRun, AreEndFormulas, steps_of}
 use Rattle.mm_check.proofs.ReachLaw.{no_step_reached, next, take_step, step_at_is_good}
 use Rattle.mm_check.proofs.ReachLaw.{failing_step_refuses}
 

@@ -26,7 +26,7 @@ use Rattle.mm_spec.specs.Output.{is_theorem_at, proof_end}
 use Rattle.mm_database.specs.Database.{last_place}
 use Rattle.mm_rule.specs.Assertions.{is_assertion_at}
 use Rattle.mm_check.specs.Contract.{is_labelled_step}
-use Rattle.mm_check.specs.IsReached.{IsReached, steps_of}
+use Rattle.mm_check.specs.Reached.{IsReached, steps_of}
 
 or_without_implied : (a b : Bool) → (b ≡ true → a ≡ true) → (a || b) ≡ (a || false)
 or_without_implied true b f = refl

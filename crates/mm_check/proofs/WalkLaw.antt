@@ -23,7 +23,7 @@ use Rattle.mm_steps.specs.Read.{step_at, IsEarlier}
 use Rattle.mm_rule.specs.Assertions.{is_assertion_at}
 use Rattle.mm_check.specs.Contract.{is_labelled_step}
 use Rattle.mm_check.specs.Flags.{child_flags, taken_flags, step_flags_after}
-use Rattle.mm_check.specs.IsReached.{steps_of}
+use Rattle.mm_check.specs.Reached.{steps_of}
 use Rattle.mm_check.proofs.CompilerStateLaw.{assertion_rule, hypothesis_rule}
 use Rattle.mm_check.proofs.ReachLaw.{step_at_is_good}
 use Rattle.mm_check.proofs.ForestsLaw.{forest_at, IsMove, AreMoves, move_at, proof_rows}

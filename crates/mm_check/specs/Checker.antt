@@ -14,7 +14,7 @@ use Rattle.mm_machine.specs.State.{MachineState}
 use Rattle.mm_machine.specs.Applied.{IsRefusalOf}
 use Rattle.mm_machine.specs.declared.machine.StepRefused.{StepRefused}
 use Rattle.mm_check.specs.Contract.{is_labelled_step}
-use Rattle.mm_check.specs.IsReached.{HasRun, AreEndFormulas, AreStepsOf}
+use Rattle.mm_check.specs.Reached.{HasRun, AreEndFormulas, AreStepsOf}
 
 -- a checker: the entries of its proof in progress, the rules that it borrows, the assertions that
 -- it noted, and the pairs of symbols that it knows to be disjoint

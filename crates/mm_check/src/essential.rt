@@ -11,7 +11,7 @@ ghost use Rattle.mm_steps.specs.Read.{as_step, IsEarlier};
 ghost use Rattle.mm_rule.specs.Assertions.{is_assertion_at};
 ghost use Rattle.mm_check.specs.Contract.{is_labelled_step, IsLabelBelow};
 ghost use Rattle.mm_check.specs.Flags.{child_flags, taken_flags, step_flags_after};
-ghost use Rattle.mm_check.specs.IsReached.{AreStepsOf};
+ghost use Rattle.mm_check.specs.Reached.{AreStepsOf};
 
 use crate::noted::NotedAssertions;
 use mm_database::Database;

@@ -2,7 +2,7 @@ use Rattle.std.proofs.Common.{subst, sym, ap}
 use Rattle.mm_spec.specs.Citation.{context_at}
 use Rattle.mm_spec.specs.Laws.Stack.{AreGoodSteps}
 use Rattle.mm_spec.proofs.GoodStepsLaw.{good_steps}
-use Rattle.mm_check.specs.IsReached.{steps_of}
+use Rattle.mm_check.specs.Reached.{steps_of}
 use Rattle.mm_check.proofs.checker.Checker.check.Goals as goal
 
 pub run-requires-clause-steps : goal.run-requires-clause-steps
