@@ -159,14 +159,14 @@ fn undo_step<A: Allocator>(
         noted.add_applied(database, step)?;
     }
     match step {
-        Step::Label(k) => {
-            if is_assertion(database, k) {
-                push_flags(database, k, is_essential, entry_flags)?;
+        Step::Label(statement) => {
+            if is_assertion(database, statement) {
+                push_flags(database, statement, is_essential, entry_flags)?;
             }
         }
-        Step::Marked(j) => {
+        Step::Marked(earlier) => {
             if is_essential {
-                step_flags[j as usize] = true;
+                step_flags[earlier as usize] = true;
             }
         }
     }

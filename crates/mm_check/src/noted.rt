@@ -86,9 +86,9 @@ impl<A: Allocator> NotedAssertions<A> {
             ≡ (is_member self.old a
             || (is_labelled_step (as_step step) a && is_assertion_at database.now.statements a))) }
     {
-        if let Step::Label(k) = step {
-            if is_assertion(database, k) {
-                self.add(k)?;
+        if let Step::Label(statement) = step {
+            if is_assertion(database, statement) {
+                self.add(statement)?;
             }
         }
         Ok(())

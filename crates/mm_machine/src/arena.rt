@@ -128,12 +128,12 @@ fn span_without_first(span: Span) -> Span
     }
 }
 
-/// What replaces the variable of hypothesis `j`.
-pub fn replacement_of(premises: &[Span], j: u32) -> Span
-    requires { j < length premises.now }
-    ensures { result ≡ without_first (get_or premises.now j no_symbols) }
+/// What replaces the variable of the hypothesis with this number.
+pub fn replacement_of(premises: &[Span], number: u32) -> Span
+    requires { number < length premises.now }
+    ensures { result ≡ without_first (get_or premises.now number no_symbols) }
 {
-    span_without_first(premises[j as usize])
+    span_without_first(premises[number as usize])
 }
 
 /// Whether an entry is the wanted formula with its variables replaced.
@@ -150,15 +150,15 @@ fn fits(symbols: &Symbols, premises: &[Span], wanted: &[RuleSymbol], premise: Sp
     let mut at = premise.start;
     for part in wanted {
         match *part {
-            RuleSymbol::Variable(j) => {
-                let span = replacement_of(premises, j);
+            RuleSymbol::Variable(number) => {
+                let span = replacement_of(premises, number);
                 if !begins_with(symbols, premise.store, at, premise.end, span) {
                     return false;
                 }
                 at += span.end - span.start;
             }
-            RuleSymbol::Constant(s) => {
-                if at >= premise.end || list[at] != s {
+            RuleSymbol::Constant(symbol) => {
+                if at >= premise.end || list[at] != symbol {
                     return false;
                 }
                 at += 1;
@@ -367,13 +367,13 @@ pub fn build<A: Allocator>(
     list.clear();
     for part in formula {
         match *part {
-            RuleSymbol::Variable(j) => {
-                append_symbols(symbols.formula(replacement_of(premises, j)), list)?;
+            RuleSymbol::Variable(number) => {
+                append_symbols(symbols.formula(replacement_of(premises, number)), list)?;
                 if list.len() > FORMULA_LIMIT {
                     return Ok(false);
                 }
             }
-            RuleSymbol::Constant(s) => list.push(s)?,
+            RuleSymbol::Constant(symbol) => list.push(symbol)?,
         }
     }
     Ok(list.len() <= FORMULA_LIMIT)

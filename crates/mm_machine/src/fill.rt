@@ -14,12 +14,12 @@ use mm_spec::FORMULA_LIMIT;
 
 /// Writes a symbol at index `at`.
 #[inline(always)]
-fn put_symbol(s: Sym, list: &mut [Sym], at: usize)
+fn put_symbol(symbol: Sym, list: &mut [Sym], at: usize)
     requires { at < length list.old }
     ensures same_length { length list.new ≡ length list.old }
-    ensures written { take (at + 1) list.new ≡ take at list.old ++ s ∷ [] }
+    ensures written { take (at + 1) list.new ≡ take at list.old ++ symbol ∷ [] }
 {
-    list[at] = s;
+    list[at] = symbol;
 }
 
 /// Writes two symbols from index `at` on.
@@ -139,8 +139,8 @@ pub fn fill(
     let mut spare = list.len().checked_sub(formula.len())?;
     for part in formula {
         match *part {
-            RuleSymbol::Variable(j) => {
-                let replacement = symbols.formula(replacement_of(premises, j));
+            RuleSymbol::Variable(number) => {
+                let replacement = symbols.formula(replacement_of(premises, number));
                 if replacement.len() > spare + 1 {
                     return None;
                 }
@@ -148,8 +148,8 @@ pub fn fill(
                 spare = spare + 1 - replacement.len();
                 at += replacement.len();
             }
-            RuleSymbol::Constant(s) => {
-                put_symbol(s, list, at);
+            RuleSymbol::Constant(symbol) => {
+                put_symbol(symbol, list, at);
                 at += 1;
             }
         }

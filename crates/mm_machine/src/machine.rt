@@ -163,14 +163,14 @@ impl<A: Allocator> Machine<A> {
         push_unmarked(formula, &mut self.unmarked, &mut self.stack)
     }
 
-    /// Pushes the formula of the earlier, marked step `j` again.
-    pub fn repeat(&mut self, j: u32) -> Result<(), AllocError>
-        requires { Contains self.old.marks j }
-        ensures ok { OnOk result (Repeats j self.old self.new) }
+    /// Pushes the formula of the earlier, marked step again.
+    pub fn repeat(&mut self, step: u32) -> Result<(), AllocError>
+        requires { Contains self.old.marks step }
+        ensures ok { OnOk result (Repeats step self.old self.new) }
         ensures symbol_count { self.new.symbol_count ≡ self.old.symbol_count }
     {
-        let n = index_of_mark(&self.marks, j as usize, &self.slots);
-        self.stack.push(self.marked_spans[n])?;
+        let index = index_of_mark(&self.marks, step as usize, &self.slots);
+        self.stack.push(self.marked_spans[index])?;
         Ok(())
     }
 
@@ -415,7 +415,7 @@ fn replace_by_formula<A: Allocator>(
         marked,
     };
     match fill(&symbols, &stack[below..], formula, short) {
-        Some(n) => match replace_from(below, &short[..n], unmarked, stack) {
+        Some(count) => match replace_from(below, &short[..count], unmarked, stack) {
             Err(_) => Err(StepRefused::Memory),
             Ok(()) => Ok(()),
         },

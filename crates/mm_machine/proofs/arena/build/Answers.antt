@@ -35,7 +35,7 @@ returns-then-len-gt-FORMULA_LIMIT-clause-short g c =
 pub formula-requires : goal.formula-requires
 formula-requires g c =
     variable_in c.args.symbols.now c.args.premises.now c.args.formula.now c.loop-part.part-index
-    c.part-item.result c.in-Variable.j c.replacement_of.result c.requires.premises
+    c.part-item.result c.in-Variable.number c.replacement_of.result c.requires.premises
     c.requires.formula
     c.loop-part-test.true c.part-item.is c.in-Variable.is c.replacement_of.ensures
 

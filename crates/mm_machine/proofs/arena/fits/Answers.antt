@@ -55,7 +55,7 @@ loop-part-preserved c =
           fits_in xs a e (span_formula arena p) c.loop-part.invariant.upto yes in
           let long : length (span_formula arena p) ≡ p.end - p.start =
           length_formula arena p
-          (variable_in arena es w i c.part-item.result b.in-Variable.j p c.requires.premises
+          (variable_in arena es w i c.part-item.result b.in-Variable.number p c.requires.premises
           c.requires.wanted inside c.part-item.is b.in-Variable.is b.replacement_of-span.ensures) in
           rw b.at-is (record {
             from = omega (arith, c.loop-part.invariant.from);
@@ -69,7 +69,7 @@ loop-part-preserved c =
                 ∙ ap (rest_fits arena es xs w i a e inside) long;
           })
       | in-Constant+else-at-premise+else-ne b ↦
-          let s = b.in-Constant.s in
+          let s = b.in-Constant.symbol in
           let short : a < e = b.if-at-premise.false in
           let top : e ≤ length xs = c.requires.premise.within in
           let r = b.index-list-at.result in
@@ -93,7 +93,7 @@ loop-part-preserved c =
 pub begins_with-requires-clause-span : goal.begins_with-requires-clause-span
 begins_with-requires-clause-span c =
     variable_in c.args.symbols.now c.args.premises.now c.args.wanted.now c.loop-part.part-index
-    c.part-item.result c.in-Variable.j c.replacement_of-span.result c.requires.premises
+    c.part-item.result c.in-Variable.number c.replacement_of-span.result c.requires.premises
     c.requires.wanted
     c.loop-part-test.true c.part-item.is c.in-Variable.is c.replacement_of-span.ensures
 

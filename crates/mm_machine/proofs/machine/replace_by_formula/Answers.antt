@@ -10,7 +10,7 @@ use Rattle.mm_machine.proofs.machine.replace_by_formula.Goals as goal
 
 -- the formula that was built
 formula_is : (g : Over) (c : In-Some g)
-    → take c.in-Some.n c.fill.new.list
+    → take c.in-Some.count c.fill.new.list
     ≡ replaced (arena c.args.unmarked.now c.args.marked.now)
     (drop c.args.below c.args.stack.now.items)
     c.args.formula.now
@@ -24,23 +24,23 @@ pub returns-in-Err-clause-stack : goal.returns-in-Err-clause-stack
 returns-in-Err-clause-stack g c = λ w known is.
     c.replace_from.ensures.stack w c.args.marked.now
     (formula_known c.args.unmarked.now c.args.marked.now c.args.stack.now.items c.args.below
-    c.args.formula.now (take c.in-Some.n c.fill.new.list)
+    c.args.formula.now (take c.in-Some.count c.fill.new.list)
     (formula_is g (goal.at.returns-in-Err-clause-stack g c).In-Some) w is known) is
 
 pub returns-in-Ok-clause-stack : goal.returns-in-Ok-clause-stack
 returns-in-Ok-clause-stack g c = λ w known is.
     c.replace_from.ensures.stack w c.args.marked.now
     (formula_known c.args.unmarked.now c.args.marked.now c.args.stack.now.items c.args.below
-    c.args.formula.now (take c.in-Some.n c.fill.new.list)
+    c.args.formula.now (take c.in-Some.count c.fill.new.list)
     (formula_is g (goal.at.returns-in-Ok-clause-stack g c).In-Some) w is known) is
 
 pub returns-in-Ok-clause-entries : goal.returns-in-Ok-clause-entries
 returns-in-Ok-clause-entries g c =
     entries_if_short c.args.unmarked.now c.args.marked.now c.args.stack.now.items c.args.below
     c.args.formula.now
-    (take c.in-Some.n c.fill.new.list)
+    (take c.in-Some.count c.fill.new.list)
     (formula_is g (goal.at.returns-in-Ok-clause-entries g c).In-Some)
-    (short_enough c.in-Some.n c.fill.new.list c.in-Some.ensures.short)
+    (short_enough c.in-Some.count c.fill.new.list c.in-Some.ensures.short)
     ∙ ap Ok (sym (c.in-Ok.ensures.formulas c.args.marked.now c.requires.stack))
 
 pub fill-requires-clause-premises : goal.fill-requires-clause-premises

@@ -9,13 +9,13 @@ pub invariant_of-self-2 : goal.invariant_of-self-2
 invariant_of-self-2 g c =
     let i = c.self.invariant in
     let e = c.index.result.now in
-    let inside : c.index_of_mark-n.result < length c.self.inside.marked_spans.items =
+    let inside : c.index_of_mark-index.result < length c.self.inside.marked_spans.items =
     let n = ap length c.deref.ensures.value in omega
-    (arith, c.index_of_mark-n.ensures.below, i.count, n) in
+    (arith, c.index_of_mark-index.ensures.below, i.count, n) in
     let marked : IsMarkedEntry c.self.inside.marked e =
     subst (IsMarkedEntry c.self.inside.marked) (sym c.index.ensures)
     (All-get_or
-    (IsMarkedEntry c.self.inside.marked) c.self.inside.marked_spans.items c.index_of_mark-n.result e
+    (IsMarkedEntry c.self.inside.marked) c.self.inside.marked_spans.items c.index_of_mark-index.result e
     inside
     i.spans_are_marked) in
     record {
