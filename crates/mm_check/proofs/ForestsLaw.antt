@@ -104,10 +104,10 @@ module _ (c : Context) where
             ∙ ap (λ x. postfix ts ++ x) (sym (append-nil (postfix cs)) ∙ sym q) ∙ sym o,
       )
       whole k (x ∷ []) o q z =
-          let h : l ≡ x = cc in (
+          let l_is_x : l ≡ x = cc in (
             more ts l f cs,
             d,
-            ap (λ y. postfix ts ++ (postfix cs ++ y ∷ [])) h
+            ap (λ y. postfix ts ++ (postfix cs ++ y ∷ [])) l_is_x
                 ∙ ap (λ y. postfix ts ++ y) (sym q) ∙ sym o,
           )
       whole k (x ∷ y ∷ m) o q z = absurd (omega (arith, ap length z))
@@ -168,7 +168,7 @@ module _ (c : Context) where
   are_at [] forests (suc j) then a e = absurd (cc)
   are_at (x ∷ xs) [] j then a e = absurd a
   are_at (x ∷ xs) (t ∷ ts) zero then a e =
-      let same : x ≡ then = cc in (omega arith, a.0.0, a.0.1 ∙ same)
+      let x_is_then : x ≡ then = cc in (omega arith, a.0.0, a.0.1 ∙ x_is_then)
   are_at (x ∷ xs) (t ∷ ts) (suc j) then a e =
       let r = are_at xs ts j then a.1 e in let l = r.0 in (omega (arith, l), r.1, r.2)
 

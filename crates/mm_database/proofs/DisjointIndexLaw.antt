@@ -462,8 +462,8 @@ module _ (b : BlockLists) (ps : List (ℕ × ℕ)) (rising : AreRising ps) (x y 
           last (inl n) = closed q (passed q m n)
               (ap (λ j. is_active_local b j at) (sym s) ∙ j_is_active)
           last (inr n) =
-              let t : q ≡ y_end - 1 = omega (arith, q_lt_y_end, n) in
-              let u = ap (λ i. (get_or ps i (0, 0)).1) t in
+              let q_is_previous_y_end : q ≡ y_end - 1 = omega (arith, q_lt_y_end, n) in
+              let u = ap (λ i. (get_or ps i (0, 0)).1) q_is_previous_y_end in
               let v =
               order_of p (x_end - 1) (omega (arith, p_lt_x_end)) (omega (arith, sl, wl))
               (e ∙ sym ex) in

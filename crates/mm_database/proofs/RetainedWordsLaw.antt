@@ -123,15 +123,15 @@ module _ (text : List ℕ) (ws : List Word) where
         each k s e =
             let d : Outline = record { kind = kind.Open; keyword = 0; middle = 0; end = 0 } in
             let n = length-map os (statement_of text ws) in
-            let l : k < length os =
+            let k_lt_length_os : k < length os =
             let m = slice_get_within (statements text ws os) k s e in omega (arith, m, n) in
             let is : Some (statement_of text ws (get_or os k d)) ≡ Some s =
-            sym (statement_is text ws os k d l) ∙ e in
+            sym (statement_is text ws os k d k_lt_length_os) ∙ e in
             let same : statement_of text ws (get_or os k d) ≡ s = cc in
             subst (λ t. IsRetained text t (get_or (map (retained_words ws) os) k [])) same
             (subst (IsRetained text (statement_of text ws (get_or os k d)))
-            (sym (get_mapped (retained_words ws) os k d [] l))
-            (retained_is (get_or os k d) (h k d l)))
+            (sym (get_mapped (retained_words ws) os k d [] k_lt_length_os))
+            (retained_is (get_or os k d) (h k d k_lt_length_os)))
 
 -- ---- what the kept words of a statement answer
 

@@ -58,8 +58,9 @@ starts_more ps n starts r lt below h = record {
         subst (IsStart ps x) (sym (get_or_push starts n 0 x (sym e)))
         (subst (λ y. IsStart ps y n) (sym e) here)
     each x l (inr ne) =
-        let m : x < length starts = omega (arith, l, longer, ne) in
-        subst (IsStart ps x) (sym (get_or_append_left starts (n ∷ []) 0 x m)) (h.each x m)
+        let x_lt_length_starts : x < length starts = omega (arith, l, longer, ne) in
+        subst (IsStart ps x) (sym (get_or_append_left starts (n ∷ []) 0 x x_lt_length_starts))
+        (h.each x x_lt_length_starts)
 
 -- a pair more, whose symbol has a start
 pub starts_next : (ps : List (ℕ × ℕ)) (n : ℕ) (starts : List ℕ)

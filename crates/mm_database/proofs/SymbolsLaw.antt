@@ -100,7 +100,8 @@ not_first : (ws e : List Bytes) (w : Bytes) → is_in w e ≡ true
     → is_in w (first_occurrences e ws) ≡ false
 not_first [] e w word_in_e = refl
 not_first (v ∷ ws) e w word_in_e =
-    by_head (not_first ws e w word_in_e) (not_first ws (v ∷ e) w) (is_in v e) refl (bytes_eq w v) refl
+    by_head (not_first ws e w word_in_e) (not_first ws (v ∷ e) w) (is_in v e) refl (bytes_eq w v)
+    refl
   where
     by_head : is_in w (first_occurrences e ws) ≡ false
         → (is_in w (v ∷ e) ≡ true → is_in w (first_occurrences (v ∷ e) ws) ≡ false) → (b : Bool)
@@ -144,8 +145,8 @@ pub get_in : (ns : List Bytes) (s : ℕ) (w : Bytes) → slice_get ns s ≡ Some
 get_in [] zero w h = absurd (let e : None ≡ Some w = h in cc)
 get_in [] (suc s) w h = absurd (let e : None ≡ Some w = h in cc)
 get_in (n ∷ ns) zero w h =
-    let e : n ≡ w = (let q : Some n ≡ Some w = h in cc) in
-    ap (λ b. b || is_in w ns) (ap (bytes_eq w) e ∙ itself w)
+    let n_is_w : n ≡ w = (let q : Some n ≡ Some w = h in cc) in
+    ap (λ b. b || is_in w ns) (ap (bytes_eq w) n_is_w ∙ itself w)
 get_in (n ∷ ns) (suc s) w h = ap (λ b. bytes_eq w n || b) (get_in ns s w h) ∙ or-true (bytes_eq w n)
 
 -- each name stands once

@@ -127,11 +127,11 @@ module _ (heads : List ℕ) (links : List (ℕ × ℕ)) (x k : ℕ) (here : x < 
           omega (arith, s, w, e)
       down i l (inr n) =
           let m = long in
-          let less : i < length links = omega (arith, l, m, n) in
+          let i_lt_length_links : i < length links = omega (arith, l, m, n) in
           let s =
           ap (λ (q : ℕ × ℕ). q.1)
-          (get_or_append_left links ((k, get_or heads x 0) ∷ []) (0, 0) i less) in
-          let d = h.down i less in
+          (get_or_append_left links ((k, get_or heads x 0) ∷ []) (0, 0) i i_lt_length_links) in
+          let d = h.down i i_lt_length_links in
           omega (arith, s, d)
 
 module _ (has : ℕ → ℕ → Bool) (heads : List ℕ) (links : List (ℕ × ℕ)) (s x k : ℕ) (is : s ≡ x)
@@ -209,19 +209,19 @@ module _ (has : ℕ → ℕ → Bool) (heads : List ℕ) (links : List (ℕ × �
         }
         by_equality (inr n) =
             let c = length-set heads x (length links + 1) in
-            let other : HasChain (has y) k links (get_or heads y 0) =
+            let has_chain : HasChain (has y) k links (get_or heads y 0) =
             h y (omega (arith, l, c)) in
             record {
-              statements = other.statements;
+              statements = has_chain.statements;
               chain =
                   subst
-                  (λ n. IsLinkChain (links ++ (k, get_or heads x 0) ∷ []) n other.statements)
+                  (λ n. IsLinkChain (links ++ (k, get_or heads x 0) ∷ []) n has_chain.statements)
                   (sym (get_or-set_other heads x y (length links + 1) 0 n))
                   (chain_with_more_links links (k, get_or heads x 0) (get_or heads y 0)
-                  other.statements
-                  other.chain);
-              rising = other.rising;
-              members_are = λ j. other.members_are j
+                  has_chain.statements
+                  has_chain.chain);
+              rising = has_chain.rising;
+              members_are = λ j. has_chain.members_are j
                   ∙ sym (ap (λ b. has y j || (b && nat_eq j k))
                   (ne_eqb y s (λ e. n (e ∙ is)))
                   ∙ or-false (has y j));

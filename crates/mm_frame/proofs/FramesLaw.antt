@@ -42,7 +42,8 @@ typed_none db k ts t e = record {
     by_order j v h l is on (inl m) =
         t.alone j v m l is (stays_earlier db j k (k + 1) (omega arith) (omega arith) on)
     by_order j v h l is on (inr m) =
-        absurd (let same : j ≡ k = omega arith in let z = sym is ∙ ap (typed_variable_at db) same
+        absurd (let j_is_k : j ≡ k = omega arith in let z = sym is
+        ∙ ap (typed_variable_at db) j_is_k
         ∙ e in cc)
 
 pub typed_some : (db : List Statement) → IsSound db → (k v : ℕ) (ts : List ℕ) → k < length db
@@ -86,9 +87,9 @@ typed_some db sound k v ts few t e = record {
         get_or-set_other ts v u k 0 n
         ∙ t.alone j u m l is (stays_earlier db j k (k + 1) (omega arith) (omega arith) on)
     alone j u j_lt_next_k l is on (inr m) q =
-        let same : k ≡ j = omega arith in
-        let s = same_Some _ _ (sym is ∙ sym (ap (typed_variable_at db) same) ∙ e) in
-        ap (λ i. get_or (set ts v k) i 0) s ∙ here ∙ same
+        let k_is_j : k ≡ j = omega arith in
+        let s = same_Some _ _ (sym is ∙ sym (ap (typed_variable_at db) k_is_j) ∙ e) in
+        ap (λ i. get_or (set ts v k) i 0) s ∙ here ∙ k_is_j
 
 -- ---- the frames
 

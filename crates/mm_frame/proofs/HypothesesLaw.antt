@@ -46,10 +46,10 @@ rising_is (y ∷ ys) a inc h = (
     tail : (k : ℕ) → get_or (y ∷ ys) (k + 1) 0 < get_or (y ∷ ys) (k + 1 + 1) 0
         → get_or ys k 0 < get_or ys (k + 1) 0
     tail k s =
-        let e : k + 1 ≡ suc k = omega arith in
+        let next_k_is_next_k : k + 1 ≡ suc k = omega arith in
         let f : k + 1 + 1 ≡ suc (k + 1) = omega arith in
         subst (λ i. get_or ys k 0 < get_or (y ∷ ys) i 0) f
-        (subst (λ i. get_or (y ∷ ys) i 0 < get_or (y ∷ ys) (k + 1 + 1) 0) e s)
+        (subst (λ i. get_or (y ∷ ys) i 0 < get_or (y ∷ ys) (k + 1 + 1) 0) next_k_is_next_k s)
 
 filter_filter : (p q : ℕ → Bool) (xs : List ℕ)
     → filter p (filter q xs) ≡ filter (λ j. q j && p j) xs
@@ -141,30 +141,32 @@ module _ (db : List Statement) (k : ℕ) where
           → list_any (is_member (mandatory_variables db k)) (formula_at db j) ≡ true
           → is_active db j k ≡ true → list_any (is_float_of db k ts j) variables ≡ true
       float_found j j_lt_k t m active_at_k =
-          let n : j < length db = omega arith in
-          let f = floating_typed db sound j n t in
+          let j_lt_length_db : j < length db = omega arith in
+          let f = floating_typed db sound j j_lt_length_db t in
           let v = f.0 in
           let x = f.2 in
           let c = index_of x.typecode.word (symbol_names db) in
           let both =
-          sym (ap (list_any (is_member (mandatory_variables db k))) (formula_is db sound j v n x))
+          sym (ap (list_any (is_member (mandatory_variables db k)))
+          (formula_is db sound j v j_lt_length_db x))
           ∙ m in
           let no =
           member_filter (is_variable_number db)
           (formula_at db k ++ flat_map (formula_at db) (active_of is_essential db k)) c
           ∙ ap (λ b. b
-          && is_member (formula_at db k ++ flat_map (formula_at db) (active_of is_essential db k)) c)
-          (typecode_constant db sound j v n x) in
+          && is_member (formula_at db k ++ flat_map (formula_at db) (active_of is_essential db k))
+          c)
+          (typecode_constant db sound j v j_lt_length_db x) in
           let yes =
           sym (or-false (is_member (mandatory_variables db k) v))
           ∙ sym (ap (λ b. b || (is_member (mandatory_variables db k) v || false)) no) ∙ both in
-          let on = sym (float_active db sound j v n x k j_lt_k) ∙ active_at_k in
-          let same = typed.alone j v j_lt_k (variable_below db sound j v n x) f.1 on in
+          let on = sym (float_active db sound j v j_lt_length_db x k j_lt_k) ∙ active_at_k in
+          let same = typed.alone j v j_lt_k (variable_below db sound j v j_lt_length_db x) f.1 on in
           any_of (is_float_of db k ts j) variables v (variables_are v ∙ yes)
           (ap₂ (λ p q. p && q) (eq-eqb j (get_or ts v 0) (sym same))
           (ap₂ (λ p q. not p && q)
           (ne_eqb (get_or ts v 0) never
-          (λ e. let few = sound.few in absurd (omega (arith, e, same, n, few))))
+          (λ e. let few = sound.few in absurd (omega (arith, e, same, j_lt_length_db, few))))
           (ap (λ i. stays db i k) same
           ∙ on)))
 
@@ -186,14 +188,15 @@ module _ (db : List Statement) (k : ℕ) where
           (sym (and_parts (not (nat_eq t never)) (stays db t k) rest).0
           ∙ ap not (eq-eqb t never z))) in
           let l : j < k = subst (λ i. i < k) (sym same) s.0 in
-          let n : j < length db = omega arith in
+          let j_lt_length_db : j < length db = omega arith in
           let at : typed_variable_at db j ≡ Some v = ap (typed_variable_at db) same ∙ s.1 in
-          let x = typed_float db sound j v n at in
+          let x = typed_float db sound j v j_lt_length_db at in
           let c = index_of x.typecode.word (symbol_names db) in (
-            float_active db sound j v n x k l ∙ ap (λ i. stays db i k) same
+            float_active db sound j v j_lt_length_db x k l ∙ ap (λ i. stays db i k) same
                 ∙ (and_parts (not (nat_eq t never)) (stays db t k) rest).1,
-            floating_is db sound j v n x,
-            ap (list_any (is_member (mandatory_variables db k))) (formula_is db sound j v n x)
+            floating_is db sound j v j_lt_length_db x,
+            ap (list_any (is_member (mandatory_variables db k)))
+                (formula_is db sound j v j_lt_length_db x)
                 ∙ ap (λ b. is_member (mandatory_variables db k) c || (b || false)) m
                 ∙ or-true (is_member (mandatory_variables db k) c),
             l,
@@ -271,7 +274,8 @@ module _ (db : List Statement) (k : ℕ) where
                   → (is_member es j || list_any (is_float_of db k ts j) variables) ≡ true
               by_essential true t e =
                   ap (λ b. b || list_any (is_float_of db k ts j) variables)
-                  (essential_is j ∙ ap₂ (λ p q. p && q) t (ap₂ (λ p q. p && q) a (lt-ltb j k j_lt_k)))
+                  (essential_is j ∙ ap₂ (λ p q. p && q) t
+                  (ap₂ (λ p q. p && q) a (lt-ltb j k j_lt_k)))
               by_essential false t e =
                   ap (λ b. is_member es j || b)
                   (float_found j j_lt_k

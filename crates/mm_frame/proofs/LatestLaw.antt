@@ -104,8 +104,8 @@ module _ (test : Statement → Bool) (db : List Statement) where
           (λ t. true≢false
           (sym (on_earlier i k (k + 1) (omega arith) (omega arith) t) ∙ x.after i l o))
       by_order i h o (inr g) =
-          let same : i ≡ k = omega arith in
-          ap (λ b. b && stays db i (k + 1)) (ap (λ i. list_any test (statement_at db i)) same ∙ e)
+          let i_is_k : i ≡ k = omega arith in
+          ap (λ b. b && stays db i (k + 1)) (ap (λ i. list_any test (statement_at db i)) i_is_k ∙ e)
 
   pub latest_start : (last : ℕ) → last ≡ never → IsLatest test db 0 last
   latest_start last e = record { found = λ n. absurd (n e); after = λ i h o. absurd (omega arith) }
@@ -202,8 +202,8 @@ module _ (test : Statement → Bool) (db : List Statement) where
               → (is_member (xs ++ last ∷ []) i ≡ true) ⊎ ((next ≢ never) × (i ≤ next))
           by_order (inl m) = inr (by_presence m (cases_eq next never) (cases_lt next i))
           by_order (inr m) =
-              let same : i ≡ last = omega arith in
-              inl (member_push xs last i ∙ ap (λ b. is_member xs i || b) (eq-eqb i last same)
+              let i_is_last : i ≡ last = omega arith in
+              inl (member_push xs last i ∙ ap (λ b. is_member xs i || b) (eq-eqb i last i_is_last)
               ∙ or-true (is_member xs i))
 
   pub walked_end : IsLocalTest test → (k : ℕ) (xs : List ℕ) (last : ℕ) → IsWalked k xs last
@@ -246,8 +246,8 @@ each_pushed test db xs ys last k length_xs_is_next_k e old new = record {
         (sym (ap (λ zs. get_or zs i 0) e
         ∙ get_or_append_left xs (last ∷ []) 0 i (omega (arith, n, l)))) (old i (omega arith))
     by_order i i_le_next_k (inr l) =
-        let same : i ≡ length xs = omega (arith, n, i_le_next_k, l) in
+        let i_is_length_xs : i ≡ length xs = omega (arith, n, i_le_next_k, l) in
         let j : i ≡ k + 1 = omega arith in
         subst (IsLatest test db i)
-        (sym (ap (λ zs. get_or zs i 0) e ∙ ap (λ q. get_or (xs ++ last ∷ []) q 0) same
+        (sym (ap (λ zs. get_or zs i 0) e ∙ ap (λ q. get_or (xs ++ last ∷ []) q 0) i_is_length_xs
         ∙ get_or-append_seam xs last [] 0)) (subst (λ q. IsLatest test db q last) (sym j) new)

@@ -21,8 +21,8 @@ module _ (b : BlockLists) (ps : List (ℕ × ℕ)) where
 
   pub covers_itself : (q : ℕ) → Covers b ps q q
   covers_itself q p l m =
-      let e : q ≡ p = omega arith in
-      subst (λ i. IsCovered b (pair_at i) (pair_at q)) e (refl, omega arith)
+      let q_is_p : q ≡ p = omega arith in
+      subst (λ i. IsCovered b (pair_at i) (pair_at q)) q_is_p (refl, omega arith)
 
   -- the pair before `first` is covered, and so are those which it covers
   pub covers_before : (first at s : ℕ) → 0 < first → first ≤ at → Covers b ps first at

@@ -35,11 +35,12 @@ module _ (c : Context) (a : Frame) (hypotheses : a.hypotheses ≡ []) (pairs : a
   step_alone : (es : List Formula) → step c (Some (assertion a)) es
       ≡ pick true true true (nat_le (length a.formula) formula_limit) (es ++ a.formula ∷ [])
   step_alone es =
-      let none : length a.hypotheses ≡ 0 = ap length hypotheses in
+      let length_hypotheses_is_0 : length a.hypotheses ≡ 0 = ap length hypotheses in
       let n = length es - length a.hypotheses in
-      let all : length es ≤ n = omega (arith, none) in
+      let all : length es ≤ n = omega (arith, length_hypotheses_is_0) in
       let σ = found c a.hypotheses [] in
-      ap (λ b. apply c a b (take n es) (drop n es)) (le-leb _ _ (omega (arith, none)))
+      ap (λ b. apply c a b (take n es) (drop n es))
+      (le-leb _ _ (omega (arith, length_hypotheses_is_0)))
       ∙ ap₂ (λ below premises. apply c a true below premises) (take_all n es all)
       (drop_all n es all)
       ∙ ap₂ (λ matched apart. pick true matched apart

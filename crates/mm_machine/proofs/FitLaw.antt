@@ -70,7 +70,7 @@ module _ (xs : Arena) (es : List Span) (parts : List RuleSymbol) (hs : List Hypo
 
       pub fit_next : fit_from j at ≡ (one && fit_from (j + 1) next)
       fit_next =
-          let more : suc j ≡ j + 1 = omega arith in
+          let next_j_is_next_j : suc j ≡ j + 1 = omega arith in
           ap₂ (λ u v. same (map (span_formula xs) u)
           (map (replaced xs es) (all_parts (drop at parts) j v)))
           (drop_more es j no_symbols many) hs_here
@@ -78,7 +78,8 @@ module _ (xs : Arena) (es : List Span) (parts : List RuleSymbol) (hs : List Hypo
           (replaced xs es (hypothesis_parts (drop at parts) j h))
           && same (map (span_formula xs) (drop (j + 1) es))
           (map (replaced xs es) (all_parts u n (drop (j + 1) hs))))
-          (drop-drop (part_count h) at parts ∙ ap (λ n. drop n parts) (sym tested.next_is)) more
+          (drop-drop (part_count h) at parts ∙ ap (λ n. drop n parts) (sym tested.next_is))
+          next_j_is_next_j
           ∙ ap (λ b. b && fit_from (j + 1) next) (sym tested.one_is)
 
       pub part_count_next : at + total_part_count (drop j hs) ≡ length parts

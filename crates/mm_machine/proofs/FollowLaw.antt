@@ -65,7 +65,7 @@ rest_follows from (e ∷ xs) ys to h = by_store e.store (λ f. rest_follows f xs
     by_store Marked on h = on from h
 
 follow_rises : (from : ℕ) (es : List Span) (to : ℕ) → Follow from es to → from ≤ to
-follow_rises from [] to h = let e : from ≡ to = h in omega (arith, e)
+follow_rises from [] to h = let from_is_to : from ≡ to = h in omega (arith, from_is_to)
 follow_rises from (e ∷ es) to h = by_store e.store (λ f. follow_rises f es to) h
   where
     by_store : (p : Store) → ((f : ℕ) → Follow f es to → f ≤ to) → One p e from es to → from ≤ to
@@ -75,7 +75,11 @@ follow_rises from (e ∷ es) to h = by_store e.store (λ f. follow_rises f es to
 pub unmarked_follows : (from : ℕ) (es : List Span) (to n : ℕ) → to ≤ n → Follow from es to
     → Follow from (es ++ span Unmarked to n ∷ []) n
 unmarked_follows from [] to n to_le_n h =
-    let e : from ≡ to = h in (sym e, (let m : from ≤ n = omega (arith, e, to_le_n) in m), refl)
+    let from_is_to : from ≡ to = h in (
+      sym from_is_to,
+      (let from_le_n : from ≤ n = omega (arith, from_is_to, to_le_n) in from_le_n),
+      refl,
+    )
 unmarked_follows from (e ∷ es) to n to_le_n h = by_store e.store
     (λ f. unmarked_follows f es to n to_le_n) h
   where

@@ -44,9 +44,9 @@ rising_more xs n up below a b h l = by_order (cases_lt b (length xs))
         let y = get_or_append_left xs (n ∷ []) 0 b k in
         omega (arith, u, x, y)
     by_order (inr k) =
-        let same : b ≡ length xs = omega (arith, k, l, length-append xs (n ∷ [])) in
+        let b_is_length_xs : b ≡ length xs = omega (arith, k, l, length-append xs (n ∷ [])) in
         let y : get_or (xs ++ n ∷ []) b 0 ≡ n =
-        subst (λ i. get_or (xs ++ n ∷ []) i 0 ≡ n) (sym same) at_end in
+        subst (λ i. get_or (xs ++ n ∷ []) i 0 ≡ n) (sym b_is_length_xs) at_end in
         last (cases_lt a (length xs)) y
       where
         last : (a < length xs) ⊎ (length xs ≤ a) → get_or (xs ++ n ∷ []) b 0 ≡ n
@@ -56,7 +56,14 @@ rising_more xs n up below a b h l = by_order (cases_lt b (length xs))
             let z = All-get_or (λ j. j < n) xs a 0 m below in
             omega (arith, x, y, z)
         last (inr m) y =
-            let e : a ≡ length xs = omega (arith, m, h, l, length-append xs (n ∷ [])) in
+            let a_is_length_xs : a ≡ length xs = omega (
+              arith,
+              m,
+              h,
+              l,
+              length-append xs
+                  (n ∷ []),
+            ) in
             let x : get_or (xs ++ n ∷ []) a 0 ≡ n =
-            subst (λ i. get_or (xs ++ n ∷ []) i 0 ≡ n) (sym e) at_end in
+            subst (λ i. get_or (xs ++ n ∷ []) i 0 ≡ n) (sym a_is_length_xs) at_end in
             omega (arith, x, y)

@@ -43,14 +43,14 @@ module _ (db : List Statement) (t : ℕ) (hs : List Formula) (xs : Arena) (es : 
       → replacement xs es (floating_index db hs x) ≡ σ x
   replacement_is x is_bound =
       let j = floating_index db hs x in
-      let below : j < length hs = first_below db hs x is_bound in
-      let here : IsIn xs (get_or es j no_symbols) =
-      All-get_or (IsIn xs) es j no_symbols (omega (arith, below, count)) inside in
+      let j_lt_length_hs : j < length hs = first_below db hs x is_bound in
+      let is_in : IsIn xs (get_or es j no_symbols) =
+      All-get_or (IsIn xs) es j no_symbols (omega (arith, j_lt_length_hs, count)) inside in
       let many : length (span_formulas xs es) ≡ length hs =
       length-map es (span_formula xs) ∙ count in
       formula_tail (symbols_of xs (get_or es j no_symbols).store) (get_or es j no_symbols).start
-      (get_or es j no_symbols).end here.rising
-      ∙ ap tail (span_formula_at xs es j (omega (arith, below, count)))
+      (get_or es j no_symbols).end is_in.rising
+      ∙ ap tail (span_formula_at xs es j (omega (arith, j_lt_length_hs, count)))
       ∙ sym (found_first db t hs (span_formulas xs es) x many is_bound)
 
   pub replaced_is_substituted : (f : Formula) → AreBound (context_at db t) hs f
@@ -124,13 +124,13 @@ judged db t c xs stack premises rule fits top inside many b1 b2 e1 e2 =
     let hs = a.hypotheses in
     let es = span_formulas xs stack in
     let m = length stack - length c.hypotheses in
-    let long : length es ≡ length stack = length-map stack (span_formula xs) in
+    let length_es_is_length_stack : length es ≡ length stack = length-map stack (span_formula xs) in
     let hypotheses : length c.hypotheses ≡ length hs =
     sym (length_all_parts c.parts 0 c.hypotheses) ∙ ap length rule.hypotheses_are
     ∙ length-map hs (parts_of db hs) in
-    let n : length es - length hs ≡ m = omega (arith, long, hypotheses) in
+    let n : length es - length hs ≡ m = omega (arith, length_es_is_length_stack, hypotheses) in
     let enough : nat_le (length hs) (length es) ≡ true =
-    le-leb _ _ (omega (arith, long, hypotheses, fits)) in
+    le-leb _ _ (omega (arith, length_es_is_length_stack, hypotheses, fits)) in
     let count : length premises ≡ length hs = many ∙ hypotheses in
     let ps = span_formulas xs premises in
     let σ' : Substitution = σ db t hs xs premises inside count in
@@ -195,10 +195,11 @@ pub too_few_at : (db : List Statement) (t : ℕ) (c : CompiledRule) (xs : Arena)
 too_few_at db t c xs stack rule few =
     let a = frame_at db c.assertion in
     let es = span_formulas xs stack in
-    let long : length es ≡ length stack = length-map stack (span_formula xs) in
+    let length_es_is_length_stack : length es ≡ length stack = length-map stack (span_formula xs) in
     let hypotheses : length c.hypotheses ≡ length a.hypotheses =
     sym (length_all_parts c.parts 0 c.hypotheses) ∙ ap length rule.hypotheses_are
     ∙ length-map a.hypotheses (parts_of db a.hypotheses) in
     let n = length es - length a.hypotheses in
     ap (λ b. apply (context_at db t) a b (take n es) (drop n es))
-    (lt-leb (length a.hypotheses) (length es) (omega (arith, long, hypotheses, few)))
+    (lt-leb (length a.hypotheses) (length es) (omega
+    (arith, length_es_is_length_stack, hypotheses, few)))

@@ -78,12 +78,13 @@ least_first F at front t back f p none is =
     let later : AllByRecursion (λ (u : Token). t.at < u.at) back =
     recursion_from_All (λ (u : Token). t.at < u.at) back
     (pairs_head Earlier t back (pairs_back Earlier front (t ∷ back) p)) in
-    let same : f.at ≡ t.at = (subst (AllByRecursion (λ (g : Fault). g.at ≡ t.at)) is (at t)).0 in
+    let f_at_is_t_at : f.at ≡ t.at = (subst (AllByRecursion (λ (g : Fault). g.at ≡ t.at)) is
+    (at t)).0 in
     let all : flat_map F (front ++ t ∷ back) ≡ f ∷ flat_map F back =
     flat_map-append F front (t ∷ back) ∙ ap₂ (λ a b. a ++ (b ++ flat_map F back)) none is in
     ap least all
     ∙ first_least f (flat_map F back)
-    (subst (λ n. AllByRecursion (λ (g : Fault). n < g.at) (flat_map F back)) (sym same)
+    (subst (λ n. AllByRecursion (λ (g : Fault). n < g.at) (flat_map F back)) (sym f_at_is_t_at)
     (each_later F at t.at back later))
 
 word_at : (db : List Statement) (k : ℕ) → AreAt (word_faults db k)

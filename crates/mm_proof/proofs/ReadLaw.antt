@@ -36,14 +36,14 @@ theorem_is db k ps h q = by_statement (slice_get db k) refl h q
         → option_map proof_of o ≡ Some ps → IsProvable db k ps
     by_statement None e h q = absurd (true≢false (sym h))
     by_statement (Some (provable l p xs a qs d)) e h q =
-        let same : qs ≡ ps = cc in
+        let qs_is_ps : qs ≡ ps = cc in
         record {
           label = l;
           keyword = p;
           symbols = xs;
           equals = a;
           dot = d;
-          is = e ∙ ap (λ z. Some (provable l p xs a z d)) same;
+          is = e ∙ ap (λ z. Some (provable l p xs a z d)) qs_is_ps;
         }
     by_statement (Some s) e h q = absurd (true≢false (sym h))
 

@@ -83,11 +83,11 @@ spelled_in : (db : List Statement) (k : ℕ) (s : Statement) → slice_get db k 
 spelled_in [] zero s e = absurd (cc)
 spelled_in [] (suc k) s e = absurd (cc)
 spelled_in (x ∷ db) zero s e =
-    let same : x ≡ s = cc in
+    let x_is_s : x ≡ s = cc in
     record {
       before = [];
       after = flat_map spelled db;
-      is = ap (λ z. spelled z ++ flat_map spelled db) same;
+      is = ap (λ z. spelled z ++ flat_map spelled db) x_is_s;
     }
 spelled_in (x ∷ db) (suc k) s e =
     let r = spelled_in db k s e in

@@ -42,9 +42,9 @@ module _ (db : List Statement) (k : ℕ) (w : Bytes) where
     where
       before : (i : ℕ) → (nat_eq i j || false) ≡ true → i < 0 + k
       before i e =
-          let same : i ≡ j = eqb-true i j (lone (nat_eq i j) e) in let h = is_before db j k
+          let i_is_j : i ≡ j = eqb-true i j (lone (nat_eq i j) e) in let h = is_before db j k
           active_at_k in
-          omega (arith, same, h)
+          omega (arith, i_is_j, h)
 
       other : (i : ℕ) → nat_eq i j ≡ false → (c : Bool) → labelled i ≡ c → passes i ≡ false
       other i e true l = absurd (true≢false (sym (eq-eqb i j (only i l)) ∙ e))

@@ -69,10 +69,10 @@ module _ (db : List Statement) where
           ap (λ z. get_or (slice_set t y n) z 0) (eqb-true x y (sym e))
           ∙ get_or-set_same t y n 0 inside ∙ z
       by_binding false e b =
-          let other : x ≢ y = λ h. true≢false (sym (eq-eqb x y h) ∙ sym e) in
+          let x_not_y : x ≢ y = λ h. true≢false (sym (eq-eqb x y h) ∙ sym e) in
           let o = old x b in
           let z : get_or t x 0 ≡ n + suc (floating_index db hs x) = omega (arith, o) in
-          get_or-set_other t y x n 0 other ∙ z
+          get_or-set_other t y x n 0 x_not_y ∙ z
 
   module _ (hyps : List ℕ) where
     abbrev pub hs : ℕ → List Formula

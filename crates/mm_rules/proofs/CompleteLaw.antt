@@ -18,8 +18,8 @@ module _ (db : List Statement) (complete : AreComplete db) (j : ℕ) where
       → is_active_some (Some s) (stays db j (length db)) ≡ true
       → rule_at db (length db) j ≡ rule_of db j s
   at_end s e a =
-      let below : j < length db = inside_of db j s e in
-      let before : nat_lt j (length db) ≡ true = lt-ltb j (length db) below in
+      let j_lt_length_db : j < length db = inside_of db j s e in
+      let before : nat_lt j (length db) ≡ true = lt-ltb j (length db) j_lt_length_db in
       ap₂ (λ b o. elim (b && is_active_some o (stays db j (length db)))
       [ false ↦ None | true ↦ elim o [ None ↦ None | Some s ↦ rule_of db j s ] ]) before e
       ∙ ap (λ b. elim b [ false ↦ None | true ↦ rule_of db j s ]) a

@@ -38,24 +38,24 @@ undo_step-requires-clause-known g c =
     let db = c.args.database.now.statements in
     let steps = c.args.steps.now.steps in
     let i = c.loop-i.i - 1 in
-    let inside : i < length steps =
+    let i_lt_length_steps : i < length steps =
     omega (arith, c.loop-i-test.true, c.loop-i.auto.i, c.len-i.ensures) in
     good_labels db c.args.theorem i (as_step c.step.result)
     (step_at_is_good (context_at db c.args.theorem) steps i i
-    (as_step c.step.result) inside c.requires.steps.good refl c.step.ensures)
+    (as_step c.step.result) i_lt_length_steps c.requires.steps.good refl c.step.ensures)
 
 pub undo_step-requires-clause-earlier : goal.undo_step-requires-clause-earlier
 undo_step-requires-clause-earlier g c =
     let db = c.args.database.now.statements in
     let steps = c.args.steps.now.steps in
     let i = c.loop-i.i - 1 in
-    let inside : i < length steps =
+    let i_lt_length_steps : i < length steps =
     omega (arith, c.loop-i-test.true, c.loop-i.auto.i, c.len-i.ensures) in
     let many = ap length c.deref_mut.ensures.value ∙ c.loop-i.invariant.many in
     earlier_of (context_at db c.args.theorem) i (length c.deref_mut.result.now)
-    (as_step c.step.result) (omega (arith, inside, many))
+    (as_step c.step.result) (omega (arith, i_lt_length_steps, many))
     (step_at_is_good (context_at db c.args.theorem) steps i i
-    (as_step c.step.result) inside c.requires.steps.good refl c.step.ensures)
+    (as_step c.step.result) i_lt_length_steps c.requires.steps.good refl c.step.ensures)
 
 pub loop-i-preserved : goal.loop-i-preserved
 loop-i-preserved g c =
@@ -63,7 +63,7 @@ loop-i-preserved g c =
     let steps = c.args.steps.now.steps in
     let i = c.loop-i.i - 1 in
     let step_flags = c.loop-i.step_flags.items in
-    let inside : i < length steps =
+    let i_lt_length_steps : i < length steps =
     omega (arith, c.loop-i-test.true, c.loop-i.auto.i, c.len-i.ensures) in
     let next : c.loop-i.i ≡ suc i = omega (arith, c.loop-i-test.true) in
     let needed : c.if-flag.is_essential ≡ (c.pop_flag-flag.result || flag_at step_flags i) =
@@ -72,7 +72,7 @@ loop-i-preserved g c =
           ∙ sym (or_left c.pop_flag-flag.result (flag_at step_flags i) w.if-flag.true)
       | else-flag w ↦ w.is_essential-is ∙ w.index.ensures
           ∙ sym (get_or_default step_flags i false w.index.result.now
-          (omega (arith, inside, c.loop-i.invariant.many)))
+          (omega (arith, i_lt_length_steps, c.loop-i.invariant.many)))
           ∙ sym (ap (λ f. f || flag_at step_flags i) w.if-flag.false)
     ] in
     let want : c.undo_step.new.step_flags
@@ -88,7 +88,7 @@ loop-i-preserved g c =
     (ap length want ∙ step_flags_count c.if-flag.is_essential (as_step c.step.result) step_flags
     ∙ long) in
     walk_here db c.args.theorem steps c.loop-i.i i c.loop-i.entry_flags.items step_flags
-    c.loop-i.noted c.loop-i.invariant inside next c.pop_flag-flag.new.entry_flags.items
+    c.loop-i.noted c.loop-i.invariant i_lt_length_steps next c.pop_flag-flag.new.entry_flags.items
     c.pop_flag-flag.result c.if-flag.is_essential
     (as_step c.step.result) c.undo_step.new.entry_flags.items _ c.undo_step.new.noted
     c.pop_flag-flag.ensures needed c.requires.steps.good c.step.ensures

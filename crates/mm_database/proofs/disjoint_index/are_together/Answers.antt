@@ -43,7 +43,7 @@ returns-then-is_open_at-clause-found g c =
     let il = c.loop-pairs.invariant.0 in
     let wl = c.loop-pairs.invariant.2 in
     let wr = c.loop-pairs.invariant.3 in
-    let inside : x_end - 1 < start = omega (arith, some, il) in
+    let previous_x_end_lt_start : x_end - 1 < start = omega (arith, some, il) in
     let known : x_end - 1 < length ps = omega (arith, some, wl) in
     let known_too : y_end - 1 < length ps = omega (arith, many, wr) in
     let is_open : nat_le at (end_of b j) ≡ true =
@@ -55,7 +55,8 @@ returns-then-is_open_at-clause-found g c =
       ap₂ (has_pair ps) (sym has_y) same ∙ at_has ps (y_end - 1) (0, 0) known_too,
       ap₂ (λ p q. p && q)
           (lt-ltb j at
-          (is_before b ps c.requires.ordered.rising x at start parted (x_end - 1) inside has_x))
+          (is_before b ps c.requires.ordered.rising x at start parted (x_end - 1)
+          previous_x_end_lt_start has_x))
           is_open,
     )
 

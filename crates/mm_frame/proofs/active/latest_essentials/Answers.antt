@@ -16,10 +16,10 @@ last_open-last-requires-clause-candidate g c =
     let e = c.loop-statement.auto.statement-end in
     let n = c.len-statement-end.ensures.len in
     let h = c.loop-statement-test.true in
-    let few : k < never = omega (arith, s, e, h, n) in
+    let k_lt_never : k < never = omega (arith, s, e, h, n) in
     elim c.if-is_essential.branch [
       | then-is_essential w ↦ rw w.candidate-is
-          (candidate_self t db k few (sym c.is_essential.ensures ∙ w.if-is_essential.true))
+          (candidate_self t db k k_lt_never (sym c.is_essential.ensures ∙ w.if-is_essential.true))
       | else-is_essential w ↦
           let m = c.loop-statement.invariant.count in
           let v = w.index.result.now in

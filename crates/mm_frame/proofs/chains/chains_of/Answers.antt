@@ -11,13 +11,13 @@ loop-statement-init g c =
     let heads = c.in_ok-heads.heads.items in
     let n = c.symbol_count.result in
     let are : heads ≡ replicate n 0 = c.in_ok-heads.ensures.items_if_clones_equal (λ y e. e) in
-    let long : length heads ≡ n = ap length are ∙ length-replicate n 0 in
+    let length_heads_is_n : length heads ≡ n = ap length are ∙ length-replicate n 0 in
     let empty : (x : ℕ) → x < length heads → get_or heads x 0 ≡ 0 =
     λ x l. ap (λ (ys : List ℕ). get_or ys x 0) are
-    ∙ get_or-replicate n x 0 0 (omega (arith, l, long)) in
+    ∙ get_or-replicate n x 0 0 (omega (arith, l, length_heads_is_n)) in
     record {
       within = let e = c.len-statement.ensures.len in omega (arith, e);
-      count = long ∙ c.symbol_count.ensures.count;
+      count = length_heads_is_n ∙ c.symbol_count.ensures.count;
       linked = rw c.new.ensures.items (linked_none heads empty);
       chains = rw (c.new.ensures.items, c.len-statement.ensures.len) (none_yet db heads empty);
     }

@@ -14,11 +14,12 @@ returns g c = ok_then c.symbol_pairs.result c.symbol_pairs.ensures (λ v e.
     let b = c.args.sources.now.statements.now.blocks in
     let k = c.args.assertion in
     let m = c.requires.assertion in
-    let h : k ≤ length db = omega (arith, m) in
+    let k_le_length_db : k ≤ length db = omega (arith, m) in
     let ps = c.args.sources.now.disjoint_index.now.pairs in
     let variables = c.args.variables.now in
     e ∙ ap (map (λ p. pair p.0 p.1)) c.deref-2.ensures.value
-    ∙ pairs_are db b c.blocks-2.ensures.theirs k h ps c.requires.sources.index_is.members_are
+    ∙ pairs_are db b c.blocks-2.ensures.theirs k k_le_length_db ps
+    c.requires.sources.index_is.members_are
     variables
     c.sort_and_dedup_pairs.new.pairs.items
     c.requires.variables

@@ -17,7 +17,7 @@ returns g c =
     let b = c.args.statements.now.blocks in
     let ps = c.in_ok-pairs.pairs.items in
     let ss = c.in_ok-skips.skips.items in
-    let is : IsDisjointIndex c.args.statements.now.list b (pair_lists ps ss) =
+    let is_disjoint_index : IsDisjointIndex c.args.statements.now.list b (pair_lists ps ss) =
     record {
       members_are = c.in_ok-pairs.ensures.members_are;
       ordered = record {
@@ -30,4 +30,4 @@ returns g c =
             (rw (← c.blocks-2.ensures.blocks) c.in_ok-skips.ensures);
       };
     } in
-    rw c.new.ensures is
+    rw c.new.ensures is_disjoint_index

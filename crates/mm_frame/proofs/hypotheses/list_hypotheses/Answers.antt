@@ -21,9 +21,10 @@ returns-clause-hyps g c =
     let k = c.args.assertion in
     let ts = c.args.last_floats.now in
     let h = c.requires.assertion in
-    let l : k ≤ length db = omega (arith, h) in
-    hypotheses_are db k c.requires.sources.sound l ts c.requires.ready.last_floats_are
-    c.list_mandatory_variables.new.variables.items c.in_ok-list_mandatory_variables.ensures.variables
+    let k_le_length_db : k ≤ length db = omega (arith, h) in
+    hypotheses_are db k c.requires.sources.sound k_le_length_db ts c.requires.ready.last_floats_are
+    c.list_mandatory_variables.new.variables.items
+    c.in_ok-list_mandatory_variables.ensures.variables
     c.active_essentials.new.into.items
     c.sort_and_dedup_numbers.new.numbers.items
     c.in_ok-active_essentials.ensures c.sort_and_dedup_numbers.ensures.rising

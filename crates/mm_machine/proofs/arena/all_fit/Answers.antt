@@ -40,8 +40,8 @@ returns-then-not-is_fitting c =
     ap (λ (r : CompiledRule). r.hypotheses) c.rule.view_is in
     let parts_are : c.rule.inside.parts.now ≡ parts =
     ap (λ (r : CompiledRule). r.parts) c.rule.view_is in
-    let inside : j < length hs = subst (λ z. j < length z) hs_are c.loop-j-test.true in
-    let many : j < length es = omega (arith, inside, c.requires.count) in
+    let j_lt_length_hs : j < length hs = subst (λ z. j < length z) hs_are c.loop-j-test.true in
+    let j_lt_length_es : j < length es = omega (arith, j_lt_length_hs, c.requires.count) in
     let h_is : h ≡ get_or hs j h =
     c.hypothesis-item.is ∙ ap (λ z. get_or z j h) hs_are in
     let tested : IsTested xs es parts hs j at h one next =
@@ -55,7 +55,7 @@ returns-then-not-is_fitting c =
           (replaced xs es (take ((at + n) - at) (drop at z)))) parts_are) w.at-is
     ] in
     sym (c.loop-j.invariant.left
-    ∙ fit_next xs es parts hs j at h one next tested inside many h_is
+    ∙ fit_next xs es parts hs j at h one next tested j_lt_length_hs j_lt_length_es h_is
     ∙ ap (λ b. b && fit_from xs es parts hs (j + 1) next) c.if-not-is_fitting.true)
 
 pub loop-j-preserved : goal.loop-j-preserved
@@ -73,8 +73,8 @@ loop-j-preserved c =
     ap (λ (r : CompiledRule). r.hypotheses) c.rule.view_is in
     let parts_are : c.rule.inside.parts.now ≡ parts =
     ap (λ (r : CompiledRule). r.parts) c.rule.view_is in
-    let inside : j < length hs = subst (λ z. j < length z) hs_are c.loop-j-test.true in
-    let many : j < length es = omega (arith, inside, c.requires.count) in
+    let j_lt_length_hs : j < length hs = subst (λ z. j < length z) hs_are c.loop-j-test.true in
+    let j_lt_length_es : j < length es = omega (arith, j_lt_length_hs, c.requires.count) in
     let h_is : h ≡ get_or hs j h =
     c.hypothesis-item.is ∙ ap (λ z. get_or z j h) hs_are in
     let tested : IsTested xs es parts hs j at h one next =
@@ -88,10 +88,11 @@ loop-j-preserved c =
           (replaced xs es (take ((at + n) - at) (drop at z)))) parts_are) w.at-is
     ] in
     record {
-      part_count_is = part_count_next xs es parts hs j at h one next tested inside many h_is
+      part_count_is = part_count_next xs es parts hs j at h one next tested j_lt_length_hs
+          j_lt_length_es h_is
           c.loop-j.invariant.part_count_is;
       left = c.loop-j.invariant.left
-          ∙ fit_next xs es parts hs j at h one next tested inside many h_is
+          ∙ fit_next xs es parts hs j at h one next tested j_lt_length_hs j_lt_length_es h_is
           ∙ ap (λ b. b && fit_from xs es parts hs (j + 1) next) c.if-not-is_fitting.false;
     }
 

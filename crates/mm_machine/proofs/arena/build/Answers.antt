@@ -20,12 +20,12 @@ returns-then-len-gt-FORMULA_LIMIT-clause-short g c =
     let f = c.args.formula.now in
     let i = c.loop-part.part-index in
     let u = c.formula.result.now in
-    let inside : i < length f = c.loop-part-test.true in
+    let i_lt_length_f : i < length f = c.loop-part-test.true in
     let is : replaced_part xs es c.part-item.result ≡ u =
     ap (replaced_part xs es) c.in-Variable.is
     ∙ sym (c.formula.ensures ∙ ap (span_formula xs) c.replacement_of.ensures) in
     let l : length (replaced xs es (take i f)) + length u ≤ length (replaced xs es f) =
-    longer xs es f i c.part-item.result u inside (sym c.part-item.is) is in
+    longer xs es f i c.part-item.result u i_lt_length_f (sym c.part-item.is) is in
     let m : length c.append_symbols.new.list.items ≡ length (replaced xs es (take i f)) + length u =
     ap length c.in_ok-append_symbols-in-Variable.ensures ∙ length-append c.loop-part.list.items u
     ∙ ap (λ z. length z + length u) c.loop-part.invariant in

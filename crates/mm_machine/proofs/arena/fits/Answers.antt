@@ -22,16 +22,16 @@ returns-then-not-begins_with c =
     let a = c.loop-part.at in
     let e = c.args.premise.end in
     let p = c.replacement_of-span.result in
-    let inside : i < length w = c.loop-part-test.true in
+    let i_lt_length_w : i < length w = c.loop-part-test.true in
     let is : replaced_part arena es c.part-item.result ≡ span_formula arena p =
     ap (replaced_part arena es) c.in-Variable.is
     ∙ sym (ap (span_formula arena) c.replacement_of-span.ensures) in
     let no : starts_with nat_eq (slice_range xs a e) (span_formula arena p) ≡ false =
     sym c.begins_with.ensures.value ∙ c.if-not-begins_with.true in
     sym (c.loop-part.invariant.left
-    ∙ one_more arena es xs w i a e inside c.part-item.result (span_formula arena p)
+    ∙ one_more arena es xs w i a e i_lt_length_w c.part-item.result (span_formula arena p)
     (sym c.part-item.is) is
-    ∙ ap (λ b. b && rest_fits arena es xs w i a e inside (length (span_formula arena p))) no)
+    ∙ ap (λ b. b && rest_fits arena es xs w i a e i_lt_length_w (length (span_formula arena p))) no)
 
 pub loop-part-preserved : goal.loop-part-preserved
 loop-part-preserved c =
@@ -42,7 +42,7 @@ loop-part-preserved c =
     let i = c.loop-part.part-index in
     let a = c.loop-part.at in
     let e = c.args.premise.end in
-    let inside : i < length w = c.loop-part-test.true in
+    let i_lt_length_w : i < length w = c.loop-part-test.true in
     elim c.match-part.branch [
       | in-Variable+else-not-begins_with b ↦
           let p = b.replacement_of-span.result in
@@ -56,37 +56,39 @@ loop-part-preserved c =
           let long : length (span_formula arena p) ≡ p.end - p.start =
           length_formula arena p
           (variable_in arena es w i c.part-item.result b.in-Variable.number p c.requires.premises
-          c.requires.wanted inside c.part-item.is b.in-Variable.is b.replacement_of-span.ensures) in
+          c.requires.wanted i_lt_length_w c.part-item.is b.in-Variable.is
+          b.replacement_of-span.ensures) in
           rw b.at-is (record {
             from = omega (arith, c.loop-part.invariant.from);
             upto = omega (arith, upto, long);
             left =
                 c.loop-part.invariant.left
-                ∙ one_more arena es xs w i a e inside c.part-item.result (span_formula arena p)
+                ∙ one_more arena es xs w i a e i_lt_length_w c.part-item.result
+                (span_formula arena p)
                 (sym c.part-item.is) is
                 ∙ ap (λ z. z
-                && rest_fits arena es xs w i a e inside (length (span_formula arena p))) yes
-                ∙ ap (rest_fits arena es xs w i a e inside) long;
+                && rest_fits arena es xs w i a e i_lt_length_w (length (span_formula arena p))) yes
+                ∙ ap (rest_fits arena es xs w i a e i_lt_length_w) long;
           })
       | in-Constant+else-at-premise+else-ne b ↦
           let s = b.in-Constant.symbol in
-          let short : a < e = b.if-at-premise.false in
+          let a_lt_e : a < e = b.if-at-premise.false in
           let top : e ≤ length xs = c.requires.premise.within in
           let r = b.index-list-at.result in
           let here : r ≡ get_or xs a 0 =
           b.index-list-at.is ∙ ap (λ z. get_or z a r) c.list-list.ensures
-          ∙ get_or_default xs a r 0 (omega (arith, short, top)) in
+          ∙ get_or_default xs a r 0 (omega (arith, a_lt_e, top)) in
           let same_symbol : r ≡ s = eqb-true r s (not-false _ (sym b.ne.ensures ∙ b.if-ne.false)) in
           let yes : starts_with nat_eq (slice_range xs a e) (s ∷ []) ≡ true =
-          first_is xs a e s short top ∙ eq-eqb s (get_or xs a 0) (sym same_symbol ∙ here) in
+          first_is xs a e s a_lt_e top ∙ eq-eqb s (get_or xs a 0) (sym same_symbol ∙ here) in
           rw b.at-is (record {
             from = omega (arith, c.loop-part.invariant.from);
             upto = omega arith;
             left =
                 c.loop-part.invariant.left
-                ∙ one_more arena es xs w i a e inside c.part-item.result (s ∷ [])
+                ∙ one_more arena es xs w i a e i_lt_length_w c.part-item.result (s ∷ [])
                 (sym c.part-item.is) (ap (replaced_part arena es) b.in-Constant.is)
-                ∙ ap (λ z. z && rest_fits arena es xs w i a e inside 1) yes;
+                ∙ ap (λ z. z && rest_fits arena es xs w i a e i_lt_length_w 1) yes;
           })
     ]
 

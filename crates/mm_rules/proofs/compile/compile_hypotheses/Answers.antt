@@ -23,18 +23,18 @@ loop-index-preserved g c =
     let j = c.loop-index.index in
     let hypotheses = c.loop-index.hypotheses.items in
     let parts = c.loop-index.parts.items in
-    let inside : j < length hyps = c.loop-index-test.true in
+    let j_lt_length_hyps : j < length hyps = c.loop-index-test.true in
     let h = get_or hyps j 0 in
     let f = c.formula-formula.result.now in
     let is : f ≡ formula_at db h = c.formula-formula.ensures.formula in
     let us = map (parts_of db hs) (map (formula_at db) (take j hyps)) in
     let next : map (parts_of db hs) (map (formula_at db) (take (j + 1) hyps))
     ≡ us ++ parts_of db hs f ∷ [] =
-    ap (map (parts_of db hs)) (map_take_more (formula_at db) hyps j 0 inside)
+    ap (map (parts_of db hs)) (map_take_more (formula_at db) hyps j 0 j_lt_length_hyps)
     ∙ map_push (parts_of db hs) (map (formula_at db) (take j hyps)) (formula_at db h)
     ∙ ap (λ z. us ++ parts_of db hs z ∷ []) (sym is) in
     let covered : AreCovered db hs f =
-    subst (AreCovered db hs) (sym is) (c.requires.bound j 0 inside) in
+    subst (AreCovered db hs) (sym is) (c.requires.bound j 0 j_lt_length_hyps) in
     let same : numbered_parts db c.args.numbers.now f ≡ parts_of db hs f =
     numbered_same db hs c.args.numbers.now c.requires.placed f covered in
     elim c.if-is_first_floating.branch [
@@ -57,7 +57,7 @@ loop-index-preserved g c =
           let more = parts_of db hs f in
           let n = length f in
           let grown = w.in_ok-compile_formula.ensures ∙ ap (λ z. parts ++ z) same in
-          let long : n ≡ length more =
+          let n_is_length_more : n ≡ length more =
           sym (length-map f (part_of db hs)) in
           rw (
             w.hypotheses-is,
@@ -65,10 +65,12 @@ loop-index-preserved g c =
             w.in_ok-push-2.ensures.items,
             grown,
           ) (record {
-            parts_are = essential_more parts more hypotheses n long v.part_count_is us v.parts_are
+            parts_are = essential_more parts more hypotheses n n_is_length_more v.part_count_is us
+                v.parts_are
                 ∙ sym next;
             count = omega (arith, v.count, length-append hypotheses (Essential n ∷ []));
-            part_count_is = essential_part_count parts more hypotheses n long v.part_count_is;
+            part_count_is = essential_part_count parts more hypotheses n n_is_length_more
+                v.part_count_is;
             below =
                 All-append (IsVariableBelow (length hyps)) parts more v.below
                 (subst (λ n. All (IsVariableBelow n) more) (length-map hyps (formula_at db))

@@ -7,7 +7,8 @@ returns-after-repeat-clause-performs g c =
     elim c.match-repeat.branch [
       | in-Ok w ↦ let ok = w.in-Ok.ensures.ok in
           rw (w.result-is, c.in-Marked.is, ← c.self.view_is)
-          (repeated_step_performs c.args.database.now.statements c.args.theorem _ c.in-Marked.earlier ok.0
+          (repeated_step_performs c.args.database.now.statements c.args.theorem _
+          c.in-Marked.earlier ok.0
           c.repeat.new.self
           ok.2 ok.3 ok.4)
       | in-Err w ↦ rw w.result-is tt

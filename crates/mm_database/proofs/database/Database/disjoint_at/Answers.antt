@@ -26,11 +26,11 @@ returns-else-are_together_near g c =
     let y = c.args.y in
     let n = as_many_statements _ _ _ _ _ c.self.view_is in
     let there = c.requires in
-    let within : k ≤ length s.list = omega (arith, n, there) in
+    let k_le_length_list : k ≤ length s.list = omega (arith, n, there) in
     let apart : nat_eq x y ≡ false =
     ne_eqb x y (λ e. c.if-number.true (c.number.ensures ∙ e ∙ sym c.number-2.ensures)) in
     let blocks = c.blocks-else-are_together_near.ensures in
-    together_is s.list s.blocks blocks.theirs k within _
+    together_is s.list s.blocks blocks.theirs k k_le_length_list _
     c.self.invariant.frame_tables_are.disjoint_index.members_are c.are_together.result x y
     (rw (← blocks.blocks) c.are_together.ensures.found)
     (rw (← blocks.blocks) c.are_together.ensures.none)

@@ -38,9 +38,9 @@ loop-i-preserved g c =
                 (let n = inv.count in
                 get_or_append_left vs (v ∷ []) false j (omega (arith, n, l)) ∙ inv.each j w l e)
             | inr l ↦
-                (let is : j ≡ i = omega (arith, h, l) in
-                get_or_push vs v false j (inv.count ∙ sym is)
-                ∙ last w (ap (slice_get (names_of es)) (sym is) ∙ e))
+                (let j_is_i : j ≡ i = omega (arith, h, l) in
+                get_or_push vs v false j (inv.count ∙ sym j_is_i)
+                ∙ last w (ap (slice_get (names_of es)) (sym j_is_i) ∙ e))
           ];
     }
 

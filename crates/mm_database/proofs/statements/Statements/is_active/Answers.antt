@@ -24,9 +24,9 @@ returns-then-statement-at g c =
     let n = ap (λ (p : ParsedStatements). length p.list) c.self.view_is in
     let m = length-map os (statement_of f.text.now ws) in
     let at = c.requires.at in
-    let within : k ≤ length os = omega (arith, n, m, at) in
+    let k_le_length_os : k ≤ length os = omega (arith, n, m, at) in
     let there = has_outline f.text.now ws os b _ c.self.view_is j c.requires.statement in
-    let law = active_is f.text.now ws os b c.self.invariant.blocks j k there within o in
+    let law = active_is f.text.now ws os b c.self.invariant.blocks j k there k_le_length_os o in
     let test : (nat_lt j k && active_kind (get_or os j o).kind (nat_le k (end_of b j)))
     ≡ active_kind o.kind (nat_le k (end_of b j)) =
     ap₂ (λ t p. t && active_kind p.kind (nat_le k (end_of b j))) (lt-ltb j k c.if-statement-at.true)

@@ -15,7 +15,8 @@ invariant_of-self-2 g c =
     let marked : IsMarkedEntry c.self.inside.marked e =
     subst (IsMarkedEntry c.self.inside.marked) (sym c.index.ensures)
     (All-get_or
-    (IsMarkedEntry c.self.inside.marked) c.self.inside.marked_spans.items c.index_of_mark-index.result e
+    (IsMarkedEntry c.self.inside.marked) c.self.inside.marked_spans.items
+    c.index_of_mark-index.result e
     inside
     i.spans_are_marked) in
     record {
