@@ -1,4 +1,4 @@
--- In a normal proof the loop of `read_words` keeps the steps of the words so far, and `faulty_word`
+-- In a normal proof the loop of `read_normal` keeps the steps of the words so far, and `faulty_word`
 -- (`LeastLaw.antt`) shows that the first fault is the least. In a compressed proof `label_first`
 -- and `brackets_first` (`BracketsLaw.antt`) give the faults of the labels. The loops over letters
 -- keep `Continues`: all letters give the steps so far and what the rest gives (`letters_more`,

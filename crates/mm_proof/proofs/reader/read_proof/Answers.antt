@@ -18,14 +18,14 @@ use Rattle.mm_spec.specs.Text.{fault}
 use Rattle.mm_spec.specs.declared.Code.TheVariants.{EmptyProof}
 use Rattle.mm_proof.proofs.reader.read_proof.Goals as goal
 
-pub read_words-requires-clause-theorem : goal.read_words-requires-clause-theorem
-read_words-requires-clause-theorem g c =
+pub read_normal-requires-clause-theorem : goal.read_normal-requires-clause-theorem
+read_normal-requires-clause-theorem g c =
     theorem_within c.args.database.now.statements c.args.theorem _
     (theorem_is c.args.database.now.statements c.args.theorem _ c.requires
     c.proof_words-words.ensures.words)
 
-pub read_words-requires-clause-rising : goal.read_words-requires-clause-rising
-read_words-requires-clause-rising g c =
+pub read_normal-requires-clause-rising : goal.read_normal-requires-clause-rising
+read_normal-requires-clause-rising g c =
     let db = c.args.database.now.statements in
     let t = theorem_is db c.args.theorem _ c.requires c.proof_words-words.ensures.words in
     proof_rising c.args.database.now.text c.args.database.now.read c.args.database.now.with_open _
@@ -80,7 +80,7 @@ returns-clause-steps g c =
     let label = c.bytes.ensures ∙ ap (λ t. slice_range t first.start first.end) c.text.ensures in
     let test : bytes_eq (slice_range text first.start first.end) (codes "(") ≡ false =
     ap₂ bytes_eq (sym label) (sym c.as_slice.ensures) ∙ sym c.eq.ensures ∙ c.if-eq.false in
-    ok_then c.read_words.result c.read_words.ensures.steps (λ s e. e
+    ok_then c.read_normal.result c.read_normal.ensures.steps (λ s e. e
     ∙ ap (read c.args.theorem) (sym (normal_steps_at db c.args.theorem _ t (token_of text first)
     (as_tokens text c.in-Some.rest.now)
     (ap (as_tokens text) c.in-Some.ensures.cases.0) test)))
@@ -94,7 +94,7 @@ returns-clause-sound g c =
     let label = c.bytes.ensures ∙ ap (λ t. slice_range t first.start first.end) c.text.ensures in
     let test : bytes_eq (slice_range text first.start first.end) (codes "(") ≡ false =
     ap₂ bytes_eq (sym label) (sym c.as_slice.ensures) ∙ sym c.eq.ensures ∙ c.if-eq.false in
-    ok_then c.read_words.result c.read_words.ensures.sound (λ s h. normal_at db c.args.theorem _ t
+    ok_then c.read_normal.result c.read_normal.ensures.sound (λ s h. normal_at db c.args.theorem _ t
     (token_of text first) (as_tokens text c.in-Some.rest.now)
     (ap (as_tokens text) c.in-Some.ensures.cases.0) test ∙ h)
 
@@ -107,7 +107,7 @@ returns-clause-fault g c =
     let label = c.bytes.ensures ∙ ap (λ t. slice_range t first.start first.end) c.text.ensures in
     let test : bytes_eq (slice_range text first.start first.end) (codes "(") ≡ false =
     ap₂ bytes_eq (sym label) (sym c.as_slice.ensures) ∙ sym c.eq.ensures ∙ c.if-eq.false in
-    err_then c.read_words.result c.read_words.ensures.fault
+    err_then c.read_normal.result c.read_normal.ensures.fault
     (λ r s. subst (λ fs. IsProofRefusal fs r)
     (sym (normal_at db c.args.theorem _ t (token_of text first) (as_tokens text c.in-Some.rest.now)
     (ap (as_tokens text) c.in-Some.ensures.cases.0) test)) s)

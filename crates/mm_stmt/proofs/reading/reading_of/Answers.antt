@@ -8,11 +8,11 @@ use Rattle.mm_stmt.proofs.reading.reading_of.Goals as goal
 
 pub into_reading-requires : goal.into_reading-requires
 into_reading-requires g c =
-    let read = c.args.read in
-    let db = statements c.args.text.now (words_of c.args.text.now) read.outlines.items in
+    let outlined = c.args.outlined in
+    let db = statements c.args.text.now (words_of c.args.text.now) outlined.outlines.items in
     let kept = c.requires.kept in
     let symbols =
-    are_symbols _ _ _ _ kept.keeps (names_of read.scope.names.symbols)
+    are_symbols _ _ _ _ kept.keeps (names_of outlined.scope.names.symbols)
     c.in_ok-variable_flags.variable_flags.items kept.names_are c.in_ok-variable_flags.ensures.count
     c.in_ok-variable_flags.ensures.each in
     let names = ap length kept.names_are in

@@ -8,7 +8,7 @@ use Rattle.mm_outline.specs.Parts.{token_of}
 use Rattle.mm_proof.proofs.LeastLaw.{faulty_word, question_fault, label_fault}
 use Rattle.mm_proof.proofs.LettersLaw.{err_same}
 use Rattle.mm_proof.specs.declared.refused.ProofRefused.TheVariants.{Memory}
-use Rattle.mm_proof.proofs.reader.read_words.Goals as goal
+use Rattle.mm_proof.proofs.reader.read_normal.Goals as goal
 
 pub returns-then-eq-clause-fault : goal.returns-then-eq-clause-fault
 returns-then-eq-clause-fault g c =

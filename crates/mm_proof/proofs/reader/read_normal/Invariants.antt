@@ -3,7 +3,7 @@ use Rattle.mm_spec.specs.NormalProof.{normal_steps}
 use Rattle.mm_outline.specs.Parts.{as_tokens}
 use Rattle.mm_steps.specs.Read.{read}
 use Rattle.mm_proof.specs.Refused.{word_faults}
-use Rattle.mm_proof.proofs.reader.read_words.Given as goal
+use Rattle.mm_proof.proofs.reader.read_normal.Given as goal
 
 abbrev pub invariant-loop-word : goal.invariant-loop-word
 invariant-loop-word g l = record {
