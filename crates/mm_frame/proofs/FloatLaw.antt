@@ -29,10 +29,10 @@ use Rattle.mm_outline.proofs.FaultlessLaw.{floating_new}
 use Rattle.mm_outline.proofs.AmongLaw.{typed_in, among_active}
 
 -- a word that has a place is there
-pub place_get : (w : Bytes) (ws : List Bytes) → index_of w ws < length ws
+pub index_get : (w : Bytes) (ws : List Bytes) → index_of w ws < length ws
     → slice_get ws (index_of w ws) ≡ Some w
-place_get w [] h = absurd (omega arith)
-place_get w (v ∷ vs) h = by_equality (bytes_eq w v) refl h (place_get w vs)
+index_get w [] h = absurd (omega arith)
+index_get w (v ∷ vs) h = by_equality (bytes_eq w v) refl h (index_get w vs)
   where
     by_equality : (b : Bool) → bytes_eq w v ≡ b
         → (elim b [ true ↦ 0 | false ↦ suc (index_of w vs) ]) < length (v ∷ vs)
@@ -201,7 +201,7 @@ module _ (db : List Statement) (sound : IsSound db) where
         ≡ false
     typecode_constant =
         ap (λ o. elim o [ None ↦ false | Some w ↦ is_in w (flat_map variables_of db) ])
-        (place_get f.typecode.word (symbol_names db) typecode_below)
+        (index_get f.typecode.word (symbol_names db) typecode_below)
         ∙ sound.no_constant_is_variable f.typecode.word
         (sym (ap (λ xs. is_in f.typecode.word (flat_map constants_of xs))
         (take-append-drop k db))
@@ -224,9 +224,9 @@ module _ (db : List Statement) (sound : IsSound db) where
       (variable_below k v k_lt_length_db g) in
       let same =
       same_Some _ _
-      (sym (place_get is_float.variable.word (symbol_names db) bj)
+      (sym (index_get is_float.variable.word (symbol_names db) bj)
       ∙ ap (slice_get (symbol_names db)) (is_float.number ∙ sym g.number)
-      ∙ place_get g.variable.word (symbol_names db) bk) in
+      ∙ index_get g.variable.word (symbol_names db) bk) in
       let w = g.variable.word in
       let there =
       ap (λ o. is_in w (flat_map typed_words (list_at o))) is_float.is

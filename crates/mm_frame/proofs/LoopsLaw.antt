@@ -8,7 +8,7 @@ use Rattle.std.specs.List.{list_any}
 use Rattle.mm_spec.specs.Derivation.{is_member}
 use Rattle.mm_database.specs.Pairs.{has_pair}
 use Rattle.mm_frame.proofs.DisjointLaw.{one_more}
-use Rattle.mm_frame.proofs.StampsLaw.{noted_row}
+use Rattle.mm_frame.proofs.StampsLaw.{listed_row}
 
 or_assoc : (a b c : Bool) → ((a || b) || c) ≡ (a || (b || c))
 or_assoc true b c = refl
@@ -42,21 +42,21 @@ active_next xs ps i s j y o b n l i_lt_length_xs e a m =
     ∙ ap (λ z. is_member (take i xs) y || nat_eq y z) (sym e)))
 
 -- the next symbol is noted if it is a variable
-pub noted_next : (xs : List ℕ) (i s x : ℕ) (o b n v : Bool)
+pub listed_next : (xs : List ℕ) (i s x : ℕ) (o b n v : Bool)
     → i < length xs → s ≡ get_or xs i s
     → b ≡ (o || (v && is_member (take i xs) x)) → n ≡ (b || (v && nat_eq x s))
     → n ≡ (o || (v && is_member (take (i + 1) xs) x))
-noted_next xs i s x o b n v i_lt_length_xs e a m =
+listed_next xs i s x o b n v i_lt_length_xs e a m =
     m ∙ ap (λ z. z || (v && nat_eq x s)) a
-    ∙ noted_row o v (is_member (take i xs) x) (nat_eq x s)
+    ∙ listed_row o v (is_member (take i xs) x) (nat_eq x s)
     ∙ ap (λ z. o || (v && z))
     (sym (list_any_more (nat_eq x) xs i s i_lt_length_xs
     ∙ ap (λ z. is_member (take i xs) x || nat_eq x z) (sym e)))
 
-pub noted_none : (o v : Bool) → o ≡ (o || (v && false))
-noted_none true v = refl
-noted_none false true = refl
-noted_none false false = refl
+pub listed_none : (o v : Bool) → o ≡ (o || (v && false))
+listed_none true v = refl
+listed_none false true = refl
+listed_none false false = refl
 
 -- the variables of the first formula, when nothing has been found before
 pub mandatory_first : (x : ℕ) (old xs ys : List ℕ) (n v : Bool) → length old ≡ 0 → xs ≡ ys

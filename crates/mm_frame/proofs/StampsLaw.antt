@@ -56,9 +56,9 @@ stamps_fresh n k stamps variables c w e = record {
 }
 
 -- a symbol that has been noted already, one that is new, and one that is no variable
-pub noted_new : (v : ℕ → Bool) (s x : ℕ) (b : Bool) → v s ≡ true
+pub listed_new : (v : ℕ → Bool) (s x : ℕ) (b : Bool) → v s ≡ true
     → (b || nat_eq x s) ≡ (b || (v x && nat_eq x s))
-noted_new v s x b e = by_equality (cases_eq x s)
+listed_new v s x b e = by_equality (cases_eq x s)
   where
     by_equality : (x ≡ s) ⊎ (x ≢ s) → (b || nat_eq x s) ≡ (b || (v x && nat_eq x s))
     by_equality (inl q) = ap (λ a. b || (a && nat_eq x s)) (sym (ap v q ∙ e))
@@ -66,8 +66,8 @@ noted_new v s x b e = by_equality (cases_eq x s)
         ap (λ a. b || a) (ne_eqb x s q)
         ∙ sym (ap (λ a. b || a) (ap (λ a. v x && a) (ne_eqb x s q) ∙ and-false (v x)))
 
-pub noted_again : (v m : ℕ → Bool) (s x : ℕ) → m s ≡ true → m x ≡ (m x || (v x && nat_eq x s))
-noted_again v m s x e = by_equality (cases_eq x s)
+pub listed_again : (v m : ℕ → Bool) (s x : ℕ) → m s ≡ true → m x ≡ (m x || (v x && nat_eq x s))
+listed_again v m s x e = by_equality (cases_eq x s)
   where
     right_false : (a b : Bool) → a ≡ (a || (b && false))
     right_false true b = refl
@@ -78,8 +78,8 @@ noted_again v m s x e = by_equality (cases_eq x s)
     by_equality (inl q) = let t = ap m q ∙ e in t ∙ sym (ap (λ a. a || (v x && nat_eq x s)) t)
     by_equality (inr q) = right_false (m x) (v x) ∙ ap (λ a. m x || (v x && a)) (sym (ne_eqb x s q))
 
-pub noted_not : (v m : ℕ → Bool) (s x : ℕ) → v s ≡ false → m x ≡ (m x || (v x && nat_eq x s))
-noted_not v m s x e = by_equality (cases_eq x s)
+pub not_listed : (v m : ℕ → Bool) (s x : ℕ) → v s ≡ false → m x ≡ (m x || (v x && nat_eq x s))
+not_listed v m s x e = by_equality (cases_eq x s)
   where
     right_false : (a b : Bool) → a ≡ (a || (b && false))
     right_false true b = refl
@@ -92,16 +92,16 @@ noted_not v m s x e = by_equality (cases_eq x s)
     by_equality (inr q) = right_false (m x) (v x) ∙ ap (λ a. m x || (v x && a)) (sym (ne_eqb x s q))
 
 -- one symbol more in the row
-pub noted_row : (f v t e : Bool) → ((f || (v && t)) || (v && e)) ≡ (f || (v && (t || e)))
-noted_row true v t e = refl
-noted_row false false t e = refl
-noted_row false true t e = refl
+pub listed_row : (f v t e : Bool) → ((f || (v && t)) || (v && e)) ≡ (f || (v && (t || e)))
+listed_row true v t e = refl
+listed_row false false t e = refl
+listed_row false true t e = refl
 
 -- a symbol with this stamp has been found
-pub found_again : (n stamp : ℕ) (stamps variables : List ℕ) (s place r : ℕ)
+pub stamped_again : (n stamp : ℕ) (stamps variables : List ℕ) (s place r : ℕ)
     → AreStamps n stamp stamps variables
     → s < n → place ≡ s → r ≡ get_or stamps place r → r ≡ stamp → is_member variables s ≡ true
-found_again n stamp stamps variables s place r m l p e f =
+stamped_again n stamp stamps variables s place r m l p e f =
     sym (m.marked s l)
     ∙ eq-eqb (get_or stamps s 0) stamp
     (sym (get_or_default_zero stamps s r (let c = m.count in omega (arith, l, c)))

@@ -3,7 +3,7 @@ use Rattle.mm_spec.specs.Derivation.{is_member}
 use Rattle.mm_spec.specs.Frame.{symbol_names, is_variable_number}
 use Rattle.mm_spec.proofs.MemberLaw.{member_push}
 use Rattle.mm_frame.specs.Hypotheses.{AreStamps}
-use Rattle.mm_frame.proofs.StampsLaw.{stamp_more, found_again, noted_new, noted_again, noted_not}
+use Rattle.mm_frame.proofs.StampsLaw.{stamp_more, stamped_again, listed_new, listed_again, not_listed}
 use Rattle.mm_frame.proofs.hypotheses.add_variable.Goals as goal
 
 pub returns-in_ok-push-clause-stamps : goal.returns-in_ok-push-clause-stamps
@@ -22,21 +22,21 @@ pub returns-in_ok-push-clause-variables : goal.returns-in_ok-push-clause-variabl
 returns-in_ok-push-clause-variables g c = λ x.
     let variables = c.args.variables.now.items in
     ap (λ fs. is_member fs x) c.in_ok-push.ensures.items ∙ member_push variables c.args.symbol x
-    ∙ noted_new (is_variable_number c.args.statements.now.list) c.args.symbol x
+    ∙ listed_new (is_variable_number c.args.statements.now.list) c.args.symbol x
     (is_member variables x)
     (sym c.is_variable.ensures ∙ c.if-is_variable.true)
 
 pub returns-else-index-stamp-clause-variables : goal.returns-else-index-stamp-clause-variables
 returns-else-index-stamp-clause-variables g c = λ x.
     let variables = c.args.variables.now.items in
-    noted_again (is_variable_number c.args.statements.now.list) (is_member variables) c.args.symbol
+    listed_again (is_variable_number c.args.statements.now.list) (is_member variables) c.args.symbol
     x
-    (found_again (length (symbol_names c.args.statements.now.list)) c.args.stamp
+    (stamped_again (length (symbol_names c.args.statements.now.list)) c.args.stamp
     c.args.stamps.now.items variables
     c.args.symbol c.number-index.result c.index.result.now c.requires.stamps c.requires.symbol
     c.number-index.ensures c.index.ensures c.if-index-stamp.false)
 
 pub returns-else-is_variable-clause-variables : goal.returns-else-is_variable-clause-variables
 returns-else-is_variable-clause-variables g c = λ x.
-    noted_not (is_variable_number c.args.statements.now.list) (is_member c.args.variables.now.items)
+    not_listed (is_variable_number c.args.statements.now.list) (is_member c.args.variables.now.items)
     c.args.symbol x (sym c.is_variable.ensures ∙ c.if-is_variable.false)
