@@ -146,7 +146,7 @@ failing_step_refuses db t steps i stack ends noted reason i_lt_length_steps is_r
           (append-nil (steps_of (take i steps)))
           (is_reached.plain [] (postfix is_reached.forest) refl);
       reason = reason;
-      failing_step_refuses = g;
+      fails = g;
       is = refl;
     }
 
@@ -181,7 +181,7 @@ module _ (db : List Statement) (t : ℕ) (steps : List PlacedStep) (stack ends :
     derivations = r.derivations;
     plain = plain_all;
     code = code;
-    failing_step_refuses = subst (λ z. IsEndCode (context_at db t) z formula code)
+    fails = subst (λ z. IsEndCode (context_at db t) z formula code)
         (sym r.entries_are) is_end_code;
     is = refl;
   }

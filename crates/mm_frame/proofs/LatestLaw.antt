@@ -57,14 +57,14 @@ module _ (test : Statement → Bool) (db : List Statement) where
       by_order i i_lt_k o (inr (inl l)) =
           false_from_ne_true (is_staying test db i k)
           (λ t. true≢false
-          (sym (on_earlier i last k (omega arith) (let g = (c.found ne).0 in omega (arith, g)) t)
-          ∙ x.after i l o))
+          (sym (on_earlier i last k (omega arith) (let g = (is_candidate.found ne).0 in omega (arith, g)) t)
+          ∙ is_latest.after i l o))
       by_order i i_lt_k o (inl e) =
           subst (λ i. is_staying test db i k ≡ false) (sym e)
           (false_from_ne_true (is_staying test db last k)
           (λ t. true≢false
           (sym (and_parts (list_any test (statement_at db last)) (stays db last k) t).1 ∙ out)))
-      by_order i i_lt_k o (inr (inr g)) = c.after i i_lt_k (inl g)
+      by_order i i_lt_k o (inr (inr g)) = is_candidate.after i i_lt_k (inl g)
 
   pub candidate_open : (k last : ℕ) → IsCandidate test db k last
       → (last ≢ never → stays db last k ≡ true) → IsLatest test db k last
@@ -102,7 +102,7 @@ module _ (test : Statement → Bool) (db : List Statement) where
       by_order i h o (inl l) =
           false_from_ne_true (is_staying test db i (k + 1))
           (λ t. true≢false
-          (sym (on_earlier i k (k + 1) (omega arith) (omega arith) t) ∙ x.after i l o))
+          (sym (on_earlier i k (k + 1) (omega arith) (omega arith) t) ∙ is_latest.after i l o))
       by_order i h o (inr g) =
           let i_is_k : i ≡ k = omega arith in
           ap (λ b. b && stays db i (k + 1)) (ap (λ i. list_any test (statement_at db i)) i_is_k ∙ e)
@@ -163,7 +163,7 @@ module _ (test : Statement → Bool) (db : List Statement) where
   }
     where
       here : (last < k) × (is_staying test db last k ≡ true)
-      here = w.found ne
+      here = is_walked.found ne
 
       only : (i : ℕ) → is_member (xs ++ last ∷ []) i ≡ true
           → (i < k) × (is_staying test db i k ≡ true)
@@ -172,7 +172,7 @@ module _ (test : Statement → Bool) (db : List Statement) where
         where
           by_values : (a b : Bool) → is_member xs i ≡ a → nat_eq i last ≡ b → (a || b) ≡ true
               → (i < k) × (is_staying test db i k ≡ true)
-          by_values true b p q t = w.only i p
+          by_values true b p q t = is_walked.only i p
           by_values false true p q t =
               subst (λ i. (i < k) × (is_staying test db i k ≡ true)) (sym (eqb-true i last q)) here
           by_values false false p q t = absurd (true≢false (sym t))
@@ -190,12 +190,12 @@ module _ (test : Statement → Bool) (db : List Statement) where
               absurd (true≢false
               (sym (on_earlier i last k (omega arith) (let l = here.0 in omega (arith, l))
               staying_at_k)
-              ∙ x.after i i_lt_last (inr n)))
+              ∙ is_latest.after i i_lt_last (inr n)))
           by_presence i_lt_last (inr n) (inl l) =
               absurd (true≢false
               (sym (on_earlier i last k (omega arith) (let l = here.0 in omega (arith, l))
               staying_at_k)
-              ∙ x.after i i_lt_last (inl l)))
+              ∙ is_latest.after i i_lt_last (inl l)))
           by_presence i_lt_last (inr n) (inr l) = (n, l)
 
           by_order : (i < last) ⊎ (last ≤ i)
@@ -244,9 +244,9 @@ each_pushed test db xs ys last k length_xs_is_next_k e old new = record {
     by_order i i_le_next_k (inl l) =
         subst (IsLatest test db i)
         (sym (ap (λ zs. get_or zs i 0) e
-        ∙ get_or_append_left xs (last ∷ []) 0 i (omega (arith, n, l)))) (old i (omega arith))
+        ∙ get_or_append_left xs (last ∷ []) 0 i (omega (arith, length_xs_is_next_k, l)))) (old i (omega arith))
     by_order i i_le_next_k (inr l) =
-        let i_is_length_xs : i ≡ length xs = omega (arith, n, i_le_next_k, l) in
+        let i_is_length_xs : i ≡ length xs = omega (arith, length_xs_is_next_k, i_le_next_k, l) in
         let j : i ≡ k + 1 = omega arith in
         subst (IsLatest test db i)
         (sym (ap (λ zs. get_or zs i 0) e ∙ ap (λ q. get_or (xs ++ last ∷ []) q 0) i_is_length_xs

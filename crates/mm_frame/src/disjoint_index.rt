@@ -31,8 +31,8 @@ fn is_covered<A: Allocator>(blocks: &Blocks<A>, pair: (u32, u32), covering: (u32
     requires covering { (covering.1 < length blocks.now.of)
         × (get_or blocks.now.of covering.1 0 < length blocks.now.ends) }
     ensures { result
-        ≡ (nat_eq pair.0 covering.0 && nat_le (end_of blocks.now pair.1) (end_of blocks.now
-        covering.1)) }
+        ≡ (nat_eq pair.0 covering.0
+        && nat_le (end_of blocks.now pair.1) (end_of blocks.now covering.1)) }
 {
     pair.0 == covering.0 && blocks.end_of(pair.1) <= blocks.end_of(covering.1)
 }

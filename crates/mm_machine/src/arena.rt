@@ -220,8 +220,8 @@ fn are_disjoint<A: Allocator>(
     requires first { first < length (symbol_names database.now.statements) }
     requires second { second < length (symbol_names database.now.statements) }
     requires cache { AreDisjointAt database.now.statements theorem cache.old }
-    ensures value { result ≡ disjoint_pair (context_at database.now.statements
-        theorem) first second }
+    ensures value { result
+        ≡ disjoint_pair (context_at database.now.statements theorem) first second }
     ensures cache { AreDisjointAt database.now.statements theorem cache.new }
 {
     if cache.has(first, second) {
@@ -263,8 +263,8 @@ fn is_disjoint_from<A: Allocator>(
     requires others { All (λ symbol. symbol < length (symbol_names database.now.statements))
         others.now }
     requires cache { AreDisjointAt database.now.statements theorem cache.old }
-    ensures value { result ≡ disjoint_symbol (context_at database.now.statements
-        theorem) symbol others.now }
+    ensures value { result
+        ≡ disjoint_symbol (context_at database.now.statements theorem) symbol others.now }
     ensures cache { AreDisjointAt database.now.statements theorem cache.new }
 {
     if !database.is_variable(symbol) {

@@ -50,7 +50,7 @@ made bs b n e b_is_last v =
 pub record IsSpelled (bs : List ℕ) (b n : ℕ) : Type 0 where
   pub early : list_all is_early bs ≡ true
   pub last : is_last b ≡ true
-  pub is : early_bytes bs * 20 + (b - 64) ≡ n
+  pub value_is : early_bytes bs * 20 + (b - 64) ≡ n
 
 pub spelled : (bs : List ℕ) (b n : ℕ) → IsNumber (bs ++ b ∷ []) n → IsSpelled bs b n
 spelled bs b n is_number =
@@ -60,7 +60,7 @@ spelled bs b n is_number =
       early = ap (list_all is_early) (sym p.0) ∙ sym (all_bytes is_number.group.early)
           ∙ is_number.early;
       last = ap is_last (sym p.1) ∙ is_number.last;
-      is =
+      value_is =
           ap₂ (λ z y. z * 20 + (y - 64))
           (ap early_bytes (sym p.0) ∙ sym (fold_bytes 0 is_number.group.early)) (sym p.1)
           ∙ is_number.value_is;

@@ -80,8 +80,8 @@ pub overflow_add-letter_words : goal.overflow_add-letter_words
 overflow_add-letter_words g c =
     let s = c.in_ok-label_count.ensures.labels.some in omega (arith, s)
 
-pub slice_bounds-letter_words-label_count : goal.slice_bounds-letter_words-label_count
-slice_bounds-letter_words-label_count g c =
+pub slice_bounds-letter_words-count : goal.slice_bounds-letter_words-count
+slice_bounds-letter_words-count g c =
     let s = c.in_ok-label_count.ensures.labels.some in omega (arith, s)
 
 pub slice_bounds-letter_words-end : goal.slice_bounds-letter_words-end
