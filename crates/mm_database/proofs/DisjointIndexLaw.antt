@@ -261,19 +261,19 @@ module _ (b : BlockLists) (ps : List (ℕ × ℕ)) (rising : AreRising ps) (x at
     none_before_end end i n p p_lt_end e = by_equality (cases_eq p (end - 1))
       where
         below : (q : ℕ) → q < start → (get_or ps q (0, 0)).0 ≤ x
-        below q h = low (before_is (get_or ps q (0, 0)) x at (parted.before q h))
+        below q h = symbol_le (before_is (get_or ps q (0, 0)) x at (parted.before q h))
           where
-            low : IsBefore (get_or ps q (0, 0)).0 (get_or ps q (0, 0)).1 x at
+            symbol_le : IsBefore (get_or ps q (0, 0)).0 (get_or ps q (0, 0)).1 x at
                 → (get_or ps q (0, 0)).0 ≤ x
-            low (inl m) = omega (arith, m)
-            low (inr (s, m)) = omega (arith, s)
+            symbol_le (inl m) = omega (arith, m)
+            symbol_le (inr (s, m)) = omega (arith, s)
 
-        above : IsBefore (get_or ps p (0, 0)).0 (get_or ps p (0, 0)).1
+        symbol_ge : IsBefore (get_or ps p (0, 0)).0 (get_or ps p (0, 0)).1
             (get_or ps (end - 1) (0, 0)).0
             (get_or ps (end - 1) (0, 0)).1
             → x ≤ (get_or ps (end - 1) (0, 0)).0
-        above (inl m) = omega (arith, m, e)
-        above (inr (s, m)) = omega (arith, s, e)
+        symbol_ge (inl m) = omega (arith, m, e)
+        symbol_ge (inr (s, m)) = omega (arith, s, e)
 
         by_equality : (p ≡ end - 1) ⊎ (p ≢ end - 1) → ⊥
         by_equality (inl s) = n (omega (arith, p_lt_end))
@@ -281,7 +281,7 @@ module _ (b : BlockLists) (ps : List (ℕ × ℕ)) (rising : AreRising ps) (x at
         by_equality (inr t) =
             let w = parted.within in
             let u =
-            above (rising_at ps rising p (end - 1) (0, 0) (omega (arith, p_lt_end, t))
+            symbol_ge (rising_at ps rising p (end - 1) (0, 0) (omega (arith, p_lt_end, t))
             (omega (arith, p_lt_end, i, w))) in
             let v = below (end - 1) (omega (arith, p_lt_end, i)) in
             n (omega (arith, p_lt_end)) (omega (arith, u, v))
@@ -307,14 +307,15 @@ module _ (b : BlockLists) (ps : List (ℕ × ℕ)) (rising : AreRising ps) (x at
     all_are_added end old now a n j y =
         same_tests (has_pair now j y)
         (has_pair old j y || (nat_eq y x && (has_pair ps x j && is_active_local b j at)))
-        (λ e. forth (a.only j y e)) (λ e. back (has_pair old j y) refl e)
+        (λ e. left_to_right (a.only j y e)) (λ e. right_to_left (has_pair old j y) refl e)
       where
-        forth : (has_pair old j y ≡ true)
+        left_to_right : (has_pair old j y ≡ true)
             ⊎ ((y ≡ x) × (has_pair ps x j ≡ true) × (is_active_local b j at ≡ true))
             → (has_pair old j y || (nat_eq y x && (has_pair ps x j && is_active_local b j at)))
             ≡ true
-        forth (inl e) = ap (λ c. c || (nat_eq y x && (has_pair ps x j && is_active_local b j at))) e
-        forth (inr (s, h, o)) =
+        left_to_right (inl e) = ap (λ c. c || (nat_eq y x
+            && (has_pair ps x j && is_active_local b j at))) e
+        left_to_right (inr (s, h, o)) =
             ap (λ c. has_pair old j y || c)
             (ap₂ (λ u v. u && v) (eq-eqb y x s) (ap₂ (λ u v. u && v) h o))
             ∙ or-true (has_pair old j y)
@@ -327,20 +328,20 @@ module _ (b : BlockLists) (ps : List (ℕ × ℕ)) (rising : AreRising ps) (x at
             j_is_active).0 in
             let r = (and_parts (nat_lt j at) (nat_le at (end_of b j)) j_is_active).1 in
             let l = inside_if p w.1 w.2 (let e = w.3 in omega (arith, m, e)) in
-            there p l w.2 w.3 r (cases_lt p end)
+            by_order p l w.2 w.3 r (cases_lt p end)
           where
-            there : (p : ℕ) → p < start → (get_or ps p (0, 0)).0 ≡ x → (get_or ps p (0, 0)).1 ≡ j
+            by_order : (p : ℕ) → p < start → (get_or ps p (0, 0)).0 ≡ x → (get_or ps p (0, 0)).1 ≡ j
                 → nat_le at (end_of b j) ≡ true → (p < end) ⊎ (end ≤ p) → has_pair now j x ≡ true
-            there p l e f r (inl q) = absurd (none_before_end end a.inside n p q e)
-            there p l e f r (inr q) =
+            by_order p l e f r (inl q) = absurd (none_before_end end a.inside n p q e)
+            by_order p l e f r (inr q) =
                 ap (λ i. has_pair now i x) (sym f)
                 ∙ a.all p q l e (ap (λ i. nat_le at (end_of b i)) f ∙ r)
 
-        back : (c : Bool) → has_pair old j y ≡ c
+        right_to_left : (c : Bool) → has_pair old j y ≡ c
             → (c || (nat_eq y x && (has_pair ps x j && is_active_local b j at))) ≡ true
             → has_pair now j y ≡ true
-        back true has_pair_x_y h = a.old_stay j y has_pair_x_y
-        back false e h =
+        right_to_left true has_pair_x_y h = a.old_stay j y has_pair_x_y
+        right_to_left false e h =
             let s =
             eqb-true y x (and_parts (nat_eq y x) (has_pair ps x j && is_active_local b j at) h).0 in
             let r = (and_parts (nat_eq y x) (has_pair ps x j && is_active_local b j at) h).1 in
@@ -384,14 +385,15 @@ module _ (b : BlockLists) (ps : List (ℕ × ℕ)) (rising : AreRising ps) (x y 
     where
       by_equality : (q ≡ r) ⊎ (q ≢ r) → (get_or ps q (0, 0)).1 ≤ (get_or ps r (0, 0)).1
       by_equality (inl s) = let t = ap (λ i. (get_or ps i (0, 0)).1) s in omega (arith, t)
-      by_equality (inr n) = less (rising_at ps rising q r (0, 0) (omega (arith, q_le_r, n))
+      by_equality (inr n) = statement_le (rising_at ps rising q r (0, 0) (omega (arith, q_le_r, n))
           r_lt_length_ps)
         where
-          less : IsBefore (get_or ps q (0, 0)).0 (get_or ps q (0, 0)).1 (get_or ps r (0, 0)).0
+          statement_le : IsBefore (get_or ps q (0, 0)).0 (get_or ps q (0, 0)).1
+              (get_or ps r (0, 0)).0
               (get_or ps r (0, 0)).1
               → (get_or ps q (0, 0)).1 ≤ (get_or ps r (0, 0)).1
-          less (inl m) = absurd (omega (arith, m, e))
-          less (inr (s, m)) = omega (arith, m)
+          statement_le (inl m) = absurd (omega (arith, m, e))
+          statement_le (inr (s, m)) = omega (arith, m)
 
   closed : (p : ℕ) → nat_le at (end_of b (get_or ps p (0, 0)).1) ≡ false
       → is_active_local b (get_or ps p (0, 0)).1 at ≡ true → ⊥
@@ -422,17 +424,17 @@ module _ (b : BlockLists) (ps : List (ℕ × ℕ)) (rising : AreRising ps) (x y 
           ⊎ (nat_le at (end_of b (get_or ps (x_end - 1) (0, 0)).1) ≡ false) → p < next
       is_before_next p q p_lt_x_end q_lt_y_end f s j_is_active (inl m) w = m
       is_before_next p q p_lt_x_end q_lt_y_end f s j_is_active (inr m) w = absurd
-          (last (cases_lt (p + 1) x_end) w)
+          (impossible (cases_lt (p + 1) x_end) w)
         where
-          last : (p + 1 < x_end) ⊎ (x_end ≤ p + 1)
+          impossible : (p + 1 < x_end) ⊎ (x_end ≤ p + 1)
               → ((get_or ps (y_end - 1) (0, 0)).1 < (get_or ps (x_end - 1) (0, 0)).1)
               ⊎ (nat_le at (end_of b (get_or ps (x_end - 1) (0, 0)).1) ≡ false) → ⊥
-          last (inl n) w = closed p (passed p m n) j_is_active
-          last (inr n) (inr c) =
+          impossible (inl n) w = closed p (passed p m n) j_is_active
+          impossible (inr n) (inr c) =
               let t : p ≡ x_end - 1 = omega (arith, p_lt_x_end, n) in
               closed p (ap (λ i. nat_le at (end_of b (get_or ps i (0, 0)).1)) t ∙ c)
               j_is_active
-          last (inr n) (inl c) =
+          impossible (inr n) (inl c) =
               let t : p ≡ x_end - 1 = omega (arith, p_lt_x_end, n) in
               let u = ap (λ i. (get_or ps i (0, 0)).1) t in
               let v =
@@ -456,12 +458,12 @@ module _ (b : BlockLists) (ps : List (ℕ × ℕ)) (rising : AreRising ps) (x y 
           → is_active_local b (get_or ps p (0, 0)).1 at ≡ true → (q < next) ⊎ (next ≤ q) → q < next
       is_before_next p q p_lt_x_end q_lt_y_end e s j_is_active (inl m) = m
       is_before_next p q p_lt_x_end q_lt_y_end e s j_is_active (inr m) = absurd
-          (last (cases_lt (q + 1) y_end))
+          (impossible (cases_lt (q + 1) y_end))
         where
-          last : (q + 1 < y_end) ⊎ (y_end ≤ q + 1) → ⊥
-          last (inl n) = closed q (passed q m n)
+          impossible : (q + 1 < y_end) ⊎ (y_end ≤ q + 1) → ⊥
+          impossible (inl n) = closed q (passed q m n)
               (ap (λ j. is_active_local b j at) (sym s) ∙ j_is_active)
-          last (inr n) =
+          impossible (inr n) =
               let q_is_previous_y_end : q ≡ y_end - 1 = omega (arith, q_lt_y_end, n) in
               let u = ap (λ i. (get_or ps i (0, 0)).1) q_is_previous_y_end in
               let v =

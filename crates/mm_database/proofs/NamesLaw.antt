@@ -27,7 +27,7 @@ names_inserted (e ∷ es) k v = by_equality (bytes_eq k.bytes.now e.0.bytes.now)
     ns : List Bytes
     ns = map (λ x. x.bytes.now) (keys_of es)
 
-    after : (b : Bool)
+    by_membership : (b : Bool)
         → map (λ x. x.bytes.now)
         (keys_of (insert_entry (λ (a b : Name). bytes_eq a.bytes.now b.bytes.now) es k v))
         ≡ (if b then ns else (ns ++ k.bytes.now ∷ []))
@@ -35,8 +35,8 @@ names_inserted (e ∷ es) k v = by_equality (bytes_eq k.bytes.now e.0.bytes.now)
         ∷ map (λ x. x.bytes.now)
         (keys_of (insert_entry (λ (a b : Name). bytes_eq a.bytes.now b.bytes.now) es k v))
         ≡ (if b then (e.0.bytes.now ∷ ns) else ((e.0.bytes.now ∷ ns) ++ k.bytes.now ∷ []))
-    after true h = ap (λ l. e.0.bytes.now ∷ l) h
-    after false h = ap (λ l. e.0.bytes.now ∷ l) h
+    by_membership true h = ap (λ l. e.0.bytes.now ∷ l) h
+    by_membership false h = ap (λ l. e.0.bytes.now ∷ l) h
 
     by_equality : (b : Bool)
         → map (λ x. x.bytes.now)
@@ -49,7 +49,7 @@ names_inserted (e ∷ es) k v = by_equality (bytes_eq k.bytes.now e.0.bytes.now)
         ≡ (if b || is_in k.bytes.now ns then (e.0.bytes.now ∷ ns) else
         ((e.0.bytes.now ∷ ns) ++ k.bytes.now ∷ []))
     by_equality true h = refl
-    by_equality false h = after (is_in k.bytes.now ns) h
+    by_equality false h = by_membership (is_in k.bytes.now ns) h
 
 -- a name that is there stays the list as it was
 pub with_known : (w : Bytes) (ns : List Bytes) → is_in w ns ≡ true → with_name w ns ≡ ns

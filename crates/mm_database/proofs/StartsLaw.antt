@@ -23,15 +23,15 @@ no_lower : (ps : List (ℕ × ℕ)) → AreRising ps → (i j : ℕ) → i ≤ j
     → (get_or ps i (0, 0)).0 ≤ (get_or ps j (0, 0)).0
 no_lower ps are_rising i j le lt = by_equality (cases_eq i j)
   where
-    low : IsBefore (get_or ps i (0, 0)).0 (get_or ps i (0, 0)).1 (get_or ps j (0, 0)).0
+    symbol_le : IsBefore (get_or ps i (0, 0)).0 (get_or ps i (0, 0)).1 (get_or ps j (0, 0)).0
         (get_or ps j (0, 0)).1
         → (get_or ps i (0, 0)).0 ≤ (get_or ps j (0, 0)).0
-    low (inl l) = omega arith
-    low (inr (e, l)) = omega arith
+    symbol_le (inl l) = omega arith
+    symbol_le (inr (e, l)) = omega arith
 
     by_equality : (i ≡ j) ⊎ (i ≡ j → ⊥) → (get_or ps i (0, 0)).0 ≤ (get_or ps j (0, 0)).0
     by_equality (inl e) = let s = ap (λ k. (get_or ps k (0, 0)).0) e in omega (arith, s)
-    by_equality (inr ne) = low (rising_at ps are_rising i j (0, 0) (omega arith) lt)
+    by_equality (inr ne) = symbol_le (rising_at ps are_rising i j (0, 0) (omega arith) lt)
 
 -- a symbol more, up to that of pair n
 pub starts_more : (ps : List (ℕ × ℕ)) (n : ℕ) (starts : List ℕ) → AreRising ps → n < length ps
@@ -119,16 +119,16 @@ module _ (ps : List (ℕ × ℕ)) (rising : AreRising ps) (x at from to : ℕ) (
       inside : from + j < length ps
       inside = let w = last.within in let n = long in omega (arith, w, n)
 
-      low : i < j
+      statement_lt : i < j
           → IsBefore (get_or ps (from + i) d).0 (get_or ps (from + i) d).1
           (get_or ps (from + j) d).0 (get_or ps (from + j) d).1
           → (get_or ps (from + i) d).1 < (get_or ps (from + j) d).1
-      low i_lt_j (inl s) =
+      statement_lt i_lt_j (inl s) =
           let n = long in
           let a = here (from + i) d (omega arith) (omega (arith, i_lt_j, n)) in
           let b = here (from + j) d (omega arith) (omega (arith, n)) in
           absurd (omega (arith, a, b, s))
-      low i_lt_j (inr (s, t)) = t
+      statement_lt i_lt_j (inr (s, t)) = t
 
       by_equality : (i ≡ j) ⊎ (i ≡ j → ⊥) → nat_lt (get_or (slice_range ps from to) i d).1 at ≡ true
       by_equality (inl s) = ap (λ k. nat_lt (get_or (slice_range ps from to) k d).1 at) s ∙ e
@@ -136,7 +136,8 @@ module _ (ps : List (ℕ × ℕ)) (rising : AreRising ps) (x at from to : ℕ) (
           let k : i < j = omega arith in
           let n = long in
           let short : i < to - from = omega (arith, k, n) in
-          let up = low k (rising_at ps rising (from + i) (from + j) d (omega (arith, k)) inside) in
+          let up = statement_lt k (rising_at ps rising (from + i) (from + j) d (omega (arith, k))
+          inside) in
           let less =
           ltb-true (get_or ps (from + j) d).1 at
           (ap (λ (q : ℕ × ℕ). nat_lt q.1 at) (sym (part_at j d long)) ∙ e) in
@@ -167,23 +168,24 @@ module _ (ps : List (ℕ × ℕ)) (rising : AreRising ps) (x at from to : ℕ) (
         → is_pair_before (get_or ps p (0, 0)) x at ≡ false
     after_point p l p_lt_length_ps =
         false_from_ne_true (is_pair_before (get_or ps p (0, 0)) x at)
-        (λ e. never (before_is (get_or ps p (0, 0)) x at e) (cases_lt p to))
+        (λ e. not_before (before_is (get_or ps p (0, 0)) x at e) (cases_lt p to))
       where
-        never : IsBefore (get_or ps p (0, 0)).0 (get_or ps p (0, 0)).1 x at → (p < to) ⊎ (to ≤ p)
+        not_before : IsBefore (get_or ps p (0, 0)).0 (get_or ps p (0, 0)).1 x at → (p < to)
+            ⊎ (to ≤ p)
             → ⊥
-        never is_before (inr k) = up is_before
+        not_before is_before (inr k) = impossible is_before
           where
-            up : IsBefore (get_or ps p (0, 0)).0 (get_or ps p (0, 0)).1 x at → ⊥
-            up (inl s) = let h = last.after p k p_lt_length_ps in omega (arith, h, s)
-            up (inr (s, t)) = let h = last.after p k p_lt_length_ps in omega (arith, h, s)
-        never is_before (inl k) = up is_before
+            impossible : IsBefore (get_or ps p (0, 0)).0 (get_or ps p (0, 0)).1 x at → ⊥
+            impossible (inl s) = let h = last.after p k p_lt_length_ps in omega (arith, h, s)
+            impossible (inr (s, t)) = let h = last.after p k p_lt_length_ps in omega (arith, h, s)
+        not_before is_before (inl k) = impossible is_before
           where
             low : from ≤ p
             low = omega arith
 
-            up : IsBefore (get_or ps p (0, 0)).0 (get_or ps p (0, 0)).1 x at → ⊥
-            up (inl s) = let h = here p (0, 0) low k in omega (arith, h, s)
-            up (inr (s, t)) =
+            impossible : IsBefore (get_or ps p (0, 0)).0 (get_or ps p (0, 0)).1 x at → ⊥
+            impossible (inl s) = let h = here p (0, 0) low k in omega (arith, h, s)
+            impossible (inr (s, t)) =
                 let short : p - from < to - from = omega (arith, low, k) in
                 let same : from + (p - from) ≡ p = omega (arith, low) in
                 let long = part_long in

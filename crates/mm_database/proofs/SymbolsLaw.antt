@@ -158,12 +158,12 @@ index_of_got (v ∷ ws) e s w h =
     by_membership (λ r. index_of_got ws e r w) (λ r. index_of_got ws (v ∷ e) r w) (is_in v e) refl s
     h
   where
-    head : (t : List Bytes) (s : ℕ) → slice_get (v ∷ t) s ≡ Some w → is_in v t ≡ false
+    index_in_cons : (t : List Bytes) (s : ℕ) → slice_get (v ∷ t) s ≡ Some w → is_in v t ≡ false
         → ((r : ℕ) → slice_get t r ≡ Some w → index_of w t ≡ r) → index_of w (v ∷ t) ≡ s
-    head t zero q n r =
+    index_in_cons t zero q n r =
         ap (λ b. elim b [ true ↦ 0 | false ↦ suc (index_of w t) ])
         (ap (bytes_eq w) (let p : Some v ≡ Some w = q in let x : v ≡ w = cc in x) ∙ itself w)
-    head t (suc s) q n r = by_equality (bytes_eq w v) refl
+    index_in_cons t (suc s) q n r = by_equality (bytes_eq w v) refl
       where
         by_equality : (b : Bool) → bytes_eq w v ≡ b → index_of w (v ∷ t) ≡ suc s
         by_equality true k =
@@ -183,7 +183,7 @@ index_of_got (v ∷ ws) e s w h =
         ∙ f s (sym (ap (λ l. slice_get l s) (first_step e v ws true word_in_e)) ∙ q)
     by_membership f g false k s q =
         ap (index_of w) (first_step e v ws false k)
-        ∙ head (first_occurrences (v ∷ e) ws) s
+        ∙ index_in_cons (first_occurrences (v ∷ e) ws) s
         (sym (ap (λ l. slice_get l s) (first_step e v ws false k)) ∙ q)
         (not_first ws (v ∷ e) v (ap (λ b. b || is_in v e) (itself v))) g
 

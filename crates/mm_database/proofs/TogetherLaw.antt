@@ -49,10 +49,10 @@ module _ (db : List Statement) (b : BlockLists) (blocks : IsBlocks db b) (k : �
         → is_active_local b j k ≡ false)
         → r ≡ are_together_at db k x y
     together_is r x y found none =
-        same_tests r (are_together_at db k x y) forth (λ e. back r refl e)
+        same_tests r (are_together_at db k x y) left_to_right (λ e. right_to_left r refl e)
       where
-        forth : r ≡ true → are_together_at db k x y ≡ true
-        forth r_true =
+        left_to_right : r ≡ true → are_together_at db k x y ≡ true
+        left_to_right r_true =
             let w = found r_true in
             let j = w.0 in
             let ex = sym (are x j) ∙ w.1 in
@@ -68,9 +68,9 @@ module _ (db : List Statement) (b : BlockLists) (blocks : IsBlocks db b) (k : �
             (and_parts (list_any is_disjoint_statement (statement_at db j))
             (is_member (formula_at db j) y) ey).1)
 
-        back : (c : Bool) → r ≡ c → are_together_at db k x y ≡ true → r ≡ true
-        back true r_true x_and_y_together = r_true
-        back false r_false x_and_y_together =
+        right_to_left : (c : Bool) → r ≡ c → are_together_at db k x y ≡ true → r ≡ true
+        right_to_left true r_true x_and_y_together = r_true
+        right_to_left false r_false x_and_y_together =
             let w =
             any_witness (λ j. is_member (formula_at db j) x && is_member (formula_at db j) y)
             (active_of is_disjoint_statement db k) x_and_y_together in

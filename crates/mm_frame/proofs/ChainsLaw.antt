@@ -175,19 +175,19 @@ module _ (has : ℕ → ℕ → Bool) (heads : List ℕ) (links : List (ℕ × �
         old : HasChain (has x) k links (get_or heads x 0)
         old = h x here
 
-        front : (j : ℕ) → y ≡ x
+        members_with_front : (j : ℕ) → y ≡ x
             → (nat_eq j k || is_member old.statements j)
             ≡ (has y j || (nat_eq y s && nat_eq j k))
-        front j y_is_x =
+        members_with_front j y_is_x =
             ap (λ b. nat_eq j k || b) (old.members_are j ∙ ap (λ z. has z j) (sym y_is_x))
-            ∙ turned (nat_eq j k) (has y j)
+            ∙ or_swap (nat_eq j k) (has y j)
             ∙ sym (ap (λ b. has y j || (b && nat_eq j k)) (eq-eqb y s (y_is_x ∙ sym is)))
           where
-            turned : (a b : Bool) → (a || b) ≡ (b || a)
-            turned true true = refl
-            turned true false = refl
-            turned false true = refl
-            turned false false = refl
+            or_swap : (a b : Bool) → (a || b) ≡ (b || a)
+            or_swap true true = refl
+            or_swap true false = refl
+            or_swap false true = refl
+            or_swap false false = refl
 
         by_equality : (y ≡ x) ⊎ (y ≢ x)
             → HasChain (λ j. has y j || (nat_eq y s && nat_eq j k)) k
@@ -205,7 +205,7 @@ module _ (has : ℕ → ℕ → Bool) (heads : List ℕ) (links : List (ℕ × �
             rising_from_next links (get_or heads x 0) k old.statements old.chain old.rising
                 other_first,
           );
-          members_are = λ j. front j e;
+          members_are = λ j. members_with_front j e;
         }
         by_equality (inr n) =
             let c = length-set heads x (length links + 1) in

@@ -148,27 +148,29 @@ module _ (by_statement : List (ℕ × ℕ)) (rising : AreRising by_statement) (p
   after_end at old now b stop x y =
       same_tests (has_pair now x y)
       (has_pair old x y || (nat_eq x low && (has_pair by_statement j y && nat_lt x y)))
-      (λ e. forth (b.only x y e)) (λ e. back (has_pair old x y) refl e)
+      (λ e. left_to_right (b.only x y e)) (λ e. right_to_left (has_pair old x y) refl e)
     where
-      above : (p : ℕ) → place < p → p < at → low < (get_or by_statement p (0, 0)).1
-      above p h m =
-          less (rising_at by_statement rising place p (0, 0) h
+      later_is_higher : (p : ℕ) → place < p → p < at → low < (get_or by_statement p (0, 0)).1
+      later_is_higher p h m =
+          variable_lt (rising_at by_statement rising place p (0, 0) h
           (let w = b.within in omega (arith, m, w)))
         where
-          less : IsBefore j low (get_or by_statement p (0, 0)).0 (get_or by_statement p (0, 0)).1
+          variable_lt : IsBefore j low (get_or by_statement p (0, 0)).0
+              (get_or by_statement p (0, 0)).1
               → low < (get_or by_statement p (0, 0)).1
-          less (inl l) = absurd (let s = b.same p h m in omega (arith, l, s))
-          less (inr (s, l)) = l
+          variable_lt (inl l) = absurd (let s = b.same p h m in omega (arith, l, s))
+          variable_lt (inr (s, l)) = l
 
-      forth : (has_pair old x y ≡ true)
+      left_to_right : (has_pair old x y ≡ true)
           ⊎ ((x ≡ low) × (p : ℕ) × (place < p) × (p < at) × ((get_or by_statement p (0, 0)).1 ≡ y))
           → (has_pair old x y || (nat_eq x low && (has_pair by_statement j y && nat_lt x y))) ≡ true
-      forth (inl e) = ap (λ c. c || (nat_eq x low && (has_pair by_statement j y && nat_lt x y))) e
-      forth (inr (e, p, h, m, s)) =
+      left_to_right (inl e) = ap (λ c. c || (nat_eq x low
+          && (has_pair by_statement j y && nat_lt x y))) e
+      left_to_right (inr (e, p, h, m, s)) =
           let there =
           ap₂ (has_pair by_statement) (sym (b.same p h m)) (sym s)
           ∙ at_has by_statement p (0, 0) (let w = b.within in omega (arith, m, w)) in
-          let l = above p h m in
+          let l = later_is_higher p h m in
           ap (λ c. has_pair old x y || c)
           (ap₂ (λ u v. u && v) (eq-eqb x low e)
           (ap₂ (λ u v. u && v) there (lt-ltb x y (omega (arith, e, l, s)))))
@@ -177,7 +179,7 @@ module _ (by_statement : List (ℕ × ℕ)) (rising : AreRising by_statement) (p
       from : (p : ℕ) → p < length by_statement → (get_or by_statement p (0, 0)).0 ≡ j → low
           < (get_or by_statement p (0, 0)).1
           → (place < p) × (p < at)
-      from p p_lt_length_by_statement s m = (first (cases_order place p), last (cases_lt p at))
+      from p p_lt_length_by_statement s m = (first (cases_order place p), by_order (cases_lt p at))
         where
           down : IsBefore (get_or by_statement p (0, 0)).0 (get_or by_statement p (0, 0)).1 j low
               → ⊥
@@ -210,18 +212,18 @@ module _ (by_statement : List (ℕ × ℕ)) (rising : AreRising by_statement) (p
                   (omega (arith, at_le_p, n))
                   p_lt_length_by_statement)
 
-          last : (p < at) ⊎ (at ≤ p) → p < at
-          last (inl u) = u
-          last (inr u) =
+          by_order : (p < at) ⊎ (at ≤ p) → p < at
+          by_order (inl u) = u
+          by_order (inr u) =
               absurd (up (omega (arith, u, p_lt_length_by_statement)) u
               (rising_at by_statement rising place at (0, 0) b.further
               (omega (arith, u, p_lt_length_by_statement))))
 
-      back : (c : Bool) → has_pair old x y ≡ c
+      right_to_left : (c : Bool) → has_pair old x y ≡ c
           → (c || (nat_eq x low && (has_pair by_statement j y && nat_lt x y))) ≡ true
           → has_pair now x y ≡ true
-      back true has_pair_x_y h = b.old_stay x y has_pair_x_y
-      back false e h =
+      right_to_left true has_pair_x_y h = b.old_stay x y has_pair_x_y
+      right_to_left false e h =
           let s = eqb-true x low (and_parts (nat_eq x low) (has_pair by_statement j y && nat_lt x y)
           h).0 in
           let r = (and_parts (nat_eq x low) (has_pair by_statement j y && nat_lt x y) h).1 in
@@ -313,11 +315,11 @@ module _ (db : List Statement) (b : BlockLists) (blocks : IsBlocks db b) (k : �
         (ap₂ (λ p q. p && q) (are y j ∙ ap₂ (λ p q. p && q) d f)
         (active_local_is db b blocks k h j d ∙ a))
 
-    forth : (x y : ℕ) → together x y ≡ true
+    left_to_right : (x y : ℕ) → together x y ≡ true
         → (wanted (pair x y)
         && (is_member (range_with_len 0 count) x && is_member (range_with_len 0 count) y))
         ≡ true
-    forth x y e =
+    left_to_right x y e =
         let w = any_pair (λ p. has_later by_statement p x y) by_statement e in
         let j = (get_or by_statement w.0 (0, 0)).0 in
         let s =
@@ -342,12 +344,12 @@ module _ (db : List Statement) (b : BlockLists) (blocks : IsBlocks db b) (k : �
         (ap₂ (λ a b. a && b) (ap₂ (λ a b. a && b) less one.0) other.0) dis)
         (ap₂ (λ a b. a && b) (in_range x one.0) (in_range y other.0))
 
-    back : (x y : ℕ)
+    right_to_left : (x y : ℕ)
         → (wanted (pair x y)
         && (is_member (range_with_len 0 count) x && is_member (range_with_len 0 count) y))
         ≡ true
         → together x y ≡ true
-    back x y e =
+    right_to_left x y e =
         let t =
         (and_parts (wanted (pair x y))
         (is_member (range_with_len 0 count) x && is_member (range_with_len 0 count) y) e).0 in
@@ -387,7 +389,7 @@ module _ (db : List Statement) (b : BlockLists) (blocks : IsBlocks db b) (k : �
         ∙ same_tests (together x y)
         (wanted (pair x y)
         && (is_member (range_with_len 0 count) x && is_member (range_with_len 0 count) y))
-        (forth x y) (back x y)
+        (left_to_right x y) (right_to_left x y)
         ∙ sym (has_filter wanted (pairs_of count) x y
         ∙ ap (λ b. wanted (pair x y) && b)
         (has_rows (range_with_len 0 count) (range_with_len 0 count) x y)))

@@ -51,7 +51,7 @@ pub typed_some : (db : List Statement) → IsSound db → (k v : ℕ) (ts : List
     → AreLastFloats db (k + 1) (set ts v k)
 typed_some db sound k v ts few t e = record {
   count = length-set ts v k ∙ t.count;
-  some = λ u h ne. some u h ne (cases_eq u v);
+  by_equality = λ u h ne. by_equality u h ne (cases_eq u v);
   alone = λ j u h l is on. alone j u h l is on (cases_lt j k) (cases_eq u v);
 }
   where
@@ -64,14 +64,14 @@ typed_some db sound k v ts few t e = record {
     here : get_or (set ts v k) v 0 ≡ k
     here = get_or-set_same ts v k 0 below
 
-    some : (u : ℕ) → u < length (symbol_names db) → get_or (set ts v k) u 0 ≢ never
+    by_equality : (u : ℕ) → u < length (symbol_names db) → get_or (set ts v k) u 0 ≢ never
         → (u ≡ v) ⊎ (u ≢ v)
         → (get_or (set ts v k) u 0 < k + 1) × (typed_variable_at db (get_or (set ts v k) u 0)
         ≡ Some u)
-    some u h ne (inl s) =
+    by_equality u h ne (inl s) =
         let is = ap (λ i. get_or (set ts v k) i 0) s ∙ here in
         ((omega (arith, is)), ap (typed_variable_at db) is ∙ e ∙ ap Some (sym s))
-    some u h ne (inr n) =
+    by_equality u h ne (inr n) =
         let is = get_or-set_other ts v u k 0 n in
         let o = t.some u h (λ z. ne (is ∙ z)) in
         ((let a = o.0 in omega (arith, a, is)), ap (typed_variable_at db) is ∙ o.1)

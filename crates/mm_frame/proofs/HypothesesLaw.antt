@@ -212,7 +212,7 @@ module _ (db : List Statement) (k : ℕ) where
           sym (filter_filter wanted (λ j. is_active db j k) (range_with_len 0 k)
           ∙ filter_is (λ j. is_active db j k && wanted j) k 0 xs
           (rising_is xs 0 rising (λ l. omega arith))
-          (λ j e. let l = (back j (sym (same j) ∙ e)).1 in omega (arith, l))
+          (λ j e. let l = (right_to_left j (sym (same j) ∙ e)).1 in omega (arith, l))
           (λ j a b. both j (omega arith)))
         where
           essential_is : (j : ℕ)
@@ -227,9 +227,10 @@ module _ (db : List Statement) (k : ℕ) where
               (member_range k 0 j (omega arith)
               ∙ (let z : 0 + k ≡ k = omega arith in ap (nat_lt j) z)))
 
-          back : (j : ℕ) → (is_member es j || list_any (is_float_of db k ts j) variables) ≡ true
+          right_to_left : (j : ℕ) → (is_member es j || list_any (is_float_of db k ts j) variables)
+              ≡ true
               → ((is_active db j k && wanted j) ≡ true) × (j < k)
-          back j e = by_membership (is_member es j) refl e
+          right_to_left j e = by_membership (is_member es j) refl e
             where
               by_membership : (b : Bool) → is_member es j ≡ b
                   → (b || list_any (is_float_of db k ts j) variables) ≡ true
@@ -258,9 +259,9 @@ module _ (db : List Statement) (k : ℕ) where
                     f.3,
                   )
 
-          forth : (j : ℕ) → j < k → (is_active db j k && wanted j) ≡ true
+          left_to_right : (j : ℕ) → j < k → (is_active db j k && wanted j) ≡ true
               → (is_member es j || list_any (is_float_of db k ts j) variables) ≡ true
-          forth j j_lt_k e =
+          left_to_right j j_lt_k e =
               by_essential (list_any is_essential (statement_at db j)) refl
               (and_parts (is_active db j k) (wanted j) e).1
             where
@@ -288,6 +289,6 @@ module _ (db : List Statement) (k : ℕ) where
           both : (j : ℕ) → j < k → (is_active db j k && wanted j) ≡ is_member xs j
           both j l =
               same_tests (is_active db j k && wanted j)
-              (is_member es j || list_any (is_float_of db k ts j) variables) (forth j l)
-              (λ e. (back j e).0)
+              (is_member es j || list_any (is_float_of db k ts j) variables) (left_to_right j l)
+              (λ e. (right_to_left j e).0)
               ∙ sym (same j)

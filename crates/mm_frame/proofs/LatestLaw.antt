@@ -57,7 +57,8 @@ module _ (test : Statement → Bool) (db : List Statement) where
       by_order i i_lt_k o (inr (inl l)) =
           false_from_ne_true (is_staying test db i k)
           (λ t. true≢false
-          (sym (on_earlier i last k (omega arith) (let g = (is_candidate.found ne).0 in omega (arith, g)) t)
+          (sym (on_earlier i last k (omega arith)
+          (let g = (is_candidate.found ne).0 in omega (arith, g)) t)
           ∙ is_latest.after i l o))
       by_order i i_lt_k o (inl e) =
           subst (λ i. is_staying test db i k ≡ false) (sym e)
@@ -244,7 +245,8 @@ each_pushed test db xs ys last k length_xs_is_next_k e old new = record {
     by_order i i_le_next_k (inl l) =
         subst (IsLatest test db i)
         (sym (ap (λ zs. get_or zs i 0) e
-        ∙ get_or_append_left xs (last ∷ []) 0 i (omega (arith, length_xs_is_next_k, l)))) (old i (omega arith))
+        ∙ get_or_append_left xs (last ∷ []) 0 i (omega (arith, length_xs_is_next_k, l))))
+        (old i (omega arith))
     by_order i i_le_next_k (inr l) =
         let i_is_length_xs : i ≡ length xs = omega (arith, length_xs_is_next_k, i_le_next_k, l) in
         let j : i ≡ k + 1 = omega arith in

@@ -66,12 +66,13 @@ same_pair x y = nat_eq x.0 y.0 && nat_eq x.1 y.1
 pub to_rising : (ys : List (ℕ × ℕ)) → IsStrictlySortedBy order ys → AreRising ys
 unfolding IsStrictlySortedBy
 to_rising [] h = tt
-to_rising (p ∷ ps) h = (λ x y e. before ps h.0 x y e, to_rising ps h.1)
+to_rising (p ∷ ps) h = (λ x y e. before_all ps h.0 x y e, to_rising ps h.1)
   where
-    before : (qs : List (ℕ × ℕ)) → AllByRecursion (λ q. order p q ≡ Less) qs → (x y : ℕ)
+    before_all : (qs : List (ℕ × ℕ)) → AllByRecursion (λ q. order p q ≡ Less) qs → (x y : ℕ)
         → has_pair qs x y ≡ true → IsBefore p.0 p.1 x y
-    before [] a x y e = absurd (true≢false (sym e))
-    before (q ∷ qs) a x y e = by_head (nat_eq x q.0 && nat_eq y q.1) refl e (before qs a.1 x y)
+    before_all [] a x y e = absurd (true≢false (sym e))
+    before_all (q ∷ qs) a x y e = by_head (nat_eq x q.0 && nat_eq y q.1) refl e
+        (before_all qs a.1 x y)
       where
         by_head : (b : Bool) → (nat_eq x q.0 && nat_eq y q.1) ≡ b → (b || has_pair qs x y) ≡ true
             → (has_pair qs x y ≡ true → IsBefore p.0 p.1 x y) → IsBefore p.0 p.1 x y
@@ -204,21 +205,21 @@ unique (p ∷ ps) (q ∷ qs) s t h = ap₂ (λ a b. a ∷ b) first (unique ps qs
     tails : (x y : ℕ) → has ps x y ≡ has qs x y
     tails x y =
         same_tests (has ps x y) (has qs x y)
-        (λ e. forth e (split q qs x y (sym (h x y) ∙ after p ps x y e)))
-        (λ e. back e (split p ps x y (h x y ∙ after q qs x y e)))
+        (λ e. left_to_right e (split q qs x y (sym (h x y) ∙ after p ps x y e)))
+        (λ e. right_to_left e (split p ps x y (h x y ∙ after q qs x y e)))
       where
-        forth : has ps x y ≡ true → ((x ≡ q.low) × (y ≡ q.high)) ⊎ (has qs x y ≡ true)
+        left_to_right : has ps x y ≡ true → ((x ≡ q.low) × (y ≡ q.high)) ⊎ (has qs x y ≡ true)
             → has qs x y ≡ true
-        forth e (inr f) = f
-        forth e (inl f) =
+        left_to_right e (inr f) = f
+        left_to_right e (inl f) =
             absurd (not_before p.low p.high
             (subst (λ a. IsBefore p.low p.high a p.high) (f.0 ∙ sym parts.0)
             (subst (λ b. IsBefore p.low p.high x b) (f.1 ∙ sym parts.1) (s.0 x y e))))
 
-        back : has qs x y ≡ true → ((x ≡ p.low) × (y ≡ p.high)) ⊎ (has ps x y ≡ true)
+        right_to_left : has qs x y ≡ true → ((x ≡ p.low) × (y ≡ p.high)) ⊎ (has ps x y ≡ true)
             → has ps x y ≡ true
-        back e (inr f) = f
-        back e (inl f) =
+        right_to_left e (inr f) = f
+        right_to_left e (inl f) =
             absurd (not_before q.low q.high
             (subst (λ a. IsBefore q.low q.high a q.high) (f.0 ∙ parts.0)
             (subst (λ b. IsBefore q.low q.high x b) (f.1 ∙ parts.1) (t.0 x y e))))

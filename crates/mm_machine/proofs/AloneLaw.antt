@@ -55,12 +55,13 @@ module _ (db : List Statement) (t : ℕ) (hs : List Formula) (σ : Substitution)
       → substitute (context_at db t) σ f ≡ f
   no_variables [] h = refl
   no_variables (s ∷ f) h =
-      ap₂ (λ u v. u ++ v) (one (is_variable_number db s) h.0) (no_variables f h.1)
+      ap₂ (λ u v. u ++ v) (by_is_variable (is_variable_number db s) h.0) (no_variables f h.1)
     where
-      one : (v : Bool) → IsVariableBelow 0 (cond v (Variable (floating_index db hs s)) (Constant s))
+      by_is_variable : (v : Bool) → IsVariableBelow 0 (cond v (Variable (floating_index db hs s))
+          (Constant s))
           → cond v (σ s) (s ∷ []) ≡ s ∷ []
-      one true l = absurd (omega (arith, l))
-      one false l = refl
+      by_is_variable true l = absurd (omega (arith, l))
+      by_is_variable false l = refl
 
 module _ (db : List Statement) (t : ℕ) (c : CompiledRule) (rule : IsCompiled db c)
     (none : length c.hypotheses ≡ 0) where

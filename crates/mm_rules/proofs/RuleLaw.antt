@@ -118,16 +118,20 @@ module _ (db : List Statement) (hs : List Formula) where
       (each_is_below f (recursion_from_All
       (λ x. is_variable_number db x ≡ true → IsBound (context_at db 0) hs x) f h))
     where
-      one : (s : ℕ) (v : Bool) → (v ≡ true → IsBound (context_at db 0) hs s)
+      by_is_variable : (s : ℕ) (v : Bool) → (v ≡ true → IsBound (context_at db 0) hs s)
           → IsVariableBelow (length hs) (cond v (Variable (floating_index db hs s)) (Constant s))
-      one s true b = first_below db hs s (b refl)
-      one s false b = tt
+      by_is_variable s true b = first_below db hs s (b refl)
+      by_is_variable s false b = tt
 
       each_is_below : (f : Formula)
           → AllByRecursion (λ x. is_variable_number db x ≡ true → IsBound (context_at db 0) hs x) f
           → AllByRecursion (IsVariableBelow (length hs)) (parts_of db hs f)
       each_is_below [] h = tt
-      each_is_below (s ∷ f) h = (one s (is_variable_number db s) h.0, each_is_below f h.1)
+      each_is_below (s ∷ f) h = (
+        by_is_variable s (is_variable_number db s) h.0,
+        each_is_below f
+            h.1,
+      )
 
   pub parts_known : (n : ℕ) (f : Formula) → All (λ s. s < n) f
       → All (IsConstantBelow n) (parts_of db hs f)
@@ -135,15 +139,19 @@ module _ (db : List Statement) (hs : List Formula) where
       All-from_recursion (IsConstantBelow n) (parts_of db hs f)
       (each_is_known f (recursion_from_All (λ s. s < n) f h))
     where
-      one : (s : ℕ) (v : Bool) → s < n
+      by_is_variable : (s : ℕ) (v : Bool) → s < n
           → IsConstantBelow n (cond v (Variable (floating_index db hs s)) (Constant s))
-      one s true l = tt
-      one s false l = l
+      by_is_variable s true l = tt
+      by_is_variable s false l = l
 
       each_is_known : (f : Formula) → AllByRecursion (λ s. s < n) f
           → AllByRecursion (IsConstantBelow n) (parts_of db hs f)
       each_is_known [] h = tt
-      each_is_known (s ∷ f) h = (one s (is_variable_number db s) h.0, each_is_known f h.1)
+      each_is_known (s ∷ f) h = (
+        by_is_variable s (is_variable_number db s) h.0,
+        each_is_known f
+            h.1,
+      )
 
   pub covered : (f : Formula) → AreBound (context_at db 0) hs f → AreCovered db hs f
   covered f h =
@@ -171,11 +179,11 @@ module _ (db : List Statement) (hs : List Formula) where
       symbol_by_symbol f (recursion_from_All
       (λ x. is_variable_number db x ≡ true → IsBound (context_at db 0) hs x) f h)
     where
-      one : (s : ℕ) (v : Bool) → (v ≡ true → IsBound (context_at db 0) hs s)
+      by_is_variable : (s : ℕ) (v : Bool) → (v ≡ true → IsBound (context_at db 0) hs s)
           → cond v (Variable (get_or numbers s 0)) (Constant s)
           ≡ cond v (Variable (floating_index db hs s)) (Constant s)
-      one s true b = ap Variable (placed s (b refl))
-      one s false b = refl
+      by_is_variable s true b = ap Variable (placed s (b refl))
+      by_is_variable s false b = refl
 
       symbol_by_symbol : (f : Formula)
           → AllByRecursion (λ x. is_variable_number db x ≡ true → IsBound (context_at db 0) hs x) f
@@ -183,7 +191,7 @@ module _ (db : List Statement) (hs : List Formula) where
       symbol_by_symbol [] h = refl
       symbol_by_symbol (s ∷ f) h =
           ap₂ (λ (p : RuleSymbol) (ps : List RuleSymbol). p ∷ ps)
-          (one s (is_variable_number db s) h.0) (symbol_by_symbol f h.1)
+          (by_is_variable s (is_variable_number db s) h.0) (symbol_by_symbol f h.1)
 
   numbered_first : (numbers : List ℕ) → AreFirstNumbers db hs numbers → (ps : List (ℕ × ℕ))
       → AllByRecursion Both (as_pairs ps)

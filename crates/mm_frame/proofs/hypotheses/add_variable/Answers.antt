@@ -3,7 +3,8 @@ use Rattle.mm_spec.specs.Derivation.{is_member}
 use Rattle.mm_spec.specs.Frame.{symbol_names, is_variable_number}
 use Rattle.mm_spec.proofs.MemberLaw.{member_push}
 use Rattle.mm_frame.specs.Hypotheses.{AreStamps}
-use Rattle.mm_frame.proofs.StampsLaw.{stamp_more, stamped_again, listed_new, listed_again, not_listed}
+use Rattle.mm_frame.proofs.StampsLaw.{stamp_more, stamped_again, listed_new, listed_again}
+use Rattle.mm_frame.proofs.StampsLaw.{not_listed}
 use Rattle.mm_frame.proofs.hypotheses.add_variable.Goals as goal
 
 pub returns-in_ok-push-clause-stamps : goal.returns-in_ok-push-clause-stamps
@@ -38,5 +39,6 @@ returns-else-index-stamp-clause-variables g c = λ x.
 
 pub returns-else-is_variable-clause-variables : goal.returns-else-is_variable-clause-variables
 returns-else-is_variable-clause-variables g c = λ x.
-    not_listed (is_variable_number c.args.statements.now.list) (is_member c.args.variables.now.items)
+    not_listed (is_variable_number c.args.statements.now.list)
+    (is_member c.args.variables.now.items)
     c.args.symbol x (sym c.is_variable.ensures ∙ c.if-is_variable.false)
