@@ -205,8 +205,9 @@ module _ (counts : ℕ → ℕ → Bool) (at : ℕ → Trees) where
         (before : at i ≡ ts ⧺ cs) (count : length ws ≡ size ts) (vs : List Bool)
         (from : (n : ℕ) → flag_at vs n ≡ true → (b ≡ true) × (counts l n ≡ true))
         (to : (n : ℕ) → n < size cs → b ≡ true → counts l n ≡ true → flag_at vs n ≡ true) where
-      after : (n : ℕ) → flag_at (ws ++ vs) (size ts + n) ≡ flag_at vs n
-      after n = ap (λ k. flag_at (ws ++ vs) (k + n)) (sym count) ∙ get_or-append-add ws vs n false
+      flag_after : (n : ℕ) → flag_at (ws ++ vs) (size ts + n) ≡ flag_at vs n
+      flag_after n = ap (λ k. flag_at (ws ++ vs) (k + n)) (sym count)
+          ∙ get_or-append-add ws vs n false
 
       old_places : (us xs : List Bool) → HasNode counts (flag_at (ws ++ us)) ts a
           → HasNode counts (flag_at (ws ++ xs)) ts a
@@ -225,19 +226,19 @@ module _ (counts : ℕ → ℕ → Bool) (at : ℕ → Trees) where
           inr (in_row
           (join_right counts (flag_at (ws ++ vs)) ts cs a
           (other_places counts (counts l) (λ n. flag_at (ws ++ vs) (size ts + n)) cs a
-          (λ n k p. after n ∙ to n k e p) h)))
+          (λ n k p. flag_after n ∙ to n k e p) h)))
 
       label_down : IsToBeFound (suc i) (ws ++ flag ∷ []) step_flags a
           → ((b ≡ true) × (a ≡ l)) ⊎ IsToBeFound i (ws ++ vs) step_flags a
       label_down (inl h) =
-          roots (subst (λ t. HasNode counts (flag_at (ws ++ flag ∷ [])) t a) here h)
+          by_root (subst (λ t. HasNode counts (flag_at (ws ++ flag ∷ [])) t a) here h)
         where
-          roots : HasNode counts (flag_at (ws ++ flag ∷ [])) (more ts l f cs) a
+          by_root : HasNode counts (flag_at (ws ++ flag ∷ [])) (more ts l f cs) a
               → ((b ≡ true) × (a ≡ l)) ⊎ IsToBeFound i (ws ++ vs) step_flags a
-          roots (inl k) =
+          by_root (inl k) =
               inr (in_row
               (join_left counts (flag_at (ws ++ vs)) ts cs a (old_places (flag ∷ []) vs k)))
-          roots (inr k) = node_down (by_flag (sym (last_flag (size ts) count) ∙ k.0)) k.1
+          by_root (inr k) = node_down (by_flag (sym (last_flag (size ts) count) ∙ k.0)) k.1
       label_down (inr h) = by_step (repeated_step_cases ts l f cs here h)
         where
           by_step : ((b ≡ true) × ((a ≡ l) ⊎ HasNode counts (counts l) cs a))
@@ -250,21 +251,21 @@ module _ (counts : ℕ → ℕ → Bool) (at : ℕ → Trees) where
           → IsToBeFound (suc i) (ws ++ flag ∷ []) step_flags a
       label_up (inl h) = found ts l f cs here count h.0 (inl h.1)
       label_up (inr (inl h)) =
-          parts (join_parts counts (flag_at (ws ++ vs)) ts cs a
+          by_part (join_parts counts (flag_at (ws ++ vs)) ts cs a
           (subst (λ t. HasNode counts (flag_at (ws ++ vs)) t a) before h))
         where
-          parts : HasNode counts (flag_at (ws ++ vs)) ts a
+          by_part : HasNode counts (flag_at (ws ++ vs)) ts a
               ⊎ HasNode counts (λ n. flag_at (ws ++ vs) (size ts + n)) cs a
               → IsToBeFound (suc i) (ws ++ flag ∷ []) step_flags a
-          parts (inl k) =
+          by_part (inl k) =
               inl (subst (λ t. HasNode counts (flag_at (ws ++ flag ∷ [])) t a) (sym here)
               (inl (old_places vs (flag ∷ []) k)))
-          parts (inr k) =
+          by_part (inr k) =
               let p = some_place counts (λ n. flag_at (ws ++ vs) (size ts + n)) cs a k in
-              let e = (from p.0 (sym (after p.0) ∙ p.1)).0 in
+              let e = (from p.0 (sym (flag_after p.0) ∙ p.1)).0 in
               found ts l f cs here count e
               (inr (other_places counts (λ n. flag_at (ws ++ vs) (size ts + n)) (counts l) cs a
-              (λ n u q. (from n (sym (after n) ∙ q)).1) k))
+              (λ n u q. (from n (sym (flag_after n) ∙ q)).1) k))
       label_up (inr (inr h)) = inr (repeated_earlier h)
 
       pub label_back : IsToBeFound (suc i) (ws ++ flag ∷ []) step_flags a
@@ -295,12 +296,12 @@ module _ (counts : ℕ → ℕ → Bool) (at : ℕ → Trees) where
       marked_down : IsToBeFound (suc i) (ws ++ flag ∷ []) step_flags a
           → IsToBeFound i (ws ++ []) (step_flags_after b (marked j) step_flags) a
       marked_down (inl h) =
-          roots (subst (λ t. HasNode counts (flag_at (ws ++ flag ∷ [])) t a) here h)
+          by_root (subst (λ t. HasNode counts (flag_at (ws ++ flag ∷ [])) t a) here h)
         where
-          roots : HasNode counts (flag_at (ws ++ flag ∷ [])) (more (at i) l f cs) a
+          by_root : HasNode counts (flag_at (ws ++ flag ∷ [])) (more (at i) l f cs) a
               → IsToBeFound i (ws ++ []) (step_flags_after b (marked j) step_flags) a
-          roots (inl k) = inl (same_places (flag ∷ []) [] k)
-          roots (inr k) = tree_down (by_flag (sym (last_flag (size (at i)) count) ∙ k.0)) k.1
+          by_root (inl k) = inl (same_places (flag ∷ []) [] k)
+          by_root (inr k) = tree_down (by_flag (sym (last_flag (size (at i)) count) ∙ k.0)) k.1
       marked_down (inr h) = by_step (repeated_step_cases (at i) l f cs here h)
         where
           by_step : ((b ≡ true) × ((a ≡ l) ⊎ HasNode counts (counts l) cs a))

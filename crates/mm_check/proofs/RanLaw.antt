@@ -170,13 +170,13 @@ module _ (db : List Statement) (t : ℕ) (steps : List PlacedStep) (i : ℕ) (c 
         agree = agree_push ends d.machine.marks d.machine.formulas i (top d.machine.stack) agree
             last;
         before = All-push (λ j. j < i + 1) d.machine.marks i before (omega arith);
-        present = λ j l m. there j m l (cases_lt j i);
+        present = λ j l m. by_order j m l (cases_lt j i);
       }
         where
-          there : (j : ℕ) → is_marked steps j ≡ true → j < i + 1 → (j < i) ⊎ (i ≤ j)
+          by_order : (j : ℕ) → is_marked steps j ≡ true → j < i + 1 → (j < i) ⊎ (i ≤ j)
               → Contains (d.machine.marks ++ i ∷ []) j
-          there j m l (inl h) = Contains-append_left d.machine.marks (i ∷ []) j (earlier j h m)
-          there j m l (inr h) =
+          by_order j m l (inl h) = Contains-append_left d.machine.marks (i ∷ []) j (earlier j h m)
+          by_order j m l (inr h) =
               let q : i ≡ j = omega (arith, h, l) in
               subst (Contains (d.machine.marks ++ i ∷ [])) q (Contains-push d.machine.marks i)
 

@@ -159,19 +159,20 @@ module _ (db : List Statement) (t : ℕ) (steps : List PlacedStep) (stack ends :
 
   pub end_derives : (f : Formula) → stack ≡ f ∷ []
       → Derives (context_at db t) (steps_of steps) f r.forest
-  end_derives f e = one r.forest r.derivations (r.entries_are ∙ e) plain_all
+  end_derives f e = by_forest r.forest r.derivations (r.entries_are ∙ e) plain_all
     where
       two : (xs : List Formula) (h g : Formula) → ¬ ((xs ++ h ∷ []) ++ g ∷ [] ≡ f ∷ [])
       two xs h g e =
           let n = ap length e in
           omega (arith, n, length-append (xs ++ h ∷ []) (g ∷ []), length-append xs (h ∷ []))
 
-      one : (forest : Trees) → AreDerivations (context_at db t) forest → formulas forest ≡ f ∷ []
+      by_forest : (forest : Trees) → AreDerivations (context_at db t) forest → formulas forest
+          ≡ f ∷ []
           → Plain (context_at db t) [] [] (steps_of steps) (postfix forest)
           → Derives (context_at db t) (steps_of steps) f forest
-      one none d e p = cc
-      one (more none l g cs) d e p = (l, cs, ap (λ z. tree l z cs) (ap top e), d, p)
-      one (more (more ts m h bs) l g cs) d e p = absurd (two (formulas ts) h g e)
+      by_forest none d e p = cc
+      by_forest (more none l g cs) d e p = (l, cs, ap (λ z. tree l z cs) (ap top e), d, p)
+      by_forest (more (more ts m h bs) l g cs) d e p = absurd (two (formulas ts) h g e)
 
   pub ends_with : (end : ℕ) (code : Code) (formula : Formula)
       → IsEndCode (context_at db t) stack formula code

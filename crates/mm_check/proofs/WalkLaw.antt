@@ -145,7 +145,7 @@ module _ (db : List Statement) (t : ℕ) (steps : List PlacedStep) (i : ℕ) (ws
           ap size before,
           size_join ts cs,
         );
-    nodes = λ a. (λ h. down a ((both a).0 h), λ h. (both a).1 (up a h));
+    nodes = λ a. (λ h. left_to_right a ((both a).0 h), λ h. (both a).1 (right_to_left a h));
   }
     where
       fl : AreFlags db t b l cs f good follows (taken_flags db b (label l))
@@ -163,15 +163,15 @@ module _ (db : List Statement) (t : ℕ) (steps : List PlacedStep) (i : ℕ) (ws
           (forest_at r.forests) i ws step_flags flag b is a l ts f cs here before count
           (taken_flags db b (label l)) fl.from fl.to
 
-      down : (a : ℕ) → ((b ≡ true) × (a ≡ l)) ⊎ Before (label l) a
+      left_to_right : (a : ℕ) → ((b ≡ true) × (a ≡ l)) ⊎ Before (label l) a
           → ((b ≡ true) × ((a == l) ≡ true)) ⊎ Before (label l) a
-      down a (inl h) = inl (h.0, eq-eqb a l h.1)
-      down a (inr h) = inr h
+      left_to_right a (inl h) = inl (h.0, eq-eqb a l h.1)
+      left_to_right a (inr h) = inr h
 
-      up : (a : ℕ) → ((b ≡ true) × ((a == l) ≡ true)) ⊎ Before (label l) a
+      right_to_left : (a : ℕ) → ((b ≡ true) × ((a == l) ≡ true)) ⊎ Before (label l) a
           → ((b ≡ true) × (a ≡ l)) ⊎ Before (label l) a
-      up a (inl h) = inl (h.0, eqb-true a l h.1)
-      up a (inr h) = inr h
+      right_to_left a (inl h) = inl (h.0, eqb-true a l h.1)
+      right_to_left a (inr h) = inr h
   undone_step (marked j) (earlier, l, f, cs, here, copy) good = record {
     fits = ap length (append-nil ws) ∙ count;
     nodes = λ a. (λ h. inr ((both a).0 h), λ h. (both a).1 (only a h));
@@ -210,7 +210,11 @@ module _ (db : List Statement) (t : ℕ) (steps : List PlacedStep) (i : ℕ) (ws
         λ a m. known a
         (or_cases (is_member noted a) (b && (is_labelled_step s a && is_assertion_at db a))
         (sym (notes a) ∙ m));
-    exact = λ a k. (λ h. down a k ((r.exact a k).0 h), λ h. (r.exact a k).1 (up a k h));
+    exact = λ a k. (
+      λ h. left_to_right a k ((r.exact a k).0 h),
+      λ h. (r.exact a k).1
+          (right_to_left a k h),
+    );
   }
     where
       move : IsMove (context_at db t) r.forests i s
@@ -250,24 +254,24 @@ module _ (db : List Statement) (t : ℕ) (steps : List PlacedStep) (i : ℕ) (ws
           (and_from b (is_labelled_step s a && is_assertion_at db a) e
           (and_from (is_labelled_step s a) (is_assertion_at db a) h k))
 
-      down : (a : ℕ) → is_assertion_at db a ≡ true
+      left_to_right : (a : ℕ) → is_assertion_at db a ≡ true
           → (is_member noted a ≡ true)
           ⊎ IsToBeFound (child_counts db true) (forest_at r.forests) (suc i) (ws ++ flag ∷ [])
           step_flags a
           → (is_member out a ≡ true) ⊎ Before s a
-      down a a_is_assertion (inl h) = inl (old_noted a h)
-      down a a_is_assertion (inr h) = by_step ((u.nodes a).0 h)
+      left_to_right a a_is_assertion (inl h) = inl (old_noted a h)
+      left_to_right a a_is_assertion (inr h) = by_step ((u.nodes a).0 h)
         where
           by_step : ((b ≡ true) × (is_labelled_step s a ≡ true)) ⊎ Before s a
               → (is_member out a ≡ true) ⊎ Before s a
           by_step (inl h) = inl (new_noted a a_is_assertion h.0 h.1)
           by_step (inr h) = inr h
 
-      up : (a : ℕ) → is_assertion_at db a ≡ true → (is_member out a ≡ true) ⊎ Before s a
+      right_to_left : (a : ℕ) → is_assertion_at db a ≡ true → (is_member out a ≡ true) ⊎ Before s a
           → (is_member noted a ≡ true)
           ⊎ IsToBeFound (child_counts db true) (forest_at r.forests) (suc i) (ws ++ flag ∷ [])
           step_flags a
-      up a a_is_assertion (inl h) =
+      right_to_left a a_is_assertion (inl h) =
           by_membership (or_cases (is_member noted a)
           (b && (is_labelled_step s a && is_assertion_at db a))
           (sym (notes a) ∙ h))
@@ -282,7 +286,7 @@ module _ (db : List Statement) (t : ℕ) (steps : List PlacedStep) (i : ℕ) (ws
               let p = and_parts b (is_labelled_step s a && is_assertion_at db a) h in
               inr ((u.nodes a).1
               (inl (p.0, (and_parts (is_labelled_step s a) (is_assertion_at db a) p.1).0)))
-      up a a_is_assertion (inr h) = inr ((u.nodes a).1 (inr h))
+      right_to_left a a_is_assertion (inr h) = inr ((u.nodes a).1 (inr h))
 
 -- the forest after a step is not empty
 some_row : (c : Context) (forests : List Trees) (i : ℕ) (s : Step) → IsMove c forests i s
@@ -354,7 +358,7 @@ module _ (db : List Statement) (t : ℕ) (steps : List PlacedStep) (complete : A
         many = ap length all ∙ count (length steps);
         fits = ap length one ∙ sym (ap size (at_end ∙ here.2));
         asserted = λ a m. absurd (true≢false (sym m ∙ ap (λ l. is_member l a) bare));
-        exact = λ a k. (λ h. inr (inl (down a h)), λ h. up a h);
+        exact = λ a k. (λ h. inr (inl (left_to_right a h)), λ h. right_to_left a h);
       }
         where
           count : (n : ℕ) → length (replicate n false) ≡ n
@@ -373,23 +377,23 @@ module _ (db : List Statement) (t : ℕ) (steps : List PlacedStep) (complete : A
           root p q a e (inl h) = absurd h
           root p q a e (inr h) = inr (e, h.1)
 
-          down : (a : ℕ) → HasNode counts each_place d a
+          left_to_right : (a : ℕ) → HasNode counts each_place d a
               → HasNode counts (flag_at entry_flags) (forest_at forests (length steps)) a
-          down a h =
+          left_to_right a h =
               subst (λ u. HasNode counts (flag_at entry_flags) u a) (sym (at_end ∙ here.2))
               (root each_place (flag_at entry_flags) a (ap (λ ws. flag_at ws 0) one)
               (subst (λ u. HasNode counts each_place u a) here.2 h))
 
-          up : (a : ℕ)
+          right_to_left : (a : ℕ)
               → (is_member noted a ≡ true)
               ⊎ IsToBeFound counts (forest_at forests) (length steps) entry_flags step_flags a
               → HasNode counts each_place d a
-          up a (inl h) = absurd (true≢false (sym h ∙ ap (λ l. is_member l a) bare))
-          up a (inr (inl h)) =
+          right_to_left a (inl h) = absurd (true≢false (sym h ∙ ap (λ l. is_member l a) bare))
+          right_to_left a (inr (inl h)) =
               subst (λ u. HasNode counts each_place u a) (sym here.2)
               (root (flag_at entry_flags) each_place a refl
               (subst (λ u. HasNode counts (flag_at entry_flags) u a) (at_end ∙ here.2) h))
-          up a (inr (inr h)) =
+          right_to_left a (inr (inr h)) =
               absurd (true≢false
               (sym h.2 ∙ ap (λ ws. flag_at ws h.0) all
               ∙ get_or-replicate (length steps) h.0 false false h.1))
