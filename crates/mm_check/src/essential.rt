@@ -151,7 +151,8 @@ fn undo_step<A: Allocator>(
         && (is_labelled_step (as_step step) a && is_assertion_at database.now.statements a)))) }
     ensures entry_flags { OnOk result
         (entry_flags.new.items
-        ≡ entry_flags.old.items ++ taken_flags database.now.statements is_essential (as_step step)) }
+        ≡ entry_flags.old.items
+        ++ taken_flags database.now.statements is_essential (as_step step)) }
     ensures step_flags { OnOk result
         (step_flags.new ≡ step_flags_after is_essential (as_step step) step_flags.old) }
 {

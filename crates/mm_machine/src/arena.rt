@@ -396,7 +396,8 @@ pub fn test_rule<A: Allocator>(
         stack.now }
     requires cache { AreDisjointAt database.now.statements theorem cache.old }
     ensures cache { AreDisjointAt database.now.statements theorem cache.new }
-    ensures judged { TestsRule database.now.statements theorem rule.now symbols.now stack.now result }
+    ensures judged { TestsRule database.now.statements theorem rule.now
+        symbols.now stack.now result }
 {
     let hypotheses = rule.hypotheses();
     if stack.len() < hypotheses.len() {

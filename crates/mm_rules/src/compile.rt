@@ -218,7 +218,8 @@ impl<A: Allocator> Model for RuleCompiler<A> {
     ghost Value = { CompilerState };
 
     ghost view = { λ m. compiler_state (length m.numbers.items)
-        (compiled_rule m.assertion m.hypotheses.items m.pairs.items m.parts.items m.formula.items) };
+        (compiled_rule m.assertion m.hypotheses.items m.pairs.items
+        m.parts.items m.formula.items) };
 }
 
 impl<A: Allocator> RuleCompiler<A> {
@@ -226,7 +227,8 @@ impl<A: Allocator> RuleCompiler<A> {
     pub fn new(alloc: A, database: &Database<A>) -> Result<Self, AllocError>
     where
         A: Copy,
-        ensures { IfOk result (λ m. m.symbol_count ≡ length (symbol_names database.now.statements)) }
+        ensures { IfOk result
+            (λ m. m.symbol_count ≡ length (symbol_names database.now.statements)) }
     {
         Ok(RuleCompiler {
             assertion: 0,

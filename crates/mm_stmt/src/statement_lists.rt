@@ -26,7 +26,8 @@ pub(crate) fn list_statements<A: Allocator + Copy>(
     requires outlines { All (λ o. IsOutline o × (o.end < length tokens.now)) outlines.now }
     requires few { length outlines.now < 2 ^ 31 }
     ensures { IfOk result
-        (λ l. AreStatementLists (counted with_open (statements text.now tokens.now outlines.now)) l) }
+        (λ l. AreStatementLists
+        (counted with_open (statements text.now tokens.now outlines.now)) l) }
 {
     let kinds = kinds_of(alloc, text, tokens, outlines, with_open)?;
     let (theorems, axioms) = assertions_of(alloc, &kinds)?;
