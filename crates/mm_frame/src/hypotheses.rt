@@ -88,7 +88,8 @@ fn list_mandatory_variables<A: Allocator>(
     requires essentials { (i : ℕ)
         → is_member essentials.now i
         ≡ is_member (active_of is_essential statements.now.list assertion) i }
-    requires fresh { IsFresh (length (symbol_names statements.now.list)) assertion stamps.old.items }
+    requires fresh { IsFresh
+        (length (symbol_names statements.now.list)) assertion stamps.old.items }
     ensures stamps { OnOk result
         (AreStamps (length (symbol_names statements.now.list))
         (assertion + 1) stamps.new.items variables.new.items) }
