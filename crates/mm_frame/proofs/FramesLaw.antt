@@ -51,7 +51,7 @@ pub typed_some : (db : List Statement) → IsSound db → (k v : ℕ) (ts : List
     → AreLastFloats db (k + 1) (set ts v k)
 typed_some db sound k v ts few t e = record {
   count = length-set ts v k ∙ t.count;
-  by_equality = λ u h ne. by_equality u h ne (cases_eq u v);
+  some = λ u h ne. by_equality u h ne (cases_eq u v);
   alone = λ j u h l is on. alone j u h l is on (cases_lt j k) (cases_eq u v);
 }
   where
