@@ -47,15 +47,15 @@ rising_more xs n up below a b h l = by_order (cases_lt b (length xs))
         let b_is_length_xs : b ≡ length xs = omega (arith, k, l, length-append xs (n ∷ [])) in
         let y : get_or (xs ++ n ∷ []) b 0 ≡ n =
         subst (λ i. get_or (xs ++ n ∷ []) i 0 ≡ n) (sym b_is_length_xs) at_end in
-        by_order (cases_lt a (length xs)) y
+        by_order_of_a (cases_lt a (length xs)) y
       where
-        by_order : (a < length xs) ⊎ (length xs ≤ a) → get_or (xs ++ n ∷ []) b 0 ≡ n
+        by_order_of_a : (a < length xs) ⊎ (length xs ≤ a) → get_or (xs ++ n ∷ []) b 0 ≡ n
             → get_or (xs ++ n ∷ []) a 0 ≤ get_or (xs ++ n ∷ []) b 0
-        by_order (inl m) y =
+        by_order_of_a (inl m) y =
             let x = get_or_append_left xs (n ∷ []) 0 a m in
             let z = All-get_or (λ j. j < n) xs a 0 m below in
             omega (arith, x, y, z)
-        by_order (inr m) y =
+        by_order_of_a (inr m) y =
             let a_is_length_xs : a ≡ length xs = omega (
               arith,
               m,

@@ -29,7 +29,7 @@ module _ (db : List Statement) (complete : AreComplete db) (j : ℕ) where
   frame_complete h = record { hypotheses = h.hypotheses; formula = h.formula; pairs = h.pairs }
 
   pub complete_at : is_assertion_at db j ≡ true → IsComplete (context_at db 0) (frame_at db j)
-  complete_at is = by_statement (slice_get db j) refl is
+  complete_at is = by_presence (slice_get db j) refl is
     where
       by_statement : (s : Statement) → slice_get db j ≡ Some s → list_any is_assertion (s ∷ [])
           ≡ true
@@ -44,8 +44,8 @@ module _ (db : List Statement) (complete : AreComplete db) (j : ℕ) where
           (complete (length db) j))
       by_statement _ e h = absurd (true≢false (sym h))
 
-      by_statement : (o : Option Statement) → slice_get db j ≡ o
+      by_presence : (o : Option Statement) → slice_get db j ≡ o
           → list_any is_assertion (elim o [ None ↦ [] | Some s ↦ s ∷ [] ]) ≡ true
           → IsComplete (context_at db 0) (frame_at db j)
-      by_statement None e h = absurd (true≢false (sym h))
-      by_statement (Some s) e h = by_statement s e h
+      by_presence None e h = absurd (true≢false (sym h))
+      by_presence (Some s) e h = by_statement s e h
