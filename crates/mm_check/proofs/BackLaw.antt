@@ -9,7 +9,7 @@ use Rattle.mm_spec.specs.Derivation.{Formula, Trees, none, more, tree}
 use Rattle.mm_spec.specs.Nodes.{tree_count, HasNode, each_root}
 use Rattle.mm_spec.specs.Steps.{Step, label, marked}
 use Rattle.mm_spec.proofs.UniqueLaw.{◌⧺◌}
-use Rattle.mm_check.specs.Flags.{wanted_flags}
+use Rattle.mm_check.specs.Flags.{step_flags_after}
 use Rattle.mm_check.proofs.ForestsLaw.{last_tree}
 
 -- the flag of a number, if there is one
@@ -52,13 +52,13 @@ module _ (counts : ℕ → ℕ → Bool) where
 
   join_parts : (p : ℕ → Bool) (ts us : Trees) (a : ℕ) → HasNode counts p (ts ⧺ us) a
       → HasNode counts p ts a ⊎ HasNode counts (λ n. p (tree_count ts + n)) us a
-  join_parts p ts none a h = inl h
-  join_parts p ts (more us l f cs) a (inl h) = by (join_parts p ts us a h)
+  join_parts p ts none a has_node = inl has_node
+  join_parts p ts (more us l f cs) a (inl h) = by_part (join_parts p ts us a h)
     where
-      by : HasNode counts p ts a ⊎ HasNode counts (λ n. p (tree_count ts + n)) us a
+      by_part : HasNode counts p ts a ⊎ HasNode counts (λ n. p (tree_count ts + n)) us a
           → HasNode counts p ts a ⊎ HasNode counts (λ n. p (tree_count ts + n)) (more us l f cs) a
-      by (inl h) = inl h
-      by (inr h) = inr (inl h)
+      by_part (inl h) = inl h
+      by_part (inr h) = inr (inl h)
   join_parts p ts (more us l f cs) a (inr h) = inr (inr (ap p (sym (size_join ts us)) ∙ h.0, h.1))
 
 -- ---- flags
@@ -73,63 +73,69 @@ flag_front ws us vs n h =
     get_or_append_left ws us false n h ∙ sym (get_or_append_left ws vs false n h)
 
 -- what is wanted stays so
-wanted_more : (b : Bool) (s : Step) (wanted : List Bool) (k : ℕ) → flag_at wanted k ≡ true
-    → flag_at (wanted_flags b s wanted) k ≡ true
-wanted_more b (label l) wanted k e = e
-wanted_more false (marked j) wanted k e = e
-wanted_more true (marked j) wanted k e = by (k == j) refl (cases_lt k (length wanted))
+step_flags_stay : (b : Bool) (s : Step) (step_flags : List Bool) (k : ℕ) → flag_at step_flags k
+    ≡ true
+    → flag_at (step_flags_after b s step_flags) k ≡ true
+step_flags_stay b (label l) step_flags k e = e
+step_flags_stay false (marked j) step_flags k e = e
+step_flags_stay true (marked j) step_flags k e = by_order (k == j) refl
+    (cases_lt k (length step_flags))
   where
-    by : (q : Bool) → (k == j) ≡ q → (k < length wanted) ⊎ (length wanted ≤ k)
-        → flag_at (wanted_flags true (marked j) wanted) k ≡ true
-    by true q (inl h) =
+    by_order : (q : Bool) → (k == j) ≡ q → (k < length step_flags) ⊎ (length step_flags ≤ k)
+        → flag_at (step_flags_after true (marked j) step_flags) k ≡ true
+    by_order true q (inl h) =
         let same = eqb-true k j q in
-        subst (λ n. get_or (wanted_flags true (marked j) wanted) n false ≡ true) (sym same)
-        (get_or-set_same wanted j true false (subst (λ n. n < length wanted) same h))
-    by true q (inr h) = absurd (true≢false (sym e ∙ past wanted k h))
+        subst (λ n. get_or (step_flags_after true (marked j) step_flags) n false ≡ true) (sym same)
+        (get_or-set_same step_flags j true false (subst (λ n. n < length step_flags) same h))
+    by_order true q (inr h) = absurd (true≢false (sym e ∙ past step_flags k h))
       where
         past : (ws : List Bool) (k : ℕ) → length ws ≤ k → flag_at ws k ≡ false
         past [] zero h = refl
         past [] (suc k) h = refl
         past (w ∷ ws) zero h = absurd (omega (arith, h))
         past (w ∷ ws) (suc k) h = past ws k (omega (arith, h))
-    by false q h = get_or-set_other wanted j k true false (eqb-false k j q) ∙ e
+    by_order false q h = get_or-set_other step_flags j k true false (eqb-false k j q) ∙ e
 
 -- a step of a mark makes the earlier one wanted, if it is essential itself
-wanted_here : (j : ℕ) (wanted : List Bool) → j < length wanted → (b : Bool) → b ≡ true
-    → flag_at (wanted_flags b (marked j) wanted) j ≡ true
-wanted_here j wanted h true e = get_or-set_same wanted j true false h
-wanted_here j wanted h false e = absurd (true≢false (sym e))
+repeated_step_has_flag : (j : ℕ) (step_flags : List Bool) → j < length step_flags → (b : Bool) → b
+    ≡ true
+    → flag_at (step_flags_after b (marked j) step_flags) j ≡ true
+repeated_step_has_flag j step_flags h true e = get_or-set_same step_flags j true false h
+repeated_step_has_flag j step_flags h false e = absurd (true≢false (sym e))
 
 -- and no other
-wanted_was : (j : ℕ) (wanted : List Bool) (b : Bool) (k : ℕ)
-    → flag_at (wanted_flags b (marked j) wanted) k ≡ true
-    → (flag_at wanted k ≡ true) ⊎ ((k ≡ j) × (b ≡ true))
-wanted_was j wanted false k e = inl e
-wanted_was j wanted true k e = by (k == j) refl
+no_other_step_gets_flag : (j : ℕ) (step_flags : List Bool) (b : Bool) (k : ℕ)
+    → flag_at (step_flags_after b (marked j) step_flags) k ≡ true
+    → (flag_at step_flags k ≡ true) ⊎ ((k ≡ j) × (b ≡ true))
+no_other_step_gets_flag j step_flags false k e = inl e
+no_other_step_gets_flag j step_flags true k e = by_equality (k == j) refl
   where
-    by : (q : Bool) → (k == j) ≡ q → (flag_at wanted k ≡ true) ⊎ ((k ≡ j) × (true ≡ true))
-    by true q = inr (eqb-true k j q, refl)
-    by false q = inl (sym (get_or-set_other wanted j k true false (eqb-false k j q)) ∙ e)
+    by_equality : (q : Bool) → (k == j) ≡ q → (flag_at step_flags k ≡ true)
+        ⊎ ((k ≡ j) × (true ≡ true))
+    by_equality true q = inr (eqb-true k j q, refl)
+    by_equality false q = inl (sym (get_or-set_other step_flags j k true false (eqb-false k j q))
+        ∙ e)
 
-pub wanted_count : (b : Bool) (s : Step) (wanted : List Bool)
-    → length (wanted_flags b s wanted) ≡ length wanted
-wanted_count b (label l) wanted = refl
-wanted_count false (marked j) wanted = refl
-wanted_count true (marked j) wanted = length-set wanted j true
+pub step_flags_count : (b : Bool) (s : Step) (step_flags : List Bool)
+    → length (step_flags_after b s step_flags) ≡ length step_flags
+step_flags_count b (label l) step_flags = refl
+step_flags_count false (marked j) step_flags = refl
+step_flags_count true (marked j) step_flags = length-set step_flags j true
 
 -- ---- one step back
 
 module _ (counts : ℕ → ℕ → Bool) (at : ℕ → Trees) where
   -- a node of what one of the first i steps ended, if that is wanted
-  abbrev pub Wanted : ℕ → List Bool → ℕ → Type 0
-  Wanted i wanted a =
-      (j : ℕ) × (j < i) × (flag_at wanted j ≡ true)
+  abbrev pub IsOfRepeatedStep : ℕ → List Bool → ℕ → Type 0
+  IsOfRepeatedStep i step_flags a =
+      (j : ℕ) × (j < i) × (flag_at step_flags j ≡ true)
       × HasNode counts each_root (last_tree (at (suc j))) a
 
   -- The nodes that are still to be found, when the first i steps are left: those of the entries
   -- with a flag, and those of what is wanted.
-  abbrev pub Left : ℕ → List Bool → List Bool → ℕ → Type 0
-  Left i waiting wanted a = HasNode counts (flag_at waiting) (at i) a ⊎ Wanted i wanted a
+  abbrev pub IsToBeFound : ℕ → List Bool → List Bool → ℕ → Type 0
+  IsToBeFound i entry_flags step_flags a = HasNode counts (flag_at entry_flags) (at i) a
+      ⊎ IsOfRepeatedStep i step_flags a
 
   -- the nodes of one tree
   tree_node : (l : ℕ) (f : Formula) (cs : Trees) (a : ℕ) → HasNode counts each_root (tree l f cs) a
@@ -137,13 +143,14 @@ module _ (counts : ℕ → ℕ → Bool) (at : ℕ → Trees) where
   tree_node l f cs a (inl h) = absurd h
   tree_node l f cs a (inr h) = h.1
 
-  module _ (i : ℕ) (ws wanted : List Bool) (flag b : Bool) (is : b ≡ (flag || flag_at wanted i))
+  module _ (i : ℕ) (ws step_flags : List Bool) (flag b : Bool)
+      (is : b ≡ (flag || flag_at step_flags i))
       (a : ℕ) where
     by_flag : flag ≡ true → b ≡ true
-    by_flag e = is ∙ or_left flag (flag_at wanted i) e
+    by_flag e = is ∙ or_left flag (flag_at step_flags i) e
 
-    by_want : flag_at wanted i ≡ true → b ≡ true
-    by_want e = is ∙ or_right flag (flag_at wanted i) e
+    by_step_flag : flag_at step_flags i ≡ true → b ≡ true
+    by_step_flag e = is ∙ or_right flag (flag_at step_flags i) e
 
     last_flag : (n : ℕ) → length ws ≡ n → flag_at (ws ++ flag ∷ []) n ≡ flag
     last_flag n e = ap (flag_at (ws ++ flag ∷ [])) (sym e) ∙ flag_last ws flag
@@ -151,14 +158,16 @@ module _ (counts : ℕ → ℕ → Bool) (at : ℕ → Trees) where
     -- an essential tree of step i, by its flag or since it is wanted
     found : (rest : Trees) (l : ℕ) (f : Formula) (cs : Trees) → at (suc i) ≡ more rest l f cs
         → length ws ≡ tree_count rest → b ≡ true → (a ≡ l) ⊎ HasNode counts (counts l) cs a
-        → Left (suc i) (ws ++ flag ∷ []) wanted a
-    found rest l f cs here count e h = by (or_cases flag (flag_at wanted i) (sym is ∙ e))
+        → IsToBeFound (suc i) (ws ++ flag ∷ []) step_flags a
+    found rest l f cs here count b_true h = by_flag_kind
+        (or_cases flag (flag_at step_flags i) (sym is ∙ b_true))
       where
-        by : (flag ≡ true) ⊎ (flag_at wanted i ≡ true) → Left (suc i) (ws ++ flag ∷ []) wanted a
-        by (inl k) =
+        by_flag_kind : (flag ≡ true) ⊎ (flag_at step_flags i ≡ true)
+            → IsToBeFound (suc i) (ws ++ flag ∷ []) step_flags a
+        by_flag_kind (inl k) =
             inl (subst (λ t. HasNode counts (flag_at (ws ++ flag ∷ [])) t a) (sym here)
             (inr (last_flag (tree_count rest) count ∙ k, h)))
-        by (inr k) =
+        by_flag_kind (inr k) =
             inr (
               i,
               omega arith,
@@ -168,35 +177,38 @@ module _ (counts : ℕ → ℕ → Bool) (at : ℕ → Trees) where
             )
 
     -- what is wanted of the first steps and of step i
-    wanted_parts : (rest : Trees) (l : ℕ) (f : Formula) (cs : Trees) → at (suc i) ≡ more rest l f cs
-        → Wanted (suc i) wanted a
-        → ((b ≡ true) × ((a ≡ l) ⊎ HasNode counts (counts l) cs a)) ⊎ Wanted i wanted a
-    wanted_parts rest l f cs here h = by (cases_lt h.0 i)
+    repeated_step_cases : (rest : Trees) (l : ℕ) (f : Formula) (cs : Trees) → at (suc i)
+        ≡ more rest l f cs
+        → IsOfRepeatedStep (suc i) step_flags a
+        → ((b ≡ true) × ((a ≡ l) ⊎ HasNode counts (counts l) cs a))
+        ⊎ IsOfRepeatedStep i step_flags a
+    repeated_step_cases rest l f cs here h = by_order (cases_lt h.0 i)
       where
-        by : (h.0 < i) ⊎ (i ≤ h.0)
-            → ((b ≡ true) × ((a ≡ l) ⊎ HasNode counts (counts l) cs a)) ⊎ Wanted i wanted a
-        by (inl k) = inr (h.0, k, h.2, h.3)
-        by (inr k) =
+        by_order : (h.0 < i) ⊎ (i ≤ h.0)
+            → ((b ≡ true) × ((a ≡ l) ⊎ HasNode counts (counts l) cs a))
+            ⊎ IsOfRepeatedStep i step_flags a
+        by_order (inl k) = inr (h.0, k, h.2, h.3)
+        by_order (inr k) =
             let up = h.1 in
             let same : h.0 ≡ i = omega (arith, k, up) in
             inl (
-              by_want (subst (λ n. flag_at wanted n ≡ true) same h.2),
+              by_step_flag (subst (λ n. flag_at step_flags n ≡ true) same h.2),
               tree_node l f cs a
                   (subst (λ t. HasNode counts each_root t a)
                   (ap (λ n. last_tree (at (suc n))) same ∙ ap last_tree here) h.3),
             )
 
-    wanted_grown : Wanted i wanted a → Wanted (suc i) wanted a
-    wanted_grown h = let up = h.1 in (h.0, omega (arith, up), h.2, h.3)
+    repeated_earlier : IsOfRepeatedStep i step_flags a → IsOfRepeatedStep (suc i) step_flags a
+    repeated_earlier h = let up = h.1 in (h.0, omega (arith, up), h.2, h.3)
 
     -- the step of a label, whose entry gives way to those of its premises
     module _ (l : ℕ) (ts : Trees) (f : Formula) (cs : Trees) (here : at (suc i) ≡ more ts l f cs)
         (before : at i ≡ ts ⧺ cs) (count : length ws ≡ tree_count ts) (vs : List Bool)
         (from : (n : ℕ) → flag_at vs n ≡ true → (b ≡ true) × (counts l n ≡ true))
-        (to : (n : ℕ) → n < tree_count cs → b ≡ true → counts l n ≡ true
-        → flag_at vs n ≡ true) where
-      after : (n : ℕ) → flag_at (ws ++ vs) (tree_count ts + n) ≡ flag_at vs n
-      after n = ap (λ k. flag_at (ws ++ vs) (k + n)) (sym count) ∙ get_or-append-add ws vs n false
+        (to : (n : ℕ) → n < tree_count cs → b ≡ true → counts l n ≡ true → flag_at vs n ≡ true) where
+      flag_after : (n : ℕ) → flag_at (ws ++ vs) (tree_count ts + n) ≡ flag_at vs n
+      flag_after n = ap (λ k. flag_at (ws ++ vs) (k + n)) (sym count)
+          ∙ get_or-append-add ws vs n false
 
       old_places : (us xs : List Bool) → HasNode counts (flag_at (ws ++ us)) ts a
           → HasNode counts (flag_at (ws ++ xs)) ts a
@@ -204,66 +216,67 @@ module _ (counts : ℕ → ℕ → Bool) (at : ℕ → Trees) where
           other_places counts (flag_at (ws ++ us)) (flag_at (ws ++ xs)) ts a
           (λ n k e. sym (flag_front ws us xs n (omega (arith, k, count))) ∙ e) h
 
-      in_row : HasNode counts (flag_at (ws ++ vs)) (ts ⧺ cs) a → Left i (ws ++ vs) wanted a
+      in_row : HasNode counts (flag_at (ws ++ vs)) (ts ⧺ cs) a
+          → IsToBeFound i (ws ++ vs) step_flags a
       in_row h = inl (subst (λ t. HasNode counts (flag_at (ws ++ vs)) t a) (sym before) h)
 
       node_down : b ≡ true → (a ≡ l) ⊎ HasNode counts (counts l) cs a
-          → ((b ≡ true) × (a ≡ l)) ⊎ Left i (ws ++ vs) wanted a
+          → ((b ≡ true) × (a ≡ l)) ⊎ IsToBeFound i (ws ++ vs) step_flags a
       node_down e (inl h) = inl (e, h)
       node_down e (inr h) =
           inr (in_row
           (join_right counts (flag_at (ws ++ vs)) ts cs a
           (other_places counts (counts l) (λ n. flag_at (ws ++ vs) (tree_count ts + n)) cs a
-          (λ n k p. after n ∙ to n k e p) h)))
+          (λ n k p. flag_after n ∙ to n k e p) h)))
 
-      label_down : Left (suc i) (ws ++ flag ∷ []) wanted a
-          → ((b ≡ true) × (a ≡ l)) ⊎ Left i (ws ++ vs) wanted a
+      label_down : IsToBeFound (suc i) (ws ++ flag ∷ []) step_flags a
+          → ((b ≡ true) × (a ≡ l)) ⊎ IsToBeFound i (ws ++ vs) step_flags a
       label_down (inl h) =
-          roots (subst (λ t. HasNode counts (flag_at (ws ++ flag ∷ [])) t a) here h)
+          by_root (subst (λ t. HasNode counts (flag_at (ws ++ flag ∷ [])) t a) here h)
         where
-          roots : HasNode counts (flag_at (ws ++ flag ∷ [])) (more ts l f cs) a
-              → ((b ≡ true) × (a ≡ l)) ⊎ Left i (ws ++ vs) wanted a
-          roots (inl k) =
+          by_root : HasNode counts (flag_at (ws ++ flag ∷ [])) (more ts l f cs) a
+              → ((b ≡ true) × (a ≡ l)) ⊎ IsToBeFound i (ws ++ vs) step_flags a
+          by_root (inl k) =
               inr (in_row
               (join_left counts (flag_at (ws ++ vs)) ts cs a (old_places (flag ∷ []) vs k)))
-          roots (inr k) = node_down (by_flag (sym (last_flag (tree_count ts) count) ∙ k.0)) k.1
-      label_down (inr h) = go (wanted_parts ts l f cs here h)
+          by_root (inr k) = node_down (by_flag (sym (last_flag (tree_count ts) count) ∙ k.0)) k.1
+      label_down (inr h) = by_step (repeated_step_cases ts l f cs here h)
         where
-          go : ((b ≡ true) × ((a ≡ l) ⊎ HasNode counts (counts l) cs a)) ⊎ Wanted i wanted a
-              → ((b ≡ true) × (a ≡ l)) ⊎ Left i (ws ++ vs) wanted a
-          go (inl k) = node_down k.0 k.1
-          go (inr k) = inr (inr k)
+          by_step : ((b ≡ true) × ((a ≡ l) ⊎ HasNode counts (counts l) cs a))
+              ⊎ IsOfRepeatedStep i step_flags a
+              → ((b ≡ true) × (a ≡ l)) ⊎ IsToBeFound i (ws ++ vs) step_flags a
+          by_step (inl k) = node_down k.0 k.1
+          by_step (inr k) = inr (inr k)
 
-      label_up : ((b ≡ true) × (a ≡ l)) ⊎ Left i (ws ++ vs) wanted a
-          → Left (suc i) (ws ++ flag ∷ []) wanted a
+      label_up : ((b ≡ true) × (a ≡ l)) ⊎ IsToBeFound i (ws ++ vs) step_flags a
+          → IsToBeFound (suc i) (ws ++ flag ∷ []) step_flags a
       label_up (inl h) = found ts l f cs here count h.0 (inl h.1)
       label_up (inr (inl h)) =
-          parts (join_parts counts (flag_at (ws ++ vs)) ts cs a
+          by_part (join_parts counts (flag_at (ws ++ vs)) ts cs a
           (subst (λ t. HasNode counts (flag_at (ws ++ vs)) t a) before h))
         where
-          parts : HasNode counts (flag_at (ws ++ vs)) ts a
+          by_part : HasNode counts (flag_at (ws ++ vs)) ts a
               ⊎ HasNode counts (λ n. flag_at (ws ++ vs) (tree_count ts + n)) cs a
-              → Left (suc i) (ws ++ flag ∷ []) wanted a
-          parts (inl k) =
+              → IsToBeFound (suc i) (ws ++ flag ∷ []) step_flags a
+          by_part (inl k) =
               inl (subst (λ t. HasNode counts (flag_at (ws ++ flag ∷ [])) t a) (sym here)
               (inl (old_places vs (flag ∷ []) k)))
-          parts (inr k) =
+          by_part (inr k) =
               let p = some_place counts (λ n. flag_at (ws ++ vs) (tree_count ts + n)) cs a k in
-              let e = (from p.0 (sym (after p.0) ∙ p.1)).0 in
+              let e = (from p.0 (sym (flag_after p.0) ∙ p.1)).0 in
               found ts l f cs here count e
-              (inr (other_places counts (λ n. flag_at (ws ++ vs) (tree_count ts + n))
-              (counts l) cs a
-              (λ n u q. (from n (sym (after n) ∙ q)).1) k))
-      label_up (inr (inr h)) = inr (wanted_grown h)
+              (inr (other_places counts (λ n. flag_at (ws ++ vs) (tree_count ts + n)) (counts l) cs a
+              (λ n u q. (from n (sym (flag_after n) ∙ q)).1) k))
+      label_up (inr (inr h)) = inr (repeated_earlier h)
 
-      pub label_back : Left (suc i) (ws ++ flag ∷ []) wanted a
-          ↔ (((b ≡ true) × (a ≡ l)) ⊎ Left i (ws ++ vs) wanted a)
+      pub label_back : IsToBeFound (suc i) (ws ++ flag ∷ []) step_flags a
+          ↔ (((b ≡ true) × (a ≡ l)) ⊎ IsToBeFound i (ws ++ vs) step_flags a)
       label_back = (label_down, label_up)
 
     -- the step of a mark, whose entry goes
     module _ (j l : ℕ) (f : Formula) (cs : Trees) (earlier : j < i)
         (here : at (suc i) ≡ more (at i) l f cs) (copy : last_tree (at (suc j)) ≡ tree l f cs)
-        (count : length ws ≡ tree_count (at i)) (inside : i < length wanted) where
+        (count : length ws ≡ tree_count (at i)) (inside : i < length step_flags) where
       same_places : (us xs : List Bool) → HasNode counts (flag_at (ws ++ us)) (at i) a
           → HasNode counts (flag_at (ws ++ xs)) (at i) a
       same_places us xs h =
@@ -271,48 +284,49 @@ module _ (counts : ℕ → ℕ → Bool) (at : ℕ → Trees) where
           (λ n k e. sym (flag_front ws us xs n (omega (arith, k, count))) ∙ e) h
 
       tree_down : b ≡ true → (a ≡ l) ⊎ HasNode counts (counts l) cs a
-          → Left i (ws ++ []) (wanted_flags b (marked j) wanted) a
-      tree_down e h =
+          → IsToBeFound i (ws ++ []) (step_flags_after b (marked j) step_flags) a
+      tree_down b_true h =
           inr (
             j,
             earlier,
-            wanted_here j wanted (omega (arith, earlier, inside)) b e,
+            repeated_step_has_flag j step_flags (omega (arith, earlier, inside)) b b_true,
             subst
                 (λ t. HasNode counts each_root t a) (sym copy) (inr (refl, h)),
           )
 
-      marked_down : Left (suc i) (ws ++ flag ∷ []) wanted a
-          → Left i (ws ++ []) (wanted_flags b (marked j) wanted) a
+      marked_down : IsToBeFound (suc i) (ws ++ flag ∷ []) step_flags a
+          → IsToBeFound i (ws ++ []) (step_flags_after b (marked j) step_flags) a
       marked_down (inl h) =
-          roots (subst (λ t. HasNode counts (flag_at (ws ++ flag ∷ [])) t a) here h)
+          by_root (subst (λ t. HasNode counts (flag_at (ws ++ flag ∷ [])) t a) here h)
         where
-          roots : HasNode counts (flag_at (ws ++ flag ∷ [])) (more (at i) l f cs) a
-              → Left i (ws ++ []) (wanted_flags b (marked j) wanted) a
-          roots (inl k) = inl (same_places (flag ∷ []) [] k)
-          roots (inr k) = tree_down (by_flag (sym (last_flag (tree_count (at i)) count) ∙ k.0)) k.1
-      marked_down (inr h) = go (wanted_parts (at i) l f cs here h)
+          by_root : HasNode counts (flag_at (ws ++ flag ∷ [])) (more (at i) l f cs) a
+              → IsToBeFound i (ws ++ []) (step_flags_after b (marked j) step_flags) a
+          by_root (inl k) = inl (same_places (flag ∷ []) [] k)
+          by_root (inr k) = tree_down (by_flag (sym (last_flag (tree_count (at i)) count) ∙ k.0)) k.1
+      marked_down (inr h) = by_step (repeated_step_cases (at i) l f cs here h)
         where
-          go : ((b ≡ true) × ((a ≡ l) ⊎ HasNode counts (counts l) cs a)) ⊎ Wanted i wanted a
-              → Left i (ws ++ []) (wanted_flags b (marked j) wanted) a
-          go (inl k) = tree_down k.0 k.1
-          go (inr k) = inr (k.0, k.1, wanted_more b (marked j) wanted k.0 k.2, k.3)
+          by_step : ((b ≡ true) × ((a ≡ l) ⊎ HasNode counts (counts l) cs a))
+              ⊎ IsOfRepeatedStep i step_flags a
+              → IsToBeFound i (ws ++ []) (step_flags_after b (marked j) step_flags) a
+          by_step (inl k) = tree_down k.0 k.1
+          by_step (inr k) = inr (k.0, k.1, step_flags_stay b (marked j) step_flags k.0 k.2, k.3)
 
-      marked_up : Left i (ws ++ []) (wanted_flags b (marked j) wanted) a
-          → Left (suc i) (ws ++ flag ∷ []) wanted a
+      marked_up : IsToBeFound i (ws ++ []) (step_flags_after b (marked j) step_flags) a
+          → IsToBeFound (suc i) (ws ++ flag ∷ []) step_flags a
       marked_up (inl h) =
           inl (subst (λ t. HasNode counts (flag_at (ws ++ flag ∷ [])) t a) (sym here)
           (inl (same_places [] (flag ∷ []) h)))
-      marked_up (inr h) = by (wanted_was j wanted b h.0 h.2)
+      marked_up (inr h) = by_flag (no_other_step_gets_flag j step_flags b h.0 h.2)
         where
-          by : (flag_at wanted h.0 ≡ true) ⊎ ((h.0 ≡ j) × (b ≡ true))
-              → Left (suc i) (ws ++ flag ∷ []) wanted a
-          by (inl k) = inr (wanted_grown (h.0, h.1, k, h.3))
-          by (inr k) =
+          by_flag : (flag_at step_flags h.0 ≡ true) ⊎ ((h.0 ≡ j) × (b ≡ true))
+              → IsToBeFound (suc i) (ws ++ flag ∷ []) step_flags a
+          by_flag (inl k) = inr (repeated_earlier (h.0, h.1, k, h.3))
+          by_flag (inr k) =
               found (at i) l f cs here count k.1
               (tree_node l f cs a
               (subst (λ t. HasNode counts each_root t a)
               (ap (λ n. last_tree (at (suc n))) k.0 ∙ copy) h.3))
 
-      pub marked_back : Left (suc i) (ws ++ flag ∷ []) wanted a
-          ↔ Left i (ws ++ []) (wanted_flags b (marked j) wanted) a
+      pub marked_back : IsToBeFound (suc i) (ws ++ flag ∷ []) step_flags a
+          ↔ IsToBeFound i (ws ++ []) (step_flags_after b (marked j) step_flags) a
       marked_back = (marked_down, marked_up)

@@ -15,12 +15,12 @@ pub all_cited : (db : List Statement) (t : ℕ) (d : Trees) (cites : List ℕ) �
     → IsProof db t d
     → ((a : ℕ) → is_member cites a ≡ (is_member (postfix d) a && is_assertion_at db a)) → (a : ℕ)
     → Decides (is_member cites a) (Cites db false t a)
-all_cited db t d cites complete p exact a = (
+all_cited db t d cites complete is_proof exact a = (
   λ e. let both =
       and_parts (is_member (postfix d) a) (is_assertion_at db a) (sym (exact a) ∙ e) in
-      (both.1, d, p, (all_labels db d a).1 both.0),
+      (both.1, d, is_proof, (all_labels db d a).1 both.0),
   λ c. exact a
       ∙ and_from (is_member (postfix d) a) (is_assertion_at db a)
-      (subst (λ e. is_member (postfix e) a ≡ true) (proof_unique db complete t c.1 d c.2 p)
+      (subst (λ e. is_member (postfix e) a ≡ true) (proof_unique db complete t c.1 d c.2 is_proof)
       ((all_labels db c.1 a).0 c.3)) c.0,
 )

@@ -24,20 +24,21 @@ last_tree (more ts l f cs) = tree l f cs
 -- ---- lists
 
 -- two ways to cut one list
-cuts : (xs ys us vs : List ℕ) → xs ++ ys ≡ us ++ vs
+two_cuts : (xs ys us vs : List ℕ) → xs ++ ys ≡ us ++ vs
     → ((k : List ℕ) × (xs ≡ us ++ k)) ⊎ ((k : List ℕ) × (us ≡ xs ++ k) × (ys ≡ k ++ vs))
-cuts [] ys us vs e = inr (us, refl, e)
-cuts (x ∷ xs) ys [] vs e = inl (x ∷ xs, refl)
-cuts (x ∷ xs) ys (u ∷ us) vs e =
+two_cuts [] ys us vs e = inr (us, refl, e)
+two_cuts (x ∷ xs) ys [] vs e = inl (x ∷ xs, refl)
+two_cuts (x ∷ xs) ys (u ∷ us) vs e =
     let h : x ≡ u = cc in
     let t : xs ++ ys ≡ us ++ vs = cc in
-    by h (cuts xs ys us vs t)
+    by_cut h (two_cuts xs ys us vs t)
   where
-    by : x ≡ u → ((k : List ℕ) × (xs ≡ us ++ k)) ⊎ ((k : List ℕ) × (us ≡ xs ++ k) × (ys ≡ k ++ vs))
+    by_cut : x ≡ u → ((k : List ℕ) × (xs ≡ us ++ k))
+        ⊎ ((k : List ℕ) × (us ≡ xs ++ k) × (ys ≡ k ++ vs))
         → ((k : List ℕ) × (x ∷ xs ≡ (u ∷ us) ++ k))
         ⊎ ((k : List ℕ) × (u ∷ us ≡ (x ∷ xs) ++ k) × (ys ≡ k ++ vs))
-    by h (inl p) = let e = p.1 in inl (p.0, cc (h, e))
-    by h (inr p) = let e = p.1 in inr (p.0, cc (h, e), p.2)
+    by_cut h (inl p) = let e = p.1 in inl (p.0, cc (h, e))
+    by_cut h (inr p) = let e = p.1 in inr (p.0, cc (h, e), p.2)
 
 -- ---- forests
 
@@ -59,8 +60,8 @@ forest_next [] rest next = refl
 forest_next (r ∷ forests) rest next = forest_next forests rest next
 
 module _ (c : Context) where
-  -- Step n makes a tree of the last ones of the forest before it, or adds a copy of the tree that an
-  -- earlier step ended.
+  -- Step n makes a tree of the last ones of the forest before it, or adds a copy of the tree that
+  -- an earlier step ended.
   abbrev pub IsMove : List Trees → ℕ → Step → Type 0
   IsMove forests n (label l) =
       (ts : Trees) × (f : Formula) × (cs : Trees) × (forest_at forests (suc n) ≡ more ts l f cs)
@@ -84,12 +85,14 @@ module _ (c : Context) where
   RowOf labels = (r : Trees) × AreDerivations c r × (postfix r ≡ labels)
 
   -- the first labels of a forest are those of a forest
-  front_row : (forest : Trees) (old rest : List ℕ) → AreDerivations c forest → postfix forest ≡ old ++ rest
+  front_row : (forest : Trees) (old rest : List ℕ) → AreDerivations c forest → postfix forest ≡ old
+      ++ rest
       → RowOf old
-  front_row none [] rest d e = (none, tt, refl)
-  front_row none (x ∷ old) rest d e = absurd (cc)
+  front_row none [] rest are_derivations e = (none, tt, refl)
+  front_row none (x ∷ old) rest are_derivations e = absurd (cc)
   front_row (more ts l f cs) old rest d e =
-      by (cuts (postfix ts) (postfix cs ++ l ∷ []) old rest e) (λ k q. front_row ts old k d.0 q)
+      by_cut (two_cuts (postfix ts) (postfix cs ++ l ∷ []) old rest e)
+      (λ k q. front_row ts old k d.0 q)
       (λ old' k q. front_row cs old' k d.1 q)
     where
       whole : (k m : List ℕ) → old ≡ postfix ts ++ k → k ≡ postfix cs ++ m → l ∷ [] ≡ m ++ rest
@@ -101,10 +104,10 @@ module _ (c : Context) where
             ∙ ap (λ x. postfix ts ++ x) (sym (append-nil (postfix cs)) ∙ sym q) ∙ sym o,
       )
       whole k (x ∷ []) o q z =
-          let h : l ≡ x = cc in (
+          let l_is_x : l ≡ x = cc in (
             more ts l f cs,
             d,
-            ap (λ y. postfix ts ++ (postfix cs ++ y ∷ [])) h
+            ap (λ y. postfix ts ++ (postfix cs ++ y ∷ [])) l_is_x
                 ∙ ap (λ y. postfix ts ++ y) (sym q) ∙ sym o,
           )
       whole k (x ∷ y ∷ m) o q z = absurd (omega (arith, ap length z))
@@ -122,13 +125,13 @@ module _ (c : Context) where
           )
       inner k o (inr p) on = whole k p.0 o p.1 p.2
 
-      by : ((k : List ℕ) × (postfix ts ≡ old ++ k))
+      by_cut : ((k : List ℕ) × (postfix ts ≡ old ++ k))
           ⊎ ((k : List ℕ) × (old ≡ postfix ts ++ k) × (postfix cs ++ l ∷ [] ≡ k ++ rest))
           → ((k : List ℕ) → postfix ts ≡ old ++ k → RowOf old)
           → ((old' k : List ℕ) → postfix cs ≡ old' ++ k → RowOf old') → RowOf old
-      by (inl p) on in_children = on p.0 p.1
-      by (inr p) on in_children =
-          inner p.0 p.1 (cuts (postfix cs) (l ∷ []) p.0 rest p.2) in_children
+      by_cut (inl p) on in_children = on p.0 p.1
+      by_cut (inr p) on in_children =
+          inner p.0 p.1 (two_cuts (postfix cs) (l ∷ []) p.0 rest p.2) in_children
 
   -- the plain list only grows
   adds_more : (lists : List (List ℕ)) (old : List ℕ) (s : Step) (new : List ℕ)
@@ -148,14 +151,16 @@ module _ (c : Context) where
   abbrev Are : List (List ℕ) → List Trees → Type 0
   Are lists forests = AllZip (λ x t. AreDerivations c t × (postfix t ≡ x)) lists forests
 
-  are_more : (lists : List (List ℕ)) (forests : List Trees) (x : List ℕ) (t : Trees) → Are lists forests
+  are_more : (lists : List (List ℕ)) (forests : List Trees) (x : List ℕ) (t : Trees)
+      → Are lists forests
       → AreDerivations c t → postfix t ≡ x → Are (lists ++ x ∷ []) (forests ++ t ∷ [])
   are_more [] [] x t a d e = ((d, e), tt)
   are_more [] (u ∷ us) x t a d e = absurd a
   are_more (y ∷ ys) [] x t a d e = absurd a
   are_more (y ∷ ys) (u ∷ us) x t a d e = (a.0, are_more ys us x t a.1 d e)
 
-  are_at : (lists : List (List ℕ)) (forests : List Trees) (j : ℕ) (then : List ℕ) → Are lists forests
+  are_at : (lists : List (List ℕ)) (forests : List Trees) (j : ℕ) (then : List ℕ)
+      → Are lists forests
       → slice_get lists j ≡ Some then
       → (j < length forests) × AreDerivations c (get_or forests j none)
       × (postfix (get_or forests j none) ≡ then)
@@ -163,23 +168,25 @@ module _ (c : Context) where
   are_at [] forests (suc j) then a e = absurd (cc)
   are_at (x ∷ xs) [] j then a e = absurd a
   are_at (x ∷ xs) (t ∷ ts) zero then a e =
-      let same : x ≡ then = cc in (omega arith, a.0.0, a.0.1 ∙ same)
+      let x_is_then : x ≡ then = cc in (omega arith, a.0.0, a.0.1 ∙ x_is_then)
   are_at (x ∷ xs) (t ∷ ts) (suc j) then a e =
       let r = are_at xs ts j then a.1 e in let l = r.0 in (omega (arith, l), r.1, r.2)
 
   module _ (fine : (l : ℕ) → HasCompleteFrame c (c.rule l)) where
     -- one step
-    move_label : (forests : List Trees) (n : ℕ) (forest next : Trees) (l : ℕ) → AreDerivations c forest
-        → AreDerivations c next → postfix next ≡ postfix forest ++ l ∷ [] → forest_at forests n ≡ forest
+    move_label : (forests : List Trees) (n : ℕ) (forest next : Trees) (l : ℕ)
+        → AreDerivations c forest
+        → AreDerivations c next → postfix next ≡ postfix forest ++ l ∷ [] → forest_at forests n
+        ≡ forest
         → forest_at forests (suc n) ≡ next → IsMove forests n (label l)
-    move_label forests n forest none l d e p here then =
+    move_label forests n forest none l are_derivations e p here then =
         absurd (omega (arith, ap length p, length-append (postfix forest) (l ∷ [])))
-    move_label forests n forest (more ts k f cs) l d e p here then =
+    move_label forests n forest (more ts k f cs) l are_derivations e p here then =
         let q =
         same_from_push (postfix ts ++ postfix cs) (postfix forest) k l
         (append_assoc (postfix ts) (postfix cs) (k ∷ []) ∙ p) in
         let is =
-        same_forest c fine forest (ts ⧺ cs) d (derivations_join ts cs e.0 e.1)
+        same_forest c fine forest (ts ⧺ cs) are_derivations (derivations_join ts cs e.0 e.1)
         (sym q.0 ∙ sym (postfix_join ts cs)) in (
           ts,
           f,
@@ -192,43 +199,46 @@ module _ (c : Context) where
 
     move_marked : (lists : List (List ℕ)) (forests rest : List Trees) (forest next : Trees) (j : ℕ)
         → Are lists forests → AreDerivations c forest → AreDerivations c next
-        → Adds c lists (postfix forest) (marked j) (postfix next) → forest_at forests (length forests) ≡ forest
+        → Adds c lists (postfix forest) (marked j) (postfix next)
+        → forest_at forests (length forests) ≡ forest
         → IsMove (forests ++ next ∷ rest) (length forests) (marked j)
-    move_marked lists forests rest forest next j a d e adds here =
+    move_marked lists forests rest forest next j a are_derivations e adds here =
         let at = are_at lists forests j adds.0 a adds.2 in
         let from = adds.3 in
-        let same = same_forest c fine (get_or forests j none) from.0 at.1 from.1 (at.2 ∙ sym from.2) in
+        let same = same_forest c fine (get_or forests j none) from.0 at.1 from.1 (at.2 ∙ sym from.2)
+        in
         copy from.0 from.1 from.3 same at.0
       where
         copy : (r : Trees) → AreDerivations c r → IsLastTree r adds.1 → get_or forests j none ≡ r
             → j < length forests → IsMove (forests ++ next ∷ rest) (length forests) (marked j)
-        copy none dr x same h = absurd x
-        copy (more ts l f cs) dr x same h =
+        copy none dr is_last_tree same j_lt_length_forests = absurd is_last_tree
+        copy (more ts l f cs) dr x same j_lt_length_forests =
             let is : next ≡ more forest l f cs =
-            same_forest c fine next (more forest l f cs) e (d, dr.1, dr.2)
+            same_forest c fine next (more forest l f cs) e (are_derivations, dr.1, dr.2)
             (adds.4 ∙ ap (λ z. postfix forest ++ z) x) in
             let before : forest_at (forests ++ next ∷ rest) (length forests) ≡ forest =
             forest_front forests (next ∷ rest) (length forests) (omega arith) ∙ here in (
-              h,
+              j_lt_length_forests,
               l,
               f,
               cs,
               forest_next forests rest next ∙ is
                   ∙ ap (λ z. more z l f cs) (sym before),
               ap last_tree
-                  (forest_front forests (next ∷ rest) (suc j) h ∙ same),
+                  (forest_front forests (next ∷ rest) (suc j) j_lt_length_forests ∙ same),
             )
 
     move_here : (lists : List (List ℕ)) (forests rest : List Trees) (forest next : Trees) (s : Step)
         → Are lists forests → AreDerivations c forest → AreDerivations c next
-        → Adds c lists (postfix forest) s (postfix next) → forest_at forests (length forests) ≡ forest
+        → Adds c lists (postfix forest) s (postfix next) → forest_at forests (length forests)
+        ≡ forest
         → IsMove (forests ++ next ∷ rest) (length forests) s
-    move_here lists forests rest forest next (label l) a d e adds here =
-        move_label (forests ++ next ∷ rest) (length forests) forest next l d e adds
+    move_here lists forests rest forest next (label l) a are_derivations e adds here =
+        move_label (forests ++ next ∷ rest) (length forests) forest next l are_derivations e adds
         (forest_front forests (next ∷ rest) (length forests) (omega arith) ∙ here)
         (forest_next forests rest next)
-    move_here lists forests rest forest next (marked j) a d e adds here =
-        move_marked lists forests rest forest next j a d e adds here
+    move_here lists forests rest forest next (marked j) a are_derivations e adds here =
+        move_marked lists forests rest forest next j a are_derivations e adds here
 
     -- the forests after the steps that are left
     record Built (forests : List Trees) (steps : List Step) (d : Trees) : Type 0 where
@@ -239,7 +249,8 @@ module _ (c : Context) where
     -- one forest more
     built_more : (lists : List (List ℕ)) (forests : List Trees) (forest d : Trees) (s : Step)
         → (steps : List Step)
-        → Are lists forests → AreDerivations c forest → forest_at forests (length forests) ≡ forest → (new : List ℕ)
+        → Are lists forests → AreDerivations c forest → forest_at forests (length forests) ≡ forest
+        → (new : List ℕ)
         → Adds c lists (postfix forest) s new → (next : Trees) → AreDerivations c next
         → postfix next ≡ new
         → (forest_at (forests ++ next ∷ []) (length (forests ++ next ∷ [])) ≡ next
@@ -255,7 +266,8 @@ module _ (c : Context) where
       );
       last =
           ap (forest_at (forests ++ next ∷ rest)) so_many
-          ∙ ap (λ z. forest_at z (length (forests ++ next ∷ []) + length steps)) (sym regroup) ∙ q.last;
+          ∙ ap (λ z. forest_at z (length (forests ++ next ∷ []) + length steps)) (sym regroup)
+          ∙ q.last;
     }
       where
         many : length (forests ++ next ∷ []) ≡ suc (length forests)
@@ -273,23 +285,26 @@ module _ (c : Context) where
         so_many : length forests + suc (length steps) ≡ length (forests ++ next ∷ []) + length steps
         so_many = omega (arith, many)
 
-    build : (steps : List Step) (lists : List (List ℕ)) (forests : List Trees) (forest d : Trees)
+    forests_built : (steps : List Step) (lists : List (List ℕ)) (forests : List Trees)
+        (forest d : Trees)
         → Are lists forests → AreDerivations c forest → forest_at forests (length forests) ≡ forest
-        → AreDerivations c d → Plain c lists (postfix forest) steps (postfix d) → Built forests steps d
-    build [] lists forests forest d a dr here dd h =
+        → AreDerivations c d → Plain c lists (postfix forest) steps (postfix d)
+        → Built forests steps d
+    forests_built [] lists forests forest d a dr here dd h =
         let n : length forests + 0 ≡ length forests = omega arith in
         record {
           rest = [];
           moves = tt;
           last =
-              ap (forest_at (forests ++ [])) n ∙ forest_front forests [] (length forests) (omega arith) ∙ here
+              ap (forest_at (forests ++ [])) n
+              ∙ forest_front forests [] (length forests) (omega arith) ∙ here
               ∙ sym (same_forest c fine d forest dd dr h);
         }
-    build (s ∷ steps) lists forests forest d a dr here dd h =
+    forests_built (s ∷ steps) lists forests forest d a dr here dd h =
         let tail = plain_more steps (lists ++ h.0 ∷ []) h.0 (postfix d) h.2 in
         let r = front_row d h.0 tail.0 dd tail.1 in
         built_more lists forests forest d s steps a dr here h.0 h.1 r.0 r.1 r.2
-        (λ at_next. build steps (lists ++ h.0 ∷ []) (forests ++ r.0 ∷ []) r.0 d
+        (λ at_next. forests_built steps (lists ++ h.0 ∷ []) (forests ++ r.0 ∷ []) r.0 d
         (are_more lists forests h.0 r.0 a r.1 r.2) r.1 at_next dd
         (subst (λ z. Plain c (lists ++ h.0 ∷ []) z steps (postfix d)) (sym r.2) h.2))
 
@@ -297,7 +312,7 @@ module _ (c : Context) where
     pub proof_rows : (steps : List Step) (f : Formula) (d : Trees) → Derives c steps f d
         → (forests : List Trees) × AreMoves forests 0 steps × (forest_at forests (length steps) ≡ d)
     proof_rows steps f d h =
-        let b = build steps [] [] none d tt tt refl h.3 h.4 in
+        let b = forests_built steps [] [] none d tt tt refl h.3 h.4 in
         let count : length steps ≡ 0 + length steps = omega arith in
         (b.rest, b.moves, ap (forest_at b.rest) count ∙ b.last)
 

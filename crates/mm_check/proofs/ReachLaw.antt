@@ -26,19 +26,19 @@ use Rattle.mm_spec.specs.Output.{is_theorem_at, proof_end}
 use Rattle.mm_database.specs.Database.{last_place}
 use Rattle.mm_rule.specs.Assertions.{is_assertion_at}
 use Rattle.mm_check.specs.Contract.{is_labelled_step}
-use Rattle.mm_check.specs.Reached.{Reached, steps_of}
+use Rattle.mm_check.specs.Reached.{IsReached, steps_of}
 
-or_weak : (a b : Bool) → (b ≡ true → a ≡ true) → (a || b) ≡ (a || false)
-or_weak true b f = refl
-or_weak false true f = sym (f refl)
-or_weak false false f = refl
+or_without_implied : (a b : Bool) → (b ≡ true → a ≡ true) → (a || b) ≡ (a || false)
+or_without_implied true b f = refl
+or_without_implied false true f = sym (f refl)
+or_without_implied false false f = refl
 
-spread : (a b c : Bool) → ((a && c) || (b && c)) ≡ ((a || b) && c)
-spread true true true = refl
-spread true true false = refl
-spread true false true = refl
-spread true false false = refl
-spread false b c = refl
+or_distributes : (a b c : Bool) → ((a && c) || (b && c)) ≡ ((a || b) && c)
+or_distributes true true true = refl
+or_distributes true true false = refl
+or_distributes true false true = refl
+or_distributes true false false = refl
+or_distributes false b c = refl
 
 abbrev Within : List (List ℕ) → List ℕ → Type 0
 Within lists all =
@@ -71,109 +71,119 @@ module _ (c : Context) where
       ∙ ap (λ b. is_member old a || b) (or-false (a == l))
   adds_member lists old new (marked j) h w a =
       ap (λ z. is_member z a) h.4 ∙ list_any-append (λ y. a == y) old h.1
-      ∙ or_weak (is_member old a) (is_member h.1 a)
+      ∙ or_without_implied (is_member old a) (is_member h.1 a)
       (λ m. within_at lists old h.0 j w h.2 a
       (subst (λ z. is_member z a ≡ true) h.3.2 (last_member h.3.0 h.1 a h.3.3 m)))
 
 -- one step more
-pub next : (db : List Statement) (t : ℕ) (done : List Step) (stack ends : List Formula)
+pub next : (db : List Statement) (t : ℕ) (steps_so_far : List Step) (stack ends : List Formula)
     → (noted : List ℕ) (s : Step) (out : List Formula) (then : List ℕ)
-    → Reached db t done stack ends noted → IsGoodStep (context_at db t) (length ends) s
+    → IsReached db t steps_so_far stack ends noted → IsGoodStep (context_at db t) (length ends) s
     → step_entries (context_at db t) s ends stack ≡ Ok out
     → ((a : ℕ)
     → is_member then a ≡ (is_member noted a || (is_labelled_step s a && is_assertion_at db a)))
-    → Reached db t (done ++ s ∷ []) out (ends ++ top out ∷ []) then
-next db t done stack ends noted s out then r good made notes =
+    → IsReached db t (steps_so_far ++ s ∷ []) out (ends ++ top out ∷ []) then
+next db t steps_so_far stack ends noted s out then is_reached good entries_are notes =
     let c = context_at db t in
-    let same : step_entries c s ends (formulas r.forest) ≡ Ok out =
-    ap (step_entries c s ends) r.entries_are ∙ made in
+    let same : step_entries c s ends (formulas is_reached.forest) ≡ Ok out =
+    ap (step_entries c s ends) is_reached.entries_are ∙ entries_are in
     let g =
-    subst (GrownForest c r.lists r.forest s) same
-    (grows c r.lists ends r.forest s r.derivations r.after good) in
-    let members = adds_member c r.lists (postfix r.forest) (postfix g.0) s g.2 r.within in
+    subst (GrownForest c is_reached.lists is_reached.forest s) same
+    (grows c is_reached.lists ends is_reached.forest s is_reached.derivations is_reached.after good)
+    in
+    let members = adds_member c is_reached.lists (postfix is_reached.forest) (postfix g.0) s g.2
+    is_reached.within in
     record {
       forest = g.0;
       derivations = g.1;
       entries_are = g.3;
-      lists = r.lists ++ postfix g.0 ∷ [];
-      after = after_more c r.lists ends (postfix g.0) (top out) r.after (g.0, g.1, refl, g.4);
+      lists = is_reached.lists ++ postfix g.0 ∷ [];
+      after = after_more c is_reached.lists ends (postfix g.0) (top out) is_reached.after
+          (g.0, g.1, refl, g.4);
       plain =
-          λ rest all h. subst (λ z. Plain c [] [] z all) (sym (append_assoc done (s ∷ []) rest))
-          (r.plain (s ∷ rest) all (postfix g.0, g.2, h));
+          λ rest all h. subst (λ z. Plain c [] [] z all)
+          (sym (append_assoc steps_so_far (s ∷ []) rest))
+          (is_reached.plain (s ∷ rest) all (postfix g.0, g.2, h));
       within =
-          within_more r.lists (postfix r.forest) (postfix g.0) r.within
+          within_more is_reached.lists (postfix is_reached.forest) (postfix g.0) is_reached.within
           (λ a m. members a ∙ or_left _ _ m);
       noted_are =
           λ a. notes a
-          ∙ ap (λ b. b || (is_labelled_step s a && is_assertion_at db a)) (r.noted_are a)
-          ∙ spread (is_member (postfix r.forest) a) (is_labelled_step s a) (is_assertion_at db a)
+          ∙ ap (λ b. b || (is_labelled_step s a && is_assertion_at db a)) (is_reached.noted_are a)
+          ∙ or_distributes (is_member (postfix is_reached.forest) a) (is_labelled_step s a)
+          (is_assertion_at db a)
           ∙ ap (λ b. b && is_assertion_at db a) (sym (members a));
     }
 
 -- a step that fails
-pub fails : (db : List Statement) (t : ℕ) (steps : List PlacedStep) (i : ℕ)
+pub failing_step_refuses : (db : List Statement) (t : ℕ) (steps : List PlacedStep) (i : ℕ)
     → (stack ends : List Formula) (noted : List ℕ) (reason : Reason)
-    → i < length steps → Reached db t (steps_of (take i steps)) stack ends noted
+    → i < length steps → IsReached db t (steps_of (take i steps)) stack ends noted
     → IsGoodStep (context_at db t) (length ends) (step_at steps i).step
     → step_entries (context_at db t) (step_at steps i).step ends stack ≡ Err reason
     → StepFault (context_at db t) steps (fault (step_at steps i).at (code_of reason))
-fails db t steps i stack ends noted reason h r good made =
+failing_step_refuses db t steps i stack ends noted reason i_lt_length_steps is_reached good
+    entries_are =
     let c = context_at db t in
     let s = step_at steps i in
-    let same : step_entries c s.step ends (formulas r.forest) ≡ Err reason =
-    ap (step_entries c s.step ends) r.entries_are ∙ made in
+    let same : step_entries c s.step ends (formulas is_reached.forest) ≡ Err reason =
+    ap (step_entries c s.step ends) is_reached.entries_are ∙ entries_are in
     let g =
-    subst (GrownForest c r.lists r.forest s.step) same
-    (grows c r.lists ends r.forest s.step r.derivations r.after good) in
+    subst (GrownForest c is_reached.lists is_reached.forest s.step) same
+    (grows c is_reached.lists ends is_reached.forest s.step is_reached.derivations is_reached.after
+    good) in
     record {
       before = take i steps;
       first = s;
       after = drop (i + 1) steps;
       splits =
           sym (take-append-drop i steps)
-          ∙ ap (λ z. take i steps ++ z) (drop_more steps i (placed 0 (label 0)) h);
-      forest = r.forest;
-      derivations = r.derivations;
+          ∙ ap (λ z. take i steps ++ z) (drop_more steps i (placed 0 (label 0)) i_lt_length_steps);
+      forest = is_reached.forest;
+      derivations = is_reached.derivations;
       plain =
-          subst (λ z. Plain c [] [] z (postfix r.forest)) (append-nil (steps_of (take i steps)))
-          (r.plain [] (postfix r.forest) refl);
+          subst (λ z. Plain c [] [] z (postfix is_reached.forest))
+          (append-nil (steps_of (take i steps)))
+          (is_reached.plain [] (postfix is_reached.forest) refl);
       reason = reason;
       fails = g;
       is = refl;
     }
 
 module _ (db : List Statement) (t : ℕ) (steps : List PlacedStep) (stack ends : List Formula)
-    (noted : List ℕ) (r : Reached db t (steps_of steps) stack ends noted) where
+    (noted : List ℕ) (r : IsReached db t (steps_of steps) stack ends noted) where
   plain_all : Plain (context_at db t) [] [] (steps_of steps) (postfix r.forest)
   plain_all =
       subst (λ z. Plain (context_at db t) [] [] z (postfix r.forest)) (append-nil (steps_of steps))
       (r.plain [] (postfix r.forest) refl)
 
-  pub derives : (f : Formula) → stack ≡ f ∷ []
+  pub end_derives : (f : Formula) → stack ≡ f ∷ []
       → Derives (context_at db t) (steps_of steps) f r.forest
-  derives f e = one r.forest r.derivations (r.entries_are ∙ e) plain_all
+  end_derives f e = by_forest r.forest r.derivations (r.entries_are ∙ e) plain_all
     where
       two : (xs : List Formula) (h g : Formula) → ¬ ((xs ++ h ∷ []) ++ g ∷ [] ≡ f ∷ [])
       two xs h g e =
           let n = ap length e in
           omega (arith, n, length-append (xs ++ h ∷ []) (g ∷ []), length-append xs (h ∷ []))
 
-      one : (forest : Trees) → AreDerivations (context_at db t) forest → formulas forest ≡ f ∷ []
+      by_forest : (forest : Trees) → AreDerivations (context_at db t) forest → formulas forest
+          ≡ f ∷ []
           → Plain (context_at db t) [] [] (steps_of steps) (postfix forest)
           → Derives (context_at db t) (steps_of steps) f forest
-      one none d e p = cc
-      one (more none l g cs) d e p = (l, cs, ap (λ z. tree l z cs) (ap top e), d, p)
-      one (more (more ts m h bs) l g cs) d e p = absurd (two (formulas ts) h g e)
+      by_forest none d e p = cc
+      by_forest (more none l g cs) d e p = (l, cs, ap (λ z. tree l z cs) (ap top e), d, p)
+      by_forest (more (more ts m h bs) l g cs) d e p = absurd (two (formulas ts) h g e)
 
   pub ends_with : (end : ℕ) (code : Code) (formula : Formula)
       → IsEndCode (context_at db t) stack formula code
       → ProofEndFault (context_at db t) steps formula end (fault end code)
-  ends_with end code formula h = record {
+  ends_with end code formula is_end_code = record {
     forest = r.forest;
     derivations = r.derivations;
     plain = plain_all;
     code = code;
-    fails = subst (λ z. IsEndCode (context_at db t) z formula code) (sym r.entries_are) h;
+    fails = subst (λ z. IsEndCode (context_at db t) z formula code)
+        (sym r.entries_are) is_end_code;
     is = refl;
   }
 
@@ -188,9 +198,10 @@ good_at c n (s ∷ steps) (suc i) h g =
     subst (λ m. IsGoodStep c m (step_at steps i).step) e
     (good_at c (suc n) steps i (omega arith) g.1)
 
-pub good_here : (c : Context) (steps : List PlacedStep) (i n : ℕ) (s : Step) → i < length steps
+pub step_at_is_good : (c : Context) (steps : List PlacedStep) (i n : ℕ) (s : Step) → i
+    < length steps
     → AreGoodSteps c 0 (steps_of steps) → n ≡ i → s ≡ (step_at steps i).step → IsGoodStep c n s
-good_here c steps i n s h g e is =
+step_at_is_good c steps i n s h g e is =
     let f : 0 + i ≡ n = omega arith in
     subst (λ z. IsGoodStep c n z) (sym is)
     (subst (λ m. IsGoodStep c m (step_at steps i).step) f (good_at c 0 steps i h g))
@@ -202,9 +213,9 @@ take_step steps i h =
     ∙ map-append (λ s. s.step) (take i steps) (step_at steps i ∷ [])
 
 -- no step so far
-pub starts : (db : List Statement) (t : ℕ) (stack ends : List Formula) (noted : List ℕ)
-    → stack ≡ [] → ends ≡ [] → noted ≡ [] → Reached db t [] stack ends noted
-starts db t stack ends noted e f n =
+pub no_step_reached : (db : List Statement) (t : ℕ) (stack ends : List Formula) (noted : List ℕ)
+    → stack ≡ [] → ends ≡ [] → noted ≡ [] → IsReached db t [] stack ends noted
+no_step_reached db t stack ends noted e f n =
     rw (e, f, n)
     (record {
       forest = none;
@@ -220,11 +231,11 @@ starts db t stack ends noted e f n =
 -- the place of the end of a theorem's proof
 pub end_is : (db : List Statement) (t at : ℕ) → is_theorem_at db t ≡ true
     → option_map last_place (slice_get db t) ≡ Some at → proof_end (slice_get db t) ≡ at
-end_is db t at h e = by (slice_get db t) h e
+end_is db t at h e = by_statement (slice_get db t) h e
   where
-    by : (o : Option Statement)
+    by_statement : (o : Option Statement)
         → list_any is_theorem (elim o [ None ↦ [] | Some s ↦ s ∷ [] ]) ≡ true
         → option_map last_place o ≡ Some at → proof_end o ≡ at
-    by None h e = absurd (true≢false (sym h))
-    by (Some (provable l p xs q ps d)) h e = cc
-    by (Some s) h e = absurd (true≢false (sym h))
+    by_statement None h e = absurd (true≢false (sym h))
+    by_statement (Some (provable l p xs q ps d)) h e = cc
+    by_statement (Some s) h e = absurd (true≢false (sym h))

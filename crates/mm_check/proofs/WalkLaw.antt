@@ -23,26 +23,29 @@ use Rattle.mm_spec.proofs.CitedLaw.{proof_unique}
 use Rattle.mm_steps.specs.Read.{step_at, IsEarlier}
 use Rattle.mm_rule.specs.Assertions.{is_assertion_at}
 use Rattle.mm_check.specs.Contract.{is_labelled_step}
-use Rattle.mm_check.specs.Flags.{child_flags, taken_flags, wanted_flags}
+use Rattle.mm_check.specs.Flags.{child_flags, taken_flags, step_flags_after}
 use Rattle.mm_check.specs.Reached.{steps_of}
 use Rattle.mm_check.proofs.CompilerStateLaw.{assertion_rule, hypothesis_rule}
-use Rattle.mm_check.proofs.ReachLaw.{good_here}
+use Rattle.mm_check.proofs.ReachLaw.{step_at_is_good}
 use Rattle.mm_check.proofs.ForestsLaw.{forest_at, IsMove, AreMoves, move_at, proof_rows}
-use Rattle.mm_check.proofs.BackLaw.{flag_at, size_join, wanted_count, Left, label_back, marked_back}
+use Rattle.mm_check.proofs.BackLaw.{flag_at, size_join, step_flags_count, IsToBeFound, label_back}
+use Rattle.mm_check.proofs.BackLaw.{marked_back}
 
 -- The nodes of the proof are noted or still to be found, when so many first steps are left.
 pub record Walked (db : List Statement) (t : ℕ) (steps : List PlacedStep) (i : ℕ)
-    (waiting wanted : List Bool) (noted : List ℕ) : Type 0 where
+    (entry_flags step_flags : List Bool) (noted : List ℕ) : Type 0 where
   pub derivation : Trees
   pub proof : IsProof db t derivation
   pub forests : List Trees
   pub moves : AreMoves (context_at db t) forests 0 (steps_of steps)
-  pub many : length wanted ≡ length steps
-  pub fits : length waiting ≡ tree_count (forest_at forests i)
+  pub many : length step_flags ≡ length steps
+  pub fits : length entry_flags ≡ tree_count (forest_at forests i)
   pub asserted : (a : ℕ) → is_member noted a ≡ true → is_assertion_at db a ≡ true
   pub exact : (a : ℕ) → is_assertion_at db a ≡ true
       → HasNode (child_counts db true) each_root derivation a
-      ↔ ((is_member noted a ≡ true) ⊎ Left (child_counts db true) (forest_at forests) i waiting wanted a)
+      ↔ ((is_member noted a ≡ true) ⊎ IsToBeFound (child_counts db true) (forest_at forests) i
+      entry_flags
+      step_flags a)
 
 -- ---- the premises of a label
 
@@ -112,24 +115,27 @@ module _ (db : List Statement) (t : ℕ) (b : Bool) (l : ℕ) (cs : Trees) (f : 
 
 -- ---- one step
 
-module _ (db : List Statement) (t : ℕ) (steps : List PlacedStep) (i : ℕ) (ws wanted : List Bool)
-    (noted : List ℕ) (flag b : Bool) (r : Walked db t steps (suc i) (ws ++ flag ∷ []) wanted noted)
-    (inside : i < length steps) (is : b ≡ (flag || flag_at wanted i)) where
+module _ (db : List Statement) (t : ℕ) (steps : List PlacedStep) (i : ℕ) (ws step_flags : List Bool)
+    (noted : List ℕ) (flag b : Bool) (r : Walked db t steps (suc i) (ws ++ flag ∷ []) step_flags
+    noted)
+    (inside : i < length steps) (is : b ≡ (flag || flag_at step_flags i)) where
   abbrev Before : Step → ℕ → Type 0
   Before s a =
-      Left (child_counts db true) (forest_at r.forests) i (ws ++ taken_flags db b s)
-      (wanted_flags b s wanted) a
+      IsToBeFound (child_counts db true) (forest_at r.forests) i (ws ++ taken_flags db b s)
+      (step_flags_after b s step_flags) a
 
   -- what the step does to the nodes that are still to be found
   record Undone (s : Step) : Type 0 where
     pub fits : length (ws ++ taken_flags db b s) ≡ tree_count (forest_at r.forests i)
     pub nodes : (a : ℕ)
-        → Left (child_counts db true) (forest_at r.forests) (suc i) (ws ++ flag ∷ []) wanted a
+        → IsToBeFound (child_counts db true) (forest_at r.forests) (suc i) (ws ++ flag ∷ [])
+        step_flags a
         ↔ (((b ≡ true) × (is_labelled_step s a ≡ true)) ⊎ Before s a)
 
-  undone : (s : Step) → IsMove (context_at db t) r.forests i s → IsGoodStep (context_at db t) i s
+  undone_step : (s : Step) → IsMove (context_at db t) r.forests i s
+      → IsGoodStep (context_at db t) i s
       → Undone s
-  undone (label l) (ts, f, cs, here, before, follows) good = record {
+  undone_step (label l) (ts, f, cs, here, before, follows) good = record {
     fits =
         let c = fl.count in
         omega (
@@ -141,7 +147,7 @@ module _ (db : List Statement) (t : ℕ) (steps : List PlacedStep) (i : ℕ) (ws
           ap tree_count before,
           size_join ts cs,
         );
-    nodes = λ a. (λ h. down a ((both a).0 h), λ h. (both a).1 (up a h));
+    nodes = λ a. (λ h. left_to_right a ((both a).0 h), λ h. (both a).1 (right_to_left a h));
   }
     where
       fl : AreFlags db t b l cs f good follows (taken_flags db b (label l))
@@ -151,23 +157,24 @@ module _ (db : List Statement) (t : ℕ) (steps : List PlacedStep) (i : ℕ) (ws
       count = let e = r.fits in omega (arith, e, length-append ws (flag ∷ []), ap tree_count here)
 
       both : (a : ℕ)
-          → Left (child_counts db true) (forest_at r.forests) (suc i) (ws ++ flag ∷ []) wanted a
+          → IsToBeFound (child_counts db true) (forest_at r.forests) (suc i) (ws ++ flag ∷ [])
+          step_flags a
           ↔ (((b ≡ true) × (a ≡ l)) ⊎ Before (label l) a)
       both a =
           label_back (child_counts db true)
-          (forest_at r.forests) i ws wanted flag b is a l ts f cs here before count
+          (forest_at r.forests) i ws step_flags flag b is a l ts f cs here before count
           (taken_flags db b (label l)) fl.from fl.to
 
-      down : (a : ℕ) → ((b ≡ true) × (a ≡ l)) ⊎ Before (label l) a
+      left_to_right : (a : ℕ) → ((b ≡ true) × (a ≡ l)) ⊎ Before (label l) a
           → ((b ≡ true) × ((a == l) ≡ true)) ⊎ Before (label l) a
-      down a (inl h) = inl (h.0, eq-eqb a l h.1)
-      down a (inr h) = inr h
+      left_to_right a (inl h) = inl (h.0, eq-eqb a l h.1)
+      left_to_right a (inr h) = inr h
 
-      up : (a : ℕ) → ((b ≡ true) × ((a == l) ≡ true)) ⊎ Before (label l) a
+      right_to_left : (a : ℕ) → ((b ≡ true) × ((a == l) ≡ true)) ⊎ Before (label l) a
           → ((b ≡ true) × (a ≡ l)) ⊎ Before (label l) a
-      up a (inl h) = inl (h.0, eqb-true a l h.1)
-      up a (inr h) = inr h
-  undone (marked j) (earlier, l, f, cs, here, copy) good = record {
+      right_to_left a (inl h) = inl (h.0, eqb-true a l h.1)
+      right_to_left a (inr h) = inr h
+  undone_step (marked j) (earlier, l, f, cs, here, copy) good = record {
     fits = ap length (append-nil ws) ∙ count;
     nodes = λ a. (λ h. inr ((both a).0 h), λ h. (both a).1 (only a h));
   }
@@ -176,11 +183,12 @@ module _ (db : List Statement) (t : ℕ) (steps : List PlacedStep) (i : ℕ) (ws
       count = let e = r.fits in omega (arith, e, length-append ws (flag ∷ []), ap tree_count here)
 
       both : (a : ℕ)
-          → Left (child_counts db true) (forest_at r.forests) (suc i) (ws ++ flag ∷ []) wanted a
+          → IsToBeFound (child_counts db true) (forest_at r.forests) (suc i) (ws ++ flag ∷ [])
+          step_flags a
           ↔ Before (marked j) a
       both a =
           marked_back (child_counts db true)
-          (forest_at r.forests) i ws wanted flag b is a j l f cs earlier here copy count
+          (forest_at r.forests) i ws step_flags flag b is a j l f cs earlier here copy count
           (let e = r.many in omega (arith, e, inside))
 
       only : (a : ℕ) → ((b ≡ true) × (false ≡ true)) ⊎ Before (marked j) a → Before (marked j) a
@@ -192,19 +200,23 @@ module _ (db : List Statement) (t : ℕ) (steps : List PlacedStep) (i : ℕ) (ws
       → ((a : ℕ)
       → is_member out a
       ≡ (is_member noted a || (b && (is_labelled_step s a && is_assertion_at db a))))
-      → Walked db t steps i (ws ++ taken_flags db b s) (wanted_flags b s wanted) out
+      → Walked db t steps i (ws ++ taken_flags db b s) (step_flags_after b s step_flags) out
   walk_step s out good at notes = record {
     derivation = r.derivation;
     proof = r.proof;
     forests = r.forests;
     moves = r.moves;
-    many = wanted_count b s wanted ∙ r.many;
+    many = step_flags_count b s step_flags ∙ r.many;
     fits = u.fits;
     asserted =
         λ a m. known a
         (or_cases (is_member noted a) (b && (is_labelled_step s a && is_assertion_at db a))
         (sym (notes a) ∙ m));
-    exact = λ a k. (λ h. down a k ((r.exact a k).0 h), λ h. (r.exact a k).1 (up a k h));
+    exact = λ a k. (
+      λ h. left_to_right a k ((r.exact a k).0 h),
+      λ h. (r.exact a k).1
+          (right_to_left a k h),
+    );
   }
     where
       move : IsMove (context_at db t) r.forests i s
@@ -220,7 +232,7 @@ module _ (db : List Statement) (t : ℕ) (steps : List PlacedStep) (i : ℕ) (ws
           same m)
 
       u : Undone s
-      u = undone s move (good_here (context_at db t) steps i i s inside good refl at)
+      u = undone_step s move (step_at_is_good (context_at db t) steps i i s inside good refl at)
 
       known : (a : ℕ)
           → (is_member noted a ≡ true)
@@ -244,35 +256,39 @@ module _ (db : List Statement) (t : ℕ) (steps : List PlacedStep) (i : ℕ) (ws
           (and_from b (is_labelled_step s a && is_assertion_at db a) e
           (and_from (is_labelled_step s a) (is_assertion_at db a) h k))
 
-      down : (a : ℕ) → is_assertion_at db a ≡ true
+      left_to_right : (a : ℕ) → is_assertion_at db a ≡ true
           → (is_member noted a ≡ true)
-          ⊎ Left (child_counts db true) (forest_at r.forests) (suc i) (ws ++ flag ∷ []) wanted a
+          ⊎ IsToBeFound (child_counts db true) (forest_at r.forests) (suc i) (ws ++ flag ∷ [])
+          step_flags a
           → (is_member out a ≡ true) ⊎ Before s a
-      down a k (inl h) = inl (old_noted a h)
-      down a k (inr h) = by ((u.nodes a).0 h)
+      left_to_right a a_is_assertion (inl h) = inl (old_noted a h)
+      left_to_right a a_is_assertion (inr h) = by_step ((u.nodes a).0 h)
         where
-          by : ((b ≡ true) × (is_labelled_step s a ≡ true)) ⊎ Before s a
+          by_step : ((b ≡ true) × (is_labelled_step s a ≡ true)) ⊎ Before s a
               → (is_member out a ≡ true) ⊎ Before s a
-          by (inl h) = inl (new_noted a k h.0 h.1)
-          by (inr h) = inr h
+          by_step (inl h) = inl (new_noted a a_is_assertion h.0 h.1)
+          by_step (inr h) = inr h
 
-      up : (a : ℕ) → is_assertion_at db a ≡ true → (is_member out a ≡ true) ⊎ Before s a
+      right_to_left : (a : ℕ) → is_assertion_at db a ≡ true → (is_member out a ≡ true) ⊎ Before s a
           → (is_member noted a ≡ true)
-          ⊎ Left (child_counts db true) (forest_at r.forests) (suc i) (ws ++ flag ∷ []) wanted a
-      up a k (inl h) =
-          by (or_cases (is_member noted a) (b && (is_labelled_step s a && is_assertion_at db a))
+          ⊎ IsToBeFound (child_counts db true) (forest_at r.forests) (suc i) (ws ++ flag ∷ [])
+          step_flags a
+      right_to_left a a_is_assertion (inl h) =
+          by_membership (or_cases (is_member noted a)
+          (b && (is_labelled_step s a && is_assertion_at db a))
           (sym (notes a) ∙ h))
         where
-          by : (is_member noted a ≡ true)
+          by_membership : (is_member noted a ≡ true)
               ⊎ ((b && (is_labelled_step s a && is_assertion_at db a)) ≡ true)
               → (is_member noted a ≡ true)
-              ⊎ Left (child_counts db true) (forest_at r.forests) (suc i) (ws ++ flag ∷ []) wanted a
-          by (inl h) = inl h
-          by (inr h) =
+              ⊎ IsToBeFound (child_counts db true) (forest_at r.forests) (suc i) (ws ++ flag ∷ [])
+              step_flags a
+          by_membership (inl h) = inl h
+          by_membership (inr h) =
               let p = and_parts b (is_labelled_step s a && is_assertion_at db a) h in
               inr ((u.nodes a).1
               (inl (p.0, (and_parts (is_labelled_step s a) (is_assertion_at db a) p.1).0)))
-      up a k (inr h) = inr ((u.nodes a).1 (inr h))
+      right_to_left a a_is_assertion (inr h) = inr ((u.nodes a).1 (inr h))
 
 -- the forest after a step is not empty
 some_row : (c : Context) (forests : List Trees) (i : ℕ) (s : Step) → IsMove c forests i s
@@ -283,37 +299,37 @@ some_row c forests i (marked j) (earlier, l, f, cs, here, copy) =
     let e = ap tree_count here in omega (arith, e)
 
 module _ (db : List Statement) (t : ℕ) (steps : List PlacedStep) (n i : ℕ)
-    (waiting wanted : List Bool) (noted : List ℕ) (r : Walked db t steps n waiting wanted noted)
+    (entry_flags step_flags : List Bool) (noted : List ℕ)
+    (r : Walked db t steps n entry_flags step_flags noted)
     (inside : i < length steps) (next : n ≡ suc i) where
-  pub walk_some : 0 < length waiting
+  pub walk_some : 0 < length entry_flags
   walk_some =
       let m =
       move_at (context_at db t) r.forests 0 (steps_of steps) i
       (let e = length-map steps (λ s. s.step) in omega (arith, e, inside)) r.moves in
       let e = r.fits in
-      let k = some_row (context_at db t) r.forests (0 + i) (get_or (steps_of steps) i (label 0)) m in
-      let same : tree_count (forest_at r.forests n)
-      ≡ tree_count (forest_at r.forests (suc (0 + i))) =
-      ap (λ j. tree_count (forest_at r.forests j))
-          (let q : n ≡ suc (0 + i) = omega (arith, next) in q) in
+      let k = some_row (context_at db t) r.forests (0 + i) (get_or (steps_of steps) i (label 0)) m
+      in
+      let same : tree_count (forest_at r.forests n) ≡ tree_count (forest_at r.forests (suc (0 + i))) =
+      ap (λ j. tree_count (forest_at r.forests j)) (let q : n ≡ suc (0 + i) = omega (arith, next) in q) in
       omega (arith, e, k, same)
 
   -- the same by the values that the code has
   pub walk_here : (ws : List Bool) (flag b : Bool) (s : Step) (flags wants : List Bool)
       → (out : List ℕ)
-      → waiting ≡ ws ++ flag ∷ [] → b ≡ (flag || flag_at wanted i)
+      → entry_flags ≡ ws ++ flag ∷ [] → b ≡ (flag || flag_at step_flags i)
       → AreGoodSteps (context_at db t) 0 (steps_of steps) → s ≡ (step_at steps i).step
-      → flags ≡ ws ++ taken_flags db b s → wants ≡ wanted_flags b s wanted
+      → flags ≡ ws ++ taken_flags db b s → wants ≡ step_flags_after b s step_flags
       → ((a : ℕ)
       → is_member out a
       ≡ (is_member noted a || (b && (is_labelled_step s a && is_assertion_at db a))))
       → Walked db t steps i flags wants out
   walk_here ws flag b s flags wants out popped is good at put want notes =
-      let r' : Walked db t steps (suc i) (ws ++ flag ∷ []) wanted noted =
-      subst (λ m. Walked db t steps m (ws ++ flag ∷ []) wanted noted) next
-      (subst (λ z. Walked db t steps n z wanted noted) popped r) in
+      let r' : Walked db t steps (suc i) (ws ++ flag ∷ []) step_flags noted =
+      subst (λ m. Walked db t steps m (ws ++ flag ∷ []) step_flags noted) next
+      (subst (λ z. Walked db t steps n z step_flags noted) popped r) in
       rw (put, want)
-      (walk_step db t steps i ws wanted noted flag b r' inside is s out good at notes)
+      (walk_step db t steps i ws step_flags noted flag b r' inside is s out good at notes)
 
 -- a good step takes up an earlier one
 pub earlier_of : (c : Context) (i n : ℕ) (s : Step) → i < n → IsGoodStep c i s → IsEarlier s n
@@ -323,11 +339,11 @@ earlier_of c i n (marked j) h good = omega (arith, h, good)
 -- ---- the first and the last
 
 module _ (db : List Statement) (t : ℕ) (steps : List PlacedStep) (complete : AreComplete db) where
-  pub walk_start : (waiting wanted : List Bool) (noted : List ℕ) → steps ≡ steps_at db t
-      → ((d : Trees) × IsProof db t d) → waiting ≡ true ∷ []
-      → wanted ≡ replicate (length steps) false → noted ≡ []
-      → Walked db t steps (length steps) waiting wanted noted
-  walk_start waiting wanted noted are (d, p) one all bare =
+  pub walk_start : (entry_flags step_flags : List Bool) (noted : List ℕ) → steps ≡ steps_at db t
+      → ((d : Trees) × IsProof db t d) → entry_flags ≡ true ∷ []
+      → step_flags ≡ replicate (length steps) false → noted ≡ []
+      → Walked db t steps (length steps) entry_flags step_flags noted
+  walk_start entry_flags step_flags noted are (d, p) one all bare =
       start (proof_rows (context_at db t) (complete t) (steps_of steps) (formula_at db t) d here)
     where
       here : Derives (context_at db t) (steps_of steps) (formula_at db t) d
@@ -335,7 +351,7 @@ module _ (db : List Statement) (t : ℕ) (steps : List PlacedStep) (complete : A
 
       start : ((forests : List Trees) × AreMoves (context_at db t) forests 0 (steps_of steps)
           × (forest_at forests (length (steps_of steps)) ≡ d))
-          → Walked db t steps (length steps) waiting wanted noted
+          → Walked db t steps (length steps) entry_flags step_flags noted
       start (forests, moves, last) = record {
         derivation = d;
         proof = p;
@@ -344,7 +360,7 @@ module _ (db : List Statement) (t : ℕ) (steps : List PlacedStep) (complete : A
         many = ap length all ∙ count (length steps);
         fits = ap length one ∙ sym (ap tree_count (at_end ∙ here.2));
         asserted = λ a m. absurd (true≢false (sym m ∙ ap (λ l. is_member l a) bare));
-        exact = λ a k. (λ h. inr (inl (down a h)), λ h. up a h);
+        exact = λ a k. (λ h. inr (inl (left_to_right a h)), λ h. right_to_left a h);
       }
         where
           count : (n : ℕ) → length (replicate n false) ≡ n
@@ -363,40 +379,40 @@ module _ (db : List Statement) (t : ℕ) (steps : List PlacedStep) (complete : A
           root p q a e (inl h) = absurd h
           root p q a e (inr h) = inr (e, h.1)
 
-          down : (a : ℕ) → HasNode counts each_root d a
-              → HasNode counts (flag_at waiting) (forest_at forests (length steps)) a
-          down a h =
-              subst (λ u. HasNode counts (flag_at waiting) u a) (sym (at_end ∙ here.2))
-              (root each_root (flag_at waiting) a (ap (λ ws. flag_at ws 0) one)
+          left_to_right : (a : ℕ) → HasNode counts each_root d a
+              → HasNode counts (flag_at entry_flags) (forest_at forests (length steps)) a
+          left_to_right a h =
+              subst (λ u. HasNode counts (flag_at entry_flags) u a) (sym (at_end ∙ here.2))
+              (root each_root (flag_at entry_flags) a (ap (λ ws. flag_at ws 0) one)
               (subst (λ u. HasNode counts each_root u a) here.2 h))
 
-          up : (a : ℕ)
+          right_to_left : (a : ℕ)
               → (is_member noted a ≡ true)
-              ⊎ Left counts (forest_at forests) (length steps) waiting wanted a
+              ⊎ IsToBeFound counts (forest_at forests) (length steps) entry_flags step_flags a
               → HasNode counts each_root d a
-          up a (inl h) = absurd (true≢false (sym h ∙ ap (λ l. is_member l a) bare))
-          up a (inr (inl h)) =
+          right_to_left a (inl h) = absurd (true≢false (sym h ∙ ap (λ l. is_member l a) bare))
+          right_to_left a (inr (inl h)) =
               subst (λ u. HasNode counts each_root u a) (sym here.2)
-              (root (flag_at waiting) each_root a refl
-              (subst (λ u. HasNode counts (flag_at waiting) u a) (at_end ∙ here.2) h))
-          up a (inr (inr h)) =
+              (root (flag_at entry_flags) each_root a refl
+              (subst (λ u. HasNode counts (flag_at entry_flags) u a) (at_end ∙ here.2) h))
+          right_to_left a (inr (inr h)) =
               absurd (true≢false
               (sym h.2 ∙ ap (λ ws. flag_at ws h.0) all
               ∙ get_or-replicate (length steps) h.0 false false h.1))
 
-  pub walk_end : (waiting wanted : List Bool) (noted : List ℕ)
-      → Walked db t steps 0 waiting wanted noted → (a : ℕ)
+  pub walk_end : (entry_flags step_flags : List Bool) (noted : List ℕ)
+      → Walked db t steps 0 entry_flags step_flags noted → (a : ℕ)
       → Decides (is_member noted a) (Cites db true t a)
-  walk_end waiting wanted noted r a = (
+  walk_end entry_flags step_flags noted r a = (
     λ m. let k = r.asserted a m in (k, r.derivation, r.proof, (r.exact a k).1 (inl m)),
-    λ c. by ((r.exact a c.0).0
+    λ c. by_membership ((r.exact a c.0).0
         (subst (λ d. HasNode (child_counts db true) each_root d a)
         (proof_unique db complete t c.1 r.derivation c.2 r.proof) c.3)),
   )
     where
-      by : (is_member noted a ≡ true)
-          ⊎ Left (child_counts db true) (forest_at r.forests) 0 waiting wanted a
+      by_membership : (is_member noted a ≡ true)
+          ⊎ IsToBeFound (child_counts db true) (forest_at r.forests) 0 entry_flags step_flags a
           → is_member noted a ≡ true
-      by (inl h) = h
-      by (inr (inl h)) = absurd h
-      by (inr (inr h)) = let low = h.1 in absurd (omega (arith, low))
+      by_membership (inl h) = h
+      by_membership (inr (inl h)) = absurd h
+      by_membership (inr (inr h)) = let low = h.1 in absurd (omega (arith, low))

@@ -11,10 +11,10 @@ use Rattle.mm_rule.specs.Assertions.{is_assertion_at}
 use Rattle.mm_rules.specs.Rules.{RuleLists, AreRules}
 use Rattle.mm_machine.specs.DisjointCache.{AreDisjointAt}
 use Rattle.mm_machine.specs.State.{MachineState}
-use Rattle.mm_machine.specs.Stops.{Stops}
+use Rattle.mm_machine.specs.Applied.{IsRefusalOf}
 use Rattle.mm_machine.specs.declared.machine.StepRefused.{StepRefused}
 use Rattle.mm_check.specs.Contract.{is_labelled_step}
-use Rattle.mm_check.specs.Reached.{Ran, AreEndFormulas, AreStepsOf}
+use Rattle.mm_check.specs.Reached.{HasRun, AreEndFormulas, AreStepsOf}
 
 -- a checker: the entries of its proof in progress, the rules that it borrows, the assertions that
 -- it noted, and the pairs of symbols that it knows to be disjoint
@@ -29,47 +29,49 @@ checker_state machine rules noted cache =
     record { machine = machine; rules = rules; noted = noted; cache = cache }
 
 -- the number of symbols and the rules are those of the database, whose frames are complete
-pub record AreOf (db : List Statement) (width : ℕ) (rules : RuleLists) : Type 0 where
-  pub width_is : width ≡ length (symbol_names db)
+pub record AreOfDatabase (db : List Statement) (symbol_count : ℕ) (rules : RuleLists) : Type 0 where
+  pub symbol_count_is : symbol_count ≡ length (symbol_names db)
   pub rules_are : AreRules db rules
   pub complete : AreComplete db
 
 -- the checker is made for the theorems of the database
 abbrev pub IsMadeFor : List Statement → CheckerState → Type 0
-IsMadeFor db c = AreOf db c.machine.width c.rules
+IsMadeFor db c = AreOfDatabase db c.machine.symbol_count c.rules
 
 -- they are, and the pairs of symbols are disjoint at the theorem
-pub record AreAt (db : List Statement) (t width : ℕ) (rules : RuleLists) (cache : List (ℕ × ℕ)) :
+pub record AreAtTheorem (db : List Statement) (t symbol_count : ℕ) (rules : RuleLists)
+    (cache : List (ℕ × ℕ)) :
     Type 0 where
-  pub made_for : AreOf db width rules
+  pub made_for : AreOfDatabase db symbol_count rules
   pub theorem : t < length db
   pub disjoint_are : AreDisjointAt db t cache
 
 -- it checks the proof of the theorem
-abbrev pub IsAt : List Statement → ℕ → CheckerState → Type 0
-IsAt db t c = AreAt db t c.machine.width c.rules c.cache
+abbrev pub IsAtTheorem : List Statement → ℕ → CheckerState → Type 0
+IsAtTheorem db t c = AreAtTheorem db t c.machine.symbol_count c.rules c.cache
 
 -- it has performed the first `i` of the steps
 pub record HasPerformed (db : List Statement) (t : ℕ) (steps : List PlacedStep) (i : ℕ)
     (c : CheckerState) : Type 0 where
-  pub at : IsAt db t c
+  pub at : IsAtTheorem db t c
   pub are_steps : AreStepsOf db t steps
-  pub ran : Ran db t steps i c.machine c.noted
+  pub ran : HasRun db t steps i c.machine c.noted
 
 -- one step leads from the checker to the next: its entries are those after the step, and its
 -- assertion is noted
-pub record Performs (db : List Statement) (t : ℕ) (a : Step) (c d : CheckerState) : Type 0 where
-  pub made : (ends : List Formula) → AreEndFormulas ends c.machine.marks c.machine.formulas
-      → step_entries (context_at db t) a ends c.machine.stack ≡ Ok d.machine.stack
-  pub marks : d.machine.marks ≡ c.machine.marks
-  pub formulas : d.machine.formulas ≡ c.machine.formulas
-  pub entry : 0 < length d.machine.stack
+pub record Performs (db : List Statement) (t : ℕ) (a : Step) (old new : CheckerState) : Type 0 where
+  pub entries_are : (ends : List Formula) → AreEndFormulas ends old.machine.marks
+      old.machine.formulas
+      → step_entries (context_at db t) a ends old.machine.stack ≡ Ok new.machine.stack
+  pub marks : new.machine.marks ≡ old.machine.marks
+  pub formulas : new.machine.formulas ≡ old.machine.formulas
+  pub entry : 0 < length new.machine.stack
   pub noted : (x : ℕ)
-      → is_member d.noted x
-      ≡ (is_member c.noted x || (is_labelled_step a x && is_assertion_at db x))
+      → is_member new.noted x
+      ≡ (is_member old.noted x || (is_labelled_step a x && is_assertion_at db x))
 
--- the step is stopped for a reason for which it fails
-abbrev pub IsStopped : List Statement → ℕ → Step → CheckerState → StepRefused → Type 0
-IsStopped db t a c e =
+-- the step is refused for a reason for which it fails
+abbrev pub IsStepRefusal : List Statement → ℕ → Step → CheckerState → StepRefused → Type 0
+IsStepRefusal db t a c e =
     (ends : List Formula) → AreEndFormulas ends c.machine.marks c.machine.formulas
-    → Stops e (step_entries (context_at db t) a ends c.machine.stack)
+    → IsRefusalOf e (step_entries (context_at db t) a ends c.machine.stack)

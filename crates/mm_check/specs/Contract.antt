@@ -12,17 +12,18 @@ use Rattle.mm_spec.specs.Output.{ProofFault, proof_end}
 use Rattle.mm_spec.specs.Laws.Stack.{IsCompleteRule}
 use Rattle.mm_machine.specs.State.{reason_of}
 use Rattle.mm_machine.specs.declared.machine.StepRefused.{StepRefused}
-use Rattle.mm_machine.specs.declared.machine.StepRefused.TheVariants.{Fault as Reasoned, Memory as Full}
+use Rattle.mm_machine.specs.declared.machine.StepRefused.TheVariants.{Fault as Reasoned}
+use Rattle.mm_machine.specs.declared.machine.StepRefused.TheVariants.{Memory as Full}
 use Rattle.mm_check.specs.declared.checker.CheckRefused.{CheckRefused}
 use Rattle.mm_check.specs.declared.checker.CheckRefused.TheVariants.{Fault as Faulty, Memory}
 
 -- a theorem, and the assertions that its proof cites
-pub record Cited : Type 0 where
+pub record TheoremCitations : Type 0 where
   pub theorem : ℕ
   pub cites : List ℕ
 
-abbrev pub cited : ℕ → List ℕ → Cited
-cited t cites = record { theorem = t; cites = cites }
+abbrev pub theorem_citations : ℕ → List ℕ → TheoremCitations
+theorem_citations t cites = record { theorem = t; cites = cites }
 
 -- the theorem has a proof, and these are the assertions that it cites, in ascending order, each
 -- once
@@ -43,15 +44,15 @@ abbrev pub StepRefuses : List Statement → ℕ → List PlacedStep → CheckRef
 StepRefuses db t steps (Faulty f) = StepFault (context_at db t) steps f
 StepRefuses db t steps Memory = Unit {0}
 
--- the refusal of a proof, a step of which was stopped at the place
+-- the refusal of a proof, a step of which was refused at the place
 abbrev pub refusal_at : ℕ → StepRefused → CheckRefused
 refusal_at at (Reasoned reason) = Faulty (fault at (code_of (reason_of reason)))
 refusal_at at Full = Memory
 
 -- if the step is a label, it is less than the number
-abbrev pub labels : Step → ℕ → Type 0
-labels (label l) n = l < n
-labels (marked j) n = Unit {0}
+abbrev pub IsLabelBelow : Step → ℕ → Type 0
+IsLabelBelow (label l) n = l < n
+IsLabelBelow (marked j) n = Unit {0}
 
 -- whether a step has the label
 abbrev pub is_labelled_step : Step → ℕ → Bool

@@ -20,6 +20,6 @@ taken_flags db b (label l) = if is_assertion_at db l then child_flags db b l els
 taken_flags db b (marked j) = []
 
 -- the flags of the earlier steps; `b` says whether the entry that the step pushes is essential
-abbrev pub wanted_flags : Bool → Step → List Bool → List Bool
-wanted_flags b (label l) wanted = wanted
-wanted_flags b (marked j) wanted = if b then slice_set wanted j true else wanted
+abbrev pub step_flags_after : Bool → Step → List Bool → List Bool
+step_flags_after b (label l) step_flags = step_flags
+step_flags_after b (marked j) step_flags = if b then slice_set step_flags j true else step_flags

@@ -17,7 +17,8 @@ use Rattle.mm_rule.specs.Assertions.{is_assertion_at}
 
 -- After the steps there is a forest of derivations: its formulas are the entries, the ends are the
 -- last formulas of the earlier forests, and its assertions were noted.
-pub record Reached (db : List Statement) (t : ℕ) (done : List Step) (stack ends : List Formula)
+pub record IsReached (db : List Statement) (t : ℕ) (steps_so_far : List Step)
+    (stack ends : List Formula)
     (noted : List ℕ) : Type 0 where
   pub forest : Trees
   pub derivations : AreDerivations (context_at db t) forest
@@ -26,7 +27,7 @@ pub record Reached (db : List Statement) (t : ℕ) (done : List Step) (stack end
   pub after : AllZip (EndsInFormula (context_at db t)) lists ends
   pub plain : (rest : List Step) (all : List ℕ)
       → Plain (context_at db t) lists (postfix forest) rest all
-      → Plain (context_at db t) [] [] (done ++ rest) all
+      → Plain (context_at db t) [] [] (steps_so_far ++ rest) all
   pub within : AllByRecursion
       (λ l. (a : ℕ) → is_member l a ≡ true → is_member (postfix forest) a ≡ true) lists
   pub noted_are : (a : ℕ)
@@ -42,11 +43,11 @@ AreEndFormulas ends marks formulas = AllZip (λ j f. slice_get ends j ≡ Some f
 
 -- The state after the first `i` steps: the entries, and the marked ones among these steps with
 -- their formulas.
-pub record Ran (db : List Statement) (t : ℕ) (steps : List PlacedStep) (i : ℕ) (s : MachineState)
+pub record HasRun (db : List Statement) (t : ℕ) (steps : List PlacedStep) (i : ℕ) (s : MachineState)
     (noted : List ℕ) : Type 0 where
   pub ends : List Formula
   pub count : length ends ≡ i
-  pub reached : Reached db t (steps_of (take i steps)) s.stack ends noted
+  pub reached : IsReached db t (steps_of (take i steps)) s.stack ends noted
   pub agree : AreEndFormulas ends s.marks s.formulas
   pub before : All (λ j. j < i) s.marks
   pub present : (j : ℕ) → j < i → is_marked steps j ≡ true → Contains s.marks j
@@ -55,6 +56,6 @@ pub record Ran (db : List Statement) (t : ℕ) (steps : List PlacedStep) (i : �
 pub record AreStepsOf (db : List Statement) (t : ℕ) (steps : List PlacedStep) : Type 0 where
   pub complete : AreComplete db
   pub theorem : IsTrue (is_theorem_at db t)
-  pub are : steps ≡ steps_at db t
+  pub steps_are : steps ≡ steps_at db t
   pub sound : reading_faults_at db t ≡ []
   pub good : AreGoodSteps (context_at db t) 0 (steps_of steps)

@@ -9,11 +9,11 @@ ghost use Rattle.mm_spec.specs.Derivation.{Trees, is_member};
 ghost use Rattle.mm_spec.specs.Citation.{IsProof, Cites};
 ghost use Rattle.mm_steps.specs.Read.{as_step, IsEarlier};
 ghost use Rattle.mm_rule.specs.Assertions.{is_assertion_at};
-ghost use Rattle.mm_check.specs.Contract.{is_labelled_step, labels};
-ghost use Rattle.mm_check.specs.Flags.{child_flags, taken_flags, wanted_flags};
+ghost use Rattle.mm_check.specs.Contract.{is_labelled_step, IsLabelBelow};
+ghost use Rattle.mm_check.specs.Flags.{child_flags, taken_flags, step_flags_after};
 ghost use Rattle.mm_check.specs.Reached.{AreStepsOf};
 
-use crate::noted::Noted;
+use crate::noted::NotedAssertions;
 use mm_database::Database;
 use mm_rule::{empty, hyps, is_assertion, is_essential_hypothesis};
 use mm_steps::{Step, Steps};
@@ -23,10 +23,10 @@ use std::alloc::{AllocError, Allocator};
 /// to first. It is kept from proof to proof so that its memory is reused.
 #[derive(Drop)]
 pub struct Flags<A: Allocator> {
-    /// For each entry on the stack after a step, from bottom to top: whether it is essential.
-    waiting: Vec<bool, A>,
-    /// For each step: whether an essential later step repeats the subproof that it ended.
-    wanted: Vec<bool, A>,
+    /// For each entry on the stack after a step, from bottom to top, whether it is essential.
+    entry_flags: Vec<bool, A>,
+    /// For each step whether an essential later step repeats the subproof that it ended.
+    step_flags: Vec<bool, A>,
 }
 
 impl<A: Allocator> Flags<A> {
@@ -36,38 +36,38 @@ impl<A: Allocator> Flags<A> {
         A: Copy,
     {
         Flags {
-            waiting: Vec::new(alloc),
-            wanted: Vec::new(alloc),
+            entry_flags: Vec::new(alloc),
+            step_flags: Vec::new(alloc),
         }
     }
 
-    /// Leaves in `noted` the assertions that are cited: all, or with `essential` only the labels of
-    /// essential nodes.
-    pub fn keep_cited(
+    /// Leaves in `noted` the assertions that are cited: all, or if `essential` is set only those
+    /// that are labels of essential nodes.
+    pub fn retain_cited(
         &mut self,
-        db: &Database<A>,
+        database: &Database<A>,
         theorem: u32,
         steps: &Steps<A>,
         essential: bool,
-        noted: &mut Noted<A>,
+        noted: &mut NotedAssertions<A>,
     ) -> Result<(), AllocError>
-        requires steps { AreStepsOf db.now.statements theorem steps.now.steps }
-        requires valid { (d : Trees) × IsProof db.now.statements theorem d }
+        requires steps { AreStepsOf database.now.statements theorem steps.now.steps }
+        requires valid { (d : Trees) × IsProof database.now.statements theorem d }
         requires noted { (a : ℕ)
-            → Decides (is_member noted.old a) (Cites db.now.statements false theorem a) }
+            → Decides (is_member noted.old a) (Cites database.now.statements false theorem a) }
         ensures { OnOk result
             ((a : ℕ)
             → Decides (is_member noted.new a)
-            (Cites db.now.statements essential theorem a)) }
+            (Cites database.now.statements essential theorem a)) }
     {
         if essential {
-            walk_back(
-                db,
+            note_essential(
+                database,
                 theorem,
                 steps,
                 noted,
-                &mut self.waiting,
-                &mut self.wanted,
+                &mut self.entry_flags,
+                &mut self.step_flags,
             )
         } else {
             Ok(())
@@ -76,95 +76,98 @@ impl<A: Allocator> Flags<A> {
 }
 
 /// Resets the flags to one entry, which is essential, and `count` steps that no step repeats.
-fn restart<A: Allocator>(
+fn reset_flags<A: Allocator>(
     count: usize,
-    waiting: &mut Vec<bool, A>,
-    wanted: &mut Vec<bool, A>,
+    entry_flags: &mut Vec<bool, A>,
+    step_flags: &mut Vec<bool, A>,
 ) -> Result<(), AllocError>
-    ensures waiting { OnOk result (waiting.new.items ≡ true ∷ []) }
-    ensures wanted { OnOk result (wanted.new.items ≡ replicate count false) }
+    ensures entry_flags { OnOk result (entry_flags.new.items ≡ true ∷ []) }
+    ensures step_flags { OnOk result (step_flags.new.items ≡ replicate count false) }
 {
-    empty(waiting);
-    empty(wanted);
-    waiting.push(true)?;
-    wanted.resize(count, false)
+    empty(entry_flags);
+    empty(step_flags);
+    entry_flags.push(true)?;
+    step_flags.resize(count, false)
 }
 
 /// Pops the top flag.
-fn pop_flag<A: Allocator>(waiting: &mut Vec<bool, A>) -> bool
-    requires { 0 < length waiting.old.items }
-    ensures { waiting.old.items ≡ waiting.new.items ++ result ∷ [] }
+fn pop_flag<A: Allocator>(entry_flags: &mut Vec<bool, A>) -> bool
+    requires { 0 < length entry_flags.old.items }
+    ensures { entry_flags.old.items ≡ entry_flags.new.items ++ result ∷ [] }
 {
-    match waiting.pop() {
+    match entry_flags.pop() {
         Some(flag) => flag,
         None => false,
     }
 }
 
 /// Whether the child for a hypothesis is essential: its parent is, and the hypothesis is a `$e`.
-fn flag_for<A: Allocator>(db: &Database<A>, h: u32, is_essential: bool) -> bool
-    requires { h < length db.now.statements }
+fn flag_for<A: Allocator>(database: &Database<A>, hypothesis: u32, is_essential: bool) -> bool
+    requires { hypothesis < length database.now.statements }
     ensures { result
-        ≡ (is_essential && list_any is_essential_statement (statement_at db.now.statements h)) }
+        ≡ (is_essential && list_any is_essential_statement
+        (statement_at database.now.statements hypothesis)) }
 {
-    is_essential && is_essential_hypothesis(db, h)
+    is_essential && is_essential_hypothesis(database, hypothesis)
 }
 
-/// Pushes a flag for each child of a node whose label is assertion `k`. `is_essential` says whether
+/// Pushes a flag for each child of a node whose label is the assertion. `is_essential` says whether
 /// the node is essential.
 fn push_flags<A: Allocator>(
-    db: &Database<A>,
-    k: u32,
+    database: &Database<A>,
+    assertion: u32,
     is_essential: bool,
-    waiting: &mut Vec<bool, A>,
+    entry_flags: &mut Vec<bool, A>,
 ) -> Result<(), AllocError>
-    requires { is_assertion_at db.now.statements k ≡ true }
+    requires { is_assertion_at database.now.statements assertion ≡ true }
     ensures { OnOk result
-        (waiting.new.items ≡ waiting.old.items ++ child_flags db.now.statements is_essential k) }
+        (entry_flags.new.items ≡ entry_flags.old.items
+        ++ child_flags database.now.statements is_essential assertion) }
 {
-    for h in hyps(db, k) {
-        waiting.push(flag_for(db, *h, is_essential))?;
+    for hypothesis in hyps(database, assertion) {
+        entry_flags.push(flag_for(database, *hypothesis, is_essential))?;
     }
     Ok(())
 }
 
 /// Undoes a step whose own flag was popped: pushes the flags of the entries that the step took. If
-/// the step is essential, notes its assertion, or sets `wanted` for the step whose subproof it
+/// the step is essential, notes its assertion, or sets `step_flags` for the step whose subproof it
 /// repeats.
-fn undo<A: Allocator>(
-    db: &Database<A>,
+fn undo_step<A: Allocator>(
+    database: &Database<A>,
     step: Step,
     is_essential: bool,
-    noted: &mut Noted<A>,
-    waiting: &mut Vec<bool, A>,
-    wanted: &mut [bool],
+    noted: &mut NotedAssertions<A>,
+    entry_flags: &mut Vec<bool, A>,
+    step_flags: &mut [bool],
 ) -> Result<(), AllocError>
-    requires known { labels (as_step step) (length db.now.statements) }
-    requires earlier { IsEarlier (as_step step) (length wanted.old) }
+    requires known { IsLabelBelow (as_step step) (length database.now.statements) }
+    requires earlier { IsEarlier (as_step step) (length step_flags.old) }
     ensures noted { OnOk result
         ((a : ℕ)
         → is_member noted.new a
         ≡ (is_member noted.old a
         || (is_essential
-        && (is_labelled_step (as_step step) a && is_assertion_at db.now.statements a)))) }
-    ensures waiting { OnOk result
-        (waiting.new.items
-        ≡ waiting.old.items ++ taken_flags db.now.statements is_essential (as_step step)) }
-    ensures wanted { OnOk result
-        (wanted.new ≡ wanted_flags is_essential (as_step step) wanted.old) }
+        && (is_labelled_step (as_step step) a && is_assertion_at database.now.statements a)))) }
+    ensures entry_flags { OnOk result
+        (entry_flags.new.items
+        ≡ entry_flags.old.items
+        ++ taken_flags database.now.statements is_essential (as_step step)) }
+    ensures step_flags { OnOk result
+        (step_flags.new ≡ step_flags_after is_essential (as_step step) step_flags.old) }
 {
     if is_essential {
-        noted.cite(db, step)?;
+        noted.add_applied(database, step)?;
     }
     match step {
-        Step::Label(k) => {
-            if is_assertion(db, k) {
-                push_flags(db, k, is_essential, waiting)?;
+        Step::Label(statement) => {
+            if is_assertion(database, statement) {
+                push_flags(database, statement, is_essential, entry_flags)?;
             }
         }
-        Step::Marked(j) => {
+        Step::Marked(earlier) => {
             if is_essential {
-                wanted[j as usize] = true;
+                step_flags[earlier as usize] = true;
             }
         }
     }
@@ -174,26 +177,33 @@ fn undo<A: Allocator>(
 /// Notes the assertions of essential nodes, in one pass over the steps from last to first. So when
 /// the pass reaches a step, the flags say whether the entry that it pushed is essential, and
 /// whether an essential later step repeats its subproof.
-fn walk_back<A: Allocator>(
-    db: &Database<A>,
+fn note_essential<A: Allocator>(
+    database: &Database<A>,
     theorem: u32,
     steps: &Steps<A>,
-    noted: &mut Noted<A>,
-    waiting: &mut Vec<bool, A>,
-    wanted: &mut Vec<bool, A>,
+    noted: &mut NotedAssertions<A>,
+    entry_flags: &mut Vec<bool, A>,
+    step_flags: &mut Vec<bool, A>,
 ) -> Result<(), AllocError>
-    requires steps { AreStepsOf db.now.statements theorem steps.now.steps }
-    requires valid { (d : Trees) × IsProof db.now.statements theorem d }
+    requires steps { AreStepsOf database.now.statements theorem steps.now.steps }
+    requires valid { (d : Trees) × IsProof database.now.statements theorem d }
     ensures { OnOk result
         ((a : ℕ)
-        → Decides (is_member noted.new a) (Cites db.now.statements true theorem a)) }
+        → Decides (is_member noted.new a) (Cites database.now.statements true theorem a)) }
 {
     noted.clear();
-    restart(steps.len(), waiting, wanted)?;
+    reset_flags(steps.len(), entry_flags, step_flags)?;
     for i in (0..steps.len()).rev() {
-        let flag = pop_flag(waiting);
-        let is_essential = flag || wanted[i];
-        undo(db, steps.step(i), is_essential, noted, waiting, wanted)?;
+        let flag = pop_flag(entry_flags);
+        let is_essential = flag || step_flags[i];
+        undo_step(
+            database,
+            steps.step(i),
+            is_essential,
+            noted,
+            entry_flags,
+            step_flags,
+        )?;
     }
     Ok(())
 }

@@ -5,7 +5,7 @@ ghost use Rattle.std.specs.List.Sorted.{IsStrictlyIncreasing};
 ghost use Rattle.mm_spec.specs.Derivation.{is_member};
 ghost use Rattle.mm_steps.specs.Read.{as_step};
 ghost use Rattle.mm_rule.specs.Assertions.{is_assertion_at};
-ghost use Rattle.mm_check.specs.Contract.{labels, is_labelled_step};
+ghost use Rattle.mm_check.specs.Contract.{IsLabelBelow, is_labelled_step};
 
 use mm_database::Database;
 use mm_rule::{empty, is_assertion, put_number};
@@ -16,13 +16,14 @@ use std::marker::Model;
 /// The assertions that were noted as cited, by the numbers of their statements. It is kept from
 /// proof to proof so that its memory is reused.
 #[derive(Drop)]
-pub struct Noted<A: Allocator> {
+pub struct NotedAssertions<A: Allocator> {
+    /// The statement numbers of the assertions, in the order in which they were noted.
     numbers: Vec<u32, A>,
-    /// Where a statement may be in `numbers`.
-    places: Vec<u32, A>,
+    /// For each statement the index at which it may be in `numbers`.
+    indices: Vec<u32, A>,
 }
 
-impl<A: Allocator> Model for Noted<A> {
+impl<A: Allocator> Model for NotedAssertions<A> {
     ghost use Rattle.std.specs.Prelude.{ℕ, List};
 
     ghost Value = { List ℕ };
@@ -30,16 +31,16 @@ impl<A: Allocator> Model for Noted<A> {
     ghost view = { λ n. n.numbers.items };
 }
 
-impl<A: Allocator> Noted<A> {
+impl<A: Allocator> NotedAssertions<A> {
     /// No assertions. `count` is the number of statements of the database.
     pub fn new(alloc: A, count: usize) -> Result<Self, AllocError>
     where
         A: Copy,
         ensures { IfOk result (λ n. n ≡ []) }
     {
-        Ok(Noted {
+        Ok(NotedAssertions {
             numbers: Vec::new(alloc),
-            places: vec![in alloc; 0; count]?,
+            indices: vec![in alloc; 0; count]?,
         })
     }
 
@@ -50,44 +51,44 @@ impl<A: Allocator> Noted<A> {
         empty(&mut self.numbers);
     }
 
-    /// Whether `k` is in `numbers` at the index that `places` gives for it. If it isn't, it may
-    /// still be in `numbers`.
-    fn has(&self, k: u32) -> bool
-        ensures { result ≡ true → is_member self.now k ≡ true }
+    /// Whether `statement` is in `numbers` at the index that `indices` gives for it. If it isn't,
+    /// it may still be in `numbers`.
+    fn has(&self, statement: u32) -> bool
+        ensures { result ≡ true → is_member self.now statement ≡ true }
     {
-        let i = k as usize;
-        if i >= self.places.len() {
+        let index = statement as usize;
+        if index >= self.indices.len() {
             return false;
         }
-        let place = self.places[i] as usize;
-        place < self.numbers.len() && self.numbers[place] == k
+        let number_index = self.indices[index] as usize;
+        number_index < self.numbers.len() && self.numbers[number_index] == statement
     }
 
-    /// Notes a statement, unless it is in `numbers` where `places` says.
+    /// Adds a statement, unless it is in `numbers` at the index that `indices` gives for it.
     #[inline(always)]
-    pub fn note(&mut self, k: u32) -> Result<(), AllocError>
+    pub fn add(&mut self, statement: u32) -> Result<(), AllocError>
         ensures { OnOk result
-            ((a : ℕ) → is_member self.new a ≡ (is_member self.old a || (a == k))) }
+            ((a : ℕ) → is_member self.new a ≡ (is_member self.old a || (a == statement))) }
     {
-        if !self.has(k) {
-            put_number(&mut self.places, k as usize, self.numbers.len());
-            self.numbers.push(k)?;
+        if !self.has(statement) {
+            put_number(&mut self.indices, statement as usize, self.numbers.len());
+            self.numbers.push(statement)?;
         }
         Ok(())
     }
 
-    /// Notes the assertion that a step applies.
-    pub fn cite(&mut self, db: &Database<A>, step: Step) -> Result<(), AllocError>
-        requires known { labels (as_step step) (length db.now.statements) }
+    /// Adds the assertion that a step applies, if it applies one.
+    pub fn add_applied(&mut self, database: &Database<A>, step: Step) -> Result<(), AllocError>
+        requires known { IsLabelBelow (as_step step) (length database.now.statements) }
         ensures { OnOk result
             ((a : ℕ)
             → is_member self.new a
             ≡ (is_member self.old a
-            || (is_labelled_step (as_step step) a && is_assertion_at db.now.statements a))) }
+            || (is_labelled_step (as_step step) a && is_assertion_at database.now.statements a))) }
     {
-        if let Step::Label(k) = step {
-            if is_assertion(db, k) {
-                self.note(k)?;
+        if let Step::Label(statement) = step {
+            if is_assertion(database, statement) {
+                self.add(statement)?;
             }
         }
         Ok(())

@@ -25,20 +25,21 @@ use Rattle.mm_outline.specs.declared.parts.Kind.TheVariants as kind
 use Rattle.mm_outline.specs.declared.parts.Outline.{Outline}
 use Rattle.mm_database.specs.Database.{kind_of, Contents, contents}
 use Rattle.mm_database.specs.Labels.{AreLabels}
-use Rattle.mm_database.specs.Parsed.{Parsed, parsed}
+use Rattle.mm_database.specs.ParsedStatements.{ParsedStatements, parsed_statements}
 
 -- each statement has an outline
-pub outline_there : (text : List ℕ) (ws : List Word) (os : List Outline) (b : BlockLists)
-    → (p : Parsed) → parsed text (statements text ws os) b ≡ p → (k : ℕ) → k < length p.list
+pub has_outline : (text : List ℕ) (ws : List Word) (os : List Outline) (b : BlockLists)
+    → (p : ParsedStatements) → parsed_statements text (statements text ws os) b ≡ p → (k : ℕ) → k
+    < length p.list
     → k < length os
-outline_there text ws os b p e k h =
-    let n = ap (λ (q : Parsed). length q.list) e in
+has_outline text ws os b p e k h =
+    let n = ap (λ (q : ParsedStatements). length q.list) e in
     omega (arith, h, n, length-map os (statement_of text ws))
 
 -- there are as many statements as were read
-pub as_many : (text : List ℕ) (db : List Statement) (w : Bool) (fault : Option Fault)
+pub as_many_statements : (text : List ℕ) (db : List Statement) (w : Bool) (fault : Option Fault)
     → (n : Contents) → contents text db w fault ≡ n → length n.statements ≡ length db
-as_many text db w fault n e =
+as_many_statements text db w fault n e =
     ap (λ (m : Contents). length m.statements) (sym e) ∙ counted_length w db
 
 -- what is no theorem has no proof
@@ -57,12 +58,12 @@ no_proof (Some (opening k)) x h n = refl
 no_proof (Some (closing k)) x h n = refl
 
 -- after the last statement is none
-pub none_there : (p : Statement → Bool) (db : List Statement) (k : ℕ) → length db ≤ k
+pub none_past_the_end : (p : Statement → Bool) (db : List Statement) (k : ℕ) → length db ≤ k
     → list_any p (statement_at db k) ≡ false
-none_there p [] zero h = refl
-none_there p [] (suc k) h = refl
-none_there p (s ∷ db) zero h = absurd (omega arith)
-none_there p (s ∷ db) (suc k) h = none_there p db k (omega arith)
+none_past_the_end p [] zero h = refl
+none_past_the_end p [] (suc k) h = refl
+none_past_the_end p (s ∷ db) zero h = absurd (omega arith)
+none_past_the_end p (s ∷ db) (suc k) h = none_past_the_end p db k (omega arith)
 
 -- ---- what a lookup of a label answers
 

@@ -24,22 +24,22 @@ use Rattle.mm_outline.proofs.StatementsLaw.{is_there}
 pub has_at : (ps : List (ℕ × ℕ)) (x y : ℕ) → has_pair ps x y ≡ true
     → (p : ℕ) × (p < length ps) × ((get_or ps p (0, 0)).0 ≡ x) × ((get_or ps p (0, 0)).1 ≡ y)
 has_at [] x y h = absurd (true≢false (sym h))
-has_at (q ∷ qs) x y h = by (nat_eq x q.0 && nat_eq y q.1) refl h (λ k. has_at qs x y k)
+has_at (q ∷ qs) x y h = by_head (nat_eq x q.0 && nat_eq y q.1) refl h (λ k. has_at qs x y k)
   where
-    by : (b : Bool) → (nat_eq x q.0 && nat_eq y q.1) ≡ b → (b || has_pair qs x y) ≡ true
+    by_head : (b : Bool) → (nat_eq x q.0 && nat_eq y q.1) ≡ b → (b || has_pair qs x y) ≡ true
         → (has_pair qs x y ≡ true
         → (p : ℕ) × (p < length qs) × ((get_or qs p (0, 0)).0 ≡ x)
         × ((get_or qs p (0, 0)).1 ≡ y))
         → (p : ℕ) × (p < length (q ∷ qs)) × ((get_or (q ∷ qs) p (0, 0)).0 ≡ x)
         × ((get_or (q ∷ qs) p (0, 0)).1 ≡ y)
-    by true e h f = (
+    by_head true e h f = (
       0,
       omega arith,
       sym (eqb-true x q.0 (and_parts (nat_eq x q.0) (nat_eq y q.1) e).0),
       sym
           (eqb-true y q.1 (and_parts (nat_eq x q.0) (nat_eq y q.1) e).1),
     )
-    by false e h f = let r = f h in let l = r.1 in (suc r.0, omega (arith, l), r.2, r.3)
+    by_head false e h f = let r = f h in let l = r.1 in (suc r.0, omega (arith, l), r.2, r.3)
 
 pub at_has : (ps : List (ℕ × ℕ)) (p : ℕ) (d : ℕ × ℕ) → p < length ps
     → has_pair ps (get_or ps p d).0 (get_or ps p d).1 ≡ true
@@ -64,12 +64,12 @@ rising_at (p ∷ ps) h (suc i) (suc j) d l m = rising_at ps h.1 i j d (omega ari
 -- ---- before
 
 pub before_is : (p : ℕ × ℕ) (x y : ℕ) → is_pair_before p x y ≡ true → IsBefore p.0 p.1 x y
-before_is p x y h = by (nat_lt p.0 x) refl h
+before_is p x y h = by_symbol (nat_lt p.0 x) refl h
   where
-    by : (b : Bool) → nat_lt p.0 x ≡ b → (b || (nat_eq p.0 x && nat_lt p.1 y)) ≡ true
+    by_symbol : (b : Bool) → nat_lt p.0 x ≡ b → (b || (nat_eq p.0 x && nat_lt p.1 y)) ≡ true
         → IsBefore p.0 p.1 x y
-    by true e h = inl (ltb-true p.0 x e)
-    by false e h =
+    by_symbol true e h = inl (ltb-true p.0 x e)
+    by_symbol false e h =
         inr (
           eqb-true p.0 x (and_parts (nat_eq p.0 x) (nat_lt p.1 y) h).0,
           ltb-true p.1 y
@@ -90,14 +90,14 @@ before_through a b c d e f (inr (s, l)) (inr (t, m)) = inr (omega arith, omega a
 
 pub partitioned : (ps : List (ℕ × ℕ)) → AreRising ps → (x y : ℕ)
     → IsPartitionedBy (λ p. is_pair_before p x y) ps
-partitioned ps h x y i j d l m e = by (cases_eq i j)
+partitioned ps are_rising x y i j d l m e = by_equality (cases_eq i j)
   where
-    by : (i ≡ j) ⊎ (i ≢ j) → is_pair_before (get_or ps i d) x y ≡ true
-    by (inl s) = ap (λ k. is_pair_before (get_or ps k d) x y) s ∙ e
-    by (inr n) =
+    by_equality : (i ≡ j) ⊎ (i ≢ j) → is_pair_before (get_or ps i d) x y ≡ true
+    by_equality (inl s) = ap (λ k. is_pair_before (get_or ps k d) x y) s ∙ e
+    by_equality (inr n) =
         is_pair_before_if (get_or ps i d) x y
         (before_through (get_or ps i d).0 (get_or ps i d).1 (get_or ps j d).0 (get_or ps j d).1 x y
-        (rising_at ps h i j d (omega arith) m) (before_is (get_or ps j d) x y e))
+        (rising_at ps are_rising i j d (omega arith) m) (before_is (get_or ps j d) x y e))
 
 -- ---- the blocks of the pairs
 
@@ -118,72 +118,73 @@ are_known db b blocks ps are p l =
 -- ---- what stands before a place
 
 -- so many pairs stand before that of the symbol and the place
-pub record Parted (ps : List (ℕ × ℕ)) (x at start : ℕ) : Type 0 where
+pub record IsPartedAt (ps : List (ℕ × ℕ)) (x at start : ℕ) : Type 0 where
   pub within : start ≤ length ps
   pub before : (p : ℕ) → p < start → is_pair_before (get_or ps p (0, 0)) x at ≡ true
   pub after : (p : ℕ) → start ≤ p → p < length ps → is_pair_before (get_or ps p (0, 0)) x at ≡ false
 
 -- the same by the values that the code has
 module _ (qs ps : List (ℕ × ℕ)) (y x : ℕ) (same : qs ≡ ps) (is : y ≡ x) where
-  pub parted_here : (at start : ℕ) → start ≤ length qs
+  pub parted_by_values : (at start : ℕ) → start ≤ length qs
       → ((p : ℕ) → p < start → is_pair_before (get_or qs p (0, 0)) y at ≡ true)
       → ((p : ℕ) → start ≤ p → p < length qs → is_pair_before (get_or qs p (0, 0)) y at ≡ false)
-      → Parted ps x at start
-  parted_here at start w b a = rw (← same, ← is) (record { within = w; before = b; after = a })
+      → IsPartedAt ps x at start
+  parted_by_values at start w b a = rw (← same, ← is) (record { within = w; before = b; after = a })
 
-  pub symbol_here : (p : ℕ) → (get_or qs p (0, 0)).0 ≡ y → (get_or ps p (0, 0)).0 ≡ x
-  symbol_here p e = rw (← same, ← is) e
+  pub symbol_by_values : (p : ℕ) → (get_or qs p (0, 0)).0 ≡ y → (get_or ps p (0, 0)).0 ≡ x
+  symbol_by_values p e = rw (← same, ← is) e
 
-  pub no_symbol_here : (p : ℕ) → (get_or qs p (0, 0)).0 ≢ y → (get_or ps p (0, 0)).0 ≢ x
-  no_symbol_here p n = rw (← same, ← is) n
+  pub other_symbol_by_values : (p : ℕ) → (get_or qs p (0, 0)).0 ≢ y → (get_or ps p (0, 0)).0 ≢ x
+  other_symbol_by_values p n = rw (← same, ← is) n
 
 -- ---- what is added of one symbol
 
--- those from `left` on have been looked at
-pub record Added (b : BlockLists) (ps : List (ℕ × ℕ)) (x at start left : ℕ)
+-- those from `end` on have been looked at
+pub record AddsFromEnd (b : BlockLists) (ps : List (ℕ × ℕ)) (x at start end : ℕ)
     (old now : List (ℕ × ℕ)) : Type 0 where
-  pub inside : left ≤ start
-  pub kept : (j y : ℕ) → has_pair old j y ≡ true → has_pair now j y ≡ true
+  pub inside : end ≤ start
+  pub old_stay : (j y : ℕ) → has_pair old j y ≡ true → has_pair now j y ≡ true
   pub only : (j y : ℕ) → has_pair now j y ≡ true
       → (has_pair old j y ≡ true)
       ⊎ ((y ≡ x) × (has_pair ps x j ≡ true) × (is_active_local b j at ≡ true))
-  pub all : (p : ℕ) → left ≤ p → p < start → (get_or ps p (0, 0)).0 ≡ x
+  pub all : (p : ℕ) → end ≤ p → p < start → (get_or ps p (0, 0)).0 ≡ x
       → nat_le at (end_of b (get_or ps p (0, 0)).1) ≡ true
       → has_pair now (get_or ps p (0, 0)).1 x ≡ true
 
 module _ (b : BlockLists) (ps : List (ℕ × ℕ)) (rising : AreRising ps) (x at start : ℕ)
-    (parted : Parted ps x at start)
+    (parted : IsPartedAt ps x at start)
   where
     -- before the place, where the symbol is that
-    pub sooner : (p : ℕ) → p < start → (get_or ps p (0, 0)).0 ≡ x → (get_or ps p (0, 0)).1 < at
-    sooner p l e = by (before_is (get_or ps p (0, 0)) x at (parted.before p l))
+    pub is_before : (p : ℕ) → p < start → (get_or ps p (0, 0)).0 ≡ x → (get_or ps p (0, 0)).1 < at
+    is_before p l e = by_symbol (before_is (get_or ps p (0, 0)) x at (parted.before p l))
       where
-        by : IsBefore (get_or ps p (0, 0)).0 (get_or ps p (0, 0)).1 x at
+        by_symbol : IsBefore (get_or ps p (0, 0)).0 (get_or ps p (0, 0)).1 x at
             → (get_or ps p (0, 0)).1 < at
-        by (inl m) = absurd (omega (arith, m, e))
-        by (inr (s, m)) = m
+        by_symbol (inl m) = absurd (omega (arith, m, e))
+        by_symbol (inr (s, m)) = m
 
     -- one that is open is added
-    pub added_open : (left next : ℕ) (old now : List (ℕ × ℕ)) → Added b ps x at start left old now
-        → 0 < left → (get_or ps (left - 1) (0, 0)).0 ≡ x
-        → nat_le at (end_of b (get_or ps (left - 1) (0, 0)).1) ≡ true
-        → next < left
-        → ((p : ℕ) → next ≤ p → p + 1 < left
+    pub added_open : (end next : ℕ) (old now : List (ℕ × ℕ))
+        → AddsFromEnd b ps x at start end old now
+        → 0 < end → (get_or ps (end - 1) (0, 0)).0 ≡ x
+        → nat_le at (end_of b (get_or ps (end - 1) (0, 0)).1) ≡ true
+        → next < end
+        → ((p : ℕ) → next ≤ p → p + 1 < end
         → nat_le at (end_of b (get_or ps p (0, 0)).1) ≡ false)
-        → Added b ps x at start next old (now ++ ((get_or ps (left - 1) (0, 0)).1, x) ∷ [])
-    added_open left next old now a some s o less passed = record {
+        → AddsFromEnd b ps x at start next old (now ++ ((get_or ps (end - 1) (0, 0)).1, x) ∷ [])
+    added_open end next old now a some s o less passed = record {
       inside = let i = a.inside in omega (arith, i, less);
-      kept = λ j y e. longer j y (a.kept j y e);
+      old_stay = λ j y e. longer j y (a.old_stay j y e);
       only =
           λ j y e. only j y (has_pair now j y) refl
           (sym (list_any-append (λ p. nat_eq j p.0 && nat_eq y p.1) now ((m, x) ∷ [])) ∙ e);
-      all = λ p l h e f. all p l h e f (cases_order (p + 1) left);
+      all = λ p l h e f. all p l h e f (cases_order (p + 1) end);
     }
       where
         m : ℕ
-        m = (get_or ps (left - 1) (0, 0)).1
+        m = (get_or ps (end - 1) (0, 0)).1
 
-        here : left - 1 < start
+        here : end - 1 < start
         here = let i = a.inside in omega (arith, i, some)
 
         longer : (j y : ℕ) → has_pair now j y ≡ true → has_pair (now ++ (m, x) ∷ []) j y ≡ true
@@ -195,7 +196,7 @@ module _ (b : BlockLists) (ps : List (ℕ × ℕ)) (rising : AreRising ps) (x at
             → (c || ((nat_eq j m && nat_eq y x) || false)) ≡ true
             → (has_pair old j y ≡ true)
             ⊎ ((y ≡ x) × (has_pair ps x j ≡ true) × (is_active_local b j at ≡ true))
-        only j y true e h = a.only j y e
+        only j y true has_pair_x_y h = a.only j y has_pair_x_y
         only j y false e h =
             let t = sym (or-false (nat_eq j m && nat_eq y x)) ∙ h in
             let sj = eqb-true j m (and_parts (nat_eq j m) (nat_eq y x) t).0 in
@@ -203,18 +204,18 @@ module _ (b : BlockLists) (ps : List (ℕ × ℕ)) (rising : AreRising ps) (x at
             inr (
               sy,
               ap₂ (λ u v. has_pair ps u v) (sym s) sj
-                  ∙ at_has ps (left - 1) (0, 0) (let w = parted.within in omega (arith, here, w)),
+                  ∙ at_has ps (end - 1) (0, 0) (let w = parted.within in omega (arith, here, w)),
               ap₂ (λ u v. u && v)
-                  (ap (λ j. nat_lt j at) sj ∙ lt-ltb m at (sooner (left - 1) here s))
+                  (ap (λ j. nat_lt j at) sj ∙ lt-ltb m at (is_before (end - 1) here s))
                   (ap (λ j. nat_le at (end_of b j)) sj ∙ o),
             )
 
         all : (p : ℕ) → next ≤ p → p < start → (get_or ps p (0, 0)).0 ≡ x
             → nat_le at (end_of b (get_or ps p (0, 0)).1) ≡ true
-            → (p + 1 ≡ left) ⊎ ((p + 1 < left) ⊎ (left < p + 1))
+            → (p + 1 ≡ end) ⊎ ((p + 1 < end) ⊎ (end < p + 1))
             → has_pair (now ++ (m, x) ∷ []) (get_or ps p (0, 0)).1 x ≡ true
-        all p l h e f (inl q) =
-            let sp : p ≡ left - 1 = omega (arith, q) in
+        all p next_le_p p_lt_start e f (inl q) =
+            let sp : p ≡ end - 1 = omega (arith, q) in
             list_any-append (λ r. nat_eq (get_or ps p (0, 0)).1 r.0 && nat_eq x r.1) now
             ((m, x) ∷ [])
             ∙ ap (λ c. has_pair now (get_or ps p (0, 0)).1 x || (c || false))
@@ -222,118 +223,125 @@ module _ (b : BlockLists) (ps : List (ℕ × ℕ)) (rising : AreRising ps) (x at
             (eq-eqb (get_or ps p (0, 0)).1 m (ap (λ i. (get_or ps i (0, 0)).1) sp))
             (eq-eqb x x refl))
             ∙ or-true (has_pair now (get_or ps p (0, 0)).1 x)
-        all p l h e f (inr (inl q)) = absurd (true≢false (sym f ∙ passed p l q))
-        all p l h e f (inr (inr q)) =
-            longer (get_or ps p (0, 0)).1 x (a.all p (omega (arith, q)) h e f)
+        all p next_le_p p_lt_start e f (inr (inl q)) = absurd
+            (true≢false (sym f ∙ passed p next_le_p q))
+        all p next_le_p p_lt_start e f (inr (inr q)) =
+            longer (get_or ps p (0, 0)).1 x (a.all p (omega (arith, q)) p_lt_start e f)
 
     -- one that is not is passed over
-    pub added_closed : (left next : ℕ) (old now : List (ℕ × ℕ)) → Added b ps x at start left old now
-        → 0 < left → nat_le at (end_of b (get_or ps (left - 1) (0, 0)).1) ≡ false
-        → next < left
-        → ((p : ℕ) → next ≤ p → p + 1 < left
+    pub added_closed : (end next : ℕ) (old now : List (ℕ × ℕ))
+        → AddsFromEnd b ps x at start end old now
+        → 0 < end → nat_le at (end_of b (get_or ps (end - 1) (0, 0)).1) ≡ false
+        → next < end
+        → ((p : ℕ) → next ≤ p → p + 1 < end
         → nat_le at (end_of b (get_or ps p (0, 0)).1) ≡ false)
-        → Added b ps x at start next old now
-    added_closed left next old now a some o less passed = record {
+        → AddsFromEnd b ps x at start next old now
+    added_closed end next old now a some o less passed = record {
       inside = let i = a.inside in omega (arith, i, less);
-      kept = a.kept;
+      old_stay = a.old_stay;
       only = a.only;
-      all = λ p l h e f. all p l h e f (cases_order (p + 1) left);
+      all = λ p l h e f. all p l h e f (cases_order (p + 1) end);
     }
       where
         all : (p : ℕ) → next ≤ p → p < start → (get_or ps p (0, 0)).0 ≡ x
             → nat_le at (end_of b (get_or ps p (0, 0)).1) ≡ true
-            → (p + 1 ≡ left) ⊎ ((p + 1 < left) ⊎ (left < p + 1))
+            → (p + 1 ≡ end) ⊎ ((p + 1 < end) ⊎ (end < p + 1))
             → has_pair now (get_or ps p (0, 0)).1 x ≡ true
-        all p l h e f (inl q) =
-            let sp : p ≡ left - 1 = omega (arith, q) in
+        all p next_le_p p_lt_start e f (inl q) =
+            let sp : p ≡ end - 1 = omega (arith, q) in
             absurd (true≢false
             (sym f ∙ ap (λ i. nat_le at (end_of b (get_or ps i (0, 0)).1)) sp ∙ o))
-        all p l h e f (inr (inl q)) = absurd (true≢false (sym f ∙ passed p l q))
-        all p l h e f (inr (inr q)) = a.all p (omega (arith, q)) h e f
+        all p next_le_p p_lt_start e f (inr (inl q)) = absurd
+            (true≢false (sym f ∙ passed p next_le_p q))
+        all p next_le_p p_lt_start e f (inr (inr q)) = a.all p (omega (arith, q)) p_lt_start e f
 
     -- none further down has the symbol
-    pub none_left : (left : ℕ) → left ≤ start → (0 < left → (get_or ps (left - 1) (0, 0)).0 ≢ x)
-        → (p : ℕ) → p < left → (get_or ps p (0, 0)).0 ≡ x → ⊥
-    none_left left i n p l e = by (cases_eq p (left - 1))
+    pub none_before_end : (end : ℕ) → end ≤ start → (0 < end → (get_or ps (end - 1) (0, 0)).0 ≢ x)
+        → (p : ℕ) → p < end → (get_or ps p (0, 0)).0 ≡ x → ⊥
+    none_before_end end i n p p_lt_end e = by_equality (cases_eq p (end - 1))
       where
         below : (q : ℕ) → q < start → (get_or ps q (0, 0)).0 ≤ x
-        below q h = low (before_is (get_or ps q (0, 0)) x at (parted.before q h))
+        below q h = symbol_le (before_is (get_or ps q (0, 0)) x at (parted.before q h))
           where
-            low : IsBefore (get_or ps q (0, 0)).0 (get_or ps q (0, 0)).1 x at
+            symbol_le : IsBefore (get_or ps q (0, 0)).0 (get_or ps q (0, 0)).1 x at
                 → (get_or ps q (0, 0)).0 ≤ x
-            low (inl m) = omega (arith, m)
-            low (inr (s, m)) = omega (arith, s)
+            symbol_le (inl m) = omega (arith, m)
+            symbol_le (inr (s, m)) = omega (arith, s)
 
-        above : IsBefore (get_or ps p (0, 0)).0 (get_or ps p (0, 0)).1
-            (get_or ps (left - 1) (0, 0)).0
-            (get_or ps (left - 1) (0, 0)).1
-            → x ≤ (get_or ps (left - 1) (0, 0)).0
-        above (inl m) = omega (arith, m, e)
-        above (inr (s, m)) = omega (arith, s, e)
+        symbol_ge : IsBefore (get_or ps p (0, 0)).0 (get_or ps p (0, 0)).1
+            (get_or ps (end - 1) (0, 0)).0
+            (get_or ps (end - 1) (0, 0)).1
+            → x ≤ (get_or ps (end - 1) (0, 0)).0
+        symbol_ge (inl m) = omega (arith, m, e)
+        symbol_ge (inr (s, m)) = omega (arith, s, e)
 
-        by : (p ≡ left - 1) ⊎ (p ≢ left - 1) → ⊥
-        by (inl s) = n (omega (arith, l)) (sym (ap (λ i. (get_or ps i (0, 0)).0) s) ∙ e)
-        by (inr t) =
+        by_equality : (p ≡ end - 1) ⊎ (p ≢ end - 1) → ⊥
+        by_equality (inl s) = n (omega (arith, p_lt_end))
+            (sym (ap (λ i. (get_or ps i (0, 0)).0) s) ∙ e)
+        by_equality (inr t) =
             let w = parted.within in
             let u =
-            above (rising_at ps rising p (left - 1) (0, 0) (omega (arith, l, t))
-            (omega (arith, l, i, w))) in
-            let v = below (left - 1) (omega (arith, l, i)) in
-            n (omega (arith, l)) (omega (arith, u, v))
+            symbol_ge (rising_at ps rising p (end - 1) (0, 0) (omega (arith, p_lt_end, t))
+            (omega (arith, p_lt_end, i, w))) in
+            let v = below (end - 1) (omega (arith, p_lt_end, i)) in
+            n (omega (arith, p_lt_end)) (omega (arith, u, v))
 
     -- one that has the symbol and is active stands before the place
     pub inside_if : (p : ℕ) → p < length ps → (get_or ps p (0, 0)).0 ≡ x
         → (get_or ps p (0, 0)).1 < at
         → p < start
-    inside_if p l e m = by (cases_lt p start)
+    inside_if p p_lt_length_ps e m = by_order (cases_lt p start)
       where
-        by : (p < start) ⊎ (start ≤ p) → p < start
-        by (inl h) = h
-        by (inr h) =
+        by_order : (p < start) ⊎ (start ≤ p) → p < start
+        by_order (inl h) = h
+        by_order (inr h) =
             absurd (true≢false
-            (sym (is_pair_before_if (get_or ps p (0, 0)) x at (inr (e, m))) ∙ parted.after p h l))
+            (sym (is_pair_before_if (get_or ps p (0, 0)) x at (inr (e, m)))
+            ∙ parted.after p h p_lt_length_ps))
 
-    pub added_end : (left : ℕ) (old now : List (ℕ × ℕ)) → Added b ps x at start left old now
-        → (0 < left → (get_or ps (left - 1) (0, 0)).0 ≢ x)
+    pub all_are_added : (end : ℕ) (old now : List (ℕ × ℕ)) → AddsFromEnd b ps x at start end old now
+        → (0 < end → (get_or ps (end - 1) (0, 0)).0 ≢ x)
         → (j y : ℕ)
         → has_pair now j y
         ≡ (has_pair old j y || (nat_eq y x && (has_pair ps x j && is_active_local b j at)))
-    added_end left old now a n j y =
+    all_are_added end old now a n j y =
         same_tests (has_pair now j y)
         (has_pair old j y || (nat_eq y x && (has_pair ps x j && is_active_local b j at)))
-        (λ e. forth (a.only j y e)) (λ e. back (has_pair old j y) refl e)
+        (λ e. left_to_right (a.only j y e)) (λ e. right_to_left (has_pair old j y) refl e)
       where
-        forth : (has_pair old j y ≡ true)
+        left_to_right : (has_pair old j y ≡ true)
             ⊎ ((y ≡ x) × (has_pair ps x j ≡ true) × (is_active_local b j at ≡ true))
             → (has_pair old j y || (nat_eq y x && (has_pair ps x j && is_active_local b j at)))
             ≡ true
-        forth (inl e) = ap (λ c. c || (nat_eq y x && (has_pair ps x j && is_active_local b j at))) e
-        forth (inr (s, h, o)) =
+        left_to_right (inl e) = ap (λ c. c || (nat_eq y x
+            && (has_pair ps x j && is_active_local b j at))) e
+        left_to_right (inr (s, h, o)) =
             ap (λ c. has_pair old j y || c)
             (ap₂ (λ u v. u && v) (eq-eqb y x s) (ap₂ (λ u v. u && v) h o))
             ∙ or-true (has_pair old j y)
 
         found : has_pair ps x j ≡ true → is_active_local b j at ≡ true → has_pair now j x ≡ true
-        found h o =
-            let w = has_at ps x j h in
+        found has_pair_x_j j_is_active =
+            let w = has_at ps x j has_pair_x_j in
             let p = w.0 in
-            let m = ltb-true j at (and_parts (nat_lt j at) (nat_le at (end_of b j)) o).0 in
-            let r = (and_parts (nat_lt j at) (nat_le at (end_of b j)) o).1 in
+            let m = ltb-true j at (and_parts (nat_lt j at) (nat_le at (end_of b j))
+            j_is_active).0 in
+            let r = (and_parts (nat_lt j at) (nat_le at (end_of b j)) j_is_active).1 in
             let l = inside_if p w.1 w.2 (let e = w.3 in omega (arith, m, e)) in
-            there p l w.2 w.3 r (cases_lt p left)
+            by_order p l w.2 w.3 r (cases_lt p end)
           where
-            there : (p : ℕ) → p < start → (get_or ps p (0, 0)).0 ≡ x → (get_or ps p (0, 0)).1 ≡ j
-                → nat_le at (end_of b j) ≡ true → (p < left) ⊎ (left ≤ p) → has_pair now j x ≡ true
-            there p l e f r (inl q) = absurd (none_left left a.inside n p q e)
-            there p l e f r (inr q) =
+            by_order : (p : ℕ) → p < start → (get_or ps p (0, 0)).0 ≡ x → (get_or ps p (0, 0)).1 ≡ j
+                → nat_le at (end_of b j) ≡ true → (p < end) ⊎ (end ≤ p) → has_pair now j x ≡ true
+            by_order p l e f r (inl q) = absurd (none_before_end end a.inside n p q e)
+            by_order p l e f r (inr q) =
                 ap (λ i. has_pair now i x) (sym f)
                 ∙ a.all p q l e (ap (λ i. nat_le at (end_of b i)) f ∙ r)
 
-        back : (c : Bool) → has_pair old j y ≡ c
+        right_to_left : (c : Bool) → has_pair old j y ≡ c
             → (c || (nat_eq y x && (has_pair ps x j && is_active_local b j at))) ≡ true
             → has_pair now j y ≡ true
-        back true e h = a.kept j y e
-        back false e h =
+        right_to_left true has_pair_x_y h = a.old_stay j y has_pair_x_y
+        right_to_left false e h =
             let s =
             eqb-true y x (and_parts (nat_eq y x) (has_pair ps x j && is_active_local b j at) h).0 in
             let r = (and_parts (nat_eq y x) (has_pair ps x j && is_active_local b j at) h).1 in
@@ -344,26 +352,28 @@ module _ (b : BlockLists) (ps : List (ℕ × ℕ)) (rising : AreRising ps) (x at
 -- ---- whether two symbols have one together
 
 -- what both have stands before where the search is
-pub record NoneInCommon (b : BlockLists) (ps : List (ℕ × ℕ)) (x y at left right : ℕ) : Type 0 where
+pub record NoneInCommon (b : BlockLists) (ps : List (ℕ × ℕ)) (x y at x_end y_end : ℕ) : Type 0 where
   pub met : (p q : ℕ) → p < length ps → q < length ps → (get_or ps p (0, 0)).0 ≡ x
       → (get_or ps q (0, 0)).0 ≡ y → (get_or ps p (0, 0)).1 ≡ (get_or ps q (0, 0)).1
-      → is_active_local b (get_or ps p (0, 0)).1 at ≡ true → (p < left) × (q < right)
+      → is_active_local b (get_or ps p (0, 0)).1 at ≡ true → (p < x_end) × (q < y_end)
 
 module _ (b : BlockLists) (ps : List (ℕ × ℕ)) (rising : AreRising ps) (x y at : ℕ) where
-  pub none_at_start : (left right : ℕ) → left ≤ length ps → right ≤ length ps
-      → ((p : ℕ) → p < left → is_pair_before (get_or ps p (0, 0)) x at ≡ true)
-      → ((p : ℕ) → left ≤ p → p < length ps → is_pair_before (get_or ps p (0, 0)) x at ≡ false)
-      → ((p : ℕ) → p < right → is_pair_before (get_or ps p (0, 0)) y at ≡ true)
-      → ((p : ℕ) → right ≤ p → p < length ps → is_pair_before (get_or ps p (0, 0)) y at ≡ false)
-      → NoneInCommon b ps x y at left right
-  none_at_start left right l r bl al br ar = record {
+  pub none_at_start : (x_end y_end : ℕ) → x_end ≤ length ps → y_end ≤ length ps
+      → ((p : ℕ) → p < x_end → is_pair_before (get_or ps p (0, 0)) x at ≡ true)
+      → ((p : ℕ) → x_end ≤ p → p < length ps → is_pair_before (get_or ps p (0, 0)) x at ≡ false)
+      → ((p : ℕ) → p < y_end → is_pair_before (get_or ps p (0, 0)) y at ≡ true)
+      → ((p : ℕ) → y_end ≤ p → p < length ps → is_pair_before (get_or ps p (0, 0)) y at ≡ false)
+      → NoneInCommon b ps x y at x_end y_end
+  none_at_start x_end y_end x_end_le_length_ps y_end_le_length_ps bl al br ar = record {
     met = λ p q h i e f s o.
         let m =
         ltb-true (get_or ps p (0, 0)).1 at
         (and_parts (nat_lt (get_or ps p (0, 0)).1 at)
         (nat_le at (end_of b (get_or ps p (0, 0)).1)) o).0 in (
-          inside_if b ps rising x at left (record { within = l; before = bl; after = al }) p h e m,
-          inside_if b ps rising y at right (record { within = r; before = br; after = ar }) q
+          inside_if b ps rising x at x_end (record
+              { within = x_end_le_length_ps; before = bl; after = al }) p h e m,
+          inside_if b ps rising y at y_end (record
+              { within = y_end_le_length_ps; before = br; after = ar }) q
               i f (omega (arith, m, s)),
         );
   }
@@ -371,17 +381,19 @@ module _ (b : BlockLists) (ps : List (ℕ × ℕ)) (rising : AreRising ps) (x y 
   -- the pair of the lower statement comes first
   order_of : (q r : ℕ) → q ≤ r → r < length ps → (get_or ps q (0, 0)).0 ≡ (get_or ps r (0, 0)).0
       → (get_or ps q (0, 0)).1 ≤ (get_or ps r (0, 0)).1
-  order_of q r l h e = by (cases_eq q r)
+  order_of q r q_le_r r_lt_length_ps e = by_equality (cases_eq q r)
     where
-      by : (q ≡ r) ⊎ (q ≢ r) → (get_or ps q (0, 0)).1 ≤ (get_or ps r (0, 0)).1
-      by (inl s) = let t = ap (λ i. (get_or ps i (0, 0)).1) s in omega (arith, t)
-      by (inr n) = less (rising_at ps rising q r (0, 0) (omega (arith, l, n)) h)
+      by_equality : (q ≡ r) ⊎ (q ≢ r) → (get_or ps q (0, 0)).1 ≤ (get_or ps r (0, 0)).1
+      by_equality (inl s) = let t = ap (λ i. (get_or ps i (0, 0)).1) s in omega (arith, t)
+      by_equality (inr n) = statement_le (rising_at ps rising q r (0, 0) (omega (arith, q_le_r, n))
+          r_lt_length_ps)
         where
-          less : IsBefore (get_or ps q (0, 0)).0 (get_or ps q (0, 0)).1 (get_or ps r (0, 0)).0
+          statement_le : IsBefore (get_or ps q (0, 0)).0 (get_or ps q (0, 0)).1
+              (get_or ps r (0, 0)).0
               (get_or ps r (0, 0)).1
               → (get_or ps q (0, 0)).1 ≤ (get_or ps r (0, 0)).1
-          less (inl m) = absurd (omega (arith, m, e))
-          less (inr (s, m)) = omega (arith, m)
+          statement_le (inl m) = absurd (omega (arith, m, e))
+          statement_le (inr (s, m)) = omega (arith, m)
 
   closed : (p : ℕ) → nat_le at (end_of b (get_or ps p (0, 0)).1) ≡ false
       → is_active_local b (get_or ps p (0, 0)).1 at ≡ true → ⊥
@@ -393,81 +405,87 @@ module _ (b : BlockLists) (ps : List (ℕ × ℕ)) (rising : AreRising ps) (x y 
 
   -- the last of the one is of a later statement than the last of the other, or of the same, whose
   -- block is closed
-  pub none_on_left : (left right next : ℕ) → NoneInCommon b ps x y at left right → 0 < left
-      → left ≤ length ps → 0 < right → right ≤ length ps → (get_or ps (right - 1) (0, 0)).0 ≡ y
-      → ((get_or ps (right - 1) (0, 0)).1 < (get_or ps (left - 1) (0, 0)).1)
-      ⊎ (nat_le at (end_of b (get_or ps (left - 1) (0, 0)).1) ≡ false)
-      → ((p : ℕ) → next ≤ p → p + 1 < left → nat_le at (end_of b (get_or ps p (0, 0)).1) ≡ false)
-      → NoneInCommon b ps x y at next right
-  none_on_left left right next a sl wl sr wr ey why passed =
+  pub none_before_x_end : (x_end y_end next : ℕ) → NoneInCommon b ps x y at x_end y_end → 0 < x_end
+      → x_end ≤ length ps → 0 < y_end → y_end ≤ length ps → (get_or ps (y_end - 1) (0, 0)).0 ≡ y
+      → ((get_or ps (y_end - 1) (0, 0)).1 < (get_or ps (x_end - 1) (0, 0)).1)
+      ⊎ (nat_le at (end_of b (get_or ps (x_end - 1) (0, 0)).1) ≡ false)
+      → ((p : ℕ) → next ≤ p → p + 1 < x_end → nat_le at (end_of b (get_or ps p (0, 0)).1) ≡ false)
+      → NoneInCommon b ps x y at next y_end
+  none_before_x_end x_end y_end next a sl wl sr wr ey why passed =
       record {
         met = λ p q h i e f s o. let m = a.met p q h i e f s o in
-            (by p q m.0 m.1 f s o (cases_lt p next) why, m.1);
+            (is_before_next p q m.0 m.1 f s o (cases_lt p next) why, m.1);
       }
     where
-      by : (p q : ℕ) → p < left → q < right → (get_or ps q (0, 0)).0 ≡ y
+      is_before_next : (p q : ℕ) → p < x_end → q < y_end → (get_or ps q (0, 0)).0 ≡ y
           → (get_or ps p (0, 0)).1 ≡ (get_or ps q (0, 0)).1
           → is_active_local b (get_or ps p (0, 0)).1 at ≡ true → (p < next) ⊎ (next ≤ p)
-          → ((get_or ps (right - 1) (0, 0)).1 < (get_or ps (left - 1) (0, 0)).1)
-          ⊎ (nat_le at (end_of b (get_or ps (left - 1) (0, 0)).1) ≡ false) → p < next
-      by p q l r f s o (inl m) w = m
-      by p q l r f s o (inr m) w = absurd (last (cases_lt (p + 1) left) w)
+          → ((get_or ps (y_end - 1) (0, 0)).1 < (get_or ps (x_end - 1) (0, 0)).1)
+          ⊎ (nat_le at (end_of b (get_or ps (x_end - 1) (0, 0)).1) ≡ false) → p < next
+      is_before_next p q p_lt_x_end q_lt_y_end f s j_is_active (inl m) w = m
+      is_before_next p q p_lt_x_end q_lt_y_end f s j_is_active (inr m) w = absurd
+          (impossible (cases_lt (p + 1) x_end) w)
         where
-          last : (p + 1 < left) ⊎ (left ≤ p + 1)
-              → ((get_or ps (right - 1) (0, 0)).1 < (get_or ps (left - 1) (0, 0)).1)
-              ⊎ (nat_le at (end_of b (get_or ps (left - 1) (0, 0)).1) ≡ false) → ⊥
-          last (inl n) w = closed p (passed p m n) o
-          last (inr n) (inr c) =
-              let t : p ≡ left - 1 = omega (arith, l, n) in
-              closed p (ap (λ i. nat_le at (end_of b (get_or ps i (0, 0)).1)) t ∙ c) o
-          last (inr n) (inl c) =
-              let t : p ≡ left - 1 = omega (arith, l, n) in
+          impossible : (p + 1 < x_end) ⊎ (x_end ≤ p + 1)
+              → ((get_or ps (y_end - 1) (0, 0)).1 < (get_or ps (x_end - 1) (0, 0)).1)
+              ⊎ (nat_le at (end_of b (get_or ps (x_end - 1) (0, 0)).1) ≡ false) → ⊥
+          impossible (inl n) w = closed p (passed p m n) j_is_active
+          impossible (inr n) (inr c) =
+              let t : p ≡ x_end - 1 = omega (arith, p_lt_x_end, n) in
+              closed p (ap (λ i. nat_le at (end_of b (get_or ps i (0, 0)).1)) t ∙ c)
+              j_is_active
+          impossible (inr n) (inl c) =
+              let t : p ≡ x_end - 1 = omega (arith, p_lt_x_end, n) in
               let u = ap (λ i. (get_or ps i (0, 0)).1) t in
               let v =
-              order_of q (right - 1) (omega (arith, r)) (omega (arith, sr, wr)) (f ∙ sym ey) in
+              order_of q (y_end - 1) (omega (arith, q_lt_y_end)) (omega (arith, sr, wr))
+              (f ∙ sym ey) in
               omega (arith, u, v, s, c)
 
-  pub none_on_right : (left right next : ℕ) → NoneInCommon b ps x y at left right → 0 < left
-      → left ≤ length ps → 0 < right → right ≤ length ps → (get_or ps (left - 1) (0, 0)).0 ≡ x
-      → (get_or ps (left - 1) (0, 0)).1 < (get_or ps (right - 1) (0, 0)).1
-      → ((p : ℕ) → next ≤ p → p + 1 < right → nat_le at (end_of b (get_or ps p (0, 0)).1) ≡ false)
-      → NoneInCommon b ps x y at left next
-  none_on_right left right next a sl wl sr wr ex why passed =
+  pub none_before_y_end : (x_end y_end next : ℕ) → NoneInCommon b ps x y at x_end y_end → 0 < x_end
+      → x_end ≤ length ps → 0 < y_end → y_end ≤ length ps → (get_or ps (x_end - 1) (0, 0)).0 ≡ x
+      → (get_or ps (x_end - 1) (0, 0)).1 < (get_or ps (y_end - 1) (0, 0)).1
+      → ((p : ℕ) → next ≤ p → p + 1 < y_end → nat_le at (end_of b (get_or ps p (0, 0)).1) ≡ false)
+      → NoneInCommon b ps x y at x_end next
+  none_before_y_end x_end y_end next a sl wl sr wr ex why passed =
       record {
         met = λ p q h i e f s o. let m = a.met p q h i e f s o in
-            (m.0, by p q m.0 m.1 e s o (cases_lt q next));
+            (m.0, is_before_next p q m.0 m.1 e s o (cases_lt q next));
       }
     where
-      by : (p q : ℕ) → p < left → q < right → (get_or ps p (0, 0)).0 ≡ x
+      is_before_next : (p q : ℕ) → p < x_end → q < y_end → (get_or ps p (0, 0)).0 ≡ x
           → (get_or ps p (0, 0)).1 ≡ (get_or ps q (0, 0)).1
           → is_active_local b (get_or ps p (0, 0)).1 at ≡ true → (q < next) ⊎ (next ≤ q) → q < next
-      by p q l r e s o (inl m) = m
-      by p q l r e s o (inr m) = absurd (last (cases_lt (q + 1) right))
+      is_before_next p q p_lt_x_end q_lt_y_end e s j_is_active (inl m) = m
+      is_before_next p q p_lt_x_end q_lt_y_end e s j_is_active (inr m) = absurd
+          (impossible (cases_lt (q + 1) y_end))
         where
-          last : (q + 1 < right) ⊎ (right ≤ q + 1) → ⊥
-          last (inl n) = closed q (passed q m n) (ap (λ j. is_active_local b j at) (sym s) ∙ o)
-          last (inr n) =
-              let t : q ≡ right - 1 = omega (arith, r, n) in
-              let u = ap (λ i. (get_or ps i (0, 0)).1) t in
+          impossible : (q + 1 < y_end) ⊎ (y_end ≤ q + 1) → ⊥
+          impossible (inl n) = closed q (passed q m n)
+              (ap (λ j. is_active_local b j at) (sym s) ∙ j_is_active)
+          impossible (inr n) =
+              let q_is_previous_y_end : q ≡ y_end - 1 = omega (arith, q_lt_y_end, n) in
+              let u = ap (λ i. (get_or ps i (0, 0)).1) q_is_previous_y_end in
               let v =
-              order_of p (left - 1) (omega (arith, l)) (omega (arith, sl, wl)) (e ∙ sym ex) in
+              order_of p (x_end - 1) (omega (arith, p_lt_x_end)) (omega (arith, sl, wl))
+              (e ∙ sym ex) in
               omega (arith, u, v, s, why)
 
-  -- one of the two has none left
-  pub none_at_end : (left right : ℕ) → NoneInCommon b ps x y at left right
-      → ((p : ℕ) → p < left → (get_or ps p (0, 0)).0 ≡ x → ⊥)
-      ⊎ ((p : ℕ) → p < right → (get_or ps p (0, 0)).0 ≡ y → ⊥)
+  -- one of the two has none x_end
+  pub none_at_end : (x_end y_end : ℕ) → NoneInCommon b ps x y at x_end y_end
+      → ((p : ℕ) → p < x_end → (get_or ps p (0, 0)).0 ≡ x → ⊥)
+      ⊎ ((p : ℕ) → p < y_end → (get_or ps p (0, 0)).0 ≡ y → ⊥)
       → (j : ℕ) → has_pair ps x j ≡ true → has_pair ps y j ≡ true → is_active_local b j at ≡ false
-  none_at_end left right a none j hx hy = false_from_ne_true (is_active_local b j at) (λ o.
+  none_at_end x_end y_end a none j hx hy = false_from_ne_true (is_active_local b j at) (λ o.
       let w = has_at ps x j hx in
       let v = has_at ps y j hy in
       let m =
       a.met w.0 v.0 w.1 v.1 w.2 v.2 (w.3 ∙ sym v.3) (ap (λ i. is_active_local b i at) w.3 ∙ o) in
-      by w.0 v.0 m.0 m.1 w.2 v.2 none)
+      by_exhausted_symbol w.0 v.0 m.0 m.1 w.2 v.2 none)
     where
-      by : (p q : ℕ) → p < left → q < right → (get_or ps p (0, 0)).0 ≡ x
+      by_exhausted_symbol : (p q : ℕ) → p < x_end → q < y_end → (get_or ps p (0, 0)).0 ≡ x
           → (get_or ps q (0, 0)).0 ≡ y
-          → ((p : ℕ) → p < left → (get_or ps p (0, 0)).0 ≡ x → ⊥)
-          ⊎ ((p : ℕ) → p < right → (get_or ps p (0, 0)).0 ≡ y → ⊥) → ⊥
-      by p q l r e f (inl n) = n p l e
-      by p q l r e f (inr n) = n q r f
+          → ((p : ℕ) → p < x_end → (get_or ps p (0, 0)).0 ≡ x → ⊥)
+          ⊎ ((p : ℕ) → p < y_end → (get_or ps p (0, 0)).0 ≡ y → ⊥) → ⊥
+      by_exhausted_symbol p q l r e f (inl n) = n p l e
+      by_exhausted_symbol p q l r e f (inr n) = n q r f

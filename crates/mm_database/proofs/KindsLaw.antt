@@ -87,15 +87,15 @@ numbers_are test p h db =
     let n = length-map db kind_of in
     ap (λ n. filter (λ j. tested (slice_get (map kind_of db) j)) (range_with_len 0 n)) n
     ∙ ap (λ q. filter q (range_with_len 0 (length db)))
-    (fun_ext (λ j. ap tested (got_kind db j) ∙ by (slice_get db j)))
+    (fun_ext (λ j. ap tested (got_kind db j) ∙ by_statement (slice_get db j)))
   where
     tested : Option Kind → Bool
     tested o = elim o [ None ↦ false | Some k ↦ test k ]
 
-    by : (o : Option Statement)
+    by_statement : (o : Option Statement)
         → tested (option_map kind_of o) ≡ list_any p (elim o [ None ↦ [] | Some s ↦ s ∷ [] ])
-    by None = refl
-    by (Some s) = h s
+    by_statement None = refl
+    by_statement (Some s) = h s
 
 pub theorems_by_kind : (db : List Statement) (kinds : List Kind) → kinds ≡ map kind_of db
     → numbers_of is_theorem_kind kinds ≡ theorems db
@@ -128,10 +128,10 @@ pub kinds_more : (text : List ℕ) (ws : List Word) (os : List Outline) (w : Boo
     → map kind_of (counted w (statements text ws (take (i + 1) os)))
     ≡ map kind_of (counted w (statements text ws (take i os)))
     ++ kind_of (counted_as w (statement_of text ws (get_or os i d))) ∷ []
-kinds_more text ws os w i d h =
+kinds_more text ws os w i d i_lt_length_os =
     let s = statement_of text ws (get_or os i d) in
     let before = statements text ws (take i os) in
-    ap (λ os. map kind_of (counted w (statements text ws os))) (take_more os i d h)
+    ap (λ os. map kind_of (counted w (statements text ws os))) (take_more os i d i_lt_length_os)
     ∙ ap (λ db. map kind_of (counted w db))
     (map-append (statement_of text ws) (take i os) (get_or os i d ∷ []))
     ∙ ap (map kind_of) (counted_more w before s)
@@ -159,15 +159,15 @@ still_theorem true (disjoint k xs d) h = refl
 still_theorem true (floating l k xs d) h = refl
 still_theorem true (essential l k xs d) h = refl
 still_theorem true (axiomatic l k xs d) h = refl
-still_theorem true (provable l k xs e ps d) h = by (is_open_proof ps) h
+still_theorem true (provable l k xs e ps d) h = by_open_proof (is_open_proof ps) h
   where
-    by : (b : Bool)
+    by_open_proof : (b : Bool)
         → kind_of (elim b [ true ↦ axiomatic l k xs d | false ↦ provable l k xs e ps d ])
         ≡ kind.Theorem
         → (elim b [ true ↦ axiomatic l k xs d | false ↦ provable l k xs e ps d ])
         ≡ provable l k xs e ps d
-    by true h = absurd (cc)
-    by false h = refl
+    by_open_proof true h = absurd (cc)
+    by_open_proof false h = refl
 still_theorem true (opening k) h = refl
 still_theorem true (closing k) h = refl
 
@@ -207,14 +207,14 @@ open_statement true (disjoint k xs d) = refl
 open_statement true (floating l k xs d) = refl
 open_statement true (essential l k xs d) = refl
 open_statement true (axiomatic l k xs d) = refl
-open_statement true (provable l k xs e ps d) = by (is_open_proof ps)
+open_statement true (provable l k xs e ps d) = by_open_proof (is_open_proof ps)
   where
-    by : (b : Bool)
+    by_open_proof : (b : Bool)
         → is_axiom_kind
         (kind_of (elim b [ true ↦ axiomatic l k xs d | false ↦ provable l k xs e ps d ]))
         ≡ (b || false)
-    by true = refl
-    by false = refl
+    by_open_proof true = refl
+    by_open_proof false = refl
 open_statement true (opening k) = refl
 open_statement true (closing k) = refl
 
@@ -223,13 +223,13 @@ pub open_is : (w : Bool) (db : List Statement) (k : ℕ) (x y : Kind)
     → option_map kind_of (slice_get (counted w db) k) ≡ Some y
     → (is_theorem_kind x && is_axiom_kind y)
     ≡ (w && list_any is_open_theorem (statement_at db k))
-open_is w db k x y h e = by (slice_get db k) refl h
+open_is w db k x y h e = by_statement (slice_get db k) refl h
   where
-    by : (o : Option Statement) → slice_get db k ≡ o → option_map kind_of o ≡ Some x
+    by_statement : (o : Option Statement) → slice_get db k ≡ o → option_map kind_of o ≡ Some x
         → (is_theorem_kind x && is_axiom_kind y)
         ≡ (w && list_any is_open_theorem (statement_at db k))
-    by None n i = absurd (cc)
-    by (Some s) n i =
+    by_statement None n i = absurd (cc)
+    by_statement (Some s) n i =
         let own : kind_of s ≡ x = cc in
         let some : Some (kind_of (counted_as w s)) ≡ Some y =
         sym (ap (option_map kind_of) (counted_at w db k s n)) ∙ e in
@@ -244,12 +244,12 @@ pub kind_tells : (p : Statement → Bool) (test : Kind → Bool)
     → ((s : Statement) → test (kind_of s) ≡ list_any p (s ∷ [])) → (db : List Statement) (k : ℕ)
     → (x : Kind)
     → option_map kind_of (slice_get db k) ≡ Some x → test x ≡ list_any p (statement_at db k)
-kind_tells p test each db k x h = by (slice_get db k) h
+kind_tells p test each db k x h = by_statement (slice_get db k) h
   where
-    by : (o : Option Statement) → option_map kind_of o ≡ Some x
+    by_statement : (o : Option Statement) → option_map kind_of o ≡ Some x
         → test x ≡ list_any p (elim o [ None ↦ [] | Some s ↦ s ∷ [] ])
-    by None i = absurd (cc)
-    by (Some s) i = let own : x ≡ kind_of s = cc in ap test own ∙ each s
+    by_statement None i = absurd (cc)
+    by_statement (Some s) i = let own : x ≡ kind_of s = cc in ap test own ∙ each s
 
 pub assertion_kind : (s : Statement) → is_assertion_kind (kind_of s)
     ≡ list_any is_assertion (s ∷ [])

@@ -31,10 +31,10 @@ tokens_suffice (s ∷ row) =
 
 pub statements_few : (text : List ℕ) (db : List Statement) (fault : Option Fault)
     → IsRead (length text) (lexed_of text) db fault → length db ≤ length text
-statements_few text db fault r =
-    let row = tokens_suffice r.statements in
-    let tokens = ap length r.are_statements.splits in
-    let statements = ap length r.splits in
+statements_few text db fault is_read =
+    let row = tokens_suffice is_read.statements in
+    let tokens = ap length is_read.are_statements.splits in
+    let statements = ap length is_read.splits in
     let mapped = length-map (tokens_of text) (token_of text) in
     let few = tokens_few text in
     omega (
@@ -44,6 +44,6 @@ statements_few text db fault r =
       statements,
       mapped,
       few,
-      length-append (flat_map spelling_of r.statements) r.are_statements.rest,
-      length-append db r.rest,
+      length-append (flat_map spelling_of is_read.statements) is_read.are_statements.rest,
+      length-append db is_read.rest,
     )

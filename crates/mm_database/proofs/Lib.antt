@@ -1,28 +1,28 @@
 -- `Database` has an invariant, `IsDatabase`: each field is what the definitions say of the
--- statements. The calls go back from fields to statements: names by `place_distinct`
+-- statements. The calls go back from fields to statements: names by `index_distinct`
 -- (`SymbolsLaw.antt`) and `names_inserted` (`NamesLaw.antt`), where a word longer than the longest
 -- is none (`no_longer_with`, `LongestLaw.antt`); kinds by `kind_tells`, and theorems by
 -- `theorems_by_kind` (`KindsLaw.antt`). Lists that are kept one after the other are the lists that
--- were joined (`more_joined`, `part_between`, `CutsLaw.antt`): labels and proofs (`label_kept` and
--- `proof_kept`, `KeptLaw.antt`), and the labels of theorems (`spaced_slice`, `SpacedLaw.antt`).
--- A frame is found by its place, which stays its own as frames are added (`frame_at_place` and
--- `frames_at_more`, `PlacesLaw.antt`).
--- `are_together` finds a `$d` of two variables by `none_left` and `none_right`
+-- were joined (`more_joined`, `parts_between`, `ListsLaw.antt` of `mm_lists`): labels and proofs
+-- (`label_is_retained` and `proof_is_retained`, `RetainedWordsLaw.antt`), and the labels of
+-- theorems (`spaced_slice`, `SpacedLaw.antt`). A frame is found by its index, which stays its own
+-- as frames are added (`frame_at_index` and `frames_at_more`, `FrameIndicesLaw.antt`).
+-- `are_together` finds a `$d` of two variables by `none_before_x_end` and `none_before_y_end`
 -- (`DisjointIndexLaw.antt`), among pairs that begin where `StartsLaw.antt` says, and `together_is`
 -- (`TogetherLaw.antt`) says what that answers; `near_is` (`NearLaw.antt`) says it of a `$d` found
--- shortly before a statement. `labels_held` and others (`HeldLaw.antt`) transfer what is known of
--- the statements that were read to these as they count.
+-- shortly before a statement. `labels_counted` and others (`CountedLaw.antt`) transfer what is
+-- known of the statements that were read to these as they count.
 pub mod SymbolsLaw
 pub mod NamesLaw
 pub mod LongestLaw
 pub mod DisjointIndexLaw
 pub mod StartsLaw
 pub mod TogetherLaw
-pub mod PlacesLaw
+pub mod FrameIndicesLaw
 pub mod KindsLaw
 pub mod SpacedLaw
-pub mod KeptLaw
-pub mod HeldLaw
+pub mod RetainedWordsLaw
+pub mod CountedLaw
 pub mod LengthLaw
 pub mod DatabaseLaw
 pub mod NearLaw

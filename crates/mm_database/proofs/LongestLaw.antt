@@ -6,11 +6,12 @@ use Rattle.mm_spec.specs.Text.{Bytes}
 
 -- a longer word is another one
 longer_other : (v w : Bytes) → length v < length w → bytes_eq v w ≡ false
-longer_other v w h = by (bytes_eq v w) refl
+longer_other v w h = by_equality (bytes_eq v w) refl
   where
-    by : (b : Bool) → bytes_eq v w ≡ b → b ≡ false
-    by true e = let n = ap length ((bytes_eq-Decides v w).0 e) in absurd (omega (arith, h, n))
-    by false e = refl
+    by_equality : (b : Bool) → bytes_eq v w ≡ b → b ≡ false
+    by_equality true e = let n = ap length ((bytes_eq-Decides v w).0 e) in absurd
+        (omega (arith, h, n))
+    by_equality false e = refl
 
 -- with one name more, none is longer than the longest so far and that one
 pub no_longer_with : {V : Type 0} (old new : Bytes → Option V) (n m : ℕ) (v : Bytes) (x : Option V)

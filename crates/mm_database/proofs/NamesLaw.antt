@@ -13,7 +13,7 @@ use Rattle.mm_spec.specs.Text.{Bytes, is_in}
 use Rattle.mm_spec.specs.Frame.{index_of}
 use Rattle.mm_database.specs.declared.name.Name.{Name}
 use Rattle.mm_database.specs.Names.{find, names_of, with_name}
-use Rattle.mm_database.proofs.SymbolsLaw.{keys_in, missing_place}
+use Rattle.mm_database.proofs.SymbolsLaw.{keys_in, missing_index}
 
 -- the keys of a map with one entry more
 pub names_inserted : {V : Type 0} (es : List (Name × V)) (k : Name) (v : V)
@@ -21,12 +21,13 @@ pub names_inserted : {V : Type 0} (es : List (Name × V)) (k : Name) (v : V)
     (keys_of (insert_entry (λ (a b : Name). bytes_eq a.bytes.now b.bytes.now) es k v))
     ≡ with_name k.bytes.now (map (λ x. x.bytes.now) (keys_of es))
 names_inserted [] k v = refl
-names_inserted (e ∷ es) k v = by (bytes_eq k.bytes.now e.0.bytes.now) (names_inserted es k v)
+names_inserted (e ∷ es) k v = by_equality (bytes_eq k.bytes.now e.0.bytes.now)
+    (names_inserted es k v)
   where
     ns : List Bytes
     ns = map (λ x. x.bytes.now) (keys_of es)
 
-    after : (b : Bool)
+    by_membership : (b : Bool)
         → map (λ x. x.bytes.now)
         (keys_of (insert_entry (λ (a b : Name). bytes_eq a.bytes.now b.bytes.now) es k v))
         ≡ (if b then ns else (ns ++ k.bytes.now ∷ []))
@@ -34,10 +35,10 @@ names_inserted (e ∷ es) k v = by (bytes_eq k.bytes.now e.0.bytes.now) (names_i
         ∷ map (λ x. x.bytes.now)
         (keys_of (insert_entry (λ (a b : Name). bytes_eq a.bytes.now b.bytes.now) es k v))
         ≡ (if b then (e.0.bytes.now ∷ ns) else ((e.0.bytes.now ∷ ns) ++ k.bytes.now ∷ []))
-    after true h = ap (λ l. e.0.bytes.now ∷ l) h
-    after false h = ap (λ l. e.0.bytes.now ∷ l) h
+    by_membership true h = ap (λ l. e.0.bytes.now ∷ l) h
+    by_membership false h = ap (λ l. e.0.bytes.now ∷ l) h
 
-    by : (b : Bool)
+    by_equality : (b : Bool)
         → map (λ x. x.bytes.now)
         (keys_of (insert_entry (λ (a b : Name). bytes_eq a.bytes.now b.bytes.now) es k v))
         ≡ with_name k.bytes.now ns
@@ -47,8 +48,8 @@ names_inserted (e ∷ es) k v = by (bytes_eq k.bytes.now e.0.bytes.now) (names_i
         (e ∷ insert_entry (λ (a b : Name). bytes_eq a.bytes.now b.bytes.now) es k v)))
         ≡ (if b || is_in k.bytes.now ns then (e.0.bytes.now ∷ ns) else
         ((e.0.bytes.now ∷ ns) ++ k.bytes.now ∷ []))
-    by true h = refl
-    by false h = after (is_in k.bytes.now ns) h
+    by_equality true h = refl
+    by_equality false h = by_membership (is_in k.bytes.now ns) h
 
 -- a name that is there stays the list as it was
 pub with_known : (w : Bytes) (ns : List Bytes) → is_in w ns ≡ true → with_name w ns ≡ ns
@@ -63,19 +64,19 @@ pub missing_number : {V : Type 0} (w : Bytes) (es : List (Name × V)) → find e
     → length es ≡ index_of w (names_of es)
 missing_number w es h =
     map_len es
-    ∙ missing_place w (names_of es)
+    ∙ missing_index w (names_of es)
     (sym (keys_in w (keys_of es)) ∙ sym (is_some-lookup (λ k. bytes_eq w k.bytes.now) es)
     ∙ ap is_some h)
 
 -- a name's place
-pub place_le : (w : Bytes) (ns : List Bytes) → index_of w ns ≤ length ns
-place_le w [] = omega arith
-place_le w (n ∷ ns) = by (bytes_eq w n) (place_le w ns)
+pub index_le : (w : Bytes) (ns : List Bytes) → index_of w ns ≤ length ns
+index_le w [] = omega arith
+index_le w (n ∷ ns) = by_equality (bytes_eq w n) (index_le w ns)
   where
-    by : (b : Bool) → index_of w ns ≤ length ns
+    by_equality : (b : Bool) → index_of w ns ≤ length ns
         → elim b [ true ↦ 0 | false ↦ suc (index_of w ns) ] ≤ suc (length ns)
-    by true h = omega arith
-    by false h = omega (arith, h)
+    by_equality true h = omega arith
+    by_equality false h = omega (arith, h)
 
 pub on_then : {A E : Type 0} {P Q : Type 0} (r : Result A E) → OnOk r P → (P → Q) → OnOk r Q
 on_then (Ok a) h f = f h

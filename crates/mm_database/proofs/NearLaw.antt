@@ -28,24 +28,24 @@ is_disjoint_kind (closing k) e = absurd (cc)
 is_disjoint_at : (db : List Statement) (j : ℕ)
     → option_map kind_of (slice_get db j) ≡ Some kind.Disjoint
     → list_any is_disjoint_statement (statement_at db j) ≡ true
-is_disjoint_at db j e = by (slice_get db j) e
+is_disjoint_at db j e = by_statement (slice_get db j) e
   where
-    by : (o : Option Statement) → option_map kind_of o ≡ Some kind.Disjoint
+    by_statement : (o : Option Statement) → option_map kind_of o ≡ Some kind.Disjoint
         → list_any is_disjoint_statement (elim o [ None ↦ [] | Some s ↦ s ∷ [] ]) ≡ true
-    by None h = absurd (cc)
-    by (Some s) h = ap (λ b. b || false) (is_disjoint_kind s (cc))
+    by_statement None h = absurd (cc)
+    by_statement (Some s) h = ap (λ b. b || false) (is_disjoint_kind s (cc))
 
 pub near_is : (db : List Statement) (j k x y : ℕ)
     → option_map kind_of (slice_get db j) ≡ Some kind.Disjoint → is_active db j k ≡ true
     → is_member (formula_at db j) x ≡ true → is_member (formula_at db j) y ≡ true
     → are_together_at db k x y ≡ true
-near_is db j k x y d a ex ey =
+near_is db j k x y d active_at_k ex ey =
     any_of (λ i. is_member (formula_at db i) x && is_member (formula_at db i) y)
     (active_of is_disjoint_statement db k) j
     (member_filter (λ i. list_any is_disjoint_statement (statement_at db i)) (active db k) j
     ∙ ap₂ (λ p q. p && q) (is_disjoint_at db j d)
     (member_filter (λ i. is_active db i k) (range_with_len 0 k) j
-    ∙ ap₂ (λ p q. p && q) a
+    ∙ ap₂ (λ p q. p && q) active_at_k
     (member_range k 0 j (omega arith) ∙ (let z : 0 + k ≡ k = omega arith in ap (nat_lt j) z)
-    ∙ (and_parts (nat_lt j k) _ a).0)))
+    ∙ (and_parts (nat_lt j k) _ active_at_k).0)))
     (ap₂ (λ p q. p && q) ex ey)

@@ -21,17 +21,17 @@ starts_none ps = record { each = λ x l. absurd (omega arith); known = λ p l. a
 -- later pairs are of no earlier symbol
 no_lower : (ps : List (ℕ × ℕ)) → AreRising ps → (i j : ℕ) → i ≤ j → j < length ps
     → (get_or ps i (0, 0)).0 ≤ (get_or ps j (0, 0)).0
-no_lower ps r i j le lt = go (cases_eq i j)
+no_lower ps are_rising i j le lt = by_equality (cases_eq i j)
   where
-    low : IsBefore (get_or ps i (0, 0)).0 (get_or ps i (0, 0)).1 (get_or ps j (0, 0)).0
+    symbol_le : IsBefore (get_or ps i (0, 0)).0 (get_or ps i (0, 0)).1 (get_or ps j (0, 0)).0
         (get_or ps j (0, 0)).1
         → (get_or ps i (0, 0)).0 ≤ (get_or ps j (0, 0)).0
-    low (inl l) = omega arith
-    low (inr (e, l)) = omega arith
+    symbol_le (inl l) = omega arith
+    symbol_le (inr (e, l)) = omega arith
 
-    go : (i ≡ j) ⊎ (i ≡ j → ⊥) → (get_or ps i (0, 0)).0 ≤ (get_or ps j (0, 0)).0
-    go (inl e) = let s = ap (λ k. (get_or ps k (0, 0)).0) e in omega (arith, s)
-    go (inr ne) = low (rising_at ps r i j (0, 0) (omega arith) lt)
+    by_equality : (i ≡ j) ⊎ (i ≡ j → ⊥) → (get_or ps i (0, 0)).0 ≤ (get_or ps j (0, 0)).0
+    by_equality (inl e) = let s = ap (λ k. (get_or ps k (0, 0)).0) e in omega (arith, s)
+    by_equality (inr ne) = symbol_le (rising_at ps are_rising i j (0, 0) (omega arith) lt)
 
 -- a symbol more, up to that of pair n
 pub starts_more : (ps : List (ℕ × ℕ)) (n : ℕ) (starts : List ℕ) → AreRising ps → n < length ps
@@ -58,29 +58,32 @@ starts_more ps n starts r lt below h = record {
         subst (IsStart ps x) (sym (get_or_push starts n 0 x (sym e)))
         (subst (λ y. IsStart ps y n) (sym e) here)
     each x l (inr ne) =
-        let m : x < length starts = omega (arith, l, longer, ne) in
-        subst (IsStart ps x) (sym (get_or_append_left starts (n ∷ []) 0 x m)) (h.each x m)
+        let x_lt_length_starts : x < length starts = omega (arith, l, longer, ne) in
+        subst (IsStart ps x) (sym (get_or_append_left starts (n ∷ []) 0 x x_lt_length_starts))
+        (h.each x x_lt_length_starts)
 
 -- a pair more, whose symbol has a start
 pub starts_next : (ps : List (ℕ × ℕ)) (n : ℕ) (starts : List ℕ)
     → (get_or ps n (0, 0)).0 < length starts → StartsTo ps n starts → StartsTo ps (n + 1) starts
 starts_next ps n starts known h = record {
   each = h.each;
-  known = λ p l. go p l (cases_eq p n);
+  known = λ p l. by_equality p l (cases_eq p n);
 }
   where
-    go : (p : ℕ) → p < n + 1 → (p ≡ n) ⊎ (p ≡ n → ⊥) → (get_or ps p (0, 0)).0 < length starts
-    go p l (inl e) = let s = ap (λ k. (get_or ps k (0, 0)).0) e in omega (arith, s, known)
-    go p l (inr ne) = h.known p (omega arith)
+    by_equality : (p : ℕ) → p < n + 1 → (p ≡ n) ⊎ (p ≡ n → ⊥) → (get_or ps p (0, 0)).0
+        < length starts
+    by_equality p l (inl e) = let s = ap (λ k. (get_or ps k (0, 0)).0) e in omega (arith, s, known)
+    by_equality p l (inr ne) = h.known p (omega arith)
 
 -- all pairs
 pub starts_all : (ps : List (ℕ × ℕ)) (n : ℕ) (starts : List ℕ) → length ps ≤ n
     → StartsTo ps n starts → AreStarts ps starts
-starts_all ps n starts all h x = go (cases_lt x (length starts))
+starts_all ps n starts all h x = by_order (cases_lt x (length starts))
   where
-    go : (x < length starts) ⊎ (length starts ≤ x) → IsStart ps x (get_or starts x (length ps))
-    go (inl l) = subst (IsStart ps x) (get_or_default starts x 0 (length ps) l) (h.each x l)
-    go (inr g) = subst (IsStart ps x) (sym (get_or_past starts x (length ps) g)) (record {
+    by_order : (x < length starts) ⊎ (length starts ≤ x)
+        → IsStart ps x (get_or starts x (length ps))
+    by_order (inl l) = subst (IsStart ps x) (get_or_default starts x 0 (length ps) l) (h.each x l)
+    by_order (inr g) = subst (IsStart ps x) (sym (get_or_past starts x (length ps) g)) (record {
       within = omega arith;
       before = λ p l. let k = h.known p (omega arith) in omega (arith, k, g);
       after = λ p l m. absurd (omega arith);
@@ -108,7 +111,7 @@ module _ (ps : List (ℕ × ℕ)) (rising : AreRising ps) (x at from to : ℕ) (
       (let e = length-drop from ps in let inside = last.within in omega (arith, e, inside))
 
   pub part_partitioned : IsPartitionedBy (λ p. nat_lt p.1 at) (slice_range ps from to)
-  part_partitioned i j d l m e = by (cases_eq i j)
+  part_partitioned i j d l m e = by_equality (cases_eq i j)
     where
       long : j < to - from
       long = let n = part_long in omega (arith, m, n)
@@ -116,24 +119,25 @@ module _ (ps : List (ℕ × ℕ)) (rising : AreRising ps) (x at from to : ℕ) (
       inside : from + j < length ps
       inside = let w = last.within in let n = long in omega (arith, w, n)
 
-      low : i < j
+      statement_lt : i < j
           → IsBefore (get_or ps (from + i) d).0 (get_or ps (from + i) d).1
           (get_or ps (from + j) d).0 (get_or ps (from + j) d).1
           → (get_or ps (from + i) d).1 < (get_or ps (from + j) d).1
-      low k (inl s) =
+      statement_lt i_lt_j (inl s) =
           let n = long in
-          let a = here (from + i) d (omega arith) (omega (arith, k, n)) in
+          let a = here (from + i) d (omega arith) (omega (arith, i_lt_j, n)) in
           let b = here (from + j) d (omega arith) (omega (arith, n)) in
           absurd (omega (arith, a, b, s))
-      low k (inr (s, t)) = t
+      statement_lt i_lt_j (inr (s, t)) = t
 
-      by : (i ≡ j) ⊎ (i ≡ j → ⊥) → nat_lt (get_or (slice_range ps from to) i d).1 at ≡ true
-      by (inl s) = ap (λ k. nat_lt (get_or (slice_range ps from to) k d).1 at) s ∙ e
-      by (inr ne) =
+      by_equality : (i ≡ j) ⊎ (i ≡ j → ⊥) → nat_lt (get_or (slice_range ps from to) i d).1 at ≡ true
+      by_equality (inl s) = ap (λ k. nat_lt (get_or (slice_range ps from to) k d).1 at) s ∙ e
+      by_equality (inr ne) =
           let k : i < j = omega arith in
           let n = long in
           let short : i < to - from = omega (arith, k, n) in
-          let up = low k (rising_at ps rising (from + i) (from + j) d (omega (arith, k)) inside) in
+          let up = statement_lt k (rising_at ps rising (from + i) (from + j) d (omega (arith, k))
+          inside) in
           let less =
           ltb-true (get_or ps (from + j) d).1 at
           (ap (λ (q : ℕ × ℕ). nat_lt q.1 at) (sym (part_at j d long)) ∙ e) in
@@ -144,11 +148,11 @@ module _ (ps : List (ℕ × ℕ)) (rising : AreRising ps) (x at from to : ℕ) (
       (point : IsPartitionPoint (λ y. nat_lt y.1 at ≡ true) (λ y. nat_lt y.1 at ≡ false)
       (slice_range ps from to) n) where
     pub before_point : (p : ℕ) → p < from + n → is_pair_before (get_or ps p (0, 0)) x at ≡ true
-    before_point p l = by (cases_lt p from)
+    before_point p l = by_order (cases_lt p from)
       where
-        by : (p < from) ⊎ (from ≤ p) → is_pair_before (get_or ps p (0, 0)) x at ≡ true
-        by (inl k) = is_pair_before_if (get_or ps p (0, 0)) x at (inl (first.before p k))
-        by (inr k) =
+        by_order : (p < from) ⊎ (from ≤ p) → is_pair_before (get_or ps p (0, 0)) x at ≡ true
+        by_order (inl k) = is_pair_before_if (get_or ps p (0, 0)) x at (inl (first.before p k))
+        by_order (inr k) =
             let long = part_long in
             let short : p - from < to - from = omega (arith, k, l, bound, long) in
             let same : from + (p - from) ≡ p = omega (arith, k) in
@@ -162,25 +166,26 @@ module _ (ps : List (ℕ × ℕ)) (rising : AreRising ps) (x at from to : ℕ) (
 
     pub after_point : (p : ℕ) → from + n ≤ p → p < length ps
         → is_pair_before (get_or ps p (0, 0)) x at ≡ false
-    after_point p l m =
+    after_point p l p_lt_length_ps =
         false_from_ne_true (is_pair_before (get_or ps p (0, 0)) x at)
-        (λ e. never (before_is (get_or ps p (0, 0)) x at e) (cases_lt p to))
+        (λ e. not_before (before_is (get_or ps p (0, 0)) x at e) (cases_lt p to))
       where
-        never : IsBefore (get_or ps p (0, 0)).0 (get_or ps p (0, 0)).1 x at → (p < to) ⊎ (to ≤ p)
+        not_before : IsBefore (get_or ps p (0, 0)).0 (get_or ps p (0, 0)).1 x at → (p < to)
+            ⊎ (to ≤ p)
             → ⊥
-        never b (inr k) = up b
+        not_before is_before (inr k) = impossible is_before
           where
-            up : IsBefore (get_or ps p (0, 0)).0 (get_or ps p (0, 0)).1 x at → ⊥
-            up (inl s) = let h = last.after p k m in omega (arith, h, s)
-            up (inr (s, t)) = let h = last.after p k m in omega (arith, h, s)
-        never b (inl k) = up b
+            impossible : IsBefore (get_or ps p (0, 0)).0 (get_or ps p (0, 0)).1 x at → ⊥
+            impossible (inl s) = let h = last.after p k p_lt_length_ps in omega (arith, h, s)
+            impossible (inr (s, t)) = let h = last.after p k p_lt_length_ps in omega (arith, h, s)
+        not_before is_before (inl k) = impossible is_before
           where
             low : from ≤ p
             low = omega arith
 
-            up : IsBefore (get_or ps p (0, 0)).0 (get_or ps p (0, 0)).1 x at → ⊥
-            up (inl s) = let h = here p (0, 0) low k in omega (arith, h, s)
-            up (inr (s, t)) =
+            impossible : IsBefore (get_or ps p (0, 0)).0 (get_or ps p (0, 0)).1 x at → ⊥
+            impossible (inl s) = let h = here p (0, 0) low k in omega (arith, h, s)
+            impossible (inr (s, t)) =
                 let short : p - from < to - from = omega (arith, low, k) in
                 let same : from + (p - from) ≡ p = omega (arith, low) in
                 let long = part_long in

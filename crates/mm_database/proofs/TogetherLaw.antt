@@ -1,5 +1,6 @@
 -- Which `$d` are active at a place, and whether one of them has two symbols.
-use Rattle.std.proofs.Common.{◌≡◌, ℕ, ◌<◌, ◌≤◌, Bool, true, false, ◌&&◌, List, length, nat_lt, nat_le}
+use Rattle.std.proofs.Common.{◌≡◌, ℕ, ◌<◌, ◌≤◌, Bool, true, false, ◌&&◌, List, length, nat_lt}
+use Rattle.std.proofs.Common.{nat_le}
 use Rattle.std.proofs.Common.{refl, sym, ap, ap₂, ◌∙◌, true≢false, ◌⊎◌, inl, inr}
 use Rattle.std.proofs.lemmas.Bool.{cases_lt, le-ltb, and_parts}
 use Rattle.std.specs.List.{list_any}
@@ -19,14 +20,14 @@ module _ (db : List Statement) (b : BlockLists) (blocks : IsBlocks db b) (k : �
   pub active_local_is : (j : ℕ) → list_any is_disjoint_statement (statement_at db j) ≡ true
       → is_active_local b j k ≡ is_member (active_of is_disjoint_statement db k) j
   active_local_is j t =
-      by (cases_lt j k) ∙ sym (active_member is_disjoint_statement db disjoint_local k j)
+      by_order (cases_lt j k) ∙ sym (active_member is_disjoint_statement db disjoint_local k j)
     where
-      by : (j < k) ⊎ (k ≤ j)
+      by_order : (j < k) ⊎ (k ≤ j)
           → is_active_local b j k
-          ≡ (nat_lt j k
-          && (list_any is_disjoint_statement (statement_at db j) && is_block_open db j k))
-      by (inl l) = ap (λ c. nat_lt j k && c) (sym (ap₂ (λ p q. p && q) t (blocks.ended j k l h)))
-      by (inr g) =
+          ≡ (nat_lt j k && (list_any is_disjoint_statement (statement_at db j) && is_block_open db j k))
+      by_order (inl l) = ap (λ c. nat_lt j k && c)
+          (sym (ap₂ (λ p q. p && q) t (blocks.ended j k l h)))
+      by_order (inr g) =
           ap (λ c. c && nat_le k (end_of b j)) (le-ltb j k g)
           ∙ sym (ap (λ c. c
           && (list_any is_disjoint_statement (statement_at db j) && is_block_open db j k))
@@ -50,11 +51,11 @@ module _ (db : List Statement) (b : BlockLists) (blocks : IsBlocks db b) (k : �
         → is_active_local b j k ≡ false)
         → r ≡ are_together_at db k x y
     together_is r x y found none =
-        same_tests r (are_together_at db k x y) forth (λ e. back r refl e)
+        same_tests r (are_together_at db k x y) left_to_right (λ e. right_to_left r refl e)
       where
-        forth : r ≡ true → are_together_at db k x y ≡ true
-        forth e =
-            let w = found e in
+        left_to_right : r ≡ true → are_together_at db k x y ≡ true
+        left_to_right r_true =
+            let w = found r_true in
             let j = w.0 in
             let ex = sym (are x j) ∙ w.1 in
             let ey = sym (are y j) ∙ w.2 in
@@ -69,12 +70,12 @@ module _ (db : List Statement) (b : BlockLists) (blocks : IsBlocks db b) (k : �
             (and_parts (list_any is_disjoint_statement (statement_at db j))
             (is_member (formula_at db j) y) ey).1)
 
-        back : (c : Bool) → r ≡ c → are_together_at db k x y ≡ true → r ≡ true
-        back true e t = e
-        back false e t =
+        right_to_left : (c : Bool) → r ≡ c → are_together_at db k x y ≡ true → r ≡ true
+        right_to_left true r_true x_and_y_together = r_true
+        right_to_left false r_false x_and_y_together =
             let w =
             any_witness (λ j. is_member (formula_at db j) x && is_member (formula_at db j) y)
-            (active_of is_disjoint_statement db k) t in
+            (active_of is_disjoint_statement db k) x_and_y_together in
             let j = w.0 in
             let d = kind_of_active j w.1 in
             let ex =
@@ -83,4 +84,4 @@ module _ (db : List Statement) (b : BlockLists) (blocks : IsBlocks db b) (k : �
             let ey =
             are y j ∙ ap₂ (λ p q. p && q) d
             (and_parts (is_member (formula_at db j) x) (is_member (formula_at db j) y) w.2).1 in
-            absurd (true≢false (sym (active_local_is j d ∙ w.1) ∙ none e j ex ey))
+            absurd (true≢false (sym (active_local_is j d ∙ w.1) ∙ none r_false j ex ey))

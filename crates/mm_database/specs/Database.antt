@@ -9,14 +9,14 @@ use Rattle.mm_spec.specs.Scope.{statement_at}
 use Rattle.mm_spec.specs.Frame.{symbol_names, formula_at}
 use Rattle.mm_spec.specs.Lexed.{lexed_of}
 use Rattle.mm_spec.specs.Output.{IsRead, theorems, columns, label_at}
-use Rattle.mm_database.specs.Beside.{IsBeside}
+use Rattle.mm_database.specs.FrameTables.{AreFrameTables}
 use Rattle.mm_database.specs.Labels.{AreLabels}
 use Rattle.mm_database.specs.Names.{find, names_of}
-use Rattle.mm_database.specs.Kept.{AreKept}
+use Rattle.mm_database.specs.RetainedWords.{AreRetained}
 use Rattle.mm_database.specs.declared.reading.Reading.{Reading}
-use Rattle.mm_database.specs.declared.found.Found.{Found}
-use Rattle.mm_database.specs.declared.listed.Listed.{Listed}
-pub use Rattle.mm_database.specs.Kept.{last_place}
+use Rattle.mm_database.specs.declared.tables.StatementTables.{StatementTables}
+use Rattle.mm_database.specs.declared.statement_lists.StatementLists.{StatementLists}
+pub use Rattle.mm_database.specs.RetainedWords.{last_place}
 pub use Rattle.mm_outline.specs.Parts.{is_labelled_kind}
 pub use Rattle.mm_database.specs.Kinds.{kind_of}
 
@@ -50,23 +50,24 @@ spaced_labels db = map (λ k. 32 ∷ label_at db k) (theorems db)
 
 module _ {A : Type 0} where
   -- the lists are those of the statements, as these count
-  pub record IsListed (db : List Statement) (l : Listed A) : Type 0 where
+  pub record AreStatementLists (db : List Statement) (l : StatementLists A) : Type 0 where
     pub kinds_are : l.kinds.items ≡ map kind_of db
     pub theorems_are : l.theorems.items ≡ theorems db
     pub axioms_are : l.axioms.items ≡ columns db None
-    pub spaced_are : l.spaced ≡ spaced_labels db
+    pub spaced_labels_are : l.spaced_labels ≡ spaced_labels db
 
   abbrev pub contents_of : Bool → Reading A → Contents
   contents_of with_open r =
       contents r.statements.text r.statements.list with_open r.fault
 
-  -- the statements are the reading of the text, and all that is kept is theirs
-  pub record IsDatabase (with_open : Bool) (r : Reading A) (f : Found A) : Type 0 where
+  -- the statements are the reading of the text, and all tables are theirs
+  pub record IsDatabase (with_open : Bool) (r : Reading A) (tables : StatementTables A)
+      : Type 0 where
     pub few : length r.statements.list < 2 ^ 31
     pub read : IsRead (length r.statements.text) (lexed_of r.statements.text)
         r.statements.list r.fault
     pub labels : AreLabels r.statements.list (find r.names.labels)
     pub names_are : names_of r.names.symbols ≡ symbol_names r.statements.list
-    pub beside_is : IsBeside r.statements.list r.statements.blocks f.beside
-    pub listed_is : IsListed (counted with_open r.statements.list) f.listed
-    pub kept_are : AreKept r.statements.text r.statements.list f.kept
+    pub frame_tables_are : AreFrameTables r.statements.list r.statements.blocks tables.frame_tables
+    pub lists_are : AreStatementLists (counted with_open r.statements.list) tables.statement_lists
+    pub retained_are : AreRetained r.statements.text r.statements.list tables.retained_words

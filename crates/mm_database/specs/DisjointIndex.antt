@@ -56,5 +56,5 @@ pub record IsOrdered (b : BlockLists) (index : PairLists) : Type 0 where
 -- each symbol with each `$d` that has it
 pub record IsDisjointIndex (db : List Statement) (b : BlockLists) (index : PairLists) : Type 0
   where
-    pub are : (x j : ℕ) → has_pair index.pairs x j ≡ has_symbol db x j
+    pub members_are : (x j : ℕ) → has_pair index.pairs x j ≡ has_symbol db x j
     pub ordered : IsOrdered b index

@@ -36,13 +36,13 @@ module _ {A : Type 0} where
   abbrev pub mandatory_in : Frame A → Mandatory
   mandatory_in f = mandatory f.hyps.items (map (λ p. pair p.0 p.1) f.pairs.items)
 
-  -- the frame of each statement by its place, none if the place is past the end of the frames
+  -- the frame of each statement by its index, none if the index is past the end of the frames
   abbrev pub frames_at : List (Frame A) → List ℕ → List (Option Mandatory)
-  frames_at frames places = map (λ p. option_map mandatory_in (slice_get frames p)) places
+  frames_at frames indices = map (λ p. option_map mandatory_in (slice_get frames p)) indices
 
--- each place is that of one of the frames, or `never`, which is past their end
-pub record AreFramePlaces (count : ℕ) (places : List ℕ) : Type 0 where
-  pub no_more : count ≤ length places
+-- each index is that of one of the frames, or `never`, which is past their end
+pub record AreFrameIndices (count : ℕ) (indices : List ℕ) : Type 0 where
+  pub no_more : count ≤ length indices
   pub few : count ≤ never
-  pub each : (i : ℕ) → i < length places
-      → (slice_index places i < count) ⊎ (slice_index places i ≡ never)
+  pub each : (i : ℕ) → i < length indices
+      → (slice_index indices i < count) ⊎ (slice_index indices i ≡ never)

@@ -8,9 +8,9 @@ pub mod Starts
 pub mod Together
 pub mod DisjointIndex
 pub mod Frames
-pub mod Beside
+pub mod FrameTables
 pub mod Numbered
-pub mod Parsed
+pub mod ParsedStatements
 pub mod Kinds
-pub mod Kept
+pub mod RetainedWords
 pub mod Database

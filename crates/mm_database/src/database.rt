@@ -23,10 +23,10 @@ ghost use Rattle.mm_database.specs.Database.{IsDatabase};
 ghost use Rattle.mm_database.specs.Kinds.{is_axiom_kind, is_theorem_kind};
 
 use crate::disjoint_index::are_together;
-use crate::found::Found;
 use crate::frames::Frame;
 use crate::near::are_together_near;
 use crate::reading::Reading;
+use crate::tables::StatementTables;
 use mm_outline::parts::Kind;
 use mm_outline::symbol::Sym;
 use mm_spec::{Fault, Word};
@@ -37,8 +37,8 @@ use std::marker::Model;
 /// 0 in file order.
 pub struct Database<'a, A: Allocator> {
     with_open: bool,
-    read: Reading<'a, A>,
-    found: Found<A>,
+    reading: Reading<'a, A>,
+    tables: StatementTables<A>,
 }
 
 /// Lets all fields go in one call, so that a proof has one step for it at each exit.
@@ -46,8 +46,8 @@ impl<'a, A: Allocator> Drop for Database<'a, A> {
     fn drop(self) {
         let Self {
             with_open: _,
-            read: _,
-            found: _,
+            reading: _,
+            tables: _,
         } = self;
     }
 }
@@ -57,22 +57,26 @@ impl<'a, A: Allocator> Model for Database<'a, A> {
 
     ghost Value = { Contents };
 
-    ghost view = { λ d. contents_of d.with_open d.read };
+    ghost view = { λ d. contents_of d.with_open d.reading };
 
-    ghost invariant = { λ d. IsDatabase d.with_open d.read d.found };
+    ghost invariant = { λ d. IsDatabase d.with_open d.reading d.tables };
 }
 
 impl<'a, A: Allocator> Database<'a, A> {
-    /// Returns the database of what was read of a text and of what was found out of that. If
-    /// `with_open` is set, open theorems count as axioms.
-    pub fn new(with_open: bool, read: Reading<'a, A>, found: Found<A>) -> Database<'a, A>
-        requires { IsDatabase with_open read found }
-        ensures { result ≡ contents_of with_open read.entry }
+    /// Returns the database of what was read of a text, with its tables. If `with_open` is set,
+    /// open theorems count as axioms.
+    pub fn new(
+        with_open: bool,
+        reading: Reading<'a, A>,
+        tables: StatementTables<A>,
+    ) -> Database<'a, A>
+        requires { IsDatabase with_open reading tables }
+        ensures { result ≡ contents_of with_open reading.entry }
     {
         Database {
             with_open,
-            read,
-            found,
+            reading,
+            tables,
         }
     }
 
@@ -80,7 +84,7 @@ impl<'a, A: Allocator> Database<'a, A> {
     pub fn text(&self) -> &'a [u8]
         ensures { result.now ≡ self.now.text }
     {
-        self.read.statements.text()
+        self.reading.statements.text()
     }
 
     /// Returns the fault after the statements: the first fault of words, shape, symbols, labels or
@@ -88,7 +92,7 @@ impl<'a, A: Allocator> Database<'a, A> {
     pub fn fault(&self) -> Option<Fault>
         ensures { result ≡ self.now.fault }
     {
-        self.read.fault
+        self.reading.fault
     }
 
     /// Returns the number of statements, at most that of the text's bytes.
@@ -101,7 +105,7 @@ impl<'a, A: Allocator> Database<'a, A> {
         ensures counted { self.now.statements ≡ counted self.now.with_open self.now.read }
         ensures complete { AreComplete self.now.statements }
     {
-        self.read.statements.len()
+        self.reading.statements.len()
     }
 
     /// Returns which of the nine shapes a statement has. An open theorem has the kind of an axiom,
@@ -110,7 +114,7 @@ impl<'a, A: Allocator> Database<'a, A> {
         requires { statement < length self.now.statements }
         ensures { option_map kind_of (slice_get self.now.statements statement) ≡ Some result }
     {
-        self.found.listed.kinds[statement as usize]
+        self.tables.statement_lists.kinds[statement as usize]
     }
 
     /// Whether there is such a statement and it is an open theorem that counts as an axiom.
@@ -122,8 +126,8 @@ impl<'a, A: Allocator> Database<'a, A> {
         if statement >= self.len() {
             return false;
         }
-        let is = self.read.statements.kind(statement);
-        counts_otherwise(is, self.kind(statement))
+        let kind_as_read = self.reading.statements.kind(statement);
+        is_theorem_counted_as_axiom(kind_as_read, self.kind(statement))
     }
 
     /// Returns the place of a statement's last token, a byte offset from 0.
@@ -131,8 +135,8 @@ impl<'a, A: Allocator> Database<'a, A> {
         requires { statement < length self.now.statements }
         ensures { option_map last_place (slice_get self.now.statements statement) ≡ Some result }
     {
-        let kept = self.found.kept.get(statement as usize);
-        kept[kept.len() - 1].start
+        let words = self.tables.retained_words.get(statement as usize);
+        words[words.len() - 1].start
     }
 
     /// Returns the label of a statement, or `None` if it has none.
@@ -142,8 +146,8 @@ impl<'a, A: Allocator> Database<'a, A> {
             ≡ option_map (λ t. t.word)
             (option_and_then label_of (slice_get self.now.statements statement)) }
     {
-        if self.read.statements.kind(statement).has_label() {
-            let word = self.found.kept.get(statement as usize)[0];
+        if self.reading.statements.kind(statement).has_label() {
+            let word = self.tables.retained_words.get(statement as usize)[0];
             Some(word.bytes(self.text()))
         } else {
             None
@@ -164,7 +168,7 @@ impl<'a, A: Allocator> Database<'a, A> {
             ((j : ℕ)
             → list_any (is_labelled label.now) (statement_at self.now.statements j) ≡ false) }
     {
-        self.read.names.labelled(label)
+        self.reading.names.labelled(label)
     }
 
     /// Returns the symbols of a statement, the typecode first if it has one. A `${` or `$}` has no
@@ -175,7 +179,7 @@ impl<'a, A: Allocator> Database<'a, A> {
         ensures known { All (λ s. s < length (symbol_names self.now.statements)) result.now }
         ensures few { length result.now < 2 ^ 32 }
     {
-        self.read.statements.formula(statement)
+        self.reading.statements.formula(statement)
     }
 
     /// Returns the typecode of a `$f`, `$e`, `$a` or `$p`, and `None` for other statements.
@@ -195,7 +199,7 @@ impl<'a, A: Allocator> Database<'a, A> {
     pub fn symbol_count(&self) -> u32
         ensures count { result ≡ length (symbol_names self.now.statements) }
     {
-        self.read.statements.symbol_count()
+        self.reading.statements.symbol_count()
     }
 
     /// Returns the name of a symbol.
@@ -203,7 +207,7 @@ impl<'a, A: Allocator> Database<'a, A> {
         requires { symbol < length (symbol_names self.now.statements) }
         ensures { slice_get (symbol_names self.now.statements) symbol ≡ Some result.now }
     {
-        self.read.names.name(symbol.number() as usize)
+        self.reading.names.name(symbol.number() as usize)
     }
 
     /// Whether a symbol is a variable.
@@ -211,7 +215,7 @@ impl<'a, A: Allocator> Database<'a, A> {
         requires { symbol < length (symbol_names self.now.statements) }
         ensures { result ≡ is_variable_number self.now.statements symbol }
     {
-        self.read.statements.is_variable(symbol)
+        self.reading.statements.is_variable(symbol)
     }
 
     /// Whether a statement is active at the statement `at`, or at the end, which is `len()`. A `${`
@@ -221,7 +225,7 @@ impl<'a, A: Allocator> Database<'a, A> {
         requires at { at ≤ length self.now.statements }
         ensures { result ≡ is_active self.now.statements statement at }
     {
-        self.read.statements.is_active(statement, at)
+        self.reading.statements.is_active(statement, at)
     }
 
     /// Returns the frame of an assertion.
@@ -233,7 +237,7 @@ impl<'a, A: Allocator> Database<'a, A> {
             ≡ mandatory_pairs self.now.statements assertion }
         ensures few { length self.now.statements < 2 ^ 31 }
     {
-        self.found.beside.frames.of(assertion)
+        self.tables.frame_tables.frames.of(assertion)
     }
 
     /// Whether a `$d` that is active at the statement, or at the end, has both variables. Always
@@ -245,8 +249,8 @@ impl<'a, A: Allocator> Database<'a, A> {
         x.number() != y.number()
             && (are_together_near(self, statement, x, y)
                 || are_together(
-                    self.read.statements.blocks(),
-                    &self.found.beside.disjoint_index,
+                    self.reading.statements.blocks(),
+                    &self.tables.frame_tables.disjoint_index,
                     x,
                     y,
                     statement,
@@ -263,8 +267,8 @@ impl<'a, A: Allocator> Database<'a, A> {
     {
         match self.kind(statement) {
             Kind::Theorem => {
-                let kept = self.found.kept.get(statement as usize);
-                &kept[1..kept.len() - 1]
+                let words = self.tables.retained_words.get(statement as usize);
+                &words[1..words.len() - 1]
             }
             _ => &[],
         }
@@ -277,7 +281,7 @@ impl<'a, A: Allocator> Database<'a, A> {
         ensures few { length self.now.statements < 2 ^ 31 }
         ensures complete { AreComplete self.now.statements }
     {
-        self.found.listed.theorems.as_slice()
+        self.tables.statement_lists.theorems.as_slice()
     }
 
     /// Returns the axioms, in file order: the `$a` statements, and open theorems if these count as
@@ -286,7 +290,7 @@ impl<'a, A: Allocator> Database<'a, A> {
         ensures axioms { result.now ≡ columns self.now.statements None }
         ensures few { length self.now.statements < 2 ^ 31 }
     {
-        self.found.listed.axioms.as_slice()
+        self.tables.statement_lists.axioms.as_slice()
     }
 
     /// Returns the labels of the theorems with indices in `theorems` from `from` up to `to`, each
@@ -298,16 +302,20 @@ impl<'a, A: Allocator> Database<'a, A> {
             ≡ flat_map (λ k. 32 ∷ label_at self.now.statements k)
             (slice_range (theorems self.now.statements) from to) }
     {
-        self.found.listed.spaced.between(from as usize, to as usize)
+        self.tables
+            .statement_lists
+            .spaced_labels
+            .between(from as usize, to as usize)
     }
 }
 
-/// Whether a statement is a theorem and counts as an axiom, by what it is and what it counts as.
-fn counts_otherwise(is: Kind, counts_as: Kind) -> bool
-    ensures { result ≡ (is_theorem_kind is && is_axiom_kind counts_as) }
+/// Whether a statement is a theorem that counts as an axiom, by the kind that it was read as and
+/// the kind that it counts as.
+fn is_theorem_counted_as_axiom(kind_as_read: Kind, counted_kind: Kind) -> bool
+    ensures { result ≡ (is_theorem_kind kind_as_read && is_axiom_kind counted_kind) }
 {
-    match is {
-        Kind::Theorem => match counts_as {
+    match kind_as_read {
+        Kind::Theorem => match counted_kind {
             Kind::Axiom => true,
             _ => false,
         },

@@ -96,34 +96,35 @@ fn count_before(pairs: &[(u32, u32)], starts: &[usize], symbol: u32, at: u32) ->
     from + earlier
 }
 
-/// Whether the last of the first `left` pairs, if there is one, has the symbol.
-fn ends_with(pairs: &[(u32, u32)], left: usize, symbol: u32) -> bool
-    requires { left ≤ length pairs.now }
-    ensures some { result ≡ true → (0 < left) × ((get_or pairs.now (left - 1) (0, 0)).0 ≡ symbol) }
-    ensures none { result ≡ false → 0 < left → (get_or pairs.now (left - 1) (0, 0)).0 ≢ symbol }
+/// Whether the last of the first `end` pairs, if there is one, has the symbol.
+fn ends_with(pairs: &[(u32, u32)], end: usize, symbol: u32) -> bool
+    requires { end ≤ length pairs.now }
+    ensures some { result ≡ true → (0 < end) × ((get_or pairs.now (end - 1) (0, 0)).0 ≡ symbol) }
+    ensures none { result ≡ false → 0 < end → (get_or pairs.now (end - 1) (0, 0)).0 ≢ symbol }
 {
-    left > 0 && pairs[left - 1].0 == symbol
+    end > 0 && pairs[end - 1].0 == symbol
 }
 
-/// Returns how many of the first `left` pairs remain after the last of them is skipped. If its
-/// block is closed at `at`, the pairs that it covers are skipped with it.
-fn back<A: Allocator>(
+/// Returns how many of the first `end` pairs are still to be looked at once the last of them has
+/// been. If the block of its `$d` is closed at `at`, those of the pairs that it covers are closed
+/// too, and are skipped with it.
+fn skip_last<A: Allocator>(
     blocks: &Blocks<A>,
     disjoint_index: &DisjointIndex<A>,
-    left: usize,
+    end: usize,
     at: u32,
 ) -> usize
-    requires some { 0 < left }
-    requires within { left ≤ length disjoint_index.now.pairs }
+    requires some { 0 < end }
+    requires within { end ≤ length disjoint_index.now.pairs }
     requires ordered { IsOrdered blocks.now disjoint_index.now }
-    ensures less { result < left }
-    ensures passed { (p : ℕ) → result ≤ p → p + 1 < left
+    ensures less { result < end }
+    ensures passed { (p : ℕ) → result ≤ p → p + 1 < end
         → nat_le at (end_of blocks.now (get_or disjoint_index.now.pairs p (0, 0)).1) ≡ false }
 {
-    if blocks.is_open_at(disjoint_index.pairs[left - 1].1, at) {
-        left - 1
+    if blocks.is_open_at(disjoint_index.pairs[end - 1].1, at) {
+        end - 1
     } else {
-        disjoint_index.skips[left - 1]
+        disjoint_index.skips[end - 1]
     }
 }
 
@@ -145,13 +146,13 @@ pub fn add_active<A: Allocator>(
 {
     let pairs = disjoint_index.pairs.as_slice();
     let starts = disjoint_index.starts.as_slice();
-    let mut left = count_before(pairs, starts, symbol.number(), at);
-    while ends_with(pairs, left, symbol.number()) {
-        let statement = pairs[left - 1].1;
+    let mut end = count_before(pairs, starts, symbol.number(), at);
+    while ends_with(pairs, end, symbol.number()) {
+        let statement = pairs[end - 1].1;
         if blocks.is_open_at(statement, at) {
             into.push((statement, symbol.number()))?;
         }
-        left = back(blocks, disjoint_index, left, at);
+        end = skip_last(blocks, disjoint_index, end, at);
     }
     Ok(())
 }
@@ -175,18 +176,18 @@ pub(crate) fn are_together<A: Allocator>(
 {
     let pairs = disjoint_index.pairs.as_slice();
     let starts = disjoint_index.starts.as_slice();
-    let mut left = count_before(pairs, starts, x.number(), at);
-    let mut right = count_before(pairs, starts, y.number(), at);
-    while ends_with(pairs, left, x.number()) && ends_with(pairs, right, y.number()) {
-        let one = pairs[left - 1].1;
-        let other = pairs[right - 1].1;
-        if one == other && blocks.is_open_at(one, at) {
+    let mut x_end = count_before(pairs, starts, x.number(), at);
+    let mut y_end = count_before(pairs, starts, y.number(), at);
+    while ends_with(pairs, x_end, x.number()) && ends_with(pairs, y_end, y.number()) {
+        let x_statement = pairs[x_end - 1].1;
+        let y_statement = pairs[y_end - 1].1;
+        if x_statement == y_statement && blocks.is_open_at(x_statement, at) {
             return true;
         }
-        if one < other {
-            right = back(blocks, disjoint_index, right, at);
+        if x_statement < y_statement {
+            y_end = skip_last(blocks, disjoint_index, y_end, at);
         } else {
-            left = back(blocks, disjoint_index, left, at);
+            x_end = skip_last(blocks, disjoint_index, x_end, at);
         }
     }
     false

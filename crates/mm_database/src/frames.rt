@@ -5,6 +5,7 @@ ghost use Rattle.std.specs.Prelude.{get_or, length};
 ghost use Rattle.mm_database.specs.Frames.{mandatory_in};
 
 use crate::disjoint_index::DisjointIndex;
+use crate::room::with_room;
 use mm_outline::blocks::NEVER;
 use mm_outline::symbol::Sym;
 use std::alloc::{AllocError, Allocator};
@@ -24,26 +25,29 @@ pub struct Frame<A: Allocator> {
 pub struct Frames<A: Allocator> {
     /// The frames, in file order.
     list: Vec<Frame<A>, A>,
-    /// For each statement the place of its frame in the list, or `NEVER` if it is no assertion.
-    places: Vec<u32, A>,
+    /// For each statement the index of its frame in the list, or `NEVER` if it is no assertion.
+    indices: Vec<u32, A>,
 }
 
 /// Lets all fields go in one call, so that a proof has one step for it at each exit.
 impl<A: Allocator> Drop for Frames<A> {
     fn drop(self) {
-        let Self { list: _, places: _ } = self;
+        let Self {
+            list: _,
+            indices: _,
+        } = self;
     }
 }
 
 impl<A: Allocator> Model for Frames<A> {
     ghost use Rattle.std.specs.Prelude.{List, Option, length};
-    ghost use Rattle.mm_database.specs.Frames.{Mandatory, frames_at, AreFramePlaces};
+    ghost use Rattle.mm_database.specs.Frames.{Mandatory, frames_at, AreFrameIndices};
 
     ghost Value = { List (Option Mandatory) };
 
-    ghost view = { λ f. frames_at f.list.items f.places.items };
+    ghost view = { λ f. frames_at f.list.items f.indices.items };
 
-    ghost invariant = { λ f. AreFramePlaces (length f.list.items) f.places.items };
+    ghost invariant = { λ f. AreFrameIndices (length f.list.items) f.indices.items };
 }
 
 impl<A: Allocator + Copy> Frames<A> {
@@ -52,13 +56,10 @@ impl<A: Allocator + Copy> Frames<A> {
     pub fn none(alloc: A, statements: usize) -> Frames<A>
         ensures { result ≡ [] }
     {
-        let mut frames = Frames {
-            list: Vec::new(alloc),
-            places: Vec::new(alloc),
-        };
-        let _ = frames.list.reserve(statements);
-        let _ = frames.places.reserve(statements);
-        frames
+        Frames {
+            list: with_room(alloc, statements),
+            indices: with_room(alloc, statements),
+        }
     }
 }
 
@@ -68,10 +69,10 @@ impl<A: Allocator> Frames<A> {
         requires { length self.old < 2 ^ 31 }
         ensures { OnOk result (self.new ≡ self.old ++ Some (mandatory_in frame) ∷ []) }
     {
-        let place = self.list.len() as u32;
-        self.places.push(place)?;
+        let index = self.list.len() as u32;
+        self.indices.push(index)?;
         if self.list.push(frame).is_err() {
-            self.places.pop();
+            self.indices.pop();
             return Err(AllocError);
         }
         Ok(())
@@ -81,7 +82,7 @@ impl<A: Allocator> Frames<A> {
     pub fn add_none(&mut self) -> Result<(), AllocError>
         ensures { OnOk result (self.new ≡ self.old ++ None ∷ []) }
     {
-        self.places.push(NEVER)?;
+        self.indices.push(NEVER)?;
         Ok(())
     }
 
@@ -91,14 +92,14 @@ impl<A: Allocator> Frames<A> {
         requires { IsSome (get_or self.now assertion None) }
         ensures { get_or self.now assertion None ≡ Some (mandatory_in result.now) }
     {
-        let place = self.places[assertion as usize];
-        &self.list[place as usize]
+        let index = self.indices[assertion as usize];
+        &self.list[index as usize]
     }
 }
 
 /// What is kept beside the statements: the `$d` by their variables, and the frames.
 #[derive(Drop)]
-pub struct Beside<A: Allocator> {
+pub struct FrameTables<A: Allocator> {
     pub disjoint_index: DisjointIndex<A>,
     pub frames: Frames<A>,
 }

@@ -6,14 +6,15 @@
 
 pub mod database;
 pub mod disjoint_index;
-pub mod found;
 pub mod frames;
-pub mod listed;
 pub mod name;
 pub mod names;
 mod near;
 pub mod reading;
+pub mod room;
+pub mod statement_lists;
 pub mod statements;
+pub mod tables;
 
 pub use database::Database;
 pub use frames::Frame;

@@ -14,39 +14,42 @@ use std::alloc::{AllocError, Allocator};
 use std::hash::{BuildHasherDefault, FoldHasher};
 use std::marker::Model;
 
-/// What is known of a symbol: a constant, or a variable with its last declaration, its last `$f`
-/// and the typecode of this `$f`.
+/// What is known of a symbol. Of a constant only the first field means anything.
 #[derive(Clone, Copy, Drop)]
 pub struct Symbol<'a> {
     pub is_variable: bool,
+    /// The statement that declared the variable last.
     pub declared: u32,
+    /// The last `$f` of the variable.
     pub typed: u32,
+    /// The typecode of that `$f`.
     pub typecode: &'a [u8],
 }
 
-pub type Map<'a, V, A> = IndexMap<Name<'a>, V, BuildHasherDefault<FoldHasher>, A>;
+/// A hash map whose keys are names, in the order in which these were added.
+pub type NameMap<'a, V, A> = IndexMap<Name<'a>, V, BuildHasherDefault<FoldHasher>, A>;
 
-/// The number of guesses.
-const GUESSES: usize = 2048;
+/// The number of guesses for symbols.
+const SYMBOL_GUESSES: usize = 2048;
 
-/// Stands for a guess that hasn't been made.
-const NO_GUESS: usize = 18_446_744_073_709_551_615;
+/// Stands for a guess for a symbol that hasn't been made: no index is as large as this.
+const NO_SYMBOL_GUESS: usize = 18_446_744_073_709_551_615;
 
 /// The number of guesses for labels at first. Each takes 4 bytes, so that those of most databases
 /// fit into a processor's own cache. There are twice as many once there are half as many labels.
 const LABEL_GUESSES: usize = 65_536;
 
-/// Stands for a guess for a label that hasn't been made.
+/// Stands for a guess for a label that hasn't been made: no label gets this index.
 const NO_LABEL_GUESS: u32 = 4_294_967_295;
 
 /// The symbols and the labels.
 pub struct NameTable<'a, A: Allocator> {
-    symbols: Map<'a, Symbol<'a>, A>,
-    labels: Map<'a, u32, A>,
+    symbols: NameMap<'a, Symbol<'a>, A>,
+    labels: NameMap<'a, u32, A>,
     /// The numbers of symbols, by the first byte, the last byte and the length of their names. A
     /// guess is verified before use, so the usual symbol is found by comparing it with one name.
-    guesses: Vec<usize, A>,
-    /// The places of labels in `labels`, by the first four bytes, the last four bytes and the
+    symbol_guesses: Vec<usize, A>,
+    /// The indices of labels in `labels`, by the first four bytes, the last four bytes and the
     /// length of their names. A guess is verified before use, so most labels of a proof are found
     /// without a hash.
     label_guesses: Vec<u32, A>,
@@ -63,7 +66,7 @@ impl<'a, A: Allocator> Drop for NameTable<'a, A> {
         let Self {
             symbols: _,
             labels: _,
-            guesses: _,
+            symbol_guesses: _,
             label_guesses: _,
             longest_symbol: _,
             longest_label: _,
@@ -82,20 +85,21 @@ impl<'a, A: Allocator> Model for NameTable<'a, A> {
         t.longest_symbol t.longest_label };
 }
 
-/// Returns the index of the guess for a word.
-fn guess_of(word: &[u8]) -> usize {
+/// Returns the index of the guess for a symbol. The factors only spread usual symbols, most of
+/// which have one or two bytes, over the guesses.
+fn symbol_guess_index(word: &[u8]) -> usize {
     match (word.first(), word.last()) {
         (Some(first), Some(last)) => {
-            (37 * *first as usize + 5 * *last as usize + 64 * (word.len() % 32)) % GUESSES
+            (37 * *first as usize + 5 * *last as usize + 64 * (word.len() % 32)) % SYMBOL_GUESSES
         }
         _ => 0,
     }
 }
 
-/// Sets the guess for words such as `word` to `number`, unless a guess for them has been made.
-fn note_guess<A: Allocator>(guesses: &mut Vec<usize, A>, word: &[u8], number: usize) {
-    if let Some(guess) = guesses.get_mut(guess_of(word)) {
-        if *guess == NO_GUESS {
+/// Sets the guess for symbols such as `word` to `number`, unless a guess for them has been made.
+fn set_symbol_guess<A: Allocator>(guesses: &mut Vec<usize, A>, word: &[u8], number: usize) {
+    if let Some(guess) = guesses.get_mut(symbol_guess_index(word)) {
+        if *guess == NO_SYMBOL_GUESS {
             *guess = number;
         }
     }
@@ -116,71 +120,74 @@ fn ends_of(word: &[u8]) -> (u32, u32) {
 
 /// Returns the index of the guess for a label among so many: by the upper bits of a sum of
 /// products, since a product's upper bits depend on more bits of its factors than its lower bits
-/// do.
+/// do. The factors are odd numbers whose bits look random, as hash functions have them (xxHash and
+/// MurmurHash3).
 #[inline(always)]
-fn label_guess_of(word: &[u8], guesses: usize) -> usize {
+fn label_guess_index(word: &[u8], guesses: usize) -> usize {
     let (first, last) = ends_of(word);
     let len = (word.len() % 0x1_0000_0000) as u32;
-    let mixed = first
+    let sum = first
         .wrapping_mul(0x9E37_79B1)
         .wrapping_add(last.wrapping_mul(0x85EB_CA6B))
         .wrapping_add(len.wrapping_mul(0x27D4_EB2F));
-    (mixed as usize).wrapping_mul(guesses) >> 32
+    (sum as usize).wrapping_mul(guesses) >> 32
 }
 
-/// Sets the guess for labels such as `word` to `place`, unless a guess for them has been made or
-/// the place is too large for a guess.
-fn note_label_guess<A: Allocator>(guesses: &mut Vec<u32, A>, word: &[u8], place: usize) {
-    if let Ok(place) = u32::try_from(place) {
-        let index = label_guess_of(word, guesses.len());
-        if let Some(guess) = guesses.get_mut(index) {
+/// Sets the guess for labels such as `word` to `label_index`, unless a guess for them has been made
+/// or the index is too large for a guess.
+fn set_label_guess<A: Allocator>(guesses: &mut Vec<u32, A>, word: &[u8], label_index: usize) {
+    if let Ok(label_index) = u32::try_from(label_index) {
+        let guess_index = label_guess_index(word, guesses.len());
+        if let Some(guess) = guesses.get_mut(guess_index) {
             if *guess == NO_LABEL_GUESS {
-                *guess = place;
+                *guess = label_index;
             }
         }
     }
 }
 
-/// Makes twice as many guesses for the labels, each of which is noted anew.
+/// Makes twice as many guesses for the labels, and sets each of them anew.
 fn double_label_guesses<'a, A: Allocator + Copy>(
-    labels: &Map<'a, u32, A>,
+    labels: &NameMap<'a, u32, A>,
     guesses: &mut Vec<u32, A>,
 ) -> Result<(), AllocError> {
     guesses.resize(guesses.len().saturating_mul(2), NO_LABEL_GUESS)?;
     guesses.fill(NO_LABEL_GUESS);
-    for place in 0..labels.len() {
-        if let Some((label, _)) = labels.get_index(place) {
-            note_label_guess(guesses, label.bytes, place);
+    for label_index in 0..labels.len() {
+        if let Some((label, _)) = labels.get_index(label_index) {
+            set_label_guess(guesses, label.bytes, label_index);
         }
     }
     Ok(())
 }
 
-/// Sets the guess for a label that was added at `place`, and makes more guesses where there are few
-/// for so many labels.
-fn note_label<'a, A: Allocator + Copy>(
-    labels: &Map<'a, u32, A>,
+/// Sets the guess for a label that was added at `label_index`, and makes more guesses where there
+/// are few for so many labels. Without memory for more guesses, labels are found by their hashes.
+fn add_label_guess<'a, A: Allocator + Copy>(
+    labels: &NameMap<'a, u32, A>,
     guesses: &mut Vec<u32, A>,
     word: &[u8],
-    place: usize,
-) -> Result<(), AllocError> {
-    note_label_guess(guesses, word, place);
-    if place < guesses.len() / 2 {
-        return Ok(());
+    label_index: usize,
+) {
+    set_label_guess(guesses, word, label_index);
+    if label_index >= guesses.len() / 2 {
+        match double_label_guesses(labels, guesses) {
+            Ok(()) => {}
+            Err(_) => {}
+        }
     }
-    double_label_guesses(labels, guesses)
 }
 
 /// Returns a table without symbols and labels.
 pub fn no_names<'a, A: Allocator + Copy>(alloc: A) -> Result<NameTable<'a, A>, AllocError>
     ensures { IfOk result (λ t. t ≡ known_names [] []) }
 {
-    let guesses = vec![in alloc; NO_GUESS; GUESSES]?;
+    let symbol_guesses = vec![in alloc; NO_SYMBOL_GUESS; SYMBOL_GUESSES]?;
     let label_guesses = vec![in alloc; NO_LABEL_GUESS; LABEL_GUESSES]?;
     Ok(NameTable {
         symbols: IndexMap::new(alloc),
         labels: IndexMap::new(alloc),
-        guesses,
+        symbol_guesses,
         label_guesses,
         longest_symbol: 0,
         longest_label: 0,
@@ -216,7 +223,7 @@ impl<'a, A: Allocator> NameTable<'a, A> {
     fn guessed_label(&self, word: &[u8]) -> Option<u32>
         ensures { IfSome result (λ s. Some s ≡ find self.now.labels word.now) }
     {
-        let index = label_guess_of(word, self.label_guesses.len());
+        let index = label_guess_index(word, self.label_guesses.len());
         let guess = *self.label_guesses.get(index)?;
         let (label, statement) = self.labels.get_index(guess as usize)?;
         if label.bytes == word {
@@ -239,11 +246,11 @@ impl<'a, A: Allocator> NameTable<'a, A> {
 impl<'a, A: Allocator + Copy> NameTable<'a, A> {
     /// Returns the number of the guessed symbol and the symbol, if the guess is right.
     #[inline(always)]
-    fn guessed(&self, word: &[u8]) -> Option<(usize, &Symbol<'a>)>
+    fn guessed_symbol(&self, word: &[u8]) -> Option<(usize, &Symbol<'a>)>
         ensures number { IfSome result (λ p. p.0 ≡ index_of word.now (names_of self.now.symbols)) }
         ensures symbol { IfSome result (λ p. Some p.1.now ≡ find self.now.symbols word.now) }
     {
-        let guess = *self.guesses.get(guess_of(word))?;
+        let guess = *self.symbol_guesses.get(symbol_guess_index(word))?;
         let (name, symbol) = self.symbols.get_index(guess)?;
         if name.bytes == word {
             Some((guess, symbol))
@@ -267,9 +274,9 @@ impl<'a, A: Allocator + Copy> NameTable<'a, A> {
         ensures number { result.0 ≡ index_of word.now (names_of self.now.symbols) }
         ensures symbol { result.1 ≡ find self.now.symbols word.now }
     {
-        let (number, symbol) = match self.guessed(word) {
+        let (number, symbol) = match self.guessed_symbol(word) {
             Some((number, symbol)) => (number, Some(symbol)),
-            None => self.looked_up(word),
+            None => self.looked_up_symbol(word),
         };
         match symbol {
             Some(symbol) => (number, Some(*symbol)),
@@ -278,7 +285,7 @@ impl<'a, A: Allocator + Copy> NameTable<'a, A> {
     }
 
     /// Returns the same as `numbered`, with the symbol borrowed. Finds it by the word's hash.
-    fn looked_up(&self, word: &[u8]) -> (usize, Option<&Symbol<'a>>)
+    fn looked_up_symbol(&self, word: &[u8]) -> (usize, Option<&Symbol<'a>>)
         ensures number { result.0 ≡ index_of word.now (names_of self.now.symbols) }
         ensures symbol { option_map (λ s. s.now) result.1 ≡ find self.now.symbols word.now }
     {
@@ -310,7 +317,7 @@ impl<'a, A: Allocator + Copy> NameTable<'a, A> {
             (names_of self.new.symbols ≡ with_name word.now (names_of self.old.symbols)) }
     {
         let (number, _) = self.symbols.insert_full(Name { bytes: word }, symbol)?;
-        note_guess(&mut self.guesses, word, number);
+        set_symbol_guess(&mut self.symbol_guesses, word, number);
         self.longest_symbol = self.longest_symbol.max(word.len());
         Ok(())
     }
@@ -323,28 +330,27 @@ impl<'a, A: Allocator + Copy> NameTable<'a, A> {
             ≡ (if bytes_eq word.now w then Some statement else find self.old.labels w)) }
         ensures symbols { OnOk result (self.new.symbols ≡ self.old.symbols) }
     {
-        let (place, _) = self.labels.insert_full(Name { bytes: word }, statement)?;
+        let (index, _) = self.labels.insert_full(Name { bytes: word }, statement)?;
         self.longest_label = self.longest_label.max(word.len());
-        // Without memory for more guesses, labels are found by their hashes.
-        let _ = note_label(&self.labels, &mut self.label_guesses, word, place);
+        add_label_guess(&self.labels, &mut self.label_guesses, word, index);
         Ok(())
     }
 
     /// Returns for each symbol, by its number, whether it is a variable.
-    pub fn variables(&self, alloc: A) -> Result<Vec<bool, A>, AllocError>
+    pub fn variable_flags(&self, alloc: A) -> Result<Vec<bool, A>, AllocError>
         ensures count { IfOk result (λ v. length v.items ≡ length (names_of self.now.symbols)) }
         ensures each { IfOk result
             (λ v. (i : ℕ) (w : List ℕ) → slice_get (names_of self.now.symbols) i ≡ Some w
             → get_or v.items i false ≡ is_variable_in (find self.now.symbols w)) }
     {
-        let mut variables = Vec::new(alloc);
+        let mut variable_flags = Vec::new(alloc);
         for i in 0..self.symbols.len() {
             let is_variable = match self.symbols.get_index(i) {
                 Some((_, symbol)) => symbol.is_variable,
                 None => false,
             };
-            variables.push(is_variable)?;
+            variable_flags.push(is_variable)?;
         }
-        Ok(variables)
+        Ok(variable_flags)
     }
 }

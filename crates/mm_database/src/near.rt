@@ -9,15 +9,16 @@ use mm_outline::parts::Kind;
 use mm_outline::symbol::Sym;
 use std::alloc::Allocator;
 
-/// The maximum number of statements that are examined.
+/// The maximum number of statements that are examined. The `$d` of an assertion mostly stand right
+/// before its hypotheses.
 const MAX_STATEMENTS: u32 = 16;
 
-/// The maximum number of symbols of a `$d` that is examined.
+/// The maximum number of symbols of a `$d` that is examined. Most have two or three.
 const MAX_SYMBOLS: usize = 16;
 
 /// Whether `formula` has the symbol. A result of false promises nothing.
 #[inline(always)]
-fn has(formula: &[Sym], symbol: Sym) -> bool
+fn has_symbol(formula: &[Sym], symbol: Sym) -> bool
     ensures { result ≡ true → is_member formula.now symbol ≡ true }
 {
     for other in formula {
@@ -39,17 +40,17 @@ pub(crate) fn are_together_near<A: Allocator>(
     requires { statement ≤ length database.now.statements }
     ensures { result ≡ true → are_together_at database.now.statements statement x y ≡ true }
 {
-    let last = statement.saturating_sub(MAX_STATEMENTS);
-    let mut left = statement;
-    while left > last {
-        left -= 1;
-        match database.kind(left) {
+    let earliest = statement.saturating_sub(MAX_STATEMENTS);
+    let mut candidate = statement;
+    while candidate > earliest {
+        candidate -= 1;
+        match database.kind(candidate) {
             Kind::Disjoint => {
-                let formula = database.formula(left);
+                let formula = database.formula(candidate);
                 if formula.len() <= MAX_SYMBOLS
-                    && has(formula, x)
-                    && has(formula, y)
-                    && database.active_at(left, statement)
+                    && has_symbol(formula, x)
+                    && has_symbol(formula, y)
+                    && database.active_at(candidate, statement)
                 {
                     return true;
                 }

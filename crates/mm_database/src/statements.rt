@@ -12,7 +12,8 @@ ghost use Rattle.mm_outline.specs.Blocks.{IsBlocks};
 ghost use Rattle.mm_outline.specs.Statements.{statements, active_kind};
 ghost use Rattle.mm_database.specs.Kinds.{kind_of, is_essential_kind, is_floating_kind};
 ghost use Rattle.mm_database.specs.Kinds.{is_disjoint_kind, is_assertion_kind};
-ghost use Rattle.mm_database.specs.Parsed.{parsed, AreParts, IsSound, typed_at};
+ghost use Rattle.mm_database.specs.ParsedStatements.{parsed_statements, AreParsedStatements};
+ghost use Rattle.mm_database.specs.ParsedStatements.{IsSound, typed_variable_at};
 
 use mm_lists::Lists;
 use mm_outline::blocks::Blocks;
@@ -29,7 +30,7 @@ pub struct Statements<'a, A: Allocator> {
     /// The symbols of each statement by their numbers.
     formulas: Lists<Sym, A>,
     /// For each symbol whether it is a variable.
-    variables: Vec<bool, A>,
+    variable_flags: Vec<bool, A>,
 }
 
 /// Lets all fields go in one call, so that a proof has one step for it at each exit.
@@ -40,7 +41,7 @@ impl<'a, A: Allocator> Drop for Statements<'a, A> {
             outlines: _,
             blocks: _,
             formulas: _,
-            variables: _,
+            variable_flags: _,
         } = self;
     }
 }
@@ -48,32 +49,34 @@ impl<'a, A: Allocator> Drop for Statements<'a, A> {
 impl<'a, A: Allocator> Model for Statements<'a, A> {
     ghost use Rattle.mm_spec.specs.Lexed.{tokens_of};
     ghost use Rattle.mm_outline.specs.Statements.{statements};
-    ghost use Rattle.mm_database.specs.Parsed.{Parsed, parsed, AreParts};
+    ghost use Rattle.mm_database.specs.ParsedStatements.{ParsedStatements, parsed_statements};
+    ghost use Rattle.mm_database.specs.ParsedStatements.{AreParsedStatements};
 
-    ghost Value = { Parsed };
+    ghost Value = { ParsedStatements };
 
-    ghost view = { λ s. parsed s.text.now
+    ghost view = { λ s. parsed_statements s.text.now
         (statements s.text.now (tokens_of s.text.now) s.outlines.items) s.blocks };
 
-    ghost invariant = { λ s. AreParts
+    ghost invariant = { λ s. AreParsedStatements
         (statements s.text.now (tokens_of s.text.now) s.outlines.items) s.blocks s.formulas
-        s.variables.items };
+        s.variable_flags.items };
 }
 
 impl<'a, A: Allocator> Statements<'a, A> {
-    /// Returns the statements of these outlines, with what was found of them. `variables` says for
-    /// each symbol whether it is a variable.
+    /// Returns the statements of these outlines, with what was found of them. `variable_flags` says
+    /// for each symbol whether it is a variable.
     pub fn new(
         text: &'a [u8],
         outlines: Vec<Outline, A>,
         blocks: Blocks<A>,
         formulas: Lists<Sym, A>,
-        variables: Vec<bool, A>,
+        variable_flags: Vec<bool, A>,
     ) -> Statements<'a, A>
-        requires { AreParts (statements text.now (tokens_of text.now) outlines.items) blocks
-            formulas variables.items }
+        requires { AreParsedStatements (statements text.now (tokens_of text.now) outlines.items)
+            blocks
+            formulas variable_flags.items }
         ensures { result
-            ≡ parsed text.now (statements text.now (tokens_of text.now) outlines.items)
+            ≡ parsed_statements text.now (statements text.now (tokens_of text.now) outlines.items)
             blocks }
     {
         Statements {
@@ -81,7 +84,7 @@ impl<'a, A: Allocator> Statements<'a, A> {
             outlines,
             blocks,
             formulas,
-            variables,
+            variable_flags,
         }
     }
 
@@ -116,7 +119,7 @@ impl<'a, A: Allocator> Statements<'a, A> {
         ensures count { result ≡ length (symbol_names self.now.list) }
         ensures few { result < 2 ^ 31 }
     {
-        self.variables.len() as u32
+        self.variable_flags.len() as u32
     }
 
     /// Returns which of the nine shapes a statement has.
@@ -177,9 +180,9 @@ impl<'a, A: Allocator> Statements<'a, A> {
     }
 
     /// Returns the variable that a `$f` types, or `None` if the statement isn't a `$f`.
-    pub fn typed(&self, statement: u32) -> Option<Sym>
+    pub fn typed_variable(&self, statement: u32) -> Option<Sym>
         requires { statement < length self.now.list }
-        ensures { result ≡ typed_at self.now.list statement }
+        ensures { result ≡ typed_variable_at self.now.list statement }
     {
         if self.is_floating(statement) {
             self.formula(statement).get(1).copied()
@@ -194,7 +197,7 @@ impl<'a, A: Allocator> Statements<'a, A> {
         requires { symbol < length (symbol_names self.now.list) }
         ensures { result ≡ is_variable_number self.now.list symbol }
     {
-        self.variables[symbol.number() as usize]
+        self.variable_flags[symbol.number() as usize]
     }
 
     /// Whether the block of a statement is still open before a later one.

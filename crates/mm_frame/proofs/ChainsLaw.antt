@@ -20,15 +20,16 @@ use Rattle.mm_outline.proofs.StatementsLaw.{is_there}
 use Rattle.mm_frame.specs.Chains.{IsRisingFrom, IsLinkChain, AreLinked, HasChain, AreChains}
 use Rattle.mm_database.specs.DisjointIndex.{has_symbol}
 use Rattle.mm_database.specs.Pairs.{has_pair, IsBefore, AreRising}
-use Rattle.mm_database.specs.Parsed.{IsSound}
+use Rattle.mm_database.specs.ParsedStatements.{IsSound}
 
 -- ---- one chain
 
 -- a link more at the end of the list changes no chain
-chain_kept : (links : List (ℕ × ℕ)) (l : ℕ × ℕ) (n : ℕ) (js : List ℕ) → IsLinkChain links n js
+chain_with_more_links : (links : List (ℕ × ℕ)) (l : ℕ × ℕ) (n : ℕ) (js : List ℕ)
+    → IsLinkChain links n js
     → IsLinkChain (links ++ l ∷ []) n js
-chain_kept links l n [] h = h
-chain_kept links l n (j ∷ js) h =
+chain_with_more_links links l n [] h = h
+chain_with_more_links links l n (j ∷ js) h =
     let some = h.0 in
     let within = h.1 in
     let long = length-append links (l ∷ []) in
@@ -38,13 +39,13 @@ chain_kept links l n (j ∷ js) h =
       omega (arith, within, long),
       ap (λ (q : ℕ × ℕ). q.0) same ∙ h.2,
       subst (λ (q : ℕ × ℕ). IsLinkChain (links ++ l ∷ []) q.1 js) (sym same)
-          (chain_kept links l (get_or links (n - 1) (0, 0)).1 js h.3),
+          (chain_with_more_links links l (get_or links (n - 1) (0, 0)).1 js h.3),
     )
 
 -- the new link stands in front
 chain_more : (links : List (ℕ × ℕ)) (k n : ℕ) (js : List ℕ) → IsLinkChain links n js
     → IsLinkChain (links ++ (k, n) ∷ []) (length links + 1) (k ∷ js)
-chain_more links k n js h =
+chain_more links k n js is_link_chain =
     let long = length-append links ((k, n) ∷ []) in
     let last : get_or (links ++ (k, n) ∷ []) (length links + 1 - 1) (0, 0) ≡ (k, n) =
     get_or_push links (k, n) (0, 0) (length links + 1 - 1) (omega arith) in (
@@ -52,22 +53,23 @@ chain_more links k n js h =
       omega (arith, long),
       ap (λ (q : ℕ × ℕ). q.0) last,
       subst (λ (q : ℕ × ℕ). IsLinkChain (links ++ (k, n) ∷ []) q.1 js) (sym last)
-          (chain_kept links (k, n) n js h),
+          (chain_with_more_links links (k, n) n js is_link_chain),
     )
 
 -- a chain that doesn't begin with k, and has nothing before k, has only later statements
-raised : (links : List (ℕ × ℕ)) (n k : ℕ) (js : List ℕ) → IsLinkChain links n js → IsRisingFrom k js
+rising_from_next : (links : List (ℕ × ℕ)) (n k : ℕ) (js : List ℕ) → IsLinkChain links n js
+    → IsRisingFrom k js
     → (0 < n → (get_or links (n - 1) (0, 0)).0 ≡ k → ⊥) → IsRisingFrom (k + 1) js
-raised links n k [] c r other = tt
-raised links n k (j ∷ js) c r other = (by (cases_eq j k), r.1)
+rising_from_next links n k [] c r other = tt
+rising_from_next links n k (j ∷ js) c r other = (by_equality (cases_eq j k), r.1)
   where
-    by : (j ≡ k) ⊎ (j ≢ k) → k + 1 ≤ j
-    by (inl e) = absurd (other c.0 (c.2 ∙ e))
-    by (inr ne) = let l = r.0 in omega (arith, l, ne)
+    by_equality : (j ≡ k) ⊎ (j ≢ k) → k + 1 ≤ j
+    by_equality (inl e) = absurd (other c.0 (c.2 ∙ e))
+    by_equality (inr ne) = let l = r.0 in omega (arith, l, ne)
 
-lowered : (a b : ℕ) (js : List ℕ) → a ≤ b → IsRisingFrom b js → IsRisingFrom a js
-lowered a b [] l r = tt
-lowered a b (j ∷ js) l r = (let m = r.0 in omega (arith, l, m), r.1)
+rising_from_lower : (a b : ℕ) (js : List ℕ) → a ≤ b → IsRisingFrom b js → IsRisingFrom a js
+rising_from_lower a b [] l r = tt
+rising_from_lower a b (j ∷ js) l r = (let m = r.0 in omega (arith, l, m), r.1)
 
 -- a chain that begins with k has it
 begins : (links : List (ℕ × ℕ)) (n k : ℕ) (js : List ℕ) → IsLinkChain links n js → 0 < n
@@ -81,8 +83,8 @@ same_chain : (has now : ℕ → Bool) (a b : ℕ) (links : List (ℕ × ℕ)) (n
 same_chain has now a b links n l same h = record {
   statements = h.statements;
   chain = h.chain;
-  rising = lowered a b h.statements l h.rising;
-  are = λ j. h.are j ∙ same j;
+  rising = rising_from_lower a b h.statements l h.rising;
+  members_are = λ j. h.members_are j ∙ same j;
 }
 
 -- ---- a statement in front of a chain
@@ -125,11 +127,11 @@ module _ (heads : List ℕ) (links : List (ℕ × ℕ)) (x k : ℕ) (here : x < 
           omega (arith, s, w, e)
       down i l (inr n) =
           let m = long in
-          let less : i < length links = omega (arith, l, m, n) in
+          let i_lt_length_links : i < length links = omega (arith, l, m, n) in
           let s =
           ap (λ (q : ℕ × ℕ). q.1)
-          (get_or_append_left links ((k, get_or heads x 0) ∷ []) (0, 0) i less) in
-          let d = h.down i less in
+          (get_or_append_left links ((k, get_or heads x 0) ∷ []) (0, 0) i i_lt_length_links) in
+          let d = h.down i i_lt_length_links in
           omega (arith, s, d)
 
 module _ (has : ℕ → ℕ → Bool) (heads : List ℕ) (links : List (ℕ × ℕ)) (s x k : ℕ) (is : s ≡ x)
@@ -139,24 +141,26 @@ module _ (has : ℕ → ℕ → Bool) (heads : List ℕ) (links : List (ℕ × �
     pub begun : 0 < get_or heads x 0 → (get_or links (get_or heads x 0 - 1) (0, 0)).0 ≡ k
         → AreChains has k heads links
         → AreChains (λ y j. has y j || (nat_eq y s && nat_eq j k)) k heads links
-    begun some first h y l =
+    begun some first are_chains y l =
         same_chain (has y) (λ j. has y j || (nat_eq y s && nat_eq j k)) k k links
-        (get_or heads y 0) (omega arith) (λ j. by j (cases_eq y x) (cases_eq j k)) (h y l)
+        (get_or heads y 0) (omega arith) (λ j. by_equality j (cases_eq y x) (cases_eq j k))
+        (are_chains y l)
       where
         has_it : has x k ≡ true
         has_it =
-            sym ((h x here).are k)
-            ∙ begins links (get_or heads x 0) k (h x here).statements (h x here).chain some first
+            sym ((are_chains x here).members_are k)
+            ∙ begins links (get_or heads x 0) k (are_chains x here).statements
+            (are_chains x here).chain some first
 
-        by : (j : ℕ) → (y ≡ x) ⊎ (y ≢ x) → (j ≡ k) ⊎ (j ≢ k)
+        by_equality : (j : ℕ) → (y ≡ x) ⊎ (y ≢ x) → (j ≡ k) ⊎ (j ≢ k)
             → has y j ≡ (has y j || (nat_eq y s && nat_eq j k))
-        by j (inl e) (inl f) =
+        by_equality j (inl e) (inl f) =
             let t : has y j ≡ true = ap₂ has e f ∙ has_it in
             t ∙ sym (ap (λ b. b || (nat_eq y s && nat_eq j k)) t)
-        by j (inl e) (inr n) =
+        by_equality j (inl e) (inr n) =
             sym (ap (λ b. has y j || (nat_eq y s && b)) (ne_eqb j k n)
             ∙ ap (λ b. has y j || b) (and-false (nat_eq y s)) ∙ or-false (has y j))
-        by j (inr n) q =
+        by_equality j (inr n) q =
             sym (ap (λ b. has y j || (b && nat_eq j k)) (ne_eqb y s (λ e. n (e ∙ is)))
             ∙ or-false (has y j))
 
@@ -166,29 +170,29 @@ module _ (has : ℕ → ℕ → Bool) (heads : List ℕ) (links : List (ℕ × �
         → AreChains has k heads links
         → AreChains (λ y j. has y j || (nat_eq y s && nat_eq j k)) k
         (set heads x (length links + 1)) (links ++ (k, get_or heads x 0) ∷ [])
-    chains_more other_first h y l = by (cases_eq y x)
+    chains_more other_first h y l = by_equality (cases_eq y x)
       where
         old : HasChain (has x) k links (get_or heads x 0)
         old = h x here
 
-        front : (j : ℕ) → y ≡ x
+        members_with_front : (j : ℕ) → y ≡ x
             → (nat_eq j k || is_member old.statements j)
             ≡ (has y j || (nat_eq y s && nat_eq j k))
-        front j e =
-            ap (λ b. nat_eq j k || b) (old.are j ∙ ap (λ z. has z j) (sym e))
-            ∙ turned (nat_eq j k) (has y j)
-            ∙ sym (ap (λ b. has y j || (b && nat_eq j k)) (eq-eqb y s (e ∙ sym is)))
+        members_with_front j y_is_x =
+            ap (λ b. nat_eq j k || b) (old.members_are j ∙ ap (λ z. has z j) (sym y_is_x))
+            ∙ or_swap (nat_eq j k) (has y j)
+            ∙ sym (ap (λ b. has y j || (b && nat_eq j k)) (eq-eqb y s (y_is_x ∙ sym is)))
           where
-            turned : (a b : Bool) → (a || b) ≡ (b || a)
-            turned true true = refl
-            turned true false = refl
-            turned false true = refl
-            turned false false = refl
+            or_swap : (a b : Bool) → (a || b) ≡ (b || a)
+            or_swap true true = refl
+            or_swap true false = refl
+            or_swap false true = refl
+            or_swap false false = refl
 
-        by : (y ≡ x) ⊎ (y ≢ x)
+        by_equality : (y ≡ x) ⊎ (y ≢ x)
             → HasChain (λ j. has y j || (nat_eq y s && nat_eq j k)) k
             (links ++ (k, get_or heads x 0) ∷ []) (get_or (set heads x (length links + 1)) y 0)
-        by (inl e) = record {
+        by_equality (inl e) = record {
           statements = k ∷ old.statements;
           chain =
               subst
@@ -198,24 +202,26 @@ module _ (has : ℕ → ℕ → Bool) (heads : List ℕ) (links : List (ℕ × �
               (chain_more links k (get_or heads x 0) old.statements old.chain);
           rising = (
             omega arith,
-            raised links (get_or heads x 0) k old.statements old.chain old.rising other_first,
+            rising_from_next links (get_or heads x 0) k old.statements old.chain old.rising
+                other_first,
           );
-          are = λ j. front j e;
+          members_are = λ j. members_with_front j e;
         }
-        by (inr n) =
+        by_equality (inr n) =
             let c = length-set heads x (length links + 1) in
-            let other : HasChain (has y) k links (get_or heads y 0) =
+            let has_chain : HasChain (has y) k links (get_or heads y 0) =
             h y (omega (arith, l, c)) in
             record {
-              statements = other.statements;
+              statements = has_chain.statements;
               chain =
                   subst
-                  (λ n. IsLinkChain (links ++ (k, get_or heads x 0) ∷ []) n other.statements)
+                  (λ n. IsLinkChain (links ++ (k, get_or heads x 0) ∷ []) n has_chain.statements)
                   (sym (get_or-set_other heads x y (length links + 1) 0 n))
-                  (chain_kept links (k, get_or heads x 0) (get_or heads y 0) other.statements
-                  other.chain);
-              rising = other.rising;
-              are = λ j. other.are j
+                  (chain_with_more_links links (k, get_or heads x 0) (get_or heads y 0)
+                  has_chain.statements
+                  has_chain.chain);
+              rising = has_chain.rising;
+              members_are = λ j. has_chain.members_are j
                   ∙ sym (ap (λ b. has y j || (b && nat_eq j k))
                   (ne_eqb y s (λ e. n (e ∙ is)))
                   ∙ or-false (has y j));
@@ -233,22 +239,22 @@ pub more_symbols : (has : ℕ → ℕ → Bool) (xs : List ℕ) (i d s k : ℕ) 
     → s ≡ get_or xs i d → (x j : ℕ)
     → ((has x j || (is_member (take i xs) x && nat_eq j k)) || (nat_eq x s && nat_eq j k))
     ≡ (has x j || (is_member (take (i + 1) xs) x && nat_eq j k))
-more_symbols has xs i d s k l is x j =
-    by (has x j) (is_member (take i xs) x) (nat_eq x s) (nat_eq j k)
+more_symbols has xs i d s k i_lt_length_xs is x j =
+    by_values (has x j) (is_member (take i xs) x) (nat_eq x s) (nat_eq j k)
     ∙ sym (ap (λ b. has x j || (b && nat_eq j k)) longer)
   where
     longer : is_member (take (i + 1) xs) x ≡ (is_member (take i xs) x || nat_eq x s)
     longer =
-        ap (λ ys. is_member ys x) (take_more xs i d l)
+        ap (λ ys. is_member ys x) (take_more xs i d i_lt_length_xs)
         ∙ list_any-append (nat_eq x) (take i xs) (get_or xs i d ∷ [])
         ∙ ap (λ b. is_member (take i xs) x || b) (or-false (nat_eq x (get_or xs i d)))
         ∙ ap (λ y. is_member (take i xs) x || nat_eq x y) (sym is)
 
-    by : (a m n e : Bool) → ((a || (m && e)) || (n && e)) ≡ (a || ((m || n) && e))
-    by true m n e = refl
-    by false true n true = refl
-    by false true n false = and-false n
-    by false false n e = refl
+    by_values : (a m n e : Bool) → ((a || (m && e)) || (n && e)) ≡ (a || ((m || n) && e))
+    by_values true m n e = refl
+    by_values false true n true = refl
+    by_values false true n false = and-false n
+    by_values false false n e = refl
 
 -- ---- the statements, from the last to the first
 
@@ -259,18 +265,18 @@ none_yet db heads empty x l = record {
   statements = [];
   chain = empty x l;
   rising = tt;
-  are = λ j. sym (by j (nat_le (length db) j) refl (has_symbol db x j) refl);
+  members_are = λ j. sym (by_values j (nat_le (length db) j) refl (has_symbol db x j) refl);
 }
   where
-    by : (j : ℕ) (a : Bool) → nat_le (length db) j ≡ a → (b : Bool) → has_symbol db x j ≡ b
+    by_values : (j : ℕ) (a : Bool) → nat_le (length db) j ≡ a → (b : Bool) → has_symbol db x j ≡ b
         → (a && b) ≡ false
-    by j false e b f = refl
-    by j true e false f = refl
-    by j true e true f =
+    by_values j false e b f = refl
+    by_values j true e false f = refl
+    by_values j true e true has_symbol_x_j =
         let m =
         is_there is_disjoint_statement db j
         (and_parts (list_any is_disjoint_statement (statement_at db j))
-        (is_member (formula_at db j) x) f).0 in
+        (is_member (formula_at db j) x) has_symbol_x_j).0 in
         absurd (true≢false (sym e ∙ lt-leb (length db) j m))
 
 pub linked_none : (heads : List ℕ) → ((x : ℕ) → x < length heads → get_or heads x 0 ≡ 0)
@@ -281,17 +287,17 @@ linked_none heads empty = record {
 }
 
 le_back : (k j : ℕ) → nat_le k j ≡ (nat_le (k + 1) j || nat_eq j k)
-le_back k j = by (cases_order j k)
+le_back k j = by_order (cases_order j k)
   where
-    by : (j ≡ k) ⊎ ((j < k) ⊎ (k < j)) → nat_le k j ≡ (nat_le (k + 1) j || nat_eq j k)
-    by (inl e) =
+    by_order : (j ≡ k) ⊎ ((j < k) ⊎ (k < j)) → nat_le k j ≡ (nat_le (k + 1) j || nat_eq j k)
+    by_order (inl e) =
         le-leb k j (omega (arith, e))
         ∙ sym (ap (λ b. nat_le (k + 1) j || b) (eq-eqb j k e) ∙ or-true (nat_le (k + 1) j))
-    by (inr (inl l)) =
+    by_order (inr (inl l)) =
         lt-leb k j l
         ∙ sym (ap₂ (λ a b. a || b) (lt-leb (k + 1) j (omega (arith, l)))
         (ne_eqb j k (λ e. absurd (omega (arith, l, e)))))
-    by (inr (inr l)) =
+    by_order (inr (inr l)) =
         le-leb k j (omega (arith, l))
         ∙ sym (ap (λ b. b || nat_eq j k) (le-leb (k + 1) j (omega (arith, l))))
 
@@ -301,13 +307,13 @@ module _ (db : List Statement) (k : ℕ) (x j : ℕ) where
       || ((d && is_member (formula_at db k) x) && nat_eq j k))
       ≡ (nat_le k j && has_symbol db x j)
   here_or_later d is =
-      by (cases_eq j k) ∙ sym (ap (λ b. b && has_symbol db x j) (le_back k j))
+      by_equality (cases_eq j k) ∙ sym (ap (λ b. b && has_symbol db x j) (le_back k j))
     where
-      by : (j ≡ k) ⊎ (j ≢ k)
+      by_equality : (j ≡ k) ⊎ (j ≢ k)
           → ((nat_le (k + 1) j && has_symbol db x j)
           || ((d && is_member (formula_at db k) x) && nat_eq j k))
           ≡ ((nat_le (k + 1) j || nat_eq j k) && has_symbol db x j)
-      by (inl e) =
+      by_equality (inl e) =
           ap₂ (λ a b. (a && has_symbol db x j) || ((d && is_member (formula_at db k) x) && b))
           (lt-leb (k + 1) j (omega (arith, e))) (eq-eqb j k e)
           ∙ and-true (d && is_member (formula_at db k) x)
@@ -315,7 +321,7 @@ module _ (db : List Statement) (k : ℕ) (x j : ℕ) where
           ∙ ap (has_symbol db x) (sym e)
           ∙ sym (ap₂ (λ a b. (a || b) && has_symbol db x j)
           (lt-leb (k + 1) j (omega (arith, e))) (eq-eqb j k e))
-      by (inr n) =
+      by_equality (inr n) =
           ap (λ b. (nat_le (k + 1) j && has_symbol db x j)
           || ((d && is_member (formula_at db k) x) && b)) (ne_eqb j k n)
           ∙ ap (λ b. (nat_le (k + 1) j && has_symbol db x j) || b)
@@ -342,15 +348,16 @@ module _ (db : List Statement) (k : ℕ) (x j : ℕ) where
 member_below : (n y : ℕ) (xs : List ℕ) → All (λ s. s < n) xs → is_member xs y ≡ true → y < n
 member_below n y [] h e = absurd (true≢false (sym e))
 member_below n y (x ∷ xs) h e =
-    by (or_cases (nat_eq y x) (is_member xs y) e)
+    by_membership (or_cases (nat_eq y x) (is_member xs y) e)
     (member_below n y xs (All-tail (λ s. s < n) x xs h))
   where
-    by : (nat_eq y x ≡ true) ⊎ (is_member xs y ≡ true) → (is_member xs y ≡ true → y < n) → y < n
-    by (inl s) rest =
+    by_membership : (nat_eq y x ≡ true) ⊎ (is_member xs y ≡ true) → (is_member xs y ≡ true → y < n)
+        → y < n
+    by_membership (inl s) rest =
         let q = eqb-true y x s in
         let l = All-head (λ s. s < n) x xs h in
         omega (arith, q, l)
-    by (inr s) rest = rest s
+    by_membership (inr s) rest = rest s
 
 -- a symbol of a `$d` has a number
 pub symbol_below : (db : List Statement) → IsSound db → (x j : ℕ) → has_symbol db x j ≡ true
@@ -360,7 +367,8 @@ symbol_below db sound x j e =
     and_parts (list_any is_disjoint_statement (statement_at db j)) (is_member (formula_at db j) x)
     e in
     let there = is_there is_disjoint_statement db j parts.0 in
-    member_below (length (symbol_names db)) x (formula_at db j) (sound.below j there) parts.1
+    member_below (length (symbol_names db)) x (formula_at db j) (sound.symbols_have_numbers j there)
+    parts.1
 
 -- ---- the pairs of one chain
 
@@ -380,14 +388,14 @@ module _ (links : List (ℕ × ℕ)) (symbol : ℕ) (old now : List (ℕ × ℕ)
   pub rest_less : (number : ℕ) → 0 < number → IsRest links symbol number old now all
       → IsRest links symbol (get_or links (number - 1) (0, 0)).1 old
       (now ++ (symbol, (get_or links (number - 1) (0, 0)).0) ∷ []) all
-  rest_less number some h = by h.rest h.chain h.pairs
+  rest_less number some is_rest = by_rest is_rest.rest is_rest.chain is_rest.pairs
     where
-      by : (rest : List ℕ) → IsLinkChain links number rest
+      by_rest : (rest : List ℕ) → IsLinkChain links number rest
           → old ++ map (λ j. (symbol, j)) all ≡ now ++ map (λ j. (symbol, j)) rest
           → IsRest links symbol (get_or links (number - 1) (0, 0)).1 old
           (now ++ (symbol, (get_or links (number - 1) (0, 0)).0) ∷ []) all
-      by [] c e = absurd (omega (arith, c, some))
-      by (j ∷ js) c e = record {
+      by_rest [] c e = absurd (omega (arith, c, some))
+      by_rest (j ∷ js) c e = record {
         rest = js;
         chain = c.3;
         pairs =
@@ -397,29 +405,29 @@ module _ (links : List (ℕ × ℕ)) (symbol : ℕ) (old now : List (ℕ × ℕ)
 
   pub rest_none : (number : ℕ) → number ≡ 0 → IsRest links symbol number old now all
       → now ≡ old ++ map (λ j. (symbol, j)) all
-  rest_none number none h = by h.rest h.chain h.pairs
+  rest_none number none h = by_rest h.rest h.chain h.pairs
     where
-      by : (rest : List ℕ) → IsLinkChain links number rest
+      by_rest : (rest : List ℕ) → IsLinkChain links number rest
           → old ++ map (λ j. (symbol, j)) all ≡ now ++ map (λ j. (symbol, j)) rest
           → now ≡ old ++ map (λ j. (symbol, j)) all
-      by [] c e = sym (e ∙ append-nil now)
-      by (j ∷ js) c e = absurd (let s = c.0 in omega (arith, s, none))
+      by_rest [] c e = sym (e ∙ append-nil now)
+      by_rest (j ∷ js) c e = absurd (let s = c.0 in omega (arith, s, none))
 
 -- ---- the pairs of all chains, symbol after symbol
 
 -- the pairs of the symbols before x
 pub record ArePairsTo (db : List Statement) (x : ℕ) (ps : List (ℕ × ℕ)) : Type 0 where
   pub rising : AreRising ps
-  pub are : (y j : ℕ) → has_pair ps y j ≡ (nat_lt y x && has_symbol db y j)
+  pub members_are : (y j : ℕ) → has_pair ps y j ≡ (nat_lt y x && has_symbol db y j)
 
 rising_append : (ps qs : List (ℕ × ℕ)) → AreRising ps → AreRising qs
     → ((a b x y : ℕ) → has_pair ps a b ≡ true → has_pair qs x y ≡ true → IsBefore a b x y)
     → AreRising (ps ++ qs)
-rising_append [] qs r s h = s
-rising_append (p ∷ ps) qs r s h = (
-  λ x y e. by x y (or_cases (has_pair ps x y) (has_pair qs x y)
+rising_append [] qs r are_rising h = are_rising
+rising_append (p ∷ ps) qs r are_rising h = (
+  λ x y e. by_membership x y (or_cases (has_pair ps x y) (has_pair qs x y)
       (sym (list_any-append (λ q. nat_eq x q.0 && nat_eq y q.1) ps qs) ∙ e)),
-  rising_append ps qs r.1 s
+  rising_append ps qs r.1 are_rising
       (λ a b x y e f. h a b x y
       (or_right (nat_eq a p.0 && nat_eq b p.1) (has_pair ps a b) e) f),
 )
@@ -428,32 +436,33 @@ rising_append (p ∷ ps) qs r s h = (
     itself =
         ap₂ (λ a b. (a && b) || has_pair ps p.0 p.1) (eq-eqb p.0 p.0 refl) (eq-eqb p.1 p.1 refl)
 
-    by : (x y : ℕ) → (has_pair ps x y ≡ true) ⊎ (has_pair qs x y ≡ true)
+    by_membership : (x y : ℕ) → (has_pair ps x y ≡ true) ⊎ (has_pair qs x y ≡ true)
         → IsBefore p.0 p.1 x y
-    by x y (inl e) = r.0 x y e
-    by x y (inr e) = h p.0 p.1 x y itself e
+    by_membership x y (inl e) = r.0 x y e
+    by_membership x y (inr e) = h p.0 p.1 x y itself e
 
 has_row : (x : ℕ) (js : List ℕ) (y j : ℕ)
     → has_pair (map (λ i. (x, i)) js) y j ≡ (nat_eq y x && is_member js j)
 has_row x [] y j = sym (and-false (nat_eq y x))
 has_row x (i ∷ js) y j =
     ap (λ b. (nat_eq y x && nat_eq j i) || b) (has_row x js y j)
-    ∙ by (nat_eq y x) (nat_eq j i) (is_member js j)
+    ∙ by_values (nat_eq y x) (nat_eq j i) (is_member js j)
   where
-    by : (a b c : Bool) → ((a && b) || (a && c)) ≡ (a && (b || c))
-    by true b c = refl
-    by false b c = refl
+    by_values : (a b c : Bool) → ((a && b) || (a && c)) ≡ (a && (b || c))
+    by_values true b c = refl
+    by_values false b c = refl
 
 from_least : (least j : ℕ) (js : List ℕ) → IsRisingFrom least js → is_member js j ≡ true
     → least ≤ j
 from_least least j [] r e = absurd (true≢false (sym e))
 from_least least j (i ∷ js) r e =
-    by (or_cases (nat_eq j i) (is_member js j) e) (from_least (i + 1) j js r.1)
+    by_membership (or_cases (nat_eq j i) (is_member js j) e) (from_least (i + 1) j js r.1)
   where
-    by : (nat_eq j i ≡ true) ⊎ (is_member js j ≡ true) → (is_member js j ≡ true → i + 1 ≤ j)
+    by_membership : (nat_eq j i ≡ true) ⊎ (is_member js j ≡ true)
+        → (is_member js j ≡ true → i + 1 ≤ j)
         → least ≤ j
-    by (inl s) later = let m = r.0 in let q = eqb-true j i s in omega (arith, m, q)
-    by (inr s) later = let m = r.0 in let q = later s in omega (arith, m, q)
+    by_membership (inl s) later = let m = r.0 in let q = eqb-true j i s in omega (arith, m, q)
+    by_membership (inr s) later = let m = r.0 in let q = later s in omega (arith, m, q)
 
 rising_row : (x least : ℕ) (js : List ℕ) → IsRisingFrom least js
     → AreRising (map (λ j. (x, j)) js)
@@ -467,15 +476,15 @@ rising_row x least (i ∷ js) r = (
 )
 
 lt_next : (y x : ℕ) → nat_lt y (x + 1) ≡ (nat_lt y x || nat_eq y x)
-lt_next y x = by (cases_order y x)
+lt_next y x = by_order (cases_order y x)
   where
-    by : (y ≡ x) ⊎ ((y < x) ⊎ (x < y)) → nat_lt y (x + 1) ≡ (nat_lt y x || nat_eq y x)
-    by (inl e) =
+    by_order : (y ≡ x) ⊎ ((y < x) ⊎ (x < y)) → nat_lt y (x + 1) ≡ (nat_lt y x || nat_eq y x)
+    by_order (inl e) =
         lt-ltb y (x + 1) (omega (arith, e))
         ∙ sym (ap (λ b. nat_lt y x || b) (eq-eqb y x e) ∙ or-true (nat_lt y x))
-    by (inr (inl l)) =
+    by_order (inr (inl l)) =
         lt-ltb y (x + 1) (omega (arith, l)) ∙ sym (ap (λ b. b || nat_eq y x) (lt-ltb y x l))
-    by (inr (inr l)) =
+    by_order (inr (inr l)) =
         le-ltb y (x + 1) (omega (arith, l))
         ∙ sym (ap₂ (λ a b. a || b) (le-ltb y x (omega (arith, l)))
         (ne_eqb y x (λ e. absurd (omega (arith, l, e)))))
@@ -483,15 +492,15 @@ lt_next y x = by (cases_order y x)
 pub pairs_more : (db : List Statement) (x n : ℕ) (links ps qs : List (ℕ × ℕ))
     (h : HasChain (has_symbol db x) 0 links n) → ArePairsTo db x ps
     → qs ≡ ps ++ map (λ j. (x, j)) h.statements → ArePairsTo db (x + 1) qs
-pairs_more db x n links ps qs h a is =
+pairs_more db x n links ps qs h are_pairs_to is =
     subst (ArePairsTo db (x + 1)) (sym is) (record {
       rising =
-          rising_append ps row a.rising (rising_row x 0 h.statements h.rising)
+          rising_append ps row are_pairs_to.rising (rising_row x 0 h.statements h.rising)
           (λ b c y j e f. inl (later b c y j e f));
-      are = λ y j.
+      members_are = λ y j.
           list_any-append (λ q. nat_eq y q.0 && nat_eq j q.1) ps row
-          ∙ ap₂ (λ b c. b || c) (a.are y j) (has_row x h.statements y j)
-          ∙ by y j (cases_eq y x) ∙ sym (ap (λ b. b && has_symbol db y j) (lt_next y x));
+          ∙ ap₂ (λ b c. b || c) (are_pairs_to.members_are y j) (has_row x h.statements y j)
+          ∙ by_equality y j (cases_eq y x) ∙ sym (ap (λ b. b && has_symbol db y j) (lt_next y x));
     })
   where
     row : List (ℕ × ℕ)
@@ -499,23 +508,24 @@ pairs_more db x n links ps qs h a is =
 
     later : (b c y j : ℕ) → has_pair ps b c ≡ true → has_pair row y j ≡ true → b < y
     later b c y j e f =
-        let l = ltb-true b x (and_parts (nat_lt b x) (has_symbol db b c) (sym (a.are b c) ∙ e)).0 in
+        let l = ltb-true b x (and_parts (nat_lt b x) (has_symbol db b c)
+        (sym (are_pairs_to.members_are b c) ∙ e)).0 in
         let s =
         eqb-true y x
         (and_parts (nat_eq y x) (is_member h.statements j)
         (sym (has_row x h.statements y j) ∙ f)).0 in
         omega (arith, l, s)
 
-    by : (y j : ℕ) → (y ≡ x) ⊎ (y ≢ x)
+    by_equality : (y j : ℕ) → (y ≡ x) ⊎ (y ≢ x)
         → ((nat_lt y x && has_symbol db y j) || (nat_eq y x && is_member h.statements j))
         ≡ ((nat_lt y x || nat_eq y x) && has_symbol db y j)
-    by y j (inl e) =
+    by_equality y j (inl e) =
         ap₂ (λ b c. (b && has_symbol db y j) || (c && is_member h.statements j))
         (le-ltb y x (omega (arith, e))) (eq-eqb y x e)
-        ∙ h.are j ∙ ap (λ z. has_symbol db z j) (sym e)
+        ∙ h.members_are j ∙ ap (λ z. has_symbol db z j) (sym e)
         ∙ sym (ap₂ (λ b c. (b || c) && has_symbol db y j) (le-ltb y x (omega (arith, e)))
         (eq-eqb y x e))
-    by y j (inr n) =
+    by_equality y j (inr n) =
         ap (λ b. (nat_lt y x && has_symbol db y j) || (b && is_member h.statements j))
         (ne_eqb y x n)
         ∙ or-false (nat_lt y x && has_symbol db y j)
@@ -526,8 +536,8 @@ pairs_more db x n links ps qs h a is =
 pub pairs_all : (db : List Statement) (x : ℕ) (ps : List (ℕ × ℕ))
     → ((y j : ℕ) → has_symbol db y j ≡ true → y < x) → ArePairsTo db x ps
     → (y j : ℕ) → has_pair ps y j ≡ has_symbol db y j
-pairs_all db x ps all a y j = a.are y j ∙ by (has_symbol db y j) refl
+pairs_all db x ps all a y j = a.members_are y j ∙ by_has_symbol (has_symbol db y j) refl
   where
-    by : (b : Bool) → has_symbol db y j ≡ b → (nat_lt y x && b) ≡ b
-    by false e = and-false (nat_lt y x)
-    by true e = ap (λ b. b && true) (lt-ltb y x (all y j e))
+    by_has_symbol : (b : Bool) → has_symbol db y j ≡ b → (nat_lt y x && b) ≡ b
+    by_has_symbol false e = and-false (nat_lt y x)
+    by_has_symbol true e = ap (λ b. b && true) (lt-ltb y x (all y j e))

@@ -25,22 +25,22 @@ use Rattle.mm_spec.specs.Frame.{formula_of}
 use Rattle.mm_spec.proofs.FindsLaw.{range_any}
 use Rattle.mm_spec.proofs.FaultlessLaw.{append_none, least_none}
 use Rattle.mm_outline.specs.Typed.{has_word, typed_words}
-use Rattle.mm_database.specs.Parsed.{IsSound, typed_at}
+use Rattle.mm_database.specs.ParsedStatements.{IsSound, typed_variable_at}
 use Rattle.mm_outline.proofs.FaultlessLaw.{floating_new}
 use Rattle.mm_outline.proofs.AmongLaw.{typed_in, among_active}
 
 -- a word that has a place is there
-pub place_get : (w : Bytes) (ws : List Bytes) → index_of w ws < length ws
+pub index_get : (w : Bytes) (ws : List Bytes) → index_of w ws < length ws
     → slice_get ws (index_of w ws) ≡ Some w
-place_get w [] h = absurd (omega arith)
-place_get w (v ∷ vs) h = by (bytes_eq w v) refl h (place_get w vs)
+index_get w [] h = absurd (omega arith)
+index_get w (v ∷ vs) h = by_equality (bytes_eq w v) refl h (index_get w vs)
   where
-    by : (b : Bool) → bytes_eq w v ≡ b
+    by_equality : (b : Bool) → bytes_eq w v ≡ b
         → (elim b [ true ↦ 0 | false ↦ suc (index_of w vs) ]) < length (v ∷ vs)
         → (index_of w vs < length vs → slice_get vs (index_of w vs) ≡ Some w)
         → slice_get (v ∷ vs) (elim b [ true ↦ 0 | false ↦ suc (index_of w vs) ]) ≡ Some w
-    by true e h r = ap Some (sym ((bytes_eq-Decides w v).0 e))
-    by false e h r = r (omega arith)
+    by_equality true e h r = ap Some (sym ((bytes_eq-Decides w v).0 e))
+    by_equality false e h r = r (omega arith)
 
 abbrev pub list_at : Option Statement → List Statement
 list_at o = elim o [ None ↦ [] | Some s ↦ s ∷ [] ]
@@ -73,7 +73,7 @@ module _ (db : List Statement) (sound : IsSound db) where
 
   constant_there : (n : Names) (keyword : ℕ) (c v : Token)
       → floating_faults n keyword (c ∷ v ∷ []) ≡ [] → is_in c.word n.constants ≡ true
-  constant_there n keyword c v h = by (is_in c.word n.constants) refl h
+  constant_there n keyword c v h = by_membership (is_in c.word n.constants) refl h
     where
       codes : Bool → List Fault
       codes =
@@ -84,37 +84,37 @@ module _ (db : List Statement) (sound : IsSound db) where
             | false ↦ fault keyword BadFloating ∷ []
           ]
 
-      by : (a : Bool) → is_in c.word n.constants ≡ a
+      by_membership : (a : Bool) → is_in c.word n.constants ≡ a
           → codes (a && is_in v.word n.active_variables) ≡ [] → is_in c.word n.constants ≡ true
-      by true e h = e
-      by false e h = absurd (cc)
+      by_membership true e h = e
+      by_membership false e h = absurd (cc)
 
   -- a `$f` by its statement
   float_of : (k v : ℕ) → k < length db → (o : Option Statement) → slice_get db k ≡ o
       → list_any is_floating (elim o [ None ↦ [] | Some s ↦ s ∷ [] ]) ≡ true
       → (slice_get (flat_map (formula_of db) (elim o [ None ↦ [] | Some s ↦ s ∷ [] ])) 1 ≡ Some v)
       → IsFloat db k v
-  float_of k v h None e t f = absurd (true≢false (sym t))
-  float_of k v h (Some (constants a xs d)) e t f = absurd (true≢false (sym t))
-  float_of k v h (Some (variables a xs d)) e t f = absurd (true≢false (sym t))
-  float_of k v h (Some (disjoint a xs d)) e t f = absurd (true≢false (sym t))
-  float_of k v h (Some (essential l a xs d)) e t f = absurd (true≢false (sym t))
-  float_of k v h (Some (axiomatic l a xs d)) e t f = absurd (true≢false (sym t))
-  float_of k v h (Some (provable l a xs q ps d)) e t f = absurd (true≢false (sym t))
-  float_of k v h (Some (opening a)) e t f = absurd (true≢false (sym t))
-  float_of k v h (Some (closing a)) e t f = absurd (true≢false (sym t))
-  float_of k v h (Some (floating l a [] d)) e t f = absurd (cc)
-  float_of k v h (Some (floating l a (c ∷ []) d)) e t f = absurd (cc)
-  float_of k v h (Some (floating l a (c ∷ x ∷ y ∷ ys) d)) e t f =
+  float_of k v k_lt_length_db None e t f = absurd (true≢false (sym t))
+  float_of k v k_lt_length_db (Some (constants a xs d)) e t f = absurd (true≢false (sym t))
+  float_of k v k_lt_length_db (Some (variables a xs d)) e t f = absurd (true≢false (sym t))
+  float_of k v k_lt_length_db (Some (disjoint a xs d)) e t f = absurd (true≢false (sym t))
+  float_of k v k_lt_length_db (Some (essential l a xs d)) e t f = absurd (true≢false (sym t))
+  float_of k v k_lt_length_db (Some (axiomatic l a xs d)) e t f = absurd (true≢false (sym t))
+  float_of k v k_lt_length_db (Some (provable l a xs q ps d)) e t f = absurd (true≢false (sym t))
+  float_of k v k_lt_length_db (Some (opening a)) e t f = absurd (true≢false (sym t))
+  float_of k v k_lt_length_db (Some (closing a)) e t f = absurd (true≢false (sym t))
+  float_of k v k_lt_length_db (Some (floating l a [] d)) e t f = absurd (cc)
+  float_of k v k_lt_length_db (Some (floating l a (c ∷ []) d)) e t f = absurd (cc)
+  float_of k v k_lt_length_db (Some (floating l a (c ∷ x ∷ y ∷ ys) d)) e t f =
       absurd (let n = (append_none (label_faults (names_before db k) l)
       (floating_faults (names_before db k) a (c ∷ x ∷ y ∷ ys))
-      (law k h (floating l a (c ∷ x ∷ y ∷ ys) d) e)).1 in
+      (law k k_lt_length_db (floating l a (c ∷ x ∷ y ∷ ys) d) e)).1 in
       cc)
-  float_of k v h (Some (floating l a (c ∷ x ∷ []) d)) e t f =
+  float_of k v k_lt_length_db (Some (floating l a (c ∷ x ∷ []) d)) e t f =
       let n =
       (append_none (label_faults (names_before db k) l)
       (floating_faults (names_before db k) a (c ∷ x ∷ []))
-      (law k h (floating l a (c ∷ x ∷ []) d) e)).1 in
+      (law k k_lt_length_db (floating l a (c ∷ x ∷ []) d) e)).1 in
       record {
         label = l;
         keyword = a;
@@ -127,49 +127,54 @@ module _ (db : List Statement) (sound : IsSound db) where
         constant = constant_there (names_before db k) a c x n;
       }
 
-  pub typed_float : (k v : ℕ) → k < length db → typed_at db k ≡ Some v → IsFloat db k v
-  typed_float k v h e = by (slice_get db k) refl e
+  pub typed_float : (k v : ℕ) → k < length db → typed_variable_at db k ≡ Some v → IsFloat db k v
+  typed_float k v k_lt_length_db e = by_statement (slice_get db k) refl e
     where
-      by : (o : Option Statement) → slice_get db k ≡ o → typed_of db o ≡ Some v → IsFloat db k v
-      by o s t = go (list_any is_floating (elim o [ None ↦ [] | Some s ↦ s ∷ [] ])) refl t
+      by_statement : (o : Option Statement) → slice_get db k ≡ o → typed_of db o ≡ Some v
+          → IsFloat db k v
+      by_statement o s t = by_floating (list_any is_floating
+          (elim o [ None ↦ [] | Some s ↦ s ∷ [] ])) refl t
         where
-          go : (b : Bool) → list_any is_floating (elim o [ None ↦ [] | Some s ↦ s ∷ [] ]) ≡ b
+          by_floating : (b : Bool) → list_any is_floating (elim o [ None ↦ [] | Some s ↦ s ∷ [] ])
+              ≡ b
               → (if b then slice_get
               (flat_map (formula_of db) (elim o [ None ↦ [] | Some s ↦ s ∷ [] ])) 1 else None)
               ≡ Some v
               → IsFloat db k v
-          go true p q = float_of k v h o s p q
-          go false p q = absurd (cc)
+          by_floating true p q = float_of k v k_lt_length_db o s p q
+          by_floating false p q = absurd (cc)
 
   -- a `$f` has a variable
   pub floating_typed : (k : ℕ) → k < length db
       → list_any is_floating (list_at (slice_get db k)) ≡ true
-      → (v : ℕ) × (typed_at db k ≡ Some v) × IsFloat db k v
-  floating_typed k h t = by (slice_get db k) refl t
+      → (v : ℕ) × (typed_variable_at db k ≡ Some v) × IsFloat db k v
+  floating_typed k k_lt_length_db t = by_statement (slice_get db k) refl t
     where
-      by : (o : Option Statement) → slice_get db k ≡ o → list_any is_floating (list_at o) ≡ true
-          → (v : ℕ) × (typed_at db k ≡ Some v) × IsFloat db k v
-      by None e t = absurd (true≢false (sym t))
-      by (Some (constants a xs d)) e t = absurd (true≢false (sym t))
-      by (Some (variables a xs d)) e t = absurd (true≢false (sym t))
-      by (Some (disjoint a xs d)) e t = absurd (true≢false (sym t))
-      by (Some (essential l a xs d)) e t = absurd (true≢false (sym t))
-      by (Some (axiomatic l a xs d)) e t = absurd (true≢false (sym t))
-      by (Some (provable l a xs q ps d)) e t = absurd (true≢false (sym t))
-      by (Some (opening a)) e t = absurd (true≢false (sym t))
-      by (Some (closing a)) e t = absurd (true≢false (sym t))
-      by (Some (floating l a [] d)) e t =
+      by_statement : (o : Option Statement) → slice_get db k ≡ o → list_any is_floating (list_at o)
+          ≡ true
+          → (v : ℕ) × (typed_variable_at db k ≡ Some v) × IsFloat db k v
+      by_statement None e t = absurd (true≢false (sym t))
+      by_statement (Some (constants a xs d)) e t = absurd (true≢false (sym t))
+      by_statement (Some (variables a xs d)) e t = absurd (true≢false (sym t))
+      by_statement (Some (disjoint a xs d)) e t = absurd (true≢false (sym t))
+      by_statement (Some (essential l a xs d)) e t = absurd (true≢false (sym t))
+      by_statement (Some (axiomatic l a xs d)) e t = absurd (true≢false (sym t))
+      by_statement (Some (provable l a xs q ps d)) e t = absurd (true≢false (sym t))
+      by_statement (Some (opening a)) e t = absurd (true≢false (sym t))
+      by_statement (Some (closing a)) e t = absurd (true≢false (sym t))
+      by_statement (Some (floating l a [] d)) e t =
           absurd (let n = (append_none (label_faults (names_before db k) l)
-          (floating_faults (names_before db k) a []) (law k h (floating l a [] d) e)).1 in
+          (floating_faults (names_before db k) a []) (law k k_lt_length_db (floating l a [] d) e)).1
+          in
           cc)
-      by (Some (floating l a (c ∷ []) d)) e t =
+      by_statement (Some (floating l a (c ∷ []) d)) e t =
           absurd (let n = (append_none (label_faults (names_before db k) l)
           (floating_faults (names_before db k) a (c ∷ []))
-          (law k h (floating l a (c ∷ []) d) e)).1 in
+          (law k k_lt_length_db (floating l a (c ∷ []) d) e)).1 in
           cc)
-      by (Some (floating l a (c ∷ x ∷ xs) d)) e t =
+      by_statement (Some (floating l a (c ∷ x ∷ xs) d)) e t =
           let v = index_of x.word (symbol_names db) in let is = ap (typed_of db) e in
-          (v, is, typed_float k v h is)
+          (v, is, typed_float k v k_lt_length_db is)
 
   module _ (k v : ℕ) (h : k < length db) (f : IsFloat db k v) where
     pub formula_is : formula_at db k ≡ index_of f.typecode.word (symbol_names db) ∷ v ∷ []
@@ -183,13 +188,13 @@ module _ (db : List Statement) (sound : IsSound db) where
     typecode_below : index_of f.typecode.word (symbol_names db) < length (symbol_names db)
     typecode_below =
         subst (λ (xs : List ℕ). get_or xs 0 0 < length (symbol_names db)) formula_is
-        (sound.below k h 0 0
+        (sound.symbols_have_numbers k h 0 0
         (subst (λ (xs : List ℕ). 0 < length xs) (sym formula_is) (omega arith)))
 
     pub variable_below : v < length (symbol_names db)
     variable_below =
         subst (λ (xs : List ℕ). get_or xs 1 0 < length (symbol_names db)) formula_is
-        (sound.below k h 1 0
+        (sound.symbols_have_numbers k h 1 0
         (subst (λ (xs : List ℕ). 1 < length xs) (sym formula_is) (omega arith)))
 
     -- its typecode is no variable
@@ -197,8 +202,8 @@ module _ (db : List Statement) (sound : IsSound db) where
         ≡ false
     typecode_constant =
         ap (λ o. elim o [ None ↦ false | Some w ↦ is_in w (flat_map variables_of db) ])
-        (place_get f.typecode.word (symbol_names db) typecode_below)
-        ∙ sound.apart f.typecode.word
+        (index_get f.typecode.word (symbol_names db) typecode_below)
+        ∙ sound.no_constant_is_variable f.typecode.word
         (sym (ap (λ xs. is_in f.typecode.word (flat_map constants_of xs))
         (take-append-drop k db))
         ∙ ap (is_in f.typecode.word) (flat_map-append constants_of (take k db) (drop k db))
@@ -213,21 +218,23 @@ module _ (db : List Statement) (sound : IsSound db) where
   -- a variable has one active `$f`
   pub typed_once : (j k v : ℕ) → j < k → k < length db → IsFloat db j v → IsFloat db k v
       → is_block_open db j k ≡ true → ⊥
-  typed_once j k v l h f g e =
+  typed_once j k v j_lt_k k_lt_length_db is_float g e =
       let i : j < length db = omega arith in
-      let bj = subst (λ n. n < length (symbol_names db)) (sym f.number) (variable_below j v i f) in
-      let bk = subst (λ n. n < length (symbol_names db)) (sym g.number) (variable_below k v h g) in
+      let bj = subst (λ n. n < length (symbol_names db)) (sym is_float.number)
+      (variable_below j v i is_float) in
+      let bk = subst (λ n. n < length (symbol_names db)) (sym g.number)
+      (variable_below k v k_lt_length_db g) in
       let same =
       same_Some _ _
-      (sym (place_get f.variable.word (symbol_names db) bj)
-      ∙ ap (slice_get (symbol_names db)) (f.number ∙ sym g.number)
-      ∙ place_get g.variable.word (symbol_names db) bk) in
+      (sym (index_get is_float.variable.word (symbol_names db) bj)
+      ∙ ap (slice_get (symbol_names db)) (is_float.number ∙ sym g.number)
+      ∙ index_get g.variable.word (symbol_names db) bk) in
       let w = g.variable.word in
       let there =
-      ap (λ o. is_in w (flat_map typed_words (list_at o))) f.is
-      ∙ ap (λ b. b || false) ((bytes_eq-Decides w f.variable.word).1 (sym same)) in
+      ap (λ o. is_in w (flat_map typed_words (list_at o))) is_float.is
+      ∙ ap (λ b. b || false) ((bytes_eq-Decides w is_float.variable.word).1 (sym same)) in
       true≢false
       (sym (range_any (λ i. is_active db i k && has_word db typed_words w i) k 0 j (omega arith)
-      (omega arith) (ap₂ (λ a b. a && b) (float_active j v i f k l ∙ e) there))
+      (omega arith) (ap₂ (λ a b. a && b) (float_active j v i is_float k j_lt_k ∙ e) there))
       ∙ sym (among_active db typed_words w (λ i. is_active db i k) k 0)
       ∙ sym (typed_in w (active_statements db k)) ∙ g.untyped)

@@ -13,41 +13,45 @@ use Rattle.mm_spec.specs.Citation.{is_assertion}
 use Rattle.mm_spec.specs.Frame.{symbol_names}
 use Rattle.mm_outline.specs.Blocks.{never}
 use Rattle.mm_database.specs.Frames.{Mandatory, mandatory_at, frame_or_none, frames_before}
-use Rattle.mm_database.specs.Parsed.{IsSound, typed_at}
-use Rattle.mm_frame.specs.Hypotheses.{AreTyped}
+use Rattle.mm_database.specs.ParsedStatements.{IsSound, typed_variable_at}
+use Rattle.mm_frame.specs.Hypotheses.{AreLastFloats}
 use Rattle.mm_frame.proofs.NestedLaw.{stays_earlier}
 use Rattle.mm_frame.proofs.FloatLaw.{typed_float, typed_once, variable_below}
 
 -- ---- the types of variables
 
 pub typed_start : (db : List Statement) (ts : List ℕ) (n : ℕ) → n ≡ length (symbol_names db)
-    → length ts ≡ n → ((i : ℕ) → i < n → get_or ts i 0 ≡ never) → AreTyped db 0 ts
+    → length ts ≡ n → ((i : ℕ) → i < n → get_or ts i 0 ≡ never) → AreLastFloats db 0 ts
 typed_start db ts n c m all = record {
   count = m ∙ c;
   some = λ v h ne. absurd (ne (all v (omega (arith, c, h))));
   alone = λ j v h. absurd (omega arith);
 }
 
-pub typed_none : (db : List Statement) (k : ℕ) (ts : List ℕ) → AreTyped db k ts
-    → typed_at db k ≡ None → AreTyped db (k + 1) ts
+pub typed_none : (db : List Statement) (k : ℕ) (ts : List ℕ) → AreLastFloats db k ts
+    → typed_variable_at db k ≡ None → AreLastFloats db (k + 1) ts
 typed_none db k ts t e = record {
   count = t.count;
   some = λ v h ne. let s = t.some v h ne in ((let a = s.0 in omega (arith, a)), s.1);
-  alone = λ j v h l is on. by j v h l is on (cases_lt j k);
+  alone = λ j v h l is on. by_order j v h l is on (cases_lt j k);
 }
   where
-    by : (j v : ℕ) → j < k + 1 → v < length (symbol_names db) → typed_at db j ≡ Some v
+    by_order : (j v : ℕ) → j < k + 1 → v < length (symbol_names db) → typed_variable_at db j
+        ≡ Some v
         → is_block_open db j (k + 1) ≡ true → (j < k) ⊎ (k ≤ j) → get_or ts v 0 ≡ j
-    by j v h l is on (inl m) =
+    by_order j v h l is on (inl m) =
         t.alone j v m l is (stays_earlier db j k (k + 1) (omega arith) (omega arith) on)
-    by j v h l is on (inr m) =
-        absurd (let same : j ≡ k = omega arith in let z = sym is ∙ ap (typed_at db) same ∙ e in cc)
+    by_order j v h l is on (inr m) =
+        absurd (let j_is_k : j ≡ k = omega arith in let z = sym is
+        ∙ ap (typed_variable_at db) j_is_k
+        ∙ e in cc)
 
 pub typed_some : (db : List Statement) → IsSound db → (k v : ℕ) (ts : List ℕ) → k < length db
-    → AreTyped db k ts → typed_at db k ≡ Some v → AreTyped db (k + 1) (set ts v k)
+    → AreLastFloats db k ts → typed_variable_at db k ≡ Some v
+    → AreLastFloats db (k + 1) (set ts v k)
 typed_some db sound k v ts few t e = record {
   count = length-set ts v k ∙ t.count;
-  some = λ u h ne. some u h ne (cases_eq u v);
+  some = λ u h ne. by_equality u h ne (cases_eq u v);
   alone = λ j u h l is on. alone j u h l is on (cases_lt j k) (cases_eq u v);
 }
   where
@@ -60,31 +64,32 @@ typed_some db sound k v ts few t e = record {
     here : get_or (set ts v k) v 0 ≡ k
     here = get_or-set_same ts v k 0 below
 
-    some : (u : ℕ) → u < length (symbol_names db) → get_or (set ts v k) u 0 ≢ never
+    by_equality : (u : ℕ) → u < length (symbol_names db) → get_or (set ts v k) u 0 ≢ never
         → (u ≡ v) ⊎ (u ≢ v)
-        → (get_or (set ts v k) u 0 < k + 1) × (typed_at db (get_or (set ts v k) u 0) ≡ Some u)
-    some u h ne (inl s) =
+        → (get_or (set ts v k) u 0 < k + 1) × (typed_variable_at db (get_or (set ts v k) u 0)
+        ≡ Some u)
+    by_equality u h ne (inl s) =
         let is = ap (λ i. get_or (set ts v k) i 0) s ∙ here in
-        ((omega (arith, is)), ap (typed_at db) is ∙ e ∙ ap Some (sym s))
-    some u h ne (inr n) =
+        ((omega (arith, is)), ap (typed_variable_at db) is ∙ e ∙ ap Some (sym s))
+    by_equality u h ne (inr n) =
         let is = get_or-set_other ts v u k 0 n in
         let o = t.some u h (λ z. ne (is ∙ z)) in
-        ((let a = o.0 in omega (arith, a, is)), ap (typed_at db) is ∙ o.1)
+        ((let a = o.0 in omega (arith, a, is)), ap (typed_variable_at db) is ∙ o.1)
 
-    alone : (j u : ℕ) → j < k + 1 → u < length (symbol_names db) → typed_at db j ≡ Some u
+    alone : (j u : ℕ) → j < k + 1 → u < length (symbol_names db) → typed_variable_at db j ≡ Some u
         → is_block_open db j (k + 1) ≡ true → (j < k) ⊎ (k ≤ j) → (u ≡ v) ⊎ (u ≢ v)
         → get_or (set ts v k) u 0 ≡ j
-    alone j u h l is on (inl m) (inl s) =
+    alone j u j_lt_next_k l is on (inl m) (inl s) =
         absurd (typed_once db sound j k v m few
         (typed_float db sound j v (omega arith) (is ∙ ap Some s)) (typed_float db sound k v few e)
         (stays_earlier db j k (k + 1) (omega arith) (omega arith) on))
-    alone j u h l is on (inl m) (inr n) =
+    alone j u j_lt_next_k l is on (inl m) (inr n) =
         get_or-set_other ts v u k 0 n
         ∙ t.alone j u m l is (stays_earlier db j k (k + 1) (omega arith) (omega arith) on)
-    alone j u h l is on (inr m) q =
-        let same : k ≡ j = omega arith in
-        let s = same_Some _ _ (sym is ∙ sym (ap (typed_at db) same) ∙ e) in
-        ap (λ i. get_or (set ts v k) i 0) s ∙ here ∙ same
+    alone j u j_lt_next_k l is on (inr m) q =
+        let k_is_j : k ≡ j = omega arith in
+        let s = same_Some _ _ (sym is ∙ sym (ap (typed_variable_at db) k_is_j) ∙ e) in
+        ap (λ i. get_or (set ts v k) i 0) s ∙ here ∙ k_is_j
 
 -- ---- the frames
 

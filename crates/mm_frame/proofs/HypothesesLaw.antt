@@ -21,8 +21,8 @@ use Rattle.mm_spec.proofs.MemberLaw.{any_witness, any_of, same_any, member_flat}
 use Rattle.mm_spec.proofs.ListLaw.{member_at}
 use Rattle.mm_outline.specs.Blocks.{never}
 use Rattle.mm_frame.specs.Latest.{is_staying}
-use Rattle.mm_database.specs.Parsed.{IsSound, typed_at}
-use Rattle.mm_frame.specs.Hypotheses.{AreTyped, is_float_of}
+use Rattle.mm_database.specs.ParsedStatements.{IsSound, typed_variable_at}
+use Rattle.mm_frame.specs.Hypotheses.{AreLastFloats, is_float_of}
 use Rattle.mm_spec.proofs.RisingLaw.{Rising, filter_is}
 use Rattle.mm_frame.proofs.FloatLaw.{typed_float, floating_typed, formula_is, floating_is}
 use Rattle.mm_frame.proofs.FloatLaw.{typecode_constant, variable_below, float_active}
@@ -46,27 +46,27 @@ rising_is (y ∷ ys) a inc h = (
     tail : (k : ℕ) → get_or (y ∷ ys) (k + 1) 0 < get_or (y ∷ ys) (k + 1 + 1) 0
         → get_or ys k 0 < get_or ys (k + 1) 0
     tail k s =
-        let e : k + 1 ≡ suc k = omega arith in
+        let next_k_is_next_k : k + 1 ≡ suc k = omega arith in
         let f : k + 1 + 1 ≡ suc (k + 1) = omega arith in
         subst (λ i. get_or ys k 0 < get_or (y ∷ ys) i 0) f
-        (subst (λ i. get_or (y ∷ ys) i 0 < get_or (y ∷ ys) (k + 1 + 1) 0) e s)
+        (subst (λ i. get_or (y ∷ ys) i 0 < get_or (y ∷ ys) (k + 1 + 1) 0) next_k_is_next_k s)
 
 filter_filter : (p q : ℕ → Bool) (xs : List ℕ)
     → filter p (filter q xs) ≡ filter (λ j. q j && p j) xs
 filter_filter p q [] = refl
-filter_filter p q (x ∷ xs) = by (q x) (filter_filter p q xs)
+filter_filter p q (x ∷ xs) = by_first_test (q x) (filter_filter p q xs)
   where
-    by : (b : Bool) → filter p (filter q xs) ≡ filter (λ j. q j && p j) xs
+    by_first_test : (b : Bool) → filter p (filter q xs) ≡ filter (λ j. q j && p j) xs
         → filter p (cond b (x ∷ filter q xs) (filter q xs))
         ≡ cond (b && p x) (x ∷ filter (λ j. q j && p j) xs) (filter (λ j. q j && p j) xs)
-    by true r = go (p x)
+    by_first_test true r = by_second_test (p x)
       where
-        go : (c : Bool)
+        by_second_test : (c : Bool)
             → ◌≡◌ {A = List ℕ} (cond c (x ∷ filter p (filter q xs)) (filter p (filter q xs)))
             (cond c (x ∷ filter (λ j. q j && p j) xs) (filter (λ j. q j && p j) xs))
-        go true = ap (λ ys. x ∷ ys) r
-        go false = r
-    by false r = r
+        by_second_test true = ap (λ ys. x ∷ ys) r
+        by_second_test false = r
+    by_first_test false r = r
 
 module _ (db : List Statement) (k : ℕ) where
   -- ---- variables
@@ -97,14 +97,15 @@ module _ (db : List Statement) (k : ℕ) where
       ltb-true j k (and_parts (nat_lt j k) (is_staying is_essential db j k) e).0
 
   variable_named : (x : ℕ) → is_variable_number db x ≡ true → x < length (symbol_names db)
-  variable_named x e = by (cases_lt x (length (symbol_names db)))
+  variable_named x x_is_variable = by_order (cases_lt x (length (symbol_names db)))
     where
-      by : (x < length (symbol_names db)) ⊎ (length (symbol_names db) ≤ x)
+      by_order : (x < length (symbol_names db)) ⊎ (length (symbol_names db) ≤ x)
           → x < length (symbol_names db)
-      by (inl l) = l
-      by (inr l) =
+      by_order (inl l) = l
+      by_order (inr l) =
           absurd (true≢false
-          (sym e ∙ ap (λ o. elim o [ None ↦ false | Some w ↦ is_in w (flat_map variables_of db) ])
+          (sym x_is_variable ∙ ap (λ o. elim o
+          [ None ↦ false | Some w ↦ is_in w (flat_map variables_of db) ])
           (slice_get_past (symbol_names db) x l)))
 
   pub mandatory_named : (x : ℕ) → is_member (mandatory_variables db k) x ≡ true
@@ -117,10 +118,10 @@ module _ (db : List Statement) (k : ℕ) where
       (formula_at db k ++ flat_map (formula_at db) (active_of is_essential db k)) x)
       ∙ e)).0
 
-  pub found_below : (xs : List ℕ)
+  pub variables_below : (xs : List ℕ)
       → ((x : ℕ) → is_member xs x ≡ is_member (mandatory_variables db k) x)
       → All (λ s. s < length (symbol_names db)) xs
-  found_below xs h i d l =
+  variables_below xs h i d l =
       mandatory_named (get_or xs i d) (sym (h (get_or xs i d)) ∙ member_at xs i d l)
 
   -- ---- hypotheses
@@ -131,157 +132,163 @@ module _ (db : List Statement) (k : ℕ) where
       || (list_any is_floating (statement_at db j)
       && list_any (is_member (mandatory_variables db k)) (formula_at db j))
 
-  module _ (sound : IsSound db) (h : k ≤ length db) (ts : List ℕ) (typed : AreTyped db k ts)
-      (found : List ℕ)
-      (found_is : (x : ℕ) → is_member found x ≡ is_member (mandatory_variables db k) x) where
-    -- an active `$f` of a mandatory variable is found
-    float_found : (j : ℕ) → j < k → list_any is_floating (statement_at db j) ≡ true
-        → list_any (is_member (mandatory_variables db k)) (formula_at db j) ≡ true
-        → is_active db j k ≡ true → list_any (is_float_of db k ts j) found ≡ true
-    float_found j l t m a =
-        let n : j < length db = omega arith in
-        let f = floating_typed db sound j n t in
-        let v = f.0 in
-        let x = f.2 in
-        let c = index_of x.typecode.word (symbol_names db) in
-        let both =
-        sym (ap (list_any (is_member (mandatory_variables db k))) (formula_is db sound j v n x))
-        ∙ m in
-        let no =
-        member_filter (is_variable_number db)
-        (formula_at db k ++ flat_map (formula_at db) (active_of is_essential db k)) c
-        ∙ ap (λ b. b
-        && is_member (formula_at db k ++ flat_map (formula_at db) (active_of is_essential db k)) c)
-        (typecode_constant db sound j v n x) in
-        let yes =
-        sym (or-false (is_member (mandatory_variables db k) v))
-        ∙ sym (ap (λ b. b || (is_member (mandatory_variables db k) v || false)) no) ∙ both in
-        let on = sym (float_active db sound j v n x k l) ∙ a in
-        let same = typed.alone j v l (variable_below db sound j v n x) f.1 on in
-        any_of (is_float_of db k ts j) found v (found_is v ∙ yes)
-        (ap₂ (λ p q. p && q) (eq-eqb j (get_or ts v 0) (sym same))
-        (ap₂ (λ p q. not p && q)
-        (ne_eqb (get_or ts v 0) never
-        (λ e. let few = sound.few in absurd (omega (arith, e, same, n, few))))
-        (ap (λ i. is_block_open db i k) same
-        ∙ on)))
+  module _ (sound : IsSound db) (h : k ≤ length db) (ts : List ℕ) (typed : AreLastFloats db k ts)
+      (variables : List ℕ)
+      (variables_are : (x : ℕ) → is_member variables x ≡ is_member (mandatory_variables db k) x)
+    where
+      -- an active `$f` of a mandatory variable is found
+      float_found : (j : ℕ) → j < k → list_any is_floating (statement_at db j) ≡ true
+          → list_any (is_member (mandatory_variables db k)) (formula_at db j) ≡ true
+          → is_active db j k ≡ true → list_any (is_float_of db k ts j) variables ≡ true
+      float_found j j_lt_k t m active_at_k =
+          let j_lt_length_db : j < length db = omega arith in
+          let f = floating_typed db sound j j_lt_length_db t in
+          let v = f.0 in
+          let x = f.2 in
+          let c = index_of x.typecode.word (symbol_names db) in
+          let both =
+          sym (ap (list_any (is_member (mandatory_variables db k)))
+          (formula_is db sound j v j_lt_length_db x))
+          ∙ m in
+          let no =
+          member_filter (is_variable_number db)
+          (formula_at db k ++ flat_map (formula_at db) (active_of is_essential db k)) c
+          ∙ ap (λ b. b
+          && is_member (formula_at db k ++ flat_map (formula_at db) (active_of is_essential db k))
+          c)
+          (typecode_constant db sound j v j_lt_length_db x) in
+          let yes =
+          sym (or-false (is_member (mandatory_variables db k) v))
+          ∙ sym (ap (λ b. b || (is_member (mandatory_variables db k) v || false)) no) ∙ both in
+          let on = sym (float_active db sound j v j_lt_length_db x k j_lt_k) ∙ active_at_k in
+          let same = typed.alone j v j_lt_k (variable_below db sound j v j_lt_length_db x) f.1 on in
+          any_of (is_float_of db k ts j) variables v (variables_are v ∙ yes)
+          (ap₂ (λ p q. p && q) (eq-eqb j (get_or ts v 0) (sym same))
+          (ap₂ (λ p q. not p && q)
+          (ne_eqb (get_or ts v 0) never
+          (λ e. let few = sound.few in absurd (omega (arith, e, same, j_lt_length_db, few))))
+          (ap (λ i. is_block_open db i k) same
+          ∙ on)))
 
-    -- what is found is an active `$f` of a mandatory variable
-    found_float : (j : ℕ) → list_any (is_float_of db k ts j) found ≡ true
-        → (is_active db j k ≡ true) × (list_any is_floating (statement_at db j) ≡ true)
-        × (list_any (is_member (mandatory_variables db k)) (formula_at db j) ≡ true) × (j < k)
-    found_float j e =
-        let w = any_witness (is_float_of db k ts j) found e in
-        let v = w.0 in
-        let t = get_or ts v 0 in
-        let same =
-        eqb-true j t
-            (and_parts (nat_eq j t) (not (nat_eq t never) && is_block_open db t k) w.2).0 in
-        let rest = (and_parts (nat_eq j t) (not (nat_eq t never) && is_block_open db t k) w.2).1 in
-        let m = sym (found_is v) ∙ w.1 in
-        let s =
-        typed.some v (mandatory_named v m)
-        (λ z. true≢false
-        (sym (and_parts (not (nat_eq t never)) (is_block_open db t k) rest).0
-        ∙ ap not (eq-eqb t never z))) in
-        let l : j < k = subst (λ i. i < k) (sym same) s.0 in
-        let n : j < length db = omega arith in
-        let at : typed_at db j ≡ Some v = ap (typed_at db) same ∙ s.1 in
-        let x = typed_float db sound j v n at in
-        let c = index_of x.typecode.word (symbol_names db) in (
-          float_active db sound j v n x k l ∙ ap (λ i. is_block_open db i k) same
-              ∙ (and_parts (not (nat_eq t never)) (is_block_open db t k) rest).1,
-          floating_is db sound j v n x,
-          ap (list_any (is_member (mandatory_variables db k))) (formula_is db sound j v n x)
-              ∙ ap (λ b. is_member (mandatory_variables db k) c || (b || false)) m
-              ∙ or-true (is_member (mandatory_variables db k) c),
-          l,
-        )
+      -- what is found is an active `$f` of a mandatory variable
+      found_float : (j : ℕ) → list_any (is_float_of db k ts j) variables ≡ true
+          → (is_active db j k ≡ true) × (list_any is_floating (statement_at db j) ≡ true)
+          × (list_any (is_member (mandatory_variables db k)) (formula_at db j) ≡ true) × (j < k)
+      found_float j e =
+          let w = any_witness (is_float_of db k ts j) variables e in
+          let v = w.0 in
+          let t = get_or ts v 0 in
+          let same =
+          eqb-true j t (and_parts (nat_eq j t) (not (nat_eq t never) && is_block_open db t k) w.2).0 in
+          let rest = (and_parts (nat_eq j t) (not (nat_eq t never) && is_block_open db t k) w.2).1 in
+          let m = sym (variables_are v) ∙ w.1 in
+          let s =
+          typed.some v (mandatory_named v m)
+          (λ z. true≢false
+          (sym (and_parts (not (nat_eq t never)) (is_block_open db t k) rest).0
+          ∙ ap not (eq-eqb t never z))) in
+          let l : j < k = subst (λ i. i < k) (sym same) s.0 in
+          let j_lt_length_db : j < length db = omega arith in
+          let at : typed_variable_at db j ≡ Some v = ap (typed_variable_at db) same ∙ s.1 in
+          let x = typed_float db sound j v j_lt_length_db at in
+          let c = index_of x.typecode.word (symbol_names db) in (
+            float_active db sound j v j_lt_length_db x k l ∙ ap (λ i. is_block_open db i k) same
+                ∙ (and_parts (not (nat_eq t never)) (is_block_open db t k) rest).1,
+            floating_is db sound j v j_lt_length_db x,
+            ap (list_any (is_member (mandatory_variables db k)))
+                (formula_is db sound j v j_lt_length_db x)
+                ∙ ap (λ b. is_member (mandatory_variables db k) c || (b || false)) m
+                ∙ or-true (is_member (mandatory_variables db k) c),
+            l,
+          )
 
-    pub hypotheses_are : (es xs : List ℕ)
-        → ((j : ℕ) → is_member es j ≡ is_member (active_of is_essential db k) j)
-        → IsStrictlyIncreasing xs
-        → ((j : ℕ) → is_member xs j ≡ (is_member es j || list_any (is_float_of db k ts j) found))
-        → xs ≡ mandatory_hypotheses db k
-    hypotheses_are es xs essentials rising same =
-        sym (filter_filter wanted (λ j. is_active db j k) (range_with_len 0 k)
-        ∙ filter_is (λ j. is_active db j k && wanted j) k 0 xs
-        (rising_is xs 0 rising (λ l. omega arith))
-        (λ j e. let l = (back j (sym (same j) ∙ e)).1 in omega (arith, l))
-        (λ j a b. both j (omega arith)))
-      where
-        essential_is : (j : ℕ)
-            → is_member es j
-            ≡ (list_any is_essential (statement_at db j) && (is_active db j k && nat_lt j k))
-        essential_is j =
-            essentials j
-            ∙ member_filter (λ j. list_any is_essential (statement_at db j)) (active db k) j
-            ∙ ap (λ b. list_any is_essential (statement_at db j) && b)
-            (member_filter (λ j. is_active db j k) (range_with_len 0 k) j
-            ∙ ap (λ b. is_active db j k && b)
-            (member_range k 0 j (omega arith)
-            ∙ (let z : 0 + k ≡ k = omega arith in ap (nat_lt j) z)))
+      pub hypotheses_are : (es xs : List ℕ)
+          → ((j : ℕ) → is_member es j ≡ is_member (active_of is_essential db k) j)
+          → IsStrictlyIncreasing xs
+          → ((j : ℕ) → is_member xs j ≡ (is_member es j
+          || list_any (is_float_of db k ts j) variables))
+          → xs ≡ mandatory_hypotheses db k
+      hypotheses_are es xs essentials rising same =
+          sym (filter_filter wanted (λ j. is_active db j k) (range_with_len 0 k)
+          ∙ filter_is (λ j. is_active db j k && wanted j) k 0 xs
+          (rising_is xs 0 rising (λ l. omega arith))
+          (λ j e. let l = (right_to_left j (sym (same j) ∙ e)).1 in omega (arith, l))
+          (λ j a b. both j (omega arith)))
+        where
+          essential_is : (j : ℕ)
+              → is_member es j
+              ≡ (list_any is_essential (statement_at db j) && (is_active db j k && nat_lt j k))
+          essential_is j =
+              essentials j
+              ∙ member_filter (λ j. list_any is_essential (statement_at db j)) (active db k) j
+              ∙ ap (λ b. list_any is_essential (statement_at db j) && b)
+              (member_filter (λ j. is_active db j k) (range_with_len 0 k) j
+              ∙ ap (λ b. is_active db j k && b)
+              (member_range k 0 j (omega arith)
+              ∙ (let z : 0 + k ≡ k = omega arith in ap (nat_lt j) z)))
 
-        back : (j : ℕ) → (is_member es j || list_any (is_float_of db k ts j) found) ≡ true
-            → ((is_active db j k && wanted j) ≡ true) × (j < k)
-        back j e = by (is_member es j) refl e
-          where
-            by : (b : Bool) → is_member es j ≡ b
-                → (b || list_any (is_float_of db k ts j) found) ≡ true
-                → ((is_active db j k && wanted j) ≡ true) × (j < k)
-            by true m e =
-                let z = sym (essential_is j) ∙ m in
-                let t =
-                (and_parts (list_any is_essential (statement_at db j))
-                (is_active db j k && nat_lt j k) z).0 in
-                let y =
-                (and_parts (list_any is_essential (statement_at db j))
-                (is_active db j k && nat_lt j k) z).1 in (
-                  ap₂ (λ a b. a
-                      && (b ||
-                      (list_any is_floating (statement_at db j)
-                      && list_any (is_member (mandatory_variables db k)) (formula_at db j))))
-                      (and_parts (is_active db j k) (nat_lt j k) y).0 t,
-                  ltb-true j k (and_parts (is_active db j k) (nat_lt j k) y).1,
-                )
-            by false m e =
-                let f = found_float j e in (
-                  ap₂ (λ a b. a && b) f.0
-                      (ap (λ b. list_any is_essential (statement_at db j) || b)
-                      (ap₂ (λ a b. a && b) f.1 f.2)
-                      ∙ or-true (list_any is_essential (statement_at db j))),
-                  f.3,
-                )
+          right_to_left : (j : ℕ) → (is_member es j || list_any (is_float_of db k ts j) variables)
+              ≡ true
+              → ((is_active db j k && wanted j) ≡ true) × (j < k)
+          right_to_left j e = by_membership (is_member es j) refl e
+            where
+              by_membership : (b : Bool) → is_member es j ≡ b
+                  → (b || list_any (is_float_of db k ts j) variables) ≡ true
+                  → ((is_active db j k && wanted j) ≡ true) × (j < k)
+              by_membership true j_is_member e =
+                  let z = sym (essential_is j) ∙ j_is_member in
+                  let t =
+                  (and_parts (list_any is_essential (statement_at db j))
+                  (is_active db j k && nat_lt j k) z).0 in
+                  let y =
+                  (and_parts (list_any is_essential (statement_at db j))
+                  (is_active db j k && nat_lt j k) z).1 in (
+                    ap₂ (λ a b. a
+                        && (b ||
+                        (list_any is_floating (statement_at db j)
+                        && list_any (is_member (mandatory_variables db k)) (formula_at db j))))
+                        (and_parts (is_active db j k) (nat_lt j k) y).0 t,
+                    ltb-true j k (and_parts (is_active db j k) (nat_lt j k) y).1,
+                  )
+              by_membership false m e =
+                  let f = found_float j e in (
+                    ap₂ (λ a b. a && b) f.0
+                        (ap (λ b. list_any is_essential (statement_at db j) || b)
+                        (ap₂ (λ a b. a && b) f.1 f.2)
+                        ∙ or-true (list_any is_essential (statement_at db j))),
+                    f.3,
+                  )
 
-        forth : (j : ℕ) → j < k → (is_active db j k && wanted j) ≡ true
-            → (is_member es j || list_any (is_float_of db k ts j) found) ≡ true
-        forth j l e =
-            by (list_any is_essential (statement_at db j)) refl
-            (and_parts (is_active db j k) (wanted j) e).1
-          where
-            a : is_active db j k ≡ true
-            a = (and_parts (is_active db j k) (wanted j) e).0
+          left_to_right : (j : ℕ) → j < k → (is_active db j k && wanted j) ≡ true
+              → (is_member es j || list_any (is_float_of db k ts j) variables) ≡ true
+          left_to_right j j_lt_k e =
+              by_essential (list_any is_essential (statement_at db j)) refl
+              (and_parts (is_active db j k) (wanted j) e).1
+            where
+              a : is_active db j k ≡ true
+              a = (and_parts (is_active db j k) (wanted j) e).0
 
-            by : (b : Bool) → list_any is_essential (statement_at db j) ≡ b
-                → (b || (list_any is_floating (statement_at db j)
-                && list_any (is_member (mandatory_variables db k)) (formula_at db j)))
-                ≡ true
-                → (is_member es j || list_any (is_float_of db k ts j) found) ≡ true
-            by true t e =
-                ap (λ b. b || list_any (is_float_of db k ts j) found)
-                (essential_is j ∙ ap₂ (λ p q. p && q) t (ap₂ (λ p q. p && q) a (lt-ltb j k l)))
-            by false t e =
-                ap (λ b. is_member es j || b)
-                (float_found j l
-                (and_parts (list_any is_floating (statement_at db j))
-                (list_any (is_member (mandatory_variables db k)) (formula_at db j)) e).0
-                (and_parts (list_any is_floating (statement_at db j))
-                (list_any (is_member (mandatory_variables db k)) (formula_at db j)) e).1 a)
-                ∙ or-true (is_member es j)
+              by_essential : (b : Bool) → list_any is_essential (statement_at db j) ≡ b
+                  → (b || (list_any is_floating (statement_at db j)
+                  && list_any (is_member (mandatory_variables db k)) (formula_at db j)))
+                  ≡ true
+                  → (is_member es j || list_any (is_float_of db k ts j) variables) ≡ true
+              by_essential true t e =
+                  ap (λ b. b || list_any (is_float_of db k ts j) variables)
+                  (essential_is j ∙ ap₂ (λ p q. p && q) t
+                  (ap₂ (λ p q. p && q) a (lt-ltb j k j_lt_k)))
+              by_essential false t e =
+                  ap (λ b. is_member es j || b)
+                  (float_found j j_lt_k
+                  (and_parts (list_any is_floating (statement_at db j))
+                  (list_any (is_member (mandatory_variables db k)) (formula_at db j)) e).0
+                  (and_parts (list_any is_floating (statement_at db j))
+                  (list_any (is_member (mandatory_variables db k)) (formula_at db j)) e).1 a)
+                  ∙ or-true (is_member es j)
 
-        both : (j : ℕ) → j < k → (is_active db j k && wanted j) ≡ is_member xs j
-        both j l =
-            same_tests (is_active db j k && wanted j)
-            (is_member es j || list_any (is_float_of db k ts j) found) (forth j l)
-            (λ e. (back j e).0)
-            ∙ sym (same j)
+          both : (j : ℕ) → j < k → (is_active db j k && wanted j) ≡ is_member xs j
+          both j l =
+              same_tests (is_active db j k && wanted j)
+              (is_member es j || list_any (is_float_of db k ts j) variables) (left_to_right j l)
+              (λ e. (right_to_left j e).0)
+              ∙ sym (same j)

@@ -42,30 +42,31 @@ module _ (test : Statement → Bool) (db : List Statement) where
   -- a candidate that is not open gives way to the last one active at it
   pub candidate_next : (k last next : ℕ) → IsCandidate test db k last → last ≢ never
       → is_block_open db last k ≡ false → IsLatest test db last next → IsCandidate test db k next
-  candidate_next k last next c ne out x = record {
+  candidate_next k last next is_candidate ne out is_latest = record {
     found =
-        λ n. let f = x.found n in let g = c.found ne in (
+        λ n. let f = is_latest.found n in let g = is_candidate.found ne in (
           (let a = f.0 in let b = g.0 in omega (arith, a, b)),
           (and_parts
               (list_any test (statement_at db next)) (is_block_open db next last) f.1).0,
         );
-    after = λ i h o. by i h o (cases_order i last);
+    after = λ i h o. by_order i h o (cases_order i last);
   }
     where
-      by : (i : ℕ) → i < k → (next < i) ⊎ (next ≡ never) → (i ≡ last) ⊎ ((i < last) ⊎ (last < i))
+      by_order : (i : ℕ) → i < k → (next < i) ⊎ (next ≡ never) → (i ≡ last)
+          ⊎ ((i < last) ⊎ (last < i))
           → is_staying test db i k ≡ false
-      by i h o (inr (inl l)) =
+      by_order i i_lt_k o (inr (inl l)) =
           false_from_ne_true (is_staying test db i k)
           (λ t. true≢false
-          (sym (on_earlier i last k (omega arith) (let g = (c.found ne).0 in omega (arith, g)) t)
-          ∙ x.after i l o))
-      by i h o (inl e) =
+          (sym (on_earlier i last k (omega arith)
+          (let g = (is_candidate.found ne).0 in omega (arith, g)) t)
+          ∙ is_latest.after i l o))
+      by_order i i_lt_k o (inl e) =
           subst (λ i. is_staying test db i k ≡ false) (sym e)
           (false_from_ne_true (is_staying test db last k)
           (λ t. true≢false
-          (sym (and_parts (list_any test (statement_at db last)) (is_block_open db last k) t).1
-          ∙ out)))
-      by i h o (inr (inr g)) = c.after i h (inl g)
+          (sym (and_parts (list_any test (statement_at db last)) (is_block_open db last k) t).1 ∙ out)))
+      by_order i i_lt_k o (inr (inr g)) = is_candidate.after i i_lt_k (inl g)
 
   pub candidate_open : (k last : ℕ) → IsCandidate test db k last
       → (last ≢ never → is_block_open db last k ≡ true) → IsLatest test db k last
@@ -79,53 +80,52 @@ module _ (test : Statement → Bool) (db : List Statement) where
       → IsCandidate test db (k + 1) k
   candidate_self k few e = record {
     found = λ n. ((omega arith), e);
-    after = λ i h o. absurd (by i h o);
+    after = λ i h o. absurd (none_is_later i h o);
   }
     where
-      by : (i : ℕ) → i < k + 1 → (k < i) ⊎ (k ≡ never) → ⊥
-      by i h (inl l) = omega arith
-      by i h (inr l) = omega arith
+      none_is_later : (i : ℕ) → i < k + 1 → (k < i) ⊎ (k ≡ never) → ⊥
+      none_is_later i h (inl l) = omega arith
+      none_is_later i h (inr l) = omega arith
 
   pub candidate_other : (k last : ℕ) → list_any test (statement_at db k) ≡ false
       → IsLatest test db k last → IsCandidate test db (k + 1) last
-  candidate_other k last e x = record {
+  candidate_other k last e is_latest = record {
     found =
-        λ n. let f = x.found n in (
+        λ n. let f = is_latest.found n in (
           (let l = f.0 in omega (arith, l)),
           (and_parts (list_any test (statement_at db last))
               (is_block_open db last k) f.1).0,
         );
-    after = λ i h o. by i h o (cases_lt i k);
+    after = λ i h o. by_order i h o (cases_lt i k);
   }
     where
-      by : (i : ℕ) → i < k + 1 → (last < i) ⊎ (last ≡ never) → (i < k) ⊎ (k ≤ i)
+      by_order : (i : ℕ) → i < k + 1 → (last < i) ⊎ (last ≡ never) → (i < k) ⊎ (k ≤ i)
           → is_staying test db i (k + 1) ≡ false
-      by i h o (inl l) =
+      by_order i h o (inl l) =
           false_from_ne_true (is_staying test db i (k + 1))
           (λ t. true≢false
-          (sym (on_earlier i k (k + 1) (omega arith) (omega arith) t) ∙ x.after i l o))
-      by i h o (inr g) =
-          let same : i ≡ k = omega arith in
-          ap (λ b. b && is_block_open db i (k + 1))
-              (ap (λ i. list_any test (statement_at db i)) same ∙ e)
+          (sym (on_earlier i k (k + 1) (omega arith) (omega arith) t) ∙ is_latest.after i l o))
+      by_order i h o (inr g) =
+          let i_is_k : i ≡ k = omega arith in
+          ap (λ b. b && is_block_open db i (k + 1)) (ap (λ i. list_any test (statement_at db i)) i_is_k ∙ e)
 
   pub latest_start : (last : ℕ) → last ≡ never → IsLatest test db 0 last
   latest_start last e = record { found = λ n. absurd (n e); after = λ i h o. absurd (omega arith) }
 
   pub height_less : (k last next : ℕ) → last ≢ never → IsLatest test db last next
       → height next < height last
-  height_less k last next ne x = by (cases_eq next never)
+  height_less k last next ne is_latest = by_presence (cases_eq next never)
     where
       full : height last ≡ last + 1
       full = ap (λ b. cond b 0 (last + 1)) (ne_eqb last never ne)
 
-      by : (next ≡ never) ⊎ (next ≢ never) → height next < height last
-      by (inl e) =
+      by_presence : (next ≡ never) ⊎ (next ≢ never) → height next < height last
+      by_presence (inl e) =
           let z : height next ≡ 0 = ap (λ b. cond b 0 (next + 1)) (eq-eqb next never e) in
           omega (arith, z, full)
-      by (inr n) =
+      by_presence (inr n) =
           let z : height next ≡ next + 1 = ap (λ b. cond b 0 (next + 1)) (ne_eqb next never n) in
-          let f = (x.found n).0 in omega (arith, z, full, f)
+          let f = (is_latest.found n).0 in omega (arith, z, full, f)
 
   -- ---- the walk
 
@@ -140,86 +140,94 @@ module _ (test : Statement → Bool) (db : List Statement) where
   walked_start k last x = record {
     found = x.found;
     only = λ i e. absurd (true≢false (sym e));
-    all = λ i h e. inr (by i h e (cases_eq last never) (cases_lt last i));
+    all = λ i h e. inr (by_presence i h e (cases_eq last never) (cases_lt last i));
   }
     where
-      by : (i : ℕ) → i < k → is_staying test db i k ≡ true → (last ≡ never) ⊎ (last ≢ never)
+      by_presence : (i : ℕ) → i < k → is_staying test db i k ≡ true → (last ≡ never)
+          ⊎ (last ≢ never)
           → (last < i) ⊎ (i ≤ last) → (last ≢ never) × (i ≤ last)
-      by i h e (inl n) b = absurd (true≢false (sym e ∙ x.after i h (inr n)))
-      by i h e (inr n) (inl l) = absurd (true≢false (sym e ∙ x.after i h (inl l)))
-      by i h e (inr n) (inr l) = (n, l)
+      by_presence i h e (inl n) b = absurd (true≢false (sym e ∙ x.after i h (inr n)))
+      by_presence i h e (inr n) (inl l) = absurd (true≢false (sym e ∙ x.after i h (inl l)))
+      by_presence i h e (inr n) (inr l) = (n, l)
 
   pub walked_next : (k : ℕ) (xs : List ℕ) (last next : ℕ) → k ≤ length db
       → IsWalked k xs last → last ≢ never → IsLatest test db last next
       → IsWalked k (xs ++ last ∷ []) next
-  walked_next k xs last next few w ne x = record {
+  walked_next k xs last next few is_walked ne is_latest = record {
     found =
-        λ n. let f = x.found n in let l = here.0 in (
+        λ n. let f = is_latest.found n in let l = here.0 in (
           (let a = f.0 in omega (arith, a, l)),
           on_nested next last k f.0 (omega (arith, l)) here.1
               ∙ f.1,
         );
     only = λ i e. only i e;
-    all = λ i h e. all i h e (w.all i h e);
+    all = λ i h e. all i h e (is_walked.all i h e);
   }
     where
       here : (last < k) × (is_staying test db last k ≡ true)
-      here = w.found ne
+      here = is_walked.found ne
 
       only : (i : ℕ) → is_member (xs ++ last ∷ []) i ≡ true
           → (i < k) × (is_staying test db i k ≡ true)
-      only i e = by (is_member xs i) (nat_eq i last) refl refl (sym (member_push xs last i) ∙ e)
+      only i i_is_member = by_values (is_member xs i) (nat_eq i last) refl refl
+          (sym (member_push xs last i) ∙ i_is_member)
         where
-          by : (a b : Bool) → is_member xs i ≡ a → nat_eq i last ≡ b → (a || b) ≡ true
+          by_values : (a b : Bool) → is_member xs i ≡ a → nat_eq i last ≡ b → (a || b) ≡ true
               → (i < k) × (is_staying test db i k ≡ true)
-          by true b p q t = w.only i p
-          by false true p q t =
+          by_values true b p q t = is_walked.only i p
+          by_values false true p q t =
               subst (λ i. (i < k) × (is_staying test db i k ≡ true)) (sym (eqb-true i last q)) here
-          by false false p q t = absurd (true≢false (sym t))
+          by_values false false p q t = absurd (true≢false (sym t))
 
       all : (i : ℕ) → i < k → is_staying test db i k ≡ true
           → (is_member xs i ≡ true) ⊎ ((last ≢ never) × (i ≤ last))
           → (is_member (xs ++ last ∷ []) i ≡ true) ⊎ ((next ≢ never) × (i ≤ next))
-      all i h e (inl m) = inl (member_push xs last i ∙ ap (λ b. b || nat_eq i last) m)
-      all i h e (inr (n, l)) = by (cases_lt i last)
+      all i i_lt_k staying_at_k (inl m) = inl (member_push xs last i
+          ∙ ap (λ b. b || nat_eq i last) m)
+      all i i_lt_k staying_at_k (inr (n, l)) = by_order (cases_lt i last)
         where
-          go : i < last → (next ≡ never) ⊎ (next ≢ never) → (next < i) ⊎ (i ≤ next)
+          by_presence : i < last → (next ≡ never) ⊎ (next ≢ never) → (next < i) ⊎ (i ≤ next)
               → (next ≢ never) × (i ≤ next)
-          go m (inl n) b =
+          by_presence i_lt_last (inl n) b =
               absurd (true≢false
-              (sym (on_earlier i last k (omega arith) (let l = here.0 in omega (arith, l)) e)
-              ∙ x.after i m (inr n)))
-          go m (inr n) (inl l) =
+              (sym (on_earlier i last k (omega arith) (let l = here.0 in omega (arith, l))
+              staying_at_k)
+              ∙ is_latest.after i i_lt_last (inr n)))
+          by_presence i_lt_last (inr n) (inl l) =
               absurd (true≢false
-              (sym (on_earlier i last k (omega arith) (let l = here.0 in omega (arith, l)) e)
-              ∙ x.after i m (inl l)))
-          go m (inr n) (inr l) = (n, l)
+              (sym (on_earlier i last k (omega arith) (let l = here.0 in omega (arith, l))
+              staying_at_k)
+              ∙ is_latest.after i i_lt_last (inl l)))
+          by_presence i_lt_last (inr n) (inr l) = (n, l)
 
-          by : (i < last) ⊎ (last ≤ i)
+          by_order : (i < last) ⊎ (last ≤ i)
               → (is_member (xs ++ last ∷ []) i ≡ true) ⊎ ((next ≢ never) × (i ≤ next))
-          by (inl m) = inr (go m (cases_eq next never) (cases_lt next i))
-          by (inr m) =
-              let same : i ≡ last = omega arith in
-              inl (member_push xs last i ∙ ap (λ b. is_member xs i || b) (eq-eqb i last same)
+          by_order (inl m) = inr (by_presence m (cases_eq next never) (cases_lt next i))
+          by_order (inr m) =
+              let i_is_last : i ≡ last = omega arith in
+              inl (member_push xs last i ∙ ap (λ b. is_member xs i || b) (eq-eqb i last i_is_last)
               ∙ or-true (is_member xs i))
 
   pub walked_end : IsLocalTest test → (k : ℕ) (xs : List ℕ) (last : ℕ) → IsWalked k xs last
       → last ≡ never → (i : ℕ) → is_member xs i ≡ is_member (active_of test db k) i
-  walked_end local k xs last w e i =
+  walked_end local k xs last is_walked last_is_never i =
       same_tests (is_member xs i) (nat_lt i k && is_staying test db i k)
-      (λ m. let f = w.only i m in ap₂ (λ a b. a && b) (lt-ltb i k f.0) f.1)
-      (λ t. by t (cases_lt i k))
+      (λ m. let f = is_walked.only i m in ap₂ (λ a b. a && b) (lt-ltb i k f.0) f.1)
+      (λ t. by_order t (cases_lt i k))
       ∙ sym (active_member test db local k i)
     where
-      by : (nat_lt i k && is_staying test db i k) ≡ true → (i < k) ⊎ (k ≤ i) → is_member xs i ≡ true
-      by t (inr l) =
+      by_order : (nat_lt i k && is_staying test db i k) ≡ true → (i < k) ⊎ (k ≤ i) → is_member xs i
+          ≡ true
+      by_order t (inr l) =
           absurd (true≢false
           (sym (and_parts (nat_lt i k) (is_staying test db i k) t).0 ∙ le-ltb i k l))
-      by t (inl l) = go (w.all i l (and_parts (nat_lt i k) (is_staying test db i k) t).1)
+      by_order t (inl l) = by_membership (is_walked.all i l
+          (and_parts (nat_lt i k) (is_staying test db i k) t).1)
         where
-          go : (is_member xs i ≡ true) ⊎ ((last ≢ never) × (i ≤ last)) → is_member xs i ≡ true
-          go (inl m) = m
-          go (inr (n, l)) = absurd (n e)
+          by_membership : (is_member xs i ≡ true) ⊎ ((last ≢ never) × (i ≤ last)) → is_member xs i
+              ≡ true
+          by_membership (inl m) = m
+          by_membership (inr (n, l)) = absurd (n last_is_never)
 
 -- one more at the end of the list
 pub each_pushed : (test : Statement → Bool) (db : List Statement) (xs ys : List ℕ) (last k : ℕ)
@@ -229,19 +237,20 @@ pub each_pushed : (test : Statement → Bool) (db : List Statement) (xs ys : Lis
       count : length ys ≡ k + 1 + 1;
       each : (i : ℕ) → i ≤ k + 1 → IsLatest test db i (get_or ys i 0);
     }
-each_pushed test db xs ys last k n e old new = record {
-  count = ap length e ∙ length-append xs (last ∷ []) ∙ ap (λ m. m + 1) n;
-  each = λ i h. by i h (cases_lt i (k + 1));
+each_pushed test db xs ys last k length_xs_is_next_k e old new = record {
+  count = ap length e ∙ length-append xs (last ∷ []) ∙ ap (λ m. m + 1) length_xs_is_next_k;
+  each = λ i h. by_order i h (cases_lt i (k + 1));
 }
   where
-    by : (i : ℕ) → i ≤ k + 1 → (i < k + 1) ⊎ (k + 1 ≤ i) → IsLatest test db i (get_or ys i 0)
-    by i h (inl l) =
+    by_order : (i : ℕ) → i ≤ k + 1 → (i < k + 1) ⊎ (k + 1 ≤ i) → IsLatest test db i (get_or ys i 0)
+    by_order i i_le_next_k (inl l) =
         subst (IsLatest test db i)
         (sym (ap (λ zs. get_or zs i 0) e
-        ∙ get_or_append_left xs (last ∷ []) 0 i (omega (arith, n, l)))) (old i (omega arith))
-    by i h (inr l) =
-        let same : i ≡ length xs = omega (arith, n, h, l) in
+        ∙ get_or_append_left xs (last ∷ []) 0 i (omega (arith, length_xs_is_next_k, l))))
+        (old i (omega arith))
+    by_order i i_le_next_k (inr l) =
+        let i_is_length_xs : i ≡ length xs = omega (arith, length_xs_is_next_k, i_le_next_k, l) in
         let j : i ≡ k + 1 = omega arith in
         subst (IsLatest test db i)
-        (sym (ap (λ zs. get_or zs i 0) e ∙ ap (λ q. get_or (xs ++ last ∷ []) q 0) same
+        (sym (ap (λ zs. get_or zs i 0) e ∙ ap (λ q. get_or (xs ++ last ∷ []) q 0) i_is_length_xs
         ∙ get_or-append_seam xs last [] 0)) (subst (λ q. IsLatest test db q last) (sym j) new)

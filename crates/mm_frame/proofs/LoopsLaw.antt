@@ -8,7 +8,7 @@ use Rattle.std.specs.List.{list_any}
 use Rattle.mm_spec.specs.Derivation.{is_member}
 use Rattle.mm_database.specs.Pairs.{has_pair}
 use Rattle.mm_frame.proofs.DisjointLaw.{one_more}
-use Rattle.mm_frame.proofs.StampsLaw.{noted_row}
+use Rattle.mm_frame.proofs.StampsLaw.{listed_row}
 
 or_assoc : (a b c : Bool) → ((a || b) || c) ≡ (a || (b || c))
 or_assoc true b c = refl
@@ -33,30 +33,30 @@ pub active_next : (xs : List ℕ) (ps : List (ℕ × ℕ)) (i s j y : ℕ) (o b 
     → b ≡ (o || (is_member (take i xs) y && (has_pair ps y j && l)))
     → n ≡ (b || (nat_eq y s && (has_pair ps s j && l)))
     → n ≡ (o || (is_member (take (i + 1) xs) y && (has_pair ps y j && l)))
-active_next xs ps i s j y o b n l h e a m =
+active_next xs ps i s j y o b n l i_lt_length_xs e a m =
     m ∙ ap (λ z. z || (nat_eq y s && (has_pair ps s j && l))) a
     ∙ one_more o (is_member (take i xs) y) (has_pair ps s j) (has_pair ps y j) l y s
     (λ q. ap (λ z. has_pair ps z j) (sym q))
     ∙ ap (λ z. o || (z && (has_pair ps y j && l)))
-    (sym (list_any_more (nat_eq y) xs i s h
+    (sym (list_any_more (nat_eq y) xs i s i_lt_length_xs
     ∙ ap (λ z. is_member (take i xs) y || nat_eq y z) (sym e)))
 
 -- the next symbol is noted if it is a variable
-pub noted_next : (xs : List ℕ) (i s x : ℕ) (o b n v : Bool)
+pub listed_next : (xs : List ℕ) (i s x : ℕ) (o b n v : Bool)
     → i < length xs → s ≡ get_or xs i s
     → b ≡ (o || (v && is_member (take i xs) x)) → n ≡ (b || (v && nat_eq x s))
     → n ≡ (o || (v && is_member (take (i + 1) xs) x))
-noted_next xs i s x o b n v h e a m =
+listed_next xs i s x o b n v i_lt_length_xs e a m =
     m ∙ ap (λ z. z || (v && nat_eq x s)) a
-    ∙ noted_row o v (is_member (take i xs) x) (nat_eq x s)
+    ∙ listed_row o v (is_member (take i xs) x) (nat_eq x s)
     ∙ ap (λ z. o || (v && z))
-    (sym (list_any_more (nat_eq x) xs i s h
+    (sym (list_any_more (nat_eq x) xs i s i_lt_length_xs
     ∙ ap (λ z. is_member (take i xs) x || nat_eq x z) (sym e)))
 
-pub noted_none : (o v : Bool) → o ≡ (o || (v && false))
-noted_none true v = refl
-noted_none false true = refl
-noted_none false false = refl
+pub listed_none : (o v : Bool) → o ≡ (o || (v && false))
+listed_none true v = refl
+listed_none false true = refl
+listed_none false false = refl
 
 -- the variables of the first formula, when nothing has been found before
 pub mandatory_first : (x : ℕ) (old xs ys : List ℕ) (n v : Bool) → length old ≡ 0 → xs ≡ ys
@@ -71,13 +71,13 @@ pub mandatory_next : (x : ℕ) (f : ℕ → List ℕ) (es : List ℕ) (i d : ℕ
     → b ≡ (v && (k || list_any (λ j. is_member (f j) x) (take i es)))
     → n ≡ (b || (v && is_member xs x))
     → n ≡ (v && (k || list_any (λ j. is_member (f j) x) (take (i + 1) es)))
-mandatory_next x f es i d xs n b v k h e a m =
+mandatory_next x f es i d xs n b v k i_lt_length_es e a m =
     m ∙ ap (λ z. z || (v && is_member xs x)) a
     ∙ ap (λ zs. (v && (k || list_any (λ j. is_member (f j) x) (take i es)))
     || (v && is_member zs x))
     e
     ∙ row v k (list_any (λ j. is_member (f j) x) (take i es)) (is_member (f (get_or es i d)) x)
-    ∙ ap (λ z. v && (k || z)) (sym (list_any_more (λ j. is_member (f j) x) es i d h))
+    ∙ ap (λ z. v && (k || z)) (sym (list_any_more (λ j. is_member (f j) x) es i d i_lt_length_es))
   where
     row : (v k t e : Bool) → ((v && (k || t)) || (v && e)) ≡ (v && (k || (t || e)))
     row true k t e = or_assoc k t e
@@ -88,35 +88,35 @@ pub float_pushed : (hs more : List ℕ) (f j : ℕ) (never is_open : Bool) → n
     → is_open ≡ true
     → more ≡ hs ++ f ∷ []
     → is_member more j ≡ (is_member hs j || (nat_eq j f && (not never && is_open)))
-float_pushed hs more f j never is_open n o e =
+float_pushed hs more f j never is_open never_false is_open_true e =
     ap (λ xs. is_member xs j) e ∙ list_any-append (nat_eq j) hs (f ∷ [])
-    ∙ ap (λ z. is_member hs j || z) (by (nat_eq j f))
-    ∙ ap (λ z. is_member hs j || (nat_eq j f && (not z && true))) (sym n)
-    ∙ ap (λ z. is_member hs j || (nat_eq j f && (not never && z))) (sym o)
+    ∙ ap (λ z. is_member hs j || z) (by_values (nat_eq j f))
+    ∙ ap (λ z. is_member hs j || (nat_eq j f && (not z && true))) (sym never_false)
+    ∙ ap (λ z. is_member hs j || (nat_eq j f && (not never && z))) (sym is_open_true)
   where
-    by : (b : Bool) → (b || false) ≡ (b && true)
-    by true = refl
-    by false = refl
+    by_values : (b : Bool) → (b || false) ≡ (b && true)
+    by_values true = refl
+    by_values false = refl
 
 pub float_closed : (hs more : List ℕ) (f j : ℕ) (never is_open : Bool) → is_open ≡ false → more ≡ hs
     → is_member more j ≡ (is_member hs j || (nat_eq j f && (not never && is_open)))
-float_closed hs more f j never is_open o e =
-    ap (λ xs. is_member xs j) e ∙ by (is_member hs j) (nat_eq j f) (not never)
-    ∙ ap (λ z. is_member hs j || (nat_eq j f && (not never && z))) (sym o)
+float_closed hs more f j never is_open is_open_false more_is_hs =
+    ap (λ xs. is_member xs j) more_is_hs ∙ by_values (is_member hs j) (nat_eq j f) (not never)
+    ∙ ap (λ z. is_member hs j || (nat_eq j f && (not never && z))) (sym is_open_false)
   where
-    by : (a b c : Bool) → a ≡ (a || (b && (c && false)))
-    by true b c = refl
-    by false true true = refl
-    by false true false = refl
-    by false false c = refl
+    by_values : (a b c : Bool) → a ≡ (a || (b && (c && false)))
+    by_values true b c = refl
+    by_values false true true = refl
+    by_values false true false = refl
+    by_values false false c = refl
 
 pub float_none : (hs more : List ℕ) (f j : ℕ) (never is_open : Bool) → never ≡ true → more ≡ hs
     → is_member more j ≡ (is_member hs j || (nat_eq j f && (not never && is_open)))
-float_none hs more f j never is_open n e =
-    ap (λ xs. is_member xs j) e ∙ by (is_member hs j) (nat_eq j f)
-    ∙ ap (λ z. is_member hs j || (nat_eq j f && (not z && is_open))) (sym n)
+float_none hs more f j never is_open never_true more_is_hs =
+    ap (λ xs. is_member xs j) more_is_hs ∙ by_values (is_member hs j) (nat_eq j f)
+    ∙ ap (λ z. is_member hs j || (nat_eq j f && (not z && is_open))) (sym never_true)
   where
-    by : (a b : Bool) → a ≡ (a || (b && false))
-    by true b = refl
-    by false true = refl
-    by false false = refl
+    by_values : (a b : Bool) → a ≡ (a || (b && false))
+    by_values true b = refl
+    by_values false true = refl
+    by_values false false = refl

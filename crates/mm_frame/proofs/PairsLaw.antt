@@ -35,26 +35,26 @@ cmp_greater a b h =
     (ne_eqb a b (λ e. absurd (omega (arith, e, h))))
 
 less_before : (a b c d : ℕ) → ordering_then (nat_cmp a c) (nat_cmp b d) ≡ Less → IsBefore a b c d
-less_before a b c d e = by (cases_order a c) (cases_order b d)
+less_before a b c d e = by_order (cases_order a c) (cases_order b d)
   where
-    by : (a ≡ c) ⊎ ((a < c) ⊎ (c < a)) → (b ≡ d) ⊎ ((b < d) ⊎ (d < b)) → IsBefore a b c d
-    by (inr (inl l)) q = inl l
-    by (inl s) (inr (inl l)) = inr (s, l)
-    by (inl s) (inl t) =
+    by_order : (a ≡ c) ⊎ ((a < c) ⊎ (c < a)) → (b ≡ d) ⊎ ((b < d) ⊎ (d < b)) → IsBefore a b c d
+    by_order (inr (inl l)) q = inl l
+    by_order (inl s) (inr (inl l)) = inr (s, l)
+    by_order (inl s) (inl t) =
         absurd (let z = sym (ap₂ ordering_then (cmp_equal a c s) (cmp_equal b d t)) ∙ e in cc)
-    by (inl s) (inr (inr g)) =
+    by_order (inl s) (inr (inr g)) =
         absurd (let z = sym (ap₂ ordering_then (cmp_equal a c s) (cmp_greater b d g)) ∙ e in cc)
-    by (inr (inr g)) q =
+    by_order (inr (inr g)) q =
         absurd (let z = sym (ap (λ o. ordering_then o (nat_cmp b d)) (cmp_greater a c g)) ∙ e in cc)
 
 eq_cmp : (a b : ℕ) → nat_eq a b ≡ is_eq (nat_cmp a b)
-eq_cmp a b = by (cases_order a b)
+eq_cmp a b = by_order (cases_order a b)
   where
-    by : (a ≡ b) ⊎ ((a < b) ⊎ (b < a)) → nat_eq a b ≡ is_eq (nat_cmp a b)
-    by (inl s) = eq-eqb a b s ∙ sym (ap is_eq (cmp_equal a b s))
-    by (inr (inl l)) =
+    by_order : (a ≡ b) ⊎ ((a < b) ⊎ (b < a)) → nat_eq a b ≡ is_eq (nat_cmp a b)
+    by_order (inl s) = eq-eqb a b s ∙ sym (ap is_eq (cmp_equal a b s))
+    by_order (inr (inl l)) =
         ne_eqb a b (λ e. absurd (omega (arith, e, l))) ∙ sym (ap is_eq (cmp_less a b l))
-    by (inr (inr g)) =
+    by_order (inr (inr g)) =
         ne_eqb a b (λ e. absurd (omega (arith, e, g))) ∙ sym (ap is_eq (cmp_greater a b g))
 
 abbrev order : ℕ × ℕ → ℕ × ℕ → Ordering
@@ -66,21 +66,22 @@ same_pair x y = nat_eq x.0 y.0 && nat_eq x.1 y.1
 pub to_rising : (ys : List (ℕ × ℕ)) → IsStrictlySortedBy order ys → AreRising ys
 unfolding IsStrictlySortedBy
 to_rising [] h = tt
-to_rising (p ∷ ps) h = (λ x y e. before ps h.0 x y e, to_rising ps h.1)
+to_rising (p ∷ ps) h = (λ x y e. before_all ps h.0 x y e, to_rising ps h.1)
   where
-    before : (qs : List (ℕ × ℕ)) → AllByRecursion (λ q. order p q ≡ Less) qs → (x y : ℕ)
+    before_all : (qs : List (ℕ × ℕ)) → AllByRecursion (λ q. order p q ≡ Less) qs → (x y : ℕ)
         → has_pair qs x y ≡ true → IsBefore p.0 p.1 x y
-    before [] a x y e = absurd (true≢false (sym e))
-    before (q ∷ qs) a x y e = by (nat_eq x q.0 && nat_eq y q.1) refl e (before qs a.1 x y)
+    before_all [] a x y e = absurd (true≢false (sym e))
+    before_all (q ∷ qs) a x y e = by_head (nat_eq x q.0 && nat_eq y q.1) refl e
+        (before_all qs a.1 x y)
       where
-        by : (b : Bool) → (nat_eq x q.0 && nat_eq y q.1) ≡ b → (b || has_pair qs x y) ≡ true
+        by_head : (b : Bool) → (nat_eq x q.0 && nat_eq y q.1) ≡ b → (b || has_pair qs x y) ≡ true
             → (has_pair qs x y ≡ true → IsBefore p.0 p.1 x y) → IsBefore p.0 p.1 x y
-        by true s e r =
+        by_head true s e r =
             let u = eqb-true x q.0 (and_parts (nat_eq x q.0) (nat_eq y q.1) s).0 in
             let v = eqb-true y q.1 (and_parts (nat_eq x q.0) (nat_eq y q.1) s).1 in
             less_before p.0 p.1 x y
             (ap₂ (λ i j. ordering_then (nat_cmp p.0 i) (nat_cmp p.1 j)) u v ∙ a.0)
-        by false s e r = r e
+        by_head false s e r = r e
 
 pub strict_rising : (xs ys : List (ℕ × ℕ)) → IsSorted order xs → ys ≡ dedup same_pair xs
     → AreRising ys
@@ -160,17 +161,17 @@ not_both a b c d (inr (e, l)) (inr (f, m)) = omega arith
 -- the front of a list, or one of those after
 split : (p : Pair) (ps : List Pair) (x y : ℕ) → has (p ∷ ps) x y ≡ true
     → ((x ≡ p.low) × (y ≡ p.high)) ⊎ (has ps x y ≡ true)
-split p ps x y e = by (nat_eq x p.low && nat_eq y p.high) refl e
+split p ps x y e = by_head (nat_eq x p.low && nat_eq y p.high) refl e
   where
-    by : (b : Bool) → (nat_eq x p.low && nat_eq y p.high) ≡ b → (b || has ps x y) ≡ true
+    by_head : (b : Bool) → (nat_eq x p.low && nat_eq y p.high) ≡ b → (b || has ps x y) ≡ true
         → ((x ≡ p.low) × (y ≡ p.high)) ⊎ (has ps x y ≡ true)
-    by true s e =
+    by_head true s e =
         inl (
           eqb-true x p.low (and_parts (nat_eq x p.low) (nat_eq y p.high) s).0,
           eqb-true y p.high
               (and_parts (nat_eq x p.low) (nat_eq y p.high) s).1,
         )
-    by false s e = inr e
+    by_head false s e = inr e
 
 after : (p : Pair) (ps : List Pair) (x y : ℕ) → has ps x y ≡ true → has (p ∷ ps) x y ≡ true
 after p ps x y e =
@@ -204,21 +205,21 @@ unique (p ∷ ps) (q ∷ qs) s t h = ap₂ (λ a b. a ∷ b) first (unique ps qs
     tails : (x y : ℕ) → has ps x y ≡ has qs x y
     tails x y =
         same_tests (has ps x y) (has qs x y)
-        (λ e. forth e (split q qs x y (sym (h x y) ∙ after p ps x y e)))
-        (λ e. back e (split p ps x y (h x y ∙ after q qs x y e)))
+        (λ e. left_to_right e (split q qs x y (sym (h x y) ∙ after p ps x y e)))
+        (λ e. right_to_left e (split p ps x y (h x y ∙ after q qs x y e)))
       where
-        forth : has ps x y ≡ true → ((x ≡ q.low) × (y ≡ q.high)) ⊎ (has qs x y ≡ true)
+        left_to_right : has ps x y ≡ true → ((x ≡ q.low) × (y ≡ q.high)) ⊎ (has qs x y ≡ true)
             → has qs x y ≡ true
-        forth e (inr f) = f
-        forth e (inl f) =
+        left_to_right e (inr f) = f
+        left_to_right e (inl f) =
             absurd (not_before p.low p.high
             (subst (λ a. IsBefore p.low p.high a p.high) (f.0 ∙ sym parts.0)
             (subst (λ b. IsBefore p.low p.high x b) (f.1 ∙ sym parts.1) (s.0 x y e))))
 
-        back : has qs x y ≡ true → ((x ≡ p.low) × (y ≡ p.high)) ⊎ (has ps x y ≡ true)
+        right_to_left : has qs x y ≡ true → ((x ≡ p.low) × (y ≡ p.high)) ⊎ (has ps x y ≡ true)
             → has ps x y ≡ true
-        back e (inr f) = f
-        back e (inl f) =
+        right_to_left e (inr f) = f
+        right_to_left e (inl f) =
             absurd (not_before q.low q.high
             (subst (λ a. IsBefore q.low q.high a q.high) (f.0 ∙ parts.0)
             (subst (λ b. IsBefore q.low q.high x b) (f.1 ∙ parts.1) (t.0 x y e))))
@@ -227,85 +228,86 @@ pub has_filter : (t : Pair → Bool) (ps : List Pair) (x y : ℕ)
     → has (filter t ps) x y ≡ (t (pair x y) && has ps x y)
 has_filter t [] x y = sym (and-false (t (pair x y)))
 has_filter t (p ∷ ps) x y =
-    by (t p) refl (nat_eq x p.low && nat_eq y p.high) refl (has_filter t ps x y)
+    by_test (t p) refl (nat_eq x p.low && nat_eq y p.high) refl (has_filter t ps x y)
   where
     at : (nat_eq x p.low && nat_eq y p.high) ≡ true → t (pair x y) ≡ t p
     at s =
         ap t (ap₂ pair (eqb-true x p.low (and_parts (nat_eq x p.low) (nat_eq y p.high) s).0)
         (eqb-true y p.high (and_parts (nat_eq x p.low) (nat_eq y p.high) s).1))
 
-    by : (b : Bool) → t p ≡ b → (c : Bool) → (nat_eq x p.low && nat_eq y p.high) ≡ c
+    by_test : (b : Bool) → t p ≡ b → (c : Bool) → (nat_eq x p.low && nat_eq y p.high) ≡ c
         → has (filter t ps) x y ≡ (t (pair x y) && has ps x y)
         → has (cond b (p ∷ filter t ps) (filter t ps)) x y ≡ (t (pair x y) && (c || has ps x y))
-    by true e true s r =
+    by_test true e true s r =
         ap (λ b. b || has (filter t ps) x y) s ∙ sym (ap (λ b. b && true) (at s ∙ e))
-    by true e false s r = ap (λ b. b || has (filter t ps) x y) s ∙ r
-    by false e true s r =
+    by_test true e false s r = ap (λ b. b || has (filter t ps) x y) s ∙ r
+    by_test false e true s r =
         r ∙ ap (λ b. b && has ps x y) (at s ∙ e) ∙ sym (ap (λ b. b && true) (at s ∙ e))
-    by false e false s r = r
+    by_test false e false s r = r
 
 pub sorted_filter : (t : Pair → Bool) (ps : List Pair) → Sorted ps → Sorted (filter t ps)
 sorted_filter t [] s = tt
-sorted_filter t (p ∷ ps) s = by (t p) (sorted_filter t ps s.1)
+sorted_filter t (p ∷ ps) s = by_test (t p) (sorted_filter t ps s.1)
   where
-    by : (b : Bool) → Sorted (filter t ps) → Sorted (cond b (p ∷ filter t ps) (filter t ps))
-    by true r = (
+    by_test : (b : Bool) → Sorted (filter t ps) → Sorted (cond b (p ∷ filter t ps) (filter t ps))
+    by_test true r = (
       λ x y e. s.0 x y
           (and_parts (t (pair x y)) (has ps x y) (sym (has_filter t ps x y) ∙ e)).1,
       r,
     )
-    by false r = r
+    by_test false r = r
 
 has_row : (c : ℕ) (xs : List ℕ) (x y : ℕ)
     → has (map (pair c) xs) x y ≡ (nat_eq x c && is_member xs y)
 has_row c [] x y = sym (and-false (nat_eq x c))
 has_row c (z ∷ xs) x y =
-    ap (λ b. (nat_eq x c && nat_eq y z) || b) (has_row c xs x y) ∙ by (nat_eq x c)
+    ap (λ b. (nat_eq x c && nat_eq y z) || b) (has_row c xs x y) ∙ by_values (nat_eq x c)
   where
-    by : (b : Bool)
+    by_values : (b : Bool)
         → ((b && nat_eq y z) || (b && is_member xs y)) ≡ (b && (nat_eq y z || is_member xs y))
-    by true = refl
-    by false = refl
+    by_values true = refl
+    by_values false = refl
 
 pub has_rows : (ys xs : List ℕ) (x y : ℕ)
     → has (flat_map (λ c. map (pair c) ys) xs) x y ≡ (is_member xs x && is_member ys y)
 has_rows ys [] x y = refl
 has_rows ys (c ∷ xs) x y =
     list_any-append _ (map (pair c) ys) (flat_map (λ c. map (pair c) ys) xs)
-    ∙ ap₂ (λ a b. a || b) (has_row c ys x y) (has_rows ys xs x y) ∙ by (nat_eq x c) (is_member ys y)
+    ∙ ap₂ (λ a b. a || b) (has_row c ys x y) (has_rows ys xs x y)
+    ∙ by_values (nat_eq x c) (is_member ys y)
   where
-    by : (a b : Bool) → ((a && b) || (is_member xs x && b)) ≡ ((a || is_member xs x) && b)
-    by true true = refl
-    by true false = go (is_member xs x)
+    by_values : (a b : Bool) → ((a && b) || (is_member xs x && b)) ≡ ((a || is_member xs x) && b)
+    by_values true true = refl
+    by_values true false = right_is_false (is_member xs x)
       where
-        go : (a : Bool) → (false || (a && false)) ≡ false
-        go true = refl
-        go false = refl
-    by false b = refl
+        right_is_false : (a : Bool) → (false || (a && false)) ≡ false
+        right_is_false true = refl
+        right_is_false false = refl
+    by_values false b = refl
 
 range_low : (n a x : ℕ) → is_member (range_with_len a n) x ≡ true → a ≤ x
 range_low zero a x e = absurd (true≢false (sym e))
-range_low (suc n) a x e = by (nat_eq x a) refl e (range_low n (a + 1) x)
+range_low (suc n) a x e = by_equality (nat_eq x a) refl e (range_low n (a + 1) x)
   where
-    by : (b : Bool) → nat_eq x a ≡ b → (b || is_member (range_with_len (a + 1) n) x) ≡ true
+    by_equality : (b : Bool) → nat_eq x a ≡ b → (b || is_member (range_with_len (a + 1) n) x) ≡ true
         → (is_member (range_with_len (a + 1) n) x ≡ true → a + 1 ≤ x) → a ≤ x
-    by true s e r = let q = eqb-true x a s in omega (arith, q)
-    by false s e r = let q = r e in omega (arith, q)
+    by_equality true s e r = let q = eqb-true x a s in omega (arith, q)
+    by_equality false s e r = let q = r e in omega (arith, q)
 
 sorted_append : (ps qs : List Pair) → Sorted ps → Sorted qs
     → ((a b x y : ℕ) → has ps a b ≡ true → has qs x y ≡ true → IsBefore a b x y) → Sorted (ps ++ qs)
 sorted_append [] qs s t h = t
 sorted_append (p ∷ ps) qs s t h = (
-  λ x y e. by x y (has ps x y) refl
+  λ x y e. by_membership x y (has ps x y) refl
       (sym (list_any-append _ ps qs) ∙ e),
   sorted_append ps qs s.1 t
       (λ a b x y e f. h a b x y (after p ps a b e) f),
 )
   where
-    by : (x y : ℕ) → (c : Bool) → has ps x y ≡ c → (c || has qs x y) ≡ true
+    by_membership : (x y : ℕ) → (c : Bool) → has ps x y ≡ c → (c || has qs x y) ≡ true
         → IsBefore p.low p.high x y
-    by x y true e f = s.0 x y e
-    by x y false e f = h p.low p.high x y (self p ps) f
+    by_membership x y true e f = s.0 x y e
+    by_membership x y false e f = h p.low p.high x y (self p ps) f
 
 sorted_row : (c n a : ℕ) → Sorted (map (pair c) (range_with_len a n))
 sorted_row c zero a = tt

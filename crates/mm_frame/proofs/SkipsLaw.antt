@@ -21,17 +21,20 @@ module _ (b : BlockLists) (ps : List (ℕ × ℕ)) where
 
   pub covers_itself : (q : ℕ) → Covers b ps q q
   covers_itself q p l m =
-      let e : q ≡ p = omega arith in
-      subst (λ i. IsCovered b (pair_at i) (pair_at q)) e (refl, omega arith)
+      let q_is_p : q ≡ p = omega arith in
+      subst (λ i. IsCovered b (pair_at i) (pair_at q)) q_is_p (refl, omega arith)
 
   -- the pair before `first` is covered, and so are those which it covers
   pub covers_before : (first at s : ℕ) → 0 < first → first ≤ at → Covers b ps first at
       → (nat_eq (pair_at (first - 1)).0 (pair_at at).0
       && nat_le (end_of b (pair_at (first - 1)).1) (end_of b (pair_at at).1)) ≡ true
       → (s ≤ first - 1) × Covers b ps s (first - 1) → (s ≤ at) × Covers b ps s at
-  covers_before first at s l m c t d =
-      let n = d.0 in
-      (omega (arith, l, m, n), λ p from to. by p from to (cases_lt p first))
+  covers_before first at s first_positive first_le_at c t d =
+      let n = d.0 in (
+        omega (arith, first_positive, first_le_at, n),
+        λ p from to. by_order p from to
+            (cases_lt p first),
+      )
     where
       parts : (nat_eq (pair_at (first - 1)).0 (pair_at at).0 ≡ true)
           × (nat_le (end_of b (pair_at (first - 1)).1) (end_of b (pair_at at).1) ≡ true)
@@ -45,10 +48,10 @@ module _ (b : BlockLists) (ps : List (ℕ × ℕ)) where
       no_later : end_of b (pair_at (first - 1)).1 ≤ end_of b (pair_at at).1
       no_later = leb-true (end_of b (pair_at (first - 1)).1) (end_of b (pair_at at).1) parts.1
 
-      by : (p : ℕ) → s ≤ p → p ≤ at → (p < first) ⊎ (first ≤ p)
+      by_order : (p : ℕ) → s ≤ p → p ≤ at → (p < first) ⊎ (first ≤ p)
           → IsCovered b (pair_at p) (pair_at at)
-      by p from to (inr h) = c p h to
-      by p from to (inl h) =
+      by_order p from to (inr h) = c p h to
+      by_order p from to (inl h) =
           let e = d.1 p from (omega (arith, h)) in
           let f = e.1 in
           (e.0 ∙ same, omega (arith, f, no_later))
@@ -65,18 +68,18 @@ module _ (b : BlockLists) (ps : List (ℕ × ℕ)) where
       → (more : List ℕ) → more ≡ skips ++ s ∷ [] → AreSoFar (at + 1) more
   skips_more at s skips a c more e = (
     ap length e ∙ length-append skips (s ∷ []) ∙ ap (λ n. n + 1) a.0,
-    λ q l. by q (cases_lt q at) l,
+    λ q l. by_order q (cases_lt q at) l,
   )
     where
-      by : (q : ℕ) → (q < at) ⊎ (at ≤ q) → q < at + 1
+      by_order : (q : ℕ) → (q < at) ⊎ (at ≤ q) → q < at + 1
           → (get_or more q 0 ≤ q) × Covers b ps (get_or more q 0) q
-      by q (inl h) l =
+      by_order q (inl h) q_lt_next_at =
           let n = a.0 in
           subst (λ x. (x ≤ q) × Covers b ps x q)
           (sym (ap (λ xs. get_or xs q 0) e
           ∙ get_or_append_left skips (s ∷ []) 0 q (omega (arith, h, n)))) (a.1 q h)
-      by q (inr h) l =
-          let i : at ≡ q = omega (arith, h, l) in
+      by_order q (inr h) q_lt_next_at =
+          let i : at ≡ q = omega (arith, h, q_lt_next_at) in
           subst (λ j. (get_or more j 0 ≤ j) × Covers b ps (get_or more j 0) j) i
           (subst (λ x. (x ≤ at) × Covers b ps x at)
           (sym (ap (λ xs. get_or xs at 0) e ∙ ap (λ j. get_or (skips ++ s ∷ []) j 0) (sym a.0)

@@ -11,92 +11,98 @@ use Rattle.mm_frame.specs.Hypotheses.{AreStamps}
 use Rattle.mm_spec.proofs.MemberLaw.{member_push}
 
 -- one symbol more
-pub stamp_more : (n stamp : ℕ) (seen found : List ℕ) (s : ℕ) → AreStamps n stamp seen found → s < n
-    → AreStamps n stamp (set seen s stamp) (found ++ s ∷ [])
-stamp_more n stamp seen found s m h = record {
-  count = length-set seen s stamp ∙ m.count;
+pub stamp_more : (n stamp : ℕ) (stamps variables : List ℕ) (s : ℕ)
+    → AreStamps n stamp stamps variables → s < n
+    → AreStamps n stamp (set stamps s stamp) (variables ++ s ∷ [])
+stamp_more n stamp stamps variables s m h = record {
+  count = length-set stamps s stamp ∙ m.count;
   within = λ x l. within x l (cases_eq x s);
-  marked = λ x l. marked x l (cases_eq x s) ∙ sym (member_push found s x);
+  marked = λ x l. marked x l (cases_eq x s) ∙ sym (member_push variables s x);
 }
   where
-    here : get_or (set seen s stamp) s 0 ≡ stamp
-    here = get_or-set_same seen s stamp 0 (let c = m.count in omega (arith, c, h))
+    here : get_or (set stamps s stamp) s 0 ≡ stamp
+    here = get_or-set_same stamps s stamp 0 (let c = m.count in omega (arith, c, h))
 
-    within : (x : ℕ) → x < n → (x ≡ s) ⊎ (x ≢ s) → get_or (set seen s stamp) x 0 ≤ stamp
+    within : (x : ℕ) → x < n → (x ≡ s) ⊎ (x ≢ s) → get_or (set stamps s stamp) x 0 ≤ stamp
     within x l (inl e) =
-        subst (λ x. get_or (set seen s stamp) x 0 ≤ stamp) (sym e)
+        subst (λ x. get_or (set stamps s stamp) x 0 ≤ stamp) (sym e)
         (subst (λ v. v ≤ stamp) (sym here) (le_refl stamp))
     within x l (inr e) =
-        subst (λ v. v ≤ stamp) (sym (get_or-set_other seen s x stamp 0 e)) (m.within x l)
+        subst (λ v. v ≤ stamp) (sym (get_or-set_other stamps s x stamp 0 e)) (m.within x l)
 
     marked : (x : ℕ) → x < n → (x ≡ s) ⊎ (x ≢ s)
-        → nat_eq (get_or (set seen s stamp) x 0) stamp ≡ (is_member found x || nat_eq x s)
+        → nat_eq (get_or (set stamps s stamp) x 0) stamp ≡ (is_member variables x || nat_eq x s)
     marked x l (inl e) =
-        ap (λ x. nat_eq (get_or (set seen s stamp) x 0) stamp) e
-        ∙ eq-eqb (get_or (set seen s stamp) s 0) stamp here
-        ∙ sym (ap (λ b. is_member found x || b) (eq-eqb x s e) ∙ or-true (is_member found x))
+        ap (λ x. nat_eq (get_or (set stamps s stamp) x 0) stamp) e
+        ∙ eq-eqb (get_or (set stamps s stamp) s 0) stamp here
+        ∙ sym (ap (λ b. is_member variables x || b) (eq-eqb x s e)
+        ∙ or-true (is_member variables x))
     marked x l (inr e) =
-        ap (λ v. nat_eq v stamp) (get_or-set_other seen s x stamp 0 e) ∙ m.marked x l
-        ∙ sym (ap (λ b. is_member found x || b) (ne_eqb x s e) ∙ or-false (is_member found x))
+        ap (λ v. nat_eq v stamp) (get_or-set_other stamps s x stamp 0 e) ∙ m.marked x l
+        ∙ sym (ap (λ b. is_member variables x || b) (ne_eqb x s e)
+        ∙ or-false (is_member variables x))
 
 -- with a new stamp none is marked
-pub stamps_fresh : (n k : ℕ) (seen found : List ℕ) → length seen ≡ n
-    → ((x : ℕ) → x < n → get_or seen x 0 ≤ k) → found ≡ [] → AreStamps n (k + 1) seen found
-stamps_fresh n k seen found c w e = record {
+pub stamps_fresh : (n k : ℕ) (stamps variables : List ℕ) → length stamps ≡ n
+    → ((x : ℕ) → x < n → get_or stamps x 0 ≤ k) → variables ≡ []
+    → AreStamps n (k + 1) stamps variables
+stamps_fresh n k stamps variables c w e = record {
   count = c;
   within = λ x l. let h = w x l in omega (arith, h);
   marked =
       λ x l. let h = w x l in
-      ne_eqb (get_or seen x 0) (k + 1) (λ s. absurd (omega (arith, s, h)))
+      ne_eqb (get_or stamps x 0) (k + 1) (λ s. absurd (omega (arith, s, h)))
       ∙ sym (ap (λ f. is_member f x) e);
 }
 
 -- a symbol that has been noted already, one that is new, and one that is no variable
-pub noted_new : (v : ℕ → Bool) (s x : ℕ) (b : Bool) → v s ≡ true
+pub listed_new : (v : ℕ → Bool) (s x : ℕ) (b : Bool) → v s ≡ true
     → (b || nat_eq x s) ≡ (b || (v x && nat_eq x s))
-noted_new v s x b e = by (cases_eq x s)
+listed_new v s x b e = by_equality (cases_eq x s)
   where
-    by : (x ≡ s) ⊎ (x ≢ s) → (b || nat_eq x s) ≡ (b || (v x && nat_eq x s))
-    by (inl q) = ap (λ a. b || (a && nat_eq x s)) (sym (ap v q ∙ e))
-    by (inr q) =
+    by_equality : (x ≡ s) ⊎ (x ≢ s) → (b || nat_eq x s) ≡ (b || (v x && nat_eq x s))
+    by_equality (inl q) = ap (λ a. b || (a && nat_eq x s)) (sym (ap v q ∙ e))
+    by_equality (inr q) =
         ap (λ a. b || a) (ne_eqb x s q)
         ∙ sym (ap (λ a. b || a) (ap (λ a. v x && a) (ne_eqb x s q) ∙ and-false (v x)))
 
-pub noted_again : (v m : ℕ → Bool) (s x : ℕ) → m s ≡ true → m x ≡ (m x || (v x && nat_eq x s))
-noted_again v m s x e = by (cases_eq x s)
+pub listed_again : (v m : ℕ → Bool) (s x : ℕ) → m s ≡ true → m x ≡ (m x || (v x && nat_eq x s))
+listed_again v m s x e = by_equality (cases_eq x s)
   where
     right_false : (a b : Bool) → a ≡ (a || (b && false))
     right_false true b = refl
     right_false false true = refl
     right_false false false = refl
 
-    by : (x ≡ s) ⊎ (x ≢ s) → m x ≡ (m x || (v x && nat_eq x s))
-    by (inl q) = let t = ap m q ∙ e in t ∙ sym (ap (λ a. a || (v x && nat_eq x s)) t)
-    by (inr q) = right_false (m x) (v x) ∙ ap (λ a. m x || (v x && a)) (sym (ne_eqb x s q))
+    by_equality : (x ≡ s) ⊎ (x ≢ s) → m x ≡ (m x || (v x && nat_eq x s))
+    by_equality (inl q) = let t = ap m q ∙ e in t ∙ sym (ap (λ a. a || (v x && nat_eq x s)) t)
+    by_equality (inr q) = right_false (m x) (v x) ∙ ap (λ a. m x || (v x && a)) (sym (ne_eqb x s q))
 
-pub noted_not : (v m : ℕ → Bool) (s x : ℕ) → v s ≡ false → m x ≡ (m x || (v x && nat_eq x s))
-noted_not v m s x e = by (cases_eq x s)
+pub not_listed : (v m : ℕ → Bool) (s x : ℕ) → v s ≡ false → m x ≡ (m x || (v x && nat_eq x s))
+not_listed v m s x e = by_equality (cases_eq x s)
   where
     right_false : (a b : Bool) → a ≡ (a || (b && false))
     right_false true b = refl
     right_false false true = refl
     right_false false false = refl
 
-    by : (x ≡ s) ⊎ (x ≢ s) → m x ≡ (m x || (v x && nat_eq x s))
-    by (inl q) = sym (or-false (m x)) ∙ ap (λ a. m x || (a && nat_eq x s)) (sym (ap v q ∙ e))
-    by (inr q) = right_false (m x) (v x) ∙ ap (λ a. m x || (v x && a)) (sym (ne_eqb x s q))
+    by_equality : (x ≡ s) ⊎ (x ≢ s) → m x ≡ (m x || (v x && nat_eq x s))
+    by_equality (inl q) = sym (or-false (m x))
+        ∙ ap (λ a. m x || (a && nat_eq x s)) (sym (ap v q ∙ e))
+    by_equality (inr q) = right_false (m x) (v x) ∙ ap (λ a. m x || (v x && a)) (sym (ne_eqb x s q))
 
 -- one symbol more in the row
-pub noted_row : (f v t e : Bool) → ((f || (v && t)) || (v && e)) ≡ (f || (v && (t || e)))
-noted_row true v t e = refl
-noted_row false false t e = refl
-noted_row false true t e = refl
+pub listed_row : (f v t e : Bool) → ((f || (v && t)) || (v && e)) ≡ (f || (v && (t || e)))
+listed_row true v t e = refl
+listed_row false false t e = refl
+listed_row false true t e = refl
 
 -- a symbol with this stamp has been found
-pub found_again : (n stamp : ℕ) (seen found : List ℕ) (s place r : ℕ) → AreStamps n stamp seen found
-    → s < n → place ≡ s → r ≡ get_or seen place r → r ≡ stamp → is_member found s ≡ true
-found_again n stamp seen found s place r m l p e f =
+pub stamped_again : (n stamp : ℕ) (stamps variables : List ℕ) (s place r : ℕ)
+    → AreStamps n stamp stamps variables
+    → s < n → place ≡ s → r ≡ get_or stamps place r → r ≡ stamp → is_member variables s ≡ true
+stamped_again n stamp stamps variables s place r m l p e f =
     sym (m.marked s l)
-    ∙ eq-eqb (get_or seen s 0) stamp
-    (sym (get_or_default_zero seen s r (let c = m.count in omega (arith, l, c)))
-    ∙ ap (λ i. get_or seen i r) (sym p) ∙ sym e ∙ f)
+    ∙ eq-eqb (get_or stamps s 0) stamp
+    (sym (get_or_default_zero stamps s r (let c = m.count in omega (arith, l, c)))
+    ∙ ap (λ i. get_or stamps i r) (sym p) ∙ sym e ∙ f)

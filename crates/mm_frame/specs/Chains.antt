@@ -29,7 +29,7 @@ pub record HasChain (has : ℕ → Bool) (least : ℕ) (links : List (ℕ × ℕ
   pub statements : List ℕ
   pub chain : IsLinkChain links n statements
   pub rising : IsRisingFrom least statements
-  pub are : (j : ℕ) → is_member statements j ≡ has j
+  pub members_are : (j : ℕ) → is_member statements j ≡ has j
 
 -- the chain of each symbol x has the statements j for which `has x j` is true
 abbrev pub AreChains : (ℕ → ℕ → Bool) → ℕ → List ℕ → List (ℕ × ℕ) → Type 0

@@ -6,35 +6,36 @@ use Rattle.mm_spec.specs.Frame.{symbol_names}
 use Rattle.mm_spec.specs.Derivation.{is_member}
 use Rattle.mm_spec.specs.Scope.{is_block_open}
 use Rattle.mm_outline.specs.Blocks.{never}
-use Rattle.mm_database.specs.Parsed.{typed_at}
+use Rattle.mm_database.specs.ParsedStatements.{typed_variable_at}
 
 -- the symbols with this stamp are those that have been found
-pub record AreStamps (n stamp : ℕ) (seen found : List ℕ) : Type 0 where
-  pub count : length seen ≡ n
-  pub within : (x : ℕ) → x < n → slice_index seen x ≤ stamp
-  pub marked : (x : ℕ) → x < n → nat_eq (slice_index seen x) stamp ≡ is_member found x
+pub record AreStamps (n stamp : ℕ) (stamps variables : List ℕ) : Type 0 where
+  pub count : length stamps ≡ n
+  pub within : (x : ℕ) → x < n → slice_index stamps x ≤ stamp
+  pub marked : (x : ℕ) → x < n → nat_eq (slice_index stamps x) stamp ≡ is_member variables x
 
 -- no symbol has a later stamp
-pub record IsFresh (n stamp : ℕ) (seen : List ℕ) : Type 0 where
-  pub count : length seen ≡ n
-  pub within : (x : ℕ) → x < n → slice_index seen x ≤ stamp
+pub record IsFresh (n stamp : ℕ) (stamps : List ℕ) : Type 0 where
+  pub count : length stamps ≡ n
+  pub within : (x : ℕ) → x < n → slice_index stamps x ≤ stamp
 
 -- for each variable its last `$f` before k, the only one that may be active
-pub record AreTyped (db : List Statement) (k : ℕ) (typed : List ℕ) : Type 0 where
-  pub count : length typed ≡ length (symbol_names db)
-  pub some : (v : ℕ) → v < length (symbol_names db) → slice_index typed v ≢ never
-      → (slice_index typed v < k) × (typed_at db (slice_index typed v) ≡ Some v)
-  pub alone : (j v : ℕ) → j < k → v < length (symbol_names db) → typed_at db j ≡ Some v
-      → is_block_open db j k ≡ true → slice_index typed v ≡ j
+pub record AreLastFloats (db : List Statement) (k : ℕ) (last_floats : List ℕ) : Type 0 where
+  pub count : length last_floats ≡ length (symbol_names db)
+  pub some : (v : ℕ) → v < length (symbol_names db) → slice_index last_floats v ≢ never
+      → (slice_index last_floats v < k) × (typed_variable_at db (slice_index last_floats v)
+      ≡ Some v)
+  pub alone : (j v : ℕ) → j < k → v < length (symbol_names db) → typed_variable_at db j ≡ Some v
+      → is_block_open db j k ≡ true → slice_index last_floats v ≡ j
 
 -- What a walk keeps for the symbols is ready for statement k: the last `$f` of each variable before
 -- k, and for each symbol a stamp that isn't after k.
-pub record AreReady (db : List Statement) (k : ℕ) (typed seen : List ℕ) : Type 0 where
-  pub typed_are : AreTyped db k typed
-  pub fresh : IsFresh (length (symbol_names db)) k seen
+pub record AreReady (db : List Statement) (k : ℕ) (last_floats stamps : List ℕ) : Type 0 where
+  pub last_floats_are : AreLastFloats db k last_floats
+  pub fresh : IsFresh (length (symbol_names db)) k stamps
 
 -- statement j is the last `$f` of the variable, and active
 abbrev pub is_float_of : List Statement → ℕ → List ℕ → ℕ → ℕ → Bool
-is_float_of db k typed j v =
-    nat_eq j (slice_index typed v)
-    && (not (nat_eq (slice_index typed v) never) && is_block_open db (slice_index typed v) k)
+is_float_of db k last_floats j v =
+    nat_eq j (slice_index last_floats v)
+    && (not (nat_eq (slice_index last_floats v) never) && is_block_open db (slice_index last_floats v) k)

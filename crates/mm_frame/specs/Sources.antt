@@ -2,7 +2,7 @@
 use Rattle.mm_spec.specs.Frame.{is_essential}
 use Rattle.mm_database.specs.DisjointIndex.{IsDisjointIndex}
 use Rattle.mm_frame.specs.Latest.{AreLatest}
-use Rattle.mm_database.specs.Parsed.{IsSound}
+use Rattle.mm_database.specs.ParsedStatements.{IsSound}
 use Rattle.mm_frame.specs.declared.sources.Sources.{Sources}
 
 -- all are those of the statements, which are sound

@@ -9,16 +9,22 @@ use mm_database::statements::Statements;
 use mm_outline::blocks::NEVER;
 use std::alloc::{AllocError, Allocator};
 
-/// Returns the last `$e` that is active at `at`, or `NEVER`. Goes back from the candidate `first`.
-fn last_open<A: Allocator>(statements: &Statements<A>, latest: &[u32], first: u32, at: u32) -> u32
+/// Returns the last `$e` that is active at `at`, or `NEVER`. No `$e` after the candidate is active
+/// there, so it goes back from `candidate`.
+fn last_open<A: Allocator>(
+    statements: &Statements<A>,
+    latest: &[u32],
+    candidate: u32,
+    at: u32,
+) -> u32
     requires at { at ≤ length statements.now.list }
     requires long { at ≤ length latest.now }
     requires latest { (k : ℕ) → k < at
         → IsLatest is_essential statements.now.list k (slice_index latest.now k) }
-    requires first { IsCandidate is_essential statements.now.list at first }
+    requires candidate { IsCandidate is_essential statements.now.list at candidate }
     ensures { IsLatest is_essential statements.now.list at result }
 {
-    let mut last = first;
+    let mut last = candidate;
     while last != NEVER && !statements.is_open_at(last, at) {
         last = latest[last as usize];
     }
@@ -34,13 +40,13 @@ pub(crate) fn latest_essentials<A: Allocator + Copy>(
 {
     let mut latest = Vec::new(alloc);
     latest.push(NEVER)?;
-    for k in 0..statements.len() {
-        let first = if statements.is_essential(k) {
-            k
+    for statement in 0..statements.len() {
+        let candidate = if statements.is_essential(statement) {
+            statement
         } else {
-            latest[k as usize]
+            latest[statement as usize]
         };
-        let last = last_open(statements, &latest, first, k + 1);
+        let last = last_open(statements, &latest, candidate, statement + 1);
         latest.push(last)?;
     }
     Ok(latest)

@@ -18,8 +18,8 @@ use std::alloc::{AllocError, Allocator};
 struct Chains<A: Allocator> {
     /// For each symbol the number of its first link, or 0 if it has none.
     heads: Vec<usize, A>,
-    /// A statement with the number of the next link, or with 0 if it is the last of its chain. The
-    /// number of a link is its index plus 1.
+    /// Each link is a statement and the number of the next link of its chain, which is 0 if there
+    /// is none. The number of a link is its index plus 1.
     links: Vec<(u32, usize), A>,
 }
 
@@ -54,11 +54,11 @@ fn add_link<A: Allocator>(
     ensures chains { OnOk result
         (AddsInFront (λ x. nat_eq x symbol) statement chains.old chains.new) }
 {
-    let place = symbol.number() as usize;
-    let head = chains.heads[place];
+    let index = symbol.number() as usize;
+    let head = chains.heads[index];
     if !begins_with(&chains.links, head, statement) {
         chains.links.push((statement, head))?;
-        chains.heads[place] = chains.links.len();
+        chains.heads[index] = chains.links.len();
     }
     Ok(())
 }
@@ -100,11 +100,11 @@ fn chains_of<A: Allocator + Copy>(
         heads,
         links: Vec::new(alloc),
     };
-    let mut left = statements.len();
-    while left > 0 {
-        left -= 1;
-        if statements.is_disjoint(left) {
-            add_links(statements.formula(left), left, &mut chains)?;
+    let mut statement = statements.len();
+    while statement > 0 {
+        statement -= 1;
+        if statements.is_disjoint(statement) {
+            add_links(statements.formula(statement), statement, &mut chains)?;
         }
     }
     Ok(chains)
@@ -137,7 +137,7 @@ pub(crate) fn pairs_by_symbol<A: Allocator + Copy>(
     statements: &Statements<A>,
 ) -> Result<Vec<(u32, u32), A>, AllocError>
     ensures rising { IfOk result (λ v. AreRising v.items) }
-    ensures are { IfOk result (λ v. (x j : ℕ) → has_pair v.items x j
+    ensures members_are { IfOk result (λ v. (x j : ℕ) → has_pair v.items x j
         ≡ has_symbol statements.now.list x j) }
 {
     let chains = chains_of(alloc, statements)?;

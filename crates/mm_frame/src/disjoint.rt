@@ -10,31 +10,31 @@ ghost use Rattle.mm_frame.specs.Sources.{AreSources};
 ghost use Rattle.mm_frame.specs.Together.{has_later};
 ghost use Rattle.mm_database.specs.Pairs.{has_pair, AreRising};
 
-use crate::disjoint_index::sort_and_dedup;
+use crate::disjoint_index::sort_and_dedup_pairs;
 use crate::sources::Sources;
 use mm_database::disjoint_index::{DisjointIndex, add_active};
 use mm_outline::blocks::Blocks;
 use mm_outline::symbol::Sym;
 use std::alloc::{AllocError, Allocator};
 
-/// Appends the pairs of the variable at `place` and those after it that are in the same statement.
+/// Appends the pairs of the variable at `index` and the later variables of the same statement.
 fn add_later_pairs<A: Allocator>(
     by_statement: &[(u32, u32)],
-    place: usize,
+    index: usize,
     pairs: &mut Vec<(u32, u32), A>,
 ) -> Result<(), AllocError>
     requires rising { AreRising by_statement.now }
-    requires place { place < length by_statement.now }
+    requires index { index < length by_statement.now }
     ensures { OnOk result
         ((x y : ℕ)
         → has_pair pairs.new.items x y
         ≡ (has_pair pairs.old.items x y
-        || has_later by_statement.now (get_or by_statement.now place (0, 0)) x y)) }
+        || has_later by_statement.now (get_or by_statement.now index (0, 0)) x y)) }
 {
-    let mut at = place + 1;
-    while at < by_statement.len() && by_statement[at].0 == by_statement[place].0 {
-        pairs.push((by_statement[place].1, by_statement[at].1))?;
-        at += 1;
+    let mut later = index + 1;
+    while later < by_statement.len() && by_statement[later].0 == by_statement[index].0 {
+        pairs.push((by_statement[index].1, by_statement[later].1))?;
+        later += 1;
     }
     Ok(())
 }
@@ -52,8 +52,8 @@ fn add_together<A: Allocator>(
         ≡ (has_pair pairs.old.items x y
         || list_any (λ p. has_later by_statement.now p x y) by_statement.now)) }
 {
-    for place in 0..by_statement.len() {
-        add_later_pairs(by_statement, place, pairs)?;
+    for index in 0..by_statement.len() {
+        add_later_pairs(by_statement, index, pairs)?;
     }
     Ok(())
 }
@@ -95,22 +95,22 @@ fn symbol_pairs<A: Allocator + Copy>(
     Ok(symbols)
 }
 
-/// Returns the mandatory pairs of an assertion, by its mandatory variables `found`. The cost is one
-/// step for each active `$d` of each of these variables, and one for each pair in each of these
-/// `$d`. `variables_by_statement` and `pairs_by_statement` are filled with these; what they had
-/// before is removed.
+/// Returns the mandatory pairs of an assertion, by its mandatory variables. The cost is one step
+/// for each active `$d` of each of these variables, and one for each pair in each of these `$d`.
+/// `variables_by_statement` and `pairs_by_statement` are filled with these; what they had before is
+/// removed.
 pub(crate) fn mandatory_pairs<A: Allocator + Copy>(
     alloc: A,
     sources: &Sources<A>,
-    found: &[Sym],
+    variables: &[Sym],
     assertion: u32,
     variables_by_statement: &mut Vec<(u32, u32), A>,
     pairs_by_statement: &mut Vec<(u32, u32), A>,
 ) -> Result<Vec<(Sym, Sym), A>, AllocError>
     requires sources { AreSources sources.now }
     requires assertion { assertion < length sources.now.statements.now.list }
-    requires found { (x : ℕ)
-        → is_member found.now x
+    requires variables { (x : ℕ)
+        → is_member variables.now x
         ≡ is_member (mandatory_variables sources.now.statements.now.list assertion) x }
     ensures { IfOk result
         (λ v. map (λ p. pair p.0 p.1) v.items
@@ -120,13 +120,13 @@ pub(crate) fn mandatory_pairs<A: Allocator + Copy>(
     add_all_active(
         sources.statements.blocks(),
         sources.disjoint_index,
-        found,
+        variables,
         assertion,
         variables_by_statement,
     )?;
-    sort_and_dedup(variables_by_statement);
+    sort_and_dedup_pairs(variables_by_statement);
     pairs_by_statement.clear();
     add_together(variables_by_statement, pairs_by_statement)?;
-    sort_and_dedup(pairs_by_statement);
+    sort_and_dedup_pairs(pairs_by_statement);
     symbol_pairs(alloc, pairs_by_statement)
 }

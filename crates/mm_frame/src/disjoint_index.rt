@@ -16,7 +16,7 @@ use mm_outline::symbol::Sym;
 use std::alloc::{AllocError, Allocator};
 
 /// Sorts the pairs, and removes duplicates.
-pub(crate) fn sort_and_dedup<A: Allocator>(pairs: &mut Vec<(u32, u32), A>)
+pub(crate) fn sort_and_dedup_pairs<A: Allocator>(pairs: &mut Vec<(u32, u32), A>)
     ensures rising { AreRising pairs.new.items }
     ensures same { (x y : ℕ) → has_pair pairs.new.items x y ≡ has_pair pairs.old.items x y }
 {
@@ -24,16 +24,17 @@ pub(crate) fn sort_and_dedup<A: Allocator>(pairs: &mut Vec<(u32, u32), A>)
     pairs.dedup();
 }
 
-/// Whether `pair` has the symbol of the pair `by`, and a block that ends no later.
-fn is_covered<A: Allocator>(blocks: &Blocks<A>, pair: (u32, u32), by: (u32, u32)) -> bool
+/// Whether `pair` has the symbol of the pair `covering`, and a block that ends no later.
+fn is_covered<A: Allocator>(blocks: &Blocks<A>, pair: (u32, u32), covering: (u32, u32)) -> bool
     requires pair { (pair.1 < length blocks.now.of)
         × (get_or blocks.now.of pair.1 0 < length blocks.now.ends) }
-    requires by { (by.1 < length blocks.now.of)
-        × (get_or blocks.now.of by.1 0 < length blocks.now.ends) }
+    requires covering { (covering.1 < length blocks.now.of)
+        × (get_or blocks.now.of covering.1 0 < length blocks.now.ends) }
     ensures { result
-        ≡ (nat_eq pair.0 by.0 && nat_le (end_of blocks.now pair.1) (end_of blocks.now by.1)) }
+        ≡ (nat_eq pair.0 covering.0
+        && nat_le (end_of blocks.now pair.1) (end_of blocks.now covering.1)) }
 {
-    pair.0 == by.0 && blocks.end_of(pair.1) <= blocks.end_of(by.1)
+    pair.0 == covering.0 && blocks.end_of(pair.1) <= blocks.end_of(covering.1)
 }
 
 /// Returns for each pair the index from which on all pairs up to it are covered by it.
@@ -46,9 +47,9 @@ fn skips_of<A: Allocator + Copy>(
     ensures { IfOk result (λ v. AreSkips blocks.now pairs.now v.items) }
 {
     let mut skips = Vec::new(alloc);
-    for at in 0..pairs.len() {
-        let mut first = at;
-        while first > 0 && is_covered(blocks, pairs[first - 1], pairs[at]) {
+    for index in 0..pairs.len() {
+        let mut first = index;
+        while first > 0 && is_covered(blocks, pairs[first - 1], pairs[index]) {
             first = skips[first - 1];
         }
         skips.push(first)?;
@@ -65,9 +66,9 @@ fn starts_of<A: Allocator + Copy>(
     ensures { IfOk result (λ v. AreStarts pairs.now v.items) }
 {
     let mut starts = Vec::new(alloc);
-    for at in 0..pairs.len() {
-        while starts.len() <= pairs[at].0 as usize {
-            starts.push(at)?;
+    for index in 0..pairs.len() {
+        while starts.len() <= pairs[index].0 as usize {
+            starts.push(index)?;
         }
     }
     Ok(starts)

@@ -5,17 +5,17 @@ ghost use Rattle.mm_spec.specs.Frame.{symbol_names};
 ghost use Rattle.mm_database.specs.Frames.{frames_before, mandatory_at, mandatory_in};
 ghost use Rattle.mm_database.specs.DisjointIndex.{IsDisjointIndex};
 ghost use Rattle.mm_frame.specs.Sources.{AreSources};
-ghost use Rattle.mm_database.specs.Parsed.{IsSound};
-ghost use Rattle.mm_frame.specs.Hypotheses.{AreReady, AreTyped, IsFresh};
-ghost use Rattle.mm_database.specs.Beside.{IsBeside};
+ghost use Rattle.mm_database.specs.ParsedStatements.{IsSound};
+ghost use Rattle.mm_frame.specs.Hypotheses.{AreReady, AreLastFloats, IsFresh};
+ghost use Rattle.mm_database.specs.FrameTables.{AreFrameTables};
 
 use crate::active::latest_essentials;
 use crate::disjoint::mandatory_pairs;
 use crate::disjoint_index::disjoint_index_of;
-use crate::hypotheses::hypotheses;
+use crate::hypotheses::list_hypotheses;
 use crate::sources::Sources;
 use mm_database::disjoint_index::DisjointIndex;
-use mm_database::frames::{Beside, Frame, Frames};
+use mm_database::frames::{Frame, FrameTables, Frames};
 use mm_database::statements::Statements;
 use mm_outline::blocks::NEVER;
 use mm_outline::symbol::Sym;
@@ -29,25 +29,33 @@ fn filled<A: Allocator + Copy>(alloc: A, value: u32, count: u32) -> Result<Vec<u
     vec![in alloc; value; count as usize]
 }
 
-/// Notes the statement, if it is a `$f`, as the last `$f` of its variable.
-fn give_type<A: Allocator>(statements: &Statements<A>, statement: u32, typed: &mut Vec<u32, A>)
+/// Makes the statement the last `$f` of its variable, if it is a `$f`.
+fn set_last_float<A: Allocator>(
+    statements: &Statements<A>,
+    statement: u32,
+    last_floats: &mut Vec<u32, A>,
+)
     requires sound { IsSound statements.now.list }
     requires statement { statement < length statements.now.list }
-    requires typed { AreTyped statements.now.list statement typed.old.items }
-    ensures { AreTyped statements.now.list (statement + 1) typed.new.items }
+    requires last_floats { AreLastFloats statements.now.list statement last_floats.old.items }
+    ensures { AreLastFloats statements.now.list (statement + 1) last_floats.new.items }
 {
-    if let Some(variable) = statements.typed(statement) {
-        typed[variable.number() as usize] = statement;
+    if let Some(variable) = statements.typed_variable(statement) {
+        last_floats[variable.number() as usize] = statement;
     }
 }
 
-/// Lists that are reused for each assertion: the stamps of the symbols, the variables, the
-/// hypotheses, the active `$d` of the variables, and the pairs of variables in these `$d`.
+/// Lists that are filled anew for each assertion, so that their memory is reused.
 struct Scratch<A: Allocator> {
-    seen: Vec<u32, A>,
-    found: Vec<Sym, A>,
+    /// For each symbol 1 more than the last assertion for which it is a mandatory variable, or 0.
+    stamps: Vec<u32, A>,
+    /// The mandatory variables.
+    variables: Vec<Sym, A>,
+    /// The mandatory hypotheses.
     hyps: Vec<u32, A>,
+    /// The active `$d` of the mandatory variables, each paired with those of them that it has.
     variables_by_statement: Vec<(u32, u32), A>,
+    /// The pairs of mandatory variables that are together in one of these `$d`.
     pairs_by_statement: Vec<(u32, u32), A>,
 }
 
@@ -55,8 +63,8 @@ struct Scratch<A: Allocator> {
 impl<A: Allocator> Drop for Scratch<A> {
     fn drop(self) {
         let Self {
-            seen: _,
-            found: _,
+            stamps: _,
+            variables: _,
             hyps: _,
             variables_by_statement: _,
             pairs_by_statement: _,
@@ -68,42 +76,42 @@ impl<A: Allocator> Drop for Scratch<A> {
 fn copied<A: Allocator + Copy>(alloc: A, numbers: &[u32]) -> Result<Vec<u32, A>, AllocError>
     ensures { IfOk result (λ v. v.items ≡ numbers.now) }
 {
-    let mut own = Vec::with_capacity(alloc, numbers.len())?;
-    own.extend_from_slice(numbers)?;
-    Ok(own)
+    let mut list = Vec::with_capacity(alloc, numbers.len())?;
+    list.extend_from_slice(numbers)?;
+    Ok(list)
 }
 
 /// Returns the frame of an assertion.
 fn frame_of<A: Allocator + Copy>(
     alloc: A,
     sources: &Sources<A>,
-    typed: &[u32],
+    last_floats: &[u32],
     assertion: u32,
     scratch: &mut Scratch<A>,
 ) -> Result<Frame<A>, AllocError>
     requires sources { AreSources sources.now }
     requires assertion { assertion < length sources.now.statements.now.list }
-    requires ready { AreReady sources.now.statements.now.list assertion typed.now
-        scratch.old.seen.items }
-    ensures seen { OnOk result
+    requires ready { AreReady sources.now.statements.now.list assertion last_floats.now
+        scratch.old.stamps.items }
+    ensures stamps { OnOk result
         (IsFresh (length (symbol_names sources.now.statements.now.list)) (assertion + 1)
-        scratch.new.seen.items) }
+        scratch.new.stamps.items) }
     ensures frame { IfOk result
         (λ f. mandatory_in f ≡ mandatory_at sources.now.statements.now.list assertion) }
 {
-    hypotheses(
+    list_hypotheses(
         sources,
-        typed,
+        last_floats,
         assertion,
-        &mut scratch.seen,
-        &mut scratch.found,
+        &mut scratch.stamps,
+        &mut scratch.variables,
         &mut scratch.hyps,
     )?;
     let hyps = copied(alloc, &scratch.hyps)?;
     let pairs = mandatory_pairs(
         alloc,
         sources,
-        &scratch.found,
+        &scratch.variables,
         assertion,
         &mut scratch.variables_by_statement,
         &mut scratch.pairs_by_statement,
@@ -115,24 +123,24 @@ fn frame_of<A: Allocator + Copy>(
 fn add_frame<A: Allocator + Copy>(
     alloc: A,
     sources: &Sources<A>,
-    typed: &[u32],
+    last_floats: &[u32],
     statement: u32,
     scratch: &mut Scratch<A>,
     frames: &mut Frames<A>,
 ) -> Result<(), AllocError>
     requires sources { AreSources sources.now }
     requires statement { statement < length sources.now.statements.now.list }
-    requires ready { AreReady sources.now.statements.now.list statement typed.now
-        scratch.old.seen.items }
+    requires ready { AreReady sources.now.statements.now.list statement last_floats.now
+        scratch.old.stamps.items }
     requires frames { frames.old ≡ frames_before sources.now.statements.now.list statement }
-    ensures seen { OnOk result
+    ensures stamps { OnOk result
         (IsFresh (length (symbol_names sources.now.statements.now.list)) (statement + 1)
-        scratch.new.seen.items) }
+        scratch.new.stamps.items) }
     ensures frames { OnOk result
         (frames.new ≡ frames_before sources.now.statements.now.list (statement + 1)) }
 {
     if sources.statements.is_assertion(statement) {
-        let frame = frame_of(alloc, sources, typed, statement, scratch)?;
+        let frame = frame_of(alloc, sources, last_floats, statement, scratch)?;
         frames.add(frame)
     } else {
         frames.add_none()
@@ -156,33 +164,40 @@ pub(crate) fn frames_of<A: Allocator + Copy>(
         essentials: &essentials,
         disjoint_index,
     };
-    let mut typed = filled(alloc, NEVER, statements.symbol_count())?;
+    let mut last_floats = filled(alloc, NEVER, statements.symbol_count())?;
     let mut scratch = Scratch {
-        seen: filled(alloc, 0, statements.symbol_count())?,
-        found: Vec::new(alloc),
+        stamps: filled(alloc, 0, statements.symbol_count())?,
+        variables: Vec::new(alloc),
         hyps: Vec::new(alloc),
         variables_by_statement: Vec::new(alloc),
         pairs_by_statement: Vec::new(alloc),
     };
     let mut frames = Frames::none(alloc, count as usize);
-    for k in 0..count {
-        add_frame(alloc, &sources, &typed, k, &mut scratch, &mut frames)?;
-        give_type(statements, k, &mut typed);
+    for statement in 0..count {
+        add_frame(
+            alloc,
+            &sources,
+            &last_floats,
+            statement,
+            &mut scratch,
+            &mut frames,
+        )?;
+        set_last_float(statements, statement, &mut last_floats);
     }
     Ok(frames)
 }
 
-/// Returns all that is kept beside lawful statements.
-pub fn gather<A: Allocator + Copy>(
+/// Returns the frames of lawful statements, and the index of their `$d`.
+pub fn frame_tables_of<A: Allocator + Copy>(
     alloc: A,
     statements: &Statements<A>,
-) -> Result<Beside<A>, AllocError>
+) -> Result<FrameTables<A>, AllocError>
     ensures { IfOk result
-        (λ b. IsBeside statements.now.list statements.now.blocks b) }
+        (λ b. AreFrameTables statements.now.list statements.now.blocks b) }
 {
     let disjoint_index = disjoint_index_of(alloc, statements)?;
     let frames = frames_of(alloc, statements, &disjoint_index)?;
-    Ok(Beside {
+    Ok(FrameTables {
         disjoint_index,
         frames,
     })

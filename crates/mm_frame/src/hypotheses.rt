@@ -8,7 +8,8 @@ ghost use Rattle.mm_spec.specs.Derivation.{is_member};
 ghost use Rattle.mm_spec.specs.Frame.{symbol_names, is_variable_number, is_essential, active_of};
 ghost use Rattle.mm_spec.specs.Frame.{mandatory_variables, mandatory_hypotheses};
 ghost use Rattle.mm_frame.specs.Sources.{AreSources};
-ghost use Rattle.mm_frame.specs.Hypotheses.{AreReady, AreStamps, AreTyped, IsFresh, is_float_of};
+ghost use Rattle.mm_frame.specs.Hypotheses.{AreReady, AreStamps, AreLastFloats, IsFresh};
+ghost use Rattle.mm_frame.specs.Hypotheses.{is_float_of};
 
 use crate::active::active_essentials;
 use crate::sources::Sources;
@@ -22,26 +23,26 @@ fn add_variable<A: Allocator>(
     statements: &Statements<A>,
     symbol: Sym,
     stamp: u32,
-    seen: &mut Vec<u32, A>,
-    found: &mut Vec<Sym, A>,
+    stamps: &mut Vec<u32, A>,
+    variables: &mut Vec<Sym, A>,
 ) -> Result<(), AllocError>
     requires symbol { symbol < length (symbol_names statements.now.list) }
     requires stamps { AreStamps
-        (length (symbol_names statements.now.list)) stamp seen.old.items found.old.items }
+        (length (symbol_names statements.now.list)) stamp stamps.old.items variables.old.items }
     ensures stamps { OnOk result
-        (AreStamps (length (symbol_names statements.now.list)) stamp seen.new.items
-        found.new.items) }
-    ensures found { OnOk result
+        (AreStamps (length (symbol_names statements.now.list)) stamp stamps.new.items
+        variables.new.items) }
+    ensures variables { OnOk result
         ((x : ℕ)
-        → is_member found.new.items x
-        ≡ (is_member found.old.items x ||
+        → is_member variables.new.items x
+        ≡ (is_member variables.old.items x ||
         (is_variable_number statements.now.list x && nat_eq x symbol))) }
 {
     if statements.is_variable(symbol) {
-        let place = symbol.number() as usize;
-        if seen[place] != stamp {
-            seen[place] = stamp;
-            found.push(symbol)?;
+        let index = symbol.number() as usize;
+        if stamps[index] != stamp {
+            stamps[index] = stamp;
+            variables.push(symbol)?;
         }
     }
     Ok(())
@@ -52,65 +53,66 @@ fn add_variables<A: Allocator>(
     statements: &Statements<A>,
     symbols: &[Sym],
     stamp: u32,
-    seen: &mut Vec<u32, A>,
-    found: &mut Vec<Sym, A>,
+    stamps: &mut Vec<u32, A>,
+    variables: &mut Vec<Sym, A>,
 ) -> Result<(), AllocError>
     requires symbols { All (λ s. s < length (symbol_names statements.now.list)) symbols.now }
     requires stamps { AreStamps
-        (length (symbol_names statements.now.list)) stamp seen.old.items found.old.items }
+        (length (symbol_names statements.now.list)) stamp stamps.old.items variables.old.items }
     ensures stamps { OnOk result
-        (AreStamps (length (symbol_names statements.now.list)) stamp seen.new.items
-        found.new.items) }
-    ensures found { OnOk result
+        (AreStamps (length (symbol_names statements.now.list)) stamp stamps.new.items
+        variables.new.items) }
+    ensures variables { OnOk result
         ((x : ℕ)
-        → is_member found.new.items x
-        ≡ (is_member found.old.items x
+        → is_member variables.new.items x
+        ≡ (is_member variables.old.items x
         || (is_variable_number statements.now.list x && is_member symbols.now x))) }
 {
     for symbol in symbols {
-        add_variable(statements, *symbol, stamp, seen, found)?;
+        add_variable(statements, *symbol, stamp, stamps, variables)?;
     }
     Ok(())
 }
 
-/// Marks the mandatory variables of an assertion, and lists them in `found`. Replaces what `found`
-/// has.
-fn mandatory_variables<A: Allocator>(
+/// Marks the mandatory variables of an assertion, and lists them in `variables`. Replaces what
+/// `variables` has.
+fn list_mandatory_variables<A: Allocator>(
     statements: &Statements<A>,
     essentials: &[u32],
     assertion: u32,
-    seen: &mut Vec<u32, A>,
-    found: &mut Vec<Sym, A>,
+    stamps: &mut Vec<u32, A>,
+    variables: &mut Vec<Sym, A>,
 ) -> Result<(), AllocError>
     requires few { length statements.now.list < 2 ^ 31 }
     requires assertion { assertion < length statements.now.list }
     requires essentials { (i : ℕ)
         → is_member essentials.now i
         ≡ is_member (active_of is_essential statements.now.list assertion) i }
-    requires fresh { IsFresh (length (symbol_names statements.now.list)) assertion seen.old.items }
+    requires fresh { IsFresh
+        (length (symbol_names statements.now.list)) assertion stamps.old.items }
     ensures stamps { OnOk result
         (AreStamps (length (symbol_names statements.now.list))
-        (assertion + 1) seen.new.items found.new.items) }
-    ensures found { OnOk result
+        (assertion + 1) stamps.new.items variables.new.items) }
+    ensures variables { OnOk result
         ((x : ℕ)
-        → is_member found.new.items x
+        → is_member variables.new.items x
         ≡ is_member (mandatory_variables statements.now.list assertion) x) }
 {
-    found.clear();
+    variables.clear();
     add_variables(
         statements,
         statements.formula(assertion),
         assertion + 1,
-        seen,
-        found,
+        stamps,
+        variables,
     )?;
     for essential in essentials {
         add_variables(
             statements,
             statements.formula(*essential),
             assertion + 1,
-            seen,
-            found,
+            stamps,
+            variables,
         )?;
     }
     Ok(())
@@ -119,22 +121,22 @@ fn mandatory_variables<A: Allocator>(
 /// Appends the active `$f` statements of the variables.
 fn add_floats<A: Allocator>(
     statements: &Statements<A>,
-    typed: &[u32],
+    last_floats: &[u32],
     at: u32,
-    found: &[Sym],
+    variables: &[Sym],
     hyps: &mut Vec<u32, A>,
 ) -> Result<(), AllocError>
     requires at { at ≤ length statements.now.list }
-    requires typed { AreTyped statements.now.list at typed.now }
-    requires found { All (λ s. s < length (symbol_names statements.now.list)) found.now }
+    requires last_floats { AreLastFloats statements.now.list at last_floats.now }
+    requires variables { All (λ s. s < length (symbol_names statements.now.list)) variables.now }
     ensures { OnOk result
         ((j : ℕ)
         → is_member hyps.new.items j
         ≡ (is_member hyps.old.items j
-        || list_any (is_float_of statements.now.list at typed.now j) found.now)) }
+        || list_any (is_float_of statements.now.list at last_floats.now j) variables.now)) }
 {
-    for symbol in found {
-        let floating = typed[symbol.number() as usize];
+    for symbol in variables {
+        let floating = last_floats[symbol.number() as usize];
         if floating != NEVER {
             if statements.is_open_at(floating, at) {
                 hyps.push(floating)?;
@@ -145,7 +147,7 @@ fn add_floats<A: Allocator>(
 }
 
 /// Sorts the numbers in ascending order, and removes duplicates.
-fn sort_and_dedup<A: Allocator>(numbers: &mut Vec<u32, A>)
+fn sort_and_dedup_numbers<A: Allocator>(numbers: &mut Vec<u32, A>)
     ensures rising { IsStrictlyIncreasing numbers.new.items }
     ensures same { (a : ℕ) → is_member numbers.new.items a ≡ is_member numbers.old.items a }
 {
@@ -153,33 +155,34 @@ fn sort_and_dedup<A: Allocator>(numbers: &mut Vec<u32, A>)
     numbers.dedup();
 }
 
-/// Lists the mandatory hypotheses of an assertion in `hyps` and its mandatory variables in `found`,
-/// and marks these variables. Replaces what the two lists have.
-pub(crate) fn hypotheses<A: Allocator>(
+/// Lists the mandatory hypotheses of an assertion in `hyps` and its mandatory variables in
+/// `variables`, and marks these variables. Replaces what the two lists have.
+pub(crate) fn list_hypotheses<A: Allocator>(
     sources: &Sources<A>,
-    typed: &[u32],
+    last_floats: &[u32],
     assertion: u32,
-    seen: &mut Vec<u32, A>,
-    found: &mut Vec<Sym, A>,
+    stamps: &mut Vec<u32, A>,
+    variables: &mut Vec<Sym, A>,
     hyps: &mut Vec<u32, A>,
 ) -> Result<(), AllocError>
     requires sources { AreSources sources.now }
     requires assertion { assertion < length sources.now.statements.now.list }
-    requires ready { AreReady sources.now.statements.now.list assertion typed.now seen.old.items }
+    requires ready { AreReady sources.now.statements.now.list assertion last_floats.now
+        stamps.old.items }
     ensures stamps { OnOk result
         (AreStamps (length (symbol_names sources.now.statements.now.list))
-        (assertion + 1) seen.new.items found.new.items) }
-    ensures found { OnOk result
+        (assertion + 1) stamps.new.items variables.new.items) }
+    ensures variables { OnOk result
         ((x : ℕ)
-        → is_member found.new.items x
+        → is_member variables.new.items x
         ≡ is_member (mandatory_variables sources.now.statements.now.list assertion) x) }
     ensures hyps { OnOk result
         (hyps.new.items ≡ mandatory_hypotheses sources.now.statements.now.list assertion) }
 {
     let statements = sources.statements;
     active_essentials(statements, sources.essentials, assertion, hyps)?;
-    mandatory_variables(statements, hyps, assertion, seen, found)?;
-    add_floats(statements, typed, assertion, found, hyps)?;
-    sort_and_dedup(hyps);
+    list_mandatory_variables(statements, hyps, assertion, stamps, variables)?;
+    add_floats(statements, last_floats, assertion, variables, hyps)?;
+    sort_and_dedup_numbers(hyps);
     Ok(())
 }

@@ -16,13 +16,13 @@ use Rattle.mm_spec.specs.Citation.{context_at}
 use Rattle.mm_spec.specs.Laws.Stack.{substitution_from, are_equal, unless_failed, unless_too_long}
 use Rattle.mm_spec.specs.Laws.Stack.{apply, step}
 use Rattle.mm_rule.specs.declared.rule.RuleSymbol.TheVariants.{Constant, Variable}
-use Rattle.mm_rule.specs.Rule.{floating_index, parts_of, IsBelow, Compiled, IsCompiled}
+use Rattle.mm_rule.specs.Rule.{floating_index, parts_of, IsVariableBelow, CompiledRule, IsCompiled}
 use Rattle.mm_machine.specs.State.{applied}
 use Rattle.mm_machine.proofs.RuleTestLaw.{length_all_parts}
 
-nothing_in : {X : Type 0} (xs : List X) → length xs ≡ 0 → xs ≡ []
-nothing_in [] h = refl
-nothing_in (x ∷ xs) h = absurd (omega (arith, h))
+empty_of_length_0 : {X : Type 0} (xs : List X) → length xs ≡ 0 → xs ≡ []
+empty_of_length_0 [] h = refl
+empty_of_length_0 (x ∷ xs) h = absurd (omega (arith, h))
 
 no_pairs : (ps : List (ℕ × ℕ)) → All (λ (p : ℕ × ℕ). (p.0 < 0) × (p.1 < 0)) ps → length ps ≡ 0
 no_pairs [] h = refl
@@ -36,11 +36,12 @@ module _ (c : Context) (a : Frame) (hypotheses : a.hypotheses ≡ []) (pairs : a
   step_alone : (es : List Formula) → step c (Some (assertion a)) es
       ≡ unless_too_long (nat_le (length a.formula) formula_limit) (es ++ a.formula ∷ [])
   step_alone es =
-      let none : length a.hypotheses ≡ 0 = ap length hypotheses in
+      let length_hypotheses_is_0 : length a.hypotheses ≡ 0 = ap length hypotheses in
       let n = length es - length a.hypotheses in
-      let all : length es ≤ n = omega (arith, none) in
+      let all : length es ≤ n = omega (arith, length_hypotheses_is_0) in
       let σ = substitution_from c a.hypotheses [] in
-      ap (λ b. apply c a b (take n es) (drop n es)) (le-leb _ _ (omega (arith, none)))
+      ap (λ b. apply c a b (take n es) (drop n es))
+      (le-leb _ _ (omega (arith, length_hypotheses_is_0)))
       ∙ ap₂ (λ below premises. apply c a true below premises) (take_all n es all)
       (drop_all n es all)
       ∙ ap₂ (λ matched apart. unless_failed true matched apart
@@ -51,18 +52,19 @@ module _ (c : Context) (a : Frame) (hypotheses : a.hypotheses ≡ []) (pairs : a
       ∙ ap (λ f. unless_too_long (nat_le (length f) formula_limit) (es ++ f ∷ [])) (stays σ)
 
 module _ (db : List Statement) (t : ℕ) (hs : List Formula) (σ : Substitution) where
-  no_variables : (f : Formula) → AllByRecursion (IsBelow 0) (parts_of db hs f)
+  no_variables : (f : Formula) → AllByRecursion (IsVariableBelow 0) (parts_of db hs f)
       → substitute (context_at db t) σ f ≡ f
   no_variables [] h = refl
   no_variables (s ∷ f) h =
-      ap₂ (λ u v. u ++ v) (one (is_variable_number db s) h.0) (no_variables f h.1)
+      ap₂ (λ u v. u ++ v) (by_is_variable (is_variable_number db s) h.0) (no_variables f h.1)
     where
-      one : (v : Bool) → IsBelow 0 (cond v (Variable (floating_index db hs s)) (Constant s))
+      by_is_variable : (v : Bool) → IsVariableBelow 0 (cond v (Variable (floating_index db hs s))
+          (Constant s))
           → cond v (σ s) (s ∷ []) ≡ s ∷ []
-      one true l = absurd (omega (arith, l))
-      one false l = refl
+      by_is_variable true l = absurd (omega (arith, l))
+      by_is_variable false l = refl
 
-module _ (db : List Statement) (t : ℕ) (c : Compiled) (rule : IsCompiled db c)
+module _ (db : List Statement) (t : ℕ) (c : CompiledRule) (rule : IsCompiled db c)
     (none : length c.hypotheses ≡ 0) where
   abbrev frame : Frame
   frame = frame_at db c.assertion
@@ -75,7 +77,7 @@ module _ (db : List Statement) (t : ℕ) (c : Compiled) (rule : IsCompiled db c)
       let parts = ap length rule.hypotheses_are in
       let left = length_all_parts c.parts 0 c.hypotheses in
       let right = length-map frame.hypotheses (parts_of db frame.hypotheses) in
-      nothing_in frame.hypotheses (omega (arith, none, parts, left, right))
+      empty_of_length_0 frame.hypotheses (omega (arith, none, parts, left, right))
 
   pairs_are : frame.pairs ≡ []
   pairs_are =
@@ -89,13 +91,13 @@ module _ (db : List Statement) (t : ℕ) (c : Compiled) (rule : IsCompiled db c)
         floating_index db frame.hypotheses p.low,
         floating_index db frame.hypotheses p.high,
       )) in
-      nothing_in frame.pairs (omega (arith, few, same))
+      empty_of_length_0 frame.pairs (omega (arith, few, same))
 
-  below : AllByRecursion (IsBelow 0) (parts_of db frame.hypotheses f)
+  below : AllByRecursion (IsVariableBelow 0) (parts_of db frame.hypotheses f)
   below =
-      recursion_from_All (IsBelow 0) (parts_of db frame.hypotheses f)
-      (subst (All (IsBelow 0)) rule.formula_is
-      (subst (λ n. All (IsBelow n) c.formula) none rule.formula_in))
+      recursion_from_All (IsVariableBelow 0) (parts_of db frame.hypotheses f)
+      (subst (All (IsVariableBelow 0)) rule.formula_is
+      (subst (λ n. All (IsVariableBelow n) c.formula) none rule.formula_in))
 
   pushed : (es : List Formula) → applied db t c.assertion es
       ≡ unless_too_long (nat_le (length f) formula_limit) (es ++ f ∷ [])
@@ -103,9 +105,9 @@ module _ (db : List Statement) (t : ℕ) (c : Compiled) (rule : IsCompiled db c)
       step_alone (context_at db t) frame hypotheses_are pairs_are
       (λ σ. no_variables db t frame.hypotheses σ f below) es
 
-  pub alone_made : (es : List Formula) → length f ≤ formula_limit
+  pub alone_entries : (es : List Formula) → length f ≤ formula_limit
       → applied db t c.assertion es ≡ Ok (es ++ f ∷ [])
-  alone_made es short =
+  alone_entries es short =
       pushed es ∙ ap (λ b. unless_too_long b (es ++ f ∷ [])) (le-leb _ _ short)
 
   pub alone_long : (es : List Formula) → formula_limit < length f

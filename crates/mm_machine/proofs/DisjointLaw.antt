@@ -1,11 +1,11 @@
--- The pairs that are kept are disjoint, in whichever order their symbols come.
+-- The pairs of the cache are disjoint, in whichever order their symbols come.
 use Rattle.std.proofs.Common.{◌≡◌, ℕ, ◌⊎◌, inl, inr, true, List, sym, subst}
 use Rattle.std.proofs.lemmas.List.Elements.{All-push}
 use Rattle.mm_spec.specs.Statement.{Statement}
 use Rattle.mm_spec.specs.Derivation.{are_disjoint}
 use Rattle.mm_spec.specs.Citation.{context_at}
 use Rattle.mm_rule.proofs.DisjointLaw.{either_order}
-use Rattle.mm_machine.specs.DisjointCache.{AreDisjointAt, HasPair, KeepsPair}
+use Rattle.mm_machine.specs.DisjointCache.{AreDisjointAt, HasPair, InsertsPair}
 
 module _ (db : List Statement) (t : ℕ) (ps : List (ℕ × ℕ)) (h : AreDisjointAt db t ps) where
   abbrev Disjoint : ℕ → ℕ → Type 0
@@ -19,14 +19,14 @@ module _ (db : List Statement) (t : ℕ) (ps : List (ℕ × ℕ)) (h : AreDisjoi
   either_disjoint a b (inl p) = has_disjoint a b p
   either_disjoint a b (inr p) = either_order db t b a (has_disjoint b a p)
 
-  pub kept_apart : (a b : ℕ) (qs : List (ℕ × ℕ)) → Disjoint a b → KeepsPair ps a b qs
+  pub marked_apart : (a b : ℕ) (qs : List (ℕ × ℕ)) → Disjoint a b → InsertsPair ps a b qs
       → AreDisjointAt db t qs
-  kept_apart a b qs d (inl e) = subst (AreDisjointAt db t) (sym e) h
-  kept_apart a b qs d (inr e) =
+  marked_apart a b qs d (inl e) = subst (AreDisjointAt db t) (sym e) h
+  marked_apart a b qs d (inr e) =
       subst (AreDisjointAt db t) (sym e)
       (All-push (λ (p : ℕ × ℕ). are_disjoint (context_at db t) p.0 p.1 ≡ true) ps (a, b) h d)
 
-  pub either_kept : (a b : ℕ) (qs : List (ℕ × ℕ)) → Disjoint a b
-      → KeepsPair ps a b qs ⊎ KeepsPair ps b a qs → AreDisjointAt db t qs
-  either_kept a b qs d (inl e) = kept_apart a b qs d e
-  either_kept a b qs d (inr e) = kept_apart b a qs (either_order db t a b d) e
+  pub either_marked : (a b : ℕ) (qs : List (ℕ × ℕ)) → Disjoint a b
+      → InsertsPair ps a b qs ⊎ InsertsPair ps b a qs → AreDisjointAt db t qs
+  either_marked a b qs d (inl e) = marked_apart a b qs d e
+  either_marked a b qs d (inr e) = marked_apart b a qs (either_order db t a b d) e

@@ -7,9 +7,9 @@ use Rattle.mm_spec.specs.Laws.Stack.{are_equal}
 use Rattle.mm_rule.specs.declared.rule.Hypothesis.{Hypothesis}
 use Rattle.mm_rule.specs.declared.rule.Hypothesis.TheVariants.{Floating, Essential}
 use Rattle.mm_rule.specs.declared.rule.RuleSymbol.{RuleSymbol}
-use Rattle.mm_rule.specs.Rule.{part_count, hypothesis_parts, all_parts, count_parts}
+use Rattle.mm_rule.specs.Rule.{part_count, hypothesis_parts, all_parts, total_part_count}
 use Rattle.mm_machine.specs.declared.arena.Span.{Span}
-use Rattle.mm_machine.specs.Arena.{Arena, no_symbols, rest, span_formula}
+use Rattle.mm_machine.specs.Arena.{Arena, no_symbols, without_first, span_formula}
 use Rattle.mm_machine.specs.Replaced.{replaced}
 
 module _ (xs : Arena) (es : List Span) (parts : List RuleSymbol) (hs : List Hypothesis) where
@@ -37,15 +37,15 @@ module _ (xs : Arena) (es : List Span) (parts : List RuleSymbol) (hs : List Hypo
     pub typed_tested : (t : ℕ) → h ≡ Floating t
         → one
         ≡ bytes_eq (span_formula xs (get_or es j no_symbols))
-        (t ∷ span_formula xs (rest (get_or es j no_symbols)))
+        (t ∷ span_formula xs (without_first (get_or es j no_symbols)))
         → next ≡ at → IsTested j at h one next
-    typed_tested t is e n =
+    typed_tested t is e next_is_at =
         rw is
         (record {
-          next_is = omega (arith, n);
+          next_is = omega (arith, next_is_at);
           one_is = e
               ∙ ap (λ z. bytes_eq (span_formula xs (get_or es j no_symbols)) (t ∷ z))
-              (sym (append-nil (span_formula xs (rest (get_or es j no_symbols)))));
+              (sym (append-nil (span_formula xs (without_first (get_or es j no_symbols)))));
         })
 
     pub essential_tested : (n : ℕ) → h ≡ Essential n
@@ -70,7 +70,7 @@ module _ (xs : Arena) (es : List Span) (parts : List RuleSymbol) (hs : List Hypo
 
       pub fit_next : fit_from j at ≡ (one && fit_from (j + 1) next)
       fit_next =
-          let more : suc j ≡ j + 1 = omega arith in
+          let next_j_is_next_j : suc j ≡ j + 1 = omega arith in
           ap₂ (λ u v. are_equal (map (span_formula xs) u)
           (map (replaced xs es) (all_parts (drop at parts) j v)))
           (drop_more es j no_symbols many) hs_here
@@ -78,12 +78,14 @@ module _ (xs : Arena) (es : List Span) (parts : List RuleSymbol) (hs : List Hypo
           (replaced xs es (hypothesis_parts (drop at parts) j h))
           && are_equal (map (span_formula xs) (drop (j + 1) es))
           (map (replaced xs es) (all_parts u n (drop (j + 1) hs))))
-          (drop-drop (part_count h) at parts ∙ ap (λ n. drop n parts) (sym tested.next_is)) more
+          (drop-drop (part_count h) at parts ∙ ap (λ n. drop n parts) (sym tested.next_is))
+          next_j_is_next_j
           ∙ ap (λ b. b && fit_from (j + 1) next) (sym tested.one_is)
 
-      pub kept_next : at + count_parts (drop j hs) ≡ length parts
-          → next + count_parts (drop (j + 1) hs) ≡ length parts
-      kept_next kept =
-          let here : count_parts (drop j hs) ≡ part_count h + count_parts (drop (j + 1) hs) =
-          ap count_parts hs_here in
-          let n = tested.next_is in omega (arith, here, kept, n)
+      pub part_count_next : at + total_part_count (drop j hs) ≡ length parts
+          → next + total_part_count (drop (j + 1) hs) ≡ length parts
+      part_count_next part_count_is =
+          let here : total_part_count (drop j hs)
+          ≡ part_count h + total_part_count (drop (j + 1) hs) =
+          ap total_part_count hs_here in
+          let n = tested.next_is in omega (arith, here, part_count_is, n)

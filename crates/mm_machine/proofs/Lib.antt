@@ -1,13 +1,13 @@
--- `judged_at` (`RuleTestLaw.antt`) says that the test of a rule is the step of the definitions. The
--- entries follow one another in the list of their own symbols (`Follow`, `FollowLaw.antt`), so that
--- cutting the list takes away exactly the last ones.
+-- `rule_test_at` (`RuleTestLaw.antt`) says that the test of a rule is the step of the definitions.
+-- The entries follow one another in the list of the unmarked formulas (`Follow`, `FollowLaw.antt`),
+-- so that cutting the list takes away exactly the last ones.
 pub mod AloneLaw
 pub mod DisjointLaw
 pub mod FillLaw
 pub mod FitLaw
 pub mod FollowLaw
 pub mod GrowLaw
-pub mod KeepLaw
+pub mod MarkedFormulaLaw
 pub mod LongerLaw
 pub mod MarksLaw
 pub mod PlacedLaw

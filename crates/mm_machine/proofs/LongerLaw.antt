@@ -9,7 +9,8 @@ use Rattle.mm_machine.specs.Arena.{Arena}
 use Rattle.mm_machine.specs.Replaced.{replaced_part, replaced}
 
 module _ (a : Arena) (es : List Span) where
-  pub longer : (f : List RuleSymbol) (i : ℕ) (p : RuleSymbol) (u : List ℕ) → i < length f → get_or f i p ≡ p
+  pub longer : (f : List RuleSymbol) (i : ℕ) (p : RuleSymbol) (u : List ℕ) → i < length f
+      → get_or f i p ≡ p
       → replaced_part a es p ≡ u
       → length (replaced a es (take i f)) + length u ≤ length (replaced a es f)
   longer [] i p u h e is = absurd (omega arith)

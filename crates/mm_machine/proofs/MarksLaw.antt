@@ -11,50 +11,59 @@ use Rattle.mm_machine.specs.State.{IsRising}
 
 pub not_absent : (xs : List ℕ) (x n : ℕ) → IsBinarySearchResult (λ y. nat_cmp y x) xs (Err n)
     → IsRising xs → Contains xs x → ⊥
-not_absent xs x n h up there = by (cases_lt there.0 n)
+not_absent xs x n is_binary_search_result up there = by_order (cases_lt there.0 n)
   where
     found : get_or xs there.0 0 ≡ x
     found = get_or_default xs there.0 0 x there.1 ∙ there.2
 
-    by : (there.0 < n) ⊎ (n ≤ there.0) → ⊥
-    by (inl l) =
-        let s = searched xs x (Err n) h up in let b = s.1 there.0 l in omega (arith, b, found)
-    by (inr l) =
-        let s = searched xs x (Err n) h up in let b = s.2 there.0 l there.1 in
+    by_order : (there.0 < n) ⊎ (n ≤ there.0) → ⊥
+    by_order (inl l) =
+        let s = searched xs x (Err n) is_binary_search_result up in let b = s.1 there.0 l in omega
+        (arith, b, found)
+    by_order (inr l) =
+        let s = searched xs x (Err n) is_binary_search_result up in let b = s.2 there.0 l there.1 in
         omega (arith, b, found)
 
 -- a greater one more
 pub rising_more : (xs : List ℕ) (n : ℕ) → IsRising xs → All (λ j. j < n) xs
     → IsRising (xs ++ n ∷ [])
-rising_more xs n up below a b h l = by (cases_lt b (length xs))
+rising_more xs n up below a b h l = by_order (cases_lt b (length xs))
   where
     at_end : get_or (xs ++ n ∷ []) (length xs) 0 ≡ n
-    at_end = go xs
+    at_end = get_behind_front xs
       where
-        go : (ys : List ℕ) → get_or (ys ++ n ∷ []) (length ys) 0 ≡ n
-        go [] = refl
-        go (y ∷ ys) = go ys
+        get_behind_front : (ys : List ℕ) → get_or (ys ++ n ∷ []) (length ys) 0 ≡ n
+        get_behind_front [] = refl
+        get_behind_front (y ∷ ys) = get_behind_front ys
 
-    by : (b < length xs) ⊎ (length xs ≤ b) → get_or (xs ++ n ∷ []) a 0 ≤ get_or (xs ++ n ∷ []) b 0
-    by (inl k) =
+    by_order : (b < length xs) ⊎ (length xs ≤ b) → get_or (xs ++ n ∷ []) a 0
+        ≤ get_or (xs ++ n ∷ []) b 0
+    by_order (inl k) =
         let u = up a b h k in
         let x = get_or_append_left xs (n ∷ []) 0 a (omega arith) in
         let y = get_or_append_left xs (n ∷ []) 0 b k in
         omega (arith, u, x, y)
-    by (inr k) =
-        let same : b ≡ length xs = omega (arith, k, l, length-append xs (n ∷ [])) in
+    by_order (inr k) =
+        let b_is_length_xs : b ≡ length xs = omega (arith, k, l, length-append xs (n ∷ [])) in
         let y : get_or (xs ++ n ∷ []) b 0 ≡ n =
-        subst (λ i. get_or (xs ++ n ∷ []) i 0 ≡ n) (sym same) at_end in
-        last (cases_lt a (length xs)) y
+        subst (λ i. get_or (xs ++ n ∷ []) i 0 ≡ n) (sym b_is_length_xs) at_end in
+        by_order_of_a (cases_lt a (length xs)) y
       where
-        last : (a < length xs) ⊎ (length xs ≤ a) → get_or (xs ++ n ∷ []) b 0 ≡ n
+        by_order_of_a : (a < length xs) ⊎ (length xs ≤ a) → get_or (xs ++ n ∷ []) b 0 ≡ n
             → get_or (xs ++ n ∷ []) a 0 ≤ get_or (xs ++ n ∷ []) b 0
-        last (inl m) y =
+        by_order_of_a (inl m) y =
             let x = get_or_append_left xs (n ∷ []) 0 a m in
             let z = All-get_or (λ j. j < n) xs a 0 m below in
             omega (arith, x, y, z)
-        last (inr m) y =
-            let e : a ≡ length xs = omega (arith, m, h, l, length-append xs (n ∷ [])) in
+        by_order_of_a (inr m) y =
+            let a_is_length_xs : a ≡ length xs = omega (
+              arith,
+              m,
+              h,
+              l,
+              length-append xs
+                  (n ∷ []),
+            ) in
             let x : get_or (xs ++ n ∷ []) a 0 ≡ n =
-            subst (λ i. get_or (xs ++ n ∷ []) i 0 ≡ n) (sym e) at_end in
+            subst (λ i. get_or (xs ++ n ∷ []) i 0 ≡ n) (sym a_is_length_xs) at_end in
             omega (arith, x, y)

@@ -20,8 +20,9 @@ use Rattle.mm_spec.specs.Statement.{Statement}
 use Rattle.mm_spec.specs.Frame.{is_variable_number, frame_at}
 use Rattle.mm_spec.specs.Citation.{context_at}
 use Rattle.mm_machine.specs.Arena.{Arena, symbols_of, no_symbols, span_formula, IsIn}
-use Rattle.mm_rule.specs.Rule.{floating_index, parts_of, part_count, all_parts, Compiled, IsCompiled}
-use Rattle.mm_machine.specs.Replaced.{stands, replaced_part}
+use Rattle.mm_rule.specs.Rule.{floating_index, parts_of, part_count, all_parts, CompiledRule}
+use Rattle.mm_rule.specs.Rule.{IsCompiled}
+use Rattle.mm_machine.specs.Replaced.{replacement, replaced_part}
 use Rattle.mm_machine.specs.Replaced.{replaced}
 use Rattle.mm_machine.specs.State.{span_formulas, applied}
 use Rattle.mm_rule.proofs.FirstLaw.{first_below, found_first}
@@ -38,38 +39,42 @@ module _ (db : List Statement) (t : ℕ) (hs : List Formula) (xs : Arena) (es : 
   abbrev pub σ : Substitution
   σ = substitution_from (context_at db t) hs (span_formulas xs es)
 
-  pub stands_is : (x : ℕ) → IsBound (context_at db t) hs x
-      → stands xs es (floating_index db hs x) ≡ σ x
-  stands_is x b =
+  pub replacement_is : (x : ℕ) → IsBound (context_at db t) hs x
+      → replacement xs es (floating_index db hs x) ≡ σ x
+  replacement_is x is_bound =
       let j = floating_index db hs x in
-      let below : j < length hs = first_below db hs x b in
-      let here : IsIn xs (get_or es j no_symbols) =
-      All-get_or (IsIn xs) es j no_symbols (omega (arith, below, count)) inside in
+      let j_lt_length_hs : j < length hs = first_below db hs x is_bound in
+      let is_in : IsIn xs (get_or es j no_symbols) =
+      All-get_or (IsIn xs) es j no_symbols (omega (arith, j_lt_length_hs, count)) inside in
       let many : length (span_formulas xs es) ≡ length hs =
       length-map es (span_formula xs) ∙ count in
       formula_tail (symbols_of xs (get_or es j no_symbols).store) (get_or es j no_symbols).start
-      (get_or es j no_symbols).end here.rising
-      ∙ ap tail (span_formula_at xs es j (omega (arith, below, count)))
-      ∙ sym (found_first db t hs (span_formulas xs es) x many b)
+      (get_or es j no_symbols).end is_in.rising
+      ∙ ap tail (span_formula_at xs es j (omega (arith, j_lt_length_hs, count)))
+      ∙ sym (found_first db t hs (span_formulas xs es) x many is_bound)
 
-  pub one_same : (f : Formula) → AreBound (context_at db t) hs f
+  pub replaced_is_substituted : (f : Formula) → AreBound (context_at db t) hs f
       → replaced xs es (parts_of db hs f) ≡ substitute (context_at db t) σ f
-  one_same [] b = refl
-  one_same (s ∷ f) b = ap₂ (λ u v. u ++ v) (go (is_variable_number db s) b.0) (one_same f b.1)
+  replaced_is_substituted [] b = refl
+  replaced_is_substituted (s ∷ f) b = ap₂ (λ u v. u ++ v)
+      (by_is_variable (is_variable_number db s) b.0)
+      (replaced_is_substituted f b.1)
     where
-      go : (v : Bool) → (IsTrue v → IsBound (context_at db t) hs s)
+      by_is_variable : (v : Bool) → (IsTrue v → IsBound (context_at db t) hs s)
           → replaced_part xs es (cond v (Variable (floating_index db hs s)) (Constant s))
           ≡ cond v (σ s) (s ∷ [])
-      go true h = stands_is s (h refl)
-      go false h = refl
+      by_is_variable true h = replacement_is s (h refl)
+      by_is_variable false h = refl
 
-  pub all_same : (fs : List Formula) → AllByRecursion (AreBound (context_at db t) hs) fs
+  pub all_replaced_are_substituted : (fs : List Formula)
+      → AllByRecursion (AreBound (context_at db t) hs) fs
       → map (replaced xs es) (map (parts_of db hs) fs) ≡ map (substitute (context_at db t) σ) fs
-  all_same [] b = refl
-  all_same (f ∷ fs) b = ap₂ (λ u us. u ∷ us) (one_same f b.0) (all_same fs b.1)
+  all_replaced_are_substituted [] b = refl
+  all_replaced_are_substituted (f ∷ fs) b = ap₂ (λ u us. u ∷ us) (replaced_is_substituted f b.0)
+      (all_replaced_are_substituted fs b.1)
 
   abbrev pub cache : ℕ × ℕ → Bool
-  cache p = are_all_disjoint (context_at db t) (stands xs es p.0) (stands xs es p.1)
+  cache p = are_all_disjoint (context_at db t) (replacement xs es p.0) (replacement xs es p.1)
 
   pub disjoint_same : (pairs : List Pair)
       → AllByRecursion
@@ -80,7 +85,8 @@ module _ (db : List Statement) (t : ℕ) (hs : List Formula) (xs : Arena) (es : 
   disjoint_same [] b = refl
   disjoint_same (p ∷ pairs) b =
       ap₂ (λ u v. u && v)
-      (ap₂ (are_all_disjoint (context_at db t)) (stands_is p.low b.0.0) (stands_is p.high b.0.1))
+      (ap₂ (are_all_disjoint (context_at db t)) (replacement_is p.low b.0.0)
+      (replacement_is p.high b.0.1))
       (disjoint_same pairs b.1)
 
 pub length_all_parts : (parts : List RuleSymbol) (j : ℕ) (more : List Hypothesis)
@@ -96,7 +102,8 @@ map_drop xs (suc n) [] = refl
 map_drop xs (suc n) (e ∷ es) = map_drop xs n es
 
 -- the step of an assertion, by the tests that the code makes
-pub judged : (db : List Statement) (t : ℕ) (c : Compiled) (xs : Arena) (stack premises : List Span)
+pub judged : (db : List Statement) (t : ℕ) (c : CompiledRule) (xs : Arena)
+    (stack premises : List Span)
     → IsCompiled db c → length c.hypotheses ≤ length stack
     → premises ≡ drop (length stack - length c.hypotheses) stack → All (IsIn xs) premises
     → length premises ≡ length c.hypotheses → (b1 b2 : Bool)
@@ -104,8 +111,8 @@ pub judged : (db : List Statement) (t : ℕ) (c : Compiled) (xs : Arena) (stack 
     ≡ are_equal (span_formulas xs premises)
     (map (replaced xs premises) (all_parts c.parts 0 c.hypotheses))
     → b2 ≡ list_all
-    (λ (p : ℕ × ℕ). are_all_disjoint (context_at db t) (stands xs premises p.0)
-    (stands xs premises p.1))
+    (λ (p : ℕ × ℕ). are_all_disjoint (context_at db t) (replacement xs premises p.0)
+    (replacement xs premises p.1))
     c.pairs
     → applied db t c.assertion (span_formulas xs stack)
     ≡ unless_failed true b1 b2 (nat_le (length (replaced xs premises c.formula)) formula_limit)
@@ -117,25 +124,25 @@ judged db t c xs stack premises rule fits top inside many b1 b2 e1 e2 =
     let hs = a.hypotheses in
     let es = span_formulas xs stack in
     let m = length stack - length c.hypotheses in
-    let long : length es ≡ length stack = length-map stack (span_formula xs) in
+    let length_es_is_length_stack : length es ≡ length stack = length-map stack (span_formula xs) in
     let hypotheses : length c.hypotheses ≡ length hs =
     sym (length_all_parts c.parts 0 c.hypotheses) ∙ ap length rule.hypotheses_are
     ∙ length-map hs (parts_of db hs) in
-    let n : length es - length hs ≡ m = omega (arith, long, hypotheses) in
+    let n : length es - length hs ≡ m = omega (arith, length_es_is_length_stack, hypotheses) in
     let enough : nat_le (length hs) (length es) ≡ true =
-    le-leb _ _ (omega (arith, long, hypotheses, fits)) in
+    le-leb _ _ (omega (arith, length_es_is_length_stack, hypotheses, fits)) in
     let count : length premises ≡ length hs = many ∙ hypotheses in
     let ps = span_formulas xs premises in
     let σ' : Substitution = σ db t hs xs premises inside count in
     let h : map (substitute (context_at db t) σ') hs
     ≡ map (replaced xs premises) (all_parts c.parts 0 c.hypotheses) = sym
-    (all_same db t hs xs premises inside count hs rule.complete.hypotheses)
+    (all_replaced_are_substituted db t hs xs premises inside count hs rule.complete.hypotheses)
     ∙ ap (map (replaced xs premises)) (sym rule.hypotheses_are) in
     let p : list_all (λ p. are_all_disjoint (context_at db t) (σ' p.low) (σ' p.high)) a.pairs ≡ b2 =
     sym (disjoint_same db t hs xs premises inside count a.pairs rule.complete.pairs)
     ∙ ap (list_all (cache db t hs xs premises inside count)) (sym rule.pairs_are) ∙ sym e2 in
     let f : substitute (context_at db t) σ' a.formula ≡ replaced xs premises c.formula =
-    sym (one_same db t hs xs premises inside count a.formula rule.complete.formula)
+    sym (replaced_is_substituted db t hs xs premises inside count a.formula rule.complete.formula)
     ∙ ap (replaced xs premises) (sym rule.formula_is) in
     ap₂ (λ b i. apply (context_at db t) a b (take i es) (drop i es)) enough n
     ∙ ap (λ z. apply (context_at db t) a true (take m es) z)
@@ -147,7 +154,7 @@ judged db t c xs stack premises rule fits top inside many b1 b2 e1 e2 =
     ∙ ap (λ z. unless_failed true b1 b2 (nat_le (length z) formula_limit) (take m es ++ z ∷ [])) f
 
 -- the same by the values that the code has
-pub judged_at : (db : List Statement) (t : ℕ) (c : Compiled) (xs : Arena)
+pub rule_test_at : (db : List Statement) (t : ℕ) (c : CompiledRule) (xs : Arena)
     → (stack premises : List Span) (n below : ℕ)
     → IsCompiled db c → n ≡ length c.hypotheses → n ≤ length stack → below ≡ length stack - n
     → premises ≡ drop below stack → All (IsIn xs) stack → (ps : List (ℕ × ℕ)) → ps ≡ c.pairs
@@ -156,13 +163,13 @@ pub judged_at : (db : List Statement) (t : ℕ) (c : Compiled) (xs : Arena)
     ≡ are_equal (span_formulas xs premises)
     (map (replaced xs premises) (all_parts c.parts 0 c.hypotheses))
     → b2 ≡ list_all
-    (λ (p : ℕ × ℕ). are_all_disjoint (context_at db t) (stands xs premises p.0)
-    (stands xs premises p.1)) ps
+    (λ (p : ℕ × ℕ). are_all_disjoint (context_at db t) (replacement xs premises p.0)
+    (replacement xs premises p.1)) ps
     → applied db t c.assertion (span_formulas xs stack)
     ≡ unless_failed true b1 b2
     (nat_le (length (replaced xs (drop below stack) c.formula)) formula_limit)
     (take below (span_formulas xs stack) ++ replaced xs (drop below stack) c.formula ∷ [])
-judged_at db t c xs stack premises n below rule count fits at top all ps ps_are b1 b2 e1 e2 =
+rule_test_at db t c xs stack premises n below rule count fits at top all ps ps_are b1 b2 e1 e2 =
     let here : below ≡ length stack - length c.hypotheses = omega (arith, at, count) in
     let many : length (drop below stack) ≡ length c.hypotheses =
     omega (arith, at, count, fits, length-drop below stack) in
@@ -173,25 +180,27 @@ judged_at db t c xs stack premises n below rule count fits at top all ps ps_are 
     (map (replaced xs z) (all_parts c.parts 0 c.hypotheses))) top)
     (e2 ∙ ap
     (λ z. list_all
-    (λ (p : ℕ × ℕ). are_all_disjoint (context_at db t) (stands xs z p.0) (stands xs z p.1)) ps) top
+    (λ (p : ℕ × ℕ). are_all_disjoint (context_at db t) (replacement xs z p.0)
+    (replacement xs z p.1)) ps) top
     ∙ ap (λ z. list_all
-    (λ (p : ℕ × ℕ). are_all_disjoint (context_at db t) (stands xs (drop below stack) p.0)
-    (stands xs (drop below stack) p.1)) z) ps_are)
+    (λ (p : ℕ × ℕ). are_all_disjoint (context_at db t) (replacement xs (drop below stack) p.0)
+    (replacement xs (drop below stack) p.1)) z) ps_are)
     ∙ ap (λ b. unless_failed true b1 b2
     (nat_le (length (replaced xs (drop below stack) c.formula)) formula_limit)
     (take b (span_formulas xs stack) ++ replaced xs (drop below stack) c.formula ∷ [])) (sym here)
 
 -- too few entries
-pub few_at : (db : List Statement) (t : ℕ) (c : Compiled) (xs : Arena) (stack : List Span)
+pub too_few_at : (db : List Statement) (t : ℕ) (c : CompiledRule) (xs : Arena) (stack : List Span)
     → IsCompiled db c → length stack < length c.hypotheses
     → applied db t c.assertion (span_formulas xs stack) ≡ Err too_few
-few_at db t c xs stack rule few =
+too_few_at db t c xs stack rule few =
     let a = frame_at db c.assertion in
     let es = span_formulas xs stack in
-    let long : length es ≡ length stack = length-map stack (span_formula xs) in
+    let length_es_is_length_stack : length es ≡ length stack = length-map stack (span_formula xs) in
     let hypotheses : length c.hypotheses ≡ length a.hypotheses =
     sym (length_all_parts c.parts 0 c.hypotheses) ∙ ap length rule.hypotheses_are
     ∙ length-map a.hypotheses (parts_of db a.hypotheses) in
     let n = length es - length a.hypotheses in
     ap (λ b. apply (context_at db t) a b (take n es) (drop n es))
-    (lt-leb (length a.hypotheses) (length es) (omega (arith, long, hypotheses, few)))
+    (lt-leb (length a.hypotheses) (length es) (omega
+    (arith, length_es_is_length_stack, hypotheses, few)))

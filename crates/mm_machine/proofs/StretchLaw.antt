@@ -25,12 +25,12 @@ and_assoc : (a b c : Bool) → (a && (b && c)) ≡ ((a && b) && c)
 and_assoc true b c = refl
 and_assoc false b c = refl
 
-peel : (u xs w : List ℕ)
+bytes_eq_append : (u xs w : List ℕ)
     → bytes_eq xs (u ++ w) ≡ (starts_with nat_eq xs u && bytes_eq (drop (length u) xs) w)
-peel [] xs w = refl
-peel (x ∷ u) [] w = refl
-peel (x ∷ u) (y ∷ ys) w =
-    ap₂ (λ a b. a && b) (eq_sym y x) (peel u ys w) ∙ and_assoc (nat_eq x y) _ _
+bytes_eq_append [] xs w = refl
+bytes_eq_append (x ∷ u) [] w = refl
+bytes_eq_append (x ∷ u) (y ∷ ys) w =
+    ap₂ (λ a b. a && b) (eq_sym y x) (bytes_eq_append u ys w) ∙ and_assoc (nat_eq x y) _ _
 
 drop_nil : (k : ℕ) → drop {A = ℕ} k [] ≡ []
 drop_nil zero = refl
@@ -41,11 +41,11 @@ drop_take zero n ys = let e : n ≡ n - 0 = omega arith in ap (λ m. take m ys) 
 drop_take (suc k) zero ys =
     let e : 0 ≡ 0 - suc k = omega arith in let P : ℕ → List ℕ = λ m. take m (drop (suc k) ys) in
     drop_nil (suc k) ∙ ap P e
-drop_take (suc k) (suc n) [] = go (suc n - suc k)
+drop_take (suc k) (suc n) [] = take_nothing (suc n - suc k)
   where
-    go : (m : ℕ) → [] ≡ take {A = ℕ} m []
-    go zero = refl
-    go (suc m) = refl
+    take_nothing : (m : ℕ) → [] ≡ take {A = ℕ} m []
+    take_nothing zero = refl
+    take_nothing (suc m) = refl
 drop_take (suc k) (suc n) (y ∷ ys) =
     let e : n - k ≡ suc n - suc k = omega arith in drop_take k n ys ∙ ap (λ m. take m (drop k ys)) e
 
@@ -73,19 +73,21 @@ module _ (all : Arena) (es : List Span) (xs : List ℕ) (w : List RuleSymbol) (i
       ap (λ z. bytes_eq (slice_range xs a e) (replaced all es z)) (drop_more w i p inside)
       ∙ ap (λ y. bytes_eq (slice_range xs a e) (y ++ replaced all es (drop (i + 1) w)))
       (ap (replaced_part all es) here ∙ is)
-      ∙ peel u (slice_range xs a e) (replaced all es (drop (i + 1) w))
+      ∙ bytes_eq_append u (slice_range xs a e) (replaced all es (drop (i + 1) w))
       ∙ ap (λ z. starts_with nat_eq (slice_range xs a e) u
       && bytes_eq z (replaced all es (drop (i + 1) w))) (rest_of xs a e (length u))
 
 -- whether a stretch begins with one symbol
 pub first_is : (xs : List ℕ) (a e s : ℕ) → a < e → e ≤ length xs
     → starts_with nat_eq (slice_range xs a e) (s ∷ []) ≡ nat_eq s (get_or xs a 0)
-first_is xs a e s h l = go (e - a) (drop a xs) (drop_more xs a 0 (omega arith)) (omega arith)
+first_is xs a e s a_lt_e e_le_length_xs = by_first_symbol (e - a) (drop a xs)
+    (drop_more xs a 0 (omega arith))
+    (omega arith)
   where
-    go : (n : ℕ) (ys : List ℕ) → ys ≡ get_or xs a 0 ∷ drop (a + 1) xs → 0 < n
+    by_first_symbol : (n : ℕ) (ys : List ℕ) → ys ≡ get_or xs a 0 ∷ drop (a + 1) xs → 0 < n
         → starts_with nat_eq (take n ys) (s ∷ []) ≡ nat_eq s (get_or xs a 0)
-    go zero ys e p = absurd (omega arith)
-    go (suc n) ys e p =
+    by_first_symbol zero ys e p = absurd (omega arith)
+    by_first_symbol (suc n) ys e p =
         ap (λ z. starts_with nat_eq (take (suc n) z) (s ∷ [])) e
         ∙ and-true (nat_eq s (get_or xs a 0))
 
@@ -108,17 +110,17 @@ fits_in xs a e u h s =
 -- the entry without its first symbol
 pub formula_tail : (xs : List ℕ) (a e : ℕ) → a ≤ e
     → slice_range xs (min (a + 1) e) e ≡ tail (slice_range xs a e)
-formula_tail xs a e h = go (cases_lt a e)
+formula_tail xs a e a_le_e = by_order (cases_lt a e)
   where
     tail_is : (zs : List ℕ) → tail zs ≡ drop 1 zs
     tail_is [] = refl
     tail_is (z ∷ zs) = refl
 
-    go : (a < e) ⊎ (e ≤ a) → slice_range xs (min (a + 1) e) e ≡ tail (slice_range xs a e)
-    go (inl l) =
+    by_order : (a < e) ⊎ (e ≤ a) → slice_range xs (min (a + 1) e) e ≡ tail (slice_range xs a e)
+    by_order (inl l) =
         let m : min (a + 1) e ≡ a + 1 = omega arith in
         ap (λ n. slice_range xs n e) m ∙ sym (rest_of xs a e 1) ∙ sym (tail_is (slice_range xs a e))
-    go (inr l) =
+    by_order (inr l) =
         let m : e - min (a + 1) e ≡ 0 = omega arith in
         let n : e - a ≡ 0 = omega arith in
         ap (λ n. take n (drop (min (a + 1) e) xs)) m ∙ ap (λ n. tail (take n (drop a xs))) (sym n)
@@ -143,7 +145,7 @@ typed_is l a e t h w =
     ∙ ap (λ b. nat_eq (get_or l a 0) t && b) (bytes_same (slice_range l (a + 1) e))
     ∙ and-true (nat_eq (get_or l a 0) t)
 
-pub untyped : (l : List ℕ) (a e t : ℕ) (u : List ℕ) → e ≤ a
+pub not_typed : (l : List ℕ) (a e t : ℕ) (u : List ℕ) → e ≤ a
     → bytes_eq (slice_range l a e) (t ∷ u) ≡ false
-untyped l a e t u h =
+not_typed l a e t u h =
     let z : e - a ≡ 0 = omega arith in ap (λ n. bytes_eq (take n (drop a l)) (t ∷ u)) z

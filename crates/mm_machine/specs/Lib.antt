@@ -2,4 +2,4 @@ pub mod Arena
 pub mod DisjointCache
 pub mod Replaced
 pub mod State
-pub mod Stops
+pub mod Applied

@@ -4,15 +4,15 @@ use Rattle.mm_spec.specs.Derivation.{Formula}
 use Rattle.mm_rule.specs.declared.rule.RuleSymbol.{RuleSymbol}
 use Rattle.mm_rule.specs.declared.rule.RuleSymbol.TheVariants.{Constant, Variable}
 use Rattle.mm_machine.specs.declared.arena.Span.{Span}
-use Rattle.mm_machine.specs.Arena.{Arena, no_symbols, rest, span_formula}
+use Rattle.mm_machine.specs.Arena.{Arena, no_symbols, without_first, span_formula}
 
 -- what replaces the variable of hypothesis `j`; `es` are the entries of the hypotheses
-abbrev pub stands : Arena → List Span → ℕ → List ℕ
-stands a es j = span_formula a (rest (get_or es j no_symbols))
+abbrev pub replacement : Arena → List Span → ℕ → List ℕ
+replacement a es j = span_formula a (without_first (get_or es j no_symbols))
 
 abbrev pub replaced_part : Arena → List Span → RuleSymbol → List ℕ
 replaced_part a es (Constant s) = s ∷ []
-replaced_part a es (Variable j) = stands a es j
+replaced_part a es (Variable j) = replacement a es j
 
 -- the parts with each variable replaced
 abbrev pub replaced : Arena → List Span → List RuleSymbol → Formula

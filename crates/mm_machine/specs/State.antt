@@ -10,11 +10,12 @@ use Rattle.mm_spec.specs.Citation.{context_at}
 use Rattle.mm_spec.specs.Laws.Stack.{step, unless_too_long, top}
 use Rattle.mm_machine.specs.declared.arena.Span.{Span}
 use Rattle.mm_machine.specs.declared.arena.Reason.{Reason}
-use Rattle.mm_machine.specs.declared.arena.Reason.TheVariants.{TooFew, Unmatched, NotDisjoint, TooLong}
-use Rattle.mm_machine.specs.declared.arena.Store.TheVariants.{Own, Kept}
+use Rattle.mm_machine.specs.declared.arena.Reason.TheVariants.{TooFew, Unmatched, NotDisjoint}
+use Rattle.mm_machine.specs.declared.arena.Reason.TheVariants.{TooLong}
+use Rattle.mm_machine.specs.declared.arena.Store.TheVariants.{Unmarked, Marked}
 use Rattle.mm_machine.specs.Arena.{Arena, arena, span, span_formula, IsIn, IsArena}
 use Rattle.mm_rule.specs.declared.rule.RuleSymbol.{RuleSymbol}
-use Rattle.mm_rule.specs.Rule.{Compiled}
+use Rattle.mm_rule.specs.Rule.{CompiledRule}
 use Rattle.mm_machine.specs.Replaced.{replaced}
 
 -- the formulas of the entries, the marked steps so far, the formulas with which they ended, and how
@@ -23,78 +24,83 @@ pub record MachineState : Type 0 where
   pub stack : List Formula
   pub marks : List ℕ
   pub formulas : List Formula
-  pub width : ℕ
+  pub symbol_count : ℕ
 
 abbrev pub machine_state : List Formula → List ℕ → List Formula → ℕ → MachineState
-machine_state stack marks formulas width =
-    record { stack = stack; marks = marks; formulas = formulas; width = width }
+machine_state stack marks formulas symbol_count =
+    record { stack = stack; marks = marks; formulas = formulas; symbol_count = symbol_count }
 
--- the state after step `i`, whose formula is kept if the step is marked
+-- the state after step `i`: if the step is marked, it and its formula are added to the marked ones
 abbrev pub with_mark : Bool → ℕ → MachineState → MachineState
 with_mark false i s = s
 with_mark true i s =
-    machine_state s.stack (s.marks ++ i ∷ []) (s.formulas ++ top s.stack ∷ []) s.width
+    machine_state s.stack (s.marks ++ i ∷ []) (s.formulas ++ top s.stack ∷ []) s.symbol_count
 
 -- The state `t` comes of the state `s` when the formula with which the marked step `j` ended is
 -- pushed again.
 abbrev pub Repeats : ℕ → MachineState → MachineState → Type 0
 Repeats j s t =
     (n : ℕ) × (n < length s.formulas) × (n < length s.marks) × (get_or s.marks n 0 ≡ j)
-    × (t ≡ machine_state (s.stack ++ get_or s.formulas n [] ∷ []) s.marks s.formulas s.width)
+    × (t ≡ machine_state (s.stack ++ get_or s.formulas n [] ∷ []) s.marks s.formulas s.symbol_count)
 
 abbrev pub span_formulas : Arena → List Span → List Formula
 span_formulas a es = map (span_formula a) es
 
--- The entries' own formulas follow one another without gaps, from place `from` to place `to`. So no
--- other symbols are held for them.
+-- The unmarked formulas of the entries follow one another without gaps, from index `from` to index
+-- `to`. So no other symbols are held for them.
 abbrev pub Follow : ℕ → List Span → ℕ → Type 0
 Follow from [] to = from ≡ to
 Follow from (e ∷ es) to =
-    elim e.store
-    [ Own ↦ (e.start ≡ from) × (from ≤ e.end) × Follow e.end es to | Kept ↦ Follow from es to ]
+    elim e.store [
+      | Unmarked ↦ (e.start ≡ from) × (from ≤ e.end)
+          × Follow e.end es to
+      | Marked ↦ Follow from es to
+    ]
 
--- where the first of the entries' own formulas begins
-abbrev pub first_own : List Span → ℕ → ℕ
-first_own [] end = end
-first_own (e ∷ es) end = elim e.store [ Own ↦ e.start | Kept ↦ first_own es end ]
+-- where the first of the unmarked formulas of the entries begins
+abbrev pub first_unmarked : List Span → ℕ → ℕ
+first_unmarked [] end = end
+first_unmarked (e ∷ es) end = elim e.store [ Unmarked ↦ e.start | Marked ↦ first_unmarked es end ]
 
 -- the entries are stretches of the symbols
-pub record IsStack (own kept : List ℕ) (es : List Span) : Type 0 where
-  pub inside : All (IsIn (arena own kept)) es
-  pub follow : Follow 0 es (length own)
+pub record IsStack (unmarked marked : List ℕ) (es : List Span) : Type 0 where
+  pub inside : All (IsIn (arena unmarked marked)) es
+  pub follow : Follow 0 es (length unmarked)
 
--- the stack of a machine for `width` symbols: entries as above, over symbols that are each less than
--- that
-pub record IsStackOf (width : ℕ) (own kept : List ℕ) (es : List Span) : Type 0 where
-  pub known : IsArena width (arena own kept)
-  pub is_stack : IsStack own kept es
+-- the stack of a machine for `symbol_count` symbols: entries as above, over symbols that are each
+-- less than that
+pub record IsStackOf (symbol_count : ℕ) (unmarked marked : List ℕ) (es : List Span) : Type 0 where
+  pub known : IsArena symbol_count (arena unmarked marked)
+  pub is_stack : IsStack unmarked marked es
 
--- the entry of a formula that was appended to the own ones
-abbrev pub made_of : List ℕ → Formula → Span
-made_of own f = span Own (length own) (length (own ++ f))
+-- the entry of a formula that was appended to the unmarked ones
+abbrev pub appended_span : List ℕ → Formula → Span
+appended_span unmarked f = span Unmarked (length unmarked) (length (unmarked ++ f))
 
--- own symbols became kept ones, and some were removed
-pub record Moves (own kept own' kept' : List ℕ) : Type 0 where
+-- unmarked formulas were moved to the marked ones, and some were removed
+pub record Moves (unmarked marked unmarked' marked' : List ℕ) : Type 0 where
   pub more : List ℕ
-  pub kept_is : kept' ≡ kept ++ more
-  pub known : (w : ℕ) → All (λ s. s < w) own → All (λ s. s < w) more × All (λ s. s < w) own'
+  pub marked_is : marked' ≡ marked ++ more
+  pub known : (w : ℕ) → All (λ s. s < w) unmarked → All (λ s. s < w) more
+      × All (λ s. s < w) unmarked'
 
 -- the entry is a stretch of the marked formulas
-pub record IsMarkedEntry (kept : List ℕ) (e : Span) : Type 0 where
-  pub store : e.store ≡ Kept
+pub record IsMarkedEntry (marked : List ℕ) (e : Span) : Type 0 where
+  pub store : e.store ≡ Marked
   pub rising : e.start ≤ e.end
-  pub within : e.end ≤ length kept
+  pub within : e.end ≤ length marked
 
 abbrev pub IsRising : List ℕ → Type 0
 IsRising ns = (a b : ℕ) → a ≤ b → b < length ns → get_or ns a 0 ≤ get_or ns b 0
 
--- the entries are those of a machine for `width` symbols, and the lists fit together
-pub record IsMachine (own kept : List ℕ) (es : List Span) (marks : List ℕ) (marked : List Span)
-    (width : ℕ) : Type 0 where
-  pub stack : IsStackOf width own kept es
-  pub marked_in : All (IsMarkedEntry kept) marked
+-- the entries are those of a machine for `symbol_count` symbols, and the lists fit together
+pub record IsMachine (unmarked marked : List ℕ) (es : List Span) (marks : List ℕ)
+    (marked_spans : List Span)
+    (symbol_count : ℕ) : Type 0 where
+  pub stack : IsStackOf symbol_count unmarked marked es
+  pub spans_are_marked : All (IsMarkedEntry marked) marked_spans
   pub rising : IsRising marks
-  pub count : length marks ≤ length marked
+  pub count : length marks ≤ length marked_spans
 
 abbrev pub reason_of : Reason → SpecReason
 reason_of TooFew = too_few
@@ -116,7 +122,8 @@ entries_after a es below parts =
 
 -- what a test of a rule says: how many entries stay below the formula that the step pushes if it is
 -- short enough, or why the step fails
-abbrev pub TestsRule : List Statement → ℕ → Compiled → Arena → List Span → Result ℕ Reason → Type 0
+abbrev pub TestsRule : List Statement → ℕ → CompiledRule → Arena → List Span → Result ℕ Reason
+    → Type 0
 TestsRule db t c symbols stack (Ok below) =
     (length stack ≡ below + length c.hypotheses)
     × (applied db t c.assertion (span_formulas symbols stack)

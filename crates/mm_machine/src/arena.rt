@@ -11,10 +11,17 @@ ghost use Rattle.mm_spec.specs.Limits.{formula_limit};
 ghost use Rattle.mm_spec.specs.Frame.{symbol_names};
 ghost use Rattle.mm_spec.specs.Citation.{context_at};
 ghost use Rattle.mm_spec.specs.Laws.Stack.{are_equal};
-ghost use Rattle.mm_machine.specs.Arena.{no_symbols, rest, symbols_of, span_formula, IsIn, AreEntries};
+ghost use Rattle.mm_machine.specs.Arena.{
+  no_symbols,
+  without_first,
+  symbols_of,
+  span_formula,
+  IsIn,
+  AreEntries,
+};
 ghost use Rattle.mm_machine.specs.DisjointCache.{AreDisjointAt};
-ghost use Rattle.mm_rule.specs.Rule.{IsBelow, IsCompiled, all_parts, count_parts};
-ghost use Rattle.mm_machine.specs.Replaced.{stands};
+ghost use Rattle.mm_rule.specs.Rule.{IsVariableBelow, IsCompiled, all_parts, total_part_count};
+ghost use Rattle.mm_machine.specs.Replaced.{replacement};
 ghost use Rattle.mm_machine.specs.Replaced.{replaced};
 ghost use Rattle.mm_machine.specs.State.{TestsRule};
 
@@ -28,13 +35,13 @@ use std::marker::Model;
 /// The list that contains a formula.
 #[derive(Clone, Copy, Drop)]
 pub enum Store {
-    /// The list of the formulas that only the stack holds.
-    Own,
-    /// The list of the marked formulas.
-    Kept,
+    /// The list of the formulas that aren't those of marked steps, and that only the stack holds.
+    Unmarked,
+    /// The list of the formulas of marked steps.
+    Marked,
 }
 
-/// A stretch of one of the lists of symbols.
+/// A stretch of one of the lists of symbols: from index `start` up to, but not including, `end`.
 #[derive(Clone, Copy, Drop)]
 pub struct Span {
     pub store: Store,
@@ -42,11 +49,13 @@ pub struct Span {
     pub end: usize,
 }
 
-/// The lists of symbols.
+/// The lists of symbols, in which the formulas of the entries are stretches.
 #[derive(Drop)]
 pub struct Symbols<'a> {
-    pub own: &'a [Sym],
-    pub kept: &'a [Sym],
+    /// The symbols of the formulas that aren't those of marked steps.
+    pub unmarked: &'a [Sym],
+    /// The symbols of the formulas of marked steps.
+    pub marked: &'a [Sym],
 }
 
 impl<'a> Model for Symbols<'a> {
@@ -54,17 +63,17 @@ impl<'a> Model for Symbols<'a> {
 
     ghost Value = { Arena };
 
-    ghost view = { λ s. arena s.own.now s.kept.now };
+    ghost view = { λ s. arena s.unmarked.now s.marked.now };
 }
 
 impl<'a> Symbols<'a> {
-    /// One of the lists.
+    /// Returns one of the lists.
     fn list(&self, store: Store) -> &'a [Sym]
         ensures { result.now ≡ symbols_of self.now store }
     {
         match store {
-            Store::Own => self.own,
-            Store::Kept => self.kept,
+            Store::Unmarked => self.unmarked,
+            Store::Marked => self.marked,
         }
     }
 
@@ -80,15 +89,19 @@ impl<'a> Symbols<'a> {
 /// Why a step isn't a step of a derivation.
 #[derive(Clone, Copy, Drop)]
 pub enum Reason {
+    /// There are fewer entries than hypotheses.
     TooFew,
+    /// An entry isn't what its hypothesis requires.
     Unmatched,
+    /// Two variables that have to be disjoint aren't.
     NotDisjoint,
+    /// The formula of the step has more symbols than the limit.
     TooLong,
 }
 
-/// Whether the stretch of list `store` from place `from` to place `to` begins with the formula of
+/// Whether the stretch of list `store` from index `from` to index `to` begins with the formula of
 /// an entry.
-fn begins(symbols: &Symbols, store: Store, from: usize, to: usize, span: Span) -> bool
+fn begins_with(symbols: &Symbols, store: Store, from: usize, to: usize, span: Span) -> bool
     requires order { from ≤ to }
     requires within { to ≤ length (symbols_of symbols.now store) }
     requires span { IsIn symbols.now span }
@@ -100,8 +113,8 @@ fn begins(symbols: &Symbols, store: Store, from: usize, to: usize, span: Span) -
 }
 
 /// An entry without its first symbol.
-fn rest_of(span: Span) -> Span
-    ensures { result ≡ rest span }
+fn span_without_first(span: Span) -> Span
+    ensures { result ≡ without_first span }
 {
     let end = span.end;
     Span {
@@ -115,19 +128,19 @@ fn rest_of(span: Span) -> Span
     }
 }
 
-/// What replaces the variable of hypothesis `j`.
-pub fn span_of(premises: &[Span], j: u32) -> Span
-    requires { j < length premises.now }
-    ensures { result ≡ rest (get_or premises.now j no_symbols) }
+/// What replaces the variable of the hypothesis with this number.
+pub fn replacement_of(premises: &[Span], number: u32) -> Span
+    requires { number < length premises.now }
+    ensures { result ≡ without_first (get_or premises.now number no_symbols) }
 {
-    rest_of(premises[j as usize])
+    span_without_first(premises[number as usize])
 }
 
 /// Whether an entry is the wanted formula with its variables replaced.
 #[inline(always)]
 fn fits(symbols: &Symbols, premises: &[Span], wanted: &[RuleSymbol], premise: Span) -> bool
     requires premises { All (IsIn symbols.now) premises.now }
-    requires wanted { All (IsBelow (length premises.now)) wanted.now }
+    requires wanted { All (IsVariableBelow (length premises.now)) wanted.now }
     requires premise { IsIn symbols.now premise }
     ensures { result
         ≡ bytes_eq (span_formula symbols.now premise)
@@ -137,15 +150,15 @@ fn fits(symbols: &Symbols, premises: &[Span], wanted: &[RuleSymbol], premise: Sp
     let mut at = premise.start;
     for part in wanted {
         match *part {
-            RuleSymbol::Variable(j) => {
-                let span = span_of(premises, j);
-                if !begins(symbols, premise.store, at, premise.end, span) {
+            RuleSymbol::Variable(number) => {
+                let span = replacement_of(premises, number);
+                if !begins_with(symbols, premise.store, at, premise.end, span) {
                     return false;
                 }
                 at += span.end - span.start;
             }
-            RuleSymbol::Constant(s) => {
-                if at >= premise.end || list[at] != s {
+            RuleSymbol::Constant(symbol) => {
+                if at >= premise.end || list[at] != symbol {
                     return false;
                 }
                 at += 1;
@@ -160,7 +173,7 @@ fn is_typed(symbols: &Symbols, typecode: Sym, premise: Span) -> bool
     requires premise { IsIn symbols.now premise }
     ensures { result
         ≡ bytes_eq (span_formula symbols.now premise)
-        (typecode ∷ span_formula symbols.now (rest premise)) }
+        (typecode ∷ span_formula symbols.now (without_first premise)) }
 {
     premise.start < premise.end && symbols.list(premise.store)[premise.start] == typecode
 }
@@ -170,15 +183,15 @@ fn is_typed(symbols: &Symbols, typecode: Sym, premise: Span) -> bool
 fn all_fit(symbols: &Symbols, rule: &Rule, premises: &[Span]) -> bool
     requires premises { All (IsIn symbols.now) premises.now }
     requires count { length premises.now ≡ length rule.now.hypotheses }
-    requires kept { count_parts rule.now.hypotheses ≡ length rule.now.parts }
-    requires parts { All (IsBelow (length premises.now)) rule.now.parts }
+    requires part_count_is { total_part_count rule.now.hypotheses ≡ length rule.now.parts }
+    requires parts { All (IsVariableBelow (length premises.now)) rule.now.parts }
     ensures { result
         ≡ are_equal (map (span_formula symbols.now) premises.now)
         (map (replaced symbols.now premises.now) (all_parts rule.now.parts 0 rule.now.hypotheses)) }
 {
     let mut at = 0;
     for (j, hypothesis) in rule.hypotheses.iter().enumerate() {
-        let is_one = match *hypothesis {
+        let is_fitting = match *hypothesis {
             Hypothesis::Floating(typecode) => is_typed(symbols, typecode, premises[j]),
             Hypothesis::Essential(count) => {
                 let end = at + count as usize;
@@ -187,7 +200,7 @@ fn all_fit(symbols: &Symbols, rule: &Rule, premises: &[Span]) -> bool
                 fits(symbols, premises, wanted, premises[j])
             }
         };
-        if !is_one {
+        if !is_fitting {
             return false;
         }
     }
@@ -195,61 +208,70 @@ fn all_fit(symbols: &Symbols, rule: &Rule, premises: &[Span]) -> bool
 }
 
 /// Whether two symbols are disjoint at the theorem: they aren't both variables, or an active `$d`
-/// has both. The first pairs that are found to be disjoint are kept in `cache`.
+/// has both. The first pairs that are found to be disjoint are added to `cache`.
 fn are_disjoint<A: Allocator>(
-    db: &Database<A>,
+    database: &Database<A>,
     theorem: u32,
-    s: Sym,
-    t: Sym,
+    first: Sym,
+    second: Sym,
     cache: &mut DisjointCache<A>,
 ) -> bool
-    requires theorem { theorem < length db.now.statements }
-    requires s { s < length (symbol_names db.now.statements) }
-    requires t { t < length (symbol_names db.now.statements) }
-    requires cache { AreDisjointAt db.now.statements theorem cache.old }
-    ensures value { result ≡ disjoint_pair (context_at db.now.statements theorem) s t }
-    ensures cache { AreDisjointAt db.now.statements theorem cache.new }
+    requires theorem { theorem < length database.now.statements }
+    requires first { first < length (symbol_names database.now.statements) }
+    requires second { second < length (symbol_names database.now.statements) }
+    requires cache { AreDisjointAt database.now.statements theorem cache.old }
+    ensures value { result
+        ≡ disjoint_pair (context_at database.now.statements theorem) first second }
+    ensures cache { AreDisjointAt database.now.statements theorem cache.new }
 {
-    if cache.has(s, t) {
+    if cache.has(first, second) {
         return true;
     }
-    if !are_disjoint_by(db, theorem, s, t) {
+    if !are_disjoint_in_database(database, theorem, first, second) {
         return false;
     }
-    cache.keep(s, t);
+    cache.insert(first, second);
     true
 }
 
 /// The same, without `cache`.
-fn are_disjoint_by<A: Allocator>(db: &Database<A>, theorem: u32, s: Sym, t: Sym) -> bool
-    requires theorem { theorem < length db.now.statements }
-    requires s { s < length (symbol_names db.now.statements) }
-    requires t { t < length (symbol_names db.now.statements) }
-    ensures { result ≡ disjoint_pair (context_at db.now.statements theorem) s t }
+fn are_disjoint_in_database<A: Allocator>(
+    database: &Database<A>,
+    theorem: u32,
+    first: Sym,
+    second: Sym,
+) -> bool
+    requires theorem { theorem < length database.now.statements }
+    requires first { first < length (symbol_names database.now.statements) }
+    requires second { second < length (symbol_names database.now.statements) }
+    ensures { result ≡ disjoint_pair (context_at database.now.statements theorem) first second }
 {
-    !(db.is_variable(s) && db.is_variable(t)) || (!(s == t) && db.disjoint_at(theorem, s, t))
+    !(database.is_variable(first) && database.is_variable(second))
+        || (!(first == second) && database.disjoint_at(theorem, first, second))
 }
 
 /// Whether a symbol is disjoint from each of the others.
 fn is_disjoint_from<A: Allocator>(
-    db: &Database<A>,
+    database: &Database<A>,
     theorem: u32,
-    s: Sym,
+    symbol: Sym,
     others: &[Sym],
     cache: &mut DisjointCache<A>,
 ) -> bool
-    requires theorem { theorem < length db.now.statements }
-    requires s { s < length (symbol_names db.now.statements) }
-    requires others { All (λ s. s < length (symbol_names db.now.statements)) others.now }
-    requires cache { AreDisjointAt db.now.statements theorem cache.old }
-    ensures value { result ≡ disjoint_symbol (context_at db.now.statements theorem) s others.now }
-    ensures cache { AreDisjointAt db.now.statements theorem cache.new }
+    requires theorem { theorem < length database.now.statements }
+    requires symbol { symbol < length (symbol_names database.now.statements) }
+    requires others { All (λ symbol. symbol < length (symbol_names database.now.statements))
+        others.now }
+    requires cache { AreDisjointAt database.now.statements theorem cache.old }
+    ensures value { result
+        ≡ disjoint_symbol (context_at database.now.statements theorem) symbol others.now }
+    ensures cache { AreDisjointAt database.now.statements theorem cache.new }
 {
-    if !db.is_variable(s) {
+    if !database.is_variable(symbol) {
         return true;
     }
-    for t in others {
-        if db.is_variable(*t) && !are_disjoint(db, theorem, s, *t, cache) {
+    for other in others {
+        if database.is_variable(*other) && !are_disjoint(database, theorem, symbol, *other, cache) {
             return false;
         }
     }
@@ -258,22 +280,24 @@ fn is_disjoint_from<A: Allocator>(
 
 /// Whether each variable of `first` is disjoint from each variable of `second`.
 fn are_all_disjoint<A: Allocator>(
-    db: &Database<A>,
+    database: &Database<A>,
     theorem: u32,
     first: &[Sym],
     second: &[Sym],
     cache: &mut DisjointCache<A>,
 ) -> bool
-    requires theorem { theorem < length db.now.statements }
-    requires first { All (λ s. s < length (symbol_names db.now.statements)) first.now }
-    requires second { All (λ s. s < length (symbol_names db.now.statements)) second.now }
-    requires cache { AreDisjointAt db.now.statements theorem cache.old }
+    requires theorem { theorem < length database.now.statements }
+    requires first { All (λ symbol. symbol < length (symbol_names database.now.statements))
+        first.now }
+    requires second { All (λ symbol. symbol < length (symbol_names database.now.statements))
+        second.now }
+    requires cache { AreDisjointAt database.now.statements theorem cache.old }
     ensures value { result
-        ≡ disjoint_lists (context_at db.now.statements theorem) first.now second.now }
-    ensures cache { AreDisjointAt db.now.statements theorem cache.new }
+        ≡ disjoint_lists (context_at database.now.statements theorem) first.now second.now }
+    ensures cache { AreDisjointAt database.now.statements theorem cache.new }
 {
-    for s in first {
-        if !is_disjoint_from(db, theorem, *s, second, cache) {
+    for symbol in first {
+        if !is_disjoint_from(database, theorem, *symbol, second, cache) {
             return false;
         }
     }
@@ -283,29 +307,30 @@ fn are_all_disjoint<A: Allocator>(
 /// Whether for each pair of variables, each variable in what replaces the first is disjoint from
 /// each variable in what replaces the second.
 fn pairs_are_disjoint<A: Allocator>(
-    db: &Database<A>,
+    database: &Database<A>,
     theorem: u32,
     symbols: &Symbols,
     premises: &[Span],
     pairs: &[(u32, u32)],
     cache: &mut DisjointCache<A>,
 ) -> bool
-    requires theorem { theorem < length db.now.statements }
-    requires premises { AreEntries (length (symbol_names db.now.statements)) symbols.now
+    requires theorem { theorem < length database.now.statements }
+    requires premises { AreEntries (length (symbol_names database.now.statements)) symbols.now
         premises.now }
     requires pairs { All
         (λ (p : ℕ × ℕ). (p.0 < length premises.now) × (p.1 < length premises.now)) pairs.now }
-    requires cache { AreDisjointAt db.now.statements theorem cache.old }
+    requires cache { AreDisjointAt database.now.statements theorem cache.old }
     ensures value { result
         ≡ list_all
-        (λ (p : ℕ × ℕ). disjoint_lists (context_at db.now.statements theorem)
-        (stands symbols.now premises.now p.0) (stands symbols.now premises.now p.1)) pairs.now }
-    ensures cache { AreDisjointAt db.now.statements theorem cache.new }
+        (λ (p : ℕ × ℕ). disjoint_lists (context_at database.now.statements theorem)
+        (replacement symbols.now premises.now p.0) (replacement symbols.now premises.now p.1))
+        pairs.now }
+    ensures cache { AreDisjointAt database.now.statements theorem cache.new }
 {
     for pair in pairs {
-        let first = symbols.formula(span_of(premises, pair.0));
-        let second = symbols.formula(span_of(premises, pair.1));
-        if !are_all_disjoint(db, theorem, first, second, cache) {
+        let first = symbols.formula(replacement_of(premises, pair.0));
+        let second = symbols.formula(replacement_of(premises, pair.1));
+        if !are_all_disjoint(database, theorem, first, second, cache) {
             return false;
         }
     }
@@ -324,53 +349,55 @@ fn append_symbols<A: Allocator>(symbols: &[Sym], list: &mut Vec<Sym, A>) -> Resu
     }
 }
 
-/// Builds a formula with its variables replaced in `made`, and returns whether its length is within
+/// Builds a formula with its variables replaced in `list`, and returns whether its length is within
 /// the limit. Only then is it complete.
 pub fn build<A: Allocator>(
     symbols: &Symbols,
     premises: &[Span],
     formula: &[RuleSymbol],
-    made: &mut Vec<Sym, A>,
+    list: &mut Vec<Sym, A>,
 ) -> Result<bool, AllocError>
     requires premises { All (IsIn symbols.now) premises.now }
-    requires formula { All (IsBelow (length premises.now)) formula.now }
+    requires formula { All (IsVariableBelow (length premises.now)) formula.now }
     ensures short { IfOk result
         (λ b. b ≡ nat_le (length (replaced symbols.now premises.now formula.now)) formula_limit) }
-    ensures made { IfOk result
-        (λ b. b ≡ true → made.new.items ≡ replaced symbols.now premises.now formula.now) }
+    ensures built { IfOk result
+        (λ b. b ≡ true → list.new.items ≡ replaced symbols.now premises.now formula.now) }
 {
-    made.clear();
+    list.clear();
     for part in formula {
         match *part {
-            RuleSymbol::Variable(j) => {
-                append_symbols(symbols.formula(span_of(premises, j)), made)?;
-                if made.len() > FORMULA_LIMIT {
+            RuleSymbol::Variable(number) => {
+                append_symbols(symbols.formula(replacement_of(premises, number)), list)?;
+                if list.len() > FORMULA_LIMIT {
                     return Ok(false);
                 }
             }
-            RuleSymbol::Constant(s) => made.push(s)?,
+            RuleSymbol::Constant(symbol) => list.push(symbol)?,
         }
     }
-    Ok(made.len() <= FORMULA_LIMIT)
+    Ok(list.len() <= FORMULA_LIMIT)
 }
 
 /// Tests an assertion's step on the entries of the stack, except for the length of its formula.
 /// Returns how many of the entries stay, or why the step fails.
 #[inline(always)]
 pub fn test_rule<A: Allocator>(
-    db: &Database<A>,
+    database: &Database<A>,
     theorem: u32,
     rule: &Rule,
     symbols: &Symbols,
     stack: &[Span],
     cache: &mut DisjointCache<A>,
 ) -> Result<usize, Reason>
-    requires theorem { theorem < length db.now.statements }
-    requires rule { IsCompiled db.now.statements rule.now }
-    requires stack { AreEntries (length (symbol_names db.now.statements)) symbols.now stack.now }
-    requires cache { AreDisjointAt db.now.statements theorem cache.old }
-    ensures cache { AreDisjointAt db.now.statements theorem cache.new }
-    ensures judged { TestsRule db.now.statements theorem rule.now symbols.now stack.now result }
+    requires theorem { theorem < length database.now.statements }
+    requires rule { IsCompiled database.now.statements rule.now }
+    requires stack { AreEntries (length (symbol_names database.now.statements)) symbols.now
+        stack.now }
+    requires cache { AreDisjointAt database.now.statements theorem cache.old }
+    ensures cache { AreDisjointAt database.now.statements theorem cache.new }
+    ensures judged { TestsRule database.now.statements theorem rule.now
+        symbols.now stack.now result }
 {
     let hypotheses = rule.hypotheses();
     if stack.len() < hypotheses.len() {
@@ -382,7 +409,7 @@ pub fn test_rule<A: Allocator>(
         return Err(Reason::Unmatched);
     }
     let pairs = rule.pairs();
-    if !pairs_are_disjoint(db, theorem, symbols, premises, pairs, cache) {
+    if !pairs_are_disjoint(database, theorem, symbols, premises, pairs, cache) {
         return Err(Reason::NotDisjoint);
     }
     Ok(below)

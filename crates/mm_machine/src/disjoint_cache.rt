@@ -1,7 +1,7 @@
 //! Pairs of symbols that are known to be disjoint at a theorem.
 
 ghost use Rattle.std.specs.Prelude.{◌≡◌, ◌⊎◌, [], true, IfOk};
-ghost use Rattle.mm_machine.specs.DisjointCache.{AreDisjointAt, HasPair, KeepsPair};
+ghost use Rattle.mm_machine.specs.DisjointCache.{AreDisjointAt, HasPair, InsertsPair};
 ghost use Rattle.mm_rule.specs.Assertions.{is_assertion_at};
 
 use mm_database::{Database, Sym};
@@ -9,7 +9,7 @@ use mm_rule::{pairs, put_number};
 use std::alloc::{AllocError, Allocator};
 use std::marker::Model;
 
-/// How many pairs are kept at most, and the number of slots that say where a pair is.
+/// How many pairs the cache has at most, and the number of slots that say where a pair is.
 const PAIR_SLOTS: usize = 1_024;
 
 /// Pairs of symbols that are disjoint at a theorem, the lower symbol first: those of its frame, and
@@ -17,7 +17,7 @@ const PAIR_SLOTS: usize = 1_024;
 #[derive(Drop)]
 pub struct DisjointCache<A: Allocator> {
     pairs: Vec<(Sym, Sym), A>,
-    /// For each slot, where its pair may be in `pairs`.
+    /// For each slot the index at which its pair may be in `pairs`.
     slots: Vec<u32, A>,
 }
 
@@ -29,9 +29,10 @@ impl<A: Allocator> Model for DisjointCache<A> {
     ghost view = { λ a. a.pairs.items };
 }
 
-/// The slot of a pair.
-fn slot_of(s: Sym, t: Sym) -> usize {
-    (s.number() as usize * 61 + t.number() as usize) % PAIR_SLOTS
+/// The slot of a pair. The factor is prime to the number of slots, so pairs of one high symbol and
+/// neighbouring low ones have different slots.
+fn slot_of(low: Sym, high: Sym) -> usize {
+    (low.number() as usize * 61 + high.number() as usize) % PAIR_SLOTS
 }
 
 impl<A: Allocator> DisjointCache<A> {
@@ -56,54 +57,55 @@ impl<A: Allocator> DisjointCache<A> {
         if slot >= self.slots.len() {
             return false;
         }
-        let n = self.slots[slot] as usize;
-        n < self.pairs.len() && self.pairs[n].0 == low && self.pairs[n].1 == high
+        let index = self.slots[slot] as usize;
+        index < self.pairs.len() && self.pairs[index].0 == low && self.pairs[index].1 == high
     }
 
     /// Whether two symbols are known to be disjoint: in one order or the other they are a pair.
     #[inline(always)]
-    pub fn has(&self, s: Sym, t: Sym) -> bool
-        ensures { result ≡ true → HasPair self.now s t ⊎ HasPair self.now t s }
+    pub fn has(&self, first: Sym, second: Sym) -> bool
+        ensures { result ≡ true → HasPair self.now first second ⊎ HasPair self.now second first }
     {
-        if s.number() < t.number() {
-            self.has_pair(s, t)
+        if first.number() < second.number() {
+            self.has_pair(first, second)
         } else {
-            self.has_pair(t, s)
+            self.has_pair(second, first)
         }
     }
 
-    /// Keeps a pair of disjoint symbols, the lower first, if there is room for it.
-    fn keep_pair(&mut self, low: Sym, high: Sym)
-        ensures { KeepsPair self.old low high self.new }
+    /// Adds a pair of disjoint symbols, the lower first, if there is room for it.
+    fn insert_pair(&mut self, low: Sym, high: Sym)
+        ensures { InsertsPair self.old low high self.new }
     {
-        let n = self.pairs.len();
-        if n < PAIR_SLOTS {
+        let index = self.pairs.len();
+        if index < PAIR_SLOTS {
             match self.pairs.push((low, high)) {
-                Ok(()) => put_number(&mut self.slots, slot_of(low, high), n),
+                Ok(()) => put_number(&mut self.slots, slot_of(low, high), index),
                 Err(_) => {}
             }
         }
     }
 
-    /// Keeps a pair of disjoint symbols, given in either order.
-    pub fn keep(&mut self, s: Sym, t: Sym)
-        ensures { KeepsPair self.old s t self.new ⊎ KeepsPair self.old t s self.new }
+    /// Adds a pair of disjoint symbols, given in either order, if there is room for it.
+    pub fn insert(&mut self, first: Sym, second: Sym)
+        ensures { InsertsPair self.old first second self.new
+            ⊎ InsertsPair self.old second first self.new }
     {
-        if s.number() < t.number() {
-            self.keep_pair(s, t);
+        if first.number() < second.number() {
+            self.insert_pair(first, second);
         } else {
-            self.keep_pair(t, s);
+            self.insert_pair(second, first);
         }
     }
 
-    /// Forgets all pairs, then keeps those of a theorem's frame.
-    pub fn restart(&mut self, db: &Database<A>, theorem: u32)
-        requires { is_assertion_at db.now.statements theorem ≡ true }
-        ensures { AreDisjointAt db.now.statements theorem self.new }
+    /// Removes all pairs, then adds those of a theorem's frame.
+    pub fn restart(&mut self, database: &Database<A>, theorem: u32)
+        requires { is_assertion_at database.now.statements theorem ≡ true }
+        ensures { AreDisjointAt database.now.statements theorem self.new }
     {
         self.pairs.clear();
-        for pair in pairs(db, theorem) {
-            self.keep_pair(pair.0, pair.1);
+        for pair in pairs(database, theorem) {
+            self.insert_pair(pair.0, pair.1);
         }
     }
 }

@@ -4,44 +4,44 @@ ghost use Rattle.std.specs.Prelude.{◌≡◌, ◌<◌, ◌≤◌, ◌+◌, ◌*
 ghost use Rattle.std.specs.Prelude.{IfSome};
 ghost use Rattle.mm_spec.specs.Limits.{formula_limit};
 ghost use Rattle.mm_machine.specs.Arena.{IsIn};
-ghost use Rattle.mm_rule.specs.Rule.{IsBelow};
+ghost use Rattle.mm_rule.specs.Rule.{IsVariableBelow};
 ghost use Rattle.mm_machine.specs.Replaced.{replaced};
 
-use crate::arena::{Span, Symbols, span_of};
+use crate::arena::{Span, Symbols, replacement_of};
 use mm_database::Sym;
 use mm_rule::RuleSymbol;
 use mm_spec::FORMULA_LIMIT;
 
-/// Writes a symbol at place `at`.
+/// Writes a symbol at index `at`.
 #[inline(always)]
-fn put_symbol(s: Sym, list: &mut [Sym], at: usize)
+fn put_symbol(symbol: Sym, list: &mut [Sym], at: usize)
     requires { at < length list.old }
-    ensures same { length list.new ≡ length list.old }
-    ensures is { take (at + 1) list.new ≡ take at list.old ++ s ∷ [] }
+    ensures same_length { length list.new ≡ length list.old }
+    ensures written { take (at + 1) list.new ≡ take at list.old ++ symbol ∷ [] }
 {
-    list[at] = s;
+    list[at] = symbol;
 }
 
-/// Writes two symbols from place `at` on.
+/// Writes two symbols from index `at` on.
 #[inline(always)]
 fn put_two(symbols: &[Sym], list: &mut [Sym], at: usize)
     requires two { length symbols.now ≡ 2 }
     requires room { at + 2 ≤ length list.old }
-    ensures same { length list.new ≡ length list.old }
-    ensures is { take (at + 2) list.new ≡ take at list.old ++ symbols.now }
+    ensures same_length { length list.new ≡ length list.old }
+    ensures written { take (at + 2) list.new ≡ take at list.old ++ symbols.now }
 {
     put_symbol(symbols[0], list, at);
     put_symbol(symbols[1], list, at + 1);
 }
 
-/// Writes four symbols from place `at` on. All are read before the first is written, so that a
+/// Writes four symbols from index `at` on. All are read before the first is written, so that a
 /// compiler needs no test whether the lists overlap, and copies them at once.
 #[inline(always)]
 fn put_four(symbols: &[Sym], list: &mut [Sym], at: usize)
     requires four { length symbols.now ≡ 4 }
     requires room { at + 4 ≤ length list.old }
-    ensures same { length list.new ≡ length list.old }
-    ensures is { take (at + 4) list.new ≡ take at list.old ++ symbols.now }
+    ensures same_length { length list.new ≡ length list.old }
+    ensures written { take (at + 4) list.new ≡ take at list.old ++ symbols.now }
 {
     let (first, second, third, last) = (symbols[0], symbols[1], symbols[2], symbols[3]);
     put_symbol(first, list, at);
@@ -50,12 +50,12 @@ fn put_four(symbols: &[Sym], list: &mut [Sym], at: usize)
     put_symbol(last, list, at + 3);
 }
 
-/// Writes symbols from place `at` on.
+/// Writes symbols from index `at` on.
 #[inline(always)]
 fn put_all(symbols: &[Sym], list: &mut [Sym], at: usize)
     requires { at + length symbols.now ≤ length list.old }
-    ensures same { length list.new ≡ length list.old }
-    ensures is { take (at + length symbols.now) list.new ≡ take at list.old ++ symbols.now }
+    ensures same_length { length list.new ≡ length list.old }
+    ensures written { take (at + length symbols.now) list.new ≡ take at list.old ++ symbols.now }
 {
     let end = at + symbols.len();
     list[at..end].copy_from_slice(symbols);
@@ -65,8 +65,8 @@ fn put_all(symbols: &[Sym], list: &mut [Sym], at: usize)
 #[inline(always)]
 fn put_width(symbols: &[Sym], list: &mut [Sym], at: usize)
     requires { at + length symbols.now ≤ length list.old }
-    ensures same { length list.new ≡ length list.old }
-    ensures is { take (at + length symbols.now) list.new ≡ take at list.old ++ symbols.now }
+    ensures same_length { length list.new ≡ length list.old }
+    ensures written { take (at + length symbols.now) list.new ≡ take at list.old ++ symbols.now }
 {
     if symbols.len() == 2 {
         put_two(symbols, list, at);
@@ -87,20 +87,20 @@ fn put_ends(symbols: &[Sym], list: &mut [Sym], at: usize, width: usize)
     requires many { width ≤ length symbols.now }
     requires few { length symbols.now ≤ 2 * width }
     requires room { at + length symbols.now ≤ length list.old }
-    ensures same { length list.new ≡ length list.old }
-    ensures is { take (at + length symbols.now) list.new ≡ take at list.old ++ symbols.now }
+    ensures same_length { length list.new ≡ length list.old }
+    ensures written { take (at + length symbols.now) list.new ≡ take at list.old ++ symbols.now }
 {
     let left = symbols.len() - width;
     put_width(&symbols[..width], list, at);
     put_width(&symbols[left..], list, at + left);
 }
 
-/// Writes what replaces a variable from place `at` on. It mostly is short.
+/// Writes what replaces a variable from index `at` on. It mostly is short.
 #[inline(always)]
 pub fn put_symbols(symbols: &[Sym], list: &mut [Sym], at: usize)
     requires { at + length symbols.now ≤ length list.old }
-    ensures same { length list.new ≡ length list.old }
-    ensures is { take (at + length symbols.now) list.new ≡ take at list.old ++ symbols.now }
+    ensures same_length { length list.new ≡ length list.old }
+    ensures written { take (at + length symbols.now) list.new ≡ take at list.old ++ symbols.now }
 {
     let count = symbols.len();
     if count <= 1 {
@@ -128,28 +128,28 @@ pub fn fill(
     list: &mut [Sym],
 ) -> Option<usize>
     requires premises { All (IsIn symbols.now) premises.now }
-    requires formula { All (IsBelow (length premises.now)) formula.now }
+    requires formula { All (IsVariableBelow (length premises.now)) formula.now }
     ensures within { IfSome result (λ n. n ≤ length list.new) }
     ensures short { IfSome result (λ n. n ≤ formula_limit) }
-    ensures is { IfSome result
+    ensures written { IfSome result
         (λ n. take n list.new ≡ replaced symbols.now premises.now formula.now) }
 {
     let mut at = 0;
-    // What is left of the list, if each part that is to come takes one place.
-    let mut room = list.len().checked_sub(formula.len())?;
+    // How many elements of the list are left over, if each part that is to come takes one.
+    let mut spare = list.len().checked_sub(formula.len())?;
     for part in formula {
         match *part {
-            RuleSymbol::Variable(j) => {
-                let replacement = symbols.formula(span_of(premises, j));
-                if replacement.len() > room + 1 {
+            RuleSymbol::Variable(number) => {
+                let replacement = symbols.formula(replacement_of(premises, number));
+                if replacement.len() > spare + 1 {
                     return None;
                 }
                 put_symbols(replacement, list, at);
-                room = room + 1 - replacement.len();
+                spare = spare + 1 - replacement.len();
                 at += replacement.len();
             }
-            RuleSymbol::Constant(s) => {
-                put_symbol(s, list, at);
+            RuleSymbol::Constant(symbol) => {
+                put_symbol(symbol, list, at);
                 at += 1;
             }
         }

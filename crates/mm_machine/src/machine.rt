@@ -6,13 +6,14 @@ ghost use Rattle.std.specs.Prelude.{OnErr, Ok, vec_len};
 ghost use Rattle.std.specs.List.{Contains};
 ghost use Rattle.mm_spec.specs.Frame.{symbol_names};
 ghost use Rattle.mm_spec.specs.Laws.Stack.{top};
-ghost use Rattle.mm_rule.specs.Rule.{IsBelow, IsKnown, IsCompiled};
+ghost use Rattle.mm_rule.specs.Rule.{IsVariableBelow, IsConstantBelow, IsCompiled};
 ghost use Rattle.mm_machine.specs.Arena.{arena, span_formula};
 ghost use Rattle.mm_machine.specs.DisjointCache.{AreDisjointAt};
 ghost use Rattle.mm_machine.specs.State.{machine_state, with_mark, Repeats, span_formulas};
-ghost use Rattle.mm_machine.specs.State.{first_own as first_own_of, made_of, entries_after};
+ghost use Rattle.mm_machine.specs.State.{first_unmarked as first_unmarked_of, appended_span};
+ghost use Rattle.mm_machine.specs.State.{entries_after};
 ghost use Rattle.mm_machine.specs.State.{IsStack, IsStackOf, IsRising, IsMarkedEntry, Moves};
-ghost use Rattle.mm_machine.specs.Stops.{Stops, IsApplied};
+ghost use Rattle.mm_machine.specs.Applied.{IsRefusalOf, IsApplied};
 
 use crate::arena::{Reason, Span, Store, Symbols, build, test_rule};
 use crate::disjoint_cache::DisjointCache;
@@ -33,42 +34,47 @@ const MAX_SHORT_FORMULA: usize = 1_024;
 /// Why a step wasn't performed.
 #[derive(Drop)]
 pub enum StepRefused {
+    /// It isn't a step of a derivation.
     Fault(Reason),
+    /// Out of memory.
     Memory,
 }
 
-/// The entries, and the formulas of the marked steps so far. An entry's formula is in `own` and is
-/// removed with the entry, or it is that of a marked step and is in `kept`. So the only symbols
-/// held are those of the stack and of the marked formulas.
+/// The entries, and the formulas of the marked steps so far. The formula of an entry is in `marked`
+/// if it is that of a marked step. Otherwise it is in `unmarked`, and is removed with the entry. So
+/// the only symbols held are those of the stack and of the marked formulas.
 pub struct Machine<A: Allocator> {
-    own: SymbolList<A>,
-    kept: SymbolList<A>,
+    unmarked: SymbolList<A>,
+    marked: SymbolList<A>,
+    /// The entries, from bottom to top.
     stack: Vec<Span, A>,
+    /// The indices of the marked steps so far.
     marks: Vec<usize, A>,
-    marked: Vec<Span, A>,
-    /// Where a mark may be in `marks`, by its number modulo the number of slots.
+    /// For each of these steps the stretch of its formula in `marked`.
+    marked_spans: Vec<Span, A>,
+    /// For each slot the index at which its mark may be in `marks`.
     slots: Vec<u32, A>,
     /// Where the formula of a step is built if it is short.
     short: Vec<Sym, A>,
-    /// Where it is built otherwise.
-    made: Vec<Sym, A>,
-    /// How many symbols there are.
-    width: usize,
+    /// Where the formula of a step is built if it isn't short.
+    long: Vec<Sym, A>,
+    /// How many symbols the database has.
+    symbol_count: usize,
 }
 
 /// Lets all fields go in one call, so that a proof has one step for it at each exit.
 impl<A: Allocator> Drop for Machine<A> {
     fn drop(self) {
         let Self {
-            own: _,
-            kept: _,
+            unmarked: _,
+            marked: _,
             stack: _,
             marks: _,
-            marked: _,
+            marked_spans: _,
             slots: _,
             short: _,
-            made: _,
-            width: _,
+            long: _,
+            symbol_count: _,
         } = self;
     }
 }
@@ -81,102 +87,102 @@ impl<A: Allocator> Model for Machine<A> {
     ghost Value = { MachineState };
 
     ghost view = { λ m. machine_state
-        (span_formulas (arena m.own m.kept) m.stack.items) m.marks.items
-        (span_formulas (arena [] m.kept) m.marked.items) m.width };
+        (span_formulas (arena m.unmarked m.marked) m.stack.items) m.marks.items
+        (span_formulas (arena [] m.marked) m.marked_spans.items) m.symbol_count };
 
-    ghost invariant = { λ m. IsMachine m.own m.kept m.stack.items m.marks.items
-        m.marked.items m.width };
+    ghost invariant = { λ m. IsMachine m.unmarked m.marked m.stack.items m.marks.items
+        m.marked_spans.items m.symbol_count };
 }
 
 /// The index of `number` among `numbers`, which are in ascending order: where the slots say, or
 /// otherwise by binary search.
-fn find(numbers: &[usize], number: usize, slots: &[u32]) -> usize
+fn index_of_mark(numbers: &[usize], number: usize, slots: &[u32]) -> usize
     requires rising { IsRising numbers.now }
     requires present { Contains numbers.now number }
     ensures below { result < length numbers.now }
-    ensures is { get_or numbers.now result 0 ≡ number }
+    ensures found { get_or numbers.now result 0 ≡ number }
 {
     let slot = number % MARK_SLOTS;
     if slot < slots.len() {
-        let place = slots[slot] as usize;
-        if place < numbers.len() && numbers[place] == number {
-            return place;
+        let index = slots[slot] as usize;
+        if index < numbers.len() && numbers[index] == number {
+            return index;
         }
     }
     match numbers.binary_search(&number) {
-        Ok(n) => n,
-        Err(n) => n,
+        Ok(found) => found,
+        Err(gap) => gap,
     }
 }
 
 impl<A: Allocator> Machine<A> {
-    /// A machine without entries, for `width` symbols.
-    pub fn new(alloc: A, width: usize) -> Result<Self, AllocError>
+    /// A machine without entries, for `symbol_count` symbols.
+    pub fn new(alloc: A, symbol_count: usize) -> Result<Self, AllocError>
     where
         A: Copy,
-        ensures { IfOk result (λ m. m ≡ machine_state [] [] [] width) }
+        ensures { IfOk result (λ m. m ≡ machine_state [] [] [] symbol_count) }
     {
         let slots = vec![in alloc; 0; MARK_SLOTS]?;
         let mut short = Vec::with_capacity(alloc, MAX_SHORT_FORMULA)?;
         short.resize(MAX_SHORT_FORMULA, Sym::new(0))?;
         Ok(Machine {
-            own: SymbolList::new(alloc),
-            kept: SymbolList::new(alloc),
+            unmarked: SymbolList::new(alloc),
+            marked: SymbolList::new(alloc),
             stack: Vec::new(alloc),
             marks: Vec::new(alloc),
-            marked: Vec::new(alloc),
+            marked_spans: Vec::new(alloc),
             slots,
             short,
-            made: Vec::new(alloc),
-            width,
+            long: Vec::new(alloc),
+            symbol_count,
         })
     }
 
     /// Removes all entries and marks, and keeps the memory of the lists, except that of long ones.
     pub fn restart(&mut self)
-        ensures { self.new ≡ machine_state [] [] [] self.old.width }
+        ensures { self.new ≡ machine_state [] [] [] self.old.symbol_count }
     {
-        self.own.empty();
-        self.kept.empty();
+        self.unmarked.empty();
+        self.marked.empty();
         empty(&mut self.stack);
         empty(&mut self.marks);
-        empty(&mut self.marked);
-        empty(&mut self.made);
+        empty(&mut self.marked_spans);
+        empty(&mut self.long);
     }
 
     /// Pushes a formula.
     #[inline(always)]
     pub fn push(&mut self, formula: &[Sym]) -> Result<(), AllocError>
-        requires { All (λ s. s < self.old.width) formula.now }
+        requires { All (λ s. s < self.old.symbol_count) formula.now }
         ensures ok { OnOk result
             (self.new
             ≡ machine_state (self.old.stack ++ formula.now ∷ []) self.old.marks self.old.formulas
-            self.old.width) }
-        ensures width { self.new.width ≡ self.old.width }
+            self.old.symbol_count) }
+        ensures symbol_count { self.new.symbol_count ≡ self.old.symbol_count }
     {
-        add(formula, &mut self.own, &mut self.stack)
+        push_unmarked(formula, &mut self.unmarked, &mut self.stack)
     }
 
-    /// Pushes the formula of the earlier, marked step `j` again.
-    pub fn repeat(&mut self, j: u32) -> Result<(), AllocError>
-        requires { Contains self.old.marks j }
-        ensures ok { OnOk result (Repeats j self.old self.new) }
-        ensures width { self.new.width ≡ self.old.width }
+    /// Pushes the formula of the earlier, marked step again.
+    pub fn repeat(&mut self, step: u32) -> Result<(), AllocError>
+        requires { Contains self.old.marks step }
+        ensures ok { OnOk result (Repeats step self.old self.new) }
+        ensures symbol_count { self.new.symbol_count ≡ self.old.symbol_count }
     {
-        let n = find(&self.marks, j as usize, &self.slots);
-        self.stack.push(self.marked[n])?;
+        let index = index_of_mark(&self.marks, step as usize, &self.slots);
+        self.stack.push(self.marked_spans[index])?;
         Ok(())
     }
 
-    /// Keeps the top formula, with which step number `step` ended.
+    /// Adds the top formula, with which this step ended, to those of the marked steps.
     pub fn mark(&mut self, step: usize) -> Result<(), AllocError>
         requires entry { 0 < length self.old.stack }
         requires later { All (λ j. j < step) self.old.marks }
         ensures ok { OnOk result (self.new ≡ with_mark true step self.old) }
-        ensures width { self.new.width ≡ self.old.width }
+        ensures symbol_count { self.new.symbol_count ≡ self.old.symbol_count }
     {
-        let made = keep(&mut self.own, &mut self.kept, &mut self.stack)?;
-        self.marked.push(made)?;
+        let span = move_to_marked(&mut self.unmarked, &mut self.marked, &mut self.stack)?;
+        self.marked_spans.push(span)?;
         put_number(&mut self.slots, step % MARK_SLOTS, self.marks.len());
         self.marks.push(step)?;
         Ok(())
@@ -186,23 +192,25 @@ impl<A: Allocator> Machine<A> {
     #[inline(always)]
     pub fn apply(
         &mut self,
-        db: &Database<A>,
+        database: &Database<A>,
         theorem: u32,
         rule: &Rule,
         cache: &mut DisjointCache<A>,
     ) -> Result<(), StepRefused>
-        requires theorem { theorem < length db.now.statements }
-        requires rule { IsCompiled db.now.statements rule.now }
-        requires width { self.old.width ≡ length (symbol_names db.now.statements) }
-        requires cache { AreDisjointAt db.now.statements theorem cache.old }
-        ensures cache { AreDisjointAt db.now.statements theorem cache.new }
-        ensures step { IsApplied db.now.statements theorem rule.now.assertion self.old self.new
+        requires theorem { theorem < length database.now.statements }
+        requires rule { IsCompiled database.now.statements rule.now }
+        requires symbol_count { self.old.symbol_count
+            ≡ length (symbol_names database.now.statements) }
+        requires cache { AreDisjointAt database.now.statements theorem cache.old }
+        ensures cache { AreDisjointAt database.now.statements theorem cache.new }
+        ensures step { IsApplied database.now.statements theorem rule.now.assertion self.old
+            self.new
             result }
     {
         if rule.hypotheses().is_empty() {
-            self.apply_alone(db, theorem, rule)
+            self.apply_alone(database, theorem, rule)
         } else {
-            self.apply_to_premises(db, theorem, rule, cache)
+            self.apply_to_premises(database, theorem, rule, cache)
         }
     }
 
@@ -210,17 +218,19 @@ impl<A: Allocator> Machine<A> {
     #[inline(always)]
     fn apply_alone(
         &mut self,
-        db: &Database<A>,
+        database: &Database<A>,
         _theorem: u32,
         rule: &Rule,
     ) -> Result<(), StepRefused>
-        requires rule { IsCompiled db.now.statements rule.now }
+        requires rule { IsCompiled database.now.statements rule.now }
         requires alone { length rule.now.hypotheses ≡ 0 }
-        requires width { self.old.width ≡ length (symbol_names db.now.statements) }
-        ensures step { IsApplied db.now.statements _theorem rule.now.assertion self.old self.new
+        requires symbol_count { self.old.symbol_count
+            ≡ length (symbol_names database.now.statements) }
+        ensures step { IsApplied database.now.statements _theorem rule.now.assertion self.old
+            self.new
             result }
     {
-        let symbols = formula(db, rule.assertion());
+        let symbols = formula(database, rule.assertion());
         if symbols.len() > FORMULA_LIMIT {
             return Err(StepRefused::Fault(Reason::TooLong));
         }
@@ -234,33 +244,35 @@ impl<A: Allocator> Machine<A> {
     #[inline(always)]
     fn apply_to_premises(
         &mut self,
-        db: &Database<A>,
+        database: &Database<A>,
         theorem: u32,
         rule: &Rule,
         cache: &mut DisjointCache<A>,
     ) -> Result<(), StepRefused>
-        requires theorem { theorem < length db.now.statements }
-        requires rule { IsCompiled db.now.statements rule.now }
-        requires width { self.old.width ≡ length (symbol_names db.now.statements) }
-        requires cache { AreDisjointAt db.now.statements theorem cache.old }
-        ensures cache { AreDisjointAt db.now.statements theorem cache.new }
-        ensures step { IsApplied db.now.statements theorem rule.now.assertion self.old self.new
+        requires theorem { theorem < length database.now.statements }
+        requires rule { IsCompiled database.now.statements rule.now }
+        requires symbol_count { self.old.symbol_count
+            ≡ length (symbol_names database.now.statements) }
+        requires cache { AreDisjointAt database.now.statements theorem cache.old }
+        ensures cache { AreDisjointAt database.now.statements theorem cache.new }
+        ensures step { IsApplied database.now.statements theorem rule.now.assertion self.old
+            self.new
             result }
     {
         let symbols = Symbols {
-            own: self.own.as_slice(),
-            kept: self.kept.as_slice(),
+            unmarked: self.unmarked.as_slice(),
+            marked: self.marked.as_slice(),
         };
-        match test_rule(db, theorem, rule, &symbols, &self.stack, cache) {
+        match test_rule(database, theorem, rule, &symbols, &self.stack, cache) {
             Err(reason) => Err(StepRefused::Fault(reason)),
-            Ok(below) => put_formula(
+            Ok(below) => replace_by_formula(
                 below,
                 rule.formula(),
-                &mut self.own,
-                self.kept.as_slice(),
+                &mut self.unmarked,
+                self.marked.as_slice(),
                 &mut self.stack,
                 &mut self.short,
-                &mut self.made,
+                &mut self.long,
             ),
         }
     }
@@ -272,8 +284,8 @@ impl<A: Allocator> Machine<A> {
     {
         if self.stack.len() == 1 {
             let symbols = Symbols {
-                own: self.own.as_slice(),
-                kept: self.kept.as_slice(),
+                unmarked: self.unmarked.as_slice(),
+                marked: self.marked.as_slice(),
             };
             Some(symbols.formula(self.stack[0]))
         } else {
@@ -282,89 +294,90 @@ impl<A: Allocator> Machine<A> {
     }
 }
 
-/// Pushes a formula, whose symbols are appended to `own`.
+/// Pushes a formula, whose symbols are appended to `unmarked`.
 #[inline(always)]
-fn add<A: Allocator>(
+fn push_unmarked<A: Allocator>(
     formula: &[Sym],
-    own: &mut SymbolList<A>,
+    unmarked: &mut SymbolList<A>,
     stack: &mut Vec<Span, A>,
 ) -> Result<(), AllocError>
-    ensures own { OnOk result (own.new ≡ own.old ++ formula.now) }
+    ensures unmarked { OnOk result (unmarked.new ≡ unmarked.old ++ formula.now) }
     ensures stack { OnOk result
-        (stack.new.items ≡ stack.old.items ++ made_of own.old formula.now ∷ []) }
-    ensures same_own { OnErr result (own.new ≡ own.old) }
+        (stack.new.items ≡ stack.old.items ++ appended_span unmarked.old formula.now ∷ []) }
+    ensures same_unmarked { OnErr result (unmarked.new ≡ unmarked.old) }
     ensures same_stack { OnErr result (stack.new.items ≡ stack.old.items) }
 {
-    let start = own.len();
-    own.append(formula)?;
-    let made = Span {
-        store: Store::Own,
+    let start = unmarked.len();
+    unmarked.append(formula)?;
+    let span = Span {
+        store: Store::Unmarked,
         start,
-        end: own.len(),
+        end: unmarked.len(),
     };
-    match stack.push(made) {
+    match stack.push(span) {
         Ok(()) => Ok(()),
         Err(_) => {
-            own.truncate(start);
+            unmarked.truncate(start);
             Err(AllocError)
         }
     }
 }
 
-/// Where the first of the entries' own formulas begins; `end` if there is none.
-fn first_own(stack: &[Span], end: usize) -> usize
-    ensures { result ≡ first_own_of stack.now end }
+/// Where the first of the entries' unmarked formulas begins; `end` if there is none.
+fn first_unmarked(stack: &[Span], end: usize) -> usize
+    ensures { result ≡ first_unmarked_of stack.now end }
 {
     for entry in stack {
         match entry.store {
-            Store::Own => return entry.start,
-            Store::Kept => {}
+            Store::Unmarked => return entry.start,
+            Store::Marked => {}
         }
     }
     end
 }
 
-/// Removes the entries from index `below` on from the stack, and their own formulas from `own`.
-fn cut<A: Allocator>(below: usize, own: &mut SymbolList<A>, stack: &mut Vec<Span, A>)
+/// Removes the entries from index `below` on from the stack, and their unmarked formulas from
+/// `unmarked`.
+fn remove_from<A: Allocator>(below: usize, unmarked: &mut SymbolList<A>, stack: &mut Vec<Span, A>)
     requires { below ≤ vec_len stack.old }
     ensures stack { stack.new.items ≡ take below stack.old.items }
-    ensures own { own.new
-        ≡ take (first_own_of (drop below stack.old.items) (length own.old)) own.old }
+    ensures unmarked { unmarked.new
+        ≡ take (first_unmarked_of (drop below stack.old.items) (length unmarked.old)) unmarked.old }
 {
-    let end = first_own(&stack[below..], own.len());
+    let end = first_unmarked(&stack[below..], unmarked.len());
     stack.truncate(below);
-    own.truncate(end);
+    unmarked.truncate(end);
 }
 
-/// Moves the top formula to the kept ones, unless it is there already, and returns its stretch.
-fn keep<A: Allocator>(
-    own: &mut SymbolList<A>,
-    kept: &mut SymbolList<A>,
+/// Moves the top formula to the marked ones, unless it is there already, and returns its stretch.
+fn move_to_marked<A: Allocator>(
+    unmarked: &mut SymbolList<A>,
+    marked: &mut SymbolList<A>,
     stack: &mut Vec<Span, A>,
 ) -> Result<Span, AllocError>
     requires entry { 0 < length stack.old.items }
-    requires stack { IsStack own.old kept.old stack.old.items }
-    ensures stack { IsStack own.new kept.new stack.new.items }
-    ensures formulas { span_formulas (arena own.new kept.new) stack.new.items
-        ≡ span_formulas (arena own.old kept.old) stack.old.items }
-    ensures moved { Moves own.old kept.old own.new kept.new }
-    ensures made { IfOk result
-        (λ e. IsMarkedEntry kept.new e
-        × (span_formula (arena [] kept.new) e
-        ≡ top (span_formulas (arena own.old kept.old) stack.old.items))) }
+    requires stack { IsStack unmarked.old marked.old stack.old.items }
+    ensures stack { IsStack unmarked.new marked.new stack.new.items }
+    ensures formulas { span_formulas (arena unmarked.new marked.new) stack.new.items
+        ≡ span_formulas (arena unmarked.old marked.old) stack.old.items }
+    ensures moved { Moves unmarked.old marked.old unmarked.new marked.new }
+    ensures entry_is { IfOk result
+        (λ e. IsMarkedEntry marked.new e
+        × (span_formula (arena [] marked.new) e
+        ≡ top (span_formulas (arena unmarked.old marked.old) stack.old.items))) }
 {
     let last = stack.len() - 1;
     let entry = stack[last];
     match entry.store {
-        Store::Kept => Ok(entry),
-        Store::Own => {
-            let start = kept.len();
-            kept.append(&own.as_slice()[entry.start..entry.end])?;
-            own.truncate(entry.start);
+        Store::Marked => Ok(entry),
+        Store::Unmarked => {
+            let start = marked.len();
+            marked.append(&unmarked.as_slice()[entry.start..entry.end])?;
+            unmarked.truncate(entry.start);
             let moved = Span {
-                store: Store::Kept,
+                store: Store::Marked,
                 start,
-                end: kept.len(),
+                end: marked.len(),
             };
             stack[last] = moved;
             Ok(moved)
@@ -375,95 +388,96 @@ fn keep<A: Allocator>(
 /// Replaces the entries from index `below` on by the formula of a step that takes them as its
 /// premises. The formula is built in `short` if there is room.
 #[inline(always)]
-fn put_formula<A: Allocator>(
+fn replace_by_formula<A: Allocator>(
     below: usize,
     formula: &[RuleSymbol],
-    own: &mut SymbolList<A>,
-    kept: &[Sym],
+    unmarked: &mut SymbolList<A>,
+    marked: &[Sym],
     stack: &mut Vec<Span, A>,
     short: &mut [Sym],
-    made: &mut Vec<Sym, A>,
+    long: &mut Vec<Sym, A>,
 ) -> Result<(), StepRefused>
     requires below { below ≤ vec_len stack.old }
-    requires formula { All (IsBelow (length (drop below stack.old.items))) formula.now }
-    requires stack { IsStack own.old kept.now stack.old.items }
-    ensures stack { (w : ℕ) → All (IsKnown w) formula.now
-        → IsStackOf w own.old kept.now stack.old.items
-        → IsStackOf w own.new kept.now stack.new.items }
-    ensures made { OnOk result
-        (entries_after (arena own.old kept.now) stack.old.items below formula.now
-        ≡ Ok (span_formulas (arena own.new kept.now) stack.new.items)) }
-    ensures stopped { IfErr result
-        (λ e. Stops e
-        (entries_after (arena own.old kept.now) stack.old.items below formula.now)) }
+    requires formula { All (IsVariableBelow (length (drop below stack.old.items))) formula.now }
+    requires stack { IsStack unmarked.old marked.now stack.old.items }
+    ensures stack { (w : ℕ) → All (IsConstantBelow w) formula.now
+        → IsStackOf w unmarked.old marked.now stack.old.items
+        → IsStackOf w unmarked.new marked.now stack.new.items }
+    ensures entries { OnOk result
+        (entries_after (arena unmarked.old marked.now) stack.old.items below formula.now
+        ≡ Ok (span_formulas (arena unmarked.new marked.now) stack.new.items)) }
+    ensures refused { IfErr result
+        (λ e. IsRefusalOf e
+        (entries_after (arena unmarked.old marked.now) stack.old.items below formula.now)) }
 {
     let symbols = Symbols {
-        own: own.as_slice(),
-        kept,
+        unmarked: unmarked.as_slice(),
+        marked,
     };
     match fill(&symbols, &stack[below..], formula, short) {
-        Some(n) => match put(below, &short[..n], own, stack) {
+        Some(count) => match replace_from(below, &short[..count], unmarked, stack) {
             Err(_) => Err(StepRefused::Memory),
             Ok(()) => Ok(()),
         },
-        None => put_long(below, formula, own, kept, stack, made),
+        None => replace_by_long_formula(below, formula, unmarked, marked, stack, long),
     }
 }
 
 /// The same, with the formula built in a list that grows.
 #[inline(never)]
-fn put_long<A: Allocator>(
+fn replace_by_long_formula<A: Allocator>(
     below: usize,
     formula: &[RuleSymbol],
-    own: &mut SymbolList<A>,
-    kept: &[Sym],
+    unmarked: &mut SymbolList<A>,
+    marked: &[Sym],
     stack: &mut Vec<Span, A>,
-    made: &mut Vec<Sym, A>,
+    long: &mut Vec<Sym, A>,
 ) -> Result<(), StepRefused>
     requires below { below ≤ vec_len stack.old }
-    requires formula { All (IsBelow (length (drop below stack.old.items))) formula.now }
-    requires stack { IsStack own.old kept.now stack.old.items }
-    ensures stack { (w : ℕ) → All (IsKnown w) formula.now
-        → IsStackOf w own.old kept.now stack.old.items
-        → IsStackOf w own.new kept.now stack.new.items }
-    ensures made { OnOk result
-        (entries_after (arena own.old kept.now) stack.old.items below formula.now
-        ≡ Ok (span_formulas (arena own.new kept.now) stack.new.items)) }
-    ensures stopped { IfErr result
-        (λ e. Stops e
-        (entries_after (arena own.old kept.now) stack.old.items below formula.now)) }
+    requires formula { All (IsVariableBelow (length (drop below stack.old.items))) formula.now }
+    requires stack { IsStack unmarked.old marked.now stack.old.items }
+    ensures stack { (w : ℕ) → All (IsConstantBelow w) formula.now
+        → IsStackOf w unmarked.old marked.now stack.old.items
+        → IsStackOf w unmarked.new marked.now stack.new.items }
+    ensures entries { OnOk result
+        (entries_after (arena unmarked.old marked.now) stack.old.items below formula.now
+        ≡ Ok (span_formulas (arena unmarked.new marked.now) stack.new.items)) }
+    ensures refused { IfErr result
+        (λ e. IsRefusalOf e
+        (entries_after (arena unmarked.old marked.now) stack.old.items below formula.now)) }
 {
     let symbols = Symbols {
-        own: own.as_slice(),
-        kept,
+        unmarked: unmarked.as_slice(),
+        marked,
     };
-    match build(&symbols, &stack[below..], formula, made) {
+    match build(&symbols, &stack[below..], formula, long) {
         Err(_) => Err(StepRefused::Memory),
         Ok(false) => Err(StepRefused::Fault(Reason::TooLong)),
-        Ok(true) => match put(below, made, own, stack) {
+        Ok(true) => match replace_from(below, long, unmarked, stack) {
             Err(_) => Err(StepRefused::Memory),
             Ok(()) => Ok(()),
         },
     }
 }
 
-/// Replaces the entries from index `below` on by a formula. The kept symbols, of which the clauses
-/// speak, stay as they are.
+/// Replaces the entries from index `below` on by a formula. The marked formulas, of which the
+/// clauses speak, stay as they are.
 #[inline(always)]
-fn put<A: Allocator>(
+fn replace_from<A: Allocator>(
     below: usize,
-    made: &[Sym],
-    own: &mut SymbolList<A>,
+    formula: &[Sym],
+    unmarked: &mut SymbolList<A>,
     stack: &mut Vec<Span, A>,
 ) -> Result<(), AllocError>
     requires { below ≤ vec_len stack.old }
-    ensures stack { (w : ℕ) (kept : List ℕ) → All (λ s. s < w) made.now
-        → IsStackOf w own.old kept stack.old.items
-        → IsStackOf w own.new kept stack.new.items }
-    ensures formulas { OnOk result ((kept : List ℕ) → IsStack own.old kept stack.old.items
-        → span_formulas (arena own.new kept) stack.new.items
-        ≡ take below (span_formulas (arena own.old kept) stack.old.items) ++ made.now ∷ []) }
+    ensures stack { (w : ℕ) (marked : List ℕ) → All (λ s. s < w) formula.now
+        → IsStackOf w unmarked.old marked stack.old.items
+        → IsStackOf w unmarked.new marked stack.new.items }
+    ensures formulas { OnOk result ((marked : List ℕ) → IsStack unmarked.old marked stack.old.items
+        → span_formulas (arena unmarked.new marked) stack.new.items
+        ≡ take below (span_formulas (arena unmarked.old marked) stack.old.items)
+        ++ formula.now ∷ []) }
 {
-    cut(below, own, stack);
-    add(made, own, stack)
+    remove_from(below, unmarked, stack);
+    push_unmarked(formula, unmarked, stack)
 }

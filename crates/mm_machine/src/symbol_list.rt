@@ -8,17 +8,17 @@ use mm_rule::empty;
 use std::alloc::{AllocError, Allocator};
 use std::marker::Model;
 
-/// How many more places than are required are made when there are too few.
-const SPARE_PLACES: usize = 256;
+/// How much longer than required the buffer becomes when it grows.
+const SPARE_ROOM: usize = 256;
 
-/// How many places stay from proof to proof.
-const MAX_PLACES_KEPT: usize = 65_536;
+/// The maximum length of a buffer that stays allocated from proof to proof.
+const MAX_RETAINED_LEN: usize = 65_536;
 
-/// A list of symbols. It has places for more, so an append mostly only writes.
+/// A list of symbols. Its buffer is mostly longer, so an append mostly only writes.
 #[derive(Drop)]
 pub struct SymbolList<A: Allocator> {
-    /// The symbols, and after them places with any symbols.
-    places: Vec<Sym, A>,
+    /// The symbols, and behind them any others, which will be written over.
+    buffer: Vec<Sym, A>,
     /// How many symbols there are.
     count: usize,
 }
@@ -28,31 +28,31 @@ impl<A: Allocator> Model for SymbolList<A> {
 
     ghost Value = { List ℕ };
 
-    ghost view = { λ l. take l.count l.places.items };
+    ghost view = { λ l. take l.count l.buffer.items };
 
-    ghost invariant = { λ l. l.count ≤ length l.places.items };
+    ghost invariant = { λ l. l.count ≤ length l.buffer.items };
 }
 
-/// Makes at least `more` places after the first `count`.
+/// Makes room in the buffer for at least `more` symbols after the first `count`.
 #[cold]
 #[inline(never)]
 fn make_room<A: Allocator>(
-    places: &mut Vec<Sym, A>,
+    buffer: &mut Vec<Sym, A>,
     count: usize,
     more: usize,
 ) -> Result<(), AllocError>
-    requires { count ≤ vec_len places.old }
-    ensures room { OnOk result (count + more ≤ vec_len places.new) }
-    ensures longer { vec_len places.old ≤ vec_len places.new }
-    ensures same { take count places.new.items ≡ take count places.old.items }
+    requires { count ≤ vec_len buffer.old }
+    ensures room { OnOk result (count + more ≤ vec_len buffer.new) }
+    ensures longer { vec_len buffer.old ≤ vec_len buffer.new }
+    ensures same_symbols { take count buffer.new.items ≡ take count buffer.old.items }
 {
     match count.checked_add(more) {
         None => Err(AllocError),
         Some(least) => {
-            if least <= places.len() {
+            if least <= buffer.len() {
                 return Ok(());
             }
-            places.resize(least.saturating_add(SPARE_PLACES), Sym::new(0))
+            buffer.resize(least.saturating_add(SPARE_ROOM), Sym::new(0))
         }
     }
 }
@@ -63,7 +63,7 @@ impl<A: Allocator> SymbolList<A> {
         ensures { result ≡ [] }
     {
         SymbolList {
-            places: Vec::new(alloc),
+            buffer: Vec::new(alloc),
             count: 0,
         }
     }
@@ -79,7 +79,7 @@ impl<A: Allocator> SymbolList<A> {
     pub fn as_slice(&self) -> &[Sym]
         ensures { result.now ≡ self.now }
     {
-        &self.places[..self.count]
+        &self.buffer[..self.count]
     }
 
     /// Appends the symbols of a formula.
@@ -88,10 +88,10 @@ impl<A: Allocator> SymbolList<A> {
         ensures all { OnOk result (self.new ≡ self.old ++ formula.now) }
         ensures none { OnErr result (self.new ≡ self.old) }
     {
-        if formula.len() > self.places.len() - self.count {
-            make_room(&mut self.places, self.count, formula.len())?;
+        if formula.len() > self.buffer.len() - self.count {
+            make_room(&mut self.buffer, self.count, formula.len())?;
         }
-        put_symbols(formula, &mut self.places, self.count);
+        put_symbols(formula, &mut self.buffer, self.count);
         self.count += formula.len();
         Ok(())
     }
@@ -110,8 +110,8 @@ impl<A: Allocator> SymbolList<A> {
         ensures { self.new ≡ [] }
     {
         self.count = 0;
-        if self.places.len() > MAX_PLACES_KEPT {
-            empty(&mut self.places);
+        if self.buffer.len() > MAX_RETAINED_LEN {
+            empty(&mut self.buffer);
         }
     }
 }

@@ -18,7 +18,7 @@ use Rattle.mm_spec.specs.CompressedProof.{group_steps}
 use Rattle.mm_outline.specs.Parts.{as_tokens, token_of}
 use Rattle.mm_spec.specs.Steps.{PlacedStep}
 use Rattle.mm_steps.specs.Read.{read}
-use Rattle.mm_proof.specs.Letters.{InOrder, closed_brackets}
+use Rattle.mm_proof.specs.Letters.{AreInOrder, closed_brackets}
 
 -- a compressed proof with further labels before it
 abbrev pub after : List Token → Compressed → Compressed
@@ -100,10 +100,10 @@ module _ (db : List Statement) (k end : ℕ) where
       → flat_map (proof_label_faults db k) (as_tokens text (take n words)) ≡ []
       → compressed_faults db k end (bracketed (as_tokens text words))
       ≡ letter_faults (length labels) end (letters_of (as_tokens text (drop (n + 1) words)))
-  faults_closed text words n xs labels l mandatory many is sound =
+  faults_closed text words n xs labels n_lt_length_words mandatory many is sound =
       let m = ap length mandatory in
       let c = length-map (take n words) (token_of text) in
-      let d = length-take-le n words (omega (arith, l)) in
+      let d = length-take-le n words (omega (arith, n_lt_length_words)) in
       ap (compressed_faults db k end) is
       ∙ closed_faults (as_tokens text (take n words)) (as_tokens text (drop (n + 1) words))
       (length labels) sound (omega (arith, many, m, c, d))
@@ -121,19 +121,19 @@ read_steps db k p labels ls xs t steps e h same is =
     ∙ ap (compressed_steps db k) (sym e))
 
 -- the words from a place on are in order
-order_from : (from to end : ℕ) (ts : List Token) → from ≤ to → InOrder to ts end
-    → InOrder from ts end
+order_from : (from to end : ℕ) (ts : List Token) → from ≤ to → AreInOrder to ts end
+    → AreInOrder from ts end
 order_from from to end [] l o = omega (arith, o)
 order_from from to end (t ∷ ts) l o = (let h = o.0 in omega (arith, h), o.1, o.2)
 
 -- after the first word
 pub order_rest : (text : List ℕ) (w : Word) (ws : List Word) (from end : ℕ)
-    → InOrder from (as_tokens text (w ∷ ws)) end → InOrder 0 (as_tokens text ws) end
+    → AreInOrder from (as_tokens text (w ∷ ws)) end → AreInOrder 0 (as_tokens text ws) end
 order_rest text w ws from end o =
     order_from 0 (w.start + length (token_of text w).word) end (as_tokens text ws) (omega arith) o.2
 
 pub order_drop : (text : List ℕ) (ws : List Word) (n from end : ℕ)
-    → InOrder from (as_tokens text ws) end → InOrder 0 (as_tokens text (drop n ws)) end
+    → AreInOrder from (as_tokens text ws) end → AreInOrder 0 (as_tokens text (drop n ws)) end
 order_drop text ws zero from end o = order_from 0 from end (as_tokens text ws) (omega arith) o
 order_drop text [] (suc n) from end o = omega arith
 order_drop text (w ∷ ws) (suc n) from end o =

@@ -34,23 +34,23 @@ Later n (Some g) = n < g.at
 least_later : (n : ℕ) (fs : List Fault) → AllByRecursion (λ (g : Fault). n < g.at) fs
     → Later n (least fs)
 least_later n [] h = tt
-least_later n (f ∷ fs) h = by (least fs) (least_later n fs h.1)
+least_later n (f ∷ fs) h = by_fault (least fs) (least_later n fs h.1)
   where
     two : (g : Fault) (b : Bool) → n < g.at → Later n (elim b [ true ↦ Some f | false ↦ Some g ])
     two g true l = h.0
     two g false l = l
 
-    by : (o : Option Fault) → Later n o → Later n (lesser f o)
-    by None l = h.0
-    by (Some g) l = two g (is_before f g) l
+    by_fault : (o : Option Fault) → Later n o → Later n (lesser f o)
+    by_fault None l = h.0
+    by_fault (Some g) l = two g (is_before f g) l
 
 first_least : (f : Fault) (fs : List Fault) → AllByRecursion (λ (g : Fault). f.at < g.at) fs
     → least (f ∷ fs) ≡ Some f
-first_least f fs h = by (least fs) (least_later f.at fs h)
+first_least f fs h = by_fault (least fs) (least_later f.at fs h)
   where
-    by : (o : Option Fault) → Later f.at o → lesser f o ≡ Some f
-    by None l = refl
-    by (Some g) l =
+    by_fault : (o : Option Fault) → Later f.at o → lesser f o ≡ Some f
+    by_fault None l = refl
+    by_fault (Some g) l =
         ap (λ b. elim (b || ((f.at == g.at) && nat_le (code_number f.code) (code_number g.code)))
         [ true ↦ Some f | false ↦ Some g ]) (lt-ltb f.at g.at l)
 
@@ -78,16 +78,17 @@ least_first F at front t back f p none is =
     let later : AllByRecursion (λ (u : Token). t.at < u.at) back =
     recursion_from_All (λ (u : Token). t.at < u.at) back
     (pairs_head Earlier t back (pairs_back Earlier front (t ∷ back) p)) in
-    let same : f.at ≡ t.at = (subst (AllByRecursion (λ (g : Fault). g.at ≡ t.at)) is (at t)).0 in
+    let f_at_is_t_at : f.at ≡ t.at = (subst (AllByRecursion (λ (g : Fault). g.at ≡ t.at)) is
+    (at t)).0 in
     let all : flat_map F (front ++ t ∷ back) ≡ f ∷ flat_map F back =
     flat_map-append F front (t ∷ back) ∙ ap₂ (λ a b. a ++ (b ++ flat_map F back)) none is in
     ap least all
     ∙ first_least f (flat_map F back)
-    (subst (λ n. AllByRecursion (λ (g : Fault). n < g.at) (flat_map F back)) (sym same)
+    (subst (λ n. AllByRecursion (λ (g : Fault). n < g.at) (flat_map F back)) (sym f_at_is_t_at)
     (each_later F at t.at back later))
 
 word_at : (db : List Statement) (k : ℕ) → AreAt (word_faults db k)
-word_at db k u = by (bytes_eq u.word (codes "?"))
+word_at db k u = by_question_mark (bytes_eq u.word (codes "?"))
   where
     none : (js : List ℕ)
         → AllByRecursion (λ (g : Fault). g.at ≡ u.at)
@@ -95,14 +96,14 @@ word_at db k u = by (bytes_eq u.word (codes "?"))
     none [] = (refl, tt)
     none (j ∷ js) = tt
 
-    by : (b : Bool)
+    by_question_mark : (b : Bool)
         → AllByRecursion (λ (g : Fault). g.at ≡ u.at)
         (elim b [
           | true ↦ fault u.at IncompleteProof ∷ []
           | false ↦ elim (usable db k u.word) [ [] ↦ fault u.at UnusableLabel ∷ [] | j ∷ js ↦ [] ]
         ])
-    by true = (refl, tt)
-    by false = none (usable db k u.word)
+    by_question_mark true = (refl, tt)
+    by_question_mark false = none (usable db k u.word)
 
 module _ (text : List ℕ) (ws : List Word) (i : ℕ) (w : Word) (h : i < length ws) where
   tokens_split : as_tokens text ws

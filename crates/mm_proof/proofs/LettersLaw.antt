@@ -13,7 +13,9 @@ use Rattle.mm_spec.specs.declared.Fault.{Fault}
 use Rattle.mm_spec.specs.Text.{Bytes, Token, fault}
 use Rattle.mm_spec.specs.Lawful.{when, at}
 use Rattle.mm_spec.specs.Steps as spec
-use Rattle.mm_spec.specs.Steps.{PlacedStep, placed, label, marked}
+use Rattle.mm_spec.specs.Steps.{PlacedStep, placed, label}
+use Rattle.mm_spec.specs.Steps as spec
+use Rattle.mm_spec.specs.Steps.{marked}
 use Rattle.mm_spec.specs.CompressedProof.{Letter, letters_from, letters_of, letter_faults, Group}
 use Rattle.mm_spec.specs.CompressedProof.{is_early, is_last, groups, value, starts_at, step_of}
 use Rattle.mm_spec.specs.CompressedProof.{group_steps, group_faults}
@@ -23,7 +25,7 @@ use Rattle.mm_spec.specs.declared.Word.{Word as Place}
 use Rattle.mm_outline.specs.Parts.{as_tokens, token_of}
 use Rattle.mm_proof.specs.Number.{saturated}
 use Rattle.mm_proof.specs.Letters.{LettersState, letters_state, letter, Begins, Continues}
-use Rattle.mm_proof.specs.Letters.{StandsAt, BeginsAt, if_begun, InOrder, early_value}
+use Rattle.mm_proof.specs.Letters.{StandsAt, BeginsAt, if_begun, AreInOrder, early_value}
 use Rattle.mm_proof.specs.Refused.{StartsWith}
 use Rattle.mm_proof.specs.declared.refused.ProofRefused.{ProofRefused}
 use Rattle.mm_proof.specs.declared.refused.ProofRefused.TheVariants.{Fault as Faulty, Memory}
@@ -62,7 +64,7 @@ letters_end text i end l =
 
 -- what was read stands before the words that are left
 abbrev pub StandsBefore : LettersState → List Token → ℕ → Type 0
-StandsBefore s ts end = (from : ℕ) × StandsAt s from × InOrder from ts end
+StandsBefore s ts end = (from : ℕ) × StandsAt s from × AreInOrder from ts end
 
 -- the same after the first of these words
 pub stands_after : (s new : LettersState) (text : List ℕ) (w : Place) (ws : List Place) (end : ℕ)
@@ -87,7 +89,8 @@ starts : (number : Option BegunNumber) (early : List Letter) (at byte : ℕ) →
 starts None early at byte b = ap (λ es. starts_at (group es at byte)) b
 starts (Some n) early at byte b = ap (λ es. starts_at (group es at byte)) b.2 ∙ sym b.3
 
-saturated_value : (number : Option BegunNumber) (early : List Letter) (at byte : ℕ) → Begins number early
+saturated_value : (number : Option BegunNumber) (early : List Letter) (at byte : ℕ)
+    → Begins number early
     → saturated (20 * (begun_at number at).value + (byte - 64))
     ≡ saturated (value (group early at byte))
 saturated_value None early at byte b =
@@ -99,9 +102,9 @@ named_within : (labels marks : List ℕ) (n : ℕ) (s : spec.Step) → step_of l
     → n ≤ length labels + length marks
 named_within labels marks zero s e = omega arith
 named_within labels marks (suc n) s e =
-    by (slice_get labels n) refl (slice_get marks (n - length labels)) refl e
+    by_entries (slice_get labels n) refl (slice_get marks (n - length labels)) refl e
   where
-    by : (a : Option ℕ) → slice_get labels n ≡ a → (b : Option ℕ)
+    by_entries : (a : Option ℕ) → slice_get labels n ≡ a → (b : Option ℕ)
         → slice_get marks (n - length labels) ≡ b
         → ◌≡◌ {A = List spec.Step}
         (elim a [
@@ -110,43 +113,45 @@ named_within labels marks (suc n) s e =
         ]) (s
         ∷ [])
         → suc n ≤ length labels + length marks
-    by (Some j) p b q e = let h = slice_get_within labels n j p in omega (arith, h)
-    by None p (Some i) q e =
+    by_entries (Some j) p b q e = let h = slice_get_within labels n j p in omega (arith, h)
+    by_entries None p (Some i) q e =
         let h = slice_get_within marks (n - length labels) i q in omega (arith, h)
-    by None p None q e = absurd (cc)
+    by_entries None p None q e = absurd (cc)
 
 no_mark : (byte : ℕ) → is_last byte ≡ true → (byte == 90) ≡ false
-no_mark byte l = by (byte == 90) refl
+no_mark byte l = by_equality (byte == 90) refl
   where
-    by : (b : Bool) → (byte == 90) ≡ b → b ≡ false
-    by true e =
+    by_equality : (b : Bool) → (byte == 90) ≡ b → b ≡ false
+    by_equality true e =
         let low = leb-true byte 84 (and_parts (nat_le 65 byte) (nat_le byte 84) l).1 in
         let same = eqb-true byte 90 e in absurd (omega arith)
-    by false e = refl
+    by_equality false e = refl
 
-pub last_reads : (t : ℕ) (labels marks : List ℕ) (number : Option BegunNumber) (steps : List PlacedStep)
+pub last_reads : (t : ℕ) (labels marks : List ℕ) (number : Option BegunNumber)
+    (steps : List PlacedStep)
     → (place byte : ℕ) (s : spec.Step)
     → is_early byte ≡ false → is_last byte ≡ true
     → ((n : ℕ) → saturated (20 * (begun_at number place).value + (byte - 64)) ≡ saturated n
     → step_of labels marks n ≡ s ∷ [])
-    → (all left : List Letter)
-    → Continues (letters_state t labels marks number steps) all (letter place byte ∷ left)
+    → (all unread : List Letter)
+    → Continues (letters_state t labels marks number steps) all (letter place byte ∷ unread)
     → Continues
-    (letters_state t labels marks None (steps ++ placed (begun_at number place).at s ∷ [])) all left
-last_reads t labels marks number steps place byte s e l named all left h =
+    (letters_state t labels marks None (steps ++ placed (begun_at number place).at s ∷ [])) all
+    unread
+last_reads t labels marks number steps place byte s e byte_is_last named all unread h =
     record {
       early = [];
       begins = refl;
       steps =
           h.steps ∙ ap (λ r. steps ++ group_steps labels marks (length steps) r.0) split
           ∙ ap (λ z. steps ++ z)
-          (ap (stepped gs) l
+          (ap (stepped gs) byte_is_last
           ∙ ap (λ ss. map (placed (starts_at g)) ss
           ++ group_steps labels marks (length steps + 1) gs) is)
           ∙ more;
       faults =
           h.faults ∙ ap (λ r. group_faults (length labels) (length marks) (length steps) r.0) split
-          ∙ ap (λ b. both b (byte == 90)) l ∙ ap (both true) (no_mark byte l)
+          ∙ ap (λ b. both b (byte == 90)) byte_is_last ∙ ap (both true) (no_mark byte byte_is_last)
           ∙ ap (λ b. at (starts_at g) (when b NumberTooLarge)
           ++ group_faults (length labels) (length marks) (length steps + 1) gs) within
           ∙ ap (λ n. group_faults (length labels) (length marks) n gs) (sym longer);
@@ -157,16 +162,16 @@ last_reads t labels marks number steps place byte s e l named all left h =
     g = group h.early place byte
 
     gs : List Group
-    gs = (groups [] left).0
+    gs = (groups [] unread).0
 
     is : step_of labels marks (value g) ≡ s ∷ []
     is = named (value g) (saturated_value number h.early place byte h.begins)
 
-    split : groups h.early (letter place byte ∷ left) ≡ (g ∷ gs, (groups [] left).1)
+    split : groups h.early (letter place byte ∷ unread) ≡ (g ∷ gs, (groups [] unread).1)
     split =
         ap (λ b. elim b [
-          | true ↦ groups (h.early ++ letter place byte ∷ []) left
-          | false ↦ let r = groups [] left in
+          | true ↦ groups (h.early ++ letter place byte ∷ []) unread
+          | false ↦ let r = groups [] unread in
               (record { early = h.early; last = letter place byte } ∷ r.0, r.1)
         ]) e
 
@@ -213,14 +218,16 @@ last_reads t labels marks number steps place byte s e l named all left h =
         ∙ ap (λ n. (steps ++ first ∷ []) ++ group_steps labels marks n gs) (sym longer)
 
 -- an early letter
-pub early_reads : (t : ℕ) (labels marks : List ℕ) (number : Option BegunNumber) (steps : List PlacedStep)
+pub early_reads : (t : ℕ) (labels marks : List ℕ) (number : Option BegunNumber)
+    (steps : List PlacedStep)
     → (place byte : ℕ) (begun : BegunNumber) → is_early byte ≡ true
     → begun.at ≡ (begun_at number place).at
     → begun.value ≡ saturated (5 * (begun_at number place).value + (byte - 84))
-    → (all left : List Letter)
-    → Continues (letters_state t labels marks number steps) all (letter place byte ∷ left)
-    → Continues (letters_state t labels marks (Some begun) steps) all left
-early_reads t labels marks number steps place byte begun e place_is value_is all left h =
+    → (all unread : List Letter)
+    → Continues (letters_state t labels marks number steps) all (letter place byte ∷ unread)
+    → Continues (letters_state t labels marks (Some begun) steps) all unread
+early_reads t labels marks number steps place byte begun byte_is_early place_is value_is all unread
+    h =
     record {
       early = h.early ++ x ∷ [];
       begins = begins number h.early h.begins place_is value_is;
@@ -233,12 +240,12 @@ early_reads t labels marks number steps place byte begun e place_is value_is all
     x : Letter
     x = letter place byte
 
-    split : groups h.early (x ∷ left) ≡ groups (h.early ++ x ∷ []) left
+    split : groups h.early (x ∷ unread) ≡ groups (h.early ++ x ∷ []) unread
     split =
         ap (λ b. elim b [
-          | true ↦ groups (h.early ++ x ∷ []) left
-          | false ↦ let r = groups [] left in (record { early = h.early; last = x } ∷ r.0, r.1)
-        ]) e
+          | true ↦ groups (h.early ++ x ∷ []) unread
+          | false ↦ let r = groups [] unread in (record { early = h.early; last = x } ∷ r.0, r.1)
+        ]) byte_is_early
 
     more : (n : ℕ) (es : List Letter)
         → fold (λ (n : ℕ) (y : Letter). 5 * n + (y.byte - 84)) n (es ++ x ∷ [])
@@ -269,20 +276,20 @@ early_digit byte digit l e =
 abbrev begun : ℕ → ℕ → BegunNumber
 begun at value = record { at = at; value = value }
 
-begun_is : (b : BegunNumber) (place : ℕ) → BeginsAt b place → begun_at (if_begun b) place ≡ b
-begun_is b place h = by (b.value == 0) refl
+begun_at_place : (b : BegunNumber) (place : ℕ) → BeginsAt b place → begun_at (if_begun b) place ≡ b
+begun_at_place b place h = by_zero (b.value == 0) refl
   where
-    by : (t : Bool) → (b.value == 0) ≡ t → begun_at (if t then None else Some b) place ≡ b
-    by true e =
+    by_zero : (t : Bool) → (b.value == 0) ≡ t → begun_at (if t then None else Some b) place ≡ b
+    by_zero true e =
         let none = eqb-true b.value 0 e in ap₂ begun (sym (h none)) (sym none)
-    by false e = refl
+    by_zero false e = refl
 
 pub some_begun : (b : BegunNumber) → 0 < b.value → if_begun b ≡ Some b
-some_begun b l = by (b.value == 0) refl
+some_begun b l = by_zero (b.value == 0) refl
   where
-    by : (t : Bool) → (b.value == 0) ≡ t → (if t then None else Some b) ≡ Some b
-    by true e = let none = eqb-true b.value 0 e in absurd (omega arith)
-    by false e = refl
+    by_zero : (t : Bool) → (b.value == 0) ≡ t → (if t then None else Some b) ≡ Some b
+    by_zero true e = let none = eqb-true b.value 0 e in absurd (omega arith)
+    by_zero false e = refl
 
 pub none_begun : (b : BegunNumber) → b.value ≡ 0 → if_begun b ≡ None
 none_begun b e = ap (λ n. if n == 0 then None else Some b) e
@@ -293,42 +300,44 @@ pub last_here : (t : ℕ) (labels marks : List ℕ) (number : BegunNumber) (step
     → BeginsAt number place → is_early byte ≡ false → is_last byte ≡ true
     → ((n : ℕ) → saturated (20 * number.value + (byte - 64)) ≡ saturated n
     → step_of labels marks n ≡ s ∷ [])
-    → (all left : List Letter)
+    → (all unread : List Letter)
     → Continues (letters_state t labels marks (if_begun number) steps) all
-    (letter place byte ∷ left)
-    → Continues (letters_state t labels marks None (steps ++ placed number.at s ∷ [])) all left
-last_here t labels marks number steps place byte s b e l named all left h =
-    let is = begun_is number place b in
+    (letter place byte ∷ unread)
+    → Continues (letters_state t labels marks None (steps ++ placed number.at s ∷ [])) all unread
+last_here t labels marks number steps place byte s b e byte_is_last named all unread h =
+    let is = begun_at_place number place b in
     subst (λ (b : BegunNumber). Continues (letters_state t labels marks None
-    (steps ++ placed b.at s ∷ [])) all left) is
-    (last_reads t labels marks (if_begun number) steps place byte s e l
+    (steps ++ placed b.at s ∷ [])) all unread) is
+    (last_reads t labels marks (if_begun number) steps place byte s e byte_is_last
     (λ n q. named n (ap (λ (b : BegunNumber). saturated (20 * b.value + (byte - 64))) (sym is) ∙ q))
-    all left h)
+    all unread h)
 
 -- an early letter of this number
 pub early_here : (t : ℕ) (labels marks : List ℕ) (number : BegunNumber) (steps : List PlacedStep)
     → (place byte : ℕ) (next : BegunNumber) → BeginsAt number place → is_early byte ≡ true
     → next.at ≡ number.at → next.value ≡ saturated (5 * number.value + (byte - 84))
-    → (all left : List Letter)
+    → (all unread : List Letter)
     → Continues (letters_state t labels marks (if_begun number) steps) all
-    (letter place byte ∷ left)
-    → Continues (letters_state t labels marks (if_begun next) steps) all left
-early_here t labels marks number steps place byte next b e place_is value_is all left h =
-    let is = begun_is number place b in
-    let d = early_digit byte (byte - 84) e refl in
+    (letter place byte ∷ unread)
+    → Continues (letters_state t labels marks (if_begun next) steps) all unread
+early_here t labels marks number steps place byte next b byte_is_early place_is value_is all unread
+    h =
+    let is = begun_at_place number place b in
+    let d = early_digit byte (byte - 84) byte_is_early refl in
     let some : 0 < next.value = omega (arith, value_is, d.0) in
-    subst (λ o. Continues (letters_state t labels marks o steps) all left)
+    subst (λ o. Continues (letters_state t labels marks o steps) all unread)
     (sym (some_begun next some))
-    (early_reads t labels marks (if_begun number) steps place byte next e
+    (early_reads t labels marks (if_begun number) steps place byte next byte_is_early
     (place_is ∙ ap (λ (b : BegunNumber). b.at) (sym is))
-    (value_is ∙ ap (λ (b : BegunNumber). saturated (5 * b.value + (byte - 84))) (sym is)) all left h)
+    (value_is ∙ ap (λ (b : BegunNumber). saturated (5 * b.value + (byte - 84))) (sym is)) all unread
+    h)
 
 -- a `Z` after the last letter of a number
 pub mark_reads : (t : ℕ) (labels marks : List ℕ) (steps : List PlacedStep) (place : ℕ)
-    → (length steps == 0) ≡ false → (all left : List Letter)
-    → Continues (letters_state t labels marks None steps) all (letter place 90 ∷ left)
-    → Continues (letters_state t labels (marks ++ (length steps - 1) ∷ []) None steps) all left
-mark_reads t labels marks steps place some all left h =
+    → (length steps == 0) ≡ false → (all unread : List Letter)
+    → Continues (letters_state t labels marks None steps) all (letter place 90 ∷ unread)
+    → Continues (letters_state t labels (marks ++ (length steps - 1) ∷ []) None steps) all unread
+mark_reads t labels marks steps place some all unread h =
     record {
       early = [];
       begins = refl;
@@ -342,11 +351,11 @@ mark_reads t labels marks steps place some all left h =
     }
   where
     gs : List Group
-    gs = (groups [] left).0
+    gs = (groups [] unread).0
 
-    split : groups h.early (letter place 90 ∷ left)
-        ≡ (group [] place 90 ∷ gs, (groups [] left).1)
-    split = ap (λ es. groups es (letter place 90 ∷ left)) h.begins
+    split : groups h.early (letter place 90 ∷ unread)
+        ≡ (group [] place 90 ∷ gs, (groups [] unread).1)
+    split = ap (λ es. groups es (letter place 90 ∷ unread)) h.begins
 
     longer : length (marks ++ (length steps - 1) ∷ []) ≡ length marks + 1
     longer = length-append marks ((length steps - 1) ∷ [])
@@ -368,10 +377,10 @@ fault_first n end (x ∷ xs) (Faulty f) h =
     (h.0 ++ last, ap (λ fs. fs ++ last) h.1)
 
 -- after the last letter, where a number is open and where none is
-is_run : (o : Option BegunNumber) (early : List Letter) → Begins o early
+has_early_letters : (o : Option BegunNumber) (early : List Letter) → Begins o early
     → nat_lt 0 (length early) ≡ is_some o
-is_run None early b = ap (λ es. nat_lt 0 (length es)) b
-is_run (Some n) early b =
+has_early_letters None early b = ap (λ es. nat_lt 0 (length es)) b
+has_early_letters (Some n) early b =
     ap (λ es. nat_lt 0 (length es)) b.2 ∙ lt-ltb 0 (suc (length b.1)) (omega arith)
 
 end_faults : (s : LettersState) (end : ℕ) (x : Letter) (xs : List Letter) → Continues s (x ∷ xs) []
@@ -379,7 +388,7 @@ end_faults : (s : LettersState) (end : ℕ) (x : Letter) (xs : List Letter) → 
 end_faults s end x xs h =
     ap (λ fs. fs ++ at end (when (nat_lt 0 (length (groups [] (x ∷ xs)).1)) OpenNumber)) h.faults
     ∙ ap (λ es. at end (when (nat_lt 0 (length es)) OpenNumber)) h.run
-    ∙ ap (λ b. at end (when b OpenNumber)) (is_run s.number h.early h.begins)
+    ∙ ap (λ b. at end (when b OpenNumber)) (has_early_letters s.number h.early h.begins)
 
 pub open_fault : (s : LettersState) (end : ℕ) (all : List Letter) → is_some s.number ≡ true
     → ¬ (all ≡ []) → Continues s all []
@@ -411,15 +420,15 @@ all_steps s all h = sym (h.steps ∙ append-nil s.steps)
 
 -- words in order have letters
 pub some_letters : (from end : ℕ) (text : List ℕ) (ws : List Place)
-    → InOrder from (as_tokens text ws) end → (length ws == 0) ≡ false
+    → AreInOrder from (as_tokens text ws) end → (length ws == 0) ≡ false
     → ¬ (letters_of (as_tokens text ws) ≡ [])
 some_letters from end text [] o l e = absurd (true≢false l)
-some_letters from end text (v ∷ ws) o l e = by (token_of text v).word o.1 e
+some_letters from end text (v ∷ ws) o l e = by_first_word (token_of text v).word o.1 e
   where
-    by : (w : Bytes) → 1 ≤ length w
+    by_first_word : (w : Bytes) → 1 ≤ length w
         → ¬ (letters_from v.start w ++ letters_of (as_tokens text ws) ≡ [])
-    by [] l e = absurd (omega arith)
-    by (b ∷ bs) l e = cc
+    by_first_word [] l e = absurd (omega arith)
+    by_first_word (b ∷ bs) l e = cc
 
 -- a letter without a step
 pub stands_later : (s : LettersState) (at : ℕ) → StandsAt s at → StandsAt s (at + 1)

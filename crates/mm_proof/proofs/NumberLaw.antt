@@ -35,32 +35,35 @@ all_bytes (x ∷ xs) = ap (λ b. is_early x.byte && b) (all_bytes xs)
 
 pub made : (bs : List ℕ) (b n : ℕ) → list_all is_early bs ≡ true → is_last b ≡ true
     → early_bytes bs * 20 + (b - 64) ≡ n → IsNumber (bs ++ b ∷ []) n
-made bs b n e l v =
+made bs b n e b_is_last v =
     let xs = letters_from 0 bs in
     let g : Group = record { early = xs; last = record { at = 0; byte = b } } in
     record {
       group = g;
       spelled = ap (λ z. z ++ b ∷ []) (bytes_from 0 bs);
       early = all_bytes xs ∙ ap (list_all is_early) (bytes_from 0 bs) ∙ e;
-      last = l;
-      is = ap (λ z. z * 20 + (b - 64)) (fold_bytes 0 xs ∙ ap early_bytes (bytes_from 0 bs)) ∙ v;
+      last = b_is_last;
+      value_is = ap (λ z. z * 20 + (b - 64)) (fold_bytes 0 xs ∙ ap early_bytes (bytes_from 0 bs))
+          ∙ v;
     }
 
 pub record IsSpelled (bs : List ℕ) (b n : ℕ) : Type 0 where
   pub early : list_all is_early bs ≡ true
   pub last : is_last b ≡ true
-  pub is : early_bytes bs * 20 + (b - 64) ≡ n
+  pub value_is : early_bytes bs * 20 + (b - 64) ≡ n
 
 pub spelled : (bs : List ℕ) (b n : ℕ) → IsNumber (bs ++ b ∷ []) n → IsSpelled bs b n
-spelled bs b n h =
-    let p = same_from_push (bytes h.group.early) bs h.group.last.byte b h.spelled in
+spelled bs b n is_number =
+    let p = same_from_push (bytes is_number.group.early) bs is_number.group.last.byte b
+    is_number.spelled in
     record {
-      early = ap (list_all is_early) (sym p.0) ∙ sym (all_bytes h.group.early) ∙ h.early;
-      last = ap is_last (sym p.1) ∙ h.last;
-      is =
+      early = ap (list_all is_early) (sym p.0) ∙ sym (all_bytes is_number.group.early)
+          ∙ is_number.early;
+      last = ap is_last (sym p.1) ∙ is_number.last;
+      value_is =
           ap₂ (λ z y. z * 20 + (y - 64))
-          (ap early_bytes (sym p.0) ∙ sym (fold_bytes 0 h.group.early)) (sym p.1)
-          ∙ h.is;
+          (ap early_bytes (sym p.0) ∙ sym (fold_bytes 0 is_number.group.early)) (sym p.1)
+          ∙ is_number.value_is;
     }
 
 pub each_early : (bs : List ℕ) (i d : ℕ) → list_all is_early bs ≡ true → i < length bs
@@ -100,9 +103,10 @@ pub saturated_none : {E : Type 0} (r : Result ℕ E) (bs : List ℕ) (b v w : �
     → v ≡ saturated (early_bytes bs) → w ≡ saturated (20 * v + (b - 64))
     → IfNone (result_ok r) ((n : ℕ) → IsNumber (bs ++ b ∷ []) n → 4294967295 < n)
 saturated_none (Ok x) bs b v w o e f = tt
-saturated_none (Err x) bs b v w o e f = λ n h. by n (spelled bs b n h).is (cases_lt w 4294967296)
+saturated_none (Err x) bs b v w o e f = λ n h. by_size n (spelled bs b n h).value_is
+    (cases_lt w 4294967296)
   where
-    by : (n : ℕ) → early_bytes bs * 20 + (b - 64) ≡ n → (w < 4294967296) ⊎ (4294967296 ≤ w)
+    by_size : (n : ℕ) → early_bytes bs * 20 + (b - 64) ≡ n → (w < 4294967296) ⊎ (4294967296 ≤ w)
         → 4294967295 < n
-    by n is (inl l) = absurd (o l)
-    by n is (inr l) = omega (arith, is, l, e, f)
+    by_size n is (inl l) = absurd (o l)
+    by_size n is (inr l) = omega (arith, is, l, e, f)

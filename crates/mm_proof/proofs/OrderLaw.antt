@@ -21,7 +21,7 @@ use Rattle.mm_spec.specs.CompressedProof.{Compressed, bracketed, with_label, Let
 use Rattle.mm_spec.specs.CompressedProof.{letters_of, Group, is_early, is_last, groups, value}
 use Rattle.mm_spec.specs.CompressedProof.{starts_at, group_fault, group_faults, letter_faults}
 use Rattle.mm_spec.specs.CompressedProof.{compressed_faults}
-use Rattle.mm_proof.specs.Letters.{InOrder}
+use Rattle.mm_proof.specs.Letters.{AreInOrder}
 use Rattle.mm_proof.specs.Refused.{IsProofRefusal, StartsWith}
 use Rattle.mm_proof.specs.declared.refused.ProofRefused.{ProofRefused}
 use Rattle.mm_proof.specs.declared.refused.ProofRefused.TheVariants.{Fault as Faulty, Memory}
@@ -55,40 +55,42 @@ earlier f g l =
 
 join_runs : (from mid to : ℕ) (xs ys : List Fault) → from ≤ mid → mid ≤ to → Run from mid xs
     → Run mid to ys → Run from to (xs ++ ys)
-join_runs from mid to xs ys a b h k = record {
+join_runs from mid to xs ys from_le_mid mid_le_to h k = record {
   low =
       each_append (λ f. from ≤ f.at) xs ys h.low
-      (each_map (λ f. mid ≤ f.at) (λ f. from ≤ f.at) ys (λ f l. omega (arith, a, l)) k.low);
+      (each_map (λ f. mid ≤ f.at) (λ f. from ≤ f.at) ys (λ f l. omega (arith, from_le_mid, l))
+      k.low);
   high =
       each_append (λ f. f.at < to) xs ys
-      (each_map (λ f. f.at < mid) (λ f. f.at < to) xs (λ f l. omega (arith, b, l)) h.high) k.high;
-  sorted = by xs h.high h.sorted;
+      (each_map (λ f. f.at < mid) (λ f. f.at < to) xs (λ f l. omega (arith, mid_le_to, l)) h.high)
+      k.high;
+  sorted = joined_is_sorted xs h.high h.sorted;
 }
   where
-    by : (xs : List Fault) → AllByRecursion (λ (f : Fault). f.at < mid) xs → Sorted xs
+    joined_is_sorted : (xs : List Fault) → AllByRecursion (λ (f : Fault). f.at < mid) xs → Sorted xs
         → Sorted (xs ++ ys)
-    by [] l s = k.sorted
-    by (x ∷ xs) l s = (
+    joined_is_sorted [] l s = k.sorted
+    joined_is_sorted (x ∷ xs) l s = (
       each_append (λ g. is_before x g ≡ true) xs ys s.0
           (each_map (λ f. mid ≤ f.at) (λ g. is_before x g ≡ true) ys
           (λ g m. earlier x g (let n = l.0 in omega (arith, n, m))) k.low),
-      by xs l.1 s.1,
+      joined_is_sorted xs l.1 s.1,
     )
 
-no_run : (from to : ℕ) → Run from to []
-no_run from to = record { low = tt; high = tt; sorted = tt }
+run_of_none : (from to : ℕ) → Run from to []
+run_of_none from to = record { low = tt; high = tt; sorted = tt }
 
-one_run : (from to place : ℕ) (c : Code) → from ≤ place → place < to
+run_of_one : (from to place : ℕ) (c : Code) → from ≤ place → place < to
     → Run from to (fault place c ∷ [])
-one_run from to place c l h = record { low = (l, tt); high = (h, tt); sorted = (tt, tt) }
+run_of_one from to place c l h = record { low = (l, tt); high = (h, tt); sorted = (tt, tt) }
 
-when_run : (from to place : ℕ) (b : Bool) (c : Code) → from ≤ place → place < to
+run_if : (from to place : ℕ) (b : Bool) (c : Code) → from ≤ place → place < to
     → Run from to (at place (when b c))
-when_run from to place true c l h = one_run from to place c l h
-when_run from to place false c l h = no_run from to
+run_if from to place true c l h = run_of_one from to place c l h
+run_if from to place false c l h = run_of_none from to
 
-from_run : (from low to : ℕ) (fs : List Fault) → from ≤ low → Run low to fs → Run from to fs
-from_run from low to fs l h =
+run_from_lower : (from low to : ℕ) (fs : List Fault) → from ≤ low → Run low to fs → Run from to fs
+run_from_lower from low to fs l h =
     record {
       low = each_map (λ f. low ≤ f.at) (λ f. from ≤ f.at) fs (λ f m. omega (arith, l, m)) h.low;
       high = h.high;
@@ -97,7 +99,7 @@ from_run from low to fs l h =
 
 -- the first of faults in order is the least
 least_sorted : (f : Fault) (fs : List Fault) → Sorted (f ∷ fs) → least (f ∷ fs) ≡ Some f
-least_sorted f fs s = by (least fs) (kept fs s.0)
+least_sorted f fs s = by_fault (least fs) (before_least fs s.0)
   where
     Before : Option Fault → Type 0
     Before None = Unit {0}
@@ -108,18 +110,18 @@ least_sorted f fs s = by (least fs) (kept fs s.0)
     two g h true p q = p
     two g h false p q = q
 
-    kept : (fs : List Fault) → AllByRecursion (λ (g : Fault). is_before f g ≡ true) fs
+    before_least : (fs : List Fault) → AllByRecursion (λ (g : Fault). is_before f g ≡ true) fs
         → Before (least fs)
-    kept [] a = tt
-    kept (g ∷ gs) a = more (least gs) (kept gs a.1)
+    before_least [] a = tt
+    before_least (g ∷ gs) a = more (least gs) (before_least gs a.1)
       where
         more : (o : Option Fault) → Before o → Before (lesser g o)
         more None p = a.0
         more (Some h) p = two g h (is_before g h) a.0 p
 
-    by : (o : Option Fault) → Before o → lesser f o ≡ Some f
-    by None p = refl
-    by (Some g) p = ap (λ b. elim b [ true ↦ Some f | false ↦ Some g ]) p
+    by_fault : (o : Option Fault) → Before o → lesser f o ≡ Some f
+    by_fault None p = refl
+    by_fault (Some g) p = ap (λ b. elim b [ true ↦ Some f | false ↦ Some g ]) p
 
 -- ---- letters
 
@@ -145,7 +147,7 @@ rise_word place end (b ∷ bs) rest r = (
       (rise_from (place + 1 + length bs) (place + suc (length bs)) end rest (omega arith) r),
 )
 
-letters_rise : (from end : ℕ) (ts : List Token) → InOrder from ts end
+letters_rise : (from end : ℕ) (ts : List Token) → AreInOrder from ts end
     → Rise from (letters_of ts) end
 letters_rise from end [] o = o
 letters_rise from end (t ∷ ts) o =
@@ -154,8 +156,8 @@ letters_rise from end (t ∷ ts) o =
 
 mark_run : (from place : ℕ) (a b : Bool) → from ≤ place
     → Run from (place + 1) (at place (when a OpenNumber ++ when b MarkBeforeStep))
-mark_run from place true true l = record {
-  low = (l, (l, tt));
+mark_run from place true true from_le_place = record {
+  low = (from_le_place, (from_le_place, tt));
   high = (omega arith, (omega arith, tt));
   sorted = (
     (
@@ -166,8 +168,8 @@ mark_run from place true true l = record {
     (tt, tt),
   );
 }
-mark_run from place true false l = one_run from (place + 1) place OpenNumber l (omega arith)
-mark_run from place false b l = when_run from (place + 1) place b MarkBeforeStep l (omega arith)
+mark_run from place true false l = run_of_one from (place + 1) place OpenNumber l (omega arith)
+mark_run from place false b l = run_if from (place + 1) place b MarkBeforeStep l (omega arith)
 
 module _ (labels end : ℕ) where
   group_run : (from now place byte : ℕ) (early : List Letter) (marks count : ℕ)
@@ -175,27 +177,29 @@ module _ (labels end : ℕ) where
       → Run from (place + 1)
       (group_fault labels marks count
       (record { early = early; last = record { at = place; byte = byte } }))
-  group_run from now place byte early marks count o l = by (is_last byte) (byte == 90) (byte == 63)
+  group_run from now place byte early marks count o now_le_place = by_letter_kind (is_last byte)
+      (byte == 90)
+      (byte == 63)
     where
       g : Group
       g = record { early = early; last = record { at = place; byte = byte } }
 
       low : (early : List Letter) → IsOpenAt from early now
           → from ≤ starts_at (record { early = early; last = record { at = place; byte = byte } })
-      low [] o = omega (arith, o, l)
+      low [] o = omega (arith, o, now_le_place)
       low (x ∷ xs) o = o.0
 
       high : (early : List Letter) → IsOpenAt from early now
           → starts_at (record { early = early; last = record { at = place; byte = byte } })
           < place + 1
       high [] o = omega arith
-      high (x ∷ xs) o = let h = o.1 in omega (arith, h, l)
+      high (x ∷ xs) o = let h = o.1 in omega (arith, h, now_le_place)
 
       within : (early : List Letter) → IsOpenAt from early now → from ≤ place
-      within [] o = omega (arith, o, l)
-      within (x ∷ xs) o = let h = o.0 in let k = o.1 in omega (arith, h, k, l)
+      within [] o = omega (arith, o, now_le_place)
+      within (x ∷ xs) o = let h = o.0 in let k = o.1 in omega (arith, h, k, now_le_place)
 
-      by : (a b c : Bool) → Run from (place + 1) (elim a [
+      by_letter_kind : (a b c : Bool) → Run from (place + 1) (elim a [
         | true ↦ at (starts_at g) (when (nat_lt (labels + marks) (value g)) NumberTooLarge)
         | false ↦ elim b [
           | true ↦ at place
@@ -203,13 +207,16 @@ module _ (labels end : ℕ) where
           | false ↦ at place (elim c [ true ↦ IncompleteProof ∷ [] | false ↦ BadLetter ∷ [] ])
         ]
       ])
-      by true b c =
-          when_run from (place + 1) (starts_at g) (nat_lt (labels + marks) (value g)) NumberTooLarge
+      by_letter_kind true b c =
+          run_if from (place + 1) (starts_at g) (nat_lt (labels + marks) (value g)) NumberTooLarge
           (low early o) (high early o)
-      by false true c = mark_run from place (nat_lt 0 (length early)) (count == 0) (within early o)
-      by false false true =
-          one_run from (place + 1) place IncompleteProof (within early o) (omega arith)
-      by false false false = one_run from (place + 1) place BadLetter (within early o) (omega arith)
+      by_letter_kind false true c = mark_run from place (nat_lt 0 (length early)) (count == 0)
+          (within early o)
+      by_letter_kind false false true =
+          run_of_one from (place + 1) place IncompleteProof (within early o) (omega arith)
+      by_letter_kind false false false = run_of_one from (place + 1) place BadLetter
+          (within early o)
+          (omega arith)
 
   -- the faults of the letters from an open run on
   abbrev left_faults : List Letter → ℕ → ℕ → List Letter → List Fault
@@ -228,11 +235,12 @@ module _ (labels end : ℕ) where
 
   left_run : (xs early : List Letter) (from now marks count : ℕ) → IsOpenAt from early now
       → Rise now xs end → Run from (end + 1) (left_faults early marks count xs)
-  left_run [] early from now marks count o r =
-      when_run from (end + 1) end (nat_lt 0 (length early)) OpenNumber (end_low from now early o r)
+  left_run [] early from now marks count is_open_at r =
+      run_if from (end + 1) end (nat_lt 0 (length early)) OpenNumber
+      (end_low from now early is_open_at r)
       (omega arith)
   left_run (x ∷ xs) early from now marks count o r =
-      by (is_early x.byte)
+      by_mark (is_early x.byte)
       (left_run xs (early ++ x ∷ []) from (x.at + 1) marks count (opens early o) r.1)
       (ends (x.byte == 90)
       (left_run xs [] (x.at + 1) (x.at + 1) (marks + 1) count (omega arith) r.1)
@@ -300,28 +308,28 @@ module _ (labels end : ℕ) where
           let r = grouped a in
           group_faults labels marks count r.0 ++ at end (when (nat_lt 0 (length r.1)) OpenNumber)
 
-      by : (a : Bool) → Run from (end + 1) (left_faults (early ++ x ∷ []) marks count xs)
+      by_mark : (a : Bool) → Run from (end + 1) (left_faults (early ++ x ∷ []) marks count xs)
           → Run from (end + 1) (ended (x.byte == 90)) → Run from (end + 1) (all a)
-      by true h k = h
-      by false h k = k
+      by_mark true h k = h
+      by_mark false h k = k
 
   letters_run : (from : ℕ) (xs : List Letter) → Rise from xs end
       → Run from (end + 1) (letter_faults labels end xs)
-  letters_run from [] r = one_run from (end + 1) end EmptyProof r (omega arith)
+  letters_run from [] r = run_of_one from (end + 1) end EmptyProof r (omega arith)
   letters_run from (x ∷ xs) r = left_run (x ∷ xs) [] from from 0 0 (omega arith) r
 
 -- ---- brackets
 
 label_run : (db : List Statement) (k : ℕ) (t : Token)
     → Run t.at (t.at + 1) (proof_label_faults db k t)
-label_run db k t = by (usable db k t.word)
+label_run db k t = by_usability (usable db k t.word)
   where
-    by : (js : List ℕ)
+    by_usability : (js : List ℕ)
         → Run t.at (t.at + 1) (elim js [ [] ↦ fault t.at UnusableLabel ∷ [] | j ∷ js ↦ [] ])
-    by [] = one_run t.at (t.at + 1) t.at UnusableLabel (omega arith) (omega arith)
-    by (j ∷ js) = no_run t.at (t.at + 1)
+    by_usability [] = run_of_one t.at (t.at + 1) t.at UnusableLabel (omega arith) (omega arith)
+    by_usability (j ∷ js) = run_of_none t.at (t.at + 1)
 
-order_low : (from end : ℕ) (ts : List Token) → InOrder from ts end → from ≤ end
+order_low : (from end : ℕ) (ts : List Token) → AreInOrder from ts end → from ≤ end
 order_low from end [] o = o
 order_low from end (t ∷ ts) o =
     let h = o.0 in let k = order_low (t.at + length t.word) end ts o.2 in omega (arith, h, k)
@@ -333,39 +341,41 @@ module _ (db : List Statement) (k end : ℕ) where
       ++ elim p.letters
       [ None ↦ fault end OpenBrackets ∷ [] | Some us ↦ letter_faults n end (letters_of us) ]
 
-  brackets_run : (n from : ℕ) (ts : List Token) → InOrder from ts end
+  brackets_run : (n from : ℕ) (ts : List Token) → AreInOrder from ts end
       → Run from (end + 1) (faults_of n (bracketed ts))
-  brackets_run n from [] o = one_run from (end + 1) end OpenBrackets o (omega arith)
+  brackets_run n from [] o = run_of_one from (end + 1) end OpenBrackets o (omega arith)
   brackets_run n from (t ∷ ts) o =
-      by (bytes_eq t.word (codes ")")) (brackets_run n (t.at + length t.word) ts o.2)
+      by_closing_bracket (bytes_eq t.word (codes ")"))
+      (brackets_run n (t.at + length t.word) ts o.2)
     where
       before : t.at + length t.word ≤ end
       before = order_low (t.at + length t.word) end ts o.2
 
-      by : (b : Bool) → Run (t.at + length t.word) (end + 1) (faults_of n (bracketed ts))
+      by_closing_bracket : (b : Bool) → Run (t.at + length t.word) (end + 1) (faults_of n
+          (bracketed ts))
           → Run from (end + 1)
           (faults_of n
           (elim b [
             | true ↦ record { labels = []; letters = Some ts }
             | false ↦ with_label t (bracketed ts)
           ]))
-      by true h =
+      by_closing_bracket true h =
           let low = o.0 in
           letters_run n end from (letters_of ts)
           (rise_from from (t.at + length t.word) end (letters_of ts) (omega (arith, low))
           (letters_rise (t.at + length t.word) end ts o.2))
-      by false h =
+      by_closing_bracket false h =
           let low = o.0 in
           let long = o.1 in
           subst (Run from (end + 1))
           (sym (append_assoc (proof_label_faults db k t)
           (flat_map (proof_label_faults db k) (bracketed ts).labels) _))
           (join_runs from (t.at + 1) (end + 1) _ _ (omega (arith, low)) (omega (arith, before))
-          (from_run from t.at (t.at + 1) _ low (label_run db k t))
-          (from_run (t.at + 1) (t.at + length t.word) (end + 1) _ (omega (arith, long)) h))
+          (run_from_lower from t.at (t.at + 1) _ low (label_run db k t))
+          (run_from_lower (t.at + 1) (t.at + length t.word) (end + 1) _ (omega (arith, long)) h))
 
   -- the first fault that is found is the first
-  pub first_fault : (from : ℕ) (ts : List Token) (e : ProofRefused) → InOrder from ts end
+  pub first_fault : (from : ℕ) (ts : List Token) (e : ProofRefused) → AreInOrder from ts end
       → StartsWith (compressed_faults db k end (bracketed ts)) e
       → IsProofRefusal (compressed_faults db k end (bracketed ts)) e
   first_fault from ts Memory o s = tt

@@ -29,23 +29,23 @@ pub record IsProvable (db : List Statement) (k : ℕ) (ps : List Token) : Type 0
 
 pub theorem_is : (db : List Statement) (k : ℕ) (ps : List Token) → is_theorem_at db k ≡ true
     → option_map proof_of (slice_get db k) ≡ Some ps → IsProvable db k ps
-theorem_is db k ps h q = by (slice_get db k) refl h q
+theorem_is db k ps h q = by_statement (slice_get db k) refl h q
   where
-    by : (o : Option Statement) → slice_get db k ≡ o
+    by_statement : (o : Option Statement) → slice_get db k ≡ o
         → list_any is_theorem (elim o [ None ↦ [] | Some s ↦ s ∷ [] ]) ≡ true
         → option_map proof_of o ≡ Some ps → IsProvable db k ps
-    by None e h q = absurd (true≢false (sym h))
-    by (Some (provable l p xs a qs d)) e h q =
-        let same : qs ≡ ps = cc in
+    by_statement None e h q = absurd (true≢false (sym h))
+    by_statement (Some (provable l p xs a qs d)) e h q =
+        let qs_is_ps : qs ≡ ps = cc in
         record {
           label = l;
           keyword = p;
           symbols = xs;
           equals = a;
           dot = d;
-          is = e ∙ ap (λ z. Some (provable l p xs a z d)) same;
+          is = e ∙ ap (λ z. Some (provable l p xs a z d)) qs_is_ps;
         }
-    by (Some s) e h q = absurd (true≢false (sym h))
+    by_statement (Some s) e h q = absurd (true≢false (sym h))
 
 pub theorem_within : (db : List Statement) (k : ℕ) (ps : List Token) → IsProvable db k ps
     → k < length db

@@ -12,14 +12,16 @@ use Rattle.mm_spec.specs.declared.Word.{Word}
 use Rattle.mm_spec.specs.Laws.Words.{IsWord}
 use Rattle.mm_spec.specs.Readings.{bytes_of}
 use Rattle.mm_spec.specs.Lexed as lexed
-use Rattle.mm_spec.specs.Statement.{Statement, provable, spelling_of}
+use Rattle.mm_spec.specs.Statement.{Statement, provable}
+use Rattle.mm_spec.specs.Lexed as lexed
+use Rattle.mm_spec.specs.Statement.{spelling_of}
 use Rattle.mm_spec.specs.Opened.{counted}
 use Rattle.mm_spec.specs.Lexed.{lexed_of}
 use Rattle.mm_spec.specs.Output.{IsRead}
 use Rattle.mm_spec.proofs.OpenedLaw.{theorem_read}
 use Rattle.mm_spec.proofs.ListLaw.{pairs_head, pairs_tail}
 use Rattle.mm_outline.proofs.TokensLaw.{tokens_rising, tokens_are_words}
-use Rattle.mm_proof.specs.Letters.{InOrder}
+use Rattle.mm_proof.specs.Letters.{AreInOrder}
 use Rattle.mm_proof.proofs.LeastLaw.{Earlier, pairs_back}
 
 -- the words rise, and have bytes
@@ -81,11 +83,11 @@ spelled_in : (db : List Statement) (k : ℕ) (s : Statement) → slice_get db k 
 spelled_in [] zero s e = absurd (cc)
 spelled_in [] (suc k) s e = absurd (cc)
 spelled_in (x ∷ db) zero s e =
-    let same : x ≡ s = cc in
+    let x_is_s : x ≡ s = cc in
     record {
       before = [];
       after = flat_map spelling_of db;
-      is = ap (λ z. spelling_of z ++ flat_map spelling_of db) same;
+      is = ap (λ z. spelling_of z ++ flat_map spelling_of db) x_is_s;
     }
 spelled_in (x ∷ db) (suc k) s e =
     let r = spelled_in db k s e in
@@ -109,21 +111,21 @@ proof_follows : (text : List ℕ) (db : List Statement) (fault : Option Fault)
     → (k : ℕ) (l : Token) (p : ℕ) (xs : List Token) (e : ℕ) (ps : List Token) (d : ℕ)
     → slice_get db k ≡ Some (provable l p xs e ps d)
     → AllPairs Follows (ps ++ token d (codes "$.") ∷ [])
-proof_follows text db fault r k l p xs e ps d is =
+proof_follows text db fault is_read k l p xs e ps d is =
     let s = provable l p xs e ps d in
     let a =
-    spelled_in r.statements k s
-    (subst (λ z. slice_get z k ≡ Some s) (sym r.splits) (get_front db r.rest k s is)) in
+    spelled_in is_read.statements k s
+    (subst (λ z. slice_get z k ≡ Some s) (sym is_read.splits) (get_front db is_read.rest k s is)) in
     let ts = map (λ w. token w.start (bytes_of text w)) (lexed.tokens_of text) in
-    let whole : ts ≡ a.before ++ (spelling_of s ++ (a.after ++ r.are_statements.rest)) =
-    r.are_statements.splits ∙ ap (λ z. z ++ r.are_statements.rest) a.is
-    ∙ append_assoc a.before (spelling_of s ++ a.after) r.are_statements.rest
-    ∙ ap (λ z. a.before ++ z) (append_assoc (spelling_of s) a.after r.are_statements.rest) in
+    let whole : ts ≡ a.before ++ (spelling_of s ++ (a.after ++ is_read.are_statements.rest)) =
+    is_read.are_statements.splits ∙ ap (λ z. z ++ is_read.are_statements.rest) a.is
+    ∙ append_assoc a.before (spelling_of s ++ a.after) is_read.are_statements.rest
+    ∙ ap (λ z. a.before ++ z) (append_assoc (spelling_of s) a.after is_read.are_statements.rest) in
     let all : AllPairs Follows ts =
     begins_after text (lexed.tokens_of text) (tokens_are_words text) (tokens_rising text) in
     pairs_in (ps ++ token d (codes "$.") ∷ []) (spelling_of s) inner
     (pairs_in (spelling_of s) ts
-    (record { before = a.before; after = a.after ++ r.are_statements.rest; is = whole }) all)
+    (record { before = a.before; after = a.after ++ is_read.are_statements.rest; is = whole }) all)
   where
     inner : StandsIn (ps ++ token d (codes "$.") ∷ []) (spelling_of (provable l p xs e ps d))
     inner = record {
@@ -138,11 +140,12 @@ proof_follows text db fault r k l p xs e ps d is =
     }
 
 -- what counts as a theorem was read as it is
-was_read : (db : List Statement) (w : Bool) (counts : List Statement) → counts ≡ counted w db
+statement_as_read : (db : List Statement) (w : Bool) (counts : List Statement) → counts
+    ≡ counted w db
     → (k : ℕ) (l : Token) (p : ℕ) (xs : List Token) (e : ℕ) (ps : List Token) (d : ℕ)
     → slice_get counts k ≡ Some (provable l p xs e ps d)
     → slice_get db k ≡ Some (provable l p xs e ps d)
-was_read db w counts are k l p xs e ps d is =
+statement_as_read db w counts are k l p xs e ps d is =
     theorem_read w db k l p xs e ps d
     (subst (λ c. slice_get c k ≡ Some (provable l p xs e ps d)) are is)
 
@@ -151,15 +154,15 @@ pub proof_rising : (text : List ℕ) (db : List Statement) (w : Bool) (fault : O
     → counts ≡ counted w db
     → (k : ℕ) (l : Token) (p : ℕ) (xs : List Token) (e : ℕ) (ps : List Token) (d : ℕ)
     → slice_get counts k ≡ Some (provable l p xs e ps d) → AllPairs Earlier ps
-proof_rising text db w fault r counts are k l p xs e ps d is =
+proof_rising text db w fault is_read counts are k l p xs e ps d is =
     λ i j x less here. let f =
     pairs_front Follows ps (token d (codes "$.") ∷ [])
-    (proof_follows text db fault r k l p xs e ps d
-    (was_read db w counts are k l p xs e ps d is)) i j x less here in
+    (proof_follows text db fault is_read k l p xs e ps d
+    (statement_as_read db w counts are k l p xs e ps d is)) i j x less here in
     let a = f.0 in let b = f.1 in omega (arith, a, b)
 
 in_order : (from : ℕ) (ts : List Token) (d : Token) → AllPairs Follows (ts ++ d ∷ [])
-    → All (λ t. from ≤ t.at) (ts ++ d ∷ []) → InOrder from ts d.at
+    → All (λ t. from ≤ t.at) (ts ++ d ∷ []) → AreInOrder from ts d.at
 in_order from [] d p a = All-head (λ (t : Token). from ≤ t.at) d [] a
 in_order from (t ∷ ts) d p a =
     let after = pairs_head Follows t (ts ++ d ∷ []) p in (
@@ -179,8 +182,9 @@ pub proof_in_order : (text : List ℕ) (db : List Statement) (w : Bool) (fault :
     → IsRead (length text) (lexed_of text) db fault → (counts : List Statement)
     → counts ≡ counted w db
     → (k : ℕ) (l : Token) (p : ℕ) (xs : List Token) (e : ℕ) (ps : List Token) (d : ℕ)
-    → slice_get counts k ≡ Some (provable l p xs e ps d) → InOrder 0 ps d
+    → slice_get counts k ≡ Some (provable l p xs e ps d) → AreInOrder 0 ps d
 proof_in_order text db w fault r counts are k l p xs e ps d is =
     in_order 0 ps (token d (codes "$."))
-    (proof_follows text db fault r k l p xs e ps d (was_read db w counts are k l p xs e ps d is))
+    (proof_follows text db fault r k l p xs e ps d
+    (statement_as_read db w counts are k l p xs e ps d is))
     (λ i x here. omega arith)

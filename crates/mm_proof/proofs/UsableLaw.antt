@@ -27,28 +27,29 @@ module _ (db : List Statement) (k : ℕ) (w : Bytes) where
 
   pub inactive_usable : (j : ℕ) → ((i : ℕ) → labelled i ≡ true → i ≡ j) → is_active db j k ≡ false
       → usable db k w ≡ []
-  inactive_usable j only a = none_passes (λ i. by i (labelled i) refl)
+  inactive_usable j only a = none_passes (λ i. by_label i (labelled i) refl)
     where
-      by : (i : ℕ) (b : Bool) → labelled i ≡ b → passes i ≡ false
-      by i true e =
+      by_label : (i : ℕ) (b : Bool) → labelled i ≡ b → passes i ≡ false
+      by_label i true e =
           ap (λ x. is_active db x k && labelled i) (only i e) ∙ ap (λ b. b && labelled i) a
-      by i false e = ap (λ b. is_active db i k && b) e ∙ and-false (is_active db i k)
+      by_label i false e = ap (λ b. is_active db i k && b) e ∙ and-false (is_active db i k)
 
   pub active_usable : (j : ℕ) → ((i : ℕ) → labelled i ≡ true → i ≡ j) → labelled j ≡ true
       → is_active db j k ≡ true → usable db k w ≡ j ∷ []
-  active_usable j only l a =
-      filter_is passes k 0 (j ∷ []) ((omega arith), tt) before (λ i low up. by i (nat_eq i j) refl)
+  active_usable j only l active_at_k =
+      filter_is passes k 0 (j ∷ []) ((omega arith), tt) before
+      (λ i low up. by_equality i (nat_eq i j) refl)
     where
       before : (i : ℕ) → (nat_eq i j || false) ≡ true → i < 0 + k
       before i e =
-          let same : i
-          ≡ j = eqb-true i j (passes_alone (nat_eq i j) e) in let h = is_before db j k a in
-          omega (arith, same, h)
+          let i_is_j : i ≡ j = eqb-true i j (passes_alone (nat_eq i j) e) in let h = is_before db j k
+          active_at_k in
+          omega (arith, i_is_j, h)
 
       other : (i : ℕ) → nat_eq i j ≡ false → (c : Bool) → labelled i ≡ c → passes i ≡ false
       other i e true l = absurd (true≢false (sym (eq-eqb i j (only i l)) ∙ e))
       other i e false l = ap (λ b. is_active db i k && b) l ∙ and-false (is_active db i k)
 
-      by : (i : ℕ) (b : Bool) → nat_eq i j ≡ b → passes i ≡ (b || false)
-      by i true e = ap passes (eqb-true i j e) ∙ ap₂ (λ x y. x && y) a l
-      by i false e = other i e (labelled i) refl
+      by_equality : (i : ℕ) (b : Bool) → nat_eq i j ≡ b → passes i ≡ (b || false)
+      by_equality i true e = ap passes (eqb-true i j e) ∙ ap₂ (λ x y. x && y) active_at_k l
+      by_equality i false e = other i e (labelled i) refl

@@ -54,16 +54,16 @@ Begins (Some b) early =
     (first : Letter) × (more : List Letter) × (early ≡ first ∷ more) × (b.at ≡ first.at)
     × (b.value ≡ saturated (early_value early))
 
--- Of the letters `all`, the letters `left` are left to be read. The steps of `all` are the steps so
--- far and those of `left`, and the faults of `all` are those of `left`.
-pub record Continues (s : LettersState) (all left : List Letter) : Type 0 where
+-- Of the letters `all`, the letters `unread` are left to be read. The steps of `all` are the steps
+-- so far and those of `unread`, and the faults of `all` are those of `unread`.
+pub record Continues (s : LettersState) (all unread : List Letter) : Type 0 where
   pub early : List Letter
   pub begins : Begins s.number early
   pub steps : group_steps s.labels [] 0 (groups [] all).0
-      ≡ s.steps ++ group_steps s.labels s.marks (length s.steps) (groups early left).0
+      ≡ s.steps ++ group_steps s.labels s.marks (length s.steps) (groups early unread).0
   pub faults : group_faults (length s.labels) 0 0 (groups [] all).0
-      ≡ group_faults (length s.labels) (length s.marks) (length s.steps) (groups early left).0
-  pub run : (groups [] all).1 ≡ (groups early left).1
+      ≡ group_faults (length s.labels) (length s.marks) (length s.steps) (groups early unread).0
+  pub run : (groups [] all).1 ≡ (groups early unread).1
 
 -- each mark is of a step so far, and there are no more steps than bytes before the place
 pub record StandsAt (s : LettersState) (at : ℕ) : Type 0 where
@@ -87,8 +87,8 @@ if_begun number = if number.value == 0 then None else Some number
 pub record ReadsLetters (old : LettersState) (xs : List Letter) (new : LettersState) : Type 0 where
   pub theorem : new.theorem ≡ old.theorem
   pub labels : new.labels ≡ old.labels
-  pub continues : (all left : List Letter) → Continues old all (xs ++ left)
-      → Continues new all left
+  pub continues : (all unread : List Letter) → Continues old all (xs ++ unread)
+      → Continues new all unread
 
 -- These are all letters of a proof that ends at a place: the steps are those that they name, and
 -- they have no fault.
@@ -101,20 +101,20 @@ pub record ReadsAllLetters (old : LettersState) (xs : List Letter) (end : ℕ) (
 -- these letters have a fault, which is the first fault of all letters
 abbrev pub RefusesLetters : LettersState → List Letter → ProofRefused → Type 0
 RefusesLetters old xs e =
-    (all left : List Letter) → Continues old all (xs ++ left)
+    (all unread : List Letter) → Continues old all (xs ++ unread)
     → StartsWith (group_faults (length old.labels) 0 0 (groups [] all).0) e
 
 -- the step that a number names, if it names one
-abbrev pub named_steps : Option Step → List spec.Step
-named_steps None = []
-named_steps (Some s) = as_step s ∷ []
+abbrev pub step_as_list : Option Step → List spec.Step
+step_as_list None = []
+step_as_list (Some s) = as_step s ∷ []
 
 -- from place `from` on, each token is a word that isn't empty and doesn't begin before the end of
 -- the one before it, and none goes past `end`
-abbrev pub InOrder : ℕ → List Token → ℕ → Type 0
-InOrder from [] end = from ≤ end
-InOrder from (t ∷ ts) end =
-    (from ≤ t.at) × (1 ≤ length t.word) × InOrder (t.at + length t.word) ts end
+abbrev pub AreInOrder : ℕ → List Token → ℕ → Type 0
+AreInOrder from [] end = from ≤ end
+AreInOrder from (t ∷ ts) end =
+    (from ≤ t.at) × (1 ≤ length t.word) × AreInOrder (t.at + length t.word) ts end
 
 -- brackets that are closed, and the letters after them
 abbrev pub closed_brackets : List Token → List Token → Compressed

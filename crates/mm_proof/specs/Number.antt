@@ -12,7 +12,7 @@ pub record IsNumber (word : List ℕ) (n : ℕ) : Type 0 where
   pub spelled : map (λ x. x.byte) group.early ++ group.last.byte ∷ [] ≡ word
   pub early : IsTrue (list_all (λ x. is_early x.byte) group.early)
   pub last : IsTrue (is_last group.last.byte)
-  pub is : value group ≡ n
+  pub value_is : value group ≡ n
 
 -- what a byte is, and its digit
 abbrev pub IsLetter : ℕ → LetterKind → Type 0

@@ -5,13 +5,13 @@ ghost use Rattle.mm_spec.specs.CompressedProof.{bracketed, compressed_faults, co
 ghost use Rattle.mm_spec.specs.Output.{is_theorem_at};
 ghost use Rattle.mm_outline.specs.Parts.{as_tokens, AreWithin};
 ghost use Rattle.mm_steps.specs.Read.{read};
-ghost use Rattle.mm_proof.specs.Letters.{InOrder, ReadsLabels};
+ghost use Rattle.mm_proof.specs.Letters.{AreInOrder, ReadsLabels};
 ghost use Rattle.mm_proof.specs.Refused.{StartsWith};
 
 use crate::labels::usable_label;
 use crate::letters::LettersRead;
 use crate::refused::{ProofRefused, refused};
-use crate::room::with_room;
+use mm_database::room::with_room;
 use mm_database::{Code, Database, Word};
 use mm_steps::Steps;
 use std::alloc::Allocator;
@@ -51,10 +51,11 @@ fn read_labels<A: Allocator>(
 }
 
 /// The minimum number of labels for which room is reserved at first.
-const FEWEST_LABELS: usize = 64;
+const MIN_LABELS_ROOM: usize = 64;
 
-/// An upper bound of the number of letters that the words have, if they end at place `end`.
-fn letters_room(words: &[Word], end: u32) -> usize {
+/// Returns an upper bound of the number of letters of the words: they end at place `end`, and a
+/// place is a byte offset.
+fn max_letters(words: &[Word], end: u32) -> usize {
     match words.first() {
         Some(first) => end.saturating_sub(first.start) as usize,
         None => 0,
@@ -71,7 +72,7 @@ pub(crate) fn read_compressed<A: Allocator + Copy>(
 ) -> Result<Steps<A>, ProofRefused>
     requires theorem { IsTrue (is_theorem_at database.now.statements theorem) }
     requires within { AreWithin database.now.text words.now }
-    requires in_order { InOrder 0 (as_tokens database.now.text words.now) end }
+    requires in_order { AreInOrder 0 (as_tokens database.now.text words.now) end }
     ensures steps { IfOk result
         (λ s. s ≡ read theorem
         (compressed_steps database.now.statements theorem
@@ -85,11 +86,11 @@ pub(crate) fn read_compressed<A: Allocator + Copy>(
         (compressed_faults database.now.statements theorem end
         (bracketed (as_tokens database.now.text words.now))) e) }
 {
-    let mut labels = with_room(alloc, words.len().max(FEWEST_LABELS));
+    let mut labels = with_room(alloc, words.len().max(MIN_LABELS_ROOM));
     labels.extend_from_slice(database.frame(theorem).hyps.as_slice())?;
-    let count = read_labels(database, theorem, words, end, &mut labels)?;
-    let rest = &words[count + 1..];
-    let mut letters = LettersRead::none(alloc, theorem, labels, letters_room(rest, end));
-    letters.read_all(database.text(), rest, end)?;
+    let label_count = read_labels(database, theorem, words, end, &mut labels)?;
+    let letter_words = &words[label_count + 1..];
+    let mut letters = LettersRead::none(alloc, theorem, labels, max_letters(letter_words, end));
+    letters.read_all(database.text(), letter_words, end)?;
     Ok(letters.into_steps())
 }

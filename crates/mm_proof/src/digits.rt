@@ -18,10 +18,11 @@ pub(crate) enum LetterKind {
     Other,
 }
 
-/// What a byte is.
+/// Returns what a byte is.
 pub(crate) fn letter_of(byte: u8) -> LetterKind
     ensures { IsLetter byte result }
 {
+    // `A` is byte 65 and spells 1, and so does `U`, which is byte 85.
     if b'A' <= byte && byte <= b'T' {
         LetterKind::Last(u64::from(byte) - 64)
     } else if b'U' <= byte && byte <= b'Y' {
@@ -51,8 +52,8 @@ pub(crate) fn with_digit(number: u64, base: u64, digit: u64) -> u64
     }
 }
 
-/// The same for a large number, which proofs hardly ever have: a call, so that the usual path has no
-/// jump.
+/// The same for a large number, which proofs hardly ever have: a call, so that the usual path has
+/// no jump.
 #[cold]
 #[inline(never)]
 fn with_digit_of_large(number: u64, base: u64, digit: u64) -> u64

@@ -8,22 +8,23 @@ ghost use Rattle.mm_outline.specs.Parts.{as_tokens, AreWithin};
 ghost use Rattle.mm_steps.specs.Read.{read, as_step, IsEarlier};
 ghost use Rattle.mm_proof.specs.Number.{IsLetter, saturated};
 ghost use Rattle.mm_proof.specs.declared.digits.LetterKind.TheVariants.{Last};
-ghost use Rattle.mm_proof.specs.Letters.{letters_state, letter, with_number, named_steps, if_begun};
-ghost use Rattle.mm_proof.specs.Letters.{InOrder, StandsAt, IsReadUpTo, BeginsAt};
+ghost use Rattle.mm_proof.specs.Letters.{letters_state, letter, with_number, step_as_list};
+ghost use Rattle.mm_proof.specs.Letters.{if_begun};
+ghost use Rattle.mm_proof.specs.Letters.{AreInOrder, StandsAt, IsReadUpTo, BeginsAt};
 ghost use Rattle.mm_proof.specs.Letters.{word_letters, ReadsLetters, ReadsAllLetters};
 ghost use Rattle.mm_proof.specs.Letters.{RefusesLetters};
 ghost use Rattle.mm_proof.specs.Refused.{StartsWith};
 
 use crate::digits::{LetterKind, letter_of, with_digit};
 use crate::refused::{ProofRefused, refused};
-use crate::room::with_room;
+use mm_database::room::with_room;
 use mm_database::{Code, Word};
 use mm_steps::{Step, Steps};
 use std::alloc::{AllocError, Allocator};
 use std::marker::Model;
 
 /// The number of marks for which room is reserved at first. Most proofs have fewer.
-const ROOM: usize = 64;
+const MARKS_ROOM: usize = 64;
 
 /// The number to which the next letter belongs, if that is a letter of a number.
 #[derive(Clone, Copy)]
@@ -35,8 +36,8 @@ pub(crate) struct BegunNumber {
     value: u64,
 }
 
-/// A number with one more digit.
-fn begun_by(number: BegunNumber, base: u64, digit: u64) -> BegunNumber
+/// Returns a number with one more digit.
+fn with_next_digit(number: BegunNumber, base: u64, digit: u64) -> BegunNumber
     requires base { base ≤ 20 }
     requires digit { digit ≤ 20 }
     ensures at { result.at ≡ number.at }
@@ -67,6 +68,7 @@ pub(crate) struct LettersRead<A: Allocator> {
     labels: Vec<u32, A>,
     /// The steps that were marked, one for each `Z`.
     marks: Vec<u32, A>,
+    /// The steps that the numbers so far stand for.
     steps: Steps<A>,
 }
 
@@ -81,17 +83,17 @@ impl<A: Allocator> Model for LettersRead<A> {
 }
 
 impl<A: Allocator> LettersRead<A> {
-    /// No letters read yet, of at most `most` letters. `labels` has the statements whose labels
-    /// have numbers.
-    pub(crate) fn none(alloc: A, theorem: u32, labels: Vec<u32, A>, most: usize) -> Self
+    /// Returns the state in which no letters are read yet, of at most `max_letters`. `labels` has
+    /// the statements whose labels have numbers.
+    pub(crate) fn none(alloc: A, theorem: u32, labels: Vec<u32, A>, max_letters: usize) -> Self
     where
         A: Copy,
         ensures { result ≡ letters_state theorem labels.items [] None [] }
     {
         LettersRead {
             labels,
-            marks: with_room(alloc, ROOM),
-            steps: Steps::none(alloc, theorem, most),
+            marks: with_room(alloc, MARKS_ROOM),
+            steps: Steps::none(alloc, theorem, max_letters),
         }
     }
 
@@ -102,12 +104,12 @@ impl<A: Allocator> LettersRead<A> {
         self.steps
     }
 
-    /// The step that a number names, if it names one. `value` is the number's value, or the
+    /// Returns the step that a number names, if it names one. `value` is the number's value, or the
     /// greatest 64-bit number if that is smaller.
-    fn named(&self, value: u64) -> Option<Step>
+    fn step_named(&self, value: u64) -> Option<Step>
         requires { 0 < value }
         ensures step { (n : ℕ) → value ≡ saturated n
-            → step_of self.now.labels self.now.marks n ≡ named_steps result }
+            → step_of self.now.labels self.now.marks n ≡ step_as_list result }
         ensures large { IfNone result
             ((n : ℕ) → value ≡ saturated n → length self.now.labels + length self.now.marks < n) }
         ensures earlier { IfSome result
@@ -151,8 +153,8 @@ impl<A: Allocator> LettersRead<A> {
         ensures refuses { IfErr result (λ e. (byte : ℕ) → IsLetter byte (Last digit)
             → RefusesLetters (with_number self.old (if_begun number)) (letter _at byte ∷ []) e) }
     {
-        let begun = begun_by(number, 20, digit);
-        let Some(step) = self.named(begun.value) else {
+        let begun = with_next_digit(number, 20, digit);
+        let Some(step) = self.step_named(begun.value) else {
             return Err(refused(begun.at, Code::NumberTooLarge));
         };
         self.add_step(begun.at, step)?;
@@ -190,7 +192,7 @@ impl<A: Allocator> LettersRead<A> {
     {
         match letter_of(byte) {
             LetterKind::Early(digit) => {
-                *number = begun_by(*number, 5, digit);
+                *number = with_next_digit(*number, 5, digit);
                 Ok(())
             }
             LetterKind::Last(digit) => {
@@ -247,7 +249,7 @@ impl<A: Allocator> LettersRead<A> {
         end: u32,
     ) -> Result<(), ProofRefused>
         requires within { AreWithin text.now words.now }
-        requires in_order { InOrder 0 (as_tokens text.now words.now) end }
+        requires in_order { AreInOrder 0 (as_tokens text.now words.now) end }
         requires none { self.old ≡ letters_state self.old.theorem self.old.labels [] None [] }
         ensures reads { OnOk result
             (ReadsAllLetters self.old (letters_of (as_tokens text.now words.now)) end self.new) }

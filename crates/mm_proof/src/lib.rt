@@ -13,7 +13,6 @@ mod labels;
 mod letters;
 mod reader;
 mod refused;
-mod room;
 
 pub use digits::number;
 pub use mm_database::{Code, Fault};

@@ -18,7 +18,7 @@ use mm_steps::{Step, Steps};
 use std::alloc::Allocator;
 
 /// Reads the words of a normal proof.
-fn read_words<A: Allocator + Copy>(
+fn read_normal<A: Allocator + Copy>(
     alloc: A,
     database: &Database<A>,
     theorem: u32,
@@ -79,5 +79,5 @@ pub fn read_proof<A: Allocator + Copy>(
     if first.bytes(database.text()) == b"(".as_slice() {
         return read_compressed(alloc, database, theorem, rest, end);
     }
-    read_words(alloc, database, theorem, words)
+    read_normal(alloc, database, theorem, words)
 }

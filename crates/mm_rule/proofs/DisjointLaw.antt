@@ -12,16 +12,16 @@ use Rattle.mm_spec.specs.Frame.{mandatory_pairs, disjoint_at, active_of, is_disj
 use Rattle.mm_spec.specs.Frame.{pairs_of}
 use Rattle.mm_spec.specs.Citation.{context_at}
 use Rattle.mm_spec.proofs.FindsLaw.{each_filter, each_any}
-use Rattle.mm_rule.specs.Assertions.{paired}
+use Rattle.mm_rule.specs.Assertions.{as_pairs}
 
 eq_sym : (x y : ℕ) → (x == y) ≡ (y == x)
-eq_sym x y = by (x == y) (y == x) refl refl
+eq_sym x y = by_equality (x == y) (y == x) refl refl
   where
-    by : (a b : Bool) → (x == y) ≡ a → (y == x) ≡ b → a ≡ b
-    by true true e f = refl
-    by false false e f = refl
-    by true false e f = absurd (true≢false (sym (eq-eqb y x (sym (eqb-true x y e))) ∙ f))
-    by false true e f = absurd (true≢false (sym (eq-eqb x y (sym (eqb-true y x f))) ∙ e))
+    by_equality : (a b : Bool) → (x == y) ≡ a → (y == x) ≡ b → a ≡ b
+    by_equality true true e f = refl
+    by_equality false false e f = refl
+    by_equality true false e f = absurd (true≢false (sym (eq-eqb y x (sym (eqb-true x y e))) ∙ f))
+    by_equality false true e f = absurd (true≢false (sym (eq-eqb x y (sym (eqb-true y x f))) ∙ e))
 
 any_same : (p q : ℕ → Bool) → ((j : ℕ) → p j ≡ q j) → (xs : List ℕ) → list_any p xs ≡ list_any q xs
 any_same p q e [] = refl
@@ -45,17 +45,17 @@ module _ (db : List Statement) (k : ℕ) where
 
   disjoint_if : (x y : ℕ) → disjoint_at db k x y ≡ true → are_disjoint (context_at db k) x y ≡ true
   disjoint_if x y h =
-      by (is_variable_number db x && is_variable_number db y) (x == y)
+      by_values (is_variable_number db x && is_variable_number db y) (x == y)
       (list_any (λ j. is_member (formula_at db j) x && is_member (formula_at db j) y)
       (active_of is_disjoint_statement db k)) h
     where
-      by : (v e l : Bool) → (not e && l) ≡ true → (not v || (not e && (not e && l))) ≡ true
-      by false e l h = refl
-      by true true l h = h
-      by true false l h = h
+      by_values : (v e l : Bool) → (not e && l) ≡ true → (not v || (not e && (not e && l))) ≡ true
+      by_values false e l h = refl
+      by_values true true l h = h
+      by_values true false l h = h
 
   -- the pairs of a frame are disjoint at its assertion
-  pub pairs_disjoint : (ps : List (ℕ × ℕ)) → paired ps ≡ mandatory_pairs db k
+  pub pairs_disjoint : (ps : List (ℕ × ℕ)) → as_pairs ps ≡ mandatory_pairs db k
       → All (λ (p : ℕ × ℕ). are_disjoint (context_at db k) p.0 p.1 ≡ true) ps
   pairs_disjoint ps e =
       All-from_recursion (λ (p : ℕ × ℕ). are_disjoint (context_at db k) p.0 p.1 ≡ true) ps
@@ -83,7 +83,7 @@ module _ (db : List Statement) (k : ℕ) where
           (last (nat_lt p.low p.high) (is_member (mandatory_variables db k) p.low)
           (is_member (mandatory_variables db k) p.high) (disjoint_at db k p.low p.high) h)))
 
-      back : (ps : List (ℕ × ℕ)) → AllByRecursion Is (paired ps)
+      back : (ps : List (ℕ × ℕ)) → AllByRecursion Is (as_pairs ps)
           → AllByRecursion (λ (p : ℕ × ℕ). are_disjoint (context_at db k) p.0 p.1 ≡ true) ps
       back [] h = tt
       back (p ∷ ps) h = (h.0, back ps h.1)

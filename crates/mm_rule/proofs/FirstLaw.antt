@@ -16,13 +16,13 @@ module _ (db : List Statement) where
   pub first_below : (hs : List Formula) (x : ℕ) → IsBound (context_at db 0) hs x
       → floating_index db hs x < length hs
   first_below [] x b = absurd (true≢false (sym b))
-  first_below (h ∷ hs) x b = go (binds (context_at db 0) x h) b (first_below hs x)
+  first_below (h ∷ hs) x b = by_binding (binds (context_at db 0) x h) b (first_below hs x)
     where
-      go : (v : Bool) → (v || list_any (binds (context_at db 0) x) hs) ≡ true
+      by_binding : (v : Bool) → (v || list_any (binds (context_at db 0) x) hs) ≡ true
           → (IsBound (context_at db 0) hs x → floating_index db hs x < length hs)
           → cond v 0 (suc (floating_index db hs x)) < suc (length hs)
-      go true e rest = omega arith
-      go false e rest = let l = rest e in omega (arith, l)
+      by_binding true e rest = omega arith
+      by_binding false e rest = let l = rest e in omega (arith, l)
 
   -- what is found for a variable is what the premise of its first `$f` has after the typecode
   pub found_first : (t : ℕ) (hs ps : List Formula) (x : ℕ) → length ps ≡ length hs
@@ -31,16 +31,16 @@ module _ (db : List Statement) where
   found_first t [] ps x n b = absurd (true≢false (sym b))
   found_first t (h ∷ hs) [] x n b = absurd (omega (arith, n))
   found_first t (h ∷ hs) (p ∷ ps) x n b =
-      go (binds (context_at db 0) x h) b (found_first t hs ps x (omega (arith, n)))
+      by_binding (binds (context_at db 0) x h) b (found_first t hs ps x (omega (arith, n)))
     where
-      go : (v : Bool) → (v || list_any (binds (context_at db 0) x) hs) ≡ true
+      by_binding : (v : Bool) → (v || list_any (binds (context_at db 0) x) hs) ≡ true
           → (IsBound (context_at db 0) hs x
           → substitution_from (context_at db t) hs ps x
           ≡ tail (get_or ps (floating_index db hs x) []))
           → elim v [ true ↦ tail p | false ↦ substitution_from (context_at db t) hs ps x ]
           ≡ tail (get_or (p ∷ ps) (cond v 0 (suc (floating_index db hs x))) [])
-      go true e rest = refl
-      go false e rest = rest e
+      by_binding true e rest = refl
+      by_binding false e rest = rest e
 
   -- the same for the hypotheses from a number on
   abbrev pub PlacedFrom : ℕ → List Formula → List ℕ → Type 0
@@ -50,29 +50,30 @@ module _ (db : List Statement) where
   from_none : (n : ℕ) (t : List ℕ) (h : Formula) (hs : List Formula)
       → ((x : ℕ) → binds (context_at db 0) x h ≡ false) → PlacedFrom (suc n) hs t
       → PlacedFrom n (h ∷ hs) t
-  from_none n t h hs misses old x b = go (binds (context_at db 0) x h) (misses x) b
+  from_none n t h hs misses old x b = by_binding (binds (context_at db 0) x h) (misses x) b
     where
-      go : (v : Bool) → v ≡ false → (v || list_any (binds (context_at db 0) x) hs) ≡ true
+      by_binding : (v : Bool) → v ≡ false → (v || list_any (binds (context_at db 0) x) hs) ≡ true
           → get_or t x 0 ≡ n + cond v 0 (suc (floating_index db hs x))
-      go true e b = cc
-      go false e b = let o = old x b in omega (arith, o)
+      by_binding true e b = cc
+      by_binding false e b = let o = old x b in omega (arith, o)
 
   from_one : (n : ℕ) (t : List ℕ) (h : Formula) (hs : List Formula) (y : ℕ) → y < length t
       → ((x : ℕ) → binds (context_at db 0) x h ≡ nat_eq x y) → PlacedFrom (suc n) hs t
       → PlacedFrom n (h ∷ hs) (slice_set t y n)
-  from_one n t h hs y inside hits old x b = go (binds (context_at db 0) x h) (hits x) b
+  from_one n t h hs y inside hits old x b = by_binding (binds (context_at db 0) x h) (hits x) b
     where
-      go : (v : Bool) → v ≡ nat_eq x y → (v || list_any (binds (context_at db 0) x) hs) ≡ true
+      by_binding : (v : Bool) → v ≡ nat_eq x y → (v || list_any (binds (context_at db 0) x) hs)
+          ≡ true
           → get_or (slice_set t y n) x 0 ≡ n + cond v 0 (suc (floating_index db hs x))
-      go true e b =
+      by_binding true e b =
           let z : n ≡ n + 0 = omega arith in
           ap (λ z. get_or (slice_set t y n) z 0) (eqb-true x y (sym e))
           ∙ get_or-set_same t y n 0 inside ∙ z
-      go false e b =
-          let other : x ≢ y = λ h. true≢false (sym (eq-eqb x y h) ∙ sym e) in
+      by_binding false e b =
+          let x_not_y : x ≢ y = λ h. true≢false (sym (eq-eqb x y h) ∙ sym e) in
           let o = old x b in
           let z : get_or t x 0 ≡ n + suc (floating_index db hs x) = omega (arith, o) in
-          get_or-set_other t y x n 0 other ∙ z
+          get_or-set_other t y x n 0 x_not_y ∙ z
 
   module _ (hyps : List ℕ) where
     abbrev pub hs : ℕ → List Formula

@@ -15,7 +15,7 @@ use Rattle.mm_spec.specs.Frame.{formula_at, mandatory_variables, mandatory_hypot
 use Rattle.mm_spec.specs.Frame.{mandatory_pairs, disjoint_at, pairs_of}
 use Rattle.mm_spec.proofs.FindsLaw.{is_before, each_filter, each_any, member_filter}
 use Rattle.mm_spec.proofs.BoolLaw.{middle_parts}
-use Rattle.mm_rule.specs.Assertions.{paired}
+use Rattle.mm_rule.specs.Assertions.{as_pairs}
 
 weaker : (P Q : ℕ → Type 0) → ((x : ℕ) → P x → Q x) → (xs : List ℕ) → AllByRecursion P xs
     → AllByRecursion Q xs
@@ -28,12 +28,12 @@ kept P t xs h = each_filter P t xs (weaker P (λ x. t x ≡ true → P x) (λ x 
 
 filter_few : (t : ℕ → Bool) (xs : List ℕ) → length (filter t xs) ≤ length xs
 filter_few t [] = omega arith
-filter_few t (x ∷ xs) = by (t x) (filter_few t xs)
+filter_few t (x ∷ xs) = by_test (t x) (filter_few t xs)
   where
-    by : (b : Bool) → length (filter t xs) ≤ length xs
+    by_test : (b : Bool) → length (filter t xs) ≤ length xs
         → length {A = ℕ} (cond b (x ∷ filter t xs) (filter t xs)) ≤ suc (length xs)
-    by true h = omega (arith, h)
-    by false h = omega (arith, h)
+    by_test true h = omega (arith, h)
+    by_test false h = omega (arith, h)
 
 -- an assertion has no more hypotheses than there are statements before it
 pub hyps_few : (db : List Statement) (k : ℕ) → length (mandatory_hypotheses db k) ≤ k
@@ -56,20 +56,20 @@ hyps_below db k u = All-from_recursion (λ h. h < length db) (mandatory_hypothes
 
 variable_below : (db : List Statement) (x : ℕ) → is_variable_number db x ≡ true
     → x < length (symbol_names db)
-variable_below db x e = by (slice_get (symbol_names db) x) refl e
+variable_below db x e = by_name (slice_get (symbol_names db) x) refl e
   where
-    by : (o : Option Bytes) → slice_get (symbol_names db) x ≡ o
+    by_name : (o : Option Bytes) → slice_get (symbol_names db) x ≡ o
         → elim o [ None ↦ false | Some w ↦ is_in w (flat_map variables_of db) ] ≡ true
         → x < length (symbol_names db)
-    by None o e = absurd (true≢false (sym e))
-    by (Some w) o e = slice_get_within (symbol_names db) x w o
+    by_name None o e = absurd (true≢false (sym e))
+    by_name (Some w) o e = slice_get_within (symbol_names db) x w o
 
 mandatory_below : (db : List Statement) (k x : ℕ) → is_member (mandatory_variables db k) x ≡ true
     → x < length (symbol_names db)
 mandatory_below db k x e = variable_below db x (member_filter (is_variable_number db) _ x e).0
 
 pub pairs_below : (db : List Statement) (k : ℕ) (ps : List (ℕ × ℕ))
-    → paired ps ≡ mandatory_pairs db k
+    → as_pairs ps ≡ mandatory_pairs db k
     → All (λ (p : ℕ × ℕ). (p.0 < length (symbol_names db)) × (p.1 < length (symbol_names db))) ps
 pairs_below db k ps e =
     All-from_recursion
@@ -93,7 +93,7 @@ pairs_below db k ps e =
         (is_member (mandatory_variables db k) p.high) (disjoint_at db k p.low p.high) h in
         (mandatory_below db k p.low q.0, mandatory_below db k p.high q.1)))
 
-    back : (ps : List (ℕ × ℕ)) → AllByRecursion Low (paired ps)
+    back : (ps : List (ℕ × ℕ)) → AllByRecursion Low (as_pairs ps)
         → AllByRecursion
         (λ (p : ℕ × ℕ). (p.0 < length (symbol_names db)) × (p.1 < length (symbol_names db))) ps
     back [] h = tt

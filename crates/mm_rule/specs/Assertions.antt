@@ -11,5 +11,5 @@ abbrev pub is_assertion_at : List Statement → ℕ → Bool
 is_assertion_at db a = list_any is_assertion (statement_at db a)
 
 -- pairs of symbols as pairs of a frame
-abbrev pub paired : List (ℕ × ℕ) → List Pair
-paired ps = map (λ p. pair p.0 p.1) ps
+abbrev pub as_pairs : List (ℕ × ℕ) → List Pair
+as_pairs ps = map (λ p. pair p.0 p.1) ps

@@ -1,4 +1,4 @@
--- What an assertion requires and what it yields, in terms of the places of its hypotheses.
+-- What an assertion requires and what it yields, in terms of the numbers of its hypotheses.
 use Rattle.std.specs.Prelude.{◌≡◌, ℕ, suc, ◌+◌, ◌<◌, true, List, [], ◌∷◌, map, take, drop, length}
 use Rattle.std.specs.Prelude.{All, if◌then◌else◌}
 use Rattle.mm_spec.specs.Statement.{Statement}
@@ -12,25 +12,25 @@ use Rattle.mm_rule.specs.declared.rule.Hypothesis.{Hypothesis}
 use Rattle.mm_rule.specs.declared.rule.Hypothesis.TheVariants.{Floating, Essential}
 use Rattle.mm_rule.specs.Assertions.{is_assertion_at}
 
--- the place of the first `$f` of a variable among the hypotheses
+-- the index of the first `$f` of a variable among the hypotheses
 abbrev pub floating_index : List Statement → List Formula → ℕ → ℕ
 floating_index db [] x = 0
 floating_index db (h ∷ hs) x =
     if binds (context_at db 0) x h then 0 else suc (floating_index db hs x)
 
--- a symbol as a part: a constant, or a variable given by the place of its `$f`
+-- a symbol as a part: a constant, or a variable given by the index of its `$f`
 abbrev pub part_of : List Statement → List Formula → ℕ → RuleSymbol
 part_of db hs s = if is_variable_number db s then Variable (floating_index db hs s) else Constant s
 
 abbrev pub parts_of : List Statement → List Formula → Formula → List RuleSymbol
 parts_of db hs f = map (part_of db hs) f
 
--- how many parts are kept for a hypothesis
+-- how many of a rule's parts are those of a hypothesis
 abbrev pub part_count : Hypothesis → ℕ
 part_count (Floating t) = 0
 part_count (Essential n) = n
 
--- the parts of hypothesis `j`, where the list begins with those that are kept for it
+-- the parts of hypothesis `j`, if the list begins with those that the rule has for it
 abbrev pub hypothesis_parts : List RuleSymbol → ℕ → Hypothesis → List RuleSymbol
 hypothesis_parts parts j (Floating t) = Constant t ∷ Variable j ∷ []
 hypothesis_parts parts j (Essential n) = take n parts
@@ -41,31 +41,31 @@ all_parts parts j [] = []
 all_parts parts j (a ∷ more) =
     hypothesis_parts parts j a ∷ all_parts (drop (part_count a) parts) (suc j) more
 
--- how many parts are kept for all hypotheses
-abbrev pub count_parts : List Hypothesis → ℕ
-count_parts [] = 0
-count_parts (a ∷ more) = part_count a + count_parts more
+-- how many of a rule's parts are those of some hypotheses
+abbrev pub total_part_count : List Hypothesis → ℕ
+total_part_count [] = 0
+total_part_count (a ∷ more) = part_count a + total_part_count more
 
--- if the part is a variable, its place is one of `n` hypotheses
-abbrev pub IsBelow : ℕ → RuleSymbol → Type 0
-IsBelow n (Constant s) = Unit {0}
-IsBelow n (Variable j) = j < n
+-- if the part is a variable, it is given by one of `n` hypotheses
+abbrev pub IsVariableBelow : ℕ → RuleSymbol → Type 0
+IsVariableBelow n (Constant s) = Unit {0}
+IsVariableBelow n (Variable j) = j < n
 
 -- if the part is a constant, it is one of `n` symbols
-abbrev pub IsKnown : ℕ → RuleSymbol → Type 0
-IsKnown n (Constant s) = s < n
-IsKnown n (Variable j) = Unit {0}
+abbrev pub IsConstantBelow : ℕ → RuleSymbol → Type 0
+IsConstantBelow n (Constant s) = s < n
+IsConstantBelow n (Variable j) = Unit {0}
 
-pub record Compiled : Type 0 where
+pub record CompiledRule : Type 0 where
   pub assertion : ℕ
   pub hypotheses : List Hypothesis
   pub pairs : List (ℕ × ℕ)
   pub parts : List RuleSymbol
   pub formula : List RuleSymbol
 
-abbrev pub compiled : ℕ → List Hypothesis → List (ℕ × ℕ) → List RuleSymbol → List RuleSymbol
-    → Compiled
-compiled k hypotheses pairs parts formula =
+abbrev pub compiled_rule : ℕ → List Hypothesis → List (ℕ × ℕ) → List RuleSymbol → List RuleSymbol
+    → CompiledRule
+compiled_rule k hypotheses pairs parts formula =
     record {
       assertion = k;
       hypotheses = hypotheses;
@@ -75,16 +75,16 @@ compiled k hypotheses pairs parts formula =
           formula;
     }
 
--- the rule is the frame of its assertion, with each variable given by the place of its `$f`
-pub record IsCompiled (db : List Statement) (c : Compiled) : Type 0 where
+-- the rule is the frame of its assertion, with each variable given by the index of its `$f`
+pub record IsCompiled (db : List Statement) (c : CompiledRule) : Type 0 where
   pub is_assertion : is_assertion_at db c.assertion ≡ true
   pub complete : IsComplete (context_at db 0) (frame_at db c.assertion)
-  pub count : count_parts c.hypotheses ≡ length c.parts
-  pub parts_in : All (IsBelow (length c.hypotheses)) c.parts
+  pub count : total_part_count c.hypotheses ≡ length c.parts
+  pub parts_in : All (IsVariableBelow (length c.hypotheses)) c.parts
   pub pairs_in : All (λ (p : ℕ × ℕ). (p.0 < length c.hypotheses) × (p.1 < length c.hypotheses))
       c.pairs
-  pub formula_in : All (IsBelow (length c.hypotheses)) c.formula
-  pub formula_known : All (IsKnown (length (symbol_names db))) c.formula
+  pub formula_in : All (IsVariableBelow (length c.hypotheses)) c.formula
+  pub formula_known : All (IsConstantBelow (length (symbol_names db))) c.formula
   pub hypotheses_are : all_parts c.parts 0 c.hypotheses
       ≡ map (parts_of db (frame_at db c.assertion).hypotheses) (frame_at db c.assertion).hypotheses
   pub pairs_are : c.pairs

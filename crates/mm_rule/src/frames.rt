@@ -1,4 +1,4 @@
-//! Queries to the database.
+//! What a step asks the database of its assertion or hypothesis.
 
 ghost use Rattle.std.specs.Prelude.{◌≡◌, ◌<◌, ◌^◌, ℕ, All, length, map, true};
 ghost use Rattle.std.specs.List.{list_any};
@@ -7,62 +7,63 @@ ghost use Rattle.mm_spec.specs.Frame.{is_essential, symbol_names, mandatory_hypo
 ghost use Rattle.mm_spec.specs.Frame.{mandatory_pairs, formula_at};
 ghost use Rattle.mm_spec.specs.Derivation.{are_disjoint};
 ghost use Rattle.mm_spec.specs.Citation.{context_at};
-ghost use Rattle.mm_rule.specs.Assertions.{paired};
+ghost use Rattle.mm_rule.specs.Assertions.{as_pairs};
 ghost use Rattle.mm_rule.specs.Assertions.{is_assertion_at};
 
 use mm_database::{Database, Kind, Sym};
 use std::alloc::Allocator;
 
 /// Whether a statement is an assertion.
-pub fn is_assertion<A: Allocator>(db: &Database<A>, k: u32) -> bool
-    requires { k < length db.now.statements }
-    ensures { result ≡ is_assertion_at db.now.statements k }
+pub fn is_assertion<A: Allocator>(database: &Database<A>, statement: u32) -> bool
+    requires { statement < length database.now.statements }
+    ensures { result ≡ is_assertion_at database.now.statements statement }
 {
-    match db.kind(k) {
+    match database.kind(statement) {
         Kind::Axiom | Kind::Theorem => true,
         _ => false,
     }
 }
 
 /// Whether a statement is a `$e`.
-pub fn is_essential_hypothesis<A: Allocator>(db: &Database<A>, h: u32) -> bool
-    requires { h < length db.now.statements }
-    ensures { result ≡ list_any is_essential (statement_at db.now.statements h) }
+pub fn is_essential_hypothesis<A: Allocator>(database: &Database<A>, hypothesis: u32) -> bool
+    requires { hypothesis < length database.now.statements }
+    ensures { result ≡ list_any is_essential (statement_at database.now.statements hypothesis) }
 {
-    match db.kind(h) {
+    match database.kind(hypothesis) {
         Kind::Essential => true,
         _ => false,
     }
 }
 
 /// The mandatory hypotheses of an assertion.
-pub fn hyps<'b, A: Allocator>(db: &'b Database<A>, k: u32) -> &'b [u32]
-    requires { is_assertion_at db.now.statements k ≡ true }
-    ensures are { result.now ≡ mandatory_hypotheses db.now.statements k }
-    ensures below { All (λ h. h < length db.now.statements) result.now }
+pub fn hyps<'b, A: Allocator>(database: &'b Database<A>, assertion: u32) -> &'b [u32]
+    requires { is_assertion_at database.now.statements assertion ≡ true }
+    ensures are { result.now ≡ mandatory_hypotheses database.now.statements assertion }
+    ensures below { All (λ h. h < length database.now.statements) result.now }
     ensures few { length result.now < 2 ^ 31 }
 {
-    db.frame(k).hyps.as_slice()
+    database.frame(assertion).hyps.as_slice()
 }
 
 /// The symbols of an assertion.
-pub fn formula<'b, A: Allocator>(db: &'b Database<A>, k: u32) -> &'b [Sym]
-    requires { is_assertion_at db.now.statements k ≡ true }
-    ensures are { result.now ≡ formula_at db.now.statements k }
-    ensures known { All (λ s. s < length (symbol_names db.now.statements)) result.now }
+pub fn formula<'b, A: Allocator>(database: &'b Database<A>, assertion: u32) -> &'b [Sym]
+    requires { is_assertion_at database.now.statements assertion ≡ true }
+    ensures are { result.now ≡ formula_at database.now.statements assertion }
+    ensures known { All (λ s. s < length (symbol_names database.now.statements)) result.now }
 {
-    db.formula(k)
+    database.formula(assertion)
 }
 
 /// The mandatory pairs of an assertion.
-pub fn pairs<'b, A: Allocator>(db: &'b Database<A>, k: u32) -> &'b [(Sym, Sym)]
-    requires { is_assertion_at db.now.statements k ≡ true }
-    ensures are { paired result.now ≡ mandatory_pairs db.now.statements k }
+pub fn pairs<'b, A: Allocator>(database: &'b Database<A>, assertion: u32) -> &'b [(Sym, Sym)]
+    requires { is_assertion_at database.now.statements assertion ≡ true }
+    ensures are { as_pairs result.now ≡ mandatory_pairs database.now.statements assertion }
     ensures disjoint { All
-        (λ (p : ℕ × ℕ). are_disjoint (context_at db.now.statements k) p.0 p.1 ≡ true) result.now }
+        (λ (p : ℕ × ℕ). are_disjoint (context_at database.now.statements assertion) p.0 p.1 ≡ true)
+        result.now }
     ensures below { All
-        (λ (p : ℕ × ℕ). (p.0 < length (symbol_names db.now.statements))
-        × (p.1 < length (symbol_names db.now.statements))) result.now }
+        (λ (p : ℕ × ℕ). (p.0 < length (symbol_names database.now.statements))
+        × (p.1 < length (symbol_names database.now.statements))) result.now }
 {
-    db.frame(k).pairs.as_slice()
+    database.frame(assertion).pairs.as_slice()
 }

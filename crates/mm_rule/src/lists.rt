@@ -16,9 +16,9 @@ pub fn empty<T: Drop, A: Allocator>(list: &mut Vec<T, A>)
     list.shrink_to(MAX_ELEMENTS_KEPT);
 }
 
-/// Writes `number` at index `i`, if the list has that index and the number fits in 32 bits.
-pub fn put_number(numbers: &mut [u32], i: usize, number: usize) {
-    if i < numbers.len() && number < 4_294_967_296 {
-        numbers[i] = number as u32;
+/// Writes `number` at an index, if the list has that index and the number fits in 32 bits.
+pub fn put_number(numbers: &mut [u32], index: usize, number: usize) {
+    if index < numbers.len() && number < 4_294_967_296 {
+        numbers[index] = number as u32;
     }
 }

@@ -1,4 +1,4 @@
-//! What an assertion requires and what it yields, in terms of the places of its hypotheses.
+//! What an assertion requires and what it yields, in terms of the numbers of its hypotheses.
 
 ghost use Rattle.std.specs.Prelude.{◌≡◌};
 
@@ -19,20 +19,20 @@ pub enum RuleSymbol {
 pub enum Hypothesis {
     /// The typecode, if the hypothesis is the first `$f` of its variable.
     Floating(Sym),
-    /// Otherwise the number of its symbols: those of the rule's parts that come after the ones of
-    /// the hypotheses before it.
+    /// Otherwise the number of its symbols. They stand in the rule's parts, after those of the
+    /// hypotheses before it.
     Essential(u32),
 }
 
-/// What an assertion requires and yields: its frame, with each variable given by the place of its
-/// `$f`.
+/// What an assertion requires and yields: its frame, with each variable given by the number of its
+/// `$f` among the mandatory hypotheses.
 #[derive(Drop)]
 pub struct Rule<'a> {
     /// The number of the assertion's statement.
     pub assertion: u32,
     /// The mandatory hypotheses, in order.
     pub hypotheses: &'a [Hypothesis],
-    /// The mandatory pairs of disjoint variables.
+    /// The mandatory pairs of disjoint variables, each by the numbers of their `$f`.
     pub pairs: &'a [(u32, u32)],
     /// The symbols of those hypotheses that aren't the first `$f` of a variable.
     pub parts: &'a [RuleSymbol],
@@ -41,11 +41,11 @@ pub struct Rule<'a> {
 }
 
 impl<'a> Model for Rule<'a> {
-    ghost use Rattle.mm_rule.specs.Rule.{Compiled, compiled};
+    ghost use Rattle.mm_rule.specs.Rule.{CompiledRule, compiled_rule};
 
-    ghost Value = { Compiled };
+    ghost Value = { CompiledRule };
 
-    ghost view = { λ r. compiled r.assertion r.hypotheses.now r.pairs.now r.parts.now
+    ghost view = { λ r. compiled_rule r.assertion r.hypotheses.now r.pairs.now r.parts.now
         r.formula.now };
 }
 

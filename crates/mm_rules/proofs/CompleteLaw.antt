@@ -18,8 +18,8 @@ module _ (db : List Statement) (complete : AreComplete db) (j : ℕ) where
       → is_some_still_active (Some s) (is_block_open db j (length db)) ≡ true
       → rule_at db (length db) j ≡ rule_of db j s
   at_end s e a =
-      let below : j < length db = inside_of db j s e in
-      let before : nat_lt j (length db) ≡ true = lt-ltb j (length db) below in
+      let j_lt_length_db : j < length db = inside_of db j s e in
+      let before : nat_lt j (length db) ≡ true = lt-ltb j (length db) j_lt_length_db in
       ap₂ (λ b o. elim (b && is_some_still_active o (is_block_open db j (length db)))
       [ false ↦ None | true ↦ elim o [ None ↦ None | Some s ↦ rule_of db j s ] ]) before e
       ∙ ap (λ b. elim b [ false ↦ None | true ↦ rule_of db j s ]) a
@@ -29,23 +29,24 @@ module _ (db : List Statement) (complete : AreComplete db) (j : ℕ) where
   frame_complete h = record { hypotheses = h.hypotheses; formula = h.formula; pairs = h.pairs }
 
   pub complete_at : is_assertion_at db j ≡ true → IsComplete (context_at db 0) (frame_at db j)
-  complete_at is = some (slice_get db j) refl is
+  complete_at is = by_presence (slice_get db j) refl is
     where
-      by : (s : Statement) → slice_get db j ≡ Some s → list_any is_assertion (s ∷ []) ≡ true
+      by_statement : (s : Statement) → slice_get db j ≡ Some s → list_any is_assertion (s ∷ [])
+          ≡ true
           → IsComplete (context_at db 0) (frame_at db j)
-      by (axiomatic l p xs d) e h =
+      by_statement (axiomatic l p xs d) e h =
           frame_complete
           (subst (HasCompleteFrame (context_at db (length db))) (at_end (axiomatic l p xs d) e refl)
           (complete (length db) j))
-      by (provable l p xs w ps d) e h =
+      by_statement (provable l p xs w ps d) e h =
           frame_complete
           (subst (HasCompleteFrame (context_at db (length db)))
           (at_end (provable l p xs w ps d) e refl)
           (complete (length db) j))
-      by _ e h = absurd (true≢false (sym h))
+      by_statement _ e h = absurd (true≢false (sym h))
 
-      some : (o : Option Statement) → slice_get db j ≡ o
+      by_presence : (o : Option Statement) → slice_get db j ≡ o
           → list_any is_assertion (elim o [ None ↦ [] | Some s ↦ s ∷ [] ]) ≡ true
           → IsComplete (context_at db 0) (frame_at db j)
-      some None e h = absurd (true≢false (sym h))
-      some (Some s) e h = by s e h
+      by_presence None e h = absurd (true≢false (sym h))
+      by_presence (Some s) e h = by_statement s e h

@@ -1,5 +1,5 @@
--- A rule does what substitution does: `made_rule` (`RuleLaw.antt`) says that what is made of a
--- frame is its rule. The rules that share lists stay as they are when one is added (`added_at` of
+-- A rule does what substitution does: `is_compiled_rule` (`RuleLaw.antt`) says that what is made of
+-- a frame is its rule. The rules that share lists stay as they are when one is added (`added_at` of
 -- `RulesLaw.antt`).
 pub mod CompleteLaw
 pub mod RuleLaw

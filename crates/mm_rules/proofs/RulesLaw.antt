@@ -8,7 +8,7 @@ use Rattle.mm_rule.specs.declared.rule.RuleSymbol.{RuleSymbol}
 use Rattle.mm_rule.specs.declared.rule.Hypothesis.{Hypothesis}
 use Rattle.mm_rules.specs.declared.rules.RuleRanges.{RuleRanges}
 use Rattle.mm_rules.specs.declared.rules.IndexRange.{IndexRange}
-use Rattle.mm_rule.specs.Rule.{compiled, IsCompiled}
+use Rattle.mm_rule.specs.Rule.{compiled_rule, IsCompiled}
 use Rattle.mm_rules.specs.Rules.{rule_lists, elements_in, IsIndexRange, HasRule}
 use Rattle.mm_rules.specs.Rules.{AreRules}
 use Rattle.mm_rule.proofs.SliceLaw.{stretch_more}
@@ -47,23 +47,23 @@ module _ (db : List Statement) (ranges : List RuleRanges) (hypotheses a : List H
   rule_stays : (new : List RuleRanges) (s : RuleRanges) → HasRule db
       (rule_lists ranges hypotheses pairs parts) s
       → HasRule db (rule_lists new (hypotheses ++ a) (pairs ++ p) ((parts ++ q) ++ f)) s
-  rule_stays new s h =
-      let parts1 = longer parts q s.parts h.parts in
-      let formula1 = longer parts q s.formula h.formula in
+  rule_stays new s has_rule =
+      let parts1 = longer parts q s.parts has_rule.parts in
+      let formula1 = longer parts q s.formula has_rule.formula in
       let e1 : elements_in (hypotheses ++ a) s.hypotheses ≡ elements_in hypotheses s.hypotheses =
-      stays hypotheses a s.hypotheses h.hypotheses in
+      stays hypotheses a s.hypotheses has_rule.hypotheses in
       let e2 : elements_in (pairs ++ p) s.pairs ≡ elements_in pairs s.pairs =
-      stays pairs p s.pairs h.pairs in
+      stays pairs p s.pairs has_rule.pairs in
       let e3 : elements_in ((parts ++ q) ++ f) s.parts ≡ elements_in parts s.parts =
-      stays (parts ++ q) f s.parts parts1 ∙ stays parts q s.parts h.parts in
+      stays (parts ++ q) f s.parts parts1 ∙ stays parts q s.parts has_rule.parts in
       let e4 : elements_in ((parts ++ q) ++ f) s.formula ≡ elements_in parts s.formula =
-      stays (parts ++ q) f s.formula formula1 ∙ stays parts q s.formula h.formula in
+      stays (parts ++ q) f s.formula formula1 ∙ stays parts q s.formula has_rule.formula in
       record {
-        hypotheses = longer hypotheses a s.hypotheses h.hypotheses;
-        pairs = longer pairs p s.pairs h.pairs;
+        hypotheses = longer hypotheses a s.hypotheses has_rule.hypotheses;
+        pairs = longer pairs p s.pairs has_rule.pairs;
         parts = longer (parts ++ q) f s.parts parts1;
         formula = longer (parts ++ q) f s.formula formula1;
-        compiled = rw (e1, e2, e3, e4) h.compiled;
+        is_compiled = rw (e1, e2, e3, e4) has_rule.is_compiled;
       }
 
   all_stay : (new rest : List RuleRanges) → All
@@ -79,7 +79,7 @@ module _ (db : List Statement) (ranges : List RuleRanges) (hypotheses a : List H
       (parts_to : s.parts.end ≡ length (parts ++ q))
       (formula_from : s.formula.start ≡ length (parts ++ q))
       (formula_to : s.formula.end ≡ length ((parts ++ q) ++ f))
-      (is : IsCompiled db (compiled s.assertion a p q f)) where
+      (is : IsCompiled db (compiled_rule s.assertion a p q f)) where
     rule_is_new : (new : List RuleRanges)
         → HasRule db (rule_lists new (hypotheses ++ a) (pairs ++ p) ((parts ++ q) ++ f)) s
     rule_is_new new =
@@ -97,7 +97,7 @@ module _ (db : List Statement) (ranges : List RuleRanges) (hypotheses a : List H
           pairs = last_in pairs p s.pairs pairs_from pairs_to;
           parts = longer (parts ++ q) f s.parts inside;
           formula = last_in (parts ++ q) f s.formula formula_from formula_to;
-          compiled = rw (e1, e2, e3, e4) is;
+          is_compiled = rw (e1, e2, e3, e4) is;
         }
 
     pub added : AreRules db (rule_lists ranges hypotheses pairs parts)
@@ -119,13 +119,14 @@ pub added_at : (db : List Statement) (ranges ranges' : List RuleRanges)
     hypotheses'
     → s.pairs.start ≡ length pairs → s.pairs.end ≡ length pairs' → s.parts.start ≡ length parts
     → s.parts.end ≡ length mid → s.formula.start ≡ length mid → s.formula.end ≡ length parts'
-    → IsCompiled db (compiled s.assertion a p q f) → AreRules db
+    → IsCompiled db (compiled_rule s.assertion a p q f) → AreRules db
     (rule_lists ranges hypotheses pairs parts)
     → AreRules db (rule_lists ranges' hypotheses' pairs' parts')
 added_at db ranges ranges' hypotheses a hypotheses' pairs p pairs' parts q f mid parts' s e1
     e2 e3 e4 e5 f1
-    t1 f2 t2 f3 t3 f4 t4 is h =
+    t1 f2 t2 f3 t3 f4 t4 is are_rules =
     let all : parts' ≡ (parts ++ q) ++ f = e5 ∙ ap (λ z. z ++ f) e4 in
     rw (e1, e2, e3, all)
     (added db ranges hypotheses a pairs p parts q f s f1 (t1 ∙ ap length e2) f2
-    (t2 ∙ ap length e3) f3 (t3 ∙ ap length e4) (f4 ∙ ap length e4) (t4 ∙ ap length all) is h)
+    (t2 ∙ ap length e3) f3 (t3 ∙ ap length e4) (f4 ∙ ap length e4) (t4 ∙ ap length all) is
+    are_rules)

@@ -11,13 +11,14 @@ use Rattle.mm_rule.specs.declared.rule.RuleSymbol.TheVariants.{Constant, Variabl
 use Rattle.mm_rule.specs.declared.rule.Hypothesis.{Hypothesis}
 use Rattle.mm_rules.specs.declared.rules.RuleRanges.{RuleRanges}
 use Rattle.mm_rules.specs.declared.rules.IndexRange.{IndexRange}
-use Rattle.mm_rule.specs.Rule.{Compiled, compiled, IsCompiled, floating_index, parts_of, all_parts}
-use Rattle.mm_rule.specs.Rule.{count_parts, IsBelow}
+use Rattle.mm_rule.specs.Rule.{CompiledRule, compiled_rule, IsCompiled, floating_index, parts_of}
+use Rattle.mm_rule.specs.Rule.{all_parts}
+use Rattle.mm_rule.specs.Rule.{total_part_count, IsVariableBelow}
 
--- for each variable that has a `$f`, the list has the place of the first one
+-- for each variable that has a `$f`, the list has the index of the first one among the hypotheses
 abbrev pub AreFirstNumbers : List Statement → List Formula → List ℕ → Type 0
-AreFirstNumbers db hs places =
-    (x : ℕ) → IsBound (context_at db 0) hs x → get_or places x 0 ≡ floating_index db hs x
+AreFirstNumbers db hs numbers =
+    (x : ℕ) → IsBound (context_at db 0) hs x → get_or numbers x 0 ≡ floating_index db hs x
 
 -- each variable of the formula has a `$f`
 abbrev pub AreCovered : List Statement → List Formula → Formula → Type 0
@@ -36,22 +37,22 @@ abbrev pub numbered_pairs : List ℕ → List (ℕ × ℕ) → List (ℕ × ℕ)
 numbered_pairs numbers ps = map (λ (p : ℕ × ℕ). (get_or numbers p.0 0, get_or numbers p.1 0)) ps
 
 -- The lists have what the hypotheses `hyps` require: for each of them the parts of its formula, in
--- which a variable is given by the place of its `$f`.
+-- which a variable is given by the index of its `$f`.
 pub record AreCompiled (db : List Statement) (hyps : List ℕ) (hypotheses : List Hypothesis)
     (parts : List RuleSymbol) : Type 0 where
   pub parts_are : all_parts parts 0 hypotheses
       ≡ map (parts_of db (map (formula_at db) hyps)) (map (formula_at db) hyps)
   pub count : length hypotheses ≡ length hyps
-  pub kept : count_parts hypotheses ≡ length parts
-  pub below : All (IsBelow (length hyps)) parts
+  pub part_count_is : total_part_count hypotheses ≡ length parts
+  pub below : All (IsVariableBelow (length hyps)) parts
 
 -- a compiler of rules: how many symbols it knows, and the rule that it compiled last
 pub record CompilerState : Type 0 where
-  pub width : ℕ
-  pub rule : Compiled
+  pub symbol_count : ℕ
+  pub rule : CompiledRule
 
-abbrev pub compiler_state : ℕ → Compiled → CompilerState
-compiler_state width rule = record { width = width; rule = rule }
+abbrev pub compiler_state : ℕ → CompiledRule → CompilerState
+compiler_state symbol_count rule = record { symbol_count = symbol_count; rule = rule }
 
 -- the rules of a database: a list of their ranges, and the lists that all rules share
 pub record RuleLists : Type 0 where
@@ -84,7 +85,7 @@ module _ {X : Type 0} where
   elements_in xs s = slice_range xs s.start s.end
 
 -- how many hypotheses, pairs and symbols a rule has together
-abbrev pub rule_size : Compiled → ℕ
+abbrev pub rule_size : CompiledRule → ℕ
 rule_size c = length c.hypotheses + length c.pairs + length c.parts + length c.formula
 
 -- how many the rules have together
@@ -92,9 +93,9 @@ abbrev pub lists_size : RuleLists → ℕ
 lists_size l = length l.hypotheses + length l.pairs + length l.parts
 
 -- the rule in these ranges
-abbrev pub rule_in : RuleLists → RuleRanges → Compiled
+abbrev pub rule_in : RuleLists → RuleRanges → CompiledRule
 rule_in l s =
-    compiled s.assertion (elements_in l.hypotheses s.hypotheses) (elements_in l.pairs s.pairs)
+    compiled_rule s.assertion (elements_in l.hypotheses s.hypotheses) (elements_in l.pairs s.pairs)
     (elements_in l.parts s.parts) (elements_in l.parts s.formula)
 
 -- a range of a list of `n` elements
@@ -108,7 +109,7 @@ pub record HasRule (db : List Statement) (l : RuleLists) (s : RuleRanges) : Type
   pub pairs : IsIndexRange (length l.pairs) s.pairs
   pub parts : IsIndexRange (length l.parts) s.parts
   pub formula : IsIndexRange (length l.parts) s.formula
-  pub compiled : IsCompiled db (rule_in l s)
+  pub is_compiled : IsCompiled db (rule_in l s)
 
 abbrev pub AreRules : List Statement → RuleLists → Type 0
 AreRules db l = All (HasRule db l) l.ranges
@@ -120,9 +121,9 @@ no_ranges =
 -- `n` is the number of the rule of assertion `a`
 pub record IsRuleNumber (l : RuleLists) (n a : ℕ) : Type 0 where
   pub inside : n < length l.ranges
-  pub is : (get_or l.ranges n no_ranges).assertion ≡ a
+  pub assertion_is : (get_or l.ranges n no_ranges).assertion ≡ a
 
 -- the rule is that of assertion `a`
-pub record IsRuleOf (db : List Statement) (c : Compiled) (a : ℕ) : Type 0 where
-  pub compiled : IsCompiled db c
-  pub is : c.assertion ≡ a
+pub record IsRuleOf (db : List Statement) (c : CompiledRule) (a : ℕ) : Type 0 where
+  pub is_compiled : IsCompiled db c
+  pub assertion_is : c.assertion ≡ a

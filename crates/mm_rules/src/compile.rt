@@ -19,134 +19,144 @@ use std::marker::Model;
 
 /// The variable of a hypothesis that has the form of a `$f`: a constant and a variable. `None` for
 /// any other hypothesis.
-fn variable_of<A: Allocator>(db: &Database<A>, h: u32) -> Option<Sym>
-    requires { h < length db.now.statements }
+fn variable_of<A: Allocator>(database: &Database<A>, hypothesis: u32) -> Option<Sym>
+    requires { hypothesis < length database.now.statements }
     ensures some { IfSome result
-        (λ y. (y < length (symbol_names db.now.statements))
+        (λ y. (y < length (symbol_names database.now.statements))
         × ((x : ℕ)
-        → binds (context_at db.now.statements 0) x (formula_at db.now.statements h)
+        → binds (context_at database.now.statements 0) x
+        (formula_at database.now.statements hypothesis)
         ≡ nat_eq x y)) }
     ensures none { IfNone result
         ((x : ℕ)
-        → binds (context_at db.now.statements 0) x (formula_at db.now.statements h) ≡ false) }
+        → binds (context_at database.now.statements 0) x
+        (formula_at database.now.statements hypothesis) ≡ false) }
 {
-    let wanted = db.formula(h);
-    if wanted.len() == 2 && !db.is_variable(wanted[0]) && db.is_variable(wanted[1]) {
-        Some(wanted[1])
+    let formula = database.formula(hypothesis);
+    if formula.len() == 2 && !database.is_variable(formula[0]) && database.is_variable(formula[1]) {
+        Some(formula[1])
     } else {
         None
     }
 }
 
 /// Sets the number of a symbol.
-fn set_number(numbers: &mut [u32], s: Sym, number: u32)
-    requires { s < length numbers.old }
-    ensures { numbers.new ≡ slice_set numbers.old s number }
+fn set_number(numbers: &mut [u32], symbol: Sym, number: u32)
+    requires { symbol < length numbers.old }
+    ensures { numbers.new ≡ slice_set numbers.old symbol number }
 {
-    numbers[s.number() as usize] = number;
+    numbers[symbol.number() as usize] = number;
 }
 
 /// The number of a symbol.
-fn number_of(numbers: &[u32], s: Sym) -> u32
-    requires { s < length numbers.now }
-    ensures { result ≡ get_or numbers.now s 0 }
+fn number_of(numbers: &[u32], symbol: Sym) -> u32
+    requires { symbol < length numbers.now }
+    ensures { result ≡ get_or numbers.now symbol 0 }
 {
-    numbers[s.number() as usize]
+    numbers[symbol.number() as usize]
 }
 
-/// Sets the number of each variable that has a `$f` to the place of its first one in `hyps`.
-fn number_variables<A: Allocator>(db: &Database<A>, hyps: &[u32], numbers: &mut [u32])
-    requires width { length numbers.old ≡ length (symbol_names db.now.statements) }
-    requires hyps { All (λ h. h < length db.now.statements) hyps.now }
+/// Sets the number of each variable that has a `$f` to the index of its first one in `hyps`.
+fn number_variables<A: Allocator>(database: &Database<A>, hyps: &[u32], numbers: &mut [u32])
+    requires symbol_count { length numbers.old ≡ length (symbol_names database.now.statements) }
+    requires hyps { All (λ h. h < length database.now.statements) hyps.now }
     requires few { length hyps.now < 2 ^ 32 }
-    ensures { AreFirstNumbers db.now.statements (map (formula_at db.now.statements) hyps.now)
+    ensures { AreFirstNumbers database.now.statements
+        (map (formula_at database.now.statements) hyps.now)
         numbers.new }
 {
     let mut j = hyps.len();
     while 0 < j {
         j -= 1;
-        match variable_of(db, hyps[j]) {
-            Some(y) => set_number(numbers, y, j as u32),
+        match variable_of(database, hyps[j]) {
+            Some(variable) => set_number(numbers, variable, j as u32),
             None => {}
         }
     }
 }
 
-/// The part of a symbol.
-fn compile_symbol<A: Allocator>(db: &Database<A>, numbers: &[u32], s: Sym) -> RuleSymbol
-    requires width { length numbers.now ≡ length (symbol_names db.now.statements) }
-    requires known { s < length (symbol_names db.now.statements) }
-    ensures { result ≡ numbered_part db.now.statements numbers.now s }
+/// A symbol as a part of a rule: a variable is given by its number.
+fn compile_symbol<A: Allocator>(database: &Database<A>, numbers: &[u32], symbol: Sym) -> RuleSymbol
+    requires symbol_count { length numbers.now ≡ length (symbol_names database.now.statements) }
+    requires known { symbol < length (symbol_names database.now.statements) }
+    ensures { result ≡ numbered_part database.now.statements numbers.now symbol }
 {
-    if db.is_variable(s) {
-        RuleSymbol::Variable(number_of(numbers, s))
+    if database.is_variable(symbol) {
+        RuleSymbol::Variable(number_of(numbers, symbol))
     } else {
-        RuleSymbol::Constant(s)
+        RuleSymbol::Constant(symbol)
     }
 }
 
-/// Appends the parts of a formula to `parts`.
+/// Appends the symbols of a formula to `parts`.
 fn compile_formula<A: Allocator>(
-    db: &Database<A>,
+    database: &Database<A>,
     numbers: &[u32],
     formula: &[Sym],
     parts: &mut Vec<RuleSymbol, A>,
 ) -> Result<(), AllocError>
-    requires width { length numbers.now ≡ length (symbol_names db.now.statements) }
-    requires known { All (λ s. s < length (symbol_names db.now.statements)) formula.now }
+    requires symbol_count { length numbers.now ≡ length (symbol_names database.now.statements) }
+    requires known { All (λ symbol. symbol < length (symbol_names database.now.statements))
+        formula.now }
     ensures { OnOk result
         (parts.new.items
-        ≡ parts.old.items ++ numbered_parts db.now.statements numbers.now formula.now) }
+        ≡ parts.old.items ++ numbered_parts database.now.statements numbers.now formula.now) }
 {
-    for s in formula {
-        parts.push(compile_symbol(db, numbers, *s))?;
+    for symbol in formula {
+        parts.push(compile_symbol(database, numbers, *symbol))?;
     }
     Ok(())
 }
 
-/// Whether a formula is a constant and a variable with number `j`. Hypothesis `j` then is the first
-/// `$f` of this variable.
-fn is_first<A: Allocator>(db: &Database<A>, numbers: &[u32], j: usize, formula: &[Sym]) -> bool
-    requires width { length numbers.now ≡ length (symbol_names db.now.statements) }
-    requires known { All (λ s. s < length (symbol_names db.now.statements)) formula.now }
+/// Whether a formula is a constant and a variable whose number is `index`. The hypothesis with this
+/// index then is the first `$f` of the variable.
+fn is_first_floating<A: Allocator>(
+    database: &Database<A>,
+    numbers: &[u32],
+    index: usize,
+    formula: &[Sym],
+) -> bool
+    requires symbol_count { length numbers.now ≡ length (symbol_names database.now.statements) }
+    requires known { All (λ s. s < length (symbol_names database.now.statements)) formula.now }
     ensures { result ≡ true
         → (0 < length formula.now)
-        × (numbered_parts db.now.statements numbers.now formula.now
-        ≡ Constant (get_or formula.now 0 0) ∷ Variable j ∷ []) }
+        × (numbered_parts database.now.statements numbers.now formula.now
+        ≡ Constant (get_or formula.now 0 0) ∷ Variable index ∷ []) }
 {
     formula.len() == 2
-        && !db.is_variable(formula[0])
-        && db.is_variable(formula[1])
-        && number_of(numbers, formula[1]) as usize == j
+        && !database.is_variable(formula[0])
+        && database.is_variable(formula[1])
+        && number_of(numbers, formula[1]) as usize == index
 }
 
 /// Builds what the hypotheses require, in lists that are emptied first.
 fn compile_hypotheses<A: Allocator>(
-    db: &Database<A>,
+    database: &Database<A>,
     hyps: &[u32],
     numbers: &[u32],
     hypotheses: &mut Vec<Hypothesis, A>,
     parts: &mut Vec<RuleSymbol, A>,
 ) -> Result<(), AllocError>
-    requires width { length numbers.now ≡ length (symbol_names db.now.statements) }
-    requires placed { AreFirstNumbers db.now.statements
-        (map (formula_at db.now.statements) hyps.now) numbers.now }
-    requires hyps { All (λ h. h < length db.now.statements) hyps.now }
+    requires symbol_count { length numbers.now ≡ length (symbol_names database.now.statements) }
+    requires placed { AreFirstNumbers database.now.statements
+        (map (formula_at database.now.statements) hyps.now) numbers.now }
+    requires hyps { All (λ hypothesis. hypothesis < length database.now.statements) hyps.now }
     requires bound { All
-        (λ h. AreCovered db.now.statements (map (formula_at db.now.statements) hyps.now)
-        (formula_at db.now.statements h)) hyps.now }
+        (λ hypothesis. AreCovered database.now.statements
+        (map (formula_at database.now.statements) hyps.now)
+        (formula_at database.now.statements hypothesis)) hyps.now }
     ensures { OnOk result
-        (AreCompiled db.now.statements hyps.now hypotheses.new.items parts.new.items) }
+        (AreCompiled database.now.statements hyps.now hypotheses.new.items parts.new.items) }
 {
     empty(hypotheses);
     empty(parts);
-    for j in 0..hyps.len() {
-        let h = hyps[j];
-        let formula = db.formula(h);
-        if is_first(db, numbers, j, formula) {
+    for index in 0..hyps.len() {
+        let hypothesis = hyps[index];
+        let formula = database.formula(hypothesis);
+        if is_first_floating(database, numbers, index, formula) {
             hypotheses.push(Hypothesis::Floating(formula[0]))?;
         } else {
-            compile_formula(db, numbers, formula, parts)?;
+            compile_formula(database, numbers, formula, parts)?;
             hypotheses.push(Hypothesis::Essential(formula.len() as u32))?;
         }
     }
@@ -157,17 +167,17 @@ fn compile_hypotheses<A: Allocator>(
 /// emptied first.
 fn compile_pairs<A: Allocator>(
     numbers: &[u32],
-    from: &[(Sym, Sym)],
+    symbol_pairs: &[(Sym, Sym)],
     pairs: &mut Vec<(u32, u32), A>,
 ) -> Result<(), AllocError>
-    requires { All (λ (p : ℕ × ℕ). (p.0 < length numbers.now) × (p.1 < length numbers.now))
-        from.now }
-    ensures { OnOk result (pairs.new.items ≡ numbered_pairs numbers.now from.now) }
+    requires { All (λ (pair : ℕ × ℕ). (pair.0 < length numbers.now) × (pair.1 < length numbers.now))
+        symbol_pairs.now }
+    ensures { OnOk result (pairs.new.items ≡ numbered_pairs numbers.now symbol_pairs.now) }
 {
     empty(pairs);
-    for p in from {
-        let low = number_of(numbers, p.0);
-        let high = number_of(numbers, p.1);
+    for pair in symbol_pairs {
+        let low = number_of(numbers, pair.0);
+        let high = number_of(numbers, pair.1);
         pairs.push((low, high))?;
     }
     Ok(())
@@ -175,13 +185,14 @@ fn compile_pairs<A: Allocator>(
 
 /// Compiles rules, one at a time. It reuses the memory of the rules that it compiled before.
 pub struct RuleCompiler<A: Allocator> {
-    /// The assertion of the last rule.
+    /// The assertion of the rule that was compiled last. The lists are those of this rule.
     assertion: u32,
     hypotheses: Vec<Hypothesis, A>,
     pairs: Vec<(u32, u32), A>,
     parts: Vec<RuleSymbol, A>,
     formula: Vec<RuleSymbol, A>,
-    /// A number for each symbol, with no meaning between calls.
+    /// For each variable of the rule the index of its first `$f` among the mandatory hypotheses.
+    /// What other symbols have here means nothing.
     numbers: Vec<u32, A>,
 }
 
@@ -202,20 +213,22 @@ impl<A: Allocator> Drop for RuleCompiler<A> {
 impl<A: Allocator> Model for RuleCompiler<A> {
     ghost use Rattle.std.specs.Prelude.{length};
     ghost use Rattle.mm_rules.specs.Rules.{CompilerState, compiler_state};
-    ghost use Rattle.mm_rule.specs.Rule.{compiled};
+    ghost use Rattle.mm_rule.specs.Rule.{compiled_rule};
 
     ghost Value = { CompilerState };
 
     ghost view = { λ m. compiler_state (length m.numbers.items)
-        (compiled m.assertion m.hypotheses.items m.pairs.items m.parts.items m.formula.items) };
+        (compiled_rule m.assertion m.hypotheses.items m.pairs.items
+        m.parts.items m.formula.items) };
 }
 
 impl<A: Allocator> RuleCompiler<A> {
     /// A compiler for the rules of a database.
-    pub fn new(alloc: A, db: &Database<A>) -> Result<Self, AllocError>
+    pub fn new(alloc: A, database: &Database<A>) -> Result<Self, AllocError>
     where
         A: Copy,
-        ensures { IfOk result (λ m. m.width ≡ length (symbol_names db.now.statements)) }
+        ensures { IfOk result
+            (λ m. m.symbol_count ≡ length (symbol_names database.now.statements)) }
     {
         Ok(RuleCompiler {
             assertion: 0,
@@ -223,7 +236,7 @@ impl<A: Allocator> RuleCompiler<A> {
             pairs: Vec::new(alloc),
             parts: Vec::new(alloc),
             formula: Vec::new(alloc),
-            numbers: vec![in alloc; 0; db.symbol_count() as usize]?,
+            numbers: vec![in alloc; 0; database.symbol_count() as usize]?,
         })
     }
 
@@ -240,28 +253,34 @@ impl<A: Allocator> RuleCompiler<A> {
         }
     }
 
-    /// Compiles the rule of assertion `k`.
-    pub fn compile(&mut self, db: &Database<A>, k: u32) -> Result<(), AllocError>
-        requires assertion { is_assertion_at db.now.statements k ≡ true }
-        requires complete { IsComplete (context_at db.now.statements 0)
-            (frame_at db.now.statements k) }
-        requires width { self.old.width ≡ length (symbol_names db.now.statements) }
-        ensures width { self.new.width ≡ self.old.width }
-        ensures assertion { OnOk result (self.new.rule.assertion ≡ k) }
-        ensures made { OnOk result (IsCompiled db.now.statements self.new.rule) }
+    /// Compiles the rule of an assertion.
+    pub fn compile(&mut self, database: &Database<A>, assertion: u32) -> Result<(), AllocError>
+        requires assertion { is_assertion_at database.now.statements assertion ≡ true }
+        requires complete { IsComplete (context_at database.now.statements 0)
+            (frame_at database.now.statements assertion) }
+        requires symbol_count { self.old.symbol_count
+            ≡ length (symbol_names database.now.statements) }
+        ensures symbol_count { self.new.symbol_count ≡ self.old.symbol_count }
+        ensures assertion { OnOk result (self.new.rule.assertion ≡ assertion) }
+        ensures compiled_rule { OnOk result (IsCompiled database.now.statements self.new.rule) }
     {
-        let hyps = hyps(db, k);
-        self.assertion = k;
-        number_variables(db, hyps, &mut self.numbers);
+        let hyps = hyps(database, assertion);
+        self.assertion = assertion;
+        number_variables(database, hyps, &mut self.numbers);
         compile_hypotheses(
-            db,
+            database,
             hyps,
             &self.numbers,
             &mut self.hypotheses,
             &mut self.parts,
         )?;
-        compile_pairs(&self.numbers, pairs(db, k), &mut self.pairs)?;
+        compile_pairs(&self.numbers, pairs(database, assertion), &mut self.pairs)?;
         empty(&mut self.formula);
-        compile_formula(db, &self.numbers, db.formula(k), &mut self.formula)
+        compile_formula(
+            database,
+            &self.numbers,
+            database.formula(assertion),
+            &mut self.formula,
+        )
     }
 }

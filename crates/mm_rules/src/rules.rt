@@ -18,17 +18,19 @@ use mm_rule::{
 use std::alloc::{AllocError, Allocator};
 use std::marker::Model;
 
-/// How many hypotheses, pairs and symbols of rules are held together in any case.
-const ALWAYS_HELD: usize = 8_388_608;
+/// The elements of rules are their hypotheses, pairs and symbols. As many of them as this may be
+/// held whatever the length of the text.
+const MIN_LIMIT: usize = 8_388_608;
 
-/// For so many bytes of the text, one of them is held in any case. Rules of databases as they are
-/// written have one for some 16 bytes; a frame can be much longer than its text.
-const BYTES_FOR_ONE: usize = 8;
+/// In a long text, one element may be held for so many bytes. Databases as they are written have
+/// one for some 16 bytes, so all of theirs are held.
+const BYTES_FOR_ONE_ELEMENT: usize = 8;
 
-/// A rule that would make more of them together isn't held, so that a place has 32 bits.
-const MAX_PLACE: usize = 4_294_967_295;
+/// The greatest end of a range. A rule whose ranges would end after it isn't held, so 32 bits are
+/// enough for an index.
+const MAX_INDEX: usize = 4_294_967_295;
 
-/// A range of a list: from place `start` up to, but not including, place `end`.
+/// A range of a list: from index `start` up to, but not including, index `end`.
 #[derive(Clone, Copy, Drop)]
 pub struct IndexRange {
     pub start: u32,
@@ -38,6 +40,7 @@ pub struct IndexRange {
 /// The ranges of a rule in the lists of all rules.
 #[derive(Clone, Copy, Drop)]
 pub struct RuleRanges {
+    /// The assertion whose rule this is.
     pub assertion: u32,
     pub hypotheses: IndexRange,
     pub pairs: IndexRange,
@@ -47,12 +50,13 @@ pub struct RuleRanges {
 
 /// The rules of the assertions of a database, as far as they are held. The workers share them.
 pub struct Rules<A: Allocator> {
+    /// The ranges of each rule in the lists below, which all rules share.
     ranges: Vec<RuleRanges, A>,
     hypotheses: Vec<Hypothesis, A>,
     pairs: Vec<(u32, u32), A>,
     /// The symbols of hypotheses and of formulas.
     parts: Vec<RuleSymbol, A>,
-    /// For each statement, the number that its rule may have; `find` verifies it.
+    /// For each statement an index in `ranges` at which its rule may be; `find` verifies it.
     numbers: Vec<u32, A>,
 }
 
@@ -77,13 +81,13 @@ impl<A: Allocator> Model for Rules<A> {
     ghost view = { λ r. rule_lists r.ranges.items r.hypotheses.items r.pairs.items r.parts.items };
 }
 
-/// Once the rules have so many hypotheses, pairs and symbols together, no more rules are held. So
-/// frames that are much longer than the text aren't all held.
-fn most_held<A: Allocator>(db: &Database<A>) -> usize {
-    ALWAYS_HELD.max(db.text().len() / BYTES_FOR_ONE)
+/// How many elements may be held: once there are so many, no more rules are held. So frames that
+/// are much longer than the text aren't all held.
+fn element_limit<A: Allocator>(database: &Database<A>) -> usize {
+    MIN_LIMIT.max(database.text().len() / BYTES_FOR_ONE_ELEMENT)
 }
 
-/// About how long the lists of all rules will be.
+/// About how long the lists of all rules will be, so that they needn't be moved as they grow.
 #[derive(Drop)]
 struct Lengths {
     rules: usize,
@@ -94,52 +98,54 @@ struct Lengths {
 
 impl Lengths {
     /// The lengths of the lists of a database's rules, without those that come after the limit.
-    fn of<A: Allocator>(db: &Database<A>) -> Self {
+    fn of<A: Allocator>(database: &Database<A>) -> Self {
         let mut lengths = Lengths {
             rules: 0,
             hypotheses: 0,
             pairs: 0,
             parts: 0,
         };
-        let most = most_held(db);
-        for k in 0..db.len() {
-            if is_assertion(db, k) && lengths.sum() < most {
-                lengths.add(db, k);
+        let limit = element_limit(database);
+        for statement in 0..database.len() {
+            if is_assertion(database, statement) && lengths.element_count() < limit {
+                lengths.add(database, statement);
             }
         }
         lengths
     }
 
-    /// How many hypotheses, pairs and symbols there are together.
-    fn sum(&self) -> usize {
+    /// How many elements there are.
+    fn element_count(&self) -> usize {
         self.hypotheses
             .saturating_add(self.pairs)
             .saturating_add(self.parts)
     }
 
-    /// Adds what the rule of assertion `k` has. Each `$f` counts as the first of its variable.
-    fn add<A: Allocator>(&mut self, db: &Database<A>, k: u32)
-        requires { is_assertion_at db.now.statements k ≡ true }
+    /// Adds the lengths of the rule of an assertion. Each `$f` counts as the first of its variable.
+    fn add<A: Allocator>(&mut self, database: &Database<A>, assertion: u32)
+        requires { is_assertion_at database.now.statements assertion ≡ true }
     {
-        let hyps = hyps(db, k);
+        let hyps = hyps(database, assertion);
         self.rules = self.rules.saturating_add(1);
         self.hypotheses = self.hypotheses.saturating_add(hyps.len());
-        self.pairs = self.pairs.saturating_add(pairs(db, k).len());
-        self.parts = self.parts.saturating_add(db.formula(k).len());
-        for h in hyps {
-            if is_essential_hypothesis(db, *h) {
-                self.parts = self.parts.saturating_add(db.formula(*h).len());
+        self.pairs = self.pairs.saturating_add(pairs(database, assertion).len());
+        self.parts = self.parts.saturating_add(database.formula(assertion).len());
+        for hypothesis in hyps {
+            if is_essential_hypothesis(database, *hypothesis) {
+                self.parts = self
+                    .parts
+                    .saturating_add(database.formula(*hypothesis).len());
             }
         }
     }
 }
 
-/// How many hypotheses, pairs and symbols a rule has together.
-fn size_of(rule: &Rule) -> usize
+/// How many elements a rule has.
+fn elements_of(rule: &Rule) -> usize
     ensures { result ≡ min (rule_size rule.now) 18446744073709551615 }
 {
-    let hypotheses = rule.hypotheses.len().saturating_add(rule.pairs.len());
-    hypotheses
+    let hypotheses_and_pairs = rule.hypotheses.len().saturating_add(rule.pairs.len());
+    hypotheses_and_pairs
         .saturating_add(rule.parts.len())
         .saturating_add(rule.formula.len())
 }
@@ -153,8 +159,11 @@ fn elements<T>(list: &[T], range: IndexRange) -> &[T]
     &list[range.start as usize..range.end as usize]
 }
 
-/// Appends elements to a list and returns the range that they occupy.
-fn put<T: Copy, A: Allocator>(list: &mut Vec<T, A>, more: &[T]) -> Result<IndexRange, AllocError>
+/// Appends elements to a list and returns their range.
+fn append_range<T: Copy, A: Allocator>(
+    list: &mut Vec<T, A>,
+    more: &[T],
+) -> Result<IndexRange, AllocError>
     requires { length list.old.items + length more.now < 2 ^ 32 }
     ensures items { OnOk result (list.new.items ≡ list.old.items ++ more.now) }
     ensures start { IfOk result (λ s. s.start ≡ length list.old.items) }
@@ -185,18 +194,18 @@ impl<A: Allocator> Rules<A> {
     }
 
     /// No rules, in lists with room for those of a database.
-    fn with_room(alloc: A, db: &Database<A>) -> Result<Self, AllocError>
+    fn with_room(alloc: A, database: &Database<A>) -> Result<Self, AllocError>
     where
         A: Copy,
         ensures { IfOk result (λ r. r ≡ rule_lists [] [] [] []) }
     {
-        let lengths = Lengths::of(db);
+        let lengths = Lengths::of(database);
         Ok(Rules {
             ranges: Vec::with_capacity(alloc, lengths.rules)?,
             hypotheses: Vec::with_capacity(alloc, lengths.hypotheses)?,
             pairs: Vec::with_capacity(alloc, lengths.pairs)?,
             parts: Vec::with_capacity(alloc, lengths.parts)?,
-            numbers: vec![in alloc; 0; db.len() as usize]?,
+            numbers: vec![in alloc; 0; database.len() as usize]?,
         })
     }
 
@@ -208,33 +217,35 @@ impl<A: Allocator> Rules<A> {
     {
         let mut rules = Self::with_room(alloc, database)?;
         let mut compiler = RuleCompiler::new(alloc, database)?;
-        for k in 0..database.len() {
-            rules.hold(database, k, &mut compiler)?;
+        for statement in 0..database.len() {
+            rules.hold_rule(database, statement, &mut compiler)?;
         }
         Ok(rules)
     }
 
-    /// Compiles and holds the rule of statement `k`, if this is an assertion and there is room.
-    fn hold(
+    /// Compiles the rule of a statement and holds it, if this is an assertion and the limit
+    /// permits.
+    fn hold_rule(
         &mut self,
-        db: &Database<A>,
-        k: u32,
+        database: &Database<A>,
+        statement: u32,
         compiler: &mut RuleCompiler<A>,
     ) -> Result<(), AllocError>
-        requires statement { k < length db.now.statements }
-        requires complete { AreComplete db.now.statements }
-        requires width { compiler.old.width ≡ length (symbol_names db.now.statements) }
-        requires rules { AreRules db.now.statements self.old }
-        ensures width { compiler.new.width ≡ compiler.old.width }
-        ensures rules { OnOk result (AreRules db.now.statements self.new) }
+        requires statement { statement < length database.now.statements }
+        requires complete { AreComplete database.now.statements }
+        requires symbol_count { compiler.old.symbol_count
+            ≡ length (symbol_names database.now.statements) }
+        requires rules { AreRules database.now.statements self.old }
+        ensures symbol_count { compiler.new.symbol_count ≡ compiler.old.symbol_count }
+        ensures rules { OnOk result (AreRules database.now.statements self.new) }
     {
-        if !is_assertion(db, k) {
+        if !is_assertion(database, statement) {
             return Ok(());
         }
-        if self.size() >= most_held(db) {
+        if self.element_count() >= element_limit(database) {
             return Ok(());
         }
-        compiler.compile(db, k)?;
+        compiler.compile(database, statement)?;
         let rule = compiler.rule();
         if !self.fits(&rule) {
             return Ok(());
@@ -242,19 +253,19 @@ impl<A: Allocator> Rules<A> {
         self.add(rule)
     }
 
-    /// How many hypotheses, pairs and symbols the rules have together.
-    fn size(&self) -> usize
+    /// How many elements are held.
+    fn element_count(&self) -> usize
         ensures { result ≡ min (lists_size self.now) 18446744073709551615 }
     {
-        let held = self.hypotheses.len().saturating_add(self.pairs.len());
-        held.saturating_add(self.parts.len())
+        let hypotheses_and_pairs = self.hypotheses.len().saturating_add(self.pairs.len());
+        hypotheses_and_pairs.saturating_add(self.parts.len())
     }
 
-    /// Whether places have 32 bits with one more rule.
+    /// Whether 32 bits are enough for an index once one more rule is held.
     fn fits(&self, rule: &Rule) -> bool
         ensures { result ≡ true → lists_size self.now + rule_size rule.now < 2 ^ 32 }
     {
-        self.size().saturating_add(size_of(rule)) <= MAX_PLACE
+        self.element_count().saturating_add(elements_of(rule)) <= MAX_INDEX
     }
 
     /// Adds a rule. If the rules are those of a database, and this is one of them, they still are.
@@ -265,10 +276,10 @@ impl<A: Allocator> Rules<A> {
             → AreRules db self.old → IsCompiled db rule.entry → AreRules db self.new) }
     {
         let number = self.ranges.len();
-        let hypotheses = put(&mut self.hypotheses, rule.hypotheses)?;
-        let pairs = put(&mut self.pairs, rule.pairs)?;
-        let parts = put(&mut self.parts, rule.parts)?;
-        let formula = put(&mut self.parts, rule.formula)?;
+        let hypotheses = append_range(&mut self.hypotheses, rule.hypotheses)?;
+        let pairs = append_range(&mut self.pairs, rule.pairs)?;
+        let parts = append_range(&mut self.parts, rule.parts)?;
+        let formula = append_range(&mut self.parts, rule.formula)?;
         self.ranges.push(RuleRanges {
             assertion: rule.assertion,
             hypotheses,
@@ -280,31 +291,32 @@ impl<A: Allocator> Rules<A> {
         Ok(())
     }
 
-    /// The number of an assertion's rule; `None` if the rule isn't held.
-    pub fn find(&self, k: u32) -> Option<usize>
-        ensures { IfSome result (λ n. IsRuleNumber self.now n k) }
+    /// The number of an assertion's rule, which is its index in `ranges`; `None` if the rule isn't
+    /// held.
+    pub fn find(&self, assertion: u32) -> Option<usize>
+        ensures { IfSome result (λ number. IsRuleNumber self.now number assertion) }
     {
-        let i = k as usize;
-        if i >= self.numbers.len() {
+        let index = assertion as usize;
+        if index >= self.numbers.len() {
             return None;
         }
-        let n = self.numbers[i] as usize;
-        if n < self.ranges.len() && self.ranges[n].assertion == k {
-            Some(n)
+        let number = self.numbers[index] as usize;
+        if number < self.ranges.len() && self.ranges[number].assertion == assertion {
+            Some(number)
         } else {
             None
         }
     }
 
-    /// The rule with number `n`.
-    pub fn rule(&self, _db: &Database<A>, n: usize) -> Rule<'_>
-        requires rules { AreRules _db.now.statements self.now }
-        requires ranges { n < length self.now.ranges }
+    /// The rule with this number.
+    pub fn rule(&self, _database: &Database<A>, number: usize) -> Rule<'_>
+        requires rules { AreRules _database.now.statements self.now }
+        requires ranges { number < length self.now.ranges }
         ensures assertion { result.assertion
-            ≡ (get_or self.now.ranges n no_ranges).assertion }
-        ensures rule { IsCompiled _db.now.statements result }
+            ≡ (get_or self.now.ranges number no_ranges).assertion }
+        ensures rule { IsCompiled _database.now.statements result }
     {
-        let ranges = self.ranges[n];
+        let ranges = self.ranges[number];
         Rule {
             assertion: ranges.assertion,
             hypotheses: elements(&self.hypotheses, ranges.hypotheses),

@@ -15,7 +15,7 @@ use Rattle.mm_spec.specs.Lawful.{IsLawful}
 use Rattle.mm_spec.specs.Frame.{symbol_names, index_of, first_occurrences, formula_at}
 use Rattle.mm_spec.proofs.FindsLaw.{formula_at_is}
 use Rattle.mm_spec.proofs.SymbolLaw.{declared_here}
-use Rattle.mm_database.proofs.SymbolsLaw.{itself, in_first, place_in}
+use Rattle.mm_database.proofs.SymbolsLaw.{itself, in_first, index_in}
 use Rattle.mm_outline.proofs.StatementsLaw.{get_mapped}
 
 -- ---- symbols are declared
@@ -50,7 +50,7 @@ symbols_known db law k l s e =
     symbol_known db law k l s e w (in_get ws i [] inside) in
     let place =
     slice_get_within (symbol_names db) (index_of w (symbol_names db)) w
-    (place_in (symbol_names db) w known) in
+    (index_in (symbol_names db) w known) in
     subst (λ x. x < length (symbol_names db))
     (sym (get_mapped (λ w. index_of w (symbol_names db)) ws i [] d inside)) place)
 

@@ -12,7 +12,7 @@ use Rattle.mm_outline.specs.declared.parts.Outline.{Outline}
 use Rattle.mm_spec.specs.Frame.{symbol_names}
 use Rattle.mm_outline.specs.Blocks.{BlockLists, IsBlocks}
 use Rattle.mm_lists.specs.Lists.{cut}
-use Rattle.mm_database.specs.Parsed.{parsed}
+use Rattle.mm_database.specs.ParsedStatements.{parsed_statements}
 use Rattle.mm_database.specs.Names.{find, names_of}
 use Rattle.mm_scope.specs.Formulas.{AreFormulas}
 use Rattle.mm_scope.specs.declared.reading.Outlined.{Outlined}
@@ -75,7 +75,7 @@ module _ {A : Type 0} where
   abbrev pub reading_of : List ℕ → Outlined A → Reading A
   reading_of text r = record {
     statements =
-        parsed text (statements text (tokens_of text) r.outlines.items) r.scope.blocks;
+        parsed_statements text (statements text (tokens_of text) r.outlines.items) r.scope.blocks;
     names = r.scope.names;
     fault = r.fault;
   }

@@ -16,7 +16,7 @@ ghost use Rattle.mm_scope.specs.Scopes.{IsAmong, IsLeastFault, names_in};
 use crate::scope::Scope;
 use indexmap::IndexMap;
 use mm_database::name::Name;
-use mm_database::names::Map;
+use mm_database::names::NameMap;
 use mm_outline::parts::{Kind, Outline};
 use mm_outline::symbol::Sym;
 use mm_spec::{Code, Fault, Word};
@@ -341,7 +341,7 @@ fn is_among(text: &[u8], tokens: &[Word], from: u32, at: u32) -> bool
 /// Whether the word at `at` of a list that begins at `from` occurs earlier in the list. If the list
 /// isn't short, `seen` has the words before `at`, and the call adds the one at `at`.
 fn is_repeated<'a, A: Allocator + Copy>(
-    seen: &mut Map<'a, u32, A>,
+    seen: &mut NameMap<'a, u32, A>,
     is_short: bool,
     text: &'a [u8],
     tokens: &[Word],
@@ -372,7 +372,7 @@ fn is_repeated<'a, A: Allocator + Copy>(
 
 /// Returns whether the word is in `seen`, and adds it.
 fn see<'a, A: Allocator + Copy>(
-    seen: &mut Map<'a, u32, A>,
+    seen: &mut NameMap<'a, u32, A>,
     word: &'a [u8],
 ) -> Result<bool, AllocError>
     ensures was { IfOk result (λ b. b ≡ is_some (find seen.old.entries word.now)) }

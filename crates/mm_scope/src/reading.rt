@@ -4,7 +4,7 @@ ghost use Rattle.std.specs.Prelude.{◌≡◌, ◌<◌, ◌^◌, [], None, All, 
 ghost use Rattle.mm_spec.specs.Output.{IsRead};
 ghost use Rattle.mm_spec.specs.Lexed.{tokens_of};
 ghost use Rattle.mm_lists.specs.Lists.{ArePlaces};
-ghost use Rattle.mm_database.specs.Parsed.{AreParts};
+ghost use Rattle.mm_database.specs.ParsedStatements.{AreParsedStatements};
 ghost use Rattle.mm_outline.specs.Parts.{AreWithin, IsOutline, depth_after, statement_of};
 ghost use Rattle.mm_outline.specs.Tokens.{AreTokens};
 ghost use Rattle.mm_outline.specs.Statements.{end_fault_of, lexed, statements};
@@ -52,7 +52,7 @@ impl<'a, A: Allocator> Outlined<'a, A> {
     /// whether it is a variable.
     pub fn into_reading(self, text: &'a [u8], variables: Vec<bool, A>) -> Reading<'a, A>
         requires places { ArePlaces self.places.items (length self.numbers.items) }
-        requires parts { AreParts
+        requires parts { AreParsedStatements
             (statements text.now (tokens_of text.now) self.outlines.items) self.scope.blocks
             (formulas_of self) variables.items }
         ensures { result ≡ reading_of text.now self.entry }

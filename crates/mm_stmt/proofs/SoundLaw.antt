@@ -17,17 +17,17 @@ use Rattle.mm_outline.specs.Blocks.{BlockLists}
 use Rattle.mm_scope.specs.WordEntry.{WordEntry, entry_of}
 use Rattle.mm_scope.specs.WordEntry.{is_constant_entry, is_variable_entry}
 use Rattle.mm_scope.specs.Keeps.{KnowsStatements}
-use Rattle.mm_database.specs.Parsed.{IsSound}
+use Rattle.mm_database.specs.ParsedStatements.{IsSound}
 use Rattle.mm_database.specs.declared.names.Symbol.{Symbol}
 use Rattle.mm_scope.proofs.BoundsLaw.{symbols_known}
 
 one_kind : (x : Option WordEntry) → is_constant_entry x ≡ true → is_variable_entry x ≡ false
 one_kind None e = refl
-one_kind (Some e) h = by e.is_variable h
+one_kind (Some e) h = by_values e.is_variable h
   where
-    by : (b : Bool) → not b ≡ true → b ≡ false
-    by true h = absurd (true≢false (sym h))
-    by false h = refl
+    by_values : (b : Bool) → not b ≡ true → b ≡ false
+    by_values true h = absurd (true≢false (sym h))
+    by_values false h = refl
 
 pub sound_is : (db : List Statement) (look : List ℕ → Option Symbol) (labels : List ℕ → Option ℕ)
     → (b : BlockLists)
@@ -38,9 +38,9 @@ pub sound_is : (db : List Statement) (look : List ℕ → Option Symbol) (labels
 sound_is db look labels b x few lawful below = record {
   few = few;
   lawful = lawful;
-  apart =
+  no_constant_is_variable =
       λ w e. let k = x.symbols w in k.variable ∙ one_kind (entry_of (look w)) (sym k.constant ∙ e);
-  below = below;
+  symbols_have_numbers = below;
 }
 
 -- what has been read is lawful
@@ -80,9 +80,9 @@ pub are_symbols : (db : List Statement) (look : List ℕ → Option Symbol) (lab
     → ((s : ℕ) (w : List ℕ) → slice_get names s ≡ Some w
     → get_or kinds s false ≡ is_variable_in (look w))
     → AreSymbols db names kinds
-are_symbols db look labels b x names kinds e n h = record {
+are_symbols db look labels b x names kinds e length_kinds_is_length_names h = record {
   names_are = e;
-  count = n;
+  count = length_kinds_is_length_names;
   variable = λ s l.
       let w = get_or names s [] in
       let there = slice_get-get_or names s [] l in

@@ -78,6 +78,7 @@ pub(crate) fn kinds_of<A: Allocator + Copy>(
     Ok(kinds)
 }
 
+/// Whether a statement of this kind is a theorem.
 fn is_theorem(kind: Kind) -> bool
     ensures { result ≡ is_theorem_kind kind }
 {
@@ -98,10 +99,10 @@ pub(crate) fn assertions_of<A: Allocator + Copy>(
 {
     let mut theorems = Vec::new(alloc);
     let mut axioms = Vec::new(alloc);
-    for k in 0..kinds.len() as u32 {
-        match kinds[k as usize] {
-            Kind::Theorem => theorems.push(k)?,
-            Kind::Axiom => axioms.push(k)?,
+    for statement in 0..kinds.len() as u32 {
+        match kinds[statement as usize] {
+            Kind::Theorem => theorems.push(statement)?,
+            Kind::Axiom => axioms.push(statement)?,
             _ => {}
         }
     }

@@ -1,16 +1,16 @@
 //! Reading: from the tokens of a text to its database. This layer has the statements judged by
-//! `mm_scope` and their frames made by `mm_frame`, and finds out what else is kept of them. [`read`]
-//! borrows the tokens; [`read_owned`] takes them, and frees them before it makes the frames. The
-//! layer promises that the statements are those before the first malformed or unlawful
+//! `mm_scope` and their frames made by `mm_frame`, and finds out what else is kept of them.
+//! [`read`] borrows the tokens; [`read_owned`] takes them, and frees them before it makes the
+//! frames. The layer promises that the statements are those before the first malformed or unlawful
 //! one, and that the fault is the fault there (`Rattle.mm_spec.specs.Output.IsRead`).
 #![tactic(auto)]
 
-mod kept;
 mod kinds;
-mod listed;
 mod reader;
 mod reading;
-mod spaced;
+mod retained_words;
+mod spaced_labels;
+mod statement_lists;
 
 pub use mm_database::{Code, Database, Fault, Frame, Kind, Sym, Word};
 pub use reader::{read, read_owned};

@@ -5,12 +5,12 @@ ghost use Rattle.mm_spec.specs.Lexed.{tokens_of, lexical_fault, lexed_of};
 ghost use Rattle.mm_spec.specs.Opened.{counted};
 ghost use Rattle.mm_spec.specs.Output.{IsRead};
 
-use crate::kept::keep_all;
-use crate::listed::list_statements;
 use crate::reading::reading_of;
+use crate::retained_words::retain_all_words;
+use crate::statement_lists::list_statements;
 use mm_database::Database;
-use mm_database::found::Found;
-use mm_frame::frames::gather;
+use mm_database::tables::StatementTables;
+use mm_frame::frames::frame_tables_of;
 use mm_scope::reading::outline;
 use mm_spec::Lexed;
 use std::alloc::{AllocError, Allocator};
@@ -63,16 +63,17 @@ pub fn read_owned<'a, A: Allocator + Copy>(
     let Lexed { tokens, fault } = lexed;
     let words = tokens.as_slice();
     let outlined = outline(alloc, text, words, fault)?;
-    let listed = list_statements(alloc, text, words, &outlined.outlines, with_open)?;
-    let kept = keep_all(alloc, words, &outlined.outlines)?;
-    // Frames and the index of the `$d` need no tokens, and their memory.
+    let statement_lists = list_statements(alloc, text, words, &outlined.outlines, with_open)?;
+    let retained_words = retain_all_words(alloc, words, &outlined.outlines)?;
+    // The frames and the index of the `$d` need no tokens, so the memory of the tokens is free for
+    // them.
     drop(tokens);
-    let read = reading_of(alloc, text, outlined)?;
-    let beside = gather(alloc, &read.statements)?;
-    let found = Found {
-        beside,
-        listed,
-        kept,
+    let reading = reading_of(alloc, text, outlined)?;
+    let frame_tables = frame_tables_of(alloc, &reading.statements)?;
+    let tables = StatementTables {
+        frame_tables,
+        statement_lists,
+        retained_words,
     };
-    Ok(Database::new(with_open, read, found))
+    Ok(Database::new(with_open, reading, tables))
 }

@@ -5,7 +5,7 @@ ghost use Rattle.mm_spec.specs.Lexed.{tokens_of};
 ghost use Rattle.mm_outline.specs.Statements.{statements};
 ghost use Rattle.mm_scope.specs.Keeps.{IsKeptOf, kept_by, reading_of};
 ghost use Rattle.mm_database.specs.Names.{names_of};
-ghost use Rattle.mm_database.specs.Parsed.{IsSound};
+ghost use Rattle.mm_database.specs.ParsedStatements.{IsSound};
 
 use mm_database::reading::Reading;
 use mm_scope::reading::Outlined;
@@ -15,14 +15,14 @@ use std::alloc::{AllocError, Allocator};
 pub(crate) fn reading_of<'a, A: Allocator + Copy>(
     alloc: A,
     text: &'a [u8],
-    read: Outlined<'a, A>,
+    outlined: Outlined<'a, A>,
 ) -> Result<Reading<'a, A>, AllocError>
-    requires sound { IsSound (statements text.now (tokens_of text.now) read.outlines.items) }
-    requires kept { IsKeptOf (statements text.now (tokens_of text.now) read.outlines.items)
-        (kept_by read) }
-    requires few_symbols { length (names_of read.scope.names.symbols) < 2 ^ 31 }
-    ensures { IfOk result (λ r. r ≡ reading_of text.now read.entry) }
+    requires sound { IsSound (statements text.now (tokens_of text.now) outlined.outlines.items) }
+    requires kept { IsKeptOf (statements text.now (tokens_of text.now) outlined.outlines.items)
+        (kept_by outlined) }
+    requires few_symbols { length (names_of outlined.scope.names.symbols) < 2 ^ 31 }
+    ensures { IfOk result (λ r. r ≡ reading_of text.now outlined.entry) }
 {
-    let variables = read.scope.names.variables(alloc)?;
-    Ok(read.into_reading(text, variables))
+    let variable_flags = outlined.scope.names.variable_flags(alloc)?;
+    Ok(outlined.into_reading(text, variable_flags))
 }

@@ -4,11 +4,14 @@ use Rattle.std.proofs.lemmas.Bool.{cases_lt, lt-ltb}
 use Rattle.mm_outline.specs.Blocks.{end_of}
 use Rattle.mm_database.specs.Pairs.{has_pair}
 use Rattle.mm_database.specs.DisjointIndex.{PairLists}
-use Rattle.mm_database.proofs.DisjointIndexLaw.{none_on_left, none_on_right, none_at_end, none_left, sooner}
-use Rattle.mm_database.proofs.DisjointIndexLaw.{at_has, parted_here, symbol_here, no_symbol_here}
+use Rattle.mm_database.proofs.DisjointIndexLaw.{none_before_x_end, none_before_y_end, none_at_end}
+use Rattle.mm_database.proofs.DisjointIndexLaw.{none_before_end}
+use Rattle.mm_database.proofs.DisjointIndexLaw.{is_before}
+use Rattle.mm_database.proofs.DisjointIndexLaw.{at_has, parted_by_values, symbol_by_values}
+use Rattle.mm_database.proofs.DisjointIndexLaw.{other_symbol_by_values}
 use Rattle.mm_database.proofs.disjoint_index.are_together.Goals as goal
-use Rattle.mm_database.proofs.disjoint_index.are_together.Goals.{else-one-other-via-then-one-other+else-is_open_at}
-use Rattle.mm_database.proofs.disjoint_index.are_together.Goals.{else-one-other-via-else-one-other}
+use Rattle.mm_database.proofs.disjoint_index.are_together.Goals.{else-x_statement-y_statement-via-then-x_statement-y_statement+else-is_open_at}
+use Rattle.mm_database.proofs.disjoint_index.are_together.Goals.{else-x_statement-y_statement-via-else-x_statement-y_statement}
 
 pub returns-then-is_open_at-clause-found : goal.returns-then-is_open_at-clause-found
 returns-then-is_open_at-clause-found g c =
@@ -17,57 +20,63 @@ returns-then-is_open_at-clause-found g c =
     let x = c.args.x in
     let y = c.args.y in
     let at = c.args.at in
-    let left = c.loop-pairs.left in
-    let right = c.loop-pairs.right in
-    let start = c.count_before-left.result in
+    let x_end = c.loop-pairs.x_end in
+    let y_end = c.loop-pairs.y_end in
+    let start = c.count_before-x_end.result in
     let v =
     c.as_slice-pairs.ensures.value ∙ ap (λ (i : PairLists). i.pairs) c.disjoint_index.view_is in
-    let of = c.count_before-left.ensures in
-    let parted = parted_here _ ps _ x v c.number.ensures at start of.within of.before of.after in
-    let one = c.ends_with.ensures.some c.loop-pairs-test.true in
-    let other = c.ends_with-in-loop-pairs.ensures.some c.if-ends_with.true in
-    let has_x = symbol_here _ ps _ x v c.number-in-loop-pairs.ensures (left - 1) one.1 in
-    let has_y = symbol_here _ ps _ y v c.number-in-loop-pairs-2.ensures (right - 1) other.1 in
-    let same : (get_or ps (left - 1) (0, 0)).1 ≡ (get_or ps (right - 1) (0, 0)).1 =
-    subst (λ (qs : List (ℕ × ℕ)). (get_or qs (left - 1) (0, 0)).1
-    ≡ (get_or qs (right - 1) (0, 0)).1) v c.if-one-other.true in
-    let j = (get_or ps (left - 1) (0, 0)).1 in
-    let some = one.0 in
-    let many = other.0 in
+    let of = c.count_before-x_end.ensures in
+    let parted = parted_by_values _ ps _ x v c.number.ensures at start of.within of.before of.after
+    in
+    let x_statement = c.ends_with.ensures.some c.loop-pairs-test.true in
+    let y_statement = c.ends_with-in-loop-pairs.ensures.some c.if-ends_with.true in
+    let has_x = symbol_by_values _ ps _ x v c.number-in-loop-pairs.ensures (x_end - 1) x_statement.1
+    in
+    let has_y = symbol_by_values _ ps _ y v c.number-in-loop-pairs-2.ensures (y_end - 1)
+    y_statement.1 in
+    let same : (get_or ps (x_end - 1) (0, 0)).1 ≡ (get_or ps (y_end - 1) (0, 0)).1 =
+    subst (λ (qs : List (ℕ × ℕ)). (get_or qs (x_end - 1) (0, 0)).1
+    ≡ (get_or qs (y_end - 1) (0, 0)).1) v c.if-x_statement-y_statement.true in
+    let j = (get_or ps (x_end - 1) (0, 0)).1 in
+    let some = x_statement.0 in
+    let many = y_statement.0 in
     let il = c.loop-pairs.invariant.0 in
     let wl = c.loop-pairs.invariant.2 in
     let wr = c.loop-pairs.invariant.3 in
-    let inside : left - 1 < start = omega (arith, some, il) in
-    let known : left - 1 < length ps = omega (arith, some, wl) in
-    let known_too : right - 1 < length ps = omega (arith, many, wr) in
+    let previous_x_end_lt_start : x_end - 1 < start = omega (arith, some, il) in
+    let known : x_end - 1 < length ps = omega (arith, some, wl) in
+    let known_too : y_end - 1 < length ps = omega (arith, many, wr) in
     let is_open : nat_le at (end_of b j) ≡ true =
-    subst (λ (qs : List (ℕ × ℕ)). nat_le at (end_of b (get_or qs (left - 1) (0, 0)).1) ≡ true) v
+    subst (λ (qs : List (ℕ × ℕ)). nat_le at (end_of b (get_or qs (x_end - 1) (0, 0)).1) ≡ true) v
     (sym c.is_open_at.ensures ∙ c.if-is_open_at.true) in
     λ e. (
       j,
-      ap (λ z. has_pair ps z j) (sym has_x) ∙ at_has ps (left - 1) (0, 0) known,
-      ap₂ (has_pair ps) (sym has_y) same ∙ at_has ps (right - 1) (0, 0) known_too,
+      ap (λ z. has_pair ps z j) (sym has_x) ∙ at_has ps (x_end - 1) (0, 0) known,
+      ap₂ (has_pair ps) (sym has_y) same ∙ at_has ps (y_end - 1) (0, 0) known_too,
       ap₂ (λ p q. p && q)
           (lt-ltb j at
-          (sooner b ps c.requires.ordered.rising x at start parted (left - 1) inside has_x))
+          (is_before b ps c.requires.ordered.rising x at start parted (x_end - 1)
+          previous_x_end_lt_start has_x))
           is_open,
     )
 
-pub loop-pairs-preserved-then-one-other-2 : goal.loop-pairs-preserved-then-one-other-2
-loop-pairs-preserved-then-one-other-2 g c =
+pub loop-pairs-preserved-then-x_statement-y_statement-2 :
+    goal.loop-pairs-preserved-then-x_statement-y_statement-2
+loop-pairs-preserved-then-x_statement-y_statement-2 g c =
     let b = c.args.blocks.now in
     let ps = c.args.disjoint_index.now.pairs in
-    let left = c.loop-pairs.left in
-    let right = c.loop-pairs.right in
+    let x_end = c.loop-pairs.x_end in
+    let y_end = c.loop-pairs.y_end in
     let v =
     c.as_slice-pairs.ensures.value ∙ ap (λ (i : PairLists). i.pairs) c.disjoint_index.view_is in
-    let one = c.ends_with.ensures.some c.loop-pairs-test.true in
-    let other = c.ends_with-in-loop-pairs.ensures.some c.if-ends_with.true in
-    let has_x = symbol_here _ ps _ c.args.x v c.number-in-loop-pairs.ensures (left - 1) one.1 in
-    let less : (get_or ps (left - 1) (0, 0)).1 < (get_or ps (right - 1) (0, 0)).1 =
-    subst (λ (qs : List (ℕ × ℕ)). (get_or qs (left - 1) (0, 0)).1
-    < (get_or qs (right - 1) (0, 0)).1) v c.if-one-other-2.true in
-    let down = c.back-right.ensures.less in
+    let x_statement = c.ends_with.ensures.some c.loop-pairs-test.true in
+    let y_statement = c.ends_with-in-loop-pairs.ensures.some c.if-ends_with.true in
+    let has_x = symbol_by_values _ ps _ c.args.x v c.number-in-loop-pairs.ensures (x_end - 1)
+    x_statement.1 in
+    let less : (get_or ps (x_end - 1) (0, 0)).1 < (get_or ps (y_end - 1) (0, 0)).1 =
+    subst (λ (qs : List (ℕ × ℕ)). (get_or qs (x_end - 1) (0, 0)).1
+    < (get_or qs (y_end - 1) (0, 0)).1) v c.if-x_statement-y_statement-2.true in
+    let down = c.skip_last-y_end.ensures.less in
     let i = c.loop-pairs.invariant in
     let ir = i.1 in
     let wr = i.3 in (
@@ -75,9 +84,9 @@ loop-pairs-preserved-then-one-other-2 g c =
       (omega (arith, down, ir)),
       i.2,
       (omega (arith, down, wr)),
-      none_on_right b ps c.requires.ordered.rising c.args.x c.args.y c.args.at
-          left right c.back-right.result i.4 one.0 i.2 other.0 wr has_x less
-          c.back-right.ensures.passed,
+      none_before_y_end b ps c.requires.ordered.rising c.args.x c.args.y c.args.at
+          x_end y_end c.skip_last-y_end.result i.4 x_statement.0 i.2 y_statement.0 wr has_x less
+          c.skip_last-y_end.ensures.passed,
     )
 
 pub loop-pairs-preserved : goal.loop-pairs-preserved
@@ -85,31 +94,31 @@ loop-pairs-preserved g c =
     let b = c.args.blocks.now in
     let ps = c.args.disjoint_index.now.pairs in
     let at = c.args.at in
-    let left = c.loop-pairs.left in
-    let right = c.loop-pairs.right in
+    let x_end = c.loop-pairs.x_end in
+    let y_end = c.loop-pairs.y_end in
     let v =
     c.as_slice-pairs.ensures.value ∙ ap (λ (i : PairLists). i.pairs) c.disjoint_index.view_is in
-    let one = c.ends_with.ensures.some c.loop-pairs-test.true in
-    let other = c.ends_with-in-loop-pairs.ensures.some c.if-ends_with.true in
+    let x_statement = c.ends_with.ensures.some c.loop-pairs-test.true in
+    let y_statement = c.ends_with-in-loop-pairs.ensures.some c.if-ends_with.true in
     let has_y =
-    symbol_here _ ps _ c.args.y v c.number-in-loop-pairs-2.ensures (right - 1) other.1 in
-    let no_less : (get_or ps (right - 1) (0, 0)).1 ≤ (get_or ps (left - 1) (0, 0)).1 =
-    subst (λ (qs : List (ℕ × ℕ)). (get_or qs (right - 1) (0, 0)).1
-    ≤ (get_or qs (left - 1) (0, 0)).1) v c.if-one-other-2.false in
-    let why : ((get_or ps (right - 1) (0, 0)).1 < (get_or ps (left - 1) (0, 0)).1)
-    ⊎ (nat_le at (end_of b (get_or ps (left - 1) (0, 0)).1) ≡ false) = elim
-    c.else-one-other.branch [
-      | else-one-other-via-then-one-other+else-is_open_at w ↦ inr
-          (subst (λ (qs : List (ℕ × ℕ)). nat_le at (end_of b (get_or qs (left - 1) (0, 0)).1)
+    symbol_by_values _ ps _ c.args.y v c.number-in-loop-pairs-2.ensures (y_end - 1) y_statement.1 in
+    let no_less : (get_or ps (y_end - 1) (0, 0)).1 ≤ (get_or ps (x_end - 1) (0, 0)).1 =
+    subst (λ (qs : List (ℕ × ℕ)). (get_or qs (y_end - 1) (0, 0)).1
+    ≤ (get_or qs (x_end - 1) (0, 0)).1) v c.if-x_statement-y_statement-2.false in
+    let why : ((get_or ps (y_end - 1) (0, 0)).1 < (get_or ps (x_end - 1) (0, 0)).1)
+    ⊎ (nat_le at (end_of b (get_or ps (x_end - 1) (0, 0)).1) ≡ false) = elim
+    c.else-x_statement-y_statement.branch [
+      | else-x_statement-y_statement-via-then-x_statement-y_statement+else-is_open_at w ↦ inr
+          (subst (λ (qs : List (ℕ × ℕ)). nat_le at (end_of b (get_or qs (x_end - 1) (0, 0)).1)
           ≡ false) v (sym w.is_open_at.ensures ∙ w.if-is_open_at.false))
-      | else-one-other-via-else-one-other w ↦
+      | else-x_statement-y_statement-via-else-x_statement-y_statement w ↦
           let n =
-          subst (λ (qs : List (ℕ × ℕ)). (get_or qs (left - 1) (0, 0)).1
-          ≢ (get_or qs (right - 1) (0, 0)).1) v w.if-one-other.false in
-          inl (elim (cases_lt (get_or ps (right - 1) (0, 0)).1 (get_or ps (left - 1) (0, 0)).1)
+          subst (λ (qs : List (ℕ × ℕ)). (get_or qs (x_end - 1) (0, 0)).1
+          ≢ (get_or qs (y_end - 1) (0, 0)).1) v w.if-x_statement-y_statement.false in
+          inl (elim (cases_lt (get_or ps (y_end - 1) (0, 0)).1 (get_or ps (x_end - 1) (0, 0)).1)
           [ inl l ↦ l | inr l ↦ absurd (n (omega (arith, l, no_less))) ])
     ] in
-    let down = c.back-left.ensures.less in
+    let down = c.skip_last-x_end.ensures.less in
     let i = c.loop-pairs.invariant in
     let il = i.0 in
     let wl = i.2 in (
@@ -117,8 +126,9 @@ loop-pairs-preserved g c =
       i.1,
       (omega (arith, down, wl)),
       i.3,
-      none_on_left b ps c.requires.ordered.rising c.args.x c.args.y at left
-          right c.back-left.result i.4 one.0 wl other.0 i.3 has_y why c.back-left.ensures.passed,
+      none_before_x_end b ps c.requires.ordered.rising c.args.x c.args.y at x_end
+          y_end c.skip_last-x_end.result i.4 x_statement.0 wl y_statement.0 i.3 has_y why
+          c.skip_last-x_end.ensures.passed,
     )
 
 pub returns-else-ends_with-clause-none : goal.returns-else-ends_with-clause-none
@@ -127,18 +137,19 @@ returns-else-ends_with-clause-none g c =
     let ps = c.args.disjoint_index.now.pairs in
     let y = c.args.y in
     let at = c.args.at in
-    let start = c.count_before-right.result in
-    let right = c.loop-pairs.right in
+    let start = c.count_before-y_end.result in
+    let y_end = c.loop-pairs.y_end in
     let v =
     c.as_slice-pairs.ensures.value ∙ ap (λ (i : PairLists). i.pairs) c.disjoint_index.view_is in
-    let of = c.count_before-right.ensures in
-    let parted = parted_here _ ps _ y v c.number-2.ensures at start of.within of.before of.after in
+    let of = c.count_before-y_end.ensures in
+    let parted = parted_by_values _ ps _ y v c.number-2.ensures at start of.within of.before
+    of.after in
     let none = c.ends_with-in-loop-pairs.ensures.none c.if-ends_with.false in
-    λ e. none_at_end b ps c.requires.ordered.rising c.args.x y at c.loop-pairs.left right
+    λ e. none_at_end b ps c.requires.ordered.rising c.args.x y at c.loop-pairs.x_end y_end
     c.loop-pairs.invariant.4
-    (inr (none_left b ps c.requires.ordered.rising y at start parted right
+    (inr (none_before_end b ps c.requires.ordered.rising y at start parted y_end
     c.loop-pairs.invariant.1
-    (λ h. no_symbol_here _ ps _ y v c.number-in-loop-pairs-2.ensures (right - 1) (none h))))
+    (λ h. other_symbol_by_values _ ps _ y v c.number-in-loop-pairs-2.ensures (y_end - 1) (none h))))
 
 pub returns-after-loop-pairs-clause-none : goal.returns-after-loop-pairs-clause-none
 returns-after-loop-pairs-clause-none g c =
@@ -146,15 +157,16 @@ returns-after-loop-pairs-clause-none g c =
     let ps = c.args.disjoint_index.now.pairs in
     let x = c.args.x in
     let at = c.args.at in
-    let start = c.count_before-left.result in
-    let left = c.loop-pairs.left in
+    let start = c.count_before-x_end.result in
+    let x_end = c.loop-pairs.x_end in
     let v =
     c.as_slice-pairs.ensures.value ∙ ap (λ (i : PairLists). i.pairs) c.disjoint_index.view_is in
-    let of = c.count_before-left.ensures in
-    let parted = parted_here _ ps _ x v c.number.ensures at start of.within of.before of.after in
+    let of = c.count_before-x_end.ensures in
+    let parted = parted_by_values _ ps _ x v c.number.ensures at start of.within of.before of.after
+    in
     let none = c.ends_with.ensures.none c.loop-pairs-test.false in
-    λ e. none_at_end b ps c.requires.ordered.rising x c.args.y at left c.loop-pairs.right
+    λ e. none_at_end b ps c.requires.ordered.rising x c.args.y at x_end c.loop-pairs.y_end
     c.loop-pairs.invariant.4
-    (inl (none_left b ps c.requires.ordered.rising x at start parted left
+    (inl (none_before_end b ps c.requires.ordered.rising x at start parted x_end
     c.loop-pairs.invariant.0
-    (λ h. no_symbol_here _ ps _ x v c.number-in-loop-pairs.ensures (left - 1) (none h))))
+    (λ h. other_symbol_by_values _ ps _ x v c.number-in-loop-pairs.ensures (x_end - 1) (none h))))

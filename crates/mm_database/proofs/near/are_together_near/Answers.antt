@@ -8,9 +8,10 @@ returns-then-active_at g c =
     let x = c.args.x in
     let y = c.args.y in
     let first = subst (λ (l : List ℕ). is_member l x ≡ true) c.formula-formula.ensures.formula
-    (c.has.ensures c.if-has.true) in
+    (c.has_symbol.ensures c.if-has_symbol.true) in
     let second = subst (λ (l : List ℕ). is_member l y ≡ true) c.formula-formula.ensures.formula
-    (c.has-then-has.ensures c.if-has-2.true) in
-    λ e. near_is c.args.database.now.statements (c.loop-left.left - 1) c.args.statement x y
+    (c.has_symbol-then-has_symbol.ensures c.if-has_symbol-2.true) in
+    λ e. near_is c.args.database.now.statements (c.loop-candidate.candidate - 1) c.args.statement x
+    y
     (c.kind.ensures ∙ ap Some c.in-Disjoint.is)
     (sym c.active_at.ensures ∙ c.if-active_at.true) first second

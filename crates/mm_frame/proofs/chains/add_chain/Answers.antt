@@ -8,11 +8,17 @@ loop-number-preserved g c =
     let links = c.args.chains.now.links.items in
     let n = c.loop-number.number in
     let some = c.loop-number-test.true in
-    let here : n - 1 < length links = omega (arith, c.loop-number.invariant.within, some) in
+    let previous_n_lt_length_links : n - 1 < length links = omega (
+      arith,
+      c.loop-number.invariant.within,
+      some,
+    ) in
     let link : c.index.result.now ≡ get_or links (n - 1) (0, 0) =
-    c.index.ensures ∙ get_or_default links (n - 1) c.index.result.now (0, 0) here in
+    c.index.ensures ∙ get_or_default links (n - 1) c.index.result.now (0, 0)
+    previous_n_lt_length_links in
     record {
-      within = rw link (let d = c.requires.linked.down (n - 1) here in omega (arith, d, here));
+      within = rw link (let d = c.requires.linked.down (n - 1) previous_n_lt_length_links in omega
+          (arith, d, previous_n_lt_length_links));
       rest = λ statements h. rw (c.in_ok-push.ensures.items, link)
           (rest_less links c.args.symbol c.args.pairs.now.items c.loop-number.pairs.items statements
           n some (c.loop-number.invariant.rest statements h));

@@ -7,24 +7,34 @@ pub returns-in_ok-push-clause-chains : goal.returns-in_ok-push-clause-chains
 returns-in_ok-push-clause-chains g c = λ has h.
     let heads = c.args.chains.now.heads.items in
     let links = c.args.chains.now.links.items in
-    let x = c.number-place.result in
-    let here : x < length heads = omega (arith, c.number-place.ensures, c.requires.symbol) in
+    let x = c.number-index.result in
+    let x_lt_length_heads : x < length heads = omega (
+      arith,
+      c.number-index.ensures,
+      c.requires.symbol,
+    ) in
     let head : c.index-head.result.now ≡ get_or heads x 0 =
-    c.index-head.ensures ∙ get_or_default heads x c.index-head.result.now 0 here in
+    c.index-head.ensures ∙ get_or_default heads x c.index-head.result.now 0 x_lt_length_heads in
     let count : c.len.result ≡ length links + 1 =
     omega (arith, c.len.ensures, c.in_ok-push.ensures.len) in
     rw (c.in_ok-push.ensures.items, count, head)
-    (chains_more has heads links c.args.symbol x c.args.statement (sym c.number-place.ensures) here
+    (chains_more has heads links c.args.symbol x c.args.statement (sym c.number-index.ensures)
+    x_lt_length_heads
     (rw (← head, ← c.deref.ensures.value) (c.begins_with.ensures.none c.if-not-begins_with.true)) h)
 
 pub returns-else-not-begins_with-clause-chains : goal.returns-else-not-begins_with-clause-chains
 returns-else-not-begins_with-clause-chains g c = λ has h.
     let heads = c.args.chains.now.heads.items in
     let links = c.args.chains.now.links.items in
-    let x = c.number-place.result in
-    let here : x < length heads = omega (arith, c.number-place.ensures, c.requires.symbol) in
+    let x = c.number-index.result in
+    let x_lt_length_heads : x < length heads = omega (
+      arith,
+      c.number-index.ensures,
+      c.requires.symbol,
+    ) in
     let head : c.index-head.result.now ≡ get_or heads x 0 =
-    c.index-head.ensures ∙ get_or_default heads x c.index-head.result.now 0 here in
+    c.index-head.ensures ∙ get_or_default heads x c.index-head.result.now 0 x_lt_length_heads in
     let met = c.begins_with.ensures.some c.if-not-begins_with.false in
-    begun has heads links c.args.symbol x c.args.statement (sym c.number-place.ensures) here
+    begun has heads links c.args.symbol x c.args.statement (sym c.number-index.ensures)
+    x_lt_length_heads
     (rw (← head) met.0) (rw (← head, ← c.deref.ensures.value) met.1) h

@@ -5,60 +5,61 @@ use Rattle.mm_frame.proofs.ChainsLaw.{none_yet, linked_none, same_chains, with_d
 use Rattle.mm_frame.proofs.ChainsLaw.{without_disjoint, symbol_below}
 use Rattle.mm_frame.proofs.chains.chains_of.Goals as goal
 
-pub loop-left-init : goal.loop-left-init
-loop-left-init g c =
+pub loop-statement-init : goal.loop-statement-init
+loop-statement-init g c =
     let db = c.args.statements.now.list in
     let heads = c.in_ok-heads.heads.items in
     let n = c.symbol_count.result in
     let are : heads ≡ replicate n 0 = c.in_ok-heads.ensures.items_if_clones_equal (λ y e. e) in
-    let long : length heads ≡ n = ap length are ∙ length-replicate n 0 in
+    let length_heads_is_n : length heads ≡ n = ap length are ∙ length-replicate n 0 in
     let empty : (x : ℕ) → x < length heads → get_or heads x 0 ≡ 0 =
     λ x l. ap (λ (ys : List ℕ). get_or ys x 0) are
-    ∙ get_or-replicate n x 0 0 (omega (arith, l, long)) in
+    ∙ get_or-replicate n x 0 0 (omega (arith, l, length_heads_is_n)) in
     record {
-      within = let e = c.len-left.ensures.len in omega (arith, e);
-      count = long ∙ c.symbol_count.ensures.count;
+      within = let e = c.len-statement.ensures.len in omega (arith, e);
+      count = length_heads_is_n ∙ c.symbol_count.ensures.count;
       linked = rw c.new.ensures.items (linked_none heads empty);
-      chains = rw (c.new.ensures.items, c.len-left.ensures.len) (none_yet db heads empty);
+      chains = rw (c.new.ensures.items, c.len-statement.ensures.len) (none_yet db heads empty);
     }
 
-pub loop-left-preserved-in-Continue-branch-2 : goal.loop-left-preserved-in-Continue-branch-2
-loop-left-preserved-in-Continue-branch-2 g c =
+pub loop-statement-preserved-in-Continue-branch-2 :
+    goal.loop-statement-preserved-in-Continue-branch-2
+loop-statement-preserved-in-Continue-branch-2 g c =
     let db = c.args.statements.now.list in
-    let left = c.loop-left.left in
-    let some = c.loop-left-test.true in
-    let e : left ≡ (left - 1) + 1 = omega (arith, some) in
+    let statement = c.loop-statement.statement in
+    let some = c.loop-statement-test.true in
+    let e : statement ≡ (statement - 1) + 1 = omega (arith, some) in
     record {
-      within = let w = c.loop-left.invariant.within in omega (arith, w);
-      count = c.in_ok-add_links.ensures.count ∙ c.loop-left.invariant.count;
+      within = let w = c.loop-statement.invariant.within in omega (arith, w);
+      count = c.in_ok-add_links.ensures.count ∙ c.loop-statement.invariant.count;
       linked = c.in_ok-add_links.ensures.linked;
       chains =
-          same_chains _ _ (left - 1) (left - 1) _ _ (omega arith)
-          (λ x j. with_disjoint db (left - 1) x j left c.formula.result.now e
+          same_chains _ _ (statement - 1) (statement - 1) _ _ (omega arith)
+          (λ x j. with_disjoint db (statement - 1) x j statement c.formula.result.now e
           c.formula.ensures.formula (sym c.is_disjoint.ensures ∙ c.if-is_disjoint.true))
           (c.in_ok-add_links.ensures.chains _
-          (same_chains _ _ (left - 1) left _ _ (omega arith) (λ x j. refl)
-          c.loop-left.invariant.chains));
+          (same_chains _ _ (statement - 1) statement _ _ (omega arith) (λ x j. refl)
+          c.loop-statement.invariant.chains));
     }
 
-pub loop-left-preserved : goal.loop-left-preserved
-loop-left-preserved g c =
+pub loop-statement-preserved : goal.loop-statement-preserved
+loop-statement-preserved g c =
     let db = c.args.statements.now.list in
-    let left = c.loop-left.left in
-    let some = c.loop-left-test.true in
-    let e : left ≡ (left - 1) + 1 = omega (arith, some) in
+    let statement = c.loop-statement.statement in
+    let some = c.loop-statement-test.true in
+    let e : statement ≡ (statement - 1) + 1 = omega (arith, some) in
     record {
-      within = let w = c.loop-left.invariant.within in omega (arith, w);
-      count = c.loop-left.invariant.count;
-      linked = c.loop-left.invariant.linked;
+      within = let w = c.loop-statement.invariant.within in omega (arith, w);
+      count = c.loop-statement.invariant.count;
+      linked = c.loop-statement.invariant.linked;
       chains =
-          same_chains _ _ (left - 1) left _ _ (omega arith)
-          (λ x j. without_disjoint db (left - 1) x j left e
+          same_chains _ _ (statement - 1) statement _ _ (omega arith)
+          (λ x j. without_disjoint db (statement - 1) x j statement e
           (sym c.is_disjoint.ensures ∙ c.if-is_disjoint.false))
-          c.loop-left.invariant.chains;
+          c.loop-statement.invariant.chains;
     }
 
 pub returns-clause-all : goal.returns-clause-all
 returns-clause-all g c = λ x j e.
-    let l = symbol_below c.args.statements.now.list c.len-left.ensures.sound x j e in
-    omega (arith, l, c.loop-left.invariant.count)
+    let l = symbol_below c.args.statements.now.list c.len-statement.ensures.sound x j e in
+    omega (arith, l, c.loop-statement.invariant.count)

@@ -4,14 +4,14 @@ use Rattle.mm_frame.specs.Chains.{AreLinked, AreChains}
 use Rattle.mm_database.specs.DisjointIndex.{has_symbol}
 use Rattle.mm_frame.proofs.chains.chains_of.Given as goal
 
-abbrev pub invariant-loop-left : goal.invariant-loop-left
-invariant-loop-left g l = record {
-  within : l.left ≤ length l.statements.list;
+abbrev pub invariant-loop-statement : goal.invariant-loop-statement
+invariant-loop-statement g l = record {
+  within : l.statement ≤ length l.statements.list;
   count : length l.chains.heads.items ≡ length (symbol_names l.statements.list);
   linked : AreLinked l.chains.heads.items l.chains.links.items;
-  chains : AreChains (λ x j. nat_le l.left j && has_symbol l.statements.list x j) l.left
+  chains : AreChains (λ x j. nat_le l.statement j && has_symbol l.statements.list x j) l.statement
       l.chains.heads.items l.chains.links.items;
 }
 
-abbrev pub decreases-loop-left : goal.decreases-loop-left
-decreases-loop-left g l = l.left
+abbrev pub decreases-loop-statement : goal.decreases-loop-statement
+decreases-loop-statement g l = l.statement

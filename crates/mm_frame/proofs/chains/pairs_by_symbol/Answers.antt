@@ -9,10 +9,10 @@ loop-symbol-preserved g c =
     let links = c.in_ok-chains.chains.links.items in
     let test = c.loop-symbol-test.true in
     let end = c.loop-symbol.auto.symbol-end in
-    let here : x < length heads =
+    let x_lt_length_heads : x < length heads =
     omega (arith, test, end, c.symbol_count-symbol-end.ensures.count, c.in_ok-chains.ensures.count)
     in
-    let chain = c.in_ok-chains.ensures.chains x here in
+    let chain = c.in_ok-chains.ensures.chains x x_lt_length_heads in
     pairs_more c.args.statements.now.list x (get_or heads x 0) links c.loop-symbol.pairs.items
     c.add_chain.new.pairs.items chain c.loop-symbol.invariant
     (c.in_ok-add_chain.ensures chain.statements chain.chain)

@@ -3,30 +3,34 @@ use Rattle.mm_frame.proofs.DisjointLaw.{after_end}
 use Rattle.mm_frame.proofs.DisjointLaw.{after_start, after_next, AddsLater}
 use Rattle.mm_frame.proofs.disjoint.add_later_pairs.Goals as goal
 
-pub returns-else-by_statement-at : goal.returns-else-by_statement-at
-returns-else-by_statement-at g c =
-    after_end c.args.by_statement.now c.requires.rising c.args.place c.requires.place c.loop-at.at
-    c.args.pairs.now.items c.loop-at.pairs.items c.loop-at.invariant
-    (λ l. c.if-by_statement-at.false)
+pub returns-else-by_statement-later : goal.returns-else-by_statement-later
+returns-else-by_statement-later g c =
+    after_end c.args.by_statement.now c.requires.rising c.args.index c.requires.index
+    c.loop-later.later
+    c.args.pairs.now.items c.loop-later.pairs.items c.loop-later.invariant
+    (λ l. c.if-by_statement-later.false)
 
-pub returns-after-loop-at : goal.returns-after-loop-at
-returns-after-loop-at g c =
-    let t = c.loop-at-test.false in
-    after_end c.args.by_statement.now c.requires.rising c.args.place c.requires.place c.loop-at.at
-    c.args.pairs.now.items c.loop-at.pairs.items c.loop-at.invariant
+pub returns-after-loop-later : goal.returns-after-loop-later
+returns-after-loop-later g c =
+    let t = c.loop-later-test.false in
+    after_end c.args.by_statement.now c.requires.rising c.args.index c.requires.index
+    c.loop-later.later
+    c.args.pairs.now.items c.loop-later.pairs.items c.loop-later.invariant
     (λ l. absurd (omega (arith, l, t)))
 
-pub loop-at-init : goal.loop-at-init
-loop-at-init g c =
-    after_start c.args.by_statement.now c.requires.rising c.args.place c.requires.place
+pub loop-later-init : goal.loop-later-init
+loop-later-init g c =
+    after_start c.args.by_statement.now c.requires.rising c.args.index c.requires.index
     c.args.pairs.now.items
 
-pub loop-at-preserved : goal.loop-at-preserved
-loop-at-preserved g c =
+pub loop-later-preserved : goal.loop-later-preserved
+loop-later-preserved g c =
     subst
     (λ ps.
-    AddsLater c.args.by_statement.now c.args.place (c.loop-at.at + 1) c.args.pairs.now.items ps)
+    AddsLater c.args.by_statement.now c.args.index (c.loop-later.later + 1) c.args.pairs.now.items
+    ps)
     (sym c.in_ok-push.ensures.items)
-    (after_next c.args.by_statement.now c.requires.rising c.args.place c.requires.place c.loop-at.at
-    c.args.pairs.now.items c.loop-at.pairs.items c.loop-at.invariant c.loop-at-test.true
-    c.if-by_statement-at.true)
+    (after_next c.args.by_statement.now c.requires.rising c.args.index c.requires.index
+    c.loop-later.later
+    c.args.pairs.now.items c.loop-later.pairs.items c.loop-later.invariant c.loop-later-test.true
+    c.if-by_statement-later.true)

@@ -5,18 +5,18 @@ use Rattle.mm_frame.specs.Together.{has_later}
 use Rattle.mm_frame.proofs.LoopsLaw.{none_so_far, any_next}
 use Rattle.mm_frame.proofs.disjoint.add_together.Goals as goal
 
-pub loop-place-init : goal.loop-place-init
-loop-place-init g c = λ x y. none_so_far (has_pair c.args.pairs.now.items x y)
+pub loop-index-init : goal.loop-index-init
+loop-index-init g c = λ x y. none_so_far (has_pair c.args.pairs.now.items x y)
 
-pub loop-place-preserved : goal.loop-place-preserved
-loop-place-preserved g c = λ x y.
+pub loop-index-preserved : goal.loop-index-preserved
+loop-index-preserved g c = λ x y.
     any_next (λ p. has_later c.args.by_statement.now p x y) c.args.by_statement.now
-    c.loop-place.place (0, 0) _ _ _
-    c.loop-place-test.true (c.loop-place.invariant x y) (c.in_ok-add_later_pairs.ensures x y)
+    c.loop-index.index (0, 0) _ _ _
+    c.loop-index-test.true (c.loop-index.invariant x y) (c.in_ok-add_later_pairs.ensures x y)
 
 pub returns : goal.returns
 returns g c = λ x y.
-    c.loop-place.invariant x y
+    c.loop-index.invariant x y
     ∙ ap (λ (ps : List (ℕ × ℕ)). has_pair c.args.pairs.now.items x y
     || list_any (λ p. has_later c.args.by_statement.now p x y) ps)
-    (take_all c.loop-place.place c.args.by_statement.now c.loop-place-test.false)
+    (take_all c.loop-index.index c.args.by_statement.now c.loop-index-test.false)

@@ -4,9 +4,9 @@ use Rattle.mm_database.specs.Pairs.{has_pair}
 use Rattle.mm_frame.specs.Together.{has_later}
 use Rattle.mm_frame.proofs.disjoint.add_together.Given as goal
 
-abbrev pub invariant-loop-place : goal.invariant-loop-place
-invariant-loop-place g l =
+abbrev pub invariant-loop-index : goal.invariant-loop-index
+invariant-loop-index g l =
     (x y : ℕ)
     → has_pair l.pairs.items x y
     ≡ (has_pair l.initial.pairs.items x y
-    || list_any (λ p. has_later l.by_statement p x y) (take l.place l.by_statement))
+    || list_any (λ p. has_later l.by_statement p x y) (take l.index l.by_statement))

@@ -14,19 +14,21 @@ returns g c = ok_then c.symbol_pairs.result c.symbol_pairs.ensures (λ v e.
     let b = c.args.sources.now.statements.now.blocks in
     let k = c.args.assertion in
     let m = c.requires.assertion in
-    let h : k ≤ length db = omega (arith, m) in
+    let k_le_length_db : k ≤ length db = omega (arith, m) in
     let ps = c.args.sources.now.disjoint_index.now.pairs in
-    let found = c.args.found.now in
+    let variables = c.args.variables.now in
     e ∙ ap (map (λ p. pair p.0 p.1)) c.deref-2.ensures.value
-    ∙ pairs_are db b c.blocks-2.ensures.theirs k h ps c.requires.sources.index_is.are found
-    c.sort_and_dedup.new.pairs.items
-    c.requires.found
-    (λ j y. c.sort_and_dedup.ensures.same j y
+    ∙ pairs_are db b c.blocks-2.ensures.theirs k k_le_length_db ps
+    c.requires.sources.index_is.members_are
+    variables
+    c.sort_and_dedup_pairs.new.pairs.items
+    c.requires.variables
+    (λ j y. c.sort_and_dedup_pairs.ensures.same j y
     ∙ rw (← c.blocks-2.ensures.blocks) (c.in_ok-add_all_active.ensures j y)
     ∙ ap (λ (xs : List (ℕ × ℕ)). has_pair xs j y
-    || (is_member found y && (has_pair ps y j && is_active_local b j k))) c.clear.ensures.items)
-    c.sort_and_dedup-2.new.pairs.items c.sort_and_dedup-2.ensures.rising
-    (λ x y. c.sort_and_dedup-2.ensures.same x y ∙ c.in_ok-add_together.ensures x y
+    || (is_member variables y && (has_pair ps y j && is_active_local b j k))) c.clear.ensures.items)
+    c.sort_and_dedup_pairs-2.new.pairs.items c.sort_and_dedup_pairs-2.ensures.rising
+    (λ x y. c.sort_and_dedup_pairs-2.ensures.same x y ∙ c.in_ok-add_together.ensures x y
     ∙ ap (λ (xs : List (ℕ × ℕ)). has_pair xs x y
     || list_any (λ p. has_later c.deref.result.now p x y) c.deref.result.now)
     c.clear-2.ensures.items

@@ -9,7 +9,7 @@ skips_of-requires g c =
       known =
           rw (c.blocks-2.ensures.blocks, c.deref.ensures.value)
           (are_known c.args.statements.now.list _ c.blocks-2.ensures.theirs
-          c.in_ok-pairs.pairs.items c.in_ok-pairs.ensures.are);
+          c.in_ok-pairs.pairs.items c.in_ok-pairs.ensures.members_are);
     }
 
 pub returns : goal.returns
@@ -17,17 +17,17 @@ returns g c =
     let b = c.args.statements.now.blocks in
     let ps = c.in_ok-pairs.pairs.items in
     let ss = c.in_ok-skips.skips.items in
-    let is : IsDisjointIndex c.args.statements.now.list b (pair_lists ps ss) =
+    let is_disjoint_index : IsDisjointIndex c.args.statements.now.list b (pair_lists ps ss) =
     record {
-      are = c.in_ok-pairs.ensures.are;
+      members_are = c.in_ok-pairs.ensures.members_are;
       ordered = record {
         rising = c.in_ok-pairs.ensures.rising;
         known =
             are_known c.args.statements.now.list b c.blocks-2.ensures.theirs ps
-            c.in_ok-pairs.ensures.are;
+            c.in_ok-pairs.ensures.members_are;
         skips_are =
             subst (λ (ps : List (ℕ × ℕ)). AreSkips b ps ss) c.deref.ensures.value
             (rw (← c.blocks-2.ensures.blocks) c.in_ok-skips.ensures);
       };
     } in
-    rw c.new.ensures is
+    rw c.new.ensures is_disjoint_index

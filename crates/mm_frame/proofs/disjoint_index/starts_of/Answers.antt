@@ -6,10 +6,10 @@ use Rattle.mm_frame.proofs.disjoint_index.starts_of.Goals as goal
 pub loop-starts-preserved : goal.loop-starts-preserved
 loop-starts-preserved g c =
     rw c.in_ok-push.ensures.items
-    (starts_more c.args.pairs.now c.loop-at.at c.loop-starts.starts.items c.requires
-    c.loop-at-test.true (omega arith) c.loop-starts.invariant)
+    (starts_more c.args.pairs.now c.loop-index.index c.loop-starts.starts.items c.requires
+    c.loop-index-test.true (omega arith) c.loop-starts.invariant)
 
 pub returns : goal.returns
 returns g c =
-    starts_all c.args.pairs.now c.loop-at.at c.loop-at.starts.items c.loop-at-test.false
-    c.loop-at.invariant
+    starts_all c.args.pairs.now c.loop-index.index c.loop-index.starts.items c.loop-index-test.false
+    c.loop-index.invariant

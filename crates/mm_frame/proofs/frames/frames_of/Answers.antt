@@ -1,7 +1,7 @@
 use Rattle.std.proofs.Common.{◌≡◌, length, ap, sym, ◌∙◌, subst, arith}
 use Rattle.mm_spec.specs.Frame.{is_essential}
 use Rattle.mm_frame.specs.Latest.{AreLatest}
-use Rattle.mm_frame.specs.Hypotheses.{AreTyped}
+use Rattle.mm_frame.specs.Hypotheses.{AreLastFloats}
 use Rattle.mm_database.specs.Frames.{frames_before}
 use Rattle.mm_frame.proofs.FramesLaw.{typed_start}
 use Rattle.mm_frame.proofs.frames.frames_of.Goals as goal
@@ -9,18 +9,20 @@ use Rattle.mm_frame.proofs.frames.frames_of.Goals as goal
 pub returns : goal.returns
 returns g c =
     let db = c.args.statements.now.list in
-    let e = c.loop-k.auto.k-end in
+    let e = c.loop-statement.auto.statement-end in
     let n = c.len-count.ensures.len in
-    let m = c.loop-k-test.false in
-    let all : c.loop-k.k ≡ length db = omega (arith, e, n, m) in
-    c.loop-k.invariant.frames ∙ ap (frames_before db) all
+    let m = c.loop-statement-test.false in
+    let all : c.loop-statement.statement ≡ length db = omega (arith, e, n, m) in
+    c.loop-statement.invariant.frames ∙ ap (frames_before db) all
 
-pub loop-k-init : goal.loop-k-init
-loop-k-init g c = record {
-  typed =
-      typed_start c.args.statements.now.list c.in_ok-typed.typed.items c.symbol_count.result
-      c.symbol_count.ensures.count c.in_ok-typed.ensures.count c.in_ok-typed.ensures.each;
-  seen = record {
+pub loop-statement-init : goal.loop-statement-init
+loop-statement-init g c = record {
+  last_floats =
+      typed_start c.args.statements.now.list c.in_ok-last_floats.last_floats.items
+      c.symbol_count.result
+      c.symbol_count.ensures.count c.in_ok-last_floats.ensures.count
+      c.in_ok-last_floats.ensures.each;
+  stamps = record {
     count = c.in_ok-filled.ensures.count ∙ c.symbol_count-2.ensures.count;
     within =
         λ x h.
@@ -42,17 +44,17 @@ add_frame-requires-clause-sources g c = record {
 
 pub add_frame-requires-clause-ready : goal.add_frame-requires-clause-ready
 add_frame-requires-clause-ready g c = record {
-  typed_are =
-      subst (λ xs. AreTyped c.args.statements.now.list c.loop-k.k xs)
-      (sym c.deref-in-loop-k.ensures.value)
-      c.loop-k.invariant.typed;
-  fresh = c.loop-k.invariant.seen;
+  last_floats_are =
+      subst (λ xs. AreLastFloats c.args.statements.now.list c.loop-statement.statement xs)
+      (sym c.deref-in-loop-statement.ensures.value)
+      c.loop-statement.invariant.last_floats;
+  fresh = c.loop-statement.invariant.stamps;
 }
 
 pub add_frame-requires-clause-statement : goal.add_frame-requires-clause-statement
 add_frame-requires-clause-statement g c =
-    let t = c.loop-k-test.true in let n = c.len-count.ensures.len in omega (arith, t, n)
+    let t = c.loop-statement-test.true in let n = c.len-count.ensures.len in omega (arith, t, n)
 
-pub give_type-requires-clause-statement : goal.give_type-requires-clause-statement
-give_type-requires-clause-statement g c =
-    let t = c.loop-k-test.true in let n = c.len-count.ensures.len in omega (arith, t, n)
+pub set_last_float-requires-clause-statement : goal.set_last_float-requires-clause-statement
+set_last_float-requires-clause-statement g c =
+    let t = c.loop-statement-test.true in let n = c.len-count.ensures.len in omega (arith, t, n)

@@ -14,32 +14,34 @@ use Rattle.mm_frame.proofs.hypotheses.add_floats.Goals as goal
 pub loop-symbol-init : goal.loop-symbol-init
 loop-symbol-init g c = λ j. none_so_far (is_member c.args.hyps.now.items j)
 
-pub bounds-typed-number : goal.bounds-typed-number
-bounds-typed-number g c =
-    let h = c.requires.found c.loop-symbol.symbol-index c.symbol-item.result
+pub bounds-last_floats-number : goal.bounds-last_floats-number
+bounds-last_floats-number g c =
+    let h = c.requires.variables c.loop-symbol.symbol-index c.symbol-item.result
     c.loop-symbol-test.true in
     let e = c.symbol-item.is in
     let m = c.number.ensures in
-    let n = c.requires.typed.count in
+    let n = c.requires.last_floats.count in
     omega (arith, h, e, m, n)
 
 pub is_open_at-requires-clause-before : goal.is_open_at-requires-clause-before
 is_open_at-requires-clause-before g c =
-    let h = c.requires.found c.loop-symbol.symbol-index c.symbol-item.result
+    let h = c.requires.variables c.loop-symbol.symbol-index c.symbol-item.result
     c.loop-symbol-test.true in
     let e = c.symbol-item.is in
     let m = c.number.ensures in
-    let f = c.requires.typed.some c.number.result (omega (arith, h, e, m)) c.if-floating.true in
+    let f = c.requires.last_floats.some c.number.result (omega (arith, h, e, m)) c.if-floating.true
+    in
     let before = f.0 in
     omega (arith, before)
 
 pub is_open_at-requires-clause-within : goal.is_open_at-requires-clause-within
 is_open_at-requires-clause-within g c =
-    let h = c.requires.found c.loop-symbol.symbol-index c.symbol-item.result
+    let h = c.requires.variables c.loop-symbol.symbol-index c.symbol-item.result
     c.loop-symbol-test.true in
     let e = c.symbol-item.is in
     let m = c.number.ensures in
-    let f = c.requires.typed.some c.number.result (omega (arith, h, e, m)) c.if-floating.true in
+    let f = c.requires.last_floats.some c.number.result (omega (arith, h, e, m)) c.if-floating.true
+    in
     let before = f.0 in
     let at = c.requires.at in
     omega (arith, before, at)
@@ -48,13 +50,13 @@ pub loop-symbol-preserved : goal.loop-symbol-preserved
 loop-symbol-preserved g c = λ j.
     let db = c.args.statements.now.list in
     let at = c.args.at in
-    let typed = c.args.typed.now in
+    let last_floats = c.args.last_floats.now in
     let v = c.number.result in
-    let f = get_or typed v 0 in
+    let f = get_or last_floats v 0 in
     let hs = c.loop-symbol.hyps.items in
     let more = c.if-floating.hyps.items in
     let is_open = is_block_open db f at in
-    let n : is_member more j ≡ (is_member hs j || is_float_of db at typed j v) =
+    let n : is_member more j ≡ (is_member hs j || is_float_of db at last_floats j v) =
     elim c.if-floating.branch [
       | then-floating+then-is_open_at+in_ok-push w ↦
           float_pushed hs more f j (nat_eq f never) is_open (ne_eqb f never w.if-floating.true)
@@ -67,14 +69,14 @@ loop-symbol-preserved g c = λ j.
           float_none hs more f j (nat_eq f never) is_open (eq-eqb f never w.if-floating.false)
           (ap (λ x. x.items) w.hyps-is)
     ] in
-    any_next (is_float_of db at typed j) c.args.found.now c.loop-symbol.symbol-index
+    any_next (is_float_of db at last_floats j) c.args.variables.now c.loop-symbol.symbol-index
     c.symbol-item.result _ _ _ c.loop-symbol-test.true (c.loop-symbol.invariant j)
-    (n ∙ ap (λ x. is_member hs j || is_float_of db at typed j x)
+    (n ∙ ap (λ x. is_member hs j || is_float_of db at last_floats j x)
     (c.number.ensures ∙ c.symbol-item.is))
 
 pub returns : goal.returns
 returns g c = λ j.
     c.loop-symbol.invariant j
     ∙ ap (λ (xs : List ℕ). is_member c.args.hyps.now.items j
-    || list_any (is_float_of c.args.statements.now.list c.args.at c.args.typed.now j) xs)
-    (take_all c.loop-symbol.symbol-index c.args.found.now c.loop-symbol-test.false)
+    || list_any (is_float_of c.args.statements.now.list c.args.at c.args.last_floats.now j) xs)
+    (take_all c.loop-symbol.symbol-index c.args.variables.now c.loop-symbol-test.false)

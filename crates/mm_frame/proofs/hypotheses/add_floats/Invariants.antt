@@ -8,4 +8,5 @@ abbrev pub invariant-loop-symbol : goal.invariant-loop-symbol
 invariant-loop-symbol g l =
     (j : ℕ) → is_member l.hyps.items j
     ≡ (is_member l.initial.hyps.items j
-    || list_any (is_float_of l.statements.list l.at l.typed j) (take l.symbol-index l.found))
+    || list_any (is_float_of l.statements.list l.at l.last_floats j)
+    (take l.symbol-index l.variables))

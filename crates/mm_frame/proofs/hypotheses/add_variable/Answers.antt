@@ -3,38 +3,42 @@ use Rattle.mm_spec.specs.Derivation.{is_member}
 use Rattle.mm_spec.specs.Frame.{symbol_names, is_variable_number}
 use Rattle.mm_spec.proofs.MemberLaw.{member_push}
 use Rattle.mm_frame.specs.Hypotheses.{AreStamps}
-use Rattle.mm_frame.proofs.StampsLaw.{stamp_more, found_again, noted_new, noted_again, noted_not}
+use Rattle.mm_frame.proofs.StampsLaw.{stamp_more, stamped_again, listed_new, listed_again}
+use Rattle.mm_frame.proofs.StampsLaw.{not_listed}
 use Rattle.mm_frame.proofs.hypotheses.add_variable.Goals as goal
 
 pub returns-in_ok-push-clause-stamps : goal.returns-in_ok-push-clause-stamps
 returns-in_ok-push-clause-stamps g c =
     let n = length (symbol_names c.args.statements.now.list) in
-    let seen = c.args.seen.now.items in
-    let found = c.args.found.now.items in
+    let stamps = c.args.stamps.now.items in
+    let variables = c.args.variables.now.items in
     let s = c.args.symbol in
-    subst (λ fs. AreStamps n c.args.stamp (set seen c.number-place.result c.args.stamp) fs)
+    subst (λ fs. AreStamps n c.args.stamp (set stamps c.number-index.result c.args.stamp) fs)
     (sym c.in_ok-push.ensures.items)
-    (subst (λ p. AreStamps n c.args.stamp (set seen p c.args.stamp) (found ++ s ∷ []))
-    (sym c.number-place.ensures)
-    (stamp_more n c.args.stamp seen found s c.requires.stamps c.requires.symbol))
+    (subst (λ p. AreStamps n c.args.stamp (set stamps p c.args.stamp) (variables ++ s ∷ []))
+    (sym c.number-index.ensures)
+    (stamp_more n c.args.stamp stamps variables s c.requires.stamps c.requires.symbol))
 
-pub returns-in_ok-push-clause-found : goal.returns-in_ok-push-clause-found
-returns-in_ok-push-clause-found g c = λ x.
-    let found = c.args.found.now.items in
-    ap (λ fs. is_member fs x) c.in_ok-push.ensures.items ∙ member_push found c.args.symbol x
-    ∙ noted_new (is_variable_number c.args.statements.now.list) c.args.symbol x (is_member found x)
+pub returns-in_ok-push-clause-variables : goal.returns-in_ok-push-clause-variables
+returns-in_ok-push-clause-variables g c = λ x.
+    let variables = c.args.variables.now.items in
+    ap (λ fs. is_member fs x) c.in_ok-push.ensures.items ∙ member_push variables c.args.symbol x
+    ∙ listed_new (is_variable_number c.args.statements.now.list) c.args.symbol x
+    (is_member variables x)
     (sym c.is_variable.ensures ∙ c.if-is_variable.true)
 
-pub returns-else-index-stamp-clause-found : goal.returns-else-index-stamp-clause-found
-returns-else-index-stamp-clause-found g c = λ x.
-    let found = c.args.found.now.items in
-    noted_again (is_variable_number c.args.statements.now.list) (is_member found) c.args.symbol x
-    (found_again (length (symbol_names c.args.statements.now.list)) c.args.stamp
-    c.args.seen.now.items found
-    c.args.symbol c.number-place.result c.index.result.now c.requires.stamps c.requires.symbol
-    c.number-place.ensures c.index.ensures c.if-index-stamp.false)
+pub returns-else-index-stamp-clause-variables : goal.returns-else-index-stamp-clause-variables
+returns-else-index-stamp-clause-variables g c = λ x.
+    let variables = c.args.variables.now.items in
+    listed_again (is_variable_number c.args.statements.now.list) (is_member variables) c.args.symbol
+    x
+    (stamped_again (length (symbol_names c.args.statements.now.list)) c.args.stamp
+    c.args.stamps.now.items variables
+    c.args.symbol c.number-index.result c.index.result.now c.requires.stamps c.requires.symbol
+    c.number-index.ensures c.index.ensures c.if-index-stamp.false)
 
-pub returns-else-is_variable-clause-found : goal.returns-else-is_variable-clause-found
-returns-else-is_variable-clause-found g c = λ x.
-    noted_not (is_variable_number c.args.statements.now.list) (is_member c.args.found.now.items)
+pub returns-else-is_variable-clause-variables : goal.returns-else-is_variable-clause-variables
+returns-else-is_variable-clause-variables g c = λ x.
+    not_listed (is_variable_number c.args.statements.now.list)
+    (is_member c.args.variables.now.items)
     c.args.symbol x (sym c.is_variable.ensures ∙ c.if-is_variable.false)

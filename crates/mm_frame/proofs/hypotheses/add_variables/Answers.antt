@@ -1,14 +1,14 @@
 use Rattle.std.proofs.Common.{arith, ℕ, List, ap, ◌∙◌, ◌&&◌, ◌||◌, take_all}
 use Rattle.mm_spec.specs.Derivation.{is_member}
 use Rattle.mm_spec.specs.Frame.{is_variable_number}
-use Rattle.mm_frame.proofs.LoopsLaw.{noted_none, noted_next}
+use Rattle.mm_frame.proofs.LoopsLaw.{listed_none, listed_next}
 use Rattle.mm_frame.proofs.hypotheses.add_variables.Goals as goal
 
 pub loop-symbol-init : goal.loop-symbol-init
 loop-symbol-init g c = record {
   stamps = c.requires.stamps;
-  found =
-      λ x. noted_none (is_member c.args.found.now.items x)
+  variables =
+      λ x. listed_none (is_member c.args.variables.now.items x)
       (is_variable_number c.args.statements.now.list x);
 }
 
@@ -22,16 +22,16 @@ add_variable-requires-clause-symbol g c =
 pub loop-symbol-preserved : goal.loop-symbol-preserved
 loop-symbol-preserved g c = record {
   stamps = c.in_ok-add_variable.ensures.stamps;
-  found =
+  variables =
       λ x.
-      noted_next c.args.symbols.now c.loop-symbol.symbol-index c.symbol-item.result x _ _ _
+      listed_next c.args.symbols.now c.loop-symbol.symbol-index c.symbol-item.result x _ _ _
       (is_variable_number c.args.statements.now.list x) c.loop-symbol-test.true c.symbol-item.is
-      (c.loop-symbol.invariant.found x) (c.in_ok-add_variable.ensures.found x);
+      (c.loop-symbol.invariant.variables x) (c.in_ok-add_variable.ensures.variables x);
 }
 
-pub returns-clause-found : goal.returns-clause-found
-returns-clause-found g c = λ x.
-    c.loop-symbol.invariant.found x
-    ∙ ap (λ (xs : List ℕ). is_member c.args.found.now.items x
+pub returns-clause-variables : goal.returns-clause-variables
+returns-clause-variables g c = λ x.
+    c.loop-symbol.invariant.variables x
+    ∙ ap (λ (xs : List ℕ). is_member c.args.variables.now.items x
     || (is_variable_number c.args.statements.now.list x && is_member xs x))
     (take_all c.loop-symbol.symbol-index c.args.symbols.now c.loop-symbol-test.false)

@@ -6,9 +6,10 @@ use Rattle.mm_frame.proofs.hypotheses.add_variables.Given as goal
 
 abbrev pub invariant-loop-symbol : goal.invariant-loop-symbol
 invariant-loop-symbol g l = record {
-  stamps : AreStamps (length (symbol_names l.statements.list)) l.stamp l.seen.items l.found.items;
-  found : (x : ℕ)
-      → is_member l.found.items x
-      ≡ (is_member l.initial.found.items x
+  stamps : AreStamps (length (symbol_names l.statements.list)) l.stamp l.stamps.items
+      l.variables.items;
+  variables : (x : ℕ)
+      → is_member l.variables.items x
+      ≡ (is_member l.initial.variables.items x
       || (is_variable_number l.statements.list x && is_member (take l.symbol-index l.symbols) x));
 }

@@ -2,10 +2,10 @@ use Rattle.std.proofs.Common.{◌≡◌, ◌+◌, ◌-◌, ◌<◌, ◌≤◌, �
 use Rattle.std.proofs.Common.{bytes_eq, sym}
 use Rattle.std.proofs.Common.{ap, ◌∙◌, subst, arith}
 use Rattle.std.proofs.lemmas.Grind.{common_steps}
-use Rattle.mm_rule.specs.Rule.{Compiled}
+use Rattle.mm_rule.specs.Rule.{CompiledRule}
 use Rattle.mm_machine.specs.Arena.{no_symbols, span_formula}
 use Rattle.mm_machine.specs.Replaced.{replaced}
-use Rattle.mm_machine.proofs.FitLaw.{fit_from, fit_end, fit_next, kept_next, IsTested}
+use Rattle.mm_machine.proofs.FitLaw.{fit_from, fit_end, fit_next, part_count_next, IsTested}
 use Rattle.mm_machine.proofs.FitLaw.{typed_tested, essential_tested}
 use Rattle.mm_machine.proofs.arena.all_fit.Goals.{in-Floating, in-Essential}
 use Rattle.mm_machine.proofs.arena.all_fit.Goals as goal
@@ -13,20 +13,20 @@ use Rattle.mm_machine.proofs.arena.all_fit.Goals as goal
 pub offset_bounds-premises-j : goal.offset_bounds-premises-j
 offset_bounds-premises-j c =
     let inside = subst (λ z. c.loop-j.j < length z)
-    (ap (λ (r : Compiled). r.hypotheses) c.rule.view_is) c.loop-j-test.true in
+    (ap (λ (r : CompiledRule). r.hypotheses) c.rule.view_is) c.loop-j-test.true in
     omega (arith, inside, c.requires.count)
 
 pub offset_bounds-premises-j-in-Essential : goal.offset_bounds-premises-j-in-Essential
 offset_bounds-premises-j-in-Essential c =
     let inside = subst (λ z. c.loop-j.j < length z)
-    (ap (λ (r : Compiled). r.hypotheses) c.rule.view_is) c.loop-j-test.true in
+    (ap (λ (r : CompiledRule). r.hypotheses) c.rule.view_is) c.loop-j-test.true in
     omega (arith, inside, c.requires.count)
 
-pub fits-is_one-requires-clause-wanted : goal.fits-is_one-requires-clause-wanted
-fits-is_one-requires-clause-wanted c = grind (arith, common_steps)
+pub fits-is_fitting-requires-clause-wanted : goal.fits-is_fitting-requires-clause-wanted
+fits-is_fitting-requires-clause-wanted c = grind (arith, common_steps)
 
-pub returns-then-not-is_one : goal.returns-then-not-is_one
-returns-then-not-is_one c =
+pub returns-then-not-is_fitting : goal.returns-then-not-is_fitting
+returns-then-not-is_fitting c =
     let xs = c.args.symbols.now in
     let es = c.args.premises.now in
     let parts = c.args.rule.now.parts in
@@ -34,29 +34,29 @@ returns-then-not-is_one c =
     let j = c.loop-j.j in
     let at = c.loop-j.at in
     let h = c.hypothesis-item.result in
-    let one = c.match-hypothesis.is_one in
+    let one = c.match-hypothesis.is_fitting in
     let next = c.match-hypothesis.at in
     let hs_are : c.rule.inside.hypotheses.now ≡ hs =
-    ap (λ (r : Compiled). r.hypotheses) c.rule.view_is in
+    ap (λ (r : CompiledRule). r.hypotheses) c.rule.view_is in
     let parts_are : c.rule.inside.parts.now ≡ parts =
-    ap (λ (r : Compiled). r.parts) c.rule.view_is in
-    let inside : j < length hs = subst (λ z. j < length z) hs_are c.loop-j-test.true in
-    let many : j < length es = omega (arith, inside, c.requires.count) in
+    ap (λ (r : CompiledRule). r.parts) c.rule.view_is in
+    let j_lt_length_hs : j < length hs = subst (λ z. j < length z) hs_are c.loop-j-test.true in
+    let j_lt_length_es : j < length es = omega (arith, j_lt_length_hs, c.requires.count) in
     let h_is : h ≡ get_or hs j h =
     c.hypothesis-item.is ∙ ap (λ z. get_or z j h) hs_are in
     let tested : IsTested xs es parts hs j at h one next =
     elim c.match-hypothesis.branch [
       | in-Floating w ↦ typed_tested xs es parts hs j at h one next w.in-Floating.typecode
-          w.in-Floating.is (w.is_one-is ∙ w.is_typed-is_one.ensures) w.at-is
+          w.in-Floating.is (w.is_fitting-is ∙ w.is_typed-is_fitting.ensures) w.at-is
       | in-Essential w ↦ let n = w.in-Essential.count in
           essential_tested xs es parts hs j at h one next n w.in-Essential.is
-          (w.is_one-is ∙ w.fits-is_one.ensures
+          (w.is_fitting-is ∙ w.fits-is_fitting.ensures
           ∙ ap (λ z. bytes_eq (span_formula xs (get_or es j no_symbols))
           (replaced xs es (take ((at + n) - at) (drop at z)))) parts_are) w.at-is
     ] in
     sym (c.loop-j.invariant.left
-    ∙ fit_next xs es parts hs j at h one next tested inside many h_is
-    ∙ ap (λ b. b && fit_from xs es parts hs (j + 1) next) c.if-not-is_one.true)
+    ∙ fit_next xs es parts hs j at h one next tested j_lt_length_hs j_lt_length_es h_is
+    ∙ ap (λ b. b && fit_from xs es parts hs (j + 1) next) c.if-not-is_fitting.true)
 
 pub loop-j-preserved : goal.loop-j-preserved
 loop-j-preserved c =
@@ -67,39 +67,40 @@ loop-j-preserved c =
     let j = c.loop-j.j in
     let at = c.loop-j.at in
     let h = c.hypothesis-item.result in
-    let one = c.match-hypothesis.is_one in
+    let one = c.match-hypothesis.is_fitting in
     let next = c.match-hypothesis.at in
     let hs_are : c.rule.inside.hypotheses.now ≡ hs =
-    ap (λ (r : Compiled). r.hypotheses) c.rule.view_is in
+    ap (λ (r : CompiledRule). r.hypotheses) c.rule.view_is in
     let parts_are : c.rule.inside.parts.now ≡ parts =
-    ap (λ (r : Compiled). r.parts) c.rule.view_is in
-    let inside : j < length hs = subst (λ z. j < length z) hs_are c.loop-j-test.true in
-    let many : j < length es = omega (arith, inside, c.requires.count) in
+    ap (λ (r : CompiledRule). r.parts) c.rule.view_is in
+    let j_lt_length_hs : j < length hs = subst (λ z. j < length z) hs_are c.loop-j-test.true in
+    let j_lt_length_es : j < length es = omega (arith, j_lt_length_hs, c.requires.count) in
     let h_is : h ≡ get_or hs j h =
     c.hypothesis-item.is ∙ ap (λ z. get_or z j h) hs_are in
     let tested : IsTested xs es parts hs j at h one next =
     elim c.match-hypothesis.branch [
       | in-Floating w ↦ typed_tested xs es parts hs j at h one next w.in-Floating.typecode
-          w.in-Floating.is (w.is_one-is ∙ w.is_typed-is_one.ensures) w.at-is
+          w.in-Floating.is (w.is_fitting-is ∙ w.is_typed-is_fitting.ensures) w.at-is
       | in-Essential w ↦ let n = w.in-Essential.count in
           essential_tested xs es parts hs j at h one next n w.in-Essential.is
-          (w.is_one-is ∙ w.fits-is_one.ensures
+          (w.is_fitting-is ∙ w.fits-is_fitting.ensures
           ∙ ap (λ z. bytes_eq (span_formula xs (get_or es j no_symbols))
           (replaced xs es (take ((at + n) - at) (drop at z)))) parts_are) w.at-is
     ] in
     record {
-      kept = kept_next xs es parts hs j at h one next tested inside many h_is
-          c.loop-j.invariant.kept;
+      part_count_is = part_count_next xs es parts hs j at h one next tested j_lt_length_hs
+          j_lt_length_es h_is
+          c.loop-j.invariant.part_count_is;
       left = c.loop-j.invariant.left
-          ∙ fit_next xs es parts hs j at h one next tested inside many h_is
-          ∙ ap (λ b. b && fit_from xs es parts hs (j + 1) next) c.if-not-is_one.false;
+          ∙ fit_next xs es parts hs j at h one next tested j_lt_length_hs j_lt_length_es h_is
+          ∙ ap (λ b. b && fit_from xs es parts hs (j + 1) next) c.if-not-is_fitting.false;
     }
 
 pub returns : goal.returns
 returns c =
     let hs = c.args.rule.now.hypotheses in
     let j = c.loop-j.j in
-    let all = subst (λ z. length z ≤ j) (ap (λ (r : Compiled). r.hypotheses) c.rule.view_is)
+    let all = subst (λ z. length z ≤ j) (ap (λ (r : CompiledRule). r.hypotheses) c.rule.view_is)
     c.loop-j-test.false in
     sym (c.loop-j.invariant.left
     ∙ fit_end c.args.symbols.now c.args.premises.now c.args.rule.now.parts hs j c.loop-j.at all

@@ -5,26 +5,35 @@ use Rattle.mm_spec.specs.Derivation.{is_disjoint_from, are_all_disjoint}
 use Rattle.mm_spec.specs.Citation.{context_at}
 use Rattle.mm_machine.proofs.arena.are_all_disjoint.Goals as goal
 
-pub returns-then-not-is_disjoint_from-clause-value : goal.returns-then-not-is_disjoint_from-clause-value
+pub returns-then-not-is_disjoint_from-clause-value :
+    goal.returns-then-not-is_disjoint_from-clause-value
 returns-then-not-is_disjoint_from-clause-value g c =
-    sym (list_all_at (λ s. is_disjoint_from (context_at c.args.db.now.statements c.args.theorem) s
-    c.args.second.now) c.args.first.now c.loop-s.s-index c.s-item.result c.loop-s-test.true
-    (ap (λ s. is_disjoint_from (context_at c.args.db.now.statements c.args.theorem) s c.args.second.now)
-    (sym c.s-item.is) ∙ sym c.is_disjoint_from.ensures.value ∙ c.if-not-is_disjoint_from.true))
+    sym (list_all_at (λ s. is_disjoint_from (context_at c.args.database.now.statements
+    c.args.theorem) s
+    c.args.second.now) c.args.first.now c.loop-symbol.symbol-index c.symbol-item.result
+    c.loop-symbol-test.true
+    (ap (λ s. is_disjoint_from (context_at c.args.database.now.statements c.args.theorem) s
+    c.args.second.now)
+    (sym c.symbol-item.is) ∙ sym c.is_disjoint_from.ensures.value ∙ c.if-not-is_disjoint_from.true))
 
-pub loop-s-preserved : goal.loop-s-preserved
-loop-s-preserved g c = record {
+pub loop-symbol-preserved : goal.loop-symbol-preserved
+loop-symbol-preserved g c = record {
   so_far =
-      list_all_more (λ s. is_disjoint_from (context_at c.args.db.now.statements c.args.theorem) s
-      c.args.second.now) c.args.first.now c.loop-s.s-index c.s-item.result c.loop-s-test.true
-      ∙ ap₂ (λ a b. a && b) c.loop-s.invariant.so_far
-      (ap (λ s. is_disjoint_from (context_at c.args.db.now.statements c.args.theorem) s c.args.second.now)
-      (sym c.s-item.is) ∙ sym c.is_disjoint_from.ensures.value ∙ c.if-not-is_disjoint_from.false);
+      list_all_more (λ s. is_disjoint_from (context_at c.args.database.now.statements
+      c.args.theorem) s
+      c.args.second.now) c.args.first.now c.loop-symbol.symbol-index c.symbol-item.result
+      c.loop-symbol-test.true
+      ∙ ap₂ (λ a b. a && b) c.loop-symbol.invariant.so_far
+      (ap (λ s. is_disjoint_from (context_at c.args.database.now.statements c.args.theorem) s
+      c.args.second.now)
+      (sym c.symbol-item.is) ∙ sym c.is_disjoint_from.ensures.value
+      ∙ c.if-not-is_disjoint_from.false);
   cache = c.is_disjoint_from.ensures.cache;
 }
 
 pub returns-clause-value : goal.returns-clause-value
 returns-clause-value g c =
-    sym (ap (λ xs. are_all_disjoint (context_at c.args.db.now.statements c.args.theorem) xs
-    c.args.second.now) (sym (take_all c.loop-s.s-index c.args.first.now c.loop-s-test.false))
-    ∙ c.loop-s.invariant.so_far)
+    sym (ap (λ xs. are_all_disjoint (context_at c.args.database.now.statements c.args.theorem) xs
+    c.args.second.now) (sym (take_all c.loop-symbol.symbol-index c.args.first.now
+    c.loop-symbol-test.false))
+    ∙ c.loop-symbol.invariant.so_far)

@@ -4,8 +4,10 @@ use Rattle.mm_spec.specs.Citation.{context_at}
 use Rattle.mm_machine.specs.DisjointCache.{AreDisjointAt}
 use Rattle.mm_machine.proofs.arena.are_all_disjoint.Given as goal
 
-abbrev pub invariant-loop-s : goal.invariant-loop-s
-invariant-loop-s g l = record {
-  so_far : are_all_disjoint (context_at l.db.statements l.theorem) (take l.s-index l.first) l.second ≡ true;
-  cache : AreDisjointAt l.db.statements l.theorem l.cache;
+abbrev pub invariant-loop-symbol : goal.invariant-loop-symbol
+invariant-loop-symbol g l = record {
+  so_far : are_all_disjoint (context_at l.database.statements l.theorem)
+      (take l.symbol-index l.first) l.second
+      ≡ true;
+  cache : AreDisjointAt l.database.statements l.theorem l.cache;
 }

@@ -1,18 +1,20 @@
 use Rattle.std.proofs.Common.{sym, ◌∙◌}
-use Rattle.mm_machine.proofs.DisjointLaw.{either_disjoint, either_kept}
+use Rattle.mm_machine.proofs.DisjointLaw.{either_disjoint, either_marked}
 use Rattle.mm_machine.proofs.arena.are_disjoint.Goals as goal
 
 pub returns-then-has-clause-value : goal.returns-then-has-clause-value
 returns-then-has-clause-value g c =
-    sym (either_disjoint c.args.db.now.statements c.args.theorem c.args.cache.now c.requires.cache
-    c.args.s c.args.t (c.has.ensures c.if-has.true))
+    sym (either_disjoint c.args.database.now.statements c.args.theorem c.args.cache.now
+    c.requires.cache
+    c.args.first c.args.second (c.has.ensures c.if-has.true))
 
-pub returns-then-not-are_disjoint_by-clause-cache :
-    goal.returns-then-not-are_disjoint_by-clause-cache
-returns-then-not-are_disjoint_by-clause-cache g c = c.requires.cache
+pub returns-then-not-are_disjoint_in_database-clause-cache :
+    goal.returns-then-not-are_disjoint_in_database-clause-cache
+returns-then-not-are_disjoint_in_database-clause-cache g c = c.requires.cache
 
 pub returns-clause-cache : goal.returns-clause-cache
 returns-clause-cache g c =
-    either_kept c.args.db.now.statements c.args.theorem c.args.cache.now c.requires.cache
-    c.args.s c.args.t c.keep.new.self
-    (sym c.are_disjoint_by.ensures ∙ c.if-not-are_disjoint_by.false) c.keep.ensures
+    either_marked c.args.database.now.statements c.args.theorem c.args.cache.now c.requires.cache
+    c.args.first c.args.second c.insert.new.self
+    (sym c.are_disjoint_in_database.ensures ∙ c.if-not-are_disjoint_in_database.false)
+    c.insert.ensures

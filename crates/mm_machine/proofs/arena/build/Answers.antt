@@ -20,14 +20,14 @@ returns-then-len-gt-FORMULA_LIMIT-clause-short g c =
     let f = c.args.formula.now in
     let i = c.loop-part.part-index in
     let u = c.formula.result.now in
-    let inside : i < length f = c.loop-part-test.true in
+    let i_lt_length_f : i < length f = c.loop-part-test.true in
     let is : replaced_part xs es c.part-item.result ≡ u =
     ap (replaced_part xs es) c.in-Variable.is
-    ∙ sym (c.formula.ensures ∙ ap (span_formula xs) c.span_of.ensures) in
+    ∙ sym (c.formula.ensures ∙ ap (span_formula xs) c.replacement_of.ensures) in
     let l : length (replaced xs es (take i f)) + length u ≤ length (replaced xs es f) =
-    longer xs es f i c.part-item.result u inside (sym c.part-item.is) is in
+    longer xs es f i c.part-item.result u i_lt_length_f (sym c.part-item.is) is in
     let m : length c.append_symbols.new.list.items ≡ length (replaced xs es (take i f)) + length u =
-    ap length c.in_ok-append_symbols-in-Variable.ensures ∙ length-append c.loop-part.made.items u
+    ap length c.in_ok-append_symbols-in-Variable.ensures ∙ length-append c.loop-part.list.items u
     ∙ ap (λ z. length z + length u) c.loop-part.invariant in
     sym (lt-leb (length (replaced xs es f)) formula_limit
     (omega (arith, l, m, c.len.ensures, c.if-len-gt-FORMULA_LIMIT.true)))
@@ -35,12 +35,13 @@ returns-then-len-gt-FORMULA_LIMIT-clause-short g c =
 pub formula-requires : goal.formula-requires
 formula-requires g c =
     variable_in c.args.symbols.now c.args.premises.now c.args.formula.now c.loop-part.part-index
-    c.part-item.result c.in-Variable.j c.span_of.result c.requires.premises c.requires.formula
-    c.loop-part-test.true c.part-item.is c.in-Variable.is c.span_of.ensures
+    c.part-item.result c.in-Variable.number c.replacement_of.result c.requires.premises
+    c.requires.formula
+    c.loop-part-test.true c.part-item.is c.in-Variable.is c.replacement_of.ensures
 
-pub returns-then-len-gt-FORMULA_LIMIT-clause-made :
-    goal.returns-then-len-gt-FORMULA_LIMIT-clause-made
-returns-then-len-gt-FORMULA_LIMIT-clause-made g c = λ e. absurd (cc)
+pub returns-then-len-gt-FORMULA_LIMIT-clause-built :
+    goal.returns-then-len-gt-FORMULA_LIMIT-clause-built
+returns-then-len-gt-FORMULA_LIMIT-clause-built g c = λ e. absurd (cc)
 
 pub loop-part-preserved : goal.loop-part-preserved
 loop-part-preserved g c =
@@ -56,27 +57,27 @@ loop-part-preserved g c =
     elim c.match-part.branch [
       | in-Variable+in_ok-append_symbols-in-Variable+else-len-gt-FORMULA_LIMIT w ↦
           let is : w.formula.result.now ≡ replaced_part xs es p =
-          w.formula.ensures ∙ ap (span_formula xs) w.span_of.ensures
+          w.formula.ensures ∙ ap (span_formula xs) w.replacement_of.ensures
           ∙ sym (ap (replaced_part xs es) w.in-Variable.is) in
-          rw (w.made-is, w.in_ok-append_symbols-in-Variable.ensures)
+          rw (w.list-is, w.in_ok-append_symbols-in-Variable.ensures)
           (ap₂ (λ u v. u ++ v) c.loop-part.invariant is ∙ sym next)
       | in-Constant+in_ok-push-in-Constant w ↦
-          rw (w.made-is, w.in_ok-push-in-Constant.ensures.items)
+          rw (w.list-is, w.in_ok-push-in-Constant.ensures.items)
           (ap₂ (λ u v. u ++ v) c.loop-part.invariant
           (sym (ap (replaced_part xs es) w.in-Constant.is)) ∙ sym next)
     ]
 
 pub returns-clause-short : goal.returns-clause-short
 returns-clause-short g c =
-    let made : c.loop-part.made.items
+    let list_is : c.loop-part.list.items
     ≡ replaced c.args.symbols.now c.args.premises.now c.args.formula.now =
     c.loop-part.invariant ∙ ap (replaced c.args.symbols.now c.args.premises.now)
     (take_all c.loop-part.part-index c.args.formula.now c.loop-part-test.false) in
     ap (λ n. nat_le n formula_limit)
-    (c.len-2.ensures ∙ c.loop-part.made.ok.0 ∙ ap length made)
+    (c.len-2.ensures ∙ c.loop-part.list.ok.0 ∙ ap length list_is)
 
-pub returns-clause-made : goal.returns-clause-made
-returns-clause-made g c = λ short.
+pub returns-clause-built : goal.returns-clause-built
+returns-clause-built g c = λ short.
     c.loop-part.invariant ∙ ap (replaced c.args.symbols.now c.args.premises.now)
     (take_all c.loop-part.part-index c.args.formula.now c.loop-part-test.false)
 
@@ -85,7 +86,7 @@ pub returns-in_err-append_symbols-in-Variable-clause-short :
 returns-in_err-append_symbols-in-Variable-clause-short g c =
     IfOk-from_err c.from_residual.result _ c.from_residual.ensures.0
 
-pub returns-in_err-append_symbols-in-Variable-clause-made :
-    goal.returns-in_err-append_symbols-in-Variable-clause-made
-returns-in_err-append_symbols-in-Variable-clause-made g c =
+pub returns-in_err-append_symbols-in-Variable-clause-built :
+    goal.returns-in_err-append_symbols-in-Variable-clause-built
+returns-in_err-append_symbols-in-Variable-clause-built g c =
     IfOk-from_err c.from_residual.result _ c.from_residual.ensures.0

@@ -20,22 +20,24 @@ constant_apart db t s e (x ∷ v) =
 
 pub returns-then-not-is_variable-clause-value : goal.returns-then-not-is_variable-clause-value
 returns-then-not-is_variable-clause-value g c =
-    sym (constant_apart c.args.db.now.statements c.args.theorem c.args.s
+    sym (constant_apart c.args.database.now.statements c.args.theorem c.args.symbol
     (sym c.is_variable.ensures ∙ c.if-not-is_variable.true) c.args.others.now)
 
 pub returns-then-not-are_disjoint-clause-value : goal.returns-then-not-are_disjoint-clause-value
 returns-then-not-are_disjoint-clause-value g c =
-    let disjoint = are_disjoint (context_at c.args.db.now.statements c.args.theorem) c.args.s in
-    sym (list_all_at disjoint c.args.others.now c.loop-t.t-index c.t-item.result
-    c.loop-t-test.true
-    (ap disjoint (sym c.t-item.is) ∙ sym c.are_disjoint.ensures.value
+    let disjoint = are_disjoint (context_at c.args.database.now.statements c.args.theorem)
+    c.args.symbol in
+    sym (list_all_at disjoint c.args.others.now c.loop-other.other-index c.other-item.result
+    c.loop-other-test.true
+    (ap disjoint (sym c.other-item.is) ∙ sym c.are_disjoint.ensures.value
     ∙ c.if-not-are_disjoint.true))
 
-pub loop-t-preserved : goal.loop-t-preserved
-loop-t-preserved g c = grind (arith, common_steps)
+pub loop-other-preserved : goal.loop-other-preserved
+loop-other-preserved g c = grind (arith, common_steps)
 
 pub returns-clause-value : goal.returns-clause-value
 returns-clause-value g c =
-    sym (ap (is_disjoint_from (context_at c.args.db.now.statements c.args.theorem) c.args.s)
-    (sym (take_all c.loop-t.t-index c.args.others.now c.loop-t-test.false))
-    ∙ c.loop-t.invariant.so_far)
+    sym (ap (is_disjoint_from (context_at c.args.database.now.statements c.args.theorem)
+    c.args.symbol)
+    (sym (take_all c.loop-other.other-index c.args.others.now c.loop-other-test.false))
+    ∙ c.loop-other.invariant.so_far)

@@ -4,8 +4,10 @@ use Rattle.mm_spec.specs.Citation.{context_at}
 use Rattle.mm_machine.specs.DisjointCache.{AreDisjointAt}
 use Rattle.mm_machine.proofs.arena.is_disjoint_from.Given as goal
 
-abbrev pub invariant-loop-t : goal.invariant-loop-t
-invariant-loop-t g l = record {
-  so_far : is_disjoint_from (context_at l.db.statements l.theorem) l.s (take l.t-index l.others) ≡ true;
-  cache : AreDisjointAt l.db.statements l.theorem l.cache;
+abbrev pub invariant-loop-other : goal.invariant-loop-other
+invariant-loop-other g l = record {
+  so_far : is_disjoint_from (context_at l.database.statements l.theorem) l.symbol
+      (take l.other-index l.others)
+      ≡ true;
+  cache : AreDisjointAt l.database.statements l.theorem l.cache;
 }

@@ -8,7 +8,7 @@ use Rattle.mm_spec.specs.Derivation.{are_all_disjoint}
 use Rattle.mm_spec.specs.Citation.{context_at}
 use Rattle.mm_spec.specs.Frame.{symbol_names}
 use Rattle.mm_machine.specs.Arena.{span_formula}
-use Rattle.mm_machine.specs.Replaced.{stands}
+use Rattle.mm_machine.specs.Replaced.{replacement}
 use Rattle.mm_machine.proofs.GrowLaw.{symbols_known, premise_in}
 use Rattle.mm_machine.proofs.arena.pairs_are_disjoint.Goals as goal
 
@@ -20,55 +20,62 @@ fails_at test (q ∷ ps) zero h e = ap (λ b. b && list_all test ps) e
 fails_at test (q ∷ ps) (suc i) h e =
     ap (λ b. test q && b) (fails_at test ps i (omega arith) e) ∙ and-false (test q)
 
-pub returns-then-not-are_all_disjoint-clause-value : goal.returns-then-not-are_all_disjoint-clause-value
+pub returns-then-not-are_all_disjoint-clause-value :
+    goal.returns-then-not-are_all_disjoint-clause-value
 returns-then-not-are_all_disjoint-clause-value g c =
-    let context = context_at c.args.db.now.statements c.args.theorem in
+    let context = context_at c.args.database.now.statements c.args.theorem in
     let xs = c.args.symbols.now in
     let es = c.args.premises.now in
     let p = get_or c.args.pairs.now c.loop-pair.pair-index (0, 0) in
-    let fails : are_all_disjoint context (stands xs es p.0) (stands xs es p.1) ≡ false =
+    let fails : are_all_disjoint context (replacement xs es p.0) (replacement xs es p.1) ≡ false =
     ap₂ (are_all_disjoint context)
-    (sym (c.formula-first.ensures ∙ ap (span_formula xs) c.span_of.ensures))
-    (sym (c.formula-second.ensures ∙ ap (span_formula xs) c.span_of-in-loop-pair.ensures))
+    (sym (c.formula-first.ensures ∙ ap (span_formula xs) c.replacement_of.ensures))
+    (sym (c.formula-second.ensures ∙ ap (span_formula xs) c.replacement_of-in-loop-pair.ensures))
     ∙ sym c.are_all_disjoint.ensures.value ∙ c.if-not-are_all_disjoint.true in
     sym (fails_at
-    (λ (q : ℕ × ℕ). are_all_disjoint context (stands xs es q.0) (stands xs es q.1)) c.args.pairs.now
+    (λ (q : ℕ × ℕ). are_all_disjoint context (replacement xs es q.0) (replacement xs es q.1))
+    c.args.pairs.now
     c.loop-pair.pair-index c.loop-pair-test.true fails)
 
 pub are_all_disjoint-requires-clause-second : goal.are_all_disjoint-requires-clause-second
 are_all_disjoint-requires-clause-second g c =
-    let n = length (symbol_names c.args.db.now.statements) in
+    let n = length (symbol_names c.args.database.now.statements) in
     subst (All (λ s. s < n)) (sym c.formula-second.ensures)
-    (symbols_known n c.args.symbols.now c.span_of-in-loop-pair.result c.requires.premises.known.own
-    c.requires.premises.known.kept)
+    (symbols_known n c.args.symbols.now c.replacement_of-in-loop-pair.result
+    c.requires.premises.known.unmarked
+    c.requires.premises.known.marked)
 
 pub formula-first-requires : goal.formula-first-requires
 formula-first-requires g c =
-    premise_in c.args.symbols.now c.args.premises.now _ c.span_of.result
+    premise_in c.args.symbols.now c.args.premises.now _ c.replacement_of.result
     c.requires.premises.inside
-    (c.requires.pairs c.loop-pair.pair-index (0, 0) c.loop-pair-test.true).0 c.span_of.ensures
+    (c.requires.pairs c.loop-pair.pair-index (0, 0) c.loop-pair-test.true).0
+    c.replacement_of.ensures
 
 pub formula-second-requires : goal.formula-second-requires
 formula-second-requires g c =
-    premise_in c.args.symbols.now c.args.premises.now _ c.span_of-in-loop-pair.result
+    premise_in c.args.symbols.now c.args.premises.now _ c.replacement_of-in-loop-pair.result
     c.requires.premises.inside
     (c.requires.pairs c.loop-pair.pair-index (0, 0) c.loop-pair-test.true).1
-    c.span_of-in-loop-pair.ensures
+    c.replacement_of-in-loop-pair.ensures
 
 pub are_all_disjoint-requires-clause-first : goal.are_all_disjoint-requires-clause-first
-are_all_disjoint-requires-clause-first g c = let n = length (symbol_names c.args.db.now.statements) in
+are_all_disjoint-requires-clause-first g c = let n = length
+    (symbol_names c.args.database.now.statements)
+    in
     subst (All (λ s. s < n)) (sym c.formula-first.ensures)
-    (symbols_known n c.args.symbols.now c.span_of.result c.requires.premises.known.own
-    c.requires.premises.known.kept)
+    (symbols_known n c.args.symbols.now c.replacement_of.result c.requires.premises.known.unmarked
+    c.requires.premises.known.marked)
 
 pub loop-pair-preserved : goal.loop-pair-preserved
 loop-pair-preserved g c = grind (arith, common_steps)
 
 pub returns-clause-value : goal.returns-clause-value
-returns-clause-value g c = let context = context_at c.args.db.now.statements c.args.theorem in
+returns-clause-value g c = let context = context_at c.args.database.now.statements c.args.theorem in
     let xs = c.args.symbols.now in
     let es = c.args.premises.now in
     sym (ap
-    (list_all (λ (q : ℕ × ℕ). are_all_disjoint context (stands xs es q.0) (stands xs es q.1)))
+    (list_all (λ (q : ℕ × ℕ). are_all_disjoint context (replacement xs es q.0)
+    (replacement xs es q.1)))
     (sym (take_all c.loop-pair.pair-index c.args.pairs.now c.loop-pair-test.false))
     ∙ c.loop-pair.invariant.so_far)

@@ -1,12 +1,12 @@
 use Rattle.std.proofs.Common.{◌-◌, true, false, length, slice_range, sym, ap, ◌∙◌, arith, refl}
 use Rattle.std.proofs.lemmas.List.{take_rest}
 use Rattle.mm_machine.proofs.GrowLaw.{stretch_in}
-use Rattle.mm_machine.proofs.RuleTestLaw.{judged_at, few_at}
+use Rattle.mm_machine.proofs.RuleTestLaw.{rule_test_at, too_few_at}
 use Rattle.mm_machine.proofs.arena.test_rule.Goals as goal
 
 pub returns-then-stack-hypotheses-clause-judged : goal.returns-then-stack-hypotheses-clause-judged
 returns-then-stack-hypotheses-clause-judged g c =
-    few_at c.args.db.now.statements c.args.theorem c.args.rule.now c.args.symbols.now
+    too_few_at c.args.database.now.statements c.args.theorem c.args.rule.now c.args.symbols.now
     c.args.stack.now c.requires.rule
     (let l = c.if-stack-hypotheses.true in let n = ap length c.hypotheses-hypotheses.ensures in
     omega (arith, l, n))
@@ -15,18 +15,21 @@ pub returns-then-not-all_fit-clause-judged : goal.returns-then-not-all_fit-claus
 returns-then-not-all_fit-clause-judged g c =
     let stack = c.args.stack.now in
     let n = length c.hypotheses-hypotheses.result.now in
-    judged_at c.args.db.now.statements c.args.theorem c.args.rule.now c.args.symbols.now stack
+    rule_test_at c.args.database.now.statements c.args.theorem c.args.rule.now c.args.symbols.now
+    stack
     (slice_range stack (length stack - n) (length stack)) n (length stack - n) c.requires.rule
     (ap length c.hypotheses-hypotheses.ensures) (let l = c.if-stack-hypotheses.false in omega
     (arith, l)) refl
     (take_rest stack (length stack - n)) c.requires.stack.inside _ refl false _
     (sym c.if-not-all_fit.true ∙ c.all_fit.ensures) refl
 
-pub returns-then-not-pairs_are_disjoint-clause-judged : goal.returns-then-not-pairs_are_disjoint-clause-judged
+pub returns-then-not-pairs_are_disjoint-clause-judged :
+    goal.returns-then-not-pairs_are_disjoint-clause-judged
 returns-then-not-pairs_are_disjoint-clause-judged g c =
     let stack = c.args.stack.now in
     let n = length c.hypotheses-hypotheses.result.now in
-    judged_at c.args.db.now.statements c.args.theorem c.args.rule.now c.args.symbols.now stack
+    rule_test_at c.args.database.now.statements c.args.theorem c.args.rule.now c.args.symbols.now
+    stack
     (slice_range stack (length stack - n) (length stack)) n (length stack - n) c.requires.rule
     (ap length c.hypotheses-hypotheses.ensures) (let l = c.if-stack-hypotheses.false in omega
     (arith, l)) refl
@@ -40,7 +43,8 @@ returns-clause-judged g c =
     let n = length c.hypotheses-hypotheses.result.now in
     let l = c.if-stack-hypotheses.false in (
       (let n = ap length c.hypotheses-hypotheses.ensures in omega (arith, l, n)),
-      judged_at c.args.db.now.statements c.args.theorem c.args.rule.now c.args.symbols.now stack
+      rule_test_at c.args.database.now.statements c.args.theorem c.args.rule.now c.args.symbols.now
+          stack
           (slice_range stack (length stack - n) (length stack)) n (length stack - n) c.requires.rule
           (ap length c.hypotheses-hypotheses.ensures) (omega (arith, l)) refl
           (take_rest stack (length stack - n)) c.requires.stack.inside c.pairs-pairs.result.now

@@ -6,8 +6,9 @@ use Rattle.mm_machine.proofs.fill.fill.Goals as goal
 pub formula-replacement-requires : goal.formula-replacement-requires
 formula-replacement-requires c =
     variable_in c.args.symbols.now c.args.premises.now c.args.formula.now c.loop-part.part-index
-    c.part-item.result c.in-Variable.j c.span_of.result c.requires.premises c.requires.formula
-    c.loop-part-test.true c.part-item.is c.in-Variable.is c.span_of.ensures
+    c.part-item.result c.in-Variable.number c.replacement_of.result c.requires.premises
+    c.requires.formula
+    c.loop-part-test.true c.part-item.is c.in-Variable.is c.replacement_of.ensures
 
 pub loop-part-preserved : goal.loop-part-preserved
 loop-part-preserved c = grind (arith, common_steps)
@@ -20,5 +21,5 @@ pub returns-then-at-gt-FORMULA_LIMIT-clause-short :
     goal.returns-then-at-gt-FORMULA_LIMIT-clause-short
 returns-then-at-gt-FORMULA_LIMIT-clause-short c = tt
 
-pub returns-clause-is : goal.returns-clause-is
-returns-clause-is c = grind (arith, common_steps)
+pub returns-clause-written : goal.returns-clause-written
+returns-clause-written c = grind (arith, common_steps)

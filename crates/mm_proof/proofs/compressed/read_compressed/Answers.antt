@@ -25,7 +25,7 @@ returns-clause-steps g c =
     let db = c.args.database.now.statements in
     let text = c.args.database.now.text in
     let words = c.args.words.now in
-    let n = c.in_ok-count.count in
+    let n = c.in_ok-label_count.label_count in
     let steps =
     rw (c.none-letters.ensures, c.text.ensures, take_rest) at
     c.in_ok-read_all.ensures.reads.steps in
@@ -34,7 +34,7 @@ returns-clause-steps g c =
     ∙ ap₂ (λ xs ys. xs ++ ys) c.with_room-labels.ensures
     (c.as_slice.ensures.value ∙ c.frame.ensures.hypotheses) in
     let labels =
-    c.in_ok-count.ensures.labels.labels
+    c.in_ok-label_count.ensures.labels.labels
     ∙ ap (λ xs. xs
     ++ flat_map (λ t. usable db c.args.theorem t.word) (as_tokens text (take n words)))
     hypotheses in
@@ -44,7 +44,7 @@ returns-clause-steps g c =
     ∙ read_steps db c.args.theorem (bracketed (as_tokens text words))
     (as_tokens text (take n words))
     (as_tokens text (drop (n + 1) words)) c.read_labels.new.labels.items _ _
-    c.in_ok-count.ensures.labels.brackets labels theorem steps
+    c.in_ok-label_count.ensures.labels.brackets labels theorem steps
 
 pub returns-in_err-extend_from_slice-clause-fault :
     goal.returns-in_err-extend_from_slice-clause-fault
@@ -61,36 +61,36 @@ pub returns-in_err-extend_from_slice-clause-steps :
 returns-in_err-extend_from_slice-clause-steps g c =
     IfOk-from_err c.from_residual.result _ c.from_residual.ensures.0
 
-pub returns-in_err-count-clause-fault : goal.returns-in_err-count-clause-fault
-returns-in_err-count-clause-fault g c =
-    err_same c.from_residual-in_err-count.result c.in_err-count.field-0.0 _
-    c.from_residual-in_err-count.ensures.1
-    c.in_err-count.ensures.fault
+pub returns-in_err-label_count-clause-fault : goal.returns-in_err-label_count-clause-fault
+returns-in_err-label_count-clause-fault g c =
+    err_same c.from_residual-in_err-label_count.result c.in_err-label_count.field-0.0 _
+    c.from_residual-in_err-label_count.ensures.1
+    c.in_err-label_count.ensures.fault
 
 pub read_all-requires-clause-none : goal.read_all-requires-clause-none
 read_all-requires-clause-none g c =
     c.none-letters.ensures
     ∙ sym (ap (λ s. letters_state s.theorem s.labels [] None []) c.none-letters.ensures)
 
-pub offset_bounds-words-count : goal.offset_bounds-words-count
-offset_bounds-words-count g c =
-    let s = c.in_ok-count.ensures.labels.some in omega (arith, s)
+pub offset_bounds-words-label_count : goal.offset_bounds-words-label_count
+offset_bounds-words-label_count g c =
+    let s = c.in_ok-label_count.ensures.labels.some in omega (arith, s)
 
-pub overflow_add-rest : goal.overflow_add-rest
-overflow_add-rest g c =
-    let s = c.in_ok-count.ensures.labels.some in omega (arith, s)
+pub overflow_add-letter_words : goal.overflow_add-letter_words
+overflow_add-letter_words g c =
+    let s = c.in_ok-label_count.ensures.labels.some in omega (arith, s)
 
-pub slice_bounds-rest-count : goal.slice_bounds-rest-count
-slice_bounds-rest-count g c =
-    let s = c.in_ok-count.ensures.labels.some in omega (arith, s)
+pub slice_bounds-letter_words-count : goal.slice_bounds-letter_words-count
+slice_bounds-letter_words-count g c =
+    let s = c.in_ok-label_count.ensures.labels.some in omega (arith, s)
 
-pub slice_bounds-rest-end : goal.slice_bounds-rest-end
-slice_bounds-rest-end g c =
-    let s = c.in_ok-count.ensures.labels.some in omega (arith, s)
+pub slice_bounds-letter_words-end : goal.slice_bounds-letter_words-end
+slice_bounds-letter_words-end g c =
+    let s = c.in_ok-label_count.ensures.labels.some in omega (arith, s)
 
-pub slice_bounds-rest-start : goal.slice_bounds-rest-start
-slice_bounds-rest-start g c =
-    let s = c.in_ok-count.ensures.labels.some in omega (arith, s)
+pub slice_bounds-letter_words-start : goal.slice_bounds-letter_words-start
+slice_bounds-letter_words-start g c =
+    let s = c.in_ok-label_count.ensures.labels.some in omega (arith, s)
 
 pub returns-clause-sound : goal.returns-clause-sound
 returns-clause-sound g c =
@@ -99,10 +99,10 @@ returns-clause-sound g c =
     ∙ ap₂ (λ xs ys. xs ++ ys) c.with_room-labels.ensures
     (c.as_slice.ensures.value ∙ c.frame.ensures.hypotheses) in
     faults_closed c.args.database.now.statements c.args.theorem c.args.end c.args.database.now.text
-    c.args.words.now c.in_ok-count.count c.extend_from_slice.new.self.items
-    c.read_labels.new.labels.items c.in_ok-count.ensures.labels.some hypotheses
-    c.in_ok-count.ensures.labels.many c.in_ok-count.ensures.labels.brackets
-    c.in_ok-count.ensures.labels.sound
+    c.args.words.now c.in_ok-label_count.label_count c.extend_from_slice.new.self.items
+    c.read_labels.new.labels.items c.in_ok-label_count.ensures.labels.some hypotheses
+    c.in_ok-label_count.ensures.labels.many c.in_ok-label_count.ensures.labels.brackets
+    c.in_ok-label_count.ensures.labels.sound
     ∙ rw (c.none-letters.ensures, c.text.ensures, take_rest) at c.in_ok-read_all.ensures.reads.sound
 
 pub returns-in_err-read_all-clause-fault : goal.returns-in_err-read_all-clause-fault
@@ -113,10 +113,10 @@ returns-in_err-read_all-clause-fault g c =
     (c.as_slice.ensures.value ∙ c.frame.ensures.hypotheses) in
     let faults =
     faults_closed c.args.database.now.statements c.args.theorem c.args.end c.args.database.now.text
-    c.args.words.now c.in_ok-count.count c.extend_from_slice.new.self.items
-    c.read_labels.new.labels.items c.in_ok-count.ensures.labels.some hypotheses
-    c.in_ok-count.ensures.labels.many c.in_ok-count.ensures.labels.brackets
-    c.in_ok-count.ensures.labels.sound in
+    c.args.words.now c.in_ok-label_count.label_count c.extend_from_slice.new.self.items
+    c.read_labels.new.labels.items c.in_ok-label_count.ensures.labels.some hypotheses
+    c.in_ok-label_count.ensures.labels.many c.in_ok-label_count.ensures.labels.brackets
+    c.in_ok-label_count.ensures.labels.sound in
     let fault =
     rw (c.none-letters.ensures, c.text.ensures, take_rest) at c.in_err-read_all.ensures.fault in
     err_same c.from_residual-in_err-read_all.result c.in_err-read_all.field-0.0 _
@@ -131,4 +131,4 @@ pub read_all-requires-clause-within : goal.read_all-requires-clause-within
 read_all-requires-clause-within g c =
     rw (c.text.ensures, take_rest)
     (All-drop (λ w. (w.start ≤ w.end) × (w.end ≤ length c.args.database.now.text))
-    (c.in_ok-count.count + 1) c.args.words.now c.requires.within)
+    (c.in_ok-label_count.label_count + 1) c.args.words.now c.requires.within)

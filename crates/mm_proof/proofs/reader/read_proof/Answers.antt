@@ -3,7 +3,7 @@ use Rattle.std.proofs.Common.{false, suc, arith, Some}
 use Rattle.mm_spec.specs.CompressedProof.{bracketed, compressed_faults}
 use Rattle.mm_spec.specs.Citation.{reading_faults_at}
 use Rattle.mm_outline.specs.Parts.{as_tokens, token_of, AreWithin}
-use Rattle.mm_proof.specs.Letters.{InOrder}
+use Rattle.mm_proof.specs.Letters.{AreInOrder}
 use Rattle.mm_proof.specs.Refused.{IsProofRefusal}
 use Rattle.mm_proof.proofs.RisingLaw.{proof_rising, proof_in_order}
 use Rattle.mm_proof.proofs.OrderLaw.{first_fault}
@@ -18,14 +18,14 @@ use Rattle.mm_spec.specs.Text.{fault}
 use Rattle.mm_spec.specs.declared.Code.TheVariants.{EmptyProof}
 use Rattle.mm_proof.proofs.reader.read_proof.Goals as goal
 
-pub read_words-requires-clause-theorem : goal.read_words-requires-clause-theorem
-read_words-requires-clause-theorem g c =
+pub read_normal-requires-clause-theorem : goal.read_normal-requires-clause-theorem
+read_normal-requires-clause-theorem g c =
     theorem_within c.args.database.now.statements c.args.theorem _
     (theorem_is c.args.database.now.statements c.args.theorem _ c.requires
     c.proof_words-words.ensures.words)
 
-pub read_words-requires-clause-rising : goal.read_words-requires-clause-rising
-read_words-requires-clause-rising g c =
+pub read_normal-requires-clause-rising : goal.read_normal-requires-clause-rising
+read_normal-requires-clause-rising g c =
     let db = c.args.database.now.statements in
     let t = theorem_is db c.args.theorem _ c.requires c.proof_words-words.ensures.words in
     proof_rising c.args.database.now.text c.args.database.now.read c.args.database.now.with_open _
@@ -39,10 +39,10 @@ read_compressed-requires-clause-in_order g c =
     let t = theorem_is db c.args.theorem _ c.requires c.proof_words-words.ensures.words in
     let e = end_is db c.args.theorem c.end_at-end.result _ t c.end_at-end.ensures in
     let whole =
-    subst (λ ws. InOrder 0 (as_tokens text ws) t.dot) c.in-Some.ensures.cases.0
+    subst (λ ws. AreInOrder 0 (as_tokens text ws) t.dot) c.in-Some.ensures.cases.0
     (proof_in_order text c.args.database.now.read c.args.database.now.with_open _ c.len.ensures.read
     db c.len.ensures.counted c.args.theorem t.label t.keyword t.symbols t.equals _ t.dot t.is) in
-    subst (InOrder 0 (as_tokens text c.in-Some.rest.now)) e
+    subst (AreInOrder 0 (as_tokens text c.in-Some.rest.now)) e
     (order_rest text c.in-Some.first.now c.in-Some.rest.now 0 t.dot whole)
 
 pub returns-then-eq-clause-fault : goal.returns-then-eq-clause-fault
@@ -54,10 +54,11 @@ returns-then-eq-clause-fault g c =
     let t = theorem_is db c.args.theorem _ c.requires c.proof_words-words.ensures.words in
     let e = end_is db c.args.theorem c.end_at-end.result _ t c.end_at-end.ensures in
     let whole =
-    subst (λ ws. InOrder 0 (as_tokens text ws) t.dot) c.in-Some.ensures.cases.0
+    subst (λ ws. AreInOrder 0 (as_tokens text ws) t.dot) c.in-Some.ensures.cases.0
     (proof_in_order text c.args.database.now.read c.args.database.now.with_open _ c.len.ensures.read
     db c.len.ensures.counted c.args.theorem t.label t.keyword t.symbols t.equals _ t.dot t.is) in
-    let order = subst (InOrder 0 rest) e (order_rest text first c.in-Some.rest.now 0 t.dot whole) in
+    let order = subst (AreInOrder 0 rest) e (order_rest text first c.in-Some.rest.now 0 t.dot whole)
+    in
     let label = c.bytes.ensures ∙ ap (λ t. slice_range t first.start first.end) c.text.ensures in
     let test : bytes_eq (slice_range text first.start first.end) (codes "(") ≡ true =
     ap₂ bytes_eq (sym label) (sym c.as_slice.ensures) ∙ sym c.eq.ensures ∙ c.if-eq.true in
@@ -79,7 +80,7 @@ returns-clause-steps g c =
     let label = c.bytes.ensures ∙ ap (λ t. slice_range t first.start first.end) c.text.ensures in
     let test : bytes_eq (slice_range text first.start first.end) (codes "(") ≡ false =
     ap₂ bytes_eq (sym label) (sym c.as_slice.ensures) ∙ sym c.eq.ensures ∙ c.if-eq.false in
-    ok_then c.read_words.result c.read_words.ensures.steps (λ s e. e
+    ok_then c.read_normal.result c.read_normal.ensures.steps (λ s e. e
     ∙ ap (read c.args.theorem) (sym (normal_steps_at db c.args.theorem _ t (token_of text first)
     (as_tokens text c.in-Some.rest.now)
     (ap (as_tokens text) c.in-Some.ensures.cases.0) test)))
@@ -93,7 +94,7 @@ returns-clause-sound g c =
     let label = c.bytes.ensures ∙ ap (λ t. slice_range t first.start first.end) c.text.ensures in
     let test : bytes_eq (slice_range text first.start first.end) (codes "(") ≡ false =
     ap₂ bytes_eq (sym label) (sym c.as_slice.ensures) ∙ sym c.eq.ensures ∙ c.if-eq.false in
-    ok_then c.read_words.result c.read_words.ensures.sound (λ s h. normal_at db c.args.theorem _ t
+    ok_then c.read_normal.result c.read_normal.ensures.sound (λ s h. normal_at db c.args.theorem _ t
     (token_of text first) (as_tokens text c.in-Some.rest.now)
     (ap (as_tokens text) c.in-Some.ensures.cases.0) test ∙ h)
 
@@ -106,7 +107,7 @@ returns-clause-fault g c =
     let label = c.bytes.ensures ∙ ap (λ t. slice_range t first.start first.end) c.text.ensures in
     let test : bytes_eq (slice_range text first.start first.end) (codes "(") ≡ false =
     ap₂ bytes_eq (sym label) (sym c.as_slice.ensures) ∙ sym c.eq.ensures ∙ c.if-eq.false in
-    err_then c.read_words.result c.read_words.ensures.fault
+    err_then c.read_normal.result c.read_normal.ensures.fault
     (λ r s. subst (λ fs. IsProofRefusal fs r)
     (sym (normal_at db c.args.theorem _ t (token_of text first) (as_tokens text c.in-Some.rest.now)
     (ap (as_tokens text) c.in-Some.ensures.cases.0) test)) s)

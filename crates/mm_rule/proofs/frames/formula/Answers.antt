@@ -3,4 +3,5 @@ use Rattle.mm_outline.proofs.StatementsLaw.{is_there}
 use Rattle.mm_rule.proofs.frames.formula.Goals as goal
 
 pub formula-requires : goal.formula-requires
-formula-requires g c = is_there is_assertion c.args.db.now.statements c.args.k c.requires
+formula-requires g c = is_there is_assertion c.args.database.now.statements c.args.assertion
+    c.requires

@@ -2,7 +2,8 @@ use Rattle.std.proofs.Common.{◌≡◌, ◌++◌, take}
 use Rattle.mm_rules.specs.Rules.{numbered_parts}
 use Rattle.mm_rules.proofs.compile.compile_formula.Given as goal
 
-abbrev pub invariant-loop-s : goal.invariant-loop-s
-invariant-loop-s g l =
+abbrev pub invariant-loop-symbol : goal.invariant-loop-symbol
+invariant-loop-symbol g l =
     l.parts.items
-    ≡ l.initial.parts.items ++ numbered_parts l.db.statements l.numbers (take l.s-index l.formula)
+    ≡ l.initial.parts.items ++ numbered_parts l.database.statements l.numbers (take l.symbol-index
+    l.formula)

@@ -5,58 +5,59 @@ use Rattle.std.proofs.lemmas.List.Elements.{All-append}
 use Rattle.mm_spec.specs.Frame.{formula_at}
 use Rattle.mm_rule.specs.declared.rule.RuleSymbol.TheVariants.{Constant, Variable}
 use Rattle.mm_rule.specs.declared.rule.Hypothesis.TheVariants.{Floating, Essential}
-use Rattle.mm_rule.specs.Rule.{part_of, parts_of, IsBelow}
+use Rattle.mm_rule.specs.Rule.{part_of, parts_of, IsVariableBelow}
 use Rattle.mm_rules.specs.Rules.{AreCovered, numbered_parts}
-use Rattle.mm_rules.proofs.RuleLaw.{map_take_more, map_push, typed_more, typed_kept}
-use Rattle.mm_rules.proofs.RuleLaw.{essential_more, essential_kept, parts_below, numbered_same}
-use Rattle.mm_rules.proofs.compile.compile_hypotheses.Goals.{then-is_first+in_ok-push}
-use Rattle.mm_rules.proofs.compile.compile_hypotheses.Goals.{else-is_first+in_ok-compile_formula+in_ok-push-2}
+use Rattle.mm_rules.proofs.RuleLaw.{map_take_more, map_push, typed_more, typed_part_count}
+use Rattle.mm_rules.proofs.RuleLaw.{essential_more, essential_part_count, parts_below}
+use Rattle.mm_rules.proofs.RuleLaw.{numbered_same}
+use Rattle.mm_rules.proofs.compile.compile_hypotheses.Goals.{then-is_first_floating+in_ok-push}
+use Rattle.mm_rules.proofs.compile.compile_hypotheses.Goals.{else-is_first_floating+in_ok-compile_formula+in_ok-push-2}
 use Rattle.mm_rules.proofs.compile.compile_hypotheses.Goals as goal
 
-pub loop-j-preserved : goal.loop-j-preserved
-loop-j-preserved g c =
-    let db = c.args.db.now.statements in
+pub loop-index-preserved : goal.loop-index-preserved
+loop-index-preserved g c =
+    let db = c.args.database.now.statements in
     let hyps = c.args.hyps.now in
     let hs = map (formula_at db) hyps in
-    let v = c.loop-j.invariant in
-    let j = c.loop-j.j in
-    let hypotheses = c.loop-j.hypotheses.items in
-    let parts = c.loop-j.parts.items in
-    let inside : j < length hyps = c.loop-j-test.true in
+    let v = c.loop-index.invariant in
+    let j = c.loop-index.index in
+    let hypotheses = c.loop-index.hypotheses.items in
+    let parts = c.loop-index.parts.items in
+    let j_lt_length_hyps : j < length hyps = c.loop-index-test.true in
     let h = get_or hyps j 0 in
     let f = c.formula-formula.result.now in
     let is : f ≡ formula_at db h = c.formula-formula.ensures.formula in
     let us = map (parts_of db hs) (map (formula_at db) (take j hyps)) in
     let next : map (parts_of db hs) (map (formula_at db) (take (j + 1) hyps))
     ≡ us ++ parts_of db hs f ∷ [] =
-    ap (map (parts_of db hs)) (map_take_more (formula_at db) hyps j 0 inside)
+    ap (map (parts_of db hs)) (map_take_more (formula_at db) hyps j 0 j_lt_length_hyps)
     ∙ map_push (parts_of db hs) (map (formula_at db) (take j hyps)) (formula_at db h)
     ∙ ap (λ z. us ++ parts_of db hs z ∷ []) (sym is) in
     let covered : AreCovered db hs f =
-    subst (AreCovered db hs) (sym is) (c.requires.bound j 0 inside) in
+    subst (AreCovered db hs) (sym is) (c.requires.bound j 0 j_lt_length_hyps) in
     let same : numbered_parts db c.args.numbers.now f ≡ parts_of db hs f =
     numbered_same db hs c.args.numbers.now c.requires.placed f covered in
-    elim c.if-is_first.branch [
-      | then-is_first+in_ok-push w ↦
+    elim c.if-is_first_floating.branch [
+      | then-is_first_floating+in_ok-push w ↦
           let t = w.index-formula-0.result in
-          let first = c.is_first.ensures w.if-is_first.true in
+          let first = c.is_first_floating.ensures w.if-is_first_floating.true in
           let typecode : get_or f 0 0 ≡ t =
           get_or_default f 0 0 t first.0 ∙ sym w.index-formula-0.is in
           let one : parts_of db hs f ≡ Constant t ∷ Variable j ∷ [] =
           sym same ∙ first.1 ∙ ap (λ z. Constant z ∷ Variable j ∷ []) typecode in
           rw (w.hypotheses-is, w.parts-is, w.in_ok-push.ensures.items) (record {
-            made =
-                typed_more parts hypotheses j t us v.count v.kept v.made
+            parts_are =
+                typed_more parts hypotheses j t us v.count v.part_count_is v.parts_are
                 ∙ ap (λ z. us ++ z ∷ []) (sym one) ∙ sym next;
             count = omega (arith, v.count, length-append hypotheses (Floating t ∷ []));
-            kept = typed_kept parts hypotheses t v.kept;
+            part_count_is = typed_part_count parts hypotheses t v.part_count_is;
             below = v.below;
           })
-      | else-is_first+in_ok-compile_formula+in_ok-push-2 w ↦
+      | else-is_first_floating+in_ok-compile_formula+in_ok-push-2 w ↦
           let more = parts_of db hs f in
           let n = length f in
           let grown = w.in_ok-compile_formula.ensures ∙ ap (λ z. parts ++ z) same in
-          let long : n ≡ length more =
+          let n_is_length_more : n ≡ length more =
           sym (length-map f (part_of db hs)) in
           rw (
             w.hypotheses-is,
@@ -64,30 +65,33 @@ loop-j-preserved g c =
             w.in_ok-push-2.ensures.items,
             grown,
           ) (record {
-            made = essential_more parts more hypotheses n long v.kept us v.made ∙ sym next;
+            parts_are = essential_more parts more hypotheses n n_is_length_more v.part_count_is us
+                v.parts_are
+                ∙ sym next;
             count = omega (arith, v.count, length-append hypotheses (Essential n ∷ []));
-            kept = essential_kept parts more hypotheses n long v.kept;
+            part_count_is = essential_part_count parts more hypotheses n n_is_length_more
+                v.part_count_is;
             below =
-                All-append (IsBelow (length hyps)) parts more v.below
-                (subst (λ n. All (IsBelow n) more) (length-map hyps (formula_at db))
+                All-append (IsVariableBelow (length hyps)) parts more v.below
+                (subst (λ n. All (IsVariableBelow n) more) (length-map hyps (formula_at db))
                 (parts_below db hs f covered));
           })
     ]
 
 pub bounds-formula-0 : goal.bounds-formula-0
-bounds-formula-0 g c = (c.is_first.ensures c.if-is_first.true).0
+bounds-formula-0 g c = (c.is_first_floating.ensures c.if-is_first_floating.true).0
 
 pub returns : goal.returns
-returns g c = let db = c.args.db.now.statements in
+returns g c = let db = c.args.database.now.statements in
     let hs = map (formula_at db) c.args.hyps.now in
     record {
       parts_are =
-          c.loop-j.invariant.made
+          c.loop-index.invariant.parts_are
           ∙ ap (λ z. map (parts_of db hs) (map (formula_at db) z))
-          (take_all c.loop-j.j c.args.hyps.now c.loop-j-test.false);
+          (take_all c.loop-index.index c.args.hyps.now c.loop-index-test.false);
       count =
-          let n = c.loop-j.invariant.count in let l = c.loop-j-test.false in
+          let n = c.loop-index.invariant.count in let l = c.loop-index-test.false in
           omega (arith, n, l);
-      kept = c.loop-j.invariant.kept;
-      below = c.loop-j.invariant.below;
+      part_count_is = c.loop-index.invariant.part_count_is;
+      below = c.loop-index.invariant.below;
     }

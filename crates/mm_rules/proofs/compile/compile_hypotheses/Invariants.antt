@@ -1,14 +1,14 @@
 use Rattle.std.proofs.Common.{◌≡◌, take, map, length, All}
 use Rattle.mm_spec.specs.Frame.{formula_at}
-use Rattle.mm_rule.specs.Rule.{parts_of, all_parts, count_parts, IsBelow}
+use Rattle.mm_rule.specs.Rule.{parts_of, all_parts, total_part_count, IsVariableBelow}
 use Rattle.mm_rules.proofs.compile.compile_hypotheses.Given as goal
 
-abbrev pub invariant-loop-j : goal.invariant-loop-j
-invariant-loop-j g l = record {
-  made : all_parts l.parts.items 0 l.hypotheses.items
-      ≡ map (parts_of l.db.statements (map (formula_at l.db.statements) l.hyps))
-      (map (formula_at l.db.statements) (take l.j l.hyps));
-  count : length l.hypotheses.items ≡ l.j;
-  kept : count_parts l.hypotheses.items ≡ length l.parts.items;
-  below : All (IsBelow (length l.hyps)) l.parts.items;
+abbrev pub invariant-loop-index : goal.invariant-loop-index
+invariant-loop-index g l = record {
+  parts_are : all_parts l.parts.items 0 l.hypotheses.items
+      ≡ map (parts_of l.database.statements (map (formula_at l.database.statements) l.hyps))
+      (map (formula_at l.database.statements) (take l.index l.hyps));
+  count : length l.hypotheses.items ≡ l.index;
+  part_count_is : total_part_count l.hypotheses.items ≡ length l.parts.items;
+  below : All (IsVariableBelow (length l.hyps)) l.parts.items;
 }

@@ -2,5 +2,6 @@ use Rattle.std.proofs.Common.{◌≡◌, take}
 use Rattle.mm_rules.specs.Rules.{numbered_pairs}
 use Rattle.mm_rules.proofs.compile.compile_pairs.Given as goal
 
-abbrev pub invariant-loop-p : goal.invariant-loop-p
-invariant-loop-p g l = l.pairs.items ≡ numbered_pairs l.numbers (take l.p-index l.from)
+abbrev pub invariant-loop-pair : goal.invariant-loop-pair
+invariant-loop-pair g l = l.pairs.items ≡ numbered_pairs l.numbers (take l.pair-index
+    l.symbol_pairs)

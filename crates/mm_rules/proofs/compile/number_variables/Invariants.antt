@@ -6,9 +6,9 @@ use Rattle.mm_rules.proofs.compile.number_variables.Given as goal
 abbrev pub invariant-loop-j : goal.invariant-loop-j
 invariant-loop-j g l = record {
   upto : l.j ≤ length l.hyps;
-  width : length l.numbers ≡ length (symbol_names l.db.statements);
-  placed : PlacedFrom l.db.statements l.j
-      (map (formula_at l.db.statements) (drop l.j l.hyps)) l.numbers;
+  symbol_count : length l.numbers ≡ length (symbol_names l.database.statements);
+  placed : PlacedFrom l.database.statements l.j
+      (map (formula_at l.database.statements) (drop l.j l.hyps)) l.numbers;
 }
 
 abbrev pub decreases-loop-j : goal.decreases-loop-j

@@ -15,39 +15,42 @@ no_axiom : (k : Kind) → (k ≡ Axiom → ⊥) → is_axiom_kind k ≡ false
 no_axiom Axiom h = absurd (h refl)
 no_axiom _ h = refl
 
-pub loop-k-preserved : goal.loop-k-preserved
-loop-k-preserved g c =
+pub loop-statement-preserved : goal.loop-statement-preserved
+loop-statement-preserved g c =
     let kinds = c.args.kinds.now in
-    let k = c.loop-k.k in
+    let k = c.loop-statement.statement in
     let at : (Kind → Bool) → ℕ → Bool =
     λ test j. elim (slice_get kinds j) [ None ↦ false | Some k ↦ test k ] in
-    let as_theorem = kind_at is_theorem_kind kinds k Constants c.loop-k-test.true in
-    let as_axiom = kind_at is_axiom_kind kinds k Constants c.loop-k-test.true in
-    elim c.match-kinds-k.branch [
+    let as_theorem = kind_at is_theorem_kind kinds k Constants c.loop-statement-test.true in
+    let as_axiom = kind_at is_axiom_kind kinds k Constants c.loop-statement-test.true in
+    elim c.match-kinds-statement.branch [
       | in-Theorem+in_ok-push-in-Theorem w ↦ rw (w.theorems-is, w.axioms-is) (record {
         theorems =
-            filter_push (at is_theorem_kind) k c.loop-k.theorems.items w.push.new.self.items
-            c.loop-k.invariant.theorems (as_theorem ∙ ap is_theorem_kind w.in-Theorem.is)
+            filter_push (at is_theorem_kind) k c.loop-statement.theorems.items w.push.new.self.items
+            c.loop-statement.invariant.theorems (as_theorem ∙ ap is_theorem_kind w.in-Theorem.is)
             w.in_ok-push-in-Theorem.ensures.items;
         axioms =
-            filter_skip (at is_axiom_kind) k c.loop-k.axioms.items c.loop-k.invariant.axioms
+            filter_skip (at is_axiom_kind) k c.loop-statement.axioms.items
+            c.loop-statement.invariant.axioms
             (as_axiom ∙ ap is_axiom_kind w.in-Theorem.is);
       })
       | in-Axiom+in_ok-push-in-Axiom w ↦ rw (w.theorems-is, w.axioms-is) (record {
         theorems =
-            filter_skip (at is_theorem_kind) k c.loop-k.theorems.items
-            c.loop-k.invariant.theorems (as_theorem ∙ ap is_theorem_kind w.in-Axiom.is);
+            filter_skip (at is_theorem_kind) k c.loop-statement.theorems.items
+            c.loop-statement.invariant.theorems (as_theorem ∙ ap is_theorem_kind w.in-Axiom.is);
         axioms =
-            filter_push (at is_axiom_kind) k c.loop-k.axioms.items
-            w.push-in-Axiom.new.self.items c.loop-k.invariant.axioms
+            filter_push (at is_axiom_kind) k c.loop-statement.axioms.items
+            w.push-in-Axiom.new.self.items c.loop-statement.invariant.axioms
             (as_axiom ∙ ap is_axiom_kind w.in-Axiom.is) w.in_ok-push-in-Axiom.ensures.items;
       })
       | in_default w ↦ rw (w.theorems-is, w.axioms-is) (record {
         theorems =
-            filter_skip (at is_theorem_kind) k c.loop-k.theorems.items
-            c.loop-k.invariant.theorems (as_theorem ∙ no_theorem _ w.in_default.not-Theorem);
+            filter_skip (at is_theorem_kind) k c.loop-statement.theorems.items
+            c.loop-statement.invariant.theorems
+            (as_theorem ∙ no_theorem _ w.in_default.not-Theorem);
         axioms =
-            filter_skip (at is_axiom_kind) k c.loop-k.axioms.items c.loop-k.invariant.axioms
+            filter_skip (at is_axiom_kind) k c.loop-statement.axioms.items
+            c.loop-statement.invariant.axioms
             (as_axiom ∙ no_axiom _ w.in_default.not-Axiom);
       })
     ]

@@ -10,8 +10,8 @@ numbers_below test kinds upto =
     filter (λ j. elim (slice_get kinds j) [ None ↦ false | Some k ↦ test k ])
     (range_with_len 0 upto)
 
-abbrev pub invariant-loop-k : goal.invariant-loop-k
-invariant-loop-k g l = record {
-  theorems : l.theorems.items ≡ numbers_below is_theorem_kind l.kinds l.k;
-  axioms : l.axioms.items ≡ numbers_below is_axiom_kind l.kinds l.k;
+abbrev pub invariant-loop-statement : goal.invariant-loop-statement
+invariant-loop-statement g l = record {
+  theorems : l.theorems.items ≡ numbers_below is_theorem_kind l.kinds l.statement;
+  axioms : l.axioms.items ≡ numbers_below is_axiom_kind l.kinds l.statement;
 }

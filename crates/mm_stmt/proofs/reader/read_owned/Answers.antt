@@ -8,12 +8,12 @@ use Rattle.mm_outline.specs.Statements.{statements}
 use Rattle.mm_outline.specs.Tokens.{AreTokens}
 use Rattle.mm_outline.proofs.TokensLaw.{tokens_stand, tokens_tell, tokens_small, short_text}
 use Rattle.mm_database.specs.Names.{names_of}
-use Rattle.mm_database.specs.Beside.{IsBeside}
-use Rattle.mm_database.specs.Database.{Contents, IsDatabase, IsListed}
+use Rattle.mm_database.specs.FrameTables.{AreFrameTables}
+use Rattle.mm_database.specs.Database.{Contents, IsDatabase, AreStatementLists}
 use Rattle.mm_database.specs.declared.reading.Reading.{Reading}
-use Rattle.mm_database.proofs.KeptLaw.{kept_are}
+use Rattle.mm_database.proofs.RetainedWordsLaw.{retained_are}
 use Rattle.mm_scope.specs.Keeps.{IsKeptOf, kept_by}
-use Rattle.mm_database.specs.Parsed.{IsSound}
+use Rattle.mm_database.specs.ParsedStatements.{IsSound}
 use Rattle.mm_spec.specs.Opened.{counted}
 use Rattle.mm_stmt.proofs.AssembleLaw.{is_read, names_few, sound}
 use Rattle.mm_stmt.proofs.reader.read_owned.Goals as goal
@@ -49,8 +49,8 @@ list_statements-requires-clause-outlines g c =
 pub list_statements-requires-clause-few : goal.list_statements-requires-clause-few
 list_statements-requires-clause-few g c = rw c.deref.ensures.value c.in_ok-outlined.ensures.few
 
-pub keep_all-requires : goal.keep_all-requires
-keep_all-requires g c = rw c.deref-2.ensures.value c.in_ok-outlined.ensures.outlines
+pub retain_all_words-requires : goal.retain_all_words-requires
+retain_all_words-requires g c = rw c.deref-2.ensures.value c.in_ok-outlined.ensures.outlines
 
 pub reading_of-requires : goal.reading_of-requires
 reading_of-requires g c =
@@ -85,14 +85,15 @@ new-requires g c =
     let kept =
     subst (λ (us : List Word). IsKeptOf (statements text us os) (kept_by c.in_ok-outlined.outlined))
     lent outlined.kept in
-    let listed =
-    subst (λ (us : List Word). IsListed (counted w (statements text us os)) c.in_ok-listed.listed)
-    lent (rw (sym c.deref.ensures.value) c.in_ok-listed.ensures) in
-    let same = c.in_ok-read.ensures in
+    let statement_lists =
+    subst (λ (us : List Word). AreStatementLists (counted w (statements text us os))
+    c.in_ok-statement_lists.statement_lists)
+    lent (rw (sym c.deref.ensures.value) c.in_ok-statement_lists.ensures) in
+    let same = c.in_ok-reading.ensures in
     subst (λ (r : Reading _). IsDatabase w r (record {
-      beside = c.in_ok-beside.beside;
-      listed = c.in_ok-listed.listed;
-      kept = c.in_ok-kept.kept;
+      frame_tables = c.in_ok-frame_tables.frame_tables;
+      statement_lists = c.in_ok-statement_lists.statement_lists;
+      retained_words = c.in_ok-retained_words.retained_words;
     })) (sym same)
     (record {
       few = let n = length-map os (statement_of text words) in
@@ -100,13 +101,13 @@ new-requires g c =
       read = is_read text ws words os _ _ lent refl c.requires.fault outlined.read;
       labels = kept.keeps.labels_are;
       names_are = kept.names_are;
-      beside_is =
-          subst (λ (r : Reading _). IsBeside r.statements.list r.statements.blocks
-          c.in_ok-beside.beside) same c.in_ok-beside.ensures;
-      listed_is = listed;
-      kept_are =
-          rw (c.in_ok-kept.ensures, c.deref-2.ensures.value, lent)
-          (kept_are text words (tokens_stand text) os (rw (sym lent) outlined.outlines));
+      frame_tables_are =
+          subst (λ (r : Reading _). AreFrameTables r.statements.list r.statements.blocks
+          c.in_ok-frame_tables.frame_tables) same c.in_ok-frame_tables.ensures;
+      lists_are = statement_lists;
+      retained_are =
+          rw (c.in_ok-retained_words.ensures, c.deref-2.ensures.value, lent)
+          (retained_are text words (tokens_stand text) os (rw (sym lent) outlined.outlines));
     })
 
 pub returns : goal.returns
@@ -118,7 +119,7 @@ returns g c =
     is_read text c.as_slice-words.result.now words os _ _
     (c.as_slice-words.ensures.value ∙ c.requires.tokens) refl c.requires.fault
     c.in_ok-outlined.ensures.read in
-    let same = c.in_ok-read.ensures in
+    let same = c.in_ok-reading.ensures in
     let made = c.new.ensures in
     record {
       text = ap (λ (d : Contents). d.text) made ∙ ap (λ (r : Reading _). r.statements.text) same;

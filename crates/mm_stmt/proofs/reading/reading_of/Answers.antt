@@ -8,16 +8,16 @@ use Rattle.mm_stmt.proofs.reading.reading_of.Goals as goal
 
 pub into_reading-requires : goal.into_reading-requires
 into_reading-requires g c =
-    let read = c.args.read in
-    let db = statements c.args.text.now (words_of c.args.text.now) read.outlines.items in
+    let outlined = c.args.outlined in
+    let db = statements c.args.text.now (words_of c.args.text.now) outlined.outlines.items in
     let kept = c.requires.kept in
     let symbols =
-    are_symbols _ _ _ _ kept.keeps (names_of read.scope.names.symbols)
-    c.in_ok-variables.variables.items kept.names_are c.in_ok-variables.ensures.count
-    c.in_ok-variables.ensures.each in
+    are_symbols _ _ _ _ kept.keeps (names_of outlined.scope.names.symbols)
+    c.in_ok-variable_flags.variable_flags.items kept.names_are c.in_ok-variable_flags.ensures.count
+    c.in_ok-variable_flags.ensures.each in
     let names = ap length kept.names_are in
     let few = c.requires.few_symbols in
-    let count = c.in_ok-variables.ensures.count in
+    let count = c.in_ok-variable_flags.ensures.count in
     record {
       places = kept.formulas.order;
       parts = record {

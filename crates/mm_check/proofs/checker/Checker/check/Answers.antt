@@ -9,13 +9,13 @@ pub run-requires-clause-steps : goal.run-requires-clause-steps
 run-requires-clause-steps g c =
     let db = c.args.database.now.statements in
     let t = c.args.theorem in
-    let are = ap (λ r. r.steps) c.requires.steps in
+    let steps_are = ap (λ r. r.steps) c.requires.steps in
     record {
       complete = c.requires.made_for.complete;
       theorem = c.requires.theorem;
-      are = are;
+      steps_are = steps_are;
       sound = c.requires.sound;
       good =
-          subst (λ ps. AreGoodSteps (context_at db t) 0 (steps_of ps)) (sym are)
+          subst (λ ps. AreGoodSteps (context_at db t) 0 (steps_of ps)) (sym steps_are)
           (good_steps db t (c.requires.made_for.complete t) c.requires.sound);
     }

@@ -1,4 +1,4 @@
-use Rattle.mm_check.proofs.StepLaw.{repeats}
+use Rattle.mm_check.proofs.StepLaw.{repeated_step_performs}
 use Rattle.mm_check.proofs.checker.Checker.perform.Goals.{in-Ok, in-Err}
 use Rattle.mm_check.proofs.checker.Checker.perform.Goals as goal
 
@@ -7,7 +7,9 @@ returns-after-repeat-clause-performs g c =
     elim c.match-repeat.branch [
       | in-Ok w ↦ let ok = w.in-Ok.ensures.ok in
           rw (w.result-is, c.in-Marked.is, ← c.self.view_is)
-          (repeats c.args.db.now.statements c.args.theorem _ c.in-Marked.j ok.0 c.repeat.new.self
+          (repeated_step_performs c.args.database.now.statements c.args.theorem _
+          c.in-Marked.earlier ok.0
+          c.repeat.new.self
           ok.2 ok.3 ok.4)
       | in-Err w ↦ rw w.result-is tt
     ]

@@ -2,18 +2,18 @@ use Rattle.std.proofs.Common.{◌∙◌, ℕ, Bool, sym, ap, arith}
 use Rattle.mm_spec.specs.Scope.{is_active}
 use Rattle.mm_spec.proofs.OpenedLaw.{counted_active}
 use Rattle.mm_database.specs.Database.{Contents}
-use Rattle.mm_database.proofs.DatabaseLaw.{as_many}
+use Rattle.mm_database.proofs.DatabaseLaw.{as_many_statements}
 use Rattle.mm_database.proofs.database.Database.active_at.Goals as goal
 
 pub is_active-requires-clause-statement : goal.is_active-requires-clause-statement
 is_active-requires-clause-statement g c =
-    let n = as_many _ _ _ _ _ c.self.view_is in
+    let n = as_many_statements _ _ _ _ _ c.self.view_is in
     let there = c.requires.statement in
     omega (arith, n, there)
 
 pub is_active-requires-clause-at : goal.is_active-requires-clause-at
 is_active-requires-clause-at g c =
-    let n = as_many _ _ _ _ _ c.self.view_is in
+    let n = as_many_statements _ _ _ _ _ c.self.view_is in
     let within = c.requires.at in
     omega (arith, n, within)
 
@@ -21,5 +21,5 @@ pub returns : goal.returns
 returns g c =
     c.is_active.ensures
     ∙ ap (λ (f : ℕ → ℕ → Bool). f c.args.statement c.args.at)
-    (sym (counted_active c.self.inside.with_open c.self.inside.read.statements.list))
+    (sym (counted_active c.self.inside.with_open c.self.inside.reading.statements.list))
     ∙ ap (λ (n : Contents). is_active n.statements c.args.statement c.args.at) c.self.view_is

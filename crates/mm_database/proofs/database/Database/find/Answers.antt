@@ -2,17 +2,17 @@ use Rattle.std.proofs.Common.{subst}
 use Rattle.mm_database.specs.Database.{Contents}
 use Rattle.mm_database.specs.Labels.{AreLabels}
 use Rattle.mm_database.specs.Names.{find}
-use Rattle.mm_database.proofs.HeldLaw.{labels_held}
+use Rattle.mm_database.proofs.CountedLaw.{labels_counted}
 use Rattle.mm_database.proofs.DatabaseLaw.{label_some, label_only, label_none}
 use Rattle.mm_database.proofs.database.Database.find.Goals as goal
 
 pub returns : goal.returns
 returns g c =
     let w = c.args.label.now in
-    let are : AreLabels c.args.self.now.statements (find c.self.inside.read.names.labels) =
-    subst (λ (n : Contents). AreLabels n.statements (find c.self.inside.read.names.labels))
+    let are : AreLabels c.args.self.now.statements (find c.self.inside.reading.names.labels) =
+    subst (λ (n : Contents). AreLabels n.statements (find c.self.inside.reading.names.labels))
     c.self.view_is
-    (labels_held c.self.inside.with_open c.self.inside.read.statements.list _
+    (labels_counted c.self.inside.with_open c.self.inside.reading.statements.list _
     c.self.invariant.labels) in
     record {
       some = label_some _ _ are w c.labelled.result c.labelled.ensures;

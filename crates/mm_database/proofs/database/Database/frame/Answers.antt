@@ -9,25 +9,25 @@ use Rattle.mm_spec.specs.Frame.{mandatory_hypotheses, mandatory_pairs}
 use Rattle.mm_spec.proofs.OpenedLaw.{counted_any, counted_hypotheses, counted_pairs}
 use Rattle.mm_database.specs.Database.{Contents}
 use Rattle.mm_database.specs.Frames.{Mandatory, mandatory_at, mandatory_in}
-use Rattle.mm_database.proofs.DatabaseLaw.{as_many}
-use Rattle.mm_database.proofs.PlacesLaw.{frame_there}
+use Rattle.mm_database.proofs.DatabaseLaw.{as_many_statements}
+use Rattle.mm_database.proofs.FrameIndicesLaw.{frame_there}
 use Rattle.mm_database.proofs.database.Database.frame.Goals as goal
 
 pub of-requires : goal.of-requires
 of-requires g c =
-    let db = c.self.inside.read.statements.list in
+    let db = c.self.inside.reading.statements.list in
     let k = c.args.assertion in
     let is : list_any is_assertion (statement_at db k) ≡ true =
     sym (counted_any c.self.inside.with_open db is_assertion (λ l k xs e ps d. refl) k)
     ∙ subst (λ (n : Contents). list_any is_assertion (statement_at n.statements k) ≡ true)
     (sym c.self.view_is) c.requires in
-    ap (λ fs. is_some (get_or fs k None)) c.self.invariant.beside_is.frames
+    ap (λ fs. is_some (get_or fs k None)) c.self.invariant.frame_tables_are.frames
     ∙ ap is_some (frame_there db k is)
 
 pub returns : goal.returns
 returns g c =
     let with_open = c.self.inside.with_open in
-    let db = c.self.inside.read.statements.list in
+    let db = c.self.inside.reading.statements.list in
     let k = c.args.assertion in
     let is : list_any is_assertion (statement_at db k) ≡ true =
     sym (counted_any with_open db is_assertion (λ l k xs e ps d. refl) k)
@@ -35,7 +35,7 @@ returns g c =
     (sym c.self.view_is) c.requires in
     let same : mandatory_in c.of.result.now ≡ mandatory_at db k =
     same_Some _ _
-    (sym c.of.ensures ∙ ap (λ fs. get_or fs k None) c.self.invariant.beside_is.frames
+    (sym c.of.ensures ∙ ap (λ fs. get_or fs k None) c.self.invariant.frame_tables_are.frames
     ∙ frame_there db k is) in
     record {
       hypotheses =
@@ -47,7 +47,7 @@ returns g c =
           ∙ ap (λ (f : ℕ → List Pair). f k) (sym (counted_pairs with_open db))
           ∙ ap (λ (n : Contents). mandatory_pairs n.statements k) c.self.view_is;
       few =
-          (let same = as_many _ _ _ _ _ c.self.view_is in
+          (let same = as_many_statements _ _ _ _ _ c.self.view_is in
           let few = c.self.invariant.few in
           omega (arith, same, few));
     }

@@ -6,7 +6,7 @@ use Rattle.mm_spec.specs.Opened.{is_open_theorem}
 use Rattle.mm_spec.proofs.OpenedLaw.{counted_length}
 use Rattle.mm_spec.specs.Scope.{statement_at}
 use Rattle.mm_database.specs.Database.{Contents, kind_of}
-use Rattle.mm_database.proofs.DatabaseLaw.{as_many, none_there}
+use Rattle.mm_database.proofs.DatabaseLaw.{as_many_statements, none_past_the_end}
 use Rattle.mm_database.proofs.KindsLaw.{open_is}
 use Rattle.mm_database.proofs.database.Database.is_open.Goals as goal
 
@@ -17,12 +17,12 @@ returns-then-statement-len g c =
     let len = c.len.ensures.len in
     let at = c.if-statement-len.true in
     sym (ap (λ b. n.with_open && b)
-    (none_there is_open_theorem n.read c.args.statement (omega (arith, after, len, at)))
+    (none_past_the_end is_open_theorem n.read c.args.statement (omega (arith, after, len, at)))
     ∙ and-false n.with_open)
 
-pub kind-is-requires : goal.kind-is-requires
-kind-is-requires g c =
-    let m = as_many _ _ _ _ _ c.self.view_is in
+pub kind-kind_as_read-requires : goal.kind-kind_as_read-requires
+kind-kind_as_read-requires g c =
+    let m = as_many_statements _ _ _ _ _ c.self.view_is in
     let n = c.len.ensures.len in
     let l = c.if-statement-len.false in
     omega (arith, l, m, n)
@@ -30,9 +30,10 @@ kind-is-requires g c =
 pub returns : goal.returns
 returns g c =
     let k = c.args.statement in
-    subst (λ (n : Contents). c.counts_otherwise.result
+    subst (λ (n : Contents). c.is_theorem_counted_as_axiom.result
     ≡ (n.with_open && list_any is_open_theorem (statement_at n.read k))) c.self.view_is
-    (c.counts_otherwise.ensures
-    ∙ open_is c.self.inside.with_open c.self.inside.read.statements.list k _ _ c.kind-is.ensures
+    (c.is_theorem_counted_as_axiom.ensures
+    ∙ open_is c.self.inside.with_open c.self.inside.reading.statements.list k _ _
+    c.kind-kind_as_read.ensures
     (subst (λ (n : Contents). option_map kind_of (slice_get n.statements k) ≡ Some c.kind.result)
     (sym c.self.view_is) c.kind.ensures))

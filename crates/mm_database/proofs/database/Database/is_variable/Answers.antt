@@ -8,7 +8,7 @@ use Rattle.mm_database.proofs.database.Database.is_variable.Goals as goal
 pub is_variable-requires : goal.is_variable-requires
 is_variable-requires g c =
     subst (λ (ns : List Bytes). c.args.symbol < length ns)
-    (sym (sym (counted_names c.self.inside.with_open c.self.inside.read.statements.list)
+    (sym (sym (counted_names c.self.inside.with_open c.self.inside.reading.statements.list)
     ∙ ap (λ (n : Contents). symbol_names n.statements) c.self.view_is))
     c.requires
 
@@ -16,5 +16,5 @@ pub returns : goal.returns
 returns g c =
     c.is_variable.ensures
     ∙ ap (λ (f : ℕ → Bool). f c.args.symbol)
-    (sym (counted_variable c.self.inside.with_open c.self.inside.read.statements.list))
+    (sym (counted_variable c.self.inside.with_open c.self.inside.reading.statements.list))
     ∙ ap (λ (n : Contents). is_variable_number n.statements c.args.symbol) c.self.view_is

@@ -1,28 +1,34 @@
 use Rattle.std.proofs.Common.{◌∙◌, length, get_or, take, drop, ◌-◌, Some, sym, ap, arith}
 use Rattle.mm_database.specs.Database.{Contents}
-use Rattle.mm_database.proofs.DatabaseLaw.{as_many}
-use Rattle.mm_database.proofs.KeptLaw.{kept_below, some_kept, word_within, label_kept}
-use Rattle.mm_database.proofs.KeptLaw.{label_missing}
+use Rattle.mm_database.proofs.DatabaseLaw.{as_many_statements}
+use Rattle.mm_database.proofs.RetainedWordsLaw.{retained_below, some_are_retained, word_within}
+use Rattle.mm_database.proofs.RetainedWordsLaw.{label_is_retained}
+use Rattle.mm_database.proofs.RetainedWordsLaw.{label_missing}
 use Rattle.mm_database.proofs.database.Database.label.Goals as goal
 
 pub kind-requires : goal.kind-requires
 kind-requires g c =
-    let n = as_many _ _ _ _ _ c.self.view_is in let there = c.requires in omega (arith, n, there)
+    let n = as_many_statements _ _ _ _ _ c.self.view_is in let there = c.requires in omega
+    (arith, n, there)
 
 pub get-requires : goal.get-requires
-get-requires g c = kept_below _ _ _ _ _ c.self.view_is _ c.requires _ c.self.invariant.kept_are
+get-requires g c = retained_below _ _ _ _ _ c.self.view_is _ c.requires _
+    c.self.invariant.retained_are
 
 pub bounds-get-0 : goal.bounds-get-0
 bounds-get-0 g c =
-    some_kept _ _ _ _ _ c.self.view_is _ c.requires _ c.self.invariant.kept_are c.get.result.now
+    some_are_retained _ _ _ _ _ c.self.view_is _ c.requires _ c.self.invariant.retained_are
+    c.get.result.now
     c.get.ensures.is
 
 pub bytes-requires : goal.bytes-requires
 bytes-requires g c =
     let within =
-    word_within _ _ _ _ _ c.self.view_is _ c.requires _ c.self.invariant.kept_are c.get.result.now
+    word_within _ _ _ _ _ c.self.view_is _ c.requires _ c.self.invariant.retained_are
+    c.get.result.now
     c.get.ensures.is 0 (record { start = 0; end = 0 })
-    (some_kept _ _ _ _ _ c.self.view_is _ c.requires _ c.self.invariant.kept_are c.get.result.now
+    (some_are_retained _ _ _ _ _ c.self.view_is _ c.requires _ c.self.invariant.retained_are
+    c.get.result.now
     c.get.ensures.is) in
     let text = ap (λ (n : Contents). length n.text) c.self.view_is in
     let lent = ap length c.text.ensures in
@@ -35,7 +41,8 @@ returns-then-has_label g c =
     ap Some c.bytes.ensures
     ∙ ap (λ l. Some (take (w.end - w.start) (drop w.start l)))
     (c.text.ensures ∙ sym (ap (λ (n : Contents). n.text) c.self.view_is))
-    ∙ label_kept _ _ _ _ _ c.self.view_is _ c.requires _ c.self.invariant.kept_are c.get.result.now
+    ∙ label_is_retained _ _ _ _ _ c.self.view_is _ c.requires _ c.self.invariant.retained_are
+    c.get.result.now
     c.get.ensures.is _ c.kind.ensures (sym c.has_label.ensures ∙ c.if-has_label.true)
     (record { start = 0; end = 0 })
 

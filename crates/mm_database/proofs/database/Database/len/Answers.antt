@@ -1,12 +1,12 @@
 use Rattle.std.proofs.Common.{◌∙◌, length, subst, sym, ap, arith}
 use Rattle.mm_spec.specs.Laws.Complete.{AreComplete}
 use Rattle.mm_database.specs.Database.{Contents}
-use Rattle.mm_database.proofs.DatabaseLaw.{as_many, read_complete}
+use Rattle.mm_database.proofs.DatabaseLaw.{as_many_statements, read_complete}
 use Rattle.mm_database.proofs.LengthLaw.{statements_few}
 use Rattle.mm_database.proofs.database.Database.len.Goals as goal
 
 pub returns-clause-len : goal.returns-clause-len
-returns-clause-len g c = c.len.ensures.len ∙ sym (as_many _ _ _ _ _ c.self.view_is)
+returns-clause-len g c = c.len.ensures.len ∙ sym (as_many_statements _ _ _ _ _ c.self.view_is)
 
 pub returns-clause-complete : goal.returns-clause-complete
 returns-clause-complete g c =
@@ -15,8 +15,8 @@ returns-clause-complete g c =
 
 pub returns-clause-few : goal.returns-clause-few
 returns-clause-few g c =
-    let s = c.self.inside.read.statements in
-    let few = statements_few s.text s.list c.self.inside.read.fault c.self.invariant.read in
+    let s = c.self.inside.reading.statements in
+    let few = statements_few s.text s.list c.self.inside.reading.fault c.self.invariant.read in
     let text = ap (λ (n : Contents). length n.text) c.self.view_is in
     let len = c.len.ensures.len in
     omega (arith, few, text, len)

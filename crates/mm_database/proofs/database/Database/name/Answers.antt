@@ -9,7 +9,7 @@ pub name-requires : goal.name-requires
 name-requires g c =
     let names =
     c.self.invariant.names_are
-    ∙ sym (counted_names c.self.inside.with_open c.self.inside.read.statements.list)
+    ∙ sym (counted_names c.self.inside.with_open c.self.inside.reading.statements.list)
     ∙ ap (λ (v : Contents). symbol_names v.statements) c.self.view_is in
     rw (c.number.ensures, names) c.requires
 
@@ -17,7 +17,7 @@ pub returns : goal.returns
 returns g c =
     ap (λ ns. slice_get ns c.args.symbol)
     (sym (c.self.invariant.names_are
-    ∙ sym (counted_names c.self.inside.with_open c.self.inside.read.statements.list)
+    ∙ sym (counted_names c.self.inside.with_open c.self.inside.reading.statements.list)
     ∙ ap (λ (v : Contents). symbol_names v.statements) c.self.view_is))
-    ∙ ap (slice_get (names_of c.self.inside.read.names.symbols)) (sym c.number.ensures)
+    ∙ ap (slice_get (names_of c.self.inside.reading.names.symbols)) (sym c.number.ensures)
     ∙ c.name.ensures

@@ -1,24 +1,25 @@
 use Rattle.std.proofs.Common.{◌∙◌, Some, ap, slice_get, arith}
 use Rattle.mm_database.proofs.DatabaseLaw.{no_proof}
-use Rattle.mm_database.proofs.KeptLaw.{kept_below, theorem_long, proof_kept, proof_within}
+use Rattle.mm_database.proofs.RetainedWordsLaw.{retained_below, theorem_long, proof_is_retained}
+use Rattle.mm_database.proofs.RetainedWordsLaw.{proof_within}
 use Rattle.mm_database.proofs.database.Database.proof_words.Goals as goal
 
-pub get-kept-requires : goal.get-kept-requires
-get-kept-requires g c =
-    kept_below _ _ _ _ _ c.self.view_is _ c.requires _ c.self.invariant.kept_are
+pub get-words-requires : goal.get-words-requires
+get-words-requires g c =
+    retained_below _ _ _ _ _ c.self.view_is _ c.requires _ c.self.invariant.retained_are
 
 pub overflow_sub-result : goal.overflow_sub-result
 overflow_sub-result g c =
     let long =
-    theorem_long _ _ _ _ _ c.self.view_is _ c.requires _ c.self.invariant.kept_are
-    c.get-kept.result.now c.get-kept.ensures.is (c.kind.ensures ∙ ap Some c.in-Theorem.is) in
+    theorem_long _ _ _ _ _ c.self.view_is _ c.requires _ c.self.invariant.retained_are
+    c.get-words.result.now c.get-words.ensures.is (c.kind.ensures ∙ ap Some c.in-Theorem.is) in
     omega (arith, long)
 
 pub slice_bounds-result-count : goal.slice_bounds-result-count
 slice_bounds-result-count g c =
     let long =
-    theorem_long _ _ _ _ _ c.self.view_is _ c.requires _ c.self.invariant.kept_are
-    c.get-kept.result.now c.get-kept.ensures.is (c.kind.ensures ∙ ap Some c.in-Theorem.is) in
+    theorem_long _ _ _ _ _ c.self.view_is _ c.requires _ c.self.invariant.retained_are
+    c.get-words.result.now c.get-words.ensures.is (c.kind.ensures ∙ ap Some c.in-Theorem.is) in
     omega (arith, long)
 
 pub slice_bounds-result-start : goal.slice_bounds-result-start
@@ -29,11 +30,11 @@ returns-in-Theorem g c =
     let theorem = c.kind.ensures ∙ ap Some c.in-Theorem.is in
     record {
       words =
-          proof_kept _ _ _ _ _ c.self.view_is _ c.requires _ c.self.invariant.kept_are
-          c.get-kept.result.now c.get-kept.ensures.is theorem;
+          proof_is_retained _ _ _ _ _ c.self.view_is _ c.requires _ c.self.invariant.retained_are
+          c.get-words.result.now c.get-words.ensures.is theorem;
       within =
-          proof_within _ _ _ _ _ c.self.view_is _ c.requires _ c.self.invariant.kept_are
-          c.get-kept.result.now c.get-kept.ensures.is theorem;
+          proof_within _ _ _ _ _ c.self.view_is _ c.requires _ c.self.invariant.retained_are
+          c.get-words.result.now c.get-words.ensures.is theorem;
     }
 
 pub returns-in_default : goal.returns-in_default

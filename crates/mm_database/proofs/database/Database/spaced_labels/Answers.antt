@@ -11,7 +11,7 @@ between-requires-clause-within g c =
     let db = c.args.self.now.statements in
     let n =
     ap length
-    (c.self.invariant.listed_is.spaced_are
+    (c.self.invariant.lists_are.spaced_labels_are
     ∙ ap (λ (n : Contents). spaced_labels n.statements) c.self.view_is)
     ∙ length-map (theorems db) (λ k. 32 ∷ label_at db k) in
     let within = c.requires.within in
@@ -21,6 +21,6 @@ pub returns : goal.returns
 returns g c =
     c.between.ensures
     ∙ ap (λ l. joined (slice_range l c.args.from c.args.to))
-    (c.self.invariant.listed_is.spaced_are
+    (c.self.invariant.lists_are.spaced_labels_are
     ∙ ap (λ (n : Contents). spaced_labels n.statements) c.self.view_is)
     ∙ spaced_slice c.args.self.now.statements c.args.from c.args.to

@@ -10,6 +10,6 @@ returns g c = record {
   count =
       c.symbol_count.ensures.count
       ∙ ap (λ (ns : List Bytes). length ns)
-      (sym (counted_names c.self.inside.with_open c.self.inside.read.statements.list)
+      (sym (counted_names c.self.inside.with_open c.self.inside.reading.statements.list)
       ∙ ap (λ (n : Contents). symbol_names n.statements) c.self.view_is);
 }

@@ -5,7 +5,7 @@ use Rattle.mm_database.proofs.names.NameTable.set_label.Goals as goal
 
 pub invariant_of-self-2 : goal.invariant_of-self-2
 invariant_of-self-2 g c =
-    let updates = c.in_ok-place.ensures.updates in
+    let updates = c.in_ok-index.ensures.updates in
     let longest = c.max-self-inside.ensures in
     let table = c.self.invariant in
     record {
@@ -22,7 +22,7 @@ invariant_of-self-2 g c =
 -- the clause `updates` of `insert_full`, at a key with these bytes
 pub returns-clause-labels : goal.returns-clause-labels
 returns-clause-labels g c =
-    let h = c.in_ok-place.ensures.updates in
+    let h = c.in_ok-index.ensures.updates in
     λ w. h.0 (record { bytes = record { ref_ptr = (0, 0); now = w } })
     ∙ ap (λ (n : KnownNames). if bytes_eq c.args.word.now w then Some c.args.statement else
     find n.labels w) c.self.view_is

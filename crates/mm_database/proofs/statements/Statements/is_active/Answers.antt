@@ -8,8 +8,8 @@ use Rattle.mm_outline.specs.Blocks.{end_of}
 use Rattle.mm_outline.specs.Parts.{statement_of}
 use Rattle.mm_outline.specs.Statements.{active_kind}
 use Rattle.mm_outline.proofs.ActiveLaw.{active_is}
-use Rattle.mm_database.specs.Parsed.{Parsed}
-use Rattle.mm_database.proofs.DatabaseLaw.{outline_there}
+use Rattle.mm_database.specs.ParsedStatements.{ParsedStatements}
+use Rattle.mm_database.proofs.DatabaseLaw.{has_outline}
 use Rattle.mm_database.proofs.statements.Statements.is_active.Goals as goal
 
 pub returns-then-statement-at : goal.returns-then-statement-at
@@ -21,15 +21,15 @@ returns-then-statement-at g c =
     let k = c.args.at in
     let o = c.index.result.now in
     let b = f.blocks in
-    let n = ap (λ (p : Parsed). length p.list) c.self.view_is in
+    let n = ap (λ (p : ParsedStatements). length p.list) c.self.view_is in
     let m = length-map os (statement_of f.text.now ws) in
     let at = c.requires.at in
-    let within : k ≤ length os = omega (arith, n, m, at) in
-    let there = outline_there f.text.now ws os b _ c.self.view_is j c.requires.statement in
-    let law = active_is f.text.now ws os b c.self.invariant.blocks j k there within o in
+    let k_le_length_os : k ≤ length os = omega (arith, n, m, at) in
+    let there = has_outline f.text.now ws os b _ c.self.view_is j c.requires.statement in
+    let law = active_is f.text.now ws os b c.self.invariant.blocks j k there k_le_length_os o in
     let test : (nat_lt j k && active_kind (get_or os j o).kind (nat_le k (end_of b j)))
     ≡ active_kind o.kind (nat_le k (end_of b j)) =
     ap₂ (λ t p. t && active_kind p.kind (nat_le k (end_of b j))) (lt-ltb j k c.if-statement-at.true)
     (sym c.index.ensures) in
-    subst (λ (p : Parsed). c.is_active_kind.result ≡ is_active p.list j k) c.self.view_is
+    subst (λ (p : ParsedStatements). c.is_active_kind.result ≡ is_active p.list j k) c.self.view_is
     (c.is_active_kind.ensures ∙ ap (active_kind o.kind) c.is_open_at.ensures ∙ sym test ∙ law)

@@ -3,8 +3,8 @@ use Rattle.mm_spec.specs.Frame.{symbol_names}
 use Rattle.mm_machine.specs.Arena.{arena}
 use Rattle.mm_machine.specs.State.{MachineState, machine_state, TestsRule, span_formulas, applied}
 use Rattle.mm_machine.specs.State.{reason_of}
-use Rattle.mm_machine.specs.Stops.{IsApplied}
-use Rattle.mm_machine.proofs.PlacedLaw.{judged_here, step_made, step_entry, step_stopped}
+use Rattle.mm_machine.specs.Applied.{IsApplied}
+use Rattle.mm_machine.proofs.PlacedLaw.{rule_test_by_values, step_made, step_entry, step_refused}
 use Rattle.mm_machine.proofs.PlacedLaw.{applied_of}
 use Rattle.mm_machine.proofs.PlacedLaw.{parts_below, parts_known, entries_here}
 use Rattle.mm_machine.proofs.PlacedLaw.{stack_here, next_machine}
@@ -14,94 +14,100 @@ use Rattle.mm_machine.proofs.machine.Machine.apply_to_premises.Goals as goal
 
 -- the test of the rule, on the lists of the machine
 tested : (g : Over) (c : In-Ok g)
-    → TestsRule c.args.db.now.statements c.args.theorem c.args.rule.now
-    (arena c.self.inside.own c.self.inside.kept) c.self.inside.stack.items (Ok c.in-Ok.below)
+    → TestsRule c.args.database.now.statements c.args.theorem c.args.rule.now
+    (arena c.self.inside.unmarked c.self.inside.marked) c.self.inside.stack.items (Ok c.in-Ok.below)
 tested g c =
     let i = c.self.inside in
-    judged_here c.args.db.now.statements c.args.theorem c.args.rule.now
-    i.own c.as_slice.result.now i.kept c.as_slice-2.result.now
+    rule_test_by_values c.args.database.now.statements c.args.theorem c.args.rule.now
+    i.unmarked c.as_slice.result.now i.marked c.as_slice-2.result.now
     i.stack.items c.deref.result.now (Ok c.in-Ok.below)
     c.as_slice.ensures c.as_slice-2.ensures c.deref.ensures.value c.in-Ok.ensures.judged
 
 pub invariant_of-self : goal.invariant_of-self
 invariant_of-self g c =
     let i = c.self.inside in
-    let db = c.args.db.now.statements in
-    let width : i.width ≡ length (symbol_names db) =
-    ap (λ s. s.width) c.self.view_is ∙ c.requires.width in
-    next_machine i.own i.kept i.stack.items i.marks.items i.marked.items i.width c.self.invariant
-    c.formula.result.now c.put_formula.new.own c.as_slice-in-Ok.result.now
-    c.put_formula.new.stack.items c.as_slice-in-Ok.ensures
-    (parts_known db c.args.theorem c.args.rule.now i.own i.kept c.as_slice-in-Ok.result.now
+    let db = c.args.database.now.statements in
+    let symbol_count : i.symbol_count ≡ length (symbol_names db) =
+    ap (λ s. s.symbol_count) c.self.view_is ∙ c.requires.symbol_count in
+    next_machine i.unmarked i.marked i.stack.items i.marks.items i.marked_spans.items i.symbol_count
+    c.self.invariant
+    c.formula.result.now c.replace_by_formula.new.unmarked c.as_slice-in-Ok.result.now
+    c.replace_by_formula.new.stack.items c.as_slice-in-Ok.ensures
+    (parts_known db c.args.theorem c.args.rule.now i.unmarked i.marked c.as_slice-in-Ok.result.now
     i.stack.items c.in-Ok.below c.formula.result.now c.as_slice-in-Ok.ensures c.formula.ensures
-    (tested g (goal.at.invariant_of-self g c).In-Ok) c.requires.rule i.width width)
-    c.put_formula.ensures.stack
+    (tested g (goal.at.invariant_of-self g c).In-Ok) c.requires.rule i.symbol_count symbol_count)
+    c.replace_by_formula.ensures.stack
 
 pub returns-in-Err-clause-step : goal.returns-in-Err-clause-step
 returns-in-Err-clause-step g c =
     let i = c.self.inside in
-    let db = c.args.db.now.statements in
+    let db = c.args.database.now.statements in
     record {
       applies = tt;
-      stopped =
+      refused =
           subst (λ (s : MachineState). applied db c.args.theorem c.args.rule.now.assertion s.stack
           ≡ Err (reason_of c.in-Err.reason)) c.self.view_is
-          (judged_here db c.args.theorem c.args.rule.now i.own c.as_slice.result.now
-          i.kept c.as_slice-2.result.now i.stack.items c.deref.result.now (Err c.in-Err.reason)
+          (rule_test_by_values db c.args.theorem c.args.rule.now i.unmarked c.as_slice.result.now
+          i.marked c.as_slice-2.result.now i.stack.items c.deref.result.now (Err c.in-Err.reason)
           c.as_slice.ensures c.as_slice-2.ensures c.deref.ensures.value c.in-Err.ensures.judged);
-      width = refl;
+      symbol_count = refl;
     }
 
 pub returns-in-Ok-clause-step : goal.returns-in-Ok-clause-step
 returns-in-Ok-clause-step g c =
     let i = c.self.inside in
-    let db = c.args.db.now.statements in
+    let db = c.args.database.now.statements in
     let t = c.args.theorem in
     let a = c.args.rule.now.assertion in
-    let done = c.put_formula in
+    let replacing = c.replace_by_formula in
     let judged = tested g (goal.at.returns-in-Ok-clause-step g c).In-Ok in
-    let formulas = span_formulas (arena [] i.kept) i.marked.items in
-    let entries = span_formulas (arena i.own i.kept) i.stack.items in
-    let before = machine_state entries i.marks.items formulas i.width in
-    let left = span_formulas (arena done.new.own i.kept) done.new.stack.items in
-    let after = machine_state left i.marks.items formulas i.width in
-    subst (λ (s : MachineState). IsApplied db t a s after done.result) c.self.view_is
-    (applied_of db t a before after done.result
-    (step_made db t c.args.rule.now i.own i.kept c.as_slice-in-Ok.result.now
+    let formulas = span_formulas (arena [] i.marked) i.marked_spans.items in
+    let entries = span_formulas (arena i.unmarked i.marked) i.stack.items in
+    let before = machine_state entries i.marks.items formulas i.symbol_count in
+    let left = span_formulas (arena replacing.new.unmarked i.marked) replacing.new.stack.items in
+    let after = machine_state left i.marks.items formulas i.symbol_count in
+    subst (λ (s : MachineState). IsApplied db t a s after replacing.result) c.self.view_is
+    (applied_of db t a before after replacing.result
+    (step_made db t c.args.rule.now i.unmarked i.marked c.as_slice-in-Ok.result.now
     i.stack.items c.in-Ok.below c.formula.result.now c.as_slice-in-Ok.ensures c.formula.ensures
-    judged done.result done.new.own done.new.stack.items done.ensures.made)
-    (step_entry db t c.args.rule.now i.own i.kept c.as_slice-in-Ok.result.now
+    judged replacing.result replacing.new.unmarked replacing.new.stack.items
+    replacing.ensures.entries)
+    (step_entry db t c.args.rule.now i.unmarked i.marked c.as_slice-in-Ok.result.now
     i.stack.items c.in-Ok.below c.formula.result.now c.as_slice-in-Ok.ensures c.formula.ensures
-    judged done.result done.new.own done.new.stack.items done.ensures.made)
-    (step_stopped db t c.args.rule.now i.own i.kept c.as_slice-in-Ok.result.now
+    judged replacing.result replacing.new.unmarked replacing.new.stack.items
+    replacing.ensures.entries)
+    (step_refused db t c.args.rule.now i.unmarked i.marked c.as_slice-in-Ok.result.now
     i.stack.items c.in-Ok.below c.formula.result.now c.as_slice-in-Ok.ensures c.formula.ensures
-    judged done.result done.new.own done.new.stack.items done.ensures.stopped)
+    judged replacing.result replacing.new.unmarked replacing.new.stack.items
+    replacing.ensures.refused)
     refl refl refl)
 
 pub test_rule-requires-clause-stack : goal.test_rule-requires-clause-stack
 test_rule-requires-clause-stack g c =
     let i = c.self.inside in
-    entries_here i.own i.kept i.stack.items i.marks.items i.marked.items i.width c.self.invariant
-    (length (symbol_names c.args.db.now.statements)) c.as_slice.result.now
+    entries_here i.unmarked i.marked i.stack.items i.marks.items i.marked_spans.items i.symbol_count
+    c.self.invariant
+    (length (symbol_names c.args.database.now.statements)) c.as_slice.result.now
     c.as_slice-2.result.now c.deref.result.now
-    (ap (λ s. s.width) c.self.view_is ∙ c.requires.width)
+    (ap (λ s. s.symbol_count) c.self.view_is ∙ c.requires.symbol_count)
     c.as_slice.ensures c.as_slice-2.ensures c.deref.ensures.value
 
-pub put_formula-requires-clause-below : goal.put_formula-requires-clause-below
-put_formula-requires-clause-below g c =
-    let n = (tested g (goal.at.put_formula-requires-clause-below g c).In-Ok).0 in
+pub replace_by_formula-requires-clause-below : goal.replace_by_formula-requires-clause-below
+replace_by_formula-requires-clause-below g c =
+    let n = (tested g (goal.at.replace_by_formula-requires-clause-below g c).In-Ok).0 in
     omega (arith, n, c.self.inside.stack.ok.0)
 
-pub put_formula-requires-clause-formula : goal.put_formula-requires-clause-formula
-put_formula-requires-clause-formula g c =
+pub replace_by_formula-requires-clause-formula : goal.replace_by_formula-requires-clause-formula
+replace_by_formula-requires-clause-formula g c =
     let i = c.self.inside in
-    parts_below c.args.db.now.statements c.args.theorem c.args.rule.now i.own i.kept
+    parts_below c.args.database.now.statements c.args.theorem c.args.rule.now i.unmarked i.marked
     c.as_slice-in-Ok.result.now i.stack.items c.in-Ok.below c.formula.result.now
     c.as_slice-in-Ok.ensures c.formula.ensures
-    (tested g (goal.at.put_formula-requires-clause-formula g c).In-Ok) c.requires.rule
+    (tested g (goal.at.replace_by_formula-requires-clause-formula g c).In-Ok) c.requires.rule
 
-pub put_formula-requires-clause-stack : goal.put_formula-requires-clause-stack
-put_formula-requires-clause-stack g c =
+pub replace_by_formula-requires-clause-stack : goal.replace_by_formula-requires-clause-stack
+replace_by_formula-requires-clause-stack g c =
     let i = c.self.inside in
-    stack_here i.own i.kept i.stack.items i.marks.items i.marked.items i.width c.self.invariant
+    stack_here i.unmarked i.marked i.stack.items i.marks.items i.marked_spans.items i.symbol_count
+    c.self.invariant
     c.as_slice-in-Ok.result.now c.as_slice-in-Ok.ensures

@@ -13,7 +13,7 @@ invariant_of-result g c =
     )
     (record {
       stack = search rules;
-      marked_in = search rules;
+      spans_are_marked = search rules;
       rising = search rules;
       count = omega arith;
     })

@@ -8,15 +8,17 @@ pub invariant_of-self : goal.invariant_of-self
 invariant_of-self g c =
     let i = c.self.invariant in
     let f = c.args.formula.now in
-    let w = c.self.inside.width in
+    let w = c.self.inside.symbol_count in
     let known : All (λ s. s < w) f =
-    subst (λ n. All (λ s. s < n) f) (sym (ap (λ s. s.width) c.self.view_is)) c.requires in
+    subst (λ n. All (λ s. s < n) f) (sym (ap (λ s. s.symbol_count) c.self.view_is)) c.requires in
     record {
       stack =
-          add_stack_of c.add.result w c.self.inside.own c.self.inside.kept f c.add.new.own
-          c.self.inside.stack.items c.add.new.stack.items i.stack known
-          c.add.ensures.own c.add.ensures.stack c.add.ensures.same_own c.add.ensures.same_stack;
-      marked_in = i.marked_in;
+          add_stack_of c.push_unmarked.result w c.self.inside.unmarked c.self.inside.marked f
+          c.push_unmarked.new.unmarked
+          c.self.inside.stack.items c.push_unmarked.new.stack.items i.stack known
+          c.push_unmarked.ensures.unmarked c.push_unmarked.ensures.stack
+          c.push_unmarked.ensures.same_unmarked c.push_unmarked.ensures.same_stack;
+      spans_are_marked = i.spans_are_marked;
       rising = i.rising;
       count = i.count;
     }
@@ -25,12 +27,13 @@ pub returns-clause-ok : goal.returns-clause-ok
 returns-clause-ok g c =
     let i = c.self.invariant in
     let f = c.args.formula.now in
-    let kept = c.self.inside.kept in
-    on_ok c.add.result
+    let marked = c.self.inside.marked in
+    on_ok c.push_unmarked.result
     (λ h. ap
     (λ z. machine_state z c.self.inside.marks.items
-    (span_formulas (arena [] kept) c.self.inside.marked.items) c.self.inside.width) h
-    ∙ ap (λ s. machine_state (s.stack ++ f ∷ []) s.marks s.formulas s.width) c.self.view_is)
-    (add_says c.add.result c.self.inside.own kept f c.add.new.own
-    c.self.inside.stack.items c.add.new.stack.items i.stack.is_stack c.add.ensures.own
-    c.add.ensures.stack)
+    (span_formulas (arena [] marked) c.self.inside.marked_spans.items) c.self.inside.symbol_count) h
+    ∙ ap (λ s. machine_state (s.stack ++ f ∷ []) s.marks s.formulas s.symbol_count) c.self.view_is)
+    (add_says c.push_unmarked.result c.self.inside.unmarked marked f c.push_unmarked.new.unmarked
+    c.self.inside.stack.items c.push_unmarked.new.stack.items i.stack.is_stack
+    c.push_unmarked.ensures.unmarked
+    c.push_unmarked.ensures.stack)

@@ -9,23 +9,26 @@ pub invariant_of-self-2 : goal.invariant_of-self-2
 invariant_of-self-2 g c =
     let i = c.self.invariant in
     let e = c.index.result.now in
-    let inside : c.find-n.result < length c.self.inside.marked.items =
-    let n = ap length c.deref.ensures.value in omega (arith, c.find-n.ensures.below, i.count, n) in
-    let kept : IsMarkedEntry c.self.inside.kept e =
-    subst (IsMarkedEntry c.self.inside.kept) (sym c.index.ensures)
+    let inside : c.index_of_mark-index.result < length c.self.inside.marked_spans.items =
+    let n = ap length c.deref.ensures.value in omega
+    (arith, c.index_of_mark-index.ensures.below, i.count, n) in
+    let marked : IsMarkedEntry c.self.inside.marked e =
+    subst (IsMarkedEntry c.self.inside.marked) (sym c.index.ensures)
     (All-get_or
-    (IsMarkedEntry c.self.inside.kept) c.self.inside.marked.items c.find-n.result e inside
-    i.marked_in) in
+    (IsMarkedEntry c.self.inside.marked) c.self.inside.marked_spans.items
+    c.index_of_mark-index.result e
+    inside
+    i.spans_are_marked) in
     record {
       stack =
           record {
             known = i.stack.known;
             is_stack =
                 rw c.in_ok-push.ensures.items
-                (repeat_stack c.self.inside.own c.self.inside.kept c.self.inside.stack.items
-                i.stack.is_stack e kept);
+                (repeat_stack c.self.inside.unmarked c.self.inside.marked c.self.inside.stack.items
+                i.stack.is_stack e marked);
           };
-      marked_in = i.marked_in;
+      spans_are_marked = i.spans_are_marked;
       rising = i.rising;
       count = i.count;
     }

@@ -7,7 +7,7 @@ use Rattle.mm_proof.proofs.letters.LettersRead.end_number.Goals as goal
 pub returns-clause-reads : goal.returns-clause-reads
 returns-clause-reads g c = λ byte k.
     let s = c.args.self.now in
-    rw (c.in_ok-add_step.ensures, c.begun_by-begun.ensures.at)
+    rw (c.in_ok-add_step.ensures, c.with_next_digit-begun.ensures.at)
     (record {
       theorem = refl;
       labels = refl;
@@ -15,13 +15,13 @@ returns-clause-reads g c = λ byte k.
           last_here s.theorem s.labels s.marks c.args.number s.steps c.args._at byte _
           c.requires.stands.begins k.0 k.1
           (λ n e. c.in-Some.ensures.step n
-          (c.begun_by-begun.ensures.value
+          (c.with_next_digit-begun.ensures.value
           ∙ ap (λ d. saturated (20 * c.args.number.value + d)) k.2 ∙ e));
     })
 
 pub returns-in_err-add_step-clause-refuses : goal.returns-in_err-add_step-clause-refuses
 returns-in_err-add_step-clause-refuses g c =
-    err_same c.from_residual.result Memory _ c.from_residual.ensures.1 (λ byte k all left h. tt)
+    err_same c.from_residual.result Memory _ c.from_residual.ensures.1 (λ byte k all unread h. tt)
 
 pub returns-clause-stands : goal.returns-clause-stands
 returns-clause-stands g c =

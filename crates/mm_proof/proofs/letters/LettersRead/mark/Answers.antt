@@ -6,7 +6,7 @@ use Rattle.mm_proof.proofs.letters.LettersRead.mark.Goals as goal
 
 pub returns-in_err-push-clause-refuses : goal.returns-in_err-push-clause-refuses
 returns-in_err-push-clause-refuses g c =
-    err_same c.from_residual.result Memory _ c.from_residual.ensures.1 (λ all left h. tt)
+    err_same c.from_residual.result Memory _ c.from_residual.ensures.1 (λ all unread h. tt)
 
 pub returns-clause-reads : goal.returns-clause-reads
 returns-clause-reads g c =

@@ -47,7 +47,7 @@ returns-in_ok-mark-in-Mark-clause-stands g c =
 pub returns-in-Early-clause-stands : goal.returns-in-Early-clause-stands
 returns-in-Early-clause-stands g c =
     let d = early_digit c.args.byte c.in-Early.digit c.in-Early.ensures.0 c.in-Early.ensures.1 in
-    let v = c.begun_by.ensures.value in
+    let v = c.with_next_digit.ensures.value in
     record {
       stands = stands_later c.args.self.now c.args.at c.requires.stands.stands;
       begins = λ e. absurd (omega (arith, e, v, d.0));
@@ -61,8 +61,8 @@ pub end_number-requires-clause-small : goal.end_number-requires-clause-small
 end_number-requires-clause-small g c =
     (last_digit c.args.byte c.in-Last.digit c.in-Last.ensures.1 c.in-Last.ensures.2).1
 
-pub begun_by-requires-clause-digit : goal.begun_by-requires-clause-digit
-begun_by-requires-clause-digit g c =
+pub with_next_digit-requires-clause-digit : goal.with_next_digit-requires-clause-digit
+with_next_digit-requires-clause-digit g c =
     (early_digit c.args.byte c.in-Early.digit c.in-Early.ensures.0 c.in-Early.ensures.1).1
 
 pub returns-in_err-mark-in-Mark-clause-refuses : goal.returns-in_err-mark-in-Mark-clause-refuses
@@ -98,7 +98,8 @@ returns-in-Early-clause-reads g c =
       labels = refl;
       continues =
           early_here s.theorem s.labels s.marks c.args.number.now s.steps c.args.at c.args.byte
-          c.begun_by.result c.requires.stands.begins c.in-Early.ensures.0 c.begun_by.ensures.at
-          (c.begun_by.ensures.value
+          c.with_next_digit.result c.requires.stands.begins c.in-Early.ensures.0
+          c.with_next_digit.ensures.at
+          (c.with_next_digit.ensures.value
           ∙ ap (λ d. saturated (5 * c.args.number.now.value + d)) c.in-Early.ensures.1);
     }

@@ -14,7 +14,8 @@ loop-i-init g c =
       labels = refl;
       stands = record { stands = c.requires.stands; begins = c.begin_at.ensures.at };
       reads =
-          λ all left h. subst (λ o. Continues (with_number c.args.self.now o) all (all_of ++ left))
+          λ all unread h. subst (λ o. Continues (with_number c.args.self.now o) all
+          (all_of ++ unread))
           (sym c.begin_at.ensures.same) h;
     }
 
@@ -28,9 +29,9 @@ returns-in_err-read-clause-refuses g c =
     (RefusesLetters (with_number c.args.self.now (if_begun c.args.number.now))
     (letters_from c.args.word.start
     (slice_range c.args.text.now c.args.word.start c.args.word.end))) c.from_residual.ensures.1
-    (λ all left h. subst
+    (λ all unread h. subst
     (λ ls. StartsWith (group_faults (length ls) 0 0 (groups [] all).0) c.in_err-read.field-0.0)
-    c.loop-i.invariant.labels (c.in_err-read.ensures.refuses all _ (reads all left h)))
+    c.loop-i.invariant.labels (c.in_err-read.ensures.refuses all _ (reads all unread h)))
 
 pub loop-i-preserved : goal.loop-i-preserved
 loop-i-preserved g c =
@@ -42,7 +43,7 @@ loop-i-preserved g c =
       theorem = c.in_ok-read.ensures.reads.theorem ∙ c.loop-i.invariant.theorem;
       labels = c.in_ok-read.ensures.reads.labels ∙ c.loop-i.invariant.labels;
       stands = c.in_ok-read.ensures.stands;
-      reads = λ all left h. c.in_ok-read.ensures.reads.continues all _ (reads all left h);
+      reads = λ all unread h. c.in_ok-read.ensures.reads.continues all _ (reads all unread h);
     }
 
 pub returns-clause-reads : goal.returns-clause-reads

@@ -6,22 +6,24 @@ use Rattle.mm_spec.specs.Citation.{context_at, is_assertion}
 use Rattle.mm_spec.specs.Laws.Complete.{AreBound}
 use Rattle.mm_outline.proofs.StatementsLaw.{is_there}
 use Rattle.mm_rules.specs.Rules.{AreFirstNumbers, numbered_parts}
-use Rattle.mm_rules.proofs.RuleLaw.{covered, covered_all, made_rule, written_back, numbered_same}
+use Rattle.mm_rules.proofs.RuleLaw.{covered, covered_all, is_compiled_rule, written_back}
+use Rattle.mm_rules.proofs.RuleLaw.{numbered_same}
 use Rattle.mm_rules.proofs.compile.RuleCompiler.compile.Goals as goal
 
 pub compile_hypotheses-requires-clause-bound : goal.compile_hypotheses-requires-clause-bound
 compile_hypotheses-requires-clause-bound g c =
-    let db = c.args.db.now.statements in
+    let db = c.args.database.now.statements in
     covered_all db (map (formula_at db) c.hyps-hyps.result.now) c.hyps-hyps.result.now
     (subst (λ h. AllByRecursion (AreBound (context_at db 0) (map (formula_at db) h))
     (map (formula_at db) h)) (sym c.hyps-hyps.ensures.are) c.requires.complete.hypotheses)
 
 pub formula-requires : goal.formula-requires
-formula-requires g c = is_there is_assertion c.args.db.now.statements c.args.k c.requires.assertion
+formula-requires g c = is_there is_assertion c.args.database.now.statements c.args.assertion
+    c.requires.assertion
 
-pub returns-clause-made : goal.returns-clause-made
-returns-clause-made g c =
-    let db = c.args.db.now.statements in
+pub returns-clause-compiled_rule : goal.returns-clause-compiled_rule
+returns-clause-compiled_rule g c =
+    let db = c.args.database.now.statements in
     let hyps = c.hyps-hyps.result.now in
     let f = c.formula.result.now in
     let numbers = c.deref-2.result.now in
@@ -33,7 +35,8 @@ returns-clause-made g c =
     let bound =
     covered db hs f
     (subst (λ h. AreBound (context_at db 0) (map (formula_at db) h) f) (sym c.hyps-hyps.ensures.are)
-    (subst (AreBound (context_at db 0) (map (formula_at db) (mandatory_hypotheses db c.args.k)))
+    (subst (AreBound (context_at db 0) (map (formula_at db)
+    (mandatory_hypotheses db c.args.assertion)))
     (sym c.formula.ensures.formula) c.requires.complete.formula)) in
     let last = c.deref-3.result.now in
     let same =
@@ -42,7 +45,8 @@ returns-clause-made g c =
     c.self.inside.numbers.items c.self.inside.numbers.len last
     c.deref-3.ensures.value (omega arith) c.number_variables.ensures) f bound in
     on_ok_weaker c.compile_formula.result
-    (λ made. made_rule db c.args.k c.requires.assertion c.requires.complete hyps c.pairs.result.now
+    (λ made. is_compiled_rule db c.args.assertion c.requires.assertion c.requires.complete hyps
+    c.pairs.result.now
     f numbers c.compile_hypotheses.new.hypotheses.items c.compile_pairs.new.pairs.items
     c.compile_hypotheses.new.parts.items c.compile_formula.new.parts.items
     c.hyps-hyps.ensures.are c.pairs.ensures.are c.formula.ensures.formula
@@ -57,7 +61,7 @@ returns-clause-assertion g c =
 
 pub compile_hypotheses-requires-clause-placed : goal.compile_hypotheses-requires-clause-placed
 compile_hypotheses-requires-clause-placed g c =
-    let db = c.args.db.now.statements in
+    let db = c.args.database.now.statements in
     written_back db (map (formula_at db) c.hyps-hyps.result.now) c.number_variables.new.numbers
     c.self.inside.numbers.items c.self.inside.numbers.len c.deref.result.now c.deref.ensures.value
     (omega arith) c.number_variables.ensures
@@ -67,9 +71,9 @@ pub returns-in_err-compile_hypotheses-clause-assertion :
 returns-in_err-compile_hypotheses-clause-assertion g c =
     IfOk-from_err c.from_residual.result _ c.from_residual.ensures.0
 
-pub returns-in_err-compile_hypotheses-clause-made :
-    goal.returns-in_err-compile_hypotheses-clause-made
-returns-in_err-compile_hypotheses-clause-made g c =
+pub returns-in_err-compile_hypotheses-clause-compiled_rule :
+    goal.returns-in_err-compile_hypotheses-clause-compiled_rule
+returns-in_err-compile_hypotheses-clause-compiled_rule g c =
     IfOk-from_err c.from_residual.result _ c.from_residual.ensures.0
 
 pub returns-in_err-compile_pairs-clause-assertion :

@@ -1,5 +1,5 @@
 use Rattle.std.proofs.Common.{sym, subst}
-use Rattle.mm_rule.specs.Rule.{Compiled, IsCompiled}
+use Rattle.mm_rule.specs.Rule.{CompiledRule, IsCompiled}
 use Rattle.mm_rules.specs.Rules.{RuleLists, AreRules, rule_ranges}
 use Rattle.mm_rules.proofs.RulesLaw.{added_at}
 use Rattle.mm_rules.proofs.rules.Rules.add.Goals as goal
@@ -13,12 +13,13 @@ returns g c =
     let q = c.in_ok-parts in
     let f = c.in_ok-formula in
     λ db rules rule. added_at db i.ranges.items c.push.new.self.items i.hypotheses.items
-    r.hypotheses.now c.put.new.list.items
-    i.pairs.items r.pairs.now c.put-2.new.list.items i.parts.items r.parts.now r.formula.now
-    c.put-3.new.list.items c.put-4.new.list.items
+    r.hypotheses.now c.append_range.new.list.items
+    i.pairs.items r.pairs.now c.append_range-2.new.list.items i.parts.items r.parts.now
+    r.formula.now
+    c.append_range-3.new.list.items c.append_range-4.new.list.items
     (rule_ranges r.assertion a.hypotheses p.pairs q.parts f.formula)
     c.in_ok-push.ensures.items a.ensures.items p.ensures.items q.ensures.items f.ensures.items
     a.ensures.start a.ensures.end p.ensures.start p.ensures.end q.ensures.start q.ensures.end
     f.ensures.start f.ensures.end
-    (subst (λ (z : Compiled). IsCompiled db z) (sym c.rule.view_is) rule)
+    (subst (λ (z : CompiledRule). IsCompiled db z) (sym c.rule.view_is) rule)
     (subst (λ (z : RuleLists). AreRules db z) (sym c.self.view_is) rules)

@@ -9,13 +9,13 @@ use Rattle.mm_spec.specs.declared.Code.TheVariants.{BadTypecode}
 use Rattle.mm_database.specs.Names.{find, is_constant_in, names_of}
 use Rattle.mm_scope.proofs.JudgeLaw.{between_first}
 use Rattle.mm_scope.proofs.scope.Scope.formula_fault.Goals as goal
-use Rattle.mm_database.proofs.NamesLaw.{place_le}
+use Rattle.mm_database.proofs.NamesLaw.{index_le}
 
 pub overflow_cast-number : goal.overflow_cast-number
 overflow_cast-number g c =
     let ns = names_of c.args.self.now.names.symbols in
     let few = c.requires.few in
-    let le = place_le c.bytes.result.now ns in
+    let le = index_le c.bytes.result.now ns in
     let is = c.numbered-number.ensures.number in
     omega (arith, le, is, few)
 

@@ -1,6 +1,0 @@
-use Rattle.mm_check.proofs.WalkLaw.{Walked}
-use Rattle.mm_check.proofs.essential.walk_back.Given as goal
-
-abbrev pub invariant-loop-i : goal.invariant-loop-i
-invariant-loop-i g l =
-    Walked l.db.statements l.theorem l.steps.steps l.i l.waiting.items l.wanted.items l.noted

@@ -1,0 +1,53 @@
+-- What is kept beside the statements that were read is the same beside these statements as they
+-- count.
+use Rattle.std.proofs.Common.{◌≡◌, ℕ, ◌<◌, Bool, ◌&&◌, List, length, Option, refl, sym, ap, ◌∙◌}
+use Rattle.std.proofs.Common.{subst}
+use Rattle.std.proofs.Math.Path.{fun_ext}
+use Rattle.std.specs.List.{list_any, range_with_len, filter}
+use Rattle.mm_spec.specs.Statement.{Statement}
+use Rattle.mm_spec.specs.Opened.{counted}
+use Rattle.mm_spec.specs.Scope.{statement_at, is_active}
+use Rattle.mm_spec.specs.Derivation.{Formula, is_member}
+use Rattle.mm_spec.specs.Frame.{is_disjoint_statement, formula_at}
+use Rattle.mm_spec.specs.NormalProof.{is_labelled}
+use Rattle.mm_spec.proofs.OpenedLaw.{counted_length, counted_any, counted_active, counted_formula}
+use Rattle.mm_database.specs.Labels.{AreLabels}
+use Rattle.mm_database.specs.Together.{are_together_at}
+
+module _ (w : Bool) (db : List Statement) where
+  abbrev counted_db : List Statement
+  counted_db = counted w db
+
+  shorter : (k : ℕ) → k < length counted_db → k < length db
+  shorter k h = subst (λ n. k < n) (counted_length w db) h
+
+  pub labels_counted : (find : List ℕ → Option ℕ) → AreLabels db find → AreLabels counted_db find
+  labels_counted find h = record {
+    found =
+        λ x k e. let f = h.found x k e in
+        (subst (λ n. k < n) (sym (counted_length w db)) f.0, same x k ∙ f.1);
+    missing = λ x e k. same x k ∙ h.missing x e k;
+    only = λ x j k e f. h.only x j k (sym (same x j) ∙ e) (sym (same x k) ∙ f);
+  }
+    where
+      same : (x : List ℕ) (k : ℕ)
+          → list_any (is_labelled x) (statement_at counted_db k)
+          ≡ list_any (is_labelled x) (statement_at db k)
+      same x k = counted_any w db (is_labelled x) (λ l k xs e ps d. refl) k
+
+  -- whether some active `$d` has both symbols
+  pub together_counted : (k x y : ℕ) → are_together_at counted_db k x y ≡ are_together_at db k x y
+  together_counted k x y =
+      ap (λ (f : ℕ → Formula). any f (disjoint_in counted_db) (is_active counted_db))
+      (counted_formula w db)
+      ∙ ap (λ t. any (formula_at db) t (is_active counted_db))
+      (fun_ext (λ j. counted_any w db is_disjoint_statement (λ l k xs e ps d. refl) j))
+      ∙ ap (λ (a : ℕ → ℕ → Bool). any (formula_at db) (disjoint_in db) a) (counted_active w db)
+    where
+      disjoint_in : List Statement → ℕ → Bool
+      disjoint_in ss j = list_any is_disjoint_statement (statement_at ss j)
+
+      any : (ℕ → Formula) → (ℕ → Bool) → (ℕ → ℕ → Bool) → Bool
+      any f test active =
+          list_any (λ j. is_member (f j) x && is_member (f j) y)
+          (filter test (filter (λ j. active j k) (range_with_len 0 k)))

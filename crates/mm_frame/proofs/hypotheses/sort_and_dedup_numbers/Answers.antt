@@ -1,0 +1,18 @@
+use Rattle.std.proofs.Common.{◌≡◌, nat_eq}
+use Rattle.std.specs.List.{dedup}
+use Rattle.std.proofs.lemmas.List.Filters.{dedup_is}
+use Rattle.std.proofs.lemmas.Map.Keys.{IsStrictlyIncreasing-dedup}
+use Rattle.mm_spec.proofs.ListLaw.{sort_and_dedup_same}
+use Rattle.mm_frame.proofs.hypotheses.sort_and_dedup_numbers.Goals as goal
+
+pub returns-clause-rising : goal.returns-clause-rising
+returns-clause-rising g c =
+    let e : c.dedup.new.self.items ≡ dedup nat_eq c.sort_unstable.new.self.items =
+    dedup_is nat_eq _ _ c.dedup.ensures.filtered in
+    rw e (IsStrictlyIncreasing-dedup c.sort_unstable.new.self.items c.sort_unstable.ensures.sorted)
+
+pub returns-clause-same : goal.returns-clause-same
+returns-clause-same g c =
+    sort_and_dedup_same c.args.numbers.now.items c.sort_unstable.new.self.items
+    c.dedup.new.self.items
+    c.sort_unstable.ensures.permutation (dedup_is nat_eq _ _ c.dedup.ensures.filtered)

@@ -1,6 +1,0 @@
-use Rattle.std.proofs.Common.{arith}
-use Rattle.std.proofs.lemmas.Grind.{common_steps}
-use Rattle.mm_machine.proofs.machine.cut.Goals as goal
-
-pub returns-clause-own : goal.returns-clause-own
-returns-clause-own g c = grind (arith, common_steps)

@@ -1,0 +1,52 @@
+use Rattle.std.proofs.Common.{◌≡◌, ◌∙◌, ◌+◌, ◌++◌, ◌∷◌, ℕ, List, [], map, take, get_or, ap}
+use Rattle.std.proofs.Common.{append_assoc, arith}
+use Rattle.std.proofs.lemmas.List.{take_more, map-append}
+use Rattle.mm_spec.specs.Output.{label_at}
+use Rattle.mm_outline.specs.Statements.{statements}
+use Rattle.mm_lists.proofs.ListsLaw.{joined_all, more_joined, none_joined}
+use Rattle.mm_stmt.proofs.spaced_labels.spaced_labels_of.Goals as goal
+
+pub label_of-requires-clause-theorem : goal.label_of-requires-clause-theorem
+label_of-requires-clause-theorem g c =
+    c.requires.theorems c.loop-theorem.theorem-index 0 (omega arith)
+
+pub loop-theorem-preserved : goal.loop-theorem-preserved
+loop-theorem-preserved g c =
+    let ks = c.args.theorems.now in
+    let i = c.loop-theorem.theorem-index in
+    let k = get_or ks i 0 in
+    let name : ℕ → List ℕ =
+    λ k. 32 ∷ label_at (statements c.args.text.now c.args.tokens.now c.args.outlines.now) k in
+    let bytes = c.loop-theorem.bytes.items in
+    let more : map name (take (i + 1) ks) ≡ map name (take i ks) ++ name k ∷ [] =
+    ap (map name) (take_more ks i 0 (omega arith)) ∙ map-append name (take i ks) (k ∷ []) in
+    let longer : c.extend_from_slice.new.self.items ≡ bytes ++ name k =
+    c.in_ok-extend_from_slice.ensures.items
+    ∙ ap (λ l. l ++ c.label_of.result.now) c.in_ok-push.ensures.items
+    ∙ append_assoc bytes (32 ∷ []) c.label_of.result.now
+    ∙ ap (λ l. bytes ++ 32 ∷ l) c.label_of.ensures in
+    rw (more, c.in_ok-end_list.ensures.ok, longer)
+    (more_joined (map name (take i ks)) (name k) bytes c.loop-theorem.ends.items
+    c.loop-theorem.invariant)
+
+pub loop-theorem-init : goal.loop-theorem-init
+loop-theorem-init g c = none_joined _ _ c.new-bytes.ensures.items c.new-ends.ensures.items
+
+pub from_ends-requires : goal.from_ends-requires
+from_ends-requires g c =
+    let end = c.loop-theorem.auto.theorem-index-end in
+    let test = c.loop-theorem-test.false in
+    (joined_all
+    (λ k. 32 ∷ label_at (statements c.args.text.now c.args.tokens.now c.args.outlines.now) k)
+    c.args.theorems.now c.loop-theorem.theorem-index _ _ (omega (arith, end, test))
+    c.loop-theorem.invariant).order
+
+pub returns : goal.returns
+returns g c =
+    let end = c.loop-theorem.auto.theorem-index-end in
+    let test = c.loop-theorem-test.false in
+    c.from_ends.ensures
+    ∙ (joined_all
+    (λ k. 32 ∷ label_at (statements c.args.text.now c.args.tokens.now c.args.outlines.now) k)
+    c.args.theorems.now c.loop-theorem.theorem-index _ _ (omega (arith, end, test))
+    c.loop-theorem.invariant).are

@@ -1,0 +1,45 @@
+use Rattle.std.proofs.Common.{◌≡◌, ◌∙◌, ◌∷◌, ℕ, List, All, IsTrue, map, sym, ap, subst}
+use Rattle.mm_spec.specs.Output.{theorems, is_theorem_at, label_at}
+use Rattle.mm_spec.specs.Opened.{counted}
+use Rattle.mm_spec.proofs.OpenedLaw.{counted_label, theorem_still}
+use Rattle.mm_outline.specs.Statements.{statements}
+use Rattle.mm_database.proofs.KindsLaw.{theorems_by_kind, axioms_by_kind, kinds_few}
+use Rattle.mm_database.proofs.SpacedLaw.{theorems_are}
+use Rattle.mm_stmt.proofs.statement_lists.list_statements.Goals as goal
+
+pub assertions_of-requires : goal.assertions_of-requires
+assertions_of-requires g c =
+    kinds_few c.args.text.now c.args.tokens.now c.args.outlines.now c.args.with_open
+    c.deref.result.now (c.deref.ensures.value ∙ c.in_ok-kinds.ensures) c.requires.few
+
+pub spaced_labels_of-requires-clause-theorems : goal.spaced_labels_of-requires-clause-theorems
+spaced_labels_of-requires-clause-theorems g c =
+    let w = c.args.with_open in
+    let db = statements c.args.text.now c.args.tokens.now c.args.outlines.now in
+    let statement_lists =
+    c.deref-2.ensures.value ∙ c.in_ok-theorems.ensures.theorems
+    ∙ theorems_by_kind (counted w db) c.deref.result.now
+    (c.deref.ensures.value ∙ c.in_ok-kinds.ensures) in
+    subst (λ (ks : List ℕ). All (λ k. IsTrue (is_theorem_at db k)) ks) (sym statement_lists)
+    (λ i d l. theorem_still w db _ (theorems_are (counted w db) i d l))
+
+pub returns : goal.returns
+returns g c =
+    let w = c.args.with_open in
+    let db = statements c.args.text.now c.args.tokens.now c.args.outlines.now in
+    let kinds = c.deref.ensures.value ∙ c.in_ok-kinds.ensures in
+    let statement_lists : c.deref-2.result.now ≡ theorems (counted w db) =
+    c.deref-2.ensures.value ∙ c.in_ok-theorems.ensures.theorems
+    ∙ theorems_by_kind (counted w db) c.deref.result.now kinds in
+    record {
+      kinds_are = c.in_ok-kinds.ensures;
+      theorems_are =
+          c.in_ok-theorems.ensures.theorems ∙ theorems_by_kind (counted w
+          db) c.deref.result.now kinds;
+      axioms_are =
+          c.in_ok-theorems.ensures.axioms ∙ axioms_by_kind (counted w db) c.deref.result.now kinds;
+      spaced_labels_are =
+          c.in_ok-spaced_labels.ensures ∙ ap (map (λ k. 32 ∷ label_at db k)) statement_lists
+          ∙ ap (λ (f : ℕ → List ℕ). map (λ k. 32 ∷ f k) (theorems (counted w db)))
+          (sym (counted_label w db));
+    }

@@ -1,0 +1,52 @@
+//! The labels of the theorems, each after a space, side by side in one list.
+
+ghost use Rattle.std.specs.Prelude.{◌≡◌, ◌<◌, ◌-◌, ◌∷◌, All, IfOk, IsTrue, length, map};
+ghost use Rattle.mm_spec.specs.Output.{is_theorem_at, label_at};
+ghost use Rattle.mm_outline.specs.Parts.{AreWithin, IsOutline};
+ghost use Rattle.mm_outline.specs.Statements.{statements};
+
+use mm_lists::{Lists, end_list};
+use mm_outline::parts::Outline;
+use mm_spec::Word;
+use std::alloc::{AllocError, Allocator};
+
+/// Returns the label of a theorem.
+fn label_of<'a>(text: &'a [u8], tokens: &[Word], outlines: &[Outline], theorem: u32) -> &'a [u8]
+    requires words { AreWithin text.now tokens.now }
+    requires outlines { All (λ o. IsOutline o × (o.end < length tokens.now)) outlines.now }
+    requires theorem { IsTrue
+        (is_theorem_at (statements text.now tokens.now outlines.now) theorem) }
+    ensures { result.now ≡ label_at (statements text.now tokens.now outlines.now) theorem }
+{
+    let outline = outlines[theorem as usize];
+    let word = tokens[outline.keyword as usize - 1];
+    word.bytes(text)
+}
+
+/// Returns the labels of the theorems, each after a space, side by side in one list.
+pub fn spaced_labels_of<A: Allocator + Copy>(
+    alloc: A,
+    text: &[u8],
+    tokens: &[Word],
+    outlines: &[Outline],
+    theorems: &[u32],
+) -> Result<Lists<u8, A>, AllocError>
+    requires words { AreWithin text.now tokens.now }
+    requires outlines { All (λ o. IsOutline o × (o.end < length tokens.now)) outlines.now }
+    requires theorems { All
+        (λ k. IsTrue (is_theorem_at (statements text.now tokens.now outlines.now) k))
+        theorems.now }
+    ensures { IfOk result
+        (λ l. l
+        ≡ map (λ k. 32 ∷ label_at (statements text.now tokens.now outlines.now) k)
+        theorems.now) }
+{
+    let mut bytes = Vec::new(alloc);
+    let mut ends = Vec::new(alloc);
+    for theorem in theorems {
+        bytes.push(b' ')?;
+        bytes.extend_from_slice(label_of(text, tokens, outlines, *theorem))?;
+        end_list(&bytes, &mut ends)?;
+    }
+    Ok(Lists::from_ends(bytes, ends))
+}
