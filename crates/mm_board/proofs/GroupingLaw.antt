@@ -29,19 +29,19 @@ record Regroups (n c f : ℕ) (views after : List View) : Type 0 where
 
 module _ (n c f d : ℕ) (views after : List View) (r : BoardRule n c f d views)
     (m : Regroups n c f views after) where
-  still : (x : ℕ) → IsCountOrReported n views x → IsCountOrReported n after x
-  still x (inl e) = inl e
-  still x (inr p) = inr (let k = m.reported x in omega arith)
+  still_count_or_reported : (x : ℕ) → IsCountOrReported n views x → IsCountOrReported n after x
+  still_count_or_reported x (inl e) = inl e
+  still_count_or_reported x (inr p) = inr (let k = m.reported x in omega arith)
 
-  regrouped : BoardRule n c f d after
-  regrouped = record {
+  rule_regrouped : BoardRule n c f d after
+  rule_regrouped = record {
     once = λ x. m.once x ∙ r.once x;
     lengths = m.lengths ∙ r.lengths;
     least =
         record {
           at_most = r.least.at_most;
           lowest = λ y p. r.least.lowest y (let k = m.reported y in omega arith);
-          is = still f r.least.is;
+          is_count_or_reported = still_count_or_reported f r.least.is_count_or_reported;
         };
     settled = r.settled ∙ sym m.settled;
     skipped = λ x p. r.skipped x (let k = m.skipped x in omega arith);
@@ -50,7 +50,7 @@ module _ (n c f d : ℕ) (views after : List View) (r : BoardRule n c f d views)
         record {
           count = o.count;
           floor = o.floor;
-          seen = λ p. still v.seen (o.seen p);
+          seen = λ p. still_count_or_reported v.seen (o.seen p);
           over = o.over;
           spent = o.spent;
         };
@@ -59,34 +59,38 @@ module _ (n c f d : ℕ) (views after : List View) (r : BoardRule n c f d views)
   }
 
 -- a total after a split
-cut : (g : View → ℕ) (views : List View) (id : ℕ) (v : View) → get_elem? views id ≡ some v
+total_after_split : (g : View → ℕ) (views : List View) (id : ℕ) (v : View)
+    → get_elem? views id ≡ some v
     → g (after_split v) + g (new_seat_view v) ≡ g v
     → total g (set views id (after_split v) ++ new_seat_view v ∷ []) ≡ total g views
-cut g views id v at e =
+total_after_split g views id v at e =
     let t = total_set g views id v (after_split v) at in
     let a = total_snoc g (set views id (after_split v)) (new_seat_view v) in omega arith
 
-pub splits : (n id : ℕ) (v : View) → 1 < v.share
+pub split_allowed : (n id : ℕ) (v : View) → 1 < v.share
     → Splits (MeetsRule n) id v (after_split v) (new_seat_view v)
-splits n id v more s r at = (
+split_allowed n id v more s r at = (
   r.0,
-  regrouped n _ _ _ s.views _ r.1 record {
-    once = λ x. cut (times_recorded x) s.views id v at (stand x);
+  rule_regrouped n _ _ _ s.views _ r.1 record {
+    once = λ x. total_after_split (times_recorded x) s.views id v at (record_split x);
     lengths =
-        cut record_length s.views id v at
+        total_after_split record_length s.views id v at
         (let a : record_length (after_split v) ≡ record_length v = refl in
         let b : record_length (new_seat_view v) ≡ 0 = refl in omega arith);
-    reported = λ x. cut (λ u. times_in x u.reported) s.views id v at (omega arith);
-    settled = cut (λ u. length u.settled) s.views id v at (omega arith);
-    skipped = λ x. cut (λ u. times_in x u.skipped) s.views id v at (omega arith);
-    shares = cut (λ u. u.share) s.views id v at (omega arith);
-    over = let t = cut over_share s.views id v at (halves v.over) in omega arith;
+    reported = λ x. total_after_split (λ u. times_in x u.reported) s.views id v at (omega arith);
+    settled = total_after_split (λ u. length u.settled) s.views id v at (omega arith);
+    skipped = λ x. total_after_split (λ u. times_in x u.skipped) s.views id v at (omega arith);
+    shares = total_after_split (λ u. u.share) s.views id v at (omega arith);
+    over = let t = total_after_split over_share s.views id v at (over_share_split v.over) in
+        omega arith;
     seats = λ seat u e. elim (at_snoc (set s.views id (after_split v)) (new_seat_view v) u seat e) [
       | inl h ↦ elim (at_set s.views id seat (after_split v) u h) [
-        | inl p ↦ subst (SeatRule n s.views (get_or s.words 0 0) (get_or s.words 1 0)) p.1 left
+        | inl p ↦ subst (SeatRule n s.views (get_or s.words 0 0) (get_or s.words 1 0)) p.1
+            rule_of_old_seat
         | inr p ↦ r.1.seats seat u p.1
       ]
-      | inr h ↦ subst (SeatRule n s.views (get_or s.words 0 0) (get_or s.words 1 0)) h right
+      | inr h ↦
+          subst (SeatRule n s.views (get_or s.words 0 0) (get_or s.words 1 0)) h rule_of_new_seat
     ];
   },
 )
@@ -94,18 +98,18 @@ splits n id v more s r at = (
     o : SeatRule n s.views (get_or s.words 0 0) (get_or s.words 1 0) v
     o = r.1.seats id v at
 
-    stand : (x : ℕ)
+    record_split : (x : ℕ)
         → times_recorded x (after_split v) + times_recorded x (new_seat_view v) ≡ times_recorded x v
-    stand x =
+    record_split x =
         let a : times_recorded x (after_split v) ≡ times_recorded x v = refl in
         let b : times_recorded x (new_seat_view v) ≡ 0 = refl in omega arith
 
-    halves : (b : Bool) → cond b (v.share - 1) 0 + cond b 1 0 ≡ cond b v.share 0
-    halves true = omega arith
-    halves false = refl
+    over_share_split : (b : Bool) → cond b (v.share - 1) 0 + cond b 1 0 ≡ cond b v.share 0
+    over_share_split true = omega arith
+    over_share_split false = refl
 
-    left : SeatRule n s.views (get_or s.words 0 0) (get_or s.words 1 0) (after_split v)
-    left =
+    rule_of_old_seat : SeatRule n s.views (get_or s.words 0 0) (get_or s.words 1 0) (after_split v)
+    rule_of_old_seat =
         let live : 0 < v.share = omega arith in
         record {
           count = λ p. o.count live;
@@ -115,8 +119,9 @@ splits n id v more s r at = (
           spent = λ e. absurd (omega arith);
         }
 
-    right : SeatRule n s.views (get_or s.words 0 0) (get_or s.words 1 0) (new_seat_view v)
-    right =
+    rule_of_new_seat : SeatRule n s.views (get_or s.words 0 0) (get_or s.words 1 0)
+        (new_seat_view v)
+    rule_of_new_seat =
         let live : 0 < v.share = omega arith in
         record {
           count = λ p. o.count live;
@@ -127,11 +132,11 @@ splits n id v more s r at = (
         }
 
 -- a total after a join
-glued : (g : View → ℕ) (views : List View) (id : ℕ) (v : View) (other : ℕ) (w : View)
+total_after_join : (g : View → ℕ) (views : List View) (id : ℕ) (v : View) (other : ℕ) (w : View)
     → get_elem? views id ≡ some v → get_elem? (set views id (after_join v w)) other ≡ some w
     → total g (set (set views id (after_join v w)) other spent_view) + g v + g w
     ≡ total g views + g (after_join v w) + g spent_view
-glued g views id v other w at at_other =
+total_after_join g views id v other w at at_other =
     let t = total_set g views id v (after_join v w) at in
     let t' = total_set g (set views id (after_join v w)) other w spent_view at_other in omega arith
 
@@ -155,15 +160,15 @@ split_keeps n v more c f d before after r =
     ap (λ l. l ++ new_seat_view v ∷ []) (set_middle before after v (after_split v))
     ∙ append_assoc before (after_split v ∷ after) (new_seat_view v ∷ []) in
     subst (BoardRule n c f d) same
-    (splits n (length before) v more s (refl, r) (at_middle before after v)).1
+    (split_allowed n (length before) v more s (refl, r) (at_middle before after v)).1
 
-pub joins : (n id : ℕ) (v : View) (other : ℕ) (w : View) → w.open_number ≡ None → 0 < v.share
+pub join_allowed : (n id : ℕ) (v : View) (other : ℕ) (w : View) → w.open_number ≡ None → 0 < v.share
     → 0 < w.share → Joins (MeetsRule n) id v other w (after_join v w) spent_view
-joins n id v other w closed live live_w s r at apart at_other = (
+join_allowed n id v other w closed live live_w s r at apart at_other = (
   r.0,
-  regrouped n _ _ _ s.views _ r.1 record {
+  rule_regrouped n _ _ _ s.views _ r.1 record {
     once =
-        λ x. let t = glued (times_recorded x) s.views id v other w at at_other in
+        λ x. let t = total_after_join (times_recorded x) s.views id v other w at at_other in
         let a = times_in_append x v.settled w.settled in
         let b = times_in_append x v.reported w.reported in
         let c = times_in_append x v.skipped w.skipped in
@@ -179,7 +184,7 @@ joins n id v other w closed live live_w s r at apart at_other = (
         + times_in x w.skipped = refl in
         let z : times_recorded x spent_view ≡ 0 = refl in omega arith;
     lengths =
-        let t = glued record_length s.views id v other w at at_other in
+        let t = total_after_join record_length s.views id v other w at at_other in
         let a = length-append v.settled w.settled in let b = length-append v.reported w.reported in
         let c = length-append v.skipped w.skipped in
         let e : open_count w.open_number ≡ 0 = ap (λ (o : Option ℕ). open_count o) closed in
@@ -194,17 +199,21 @@ joins n id v other w closed live live_w s r at apart at_other = (
         + length w.skipped = refl in
         let z : record_length spent_view ≡ 0 = refl in omega arith;
     reported =
-        λ x. let t = glued (λ u. times_in x u.reported) s.views id v other w at at_other in
+        λ x. let t =
+        total_after_join (λ u. times_in x u.reported) s.views id v other w at at_other in
         let a = times_in_append x v.reported w.reported in omega arith;
     settled =
-        let t = glued (λ u. length u.settled) s.views id v other w at at_other in
+        let t = total_after_join (λ u. length u.settled) s.views id v other w at at_other in
         let a = length-append v.settled w.settled in omega arith;
     skipped =
-        λ x. let t = glued (λ u. times_in x u.skipped) s.views id v other w at at_other in
+        λ x. let t =
+        total_after_join (λ u. times_in x u.skipped) s.views id v other w at at_other in
         let a = times_in_append x v.skipped w.skipped in omega arith;
-    shares = let t = glued (λ u. u.share) s.views id v other w at at_other in omega arith;
+    shares = let t = total_after_join (λ u. u.share) s.views id v other w at at_other in
+        omega arith;
     over =
-        let t = glued over_share s.views id v other w at at_other in let e = sums v.over w.over in
+        let t = total_after_join over_share s.views id v other w at at_other in let e =
+        over_share_joined v.over w.over in
         let z : over_share spent_view ≡ 0 =
         refl in
         let i : over_share (after_join v w)
@@ -212,20 +221,23 @@ joins n id v other w closed live live_w s r at apart at_other = (
         let j : over_share v ≡ cond v.over v.share 0 = refl in
         let k : over_share w ≡ cond w.over w.share 0 = refl in omega arith;
     seats = λ seat u e. elim (at_set (set s.views id (after_join v w)) other seat spent_view u e) [
-      | inl p ↦ subst (SeatRule n s.views (get_or s.words 0 0) (get_or s.words 1 0)) p.1 gone
+      | inl p ↦ subst (SeatRule n s.views (get_or s.words 0 0) (get_or s.words 1 0)) p.1
+          rule_of_spent_seat
       | inr p ↦ elim (at_set s.views id seat (after_join v w) u p.1) [
-        | inl q ↦ subst (SeatRule n s.views (get_or s.words 0 0) (get_or s.words 1 0)) q.1 one
+        | inl q ↦ subst (SeatRule n s.views (get_or s.words 0 0) (get_or s.words 1 0)) q.1
+            rule_of_joined_seat
         | inr q ↦ r.1.seats seat u q.1
       ]
     ];
   },
 )
   where
-    sums : (a b : Bool) → cond a v.share 0 + cond b w.share 0 ≤ cond (a || b) (v.share + w.share) 0
-    sums true true = omega arith
-    sums true false = omega arith
-    sums false true = omega arith
-    sums false false = omega arith
+    over_share_joined : (a b : Bool) → cond a v.share 0 + cond b w.share 0
+        ≤ cond (a || b) (v.share + w.share) 0
+    over_share_joined true true = omega arith
+    over_share_joined true false = omega arith
+    over_share_joined false true = omega arith
+    over_share_joined false false = omega arith
 
     o : SeatRule n s.views (get_or s.words 0 0) (get_or s.words 1 0) v
     o = r.1.seats id v at
@@ -238,8 +250,8 @@ joins n id v other w closed live live_w s r at apart at_other = (
     k : SeatRule n s.views (get_or s.words 0 0) (get_or s.words 1 0) w
     k = r.1.seats other w at_w
 
-    gone : SeatRule n s.views (get_or s.words 0 0) (get_or s.words 1 0) spent_view
-    gone =
+    rule_of_spent_seat : SeatRule n s.views (get_or s.words 0 0) (get_or s.words 1 0) spent_view
+    rule_of_spent_seat =
         record {
           count = λ p. absurd (omega arith);
           floor = λ p. absurd (omega arith);
@@ -253,20 +265,24 @@ joins n id v other w closed live live_w s r at apart at_other = (
           };
         }
 
-    lesser : (v.seen < w.seen) ⊎ (w.seen ≤ v.seen) → IsCountOrReported n s.views (min v.seen w.seen)
-    lesser (inl lt) = let is : min v.seen w.seen ≡ v.seen = omega arith in rw is (o.seen live)
-    lesser (inr le) = let is : min v.seen w.seen ≡ w.seen = omega arith in rw is (k.seen live_w)
+    seen_of_joined : (v.seen < w.seen) ⊎ (w.seen ≤ v.seen) → IsCountOrReported n s.views
+        (min v.seen w.seen)
+    seen_of_joined (inl lt) = let is : min v.seen w.seen ≡ v.seen = omega arith in
+        rw is (o.seen live)
+    seen_of_joined (inr le) = let is : min v.seen w.seen ≡ w.seen = omega arith in
+        rw is (k.seen live_w)
 
     either_over : (a b : Bool) → v.over ≡ a → w.over ≡ b → (a || b) ≡ true → n < get_or s.words 0 0
     either_over true b ev ew h = o.over ev
     either_over false true ev ew h = k.over ew
     either_over false false ev ew h = absurd (cc)
 
-    one : SeatRule n s.views (get_or s.words 0 0) (get_or s.words 1 0) (after_join v w)
-    one = record {
+    rule_of_joined_seat : SeatRule n s.views (get_or s.words 0 0) (get_or s.words 1 0)
+        (after_join v w)
+    rule_of_joined_seat = record {
       count = λ p. o.count live;
       floor = λ p. let a = o.floor live in let b = k.floor live_w in omega arith;
-      seen = λ p. lesser (cases_lt v.seen w.seen);
+      seen = λ p. seen_of_joined (cases_lt v.seen w.seen);
       over = λ e. either_over v.over w.over refl refl e;
       spent = λ e. absurd (omega arith);
     }

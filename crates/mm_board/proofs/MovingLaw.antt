@@ -9,7 +9,7 @@ use Rattle.mm_board.specs.declared.views.View.{View}
 use Rattle.mm_board.specs.Records.{times_in, times_recorded, record_length}
 use Rattle.mm_board.specs.Rule.{total, times_reported, times_skipped, once_below, over_share}
 use Rattle.mm_board.specs.Rule.{IsCountOrReported, IsLeastReported, SeatRule, BoardRule}
-use Rattle.mm_board.proofs.SumsLaw.{total_set, le_total}
+use Rattle.mm_board.proofs.SumsLaw.{total_set, one_at_most_total}
 
 -- The words go from a, b, c to a', b', c', and the view of one seat from v to w
 pub record Moves (n a b c a' b' c' : ℕ) (v w : View) : Type 0 where
@@ -45,73 +45,78 @@ module _ (n a b c a' b' c' : ℕ) (v w : View) (views : List View) (id : ℕ)
       → times_skipped after x + times_in x v.skipped ≡ times_skipped views x + times_in x w.skipped
   skips_set x = total_set (λ u. times_in x u.skipped) views id v w at
 
-  reports_le : (x : ℕ) → times_in x v.reported ≤ times_reported views x
-  reports_le x = le_total (λ u. times_in x u.reported) views id v at
+  reported_at_most_total : (x : ℕ) → times_in x v.reported ≤ times_reported views x
+  reported_at_most_total x = one_at_most_total (λ u. times_in x u.reported) views id v at
 
-  more : (x : ℕ) → times_reported views x ≤ times_reported after x
-  more x = let t = reports_set x in let k = m.report_kept x in omega arith
+  reported_still : (x : ℕ) → times_reported views x ≤ times_reported after x
+  reported_still x = let t = reports_set x in let k = m.report_kept x in omega arith
 
-  still : (x : ℕ) → IsCountOrReported n views x → IsCountOrReported n after x
-  still x (inl e) = inl e
-  still x (inr p) = inr (let k = more x in omega arith)
+  still_count_or_reported : (x : ℕ) → IsCountOrReported n views x → IsCountOrReported n after x
+  still_count_or_reported x (inl e) = inl e
+  still_count_or_reported x (inr p) = inr (let k = reported_still x in omega arith)
 
-  own : (x : ℕ) → 0 < times_in x w.reported → 0 < times_reported after x
-  own x p = let t = reports_set x in let l = reports_le x in omega arith
+  reported_by_moved_seat : (x : ℕ) → 0 < times_in x w.reported → 0 < times_reported after x
+  reported_by_moved_seat x p = let t = reports_set x in let l =
+      reported_at_most_total x in omega arith
 
-  is_still : IsCountOrReported n after b'
-  is_still = go m.floor
+  new_floor_is_count_or_reported : IsCountOrReported n after b'
+  new_floor_is_count_or_reported = by_floor m.floor
     where
-      go : (b' ≡ b) ⊎ (0 < times_in b' w.reported) → IsCountOrReported n after b'
-      go (inl e) = subst (IsCountOrReported n after) (sym e) (still b r.least.is)
-      go (inr p) = inr (own b' p)
+      by_floor : (b' ≡ b) ⊎ (0 < times_in b' w.reported) → IsCountOrReported n after b'
+      by_floor (inl e) =
+          subst (IsCountOrReported n after) (sym e)
+          (still_count_or_reported b r.least.is_count_or_reported)
+      by_floor (inr p) = inr (reported_by_moved_seat b' p)
 
   least : IsLeastReported n after b'
   least = record {
     at_most = let l = m.lower in let o = r.least.at_most in omega arith;
-    lowest = λ y p. go y p (cases_lt (times_in y v.reported) (times_in y w.reported));
-    is = is_still;
+    lowest = λ y p. by_new_report y p (cases_lt (times_in y v.reported) (times_in y w.reported));
+    is_count_or_reported = new_floor_is_count_or_reported;
   }
     where
-      go : (y : ℕ) → 0 < times_reported after y
+      by_new_report : (y : ℕ) → 0 < times_reported after y
           → (times_in y v.reported < times_in y w.reported)
           ⊎ (times_in y w.reported ≤ times_in y v.reported) → b' ≤ y
-      go y p (inl lt) = m.report_new y lt
-      go y p (inr le) =
+      by_new_report y p (inl lt) = m.report_new y lt
+      by_new_report y p (inr le) =
           let t = reports_set y in let o = r.least.lowest y (omega arith) in let l = m.lower in
           omega arith
 
   skipped : (x : ℕ) → 0 < times_skipped after x → b' < x
-  skipped x p = go (cases_lt (times_in x v.skipped) (times_in x w.skipped))
+  skipped x p = by_new_skip (cases_lt (times_in x v.skipped) (times_in x w.skipped))
     where
-      go : (times_in x v.skipped < times_in x w.skipped)
+      by_new_skip : (times_in x v.skipped < times_in x w.skipped)
           ⊎ (times_in x w.skipped ≤ times_in x v.skipped) → b' < x
-      go (inl lt) = m.skip_new x lt
-      go (inr le) =
+      by_new_skip (inl lt) = m.skip_new x lt
+      by_new_skip (inr le) =
           let t = skips_set x in let o = r.skipped x (omega arith) in let l = m.lower in omega arith
 
-  mine : SeatRule n after a' b' w
-  mine = record {
+  rule_of_moved_seat : SeatRule n after a' b' w
+  rule_of_moved_seat = record {
     count = λ p. m.count ∙ (r.seats id v at).count live;
     floor = λ p. m.seen_floor;
-    seen = λ p. go m.seen;
-    over = λ p. went (m.over p);
+    seen = λ p. by_seen m.seen;
+    over = λ p. over_by_claim_word (m.over p);
     spent = λ p. let s = m.share in absurd (omega arith);
   }
     where
-      go : (w.seen ≡ v.seen) ⊎ (w.seen ≡ b') → IsCountOrReported n after w.seen
-      go (inl e) =
-          subst (IsCountOrReported n after) (sym e) (still v.seen ((r.seats id v at).seen live))
-      go (inr e) = subst (IsCountOrReported n after) (sym e) is_still
+      by_seen : (w.seen ≡ v.seen) ⊎ (w.seen ≡ b') → IsCountOrReported n after w.seen
+      by_seen (inl e) =
+          subst (IsCountOrReported n after) (sym e)
+          (still_count_or_reported v.seen ((r.seats id v at).seen live))
+      by_seen (inr e) = subst (IsCountOrReported n after) (sym e) new_floor_is_count_or_reported
 
-      went : (v.over ≡ true) ⊎ (n < a') → n < a'
-      went (inl h) = let o = (r.seats id v at).over h in let l = m.later in omega arith
-      went (inr h) = h
+      over_by_claim_word : (v.over ≡ true) ⊎ (n < a') → n < a'
+      over_by_claim_word (inl h) = let o = (r.seats id v at).over h in let l =
+          m.later in omega arith
+      over_by_claim_word (inr h) = h
 
-  other : (u : View) → SeatRule n views a b u → SeatRule n after a' b' u
-  other u o = record {
+  rule_of_other_seat : (u : View) → SeatRule n views a b u → SeatRule n after a' b' u
+  rule_of_other_seat u o = record {
     count = o.count;
     floor = λ p. let f = o.floor p in let l = m.lower in omega arith;
-    seen = λ p. still u.seen (o.seen p);
+    seen = λ p. still_count_or_reported u.seen (o.seen p);
     over = λ p. let f = o.over p in let l = m.later in omega arith;
     spent = o.spent;
   }
@@ -130,8 +135,11 @@ module _ (n a b c a' b' c' : ℕ) (v w : View) (views : List View) (id : ℕ)
         let k = m.settled in omega arith;
     skipped = skipped;
     seats =
-        λ seat u e. elim (at_set views id seat w u e)
-        [ inl p ↦ subst (SeatRule n after a' b') p.1 mine | inr p ↦ other u (r.seats seat u p.1) ];
+        λ seat u e. elim (at_set views id seat w u e) [
+          | inl p ↦ subst (SeatRule n after a' b') p.1 rule_of_moved_seat
+          | inr p ↦
+              rule_of_other_seat u (r.seats seat u p.1)
+        ];
     shares =
         let t = total_set (λ u. u.share) views id v w at in let o = r.shares in let k = m.share in
         omega arith;

@@ -81,8 +81,9 @@ abbrev pub new_seat_view : View → View
 new_seat_view v =
     record v { share = 1; open_number = None; settled = []; reported = []; skipped = [] }
 
--- The view v of a seat becomes w, and a new seat has the view u; nothing else changes: whatever the
--- words and the views of all other seats are, the rule holds of the same words and views.
+-- A split that turns the view v of a seat into w, and gives a new seat the view u, changes nothing
+-- else: if the rule holds before it, it holds of the same words and the same views of all other
+-- seats after it.
 abbrev pub KeepsTheRest : ℕ → View → View → View → Type 0
 KeepsTheRest n v w u =
     (claim_word floor_word settled_word : ℕ) (before after : List View)

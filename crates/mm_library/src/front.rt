@@ -4,7 +4,7 @@ ghost use Rattle.std.specs.Prelude.{◌≡◌, ◌+◌, ℕ, List, [], ◌∷◌
 ghost use Rattle.std.specs.Prelude.{if◌then◌else◌, length, take};
 ghost use Rattle.mm_library.specs.declared.status.Status.TheVariants.{OutTooShort};
 
-use crate::seen::Seen;
+use crate::ghost_bytes::GhostBytes;
 use crate::status::Status;
 use std::io::{self, ErrorKind, Write};
 
@@ -13,21 +13,22 @@ use std::io::{self, ErrorKind, Write};
 pub(crate) struct Front<'a> {
     pub(crate) out: &'a mut [u8],
     pub(crate) len: usize,
-    pub(crate) seen: Seen,
-    ghost counted: { len ≡ length seen.bytes },
-    ghost placed: { take len out.now ≡ take (length out.now) seen.bytes },
+    pub(crate) written: GhostBytes,
+    ghost counted: { len ≡ length written.bytes },
+    ghost placed: { take len out.now ≡ take (length out.now) written.bytes },
 }
 
 impl<'a> Front<'a> {
+    /// A writer that has written nothing yet.
     pub(crate) fn new(out: &'a mut [u8]) -> Front<'a>
         ensures name { result.out.ghost_name ≡ out.entry.ghost_name }
-        ensures bytes { result.seen.bytes ≡ [] }
+        ensures bytes { result.written.bytes ≡ [] }
         ensures long { length result.out.now ≡ length out.old }
     {
         Front {
             out,
             len: 0,
-            seen: Seen::none(),
+            written: GhostBytes::none(),
         }
     }
 
@@ -58,14 +59,14 @@ pub(crate) fn place(out: &mut [u8], len: usize, bytes: &[u8])
 }
 
 impl<'a> Write for Front<'a> {
-    ghost contents = { λ f. Some (f.out.ghost_name ∷ f.seen.bytes) };
+    ghost contents = { λ f. Some (f.out.ghost_name ∷ f.written.bytes) };
 
     fn write(&mut self, bytes: &[u8]) -> io::Result<usize> {
         let Some(len) = self.len.checked_add(bytes.len()) else {
             return Err(io::Error::from(ErrorKind::FileTooLarge));
         };
         place(self.out, self.len, bytes);
-        self.seen.add(bytes);
+        self.written.add(bytes);
         self.len = len;
         Ok(bytes.len())
     }

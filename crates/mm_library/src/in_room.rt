@@ -2,17 +2,17 @@
 
 ghost use Rattle.std.specs.Prelude.{◌≡◌, ◌⊎◌, ◌≤◌, [], ◌∷◌, length, take};
 ghost use Rattle.mm_spec.specs.Ends.{reading_limit};
-ghost use Rattle.mm_library.specs.Calls.{Call, Ends, IsAnswer, Writes, citing};
+ghost use Rattle.mm_library.specs.Calls.{Call, CallEnds, IsAnswer, WritingEnds, citing};
 
 use crate::report::{report, report_and_citations};
 use crate::status::Status;
-use mm_room::{FreeLists, Lender, Room};
+use mm_room::{Lender, Reusing, Room};
 use mm_spec::{Request, TEXT_LIMIT};
 use std::alloc::Allocator;
 use std::mem::replace;
 
-/// What is read of a text: its beginning, up to one byte more than a text may have.
-fn read(text: &[u8]) -> &[u8]
+/// The part of a text that is read: its beginning, up to one byte more than a text may have.
+fn read_part(text: &[u8]) -> &[u8]
     ensures value { result.now ≡ take reading_limit text.now }
     ensures few { length result.now ≤ reading_limit }
 {
@@ -28,10 +28,10 @@ fn report_in_arena<A: Allocator + Copy>(
     out: &mut [u8],
 ) -> (Status, usize)
     requires few { length text.now ≤ reading_limit }
-    ensures { Writes result.0 request.now.with_open (request.now ∷ []) text.now (result.1 ∷ [])
+    ensures { WritingEnds result.0 request.now.with_open (request.now ∷ []) text.now (result.1 ∷ [])
         out.new }
 {
-    match FreeLists::new(arena) {
+    match Reusing::new(arena) {
         Ok(alloc) => report(&alloc, text, request, out),
         Err(_) => (Status::RoomTooSmall, 0),
     }
@@ -46,10 +46,11 @@ fn report_and_citations_in_arena<A: Allocator + Copy>(
     out: &mut [u8],
 ) -> (Status, usize, usize)
     requires few { length text.now ≤ reading_limit }
-    ensures { Writes result.0 request.now.with_open (request.now ∷ citing request.now ∷ []) text.now
+    ensures { WritingEnds result.0 request.now.with_open
+        (request.now ∷ citing request.now ∷ []) text.now
         (result.1 ∷ result.2 ∷ []) out.new }
 {
-    match FreeLists::new(arena) {
+    match Reusing::new(arena) {
         Ok(alloc) => report_and_citations(&alloc, text, request, out),
         Err(_) => (Status::RoomTooSmall, 0, 0),
     }
@@ -64,12 +65,12 @@ fn report_in_room(
     out: &mut [u8],
 ) -> (Status, usize)
     ensures room { (room.new.units ≡ room.old.units) ⊎ (room.new.units ≡ 0) }
-    ensures writes { Writes result.0 request.now.with_open (request.now ∷ [])
+    ensures writes { WritingEnds result.0 request.now.with_open (request.now ∷ [])
         (take reading_limit text.now) (result.1 ∷ []) out.new }
 {
     let lender = Lender::new(replace(room, Room::none()));
     let ended = match lender.arena() {
-        Ok(arena) => report_in_arena(&arena, read(text), request, out),
+        Ok(arena) => report_in_arena(&arena, read_part(text), request, out),
         Err(_) => (Status::RoomTooSmall, 0),
     };
     *room = lender.into_room();
@@ -85,12 +86,13 @@ fn report_and_citations_in_room(
     out: &mut [u8],
 ) -> (Status, usize, usize)
     ensures room { (room.new.units ≡ room.old.units) ⊎ (room.new.units ≡ 0) }
-    ensures writes { Writes result.0 request.now.with_open (request.now ∷ citing request.now ∷ [])
-        (take reading_limit text.now) (result.1 ∷ result.2 ∷ []) out.new }
+    ensures writes { WritingEnds result.0 request.now.with_open
+        (request.now ∷ citing request.now ∷ []) (take reading_limit text.now)
+        (result.1 ∷ result.2 ∷ []) out.new }
 {
     let lender = Lender::new(replace(room, Room::none()));
     let ended = match lender.arena() {
-        Ok(arena) => report_and_citations_in_arena(&arena, read(text), request, out),
+        Ok(arena) => report_and_citations_in_arena(&arena, read_part(text), request, out),
         Err(_) => (Status::RoomTooSmall, 0, 0),
     };
     *room = lender.into_room();
@@ -107,7 +109,7 @@ pub(crate) fn report_if_asked(
 ) -> (Status, usize)
     ensures room { (room.new.units ≡ room.old.units) ⊎ (room.new.units ≡ 0) }
     ensures ends { (call : Call) → IsAnswer call request.entry
-        → Ends result.0 call (λ request. request ∷ []) (take reading_limit text.now)
+        → CallEnds result.0 call (λ request. request ∷ []) (take reading_limit text.now)
         (result.1 ∷ []) out.new }
 {
     match request {
@@ -126,7 +128,7 @@ pub(crate) fn report_and_citations_if_asked(
 ) -> (Status, usize, usize)
     ensures room { (room.new.units ≡ room.old.units) ⊎ (room.new.units ≡ 0) }
     ensures ends { (call : Call) → IsAnswer call request.entry
-        → Ends result.0 call (λ request. request ∷ citing request ∷ [])
+        → CallEnds result.0 call (λ request. request ∷ citing request ∷ [])
         (take reading_limit text.now) (result.1 ∷ result.2 ∷ []) out.new }
 {
     match request {

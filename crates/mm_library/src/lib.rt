@@ -6,16 +6,16 @@
 
 ghost use Rattle.std.specs.Prelude.{◌≡◌, ◌⊎◌, [], ◌∷◌, length, take};
 ghost use Rattle.mm_spec.specs.Ends.{reading_limit};
-ghost use Rattle.mm_library.specs.Calls.{Ends, call_of, citing, status_number};
+ghost use Rattle.mm_library.specs.Calls.{CallEnds, call_of, citing, status_number};
 ghost use Rattle.mm_library.specs.Fronts.{IsAtFront};
 ghost use Rattle.mm_library.specs.declared.status.Status.{Status};
 ghost use Rattle.mm_version.specs.declared.TheConstants.{VERSION};
 
 mod front;
+mod ghost_bytes;
 mod in_room;
 mod report;
 mod request;
-mod seen;
 mod status;
 
 use crate::front::place;
@@ -63,7 +63,7 @@ pub extern "C" fn mmdepend_report(
 ) -> u32
     ensures room { (room.new.units ≡ room.old.units) ⊎ (room.new.units ≡ 0) }
     ensures ends { (status : Status) × (result ≡ status_number status)
-        × Ends status (call_of has_only only.now choice form essential with_open)
+        × CallEnds status (call_of has_only only.now choice form essential with_open)
         (λ request. request ∷ []) (take reading_limit text.now) (written.new ∷ []) out.new }
 {
     let request = request(only, has_only, choice, form, essential, with_open);
@@ -92,7 +92,7 @@ pub extern "C" fn mmdepend_report_and_citations(
 ) -> u32
     ensures room { (room.new.units ≡ room.old.units) ⊎ (room.new.units ≡ 0) }
     ensures ends { (status : Status) × (result ≡ status_number status)
-        × Ends status (call_of has_only only.now choice form essential with_open)
+        × CallEnds status (call_of has_only only.now choice form essential with_open)
         (λ request. request ∷ citing request ∷ []) (take reading_limit text.now)
         (report_len.new ∷ citations_len.new ∷ []) out.new }
 {

@@ -1,10 +1,10 @@
 //! The outputs of a text, at the front of memory.
 
-ghost use Rattle.std.specs.Prelude.{◌≡◌, ◌≤◌, ℕ, List, [], ◌∷◌, ◌++◌, IfSome, length};
+ghost use Rattle.std.specs.Prelude.{◌≡◌, ◌≤◌, ℕ, List, [], ◌∷◌, ◌++◌, IfOk, length};
 ghost use Rattle.mm_spec.specs.Ends.{reading_limit};
 ghost use Rattle.mm_spec.specs.Output.{IsOutput};
 ghost use Rattle.mm_run.specs.Counted.{IsJudgedText};
-ghost use Rattle.mm_library.specs.Calls.{HasVerdict, Writes};
+ghost use Rattle.mm_library.specs.Calls.{HasVerdict, WritingEnds};
 ghost use Rattle.mm_library.specs.Calls as calls;
 
 use crate::front::Front;
@@ -26,26 +26,29 @@ fn citing<'a>(request: &Request<'a>) -> Request<'a>
     }
 }
 
-/// Writes one output of a judged text behind what was written before. Returns the verdict, or
-/// nothing if out of memory.
+/// An output wasn't written whole, because there was no memory to write it.
+#[derive(Drop)]
+struct NotWritten;
+
+/// Writes one output of a judged text behind what was written before. Returns the verdict.
 fn write_output<'a, A: Allocator + Copy>(
     alloc: A,
     text: &[u8],
     request: &Request<'_>,
     judged: &JudgedText<'a, A>,
     to: &mut Front<'_>,
-) -> Option<Status>
+) -> Result<Status, NotWritten>
     requires judged { IsJudgedText text.now request.now.essential request.now.with_open
         judged.now }
-    ensures same { to.new.out.ghost_name ≡ to.old.out.ghost_name }
-    ensures wrote { IfSome result (λ status. HasVerdict status text.now request.now.with_open
+    ensures same_out { to.new.out.ghost_name ≡ to.old.out.ghost_name }
+    ensures wrote { IfOk result (λ status. HasVerdict status text.now request.now.with_open
         × ((bytes : List ℕ) × IsOutput text.now request.now bytes
-        × (to.new.seen.bytes ≡ to.old.seen.bytes ++ bytes))) }
+        × (to.new.written.bytes ≡ to.old.written.bytes ++ bytes))) }
 {
     match write_judged(alloc, text, request, judged, to) {
-        RunEnd::Accepted => Some(Status::Accepted),
-        RunEnd::Refused(_) => Some(Status::Refused),
-        RunEnd::ReadFailed | RunEnd::WriteFailed | RunEnd::NoMemory => None,
+        RunEnd::Accepted => Ok(Status::Accepted),
+        RunEnd::Refused(_) => Ok(Status::Refused),
+        RunEnd::ReadFailed | RunEnd::WriteFailed | RunEnd::NoMemory => Err(NotWritten),
     }
 }
 
@@ -60,13 +63,13 @@ fn write_report<'a, A: Allocator + Copy>(
 ) -> (Status, usize)
     requires judged { IsJudgedText text.now request.now.essential request.now.with_open
         judged.now }
-    ensures { Writes result.0 request.now.with_open (request.now ∷ []) text.now (result.1 ∷ [])
+    ensures { WritingEnds result.0 request.now.with_open (request.now ∷ []) text.now (result.1 ∷ [])
         out.new }
 {
     let mut to = Front::new(out);
     match write_output(alloc, text, request, judged, &mut to) {
-        Some(verdict) => (to.status(verdict), to.len),
-        None => (Status::RoomTooSmall, 0),
+        Ok(verdict) => (to.status(verdict), to.len),
+        Err(NotWritten) => (Status::RoomTooSmall, 0),
     }
 }
 
@@ -81,18 +84,18 @@ fn write_report_and_citations<'a, A: Allocator + Copy>(
 ) -> (Status, usize, usize)
     requires judged { IsJudgedText text.now request.now.essential request.now.with_open
         judged.now }
-    ensures { Writes result.0 request.now.with_open
+    ensures { WritingEnds result.0 request.now.with_open
         (request.now ∷ calls.citing request.now ∷ []) text.now
         (result.1 ∷ result.2 ∷ []) out.new }
 {
     let mut to = Front::new(out);
-    let Some(verdict) = write_output(alloc, text, request, judged, &mut to) else {
+    let Ok(verdict) = write_output(alloc, text, request, judged, &mut to) else {
         return (Status::RoomTooSmall, 0, 0);
     };
     let report_len = to.len;
     match write_output(alloc, text, &citing(request), judged, &mut to) {
-        Some(_) => (to.status(verdict), report_len, to.len - report_len),
-        None => (Status::RoomTooSmall, 0, 0),
+        Ok(_) => (to.status(verdict), report_len, to.len - report_len),
+        Err(NotWritten) => (Status::RoomTooSmall, 0, 0),
     }
 }
 
@@ -105,7 +108,7 @@ pub(crate) fn report<A: Allocator + Copy>(
     out: &mut [u8],
 ) -> (Status, usize)
     requires few { length text.now ≤ reading_limit }
-    ensures { Writes result.0 request.now.with_open (request.now ∷ []) text.now (result.1 ∷ [])
+    ensures { WritingEnds result.0 request.now.with_open (request.now ∷ []) text.now (result.1 ∷ [])
         out.new }
 {
     match judge_alone(alloc, text, request.essential, request.with_open) {
@@ -123,7 +126,7 @@ pub(crate) fn report_and_citations<A: Allocator + Copy>(
     out: &mut [u8],
 ) -> (Status, usize, usize)
     requires few { length text.now ≤ reading_limit }
-    ensures { Writes result.0 request.now.with_open
+    ensures { WritingEnds result.0 request.now.with_open
         (request.now ∷ calls.citing request.now ∷ []) text.now
         (result.1 ∷ result.2 ∷ []) out.new }
 {

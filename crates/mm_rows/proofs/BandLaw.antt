@@ -22,16 +22,16 @@ use Rattle.mm_spec.proofs.BitLaw.{shifted}
 
 -- a bit is that of 2 ^ b alone, where there is one
 bit_of_pow : (n b : ℕ) → cond (eqb (bit_and n (2 ^ b)) (2 ^ b)) 1 0 ≡ bit_at n b
-bit_of_pow n b = ap (λ x. cond (eqb x (2 ^ b)) 1 0) (and_pow n b) ∙ go (cases_eq (bit_at n b) 0)
+bit_of_pow n b = ap (λ x. cond (eqb x (2 ^ b)) 1 0) (and_pow n b) ∙ by_bit (cases_eq (bit_at n b) 0)
   where
-    go : (bit_at n b ≡ 0) ⊎ (bit_at n b ≡ 0 → ⊥)
+    by_bit : (bit_at n b ≡ 0) ⊎ (bit_at n b ≡ 0 → ⊥)
         → cond (eqb (bit_at n b * 2 ^ b) (2 ^ b)) 1 0 ≡ bit_at n b
-    go (inl e) =
+    by_bit (inl e) =
         let p = pow_pos b in
         let ne : 0 * 2 ^ b ≡ 2 ^ b → ⊥ = λ h. omega (arith, p, h) in
         ap (λ x. cond (eqb (x * 2 ^ b) (2 ^ b)) 1 0) e
         ∙ ap (λ t. cond t 1 0) (ne_eqb (0 * 2 ^ b) (2 ^ b) ne) ∙ sym e
-    go (inr ne) =
+    by_bit (inr ne) =
         let l = bit_at-lt n b in
         let e : bit_at n b ≡ 1 = omega (arith, l, ne) in
         let one : 1 * 2 ^ b ≡ 2 ^ b = omega arith in
@@ -86,24 +86,24 @@ pub marked_more : (across rows : ℕ) (bits old new : List ℕ) (first n : ℕ) 
 marked_more across rows bits old new first n within size width same each h i j le lt small one =
     or_bits new old (row_at bits across n) same
     (width ∙ sym (row_length bits across n rows within size)) each j
-    ∙ either _ _ (go (cases_eq i n))
+    ∙ either _ _ (by_row (cases_eq i n))
   where
-    go : (i ≡ n) ⊎ (i ≡ n → ⊥) → (is_bit old j ≡ true) ⊎ (is_bit (row_at bits across n) j ≡ true)
-    go (inl e) =
+    by_row : (i ≡ n) ⊎ (i ≡ n → ⊥) → (is_bit old j ≡ true) ⊎ (is_bit (row_at bits across n) j ≡ true)
+    by_row (inl e) =
         inr (row_bit bits across n j small
         ∙ subst (λ x. is_bit bits (spot across x j) ≡ true) e one)
-    go (inr ne) = inl (h i j le (omega arith) small one)
+    by_row (inr ne) = inl (h i j le (omega arith) small one)
 
 pub all_marked : (across rows : ℕ) (bits any : List ℕ) (w end : ℕ) → min (64 * w + 64) rows ≤ end
     → AreMarked across bits any (64 * w) end → (k j : ℕ) → k < 64 → j < 64 * across
     → in_row rows across bits (64 * w + k) j ≡ true → is_bit any j ≡ true
-all_marked across rows bits any w end le h k j lt small one = go (cases_lt (64 * w + k) rows)
+all_marked across rows bits any w end le h k j lt small one = by_row_count (cases_lt (64 * w + k) rows)
   where
-    go : (64 * w + k < rows) ⊎ (rows ≤ 64 * w + k) → is_bit any j ≡ true
-    go (inl l) =
+    by_row_count : (64 * w + k < rows) ⊎ (rows ≤ 64 * w + k) → is_bit any j ≡ true
+    by_row_count (inl l) =
         h (64 * w + k) j (omega arith) (omega arith) small
         (sym (in_row_within rows across bits (64 * w + k) j l) ∙ one)
-    go (inr g) =
+    by_row_count (inr g) =
         let no = in_row_past rows across bits (64 * w + k) j g in
         absurd (let e : true ≡ false = sym one ∙ no in cc)
 
@@ -153,7 +153,7 @@ pub bytes_more : (across : ℕ) (bits : List ℕ) (at : ℕ) (bytes : List ℕ) 
     + 1)
 bytes_more across bits at bytes first n within h = record {
   size = length-set bytes n byte ∙ h.size;
-  done = λ k b less small. go k b less small (cases_eq k n);
+  done = λ k b less small. by_row k b less small (cases_eq k n);
   left =
       λ k le lt. let ne : k ≡ n → ⊥ = λ e. omega arith in
       get_or-set_other bytes n k byte 0 ne ∙ h.left k (omega arith) lt;
@@ -162,30 +162,30 @@ bytes_more across bits at bytes first n within h = record {
     byte : ℕ
     byte = bit_and (get_or bits ((first + n) * across + at / 8) 0 / 2 ^ (8 * (at % 8))) 255
 
-    go : (k b : ℕ) → k < n + 1 → b < 8 → (k ≡ n) ⊎ (k ≡ n → ⊥)
+    by_row : (k b : ℕ) → k < n + 1 → b < 8 → (k ≡ n) ⊎ (k ≡ n → ⊥)
         → eqb (bit_at (get_or (set bytes n byte) k 0) b) 1
         ≡ is_bit bits (spot across (first + k) (8 * at + b))
-    go k b less small (inl e) =
+    by_row k b less small (inl e) =
         ap (λ x. eqb (bit_at (get_or (set bytes n byte) x 0) b) 1) e
         ∙ ap (λ x. eqb (bit_at x b) 1)
         (get_or-set_same bytes n byte 0 (let s = h.size in omega (arith, s)))
         ∙ row_byte bits across (first + n) at b small
         ∙ ap (λ x. is_bit bits (spot across (first + x) (8 * at + b))) (sym e)
-    go k b less small (inr ne) =
+    by_row k b less small (inr ne) =
         ap (λ x. eqb (bit_at x b) 1) (get_or-set_other bytes n k byte 0 ne)
         ∙ h.done k b (omega arith) small
 
 pub all_bytes : (rows across : ℕ) (bits : List ℕ) (w at : ℕ) (bytes : List ℕ) (n : ℕ)
     → min (rows - 64 * w) 64 ≤ n → 64 * w + n ≤ rows → BytesTo across bits at bytes (64 * w) n
     → AreRowBytes rows across bits w at bytes
-all_bytes rows across bits w at bytes n least most h k b lt small = go (cases_lt k n)
+all_bytes rows across bits w at bytes n least most h k b lt small = by_row (cases_lt k n)
   where
-    go : (k < n) ⊎ (n ≤ k)
+    by_row : (k < n) ⊎ (n ≤ k)
         → eqb (bit_at (get_or bytes k 0) b) 1 ≡ in_row rows across bits (64 * w + k) (8 * at + b)
-    go (inl l) =
+    by_row (inl l) =
         h.done k b l small
         ∙ sym (in_row_within rows across bits (64 * w + k) (8 * at + b) (omega arith))
-    go (inr g) =
+    by_row (inr g) =
         ap (λ x. eqb (bit_at x b) 1) (h.left k g lt) ∙ ap (λ x. eqb x 1) (bit_at-zero b)
         ∙ sym (in_row_past rows across bits (64 * w + k) (8 * at + b) (omega arith))
 
@@ -224,7 +224,7 @@ written_word rows columns bits transposed w j word band small is h = record {
   before =
       λ l v a b d. subst (IsColumnWord rows (words_for columns) bits v l)
       (sym (other l v d (λ e f. omega arith))) (h.before l v a b d);
-  done = λ l a b. go l a b (cases_eq l j);
+  done = λ l a b. by_column l a b (cases_eq l j);
   left = λ l a b d. other l w d (λ e f. omega arith) ∙ h.left l a (omega arith) d;
   after = λ l v a b d. other l v d (λ e f. omega arith) ∙ h.after l v a b d;
 }
@@ -239,16 +239,16 @@ written_word rows columns bits transposed w j word band small is h = record {
         get_or-set_other transposed place (l * words_for rows + v) word 0
         (λ e. let s = same_from_place l v j w (words_for rows) d band e in ne s.0 s.1)
 
-    go : (l : ℕ) → l < columns → l < j + 1 → (l ≡ j) ⊎ (l ≡ j → ⊥)
+    by_column : (l : ℕ) → l < columns → l < j + 1 → (l ≡ j) ⊎ (l ≡ j → ⊥)
         → IsColumnWord rows (words_for columns) bits w l
         (get_or (set transposed place word) (l * words_for rows + w) 0)
-    go l a b (inl e) =
+    by_column l a b (inl e) =
         subst (λ x. IsColumnWord rows (words_for columns) bits w x
         (get_or (set transposed place word) (x * words_for rows + w) 0)) (sym e)
         (subst (IsColumnWord rows (words_for columns) bits w j)
         (sym (get_or-set_same transposed place word 0
         (word_within columns (words_for rows) j w (length transposed) small band h.size))) is)
-    go l a b (inr ne) =
+    by_column l a b (inr ne) =
         subst (IsColumnWord rows (words_for columns) bits w l) (sym (other l w band (λ e f. ne e)))
         (h.done l a (omega arith))
 
@@ -261,16 +261,16 @@ pub written_zeros : (rows columns : ℕ) (bits transposed : List ℕ) (w from to
 written_zeros rows columns bits transposed w from to band none le h = record {
   size = h.size;
   before = h.before;
-  done = λ j a b. go j a b (cases_lt j from);
+  done = λ j a b. by_column j a b (cases_lt j from);
   left = λ j a b d. h.left j a (omega arith) d;
   after = h.after;
 }
   where
-    go : (j : ℕ) → j < columns → j < to → (j < from) ⊎ (from ≤ j)
+    by_column : (j : ℕ) → j < columns → j < to → (j < from) ⊎ (from ≤ j)
         → IsColumnWord rows (words_for columns) bits w j
         (get_or transposed (j * words_for rows + w) 0)
-    go j a b (inl l) = h.done j a l
-    go j a b (inr g) =
+    by_column j a b (inl l) = h.done j a l
+    by_column j a b (inr g) =
         subst (IsColumnWord rows (words_for columns) bits w j) (sym (h.left j a g band))
         (none j g b a)
 
@@ -308,19 +308,19 @@ pub written_band : (rows columns : ℕ) (bits transposed : List ℕ) (w from : �
     → Written rows columns bits transposed w from → Written rows columns bits transposed (w + 1) 0
 written_band rows columns bits transposed w from le h = record {
   size = h.size;
-  before = λ j v a b d. go j v a b d (cases_eq v w);
+  before = λ j v a b d. by_band j v a b d (cases_eq v w);
   done = λ j a b. absurd (omega arith);
   left = λ j a b d. h.after j (w + 1) a (omega arith) d;
   after = λ j v a b d. h.after j v a (omega arith) d;
 }
   where
-    go : (j v : ℕ) → j < columns → v < w + 1 → v < words_for rows → (v ≡ w) ⊎ (v ≡ w → ⊥)
+    by_band : (j v : ℕ) → j < columns → v < w + 1 → v < words_for rows → (v ≡ w) ⊎ (v ≡ w → ⊥)
         → IsColumnWord rows (words_for columns) bits v j
         (get_or transposed (j * words_for rows + v) 0)
-    go j v a b d (inl e) =
+    by_band j v a b d (inl e) =
         subst (λ x. IsColumnWord rows (words_for columns) bits x j
         (get_or transposed (j * words_for rows + x) 0)) (sym e) (h.done j a (omega arith))
-    go j v a b d (inr ne) = h.before j v a (omega arith) d
+    by_band j v a b d (inr ne) = h.before j v a (omega arith) d
 
 -- all bands are written
 pub written_all : (rows columns : ℕ) (bits transposed : List ℕ) (w : ℕ) → words_for rows ≤ w

@@ -129,12 +129,12 @@ pub cells_more : (words into lanes : List ℕ) (w : ℕ) → w < length words
     → length into ≡ 64 * length words → length lanes ≡ 64
     → ((k : ℕ) → k < 64 → get_or lanes k 0 ≡ digit_of (eqb (bit_at (get_or words w 0) k) 1))
     → AreCells words into w → AreCells words (put_chunk (64 * w) into lanes) (w + 1)
-cells_more words into lanes w within size long each h i lt = go (cases_lt i (64 * w))
+cells_more words into lanes w within size long each h i lt = by_word (cases_lt i (64 * w))
   where
-    go : (i < 64 * w) ⊎ (64 * w ≤ i)
+    by_word : (i < 64 * w) ⊎ (64 * w ≤ i)
         → get_or (put_chunk (64 * w) into lanes) i 0 ≡ digit_of (is_bit words i)
-    go (inl l) = get_or-put_chunk_below (64 * w) into lanes i 0 l ∙ h i l
-    go (inr g) =
+    by_word (inl l) = get_or-put_chunk_below (64 * w) into lanes i 0 l ∙ h i l
+    by_word (inr g) =
         let is : 64 * w + (i - 64 * w) ≡ i = omega arith in
         let q : w ≡ i / 64 = omega arith in
         let r : i - 64 * w ≡ i % 64 = omega arith in

@@ -21,12 +21,12 @@ use Rattle.mm_rows.specs.BitRows.{IsBitRow, HasCitedRows, row_at}
 -- a rising list has a number once
 pub once : (xs : List ℕ) (i j : ℕ) → IsStatementList xs → i < length xs → j < length xs
     → get_or xs i 0 ≡ get_or xs j 0 → i ≡ j
-once xs i j r p q e = go (cases_order i j)
+once xs i j r p q e = by_order (cases_order i j)
   where
-    go : (i ≡ j) ⊎ ((i < j) ⊎ (j < i)) → i ≡ j
-    go (inl h) = h
-    go (inr (inl l)) = let m = r.rises i j l q in absurd (omega arith)
-    go (inr (inr g)) = let m = r.rises j i g p in absurd (omega arith)
+    by_order : (i ≡ j) ⊎ ((i < j) ⊎ (j < i)) → i ≡ j
+    by_order (inl h) = h
+    by_order (inr (inl l)) = let m = r.rises i j l q in absurd (omega arith)
+    by_order (inr (inr g)) = let m = r.rises j i g p in absurd (omega arith)
 
 -- a place of a list below n whose statement is a, or rests on it
 abbrev pub IsVia : Citing → List ℕ → ℕ → ℕ → Type 0
@@ -220,15 +220,15 @@ pub column_marked : (columns row new : List ℕ) (j s : ℕ) → IsStatementList
     → ((k : ℕ) → is_bit new k ≡ (eqb k j || is_bit row k))
     → (k : ℕ) → k < length columns
     → Decides (is_bit new k) ((is_bit row k ≡ true) ⊎ (s ≡ get_or columns k 0))
-column_marked columns row new j s rising found set k lt = by (cases_eq k j)
+column_marked columns row new j s rising found set k lt = by_column (cases_eq k j)
   where
-    by : (k ≡ j) ⊎ (k ≢ j)
+    by_column : (k ≡ j) ⊎ (k ≢ j)
         → Decides (is_bit new k) ((is_bit row k ≡ true) ⊎ (s ≡ get_or columns k 0))
-    by (inl e) = (
+    by_column (inl e) = (
       λ t. inr (sym found.1 ∙ ap (λ i. get_or columns i 0) (sym e)),
       λ h. set k ∙ ap (λ b. b || is_bit row k) (eq-eqb k j e),
     )
-    by (inr ne) =
+    by_column (inr ne) =
         let same : is_bit new k ≡ is_bit row k =
         set k ∙ ap (λ b. b || is_bit row k) (ne_eqb k j ne) in (
           λ t. inl (sym same ∙ t),

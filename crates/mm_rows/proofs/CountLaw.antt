@@ -86,11 +86,11 @@ one_one (inl e) = let z = zero_from_ones 1 e in absurd (omega (arith, z))
 one_one (inr ne) = let l = ones_le_self 1 in omega (arith, l, ne)
 
 one_bit : (b : ℕ) → b < 2 → count_ones b ≡ cond (eqb b 1) 1 0
-one_bit b lt = go (cases_eq b 0)
+one_bit b lt = by_bit (cases_eq b 0)
   where
-    go : (b ≡ 0) ⊎ (b ≡ 0 → ⊥) → count_ones b ≡ cond (eqb b 1) 1 0
-    go (inl e) = ap count_ones e ∙ no_ones ∙ sym (ap (λ x. cond (eqb x 1) 1 0) e)
-    go (inr ne) =
+    by_bit : (b ≡ 0) ⊎ (b ≡ 0 → ⊥) → count_ones b ≡ cond (eqb b 1) 1 0
+    by_bit (inl e) = ap count_ones e ∙ no_ones ∙ sym (ap (λ x. cond (eqb x 1) 1 0) e)
+    by_bit (inr ne) =
         let e : b ≡ 1 = omega arith in
         ap count_ones e ∙ one_one (cases_eq (count_ones 1) 0) ∙ sym (ap (λ x. cond (eqb x 1) 1 0) e)
 

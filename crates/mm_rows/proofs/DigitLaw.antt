@@ -162,13 +162,13 @@ pub digits_more : (words into lanes : List ℕ) (w : ℕ) → w < length words
     → length into ≡ 16 * length words → length lanes ≡ 16
     → ((k : ℕ) → k < 16 → get_or lanes k 0 ≡ hex_digit (four_at (get_or words w 0) k))
     → AreDigits words into w → AreDigits words (put_chunk (16 * w) into lanes) (w + 1)
-digits_more words into lanes w within size long each h i lt = go (cases_lt i (16 * w))
+digits_more words into lanes w within size long each h i lt = by_word (cases_lt i (16 * w))
   where
-    go : (i < 16 * w) ⊎ (16 * w ≤ i)
+    by_word : (i < 16 * w) ⊎ (16 * w ≤ i)
         → get_or (put_chunk (16 * w) into lanes) i 0
         ≡ hex_digit (four_at (get_or words (i / 16) 0) (i % 16))
-    go (inl l) = get_or-put_chunk_below (16 * w) into lanes i 0 l ∙ h i l
-    go (inr g) =
+    by_word (inl l) = get_or-put_chunk_below (16 * w) into lanes i 0 l ∙ h i l
+    by_word (inr g) =
         let is : 16 * w + (i - 16 * w) ≡ i = omega arith in
         let q : w ≡ i / 16 = omega arith in
         let r : i - 16 * w ≡ i % 16 = omega arith in
@@ -185,11 +185,11 @@ mark_is zero (b ∷ bs) = refl
 mark_is (suc n) (b ∷ bs) = mark_is n bs
 
 bit_is : (x : ℕ) → x < 2 → x ≡ bit_of (eqb x 1)
-bit_is x lt = go (cases_eq x 0)
+bit_is x lt = by_bit (cases_eq x 0)
   where
-    go : (x ≡ 0) ⊎ (x ≡ 0 → ⊥) → x ≡ bit_of (eqb x 1)
-    go (inl e) = e ∙ sym (ap (λ y. bit_of (eqb y 1)) e)
-    go (inr ne) = let e : x ≡ 1 = omega (arith, ne, lt) in e ∙ sym (ap (λ y. bit_of (eqb y 1)) e)
+    by_bit : (x ≡ 0) ⊎ (x ≡ 0 → ⊥) → x ≡ bit_of (eqb x 1)
+    by_bit (inl e) = e ∙ sym (ap (λ y. bit_of (eqb y 1)) e)
+    by_bit (inr ne) = let e : x ≡ 1 = omega (arith, ne, lt) in e ∙ sym (ap (λ y. bit_of (eqb y 1)) e)
 
 module _ (m : Marks) (rows columns : ℕ) (words : List ℕ)
     (view : m ≡ marks rows columns words) (t : IsTable rows columns words) where
@@ -198,17 +198,17 @@ module _ (m : Marks) (rows columns : ℕ) (words : List ℕ)
       → is_bit (row_at words (words_for columns) i) j
       ≡ mark_at j (row_marks (marks rows columns words) i)
   row_mark i j lt within =
-      row_bit words (words_for columns) i j within ∙ go (cases_lt j columns)
+      row_bit words (words_for columns) i j within ∙ by_column (cases_lt j columns)
       ∙ sym (mark_is j (row_marks (marks rows columns words) i))
     where
-      go : (j < columns) ⊎ (columns ≤ j)
+      by_column : (j < columns) ⊎ (columns ≤ j)
           → is_bit words (spot (words_for columns) i j)
           ≡ get_or (row_marks (marks rows columns words) i) j false
-      go (inl l) =
+      by_column (inl l) =
           sym (get_or-map-range_with_len (mark (marks rows columns words) i) 0 columns j j false l
           (omega arith)
           ∙ mark_bit rows columns words i j lt l)
-      go (inr g) =
+      by_column (inr g) =
           let long =
           length-map (range_with_len 0 columns) (mark (marks rows columns words) i)
           ∙ length-range_with_len 0 columns in

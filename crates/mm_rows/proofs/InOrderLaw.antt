@@ -30,11 +30,11 @@ pub made_below_more : (c : Citing) (columns old new : List ℕ) (i : ℕ)
     → row_at new (words_for (length columns)) r ≡ row_at old (words_for (length columns)) r)
     → MadeBelow c columns i old → MadeBelow c columns (i + 1) new
 made_below_more c columns old new i row same others h =
-    record { size = same ∙ h.size; made = λ r l. go r l (cases_eq r i) }
+    record { size = same ∙ h.size; made = λ r l. by_row r l (cases_eq r i) }
   where
-    go : (r : ℕ) → r < i + 1 → (r ≡ i) ⊎ (r ≡ i → ⊥) → HasRow c columns new r
-    go r l (inl e) = subst (HasRow c columns new) (sym e) row
-    go r l (inr ne) =
+    by_row : (r : ℕ) → r < i + 1 → (r ≡ i) ⊎ (r ≡ i → ⊥) → HasRow c columns new r
+    by_row r l (inl e) = subst (HasRow c columns new) (sym e) row
+    by_row r l (inr ne) =
         subst (IsBitRow c columns (theorem_at c r)) (sym (others r ne))
         (h.made r (cases r i l ne))
       where

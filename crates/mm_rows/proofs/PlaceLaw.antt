@@ -44,7 +44,7 @@ row_here before new tail width i long short =
 pub row_there : (before new rest : List ℕ) (width i r : ℕ) → length before ≡ i * width
     → length new ≡ width → (r ≡ i → ⊥)
     → row_at (before ++ (new ++ drop width rest)) width r ≡ row_at (before ++ rest) width r
-row_there before new rest width i r long short ne = go (cases_order r i)
+row_there before new rest width i r long short ne = by_order (cases_order r i)
   where
     after : (xs : List ℕ) → i * width ≤ r * width
         → drop (r * width) (before ++ xs) ≡ drop (r * width - i * width) xs
@@ -52,15 +52,15 @@ row_there before new rest width i r long short ne = go (cases_order r i)
         let n : r * width ≡ length before + (r * width - i * width) = omega (arith, le, long) in
         ap (λ k. drop k (before ++ xs)) n ∙ drop-append-add before xs (r * width - i * width)
 
-    go : (r ≡ i) ⊎ ((r < i) ⊎ (i < r))
+    by_order : (r ≡ i) ⊎ ((r < i) ⊎ (i < r))
         → row_at (before ++ (new ++ drop width rest)) width r ≡ row_at (before ++ rest) width r
-    go (inl e) = absurd (ne e)
-    go (inr (inl l)) =
+    by_order (inl e) = absurd (ne e)
+    by_order (inr (inl l)) =
         let low = below width i r l in
         let fits : r * width + width ≤ length before = omega (arith, low, long) in
         row_kept before (new ++ drop width rest) width r fits
         ∙ sym (row_kept before rest width r fits)
-    go (inr (inr g)) =
+    by_order (inr (inr g)) =
         let high = below width r i g in
         let le : i * width ≤ r * width = omega (arith, high) in
         ap (take (r * width + width - r * width))

@@ -136,11 +136,11 @@ module _ (m : Marks) (j : ℕ) (users : List ℕ) (h : IsColumn m j users) where
       (λ k up l. let into = inside in sym (h.same k (omega arith)) ∙ none k up l)
     where
       inside : i < m.rows
-      inside = go (cases_lt i m.rows)
+      inside = by_row_count (cases_lt i m.rows)
         where
-          go : (i < m.rows) ⊎ (m.rows ≤ i) → i < m.rows
-          go (inl l) = l
-          go (inr g) = absurd (let no : true ≡ false = sym one ∙ h.past i g in cc)
+          by_row_count : (i < m.rows) ⊎ (m.rows ≤ i) → i < m.rows
+          by_row_count (inl l) = l
+          by_row_count (inr g) = absurd (let no : true ≡ false = sym one ∙ h.past i g in cc)
 
   pub user_none : (after : Option ℕ) (from : ℕ) → from ≡ first_after after
       → ((k : ℕ) → from ≤ k → is_bit users k ≡ false)

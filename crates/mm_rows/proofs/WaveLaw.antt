@@ -29,15 +29,15 @@ pub record WaveTo (c : Citing) (waves : List ℕ) (i : ℕ) (cited : List ℕ) (
 pub earlier_row : (c : Citing) (i r k : ℕ) → IsFileOrder c → i < length c.theorems
     → k < length (list_at c i) → r < length c.theorems → theorem_at c r ≡ get_or (list_at c i) k 0
     → r < i
-earlier_row c i r k o within listed lt e = go (cases_order r i)
+earlier_row c i r k o within listed lt e = by_order (cases_order r i)
   where
     m : get_or (list_at c i) k 0 < theorem_at c i
     m = o.earlier i k within listed
 
-    go : (r ≡ i) ⊎ ((r < i) ⊎ (i < r)) → r < i
-    go (inl s) = let a = ap (theorem_at c) s in let b = m in absurd (omega (arith, a, b))
-    go (inr (inl l)) = l
-    go (inr (inr g)) = let n = o.rising.rises i r g lt in let b = m in absurd (omega (arith, b, n))
+    by_order : (r ≡ i) ⊎ ((r < i) ⊎ (i < r)) → r < i
+    by_order (inl s) = let a = ap (theorem_at c) s in let b = m in absurd (omega (arith, a, b))
+    by_order (inr (inl l)) = l
+    by_order (inr (inr g)) = let n = o.rising.rises i r g lt in let b = m in absurd (omega (arith, b, n))
 
 -- one theorem more
 pub wave_more : (c : Citing) (waves : List ℕ) (i : ℕ) (cited : List ℕ) (n wave r : ℕ)
@@ -72,14 +72,14 @@ wave_more c waves i cited n wave r o within w lt inside is h = (
 
     above : (x : ℕ) → wave ≤ x → get_or waves r 0 + 1 ≤ x → (m s : ℕ) → m < n + 1
         → s < length c.theorems → theorem_at c s ≡ get_or cited m 0 → get_or waves s 0 + 1 ≤ x
-    above x a b m s l t e = go (cases_eq m n)
+    above x a b m s l t e = by_place (cases_eq m n)
       where
-        go : (m ≡ n) ⊎ (m ≡ n → ⊥) → get_or waves s 0 + 1 ≤ x
-        go (inl f) =
+        by_place : (m ≡ n) ⊎ (m ≡ n → ⊥) → get_or waves s 0 + 1 ≤ x
+        by_place (inl f) =
             let same : s ≡ r =
             once c.theorems s r o.rising t inside (e ∙ ap (λ k. get_or cited k 0) f ∙ sym is) in
             subst (λ k. get_or waves k 0 + 1 ≤ x) (sym same) b
-        go (inr f) = let y = h.above m s (omega arith) t e in omega (arith, y, a)
+        by_place (inr f) = let y = h.above m s (omega arith) t e in omega (arith, y, a)
 
     pick : (wave < get_or waves r 0 + 1) ⊎ (get_or waves r 0 + 1 ≤ wave)
         → WaveTo c waves i cited (n + 1) (max wave (get_or waves r 0 + 1))
@@ -112,14 +112,14 @@ wave_same c waves i cited n wave none h =
     record {
       same = h.same;
       chain = h.chain;
-      above = λ m r lt within e. go m r lt within e (cases_eq m n);
+      above = λ m r lt within e. by_place m r lt within e (cases_eq m n);
       small = h.small;
     }
   where
-    go : (m r : ℕ) → m < n + 1 → r < length c.theorems → theorem_at c r ≡ get_or cited m 0
+    by_place : (m r : ℕ) → m < n + 1 → r < length c.theorems → theorem_at c r ≡ get_or cited m 0
         → (m ≡ n) ⊎ (m ≡ n → ⊥) → get_or waves r 0 + 1 ≤ wave
-    go m r lt within e (inl f) = absurd (none r within (e ∙ ap (λ k. get_or cited k 0) f))
-    go m r lt within e (inr f) = h.above m r (omega arith) within e
+    by_place m r lt within e (inl f) = absurd (none r within (e ∙ ap (λ k. get_or cited k 0) f))
+    by_place m r lt within e (inr f) = h.above m r (omega arith) within e
 
 -- all citations
 pub wave_all : (c : Citing) (waves : List ℕ) (i : ℕ) (cited : List ℕ) (wave : ℕ) → IsFileOrder c
@@ -127,9 +127,9 @@ pub wave_all : (c : Citing) (waves : List ℕ) (i : ℕ) (cited : List ℕ) (wav
     → IsWave (HasCitation c) (IsCitingTheorem c) (theorem_at c i) wave
 wave_all c waves i cited wave o within w h = (h.chain, longest)
   where
-    step : (m b : ℕ) → HasCitation c (theorem_at c i) b → IsCitingTheorem c b
+    chain_from_cited : (m b : ℕ) → HasCitation c (theorem_at c i) b → IsCitingTheorem c b
         → TheoremChain (HasCitation c) (IsCitingTheorem c) b m → suc m ≤ wave
-    step m b s t chain =
+    chain_from_cited m b s t chain =
         let row : s.row ≡ i = once c.theorems s.row i o.rising s.within within s.theorem in
         let listed : s.place < length (list_at c i) =
         subst (λ x. s.place < length (list_at c x)) row s.listed in
@@ -147,7 +147,7 @@ wave_all c waves i cited wave o within w h = (h.chain, longest)
 
     longest : (m : ℕ) → TheoremChain (HasCitation c) (IsCitingTheorem c) (theorem_at c i) m → m ≤ wave
     longest zero k = omega arith
-    longest (suc m) k = step m k.0 k.1 k.2 k.3
+    longest (suc m) k = chain_from_cited m k.0 k.1 k.2 k.3
 
 pub waves_none : (c : Citing) → AreWaves c 0 []
 waves_none c =
@@ -271,7 +271,7 @@ pub made_more : (c : Citing) (columns rows : List ℕ) (k : ℕ) (first old new 
 made_more c columns rows k first old new row i is bits same here others h = record {
   size = same ∙ h.size;
   kept = λ r b. again r (h.kept r b) (cases_eq r i);
-  made = λ m l. go m l (cases_eq m k);
+  made = λ m l. by_place m l (cases_eq m k);
 }
   where
     fresh : (r : ℕ) → r ≡ i → HasRow c columns new r
@@ -283,9 +283,9 @@ made_more c columns rows k first old new row i is bits same here others h = reco
     again r b (inl e) = fresh r e
     again r b (inr ne) = subst (IsBitRow c columns (theorem_at c r)) (sym (others r ne)) b
 
-    go : (m : ℕ) → m < k + 1 → (m ≡ k) ⊎ (m ≡ k → ⊥) → HasRow c columns new (get_or rows m 0)
-    go m l (inl e) = fresh (get_or rows m 0) (ap (λ x. get_or rows x 0) e ∙ sym is)
-    go m l (inr ne) =
+    by_place : (m : ℕ) → m < k + 1 → (m ≡ k) ⊎ (m ≡ k → ⊥) → HasRow c columns new (get_or rows m 0)
+    by_place m l (inl e) = fresh (get_or rows m 0) (ap (λ x. get_or rows x 0) e ∙ sym is)
+    by_place m l (inr ne) =
         again (get_or rows m 0) (h.made m (omega arith)) (cases_eq (get_or rows m 0) i)
 
 -- a row that could be made can still be made
@@ -345,11 +345,11 @@ pub made_wave : (c : Citing) (columns rows part : List ℕ) (from to : ℕ) (old
     → from ≤ to
     → AreMade c columns part (length part) old new → MadeTo c columns rows to new
 made_wave c columns rows part from to old new h within is order m =
-    record { size = m.size ∙ h.size; within = within; made = λ p l. go p l (cases_lt p from) }
+    record { size = m.size ∙ h.size; within = within; made = λ p l. by_place p l (cases_lt p from) }
   where
-    go : (p : ℕ) → p < to → (p < from) ⊎ (from ≤ p) → HasRow c columns new (get_or rows p 0)
-    go p l (inl b) = m.kept (get_or rows p 0) (h.made p b)
-    go p l (inr b) =
+    by_place : (p : ℕ) → p < to → (p < from) ⊎ (from ≤ p) → HasRow c columns new (get_or rows p 0)
+    by_place p l (inl b) = m.kept (get_or rows p 0) (h.made p b)
+    by_place p l (inr b) =
         let long : length part ≡ to - from =
         ap (λ xs. length xs) is ∙ part_length rows from to within in
         let e : from + (p - from) ≡ p = omega (arith, b) in
@@ -379,15 +379,15 @@ pub pairs_next : (waves : List ℕ) (ps more : List (ℕ × ℕ)) (i : ℕ) → 
 pairs_next waves ps more i l h e = (
   omega (arith, l),
   ap length e ∙ length-append ps ((get_or waves i 0, i) ∷ []) ∙ ap (λ n. n + 1) h.1,
-  λ p m. ap (λ qs. get_or qs p (0, 0)) e ∙ by p m (cases_lt p i),
+  λ p m. ap (λ qs. get_or qs p (0, 0)) e ∙ by_row p m (cases_lt p i),
 )
   where
-    by : (p : ℕ) → p < i + 1 → (p < i) ⊎ (i ≤ p)
+    by_row : (p : ℕ) → p < i + 1 → (p < i) ⊎ (i ≤ p)
         → get_or (ps ++ (get_or waves i 0, i) ∷ []) p (0, 0) ≡ (get_or waves p 0, p)
-    by p m (inl k) =
+    by_row p m (inl k) =
         let n = h.1 in
         get_or_append_left ps ((get_or waves i 0, i) ∷ []) (0, 0) p (omega (arith, k, n)) ∙ h.2 p k
-    by p m (inr k) =
+    by_row p m (inr k) =
         let q : i ≡ p = omega (arith, m, k) in
         ap (λ j. get_or (ps ++ (get_or waves i 0, i) ∷ []) j (0, 0)) (sym (h.1 ∙ q))
         ∙ get_or-append_seam ps (get_or waves i 0, i) [] (0, 0)

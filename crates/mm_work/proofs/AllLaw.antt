@@ -33,11 +33,11 @@ module _ {A : Type 0} (job : Job A) (seat : SeatValue) (fs : List (Findings A))
   -- the floor is a theorem with a fault, where it is no theorem's end
   pub faulty_at : (first : ℕ) → IsLeastReported job.board.now.count (seat.view ∷ []) first
       → first < job.board.now.count → IsFoundFaulty fs first
-  faulty_at first least l = by least.is
+  faulty_at first least l = by_floor least.is_count_or_reported
     where
-      by : (first ≡ job.board.now.count) ⊎ (0 < times_reported (seat.view ∷ []) first)
+      by_floor : (first ≡ job.board.now.count) ⊎ (0 < times_reported (seat.view ∷ []) first)
           → IsFoundFaulty fs first
-      by (inl e) = absurd (omega (arith, e, l))
-      by (inr p) =
+      by_floor (inl e) = absurd (omega (arith, e, l))
+      by_floor (inr p) =
           let own : times_reported (seat.view ∷ []) first
           ≡ times_in first seat.view.reported + 0 = refl in h.reported first (omega (arith, p, own))

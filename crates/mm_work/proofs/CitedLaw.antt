@@ -22,23 +22,23 @@ use Rattle.mm_work.specs.Judged.{IsCited, AreCitedUpTo, Shows}
 member_place : (xs : List ℕ) (x : ℕ) → is_member xs x ≡ true
     → (i : ℕ) × (i < length xs) × (get_or xs i 0 ≡ x)
 member_place [] x m = absurd (true≢false (sym m))
-member_place (y ∷ xs) x m = by (or_cases (x == y) (is_member xs x) m) (member_place xs x)
+member_place (y ∷ xs) x m = by_head (or_cases (x == y) (is_member xs x) m) (member_place xs x)
   where
-    by : ((x == y) ≡ true) ⊎ (is_member xs x ≡ true)
+    by_head : ((x == y) ≡ true) ⊎ (is_member xs x ≡ true)
         → (is_member xs x ≡ true → (i : ℕ) × (i < length xs) × (get_or xs i 0 ≡ x))
         → (i : ℕ) × (i < suc (length xs)) × (get_or (y ∷ xs) i 0 ≡ x)
-    by (inl e) r = (0, omega arith, sym (eqb-true x y e))
-    by (inr h) r = let k = r h in (suc k.0, (let l = k.1 in omega (arith, l)), k.2)
+    by_head (inl e) r = (0, omega arith, sym (eqb-true x y e))
+    by_head (inr h) r = let k = r h in (suc k.0, (let l = k.1 in omega (arith, l)), k.2)
 
 in_range : (n a x : ℕ) → a ≤ x → x < a + n → is_member (range_with_len a n) x ≡ true
 in_range zero a x l h = absurd (omega arith)
 in_range (suc n) a x l h =
-    by (cases_lt a x) (λ k. in_range n (a + 1) x (omega (arith, k)) (omega arith))
+    by_start (cases_lt a x) (λ k. in_range n (a + 1) x (omega (arith, k)) (omega arith))
   where
-    by : (a < x) ⊎ (x ≤ a) → (a < x → is_member (range_with_len (a + 1) n) x ≡ true)
+    by_start : (a < x) ⊎ (x ≤ a) → (a < x → is_member (range_with_len (a + 1) n) x ≡ true)
         → is_member (range_with_len a (suc n)) x ≡ true
-    by (inl k) r = or_right (x == a) (is_member (range_with_len (a + 1) n) x) (r k)
-    by (inr k) r =
+    by_start (inl k) r = or_right (x == a) (is_member (range_with_len (a + 1) n) x) (r k)
+    by_start (inr k) r =
         or_left (x == a) (is_member (range_with_len (a + 1) n) x) (eq-eqb x a (omega arith))
 
 -- a theorem stands in the list of theorems
@@ -66,16 +66,17 @@ module _ (db : List Statement) (few : length db < 2 ^ 31) (complete : AreComplet
       → i < length (theorems db) → AreValid db (get_or (theorems db) i 0)
   valid_before i h l j k th =
       let p = theorem_place db j th in
-      by p.0 p.1 p.2 (cases_lt p.0 i)
+      by_index p.0 p.1 p.2 (cases_lt p.0 i)
     where
-      by : (n : ℕ) → n < length (theorems db) → get_or (theorems db) n 0 ≡ j → (n < i) ⊎ (i ≤ n)
+      by_index : (n : ℕ) → n < length (theorems db) → get_or (theorems db) n 0 ≡ j
+          → (n < i) ⊎ (i ≤ n)
           → IsValid db j
-      by n m e (inl s) = subst (λ t. IsValid db t) e (h n s)
-      by n m e (inr s) = absurd (go (cases_lt i n))
+      by_index n m e (inl s) = subst (λ t. IsValid db t) e (h n s)
+      by_index n m e (inr s) = absurd (not_later (cases_lt i n))
         where
-          go : (i < n) ⊎ (n ≤ i) → ⊥
-          go (inl q) = let r = theorems_rise.rises i n q m in omega (arith, r, e, k)
-          go (inr q) =
+          not_later : (i < n) ⊎ (n ≤ i) → ⊥
+          not_later (inl q) = let r = theorems_rise.rises i n q m in omega (arith, r, e, k)
+          not_later (inr q) =
               let same : get_or (theorems db) n 0
               ≡ get_or (theorems db) i 0 = ap (λ x. get_or (theorems db) x 0)
               (let o : n ≡ i = omega (arith, s, q) in o) in

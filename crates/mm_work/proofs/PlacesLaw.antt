@@ -60,12 +60,12 @@ module _ (first old : List WorkerPlace) (worker : ℕ) (valid : List ℕ) (k x :
 
   pub noted_more : ((q : ℕ) → q < k → IsNoted old worker valid (get_or valid q 0)) → (q : ℕ)
       → q < k + 1 → IsNoted new worker valid (get_or valid q 0)
-  noted_more h q l = by (cases_eq (get_or valid q 0) x)
+  noted_more h q l = by_index (cases_eq (get_or valid q 0) x)
     where
-      by : (get_or valid q 0 ≡ x) ⊎ (get_or valid q 0 ≡ x → ⊥)
+      by_index : (get_or valid q 0 ≡ x) ⊎ (get_or valid q 0 ≡ x → ⊥)
           → IsNoted new worker valid (get_or valid q 0)
-      by (inl e) = subst (λ i. IsNoted new worker valid i) (sym e) here
-      by (inr n) = before (cases_lt q k)
+      by_index (inl e) = subst (λ i. IsNoted new worker valid i) (sym e) here
+      by_index (inr n) = before (cases_lt q k)
         where
           before : (q < k) ⊎ (k ≤ q) → IsNoted new worker valid (get_or valid q 0)
           before (inl b) =
@@ -76,12 +76,12 @@ module _ (first old : List WorkerPlace) (worker : ℕ) (valid : List ℕ) (k x :
 
   pub others_more : ((i : ℕ) → IsNoted old worker valid i ⊎ (slice_get old i ≡ slice_get first i))
       → (i : ℕ) → IsNoted new worker valid i ⊎ (slice_get new i ≡ slice_get first i)
-  others_more h i = by (cases_eq i x)
+  others_more h i = by_index (cases_eq i x)
     where
-      by : (i ≡ x) ⊎ (i ≡ x → ⊥)
+      by_index : (i ≡ x) ⊎ (i ≡ x → ⊥)
           → IsNoted new worker valid i ⊎ (slice_get new i ≡ slice_get first i)
-      by (inl e) = inl (subst (λ j. IsNoted new worker valid j) (sym e) here)
-      by (inr n) = before (h i)
+      by_index (inl e) = inl (subst (λ j. IsNoted new worker valid j) (sym e) here)
+      by_index (inr n) = before (h i)
         where
           before : IsNoted old worker valid i ⊎ (slice_get old i ≡ slice_get first i)
               → IsNoted new worker valid i ⊎ (slice_get new i ≡ slice_get first i)
@@ -98,13 +98,13 @@ module _ {A : Type 0} (fs : List (Findings A)) where
       → HasPlace old fs i)
       → (v : ℕ) (f : Findings A) (i : ℕ) → v < w + 1 → slice_get fs v ≡ Some f
       → Contains f.valid.items i → HasPlace new fs i
-  has_more old new w one is noted others h v f i l e m = by (cases_lt v w)
+  has_more old new w one is noted others h v f i l e m = by_worker (cases_lt v w)
     where
       own : IsNoted new w one.valid.items i → HasPlace new fs i
       own n = record { worker = w; found = one; found_is = is; noted = n }
 
-      by : (v < w) ⊎ (w ≤ v) → HasPlace new fs i
-      by (inl b) = keep (h v f i b e m) (others i)
+      by_worker : (v < w) ⊎ (w ≤ v) → HasPlace new fs i
+      by_worker (inl b) = keep (h v f i b e m) (others i)
         where
           keep : HasPlace old fs i
               → IsNoted new w one.valid.items i ⊎ (slice_get new i ≡ slice_get old i)
@@ -117,7 +117,7 @@ module _ {A : Type 0} (fs : List (Findings A)) where
                 found_is = o.found_is;
                 noted = same_noted old new o.worker o.found.valid.items i s o.noted;
               }
-      by (inr b) =
+      by_worker (inr b) =
           let same : v ≡ w = omega arith in
           let found : f ≡ one =
           sym (get_or_from_slice_get fs v f one e) ∙ ap (λ n. get_or fs n one) same

@@ -20,16 +20,16 @@ pub cited_more : (db : List Statement) (by_essential : Bool) (ts : List ℕ) (n 
     → AreCitedUpTo db by_essential ts (n + 1) (lists ++ cites ∷ [])
 cited_more db by_essential ts n lists cites h one = record {
   count = (let l = length-append lists (cites ∷ []) in let c = h.count in omega (arith, l, c));
-  each = λ i l. by i (cases_lt i n) l;
+  each = λ i l. by_index i (cases_lt i n) l;
 }
   where
-    by : (i : ℕ) → (i < n) ⊎ (n ≤ i) → i < n + 1
+    by_index : (i : ℕ) → (i < n) ⊎ (n ≤ i) → i < n + 1
         → IsCited db by_essential (get_or ts i 0) (get_or (lists ++ cites ∷ []) i [])
-    by i (inl l) m =
+    by_index i (inl l) m =
         let c = h.count in
         subst (λ ys. IsCited db by_essential (get_or ts i 0) ys)
         (sym (get_or_append_left lists (cites ∷ []) [] i (omega (arith, l, c)))) (h.each i l)
-    by i (inr l) m =
+    by_index i (inr l) m =
         let same : i ≡ n = omega (arith, l, m) in
         let last : get_or (lists ++ cites ∷ []) n [] ≡ cites =
         get_or-append_right lists (cites ∷ []) n n [] h.count (omega arith)

@@ -17,7 +17,7 @@ use Rattle.mm_board.specs.Records.{times_in, times_open, times_recorded}
 use Rattle.mm_board.specs.Events.{after_join, after_look, after_report, after_settle, open_list}
 use Rattle.mm_board.specs.Events.{open_after_look}
 use Rattle.mm_board.specs.Models.{SeatValue, IsSeatOf}
-use Rattle.mm_board.proofs.SumsLaw.{times_in_append, times_same, times_own}
+use Rattle.mm_board.proofs.SumsLaw.{times_in_append, counted_is_equal, equal_is_counted}
 use Rattle.mm_work.specs.Judged.{IsCited}
 use Rattle.mm_work.specs.Workers.{theorem_of, AreFindings, FindsValid, FindsFault, Tells, HasDrawn}
 use Rattle.mm_work.specs.Workers.{IsBetweenTheorems, IsDone, AreGathered, IsFoundValid}
@@ -31,24 +31,25 @@ use Rattle.mm_work.specs.declared.worker.Worked.{Worked}
 -- a number of two lists is one of either
 times_both : (x : ℕ) (l m : List ℕ) → 0 < times_in x (l ++ m)
     → (0 < times_in x l) ⊎ (0 < times_in x m)
-times_both x l m p = go (cases_lt 0 (times_in x l))
+times_both x l m p = by_first_list (cases_lt 0 (times_in x l))
   where
-    go : (0 < times_in x l) ⊎ (times_in x l ≤ 0) → (0 < times_in x l) ⊎ (0 < times_in x m)
-    go (inl h) = inl h
-    go (inr h) = let a = times_in_append x l m in inr (omega arith)
+    by_first_list : (0 < times_in x l) ⊎ (times_in x l ≤ 0) → (0 < times_in x l)
+        ⊎ (0 < times_in x m)
+    by_first_list (inl h) = inl h
+    by_first_list (inr h) = let a = times_in_append x l m in inr (omega arith)
 
 -- a number that stands in a list is an element of it
 times_contains : (x : ℕ) (l : List ℕ) → 0 < times_in x l → Contains l x
 times_contains x [] p = absurd (omega arith)
-times_contains x (y ∷ l) p = go (cases_lt 0 (times_in x l)) (times_contains x l)
+times_contains x (y ∷ l) p = by_tail (cases_lt 0 (times_in x l)) (times_contains x l)
   where
-    go : (0 < times_in x l) ⊎ (times_in x l ≤ 0) → (0 < times_in x l → Contains l x)
+    by_tail : (0 < times_in x l) ⊎ (times_in x l ≤ 0) → (0 < times_in x l → Contains l x)
         → Contains (y ∷ l) x
-    go (inl h) r = let k = r h in (suc k.0, (let b = k.1 in omega (arith, b)), k.2)
-    go (inr h) r = (
+    by_tail (inl h) r = let k = r h in (suc k.0, (let b = k.1 in omega (arith, b)), k.2)
+    by_tail (inr h) r = (
       0,
       omega arith,
-      times_same x y
+      counted_is_equal x y
           (let one : times_in x (y ∷ l) ≡ cond (y == x) 1 0 + times_in x l = refl in omega arith),
     )
 
@@ -67,22 +68,22 @@ module _ {A : Type 0} (db : List Statement) (by_essential : Bool) where
         (All-push (λ j. j < length (theorems db)) f.valid.items i h.known l);
     each =
         λ k m. rw (v, c)
-        (by k (subst (λ n. k < n) (ap length v ∙ length-append f.valid.items (i ∷ [])) m)
+        (by_index k (subst (λ n. k < n) (ap length v ∙ length-append f.valid.items (i ∷ [])) m)
         (cases_lt k (length f.valid.items)));
     faulty = subst (λ (o : Option IndexedFault). IsFaultFound db o) (sym e) h.faulty;
   }
     where
-      by : (k : ℕ) → k < length f.valid.items + 1
+      by_index : (k : ℕ) → k < length f.valid.items + 1
           → (k < length f.valid.items) ⊎ (length f.valid.items ≤ k)
           → IsCited db by_essential (theorem_of db (get_or (f.valid.items ++ i ∷ []) k 0))
           (get_or (f.cites ++ cites ∷ []) k [])
-      by k m (inl b) =
+      by_index k m (inl b) =
           rw (
             get_or_append_left f.valid.items (i ∷ []) 0 k b,
             get_or_append_left f.cites
                 (cites ∷ []) [] k (let n = h.count in omega (arith, n, b)),
           ) (h.each k b)
-      by k m (inr b) =
+      by_index k m (inr b) =
           let n = h.count in
           let z : k - length f.valid.items ≡ 0 = omega (arith, m, b) in
           let y : k - length f.cites ≡ 0 = omega (arith, m, b, n) in
@@ -289,7 +290,7 @@ module _ {A : Type 0} (job : Job A) where
               open_now ∙ ap (λ b. cond b None (Some i)) (lt-ltb f i (omega (arith, low, high))) in
               absurd (let no : None ≡ Some i = sym shut ∙ still_open some in cc)
           only y (inr h) =
-              times_same y i
+              counted_is_equal y i
               (let one : times_in y (i ∷ []) ≡ cond (i == y) 1 0 + times_in y [] = refl in
               omega (arith, one, h))
 
@@ -315,14 +316,15 @@ unrecorded_one a b = grind (arith, nat_tests)
 pub unrecorded_less : (n i : ℕ) (v w : View) → ((x : ℕ) → times_recorded x v ≤ times_recorded x w)
     → i < n → times_recorded i v ≡ 0 → 0 < times_recorded i w → unrecorded n w < unrecorded n v
 unrecorded_less zero i v w h l z p = absurd (omega arith)
-unrecorded_less (suc n) i v w h l z p = go (cases_lt i n) (λ b. unrecorded_less n i v w h b z p)
+unrecorded_less (suc n) i v w h l z p =
+    by_number (cases_lt i n) (λ b. unrecorded_less n i v w h b z p)
   where
-    go : (i < n) ⊎ (n ≤ i) → (i < n → unrecorded n w < unrecorded n v)
+    by_number : (i < n) ⊎ (n ≤ i) → (i < n → unrecorded n w < unrecorded n v)
         → unrecorded (suc n) w < unrecorded (suc n) v
-    go (inl b) f =
+    by_number (inl b) f =
         let r = f b in let o = unrecorded_fewer (times_recorded n v) (times_recorded n w) (h n) in
         omega (arith, r, o)
-    go (inr b) f =
+    by_number (inr b) f =
         let e : i ≡ n = omega (arith, l, b) in
         let r = unrecorded_le n v w h in
         let o =
@@ -419,14 +421,15 @@ unrecorded_drawn n i v w u closed is l above kept = unrecorded_less n i v u more
     more x = let k = kept x in let o = at-open x in let e = at-closed x in omega (arith, k, o, e)
 
     unseen : times_recorded i v ≡ 0
-    unseen = by (cases_lt 0 (times_recorded i v))
+    unseen = by_record (cases_lt 0 (times_recorded i v))
       where
-        by : (0 < times_recorded i v) ⊎ (times_recorded i v ≤ 0) → times_recorded i v ≡ 0
-        by (inl p) = absurd (let q = above i p in omega (arith, q))
-        by (inr p) = omega (arith, p)
+        by_record : (0 < times_recorded i v) ⊎ (times_recorded i v ≤ 0) → times_recorded i v ≡ 0
+        by_record (inl p) = absurd (let q = above i p in omega (arith, q))
+        by_record (inr p) = omega (arith, p)
 
     seen : 0 < times_recorded i u
-    seen = let k = kept i in let o = at-open i in let e = times_own i in omega (arith, k, o, e)
+    seen = let k = kept i in let o = at-open i in let e = equal_is_counted i in
+        omega (arith, k, o, e)
 
 -- the parts of a list whose elements all have a property
 pub All_front : {X : Type 0} (P : X → Type 0) (l m : List X) (x : X) → l ≡ m ++ x ∷ [] → All P l

@@ -2,18 +2,20 @@ use Rattle.std.proofs.Common.{[], ◌∷◌, refl, take}
 use Rattle.std.proofs.lemmas.Result.{MatchResult-at_ok, MatchResult-at_err}
 use Rattle.mm_spec.specs.Ends.{reading_limit}
 use Rattle.mm_library.specs.Calls.{Asks, Refuses, citing}
-use Rattle.mm_library.proofs.CallLaw.{asked, refused}
+use Rattle.mm_library.proofs.CallLaw.{ends_if_asked, ends_if_refused}
 use Rattle.mm_library.proofs.in_room.report_and_citations_if_asked.Goals as goal
 
 pub returns-in-Ok-clause-ends : goal.returns-in-Ok-clause-ends
 returns-in-Ok-clause-ends c =
-    λ call answer. asked c.report_and_citations_in_room.result.0 call (λ r. r ∷ citing r ∷ []) c.in-Ok.request
-    (take reading_limit c.args.text.now) (c.report_and_citations_in_room.result.1 ∷ c.report_and_citations_in_room.result.2 ∷ []) c.report_and_citations_in_room.new.out
+    λ call answer. ends_if_asked c.report_and_citations_in_room.result.0 call (λ r. r ∷ citing r
+    ∷ []) c.in-Ok.request
+    (take reading_limit c.args.text.now) (c.report_and_citations_in_room.result.1
+    ∷ c.report_and_citations_in_room.result.2 ∷ []) c.report_and_citations_in_room.new.out
     (MatchResult-at_ok (Asks call) (λ s. Refuses s call) c.in-Ok.request c.in-Ok.is answer)
     c.report_and_citations_in_room.ensures.writes
 
 pub returns-in-Err-clause-ends : goal.returns-in-Err-clause-ends
 returns-in-Err-clause-ends c =
-    λ call answer. refused c.in-Err.status call (λ r. r ∷ citing r ∷ [])
+    λ call answer. ends_if_refused c.in-Err.status call (λ r. r ∷ citing r ∷ [])
     (take reading_limit c.args.text.now) (0 ∷ 0 ∷ []) c.args.out.now
     (MatchResult-at_err (Asks call) (λ s. Refuses s call) c.in-Err.status c.in-Err.is answer) refl

@@ -1,11 +1,12 @@
-use Rattle.std.proofs.Common.{◌≡◌, ◌∙◌, ◌+◌, ap, List, ℕ, [], ◌∷◌, ◌-◌, length, rules, subst, sym, arith}
+use Rattle.std.proofs.Common.{◌≡◌, ◌∙◌, ◌+◌, ap, List, ℕ, [], ◌∷◌, ◌-◌, length, rules, subst, sym}
+use Rattle.std.proofs.Common.{arith}
 use Rattle.std.proofs.lemmas.List.{length-append}
 use Rattle.mm_spec.specs.Output.{IsOutput}
 use Rattle.mm_spec.specs.Request.{Request}
 use Rattle.mm_run.specs.Counted.{IsJudgedText}
-use Rattle.mm_library.specs.Calls.{Writes, citing}
+use Rattle.mm_library.specs.Calls.{WritingEnds, citing}
 use Rattle.mm_library.specs.declared.status.Status.{Status}
-use Rattle.mm_library.proofs.CallLaw.{ended, two_outputs}
+use Rattle.mm_library.proofs.CallLaw.{writing_ends, two_outputs}
 use Rattle.mm_library.proofs.report.write_report_and_citations.Goals as goal
 
 pub write_output-requires-2 : goal.write_output-requires-2
@@ -17,25 +18,25 @@ write_output-requires-2 g c =
           c.args.judged.now) (sym c.citing.ensures) c.requires.judged;
     }
 
-pub returns-in-Some-write_output : goal.returns-in-Some-write_output
-returns-in-Some-write_output g c =
+pub returns-in-Ok-write_output : goal.returns-in-Ok-write_output
+returns-in-Ok-write_output g c =
     let request = c.args.request.now in
     let text = c.args.text.now in
     let first = c.write_output.new.to in
     let to = c.write_output-2.new.to in
     let requests : List Request = request ∷ citing request ∷ [] in
     let lengths : List ℕ = first.len ∷ (to.len - first.len) ∷ [] in
-    let wrote = c.in-Some.ensures.wrote in
-    let more = c.in-Some-write_output.ensures.wrote.1 in
-    let long : length to.seen.bytes ≡ length first.seen.bytes + length more.0 =
-    ap length more.2 ∙ length-append first.seen.bytes more.0 in
+    let wrote = c.in-Ok.ensures.wrote in
+    let more = c.in-Ok-write_output.ensures.wrote.1 in
+    let long : length to.written.bytes ≡ length first.written.bytes + length more.0 =
+    ap length more.2 ∙ length-append first.written.bytes more.0 in
     let ends : Status → List ℕ → Type 0 =
-    λ s out. Writes s request.with_open requests text lengths out in
+    λ s out. WritingEnds s request.with_open requests text lengths out in
     subst (λ (out : List ℕ). ends c.status.result out) {x = to.out.now} (search rules)
     (subst (λ (s : Status). ends s to.out.now) (sym c.status.ensures)
-    (ended c.in-Some.verdict request.with_open requests text lengths to.out.now to.len wrote.0
-    (two_outputs request (citing request) text to.out.now wrote.1.0 more.0 first.seen.bytes
-    to.seen.bytes first.len to.len wrote.1.1
+    (writing_ends c.in-Ok.verdict request.with_open requests text lengths to.out.now to.len wrote.0
+    (two_outputs request (citing request) text to.out.now wrote.1.0 more.0 first.written.bytes
+    to.written.bytes first.len to.len wrote.1.1
     (subst (λ (r : Request). IsOutput text r more.0) c.citing.ensures more.1)
     (search rules) more.2 first.counted to.counted to.placed)
     (let a = first.counted in let b = to.counted in omega (arith, long, a, b))))

@@ -47,7 +47,8 @@ returns-then-first-count g c =
     let f = c.if-share-lt-MOST_SEATS.false in omega (arith, s, r, f) in
     let same = ap (λ (ts : List ℕ). length ts) c.theorems-count.ensures.theorems in
     let l = c.if-first-count.true in
-    first_fault db c.theorems-count.ensures.few c.theorems-count.ensures.complete c.close-first.result.0
+    first_fault db c.theorems-count.ensures.few c.theorems-count.ensures.complete
+    c.close-first.result.0
     c.found_fault.result
     (valid_below _ c.in_ok-gathered.gathered.seat c.in_ok-gathered.gathered.found.items h
     c.close-first.result.0 (c.close-first.ensures.finished all h.over h.closed))

@@ -27,11 +27,11 @@ none_more : {A : Type 0} (fs : List (Findings A)) (n index : ℕ) (f : Findings 
     → faulty_index (get_or fs k d).faulty ≡ Some index → ⊥)
     → (k : ℕ) (d : Findings A) → 0 ≤ k → k < n + 1
     → faulty_index (get_or fs k d).faulty ≡ Some index → ⊥
-none_more fs n index f is within other before k d low less = by (cases_lt k n)
+none_more fs n index f is within other before k d low less = by_index (cases_lt k n)
   where
-    by : (k < n) ⊎ (n ≤ k) → faulty_index (get_or fs k d).faulty ≡ Some index → ⊥
-    by (inl l) = before k d low l
-    by (inr l) =
+    by_index : (k < n) ⊎ (n ≤ k) → faulty_index (get_or fs k d).faulty ≡ Some index → ⊥
+    by_index (inl l) = before k d low l
+    by_index (inr l) =
         let same : k ≡ n = omega (arith, l, less) in
         let one : get_or fs k d ≡ f =
         ap (λ i. get_or fs i d) same ∙ get_or_default fs n d f within ∙ sym is in

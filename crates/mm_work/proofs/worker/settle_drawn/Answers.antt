@@ -4,15 +4,15 @@ use Rattle.mm_board.specs.declared.views.View.{View}
 use Rattle.mm_work.proofs.WorkersLaw.{skipped, still_open, settled, reported}
 use Rattle.mm_work.proofs.worker.settle_drawn.Goals as goal
 
-pub settle-requires-clause-held : goal.settle-requires-clause-held
-settle-requires-clause-held g c =
+pub settle-requires-clause-is_open : goal.settle-requires-clause-is_open
+settle-requires-clause-is_open g c =
     still_open c.args.job.now c.args.index c.args.worked.now c.requires.drawn c.look.new.seat
     c.look.result c.look.ensures.event.1
     (ap (λ (o : Option ℕ). is_some o) (sym c.held.ensures) ∙ c.is_none.ensures
     ∙ ap (λ (b : Bool). not b) c.if-is_none.false)
 
-pub report-requires-clause-held : goal.report-requires-clause-held
-report-requires-clause-held g c =
+pub report-requires-clause-is_open : goal.report-requires-clause-is_open
+report-requires-clause-is_open g c =
     still_open c.args.job.now c.args.index c.args.worked.now c.requires.drawn c.look.new.seat
     c.look.result c.look.ensures.event.1
     (ap (λ (o : Option ℕ). is_some o) (sym c.held.ensures) ∙ c.is_none.ensures
@@ -44,7 +44,8 @@ returns-then-check-clause-over g c =
     ∙ ap (λ (v : View). v.over) c.look.ensures.event.1
 
 pub returns-then-check-clause-kept : goal.returns-then-check-clause-kept
-returns-then-check-clause-kept g c = λ i. c.settle.ensures.kept i ∙ c.look.ensures.kept i
+returns-then-check-clause-kept g c = λ i. c.settle.ensures.same_record i
+    ∙ c.look.ensures.same_record i
 
 pub returns-else-check-clause-between : goal.returns-else-check-clause-between
 returns-else-check-clause-between g c =
@@ -53,7 +54,8 @@ returns-else-check-clause-between g c =
     c.check.new.found
     (ap (λ (o : Option ℕ). is_some o) (sym c.held.ensures) ∙ c.is_none.ensures
     ∙ ap (λ (b : Bool). not b) c.if-is_none.false)
-    c.report.ensures.home c.check.ensures.short c.report.ensures.event.2 c.look.ensures.own
+    c.report.ensures.home c.check.ensures.short c.report.ensures.event.2
+    c.look.ensures.at_most_reported
     (λ short. c.check.ensures.faulty short c.if-check.false)
 
 pub returns-else-check-clause-over : goal.returns-else-check-clause-over
@@ -62,4 +64,5 @@ returns-else-check-clause-over g c =
     ∙ ap (λ (v : View). v.over) c.look.ensures.event.1
 
 pub returns-else-check-clause-kept : goal.returns-else-check-clause-kept
-returns-else-check-clause-kept g c = λ i. c.report.ensures.kept i ∙ c.look.ensures.kept i
+returns-else-check-clause-kept g c = λ i. c.report.ensures.same_record i
+    ∙ c.look.ensures.same_record i

@@ -7,25 +7,25 @@ use std::marker::Model;
 
 /// Bytes that a proof knows and no memory holds.
 #[derive(Drop)]
-pub(crate) struct Seen {
+pub(crate) struct GhostBytes {
     ghost bytes: { List ℕ },
 }
 
-impl Model for Seen {
+impl Model for GhostBytes {
     ghost use base.Fml.{ftrue};
 
     ghost also_owns = { λ _. ftrue };
 }
 
-impl Seen {
+impl GhostBytes {
     /// No byte.
-    pub(crate) fn none() -> Seen
+    pub(crate) fn none() -> GhostBytes
         ensures { result.bytes ≡ [] }
     {
-        Seen {}
+        GhostBytes {}
     }
 
-    /// The bytes so far, and then these.
+    /// Adds these bytes behind the others.
     pub(crate) fn add(&mut self, _bytes: &[u8])
         ensures { self.new.bytes ≡ self.old.bytes ++ _bytes.now }
     {}

@@ -1,4 +1,4 @@
--- A `Seen` as it lies in memory: a struct of no field. Assumes `Logic`.
+-- A `GhostBytes` as it lies in memory: a struct of no field. Assumes `Logic`.
 use Rattle.std.proofs.Common.{[], ◌∷◌, refl}
 use mir.Val.{vstruct, vnil}
 use seplogic.Ra.Ura.{Ura}

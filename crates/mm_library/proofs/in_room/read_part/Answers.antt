@@ -1,7 +1,7 @@
 use Rattle.std.proofs.Common.{◌∙◌, ℕ, ap, take}
 use Rattle.std.proofs.lemmas.List.{take_min}
 use Rattle.mm_spec.specs.Ends.{reading_limit}
-use Rattle.mm_library.proofs.in_room.read.Goals as goal
+use Rattle.mm_library.proofs.in_room.read_part.Goals as goal
 
 pub returns-clause-value : goal.returns-clause-value
 returns-clause-value c =
