@@ -12,11 +12,11 @@ use Rattle.std.proofs.lemmas.Simd.{length-replicate}
 use Rattle.std.proofs.Math.Nat.{mul_comm}
 use Rattle.std.specs.Int.{bit_at}
 use Rattle.std.proofs.lemmas.Bool.{false_from_ne_true}
-use Rattle.mm_rows.specs.Bits.{is_bit, words_for, spot, AreTransposed}
+use Rattle.mm_rows.specs.Bits.{is_bit, words_for, bit_index, AreTransposed}
 use Rattle.mm_rows.specs.BitRows.{row_at}
-use Rattle.mm_rows.specs.Bands.{in_row, IsColumnWord, AreRowBytes, Written}
+use Rattle.mm_rows.specs.Bands.{bit_in_rows, IsColumnWord, AreRowBytes, Written}
 use Rattle.mm_rows.proofs.BitLaw.{or_bits}
-use Rattle.mm_rows.proofs.TransposeLaw.{spot_word, spot_bit, row_bit, row_length}
+use Rattle.mm_rows.proofs.TransposeLaw.{bit_index_word, bit_index_bit, row_bit, row_length}
 use lib.Lanes.{zip2, mask_l}
 use Rattle.mm_spec.proofs.BitLaw.{shifted}
 
@@ -57,21 +57,21 @@ lane_bit v n m b k long e lt =
     ∙ bit_of_pow (get_or v k 0) b
 
 -- a row of the table, and none past it
-pub in_row_within : (rows across : ℕ) (bits : List ℕ) (i j : ℕ) → i < rows
-    → in_row rows across bits i j ≡ is_bit bits (spot across i j)
-in_row_within rows across bits i j lt =
-    ap (λ b. b && is_bit bits (spot across i j)) (lt-ltb i rows lt)
+pub bit_in_rows_within : (rows across : ℕ) (bits : List ℕ) (i j : ℕ) → i < rows
+    → bit_in_rows rows across bits i j ≡ is_bit bits (bit_index across i j)
+bit_in_rows_within rows across bits i j lt =
+    ap (λ b. b && is_bit bits (bit_index across i j)) (lt-ltb i rows lt)
 
-pub in_row_past : (rows across : ℕ) (bits : List ℕ) (i j : ℕ) → rows ≤ i
-    → in_row rows across bits i j ≡ false
-in_row_past rows across bits i j le =
-    ap (λ b. b && is_bit bits (spot across i j)) (le-ltb i rows le)
+pub bit_in_rows_past : (rows across : ℕ) (bits : List ℕ) (i j : ℕ) → rows ≤ i
+    → bit_in_rows rows across bits i j ≡ false
+bit_in_rows_past rows across bits i j le =
+    ap (λ b. b && is_bit bits (bit_index across i j)) (le-ltb i rows le)
 
 -- the columns of the rows from first up to n are marked
 abbrev pub AreMarked : ℕ → List ℕ → List ℕ → ℕ → ℕ → Type 0
-AreMarked across bits any first n =
-    (i j : ℕ) → first ≤ i → i < n → j < 64 * across → is_bit bits (spot across i j) ≡ true
-    → is_bit any j ≡ true
+AreMarked across bits has_mark first n =
+    (i j : ℕ) → first ≤ i → i < n → j < 64 * across → is_bit bits (bit_index across i j) ≡ true
+    → is_bit has_mark j ≡ true
 
 either : (a b : Bool) → (a ≡ true) ⊎ (b ≡ true) → (a || b) ≡ true
 either true b h = refl
@@ -88,23 +88,26 @@ marked_more across rows bits old new first n within size width same each h i j l
     (width ∙ sym (row_length bits across n rows within size)) each j
     ∙ either _ _ (by_row (cases_eq i n))
   where
-    by_row : (i ≡ n) ⊎ (i ≡ n → ⊥) → (is_bit old j ≡ true) ⊎ (is_bit (row_at bits across n) j ≡ true)
+    by_row : (i ≡ n) ⊎ (i ≡ n → ⊥) → (is_bit old j ≡ true)
+        ⊎ (is_bit (row_at bits across n) j ≡ true)
     by_row (inl e) =
         inr (row_bit bits across n j small
-        ∙ subst (λ x. is_bit bits (spot across x j) ≡ true) e one)
+        ∙ subst (λ x. is_bit bits (bit_index across x j) ≡ true) e one)
     by_row (inr ne) = inl (h i j le (omega arith) small one)
 
-pub all_marked : (across rows : ℕ) (bits any : List ℕ) (w end : ℕ) → min (64 * w + 64) rows ≤ end
-    → AreMarked across bits any (64 * w) end → (k j : ℕ) → k < 64 → j < 64 * across
-    → in_row rows across bits (64 * w + k) j ≡ true → is_bit any j ≡ true
-all_marked across rows bits any w end le h k j lt small one = by_row_count (cases_lt (64 * w + k) rows)
+pub all_marked : (across rows : ℕ) (bits has_mark : List ℕ) (w end : ℕ)
+    → min (64 * w + 64) rows ≤ end
+    → AreMarked across bits has_mark (64 * w) end → (k j : ℕ) → k < 64 → j < 64 * across
+    → bit_in_rows rows across bits (64 * w + k) j ≡ true → is_bit has_mark j ≡ true
+all_marked across rows bits has_mark w end le h k j lt small one =
+    by_row_count (cases_lt (64 * w + k) rows)
   where
-    by_row_count : (64 * w + k < rows) ⊎ (rows ≤ 64 * w + k) → is_bit any j ≡ true
+    by_row_count : (64 * w + k < rows) ⊎ (rows ≤ 64 * w + k) → is_bit has_mark j ≡ true
     by_row_count (inl l) =
         h (64 * w + k) j (omega arith) (omega arith) small
-        (sym (in_row_within rows across bits (64 * w + k) j l) ∙ one)
+        (sym (bit_in_rows_within rows across bits (64 * w + k) j l) ∙ one)
     by_row_count (inr g) =
-        let no = in_row_past rows across bits (64 * w + k) j g in
+        let no = bit_in_rows_past rows across bits (64 * w + k) j g in
         absurd (let e : true ≡ false = sym one ∙ no in cc)
 
 -- a bit of a byte of a word
@@ -118,22 +121,23 @@ byte_bit n s b lt =
 -- bit b of byte at of a row
 pub row_byte : (bits : List ℕ) (across i at b : ℕ) → b < 8
     → eqb (bit_at (bit_and (get_or bits (i * across + at / 8) 0 / 2 ^ (8 * (at % 8))) 255) b) 1
-    ≡ is_bit bits (spot across i (8 * at + b))
+    ≡ is_bit bits (bit_index across i (8 * at + b))
 row_byte bits across i at b lt =
     let q : (8 * at + b) / 64 ≡ at / 8 = omega arith in
     let r : (8 * at + b) % 64 ≡ 8 * (at % 8) + b = omega arith in
     ap (λ x. eqb x 1) (byte_bit (get_or bits (i * across + at / 8) 0) (8 * (at % 8)) b lt)
     ∙ sym (ap₂ (λ x y. eqb (bit_at (get_or bits x 0) y) 1)
-    (spot_word across i (8 * at + b) ∙ ap (λ x. i * across + x) q)
-    (spot_bit across i (8 * at + b) ∙ r))
+    (bit_index_word across i (8 * at + b) ∙ ap (λ x. i * across + x) q)
+    (bit_index_bit across i (8 * at + b) ∙ r))
 
 -- the bytes of the first n of the rows from first on are there
 pub record BytesTo (across : ℕ) (bits : List ℕ) (at : ℕ) (bytes : List ℕ)
     (first n : ℕ) : Type 0 where
   pub size : length bytes ≡ 64
-  pub done : (k b : ℕ) → k < n → b < 8
-      → eqb (bit_at (get_or bytes k 0) b) 1 ≡ is_bit bits (spot across (first + k) (8 * at + b))
-  pub left : (k : ℕ) → n ≤ k → k < 64 → get_or bytes k 0 ≡ 0
+  pub written_below : (k b : ℕ) → k < n → b < 8
+      → eqb (bit_at (get_or bytes k 0) b) 1
+      ≡ is_bit bits (bit_index across (first + k) (8 * at + b))
+  pub zero_from : (k : ℕ) → n ≤ k → k < 64 → get_or bytes k 0 ≡ 0
 
 pub bytes_none : (across : ℕ) (bits : List ℕ) (at first : ℕ)
     → BytesTo across bits at (replicate 64 0) first 0
@@ -141,8 +145,8 @@ bytes_none across bits at first =
     let none : ℕ = 0 in
     record {
       size = length-replicate 64 none;
-      done = λ k b less small. absurd (omega arith);
-      left = λ k le lt. get_or-replicate 64 k none none lt;
+      written_below = λ k b less small. absurd (omega arith);
+      zero_from = λ k le lt. get_or-replicate 64 k none none lt;
     }
 
 pub bytes_more : (across : ℕ) (bits : List ℕ) (at : ℕ) (bytes : List ℕ) (first n : ℕ) → n < 64
@@ -153,10 +157,10 @@ pub bytes_more : (across : ℕ) (bits : List ℕ) (at : ℕ) (bytes : List ℕ) 
     + 1)
 bytes_more across bits at bytes first n within h = record {
   size = length-set bytes n byte ∙ h.size;
-  done = λ k b less small. by_row k b less small (cases_eq k n);
-  left =
+  written_below = λ k b less small. by_row k b less small (cases_eq k n);
+  zero_from =
       λ k le lt. let ne : k ≡ n → ⊥ = λ e. omega arith in
-      get_or-set_other bytes n k byte 0 ne ∙ h.left k (omega arith) lt;
+      get_or-set_other bytes n k byte 0 ne ∙ h.zero_from k (omega arith) lt;
 }
   where
     byte : ℕ
@@ -164,16 +168,16 @@ bytes_more across bits at bytes first n within h = record {
 
     by_row : (k b : ℕ) → k < n + 1 → b < 8 → (k ≡ n) ⊎ (k ≡ n → ⊥)
         → eqb (bit_at (get_or (set bytes n byte) k 0) b) 1
-        ≡ is_bit bits (spot across (first + k) (8 * at + b))
+        ≡ is_bit bits (bit_index across (first + k) (8 * at + b))
     by_row k b less small (inl e) =
         ap (λ x. eqb (bit_at (get_or (set bytes n byte) x 0) b) 1) e
         ∙ ap (λ x. eqb (bit_at x b) 1)
         (get_or-set_same bytes n byte 0 (let s = h.size in omega (arith, s)))
         ∙ row_byte bits across (first + n) at b small
-        ∙ ap (λ x. is_bit bits (spot across (first + x) (8 * at + b))) (sym e)
+        ∙ ap (λ x. is_bit bits (bit_index across (first + x) (8 * at + b))) (sym e)
     by_row k b less small (inr ne) =
         ap (λ x. eqb (bit_at x b) 1) (get_or-set_other bytes n k byte 0 ne)
-        ∙ h.done k b (omega arith) small
+        ∙ h.written_below k b (omega arith) small
 
 pub all_bytes : (rows across : ℕ) (bits : List ℕ) (w at : ℕ) (bytes : List ℕ) (n : ℕ)
     → min (rows - 64 * w) 64 ≤ n → 64 * w + n ≤ rows → BytesTo across bits at bytes (64 * w) n
@@ -181,13 +185,14 @@ pub all_bytes : (rows across : ℕ) (bits : List ℕ) (w at : ℕ) (bytes : List
 all_bytes rows across bits w at bytes n least most h k b lt small = by_row (cases_lt k n)
   where
     by_row : (k < n) ⊎ (n ≤ k)
-        → eqb (bit_at (get_or bytes k 0) b) 1 ≡ in_row rows across bits (64 * w + k) (8 * at + b)
+        → eqb (bit_at (get_or bytes k 0) b) 1 ≡ bit_in_rows rows across bits
+        (64 * w + k) (8 * at + b)
     by_row (inl l) =
-        h.done k b l small
-        ∙ sym (in_row_within rows across bits (64 * w + k) (8 * at + b) (omega arith))
+        h.written_below k b l small
+        ∙ sym (bit_in_rows_within rows across bits (64 * w + k) (8 * at + b) (omega arith))
     by_row (inr g) =
-        ap (λ x. eqb (bit_at x b) 1) (h.left k g lt) ∙ ap (λ x. eqb x 1) (bit_at-zero b)
-        ∙ sym (in_row_past rows across bits (64 * w + k) (8 * at + b) (omega arith))
+        ap (λ x. eqb (bit_at x b) 1) (h.zero_from k g lt) ∙ ap (λ x. eqb x 1) (bit_at-zero b)
+        ∙ sym (bit_in_rows_past rows across bits (64 * w + k) (8 * at + b) (omega arith))
 
 -- the word of a column whose bits are those of the bytes
 pub lane_is_word : (rows across : ℕ) (bits : List ℕ) (w at : ℕ) (bytes : List ℕ) (j word : ℕ)
@@ -197,11 +202,11 @@ pub lane_is_word : (rows across : ℕ) (bits : List ℕ) (w at : ℕ) (bytes : L
 lane_is_word rows across bits w at bytes j word are lo hi same k lt =
     let is : 8 * at + j % 8 ≡ j = omega arith in
     ap (λ x. eqb x 1) (same k lt) ∙ are k (j % 8) lt (omega arith)
-    ∙ ap (in_row rows across bits (64 * w + k)) is
+    ∙ ap (bit_in_rows rows across bits (64 * w + k)) is
 
 -- a column without a mark in a band
 pub no_mark : (rows across : ℕ) (bits : List ℕ) (w j : ℕ)
-    → ((k : ℕ) → k < 64 → in_row rows across bits (64 * w + k) j ≡ true → ⊥)
+    → ((k : ℕ) → k < 64 → bit_in_rows rows across bits (64 * w + k) j ≡ true → ⊥)
     → IsColumnWord rows across bits w j 0
 no_mark rows across bits w j none k lt =
     ap (λ x. eqb x 1) (bit_at-zero k) ∙ sym (false_from_ne_true _ (none k lt))
@@ -221,12 +226,12 @@ pub written_word : (rows columns : ℕ) (bits transposed : List ℕ) (w j word :
     → Written rows columns bits (set transposed (j * words_for rows + w) word) w (j + 1)
 written_word rows columns bits transposed w j word band small is h = record {
   size = length-set transposed place word ∙ h.size;
-  before =
+  earlier_bands =
       λ l v a b d. subst (IsColumnWord rows (words_for columns) bits v l)
-      (sym (other l v d (λ e f. omega arith))) (h.before l v a b d);
-  done = λ l a b. by_column l a b (cases_eq l j);
-  left = λ l a b d. other l w d (λ e f. omega arith) ∙ h.left l a (omega arith) d;
-  after = λ l v a b d. other l v d (λ e f. omega arith) ∙ h.after l v a b d;
+      (sym (other l v d (λ e f. omega arith))) (h.earlier_bands l v a b d);
+  written_below = λ l a b. by_column l a b (cases_eq l j);
+  zero_from = λ l a b d. other l w d (λ e f. omega arith) ∙ h.zero_from l a (omega arith) d;
+  later_bands = λ l v a b d. other l v d (λ e f. omega arith) ∙ h.later_bands l v a b d;
 }
   where
     place : ℕ
@@ -250,7 +255,7 @@ written_word rows columns bits transposed w j word band small is h = record {
         (word_within columns (words_for rows) j w (length transposed) small band h.size))) is)
     by_column l a b (inr ne) =
         subst (IsColumnWord rows (words_for columns) bits w l) (sym (other l w band (λ e f. ne e)))
-        (h.done l a (omega arith))
+        (h.written_below l a (omega arith))
 
 -- columns without a mark need no word
 pub written_zeros : (rows columns : ℕ) (bits transposed : List ℕ) (w from to : ℕ) → w < words_for
@@ -260,18 +265,18 @@ pub written_zeros : (rows columns : ℕ) (bits transposed : List ℕ) (w from to
     transposed w to
 written_zeros rows columns bits transposed w from to band none le h = record {
   size = h.size;
-  before = h.before;
-  done = λ j a b. by_column j a b (cases_lt j from);
-  left = λ j a b d. h.left j a (omega arith) d;
-  after = h.after;
+  earlier_bands = h.earlier_bands;
+  written_below = λ j a b. by_column j a b (cases_lt j from);
+  zero_from = λ j a b d. h.zero_from j a (omega arith) d;
+  later_bands = h.later_bands;
 }
   where
     by_column : (j : ℕ) → j < columns → j < to → (j < from) ⊎ (from ≤ j)
         → IsColumnWord rows (words_for columns) bits w j
         (get_or transposed (j * words_for rows + w) 0)
-    by_column j a b (inl l) = h.done j a l
+    by_column j a b (inl l) = h.written_below j a l
     by_column j a b (inr g) =
-        subst (IsColumnWord rows (words_for columns) bits w j) (sym (h.left j a g band))
+        subst (IsColumnWord rows (words_for columns) bits w j) (sym (h.zero_from j a g band))
         (none j g b a)
 
 pub written_zero : (rows columns : ℕ) (bits transposed : List ℕ) (w j word : ℕ) → w < words_for rows
@@ -283,23 +288,23 @@ written_zero rows columns bits transposed w j word band is e =
     subst (λ x. IsColumnWord rows (words_for columns) bits w x 0) here
     (subst (IsColumnWord rows (words_for columns) bits w j) e is)) (omega arith)
 
-pub written_skip : (rows columns : ℕ) (bits any transposed : List ℕ) (across w from to : ℕ)
+pub written_skip : (rows columns : ℕ) (bits has_mark transposed : List ℕ) (across w from to : ℕ)
     → across ≡ words_for columns → w < words_for rows
-    → ((k j : ℕ) → k < 64 → j < 64 * across → in_row rows across bits (64 * w + k) j ≡ true
-    → is_bit any j ≡ true)
-    → from ≤ to → ((j : ℕ) → from ≤ j → j < to → is_bit any j ≡ false)
+    → ((k j : ℕ) → k < 64 → j < 64 * across → bit_in_rows rows across bits (64 * w + k) j ≡ true
+    → is_bit has_mark j ≡ true)
+    → from ≤ to → ((j : ℕ) → from ≤ j → j < to → is_bit has_mark j ≡ false)
     → Written rows columns bits transposed w from → Written rows columns bits transposed w to
-written_skip rows columns bits any transposed across w from to width band marked le none =
+written_skip rows columns bits has_mark transposed across w from to width band marked le none =
     written_zeros rows columns bits transposed w from to band
     (λ j a b c. no_mark rows (words_for columns) bits w j (unmarked j a b c)) le
   where
     unmarked : (j : ℕ) → from ≤ j → j < to → j < columns → (k : ℕ) → k < 64
-        → in_row rows (words_for columns) bits (64 * w + k) j ≡ true → ⊥
+        → bit_in_rows rows (words_for columns) bits (64 * w + k) j ≡ true → ⊥
     unmarked j a b c k lt one =
         let no = none j a b in
         let yes =
         marked k j lt (omega (arith, width))
-        (subst (λ x. in_row rows x bits (64 * w + k) j ≡ true) (sym width) one) in
+        (subst (λ x. bit_in_rows rows x bits (64 * w + k) j ≡ true) (sym width) one) in
         let e : true ≡ false = sym yes ∙ no in
         absurd (cc)
 
@@ -308,10 +313,10 @@ pub written_band : (rows columns : ℕ) (bits transposed : List ℕ) (w from : �
     → Written rows columns bits transposed w from → Written rows columns bits transposed (w + 1) 0
 written_band rows columns bits transposed w from le h = record {
   size = h.size;
-  before = λ j v a b d. by_band j v a b d (cases_eq v w);
-  done = λ j a b. absurd (omega arith);
-  left = λ j a b d. h.after j (w + 1) a (omega arith) d;
-  after = λ j v a b d. h.after j v a (omega arith) d;
+  earlier_bands = λ j v a b d. by_band j v a b d (cases_eq v w);
+  written_below = λ j a b. absurd (omega arith);
+  zero_from = λ j a b d. h.later_bands j (w + 1) a (omega arith) d;
+  later_bands = λ j v a b d. h.later_bands j v a (omega arith) d;
 }
   where
     by_band : (j v : ℕ) → j < columns → v < w + 1 → v < words_for rows → (v ≡ w) ⊎ (v ≡ w → ⊥)
@@ -319,26 +324,29 @@ written_band rows columns bits transposed w from le h = record {
         (get_or transposed (j * words_for rows + v) 0)
     by_band j v a b d (inl e) =
         subst (λ x. IsColumnWord rows (words_for columns) bits x j
-        (get_or transposed (j * words_for rows + x) 0)) (sym e) (h.done j a (omega arith))
-    by_band j v a b d (inr ne) = h.before j v a (omega arith) d
+        (get_or transposed (j * words_for rows + x) 0)) (sym e) (h.written_below j a (omega arith))
+    by_band j v a b d (inr ne) = h.earlier_bands j v a (omega arith) d
 
 -- all bands are written
 pub written_all : (rows columns : ℕ) (bits transposed : List ℕ) (w : ℕ) → words_for rows ≤ w
     → Written rows columns bits transposed w 0 → AreTransposed rows columns bits transposed
 written_all rows columns bits transposed w le h = record {
   size = h.size;
-  same = λ i j a b. cell i j (omega arith) b ∙ in_row_within rows (words_for columns) bits i j a;
-  past = λ i j a b d. cell i j (omega arith) d ∙ in_row_past rows (words_for columns) bits i j a;
+  same = λ i j a b. cell i j (omega arith) b
+      ∙ bit_in_rows_within rows (words_for columns) bits i j a;
+  past = λ i j a b d. cell i j (omega arith) d
+      ∙ bit_in_rows_past rows (words_for columns) bits i j a;
 }
   where
     cell : (i j : ℕ) → i / 64 < words_for rows → j < columns
-        → is_bit transposed (spot (words_for rows) j i) ≡ in_row rows (words_for columns) bits i j
+        → is_bit transposed (bit_index (words_for rows) j i)
+        ≡ bit_in_rows rows (words_for columns) bits i j
     cell i j a b =
         let is : 64 * (i / 64) + i % 64 ≡ i = omega arith in
-        ap₂ (λ x y. eqb (bit_at (get_or transposed x 0) y) 1) (spot_word (words_for rows) j i)
-        (spot_bit (words_for rows) j i)
-        ∙ h.before j (i / 64) b (omega arith) a (i % 64) (omega arith)
-        ∙ ap (λ x. in_row rows (words_for columns) bits x j) is
+        ap₂ (λ x y. eqb (bit_at (get_or transposed x 0) y) 1) (bit_index_word (words_for rows) j i)
+        (bit_index_bit (words_for rows) j i)
+        ∙ h.earlier_bands j (i / 64) b (omega arith) a (i % 64) (omega arith)
+        ∙ ap (λ x. bit_in_rows rows (words_for columns) bits x j) is
 
 -- a word of a row is among the words of all rows
 pub word_in_row : (rows across i x n : ℕ) → n ≡ rows * across → i < rows → x < across

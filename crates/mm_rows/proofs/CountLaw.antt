@@ -1,5 +1,6 @@
 -- How many bits of a row are set.
-use Rattle.std.proofs.Common.{◌≡◌, ℕ, zero, suc, Bool, true, false, List, min, ◌⊎◌, inl, inr, ◌<◌, ◌≤◌, ◌+◌}
+use Rattle.std.proofs.Common.{◌≡◌, ℕ, zero, suc, Bool, true, false, List, min, ◌⊎◌, inl, inr, ◌<◌}
+use Rattle.std.proofs.Common.{◌≤◌, ◌+◌}
 use Rattle.std.proofs.Common.{◌*◌, ◌/◌, ◌%◌, ◌-◌, ◌^◌, length, sym, ap, ap₂, refl, arith, get_or}
 use Rattle.std.proofs.Common.{eqb, take, map, sum, cond, count_by, count_ones, ◌∙◌, zero-add}
 use Rattle.std.proofs.lemmas.Bool.{cases_eq}
@@ -12,7 +13,7 @@ use Rattle.std.proofs.lemmas.Nat.Bits.{bit_at-lt}
 use Rattle.std.proofs.Math.Nat.{mod-eq_of_lt}
 use Rattle.std.specs.Int.{bit_at}
 use Rattle.std.specs.List.{range_with_len, sum_by}
-use Rattle.mm_rows.specs.Bits.{is_bit, spot}
+use Rattle.mm_rows.specs.Bits.{is_bit, bit_index}
 use Rattle.mm_rows.specs.BitRows.{row_at}
 use Rattle.mm_rows.proofs.BitLaw.{bit_here}
 use Rattle.mm_rows.proofs.TransposeLaw.{row_bit, row_length}
@@ -133,9 +134,9 @@ all_ones row fits =
 -- the ones of a row of a table are its marks
 pub row_ones : (words : List ℕ) (width i rows n : ℕ) → i < rows → length words ≡ rows * width
     → n ≤ 64 * width
-    → ((j : ℕ) → n ≤ j → j < 64 * width → is_bit words (spot width i j) ≡ false)
+    → ((j : ℕ) → n ≤ j → j < 64 * width → is_bit words (bit_index width i j) ≡ false)
     → tally (is_bit (row_at words width i)) (64 * length (row_at words width i))
-    ≡ tally (λ j. is_bit words (spot width i j)) n
+    ≡ tally (λ j. is_bit words (bit_index width i j)) n
 row_ones words width i rows n lt size few past =
     let row = row_at words width i in
     let long : length (row_at words width i) ≡ width = row_length words width i rows lt size in
@@ -146,7 +147,7 @@ row_ones words width i rows n lt size few past =
     (λ k l. row_bit words width i (n + k) (omega arith)
     ∙ past (n + k) (omega arith) (omega arith)) in
     let some =
-    tally_agree (is_bit row) (λ j. is_bit words (spot width i j)) n
+    tally_agree (is_bit row) (λ j. is_bit words (bit_index width i j)) n
     (λ k l. row_bit words width i k (omega arith)) in
     ap (λ m. tally (is_bit row) (64 * m)) long ∙ ap (tally (is_bit row)) (sym all_bits)
     ∙ omega (arith, a, none, some)

@@ -14,7 +14,7 @@ use Rattle.std.specs.Int.{bit_at}
 use Rattle.std.specs.List.{range_with_len}
 use Rattle.mm_spec.specs.Report.{bit_of, mark_at, digit_at, hex_digit}
 use Rattle.mm_spec.proofs.BitLaw.{shifted}
-use Rattle.mm_rows.specs.Bits.{is_bit, words_for, spot, four_at, IsTable}
+use Rattle.mm_rows.specs.Bits.{is_bit, words_for, bit_index, four_at, IsTable}
 use Rattle.mm_rows.specs.BitRows.{marks, row_at}
 use Rattle.mm_rows.specs.Marks.{Marks, mark, row_marks}
 use Rattle.mm_rows.specs.declared.digits.TheConstants.{NUMBERS, DIGITS}
@@ -189,7 +189,8 @@ bit_is x lt = by_bit (cases_eq x 0)
   where
     by_bit : (x ≡ 0) ⊎ (x ≡ 0 → ⊥) → x ≡ bit_of (eqb x 1)
     by_bit (inl e) = e ∙ sym (ap (λ y. bit_of (eqb y 1)) e)
-    by_bit (inr ne) = let e : x ≡ 1 = omega (arith, ne, lt) in e ∙ sym (ap (λ y. bit_of (eqb y 1)) e)
+    by_bit (inr ne) = let e : x ≡ 1 = omega (arith, ne, lt) in
+        e ∙ sym (ap (λ y. bit_of (eqb y 1)) e)
 
 module _ (m : Marks) (rows columns : ℕ) (words : List ℕ)
     (view : m ≡ marks rows columns words) (t : IsTable rows columns words) where
@@ -202,7 +203,7 @@ module _ (m : Marks) (rows columns : ℕ) (words : List ℕ)
       ∙ sym (mark_is j (row_marks (marks rows columns words) i))
     where
       by_column : (j < columns) ⊎ (columns ≤ j)
-          → is_bit words (spot (words_for columns) i j)
+          → is_bit words (bit_index (words_for columns) i j)
           ≡ get_or (row_marks (marks rows columns words) i) j false
       by_column (inl l) =
           sym (get_or-map-range_with_len (mark (marks rows columns words) i) 0 columns j j false l

@@ -5,23 +5,23 @@ use Rattle.std.proofs.Common.{None, count_by, ◌∙◌, ◌-◌, ◌^◌, min}
 use Rattle.std.proofs.lemmas.Bool.{cases_lt}
 use Rattle.std.proofs.lemmas.List.FromFn.{get_or-map-range_with_len}
 use Rattle.std.specs.List.{range_with_len}
-use Rattle.mm_rows.specs.Bits.{is_bit, words_for, spot, AreTransposed, IsTable}
+use Rattle.mm_rows.specs.Bits.{is_bit, words_for, bit_index, AreTransposed, IsTable}
 use Rattle.mm_cites.specs.Citing.{Citing, IsStatementList}
 use Rattle.mm_rows.specs.BitRows.{cells_of, marks, row_at, AreBitRows}
 use Rattle.mm_rows.specs.Marks.{Marks, mark, IsAbove, first_after, IsMatrix}
 use Rattle.mm_rows.specs.Users.{AreColumns, IsColumn}
-use Rattle.mm_rows.proofs.TransposeLaw.{row_bit, row_length, row_past, row_end, spot_within}
+use Rattle.mm_rows.proofs.TransposeLaw.{row_bit, row_length, row_past, row_end, bit_index_within}
 use Rattle.mm_rows.proofs.CountLaw.{tally, tally_agree, tally_short}
 use Rattle.mm_rows.proofs.CountLaw.{all_counted, row_ones}
 
 -- within a table a mark is its bit
 pub mark_bit : (rows columns : ℕ) (bits : List ℕ) (i j : ℕ) → i < rows → j < columns
-    → mark (marks rows columns bits) i j ≡ is_bit bits (spot (words_for columns) i j)
+    → mark (marks rows columns bits) i j ≡ is_bit bits (bit_index (words_for columns) i j)
 mark_bit rows columns bits i j l k =
     ap (λ (r : List Bool). get_or r j false)
     (get_or-map-range_with_len (cells_of columns bits) 0 rows i i [] l (omega arith))
     ∙ get_or-map-range_with_len
-    (λ c. is_bit bits (spot (words_for columns) i c)) 0 columns j j false k (omega arith)
+    (λ c. is_bit bits (bit_index (words_for columns) i c)) 0 columns j j false k (omega arith)
 
 module _ (m : Marks) (rows columns : ℕ) (words : List ℕ)
     (view : m ≡ marks rows columns words) (t : IsTable rows columns words) where
@@ -31,21 +31,21 @@ module _ (m : Marks) (rows columns : ℕ) (words : List ℕ)
       let lt' = subst (λ (x : Marks). i < x.rows) view lt in
       row_end width i rows (length xs) lt' (ap length e ∙ t.size ∙ sym (ap (λ a. rows * a) w))
 
-  pub spot_fits : (i j width : ℕ) (xs : List ℕ) → i < m.rows → j < m.columns
-      → width ≡ words_for columns → xs ≡ words → spot width i j / 64 < length xs
-  spot_fits i j width xs lt l w e =
+  pub bit_index_fits : (i j width : ℕ) (xs : List ℕ) → i < m.rows → j < m.columns
+      → width ≡ words_for columns → xs ≡ words → bit_index width i j / 64 < length xs
+  bit_index_fits i j width xs lt l w e =
       let lt' = subst (λ (x : Marks). i < x.rows) view lt in
       let l' = subst (λ (x : Marks). j < x.columns) view l in
-      spot_within width rows i j (length xs) lt' (omega (arith, w))
+      bit_index_within width rows i j (length xs) lt' (omega (arith, w))
       (ap length e ∙ t.size ∙ sym (ap (λ a. rows * a) w))
 
   -- a cell that is read
   pub cell_is : (i j width : ℕ) (xs : List ℕ) → i < m.rows → j < m.columns
-      → width ≡ words_for columns → xs ≡ words → is_bit xs (spot width i j) ≡ mark m i j
+      → width ≡ words_for columns → xs ≡ words → is_bit xs (bit_index width i j) ≡ mark m i j
   cell_is i j width xs lt l w e =
       let lt' = subst (λ (x : Marks). i < x.rows) view lt in
       let l' = subst (λ (x : Marks). j < x.columns) view l in
-      ap₂ (λ ys n. is_bit ys (spot n i j)) e w ∙ sym (mark_bit rows columns words i j lt' l')
+      ap₂ (λ ys n. is_bit ys (bit_index n i j)) e w ∙ sym (mark_bit rows columns words i j lt' l')
       ∙ sym (ap (λ x. mark x i j) view)
 
   pub counted : (i result : ℕ) (part : List ℕ) → i < m.rows
@@ -57,10 +57,11 @@ module _ (m : Marks) (rows columns : ℕ) (words : List ℕ)
       let few = t.few_columns in
       let wide = ap length is ∙ row_length words (words_for columns) i rows lt' t.size in
       subst (λ (x : Marks). result ≡ tally (λ j. mark x i j) x.columns) (sym view)
-      (all_counted (is_bit part) (64 * length part) result (omega (arith, few, wide)) e ∙ ap (λ xs. tally (is_bit xs) (64 * length xs)) is
+      (all_counted (is_bit part) (64 * length part) result (omega (arith, few, wide)) e
+      ∙ ap (λ xs. tally (is_bit xs) (64 * length xs)) is
       ∙ row_ones words (words_for columns) i rows columns lt' t.size (omega arith)
       (λ j le l. t.past i j lt' le l)
-      ∙ tally_agree (λ j. is_bit words (spot (words_for columns) i j))
+      ∙ tally_agree (λ j. is_bit words (bit_index (words_for columns) i j))
       (λ j. mark (marks rows columns words) i j) columns
       (λ j l. sym (mark_bit rows columns words i j lt' l)))
 

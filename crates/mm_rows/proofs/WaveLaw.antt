@@ -10,12 +10,12 @@ use Rattle.std.proofs.Math.Seq.{get_or-append_seam}
 use Rattle.mm_cites.specs.Citing.{Citing, HasCitation, IsFileOrder, theorem_at, list_at}
 use Rattle.mm_rows.specs.BitRows.{IsBitRow, HasCitedRows, AreBitRows, row_at}
 use Rattle.mm_spec.specs.Laws.Chains.{IsWave, TheoremChain}
-use Rattle.mm_rows.specs.Waves.{IsCitingTheorem, AreWaves, IsByWave, HasRow, AreMade}
+use Rattle.mm_rows.specs.Waves.{IsCitingTheorem, AreWaves, IsByWave, HasRow, AreFilled}
 use Rattle.mm_rows.specs.Bits.{words_for}
 use Rattle.std.specs.List.{Contains, AllZip, range_with_len}
 use Rattle.std.specs.List.Sorted.{IsPermutation, IsNonDecreasingBy}
 use Rattle.std.proofs.lemmas.List.Sorted.{All-permutation, Contains-permutation}
-use Rattle.mm_rows.proofs.ChainLaw.{once}
+use Rattle.mm_rows.proofs.ChainLaw.{index_is_unique}
 
 -- a wave from the first n citations of theorem i
 pub record WaveTo (c : Citing) (waves : List ℕ) (i : ℕ) (cited : List ℕ) (n wave : ℕ) : Type 0 where
@@ -37,7 +37,8 @@ earlier_row c i r k o within listed lt e = by_order (cases_order r i)
     by_order : (r ≡ i) ⊎ ((r < i) ⊎ (i < r)) → r < i
     by_order (inl s) = let a = ap (theorem_at c) s in let b = m in absurd (omega (arith, a, b))
     by_order (inr (inl l)) = l
-    by_order (inr (inr g)) = let n = o.rising.rises i r g lt in let b = m in absurd (omega (arith, b, n))
+    by_order (inr (inr g)) = let n = o.rising.rises i r g lt in let b = m in
+        absurd (omega (arith, b, n))
 
 -- one theorem more
 pub wave_more : (c : Citing) (waves : List ℕ) (i : ℕ) (cited : List ℕ) (n wave r : ℕ)
@@ -67,7 +68,8 @@ wave_more c waves i cited n wave r o within w lt inside is h = (
           cited = sym (is ∙ ap (λ xs. get_or xs n 0) h.same);
         }
 
-    longer : TheoremChain (HasCitation c) (IsCitingTheorem c) (theorem_at c i) (suc (get_or waves r 0))
+    longer : TheoremChain (HasCitation c) (IsCitingTheorem c) (theorem_at c i)
+        (suc (get_or waves r 0))
     longer = (theorem_at c r, cites, (r, inside, refl), (w.each r before).0)
 
     above : (x : ℕ) → wave ≤ x → get_or waves r 0 + 1 ≤ x → (m s : ℕ) → m < n + 1
@@ -77,7 +79,8 @@ wave_more c waves i cited n wave r o within w lt inside is h = (
         by_place : (m ≡ n) ⊎ (m ≡ n → ⊥) → get_or waves s 0 + 1 ≤ x
         by_place (inl f) =
             let same : s ≡ r =
-            once c.theorems s r o.rising t inside (e ∙ ap (λ k. get_or cited k 0) f ∙ sym is) in
+            index_is_unique c.theorems s r o.rising t inside (e ∙ ap (λ k. get_or cited k 0) f
+            ∙ sym is) in
             subst (λ k. get_or waves k 0 + 1 ≤ x) (sym same) b
         by_place (inr f) = let y = h.above m s (omega arith) t e in omega (arith, y, a)
 
@@ -90,7 +93,8 @@ wave_more c waves i cited n wave r o within w lt inside is h = (
         let few = w.small r before in
         record {
           same = h.same;
-          chain = subst (TheoremChain (HasCitation c) (IsCitingTheorem c) (theorem_at c i)) one longer;
+          chain = subst (TheoremChain (HasCitation c) (IsCitingTheorem c) (theorem_at c i))
+              one longer;
           above = above (max wave (get_or waves r 0 + 1)) (omega arith) (omega arith);
           small = omega (arith, top, few, b);
         }
@@ -99,7 +103,8 @@ wave_more c waves i cited n wave r o within w lt inside is h = (
         let small = h.small in
         record {
           same = h.same;
-          chain = subst (TheoremChain (HasCitation c) (IsCitingTheorem c) (theorem_at c i)) top h.chain;
+          chain = subst (TheoremChain (HasCitation c) (IsCitingTheorem c) (theorem_at c i))
+              top h.chain;
           above = above (max wave (get_or waves r 0 + 1)) (omega arith) (omega arith);
           small = omega (arith, top, small);
         }
@@ -130,7 +135,8 @@ wave_all c waves i cited wave o within w h = (h.chain, longest)
     chain_from_cited : (m b : ℕ) → HasCitation c (theorem_at c i) b → IsCitingTheorem c b
         → TheoremChain (HasCitation c) (IsCitingTheorem c) b m → suc m ≤ wave
     chain_from_cited m b s t chain =
-        let row : s.row ≡ i = once c.theorems s.row i o.rising s.within within s.theorem in
+        let row : s.row ≡ i = index_is_unique c.theorems s.row i o.rising s.within
+        within s.theorem in
         let listed : s.place < length (list_at c i) =
         subst (λ x. s.place < length (list_at c x)) row s.listed in
         let cited_b : get_or (list_at c i) s.place 0 ≡ b =
@@ -145,7 +151,8 @@ wave_all c waves i cited wave o within w h = (h.chain, longest)
         (t.2 ∙ sym cited_b ∙ ap (λ xs. get_or xs s.place 0) (sym h.same)) in
         omega (arith, deep, up)
 
-    longest : (m : ℕ) → TheoremChain (HasCitation c) (IsCitingTheorem c) (theorem_at c i) m → m ≤ wave
+    longest : (m : ℕ) → TheoremChain (HasCitation c) (IsCitingTheorem c) (theorem_at c i) m → m
+        ≤ wave
     longest zero k = omega arith
     longest (suc m) k = chain_from_cited m k.0 k.1 k.2 k.3
 
@@ -163,7 +170,8 @@ pub waves_more : (c : Citing) (n wave : ℕ) (waves : List ℕ) → AreWaves c n
 waves_more c n wave waves h w small = record {
   size = let l = length-append waves (wave ∷ []) in let s = h.size in omega (arith, l, s);
   each =
-      λ r lt. at (IsWave (HasCitation c) (IsCitingTheorem c) (theorem_at c r)) r lt (λ l. h.each r l)
+      λ r lt. at (IsWave (HasCitation c) (IsCitingTheorem c) (theorem_at c r)) r
+      lt (λ l. h.each r l)
       (λ e. subst (λ k. IsWave (HasCitation c) (IsCitingTheorem c) (theorem_at c k) wave) (sym e) w)
       (cases_eq r n);
   small = λ r lt. at (λ x. x ≤ r) r lt (λ l. h.small r l) (λ e. omega arith) (cases_eq r n);
@@ -256,22 +264,22 @@ zip_at P (suc n) a (y ∷ ys) h =
         let e : a + 1 + k ≡ a + suc k = omega arith in
         subst (λ i. P i (get_or ys k d)) e (r k d (omega arith))
 
--- ---- rows that are made
+-- ---- rows that are filled
 
-pub made_none : (c : Citing) (columns rows bits : List ℕ) → AreMade c columns rows 0 bits bits
-made_none c columns rows bits =
-    record { size = refl; kept = λ r h. h; made = λ m l. absurd (omega arith) }
+pub filled_none : (c : Citing) (columns rows bits : List ℕ) → AreFilled c columns rows 0 bits bits
+filled_none c columns rows bits =
+    record { size = refl; none_lost = λ r h. h; filled = λ m l. absurd (omega arith) }
 
-pub made_more : (c : Citing) (columns rows : List ℕ) (k : ℕ) (first old new row : List ℕ) (i : ℕ)
+pub filled_more : (c : Citing) (columns rows : List ℕ) (k : ℕ) (first old new row : List ℕ) (i : ℕ)
     → i ≡ get_or rows k 0 → IsBitRow c columns (theorem_at c i) row → length new ≡ length old
     → row_at new (words_for (length columns)) i ≡ row
     → ((r : ℕ) → (r ≡ i → ⊥)
     → row_at new (words_for (length columns)) r ≡ row_at old (words_for (length columns)) r)
-    → AreMade c columns rows k first old → AreMade c columns rows (k + 1) first new
-made_more c columns rows k first old new row i is bits same here others h = record {
+    → AreFilled c columns rows k first old → AreFilled c columns rows (k + 1) first new
+filled_more c columns rows k first old new row i is bits same here others h = record {
   size = same ∙ h.size;
-  kept = λ r b. again r (h.kept r b) (cases_eq r i);
-  made = λ m l. by_place m l (cases_eq m k);
+  none_lost = λ r b. again r (h.none_lost r b) (cases_eq r i);
+  filled = λ m l. by_place m l (cases_eq m k);
 }
   where
     fresh : (r : ℕ) → r ≡ i → HasRow c columns new r
@@ -286,24 +294,26 @@ made_more c columns rows k first old new row i is bits same here others h = reco
     by_place : (m : ℕ) → m < k + 1 → (m ≡ k) ⊎ (m ≡ k → ⊥) → HasRow c columns new (get_or rows m 0)
     by_place m l (inl e) = fresh (get_or rows m 0) (ap (λ x. get_or rows x 0) e ∙ sym is)
     by_place m l (inr ne) =
-        again (get_or rows m 0) (h.made m (omega arith)) (cases_eq (get_or rows m 0) i)
+        again (get_or rows m 0) (h.filled m (omega arith)) (cases_eq (get_or rows m 0) i)
 
--- a row that could be made can still be made
+-- a row that could be filled can still be filled
 pub ready_still : (c : Citing) (columns rows : List ℕ) (k : ℕ) (old new : List ℕ)
-    → AreMade c columns rows k old new → (i : ℕ) → HasCitedRows c columns old i → HasCitedRows c columns new i
-ready_still c columns rows k old new h i ready = λ r n l m e. h.kept r (ready r n l m e)
+    → AreFilled c columns rows k old new → (i : ℕ) → HasCitedRows c columns old i
+    → HasCitedRows c columns new i
+ready_still c columns rows k old new h i ready = λ r n l m e. h.none_lost r (ready r n l m e)
 
 -- ---- wave by wave
 
--- the first so many rows by wave are made
-pub record MadeTo (c : Citing) (columns rows : List ℕ) (from : ℕ) (bits : List ℕ) : Type 0 where
+-- the first so many rows by wave are filled
+pub record FilledUpTo (c : Citing) (columns rows : List ℕ) (from : ℕ) (bits : List ℕ) : Type 0 where
   pub size : length bits ≡ length c.theorems * words_for (length columns)
   pub within : from ≤ length rows
-  pub made : (p : ℕ) → p < from → HasRow c columns bits (get_or rows p 0)
+  pub filled : (p : ℕ) → p < from → HasRow c columns bits (get_or rows p 0)
 
 -- the rows of a wave need those before them
 pub wave_ready : (c : Citing) (columns waves rows : List ℕ) (from to : ℕ) (bits : List ℕ)
-    → AreWaves c (length c.theorems) waves → IsByWave waves rows → MadeTo c columns rows from bits
+    → AreWaves c (length c.theorems) waves → IsByWave waves rows
+    → FilledUpTo c columns rows from bits
     → from < length rows → to ≤ length rows
     → ((p : ℕ) → from ≤ p → p < to
     → get_or waves (get_or rows p 0) 0 ≡ get_or waves (get_or rows from 0) 0)
@@ -321,7 +331,7 @@ wave_ready c columns waves rows from to bits w o h inside within same p l m =
         let q = o.all r (let s = w.size in omega (arith, s, lt)) in
         let is : get_or rows q.0 0 ≡ r = get_or_default rows q.0 0 r q.1 ∙ q.2 in
         subst (HasRow c columns bits) is
-        (h.made q.0 (before q.0 q.1 (ap (λ x. get_or waves x 0) is) (cases_lt q.0 from)))
+        (h.filled q.0 (before q.0 q.1 (ap (λ x. get_or waves x 0) is) (cases_lt q.0 from)))
       where
         before : (q : ℕ) → q < length rows → get_or waves (get_or rows q 0) 0 ≡ get_or waves r 0
             → (q < from) ⊎ (from ≤ q) → q < from
@@ -340,15 +350,20 @@ pub part_at : (xs : List ℕ) (from to i d : ℕ) → i < to - from
     → get_or (slice_range xs from to) i d ≡ get_or xs (from + i) d
 part_at xs from to i d l = get_or-take (to - from) (drop from xs) i d l ∙ get_or-drop from xs i d
 
-pub made_wave : (c : Citing) (columns rows part : List ℕ) (from to : ℕ) (old new : List ℕ)
-    → MadeTo c columns rows from old → to ≤ length rows → part ≡ slice_range rows from to
+pub filled_wave : (c : Citing) (columns rows part : List ℕ) (from to : ℕ) (old new : List ℕ)
+    → FilledUpTo c columns rows from old → to ≤ length rows → part ≡ slice_range rows from to
     → from ≤ to
-    → AreMade c columns part (length part) old new → MadeTo c columns rows to new
-made_wave c columns rows part from to old new h within is order m =
-    record { size = m.size ∙ h.size; within = within; made = λ p l. by_place p l (cases_lt p from) }
+    → AreFilled c columns part (length part) old new → FilledUpTo c columns rows to new
+filled_wave c columns rows part from to old new h within is order m =
+    record {
+      size = m.size ∙ h.size;
+      within = within;
+      filled =
+          λ p l. by_place p l (cases_lt p from);
+    }
   where
     by_place : (p : ℕ) → p < to → (p < from) ⊎ (from ≤ p) → HasRow c columns new (get_or rows p 0)
-    by_place p l (inl b) = m.kept (get_or rows p 0) (h.made p b)
+    by_place p l (inl b) = m.none_lost (get_or rows p 0) (h.filled p b)
     by_place p l (inr b) =
         let long : length part ≡ to - from =
         ap (λ xs. length xs) is ∙ part_length rows from to within in
@@ -356,17 +371,18 @@ made_wave c columns rows part from to old new h within is order m =
         let at : get_or part (p - from) 0 ≡ get_or rows p 0 =
         ap (λ xs. get_or xs (p - from) 0) is
         ∙ part_at rows from to (p - from) 0 (omega (arith, l, b)) ∙ ap (λ x. get_or rows x 0) e in
-        subst (HasRow c columns new) at (m.made (p - from) (omega (arith, long, l, b)))
+        subst (HasRow c columns new) at (m.filled (p - from) (omega (arith, long, l, b)))
 
-pub made_all : (c : Citing) (columns waves rows bits : List ℕ) (from : ℕ)
-    → AreWaves c (length c.theorems) waves → IsByWave waves rows → MadeTo c columns rows from bits
+pub filled_all : (c : Citing) (columns waves rows bits : List ℕ) (from : ℕ)
+    → AreWaves c (length c.theorems) waves → IsByWave waves rows
+    → FilledUpTo c columns rows from bits
     → length rows ≤ from → AreBitRows c columns (length c.theorems) bits
-made_all c columns waves rows bits from w o h end = record {
+filled_all c columns waves rows bits from w o h end = record {
   size = h.size;
   each = λ r lt.
       let q = o.all r (let s = w.size in omega (arith, s, lt)) in
       let is : get_or rows q.0 0 ≡ r = get_or_default rows q.0 0 r q.1 ∙ q.2 in
-      subst (HasRow c columns bits) is (h.made q.0 (let l = q.1 in omega (arith, l, end)));
+      subst (HasRow c columns bits) is (h.filled q.0 (let l = q.1 in omega (arith, l, end)));
 }
 
 -- one row more, with its wave

@@ -12,7 +12,7 @@ use crate::output::{refuse, report_citations, report_rows, report_usage};
 use mm_database::Database;
 use mm_lex::lex_alone;
 use mm_report::{Choice, Request, has_usage};
-use mm_rows::{Columns, marked_rows_in_order, matrix_in_order};
+use mm_rows::{Columns, marked_rows_alone, matrix_alone};
 use mm_stmt::read_owned;
 use mm_work::{Citations, check_alone};
 use std::alloc::{AllocError, Allocator};
@@ -54,12 +54,12 @@ fn report_rests_alone<'a, A: Allocator + Copy, W: Write>(
         return RunEnd::NoMemory;
     };
     if has_usage(request.choice) {
-        match matrix_in_order(alloc, citations, &chosen) {
+        match matrix_alone(alloc, citations, &chosen) {
             Ok(table) => report_usage(request, database, citations, &chosen, &table, to),
             Err(_) => RunEnd::NoMemory,
         }
     } else {
-        match marked_rows_in_order(alloc, citations, &chosen) {
+        match marked_rows_alone(alloc, citations, &chosen) {
             Ok(marked) => report_rows(request, database, citations, &chosen, &marked, to),
             Err(_) => RunEnd::NoMemory,
         }

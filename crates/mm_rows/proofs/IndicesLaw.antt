@@ -4,41 +4,41 @@ use Rattle.std.proofs.Common.{◌∙◌, arith, ◌⊎◌, inl, inr}
 use Rattle.std.proofs.lemmas.Bool.{cases_eq, cases_lt}
 use Rattle.std.proofs.lemmas.List.{get_or-set_same, get_or-set_other, get_or_default, get_or_past}
 use Rattle.mm_cites.specs.Citing.{IsStatementList}
-use Rattle.mm_rows.specs.Places.{ArePlacesOf}
-use Rattle.mm_rows.proofs.ChainLaw.{once}
+use Rattle.mm_rows.specs.Indices.{AreIndicesOf}
+use Rattle.mm_rows.proofs.ChainLaw.{index_is_unique}
 
 -- no statement is noted yet
-pub places_none : (list places : List ℕ)
-    → ((s : ℕ) → s < length places → get_or places s 0 ≡ 4294967295) → ArePlacesOf list 0 places
-places_none list places none =
+pub indices_none : (list indices : List ℕ)
+    → ((s : ℕ) → s < length indices → get_or indices s 0 ≡ 4294967295) → AreIndicesOf list 0 indices
+indices_none list indices none =
     record {
-      known = λ s h. absurd (h (at s (cases_lt s (length places))));
+      known = λ s h. absurd (h (at s (cases_lt s (length indices))));
       all = λ i l. absurd
           (omega arith);
     }
   where
-    at : (s : ℕ) → (s < length places) ⊎ (length places ≤ s)
-        → get_or places s 4294967295 ≡ 4294967295
-    at s (inl l) = get_or_default places s 4294967295 0 l ∙ none s l
-    at s (inr g) = get_or_past places s 4294967295 g
+    at : (s : ℕ) → (s < length indices) ⊎ (length indices ≤ s)
+        → get_or indices s 4294967295 ≡ 4294967295
+    at s (inl l) = get_or_default indices s 4294967295 0 l ∙ none s l
+    at s (inr g) = get_or_past indices s 4294967295 g
 
 -- one statement more
-pub places_more : (list places : List ℕ) (n : ℕ) → IsStatementList list → n < length list
-    → get_or list n 0 < length places → ArePlacesOf list n places
-    → ArePlacesOf list (n + 1) (slice_set places (get_or list n 0) n)
-places_more list places n r within room h = record {
+pub indices_more : (list indices : List ℕ) (n : ℕ) → IsStatementList list → n < length list
+    → get_or list n 0 < length indices → AreIndicesOf list n indices
+    → AreIndicesOf list (n + 1) (slice_set indices (get_or list n 0) n)
+indices_more list indices n r within room h = record {
   known = λ s. known s (cases_eq s (get_or list n 0));
   all = λ i lt. all i lt (cases_eq i n);
 }
   where
     new : List ℕ
-    new = slice_set places (get_or list n 0) n
+    new = slice_set indices (get_or list n 0) n
 
     same : get_or new (get_or list n 0) 4294967295 ≡ n
-    same = get_or-set_same places (get_or list n 0) n 4294967295 room
+    same = get_or-set_same indices (get_or list n 0) n 4294967295 room
 
-    other : (s : ℕ) → s ≢ get_or list n 0 → get_or new s 4294967295 ≡ get_or places s 4294967295
-    other s ne = get_or-set_other places (get_or list n 0) s n 4294967295 ne
+    other : (s : ℕ) → s ≢ get_or list n 0 → get_or new s 4294967295 ≡ get_or indices s 4294967295
+    other s ne = get_or-set_other indices (get_or list n 0) s n 4294967295 ne
 
     known : (s : ℕ) → (s ≡ get_or list n 0) ⊎ (s ≡ get_or list n 0 → ⊥)
         → get_or new s 4294967295 ≢ 4294967295
@@ -56,4 +56,5 @@ places_more list places n r within room h = record {
     all i lt (inl e) = ap (λ x. get_or new (get_or list x 0) 4294967295) e ∙ same ∙ sym e
     all i lt (inr ne) =
         let below : i < n = omega arith in
-        other (get_or list i 0) (λ e. ne (once list i n r (omega arith) within e)) ∙ h.all i below
+        other (get_or list i 0) (λ e. ne (index_is_unique list i n r (omega arith) within e))
+        ∙ h.all i below
