@@ -20,11 +20,11 @@ use Rattle.mm_report.specs.Rows.{marks_of}
 pub sent_none : (a : Option (List ℕ)) (s : Pending) → Sent a a s s []
 sent_none a s =
     record {
-      out = [];
-      wrote = Appends-nil a;
-      fine = λ e. (e, sym (append-nil s.held));
-      part = (0, refl);
-      stuck = λ e. refl;
+      bytes = [];
+      is_written = Appends-nil a;
+      if_not_failed = λ e. (e, sym (append-nil s.held));
+      is_prefix = (0, refl);
+      if_failed_before = λ e. refl;
     }
 
 pub sent_as : {a b : Option (List ℕ)} {s t : Pending} {x : List ℕ} (y : List ℕ) → x ≡ y
@@ -34,48 +34,52 @@ sent_as {a} {b} {s} {t} {x} y e h = subst (Sent a b s t) e h
 pub sent_more : {a b c : Option (List ℕ)} {r s t : Pending} {x y : List ℕ} → Sent a b r s x
     → Sent b c s t y → Sent a c r t (x ++ y)
 sent_more {a} {b} {c} {r} {s} {t} {x} {y} h k = record {
-  out = h.out ++ k.out;
-  wrote = Appends-trans a b c h.out k.out h.wrote k.wrote;
-  fine =
-      λ e. let f = k.fine e in let g = h.fine f.0 in (
+  bytes = h.bytes ++ k.bytes;
+  is_written = Appends-trans a b c h.bytes k.bytes h.is_written k.is_written;
+  if_not_failed =
+      λ e. let f = k.if_not_failed e in let g = h.if_not_failed f.0 in (
         g.0,
-        append_assoc h.out k.out t.held ∙ ap (λ z. h.out ++ z) f.1
-            ∙ sym (append_assoc h.out s.held y) ∙ ap (λ z. z ++ y) g.1 ∙ append_assoc r.held x y,
+        append_assoc h.bytes k.bytes t.held ∙ ap (λ z. h.bytes ++ z) f.1
+            ∙ sym (append_assoc h.bytes s.held y) ∙ ap (λ z. z ++ y) g.1 ∙ append_assoc r.held x y,
       );
-  part = parts (cases_Bool s.failed);
-  stuck = λ e. ap (λ z. z ++ k.out) (h.stuck e) ∙ k.stuck (still e (cases_Bool s.failed));
+  is_prefix = prefix_by_failure (cases_Bool s.failed);
+  if_failed_before = λ e. ap (λ z. z ++ k.bytes) (h.if_failed_before e)
+      ∙ k.if_failed_before (failed_still e (cases_Bool s.failed));
 }
   where
-    still : r.failed ≡ true → (s.failed ≡ true) ⊎ (s.failed ≡ false) → s.failed ≡ true
-    still e (inl t) = t
-    still e (inr f) = let g = (h.fine f).0 in absurd (let no : true ≡ false = sym e ∙ g in cc)
+    failed_still : r.failed ≡ true → (s.failed ≡ true) ⊎ (s.failed ≡ false) → s.failed ≡ true
+    failed_still e (inl t) = t
+    failed_still e (inr f) = let g = (h.if_not_failed f).0 in
+        absurd (let no : true ≡ false = sym e ∙ g in cc)
 
-    parts : (s.failed ≡ true) ⊎ (s.failed ≡ false)
-        → (n : ℕ) × (h.out ++ k.out ≡ take n (r.held ++ (x ++ y)))
-    parts (inr f) = (
-      length h.out + k.part.0,
-      ap (λ z. h.out ++ z) k.part.1 ∙ sym (take-append-add h.out (s.held ++ y) k.part.0)
-          ∙ ap (take (length h.out + k.part.0))
-          (sym (append_assoc h.out s.held y) ∙ ap (λ z. z ++ y) (h.fine f).1
+    prefix_by_failure : (s.failed ≡ true) ⊎ (s.failed ≡ false)
+        → (n : ℕ) × (h.bytes ++ k.bytes ≡ take n (r.held ++ (x ++ y)))
+    prefix_by_failure (inr f) = (
+      length h.bytes + k.is_prefix.0,
+      ap (λ z. h.bytes ++ z) k.is_prefix.1
+          ∙ sym (take-append-add h.bytes (s.held ++ y) k.is_prefix.0)
+          ∙ ap (take (length h.bytes + k.is_prefix.0))
+          (sym (append_assoc h.bytes s.held y) ∙ ap (λ z. z ++ y) (h.if_not_failed f).1
           ∙ append_assoc r.held x y),
     )
-    parts (inl e) = (
-      min h.part.0 (length (r.held ++ x)),
-      ap (λ z. h.out ++ z) (k.stuck e) ∙ append-nil h.out ∙ h.part.1
-          ∙ sym (take_min h.part.0 (r.held ++ x))
-          ∙ sym (take-append-le (min h.part.0 (length (r.held ++ x))) (r.held ++ x) y (omega arith))
-          ∙ ap (take (min h.part.0 (length (r.held ++ x)))) (append_assoc r.held x y),
+    prefix_by_failure (inl e) = (
+      min h.is_prefix.0 (length (r.held ++ x)),
+      ap (λ z. h.bytes ++ z) (k.if_failed_before e) ∙ append-nil h.bytes ∙ h.is_prefix.1
+          ∙ sym (take_min h.is_prefix.0 (r.held ++ x))
+          ∙ sym (take-append-le (min h.is_prefix.0 (length (r.held ++ x))) (r.held ++ x) y
+          (omega arith))
+          ∙ ap (take (min h.is_prefix.0 (length (r.held ++ x)))) (append_assoc r.held x y),
     )
 
 -- nothing is written after a failure
 pub sent_stuck : (a : Option (List ℕ)) (s : Pending) (x : List ℕ) → s.failed ≡ true → Sent a a s s x
 sent_stuck a s x e =
     record {
-      out = [];
-      wrote = Appends-nil a;
-      fine = λ f. absurd (let no : true ≡ false = sym e ∙ f in cc);
-      part = (0, refl);
-      stuck = λ f. refl;
+      bytes = [];
+      is_written = Appends-nil a;
+      if_not_failed = λ f. absurd (let no : true ≡ false = sym e ∙ f in cc);
+      is_prefix = (0, refl);
+      if_failed_before = λ f. refl;
     }
 
 -- a piece that is held
@@ -83,11 +87,11 @@ pub sent_held : (a : Option (List ℕ)) (s t : Pending) (x : List ℕ) → t.hel
     → t.failed ≡ s.failed → Sent a a s t x
 sent_held a s t x e f =
     record {
-      out = [];
-      wrote = Appends-nil a;
-      fine = λ g. (sym f ∙ g, e);
-      part = (0, refl);
-      stuck = λ g. refl;
+      bytes = [];
+      is_written = Appends-nil a;
+      if_not_failed = λ g. (sym f ∙ g, e);
+      is_prefix = (0, refl);
+      if_failed_before = λ g. refl;
     }
 
 -- what was held is written, or a beginning of it
@@ -95,11 +99,11 @@ pub sent_flushed : (a b : Option (List ℕ)) (s t : Pending) → Appends a b s.h
     → t.held ≡ [] → Sent a b s t []
 sent_flushed a b s t w f e =
     record {
-      out = s.held;
-      wrote = w;
-      fine = λ g. (f, ap (λ z. s.held ++ z) e);
-      part = (length s.held, sym (take-append_seam s.held []));
-      stuck = λ g. absurd (let no : true ≡ false = sym g ∙ f in cc);
+      bytes = s.held;
+      is_written = w;
+      if_not_failed = λ g. (f, ap (λ z. s.held ++ z) e);
+      is_prefix = (length s.held, sym (take-append_seam s.held []));
+      if_failed_before = λ g. absurd (let no : true ≡ false = sym g ∙ f in cc);
     }
 
 -- a piece that is written past an empty buffer
@@ -107,15 +111,15 @@ pub sent_past : (a b : Option (List ℕ)) (s t : Pending) (x : List ℕ) → App
     → s.failed ≡ false → s.held ≡ [] → t.held ≡ [] → Sent a b s t x
 sent_past a b s t x w f e g =
     record {
-      out = x;
-      wrote = w;
-      fine = λ h. (f, ap (λ z. x ++ z) g ∙ append-nil x ∙ ap (λ z. z ++ x) (sym e));
-      part = (
+      bytes = x;
+      is_written = w;
+      if_not_failed = λ h. (f, ap (λ z. x ++ z) g ∙ append-nil x ∙ ap (λ z. z ++ x) (sym e));
+      is_prefix = (
         length x,
         sym
             (ap (λ z. take (length x) (z ++ x)) e ∙ take_all (length x) x (omega arith)),
       );
-      stuck = λ h.
+      if_failed_before = λ h.
           absurd (let no : true
           ≡ false = sym h ∙ f in
           cc);
@@ -156,16 +160,19 @@ pub sent_all : (a b c : Option (List ℕ)) (s t : Pending) (x : List ℕ)
     → Appends a c x
 sent_all a b c s t x h k f e =
     let m = sent_more h k in
-    let w = (m.fine f).1 in
+    let w = (m.if_not_failed f).1 in
     subst (Appends a c)
-    (sym (append-nil m.out) ∙ ap (λ z. m.out ++ z) (sym e) ∙ w ∙ append-nil x) m.wrote
+    (sym (append-nil m.bytes) ∙ ap (λ z. m.bytes ++ z) (sym e) ∙ w ∙ append-nil x) m.is_written
 
 -- or a beginning
 pub sent_part : (a b c : Option (List ℕ)) (s t : Pending) (x : List ℕ)
     → Sent a b (pending [] false) s x → Sent b c s t [] → (k : ℕ) × Appends a c (take k x)
 sent_part a b c s t x h k =
-    let m = sent_more h k in
-    (m.part.0, subst (Appends a c) (m.part.1 ∙ ap (take m.part.0) (append-nil x)) m.wrote)
+    let m = sent_more h k in (
+      m.is_prefix.0,
+      subst (Appends a c) (m.is_prefix.1
+          ∙ ap (take m.is_prefix.0) (append-nil x)) m.is_written,
+    )
 
 same_test : (n : ℕ) → n < 100 → (eqb (length (decimal n)) 1) ≡ ltb n 10
 unfolding digits

@@ -53,7 +53,8 @@ module _ (db : List Statement) (request : Request) (c : Citing)
       let f = λ (i : ℕ). citing_row db request.only c (get_or names i []) i in
       let s = ap (λ (ts : List ℕ). length ts) cited.theorems_are in
       let n = length-map-range_with_len f 0 (length c.theorems) in
-      zip_of_each (IsCitingRowOf db request) (theorems db) (citing_rows db request.only c names) 0 (f 0)
+      zip_of_each (IsCitingRowOf db request) (theorems db) (citing_rows db request.only c names) 0
+      (f 0)
       (omega (arith, n, s))
       (λ i l.
       let inside : i < length c.theorems = omega (arith, s, l) in

@@ -7,7 +7,7 @@ ghost use Rattle.mm_spec.specs.Ends.{Answers, reading_limit};
 ghost use Rattle.mm_run.specs.Counted.{IsJudged, IsJudgedText};
 
 use crate::RunEnd;
-use crate::judged::{JudgedText, judge};
+use crate::judged::{JudgedText, judged_text};
 use crate::output::{refuse, report_citations, report_rows, report_usage};
 use mm_database::Database;
 use mm_lex::lex_alone;
@@ -33,7 +33,7 @@ pub fn judge_alone<'a, A: Allocator + Copy>(
     let lexed = lex_alone(alloc, text)?;
     let database = read_owned(alloc, text, lexed, with_open)?;
     let judged = check_alone(alloc, &database, essential)?;
-    Ok(judge(database, judged))
+    Ok(judged_text(database, judged))
 }
 
 /// Writes the report of what each theorem rests on, for a database without a fault.

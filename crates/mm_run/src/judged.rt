@@ -18,9 +18,9 @@ pub enum JudgedText<'a, A: Allocator> {
     Sound(Database<'a, A>, Citations<A>),
 }
 
-/// What judging a text comes to, given its database and what checking all proofs found. A faulty
-/// proof stands before the fault at which reading stopped.
-pub(crate) fn judge<'a, A: Allocator>(
+/// What judging a text comes to, given its database and what checking all proofs found. The fault
+/// of a proof is the first of the text, since reading stops at a fault: all proofs are before it.
+pub(crate) fn judged_text<'a, A: Allocator>(
     database: Database<'a, A>,
     judged: Judged<A>,
 ) -> JudgedText<'a, A>

@@ -13,7 +13,7 @@ ghost use Rattle.mm_plan.specs.Plans.{IsLawfulPlan, request_of};
 
 use crate::RunEnd;
 use crate::cuts::cuts_of;
-use crate::judged::{JudgedText, judge};
+use crate::judged::{JudgedText, judged_text};
 use mm_database::Database;
 use mm_lex::lex;
 use mm_plan::Plan;
@@ -204,7 +204,7 @@ pub fn answer<R: Threads + Wait + Sync, A: Allocator + Copy + Send + Sync, W: Wr
     let Ok(judged) = check_all(rt, alloc, &database, plan.workers, plan.essential, &Open) else {
         return RunEnd::NoMemory;
     };
-    match judge(database, judged) {
+    match judged_text(database, judged) {
         JudgedText::Faulty(fault) => refuse(text, fault, to),
         JudgedText::Sound(database, citations) => {
             report(rt, alloc, &plan.request(), &database, &citations, to)

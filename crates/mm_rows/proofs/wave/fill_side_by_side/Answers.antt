@@ -8,7 +8,8 @@ use Rattle.mm_rows.proofs.wave.fill_side_by_side.Goals as goal
 
 pub index-requires : goal.index-requires
 index-requires g c =
-    let z = zip_at _ (length c.args.rows.now) 0 c.in_ok-new_rows.new_rows.items c.in_ok-new_rows.ensures in
+    let z = zip_at _ (length c.args.rows.now) 0 c.in_ok-new_rows.new_rows.items
+    c.in_ok-new_rows.ensures in
     let l = c.loop-k-test.true in
     let e = z.0 in
     omega (arith, l, e)

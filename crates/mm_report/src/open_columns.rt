@@ -25,6 +25,7 @@ pub(crate) fn open_theorems<A: Allocator, D: Allocator>(
     }
 }
 
+/// Returns the number of columns that are open theorems.
 fn open_count<A: Allocator, D: Allocator>(database: &Database<'_, D>, chosen: &Columns<A>) -> u64
     ensures { result
         ≡ count_by

@@ -3,7 +3,7 @@ use Rattle.mm_spec.specs.Lexed.{lexed_of}
 use Rattle.mm_spec.specs.Output.{AllAreValid, IsRead}
 use Rattle.mm_work.specs.Judged.{Judges, AllCited, IsFirstFault}
 use Rattle.mm_work.specs.declared.judged.Judged.{Judged}
-use Rattle.mm_run.proofs.judged.judge.Goals as goal
+use Rattle.mm_run.proofs.judged.judged_text.Goals as goal
 
 pub returns-in-Faulty : goal.returns-in-Faulty
 returns-in-Faulty g c = λ text essential with_open from judges.
