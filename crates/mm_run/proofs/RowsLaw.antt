@@ -20,7 +20,7 @@ use Rattle.mm_rows.specs.Marks.{Marks, mark, IsMatrix}
 use Rattle.mm_report.specs.Rows.{row_of, rows_of, marks_of, open_theorems, report_of}
 use Rattle.mm_run.specs.Counted.{IsJudged}
 use Rattle.mm_run.proofs.CountedLaw.{is_output}
-use Rattle.mm_work.specs.Judged.{AllCited, Shows}
+use Rattle.mm_work.specs.Judged.{AllCited, CitesAsDatabase}
 
 -- two lists agree at each place
 pub zip_of_each : {A B : Type 0} (R : A → B → Type 0) (xs : List A) (ys : List B) (d : A) (e : B)
@@ -36,7 +36,7 @@ decides_through : {P Q : Type 0} (b : Bool) → Decides b P → P ↔ Q → Deci
 decides_through b h e = ((λ t. e.0 (h.0 t)), (λ q. h.1 (e.1 q)))
 
 module _ (db : List Statement) (request : Request) (c : Citing) (m : Marks)
-    (same : c.theorems ≡ theorems db) (shows : Shows db request.essential c)
+    (same : c.theorems ≡ theorems db) (shows : CitesAsDatabase db request.essential c)
     (h : IsMatrix c (columns db request.only) m) where
   marks_zip : (i : ℕ) → i < length (theorems db)
       → AllZip (λ a b. Decides b (proof.RestsOn db request.essential (get_or (theorems db) i 0) a))

@@ -16,7 +16,7 @@ use Rattle.mm_spec.proofs.CitedLaw.{cites_earlier, proof_theorem}
 use Rattle.mm_spec.proofs.ListLaw.{member_at}
 use Rattle.mm_cites.specs.Citing.{Citing, citing, HasCitation, IsStatementList, IsFileOrder}
 use Rattle.mm_cites.proofs.RisingLaw.{filter_rising}
-use Rattle.mm_work.specs.Judged.{IsCited, AreCitedUpTo, Shows}
+use Rattle.mm_work.specs.Judged.{IsCited, AreCitedUpTo, CitesAsDatabase}
 
 -- a member stands at some place
 member_place : (xs : List ℕ) (x : ℕ) → is_member xs x ≡ true
@@ -105,7 +105,7 @@ module _ (db : List Statement) (few : length db < 2 ^ 31) (complete : AreComplet
           (member_at (get_or lists i []) k 0 m));
     }
 
-    pub shows : Shows db by_essential c
+    pub shows : CitesAsDatabase db by_essential c
     shows = record { same = λ t a. ((to t a), (from t a)) }
       where
         to : (t a : ℕ) → HasCitation c t a → proof.Cites db by_essential t a

@@ -26,12 +26,12 @@ use Rattle.mm_work.specs.Workers.{faulty_index}
 use Rattle.mm_work.specs.declared.job.Job.{Job}
 use Rattle.mm_work.specs.declared.worker.IndexedFault.{IndexedFault}
 use Rattle.mm_work.specs.declared.worker.Findings.{Findings}
-use Rattle.mm_work.specs.declared.worker.Worked.{Worked}
+use Rattle.mm_work.specs.declared.worker.WorkerState.{WorkerState}
 
 -- a number of two lists is one of either
-times_both : (x : ℕ) (l m : List ℕ) → 0 < times_in x (l ++ m)
+times_in_either : (x : ℕ) (l m : List ℕ) → 0 < times_in x (l ++ m)
     → (0 < times_in x l) ⊎ (0 < times_in x m)
-times_both x l m p = by_first_list (cases_lt 0 (times_in x l))
+times_in_either x l m p = by_first_list (cases_lt 0 (times_in x l))
   where
     by_first_list : (0 < times_in x l) ⊎ (times_in x l ≤ 0) → (0 < times_in x l)
         ⊎ (0 < times_in x m)
@@ -55,11 +55,11 @@ times_contains x (y ∷ l) p = by_tail (cases_lt 0 (times_in x l)) (times_contai
 
 module _ {A : Type 0} (db : List Statement) (by_essential : Bool) where
   -- one valid theorem more
-  found_more : (f g : Findings A) (i : ℕ) (cites : List ℕ) → AreFindings db by_essential f
+  findings_with_valid : (f g : Findings A) (i : ℕ) (cites : List ℕ) → AreFindings db by_essential f
       → i < length (theorems db) → IsCited db by_essential (theorem_of db i) cites
       → g.valid.items ≡ f.valid.items ++ i ∷ [] → g.cites ≡ f.cites ++ cites ∷ []
       → g.faulty ≡ f.faulty → AreFindings db by_essential g
-  found_more f g i cites h l one v c e = record {
+  findings_with_valid f g i cites h l one v c e = record {
     count =
         ap length c ∙ length-append f.cites (cites ∷ []) ∙ ap (λ n. n + 1) h.count
         ∙ sym (length-append f.valid.items (i ∷ [])) ∙ sym (ap length v);
@@ -99,9 +99,9 @@ module _ {A : Type 0} (job : Job A) where
   db = job.database.now.statements
 
   -- nothing was found yet
-  none_found : (f : Findings A) → f.valid.items ≡ [] → f.cites ≡ [] → f.faulty ≡ None
+  no_findings : (f : Findings A) → f.valid.items ≡ [] → f.cites ≡ [] → f.faulty ≡ None
       → AreFindings db job.essential f
-  none_found f valid cites faulty = record {
+  no_findings f valid cites faulty = record {
     count = ap length cites ∙ sym (ap length valid);
     known =
         subst (λ (xs : List ℕ). All (λ j. j < length (theorems db)) xs) (sym valid)
@@ -113,14 +113,15 @@ module _ {A : Type 0} (job : Job A) where
   }
 
   -- what was found stays right with one theorem more
-  valid_more : (f g : Findings A) (i : ℕ) → AreFindings db job.essential f
+  findings_after_valid : (f g : Findings A) (i : ℕ) → AreFindings db job.essential f
       → i < length (theorems db) → FindsValid job i f g → AreFindings db job.essential g
-  valid_more f g i h l v =
-      found_more db job.essential f g i v.cites h l v.cited v.valid_are v.cites_are v.faulty_is
+  findings_after_valid f g i h l v =
+      findings_with_valid db job.essential f g i v.cites h l v.cited v.valid_are
+      v.cites_are v.faulty_is
 
-  fault_more : (f g : Findings A) (i : ℕ) → AreFindings db job.essential f
+  findings_after_fault : (f g : Findings A) (i : ℕ) → AreFindings db job.essential f
       → i < length (theorems db) → FindsFault job i f g → AreFindings db job.essential g
-  fault_more f g i h l v = record {
+  findings_after_fault f g i h l v = record {
     count = ap length v.cites_are ∙ h.count ∙ sym (ap length v.valid_are);
     known =
         subst (λ (xs : List ℕ). All (λ j. j < length (theorems db)) xs) (sym v.valid_are) h.known;
@@ -132,24 +133,25 @@ module _ {A : Type 0} (job : Job A) where
   }
 
   -- a seat that has settled and reported the same
-  same_told : (w : Worked A) (s : SeatValue) → s.view.settled ≡ w.seat.view.settled
+  tells_of_same_seat : (w : WorkerState A) (s : SeatValue) → s.view.settled ≡ w.seat.view.settled
       → s.view.reported ≡ w.seat.view.reported → Tells job w
       → Tells job (record { seat = s; found = w.found })
-  same_told w s settled reported t = record {
+  tells_of_same_seat w s settled reported t = record {
     found = t.found;
     settled = settled ∙ t.settled;
     reported = λ i p. t.reported i (subst (λ (l : List ℕ). 0 < times_in i l) reported p);
   }
 
   -- a worker before its first theorem
-  pub begun : (s : SeatValue) (f : Findings A) → IsFreshSeat job.board.now s → f.valid.items ≡ []
+  pub between_at_start : (s : SeatValue) (f : Findings A) → IsFreshSeat job.board.now s
+      → f.valid.items ≡ []
       → f.cites ≡ [] → f.faulty ≡ None → IsBetweenTheorems job (record { seat = s; found = f })
-  begun s f fresh valid cites faulty = record {
-    at = fresh.at;
+  between_at_start s f fresh valid cites faulty = record {
+    of_board = fresh.of_board;
     closed = fresh.closed;
     tells =
         λ short. record {
-          found = none_found f valid cites faulty;
+          found = no_findings f valid cites faulty;
           settled = fresh.none_settled ∙ sym valid;
           reported =
               λ i p. absurd
@@ -160,12 +162,12 @@ module _ {A : Type 0} (job : Job A) where
   }
 
   -- a worker that had no memory to begin
-  pub not_begun : (s : SeatValue) (f : Findings A) → IsFreshSeat job.board.now s
+  pub done_at_start : (s : SeatValue) (f : Findings A) → IsFreshSeat job.board.now s
       → f.short_of_memory ≡ true → IsDone job (record { seat = s; found = f })
-  not_begun s f fresh out = record {
+  done_at_start s f fresh out = record {
     between =
         record {
-          at = fresh.at;
+          of_board = fresh.of_board;
           closed = fresh.closed;
           tells = λ short. absurd (true≢false (sym out ∙ short));
         };
@@ -173,28 +175,29 @@ module _ {A : Type 0} (job : Job A) where
   }
 
   -- a worker that claimed number i
-  pub claimed : (i : ℕ) (w : Worked A) (s : SeatValue) → IsOfDatabase job → IsBetweenTheorems job w
+  pub drawn_after_claim : (i : ℕ) (w : WorkerState A) (s : SeatValue) → IsOfDatabase job
+      → IsBetweenTheorems job w
       → i < job.board.now.count → IsSeatOf job.board.now s
       → s.view ≡ record w.seat.view { open_number = Some i }
       → ((x : ℕ) → 0 < times_recorded x w.seat.view → x < i)
       → HasDrawn job i (record { seat = s; found = w.found })
-  claimed i w s home b below at is above = record {
+  drawn_after_claim i w s home b below at is above = record {
     theorem = subst (λ n. i < n) home.count below;
-    at = at;
-    held = ap (λ (v : View). v.open_number) is;
-    above =
+    of_board = at;
+    is_open = ap (λ (v : View). v.open_number) is;
+    above_reported =
         λ x p. above x
         (recorded x
         (subst (λ (l : List ℕ). 0 < times_in x l) (ap (λ (v : View). v.reported) is) p));
     tells =
-        λ short. same_told w s (ap (λ (v : View). v.settled) is)
+        λ short. tells_of_same_seat w s (ap (λ (v : View). v.settled) is)
         (ap (λ (v : View). v.reported) is) (b.tells short);
   }
     where
       recorded : (x : ℕ) → 0 < times_in x w.seat.view.reported → 0 < times_recorded x w.seat.view
       recorded x p = omega (arith, p)
 
-  module _ (i : ℕ) (w : Worked A) (drawn : HasDrawn job i w) (s : SeatValue) (f : ℕ)
+  module _ (i : ℕ) (w : WorkerState A) (drawn : HasDrawn job i w) (s : SeatValue) (f : ℕ)
       (looked : s.view ≡ after_look w.seat.view f) where
     same_settled : s.view.settled ≡ w.seat.view.settled
     same_settled = ap (λ (v : View). v.settled) looked
@@ -205,15 +208,15 @@ module _ {A : Type 0} (job : Job A) where
     open_now : s.view.open_number ≡ open_after_look (Some i) f
     open_now =
         ap (λ (v : View). v.open_number) looked
-        ∙ ap (λ (o : Option ℕ). open_after_look o f) drawn.held
+        ∙ ap (λ (o : Option ℕ). open_after_look o f) drawn.is_open
 
     -- the look skipped the number
-    pub skipped : IsSeatOf job.board.now s → is_some s.view.open_number ≡ false
+    pub between_after_skip : IsSeatOf job.board.now s → is_some s.view.open_number ≡ false
         → IsBetweenTheorems job (record { seat = s; found = w.found })
-    skipped at none = record {
-      at = at;
+    between_after_skip at none = record {
+      of_board = at;
       closed = closed s.view.open_number none;
-      tells = λ short. same_told w s same_settled same_reported (drawn.tells short);
+      tells = λ short. tells_of_same_seat w s same_settled same_reported (drawn.tells short);
     }
       where
         closed : (o : Option ℕ) → is_some o ≡ false → o ≡ None
@@ -224,11 +227,12 @@ module _ {A : Type 0} (job : Job A) where
     pub still_open : is_some s.view.open_number ≡ true → s.view.open_number ≡ Some i
     still_open some =
         open_now
-        ∙ left (nat_lt f i) (sym (ap (λ (o : Option ℕ). is_some o) open_now) ∙ some)
+        ∙ open_by_floor (nat_lt f i) (sym (ap (λ (o : Option ℕ). is_some o) open_now) ∙ some)
       where
-        left : (b : Bool) → is_some (cond b None (Some i)) ≡ true → cond b None (Some i) ≡ Some i
-        left true e = absurd (true≢false (sym e))
-        left false e = refl
+        open_by_floor : (b : Bool) → is_some (cond b None (Some i)) ≡ true
+            → cond b None (Some i) ≡ Some i
+        open_by_floor true e = absurd (true≢false (sym e))
+        open_by_floor false e = refl
 
     module _ (u : SeatValue) (x : ℕ) (g : Findings A) (some : is_some s.view.open_number ≡ true)
         (at : IsSeatOf job.board.now u)
@@ -238,11 +242,11 @@ module _ {A : Type 0} (job : Job A) where
           → (g.short_of_memory ≡ false → FindsValid job i w.found g)
           → IsBetweenTheorems job (record { seat = u; found = g })
       settled is finds = record {
-        at = at;
+        of_board = at;
         closed = ap (λ (v : View). v.open_number) is;
         tells =
             λ e. let t = drawn.tells (short e) in let v = finds e in record {
-              found = valid_more w.found g i t.found drawn.theorem v;
+              found = findings_after_valid w.found g i t.found drawn.theorem v;
               settled =
                   ap (λ (v : View). v.settled) is
                   ∙ ap₂ (λ (l : List ℕ) (o : Option ℕ). l ++ open_list o)
@@ -263,18 +267,18 @@ module _ {A : Type 0} (job : Job A) where
           → (g.short_of_memory ≡ false → FindsFault job i w.found g)
           → IsBetweenTheorems job (record { seat = u; found = g })
       reported is own finds = record {
-        at = at;
+        of_board = at;
         closed = ap (λ (v : View). v.open_number) is;
         tells =
             λ e. let t = drawn.tells (short e) in let v = finds e in record {
-              found = fault_more w.found g i t.found drawn.theorem v;
+              found = findings_after_fault w.found g i t.found drawn.theorem v;
               settled =
                   ap (λ (v : View). v.settled) is ∙ same_settled ∙ t.settled ∙ sym v.valid_are;
               reported =
                   λ y p. ap faulty_index v.faulty_is
                   ∙ ap Some
-                  (only y
-                  (times_both y w.seat.view.reported (i ∷ [])
+                  (only_report y
+                  (times_in_either y w.seat.view.reported (i ∷ [])
                   (subst (λ (l : List ℕ). 0 < times_in y l)
                   (ap (λ (v : View). v.reported) is
                   ∙ ap₂ (λ (l : List ℕ) (o : Option ℕ). l ++ open_list o) same_reported
@@ -282,14 +286,15 @@ module _ {A : Type 0} (job : Job A) where
             };
       }
         where
-          only : (y : ℕ) → (0 < times_in y w.seat.view.reported) ⊎ (0 < times_in y (i ∷ [])) → i ≡ y
-          only y (inl h) =
+          only_report : (y : ℕ) → (0 < times_in y w.seat.view.reported)
+              ⊎ (0 < times_in y (i ∷ [])) → i ≡ y
+          only_report y (inl h) =
               let low = own y h in
-              let high = drawn.above y h in
+              let high = drawn.above_reported y h in
               let shut : s.view.open_number ≡ None =
               open_now ∙ ap (λ b. cond b None (Some i)) (lt-ltb f i (omega (arith, low, high))) in
               absurd (let no : None ≡ Some i = sym shut ∙ still_open some in cc)
-          only y (inr h) =
+          only_report y (inr h) =
               counted_is_equal y i
               (let one : times_in y (i ∷ []) ≡ cond (i == y) 1 0 + times_in y [] = refl in
               omega (arith, one, h))
@@ -334,12 +339,13 @@ unrecorded_less (suc n) i v w h l z p =
 
 module _ {A : Type 0} (job : Job A) where
   -- one worker's seat
-  pub gathered_first : (w : Worked A) (gs : List (Findings A)) → gs ≡ w.found ∷ [] → IsDone job w
+  pub gathered_of_first : (w : WorkerState A) (gs : List (Findings A)) → gs ≡ w.found
+      ∷ [] → IsDone job w
       → w.found.short_of_memory ≡ false → AreGathered job w.seat gs
-  gathered_first w gs are d short =
+  gathered_of_first w gs are d short =
       let t = d.between.tells short in
       subst (λ (l : List (Findings A)). AreGathered job w.seat l) (sym are) (record {
-        at = d.between.at;
+        of_board = d.between.of_board;
         closed = d.between.closed;
         over = d.over short;
         found =
@@ -356,7 +362,7 @@ module _ {A : Type 0} (job : Job A) where
       })
 
   -- one more worker's seat
-  pub gathered_more : (s u : SeatValue) (fs gs : List (Findings A)) (w : Worked A)
+  pub gathered_more : (s u : SeatValue) (fs gs : List (Findings A)) (w : WorkerState A)
       → gs ≡ fs ++ w.found ∷ [] → AreGathered job s fs → IsDone job w
       → w.found.short_of_memory ≡ false
       → IsSeatOf job.board.now u → u.view ≡ after_join s.view w.seat.view
@@ -364,7 +370,7 @@ module _ {A : Type 0} (job : Job A) where
   gathered_more s u fs gs w are h d short at is =
       let t = d.between.tells short in
       subst (λ (l : List (Findings A)). AreGathered job u l) (sym are) (record {
-        at = at;
+        of_board = at;
         closed = ap (λ (v : View). v.open_number) is ∙ h.closed;
         over = ap (λ (v : View). v.over) is ∙ ap (λ (b : Bool). b || w.seat.view.over) h.over;
         found =
@@ -372,11 +378,11 @@ module _ {A : Type 0} (job : Job A) where
             t.found;
         settled =
             λ i p. valid i
-            (times_both i s.view.settled w.seat.view.settled
+            (times_in_either i s.view.settled w.seat.view.settled
             (subst (λ (l : List ℕ). 0 < times_in i l) (ap (λ (v : View). v.settled) is) p));
         reported =
             λ i p. faulty i
-            (times_both i s.view.reported w.seat.view.reported
+            (times_in_either i s.view.reported w.seat.view.reported
             (subst (λ (l : List ℕ). 0 < times_in i l) (ap (λ (v : View). v.reported) is) p));
       })
     where
@@ -403,38 +409,41 @@ module _ {A : Type 0} (job : Job A) where
 pub unrecorded_drawn : (n i : ℕ) (v w u : View) → v.open_number ≡ None
     → w ≡ record v { open_number = Some i } → i < n → ((x : ℕ) → 0 < times_recorded x v → x < i)
     → ((x : ℕ) → times_recorded x u ≡ times_recorded x w) → unrecorded n u < unrecorded n v
-unrecorded_drawn n i v w u closed is l above kept = unrecorded_less n i v u more l unseen seen
+unrecorded_drawn n i v w u closed is l above kept =
+    unrecorded_less n i v u more l unrecorded_before recorded_after
   where
     at-open : (x : ℕ)
         → times_recorded x w
-        ≡ cond (i == x) 1 0 + times_in x v.settled + times_in x v.reported + times_in x v.skipped
+        ≡ cond (i == x) 1 0 + times_in x v.settled + times_in x v.reported + times_in x
+        v.between_after_skip
     at-open x = ap (λ (y : View). times_recorded x y) is
 
     at-closed : (x : ℕ)
         → times_recorded x v
-        ≡ 0 + times_in x v.settled + times_in x v.reported + times_in x v.skipped
+        ≡ 0 + times_in x v.settled + times_in x v.reported + times_in x v.between_after_skip
     at-closed x =
         ap (λ (o : Option ℕ). times_open x o + times_in x v.settled + times_in x v.reported
-        + times_in x v.skipped) closed
+        + times_in x v.between_after_skip) closed
 
     more : (x : ℕ) → times_recorded x v ≤ times_recorded x u
     more x = let k = kept x in let o = at-open x in let e = at-closed x in omega (arith, k, o, e)
 
-    unseen : times_recorded i v ≡ 0
-    unseen = by_record (cases_lt 0 (times_recorded i v))
+    unrecorded_before : times_recorded i v ≡ 0
+    unrecorded_before = by_record (cases_lt 0 (times_recorded i v))
       where
         by_record : (0 < times_recorded i v) ⊎ (times_recorded i v ≤ 0) → times_recorded i v ≡ 0
         by_record (inl p) = absurd (let q = above i p in omega (arith, q))
         by_record (inr p) = omega (arith, p)
 
-    seen : 0 < times_recorded i u
-    seen = let k = kept i in let o = at-open i in let e = equal_is_counted i in
+    recorded_after : 0 < times_recorded i u
+    recorded_after = let k = kept i in let o = at-open i in let e = equal_is_counted i in
         omega (arith, k, o, e)
 
 -- the parts of a list whose elements all have a property
-pub All_front : {X : Type 0} (P : X → Type 0) (l m : List X) (x : X) → l ≡ m ++ x ∷ [] → All P l
+pub All_before_last : {X : Type 0} (P : X → Type 0) (l m : List X) (x : X) → l
+    ≡ m ++ x ∷ [] → All P l
     → All P m
-All_front {X} P l m x are all =
+All_before_last {X} P l m x are all =
     let h = subst (λ (xs : List X). All P xs) are all in
     λ k d lt. let r = h k d (let n = length-append m (x ∷ []) in omega (arith, n, lt)) in
     rw (sym (get_or_append_left m (x ∷ []) d k lt)) r

@@ -29,7 +29,7 @@ pub record AreCitedUpTo (db : List Statement) (by_essential : Bool) (ts : List �
       → IsCited db by_essential (slice_index ts i) (slice_index_or lists i [])
 
 -- the lists are what the theorems of a database cite
-pub record Shows (db : List Statement) (by_essential : Bool) (c : Citing) : Type 0 where
+pub record CitesAsDatabase (db : List Statement) (by_essential : Bool) (c : Citing) : Type 0 where
   pub same : (t a : ℕ) → HasCitation c t a ↔ proof.Cites db by_essential t a
 
 -- all theorems are valid, and these are their citations, each list in ascending order, with each
@@ -40,7 +40,7 @@ pub record AllCited (db : List Statement) (by_essential : Bool) (c : Citing) : T
   pub rising : (i : ℕ) → i < length c.theorems → IsStrictlyIncreasing (list_at c i)
   pub exact : (i : ℕ) → i < length c.theorems → (a : ℕ)
       → Decides (is_member (list_at c i) a) (proof.Cites db by_essential (theorem_at c i) a)
-  pub shows : Shows db by_essential c
+  pub shows : CitesAsDatabase db by_essential c
 
 -- the proof of some theorem has this fault, and those of the earlier ones have none
 abbrev pub IsFirstFault : List Statement → Fault → Type 0

@@ -5,7 +5,7 @@ ghost use Rattle.mm_spec.specs.Limits.{worker_limit};
 ghost use Rattle.mm_work.specs.Judged.{Judges};
 
 use crate::gate::Gate;
-use crate::in_order::{check_in_order, valid};
+use crate::in_order::{check_in_order, judged_valid};
 use crate::job::Job;
 use crate::judged::Judged;
 use crate::merge::{found_fault, merge};
@@ -59,5 +59,5 @@ pub fn check_all<'d, R: Threads + Wait + Sync, A: Allocator + Copy + Send + Sync
         return Ok(Judged::Faulty(found_fault(database, essential, &gathered.found, first)));
     }
     let lists = merge(alloc, database, essential, &gathered.found)?;
-    valid(alloc, database, essential, lists)
+    judged_valid(alloc, database, essential, lists)
 }

@@ -16,7 +16,7 @@ use mm_rules::Rules;
 use std::alloc::{AllocError, Allocator};
 
 /// The answer if all proofs are valid. `lists` has what each theorem cites, in file order.
-pub(crate) fn valid<'a, A: Allocator + Copy>(
+pub(crate) fn judged_valid<'a, A: Allocator + Copy>(
     alloc: A,
     database: &Database<'a, A>,
     essential: bool,
@@ -56,7 +56,7 @@ pub(crate) fn check_in_order<'a, A: Allocator + Copy>(
             Err(VerifyRefused::Memory) => return Err(AllocError),
         }
     }
-    valid(alloc, database, essential, lists)
+    judged_valid(alloc, database, essential, lists)
 }
 
 /// Checks the proofs of all theorems on the calling thread alone, in file order, with the answer of

@@ -7,8 +7,8 @@ use Rattle.mm_work.specs.declared.proof.VerifyRefused.{VerifyRefused}
 use Rattle.mm_work.proofs.VerifyLaw.{cited_more, cited_before, first_fault}
 use Rattle.mm_work.proofs.in_order.check_in_order.Goals as goal
 
-pub valid-requires : goal.valid-requires
-valid-requires g c =
+pub judged_valid-requires : goal.judged_valid-requires
+judged_valid-requires g c =
     let db = c.args.database.now.statements in
     let same = ap (λ (ts : List ℕ). length ts) c.theorems-theorems.ensures.theorems in
     let end : c.loop-theorem.theorem-index ≡ length (theorems db) = omega (arith, same) in

@@ -5,7 +5,7 @@ use Rattle.mm_proof.proofs.TheoremsLaw.{theorems_are}
 use Rattle.mm_work.specs.Judged.{Faults, HasFault, IsCited}
 use Rattle.mm_work.specs.declared.proof.VerifyRefused.{VerifyRefused}
 use Rattle.mm_work.specs.declared.worker.IndexedFault.{IndexedFault}
-use Rattle.mm_work.proofs.worker.check.Goals as goal
+use Rattle.mm_work.proofs.worker.check_theorem.Goals as goal
 
 pub verify-requires-clause-theorem : goal.verify-requires-clause-theorem
 verify-requires-clause-theorem g c =
@@ -18,25 +18,25 @@ bounds-theorems-index g c =
     subst (λ (ts : List ℕ). c.args.index < length ts) (sym c.theorems.ensures.theorems)
     c.requires.index
 
-pub returns-in-Ok-keep-clause-short : goal.returns-in-Ok-keep-clause-short
-returns-in-Ok-keep-clause-short g c = λ short. sym c.in-Ok-keep.ensures.short ∙ short
+pub returns-in-Ok-add_valid-clause-short : goal.returns-in-Ok-add_valid-clause-short
+returns-in-Ok-add_valid-clause-short g c = λ short. sym c.in-Ok-add_valid.ensures.short ∙ short
 
-pub returns-in-Ok-keep-clause-valid : goal.returns-in-Ok-keep-clause-valid
-returns-in-Ok-keep-clause-valid g c = λ short valid. record {
+pub returns-in-Ok-add_valid-clause-valid : goal.returns-in-Ok-add_valid-clause-valid
+returns-in-Ok-add_valid-clause-valid g c = λ short valid. record {
   cites = c.in-Ok.checked.cites;
   cited =
       subst (λ (ts : List ℕ). IsCited c.args.job.now.database.now.statements
       c.args.job.now.essential (get_or ts c.args.index 0) c.in-Ok.checked.cites)
       c.theorems.ensures.theorems c.in-Ok.ensures.valid;
-  valid_are = c.in-Ok-keep.ensures.valid;
+  valid_are = c.in-Ok-add_valid.ensures.valid;
   cites_are =
-      c.in-Ok-keep.ensures.cites
+      c.in-Ok-add_valid.ensures.cites
       ∙ ap (λ (l : List ℕ). c.args.found.now.cites ++ l ∷ []) c.cites.ensures;
-  faulty_is = c.in-Ok-keep.ensures.faulty;
+  faulty_is = c.in-Ok-add_valid.ensures.faulty;
 }
 
-pub returns-in-Ok-keep-clause-faulty : goal.returns-in-Ok-keep-clause-faulty
-returns-in-Ok-keep-clause-faulty g c = λ short faulty. absurd (true≢false faulty)
+pub returns-in-Ok-add_valid-clause-faulty : goal.returns-in-Ok-add_valid-clause-faulty
+returns-in-Ok-add_valid-clause-faulty g c = λ short faulty. absurd (true≢false faulty)
 
 pub returns-in-Err-clause-short : goal.returns-in-Err-clause-short
 returns-in-Err-clause-short g c = λ short. absurd (true≢false short)

@@ -1,6 +1,6 @@
 use Rattle.std.proofs.Common.{◌∙◌}
 use Rattle.mm_work.proofs.VerifyLaw.{all_cited}
-use Rattle.mm_work.proofs.in_order.valid.Goals as goal
+use Rattle.mm_work.proofs.in_order.judged_valid.Goals as goal
 
 pub new-requires : goal.new-requires
 new-requires g c =

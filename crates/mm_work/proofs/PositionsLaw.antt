@@ -7,55 +7,55 @@ use Rattle.std.proofs.lemmas.Bool.{cases_lt, cases_eq}
 use Rattle.std.proofs.Math.Seq.{take-append_seam}
 use Rattle.std.proofs.lemmas.Option.{slice_get-get_or, slice_get_within, get_or_from_slice_get}
 use Rattle.mm_spec.specs.Statement.{Statement}
-use Rattle.mm_work.specs.declared.merge.WorkerPlace.{WorkerPlace}
+use Rattle.mm_work.specs.declared.merge.ListPosition.{ListPosition}
 use Rattle.mm_work.specs.declared.worker.Findings.{Findings}
-use Rattle.mm_work.specs.Places.{IsNoted, HasPlace}
+use Rattle.mm_work.specs.Positions.{IsNoted, HasPosition}
 use Rattle.mm_work.specs.Judged.{IsCited}
 use Rattle.mm_work.specs.Workers.{IsFoundValid, AreFindings, theorem_of}
 
 -- an element that was written
-written : {X : Type 0} (xs : List X) (i : ℕ) (x : X) → i < length xs
+written_there : {X : Type 0} (xs : List X) (i : ℕ) (x : X) → i < length xs
     → slice_get (slice_set xs i x) i ≡ Some x
-written [] i x l = absurd (omega arith)
-written (y ∷ xs) zero x l = refl
-written (y ∷ xs) (suc i) x l = written xs i x (omega arith)
+written_there [] i x l = absurd (omega arith)
+written_there (y ∷ xs) zero x l = refl
+written_there (y ∷ xs) (suc i) x l = written_there xs i x (omega arith)
 
 -- the others
-kept : {X : Type 0} (xs : List X) (i j : ℕ) (x : X) → j ≢ i
+others_unchanged : {X : Type 0} (xs : List X) (i j : ℕ) (x : X) → j ≢ i
     → slice_get (slice_set xs i x) j ≡ slice_get xs j
-kept [] i j x n = refl
-kept (y ∷ xs) zero zero x n = absurd (n refl)
-kept (y ∷ xs) zero (suc j) x n = refl
-kept (y ∷ xs) (suc i) zero x n = refl
-kept (y ∷ xs) (suc i) (suc j) x n = kept xs i j x (λ e. n (ap suc e))
+others_unchanged [] i j x n = refl
+others_unchanged (y ∷ xs) zero zero x n = absurd (n refl)
+others_unchanged (y ∷ xs) zero (suc j) x n = refl
+others_unchanged (y ∷ xs) (suc i) zero x n = refl
+others_unchanged (y ∷ xs) (suc i) (suc j) x n = others_unchanged xs i j x (λ e. n (ap suc e))
 
 -- where a place is the same, what is noted there is too
-pub same_noted : (old new : List WorkerPlace) (worker : ℕ) (valid : List ℕ) (i : ℕ)
+pub same_noted : (old new : List ListPosition) (worker : ℕ) (valid : List ℕ) (i : ℕ)
     → slice_get new i ≡ slice_get old i → IsNoted old worker valid i → IsNoted new worker valid i
 same_noted old new worker valid i e h =
     record {
-      place = h.place;
-      place_is = e ∙ h.place_is;
+      position = h.position;
+      position_is = e ∙ h.position_is;
       worker_is = h.worker_is;
       within = h.within;
       index_is = h.index_is;
     }
 
-module _ (first old : List WorkerPlace) (worker : ℕ) (valid : List ℕ) (k x : ℕ)
-    (place : WorkerPlace)
+module _ (first old : List ListPosition) (worker : ℕ) (valid : List ℕ) (k x : ℕ)
+    (position : ListPosition)
     (index : get_or valid k 0 ≡ x) (inside : x < length old) (within : k < length valid)
-    (worker_is : place.worker ≡ worker) (place_is : place.place ≡ k) where
-  abbrev new : List WorkerPlace
-  new = slice_set old x place
+    (worker_is : position.worker ≡ worker) (list_is : position.list ≡ k) where
+  abbrev new : List ListPosition
+  new = slice_set old x position
 
-  here : IsNoted new worker valid x
-  here =
+  noted_here : IsNoted new worker valid x
+  noted_here =
       record {
-        place = place;
-        place_is = written old x place inside;
+        position = position;
+        position_is = written_there old x position inside;
         worker_is = worker_is;
-        within = subst (λ n. n < length valid) (sym place_is) within;
-        index_is = ap (λ n. get_or valid n 0) place_is ∙ index;
+        within = subst (λ n. n < length valid) (sym list_is) within;
+        index_is = ap (λ n. get_or valid n 0) list_is ∙ index;
       }
 
   pub noted_more : ((q : ℕ) → q < k → IsNoted old worker valid (get_or valid q 0)) → (q : ℕ)
@@ -64,13 +64,13 @@ module _ (first old : List WorkerPlace) (worker : ℕ) (valid : List ℕ) (k x :
     where
       by_index : (get_or valid q 0 ≡ x) ⊎ (get_or valid q 0 ≡ x → ⊥)
           → IsNoted new worker valid (get_or valid q 0)
-      by_index (inl e) = subst (λ i. IsNoted new worker valid i) (sym e) here
+      by_index (inl e) = subst (λ i. IsNoted new worker valid i) (sym e) noted_here
       by_index (inr n) = before (cases_lt q k)
         where
           before : (q < k) ⊎ (k ≤ q) → IsNoted new worker valid (get_or valid q 0)
           before (inl b) =
               same_noted old new worker valid (get_or valid q 0)
-              (kept old x (get_or valid q 0) place n) (h q b)
+              (others_unchanged old x (get_or valid q 0) position n) (h q b)
           before (inr b) =
               absurd (n (ap (λ j. get_or valid j 0) (let e : q ≡ k = omega arith in e) ∙ index))
 
@@ -80,37 +80,39 @@ module _ (first old : List WorkerPlace) (worker : ℕ) (valid : List ℕ) (k x :
     where
       by_index : (i ≡ x) ⊎ (i ≡ x → ⊥)
           → IsNoted new worker valid i ⊎ (slice_get new i ≡ slice_get first i)
-      by_index (inl e) = inl (subst (λ j. IsNoted new worker valid j) (sym e) here)
+      by_index (inl e) = inl (subst (λ j. IsNoted new worker valid j) (sym e) noted_here)
       by_index (inr n) = before (h i)
         where
           before : IsNoted old worker valid i ⊎ (slice_get old i ≡ slice_get first i)
               → IsNoted new worker valid i ⊎ (slice_get new i ≡ slice_get first i)
-          before (inl o) = inl (same_noted old new worker valid i (kept old x i place n) o)
-          before (inr e) = inr (kept old x i place n ∙ e)
+          before (inl o) =
+              inl (same_noted old new worker valid i (others_unchanged old x i position n) o)
+          before (inr e) = inr (others_unchanged old x i position n ∙ e)
 
 module _ {A : Type 0} (fs : List (Findings A)) where
   -- after one more worker
-  pub has_more : (old new : List WorkerPlace) (w : ℕ) (one : Findings A) → slice_get fs w ≡ Some one
+  pub has_position_more : (old new : List ListPosition) (w : ℕ) (one : Findings A)
+      → slice_get fs w ≡ Some one
       → ((i : ℕ) → Contains one.valid.items i → IsNoted new w one.valid.items i)
       → ((i : ℕ) → IsNoted new w one.valid.items i ⊎ (slice_get new i ≡ slice_get old i))
       → ((v : ℕ) (f : Findings A) (i : ℕ) → v < w → slice_get fs v ≡ Some f → Contains
       f.valid.items i
-      → HasPlace old fs i)
+      → HasPosition old fs i)
       → (v : ℕ) (f : Findings A) (i : ℕ) → v < w + 1 → slice_get fs v ≡ Some f
-      → Contains f.valid.items i → HasPlace new fs i
-  has_more old new w one is noted others h v f i l e m = by_worker (cases_lt v w)
+      → Contains f.valid.items i → HasPosition new fs i
+  has_position_more old new w one is noted others h v f i l e m = by_worker (cases_lt v w)
     where
-      own : IsNoted new w one.valid.items i → HasPlace new fs i
-      own n = record { worker = w; found = one; found_is = is; noted = n }
+      of_this_worker : IsNoted new w one.valid.items i → HasPosition new fs i
+      of_this_worker n = record { worker = w; found = one; found_is = is; noted = n }
 
-      by_worker : (v < w) ⊎ (w ≤ v) → HasPlace new fs i
-      by_worker (inl b) = keep (h v f i b e m) (others i)
+      by_worker : (v < w) ⊎ (w ≤ v) → HasPosition new fs i
+      by_worker (inl b) = by_note (h v f i b e m) (others i)
         where
-          keep : HasPlace old fs i
+          by_note : HasPosition old fs i
               → IsNoted new w one.valid.items i ⊎ (slice_get new i ≡ slice_get old i)
-              → HasPlace new fs i
-          keep o (inl n) = own n
-          keep o (inr s) =
+              → HasPosition new fs i
+          by_note o (inl n) = of_this_worker n
+          by_note o (inr s) =
               record {
                 worker = o.worker;
                 found = o.found;
@@ -122,38 +124,38 @@ module _ {A : Type 0} (fs : List (Findings A)) where
           let found : f ≡ one =
           sym (get_or_from_slice_get fs v f one e) ∙ ap (λ n. get_or fs n one) same
           ∙ get_or_from_slice_get fs w one one is in
-          own (noted i (subst (λ (g : Findings A). Contains g.valid.items i) found m))
+          of_this_worker (noted i (subst (λ (g : Findings A). Contains g.valid.items i) found m))
 
   -- what was found valid has a place
-  pub has_all : (places : List WorkerPlace)
+  pub has_position_all : (positions : List ListPosition)
       → ((v : ℕ) (f : Findings A) (i : ℕ) → v < length fs → slice_get fs v ≡ Some f
-      → Contains f.valid.items i → HasPlace places fs i)
-      → (i : ℕ) → IsFoundValid fs i → HasPlace places fs i
-  has_all places h i r =
+      → Contains f.valid.items i → HasPosition positions fs i)
+      → (i : ℕ) → IsFoundValid fs i → HasPosition positions fs i
+  has_position_all positions h i r =
       h r.1.0 r.0 i r.1.1 (slice_get-get_or fs r.1.0 r.0 r.1.1 ∙ ap Some r.1.2) r.2
 
 -- a list written back whole
-pub refilled : {X : Type 0} (len : ℕ) (new old : List X) → length new ≡ len
+pub written_back : {X : Type 0} (len : ℕ) (new old : List X) → length new ≡ len
     → take len (new ++ drop (length new) old) ≡ new
-refilled len new old e =
+written_back len new old e =
     subst (λ n. take n (new ++ drop (length new) old) ≡ new) e
     (take-append_seam new (drop (length new) old))
 
 module _ {A : Type 0} (db : List Statement) (by_essential : Bool) (fs : List (Findings A))
-    (found : All (AreFindings db by_essential) fs) (ps qs : List WorkerPlace) (k : ℕ)
-    (d : WorkerPlace)
-    (same : qs ≡ ps) (h : HasPlace ps fs k) where
+    (found : All (AreFindings db by_essential) fs) (ps qs : List ListPosition) (k : ℕ)
+    (d : ListPosition)
+    (same : qs ≡ ps) (h : HasPosition ps fs k) where
   -- the place that is read
-  abbrev p : WorkerPlace
+  abbrev p : ListPosition
   p = get_or qs k d
 
-  is : p ≡ h.noted.place
+  is : p ≡ h.noted.position
   is =
-      ap (λ (l : List WorkerPlace). get_or l k d) same
-      ∙ get_or_from_slice_get ps k h.noted.place d h.noted.place_is
+      ap (λ (l : List ListPosition). get_or l k d) same
+      ∙ get_or_from_slice_get ps k h.noted.position d h.noted.position_is
 
   worker : p.worker ≡ h.worker
-  worker = ap (λ (q : WorkerPlace). q.worker) is ∙ h.noted.worker_is
+  worker = ap (λ (q : ListPosition). q.worker) is ∙ h.noted.worker_is
 
   pub worker_within : p.worker < length fs
   worker_within =
@@ -168,25 +170,25 @@ module _ {A : Type 0} (db : List Statement) (by_essential : Bool) (fs : List (Fi
       subst (λ (f : Findings A). AreFindings db by_essential f) (found_there h.found)
       (found p.worker h.found worker_within)
 
-  place_within : p.place < length h.found.valid.items
-  place_within = subst (λ (q : WorkerPlace). q.place < length h.found.valid.items) (sym is)
+  list_index_within : p.list < length h.found.valid.items
+  list_index_within = subst (λ (q : ListPosition). q.list < length h.found.valid.items) (sym is)
       h.noted.within
 
-  pub list_within : (f : Findings A) → f ≡ h.found → p.place < length f.cites
+  pub list_within : (f : Findings A) → f ≡ h.found → p.list < length f.cites
   list_within f e =
-      subst (λ (g : Findings A). p.place < length g.cites) (sym e)
-      (subst (λ n. p.place < n) (sym are_found.count) place_within)
+      subst (λ (g : Findings A). p.list < length g.cites) (sym e)
+      (subst (λ n. p.list < n) (sym are_found.count) list_index_within)
 
-  pub list_cited : (f : Findings A) (list : List ℕ) → f ≡ h.found → list ≡ get_or f.cites p.place []
+  pub list_cited : (f : Findings A) (list : List ℕ) → f ≡ h.found → list ≡ get_or f.cites p.list []
       → IsCited db by_essential (theorem_of db k) list
   list_cited f list e l =
-      let index : get_or h.found.valid.items p.place 0 ≡ k =
-      ap (λ (q : WorkerPlace). get_or h.found.valid.items q.place 0) is ∙ h.noted.index_is in
+      let index : get_or h.found.valid.items p.list 0 ≡ k =
+      ap (λ (q : ListPosition). get_or h.found.valid.items q.list 0) is ∙ h.noted.index_is in
       let one =
-      subst (λ i. IsCited db by_essential (theorem_of db i) (get_or h.found.cites p.place [])) index
-      (are_found.each p.place place_within) in
+      subst (λ i. IsCited db by_essential (theorem_of db i) (get_or h.found.cites p.list [])) index
+      (are_found.each p.list list_index_within) in
       subst (λ (xs : List ℕ). IsCited db by_essential (theorem_of db k) xs)
-      (sym (l ∙ ap (λ (g : Findings A). get_or g.cites p.place []) e)) one
+      (sym (l ∙ ap (λ (g : Findings A). get_or g.cites p.list []) e)) one
 
-pub less_le : {m n : ℕ} → m < n → m ≤ n
-less_le l = omega (arith, l)
+pub at_most_of_less : {m n : ℕ} → m < n → m ≤ n
+at_most_of_less l = omega (arith, l)
