@@ -11,7 +11,7 @@ use Rattle.mm_board.specs.declared.views.View.{View}
 use Rattle.mm_board.specs.Records.{times_in, times_open, times_recorded, open_count, record_length}
 use Rattle.mm_board.specs.Rule.{total, times_reported, times_skipped, settled_count, over_share}
 use Rattle.mm_board.specs.Rule.{IsCountOrReported, SeatRule, BoardRule}
-use Rattle.mm_board.specs.Events.{after_split, new_seat_view, KeepsTheRest, after_join}
+use Rattle.mm_board.specs.Events.{after_split, new_seat_view, SplitKeepsRule, after_join}
 use Rattle.mm_board.specs.Events.{spent_view}
 use Rattle.mm_board.specs.Table.{MeetsRule}
 use Rattle.mm_board.proofs.SumsLaw.{total_set, total_snoc, times_in_append}
@@ -152,7 +152,7 @@ set_middle (u ∷ before) after v w = ap (λ l. u ∷ l) (set_middle before afte
 
 -- a split changes two views, and nothing else has to change
 pub split_keeps : (n : ℕ) (v : View) → 1 < v.share
-    → KeepsTheRest n v (after_split v) (new_seat_view v)
+    → SplitKeepsRule n v (after_split v) (new_seat_view v)
 split_keeps n v more c f d before after r =
     let s : State (Unit {0}) View =
     record { words = c ∷ f ∷ d ∷ []; homes = []; views = before ++ v ∷ after } in

@@ -84,8 +84,8 @@ new_seat_view v =
 -- A split that turns the view v of a seat into w, and gives a new seat the view u, changes nothing
 -- else: if the rule holds before it, it holds of the same words and the same views of all other
 -- seats after it.
-abbrev pub KeepsTheRest : ℕ → View → View → View → Type 0
-KeepsTheRest n v w u =
+abbrev pub SplitKeepsRule : ℕ → View → View → View → Type 0
+SplitKeepsRule n v w u =
     (claim_word floor_word settled_word : ℕ) (before after : List View)
     → BoardRule n claim_word floor_word settled_word (before ++ v ∷ after)
     → BoardRule n claim_word floor_word settled_word (before ++ w ∷ (after ++ u ∷ []))

@@ -11,8 +11,11 @@ use std::io::{self, ErrorKind, Write};
 /// A writer that puts its bytes at the front of a slice, and counts those that find no place.
 #[derive(Drop)]
 pub(crate) struct Front<'a> {
+    /// The slice.
     pub(crate) out: &'a mut [u8],
+    /// How many bytes were written, whether or not they found a place.
     pub(crate) len: usize,
+    /// What was written.
     pub(crate) written: GhostBytes,
     ghost counted: { len ≡ length written.bytes },
     ghost placed: { take len out.now ≡ take (length out.now) written.bytes },
@@ -45,8 +48,8 @@ impl<'a> Front<'a> {
     }
 }
 
-/// Puts bytes behind the first `len` bytes of `out`, as many of them as fit.
-pub(crate) fn place(out: &mut [u8], len: usize, bytes: &[u8])
+/// Copies bytes behind the first `len` bytes of `out`, as many of them as fit.
+pub(crate) fn copy_behind(out: &mut [u8], len: usize, bytes: &[u8])
     ensures old { take len out.new ≡ take len out.old }
     ensures long { length out.new ≡ length out.old }
     ensures new { take (len + length bytes.now) out.new
@@ -65,7 +68,7 @@ impl<'a> Write for Front<'a> {
         let Some(len) = self.len.checked_add(bytes.len()) else {
             return Err(io::Error::from(ErrorKind::FileTooLarge));
         };
-        place(self.out, self.len, bytes);
+        copy_behind(self.out, self.len, bytes);
         self.written.add(bytes);
         self.len = len;
         Ok(bytes.len())

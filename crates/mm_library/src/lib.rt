@@ -18,7 +18,7 @@ mod report;
 mod request;
 mod status;
 
-use crate::front::place;
+use crate::front::copy_behind;
 use crate::in_room::{report_and_citations_if_asked, report_if_asked};
 use crate::request::request;
 pub use crate::status::Status;
@@ -109,6 +109,6 @@ pub extern "C" fn mmdepend_report_and_citations(
 pub extern "C" fn mmdepend_version(out: &mut [u8]) -> usize
     ensures { (result ≡ length VERSION.now) × IsAtFront VERSION.now out.new }
 {
-    place(out, 0, VERSION.as_bytes());
+    copy_behind(out, 0, VERSION.as_bytes());
     VERSION.len()
 }

@@ -14,7 +14,7 @@ use Rattle.std.specs.Int.{bit_at}
 use Rattle.std.proofs.lemmas.Bool.{false_from_ne_true}
 use Rattle.mm_rows.specs.Bits.{is_bit, words_for, bit_index, AreTransposed}
 use Rattle.mm_rows.specs.BitRows.{row_at}
-use Rattle.mm_rows.specs.Bands.{bit_in_rows, IsColumnWord, AreRowBytes, Written}
+use Rattle.mm_rows.specs.Bands.{bit_in_rows, IsColumnWord, AreRowBytes, ColumnsWritten}
 use Rattle.mm_rows.proofs.BitLaw.{or_bits}
 use Rattle.mm_rows.proofs.TransposeLaw.{bit_index_word, bit_index_bit, row_bit, row_length}
 use lib.Lanes.{zip2, mask_l}
@@ -222,8 +222,8 @@ word_within columns down j w len small band size =
 -- one word more
 pub written_word : (rows columns : ℕ) (bits transposed : List ℕ) (w j word : ℕ) → w < words_for rows
     → j < columns → IsColumnWord rows (words_for columns) bits w j word
-    → Written rows columns bits transposed w j
-    → Written rows columns bits (set transposed (j * words_for rows + w) word) w (j + 1)
+    → ColumnsWritten rows columns bits transposed w j
+    → ColumnsWritten rows columns bits (set transposed (j * words_for rows + w) word) w (j + 1)
 written_word rows columns bits transposed w j word band small is h = record {
   size = length-set transposed place word ∙ h.size;
   earlier_bands =
@@ -261,7 +261,7 @@ written_word rows columns bits transposed w j word band small is h = record {
 pub written_zeros : (rows columns : ℕ) (bits transposed : List ℕ) (w from to : ℕ) → w < words_for
     rows
     → ((j : ℕ) → from ≤ j → j < to → j < columns → IsColumnWord rows (words_for columns) bits w j 0)
-    → from ≤ to → Written rows columns bits transposed w from → Written rows columns bits
+    → from ≤ to → ColumnsWritten rows columns bits transposed w from → ColumnsWritten rows columns bits
     transposed w to
 written_zeros rows columns bits transposed w from to band none le h = record {
   size = h.size;
@@ -281,7 +281,7 @@ written_zeros rows columns bits transposed w from to band none le h = record {
 
 pub written_zero : (rows columns : ℕ) (bits transposed : List ℕ) (w j word : ℕ) → w < words_for rows
     → IsColumnWord rows (words_for columns) bits w j word → word ≡ 0
-    → Written rows columns bits transposed w j → Written rows columns bits transposed w (j + 1)
+    → ColumnsWritten rows columns bits transposed w j → ColumnsWritten rows columns bits transposed w (j + 1)
 written_zero rows columns bits transposed w j word band is e =
     written_zeros rows columns bits transposed w j (j + 1) band
     (λ i a b s. let here : j ≡ i = omega arith in
@@ -293,7 +293,7 @@ pub written_skip : (rows columns : ℕ) (bits has_mark transposed : List ℕ) (a
     → ((k j : ℕ) → k < 64 → j < 64 * across → bit_in_rows rows across bits (64 * w + k) j ≡ true
     → is_bit has_mark j ≡ true)
     → from ≤ to → ((j : ℕ) → from ≤ j → j < to → is_bit has_mark j ≡ false)
-    → Written rows columns bits transposed w from → Written rows columns bits transposed w to
+    → ColumnsWritten rows columns bits transposed w from → ColumnsWritten rows columns bits transposed w to
 written_skip rows columns bits has_mark transposed across w from to width band marked le none =
     written_zeros rows columns bits transposed w from to band
     (λ j a b c. no_mark rows (words_for columns) bits w j (unmarked j a b c)) le
@@ -310,7 +310,7 @@ written_skip rows columns bits has_mark transposed across w from to width band m
 
 -- the next band
 pub written_band : (rows columns : ℕ) (bits transposed : List ℕ) (w from : ℕ) → columns ≤ from
-    → Written rows columns bits transposed w from → Written rows columns bits transposed (w + 1) 0
+    → ColumnsWritten rows columns bits transposed w from → ColumnsWritten rows columns bits transposed (w + 1) 0
 written_band rows columns bits transposed w from le h = record {
   size = h.size;
   earlier_bands = λ j v a b d. by_band j v a b d (cases_eq v w);
@@ -329,7 +329,7 @@ written_band rows columns bits transposed w from le h = record {
 
 -- all bands are written
 pub written_all : (rows columns : ℕ) (bits transposed : List ℕ) (w : ℕ) → words_for rows ≤ w
-    → Written rows columns bits transposed w 0 → AreTransposed rows columns bits transposed
+    → ColumnsWritten rows columns bits transposed w 0 → AreTransposed rows columns bits transposed
 written_all rows columns bits transposed w le h = record {
   size = h.size;
   same = λ i j a b. cell i j (omega arith) b

@@ -108,7 +108,7 @@ filled_all c columns i row o within h = record {
     cites_at : (m : ℕ) → m < length (list_at c i) → HasCitation c (theorem_at c i)
         (get_or (list_at c i) m 0)
     cites_at m lt =
-        record { row = i; place = m; within = within; listed = lt; theorem = refl; cited = refl }
+        record { row = i; list_index = m; within = within; listed = lt; theorem = refl; cited = refl }
 
     marked_to_via : (a : ℕ) → IsVia c (list_at c i) (length (list_at c i)) a
         → RestsOn (HasCitation c) (theorem_at c i) a
@@ -123,11 +123,11 @@ filled_all c columns i row o within h = record {
     via_of_citation b a s v =
         let is : s.row ≡ i = index_is_unique c.theorems s.row i o.rising s.within
         within s.theorem in
-        let listed : s.place < length (list_at c i) =
-        subst (λ x. s.place < length (list_at c x)) is s.listed in
-        let cited : get_or (list_at c i) s.place 0 ≡ b =
-        subst (λ x. get_or (list_at c x) s.place 0 ≡ b) is s.cited in
-        (s.place, listed, subst (λ x. (x ≡ a) ⊎ RestsOn (HasCitation c) x a) (sym cited) v)
+        let listed : s.list_index < length (list_at c i) =
+        subst (λ x. s.list_index < length (list_at c x)) is s.listed in
+        let cited : get_or (list_at c i) s.list_index 0 ≡ b =
+        subst (λ x. get_or (list_at c x) s.list_index 0 ≡ b) is s.cited in
+        (s.list_index, listed, subst (λ x. (x ≡ a) ⊎ RestsOn (HasCitation c) x a) (sym cited) v)
 
     via_to_marked : (a : ℕ) → RestsOn (HasCitation c) (theorem_at c i) a
         → IsVia c (list_at c i) (length (list_at c i)) a

@@ -61,7 +61,7 @@ wave_more c waves i cited n wave r o within w lt inside is h = (
     cites =
         record {
           row = i;
-          place = n;
+          list_index = n;
           within = within;
           listed = listed;
           theorem = refl;
@@ -137,18 +137,18 @@ wave_all c waves i cited wave o within w h = (h.chain, longest)
     chain_from_cited m b s t chain =
         let row : s.row ≡ i = index_is_unique c.theorems s.row i o.rising s.within
         within s.theorem in
-        let listed : s.place < length (list_at c i) =
-        subst (λ x. s.place < length (list_at c x)) row s.listed in
-        let cited_b : get_or (list_at c i) s.place 0 ≡ b =
-        subst (λ x. get_or (list_at c x) s.place 0 ≡ b) row s.cited in
+        let listed : s.list_index < length (list_at c i) =
+        subst (λ x. s.list_index < length (list_at c x)) row s.listed in
+        let cited_b : get_or (list_at c i) s.list_index 0 ≡ b =
+        subst (λ x. get_or (list_at c x) s.list_index 0 ≡ b) row s.cited in
         let before : t.0 < i =
-        earlier_row c i t.0 s.place o within listed t.1 (t.2 ∙ sym cited_b) in
+        earlier_row c i t.0 s.list_index o within listed t.1 (t.2 ∙ sym cited_b) in
         let deep =
         (w.each t.0 before).1 m
         (subst (λ x. TheoremChain (HasCitation c) (IsCitingTheorem c) x m) (sym t.2) chain) in
         let up =
-        h.above s.place t.0 (subst (λ xs. s.place < length xs) (sym h.same) listed) t.1
-        (t.2 ∙ sym cited_b ∙ ap (λ xs. get_or xs s.place 0) (sym h.same)) in
+        h.above s.list_index t.0 (subst (λ xs. s.list_index < length xs) (sym h.same) listed) t.1
+        (t.2 ∙ sym cited_b ∙ ap (λ xs. get_or xs s.list_index 0) (sym h.same)) in
         omega (arith, deep, up)
 
     longest : (m : ℕ) → TheoremChain (HasCitation c) (IsCitingTheorem c) (theorem_at c i) m → m
@@ -193,7 +193,7 @@ lower c waves i r k w within inside listed e =
     let cites : HasCitation c (theorem_at c i) (theorem_at c r) =
     record {
       row = i;
-      place = k;
+      list_index = k;
       within = within;
       listed = listed;
       theorem = refl;

@@ -6,7 +6,7 @@ ghost use Rattle.std.specs.Prelude.{◌≡◌, ◌<◌, ◌≤◌, ◌+◌, ◌*
 ghost use Rattle.std.specs.Prelude.{false};
 ghost use Rattle.std.specs.Int.{bit_at};
 ghost use Rattle.mm_rows.specs.Bits.{is_bit, words_for, AreTransposed, IsTable};
-ghost use Rattle.mm_rows.specs.Bands.{bit_in_rows, AreRowBytes, Written};
+ghost use Rattle.mm_rows.specs.Bands.{bit_in_rows, AreRowBytes, ColumnsWritten};
 
 use crate::bits::{next_set, or_row};
 use std::alloc::{AllocError, Allocator};
@@ -68,8 +68,8 @@ fn write_columns(
     requires table { IsTable rows columns bits.now }
     requires band { 64 * w < rows }
     requires within { at < 8 * words_for columns }
-    requires written { Written rows columns bits.now transposed.old w (8 * at) }
-    ensures { Written rows columns bits.now transposed.new w (8 * at + 8) }
+    requires written { ColumnsWritten rows columns bits.now transposed.old w (8 * at) }
+    ensures { ColumnsWritten rows columns bits.now transposed.new w (8 * at + 8) }
 {
     let down = rows.div_ceil(64);
     let bytes = u8x64::from_array(row_bytes(bits, columns.div_ceil(64), rows, w, at));
@@ -95,8 +95,8 @@ fn transpose_band(
     requires table { IsTable rows columns bits.now }
     requires band { 64 * w < rows }
     requires width { length has_mark.old ≡ words_for columns }
-    requires written { Written rows columns bits.now transposed.old w 0 }
-    ensures { Written rows columns bits.now transposed.new (w + 1) 0 }
+    requires written { ColumnsWritten rows columns bits.now transposed.old w 0 }
+    ensures { ColumnsWritten rows columns bits.now transposed.new (w + 1) 0 }
 {
     mark_columns(has_mark, bits, rows, w);
     let mut at = 0usize;

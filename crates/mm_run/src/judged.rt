@@ -1,7 +1,7 @@
 //! What judging a text comes to.
 
 ghost use Rattle.std.specs.Prelude.{Bool, List, ℕ};
-ghost use Rattle.mm_work.specs.Judged.{Judges};
+ghost use Rattle.mm_work.specs.Judged.{IsJudgement};
 ghost use Rattle.mm_run.specs.Counted.{IsJudgedText, IsReadFrom};
 
 use mm_database::Database;
@@ -26,7 +26,7 @@ pub(crate) fn judged_text<'a, A: Allocator>(
 ) -> JudgedText<'a, A>
     ensures { (text : List ℕ) → (essential with_open : Bool)
         → IsReadFrom text with_open database.entry
-        → Judges database.entry.statements essential judged
+        → IsJudgement database.entry.statements essential judged
         → IsJudgedText text essential with_open result }
 {
     match judged {

@@ -111,10 +111,10 @@ module _ (db : List Statement) (few : length db < 2 ^ 31) (complete : AreComplet
         to : (t a : ℕ) → HasCitation c t a → proof.Cites db by_essential t a
         to t a x =
             let l = get_or lists x.row [] in
-            let b = get_or l x.place 0 in
+            let b = get_or l x.list_index 0 in
             subst (λ y. proof.Cites db by_essential t y) x.cited
             (subst (λ y. proof.Cites db by_essential y b) x.theorem
-            (((h.each x.row x.within).checked.exact b).0 (member_at l x.place 0 x.listed)))
+            (((h.each x.row x.within).checked.exact b).0 (member_at l x.list_index 0 x.listed)))
 
         from : (t a : ℕ) → proof.Cites db by_essential t a → HasCitation c t a
         from t a x =
@@ -126,7 +126,7 @@ module _ (db : List Statement) (few : length db < 2 ^ 31) (complete : AreComplet
             let q = member_place l a m in
             record {
               row = p.0;
-              place = q.0;
+              list_index = q.0;
               within = p.1;
               listed = q.1;
               theorem = p.2;

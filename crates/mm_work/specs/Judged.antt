@@ -51,12 +51,12 @@ abbrev pub HasFault : List Statement → ℕ → Fault → Type 0
 HasFault db t f = ProofFault db t (proof_end (slice_get db t)) f
 
 -- if the refusal is a fault, it is that of the theorem's proof
-abbrev pub Faults : List Statement → ℕ → VerifyRefused → Type 0
-Faults db t (FaultOf f) = HasFault db t f
-Faults db t Memory = Unit {0}
+abbrev pub IsRefusalOf : List Statement → ℕ → VerifyRefused → Type 0
+IsRefusalOf db t (FaultOf f) = HasFault db t f
+IsRefusalOf db t Memory = Unit {0}
 
 -- what was found: the citations of all theorems, or the first fault of a proof
 module _ {A : Type 0} where
-  abbrev pub Judges : List Statement → Bool → Judged A → Type 0
-  Judges db by_essential (Valid citations) = AllCited db by_essential citations
-  Judges db by_essential (Faulty f) = IsFirstFault db f
+  abbrev pub IsJudgement : List Statement → Bool → Judged A → Type 0
+  IsJudgement db by_essential (Valid citations) = AllCited db by_essential citations
+  IsJudgement db by_essential (Faulty f) = IsFirstFault db f

@@ -2,7 +2,7 @@
 
 ghost use Rattle.std.specs.Prelude.{◌≡◌, ◌≤◌, IfOk};
 ghost use Rattle.mm_spec.specs.Limits.{worker_limit};
-ghost use Rattle.mm_work.specs.Judged.{Judges};
+ghost use Rattle.mm_work.specs.Judged.{IsJudgement};
 
 use crate::gate::Gate;
 use crate::in_order::{check_in_order, judged_valid};
@@ -34,7 +34,7 @@ pub fn check_all<'d, R: Threads + Wait + Sync, A: Allocator + Copy + Send + Sync
     gate: &G,
 ) -> Result<Judged<A>, AllocError>
     requires { (1 ≤ workers) × (workers ≤ worker_limit) }
-    ensures { IfOk result (λ judged. Judges database.now.statements essential judged) }
+    ensures { IfOk result (λ judged. IsJudgement database.now.statements essential judged) }
 {
     let count = database.theorems().len();
     let rules = Rules::new(alloc, database)?;

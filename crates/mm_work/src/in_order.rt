@@ -2,7 +2,7 @@
 
 ghost use Rattle.std.specs.Prelude.{◌≡◌, IfOk, length};
 ghost use Rattle.mm_rules.specs.Rules.{AreRules};
-ghost use Rattle.mm_work.specs.Judged.{Judges, AreCitedUpTo};
+ghost use Rattle.mm_work.specs.Judged.{IsJudgement, AreCitedUpTo};
 ghost use Rattle.mm_spec.specs.Output.{theorems};
 
 use crate::judged::Judged;
@@ -24,7 +24,7 @@ pub(crate) fn judged_valid<'a, A: Allocator + Copy>(
 ) -> Result<Judged<A>, AllocError>
     requires { AreCitedUpTo database.now.statements essential (theorems database.now.statements)
         (length (theorems database.now.statements)) lists }
-    ensures { IfOk result (λ judged. Judges database.now.statements essential judged) }
+    ensures { IfOk result (λ judged. IsJudgement database.now.statements essential judged) }
 {
     // The proof needs the clauses of `len`.
     let _ = database.len();
@@ -42,7 +42,7 @@ pub(crate) fn check_in_order<'a, A: Allocator + Copy>(
     essential: bool,
 ) -> Result<Judged<A>, AllocError>
     requires { AreRules database.now.statements rules.now }
-    ensures { IfOk result (λ judged. Judges database.now.statements essential judged) }
+    ensures { IfOk result (λ judged. IsJudgement database.now.statements essential judged) }
 {
     // The proof needs the clauses of `len`.
     let _ = database.len();
@@ -66,7 +66,7 @@ pub fn check_alone<'a, A: Allocator + Copy>(
     database: &Database<'a, A>,
     essential: bool,
 ) -> Result<Judged<A>, AllocError>
-    ensures { IfOk result (λ judged. Judges database.now.statements essential judged) }
+    ensures { IfOk result (λ judged. IsJudgement database.now.statements essential judged) }
 {
     let rules = Rules::new(alloc, database)?;
     check_in_order(alloc, database, &rules, essential)

@@ -1,7 +1,7 @@
 use Rattle.std.proofs.Common.{◌<◌, ◌+◌, ◌*◌, ◌/◌, length, arith, subst, ap, sym, ◌∙◌}
 use Rattle.mm_rows.specs.Bits.{words_for}
 use Rattle.mm_rows.proofs.BandLaw.{written_skip, written_band}
-use Rattle.mm_rows.specs.Bands.{Written}
+use Rattle.mm_rows.specs.Bands.{ColumnsWritten}
 use Rattle.mm_rows.proofs.transpose.transpose_band.Goals as goal
 
 pub write_columns-requires-clause-written : goal.write_columns-requires-clause-written
@@ -40,7 +40,7 @@ pub loop-j-preserved : goal.loop-j-preserved
 loop-j-preserved c = record {
   within = (let i = c.in-Some.ensures.some.1 in omega (arith, i));
   written =
-      subst (λ n. Written c.args.rows c.args.columns c.args.bits.now c.write_columns.new.transposed
+      subst (λ n. ColumnsWritten c.args.rows c.args.columns c.args.bits.now c.write_columns.new.transposed
       c.args.w n) (omega arith) c.write_columns.ensures;
 }
 

@@ -2,7 +2,7 @@ use Rattle.std.proofs.Common.{◌≡◌, ◌∙◌, ◌+◌, ◌-◌, ℕ, List,
 use Rattle.std.proofs.lemmas.List.{length-drop}
 use borrow.Rule.Slice.PartMut.{post_of}
 use Rattle.mm_library.proofs.FrontLaw.{put_behind}
-use Rattle.mm_library.proofs.front.place.Goals as goal
+use Rattle.mm_library.proofs.front.copy_behind.Goals as goal
 
 pub returns-then-len-out-clause-new : goal.returns-then-len-out-clause-new
 returns-then-len-out-clause-new c =
