@@ -5,6 +5,7 @@ use Rattle.std.proofs.lemmas.Bool.{ltb-true, ltb-false}
 use Rattle.std.proofs.lemmas.List.{append-nil, length-append}
 use Rattle.mm_spec.specs.Request.{Request}
 use Rattle.mm_spec.specs.Output.{IsOutput}
+use Rattle.mm_library.specs.Calls.{lengths_of}
 use Rattle.mm_library.specs.Calls.{Asks, Call, CallEnds, HasVerdict, Refuses, HasOutputs}
 use Rattle.mm_library.specs.Calls.{WritingEnds, status_number}
 use Rattle.mm_library.specs.declared.status.Status.{Status}
@@ -35,6 +36,11 @@ writing_ends verdict with_open requests text lengths out len judged wrote total 
     by_length true e = (wrote, (let l = ltb-true (length out) len e in omega (arith, l, total)))
     by_length false e =
         fits verdict judged (let l = ltb-false (length out) len e in omega (arith, l, total))
+
+-- the lengths of outputs that weren't written
+pub no_lengths : (with_citations : Bool) → sum (lengths_of with_citations 0 0) ≡ 0
+no_lengths true = refl
+no_lengths false = refl
 
 -- one output, which is all that was written
 pub one_output : (request : Request) (text out bytes seen : List ℕ) (len : ℕ)

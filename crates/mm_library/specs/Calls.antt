@@ -124,3 +124,14 @@ CallEnds status call of text lengths out =
 -- the same request, for what each theorem cites
 abbrev pub citing : Request → Request
 citing request = record request { choice = Citations }
+
+-- the requests whose outputs a call writes: the one that it asks for, and if wanted the same for
+-- the citations
+abbrev pub requests_of : (with_citations : Bool) → Request → List Request
+requests_of with_citations request =
+    request ∷ (if with_citations then citing request ∷ [] else [])
+
+-- the lengths of these outputs
+abbrev pub lengths_of : (with_citations : Bool) → (report_len citations_len : ℕ) → List ℕ
+lengths_of with_citations report_len citations_len =
+    report_len ∷ (if with_citations then citations_len ∷ [] else [])

@@ -19,7 +19,7 @@ mod request;
 mod status;
 
 use crate::front::copy_behind;
-use crate::in_room::{report_and_citations_if_asked, report_if_asked};
+use crate::in_room::outputs_if_asked;
 use crate::request::request;
 pub use crate::status::Status;
 pub use mm_room::Room;
@@ -67,7 +67,7 @@ pub extern "C" fn mmdepend_report(
         (λ request. request ∷ []) (take reading_limit text.now) (written.new ∷ []) out.new }
 {
     let request = request(only, has_only, choice, form, essential, with_open);
-    let (status, len) = report_if_asked(room, text, request, out);
+    let (status, len, _) = outputs_if_asked(room, text, request, false, out);
     *written = len;
     status.number()
 }
@@ -97,7 +97,7 @@ pub extern "C" fn mmdepend_report_and_citations(
         (report_len.new ∷ citations_len.new ∷ []) out.new }
 {
     let request = request(only, has_only, choice, form, essential, with_open);
-    let (status, report, citations) = report_and_citations_if_asked(room, text, request, out);
+    let (status, report, citations) = outputs_if_asked(room, text, request, true, out);
     *report_len = report;
     *citations_len = citations;
     status.number()

@@ -1,10 +1,10 @@
 use Rattle.std.proofs.Common.{subst}
 use Rattle.mm_spec.specs.Request.{Request}
 use Rattle.mm_run.specs.Counted.{IsJudgedText}
-use Rattle.mm_library.proofs.report.report.Goals as goal
+use Rattle.mm_library.proofs.report.outputs.Goals as goal
 
-pub write_report-requires : goal.write_report-requires
-write_report-requires g c =
+pub write_outputs-requires : goal.write_outputs-requires
+write_outputs-requires g c =
     record {
       judged =
           subst

@@ -1,0 +1,35 @@
+use Rattle.std.proofs.Common.{◌≡◌, ◌∙◌, ◌+◌, ap, Bool, true, false, List, ℕ, [], ◌∷◌, ◌-◌, length}
+use Rattle.std.proofs.Common.{rules, subst, sym, arith}
+use Rattle.std.proofs.lemmas.List.{length-append}
+use Rattle.mm_spec.specs.Output.{IsOutput}
+use Rattle.mm_spec.specs.Request.{Request}
+use Rattle.mm_run.specs.Counted.{IsJudgedText}
+use Rattle.mm_library.specs.Calls.{WritingEnds, citing, requests_of, lengths_of}
+use Rattle.mm_library.specs.declared.status.Status.{Status}
+use Rattle.mm_library.proofs.CallLaw.{writing_ends, one_output, two_outputs}
+use Rattle.mm_library.proofs.report.write_outputs.Goals as goal
+
+pub write_output-requires-2 : goal.write_output-requires-2
+write_output-requires-2 g c =
+    record {
+      judged =
+          subst
+          (λ (r : Request). IsJudgedText c.args.text.now r.essential r.with_open
+          c.args.judged.now) (sym c.citing.ensures) c.requires.judged;
+    }
+
+pub returns : goal.returns
+returns g c =
+    let request = c.args.request.now in
+    let text = c.args.text.now in
+    let to = c.write_output.new.to in
+    let wrote = c.in-Ok.ensures.wrote in
+    let ends : Status → List ℕ → Type 0 =
+    λ s out. WritingEnds s request.with_open (request ∷ []) text (to.len ∷ []) out in
+    rw c.if-with_citations.false
+    (subst (λ (out : List ℕ). ends c.status.result out) {x = to.out.now} (search rules)
+    (subst (λ (s : Status). ends s to.out.now) (sym c.status.ensures)
+    (writing_ends c.in-Ok.verdict request.with_open (request ∷ []) text (to.len ∷ []) to.out.now
+    to.len wrote.0
+    (one_output request text to.out.now wrote.1.0 to.written.bytes to.len wrote.1.1
+    (search rules) to.counted to.placed) (omega arith))))
