@@ -20,21 +20,22 @@ use Rattle.mm_board.proofs.SumsLaw.{times_in_append, settled_at_most_recorded}
 zero_or_positive : (m : ℕ) → (m ≡ 0) ⊎ (0 < m)
 zero_or_positive m = elim (cases_lt 0 m) [ inl p ↦ inr p | inr z ↦ inl (omega arith) ]
 
-module _ (n c f d : ℕ) (views : List View) (v : View) (r : BoardRule n c f d views)
+module _ (n c f d : ℕ) (views : List View) (v : View) (rule : BoardRule n c f d views)
     (here : IsSeatView views v) where
   pub recorded_below : (x : ℕ) → 0 < times_recorded x v → x < min c n
   recorded_below x p =
-      let l = one_at_most_total (times_recorded x) views here.0 v here.1 in let o = r.once x in
+      let l = one_at_most_total (times_recorded x) views here.0 v here.1 in let o = rule.once x in
       below_by_once x (min c n) (omega arith)
 
   pub recorded_at_most_once : (x : ℕ) → times_recorded x v ≤ 1
   recorded_at_most_once x =
-      let l = one_at_most_total (times_recorded x) views here.0 v here.1 in let o = r.once x in
+      let l = one_at_most_total (times_recorded x) views here.0 v here.1 in let o = rule.once x in
       let m = at_most_once x (min c n) in omega arith
 
   pub few : v.share ≤ 64
   few =
-      let l = one_at_most_total (λ (u : View). u.share) views here.0 v here.1 in let o = r.shares in
+      let l = one_at_most_total (λ (u : View). u.share) views here.0 v here.1 in
+      let o = rule.shares in
       omega arith
 
   pub floor_at_most_reported : (x : ℕ) → 0 < times_in x v.reported → f ≤ x
@@ -42,43 +43,48 @@ module _ (n c f d : ℕ) (views : List View) (v : View) (r : BoardRule n c f d v
       let l : times_in x v.reported
       ≤ times_reported views x = one_at_most_total
       (λ (u : View). times_in x u.reported) views here.0 v here.1 in
-      r.least.lowest x (omega arith)
+      rule.least.lowest x (omega arith)
 
   pub floor_at_most_seen : 0 < v.share → f ≤ v.seen
-  floor_at_most_seen live = (r.seats here.0 v here.1).floor live
+  floor_at_most_seen live = (rule.seats here.0 v here.1).floor live
 
   pub settled_at_most_count : d ≤ n
-  settled_at_most_count = let l = settled_at_most_recorded views in let o = r.lengths in let s =
-      r.settled in omega arith
+  settled_at_most_count = let l = settled_at_most_recorded views in let o = rule.lengths in let s =
+      rule.settled in omega arith
 
   -- a seat of all shares: its record is that of all seats
   total_is_own : (g : View → ℕ) → ((u : View) → HasEmptyRecord u → g u ≡ 0) → v.share ≡ 64
       → total g views ≡ g v
   total_is_own g none all =
-      alone g views here.0 v here.1 (r.shares ∙ sym all)
-      (λ j u at z. none u ((r.seats j u at).spent z))
+      alone g views here.0 v here.1 (rule.shares ∙ sym all)
+      (λ j u at z. none u ((rule.seats j u at).spent z))
 
   spent_over_share : (u : View) → u.share ≡ 0 → over_share u ≡ 0
   spent_over_share u none =
       elim u.over as (λ (over : Bool). cond over u.share 0 ≡ 0) [ true ↦ none | false ↦ refl ]
 
   empty_record : (x : ℕ) (u : View) → HasEmptyRecord u → times_recorded x u ≡ 0
-  empty_record x u e =
+  empty_record x u has_empty_record =
       let a : times_open x u.open_number ≡ 0 =
-      ap (λ (o : Option ℕ). times_open x o) e.nothing_open in
-      let b : times_in x u.settled ≡ 0 = ap (λ (l : List ℕ). times_in x l) e.none_settled in
-      let c : times_in x u.reported ≡ 0 = ap (λ (l : List ℕ). times_in x l) e.none_reported in
-      let d : times_in x u.skipped ≡ 0 = ap (λ (l : List ℕ). times_in x l) e.none_skipped in
+      ap (λ (o : Option ℕ). times_open x o) has_empty_record.nothing_open in
+      let b : times_in x u.settled
+      ≡ 0 = ap (λ (l : List ℕ). times_in x l) has_empty_record.none_settled in
+      let c : times_in x u.reported
+      ≡ 0 = ap (λ (l : List ℕ). times_in x l) has_empty_record.none_reported in
+      let d : times_in x u.skipped
+      ≡ 0 = ap (λ (l : List ℕ). times_in x l) has_empty_record.none_skipped in
       let is : times_recorded x u
       ≡ times_open x u.open_number + times_in x u.settled + times_in x u.reported
       + times_in x u.skipped = refl in omega arith
 
   empty_length : (u : View) → HasEmptyRecord u → record_length u ≡ 0
-  empty_length u e =
-      let a : open_count u.open_number ≡ 0 = ap (λ (o : Option ℕ). open_count o) e.nothing_open in
-      let b : length u.settled ≡ 0 = ap (λ (l : List ℕ). length l) e.none_settled in
-      let c : length u.reported ≡ 0 = ap (λ (l : List ℕ). length l) e.none_reported in
-      let d : length u.skipped ≡ 0 = ap (λ (l : List ℕ). length l) e.none_skipped in
+  empty_length u has_empty_record =
+      let a : open_count u.open_number
+      ≡ 0 = ap (λ (o : Option ℕ). open_count o) has_empty_record.nothing_open in
+      let b : length u.settled ≡ 0 = ap (λ (l : List ℕ). length l) has_empty_record.none_settled in
+      let c : length u.reported
+      ≡ 0 = ap (λ (l : List ℕ). length l) has_empty_record.none_reported in
+      let d : length u.skipped ≡ 0 = ap (λ (l : List ℕ). length l) has_empty_record.none_skipped in
       let is : record_length u
       ≡ open_count u.open_number + length u.settled + length u.reported
       + length u.skipped = refl in omega arith
@@ -87,24 +93,25 @@ module _ (n c f d : ℕ) (views : List View) (v : View) (r : BoardRule n c f d v
   pub whole_rule : v.share ≡ 64 → BoardRule n c f d (v ∷ [])
   whole_rule all = record {
     once =
-        λ x. let o = r.once x in let own = total_is_own (times_recorded x) (empty_record x) all in
+        λ x. let o = rule.once x in
+        let own = total_is_own (times_recorded x) (empty_record x) all in
         omega arith;
-    lengths = let o = r.lengths in let own = total_is_own record_length empty_length all in
+    lengths = let o = rule.lengths in let own = total_is_own record_length empty_length all in
         omega arith;
     least =
         record {
-          at_most = r.least.at_most;
-          lowest = λ y p. r.least.lowest y (let same = same_times_reported y in omega arith);
-          is_count_or_reported = still_count_or_reported f r.least.is_count_or_reported;
+          at_most = rule.least.at_most;
+          lowest = λ y p. rule.least.lowest y (let same = same_times_reported y in omega arith);
+          is_count_or_reported = still_count_or_reported f rule.least.is_count_or_reported;
         };
     settled =
-        let o : d ≡ settled_count views = r.settled in
+        let o : d ≡ settled_count views = rule.settled in
         let own : settled_count views
         ≡ length v.settled = total_is_own (λ (u : View). length u.settled)
         (λ u e. ap (λ (l : List ℕ). length l) e.none_settled) all in
         omega arith;
     skipped =
-        λ x p. r.skipped x
+        λ x p. rule.skipped x
         (let own : times_skipped views x
         ≡ times_in x v.skipped = total_is_own (λ (u : View). times_in x u.skipped)
         (λ u e. ap (λ (l : List ℕ). times_in x l) e.none_skipped) all in
@@ -112,8 +119,8 @@ module _ (n c f d : ℕ) (views : List View) (v : View) (r : BoardRule n c f d v
     seats = at;
     shares = omega arith;
     bound =
-        let b = r.bound in
-        let own = alone over_share views here.0 v here.1 (r.shares ∙ sym all)
+        let b = rule.bound in
+        let own = alone over_share views here.0 v here.1 (rule.shares ∙ sym all)
         (λ j u there z. spent_over_share u z) in
         omega arith;
   }
@@ -132,7 +139,7 @@ module _ (n c f d : ℕ) (views : List View) (v : View) (r : BoardRule n c f d v
 
       one : SeatRule n (v ∷ []) c f v
       one =
-          let o = r.seats here.0 v here.1 in
+          let o = rule.seats here.0 v here.1 in
           record {
             count = o.count;
             floor = o.floor;
@@ -157,8 +164,8 @@ module _ (n c f d : ℕ) (views : List View) (v : View) (r : BoardRule n c f d v
       → times_in x v.settled ≡ 1
   all_settled all ended closed x low =
       let w = whole_rule all in
-      let past = (r.seats here.0 v here.1).over ended in
-      let few = r.least.at_most in
+      let past = (rule.seats here.0 v here.1).over ended in
+      let few = rule.least.at_most in
       let one = once_below_is_one x (min c n) (omega arith) in
       let o : times_recorded x v + 0 ≡ once_below x (min c n) = w.once x in
       let a : times_open x v.open_number ≡ 0 = ap (λ (q : Option ℕ). times_open x q) closed in
@@ -181,7 +188,7 @@ module _ (n c f d : ℕ) (views : List View) (v : View) (r : BoardRule n c f d v
         | inr p ↦
             let l : times_in x v.skipped ≤ times_skipped views x =
             one_at_most_total (λ (u : View). times_in x u.skipped) views here.0 v here.1 in
-            let u = r.skipped x (omega arith) in absurd (omega arith)
+            let u = rule.skipped x (omega arith) in absurd (omega arith)
       ]
 
 pub records_apart : (v w : View) (x : ℕ) → w.open_number ≡ None → times_recorded x (after_join v w)

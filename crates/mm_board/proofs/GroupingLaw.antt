@@ -27,26 +27,26 @@ record Regroups (n c f : ℕ) (views after : List View) : Type 0 where
   over : total over_share views ≤ total over_share after
   seats : (seat : ℕ) (v : View) → get_elem? after seat ≡ some v → SeatRule n views c f v
 
-module _ (n c f d : ℕ) (views after : List View) (r : BoardRule n c f d views)
-    (m : Regroups n c f views after) where
+module _ (n c f d : ℕ) (views after : List View) (rule : BoardRule n c f d views)
+    (regroups : Regroups n c f views after) where
   still_count_or_reported : (x : ℕ) → IsCountOrReported n views x → IsCountOrReported n after x
   still_count_or_reported x (inl e) = inl e
-  still_count_or_reported x (inr p) = inr (let k = m.reported x in omega arith)
+  still_count_or_reported x (inr p) = inr (let k = regroups.reported x in omega arith)
 
   rule_regrouped : BoardRule n c f d after
   rule_regrouped = record {
-    once = λ x. m.once x ∙ r.once x;
-    lengths = m.lengths ∙ r.lengths;
+    once = λ x. regroups.once x ∙ rule.once x;
+    lengths = regroups.lengths ∙ rule.lengths;
     least =
         record {
-          at_most = r.least.at_most;
-          lowest = λ y p. r.least.lowest y (let k = m.reported y in omega arith);
-          is_count_or_reported = still_count_or_reported f r.least.is_count_or_reported;
+          at_most = rule.least.at_most;
+          lowest = λ y p. rule.least.lowest y (let k = regroups.reported y in omega arith);
+          is_count_or_reported = still_count_or_reported f rule.least.is_count_or_reported;
         };
-    settled = r.settled ∙ sym m.settled;
-    skipped = λ x p. r.skipped x (let k = m.skipped x in omega arith);
+    settled = rule.settled ∙ sym regroups.settled;
+    skipped = λ x p. rule.skipped x (let k = regroups.skipped x in omega arith);
     seats =
-        λ seat v e. let o = m.seats seat v e in
+        λ seat v e. let o = regroups.seats seat v e in
         record {
           count = o.count;
           floor = o.floor;
@@ -54,8 +54,8 @@ module _ (n c f d : ℕ) (views after : List View) (r : BoardRule n c f d views)
           over = o.over;
           spent = o.spent;
         };
-    shares = m.shares ∙ r.shares;
-    bound = let o = m.over in let b = r.bound in omega arith;
+    shares = regroups.shares ∙ rule.shares;
+    bound = let o = regroups.over in let b = rule.bound in omega arith;
   }
 
 -- a total after a split

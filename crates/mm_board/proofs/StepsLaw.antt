@@ -18,14 +18,14 @@ use Rattle.mm_board.proofs.SumsLaw.{equal_is_counted}
 use Rattle.mm_board.proofs.MovingLaw.{Moves, moved}
 
 -- the three steps that change a word, and the rule of the new words
-module _ (n : ℕ) (s : State (Unit {0}) View) (r : MeetsRule n s) (id : ℕ) (v w : View)
+module _ (n : ℕ) (s : State (Unit {0}) View) (meets_rule : MeetsRule n s) (id : ℕ) (v w : View)
     (at : get_elem? s.views id ≡ some v) (live : 0 < v.share) where
   pub claim_word_step_keeps_rule : (z : ℕ)
       → Moves n (get_or s.words 0 0) (get_or s.words 1 0) (get_or s.words 2 0) z
       (get_or s.words 1 0) (get_or s.words 2 0) v w
       → (carried : List (ℕ × Unit {0})) → MeetsRule n (stepped s 0 z id carried w keeps)
-  claim_word_step_keeps_rule z m carried =
-      let three = r.0 in
+  claim_word_step_keeps_rule z moves carried =
+      let three = meets_rule.0 in
       let a : get_or (set s.words 0 z) 0 0 ≡ z = get_or-set_same s.words 0 z 0 (omega arith) in
       let b : get_or (set s.words 0 z) 1 0 ≡ get_or s.words 1 0 =
       get_or-set_other s.words 0 1 z 0 (λ e. omega arith) in
@@ -33,15 +33,15 @@ module _ (n : ℕ) (s : State (Unit {0}) View) (r : MeetsRule n s) (id : ℕ) (v
       get_or-set_other s.words 0 2 z 0 (λ e. omega arith) in (
         length-set s.words 0 z
             ∙ three,
-        rw (a, b, c) (moved n _ _ _ _ _ _ v w s.views id r.1 at live m),
+        rw (a, b, c) (moved n _ _ _ _ _ _ v w s.views id meets_rule.1 at live moves),
       )
 
   pub floor_word_step_keeps_rule : (z : ℕ)
       → Moves n (get_or s.words 0 0) (get_or s.words 1 0) (get_or s.words 2 0)
       (get_or s.words 0 0) z (get_or s.words 2 0) v w
       → (carried : List (ℕ × Unit {0})) → MeetsRule n (stepped s 1 z id carried w keeps)
-  floor_word_step_keeps_rule z m carried =
-      let three = r.0 in
+  floor_word_step_keeps_rule z moves carried =
+      let three = meets_rule.0 in
       let a : get_or (set s.words 1 z) 0 0 ≡ get_or s.words 0 0 =
       get_or-set_other s.words 1 0 z 0 (λ e. omega arith) in
       let b : get_or (set s.words 1 z) 1 0 ≡ z = get_or-set_same s.words 1 z 0 (omega arith) in
@@ -49,15 +49,15 @@ module _ (n : ℕ) (s : State (Unit {0}) View) (r : MeetsRule n s) (id : ℕ) (v
       get_or-set_other s.words 1 2 z 0 (λ e. omega arith) in (
         length-set s.words 1 z
             ∙ three,
-        rw (a, b, c) (moved n _ _ _ _ _ _ v w s.views id r.1 at live m),
+        rw (a, b, c) (moved n _ _ _ _ _ _ v w s.views id meets_rule.1 at live moves),
       )
 
   pub settled_word_step_keeps_rule : (z : ℕ)
       → Moves n (get_or s.words 0 0) (get_or s.words 1 0) (get_or s.words 2 0) (get_or s.words 0 0)
       (get_or s.words 1 0) z v w
       → (carried : List (ℕ × Unit {0})) → MeetsRule n (stepped s 2 z id carried w keeps)
-  settled_word_step_keeps_rule z m carried =
-      let three = r.0 in
+  settled_word_step_keeps_rule z moves carried =
+      let three = meets_rule.0 in
       let a : get_or (set s.words 2 z) 0 0 ≡ get_or s.words 0 0 =
       get_or-set_other s.words 2 0 z 0 (λ e. omega arith) in
       let b : get_or (set s.words 2 z) 1 0 ≡ get_or s.words 1 0 =
@@ -65,12 +65,12 @@ module _ (n : ℕ) (s : State (Unit {0}) View) (r : MeetsRule n s) (id : ℕ) (v
       let c : get_or (set s.words 2 z) 2 0 ≡ z = get_or-set_same s.words 2 z 0 (omega arith) in (
         length-set s.words 2 z
             ∙ three,
-        rw (a, b, c) (moved n _ _ _ _ _ _ v w s.views id r.1 at live m),
+        rw (a, b, c) (moved n _ _ _ _ _ _ v w s.views id meets_rule.1 at live moves),
       )
 
   -- what the rule says of the seat that steps
   pub count_is : v.count ≡ n
-  count_is = (r.1.seats id v at).count live
+  count_is = (meets_rule.1.seats id v at).count live
 
   pub claim_word : IsClaimWord v (get_or s.words 0 0)
   claim_word = (
@@ -79,7 +79,7 @@ module _ (n : ℕ) (s : State (Unit {0}) View) (r : MeetsRule n s) (id : ℕ) (v
     s.views,
     subst
         (λ (k : ℕ). BoardRule k (get_or s.words 0 0) (get_or s.words 1 0)
-        (get_or s.words 2 0) s.views) (sym count_is) r.1,
+        (get_or s.words 2 0) s.views) (sym count_is) meets_rule.1,
     (id, at),
   )
 
@@ -90,7 +90,7 @@ module _ (n : ℕ) (s : State (Unit {0}) View) (r : MeetsRule n s) (id : ℕ) (v
     s.views,
     subst
         (λ (k : ℕ). BoardRule k (get_or s.words 0 0) (get_or s.words 1 0)
-        (get_or s.words 2 0) s.views) (sym count_is) r.1,
+        (get_or s.words 2 0) s.views) (sym count_is) meets_rule.1,
     (id, at),
   )
 
@@ -101,7 +101,7 @@ module _ (n : ℕ) (s : State (Unit {0}) View) (r : MeetsRule n s) (id : ℕ) (v
     s.views,
     subst
         (λ (k : ℕ). BoardRule k (get_or s.words 0 0) (get_or s.words 1 0)
-        (get_or s.words 2 0) s.views) (sym count_is) r.1,
+        (get_or s.words 2 0) s.views) (sym count_is) meets_rule.1,
     (id, at),
   )
 

@@ -83,7 +83,8 @@ pub marked_more : (across rows : ℕ) (bits old new : List ℕ) (first n : ℕ) 
     → ((k : ℕ) → k < length old
     → get_or new k 0 ≡ bit_or (get_or old k 0) (get_or (row_at bits across n) k 0))
     → AreMarked across bits old first n → AreMarked across bits new first (n + 1)
-marked_more across rows bits old new first n within size width same each h i j le lt small one =
+marked_more across rows bits old new first n within size width same each are_marked
+    i j le lt small one =
     or_bits new old (row_at bits across n) same
     (width ∙ sym (row_length bits across n rows within size)) each j
     ∙ either _ _ (by_row (cases_eq i n))
@@ -93,18 +94,18 @@ marked_more across rows bits old new first n within size width same each h i j l
     by_row (inl e) =
         inr (row_bit bits across n j small
         ∙ subst (λ x. is_bit bits (bit_index across x j) ≡ true) e one)
-    by_row (inr ne) = inl (h i j le (omega arith) small one)
+    by_row (inr ne) = inl (are_marked i j le (omega arith) small one)
 
 pub all_marked : (across rows : ℕ) (bits has_mark : List ℕ) (w end : ℕ)
     → min (64 * w + 64) rows ≤ end
     → AreMarked across bits has_mark (64 * w) end → (k j : ℕ) → k < 64 → j < 64 * across
     → bit_in_rows rows across bits (64 * w + k) j ≡ true → is_bit has_mark j ≡ true
-all_marked across rows bits has_mark w end le h k j lt small one =
+all_marked across rows bits has_mark w end le are_marked k j lt small one =
     by_row_count (cases_lt (64 * w + k) rows)
   where
     by_row_count : (64 * w + k < rows) ⊎ (rows ≤ 64 * w + k) → is_bit has_mark j ≡ true
     by_row_count (inl l) =
-        h (64 * w + k) j (omega arith) (omega arith) small
+        are_marked (64 * w + k) j (omega arith) (omega arith) small
         (sym (bit_in_rows_within rows across bits (64 * w + k) j l) ∙ one)
     by_row_count (inr g) =
         let no = bit_in_rows_past rows across bits (64 * w + k) j g in
@@ -155,12 +156,12 @@ pub bytes_more : (across : ℕ) (bits : List ℕ) (at : ℕ) (bytes : List ℕ) 
     (set bytes n
     (bit_and (get_or bits ((first + n) * across + at / 8) 0 / 2 ^ (8 * (at % 8))) 255)) first (n
     + 1)
-bytes_more across bits at bytes first n within h = record {
-  size = length-set bytes n byte ∙ h.size;
+bytes_more across bits at bytes first n within bytes_to = record {
+  size = length-set bytes n byte ∙ bytes_to.size;
   written_below = λ k b less small. by_row k b less small (cases_eq k n);
   zero_from =
       λ k le lt. let ne : k ≡ n → ⊥ = λ e. omega arith in
-      get_or-set_other bytes n k byte 0 ne ∙ h.zero_from k (omega arith) lt;
+      get_or-set_other bytes n k byte 0 ne ∙ bytes_to.zero_from k (omega arith) lt;
 }
   where
     byte : ℕ
@@ -172,26 +173,26 @@ bytes_more across bits at bytes first n within h = record {
     by_row k b less small (inl e) =
         ap (λ x. eqb (bit_at (get_or (set bytes n byte) x 0) b) 1) e
         ∙ ap (λ x. eqb (bit_at x b) 1)
-        (get_or-set_same bytes n byte 0 (let s = h.size in omega (arith, s)))
+        (get_or-set_same bytes n byte 0 (let s = bytes_to.size in omega (arith, s)))
         ∙ row_byte bits across (first + n) at b small
         ∙ ap (λ x. is_bit bits (bit_index across (first + x) (8 * at + b))) (sym e)
     by_row k b less small (inr ne) =
         ap (λ x. eqb (bit_at x b) 1) (get_or-set_other bytes n k byte 0 ne)
-        ∙ h.written_below k b (omega arith) small
+        ∙ bytes_to.written_below k b (omega arith) small
 
 pub all_bytes : (rows across : ℕ) (bits : List ℕ) (w at : ℕ) (bytes : List ℕ) (n : ℕ)
     → min (rows - 64 * w) 64 ≤ n → 64 * w + n ≤ rows → BytesTo across bits at bytes (64 * w) n
     → AreRowBytes rows across bits w at bytes
-all_bytes rows across bits w at bytes n least most h k b lt small = by_row (cases_lt k n)
+all_bytes rows across bits w at bytes n least most bytes_to k b lt small = by_row (cases_lt k n)
   where
     by_row : (k < n) ⊎ (n ≤ k)
         → eqb (bit_at (get_or bytes k 0) b) 1 ≡ bit_in_rows rows across bits
         (64 * w + k) (8 * at + b)
     by_row (inl l) =
-        h.written_below k b l small
+        bytes_to.written_below k b l small
         ∙ sym (bit_in_rows_within rows across bits (64 * w + k) (8 * at + b) (omega arith))
     by_row (inr g) =
-        ap (λ x. eqb (bit_at x b) 1) (h.zero_from k g lt) ∙ ap (λ x. eqb x 1) (bit_at-zero b)
+        ap (λ x. eqb (bit_at x b) 1) (bytes_to.zero_from k g lt) ∙ ap (λ x. eqb x 1) (bit_at-zero b)
         ∙ sym (bit_in_rows_past rows across bits (64 * w + k) (8 * at + b) (omega arith))
 
 -- the word of a column whose bits are those of the bytes
@@ -224,14 +225,16 @@ pub written_word : (rows columns : ℕ) (bits transposed : List ℕ) (w j word :
     → j < columns → IsColumnWord rows (words_for columns) bits w j word
     → ColumnsWritten rows columns bits transposed w j
     → ColumnsWritten rows columns bits (set transposed (j * words_for rows + w) word) w (j + 1)
-written_word rows columns bits transposed w j word band small is h = record {
-  size = length-set transposed place word ∙ h.size;
+written_word rows columns bits transposed w j word band small is columns_written = record {
+  size = length-set transposed place word ∙ columns_written.size;
   earlier_bands =
       λ l v a b d. subst (IsColumnWord rows (words_for columns) bits v l)
-      (sym (other l v d (λ e f. omega arith))) (h.earlier_bands l v a b d);
+      (sym (other l v d (λ e f. omega arith))) (columns_written.earlier_bands l v a b d);
   written_below = λ l a b. by_column l a b (cases_eq l j);
-  zero_from = λ l a b d. other l w d (λ e f. omega arith) ∙ h.zero_from l a (omega arith) d;
-  later_bands = λ l v a b d. other l v d (λ e f. omega arith) ∙ h.later_bands l v a b d;
+  zero_from = λ l a b d. other l w d (λ e f. omega arith)
+      ∙ columns_written.zero_from l a (omega arith) d;
+  later_bands = λ l v a b d. other l v d (λ e f. omega arith)
+      ∙ columns_written.later_bands l v a b d;
 }
   where
     place : ℕ
@@ -252,36 +255,40 @@ written_word rows columns bits transposed w j word band small is h = record {
         (get_or (set transposed place word) (x * words_for rows + w) 0)) (sym e)
         (subst (IsColumnWord rows (words_for columns) bits w j)
         (sym (get_or-set_same transposed place word 0
-        (word_within columns (words_for rows) j w (length transposed) small band h.size))) is)
+        (word_within columns (words_for rows) j w (length transposed) small band
+        columns_written.size))) is)
     by_column l a b (inr ne) =
         subst (IsColumnWord rows (words_for columns) bits w l) (sym (other l w band (λ e f. ne e)))
-        (h.written_below l a (omega arith))
+        (columns_written.written_below l a (omega arith))
 
 -- columns without a mark need no word
 pub written_zeros : (rows columns : ℕ) (bits transposed : List ℕ) (w from to : ℕ) → w < words_for
     rows
     → ((j : ℕ) → from ≤ j → j < to → j < columns → IsColumnWord rows (words_for columns) bits w j 0)
-    → from ≤ to → ColumnsWritten rows columns bits transposed w from → ColumnsWritten rows columns bits
+    → from ≤ to → ColumnsWritten rows columns bits transposed w from
+    → ColumnsWritten rows columns bits
     transposed w to
-written_zeros rows columns bits transposed w from to band none le h = record {
-  size = h.size;
-  earlier_bands = h.earlier_bands;
+written_zeros rows columns bits transposed w from to band none le columns_written = record {
+  size = columns_written.size;
+  earlier_bands = columns_written.earlier_bands;
   written_below = λ j a b. by_column j a b (cases_lt j from);
-  zero_from = λ j a b d. h.zero_from j a (omega arith) d;
-  later_bands = h.later_bands;
+  zero_from = λ j a b d. columns_written.zero_from j a (omega arith) d;
+  later_bands = columns_written.later_bands;
 }
   where
     by_column : (j : ℕ) → j < columns → j < to → (j < from) ⊎ (from ≤ j)
         → IsColumnWord rows (words_for columns) bits w j
         (get_or transposed (j * words_for rows + w) 0)
-    by_column j a b (inl l) = h.written_below j a l
+    by_column j a b (inl l) = columns_written.written_below j a l
     by_column j a b (inr g) =
-        subst (IsColumnWord rows (words_for columns) bits w j) (sym (h.zero_from j a g band))
+        subst (IsColumnWord rows (words_for columns) bits w j)
+        (sym (columns_written.zero_from j a g band))
         (none j g b a)
 
 pub written_zero : (rows columns : ℕ) (bits transposed : List ℕ) (w j word : ℕ) → w < words_for rows
     → IsColumnWord rows (words_for columns) bits w j word → word ≡ 0
-    → ColumnsWritten rows columns bits transposed w j → ColumnsWritten rows columns bits transposed w (j + 1)
+    → ColumnsWritten rows columns bits transposed w j
+    → ColumnsWritten rows columns bits transposed w (j + 1)
 written_zero rows columns bits transposed w j word band is e =
     written_zeros rows columns bits transposed w j (j + 1) band
     (λ i a b s. let here : j ≡ i = omega arith in
@@ -293,7 +300,8 @@ pub written_skip : (rows columns : ℕ) (bits has_mark transposed : List ℕ) (a
     → ((k j : ℕ) → k < 64 → j < 64 * across → bit_in_rows rows across bits (64 * w + k) j ≡ true
     → is_bit has_mark j ≡ true)
     → from ≤ to → ((j : ℕ) → from ≤ j → j < to → is_bit has_mark j ≡ false)
-    → ColumnsWritten rows columns bits transposed w from → ColumnsWritten rows columns bits transposed w to
+    → ColumnsWritten rows columns bits transposed w from
+    → ColumnsWritten rows columns bits transposed w to
 written_skip rows columns bits has_mark transposed across w from to width band marked le none =
     written_zeros rows columns bits transposed w from to band
     (λ j a b c. no_mark rows (words_for columns) bits w j (unmarked j a b c)) le
@@ -310,13 +318,14 @@ written_skip rows columns bits has_mark transposed across w from to width band m
 
 -- the next band
 pub written_band : (rows columns : ℕ) (bits transposed : List ℕ) (w from : ℕ) → columns ≤ from
-    → ColumnsWritten rows columns bits transposed w from → ColumnsWritten rows columns bits transposed (w + 1) 0
-written_band rows columns bits transposed w from le h = record {
-  size = h.size;
+    → ColumnsWritten rows columns bits transposed w from
+    → ColumnsWritten rows columns bits transposed (w + 1) 0
+written_band rows columns bits transposed w from le columns_written = record {
+  size = columns_written.size;
   earlier_bands = λ j v a b d. by_band j v a b d (cases_eq v w);
   written_below = λ j a b. absurd (omega arith);
-  zero_from = λ j a b d. h.later_bands j (w + 1) a (omega arith) d;
-  later_bands = λ j v a b d. h.later_bands j v a (omega arith) d;
+  zero_from = λ j a b d. columns_written.later_bands j (w + 1) a (omega arith) d;
+  later_bands = λ j v a b d. columns_written.later_bands j v a (omega arith) d;
 }
   where
     by_band : (j v : ℕ) → j < columns → v < w + 1 → v < words_for rows → (v ≡ w) ⊎ (v ≡ w → ⊥)
@@ -324,14 +333,15 @@ written_band rows columns bits transposed w from le h = record {
         (get_or transposed (j * words_for rows + v) 0)
     by_band j v a b d (inl e) =
         subst (λ x. IsColumnWord rows (words_for columns) bits x j
-        (get_or transposed (j * words_for rows + x) 0)) (sym e) (h.written_below j a (omega arith))
-    by_band j v a b d (inr ne) = h.earlier_bands j v a (omega arith) d
+        (get_or transposed (j * words_for rows + x) 0)) (sym e)
+        (columns_written.written_below j a (omega arith))
+    by_band j v a b d (inr ne) = columns_written.earlier_bands j v a (omega arith) d
 
 -- all bands are written
 pub written_all : (rows columns : ℕ) (bits transposed : List ℕ) (w : ℕ) → words_for rows ≤ w
     → ColumnsWritten rows columns bits transposed w 0 → AreTransposed rows columns bits transposed
-written_all rows columns bits transposed w le h = record {
-  size = h.size;
+written_all rows columns bits transposed w le columns_written = record {
+  size = columns_written.size;
   same = λ i j a b. cell i j (omega arith) b
       ∙ bit_in_rows_within rows (words_for columns) bits i j a;
   past = λ i j a b d. cell i j (omega arith) d
@@ -345,7 +355,7 @@ written_all rows columns bits transposed w le h = record {
         let is : 64 * (i / 64) + i % 64 ≡ i = omega arith in
         ap₂ (λ x y. eqb (bit_at (get_or transposed x 0) y) 1) (bit_index_word (words_for rows) j i)
         (bit_index_bit (words_for rows) j i)
-        ∙ h.earlier_bands j (i / 64) b (omega arith) a (i % 64) (omega arith)
+        ∙ columns_written.earlier_bands j (i / 64) b (omega arith) a (i % 64) (omega arith)
         ∙ ap (λ x. bit_in_rows rows (words_for columns) bits x j) is
 
 -- a word of a row is among the words of all rows

@@ -129,11 +129,11 @@ pub cells_more : (words into lanes : List ℕ) (w : ℕ) → w < length words
     → length into ≡ 64 * length words → length lanes ≡ 64
     → ((k : ℕ) → k < 64 → get_or lanes k 0 ≡ digit_of (eqb (bit_at (get_or words w 0) k) 1))
     → AreCells words into w → AreCells words (put_chunk (64 * w) into lanes) (w + 1)
-cells_more words into lanes w within size long each h i lt = by_word (cases_lt i (64 * w))
+cells_more words into lanes w within size long each are_cells i lt = by_word (cases_lt i (64 * w))
   where
     by_word : (i < 64 * w) ⊎ (64 * w ≤ i)
         → get_or (put_chunk (64 * w) into lanes) i 0 ≡ digit_of (is_bit words i)
-    by_word (inl l) = get_or-put_chunk_below (64 * w) into lanes i 0 l ∙ h i l
+    by_word (inl l) = get_or-put_chunk_below (64 * w) into lanes i 0 l ∙ are_cells i l
     by_word (inr g) =
         let is : 64 * w + (i - 64 * w) ≡ i = omega arith in
         let q : w ≡ i / 64 = omega arith in
@@ -145,7 +145,7 @@ cells_more words into lanes w within size long each h i lt = by_word (cases_lt i
         ∙ ap₂ (λ a b. digit_of (eqb (bit_at (get_or words a 0) b) 1)) q r
 
 module _ (m : Marks) (rows columns : ℕ) (words : List ℕ)
-    (view : m ≡ marks rows columns words) (t : IsTable rows columns words) where
+    (view : m ≡ marks rows columns words) (is_table : IsTable rows columns words) where
   -- cells that were written from a word on
   pub cells_are : (i word : ℕ) (part into old : List ℕ) → i < m.rows
       → part ≡ row_at words (words_for columns) i
@@ -171,7 +171,7 @@ module _ (m : Marks) (rows columns : ℕ) (words : List ℕ)
       mark j inside =
           let lt' = subst (λ (x : Marks). i < x.rows) view lt in
           ap (λ xs. is_bit xs j) is
-          ∙ row_mark m rows columns words view t i j lt' inside
+          ∙ row_mark m rows columns words view is_table i j lt' inside
           ∙ sym (ap (λ (x : Marks). mark_at j (row_marks x i)) view)
 
       at : (k : ℕ) → k < length old

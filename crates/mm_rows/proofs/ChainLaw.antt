@@ -21,12 +21,12 @@ use Rattle.mm_rows.specs.BitRows.{IsBitRow, HasCitedRows, row_at}
 -- a rising list has a number once
 pub index_is_unique : (xs : List ℕ) (i j : ℕ) → IsStatementList xs → i < length xs → j < length xs
     → get_or xs i 0 ≡ get_or xs j 0 → i ≡ j
-index_is_unique xs i j r p q e = by_order (cases_order i j)
+index_is_unique xs i j is_statement_list p q e = by_order (cases_order i j)
   where
     by_order : (i ≡ j) ⊎ ((i < j) ⊎ (j < i)) → i ≡ j
     by_order (inl h) = h
-    by_order (inr (inl l)) = let m = r.rises i j l q in absurd (omega arith)
-    by_order (inr (inr g)) = let m = r.rises j i g p in absurd (omega arith)
+    by_order (inr (inl l)) = let m = is_statement_list.rises i j l q in absurd (omega arith)
+    by_order (inr (inr g)) = let m = is_statement_list.rises j i g p in absurd (omega arith)
 
 -- a place of a list below n whose statement is a, or rests on it
 abbrev pub IsVia : Citing → List ℕ → ℕ → ℕ → Type 0
@@ -51,14 +51,14 @@ pub filled_more : (c : Citing) (columns cited : List ℕ) (n : ℕ) (row mid new
     ((is_bit mid j ≡ true) ⊎ RestsOn (HasCitation c) (get_or cited n 0) (get_or columns j 0)))
     → ((j : ℕ) → length columns ≤ j → is_bit new j ≡ is_bit mid j)
     → FilledFrom c columns cited (n + 1) new
-filled_more c columns cited n row mid new h same a b d e = record {
-  words = same ∙ h.words;
+filled_more c columns cited n row mid new filled_from same a b d e = record {
+  words = same ∙ filled_from.words;
   marks = λ j lt. (
     λ t. marked_to_via j lt ((d j lt).0 t),
     λ v. via_to_marked j lt v.0 v.1 v.2
         (cases_eq v.0 n),
   );
-  past = λ j le. e j le ∙ b j le ∙ h.past j le;
+  past = λ j le. e j le ∙ b j le ∙ filled_from.past j le;
 }
   where
     via_next : (j : ℕ) → IsVia c cited n (get_or columns j 0)
@@ -70,7 +70,7 @@ filled_more c columns cited n row mid new h same a b d e = record {
         → IsVia c cited (n + 1) (get_or columns j 0)
     marked_to_via j lt (inr r) = (n, omega arith, inr r)
     marked_to_via j lt (inl t) =
-        ⊎_elim (λ u. via_next j ((h.marks j lt).0 u)) (λ is. (n, omega arith, inl is))
+        ⊎_elim (λ u. via_next j ((filled_from.marks j lt).0 u)) (λ is. (n, omega arith, inl is))
         ((a j lt).0 t)
 
     set_by : (j : ℕ) → j < length columns
@@ -88,51 +88,66 @@ filled_more c columns cited n row mid new h same a b d e = record {
         (subst (λ x. (get_or cited x 0 ≡ get_or columns j 0)
         ⊎ RestsOn (HasCitation c) (get_or cited x 0) (get_or columns j 0)) is v)
     via_to_marked j lt m below v (inr ne) =
-        (d j lt).1 (inl ((a j lt).1 (inl ((h.marks j lt).1 (m, omega arith, v)))))
+        (d j lt).1 (inl ((a j lt).1 (inl ((filled_from.marks j lt).1 (m, omega arith, v)))))
 
 -- all citations of a theorem
 pub filled_all : (c : Citing) (columns : List ℕ) (i : ℕ) (row : List ℕ) → IsFileOrder c
     → i < length c.theorems → FilledFrom c columns (list_at c i) (length (list_at c i)) row
     → IsBitRow c columns (theorem_at c i) row
-filled_all c columns i row o within h = record {
-  words = h.words;
+filled_all c columns i row is_file_order within filled_from = record {
+  words = filled_from.words;
   marks =
       λ j lt. (
-        λ t. marked_to_via (get_or columns j 0) ((h.marks j lt).0 t),
-        λ r. (h.marks j lt).1
+        λ t. marked_to_via (get_or columns j 0) ((filled_from.marks j lt).0 t),
+        λ r. (filled_from.marks j lt).1
             (via_to_marked (get_or columns j 0) r),
       );
-  past = h.past;
+  past = filled_from.past;
 }
   where
     cites_at : (m : ℕ) → m < length (list_at c i) → HasCitation c (theorem_at c i)
         (get_or (list_at c i) m 0)
     cites_at m lt =
-        record { row = i; list_index = m; within = within; listed = lt; theorem = refl; cited = refl }
+        record {
+          row = i;
+          list_index = m;
+          within = within;
+          listed = lt;
+          theorem =
+              refl;
+          cited = refl;
+        }
 
     marked_to_via : (a : ℕ) → IsVia c (list_at c i) (length (list_at c i)) a
         → RestsOn (HasCitation c) (theorem_at c i) a
-    marked_to_via a v =
+    marked_to_via a is_via =
         let step = (rests_step (HasCitation c) (theorem_at c i) a).1 in
-        ⊎_elim (λ e. step (inl (subst (HasCitation c (theorem_at c i)) e (cites_at v.0 v.1))))
-        (λ r. step (inr (get_or (list_at c i) v.0 0, cites_at v.0 v.1, r))) v.2
+        ⊎_elim (λ e. step
+        (inl (subst (HasCitation c (theorem_at c i)) e (cites_at is_via.0 is_via.1))))
+        (λ r. step (inr (get_or (list_at c i) is_via.0 0, cites_at is_via.0 is_via.1, r))) is_via.2
 
     via_of_citation : (b a : ℕ) → HasCitation c (theorem_at c i) b → (b ≡ a)
         ⊎ RestsOn (HasCitation c) b a
         → IsVia c (list_at c i) (length (list_at c i)) a
-    via_of_citation b a s v =
-        let is : s.row ≡ i = index_is_unique c.theorems s.row i o.rising s.within
-        within s.theorem in
-        let listed : s.list_index < length (list_at c i) =
-        subst (λ x. s.list_index < length (list_at c x)) is s.listed in
-        let cited : get_or (list_at c i) s.list_index 0 ≡ b =
-        subst (λ x. get_or (list_at c x) s.list_index 0 ≡ b) is s.cited in
-        (s.list_index, listed, subst (λ x. (x ≡ a) ⊎ RestsOn (HasCitation c) x a) (sym cited) v)
+    via_of_citation b a has_citation v =
+        let is : has_citation.row ≡ i = index_is_unique c.theorems has_citation.row i
+        is_file_order.rising has_citation.within
+        within has_citation.theorem in
+        let listed : has_citation.list_index < length (list_at c i) =
+        subst (λ x. has_citation.list_index < length (list_at c x)) is has_citation.listed in
+        let cited : get_or (list_at c i) has_citation.list_index 0 ≡ b =
+        subst (λ x. get_or (list_at c x) has_citation.list_index 0 ≡ b) is has_citation.cited in (
+          has_citation.list_index,
+          listed,
+          subst (λ x. (x ≡ a) ⊎ RestsOn (HasCitation c) x a)
+              (sym cited) v,
+        )
 
     via_to_marked : (a : ℕ) → RestsOn (HasCitation c) (theorem_at c i) a
         → IsVia c (list_at c i) (length (list_at c i)) a
     via_to_marked a r =
-        ⊎_elim (λ s. via_of_citation a a s (inl refl)) (λ h. via_of_citation h.0 a h.1 (inr h.2))
+        ⊎_elim (λ s. via_of_citation a a s (inl refl))
+        (λ filled_from. via_of_citation filled_from.0 a filled_from.1 (inr filled_from.2))
         ((rests_step (HasCitation c) (theorem_at c i) a).0 r)
 
 -- what rests on nothing
@@ -151,11 +166,11 @@ pub marks_of_or : (c : Citing) (columns : List ℕ) (t : ℕ) (old from new : Li
     → Decides (is_bit new j) ((is_bit old j ≡ true)
     ⊎ RestsOn (HasCitation c) t (get_or columns j 0)))
     × ((j : ℕ) → length columns ≤ j → is_bit new j ≡ is_bit old j)
-marks_of_or c columns t old from new h same words each =
-    let bits = or_bits new old from same (words ∙ sym h.words) each in (
+marks_of_or c columns t old from new is_bit_row same words each =
+    let bits = or_bits new old from same (words ∙ sym is_bit_row.words) each in (
       (λ j lt. Decides-at (is_bit new j) (is_bit old j || is_bit from j) (bits j)
-          (Decides-or (is_bit old j) (is_bit from j) ((λ e. e), λ e. e) (h.marks j lt))),
-      λ j le. bits j ∙ or_none (is_bit old j) (is_bit from j) (h.past j le),
+          (Decides-or (is_bit old j) (is_bit from j) ((λ e. e), λ e. e) (is_bit_row.marks j lt))),
+      λ j le. bits j ∙ or_none (is_bit old j) (is_bit from j) (is_bit_row.past j le),
     )
 
 -- before the first citation

@@ -162,12 +162,12 @@ pub digits_more : (words into lanes : List ℕ) (w : ℕ) → w < length words
     → length into ≡ 16 * length words → length lanes ≡ 16
     → ((k : ℕ) → k < 16 → get_or lanes k 0 ≡ hex_digit (four_at (get_or words w 0) k))
     → AreDigits words into w → AreDigits words (put_chunk (16 * w) into lanes) (w + 1)
-digits_more words into lanes w within size long each h i lt = by_word (cases_lt i (16 * w))
+digits_more words into lanes w within size long each are_digits i lt = by_word (cases_lt i (16 * w))
   where
     by_word : (i < 16 * w) ⊎ (16 * w ≤ i)
         → get_or (put_chunk (16 * w) into lanes) i 0
         ≡ hex_digit (four_at (get_or words (i / 16) 0) (i % 16))
-    by_word (inl l) = get_or-put_chunk_below (16 * w) into lanes i 0 l ∙ h i l
+    by_word (inl l) = get_or-put_chunk_below (16 * w) into lanes i 0 l ∙ are_digits i l
     by_word (inr g) =
         let is : 16 * w + (i - 16 * w) ≡ i = omega arith in
         let q : w ≡ i / 16 = omega arith in
@@ -193,7 +193,7 @@ bit_is x lt = by_bit (cases_eq x 0)
         e ∙ sym (ap (λ y. bit_of (eqb y 1)) e)
 
 module _ (m : Marks) (rows columns : ℕ) (words : List ℕ)
-    (view : m ≡ marks rows columns words) (t : IsTable rows columns words) where
+    (view : m ≡ marks rows columns words) (is_table : IsTable rows columns words) where
   -- a bit of a row is a mark, and nothing is marked past the last column
   pub row_mark : (i j : ℕ) → i < rows → j < 64 * words_for columns
       → is_bit (row_at words (words_for columns) i) j
@@ -213,7 +213,7 @@ module _ (m : Marks) (rows columns : ℕ) (words : List ℕ)
           let long =
           length-map (range_with_len 0 columns) (mark (marks rows columns words) i)
           ∙ length-range_with_len 0 columns in
-          t.past i j lt g within
+          is_table.past i j lt g within
           ∙ sym (get_or_past (row_marks (marks rows columns words) i) j false
           (omega (arith, long, g)))
 
@@ -255,7 +255,7 @@ module _ (m : Marks) (rows columns : ℕ) (words : List ℕ)
       → length part ≡ words_for columns
   part_long i part lt is =
       let lt' = subst (λ (x : Marks). i < x.rows) view lt in
-      ap length is ∙ row_length words (words_for columns) i rows lt' t.size
+      ap length is ∙ row_length words (words_for columns) i rows lt' is_table.size
 
   -- digits that were written from a word on
   pub digits_are : (i word : ℕ) (part into old : List ℕ) → i < m.rows

@@ -26,7 +26,7 @@ indices_none list indices none =
 pub indices_more : (list indices : List ℕ) (n : ℕ) → IsStatementList list → n < length list
     → get_or list n 0 < length indices → AreIndicesOf list n indices
     → AreIndicesOf list (n + 1) (slice_set indices (get_or list n 0) n)
-indices_more list indices n r within room h = record {
+indices_more list indices n is_statement_list within room are_indices_of = record {
   known = λ s. known s (cases_eq s (get_or list n 0));
   all = λ i lt. all i lt (cases_eq i n);
 }
@@ -48,7 +48,7 @@ indices_more list indices n r within room h = record {
         (omega (arith, at), ap (λ i. get_or list i 0) at ∙ sym e)
     known s (inr ne) some =
         let at = other s ne in
-        let before = h.known s (λ e. some (at ∙ e)) in
+        let before = are_indices_of.known s (λ e. some (at ∙ e)) in
         let low = before.0 in
         (omega (arith, at, low), ap (λ i. get_or list i 0) at ∙ before.1)
 
@@ -56,5 +56,6 @@ indices_more list indices n r within room h = record {
     all i lt (inl e) = ap (λ x. get_or new (get_or list x 0) 4294967295) e ∙ same ∙ sym e
     all i lt (inr ne) =
         let below : i < n = omega arith in
-        other (get_or list i 0) (λ e. ne (index_is_unique list i n r (omega arith) within e))
-        ∙ h.all i below
+        other (get_or list i 0)
+        (λ e. ne (index_is_unique list i n is_statement_list (omega arith) within e))
+        ∙ are_indices_of.all i below

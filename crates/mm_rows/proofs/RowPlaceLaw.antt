@@ -24,9 +24,9 @@ below width i r l =
 pub ready_before : (c : Citing) (columns bits before rest : List ℕ) (i : ℕ) → IsFileOrder c
     → i < length c.theorems → before ++ rest ≡ bits → length before ≡ i * words_for (length columns)
     → HasCitedRows c columns bits i → HasCitedRows c columns before i
-ready_before c columns bits before rest i o within parts long ready = λ r k lt listed e.
+ready_before c columns bits before rest i is_file_order within parts long ready = λ r k lt listed e.
     let width = words_for (length columns) in
-    let low = below width i r (earlier_row c i r k o within listed lt e) in
+    let low = below width i r (earlier_row c i r k is_file_order within listed lt e) in
     subst (IsBitRow c columns _)
     (ap (λ xs. row_at xs width r) (sym parts)
     ∙ row_kept before rest width r (omega (arith, low, long))) (ready r k lt listed e)

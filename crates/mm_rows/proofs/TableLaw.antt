@@ -24,12 +24,13 @@ mark_bit rows columns bits i j l k =
     (λ c. is_bit bits (bit_index (words_for columns) i c)) 0 columns j j false k (omega arith)
 
 module _ (m : Marks) (rows columns : ℕ) (words : List ℕ)
-    (view : m ≡ marks rows columns words) (t : IsTable rows columns words) where
+    (view : m ≡ marks rows columns words) (is_table : IsTable rows columns words) where
   pub row_fits : (i width : ℕ) (xs : List ℕ) → i < m.rows → width ≡ words_for columns → xs ≡ words
       → i * width + width ≤ length xs
   row_fits i width xs lt w e =
       let lt' = subst (λ (x : Marks). i < x.rows) view lt in
-      row_end width i rows (length xs) lt' (ap length e ∙ t.size ∙ sym (ap (λ a. rows * a) w))
+      row_end width i rows (length xs) lt' (ap length e ∙ is_table.size
+      ∙ sym (ap (λ a. rows * a) w))
 
   pub bit_index_fits : (i j width : ℕ) (xs : List ℕ) → i < m.rows → j < m.columns
       → width ≡ words_for columns → xs ≡ words → bit_index width i j / 64 < length xs
@@ -37,7 +38,7 @@ module _ (m : Marks) (rows columns : ℕ) (words : List ℕ)
       let lt' = subst (λ (x : Marks). i < x.rows) view lt in
       let l' = subst (λ (x : Marks). j < x.columns) view l in
       bit_index_within width rows i j (length xs) lt' (omega (arith, w))
-      (ap length e ∙ t.size ∙ sym (ap (λ a. rows * a) w))
+      (ap length e ∙ is_table.size ∙ sym (ap (λ a. rows * a) w))
 
   -- a cell that is read
   pub cell_is : (i j width : ℕ) (xs : List ℕ) → i < m.rows → j < m.columns
@@ -54,13 +55,13 @@ module _ (m : Marks) (rows columns : ℕ) (words : List ℕ)
       → result ≡ count_by (λ j. mark m i j) (range_with_len 0 m.columns)
   counted i result part lt is e =
       let lt' = subst (λ (x : Marks). i < x.rows) view lt in
-      let few = t.few_columns in
-      let wide = ap length is ∙ row_length words (words_for columns) i rows lt' t.size in
+      let few = is_table.few_columns in
+      let wide = ap length is ∙ row_length words (words_for columns) i rows lt' is_table.size in
       subst (λ (x : Marks). result ≡ tally (λ j. mark x i j) x.columns) (sym view)
       (all_counted (is_bit part) (64 * length part) result (omega (arith, few, wide)) e
       ∙ ap (λ xs. tally (is_bit xs) (64 * length xs)) is
-      ∙ row_ones words (words_for columns) i rows columns lt' t.size (omega arith)
-      (λ j le l. t.past i j lt' le l)
+      ∙ row_ones words (words_for columns) i rows columns lt' is_table.size (omega arith)
+      (λ j le l. is_table.past i j lt' le l)
       ∙ tally_agree (λ j. is_bit words (bit_index (words_for columns) i j))
       (λ j. mark (marks rows columns words) i j) columns
       (λ j l. sym (mark_bit rows columns words i j lt' l)))
@@ -68,15 +69,16 @@ module _ (m : Marks) (rows columns : ℕ) (words : List ℕ)
   -- the words of all columns
   pub columns_are : (transposed : List ℕ) → AreTransposed rows columns words transposed
       → AreColumns m transposed
-  columns_are transposed a =
+  columns_are transposed are_transposed =
       subst (λ (x : Marks). AreColumns x transposed) (sym view) record {
-        size = a.size;
+        size = are_transposed.size;
         each =
             λ j lt. record {
-              few_rows = t.few_rows;
-              size = row_length transposed (words_for rows) j columns lt a.size;
+              few_rows = is_table.few_rows;
+              size = row_length transposed (words_for rows) j columns lt are_transposed.size;
               same =
-                  λ i l. row_bit transposed (words_for rows) j i (omega arith) ∙ a.same i j l lt
+                  λ i l. row_bit transposed (words_for rows) j i (omega arith)
+                  ∙ are_transposed.same i j l lt
                   ∙ sym (mark_bit rows columns words i j l lt);
               past = λ i le. past j lt i le (cases_lt i (64 * words_for rows));
             };
@@ -85,8 +87,10 @@ module _ (m : Marks) (rows columns : ℕ) (words : List ℕ)
       past : (j : ℕ) → j < columns → (i : ℕ) → rows ≤ i
           → (i < 64 * words_for rows) ⊎ (64 * words_for rows ≤ i)
           → is_bit (row_at transposed (words_for rows) j) i ≡ false
-      past j lt i le (inl l) = row_bit transposed (words_for rows) j i l ∙ a.past i j le l lt
-      past j lt i le (inr g) = row_past transposed (words_for rows) j columns i lt a.size g
+      past j lt i le (inl l) = row_bit transposed (words_for rows) j i l
+          ∙ are_transposed.past i j le l lt
+      past j lt i le (inr g) =
+          row_past transposed (words_for rows) j columns i lt are_transposed.size g
 
 -- the words of one of them
 pub column_fits : (m : Marks) (users : List ℕ) → AreColumns m users → (j width : ℕ) (xs : List ℕ)
@@ -117,63 +121,63 @@ user_found m j after i from s inside le one none = (
 )
 
 -- what is read off the bits of a column
-module _ (m : Marks) (j : ℕ) (users : List ℕ) (h : IsColumn m j users) where
+module _ (m : Marks) (j : ℕ) (users : List ℕ) (is_column : IsColumn m j users) where
   pub counted_down : (result : ℕ)
       → result ≡ min (tally (is_bit users) (64 * length users)) (2 ^ 64 - 1)
       → result ≡ count_by (λ i. mark m i j) (range_with_len 0 m.rows)
   counted_down result e =
-      let few = h.few_rows in
-      let long = h.size in
+      let few = is_column.few_rows in
+      let long = is_column.size in
       all_counted (is_bit users) (64 * length users) result (omega (arith, few, long)) e
-      ∙ tally_short (is_bit users) m.rows (64 * length users) (omega (arith, long)) h.past
-      ∙ tally_agree (is_bit users) (λ i. mark m i j) m.rows h.same
+      ∙ tally_short (is_bit users) m.rows (64 * length users) (omega (arith, long)) is_column.past
+      ∙ tally_agree (is_bit users) (λ i. mark m i j) m.rows is_column.same
 
   pub user_some : (after : Option ℕ) (i from : ℕ) → from ≡ first_after after → from ≤ i
       → is_bit users i ≡ true → ((k : ℕ) → from ≤ k → k < i → is_bit users k ≡ false)
       → (i < m.rows) × IsAbove after i × (mark m i j ≡ true)
       × ((k : ℕ) → IsAbove after k → k < i → mark m k j ≡ false)
   user_some after i from s le one none =
-      user_found m j after i from s inside le (sym (h.same i inside) ∙ one)
-      (λ k up l. let into = inside in sym (h.same k (omega arith)) ∙ none k up l)
+      user_found m j after i from s inside le (sym (is_column.same i inside) ∙ one)
+      (λ k up l. let into = inside in sym (is_column.same k (omega arith)) ∙ none k up l)
     where
       inside : i < m.rows
       inside = by_row_count (cases_lt i m.rows)
         where
           by_row_count : (i < m.rows) ⊎ (m.rows ≤ i) → i < m.rows
           by_row_count (inl l) = l
-          by_row_count (inr g) = absurd (let no : true ≡ false = sym one ∙ h.past i g in cc)
+          by_row_count (inr g) = absurd (let no : true ≡ false = sym one ∙ is_column.past i g in cc)
 
   pub user_none : (after : Option ℕ) (from : ℕ) → from ≡ first_after after
       → ((k : ℕ) → from ≤ k → is_bit users k ≡ false)
       → (k : ℕ) → IsAbove after k → k < m.rows → mark m k j ≡ false
   user_none after from s none k up l =
-      let u = above after k up in sym (h.same k l) ∙ none k (omega arith)
+      let u = above after k up in sym (is_column.same k l) ∙ none k (omega arith)
 
 -- the rows of all theorems are a table
 pub table_of : (c : Citing) (columns bits : List ℕ) (rows width : ℕ) → IsStatementList c.theorems
     → IsStatementList columns → AreBitRows c columns (length c.theorems) bits
     → rows ≡ length c.theorems
     → width ≡ length columns → IsTable rows width bits
-table_of c columns bits rows width rr rc h e f =
+table_of c columns bits rows width rr rc are_bit_rows e f =
     subst (λ n. IsTable n width bits) (sym e)
     (subst (λ n. IsTable (length c.theorems) n bits) (sym f) record {
       few_rows = rr.few;
       few_columns = rc.few;
-      size = h.size;
+      size = are_bit_rows.size;
       past =
           λ i j lt le l. sym (row_bit bits (words_for (length columns)) i j l)
-          ∙ (h.each i lt).past j le;
+          ∙ (are_bit_rows.each i lt).past j le;
     })
 
 pub matrix_of : (c : Citing) (columns bits : List ℕ) (rows width : ℕ) (m : Marks)
     → AreBitRows c columns (length c.theorems) bits → rows ≡ length c.theorems
     → width ≡ length columns → m ≡ marks rows width bits → IsMatrix c columns m
-matrix_of c columns bits rows width m h e f is =
+matrix_of c columns bits rows width m are_bit_rows e f is =
     subst (λ x. IsMatrix c columns x) (sym (is ∙ ap₂ (λ a b. marks a b bits) e f)) record {
       rows = refl;
       columns_are = refl;
       marked =
-          λ i j lt l. let d = (h.each i lt).marks j l in
+          λ i j lt l. let d = (are_bit_rows.each i lt).marks j l in
           let b = row_bit bits (words_for (length columns)) i j (omega arith)
           ∙ sym (mark_bit (length c.theorems) (length columns) bits i j lt l) in
           ((λ t. d.0 (b ∙ t)), λ r. sym b ∙ d.1 r);

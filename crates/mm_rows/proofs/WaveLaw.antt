@@ -29,15 +29,15 @@ pub record WaveTo (c : Citing) (waves : List ℕ) (i : ℕ) (cited : List ℕ) (
 pub earlier_row : (c : Citing) (i r k : ℕ) → IsFileOrder c → i < length c.theorems
     → k < length (list_at c i) → r < length c.theorems → theorem_at c r ≡ get_or (list_at c i) k 0
     → r < i
-earlier_row c i r k o within listed lt e = by_order (cases_order r i)
+earlier_row c i r k is_file_order within listed lt e = by_order (cases_order r i)
   where
     m : get_or (list_at c i) k 0 < theorem_at c i
-    m = o.earlier i k within listed
+    m = is_file_order.earlier i k within listed
 
     by_order : (r ≡ i) ⊎ ((r < i) ⊎ (i < r)) → r < i
     by_order (inl s) = let a = ap (theorem_at c) s in let b = m in absurd (omega (arith, a, b))
     by_order (inr (inl l)) = l
-    by_order (inr (inr g)) = let n = o.rising.rises i r g lt in let b = m in
+    by_order (inr (inr g)) = let n = is_file_order.rising.rises i r g lt in let b = m in
         absurd (omega (arith, b, n))
 
 -- one theorem more
@@ -45,17 +45,18 @@ pub wave_more : (c : Citing) (waves : List ℕ) (i : ℕ) (cited : List ℕ) (n 
     → IsFileOrder c → i < length c.theorems → AreWaves c i waves → n < length cited
     → r < length c.theorems → theorem_at c r ≡ get_or cited n 0 → WaveTo c waves i cited n wave
     → (r < length waves) × WaveTo c waves i cited (n + 1) (max wave (get_or waves r 0 + 1))
-wave_more c waves i cited n wave r o within w lt inside is h = (
-  let s = w.size in let b = before in
+wave_more c waves i cited n wave r is_file_order within are_waves lt inside is wave_to = (
+  let s = are_waves.size in let b = before in
       omega (arith, s, b),
   pick (cases_lt wave (get_or waves r 0 + 1)),
 )
   where
     listed : n < length (list_at c i)
-    listed = subst (λ xs. n < length xs) h.same lt
+    listed = subst (λ xs. n < length xs) wave_to.same lt
 
     before : r < i
-    before = earlier_row c i r n o within listed inside (is ∙ ap (λ xs. get_or xs n 0) h.same)
+    before = earlier_row c i r n is_file_order within listed inside
+        (is ∙ ap (λ xs. get_or xs n 0) wave_to.same)
 
     cites : HasCitation c (theorem_at c i) (theorem_at c r)
     cites =
@@ -65,12 +66,12 @@ wave_more c waves i cited n wave r o within w lt inside is h = (
           within = within;
           listed = listed;
           theorem = refl;
-          cited = sym (is ∙ ap (λ xs. get_or xs n 0) h.same);
+          cited = sym (is ∙ ap (λ xs. get_or xs n 0) wave_to.same);
         }
 
     longer : TheoremChain (HasCitation c) (IsCitingTheorem c) (theorem_at c i)
         (suc (get_or waves r 0))
-    longer = (theorem_at c r, cites, (r, inside, refl), (w.each r before).0)
+    longer = (theorem_at c r, cites, (r, inside, refl), (are_waves.each r before).0)
 
     above : (x : ℕ) → wave ≤ x → get_or waves r 0 + 1 ≤ x → (m s : ℕ) → m < n + 1
         → s < length c.theorems → theorem_at c s ≡ get_or cited m 0 → get_or waves s 0 + 1 ≤ x
@@ -79,10 +80,11 @@ wave_more c waves i cited n wave r o within w lt inside is h = (
         by_place : (m ≡ n) ⊎ (m ≡ n → ⊥) → get_or waves s 0 + 1 ≤ x
         by_place (inl f) =
             let same : s ≡ r =
-            index_is_unique c.theorems s r o.rising t inside (e ∙ ap (λ k. get_or cited k 0) f
+            index_is_unique c.theorems s r is_file_order.rising t inside
+            (e ∙ ap (λ k. get_or cited k 0) f
             ∙ sym is) in
             subst (λ k. get_or waves k 0 + 1 ≤ x) (sym same) b
-        by_place (inr f) = let y = h.above m s (omega arith) t e in omega (arith, y, a)
+        by_place (inr f) = let y = wave_to.above m s (omega arith) t e in omega (arith, y, a)
 
     pick : (wave < get_or waves r 0 + 1) ⊎ (get_or waves r 0 + 1 ≤ wave)
         → WaveTo c waves i cited (n + 1) (max wave (get_or waves r 0 + 1))
@@ -90,9 +92,9 @@ wave_more c waves i cited n wave r o within w lt inside is h = (
         let top : max wave (get_or waves r 0 + 1) ≡ get_or waves r 0 + 1 = omega arith in
         let one : suc (get_or waves r 0) ≡ max wave (get_or waves r 0 + 1) = omega arith in
         let b = before in
-        let few = w.small r before in
+        let few = are_waves.small r before in
         record {
-          same = h.same;
+          same = wave_to.same;
           chain = subst (TheoremChain (HasCitation c) (IsCitingTheorem c) (theorem_at c i))
               one longer;
           above = above (max wave (get_or waves r 0 + 1)) (omega arith) (omega arith);
@@ -100,11 +102,11 @@ wave_more c waves i cited n wave r o within w lt inside is h = (
         }
     pick (inr g) =
         let top : wave ≡ max wave (get_or waves r 0 + 1) = omega arith in
-        let small = h.small in
+        let small = wave_to.small in
         record {
-          same = h.same;
+          same = wave_to.same;
           chain = subst (TheoremChain (HasCitation c) (IsCitingTheorem c) (theorem_at c i))
-              top h.chain;
+              top wave_to.chain;
           above = above (max wave (get_or waves r 0 + 1)) (omega arith) (omega arith);
           small = omega (arith, top, small);
         }
@@ -113,42 +115,48 @@ wave_more c waves i cited n wave r o within w lt inside is h = (
 pub wave_same : (c : Citing) (waves : List ℕ) (i : ℕ) (cited : List ℕ) (n wave : ℕ)
     → ((r : ℕ) → r < length c.theorems → theorem_at c r ≡ get_or cited n 0 → ⊥)
     → WaveTo c waves i cited n wave → WaveTo c waves i cited (n + 1) wave
-wave_same c waves i cited n wave none h =
+wave_same c waves i cited n wave none wave_to =
     record {
-      same = h.same;
-      chain = h.chain;
+      same = wave_to.same;
+      chain = wave_to.chain;
       above = λ m r lt within e. by_place m r lt within e (cases_eq m n);
-      small = h.small;
+      small = wave_to.small;
     }
   where
     by_place : (m r : ℕ) → m < n + 1 → r < length c.theorems → theorem_at c r ≡ get_or cited m 0
         → (m ≡ n) ⊎ (m ≡ n → ⊥) → get_or waves r 0 + 1 ≤ wave
     by_place m r lt within e (inl f) = absurd (none r within (e ∙ ap (λ k. get_or cited k 0) f))
-    by_place m r lt within e (inr f) = h.above m r (omega arith) within e
+    by_place m r lt within e (inr f) = wave_to.above m r (omega arith) within e
 
 -- all citations
 pub wave_all : (c : Citing) (waves : List ℕ) (i : ℕ) (cited : List ℕ) (wave : ℕ) → IsFileOrder c
     → i < length c.theorems → AreWaves c i waves → WaveTo c waves i cited (length cited) wave
     → IsWave (HasCitation c) (IsCitingTheorem c) (theorem_at c i) wave
-wave_all c waves i cited wave o within w h = (h.chain, longest)
+wave_all c waves i cited wave is_file_order within are_waves wave_to = (wave_to.chain, longest)
   where
     chain_from_cited : (m b : ℕ) → HasCitation c (theorem_at c i) b → IsCitingTheorem c b
         → TheoremChain (HasCitation c) (IsCitingTheorem c) b m → suc m ≤ wave
-    chain_from_cited m b s t chain =
-        let row : s.row ≡ i = index_is_unique c.theorems s.row i o.rising s.within
-        within s.theorem in
-        let listed : s.list_index < length (list_at c i) =
-        subst (λ x. s.list_index < length (list_at c x)) row s.listed in
-        let cited_b : get_or (list_at c i) s.list_index 0 ≡ b =
-        subst (λ x. get_or (list_at c x) s.list_index 0 ≡ b) row s.cited in
-        let before : t.0 < i =
-        earlier_row c i t.0 s.list_index o within listed t.1 (t.2 ∙ sym cited_b) in
+    chain_from_cited m b has_citation is_citing_theorem chain =
+        let row : has_citation.row ≡ i = index_is_unique c.theorems has_citation.row i
+        is_file_order.rising has_citation.within
+        within has_citation.theorem in
+        let listed : has_citation.list_index < length (list_at c i) =
+        subst (λ x. has_citation.list_index < length (list_at c x)) row has_citation.listed in
+        let cited_b : get_or (list_at c i) has_citation.list_index 0 ≡ b =
+        subst (λ x. get_or (list_at c x) has_citation.list_index 0 ≡ b) row has_citation.cited in
+        let before : is_citing_theorem.0 < i =
+        earlier_row c i is_citing_theorem.0 has_citation.list_index is_file_order within listed
+        is_citing_theorem.1 (is_citing_theorem.2 ∙ sym cited_b) in
         let deep =
-        (w.each t.0 before).1 m
-        (subst (λ x. TheoremChain (HasCitation c) (IsCitingTheorem c) x m) (sym t.2) chain) in
+        (are_waves.each is_citing_theorem.0 before).1 m
+        (subst (λ x. TheoremChain (HasCitation c) (IsCitingTheorem c) x m)
+        (sym is_citing_theorem.2) chain) in
         let up =
-        h.above s.list_index t.0 (subst (λ xs. s.list_index < length xs) (sym h.same) listed) t.1
-        (t.2 ∙ sym cited_b ∙ ap (λ xs. get_or xs s.list_index 0) (sym h.same)) in
+        wave_to.above has_citation.list_index is_citing_theorem.0
+        (subst (λ xs. has_citation.list_index < length xs) (sym wave_to.same) listed)
+        is_citing_theorem.1
+        (is_citing_theorem.2 ∙ sym cited_b ∙ ap (λ xs. get_or xs has_citation.list_index 0)
+        (sym wave_to.same)) in
         omega (arith, deep, up)
 
     longest : (m : ℕ) → TheoremChain (HasCitation c) (IsCitingTheorem c) (theorem_at c i) m → m
@@ -167,29 +175,31 @@ waves_none c =
 pub waves_more : (c : Citing) (n wave : ℕ) (waves : List ℕ) → AreWaves c n waves
     → IsWave (HasCitation c) (IsCitingTheorem c) (theorem_at c n) wave → wave ≤ n
     → AreWaves c (n + 1) (waves ++ wave ∷ [])
-waves_more c n wave waves h w small = record {
-  size = let l = length-append waves (wave ∷ []) in let s = h.size in omega (arith, l, s);
+waves_more c n wave waves are_waves is_wave small = record {
+  size = let l = length-append waves (wave ∷ []) in let s = are_waves.size in omega (arith, l, s);
   each =
       λ r lt. at (IsWave (HasCitation c) (IsCitingTheorem c) (theorem_at c r)) r
-      lt (λ l. h.each r l)
-      (λ e. subst (λ k. IsWave (HasCitation c) (IsCitingTheorem c) (theorem_at c k) wave) (sym e) w)
+      lt (λ l. are_waves.each r l)
+      (λ e. subst (λ k. IsWave (HasCitation c) (IsCitingTheorem c) (theorem_at c k) wave)
+      (sym e) is_wave)
       (cases_eq r n);
-  small = λ r lt. at (λ x. x ≤ r) r lt (λ l. h.small r l) (λ e. omega arith) (cases_eq r n);
+  small = λ r lt. at (λ x. x ≤ r) r lt (λ l. are_waves.small r l) (λ e. omega arith) (cases_eq r n);
 }
   where
     at : (P : ℕ → Type 0) (r : ℕ) → r < n + 1 → (r < n → P (get_or waves r 0)) → (r ≡ n → P wave)
         → (r ≡ n) ⊎ (r ≡ n → ⊥) → P (get_or (waves ++ wave ∷ []) r 0)
     at P r lt below new (inl e) =
-        subst P (sym (get_or_push waves wave 0 r (h.size ∙ sym e))) (new e)
+        subst P (sym (get_or_push waves wave 0 r (are_waves.size ∙ sym e))) (new e)
     at P r lt below new (inr ne) =
-        subst P (sym (get_or_append_left waves (wave ∷ []) 0 r (let s = h.size in omega arith)))
+        subst P (sym (get_or_append_left waves (wave ∷ []) 0 r (let s = are_waves.size in
+        omega arith)))
         (below (omega arith))
 
 -- a cited theorem has a lower wave
 pub lower : (c : Citing) (waves : List ℕ) (i r k : ℕ) → AreWaves c (length c.theorems) waves
     → i < length c.theorems → r < length c.theorems → k < length (list_at c i)
     → theorem_at c r ≡ get_or (list_at c i) k 0 → get_or waves r 0 < get_or waves i 0
-lower c waves i r k w within inside listed e =
+lower c waves i r k are_waves within inside listed e =
     let cites : HasCitation c (theorem_at c i) (theorem_at c r) =
     record {
       row = i;
@@ -200,8 +210,8 @@ lower c waves i r k w within inside listed e =
       cited = sym e;
     } in
     let one : suc (get_or waves r 0) ≤ get_or waves i 0 =
-    (w.each i within).1 (suc (get_or waves r 0))
-    (theorem_at c r, cites, (r, inside, refl), (w.each r inside).0) in
+    (are_waves.each i within).1 (suc (get_or waves r 0))
+    (theorem_at c r, cites, (r, inside, refl), (are_waves.each r inside).0) in
     omega arith
 
 -- ---- rows by wave
@@ -254,12 +264,13 @@ pub zip_at : {Y : Type 0} (P : ℕ → Y → Type 0) (n a : ℕ) (ys : List Y)
 zip_at P zero a [] h = (refl, λ k d l. absurd (omega arith))
 zip_at P zero a (y ∷ ys) h = absurd h
 zip_at P (suc n) a [] h = absurd h
-zip_at P (suc n) a (y ∷ ys) h =
-    let r = zip_at P n (a + 1) ys h.1 in ((let e = r.0 in omega (arith, e)), λ k d l. at k d l r.1)
+zip_at P (suc n) a (y ∷ ys) all_zip =
+    let r = zip_at P n (a + 1) ys all_zip.1 in
+    ((let e = r.0 in omega (arith, e)), λ k d l. at k d l r.1)
   where
     at : (k : ℕ) (d : _) → k < suc n → ((k : ℕ) (d : _) → k < n → P (a + 1 + k) (get_or ys k d))
         → P (a + k) (get_or (y ∷ ys) k d)
-    at zero d l r = let e : a ≡ a + 0 = omega arith in subst (λ i. P i y) e h.0
+    at zero d l r = let e : a ≡ a + 0 = omega arith in subst (λ i. P i y) e all_zip.0
     at (suc k) d l r =
         let e : a + 1 + k ≡ a + suc k = omega arith in
         subst (λ i. P i (get_or ys k d)) e (r k d (omega arith))
@@ -276,9 +287,9 @@ pub filled_more : (c : Citing) (columns rows : List ℕ) (k : ℕ) (first old ne
     → ((r : ℕ) → (r ≡ i → ⊥)
     → row_at new (words_for (length columns)) r ≡ row_at old (words_for (length columns)) r)
     → AreFilled c columns rows k first old → AreFilled c columns rows (k + 1) first new
-filled_more c columns rows k first old new row i is bits same here others h = record {
-  size = same ∙ h.size;
-  none_lost = λ r b. again r (h.none_lost r b) (cases_eq r i);
+filled_more c columns rows k first old new row i is bits same here others are_filled = record {
+  size = same ∙ are_filled.size;
+  none_lost = λ r b. again r (are_filled.none_lost r b) (cases_eq r i);
   filled = λ m l. by_place m l (cases_eq m k);
 }
   where
@@ -294,7 +305,7 @@ filled_more c columns rows k first old new row i is bits same here others h = re
     by_place : (m : ℕ) → m < k + 1 → (m ≡ k) ⊎ (m ≡ k → ⊥) → HasRow c columns new (get_or rows m 0)
     by_place m l (inl e) = fresh (get_or rows m 0) (ap (λ x. get_or rows x 0) e ∙ sym is)
     by_place m l (inr ne) =
-        again (get_or rows m 0) (h.filled m (omega arith)) (cases_eq (get_or rows m 0) i)
+        again (get_or rows m 0) (are_filled.filled m (omega arith)) (cases_eq (get_or rows m 0) i)
 
 -- a row that could be filled can still be filled
 pub ready_still : (c : Citing) (columns rows : List ℕ) (k : ℕ) (old new : List ℕ)
@@ -319,25 +330,31 @@ pub wave_ready : (c : Citing) (columns waves rows : List ℕ) (from to : ℕ) (b
     → get_or waves (get_or rows p 0) 0 ≡ get_or waves (get_or rows from 0) 0)
     → (p : ℕ) → from ≤ p → p < to
     → (get_or rows p 0 < length c.theorems) × HasCitedRows c columns bits (get_or rows p 0)
-wave_ready c columns waves rows from to bits w o h inside within same p l m =
-    (known, λ r k lt listed e. ready r (lower c waves (get_or rows p 0) r k w known lt listed e) lt)
+wave_ready c columns waves rows from to bits are_waves is_by_wave filled_up_to
+    inside within same p l m = (
+      known,
+      λ r k lt listed e. ready r
+          (lower c waves (get_or rows p 0) r k are_waves known lt listed e) lt,
+    )
   where
     known : get_or rows p 0 < length c.theorems
-    known = let s = w.size in let k = o.known p 0 (omega arith) in omega (arith, s, k)
+    known = let s = are_waves.size in let k = is_by_wave.known p 0 (omega arith) in
+        omega (arith, s, k)
 
     ready : (r : ℕ) → get_or waves r 0 < get_or waves (get_or rows p 0) 0 → r < length c.theorems
         → HasRow c columns bits r
     ready r low lt =
-        let q = o.all r (let s = w.size in omega (arith, s, lt)) in
+        let q = is_by_wave.all r (let s = are_waves.size in omega (arith, s, lt)) in
         let is : get_or rows q.0 0 ≡ r = get_or_default rows q.0 0 r q.1 ∙ q.2 in
         subst (HasRow c columns bits) is
-        (h.filled q.0 (before q.0 q.1 (ap (λ x. get_or waves x 0) is) (cases_lt q.0 from)))
+        (filled_up_to.filled q.0 (before q.0 q.1 (ap (λ x. get_or waves x 0) is)
+        (cases_lt q.0 from)))
       where
         before : (q : ℕ) → q < length rows → get_or waves (get_or rows q 0) 0 ≡ get_or waves r 0
             → (q < from) ⊎ (from ≤ q) → q < from
         before q k e (inl b) = b
         before q k e (inr b) =
-            absurd (let up = o.rises from q b k in let s = same p l m in
+            absurd (let up = is_by_wave.rises from q b k in let s = same p l m in
             omega (arith, up, s, e, low))
 
 pub part_length : (xs : List ℕ) (from to : ℕ) → to ≤ length xs
@@ -354,16 +371,16 @@ pub filled_wave : (c : Citing) (columns rows part : List ℕ) (from to : ℕ) (o
     → FilledUpTo c columns rows from old → to ≤ length rows → part ≡ slice_range rows from to
     → from ≤ to
     → AreFilled c columns part (length part) old new → FilledUpTo c columns rows to new
-filled_wave c columns rows part from to old new h within is order m =
+filled_wave c columns rows part from to old new filled_up_to within is order are_filled =
     record {
-      size = m.size ∙ h.size;
+      size = are_filled.size ∙ filled_up_to.size;
       within = within;
       filled =
           λ p l. by_place p l (cases_lt p from);
     }
   where
     by_place : (p : ℕ) → p < to → (p < from) ⊎ (from ≤ p) → HasRow c columns new (get_or rows p 0)
-    by_place p l (inl b) = m.none_lost (get_or rows p 0) (h.filled p b)
+    by_place p l (inl b) = are_filled.none_lost (get_or rows p 0) (filled_up_to.filled p b)
     by_place p l (inr b) =
         let long : length part ≡ to - from =
         ap (λ xs. length xs) is ∙ part_length rows from to within in
@@ -371,18 +388,19 @@ filled_wave c columns rows part from to old new h within is order m =
         let at : get_or part (p - from) 0 ≡ get_or rows p 0 =
         ap (λ xs. get_or xs (p - from) 0) is
         ∙ part_at rows from to (p - from) 0 (omega (arith, l, b)) ∙ ap (λ x. get_or rows x 0) e in
-        subst (HasRow c columns new) at (m.filled (p - from) (omega (arith, long, l, b)))
+        subst (HasRow c columns new) at (are_filled.filled (p - from) (omega (arith, long, l, b)))
 
 pub filled_all : (c : Citing) (columns waves rows bits : List ℕ) (from : ℕ)
     → AreWaves c (length c.theorems) waves → IsByWave waves rows
     → FilledUpTo c columns rows from bits
     → length rows ≤ from → AreBitRows c columns (length c.theorems) bits
-filled_all c columns waves rows bits from w o h end = record {
-  size = h.size;
+filled_all c columns waves rows bits from are_waves is_by_wave filled_up_to end = record {
+  size = filled_up_to.size;
   each = λ r lt.
-      let q = o.all r (let s = w.size in omega (arith, s, lt)) in
+      let q = is_by_wave.all r (let s = are_waves.size in omega (arith, s, lt)) in
       let is : get_or rows q.0 0 ≡ r = get_or_default rows q.0 0 r q.1 ∙ q.2 in
-      subst (HasRow c columns bits) is (h.filled q.0 (let l = q.1 in omega (arith, l, end)));
+      subst (HasRow c columns bits) is (filled_up_to.filled q.0 (let l = q.1 in
+      omega (arith, l, end)));
 }
 
 -- one row more, with its wave

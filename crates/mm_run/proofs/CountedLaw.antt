@@ -33,12 +33,12 @@ pub is_output : (request : Request) (d : Contents) (axioms bytes : List ℕ)
     → IsReportOf request.choice d.statements
     (open_theorems request.with_open d axioms) request bytes
     → IsOutput d.text request bytes
-is_output request d axioms bytes h sound is report =
+is_output request d axioms bytes is_counted sound is report =
     inr (
       d.read,
       sound,
       subst (λ o. IsReportOf request.choice (counted request.with_open d.read) o request bytes)
-          (open_theorems_are d request.with_open request.only axioms h is)
+          (open_theorems_are d request.with_open request.only axioms is_counted is)
           (subst (λ db. IsReportOf request.choice db
-          (open_theorems request.with_open d axioms) request bytes) h.statements report),
+          (open_theorems request.with_open d axioms) request bytes) is_counted.statements report),
     )

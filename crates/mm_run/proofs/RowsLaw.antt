@@ -37,20 +37,20 @@ decides_through b h e = ((λ t. e.0 (h.0 t)), (λ q. h.1 (e.1 q)))
 
 module _ (db : List Statement) (request : Request) (c : Citing) (m : Marks)
     (same : c.theorems ≡ theorems db) (shows : CitesAsDatabase db request.essential c)
-    (h : IsMatrix c (columns db request.only) m) where
+    (is_matrix : IsMatrix c (columns db request.only) m) where
   marks_zip : (i : ℕ) → i < length (theorems db)
       → AllZip (λ a b. Decides b (proof.RestsOn db request.essential (get_or (theorems db) i 0) a))
       (columns db request.only) (marks_of m i)
   marks_zip i l =
       let n = length-map-range_with_len (mark m i) 0 m.columns in
-      let w = h.columns_are in
+      let w = is_matrix.columns_are in
       zip_of_each
       (λ a b. Decides b (proof.RestsOn db request.essential (get_or (theorems db) i 0) a))
       (columns db request.only) (marks_of m i) 0 false (omega (arith, n, w))
       (λ j k.
       let inside : i < length c.theorems = subst (λ (ts : List ℕ). i < length ts) (sym same) l in
       let d =
-      decides_through (mark m i j) (h.marked i j inside k)
+      decides_through (mark m i j) (is_matrix.marked i j inside k)
       (chains_alike (HasCitation c) (proof.Cites db request.essential) shows.same (theorem_at c i)
       (get_or (columns db request.only) j 0)) in
       subst (λ b. Decides b
@@ -67,7 +67,7 @@ module _ (db : List Statement) (request : Request) (c : Citing) (m : Marks)
   rows_are =
       let names = map (label_at db) (theorems db) in
       let f = λ (i : ℕ). row_of m (get_or names i []) i in
-      let r = h.rows in
+      let r = is_matrix.rows in
       let s = ap (λ (ts : List ℕ). length ts) same in
       let n = length-map-range_with_len f 0 m.rows in
       zip_of_each (IsRowOf db request) (theorems db) (rows_of m names) 0 (f 0)
@@ -98,8 +98,8 @@ pub is_report : (request : Request) (db : List Statement) (opened : Option ℕ) 
     → IsReportOf request.choice db opened request
     (report request opened (map (label_at db) axioms)
     (rows_of m (map (label_at db) (theorems db))))
-is_report request db opened c axioms m cited is h other =
-    let h' = subst (λ (l : List ℕ). IsMatrix c l m) is h in
+is_report request db opened c axioms m cited is is_matrix other =
+    let h' = subst (λ (l : List ℕ). IsMatrix c l m) is is_matrix in
     let rows = rows_of m (map (label_at db) (theorems db)) in
     let here =
     is_report_of_rows db opened request request.choice rows other

@@ -14,7 +14,7 @@ use Rattle.mm_work.proofs.CitedLaw.{cited_valid}
 use Rattle.std.proofs.lemmas.List.{get_or_default}
 
 module _ {A : Type 0} (job : Job A) (seat : SeatValue) (fs : List (Findings A))
-    (h : AreGathered job seat fs) where
+    (are_gathered : AreGathered job seat fs) where
   abbrev db : List Statement
   db = job.database.now.statements
 
@@ -23,9 +23,10 @@ module _ {A : Type 0} (job : Job A) (seat : SeatValue) (fs : List (Findings A))
       → n < first → IsValid db (theorem_of db n)
   valid_below first all n l =
       let one = all n l in
-      let r = h.settled n (omega (arith, one)) in
+      let r = are_gathered.settled n (omega (arith, one)) in
       let f : AreFindings db job.essential r.0 =
-      subst (λ (x : Findings A). AreFindings db job.essential x) r.1.2 (h.found r.1.0 r.0 r.1.1) in
+      subst (λ (x : Findings A). AreFindings db job.essential x) r.1.2
+      (are_gathered.found r.1.0 r.0 r.1.1) in
       cited_valid db job.essential _ _
       (subst (λ i. IsCited db job.essential (theorem_of db i) (get_or r.0.cites r.2.0 []))
       (get_or_default r.0.valid.items r.2.0 0 n r.2.1 ∙ r.2.2) (f.each r.2.0 r.2.1))
@@ -40,4 +41,5 @@ module _ {A : Type 0} (job : Job A) (seat : SeatValue) (fs : List (Findings A))
       by_floor (inl e) = absurd (omega (arith, e, l))
       by_floor (inr p) =
           let own : times_reported (seat.view ∷ []) first
-          ≡ times_in first seat.view.reported + 0 = refl in h.reported first (omega (arith, p, own))
+          ≡ times_in first seat.view.reported + 0 = refl in
+          are_gathered.reported first (omega (arith, p, own))

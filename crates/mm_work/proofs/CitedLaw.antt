@@ -91,44 +91,46 @@ module _ (db : List Statement) (few : length db < 2 ^ 31) (complete : AreComplet
       subst (λ t. IsValid db t) p.2 (cited_valid db by_essential _ _ (h.each p.0 p.1))
 
   module _ (by_essential : Bool) (lists : List (List ℕ))
-      (h : AreCitedUpTo db by_essential (theorems db) (length (theorems db)) lists) where
-    abbrev c : Citing
-    c = citing (theorems db) lists
+      (are_cited_up_to : AreCitedUpTo db by_essential (theorems db) (length (theorems db)) lists)
+    where
+      abbrev c : Citing
+      c = citing (theorems db) lists
 
-    pub file_order : IsFileOrder c
-    file_order = record {
-      rising = theorems_rise;
-      each = h.count;
-      earlier =
-          λ i k l m. cites_earlier db by_essential (get_or (theorems db) i 0) _
-          (((h.each i l).checked.exact (get_or (get_or lists i []) k 0)).0
-          (member_at (get_or lists i []) k 0 m));
-    }
+      pub file_order : IsFileOrder c
+      file_order = record {
+        rising = theorems_rise;
+        each = are_cited_up_to.count;
+        earlier =
+            λ i k l m. cites_earlier db by_essential (get_or (theorems db) i 0) _
+            (((are_cited_up_to.each i l).checked.exact (get_or (get_or lists i []) k 0)).0
+            (member_at (get_or lists i []) k 0 m));
+      }
 
-    pub shows : CitesAsDatabase db by_essential c
-    shows = record { same = λ t a. ((to t a), (from t a)) }
-      where
-        to : (t a : ℕ) → HasCitation c t a → proof.Cites db by_essential t a
-        to t a x =
-            let l = get_or lists x.row [] in
-            let b = get_or l x.list_index 0 in
-            subst (λ y. proof.Cites db by_essential t y) x.cited
-            (subst (λ y. proof.Cites db by_essential y b) x.theorem
-            (((h.each x.row x.within).checked.exact b).0 (member_at l x.list_index 0 x.listed)))
+      pub shows : CitesAsDatabase db by_essential c
+      shows = record { same = λ t a. ((to t a), (from t a)) }
+        where
+          to : (t a : ℕ) → HasCitation c t a → proof.Cites db by_essential t a
+          to t a has_citation =
+              let l = get_or lists has_citation.row [] in
+              let b = get_or l has_citation.list_index 0 in
+              subst (λ y. proof.Cites db by_essential t y) has_citation.cited
+              (subst (λ y. proof.Cites db by_essential y b) has_citation.theorem
+              (((are_cited_up_to.each has_citation.row has_citation.within).checked.exact b).0
+              (member_at l has_citation.list_index 0 has_citation.listed)))
 
-        from : (t a : ℕ) → proof.Cites db by_essential t a → HasCitation c t a
-        from t a x =
-            let p = theorem_place db t (proof_theorem db t x.1 x.2) in
-            let l = get_or lists p.0 [] in
-            let m : is_member l a ≡ true =
-            ((h.each p.0 p.1).checked.exact a).1
-            (subst (λ y. proof.Cites db by_essential y a) (sym p.2) x) in
-            let q = member_place l a m in
-            record {
-              row = p.0;
-              list_index = q.0;
-              within = p.1;
-              listed = q.1;
-              theorem = p.2;
-              cited = q.2;
-            }
+          from : (t a : ℕ) → proof.Cites db by_essential t a → HasCitation c t a
+          from t a x =
+              let p = theorem_place db t (proof_theorem db t x.1 x.2) in
+              let l = get_or lists p.0 [] in
+              let m : is_member l a ≡ true =
+              ((are_cited_up_to.each p.0 p.1).checked.exact a).1
+              (subst (λ y. proof.Cites db by_essential y a) (sym p.2) x) in
+              let q = member_place l a m in
+              record {
+                row = p.0;
+                list_index = q.0;
+                within = p.1;
+                listed = q.1;
+                theorem = p.2;
+                cited = q.2;
+              }

@@ -32,13 +32,13 @@ others_unchanged (y ∷ xs) (suc i) (suc j) x n = others_unchanged xs i j x (λ 
 -- where a place is the same, what is noted there is too
 pub same_noted : (old new : List ListPosition) (worker : ℕ) (valid : List ℕ) (i : ℕ)
     → slice_get new i ≡ slice_get old i → IsNoted old worker valid i → IsNoted new worker valid i
-same_noted old new worker valid i e h =
+same_noted old new worker valid i e is_noted =
     record {
-      position = h.position;
-      position_is = e ∙ h.position_is;
-      worker_is = h.worker_is;
-      within = h.within;
-      index_is = h.index_is;
+      position = is_noted.position;
+      position_is = e ∙ is_noted.position_is;
+      worker_is = is_noted.worker_is;
+      within = is_noted.within;
+      index_is = is_noted.index_is;
     }
 
 module _ (first old : List ListPosition) (worker : ℕ) (valid : List ℕ) (k x : ℕ)
@@ -112,12 +112,13 @@ module _ {A : Type 0} (fs : List (Findings A)) where
               → IsNoted new w one.valid.items i ⊎ (slice_get new i ≡ slice_get old i)
               → HasPosition new fs i
           by_note o (inl n) = of_this_worker n
-          by_note o (inr s) =
+          by_note has_position (inr s) =
               record {
-                worker = o.worker;
-                found = o.found;
-                found_is = o.found_is;
-                noted = same_noted old new o.worker o.found.valid.items i s o.noted;
+                worker = has_position.worker;
+                found = has_position.found;
+                found_is = has_position.found_is;
+                noted = same_noted old new has_position.worker has_position.found.valid.items i s
+                    has_position.noted;
               }
       by_worker (inr b) =
           let same : v ≡ w = omega arith in
@@ -144,48 +145,54 @@ written_back len new old e =
 module _ {A : Type 0} (db : List Statement) (by_essential : Bool) (fs : List (Findings A))
     (found : All (AreFindings db by_essential) fs) (ps qs : List ListPosition) (k : ℕ)
     (d : ListPosition)
-    (same : qs ≡ ps) (h : HasPosition ps fs k) where
+    (same : qs ≡ ps) (has_position : HasPosition ps fs k) where
   -- the place that is read
   abbrev p : ListPosition
   p = get_or qs k d
 
-  is : p ≡ h.noted.position
+  is : p ≡ has_position.noted.position
   is =
       ap (λ (l : List ListPosition). get_or l k d) same
-      ∙ get_or_from_slice_get ps k h.noted.position d h.noted.position_is
+      ∙ get_or_from_slice_get ps k has_position.noted.position d has_position.noted.position_is
 
-  worker : p.worker ≡ h.worker
-  worker = ap (λ (q : ListPosition). q.worker) is ∙ h.noted.worker_is
+  worker : p.worker ≡ has_position.worker
+  worker = ap (λ (q : ListPosition). q.worker) is ∙ has_position.noted.worker_is
 
   pub worker_within : p.worker < length fs
   worker_within =
-      subst (λ n. n < length fs) (sym worker) (slice_get_within fs h.worker h.found h.found_is)
+      subst (λ n. n < length fs) (sym worker)
+      (slice_get_within fs has_position.worker has_position.found has_position.found_is)
 
-  pub found_there : (e : Findings A) → get_or fs p.worker e ≡ h.found
+  pub found_there : (e : Findings A) → get_or fs p.worker e ≡ has_position.found
   found_there e =
-      ap (λ n. get_or fs n e) worker ∙ get_or_from_slice_get fs h.worker h.found e h.found_is
+      ap (λ n. get_or fs n e) worker
+      ∙ get_or_from_slice_get fs has_position.worker has_position.found e has_position.found_is
 
-  are_found : AreFindings db by_essential h.found
+  are_found : AreFindings db by_essential has_position.found
   are_found =
-      subst (λ (f : Findings A). AreFindings db by_essential f) (found_there h.found)
-      (found p.worker h.found worker_within)
+      subst (λ (f : Findings A). AreFindings db by_essential f) (found_there has_position.found)
+      (found p.worker has_position.found worker_within)
 
-  list_index_within : p.list < length h.found.valid.items
-  list_index_within = subst (λ (q : ListPosition). q.list < length h.found.valid.items) (sym is)
-      h.noted.within
+  list_index_within : p.list < length has_position.found.valid.items
+  list_index_within =
+      subst (λ (q : ListPosition). q.list < length has_position.found.valid.items) (sym is)
+      has_position.noted.within
 
-  pub list_within : (f : Findings A) → f ≡ h.found → p.list < length f.cites
+  pub list_within : (f : Findings A) → f ≡ has_position.found → p.list < length f.cites
   list_within f e =
       subst (λ (g : Findings A). p.list < length g.cites) (sym e)
       (subst (λ n. p.list < n) (sym are_found.count) list_index_within)
 
-  pub list_cited : (f : Findings A) (list : List ℕ) → f ≡ h.found → list ≡ get_or f.cites p.list []
+  pub list_cited : (f : Findings A) (list : List ℕ) → f ≡ has_position.found → list
+      ≡ get_or f.cites p.list []
       → IsCited db by_essential (theorem_of db k) list
   list_cited f list e l =
-      let index : get_or h.found.valid.items p.list 0 ≡ k =
-      ap (λ (q : ListPosition). get_or h.found.valid.items q.list 0) is ∙ h.noted.index_is in
+      let index : get_or has_position.found.valid.items p.list 0 ≡ k =
+      ap (λ (q : ListPosition). get_or has_position.found.valid.items q.list 0) is
+      ∙ has_position.noted.index_is in
       let one =
-      subst (λ i. IsCited db by_essential (theorem_of db i) (get_or h.found.cites p.list [])) index
+      subst (λ i. IsCited db by_essential (theorem_of db i)
+      (get_or has_position.found.cites p.list [])) index
       (are_found.each p.list list_index_within) in
       subst (λ (xs : List ℕ). IsCited db by_essential (theorem_of db k) xs)
       (sym (l ∙ ap (λ (g : Findings A). get_or g.cites p.list []) e)) one

@@ -59,18 +59,18 @@ module _ {A : Type 0} (db : List Statement) (by_essential : Bool) where
       → i < length (theorems db) → IsCited db by_essential (theorem_of db i) cites
       → g.valid.items ≡ f.valid.items ++ i ∷ [] → g.cites ≡ f.cites ++ cites ∷ []
       → g.faulty ≡ f.faulty → AreFindings db by_essential g
-  findings_with_valid f g i cites h l one v c e = record {
+  findings_with_valid f g i cites are_findings l one v c e = record {
     count =
-        ap length c ∙ length-append f.cites (cites ∷ []) ∙ ap (λ n. n + 1) h.count
+        ap length c ∙ length-append f.cites (cites ∷ []) ∙ ap (λ n. n + 1) are_findings.count
         ∙ sym (length-append f.valid.items (i ∷ [])) ∙ sym (ap length v);
     known =
         subst (λ (xs : List ℕ). All (λ j. j < length (theorems db)) xs) (sym v)
-        (All-push (λ j. j < length (theorems db)) f.valid.items i h.known l);
+        (All-push (λ j. j < length (theorems db)) f.valid.items i are_findings.known l);
     each =
         λ k m. rw (v, c)
         (by_index k (subst (λ n. k < n) (ap length v ∙ length-append f.valid.items (i ∷ [])) m)
         (cases_lt k (length f.valid.items)));
-    faulty = subst (λ (o : Option IndexedFault). IsFaultFound db o) (sym e) h.faulty;
+    faulty = subst (λ (o : Option IndexedFault). IsFaultFound db o) (sym e) are_findings.faulty;
   }
     where
       by_index : (k : ℕ) → k < length f.valid.items + 1
@@ -81,10 +81,10 @@ module _ {A : Type 0} (db : List Statement) (by_essential : Bool) where
           rw (
             get_or_append_left f.valid.items (i ∷ []) 0 k b,
             get_or_append_left f.cites
-                (cites ∷ []) [] k (let n = h.count in omega (arith, n, b)),
-          ) (h.each k b)
+                (cites ∷ []) [] k (let n = are_findings.count in omega (arith, n, b)),
+          ) (are_findings.each k b)
       by_index k m (inr b) =
-          let n = h.count in
+          let n = are_findings.count in
           let z : k - length f.valid.items ≡ 0 = omega (arith, m, b) in
           let y : k - length f.cites ≡ 0 = omega (arith, m, b, n) in
           let last : get_or (f.valid.items ++ i ∷ []) k 0 ≡ i =
@@ -121,25 +121,28 @@ module _ {A : Type 0} (job : Job A) where
 
   findings_after_fault : (f g : Findings A) (i : ℕ) → AreFindings db job.essential f
       → i < length (theorems db) → FindsFault job i f g → AreFindings db job.essential g
-  findings_after_fault f g i h l v = record {
-    count = ap length v.cites_are ∙ h.count ∙ sym (ap length v.valid_are);
+  findings_after_fault f g i are_findings l finds_fault = record {
+    count = ap length finds_fault.cites_are ∙ are_findings.count
+        ∙ sym (ap length finds_fault.valid_are);
     known =
-        subst (λ (xs : List ℕ). All (λ j. j < length (theorems db)) xs) (sym v.valid_are) h.known;
+        subst (λ (xs : List ℕ). All (λ j. j < length (theorems db)) xs) (sym finds_fault.valid_are)
+        are_findings.known;
     each =
-        λ k m. rw (v.valid_are, v.cites_are)
-        (h.each k (subst (λ (xs : List ℕ). k < length xs) v.valid_are m));
+        λ k m. rw (finds_fault.valid_are, finds_fault.cites_are)
+        (are_findings.each k (subst (λ (xs : List ℕ). k < length xs) finds_fault.valid_are m));
     faulty =
-        subst (λ (o : Option IndexedFault). IsFaultFound db o) (sym v.faulty_is) (l, v.has_fault);
+        subst (λ (o : Option IndexedFault). IsFaultFound db o) (sym finds_fault.faulty_is)
+        (l, finds_fault.has_fault);
   }
 
   -- a seat that has settled and reported the same
   tells_of_same_seat : (w : WorkerState A) (s : SeatValue) → s.view.settled ≡ w.seat.view.settled
       → s.view.reported ≡ w.seat.view.reported → Tells job w
       → Tells job (record { seat = s; found = w.found })
-  tells_of_same_seat w s settled reported t = record {
-    found = t.found;
-    settled = settled ∙ t.settled;
-    reported = λ i p. t.reported i (subst (λ (l : List ℕ). 0 < times_in i l) reported p);
+  tells_of_same_seat w s settled reported tells = record {
+    found = tells.found;
+    settled = settled ∙ tells.settled;
+    reported = λ i p. tells.reported i (subst (λ (l : List ℕ). 0 < times_in i l) reported p);
   }
 
   -- a worker before its first theorem
@@ -181,7 +184,7 @@ module _ {A : Type 0} (job : Job A) where
       → s.view ≡ record w.seat.view { open_number = Some i }
       → ((x : ℕ) → 0 < times_recorded x w.seat.view → x < i)
       → HasDrawn job i (record { seat = s; found = w.found })
-  drawn_after_claim i w s home b below at is above = record {
+  drawn_after_claim i w s home is_between_theorems below at is above = record {
     theorem = subst (λ n. i < n) home.count below;
     of_board = at;
     is_open = ap (λ (v : View). v.open_number) is;
@@ -191,7 +194,7 @@ module _ {A : Type 0} (job : Job A) where
         (subst (λ (l : List ℕ). 0 < times_in x l) (ap (λ (v : View). v.reported) is) p));
     tells =
         λ short. tells_of_same_seat w s (ap (λ (v : View). v.settled) is)
-        (ap (λ (v : View). v.reported) is) (b.tells short);
+        (ap (λ (v : View). v.reported) is) (is_between_theorems.tells short);
   }
     where
       recorded : (x : ℕ) → 0 < times_in x w.seat.view.reported → 0 < times_recorded x w.seat.view
@@ -342,12 +345,12 @@ module _ {A : Type 0} (job : Job A) where
   pub gathered_of_first : (w : WorkerState A) (gs : List (Findings A)) → gs ≡ w.found
       ∷ [] → IsDone job w
       → w.found.short_of_memory ≡ false → AreGathered job w.seat gs
-  gathered_of_first w gs are d short =
-      let t = d.between.tells short in
+  gathered_of_first w gs are is_done short =
+      let t = is_done.between.tells short in
       subst (λ (l : List (Findings A)). AreGathered job w.seat l) (sym are) (record {
-        of_board = d.between.of_board;
-        closed = d.between.closed;
-        over = d.over short;
+        of_board = is_done.between.of_board;
+        closed = is_done.between.closed;
+        over = is_done.over short;
         found =
             All-push (AreFindings job.database.now.statements job.essential) [] w.found
             (λ k e l. absurd (omega arith)) t.found;
@@ -367,14 +370,16 @@ module _ {A : Type 0} (job : Job A) where
       → w.found.short_of_memory ≡ false
       → IsSeatOf job.board.now u → u.view ≡ after_join s.view w.seat.view
       → AreGathered job u gs
-  gathered_more s u fs gs w are h d short at is =
-      let t = d.between.tells short in
+  gathered_more s u fs gs w are are_gathered is_done short at is =
+      let t = is_done.between.tells short in
       subst (λ (l : List (Findings A)). AreGathered job u l) (sym are) (record {
         of_board = at;
-        closed = ap (λ (v : View). v.open_number) is ∙ h.closed;
-        over = ap (λ (v : View). v.over) is ∙ ap (λ (b : Bool). b || w.seat.view.over) h.over;
+        closed = ap (λ (v : View). v.open_number) is ∙ are_gathered.closed;
+        over = ap (λ (v : View). v.over) is
+            ∙ ap (λ (b : Bool). b || w.seat.view.over) are_gathered.over;
         found =
-            All-push (AreFindings job.database.now.statements job.essential) fs w.found h.found
+            All-push (AreFindings job.database.now.statements job.essential) fs w.found
+            are_gathered.found
             t.found;
         settled =
             λ i p. valid i
@@ -389,9 +394,10 @@ module _ {A : Type 0} (job : Job A) where
       valid : (i : ℕ) → (0 < times_in i s.view.settled) ⊎ (0 < times_in i w.seat.view.settled)
           → IsFoundValid (fs ++ w.found ∷ []) i
       valid i (inl p) =
-          let r = h.settled i p in (r.0, Contains-append_left fs (w.found ∷ []) r.0 r.1, r.2)
+          let r = are_gathered.settled i p in
+          (r.0, Contains-append_left fs (w.found ∷ []) r.0 r.1, r.2)
       valid i (inr p) =
-          let t = d.between.tells short in (
+          let t = is_done.between.tells short in (
             w.found,
             Contains-push fs w.found,
             times_contains i w.found.valid.items
@@ -401,9 +407,10 @@ module _ {A : Type 0} (job : Job A) where
       faulty : (i : ℕ) → (0 < times_in i s.view.reported) ⊎ (0 < times_in i w.seat.view.reported)
           → IsFoundFaulty (fs ++ w.found ∷ []) i
       faulty i (inl p) =
-          let r = h.reported i p in (r.0, Contains-append_left fs (w.found ∷ []) r.0 r.1, r.2)
+          let r = are_gathered.reported i p in
+          (r.0, Contains-append_left fs (w.found ∷ []) r.0 r.1, r.2)
       faulty i (inr p) =
-          let t = d.between.tells short in (w.found, Contains-push fs w.found, t.reported i p)
+          let t = is_done.between.tells short in (w.found, Contains-push fs w.found, t.reported i p)
 
 -- a number drawn and judged
 pub unrecorded_drawn : (n i : ℕ) (v w u : View) → v.open_number ≡ None

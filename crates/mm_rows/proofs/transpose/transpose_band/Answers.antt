@@ -40,7 +40,8 @@ pub loop-j-preserved : goal.loop-j-preserved
 loop-j-preserved c = record {
   within = (let i = c.in-Some.ensures.some.1 in omega (arith, i));
   written =
-      subst (λ n. ColumnsWritten c.args.rows c.args.columns c.args.bits.now c.write_columns.new.transposed
+      subst (λ n. ColumnsWritten c.args.rows c.args.columns c.args.bits.now
+      c.write_columns.new.transposed
       c.args.w n) (omega arith) c.write_columns.ensures;
 }
 
