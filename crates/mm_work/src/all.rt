@@ -54,9 +54,10 @@ pub fn check_all<'d, R: Threads + Wait + Sync, A: Allocator + Copy + Send + Sync
     }
     // What follows needs no rules, and their memory.
     drop(rules);
-    let (first, _) = board.close(gathered.seat);
-    if (first as usize) < count {
-        return Ok(Judged::Faulty(found_fault(database, essential, &gathered.found, first)));
+    // The floor is the least index of a theorem whose proof has a fault, or the count.
+    let (floor, _) = board.close(gathered.seat);
+    if (floor as usize) < count {
+        return Ok(Judged::Faulty(found_fault(database, essential, &gathered.found, floor)));
     }
     let lists = merge(alloc, database, essential, &gathered.found)?;
     judged_valid(alloc, database, essential, lists)
