@@ -72,8 +72,8 @@ pub extern "C" fn mmdepend_report(
     status.number()
 }
 
-/// The same, and behind the output for the request the output for the same request with the
-/// sections 4, the citations, after one check of the proofs. `report_len` and `citations_len` get
+/// Writes what `mmdepend_report` writes, and behind it a second output, for the same request with
+/// the sections 4, the citations. The proofs are checked once. `report_len` and `citations_len` get
 /// the lengths of the two outputs in bytes, with status 0, 1 and 3, and otherwise 0. With status 3
 /// the two together don't fit in `out`; with status 1 both outputs are the refusal.
 #[unsafe(no_mangle)]

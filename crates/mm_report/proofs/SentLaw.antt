@@ -33,42 +33,44 @@ sent_as {a} {b} {s} {t} {x} y e h = subst (Sent a b s t) e h
 
 pub sent_more : {a b c : Option (List ℕ)} {r s t : Pending} {x y : List ℕ} → Sent a b r s x
     → Sent b c s t y → Sent a c r t (x ++ y)
-sent_more {a} {b} {c} {r} {s} {t} {x} {y} h k = record {
-  bytes = h.bytes ++ k.bytes;
-  is_written = Appends-trans a b c h.bytes k.bytes h.is_written k.is_written;
+sent_more {a} {b} {c} {r} {s} {t} {x} {y} sent sent_then = record {
+  bytes = sent.bytes ++ sent_then.bytes;
+  is_written = Appends-trans a b c sent.bytes sent_then.bytes sent.is_written sent_then.is_written;
   if_not_failed =
-      λ e. let f = k.if_not_failed e in let g = h.if_not_failed f.0 in (
+      λ e. let f = sent_then.if_not_failed e in let g = sent.if_not_failed f.0 in (
         g.0,
-        append_assoc h.bytes k.bytes t.held ∙ ap (λ z. h.bytes ++ z) f.1
-            ∙ sym (append_assoc h.bytes s.held y) ∙ ap (λ z. z ++ y) g.1 ∙ append_assoc r.held x y,
+        append_assoc sent.bytes sent_then.bytes t.held ∙ ap (λ z. sent.bytes ++ z) f.1
+            ∙ sym (append_assoc sent.bytes s.held y) ∙ ap (λ z. z ++ y) g.1
+            ∙ append_assoc r.held x y,
       );
   is_prefix = prefix_by_failure (cases_Bool s.failed);
-  if_failed_before = λ e. ap (λ z. z ++ k.bytes) (h.if_failed_before e)
-      ∙ k.if_failed_before (failed_still e (cases_Bool s.failed));
+  if_failed_before = λ e. ap (λ z. z ++ sent_then.bytes) (sent.if_failed_before e)
+      ∙ sent_then.if_failed_before (failed_still e (cases_Bool s.failed));
 }
   where
     failed_still : r.failed ≡ true → (s.failed ≡ true) ⊎ (s.failed ≡ false) → s.failed ≡ true
     failed_still e (inl t) = t
-    failed_still e (inr f) = let g = (h.if_not_failed f).0 in
+    failed_still e (inr f) = let g = (sent.if_not_failed f).0 in
         absurd (let no : true ≡ false = sym e ∙ g in cc)
 
     prefix_by_failure : (s.failed ≡ true) ⊎ (s.failed ≡ false)
-        → (n : ℕ) × (h.bytes ++ k.bytes ≡ take n (r.held ++ (x ++ y)))
+        → (n : ℕ) × (sent.bytes ++ sent_then.bytes ≡ take n (r.held ++ (x ++ y)))
     prefix_by_failure (inr f) = (
-      length h.bytes + k.is_prefix.0,
-      ap (λ z. h.bytes ++ z) k.is_prefix.1
-          ∙ sym (take-append-add h.bytes (s.held ++ y) k.is_prefix.0)
-          ∙ ap (take (length h.bytes + k.is_prefix.0))
-          (sym (append_assoc h.bytes s.held y) ∙ ap (λ z. z ++ y) (h.if_not_failed f).1
+      length sent.bytes + sent_then.is_prefix.0,
+      ap (λ z. sent.bytes ++ z) sent_then.is_prefix.1
+          ∙ sym (take-append-add sent.bytes (s.held ++ y) sent_then.is_prefix.0)
+          ∙ ap (take (length sent.bytes + sent_then.is_prefix.0))
+          (sym (append_assoc sent.bytes s.held y) ∙ ap (λ z. z ++ y) (sent.if_not_failed f).1
           ∙ append_assoc r.held x y),
     )
     prefix_by_failure (inl e) = (
-      min h.is_prefix.0 (length (r.held ++ x)),
-      ap (λ z. h.bytes ++ z) (k.if_failed_before e) ∙ append-nil h.bytes ∙ h.is_prefix.1
-          ∙ sym (take_min h.is_prefix.0 (r.held ++ x))
-          ∙ sym (take-append-le (min h.is_prefix.0 (length (r.held ++ x))) (r.held ++ x) y
+      min sent.is_prefix.0 (length (r.held ++ x)),
+      ap (λ z. sent.bytes ++ z) (sent_then.if_failed_before e) ∙ append-nil sent.bytes
+          ∙ sent.is_prefix.1
+          ∙ sym (take_min sent.is_prefix.0 (r.held ++ x))
+          ∙ sym (take-append-le (min sent.is_prefix.0 (length (r.held ++ x))) (r.held ++ x) y
           (omega arith))
-          ∙ ap (take (min h.is_prefix.0 (length (r.held ++ x)))) (append_assoc r.held x y),
+          ∙ ap (take (min sent.is_prefix.0 (length (r.held ++ x)))) (append_assoc r.held x y),
     )
 
 -- nothing is written after a failure
@@ -97,10 +99,10 @@ sent_held a s t x e f =
 -- what was held is written, or a beginning of it
 pub sent_flushed : (a b : Option (List ℕ)) (s t : Pending) → Appends a b s.held → s.failed ≡ false
     → t.held ≡ [] → Sent a b s t []
-sent_flushed a b s t w f e =
+sent_flushed a b s t appends f e =
     record {
       bytes = s.held;
-      is_written = w;
+      is_written = appends;
       if_not_failed = λ g. (f, ap (λ z. s.held ++ z) e);
       is_prefix = (length s.held, sym (take-append_seam s.held []));
       if_failed_before = λ g. absurd (let no : true ≡ false = sym g ∙ f in cc);
@@ -109,10 +111,10 @@ sent_flushed a b s t w f e =
 -- a piece that is written past an empty buffer
 pub sent_past : (a b : Option (List ℕ)) (s t : Pending) (x : List ℕ) → Appends a b x
     → s.failed ≡ false → s.held ≡ [] → t.held ≡ [] → Sent a b s t x
-sent_past a b s t x w f e g =
+sent_past a b s t x appends f e g =
     record {
       bytes = x;
-      is_written = w;
+      is_written = appends;
       if_not_failed = λ h. (f, ap (λ z. x ++ z) g ∙ append-nil x ∙ ap (λ z. z ++ x) (sym e));
       is_prefix = (
         length x,
@@ -158,8 +160,8 @@ range_append b (suc a) n =
 pub sent_all : (a b c : Option (List ℕ)) (s t : Pending) (x : List ℕ)
     → Sent a b (pending [] false) s x → Sent b c s t [] → t.failed ≡ false → t.held ≡ []
     → Appends a c x
-sent_all a b c s t x h k f e =
-    let m = sent_more h k in
+sent_all a b c s t x sent sent_then f e =
+    let m = sent_more sent sent_then in
     let w = (m.if_not_failed f).1 in
     subst (Appends a c)
     (sym (append-nil m.bytes) ∙ ap (λ z. m.bytes ++ z) (sym e) ∙ w ∙ append-nil x) m.is_written
@@ -167,8 +169,8 @@ sent_all a b c s t x h k f e =
 -- or a beginning
 pub sent_part : (a b c : Option (List ℕ)) (s t : Pending) (x : List ℕ)
     → Sent a b (pending [] false) s x → Sent b c s t [] → (k : ℕ) × Appends a c (take k x)
-sent_part a b c s t x h k =
-    let m = sent_more h k in (
+sent_part a b c s t x sent sent_then =
+    let m = sent_more sent sent_then in (
       m.is_prefix.0,
       subst (Appends a c) (m.is_prefix.1
           ∙ ap (take m.is_prefix.0) (append-nil x)) m.is_written,

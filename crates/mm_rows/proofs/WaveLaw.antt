@@ -216,11 +216,11 @@ lower c waves i r k are_waves within inside listed e =
 
 -- ---- rows by wave
 
-pub by_wave_is : (waves : List ℕ) (ps qs : List (ℕ × ℕ))
+pub rows_by_wave_are : (waves : List ℕ) (ps qs : List (ℕ × ℕ))
     → All (λ p. (p.1 < length waves) × (get_or waves p.1 0 ≡ p.0)) ps
     → ((r : ℕ) → r < length waves → Contains ps (get_or waves r 0, r))
     → IsPermutation ps qs → IsNonDecreasingBy (λ p. p.0) qs → IsByWave waves (map (λ p. p.1) qs)
-by_wave_is waves ps qs each all moved rises = record {
+rows_by_wave_are waves ps qs each all moved rises = record {
   known =
       λ k d l. let h = (entry k l) in
       subst (λ r. r < length waves)

@@ -73,7 +73,7 @@ pub fn waves<A: Allocator + Copy>(
 }
 
 /// Returns the rows of all theorems, those of the lowest wave first.
-fn by_wave<A: Allocator + Copy>(alloc: A, waves: &[u32]) -> Result<Vec<u32, A>, AllocError>
+fn rows_by_wave<A: Allocator + Copy>(alloc: A, waves: &[u32]) -> Result<Vec<u32, A>, AllocError>
     requires { length waves.now < 2147483648 }
     ensures { IfOk result (λ v. IsByWave waves.now v.items) }
 {
@@ -259,7 +259,7 @@ fn fill_waves<R: Threads + Sync, A: Allocator + Copy + Send + Sync>(
     ensures { OnOk result
         (AreBitRows citations.now columns.now (length citations.now.theorems) bits.new) }
 {
-    let rows = by_wave(alloc, waves)?;
+    let rows = rows_by_wave(alloc, waves)?;
     let mut from = 0;
     while from < rows.len() {
         let to = wave_end(waves, &rows, from);

@@ -67,8 +67,8 @@ fn report_rests_alone<'a, A: Allocator + Copy, W: Write>(
 }
 
 /// Writes the output of a judged text: the refusal for its first fault, or the report that is
-/// requested. `text` is that text, and the request has the two flags by which it was judged. One
-/// judged text serves as many requests as are wanted.
+/// requested. `text` is the text that was judged, and the request has the flags `essential` and
+/// `with_open` with which it was judged. One judged text serves any number of such requests.
 pub fn write_judged<'a, A: Allocator + Copy, W: Write>(
     alloc: A,
     text: &[u8],

@@ -1,5 +1,5 @@
 use Rattle.std.proofs.Common.{◌≡◌, ℕ, ◌<◌, ◌≤◌, length, get_or, map, take}
-use Rattle.mm_rows.proofs.wave.by_wave.Given as goal
+use Rattle.mm_rows.proofs.wave.rows_by_wave.Given as goal
 
 abbrev pub invariant-loop-row : goal.invariant-loop-row
 invariant-loop-row g l =

@@ -5,8 +5,8 @@ use Rattle.std.specs.List.{Contains}
 use Rattle.std.proofs.lemmas.List.{get_or_default}
 use Rattle.std.proofs.Math.Seq.{take-length}
 use Rattle.mm_rows.specs.Waves.{IsByWave}
-use Rattle.mm_rows.proofs.WaveLaw.{by_wave_is, pairs_next}
-use Rattle.mm_rows.proofs.wave.by_wave.Goals as goal
+use Rattle.mm_rows.proofs.WaveLaw.{rows_by_wave_are, pairs_next}
+use Rattle.mm_rows.proofs.wave.rows_by_wave.Goals as goal
 
 pub returns : goal.returns
 returns g c =
@@ -38,7 +38,7 @@ returns g c =
     c.loop-pair.invariant ∙ ap (λ n. map (λ (p : ℕ × ℕ). p.1) (take n given)) full
     ∙ ap (map (λ (p : ℕ × ℕ). p.1)) (take-length given ∙ c.deref-pair-items.ensures.value) in
     subst (IsByWave waves) (sym chain)
-    (by_wave_is waves ps qs each all c.sort_unstable_by_key.ensures.permutation rises)
+    (rows_by_wave_are waves ps qs each all c.sort_unstable_by_key.ensures.permutation rises)
 
 pub loop-row-init : goal.loop-row-init
 loop-row-init g c =
