@@ -32,13 +32,13 @@ look_without_skip v f o is kept none_new =
 
 look_with_skip : (v : View) (f i : ℕ) → v.open_number ≡ Some i → f < i
     → after_look v f ≡ record v { open_number = None; skipped = v.skipped ++ i ∷ []; seen = f }
-look_with_skip v f i is lt =
-    let below = lt-ltb f i lt in
+look_with_skip v f i open_number_is f_below_i =
+    let below = lt-ltb f i f_below_i in
     ap (λ (q : Option ℕ). record v {
       open_number = open_after_look q f;
       skipped = v.skipped ++ skipped_by_look q f;
       seen = f;
-    }) is
+    }) open_number_is
     ∙ ap (λ (b : Bool). record v {
       open_number = cond b None (Some i);
       skipped = v.skipped ++ cond b (i ∷ []) [];

@@ -143,10 +143,10 @@ module _ (n b c : ℕ) (v : View) (floor : b ≤ v.seen) where
 
   pub claims_number : (x : ℕ) → x < n → v.open_number ≡ None → v.over ≡ false
       → Moves n x b c (x + 1) b c v (record v { open_number = Some x })
-  claims_number x lt closed isopen = record {
+  claims_number x x_below_n closed isopen = record {
     count = refl;
     share = refl;
-    once = λ y. let o = once_below_next y x n lt in let e = none_open_times y closed in
+    once = λ y. let o = once_below_next y x n x_below_n in let e = none_open_times y closed in
         let is : times_recorded y (record v { open_number = Some x })
         ≡ cond (x == y) 1 0 + times_in y v.settled + times_in y v.reported
         + times_in y v.skipped = refl in
@@ -177,7 +177,7 @@ module _ (n b c : ℕ) (v : View) (floor : b ≤ v.seen) where
 
   pub claims_none : (x : ℕ) → n ≤ x → v.over ≡ false → 0 < v.share
       → Moves n x b c (x + 1) b c v (record v { over = true })
-  claims_none x le isopen live = record {
+  claims_none x n_at_most_x isopen live = record {
     count = refl;
     share = refl;
     once =
@@ -203,7 +203,7 @@ module _ (n b c : ℕ) (v : View) (floor : b ≤ v.seen) where
   pub look_skips : (a i : ℕ) → b < i → v.open_number ≡ Some i
       → Moves n a b c a b c v
       (record v { open_number = None; skipped = v.skipped ++ i ∷ []; seen = b })
-  look_skips a i lt open_is = record {
+  look_skips a i b_below_i open_is = record {
     count = refl;
     share = refl;
     once = λ y. let e = times_of_open y i open_is in let t = times_in_append y v.skipped (i ∷ []) in

@@ -41,7 +41,7 @@ filter_rising p n few =
     least : (p : ℕ → Bool) (n a i : ℕ) → i < length (filter p (range_with_len a n))
         → a ≤ get_or (filter p (range_with_len a n)) i 0
     least p zero a i h = absurd (omega arith)
-    least p (suc n) a i h = by_test (p a) (least p n (a + 1)) i h
+    least p (suc n) a i i_inside = by_test (p a) (least p n (a + 1)) i i_inside
       where
         by_test : (b : Bool)
             → ((i : ℕ) → i < length (filter p (range_with_len (a + 1) n))
@@ -53,14 +53,15 @@ filter_rising p n few =
             → a ≤ get_or {A = ℕ}
             (cond b (a ∷ filter p (range_with_len (a + 1) n))
             (filter p (range_with_len (a + 1) n))) i 0
-        by_test true r zero h = omega arith
-        by_test true r (suc i) h = let k = r i (omega arith) in omega (arith, k)
-        by_test false r i h = let k = r i h in omega (arith, k)
+        by_test true r zero i_inside = omega arith
+        by_test true r (suc i) i_inside = let k = r i (omega arith) in omega (arith, k)
+        by_test false r i i_inside = let k = r i i_inside in omega (arith, k)
 
     rises : (p : ℕ → Bool) (n a i j : ℕ) → i < j → j < length (filter p (range_with_len a n))
         → get_or (filter p (range_with_len a n)) i 0 < get_or (filter p (range_with_len a n)) j 0
     rises p zero a i j l h = absurd (omega arith)
-    rises p (suc n) a i j l h = by_test (p a) (rises p n (a + 1)) (least p n (a + 1)) i j l h
+    rises p (suc n) a i j i_below_j j_inside =
+        by_test (p a) (rises p n (a + 1)) (least p n (a + 1)) i j i_below_j j_inside
       where
         by_test : (b : Bool)
             → ((i j : ℕ) → i < j → j < length (filter p (range_with_len (a + 1) n))
@@ -78,8 +79,9 @@ filter_rising p n few =
             < get_or {A = ℕ}
             (cond b (a ∷ filter p (range_with_len (a + 1) n))
             (filter p (range_with_len (a + 1) n))) j 0
-        by_test true r m zero zero l h = absurd (omega arith)
-        by_test true r m zero (suc j) l h = let k = m j (omega arith) in omega (arith, k)
-        by_test true r m (suc i) zero l h = absurd (omega arith)
-        by_test true r m (suc i) (suc j) l h = r i j (omega arith) (omega arith)
-        by_test false r m i j l h = r i j l h
+        by_test true r m zero zero i_below_j j_inside = absurd (omega arith)
+        by_test true r m zero (suc j) i_below_j j_inside = let k = m j (omega arith) in
+            omega (arith, k)
+        by_test true r m (suc i) zero i_below_j j_inside = absurd (omega arith)
+        by_test true r m (suc i) (suc j) i_below_j j_inside = r i j (omega arith) (omega arith)
+        by_test false r m i j i_below_j j_inside = r i j i_below_j j_inside

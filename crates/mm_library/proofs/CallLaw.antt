@@ -46,11 +46,11 @@ no_lengths false = refl
 pub one_output : (request : Request) (text out bytes seen : List ℕ) (len : ℕ)
     → IsOutput text request bytes → seen ≡ bytes → len ≡ length seen
     → take len out ≡ take (length out) seen → HasOutputs text (request ∷ []) (len ∷ []) out
-one_output request text out bytes seen len is all count front =
+one_output request text out bytes seen len is_output all count front =
     let whole : bytes ++ [] ≡ seen = append-nil bytes ∙ sym all in
     record {
       outputs = bytes ∷ [];
-      are_outputs = (is, tt);
+      are_outputs = (is_output, tt);
       are_lengths = ap (λ (n : ℕ). n ∷ []) (count ∙ ap length all);
       at_front =
           ap (λ (bs : List ℕ). take (length bs) out) whole
@@ -64,7 +64,8 @@ pub two_outputs : (request other : Request) (text out bytes more first both : Li
     → both ≡ first ++ more → k ≡ length first → len ≡ length both
     → take len out ≡ take (length out) both
     → HasOutputs text (request ∷ other ∷ []) (k ∷ (len - k) ∷ []) out
-two_outputs request other text out bytes more first both k len is is' one two at count front =
+two_outputs request other text out bytes more first both k len is_output is' one
+    two at count front =
     let whole : bytes ++ (more ++ []) ≡ both =
     ap (λ (bs : List ℕ). bytes ++ bs) (append-nil more) ∙ ap (λ (bs : List ℕ). bs ++ more) (sym one)
     ∙ sym two in
@@ -72,7 +73,7 @@ two_outputs request other text out bytes more first both k len is is' one two at
     ∙ length-append first more in
     record {
       outputs = bytes ∷ more ∷ [];
-      are_outputs = (is, (is', tt));
+      are_outputs = (is_output, (is', tt));
       are_lengths = λ i. (at ∙ ap length one) i ∷ second sizes i ∷ [];
       at_front =
           ap (λ (bs : List ℕ). take (length bs) out) whole

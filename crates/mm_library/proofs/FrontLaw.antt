@@ -11,7 +11,7 @@ use Rattle.std.proofs.lemmas.List.{take_all}
 pub put_behind : (n k : ℕ) (xs bs zs : List ℕ) → n < length xs
     → k ≡ min (length bs) (length xs - n) → length zs + (n + k) ≡ length xs
     → take (n + length bs) (take n xs ++ (take k bs ++ zs)) ≡ take (length xs) (take n xs ++ bs)
-put_behind n k xs bs zs within is rest = by_room (cases_lt (length xs - n) (length bs))
+put_behind n k xs bs zs within k_is rest = by_room (cases_lt (length xs - n) (length bs))
   where
     long : length (take n xs) ≡ n
     long = length-take-le n xs (omega (arith, within))
@@ -19,7 +19,7 @@ put_behind n k xs bs zs within is rest = by_room (cases_lt (length xs - n) (leng
     by_room : (length xs - n < length bs) ⊎ (length bs ≤ length xs - n)
         → take (n + length bs) (take n xs ++ (take k bs ++ zs)) ≡ take (length xs) (take n xs ++ bs)
     by_room (inl over) =
-        let most : k ≡ length xs - n = omega (arith, is, over) in
+        let most : k ≡ length xs - n = omega (arith, k_is, over) in
         let none : zs ≡ [] = nil_from_length zs (omega (arith, rest, most, within)) in
         let some : length (take k bs) ≡ k = length-take-le k bs (omega (arith, most, over)) in
         let all : length (take n xs ++ take k bs) ≡ n + k = length-append (take n xs) (take k bs)
@@ -30,7 +30,7 @@ put_behind n k xs bs zs within is rest = by_room (cases_lt (length xs - n) (leng
         ∙ take_all (n + length bs) (take n xs ++ take k bs) (omega (arith, all, most, over))
         ∙ sym (ap (λ (m : ℕ). take m (take n xs ++ bs)) count ∙ take-append-add (take n xs) bs k)
     by_room (inr fits) =
-        let most : k ≡ length bs = omega (arith, is, fits) in
+        let most : k ≡ length bs = omega (arith, k_is, fits) in
         let whole : take k bs ≡ bs = take_all k bs (omega (arith, most)) in
         let all : length (take n xs ++ bs) ≡ n + length bs = length-append (take n xs) bs
         ∙ omega (arith, long) in

@@ -15,7 +15,7 @@ selected_below p n i d h = let k = below n 0 i h in omega (arith, k)
     below : (m a i : ℕ) → i < length (filter p (range_with_len a m))
         → get_or (filter p (range_with_len a m)) i d < a + m
     below zero a i h = absurd (omega arith)
-    below (suc m) a i h = by_test (p a) (below m (a + 1)) i h
+    below (suc m) a i i_inside = by_test (p a) (below m (a + 1)) i i_inside
       where
         by_test : (b : Bool)
             → ((i : ℕ) → i < length (filter p (range_with_len (a + 1) m))
@@ -28,9 +28,9 @@ selected_below p n i d h = let k = below n 0 i h in omega (arith, k)
             (cond b (a ∷ filter p (range_with_len (a + 1) m))
             (filter p (range_with_len (a + 1) m))) i d
             < a + suc m
-        by_test true r zero h = omega arith
-        by_test true r (suc i) h = let k = r i (omega arith) in omega (arith, k)
-        by_test false r i h = let k = r i h in omega (arith, k)
+        by_test true r zero i_inside = omega arith
+        by_test true r (suc i) i_inside = let k = r i (omega arith) in omega (arith, k)
+        by_test false r i i_inside = let k = r i i_inside in omega (arith, k)
 
 -- what is looked up of part of a list, each after a space
 pub spaced_map : (f : ℕ → Bytes) (ks : List ℕ) (from to : ℕ)

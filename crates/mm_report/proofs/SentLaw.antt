@@ -111,19 +111,23 @@ sent_flushed a b s t appends f e =
 -- a piece that is written past an empty buffer
 pub sent_past : (a b : Option (List ℕ)) (s t : Pending) (x : List ℕ) → Appends a b x
     → s.failed ≡ false → s.held ≡ [] → t.held ≡ [] → Sent a b s t x
-sent_past a b s t x appends f e g =
+sent_past a b s t x appends failed_is held_is t_held_is =
     record {
       bytes = x;
       is_written = appends;
-      if_not_failed = λ h. (f, ap (λ z. x ++ z) g ∙ append-nil x ∙ ap (λ z. z ++ x) (sym e));
+      if_not_failed = λ h. (
+        failed_is,
+        ap (λ z. x ++ z) t_held_is ∙ append-nil x
+            ∙ ap (λ z. z ++ x) (sym held_is),
+      );
       is_prefix = (
         length x,
         sym
-            (ap (λ z. take (length x) (z ++ x)) e ∙ take_all (length x) x (omega arith)),
+            (ap (λ z. take (length x) (z ++ x)) held_is ∙ take_all (length x) x (omega arith)),
       );
       if_failed_before = λ h.
           absurd (let no : true
-          ≡ false = sym h ∙ f in
+          ≡ false = sym h ∙ failed_is in
           cc);
     }
 

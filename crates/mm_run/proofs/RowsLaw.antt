@@ -41,14 +41,15 @@ module _ (db : List Statement) (request : Request) (c : Citing) (m : Marks)
   marks_zip : (i : ℕ) → i < length (theorems db)
       → AllZip (λ a b. Decides b (proof.RestsOn db request.essential (get_or (theorems db) i 0) a))
       (columns db request.only) (marks_of m i)
-  marks_zip i l =
+  marks_zip i i_inside =
       let n = length-map-range_with_len (mark m i) 0 m.columns in
       let w = is_matrix.columns_are in
       zip_of_each
       (λ a b. Decides b (proof.RestsOn db request.essential (get_or (theorems db) i 0) a))
       (columns db request.only) (marks_of m i) 0 false (omega (arith, n, w))
       (λ j k.
-      let inside : i < length c.theorems = subst (λ (ts : List ℕ). i < length ts) (sym same) l in
+      let inside : i < length c.theorems = subst (λ (ts : List ℕ). i < length ts)
+      (sym same) i_inside in
       let d =
       decides_through (mark m i j) (is_matrix.marked i j inside k)
       (chains_alike (HasCitation c) (proof.Cites db request.essential) shows.same (theorem_at c i)

@@ -64,7 +64,7 @@ module _ (db : List Statement) (few : length db < 2 ^ 31) (complete : AreComplet
   -- the theorems before theorem i are valid
   pub valid_before : (i : ℕ) → ((n : ℕ) → n < i → IsValid db (get_or (theorems db) n 0))
       → i < length (theorems db) → AreValid db (get_or (theorems db) i 0)
-  valid_before i h l j k th =
+  valid_before i h i_inside j k th =
       let p = theorem_place db j th in
       by_index p.0 p.1 p.2 (cases_lt p.0 i)
     where

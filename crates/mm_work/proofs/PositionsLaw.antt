@@ -186,7 +186,7 @@ module _ {A : Type 0} (db : List Statement) (by_essential : Bool) (fs : List (Fi
   pub list_cited : (f : Findings A) (list : List ℕ) → f ≡ has_position.found → list
       ≡ get_or f.cites p.list []
       → IsCited db by_essential (theorem_of db k) list
-  list_cited f list e l =
+  list_cited f list f_is list_is =
       let index : get_or has_position.found.valid.items p.list 0 ≡ k =
       ap (λ (q : ListPosition). get_or has_position.found.valid.items q.list 0) is
       ∙ has_position.noted.index_is in
@@ -195,7 +195,7 @@ module _ {A : Type 0} (db : List Statement) (by_essential : Bool) (fs : List (Fi
       (get_or has_position.found.cites p.list [])) index
       (are_found.each p.list list_index_within) in
       subst (λ (xs : List ℕ). IsCited db by_essential (theorem_of db k) xs)
-      (sym (l ∙ ap (λ (g : Findings A). get_or g.cites p.list []) e)) one
+      (sym (list_is ∙ ap (λ (g : Findings A). get_or g.cites p.list []) f_is)) one
 
 pub at_most_of_less : {m n : ℕ} → m < n → m ≤ n
 at_most_of_less l = omega (arith, l)

@@ -57,9 +57,9 @@ module _ (db : List Statement) (few : length db < 2 ^ 31) (complete : AreComplet
   pub all_cited : (by_essential : Bool) (ts : List ℕ) (lists : List (List ℕ)) → ts ≡ theorems db
       → AreCitedUpTo db by_essential (theorems db) (length (theorems db)) lists
       → IsFileOrder (citing ts lists) × AllCited db by_essential (citing ts lists)
-  all_cited by_essential ts lists e are_cited_up_to =
+  all_cited by_essential ts lists ts_is are_cited_up_to =
       subst (λ (us : List ℕ). IsFileOrder (citing us lists)
-      × AllCited db by_essential (citing us lists)) (sym e) (
+      × AllCited db by_essential (citing us lists)) (sym ts_is) (
         file_order db few complete by_essential lists are_cited_up_to,
         record {
           theorems_are = refl;

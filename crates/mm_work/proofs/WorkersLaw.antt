@@ -59,18 +59,19 @@ module _ {A : Type 0} (db : List Statement) (by_essential : Bool) where
       → i < length (theorems db) → IsCited db by_essential (theorem_of db i) cites
       → g.valid.items ≡ f.valid.items ++ i ∷ [] → g.cites ≡ f.cites ++ cites ∷ []
       → g.faulty ≡ f.faulty → AreFindings db by_essential g
-  findings_with_valid f g i cites are_findings l one v c e = record {
+  findings_with_valid f g i cites are_findings i_inside one v cites_is faulty_is = record {
     count =
-        ap length c ∙ length-append f.cites (cites ∷ []) ∙ ap (λ n. n + 1) are_findings.count
+        ap length cites_is ∙ length-append f.cites (cites ∷ []) ∙ ap (λ n. n + 1) are_findings.count
         ∙ sym (length-append f.valid.items (i ∷ [])) ∙ sym (ap length v);
     known =
         subst (λ (xs : List ℕ). All (λ j. j < length (theorems db)) xs) (sym v)
-        (All-push (λ j. j < length (theorems db)) f.valid.items i are_findings.known l);
+        (All-push (λ j. j < length (theorems db)) f.valid.items i are_findings.known i_inside);
     each =
-        λ k m. rw (v, c)
+        λ k m. rw (v, cites_is)
         (by_index k (subst (λ n. k < n) (ap length v ∙ length-append f.valid.items (i ∷ [])) m)
         (cases_lt k (length f.valid.items)));
-    faulty = subst (λ (o : Option IndexedFault). IsFaultFound db o) (sym e) are_findings.faulty;
+    faulty = subst (λ (o : Option IndexedFault). IsFaultFound db o)
+        (sym faulty_is) are_findings.faulty;
   }
     where
       by_index : (k : ℕ) → k < length f.valid.items + 1
@@ -83,10 +84,10 @@ module _ {A : Type 0} (db : List Statement) (by_essential : Bool) where
             get_or_append_left f.cites
                 (cites ∷ []) [] k (let n = are_findings.count in omega (arith, n, b)),
           ) (are_findings.each k b)
-      by_index k m (inr b) =
+      by_index k k_inside (inr b) =
           let n = are_findings.count in
-          let z : k - length f.valid.items ≡ 0 = omega (arith, m, b) in
-          let y : k - length f.cites ≡ 0 = omega (arith, m, b, n) in
+          let z : k - length f.valid.items ≡ 0 = omega (arith, k_inside, b) in
+          let y : k - length f.cites ≡ 0 = omega (arith, k_inside, b, n) in
           let last : get_or (f.valid.items ++ i ∷ []) k 0 ≡ i =
           get_or-append_right f.valid.items (i ∷ []) k 0 b ∙ ap (λ j. get_or (i ∷ []) j 0) z in
           let list : get_or (f.cites ++ cites ∷ []) k [] ≡ cites =
@@ -121,7 +122,7 @@ module _ {A : Type 0} (job : Job A) where
 
   findings_after_fault : (f g : Findings A) (i : ℕ) → AreFindings db job.essential f
       → i < length (theorems db) → FindsFault job i f g → AreFindings db job.essential g
-  findings_after_fault f g i are_findings l finds_fault = record {
+  findings_after_fault f g i are_findings i_inside finds_fault = record {
     count = ap length finds_fault.cites_are ∙ are_findings.count
         ∙ sym (ap length finds_fault.valid_are);
     known =
@@ -132,7 +133,7 @@ module _ {A : Type 0} (job : Job A) where
         (are_findings.each k (subst (λ (xs : List ℕ). k < length xs) finds_fault.valid_are m));
     faulty =
         subst (λ (o : Option IndexedFault). IsFaultFound db o) (sym finds_fault.faulty_is)
-        (l, finds_fault.has_fault);
+        (i_inside, finds_fault.has_fault);
   }
 
   -- a seat that has settled and reported the same
@@ -184,17 +185,17 @@ module _ {A : Type 0} (job : Job A) where
       → s.view ≡ record w.seat.view { open_number = Some i }
       → ((x : ℕ) → 0 < times_recorded x w.seat.view → x < i)
       → HasDrawn job i (record { seat = s; found = w.found })
-  drawn_after_claim i w s home is_between_theorems below at is above = record {
+  drawn_after_claim i w s home is_between_theorems below at view_is above = record {
     theorem = subst (λ n. i < n) home.count below;
     of_board = at;
-    is_open = ap (λ (v : View). v.open_number) is;
+    is_open = ap (λ (v : View). v.open_number) view_is;
     above_reported =
         λ x p. above x
         (recorded x
-        (subst (λ (l : List ℕ). 0 < times_in x l) (ap (λ (v : View). v.reported) is) p));
+        (subst (λ (l : List ℕ). 0 < times_in x l) (ap (λ (v : View). v.reported) view_is) p));
     tells =
-        λ short. tells_of_same_seat w s (ap (λ (v : View). v.settled) is)
-        (ap (λ (v : View). v.reported) is) (is_between_theorems.tells short);
+        λ short. tells_of_same_seat w s (ap (λ (v : View). v.settled) view_is)
+        (ap (λ (v : View). v.reported) view_is) (is_between_theorems.tells short);
   }
     where
       recorded : (x : ℕ) → 0 < times_in x w.seat.view.reported → 0 < times_recorded x w.seat.view
@@ -244,14 +245,14 @@ module _ {A : Type 0} (job : Job A) where
       pub settled : u.view ≡ after_settle s.view x
           → (g.short_of_memory ≡ false → FindsValid job i w.found g)
           → IsBetweenTheorems job (record { seat = u; found = g })
-      settled is finds = record {
+      settled view_is finds = record {
         of_board = at;
-        closed = ap (λ (v : View). v.open_number) is;
+        closed = ap (λ (v : View). v.open_number) view_is;
         tells =
             λ e. let t = drawn.tells (short e) in let v = finds e in record {
               found = findings_after_valid w.found g i t.found drawn.theorem v;
               settled =
-                  ap (λ (v : View). v.settled) is
+                  ap (λ (v : View). v.settled) view_is
                   ∙ ap₂ (λ (l : List ℕ) (o : Option ℕ). l ++ open_list o)
                   (same_settled ∙ t.settled) (still_open some)
                   ∙ sym v.valid_are;
@@ -259,7 +260,7 @@ module _ {A : Type 0} (job : Job A) where
                   λ y p. ap faulty_index v.faulty_is
                   ∙ t.reported y
                   (subst (λ (l : List ℕ). 0 < times_in y l)
-                  (ap (λ (v : View). v.reported) is ∙ same_reported) p);
+                  (ap (λ (v : View). v.reported) view_is ∙ same_reported) p);
             };
       }
 
@@ -269,21 +270,21 @@ module _ {A : Type 0} (job : Job A) where
           → ((y : ℕ) → 0 < times_in y w.seat.view.reported → f ≤ y)
           → (g.short_of_memory ≡ false → FindsFault job i w.found g)
           → IsBetweenTheorems job (record { seat = u; found = g })
-      reported is own finds = record {
+      reported view_is own finds = record {
         of_board = at;
-        closed = ap (λ (v : View). v.open_number) is;
+        closed = ap (λ (v : View). v.open_number) view_is;
         tells =
             λ e. let t = drawn.tells (short e) in let v = finds e in record {
               found = findings_after_fault w.found g i t.found drawn.theorem v;
               settled =
-                  ap (λ (v : View). v.settled) is ∙ same_settled ∙ t.settled ∙ sym v.valid_are;
+                  ap (λ (v : View). v.settled) view_is ∙ same_settled ∙ t.settled ∙ sym v.valid_are;
               reported =
                   λ y p. ap faulty_index v.faulty_is
                   ∙ ap Some
                   (only_report y
                   (times_in_either y w.seat.view.reported (i ∷ [])
                   (subst (λ (l : List ℕ). 0 < times_in y l)
-                  (ap (λ (v : View). v.reported) is
+                  (ap (λ (v : View). v.reported) view_is
                   ∙ ap₂ (λ (l : List ℕ) (o : Option ℕ). l ++ open_list o) same_reported
                   (still_open some)) p)));
             };
@@ -324,7 +325,7 @@ unrecorded_one a b = grind (arith, nat_tests)
 pub unrecorded_less : (n i : ℕ) (v w : View) → ((x : ℕ) → times_recorded x v ≤ times_recorded x w)
     → i < n → times_recorded i v ≡ 0 → 0 < times_recorded i w → unrecorded n w < unrecorded n v
 unrecorded_less zero i v w h l z p = absurd (omega arith)
-unrecorded_less (suc n) i v w h l z p =
+unrecorded_less (suc n) i v w h i_below_n z p =
     by_number (cases_lt i n) (λ b. unrecorded_less n i v w h b z p)
   where
     by_number : (i < n) ⊎ (n ≤ i) → (i < n → unrecorded n w < unrecorded n v)
@@ -333,7 +334,7 @@ unrecorded_less (suc n) i v w h l z p =
         let r = f b in let o = unrecorded_fewer (times_recorded n v) (times_recorded n w) (h n) in
         omega (arith, r, o)
     by_number (inr b) f =
-        let e : i ≡ n = omega (arith, l, b) in
+        let e : i ≡ n = omega (arith, i_below_n, b) in
         let r = unrecorded_le n v w h in
         let o =
         unrecorded_one (times_recorded n v) (times_recorded n w)
@@ -370,12 +371,12 @@ module _ {A : Type 0} (job : Job A) where
       → w.found.short_of_memory ≡ false
       → IsSeatOf job.board.now u → u.view ≡ after_join s.view w.seat.view
       → AreGathered job u gs
-  gathered_more s u fs gs w are are_gathered is_done short at is =
+  gathered_more s u fs gs w are are_gathered is_done short at view_is =
       let t = is_done.between.tells short in
       subst (λ (l : List (Findings A)). AreGathered job u l) (sym are) (record {
         of_board = at;
-        closed = ap (λ (v : View). v.open_number) is ∙ are_gathered.closed;
-        over = ap (λ (v : View). v.over) is
+        closed = ap (λ (v : View). v.open_number) view_is ∙ are_gathered.closed;
+        over = ap (λ (v : View). v.over) view_is
             ∙ ap (λ (b : Bool). b || w.seat.view.over) are_gathered.over;
         found =
             All-push (AreFindings job.database.now.statements job.essential) fs w.found
@@ -384,11 +385,11 @@ module _ {A : Type 0} (job : Job A) where
         settled =
             λ i p. valid i
             (times_in_either i s.view.settled w.seat.view.settled
-            (subst (λ (l : List ℕ). 0 < times_in i l) (ap (λ (v : View). v.settled) is) p));
+            (subst (λ (l : List ℕ). 0 < times_in i l) (ap (λ (v : View). v.settled) view_is) p));
         reported =
             λ i p. faulty i
             (times_in_either i s.view.reported w.seat.view.reported
-            (subst (λ (l : List ℕ). 0 < times_in i l) (ap (λ (v : View). v.reported) is) p));
+            (subst (λ (l : List ℕ). 0 < times_in i l) (ap (λ (v : View). v.reported) view_is) p));
       })
     where
       valid : (i : ℕ) → (0 < times_in i s.view.settled) ⊎ (0 < times_in i w.seat.view.settled)
@@ -416,14 +417,14 @@ module _ {A : Type 0} (job : Job A) where
 pub unrecorded_drawn : (n i : ℕ) (v w u : View) → v.open_number ≡ None
     → w ≡ record v { open_number = Some i } → i < n → ((x : ℕ) → 0 < times_recorded x v → x < i)
     → ((x : ℕ) → times_recorded x u ≡ times_recorded x w) → unrecorded n u < unrecorded n v
-unrecorded_drawn n i v w u closed is l above kept =
-    unrecorded_less n i v u more l unrecorded_before recorded_after
+unrecorded_drawn n i v w u closed w_is i_below_n above kept =
+    unrecorded_less n i v u more i_below_n unrecorded_before recorded_after
   where
     at-open : (x : ℕ)
         → times_recorded x w
         ≡ cond (i == x) 1 0 + times_in x v.settled + times_in x v.reported + times_in x
         v.between_after_skip
-    at-open x = ap (λ (y : View). times_recorded x y) is
+    at-open x = ap (λ (y : View). times_recorded x y) w_is
 
     at-closed : (x : ℕ)
         → times_recorded x v
