@@ -46,15 +46,15 @@ no_lengths false = refl
 pub one_output : (request : Request) (text out bytes seen : List ℕ) (len : ℕ)
     → IsOutput text request bytes → seen ≡ bytes → len ≡ length seen
     → take len out ≡ take (length out) seen → HasOutputs text (request ∷ []) (len ∷ []) out
-one_output request text out bytes seen len is_output all count front =
-    let whole : bytes ++ [] ≡ seen = append-nil bytes ∙ sym all in
+one_output request text out bytes seen len is_output seen_is len_is front =
+    let whole : bytes ++ [] ≡ seen = append-nil bytes ∙ sym seen_is in
     record {
       outputs = bytes ∷ [];
       are_outputs = (is_output, tt);
-      are_lengths = ap (λ (n : ℕ). n ∷ []) (count ∙ ap length all);
+      are_lengths = ap (λ (n : ℕ). n ∷ []) (len_is ∙ ap length seen_is);
       at_front =
           ap (λ (bs : List ℕ). take (length bs) out) whole
-          ∙ ap (λ (n : ℕ). take n out) (sym count) ∙ front
+          ∙ ap (λ (n : ℕ). take n out) (sym len_is) ∙ front
           ∙ ap (take (length out)) (sym whole);
     }
 
@@ -64,25 +64,26 @@ pub two_outputs : (request other : Request) (text out bytes more first both : Li
     → both ≡ first ++ more → k ≡ length first → len ≡ length both
     → take len out ≡ take (length out) both
     → HasOutputs text (request ∷ other ∷ []) (k ∷ (len - k) ∷ []) out
-two_outputs request other text out bytes more first both k len is_output is' one
-    two at count front =
+two_outputs request other text out bytes more first both k len is_output other_is_output first_is
+    both_is k_is len_is front =
     let whole : bytes ++ (more ++ []) ≡ both =
-    ap (λ (bs : List ℕ). bytes ++ bs) (append-nil more) ∙ ap (λ (bs : List ℕ). bs ++ more) (sym one)
-    ∙ sym two in
-    let sizes : length both ≡ length first + length more = ap length two
+    ap (λ (bs : List ℕ). bytes ++ bs) (append-nil more)
+    ∙ ap (λ (bs : List ℕ). bs ++ more) (sym first_is)
+    ∙ sym both_is in
+    let sizes : length both ≡ length first + length more = ap length both_is
     ∙ length-append first more in
     record {
       outputs = bytes ∷ more ∷ [];
-      are_outputs = (is_output, (is', tt));
-      are_lengths = λ i. (at ∙ ap length one) i ∷ second sizes i ∷ [];
+      are_outputs = (is_output, (other_is_output, tt));
+      are_lengths = λ i. (k_is ∙ ap length first_is) i ∷ second sizes i ∷ [];
       at_front =
           ap (λ (bs : List ℕ). take (length bs) out) whole
-          ∙ ap (λ (n : ℕ). take n out) (sym count) ∙ front
+          ∙ ap (λ (n : ℕ). take n out) (sym len_is) ∙ front
           ∙ ap (take (length out)) (sym whole);
     }
   where
     second : length both ≡ length first + length more → len - k ≡ length more
-    second sizes = omega (arith, sizes, count, at)
+    second sizes = omega (arith, sizes, len_is, k_is)
 
 -- the call asks for a request, and its outputs were written
 pub ends_if_asked : (status : Status) (call : Call) (of : Request

@@ -42,18 +42,18 @@ bit_of_pow n b = ap (λ x. cond (eqb x (2 ^ b)) 1 0) (and_pow n b) ∙ by_bit (c
 pub lane_bit : (v : List ℕ) (n m b k : ℕ) → length v ≡ n → m ≡ 2 ^ b → k < n
     → bit_at (mask_l (map (λ x. eqb x m) (zip2 bit_and v (replicate n m)))) k
     ≡ bit_at (get_or v k 0) b
-lane_bit v n m b k long e lt =
+lane_bit v n m b k long m_is k_below_n =
     let r = length-replicate n m in
     let l = length-zip2 bit_and v (replicate n m) (omega (arith, r, long)) in
     bit_mask_l (map (λ x. eqb x m) (zip2 bit_and v (replicate n m))) k
     ∙ ap (λ t. cond t 1 0)
     (get_or-map (λ x. eqb x m) (zip2 bit_and v (replicate n m)) k 0 false
-    (omega (arith, l, long, lt)))
+    (omega (arith, l, long, k_below_n)))
     ∙ ap (λ x. cond (eqb x m) 1 0)
-    (get_or-zip2 bit_and v (replicate n m) k 0 0 0 (omega (arith, long, lt))
-    (omega (arith, r, lt))
-    ∙ ap (bit_and (get_or v k 0)) (get_or-replicate n k m 0 lt))
-    ∙ ap (λ x. cond (eqb (bit_and (get_or v k 0) x) x) 1 0) e
+    (get_or-zip2 bit_and v (replicate n m) k 0 0 0 (omega (arith, long, k_below_n))
+    (omega (arith, r, k_below_n))
+    ∙ ap (bit_and (get_or v k 0)) (get_or-replicate n k m 0 k_below_n))
+    ∙ ap (λ x. cond (eqb (bit_and (get_or v k 0) x) x) 1 0) m_is
     ∙ bit_of_pow (get_or v k 0) b
 
 -- a row of the table, and none past it
@@ -83,9 +83,9 @@ pub marked_more : (across rows : ℕ) (bits old new : List ℕ) (first n : ℕ) 
     → ((k : ℕ) → k < length old
     → get_or new k 0 ≡ bit_or (get_or old k 0) (get_or (row_at bits across n) k 0))
     → AreMarked across bits old first n → AreMarked across bits new first (n + 1)
-marked_more across rows bits old new first n within size width same each are_marked
+marked_more across rows bits old new first n within size width new_length each are_marked
     i j le lt small one =
-    or_bits new old (row_at bits across n) same
+    or_bits new old (row_at bits across n) new_length
     (width ∙ sym (row_length bits across n rows within size)) each j
     ∙ either _ _ (by_row (cases_eq i n))
   where
@@ -100,7 +100,7 @@ pub all_marked : (across rows : ℕ) (bits has_mark : List ℕ) (w end : ℕ)
     → min (64 * w + 64) rows ≤ end
     → AreMarked across bits has_mark (64 * w) end → (k j : ℕ) → k < 64 → j < 64 * across
     → bit_in_rows rows across bits (64 * w + k) j ≡ true → is_bit has_mark j ≡ true
-all_marked across rows bits has_mark w end le are_marked k j lt small one =
+all_marked across rows bits has_mark w end le are_marked k j k_below_64 small one =
     by_row_count (cases_lt (64 * w + k) rows)
   where
     by_row_count : (64 * w + k < rows) ⊎ (rows ≤ 64 * w + k) → is_bit has_mark j ≡ true
@@ -225,17 +225,18 @@ pub written_word : (rows columns : ℕ) (bits transposed : List ℕ) (w j word :
     → j < columns → IsColumnWord rows (words_for columns) bits w j word
     → ColumnsWritten rows columns bits transposed w j
     → ColumnsWritten rows columns bits (set transposed (j * words_for rows + w) word) w (j + 1)
-written_word rows columns bits transposed w j word band small is columns_written = record {
-  size = length-set transposed place word ∙ columns_written.size;
-  earlier_bands =
-      λ l v a b d. subst (IsColumnWord rows (words_for columns) bits v l)
-      (sym (other l v d (λ e f. omega arith))) (columns_written.earlier_bands l v a b d);
-  written_below = λ l a b. by_column l a b (cases_eq l j);
-  zero_from = λ l a b d. other l w d (λ e f. omega arith)
-      ∙ columns_written.zero_from l a (omega arith) d;
-  later_bands = λ l v a b d. other l v d (λ e f. omega arith)
-      ∙ columns_written.later_bands l v a b d;
-}
+written_word rows columns bits transposed w j word band small is_column_word columns_written =
+    record {
+      size = length-set transposed place word ∙ columns_written.size;
+      earlier_bands =
+          λ l v a b d. subst (IsColumnWord rows (words_for columns) bits v l)
+          (sym (other l v d (λ e f. omega arith))) (columns_written.earlier_bands l v a b d);
+      written_below = λ l a b. by_column l a b (cases_eq l j);
+      zero_from = λ l a b d. other l w d (λ e f. omega arith)
+          ∙ columns_written.zero_from l a (omega arith) d;
+      later_bands = λ l v a b d. other l v d (λ e f. omega arith)
+          ∙ columns_written.later_bands l v a b d;
+    }
   where
     place : ℕ
     place = j * words_for rows + w
@@ -256,7 +257,7 @@ written_word rows columns bits transposed w j word band small is columns_written
         (subst (IsColumnWord rows (words_for columns) bits w j)
         (sym (get_or-set_same transposed place word 0
         (word_within columns (words_for rows) j w (length transposed) small band
-        columns_written.size))) is)
+        columns_written.size))) is_column_word)
     by_column l a b (inr ne) =
         subst (IsColumnWord rows (words_for columns) bits w l) (sym (other l w band (λ e f. ne e)))
         (columns_written.written_below l a (omega arith))
@@ -268,13 +269,14 @@ pub written_zeros : (rows columns : ℕ) (bits transposed : List ℕ) (w from to
     → from ≤ to → ColumnsWritten rows columns bits transposed w from
     → ColumnsWritten rows columns bits
     transposed w to
-written_zeros rows columns bits transposed w from to band none le columns_written = record {
-  size = columns_written.size;
-  earlier_bands = columns_written.earlier_bands;
-  written_below = λ j a b. by_column j a b (cases_lt j from);
-  zero_from = λ j a b d. columns_written.zero_from j a (omega arith) d;
-  later_bands = columns_written.later_bands;
-}
+written_zeros rows columns bits transposed w from to band none from_at_most_to columns_written =
+    record {
+      size = columns_written.size;
+      earlier_bands = columns_written.earlier_bands;
+      written_below = λ j a b. by_column j a b (cases_lt j from);
+      zero_from = λ j a b d. columns_written.zero_from j a (omega arith) d;
+      later_bands = columns_written.later_bands;
+    }
   where
     by_column : (j : ℕ) → j < columns → j < to → (j < from) ⊎ (from ≤ j)
         → IsColumnWord rows (words_for columns) bits w j
@@ -289,11 +291,11 @@ pub written_zero : (rows columns : ℕ) (bits transposed : List ℕ) (w j word :
     → IsColumnWord rows (words_for columns) bits w j word → word ≡ 0
     → ColumnsWritten rows columns bits transposed w j
     → ColumnsWritten rows columns bits transposed w (j + 1)
-written_zero rows columns bits transposed w j word band is e =
+written_zero rows columns bits transposed w j word band is_column_word e =
     written_zeros rows columns bits transposed w j (j + 1) band
     (λ i a b s. let here : j ≡ i = omega arith in
     subst (λ x. IsColumnWord rows (words_for columns) bits w x 0) here
-    (subst (IsColumnWord rows (words_for columns) bits w j) e is)) (omega arith)
+    (subst (IsColumnWord rows (words_for columns) bits w j) e is_column_word)) (omega arith)
 
 pub written_skip : (rows columns : ℕ) (bits has_mark transposed : List ℕ) (across w from to : ℕ)
     → across ≡ words_for columns → w < words_for rows
@@ -302,9 +304,10 @@ pub written_skip : (rows columns : ℕ) (bits has_mark transposed : List ℕ) (a
     → from ≤ to → ((j : ℕ) → from ≤ j → j < to → is_bit has_mark j ≡ false)
     → ColumnsWritten rows columns bits transposed w from
     → ColumnsWritten rows columns bits transposed w to
-written_skip rows columns bits has_mark transposed across w from to width band marked le none =
+written_skip rows columns bits has_mark transposed across w from to width band marked
+    from_at_most_to none =
     written_zeros rows columns bits transposed w from to band
-    (λ j a b c. no_mark rows (words_for columns) bits w j (unmarked j a b c)) le
+    (λ j a b c. no_mark rows (words_for columns) bits w j (unmarked j a b c)) from_at_most_to
   where
     unmarked : (j : ℕ) → from ≤ j → j < to → j < columns → (k : ℕ) → k < 64
         → bit_in_rows rows (words_for columns) bits (64 * w + k) j ≡ true → ⊥
@@ -320,7 +323,7 @@ written_skip rows columns bits has_mark transposed across w from to width band m
 pub written_band : (rows columns : ℕ) (bits transposed : List ℕ) (w from : ℕ) → columns ≤ from
     → ColumnsWritten rows columns bits transposed w from
     → ColumnsWritten rows columns bits transposed (w + 1) 0
-written_band rows columns bits transposed w from le columns_written = record {
+written_band rows columns bits transposed w from columns_at_most_from columns_written = record {
   size = columns_written.size;
   earlier_bands = λ j v a b d. by_band j v a b d (cases_eq v w);
   written_below = λ j a b. absurd (omega arith);

@@ -103,22 +103,24 @@ shown false = refl
 
 pub lane_is : (word k : ℕ) → word < 2 ^ 64 → k < 64
     → get_or (lanes word) k 0 ≡ digit_of (eqb (bit_at word k) 1)
-lane_is word k fits lt =
+lane_is word k fits k_below_64 =
     let y = word / 256 ^ (k / 8) % 256 in
     let at : get_or (masked word) k 0 ≡ bit_and y (2 ^ (k % 8)) =
-    get_or-zip2 bit_and (spread word) BITS k 0 0 0 lt lt
-    ∙ ap₂ bit_and (spread_at word k fits lt) (bit_of_byte k lt) in
+    get_or-zip2 bit_and (spread word) BITS k 0 0 0 k_below_64 k_below_64
+    ∙ ap₂ bit_and (spread_at word k fits k_below_64) (bit_of_byte k k_below_64) in
     ap (λ ms. get_or (sel_l ms (replicate 64 49) (replicate 64 48)) k 0)
     (tops_compared w8 eqb (masked word) BITS)
-    ∙ get_or-sel_l (zip2 eqb (masked word) BITS) (replicate 64 49) (replicate 64 48) k 0 lt lt lt
-    ∙ ap₂ (cond (get_or (zip2 eqb (masked word) BITS) k false)) (get_or-replicate 64 k 49 0 lt)
-    (get_or-replicate 64 k 48 0 lt)
+    ∙ get_or-sel_l (zip2 eqb (masked word) BITS) (replicate 64 49) (replicate 64 48) k 0 k_below_64
+    k_below_64 k_below_64
+    ∙ ap₂ (cond (get_or (zip2 eqb (masked word) BITS) k false))
+    (get_or-replicate 64 k 49 0 k_below_64)
+    (get_or-replicate 64 k 48 0 k_below_64)
     ∙ shown (get_or (zip2 eqb (masked word) BITS) k false)
     ∙ ap digit_of
-    (get_or-zip2 eqb (masked word) BITS k 0 0 false lt lt
-    ∙ ap₂ eqb at (bit_of_byte k lt)
+    (get_or-zip2 eqb (masked word) BITS k 0 0 false k_below_64 k_below_64
+    ∙ ap₂ eqb at (bit_of_byte k k_below_64)
     ∙ tested y (k % 8) (omega arith) (omega arith)
-    ∙ ap (λ n. eqb n 1) (byte_bit word k lt))
+    ∙ ap (λ n. eqb n 1) (byte_bit word k k_below_64))
 
 -- the cells of the first w words are written
 abbrev pub AreCells : List ℕ → List ℕ → ℕ → Type 0
@@ -156,12 +158,12 @@ module _ (m : Marks) (rows columns : ℕ) (words : List ℕ)
       ≡ digit_of (is_bit (take (word + length old / 64 - word) (drop word part)) k))
       → into ≡ map (λ j. digit_of (mark_at j (row_marks m i)))
       (range_with_len (64 * word) (length old))
-  cells_are i word part into old lt is within whole same each =
+  cells_are i word part into old lt part_is within whole into_length each =
       ext_get_or 0 into (map cell (range_with_len (64 * word) (length old)))
-      (same ∙ sym
+      (into_length ∙ sym
       (length-map (range_with_len (64 * word) (length old)) cell
       ∙ length-range_with_len (64 * word) (length old)))
-      (λ k less. at k (omega (arith, same, less)))
+      (λ k less. at k (omega (arith, into_length, less)))
     where
       cell : ℕ → ℕ
       cell j = digit_of (mark_at j (row_marks m i))
@@ -170,7 +172,7 @@ module _ (m : Marks) (rows columns : ℕ) (words : List ℕ)
           → is_bit part j ≡ mark_at j (row_marks m i)
       mark j inside =
           let lt' = subst (λ (x : Marks). i < x.rows) view lt in
-          ap (λ xs. is_bit xs j) is
+          ap (λ xs. is_bit xs j) part_is
           ∙ row_mark m rows columns words view is_table i j lt' inside
           ∙ sym (ap (λ (x : Marks). mark_at j (row_marks x i)) view)
 

@@ -51,8 +51,8 @@ pub filled_more : (c : Citing) (columns cited : List ℕ) (n : ℕ) (row mid new
     ((is_bit mid j ≡ true) ⊎ RestsOn (HasCitation c) (get_or cited n 0) (get_or columns j 0)))
     → ((j : ℕ) → length columns ≤ j → is_bit new j ≡ is_bit mid j)
     → FilledFrom c columns cited (n + 1) new
-filled_more c columns cited n row mid new filled_from same a b d e = record {
-  words = same ∙ filled_from.words;
+filled_more c columns cited n row mid new filled_from new_length a b d e = record {
+  words = new_length ∙ filled_from.words;
   marks = λ j lt. (
     λ t. marked_to_via j lt ((d j lt).0 t),
     λ v. via_to_marked j lt v.0 v.1 v.2
@@ -107,12 +107,12 @@ filled_all c columns i row is_file_order within filled_from = record {
   where
     cites_at : (m : ℕ) → m < length (list_at c i) → HasCitation c (theorem_at c i)
         (get_or (list_at c i) m 0)
-    cites_at m lt =
+    cites_at m m_inside =
         record {
           row = i;
           list_index = m;
           within = within;
-          listed = lt;
+          listed = m_inside;
           theorem =
               refl;
           cited = refl;
@@ -145,10 +145,10 @@ filled_all c columns i row is_file_order within filled_from = record {
 
     via_to_marked : (a : ℕ) → RestsOn (HasCitation c) (theorem_at c i) a
         → IsVia c (list_at c i) (length (list_at c i)) a
-    via_to_marked a r =
+    via_to_marked a rests_on =
         ⊎_elim (λ s. via_of_citation a a s (inl refl))
         (λ filled_from. via_of_citation filled_from.0 a filled_from.1 (inr filled_from.2))
-        ((rests_step (HasCitation c) (theorem_at c i) a).0 r)
+        ((rests_step (HasCitation c) (theorem_at c i) a).0 rests_on)
 
 -- what rests on nothing
 pub rests_on_nothing : (c : Citing) (t a : ℕ)
@@ -246,7 +246,7 @@ pub column_marked : (columns row new : List ℕ) (j s : ℕ) → IsStatementList
     → ((k : ℕ) → is_bit new k ≡ (eqb k j || is_bit row k))
     → (k : ℕ) → k < length columns
     → Decides (is_bit new k) ((is_bit row k ≡ true) ⊎ (s ≡ get_or columns k 0))
-column_marked columns row new j s rising found set k lt = by_column (cases_eq k j)
+column_marked columns row new j s rising found set k k_inside = by_column (cases_eq k j)
   where
     by_column : (k ≡ j) ⊎ (k ≢ j)
         → Decides (is_bit new k) ((is_bit row k ≡ true) ⊎ (s ≡ get_or columns k 0))
@@ -260,7 +260,7 @@ column_marked columns row new j s rising found set k lt = by_column (cases_eq k 
           λ t. inl (sym same ∙ t),
           λ h. same ∙ ⊎_elim (λ b. b)
               (λ e. absurd
-              (ne (index_is_unique columns k j rising lt found.0 (sym e ∙ sym found.1)))) h,
+              (ne (index_is_unique columns k j rising k_inside found.0 (sym e ∙ sym found.1)))) h,
         )
 
 pub column_past : (columns row new : List ℕ) (j s : ℕ)

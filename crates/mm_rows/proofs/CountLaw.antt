@@ -137,9 +137,10 @@ pub row_ones : (words : List ℕ) (width i rows n : ℕ) → i < rows → length
     → ((j : ℕ) → n ≤ j → j < 64 * width → is_bit words (bit_index width i j) ≡ false)
     → tally (is_bit (row_at words width i)) (64 * length (row_at words width i))
     ≡ tally (λ j. is_bit words (bit_index width i j)) n
-row_ones words width i rows n lt size few past =
+row_ones words width i rows n i_below_rows size few past =
     let row = row_at words width i in
-    let long : length (row_at words width i) ≡ width = row_length words width i rows lt size in
+    let long : length (row_at words width i)
+    ≡ width = row_length words width i rows i_below_rows size in
     let all_bits : n + (64 * width - n) ≡ 64 * width = omega arith in
     let a = tally_add (is_bit row) n (64 * width - n) in
     let none =

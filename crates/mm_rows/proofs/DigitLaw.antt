@@ -198,7 +198,7 @@ module _ (m : Marks) (rows columns : ℕ) (words : List ℕ)
   pub row_mark : (i j : ℕ) → i < rows → j < 64 * words_for columns
       → is_bit (row_at words (words_for columns) i) j
       ≡ mark_at j (row_marks (marks rows columns words) i)
-  row_mark i j lt within =
+  row_mark i j i_below_rows within =
       row_bit words (words_for columns) i j within ∙ by_column (cases_lt j columns)
       ∙ sym (mark_is j (row_marks (marks rows columns words) i))
     where
@@ -208,12 +208,12 @@ module _ (m : Marks) (rows columns : ℕ) (words : List ℕ)
       by_column (inl l) =
           sym (get_or-map-range_with_len (mark (marks rows columns words) i) 0 columns j j false l
           (omega arith)
-          ∙ mark_bit rows columns words i j lt l)
+          ∙ mark_bit rows columns words i j i_below_rows l)
       by_column (inr g) =
           let long =
           length-map (range_with_len 0 columns) (mark (marks rows columns words) i)
           ∙ length-range_with_len 0 columns in
-          is_table.past i j lt g within
+          is_table.past i j i_below_rows g within
           ∙ sym (get_or_past (row_marks (marks rows columns words) i) j false
           (omega (arith, long, g)))
 
@@ -232,7 +232,7 @@ module _ (m : Marks) (rows columns : ℕ) (words : List ℕ)
   pub row_digit : (i k : ℕ) (part : List ℕ) → i < m.rows → k < 16 * words_for columns
       → part ≡ row_at words (words_for columns) i
       → four_at (get_or part (k / 16) 0) (k % 16) ≡ digit_at k (row_marks m i)
-  row_digit i k part lt within is =
+  row_digit i k part lt within part_is =
       let lt' = subst (λ (x : Marks). i < x.rows) view lt in
       let row = row_at words (words_for columns) i in
       let ms = row_marks (marks rows columns words) i in
@@ -249,7 +249,7 @@ module _ (m : Marks) (rows columns : ℕ) (words : List ℕ)
       omega (arith, a, b, c, d, e, f) in
       subst (λ (x : Marks). four_at (get_or part (k / 16) 0) (k % 16) ≡ digit_at k (row_marks x i))
       (sym view)
-      (ap (λ xs. four_at (get_or xs (k / 16) 0) (k % 16)) is ∙ whole)
+      (ap (λ xs. four_at (get_or xs (k / 16) 0) (k % 16)) part_is ∙ whole)
 
   pub part_long : (i : ℕ) (part : List ℕ) → i < m.rows → part ≡ row_at words (words_for columns) i
       → length part ≡ words_for columns
@@ -269,12 +269,12 @@ module _ (m : Marks) (rows columns : ℕ) (words : List ℕ)
       (k % 16)))
       → into ≡ map (λ k. hex_digit (digit_at k (row_marks m i)))
       (range_with_len (16 * word) (length old))
-  digits_are i word part into old lt is within whole same each =
+  digits_are i word part into old lt part_is within whole into_length each =
       ext_get_or 0 into (map digit (range_with_len (16 * word) (length old)))
-      (same ∙ sym
+      (into_length ∙ sym
       (length-map (range_with_len (16 * word) (length old)) digit
       ∙ length-range_with_len (16 * word) (length old)))
-      (λ k less. at k (omega (arith, same, less)))
+      (λ k less. at k (omega (arith, into_length, less)))
     where
       digit : ℕ → ℕ
       digit k = hex_digit (digit_at k (row_marks m i))
@@ -292,6 +292,6 @@ module _ (m : Marks) (rows columns : ℕ) (words : List ℕ)
           (get_or-take (word + length old / 16 - word) (drop word part) (k / 16) 0 here
           ∙ get_or-drop word part (k / 16) 0)
           ∙ ap₂ (λ a b. hex_digit (four_at (get_or part a 0) b)) q r
-          ∙ ap hex_digit (row_digit i (16 * word + k) part lt (omega (arith, width, less)) is)
+          ∙ ap hex_digit (row_digit i (16 * word + k) part lt (omega (arith, width, less)) part_is)
           ∙ sym (get_or-map-range_with_len digit (16 * word) (length old) k
           (16 * word + k) 0 less refl)

@@ -29,8 +29,8 @@ pub filled_below_more : (c : Citing) (columns old new : List ℕ) (i : ℕ)
     → ((r : ℕ) → (r ≡ i → ⊥)
     → row_at new (words_for (length columns)) r ≡ row_at old (words_for (length columns)) r)
     → FilledBelow c columns i old → FilledBelow c columns (i + 1) new
-filled_below_more c columns old new i row same others filled_below =
-    record { size = same ∙ filled_below.size; filled = λ r l. by_row r l (cases_eq r i) }
+filled_below_more c columns old new i row new_length others filled_below =
+    record { size = new_length ∙ filled_below.size; filled = λ r l. by_row r l (cases_eq r i) }
   where
     by_row : (r : ℕ) → r < i + 1 → (r ≡ i) ⊎ (r ≡ i → ⊥) → HasRow c columns new r
     by_row r l (inl e) = subst (HasRow c columns new) (sym e) row

@@ -53,13 +53,14 @@ module _ (m : Marks) (rows columns : ℕ) (words : List ℕ)
       → part ≡ row_at words (words_for columns) i
       → result ≡ min (tally (is_bit part) (64 * length part)) (2 ^ 64 - 1)
       → result ≡ count_by (λ j. mark m i j) (range_with_len 0 m.columns)
-  counted i result part lt is e =
+  counted i result part lt part_is result_is =
       let lt' = subst (λ (x : Marks). i < x.rows) view lt in
       let few = is_table.few_columns in
-      let wide = ap length is ∙ row_length words (words_for columns) i rows lt' is_table.size in
+      let wide = ap length part_is
+      ∙ row_length words (words_for columns) i rows lt' is_table.size in
       subst (λ (x : Marks). result ≡ tally (λ j. mark x i j) x.columns) (sym view)
-      (all_counted (is_bit part) (64 * length part) result (omega (arith, few, wide)) e
-      ∙ ap (λ xs. tally (is_bit xs) (64 * length xs)) is
+      (all_counted (is_bit part) (64 * length part) result (omega (arith, few, wide)) result_is
+      ∙ ap (λ xs. tally (is_bit xs) (64 * length xs)) part_is
       ∙ row_ones words (words_for columns) i rows columns lt' is_table.size (omega arith)
       (λ j le l. is_table.past i j lt' le l)
       ∙ tally_agree (λ j. is_bit words (bit_index (words_for columns) i j))
@@ -136,8 +137,9 @@ module _ (m : Marks) (j : ℕ) (users : List ℕ) (is_column : IsColumn m j user
       → is_bit users i ≡ true → ((k : ℕ) → from ≤ k → k < i → is_bit users k ≡ false)
       → (i < m.rows) × IsAbove after i × (mark m i j ≡ true)
       × ((k : ℕ) → IsAbove after k → k < i → mark m k j ≡ false)
-  user_some after i from s le one none =
-      user_found m j after i from s inside le (sym (is_column.same i inside) ∙ one)
+  user_some after i from from_is from_at_most_i one none =
+      user_found m j after i from from_is inside from_at_most_i
+      (sym (is_column.same i inside) ∙ one)
       (λ k up l. let into = inside in sym (is_column.same k (omega arith)) ∙ none k up l)
     where
       inside : i < m.rows
@@ -158,9 +160,9 @@ pub table_of : (c : Citing) (columns bits : List ℕ) (rows width : ℕ) → IsS
     → IsStatementList columns → AreBitRows c columns (length c.theorems) bits
     → rows ≡ length c.theorems
     → width ≡ length columns → IsTable rows width bits
-table_of c columns bits rows width rr rc are_bit_rows e f =
-    subst (λ n. IsTable n width bits) (sym e)
-    (subst (λ n. IsTable (length c.theorems) n bits) (sym f) record {
+table_of c columns bits rows width rr rc are_bit_rows rows_is width_is =
+    subst (λ n. IsTable n width bits) (sym rows_is)
+    (subst (λ n. IsTable (length c.theorems) n bits) (sym width_is) record {
       few_rows = rr.few;
       few_columns = rc.few;
       size = are_bit_rows.size;
@@ -172,8 +174,9 @@ table_of c columns bits rows width rr rc are_bit_rows e f =
 pub matrix_of : (c : Citing) (columns bits : List ℕ) (rows width : ℕ) (m : Marks)
     → AreBitRows c columns (length c.theorems) bits → rows ≡ length c.theorems
     → width ≡ length columns → m ≡ marks rows width bits → IsMatrix c columns m
-matrix_of c columns bits rows width m are_bit_rows e f is =
-    subst (λ x. IsMatrix c columns x) (sym (is ∙ ap₂ (λ a b. marks a b bits) e f)) record {
+matrix_of c columns bits rows width m are_bit_rows rows_is width_is m_is =
+    subst (λ x. IsMatrix c columns x) (sym (m_is ∙ ap₂ (λ a b. marks a b bits) rows_is width_is))
+    record {
       rows = refl;
       columns_are = refl;
       marked =

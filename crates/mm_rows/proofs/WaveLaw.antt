@@ -29,7 +29,7 @@ pub record WaveTo (c : Citing) (waves : List ℕ) (i : ℕ) (cited : List ℕ) (
 pub earlier_row : (c : Citing) (i r k : ℕ) → IsFileOrder c → i < length c.theorems
     → k < length (list_at c i) → r < length c.theorems → theorem_at c r ≡ get_or (list_at c i) k 0
     → r < i
-earlier_row c i r k is_file_order within listed lt e = by_order (cases_order r i)
+earlier_row c i r k is_file_order within listed r_inside e = by_order (cases_order r i)
   where
     m : get_or (list_at c i) k 0 < theorem_at c i
     m = is_file_order.earlier i k within listed
@@ -37,7 +37,7 @@ earlier_row c i r k is_file_order within listed lt e = by_order (cases_order r i
     by_order : (r ≡ i) ⊎ ((r < i) ⊎ (i < r)) → r < i
     by_order (inl s) = let a = ap (theorem_at c) s in let b = m in absurd (omega (arith, a, b))
     by_order (inr (inl l)) = l
-    by_order (inr (inr g)) = let n = is_file_order.rising.rises i r g lt in let b = m in
+    by_order (inr (inr g)) = let n = is_file_order.rising.rises i r g r_inside in let b = m in
         absurd (omega (arith, b, n))
 
 -- one theorem more
@@ -45,14 +45,14 @@ pub wave_more : (c : Citing) (waves : List ℕ) (i : ℕ) (cited : List ℕ) (n 
     → IsFileOrder c → i < length c.theorems → AreWaves c i waves → n < length cited
     → r < length c.theorems → theorem_at c r ≡ get_or cited n 0 → WaveTo c waves i cited n wave
     → (r < length waves) × WaveTo c waves i cited (n + 1) (max wave (get_or waves r 0 + 1))
-wave_more c waves i cited n wave r is_file_order within are_waves lt inside is wave_to = (
+wave_more c waves i cited n wave r is_file_order within are_waves n_inside inside is wave_to = (
   let s = are_waves.size in let b = before in
       omega (arith, s, b),
   pick (cases_lt wave (get_or waves r 0 + 1)),
 )
   where
     listed : n < length (list_at c i)
-    listed = subst (λ xs. n < length xs) wave_to.same lt
+    listed = subst (λ xs. n < length xs) wave_to.same n_inside
 
     before : r < i
     before = earlier_row c i r n is_file_order within listed inside
@@ -75,16 +75,17 @@ wave_more c waves i cited n wave r is_file_order within are_waves lt inside is w
 
     above : (x : ℕ) → wave ≤ x → get_or waves r 0 + 1 ≤ x → (m s : ℕ) → m < n + 1
         → s < length c.theorems → theorem_at c s ≡ get_or cited m 0 → get_or waves s 0 + 1 ≤ x
-    above x a b m s l t e = by_place (cases_eq m n)
+    above x wave_at_most_x b m s l s_inside e = by_place (cases_eq m n)
       where
         by_place : (m ≡ n) ⊎ (m ≡ n → ⊥) → get_or waves s 0 + 1 ≤ x
         by_place (inl f) =
             let same : s ≡ r =
-            index_is_unique c.theorems s r is_file_order.rising t inside
+            index_is_unique c.theorems s r is_file_order.rising s_inside inside
             (e ∙ ap (λ k. get_or cited k 0) f
             ∙ sym is) in
             subst (λ k. get_or waves k 0 + 1 ≤ x) (sym same) b
-        by_place (inr f) = let y = wave_to.above m s (omega arith) t e in omega (arith, y, a)
+        by_place (inr f) = let y = wave_to.above m s (omega arith) s_inside e in
+            omega (arith, y, wave_at_most_x)
 
     pick : (wave < get_or waves r 0 + 1) ⊎ (get_or waves r 0 + 1 ≤ wave)
         → WaveTo c waves i cited (n + 1) (max wave (get_or waves r 0 + 1))
@@ -287,11 +288,12 @@ pub filled_more : (c : Citing) (columns rows : List ℕ) (k : ℕ) (first old ne
     → ((r : ℕ) → (r ≡ i → ⊥)
     → row_at new (words_for (length columns)) r ≡ row_at old (words_for (length columns)) r)
     → AreFilled c columns rows k first old → AreFilled c columns rows (k + 1) first new
-filled_more c columns rows k first old new row i is bits same here others are_filled = record {
-  size = same ∙ are_filled.size;
-  none_lost = λ r b. again r (are_filled.none_lost r b) (cases_eq r i);
-  filled = λ m l. by_place m l (cases_eq m k);
-}
+filled_more c columns rows k first old new row i i_is bits new_length here others are_filled =
+    record {
+      size = new_length ∙ are_filled.size;
+      none_lost = λ r b. again r (are_filled.none_lost r b) (cases_eq r i);
+      filled = λ m l. by_place m l (cases_eq m k);
+    }
   where
     fresh : (r : ℕ) → r ≡ i → HasRow c columns new r
     fresh r e =
@@ -303,7 +305,7 @@ filled_more c columns rows k first old new row i is bits same here others are_fi
     again r b (inr ne) = subst (IsBitRow c columns (theorem_at c r)) (sym (others r ne)) b
 
     by_place : (m : ℕ) → m < k + 1 → (m ≡ k) ⊎ (m ≡ k → ⊥) → HasRow c columns new (get_or rows m 0)
-    by_place m l (inl e) = fresh (get_or rows m 0) (ap (λ x. get_or rows x 0) e ∙ sym is)
+    by_place m l (inl e) = fresh (get_or rows m 0) (ap (λ x. get_or rows x 0) e ∙ sym i_is)
     by_place m l (inr ne) =
         again (get_or rows m 0) (are_filled.filled m (omega arith)) (cases_eq (get_or rows m 0) i)
 
@@ -331,7 +333,7 @@ pub wave_ready : (c : Citing) (columns waves rows : List ℕ) (from to : ℕ) (b
     → (p : ℕ) → from ≤ p → p < to
     → (get_or rows p 0 < length c.theorems) × HasCitedRows c columns bits (get_or rows p 0)
 wave_ready c columns waves rows from to bits are_waves is_by_wave filled_up_to
-    inside within same p l m = (
+    inside within same p from_at_most_p p_below_to = (
       known,
       λ r k lt listed e. ready r
           (lower c waves (get_or rows p 0) r k are_waves known lt listed e) lt,
@@ -343,8 +345,8 @@ wave_ready c columns waves rows from to bits are_waves is_by_wave filled_up_to
 
     ready : (r : ℕ) → get_or waves r 0 < get_or waves (get_or rows p 0) 0 → r < length c.theorems
         → HasRow c columns bits r
-    ready r low lt =
-        let q = is_by_wave.all r (let s = are_waves.size in omega (arith, s, lt)) in
+    ready r low r_inside =
+        let q = is_by_wave.all r (let s = are_waves.size in omega (arith, s, r_inside)) in
         let is : get_or rows q.0 0 ≡ r = get_or_default rows q.0 0 r q.1 ∙ q.2 in
         subst (HasRow c columns bits) is
         (filled_up_to.filled q.0 (before q.0 q.1 (ap (λ x. get_or waves x 0) is)
@@ -354,7 +356,8 @@ wave_ready c columns waves rows from to bits are_waves is_by_wave filled_up_to
             → (q < from) ⊎ (from ≤ q) → q < from
         before q k e (inl b) = b
         before q k e (inr b) =
-            absurd (let up = is_by_wave.rises from q b k in let s = same p l m in
+            absurd (let up = is_by_wave.rises from q b k in
+            let s = same p from_at_most_p p_below_to in
             omega (arith, up, s, e, low))
 
 pub part_length : (xs : List ℕ) (from to : ℕ) → to ≤ length xs
@@ -371,7 +374,7 @@ pub filled_wave : (c : Citing) (columns rows part : List ℕ) (from to : ℕ) (o
     → FilledUpTo c columns rows from old → to ≤ length rows → part ≡ slice_range rows from to
     → from ≤ to
     → AreFilled c columns part (length part) old new → FilledUpTo c columns rows to new
-filled_wave c columns rows part from to old new filled_up_to within is order are_filled =
+filled_wave c columns rows part from to old new filled_up_to within part_is order are_filled =
     record {
       size = are_filled.size ∙ filled_up_to.size;
       within = within;
@@ -383,10 +386,10 @@ filled_wave c columns rows part from to old new filled_up_to within is order are
     by_place p l (inl b) = are_filled.none_lost (get_or rows p 0) (filled_up_to.filled p b)
     by_place p l (inr b) =
         let long : length part ≡ to - from =
-        ap (λ xs. length xs) is ∙ part_length rows from to within in
+        ap (λ xs. length xs) part_is ∙ part_length rows from to within in
         let e : from + (p - from) ≡ p = omega (arith, b) in
         let at : get_or part (p - from) 0 ≡ get_or rows p 0 =
-        ap (λ xs. get_or xs (p - from) 0) is
+        ap (λ xs. get_or xs (p - from) 0) part_is
         ∙ part_at rows from to (p - from) 0 (omega (arith, l, b)) ∙ ap (λ x. get_or rows x 0) e in
         subst (HasRow c columns new) at (are_filled.filled (p - from) (omega (arith, long, l, b)))
 
@@ -410,10 +413,10 @@ pub pairs_next : (waves : List ℕ) (ps more : List (ℕ × ℕ)) (i : ℕ) → 
     → more ≡ ps ++ (get_or waves i 0, i) ∷ []
     → (i + 1 ≤ length waves) × (length more ≡ i + 1)
     × ((p : ℕ) → p < i + 1 → get_or more p (0, 0) ≡ (get_or waves p 0, p))
-pairs_next waves ps more i l h e = (
-  omega (arith, l),
-  ap length e ∙ length-append ps ((get_or waves i 0, i) ∷ []) ∙ ap (λ n. n + 1) h.1,
-  λ p m. ap (λ qs. get_or qs p (0, 0)) e ∙ by_row p m (cases_lt p i),
+pairs_next waves ps more i i_inside h more_is = (
+  omega (arith, i_inside),
+  ap length more_is ∙ length-append ps ((get_or waves i 0, i) ∷ []) ∙ ap (λ n. n + 1) h.1,
+  λ p m. ap (λ qs. get_or qs p (0, 0)) more_is ∙ by_row p m (cases_lt p i),
 )
   where
     by_row : (p : ℕ) → p < i + 1 → (p < i) ⊎ (i ≤ p)
