@@ -13,8 +13,8 @@ use Rattle.mm_board.specs.Rule.{times_reported, times_skipped, IsCountOrReported
 use Rattle.mm_board.specs.Rule.{IsSeatView, BoardRule}
 use Rattle.mm_board.specs.Events.{IsClaimWord, IsFloorWord, open_after_look, skipped_by_look}
 use Rattle.mm_board.specs.Events.{after_look, open_list, after_report, after_settle, after_join}
-use Rattle.mm_board.proofs.SumsLaw.{one_at_most_total, below_by_once, at_most_once}
-use Rattle.mm_board.proofs.SumsLaw.{once_below_is_one, alone}
+use Rattle.mm_board.proofs.SumsLaw.{one_at_most_total, below_by_once, once_below_at_most_one}
+use Rattle.mm_board.proofs.SumsLaw.{once_below_is_one, total_of_only_seat}
 use Rattle.mm_board.proofs.SumsLaw.{times_in_append, settled_at_most_recorded}
 
 zero_or_positive : (m : ℕ) → (m ≡ 0) ⊎ (0 < m)
@@ -30,7 +30,7 @@ module _ (n c f d : ℕ) (views : List View) (v : View) (rule : BoardRule n c f 
   pub recorded_at_most_once : (x : ℕ) → times_recorded x v ≤ 1
   recorded_at_most_once x =
       let l = one_at_most_total (times_recorded x) views here.0 v here.1 in let o = rule.once x in
-      let m = at_most_once x (min c n) in omega arith
+      let m = once_below_at_most_one x (min c n) in omega arith
 
   pub few : v.share ≤ 64
   few =
@@ -56,7 +56,7 @@ module _ (n c f d : ℕ) (views : List View) (v : View) (rule : BoardRule n c f 
   total_is_own : (g : View → ℕ) → ((u : View) → HasEmptyRecord u → g u ≡ 0) → v.share ≡ 64
       → total g views ≡ g v
   total_is_own g none all =
-      alone g views here.0 v here.1 (rule.shares ∙ sym all)
+      total_of_only_seat g views here.0 v here.1 (rule.shares ∙ sym all)
       (λ j u at z. none u ((rule.seats j u at).spent z))
 
   spent_over_share : (u : View) → u.share ≡ 0 → over_share u ≡ 0
@@ -116,11 +116,11 @@ module _ (n c f d : ℕ) (views : List View) (v : View) (rule : BoardRule n c f 
         ≡ times_in x v.skipped = total_is_own (λ (u : View). times_in x u.skipped)
         (λ u e. ap (λ (l : List ℕ). times_in x l) e.none_skipped) all in
         let is : times_skipped (v ∷ []) x ≡ times_in x v.skipped + 0 = refl in omega arith);
-    seats = at;
+    seats = rules_of_only_seat;
     shares = omega arith;
     bound =
         let b = rule.bound in
-        let own = alone over_share views here.0 v here.1 (rule.shares ∙ sym all)
+        let own = total_of_only_seat over_share views here.0 v here.1 (rule.shares ∙ sym all)
         (λ j u there z. spent_over_share u z) in
         omega arith;
   }
@@ -137,8 +137,8 @@ module _ (n c f d : ℕ) (views : List View) (v : View) (rule : BoardRule n c f 
       still_count_or_reported x (inl e) = inl e
       still_count_or_reported x (inr p) = inr (let same = same_times_reported x in omega arith)
 
-      one : SeatRule n (v ∷ []) c f v
-      one =
+      rule_of_only_seat : SeatRule n (v ∷ []) c f v
+      rule_of_only_seat =
           let o = rule.seats here.0 v here.1 in
           record {
             count = o.count;
@@ -148,9 +148,11 @@ module _ (n c f d : ℕ) (views : List View) (v : View) (rule : BoardRule n c f 
             spent = o.spent;
           }
 
-      at : (seat : ℕ) (u : View) → get_elem? (v ∷ []) seat ≡ some u → SeatRule n (v ∷ []) c f u
-      at zero u e = subst (SeatRule n (v ∷ []) c f) (some-injective v u e) one
-      at (suc seat) u e = absurd (some-ne-none u (sym e))
+      rules_of_only_seat : (seat : ℕ) (u : View) → get_elem? (v ∷ []) seat ≡ some u
+          → SeatRule n (v ∷ []) c f u
+      rules_of_only_seat zero u e =
+          subst (SeatRule n (v ∷ []) c f) (some-injective v u e) rule_of_only_seat
+      rules_of_only_seat (suc seat) u e = absurd (some-ne-none u (sym e))
 
   pub whole_floor : v.share ≡ 64 → IsLeastReported n (v ∷ []) f
   whole_floor all = (whole_rule all).least

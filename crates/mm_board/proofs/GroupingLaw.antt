@@ -95,8 +95,8 @@ split_allowed n id v more s r at = (
   },
 )
   where
-    o : SeatRule n s.views (get_or s.words 0 0) (get_or s.words 1 0) v
-    o = r.1.seats id v at
+    old_seat_rule : SeatRule n s.views (get_or s.words 0 0) (get_or s.words 1 0) v
+    old_seat_rule = r.1.seats id v at
 
     record_split : (x : ℕ)
         → times_recorded x (after_split v) + times_recorded x (new_seat_view v) ≡ times_recorded x v
@@ -112,10 +112,10 @@ split_allowed n id v more s r at = (
     rule_of_old_seat =
         let live : 0 < v.share = omega arith in
         record {
-          count = λ p. o.count live;
-          floor = λ p. o.floor live;
-          seen = λ p. o.seen live;
-          over = o.over;
+          count = λ p. old_seat_rule.count live;
+          floor = λ p. old_seat_rule.floor live;
+          seen = λ p. old_seat_rule.seen live;
+          over = old_seat_rule.over;
           spent = λ e. absurd (omega arith);
         }
 
@@ -124,10 +124,10 @@ split_allowed n id v more s r at = (
     rule_of_new_seat =
         let live : 0 < v.share = omega arith in
         record {
-          count = λ p. o.count live;
-          floor = λ p. o.floor live;
-          seen = λ p. o.seen live;
-          over = o.over;
+          count = λ p. old_seat_rule.count live;
+          floor = λ p. old_seat_rule.floor live;
+          seen = λ p. old_seat_rule.seen live;
+          over = old_seat_rule.over;
           spent = λ e. absurd (omega arith);
         }
 
@@ -172,14 +172,15 @@ join_allowed n id v other w closed live live_w s r at apart at_other = (
         let a = times_in_append x v.settled w.settled in
         let b = times_in_append x v.reported w.reported in
         let c = times_in_append x v.skipped w.skipped in
-        let e : times_open x w.open_number ≡ 0 = ap (λ (o : Option ℕ). times_open x o) closed in
+        let e : times_open x w.open_number
+        ≡ 0 = ap (λ (first_seat_rule : Option ℕ). times_open x first_seat_rule) closed in
         let i : times_recorded x (after_join v w)
         ≡ times_open x v.open_number + times_in x (v.settled ++ w.settled)
         + times_in x (v.reported ++ w.reported) + times_in x (v.skipped ++ w.skipped) = refl in
         let j : times_recorded x v
         ≡ times_open x v.open_number + times_in x v.settled + times_in x v.reported
         + times_in x v.skipped = refl in
-        let k : times_recorded x w
+        let second_seat_rule : times_recorded x w
         ≡ times_open x w.open_number + times_in x w.settled + times_in x w.reported
         + times_in x w.skipped = refl in
         let z : times_recorded x spent_view ≡ 0 = refl in omega arith;
@@ -187,14 +188,15 @@ join_allowed n id v other w closed live live_w s r at apart at_other = (
         let t = total_after_join record_length s.views id v other w at at_other in
         let a = length-append v.settled w.settled in let b = length-append v.reported w.reported in
         let c = length-append v.skipped w.skipped in
-        let e : open_count w.open_number ≡ 0 = ap (λ (o : Option ℕ). open_count o) closed in
+        let e : open_count w.open_number
+        ≡ 0 = ap (λ (first_seat_rule : Option ℕ). open_count first_seat_rule) closed in
         let i : record_length (after_join v w)
         ≡ open_count v.open_number + length (v.settled ++ w.settled)
         + length (v.reported ++ w.reported) + length (v.skipped ++ w.skipped) = refl in
         let j : record_length v
         ≡ open_count v.open_number + length v.settled + length v.reported
         + length v.skipped = refl in
-        let k : record_length w
+        let second_seat_rule : record_length w
         ≡ open_count w.open_number + length w.settled + length w.reported
         + length w.skipped = refl in
         let z : record_length spent_view ≡ 0 = refl in omega arith;
@@ -219,7 +221,7 @@ join_allowed n id v other w closed live live_w s r at apart at_other = (
         let i : over_share (after_join v w)
         ≡ cond (v.over || w.over) (v.share + w.share) 0 = refl in
         let j : over_share v ≡ cond v.over v.share 0 = refl in
-        let k : over_share w ≡ cond w.over w.share 0 = refl in omega arith;
+        let second_seat_rule : over_share w ≡ cond w.over w.share 0 = refl in omega arith;
     seats = λ seat u e. elim (at_set (set s.views id (after_join v w)) other seat spent_view u e) [
       | inl p ↦ subst (SeatRule n s.views (get_or s.words 0 0) (get_or s.words 1 0)) p.1
           rule_of_spent_seat
@@ -239,16 +241,16 @@ join_allowed n id v other w closed live live_w s r at apart at_other = (
     over_share_joined false true = omega arith
     over_share_joined false false = omega arith
 
-    o : SeatRule n s.views (get_or s.words 0 0) (get_or s.words 1 0) v
-    o = r.1.seats id v at
+    first_seat_rule : SeatRule n s.views (get_or s.words 0 0) (get_or s.words 1 0) v
+    first_seat_rule = r.1.seats id v at
 
-    at_w : get_elem? s.views other ≡ some w
-    at_w =
+    second_seat_view : get_elem? s.views other ≡ some w
+    second_seat_view =
         elim (at_set s.views id other (after_join v w) w at_other)
         [ inl q ↦ absurd (apart q.0) | inr q ↦ q.1 ]
 
-    k : SeatRule n s.views (get_or s.words 0 0) (get_or s.words 1 0) w
-    k = r.1.seats other w at_w
+    second_seat_rule : SeatRule n s.views (get_or s.words 0 0) (get_or s.words 1 0) w
+    second_seat_rule = r.1.seats other w second_seat_view
 
     rule_of_spent_seat : SeatRule n s.views (get_or s.words 0 0) (get_or s.words 1 0) spent_view
     rule_of_spent_seat =
@@ -268,20 +270,21 @@ join_allowed n id v other w closed live live_w s r at apart at_other = (
     seen_of_joined : (v.seen < w.seen) ⊎ (w.seen ≤ v.seen) → IsCountOrReported n s.views
         (min v.seen w.seen)
     seen_of_joined (inl lt) = let is : min v.seen w.seen ≡ v.seen = omega arith in
-        rw is (o.seen live)
+        rw is (first_seat_rule.seen live)
     seen_of_joined (inr le) = let is : min v.seen w.seen ≡ w.seen = omega arith in
-        rw is (k.seen live_w)
+        rw is (second_seat_rule.seen live_w)
 
     either_over : (a b : Bool) → v.over ≡ a → w.over ≡ b → (a || b) ≡ true → n < get_or s.words 0 0
-    either_over true b ev ew h = o.over ev
-    either_over false true ev ew h = k.over ew
+    either_over true b ev ew h = first_seat_rule.over ev
+    either_over false true ev ew h = second_seat_rule.over ew
     either_over false false ev ew h = absurd (cc)
 
     rule_of_joined_seat : SeatRule n s.views (get_or s.words 0 0) (get_or s.words 1 0)
         (after_join v w)
     rule_of_joined_seat = record {
-      count = λ p. o.count live;
-      floor = λ p. let a = o.floor live in let b = k.floor live_w in omega arith;
+      count = λ p. first_seat_rule.count live;
+      floor = λ p. let a = first_seat_rule.floor live in let b = second_seat_rule.floor live_w in
+          omega arith;
       seen = λ p. seen_of_joined (cases_lt v.seen w.seen);
       over = λ e. either_over v.over w.over refl refl e;
       spent = λ e. absurd (omega arith);

@@ -50,8 +50,8 @@ once_below_next y x n h =
 pub below_by_once : (x n : ℕ) → 0 < once_below x n → x < n
 below_by_once x n = grind (arith, nat_tests)
 
-pub at_most_once : (x n : ℕ) → once_below x n ≤ 1
-at_most_once x n =
+pub once_below_at_most_one : (x n : ℕ) → once_below x n ≤ 1
+once_below_at_most_one x n =
     elim (nat_lt x n) as (λ b. cond b 1 0 ≤ 1) [ true ↦ omega arith | false ↦ omega arith ]
 
 pub once_below_is_one : (x n : ℕ) → x < n → once_below x n ≡ 1
@@ -76,18 +76,19 @@ total_of_spent f (x ∷ xs) e z =
     let h = z 0 x refl (omega arith) in
     let r = total_of_spent f xs (omega arith) (λ i u at. z (suc i) u at) in omega arith
 
-pub alone : (f : View → ℕ) (l : List View) (i : ℕ) (v : View) → get_elem? l i ≡ some v
+pub total_of_only_seat : (f : View → ℕ) (l : List View) (i : ℕ) (v : View) → get_elem? l i ≡ some v
     → total (λ u. u.share) l ≡ v.share
     → ((j : ℕ) (u : View) → get_elem? l j ≡ some u → u.share ≡ 0 → f u ≡ 0) → total f l ≡ f v
-alone f [] i v at e z = absurd (some-ne-none v (sym at))
-alone f (x ∷ xs) zero v at e z =
+total_of_only_seat f [] i v at e z = absurd (some-ne-none v (sym at))
+total_of_only_seat f (x ∷ xs) zero v at e z =
     let is : f x ≡ f v = ap f (some-injective x v at) in
     let same : x.share ≡ v.share = ap (λ (u : View). u.share) (some-injective x v at) in
     let r = total_of_spent f xs (omega arith) (λ j u there. z (suc j) u there) in omega arith
-alone f (x ∷ xs) (suc i) v at e z =
+total_of_only_seat f (x ∷ xs) (suc i) v at e z =
     let much = one_at_most_total (λ u. u.share) xs i v at in
     let h = z 0 x refl (omega arith) in
-    let r = alone f xs i v at (omega arith) (λ j u there. z (suc j) u there) in omega arith
+    let r = total_of_only_seat f xs i v at (omega arith) (λ j u there. z (suc j) u there) in
+    omega arith
 
 pub settled_at_most_recorded : (l : List View) → settled_count l ≤ total record_length l
 settled_at_most_recorded [] = omega arith

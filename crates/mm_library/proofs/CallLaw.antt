@@ -22,20 +22,20 @@ pub writing_ends : (verdict : Status) (with_open : Bool) (requests : List Reques
 writing_ends verdict with_open requests text lengths out len judged wrote total =
     by_length (nat_lt (length out) len) refl
   where
-    fits : (v : Status) → HasVerdict v text with_open → sum lengths ≤ length out
+    by_verdict : (v : Status) → HasVerdict v text with_open → sum lengths ≤ length out
         → WritingEnds v with_open requests text lengths out
-    fits Accepted judged fit = (judged, wrote, fit)
-    fits Refused judged fit = (judged, wrote, fit)
-    fits TypecodeNotUtf8 judged fit = absurd judged
-    fits OutTooShort judged fit = absurd judged
-    fits RoomTooSmall judged fit = absurd judged
-    fits NoSuchRequest judged fit = absurd judged
+    by_verdict Accepted judged fit = (judged, wrote, fit)
+    by_verdict Refused judged fit = (judged, wrote, fit)
+    by_verdict TypecodeNotUtf8 judged fit = absurd judged
+    by_verdict OutTooShort judged fit = absurd judged
+    by_verdict RoomTooSmall judged fit = absurd judged
+    by_verdict NoSuchRequest judged fit = absurd judged
 
     by_length : (b : Bool) → nat_lt (length out) len ≡ b
         → WritingEnds (if b then OutTooShort else verdict) with_open requests text lengths out
     by_length true e = (wrote, (let l = ltb-true (length out) len e in omega (arith, l, total)))
     by_length false e =
-        fits verdict judged (let l = ltb-false (length out) len e in omega (arith, l, total))
+        by_verdict verdict judged (let l = ltb-false (length out) len e in omega (arith, l, total))
 
 -- the lengths of outputs that weren't written
 pub no_lengths : (with_citations : Bool) → sum (lengths_of with_citations 0 0) ≡ 0
@@ -75,15 +75,15 @@ two_outputs request other text out bytes more first both k len is_output other_i
     record {
       outputs = bytes ∷ more ∷ [];
       are_outputs = (is_output, (other_is_output, tt));
-      are_lengths = λ i. (k_is ∙ ap length first_is) i ∷ second sizes i ∷ [];
+      are_lengths = λ i. (k_is ∙ ap length first_is) i ∷ second_length sizes i ∷ [];
       at_front =
           ap (λ (bs : List ℕ). take (length bs) out) whole
           ∙ ap (λ (n : ℕ). take n out) (sym len_is) ∙ front
           ∙ ap (take (length out)) (sym whole);
     }
   where
-    second : length both ≡ length first + length more → len - k ≡ length more
-    second sizes = omega (arith, sizes, len_is, k_is)
+    second_length : length both ≡ length first + length more → len - k ≡ length more
+    second_length sizes = omega (arith, sizes, len_is, k_is)
 
 -- the call asks for a request, and its outputs were written
 pub ends_if_asked : (status : Status) (call : Call) (of : Request

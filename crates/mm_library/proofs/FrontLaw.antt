@@ -13,8 +13,8 @@ pub put_behind : (n k : ℕ) (xs bs zs : List ℕ) → n < length xs
     → take (n + length bs) (take n xs ++ (take k bs ++ zs)) ≡ take (length xs) (take n xs ++ bs)
 put_behind n k xs bs zs within k_is rest = by_room (cases_lt (length xs - n) (length bs))
   where
-    long : length (take n xs) ≡ n
-    long = length-take-le n xs (omega (arith, within))
+    front_length : length (take n xs) ≡ n
+    front_length = length-take-le n xs (omega (arith, within))
 
     by_room : (length xs - n < length bs) ⊎ (length bs ≤ length xs - n)
         → take (n + length bs) (take n xs ++ (take k bs ++ zs)) ≡ take (length xs) (take n xs ++ bs)
@@ -23,8 +23,9 @@ put_behind n k xs bs zs within k_is rest = by_room (cases_lt (length xs - n) (le
         let none : zs ≡ [] = nil_from_length zs (omega (arith, rest, most, within)) in
         let some : length (take k bs) ≡ k = length-take-le k bs (omega (arith, most, over)) in
         let all : length (take n xs ++ take k bs) ≡ n + k = length-append (take n xs) (take k bs)
-        ∙ omega (arith, long, some) in
-        let count : length xs ≡ length (take n xs) + k = omega (arith, long, most, within) in
+        ∙ omega (arith, front_length, some) in
+        let count : length xs ≡ length (take n xs) + k = omega
+        (arith, front_length, most, within) in
         ap (λ (cs : List ℕ). take (n + length bs) (take n xs ++ cs))
         (ap (λ (cs : List ℕ). take k bs ++ cs) none ∙ append-nil (take k bs))
         ∙ take_all (n + length bs) (take n xs ++ take k bs) (omega (arith, all, most, over))
@@ -33,7 +34,7 @@ put_behind n k xs bs zs within k_is rest = by_room (cases_lt (length xs - n) (le
         let most : k ≡ length bs = omega (arith, k_is, fits) in
         let whole : take k bs ≡ bs = take_all k bs (omega (arith, most)) in
         let all : length (take n xs ++ bs) ≡ n + length bs = length-append (take n xs) bs
-        ∙ omega (arith, long) in
+        ∙ omega (arith, front_length) in
         ap (λ (cs : List ℕ). take (n + length bs) (take n xs ++ (cs ++ zs))) whole
         ∙ ap (take (n + length bs)) (sym (append_assoc (take n xs) bs zs))
         ∙ ap (λ (m : ℕ). take m ((take n xs ++ bs) ++ zs)) (sym all)

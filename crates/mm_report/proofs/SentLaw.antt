@@ -138,11 +138,11 @@ one_if b = cond b 1 0
 count_map : {X : Type 0} (p : X → Bool) (xs : List X) → count_by p xs ≡ count_by (λ b. b) (map p xs)
 unfolding one_if
 count_map {X} p xs =
-    sym (sum-map (λ x. one_if (p x)) xs) ∙ ap sum (twice xs) ∙ sum-map one_if (map p xs)
+    sym (sum-map (λ x. one_if (p x)) xs) ∙ ap sum (map_of_map xs) ∙ sum-map one_if (map p xs)
   where
-    twice : (ys : List X) → map (λ x. one_if (p x)) ys ≡ map one_if (map p ys)
-    twice [] = refl
-    twice (y ∷ ys) = ap (λ z. one_if (p y) ∷ z) (twice ys)
+    map_of_map : (ys : List X) → map (λ x. one_if (p x)) ys ≡ map one_if (map p ys)
+    map_of_map [] = refl
+    map_of_map (y ∷ ys) = ap (λ z. one_if (p y) ∷ z) (map_of_map ys)
 
 pub marks_counted : (m : Marks) (i : ℕ)
     → count_by (λ j. mark m i j) (range_with_len 0 m.columns) ≡ count_by (λ b. b) (marks_of m i)
@@ -180,17 +180,18 @@ sent_part a b c s t x sent sent_then =
           ∙ ap (take m.is_prefix.0) (append-nil x)) m.is_written,
     )
 
-same_test : (n : ℕ) → n < 100 → (eqb (length (decimal n)) 1) ≡ ltb n 10
+one_digit_test : (n : ℕ) → n < 100 → (eqb (length (decimal n)) 1) ≡ ltb n 10
 unfolding digits
-same_test n lt = agree_below_at (λ k. eqb (length (decimal k)) 1) (λ k. ltb k 10) 100 n refl lt
+one_digit_test n lt = agree_below_at (λ k. eqb (length (decimal k)) 1) (λ k. ltb k 10) 100 n refl lt
 
-pub two_short : (n : ℕ) → n < 10 → 48 ∷ decimal n ≡ two_digits n
-two_short n lt =
-    sym (ap (λ b. cond b (48 ∷ decimal n) (decimal n)) (same_test n (omega arith) ∙ lt-ltb n 10 lt))
+pub two_digits_below_ten : (n : ℕ) → n < 10 → 48 ∷ decimal n ≡ two_digits n
+two_digits_below_ten n lt =
+    sym (ap (λ b. cond b (48 ∷ decimal n) (decimal n))
+    (one_digit_test n (omega arith) ∙ lt-ltb n 10 lt))
 
-pub two_long : (n : ℕ) → n < 100 → 10 ≤ n → decimal n ≡ two_digits n
-two_long n lt le =
-    sym (ap (λ b. cond b (48 ∷ decimal n) (decimal n)) (same_test n lt ∙ le-ltb n 10 le))
+pub two_digits_from_ten : (n : ℕ) → n < 100 → 10 ≤ n → decimal n ≡ two_digits n
+two_digits_from_ten n lt le =
+    sym (ap (λ b. cond b (48 ∷ decimal n) (decimal n)) (one_digit_test n lt ∙ le-ltb n 10 le))
 
 pub on_ok : {T E : Type 0} (r : Result T E) (P Q : Type 0) → (P → Q) → OnOk r P → OnOk r Q
 on_ok (Ok x) P Q f h = f h

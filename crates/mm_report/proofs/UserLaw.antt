@@ -171,9 +171,9 @@ module _ (m : Marks) (labels : ℕ → Bytes) (j : ℕ) (inside : j < m.columns)
   users_more last first end marked up order none all =
       text_by_last last marked (users_before_to last first (first_from_above last first up) none)
     where
-      whole : users_before m labels j end
+      users_before_end : users_before m labels j end
           ≡ users_before m labels j first ++ run m labels j first end
-      whole =
+      users_before_end =
           let e : first + (end - first) ≡ end = omega arith in
           ap (users_before m labels j) (sym e)
           ∙ users_before_run first (end - first) (λ k lo hi. all k lo (omega arith))
@@ -184,10 +184,10 @@ module _ (m : Marks) (labels : ℕ → Bytes) (j : ℕ) (inside : j < m.columns)
           ++ after_label o (spaced (run m labels j first end))
           ≡ separated_rows (users_before m labels j end)
       text_by_last None marked e =
-          sym (ap separated_rows (whole ∙ ap (λ z. z ++ run m labels j first end) e)
+          sym (ap separated_rows (users_before_end ∙ ap (λ z. z ++ run m labels j first end) e)
           ∙ separated_spaced (run m labels j first end))
       text_by_last (Some i) marked e =
-          sym (ap separated_rows (whole ∙ ap (λ z. z ++ run m labels j first end) e)
+          sym (ap separated_rows (users_before_end ∙ ap (λ z. z ++ run m labels j first end) e)
           ∙ separated_append (users_before m labels j (i + 1)) (run m labels j first end)
           (some_gathered i marked))
 

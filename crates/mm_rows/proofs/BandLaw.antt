@@ -73,10 +73,10 @@ AreMarked across bits has_mark first n =
     (i j : ℕ) → first ≤ i → i < n → j < 64 * across → is_bit bits (bit_index across i j) ≡ true
     → is_bit has_mark j ≡ true
 
-either : (a b : Bool) → (a ≡ true) ⊎ (b ≡ true) → (a || b) ≡ true
-either true b h = refl
-either false b (inl e) = absurd (cc)
-either false b (inr e) = e
+or_of_either : (a b : Bool) → (a ≡ true) ⊎ (b ≡ true) → (a || b) ≡ true
+or_of_either true b h = refl
+or_of_either false b (inl e) = absurd (cc)
+or_of_either false b (inr e) = e
 
 pub marked_more : (across rows : ℕ) (bits old new : List ℕ) (first n : ℕ) → n < rows
     → length bits ≡ rows * across → length old ≡ across → length new ≡ length old
@@ -87,7 +87,7 @@ marked_more across rows bits old new first n within size width new_length each a
     i j le lt small one =
     or_bits new old (row_at bits across n) new_length
     (width ∙ sym (row_length bits across n rows within size)) each j
-    ∙ either _ _ (by_row (cases_eq i n))
+    ∙ or_of_either _ _ (by_row (cases_eq i n))
   where
     by_row : (i ≡ n) ⊎ (i ≡ n → ⊥) → (is_bit old j ≡ true)
         ⊎ (is_bit (row_at bits across n) j ≡ true)
@@ -227,39 +227,41 @@ pub written_word : (rows columns : ℕ) (bits transposed : List ℕ) (w j word :
     → ColumnsWritten rows columns bits (set transposed (j * words_for rows + w) word) w (j + 1)
 written_word rows columns bits transposed w j word band small is_column_word columns_written =
     record {
-      size = length-set transposed place word ∙ columns_written.size;
+      size = length-set transposed place_of_word word ∙ columns_written.size;
       earlier_bands =
           λ l v a b d. subst (IsColumnWord rows (words_for columns) bits v l)
-          (sym (other l v d (λ e f. omega arith))) (columns_written.earlier_bands l v a b d);
+          (sym (other_words_same l v d (λ e f. omega arith)))
+          (columns_written.earlier_bands l v a b d);
       written_below = λ l a b. by_column l a b (cases_eq l j);
-      zero_from = λ l a b d. other l w d (λ e f. omega arith)
+      zero_from = λ l a b d. other_words_same l w d (λ e f. omega arith)
           ∙ columns_written.zero_from l a (omega arith) d;
-      later_bands = λ l v a b d. other l v d (λ e f. omega arith)
+      later_bands = λ l v a b d. other_words_same l v d (λ e f. omega arith)
           ∙ columns_written.later_bands l v a b d;
     }
   where
-    place : ℕ
-    place = j * words_for rows + w
+    place_of_word : ℕ
+    place_of_word = j * words_for rows + w
 
-    other : (l v : ℕ) → v < words_for rows → (l ≡ j → v ≡ w → ⊥)
-        → get_or (set transposed place word) (l * words_for rows + v) 0
+    other_words_same : (l v : ℕ) → v < words_for rows → (l ≡ j → v ≡ w → ⊥)
+        → get_or (set transposed place_of_word word) (l * words_for rows + v) 0
         ≡ get_or transposed (l * words_for rows + v) 0
-    other l v d ne =
-        get_or-set_other transposed place (l * words_for rows + v) word 0
+    other_words_same l v d ne =
+        get_or-set_other transposed place_of_word (l * words_for rows + v) word 0
         (λ e. let s = same_from_place l v j w (words_for rows) d band e in ne s.0 s.1)
 
     by_column : (l : ℕ) → l < columns → l < j + 1 → (l ≡ j) ⊎ (l ≡ j → ⊥)
         → IsColumnWord rows (words_for columns) bits w l
-        (get_or (set transposed place word) (l * words_for rows + w) 0)
+        (get_or (set transposed place_of_word word) (l * words_for rows + w) 0)
     by_column l a b (inl e) =
         subst (λ x. IsColumnWord rows (words_for columns) bits w x
-        (get_or (set transposed place word) (x * words_for rows + w) 0)) (sym e)
+        (get_or (set transposed place_of_word word) (x * words_for rows + w) 0)) (sym e)
         (subst (IsColumnWord rows (words_for columns) bits w j)
-        (sym (get_or-set_same transposed place word 0
+        (sym (get_or-set_same transposed place_of_word word 0
         (word_within columns (words_for rows) j w (length transposed) small band
         columns_written.size))) is_column_word)
     by_column l a b (inr ne) =
-        subst (IsColumnWord rows (words_for columns) bits w l) (sym (other l w band (λ e f. ne e)))
+        subst (IsColumnWord rows (words_for columns) bits w l)
+        (sym (other_words_same l w band (λ e f. ne e)))
         (columns_written.written_below l a (omega arith))
 
 -- columns without a mark need no word
@@ -345,16 +347,16 @@ pub written_all : (rows columns : ℕ) (bits transposed : List ℕ) (w : ℕ) �
     → ColumnsWritten rows columns bits transposed w 0 → AreTransposed rows columns bits transposed
 written_all rows columns bits transposed w le columns_written = record {
   size = columns_written.size;
-  same = λ i j a b. cell i j (omega arith) b
+  same = λ i j a b. bit_is_of_row i j (omega arith) b
       ∙ bit_in_rows_within rows (words_for columns) bits i j a;
-  past = λ i j a b d. cell i j (omega arith) d
+  past = λ i j a b d. bit_is_of_row i j (omega arith) d
       ∙ bit_in_rows_past rows (words_for columns) bits i j a;
 }
   where
-    cell : (i j : ℕ) → i / 64 < words_for rows → j < columns
+    bit_is_of_row : (i j : ℕ) → i / 64 < words_for rows → j < columns
         → is_bit transposed (bit_index (words_for rows) j i)
         ≡ bit_in_rows rows (words_for columns) bits i j
-    cell i j a b =
+    bit_is_of_row i j a b =
         let is : 64 * (i / 64) + i % 64 ≡ i = omega arith in
         ap₂ (λ x y. eqb (bit_at (get_or transposed x 0) y) 1) (bit_index_word (words_for rows) j i)
         (bit_index_bit (words_for rows) j i)

@@ -49,8 +49,8 @@ bit_of_byte k lt =
     (agree_below_at (λ x. eqb (get_or BITS x 0) (2 ^ (x % 8))) (λ x. true) 64 k refl lt)
 
 -- a bit is tested by the number that has it alone
-tested : (y b : ℕ) → y < 256 → b < 8 → eqb (bit_and y (2 ^ b)) (2 ^ b) ≡ eqb (bit_at y b) 1
-tested y b small lt =
+bit_tested : (y b : ℕ) → y < 256 → b < 8 → eqb (bit_and y (2 ^ b)) (2 ^ b) ≡ eqb (bit_at y b) 1
+bit_tested y b small lt =
     let q : (8 * y + b) / 8 ≡ y = omega arith in
     let r : (8 * y + b) % 8 ≡ b = omega arith in
     sym (ap₂ (λ m n. eqb (bit_and m (2 ^ n)) (2 ^ n)) q r)
@@ -58,13 +58,13 @@ tested y b small lt =
     (λ n. eqb (bit_at (n / 8) (n % 8)) 1) 2048 (8 * y + b) refl (omega arith)
     ∙ ap₂ (λ m n. eqb (bit_at m n) 1) q r
 
-low : (n b : ℕ) → b < 8 → bit_at (n % 256) b ≡ bit_at n b
-low n b lt =
+low_byte_bit : (n b : ℕ) → b < 8 → bit_at (n % 256) b ≡ bit_at n b
+low_byte_bit n b lt =
     let whole : n / 256 * 2 ^ 8 + n % 256 ≡ n = omega arith in
     sym (bit_at_cat_low (n / 256) 8 (n % 256) b lt) ∙ ap (λ x. bit_at x b) whole
 
-powers : (j : ℕ) → j < 8 → 256 ^ j ≡ 2 ^ (8 * j)
-powers j lt =
+power_of_256 : (j : ℕ) → j < 8 → 256 ^ j ≡ 2 ^ (8 * j)
+power_of_256 j lt =
     eqb-true _ _
     (agree_below_at (λ x. eqb (256 ^ x) (2 ^ (8 * x))) (λ x. true) 8 j refl lt)
 
@@ -72,8 +72,8 @@ byte_bit : (word k : ℕ) → k < 64
     → bit_at (word / 256 ^ (k / 8) % 256) (k % 8) ≡ bit_at word k
 byte_bit word k lt =
     let is : 8 * (k / 8) + k % 8 ≡ k = omega arith in
-    low (word / 256 ^ (k / 8)) (k % 8) (omega arith)
-    ∙ ap (λ p. bit_at (word / p) (k % 8)) (powers (k / 8) (omega arith))
+    low_byte_bit (word / 256 ^ (k / 8)) (k % 8) (omega arith)
+    ∙ ap (λ p. bit_at (word / p) (k % 8)) (power_of_256 (k / 8) (omega arith))
     ∙ shifted word (8 * (k / 8)) (k % 8)
     ∙ ap (bit_at word) is
 
@@ -119,7 +119,7 @@ lane_is word k fits k_below_64 =
     ∙ ap digit_of
     (get_or-zip2 eqb (masked word) BITS k 0 0 false k_below_64 k_below_64
     ∙ ap₂ eqb at (bit_of_byte k k_below_64)
-    ∙ tested y (k % 8) (omega arith) (omega arith)
+    ∙ bit_tested y (k % 8) (omega arith) (omega arith)
     ∙ ap (λ n. eqb n 1) (byte_bit word k k_below_64))
 
 -- the cells of the first w words are written
@@ -163,7 +163,7 @@ module _ (m : Marks) (rows columns : ℕ) (words : List ℕ)
       (into_length ∙ sym
       (length-map (range_with_len (64 * word) (length old)) cell
       ∙ length-range_with_len (64 * word) (length old)))
-      (λ k less. at k (omega (arith, into_length, less)))
+      (λ k less. cell_at_place k (omega (arith, into_length, less)))
     where
       cell : ℕ → ℕ
       cell j = digit_of (mark_at j (row_marks m i))
@@ -176,9 +176,9 @@ module _ (m : Marks) (rows columns : ℕ) (words : List ℕ)
           ∙ row_mark m rows columns words view is_table i j lt' inside
           ∙ sym (ap (λ (x : Marks). mark_at j (row_marks x i)) view)
 
-      at : (k : ℕ) → k < length old
+      cell_at_place : (k : ℕ) → k < length old
           → get_or into k 0 ≡ get_or (map cell (range_with_len (64 * word) (length old))) k 0
-      at k less =
+      cell_at_place k less =
           let width : 64 * word + length old ≤ 64 * words_for columns =
           subst (λ (x : Marks). 64 * word + length old ≤ 64 * words_for x.columns) view within in
           let q : word + k / 64 ≡ (64 * word + k) / 64 = omega arith in

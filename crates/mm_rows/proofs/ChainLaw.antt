@@ -73,18 +73,18 @@ filled_more c columns cited n row mid new filled_from new_length a b d e = recor
         ⊎_elim (λ u. via_next j ((filled_from.marks j lt).0 u)) (λ is. (n, omega arith, inl is))
         ((a j lt).0 t)
 
-    set_by : (j : ℕ) → j < length columns
+    marked_by_citation : (j : ℕ) → j < length columns
         → (get_or cited n 0 ≡ get_or columns j 0)
         ⊎ RestsOn (HasCitation c) (get_or cited n 0) (get_or columns j 0) → is_bit new j ≡ true
-    set_by j lt (inl is) = (d j lt).1 (inl ((a j lt).1 (inr is)))
-    set_by j lt (inr r) = (d j lt).1 (inr r)
+    marked_by_citation j lt (inl is) = (d j lt).1 (inl ((a j lt).1 (inr is)))
+    marked_by_citation j lt (inr r) = (d j lt).1 (inr r)
 
     via_to_marked : (j : ℕ) → j < length columns → (m : ℕ) → m < n + 1
         → (get_or cited m 0 ≡ get_or columns j 0)
         ⊎ RestsOn (HasCitation c) (get_or cited m 0) (get_or columns j 0) → (m ≡ n) ⊎ (m ≡ n → ⊥)
         → is_bit new j ≡ true
     via_to_marked j lt m below v (inl is) =
-        set_by j lt
+        marked_by_citation j lt
         (subst (λ x. (get_or cited x 0 ≡ get_or columns j 0)
         ⊎ RestsOn (HasCitation c) (get_or cited x 0) (get_or columns j 0)) is v)
     via_to_marked j lt m below v (inr ne) =

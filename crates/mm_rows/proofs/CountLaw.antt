@@ -79,24 +79,25 @@ pub all_counted : (p : ℕ → Bool) (n result : ℕ) → n < 2 ^ 64
     → result ≡ tally p n
 all_counted p n result few is = let within = tally_within p n in omega (arith, few, is, within)
 
-no_ones : count_ones 0 ≡ 0
-no_ones = let l = ones_le_self 0 in omega (arith, l)
+ones_of_zero : count_ones 0 ≡ 0
+ones_of_zero = let l = ones_le_self 0 in omega (arith, l)
 
-one_one : (count_ones 1 ≡ 0) ⊎ (count_ones 1 ≡ 0 → ⊥) → count_ones 1 ≡ 1
-one_one (inl e) = let z = zero_from_ones 1 e in absurd (omega (arith, z))
-one_one (inr ne) = let l = ones_le_self 1 in omega (arith, l, ne)
+ones_of_one : (count_ones 1 ≡ 0) ⊎ (count_ones 1 ≡ 0 → ⊥) → count_ones 1 ≡ 1
+ones_of_one (inl e) = let z = zero_from_ones 1 e in absurd (omega (arith, z))
+ones_of_one (inr ne) = let l = ones_le_self 1 in omega (arith, l, ne)
 
 one_bit : (b : ℕ) → b < 2 → count_ones b ≡ cond (eqb b 1) 1 0
 one_bit b lt = by_bit (cases_eq b 0)
   where
     by_bit : (b ≡ 0) ⊎ (b ≡ 0 → ⊥) → count_ones b ≡ cond (eqb b 1) 1 0
-    by_bit (inl e) = ap count_ones e ∙ no_ones ∙ sym (ap (λ x. cond (eqb x 1) 1 0) e)
+    by_bit (inl e) = ap count_ones e ∙ ones_of_zero ∙ sym (ap (λ x. cond (eqb x 1) 1 0) e)
     by_bit (inr ne) =
         let e : b ≡ 1 = omega arith in
-        ap count_ones e ∙ one_one (cases_eq (count_ones 1) 0) ∙ sym (ap (λ x. cond (eqb x 1) 1 0) e)
+        ap count_ones e ∙ ones_of_one (cases_eq (count_ones 1) 0)
+        ∙ sym (ap (λ x. cond (eqb x 1) 1 0) e)
 
 ones_mod : (w n : ℕ) → count_ones (w % 2 ^ n) ≡ tally (λ k. eqb (bit_at w k) 1) n
-ones_mod w zero = let e : w % 1 ≡ 0 = omega arith in ap count_ones e ∙ no_ones
+ones_mod w zero = let e : w % 1 ≡ 0 = omega arith in ap count_ones e ∙ ones_of_zero
 ones_mod w (suc n) =
     let one : suc n ≡ 1 + n = omega arith in
     let i = ones_mod w n in

@@ -47,19 +47,19 @@ four_low word k =
     omega (arith, a, b, c, d, e)
 
 -- both lists have the numbers of the four columns
-number_of : (n : ℕ) → n < 16 → get_or NUMBERS n 0 ≡ four_at n 0
-number_of n lt =
+numbers_right : (n : ℕ) → n < 16 → get_or NUMBERS n 0 ≡ four_at n 0
+numbers_right n lt =
     eqb-true _ _
     (agree_below_at (λ x. eqb (get_or NUMBERS x 0) (four_at x 0)) (λ x. true) 16 n refl lt)
 
-digit_of : (n : ℕ) → n < 16 → get_or DIGITS n 0 ≡ hex_digit (four_at n 0)
-digit_of n lt =
+digits_right : (n : ℕ) → n < 16 → get_or DIGITS n 0 ≡ hex_digit (four_at n 0)
+digits_right n lt =
     eqb-true _ _
     (agree_below_at (λ x. eqb (get_or DIGITS x 0) (hex_digit (four_at x 0)))
     (λ x. true) 16 n refl lt)
 
 pub number_is : (word k : ℕ) → get_or NUMBERS (four word k) 0 ≡ four_at word k
-number_is word k = number_of (four word k) (four_small word k) ∙ sym (four_low word k)
+number_is word k = numbers_right (four word k) (four_small word k) ∙ sym (four_low word k)
 
 -- each lane is looked up
 abbrev pub fours : ℕ → List ℕ
@@ -74,7 +74,7 @@ lane_is word k lt =
     let first : 16 * ((0 + k) / 16) + get_or (fours word) k 0 ≡ four word k =
     omega (arith, is, lt) in
     get_or-swz_l_below w8 16 DIGITS 0 (fours word) k lt (omega (arith, is, small))
-    ∙ ap (λ n. get_or DIGITS n 0) first ∙ digit_of (four word k) small
+    ∙ ap (λ n. get_or DIGITS n 0) first ∙ digits_right (four word k) small
     ∙ ap hex_digit (sym (four_low word k))
 
 -- the bytes of a word that stands twice in sixteen lanes
@@ -274,14 +274,14 @@ module _ (m : Marks) (rows columns : ℕ) (words : List ℕ)
       (into_length ∙ sym
       (length-map (range_with_len (16 * word) (length old)) digit
       ∙ length-range_with_len (16 * word) (length old)))
-      (λ k less. at k (omega (arith, into_length, less)))
+      (λ k less. digit_at_place k (omega (arith, into_length, less)))
     where
       digit : ℕ → ℕ
       digit k = hex_digit (digit_at k (row_marks m i))
 
-      at : (k : ℕ) → k < length old
+      digit_at_place : (k : ℕ) → k < length old
           → get_or into k 0 ≡ get_or (map digit (range_with_len (16 * word) (length old))) k 0
-      at k less =
+      digit_at_place k less =
           let width : 16 * word + length old ≤ 16 * words_for columns =
           subst (λ (x : Marks). 16 * word + length old ≤ 16 * words_for x.columns) view within in
           let q : word + k / 16 ≡ (16 * word + k) / 16 = omega arith in

@@ -36,10 +36,10 @@ filled_below_more c columns old new i row new_length others filled_below =
     by_row r l (inl e) = subst (HasRow c columns new) (sym e) row
     by_row r l (inr ne) =
         subst (IsBitRow c columns (theorem_at c r)) (sym (others r ne))
-        (filled_below.filled r (cases r i l ne))
+        (filled_below.filled r (below_if_other r i l ne))
       where
-        cases : (r i : ℕ) → r < i + 1 → (r ≡ i → ⊥) → r < i
-        cases r i l ne = omega (arith, l, ne)
+        below_if_other : (r i : ℕ) → r < i + 1 → (r ≡ i → ⊥) → r < i
+        below_if_other r i l ne = omega (arith, l, ne)
 
 pub filled_below_all : (c : Citing) (columns bits : List ℕ) (n : ℕ) → length c.theorems ≤ n
     → FilledBelow c columns n bits → AreBitRows c columns (length c.theorems) bits

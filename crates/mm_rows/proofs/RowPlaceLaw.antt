@@ -14,8 +14,8 @@ use Rattle.mm_rows.proofs.ChainLaw.{row_kept}
 use Rattle.mm_rows.proofs.WaveLaw.{earlier_row}
 
 -- a lower row ends where a row begins, or before
-below : (width i r : ℕ) → r < i → r * width + width ≤ i * width
-below width i r l =
+lower_row_ends_before : (width i r : ℕ) → r < i → r * width + width ≤ i * width
+lower_row_ends_before width i r l =
     let m = mul-le (r + 1) width i width (omega arith) (omega arith) in
     let s = add-mul r 1 width in
     omega (arith, m, s)
@@ -26,7 +26,8 @@ pub ready_before : (c : Citing) (columns bits before rest : List ℕ) (i : ℕ) 
     → HasCitedRows c columns bits i → HasCitedRows c columns before i
 ready_before c columns bits before rest i is_file_order within parts long ready = λ r k lt listed e.
     let width = words_for (length columns) in
-    let low = below width i r (earlier_row c i r k is_file_order within listed lt e) in
+    let low = lower_row_ends_before width i r
+    (earlier_row c i r k is_file_order within listed lt e) in
     subst (IsBitRow c columns _)
     (ap (λ xs. row_at xs width r) (sym parts)
     ∙ row_kept before rest width r (omega (arith, low, long))) (ready r k lt listed e)
@@ -46,9 +47,9 @@ pub row_there : (before new rest : List ℕ) (width i r : ℕ) → length before
     → row_at (before ++ (new ++ drop width rest)) width r ≡ row_at (before ++ rest) width r
 row_there before new rest width i r long short ne = by_order (cases_order r i)
   where
-    after : (xs : List ℕ) → i * width ≤ r * width
+    rest_after_row : (xs : List ℕ) → i * width ≤ r * width
         → drop (r * width) (before ++ xs) ≡ drop (r * width - i * width) xs
-    after xs le =
+    rest_after_row xs le =
         let n : r * width ≡ length before + (r * width - i * width) = omega (arith, le, long) in
         ap (λ k. drop k (before ++ xs)) n ∙ drop-append-add before xs (r * width - i * width)
 
@@ -56,14 +57,14 @@ row_there before new rest width i r long short ne = by_order (cases_order r i)
         → row_at (before ++ (new ++ drop width rest)) width r ≡ row_at (before ++ rest) width r
     by_order (inl e) = absurd (ne e)
     by_order (inr (inl l)) =
-        let low = below width i r l in
+        let low = lower_row_ends_before width i r l in
         let fits : r * width + width ≤ length before = omega (arith, low, long) in
         row_kept before (new ++ drop width rest) width r fits
         ∙ sym (row_kept before rest width r fits)
     by_order (inr (inr g)) =
-        let high = below width r i g in
+        let high = lower_row_ends_before width r i g in
         let le : i * width ≤ r * width = omega (arith, high) in
         ap (take (r * width + width - r * width))
-        (after (new ++ drop width rest) le
+        (rest_after_row (new ++ drop width rest) le
         ∙ drop-append-drop width rest new (r * width - i * width) (omega (arith, high)) short
-        ∙ sym (after rest le))
+        ∙ sym (rest_after_row rest le))

@@ -49,11 +49,11 @@ module _ (m : Marks) (rows columns : ℕ) (words : List ℕ)
       ap₂ (λ ys n. is_bit ys (bit_index n i j)) e w ∙ sym (mark_bit rows columns words i j lt' l')
       ∙ sym (ap (λ x. mark x i j) view)
 
-  pub counted : (i result : ℕ) (part : List ℕ) → i < m.rows
+  pub row_counted : (i result : ℕ) (part : List ℕ) → i < m.rows
       → part ≡ row_at words (words_for columns) i
       → result ≡ min (tally (is_bit part) (64 * length part)) (2 ^ 64 - 1)
       → result ≡ count_by (λ j. mark m i j) (range_with_len 0 m.columns)
-  counted i result part lt part_is result_is =
+  row_counted i result part lt part_is result_is =
       let lt' = subst (λ (x : Marks). i < x.rows) view lt in
       let few = is_table.few_columns in
       let wide = ap length part_is
@@ -81,16 +81,16 @@ module _ (m : Marks) (rows columns : ℕ) (words : List ℕ)
                   λ i l. row_bit transposed (words_for rows) j i (omega arith)
                   ∙ are_transposed.same i j l lt
                   ∙ sym (mark_bit rows columns words i j l lt);
-              past = λ i le. past j lt i le (cases_lt i (64 * words_for rows));
+              past = λ i le. past_last_row j lt i le (cases_lt i (64 * words_for rows));
             };
       }
     where
-      past : (j : ℕ) → j < columns → (i : ℕ) → rows ≤ i
+      past_last_row : (j : ℕ) → j < columns → (i : ℕ) → rows ≤ i
           → (i < 64 * words_for rows) ⊎ (64 * words_for rows ≤ i)
           → is_bit (row_at transposed (words_for rows) j) i ≡ false
-      past j lt i le (inl l) = row_bit transposed (words_for rows) j i l
+      past_last_row j lt i le (inl l) = row_bit transposed (words_for rows) j i l
           ∙ are_transposed.past i j le l lt
-      past j lt i le (inr g) =
+      past_last_row j lt i le (inr g) =
           row_past transposed (words_for rows) j columns i lt are_transposed.size g
 
 -- the words of one of them
@@ -100,13 +100,13 @@ column_fits m users a j width xs lt w e =
     row_end width j m.columns (length xs) lt
     (ap length e ∙ a.size ∙ sym (ap (λ b. m.columns * b) w))
 
-above : (after : Option ℕ) (k : ℕ) → IsAbove after k → first_after after ≤ k
-above None k h = omega arith
-above (Some i) k h = omega arith
+from_first_if_above : (after : Option ℕ) (k : ℕ) → IsAbove after k → first_after after ≤ k
+from_first_if_above None k h = omega arith
+from_first_if_above (Some i) k h = omega arith
 
-upward : (after : Option ℕ) (k : ℕ) → first_after after ≤ k → IsAbove after k
-upward None k h = tt
-upward (Some i) k h = omega arith
+above_if_from_first : (after : Option ℕ) (k : ℕ) → first_after after ≤ k → IsAbove after k
+above_if_from_first None k h = tt
+above_if_from_first (Some i) k h = omega arith
 
 -- the next user of a column: no row between is marked
 user_found : (m : Marks) (j : ℕ) (after : Option ℕ) (i from : ℕ) → from ≡ first_after after
@@ -116,17 +116,17 @@ user_found : (m : Marks) (j : ℕ) (after : Option ℕ) (i from : ℕ) → from 
     × ((k : ℕ) → IsAbove after k → k < i → mark m k j ≡ false)
 user_found m j after i from s inside le one none = (
   inside,
-  upward after i (omega (arith, s, le)),
+  above_if_from_first after i (omega (arith, s, le)),
   one,
-  λ k up l. let u = above after k up in none k (omega arith) l,
+  λ k up l. let u = from_first_if_above after k up in none k (omega arith) l,
 )
 
 -- what is read off the bits of a column
 module _ (m : Marks) (j : ℕ) (users : List ℕ) (is_column : IsColumn m j users) where
-  pub counted_down : (result : ℕ)
+  pub column_counted : (result : ℕ)
       → result ≡ min (tally (is_bit users) (64 * length users)) (2 ^ 64 - 1)
       → result ≡ count_by (λ i. mark m i j) (range_with_len 0 m.rows)
-  counted_down result e =
+  column_counted result e =
       let few = is_column.few_rows in
       let long = is_column.size in
       all_counted (is_bit users) (64 * length users) result (omega (arith, few, long)) e
@@ -138,12 +138,12 @@ module _ (m : Marks) (j : ℕ) (users : List ℕ) (is_column : IsColumn m j user
       → (i < m.rows) × IsAbove after i × (mark m i j ≡ true)
       × ((k : ℕ) → IsAbove after k → k < i → mark m k j ≡ false)
   user_some after i from from_is from_at_most_i one none =
-      user_found m j after i from from_is inside from_at_most_i
-      (sym (is_column.same i inside) ∙ one)
-      (λ k up l. let into = inside in sym (is_column.same k (omega arith)) ∙ none k up l)
+      user_found m j after i from from_is user_is_row from_at_most_i
+      (sym (is_column.same i user_is_row) ∙ one)
+      (λ k up l. let into = user_is_row in sym (is_column.same k (omega arith)) ∙ none k up l)
     where
-      inside : i < m.rows
-      inside = by_row_count (cases_lt i m.rows)
+      user_is_row : i < m.rows
+      user_is_row = by_row_count (cases_lt i m.rows)
         where
           by_row_count : (i < m.rows) ⊎ (m.rows ≤ i) → i < m.rows
           by_row_count (inl l) = l
@@ -153,7 +153,7 @@ module _ (m : Marks) (j : ℕ) (users : List ℕ) (is_column : IsColumn m j user
       → ((k : ℕ) → from ≤ k → is_bit users k ≡ false)
       → (k : ℕ) → IsAbove after k → k < m.rows → mark m k j ≡ false
   user_none after from s none k up l =
-      let u = above after k up in sym (is_column.same k l) ∙ none k (omega arith)
+      let u = from_first_if_above after k up in sym (is_column.same k l) ∙ none k (omega arith)
 
 -- the rows of all theorems are a table
 pub table_of : (c : Citing) (columns bits : List ℕ) (rows width : ℕ) → IsStatementList c.theorems

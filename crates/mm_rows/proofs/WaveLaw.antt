@@ -31,13 +31,15 @@ pub earlier_row : (c : Citing) (i r k : ℕ) → IsFileOrder c → i < length c.
     → r < i
 earlier_row c i r k is_file_order within listed r_inside e = by_order (cases_order r i)
   where
-    m : get_or (list_at c i) k 0 < theorem_at c i
-    m = is_file_order.earlier i k within listed
+    cited_is_earlier : get_or (list_at c i) k 0 < theorem_at c i
+    cited_is_earlier = is_file_order.earlier i k within listed
 
     by_order : (r ≡ i) ⊎ ((r < i) ⊎ (i < r)) → r < i
-    by_order (inl s) = let a = ap (theorem_at c) s in let b = m in absurd (omega (arith, a, b))
+    by_order (inl s) = let a = ap (theorem_at c) s in let b = cited_is_earlier in
+        absurd (omega (arith, a, b))
     by_order (inr (inl l)) = l
-    by_order (inr (inr g)) = let n = is_file_order.rising.rises i r g r_inside in let b = m in
+    by_order (inr (inr g)) = let n = is_file_order.rising.rises i r g r_inside in
+        let b = cited_is_earlier in
         absurd (omega (arith, b, n))
 
 -- one theorem more
@@ -48,7 +50,7 @@ pub wave_more : (c : Citing) (waves : List ℕ) (i : ℕ) (cited : List ℕ) (n 
 wave_more c waves i cited n wave r is_file_order within are_waves n_inside inside is wave_to = (
   let s = are_waves.size in let b = before in
       omega (arith, s, b),
-  pick (cases_lt wave (get_or waves r 0 + 1)),
+  by_longer (cases_lt wave (get_or waves r 0 + 1)),
 )
   where
     listed : n < length (list_at c i)
@@ -87,9 +89,9 @@ wave_more c waves i cited n wave r is_file_order within are_waves n_inside insid
         by_place (inr f) = let y = wave_to.above m s (omega arith) s_inside e in
             omega (arith, y, wave_at_most_x)
 
-    pick : (wave < get_or waves r 0 + 1) ⊎ (get_or waves r 0 + 1 ≤ wave)
+    by_longer : (wave < get_or waves r 0 + 1) ⊎ (get_or waves r 0 + 1 ≤ wave)
         → WaveTo c waves i cited (n + 1) (max wave (get_or waves r 0 + 1))
-    pick (inl l) =
+    by_longer (inl l) =
         let top : max wave (get_or waves r 0 + 1) ≡ get_or waves r 0 + 1 = omega arith in
         let one : suc (get_or waves r 0) ≡ max wave (get_or waves r 0 + 1) = omega arith in
         let b = before in
@@ -101,7 +103,7 @@ wave_more c waves i cited n wave r is_file_order within are_waves n_inside insid
           above = above (max wave (get_or waves r 0 + 1)) (omega arith) (omega arith);
           small = omega (arith, top, few, b);
         }
-    pick (inr g) =
+    by_longer (inr g) =
         let top : wave ≡ max wave (get_or waves r 0 + 1) = omega arith in
         let small = wave_to.small in
         record {
@@ -179,28 +181,31 @@ pub waves_more : (c : Citing) (n wave : ℕ) (waves : List ℕ) → AreWaves c n
 waves_more c n wave waves are_waves is_wave small = record {
   size = let l = length-append waves (wave ∷ []) in let s = are_waves.size in omega (arith, l, s);
   each =
-      λ r lt. at (IsWave (HasCitation c) (IsCitingTheorem c) (theorem_at c r)) r
+      λ r lt. by_row (IsWave (HasCitation c) (IsCitingTheorem c) (theorem_at c r)) r
       lt (λ l. are_waves.each r l)
       (λ e. subst (λ k. IsWave (HasCitation c) (IsCitingTheorem c) (theorem_at c k) wave)
       (sym e) is_wave)
       (cases_eq r n);
-  small = λ r lt. at (λ x. x ≤ r) r lt (λ l. are_waves.small r l) (λ e. omega arith) (cases_eq r n);
+  small = λ r lt. by_row (λ x. x ≤ r) r lt (λ l. are_waves.small r l)
+      (λ e. omega arith) (cases_eq r n);
 }
   where
-    at : (P : ℕ → Type 0) (r : ℕ) → r < n + 1 → (r < n → P (get_or waves r 0)) → (r ≡ n → P wave)
+    by_row : (P : ℕ → Type 0) (r : ℕ) → r < n + 1 → (r < n → P (get_or waves r 0))
+        → (r ≡ n → P wave)
         → (r ≡ n) ⊎ (r ≡ n → ⊥) → P (get_or (waves ++ wave ∷ []) r 0)
-    at P r lt below new (inl e) =
+    by_row P r lt below new (inl e) =
         subst P (sym (get_or_push waves wave 0 r (are_waves.size ∙ sym e))) (new e)
-    at P r lt below new (inr ne) =
+    by_row P r lt below new (inr ne) =
         subst P (sym (get_or_append_left waves (wave ∷ []) 0 r (let s = are_waves.size in
         omega arith)))
         (below (omega arith))
 
 -- a cited theorem has a lower wave
-pub lower : (c : Citing) (waves : List ℕ) (i r k : ℕ) → AreWaves c (length c.theorems) waves
+pub cited_wave_is_lower : (c : Citing) (waves : List ℕ) (i r k : ℕ)
+    → AreWaves c (length c.theorems) waves
     → i < length c.theorems → r < length c.theorems → k < length (list_at c i)
     → theorem_at c r ≡ get_or (list_at c i) k 0 → get_or waves r 0 < get_or waves i 0
-lower c waves i r k are_waves within inside listed e =
+cited_wave_is_lower c waves i r k are_waves within inside listed e =
     let cites : HasCitation c (theorem_at c i) (theorem_at c r) =
     record {
       row = i;
@@ -291,23 +296,25 @@ pub filled_more : (c : Citing) (columns rows : List ℕ) (k : ℕ) (first old ne
 filled_more c columns rows k first old new row i i_is bits new_length here others are_filled =
     record {
       size = new_length ∙ are_filled.size;
-      none_lost = λ r b. again r (are_filled.none_lost r b) (cases_eq r i);
+      none_lost = λ r b. still_filled r (are_filled.none_lost r b) (cases_eq r i);
       filled = λ m l. by_place m l (cases_eq m k);
     }
   where
-    fresh : (r : ℕ) → r ≡ i → HasRow c columns new r
-    fresh r e =
+    filled_at_place : (r : ℕ) → r ≡ i → HasRow c columns new r
+    filled_at_place r e =
         subst (HasRow c columns new) (sym e)
         (subst (IsBitRow c columns (theorem_at c i)) (sym here) bits)
 
-    again : (r : ℕ) → HasRow c columns old r → (r ≡ i) ⊎ (r ≡ i → ⊥) → HasRow c columns new r
-    again r b (inl e) = fresh r e
-    again r b (inr ne) = subst (IsBitRow c columns (theorem_at c r)) (sym (others r ne)) b
+    still_filled : (r : ℕ) → HasRow c columns old r → (r ≡ i) ⊎ (r ≡ i → ⊥) → HasRow c columns new r
+    still_filled r b (inl e) = filled_at_place r e
+    still_filled r b (inr ne) = subst (IsBitRow c columns (theorem_at c r)) (sym (others r ne)) b
 
     by_place : (m : ℕ) → m < k + 1 → (m ≡ k) ⊎ (m ≡ k → ⊥) → HasRow c columns new (get_or rows m 0)
-    by_place m l (inl e) = fresh (get_or rows m 0) (ap (λ x. get_or rows x 0) e ∙ sym i_is)
+    by_place m l (inl e) =
+        filled_at_place (get_or rows m 0) (ap (λ x. get_or rows x 0) e ∙ sym i_is)
     by_place m l (inr ne) =
-        again (get_or rows m 0) (are_filled.filled m (omega arith)) (cases_eq (get_or rows m 0) i)
+        still_filled (get_or rows m 0) (are_filled.filled m (omega arith))
+        (cases_eq (get_or rows m 0) i)
 
 -- a row that could be filled can still be filled
 pub ready_still : (c : Citing) (columns rows : List ℕ) (k : ℕ) (old new : List ℕ)
@@ -336,7 +343,7 @@ wave_ready c columns waves rows from to bits are_waves is_by_wave filled_up_to
     inside within same p from_at_most_p p_below_to = (
       known,
       λ r k lt listed e. ready r
-          (lower c waves (get_or rows p 0) r k are_waves known lt listed e) lt,
+          (cited_wave_is_lower c waves (get_or rows p 0) r k are_waves known lt listed e) lt,
     )
   where
     known : get_or rows p 0 < length c.theorems

@@ -1,7 +1,8 @@
 use Rattle.std.proofs.Common.{◌+◌, ◌*◌, ◌/◌, ◌%◌, ◌^◌, arith, ap, sym, subst, ◌∙◌, w64}
 use Rattle.std.proofs.lemmas.Nat.Bits.{bit_at-trailing_zeros, bit_at-zero}
 use Rattle.std.specs.Int.{bit_at}
-use Rattle.mm_rows.proofs.BitLaw.{Seeking, row_of_sought, seek_for, seek_on_for, found}
+use Rattle.mm_rows.proofs.BitLaw.{Seeking, row_of_sought, seeking_first_sought, seeking_next_sought}
+use Rattle.mm_rows.proofs.BitLaw.{bit_found}
 use Rattle.mm_rows.proofs.BitLaw.{none_below, is_sought, is_not_sought}
 use Rattle.mm_rows.proofs.bits.next_bit.Goals as goal
 
@@ -15,7 +16,8 @@ loop-word-init c =
       seeking =
           subst (λ w. Seeking (row_of_sought c.args.set c.args.row.now) from (from / 64)
           (w / 2 ^ (from % 64) * 2 ^ (from % 64) % 2 ^ 64)) (sym c.sought_bits.ensures)
-          (seek_for c.args.set c.args.row.now from c.if-row-at.false (c.type_inv.row _).fits);
+          (seeking_first_sought c.args.set c.args.row.now from c.if-row-at.false
+          (c.type_inv.row _).fits);
     }
 
 pub returns-then-word-ne0-clause-some : goal.returns-then-word-ne0-clause-some
@@ -26,7 +28,7 @@ returns-then-word-ne0-clause-some c =
     let t =
     bit_at-trailing_zeros w64 c.loop-word.word (omega arith) c.loop-word.invariant.seeking.fits in
     let f =
-    found (row_of_sought set row) c.args.from c.loop-word.at c.loop-word.word _
+    bit_found (row_of_sought set row) c.args.from c.loop-word.at c.loop-word.word _
     c.loop-word.invariant.seeking t.0 t.1 t.2 in
     let small = t.0 in (
       f.0,
@@ -57,7 +59,7 @@ loop-word-preserved c =
       seeking =
           subst (Seeking (row_of_sought c.args.set row) c.args.from (c.loop-word.at + 1))
           (sym c.sought_bits-word.ensures)
-          (seek_on_for c.args.set row c.args.from c.loop-word.at c.loop-word.word
+          (seeking_next_sought c.args.set row c.args.from c.loop-word.at c.loop-word.word
           c.if-row-at-2.false (c.type_inv.row _).fits c.loop-word.invariant.begun
           c.loop-word.invariant.seeking c.if-word-ne0.false);
     }
