@@ -11,13 +11,13 @@ IsClaimWord v x =
     (floor settled : ℕ) × (views : List View) × BoardRule v.count x floor settled views
     × IsSeatView views v
 
--- the same of the floor word
+-- x is the floor word of some state that meets the rule, in which a seat has the view v
 abbrev pub IsFloorWord : View → ℕ → Type 0
 IsFloorWord v x =
     (claim settled : ℕ) × (views : List View) × BoardRule v.count claim x settled views
     × IsSeatView views v
 
--- the same of the settled word
+-- x is the settled word of some state that meets the rule, in which a seat has the view v
 abbrev pub IsSettledWord : View → ℕ → Type 0
 IsSettledWord v x =
     (claim floor : ℕ) × (views : List View) × BoardRule v.count claim floor x views

@@ -121,7 +121,7 @@ CallEnds status call of text lengths out =
     (request : Request) × Asks call request
     × WritingEnds status request.with_open (of request) text lengths out
 
--- the same request, for what each theorem cites
+-- a request turned into the one for the citations
 abbrev pub citing : Request → Request
 citing request = record request { choice = Citations }
 

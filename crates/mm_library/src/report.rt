@@ -13,7 +13,7 @@ use mm_run::{JudgedText, RunEnd, judge_alone, write_judged};
 use mm_spec::{Choice, Request};
 use std::alloc::Allocator;
 
-/// The same request, for what each theorem cites.
+/// Turns a request into the one for the citations: only its sections become `Citations`.
 fn citing<'a>(request: &Request<'a>) -> Request<'a>
     ensures { result ≡ calls.citing request.now }
 {

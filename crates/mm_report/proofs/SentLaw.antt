@@ -170,7 +170,7 @@ sent_all a b c s t x sent sent_then f e =
     subst (Appends a c)
     (sym (append-nil m.bytes) ∙ ap (λ z. m.bytes ++ z) (sym e) ∙ w ∙ append-nil x) m.is_written
 
--- or a beginning
+-- or a prefix was written
 pub sent_part : (a b c : Option (List ℕ)) (s t : Pending) (x : List ℕ)
     → Sent a b (pending [] false) s x → Sent b c s t [] → (k : ℕ) × Appends a c (take k x)
 sent_part a b c s t x sent sent_then =

@@ -54,7 +54,7 @@ tally_add p n (suc m) =
     let b = tally_more (λ k. p (n + k)) m in
     ap (tally p) e ∙ omega (arith, i, a, b)
 
--- nothing from n on passes
+-- if no number from n on passes, those below n are all that pass
 pub tally_short : (p : ℕ → Bool) (n m : ℕ) → n ≤ m → ((k : ℕ) → n ≤ k → p k ≡ false)
     → tally p m ≡ tally p n
 tally_short p n m le none =

@@ -48,7 +48,8 @@ fn all_rows_in_order<A: Allocator + Copy>(
     Ok(bits)
 }
 
-/// The same as `marked_rows`, on the calling thread alone. Fails only if out of memory.
+/// Returns what `marked_rows` returns, computed on the calling thread alone, row by row in file
+/// order. Fails only if out of memory.
 pub fn marked_rows_alone<A: Allocator + Copy>(
     alloc: A,
     citations: &Citations<A>,
@@ -60,7 +61,8 @@ pub fn marked_rows_alone<A: Allocator + Copy>(
     Ok(table_of_rows(citations, columns, bits))
 }
 
-/// The same as `matrix`, on the calling thread alone. Fails only if out of memory.
+/// Returns what `matrix` returns, computed on the calling thread alone. Fails only if out of
+/// memory.
 pub fn matrix_alone<A: Allocator + Copy>(
     alloc: A,
     citations: &Citations<A>,

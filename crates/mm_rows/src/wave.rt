@@ -43,7 +43,7 @@ fn next_wave<A: Allocator>(
     wave
 }
 
-/// Returns the waves of all theorems. `theorems` has the places of the theorems.
+/// Returns the waves of all theorems. `theorems` has the indices of their statements.
 fn waves_of<A: Allocator + Copy>(
     alloc: A,
     citations: &Citations<A>,
@@ -311,8 +311,8 @@ pub fn marked_rows<R: Threads + Sync, A: Allocator + Copy + Send + Sync>(
     Ok(table_of_rows(citations, columns, bits))
 }
 
-/// Returns the same with the columns too, for the usage, in twice the memory. Fails only if out of
-/// memory.
+/// Returns the marked rows together with their columns, for the usage, in twice the memory. Fails
+/// only if out of memory.
 pub fn matrix<R: Threads + Sync, A: Allocator + Copy + Send + Sync>(
     rt: &R,
     alloc: A,

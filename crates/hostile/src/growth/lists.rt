@@ -99,7 +99,7 @@ fn is_repeated(heap: &Refusing<Global>) -> Result<bool, AllocError> {
     Ok(alone && machine.only().is_none())
 }
 
-/// The same, or `None` if the machine ran out of memory.
+/// Whether `is_repeated` says so, or `None` if the machine ran out of memory.
 fn repeated(heap: &Refusing<Global>) -> Option<bool> {
     match is_repeated(heap) {
         Ok(is_right) => Some(is_right),

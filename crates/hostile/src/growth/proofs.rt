@@ -77,7 +77,7 @@ fn read_in_turn<'h, R: Abort>(
     false
 }
 
-/// The same, of the proof of the first theorem.
+/// Refuses each growth of reading the first theorem's proof in turn.
 fn first_read<'h, R: Abort>(
     rt: &R,
     heap: &'h Refusing<Global>,
@@ -248,8 +248,7 @@ fn checkers_in_turn<'h, R: Abort>(
     false
 }
 
-/// Both on the first theorem: each growth of a check, and of a checker's first check, is refused in
-/// turn.
+/// Refuses in turn each growth of a check of the first theorem, and of a checker's first check.
 fn first_checked<'h, R: Abort>(
     rt: &R,
     heap: &'h Refusing<Global>,

@@ -132,7 +132,7 @@ fn rows_without_memory(rt: HostRuntime) -> Result<(), AllocError> {
     Ok(())
 }
 
-/// The same, from the rows alone.
+/// Whether each of the two theorems rests on each of the three axioms, from the rows alone.
 fn are_full<A: Allocator>(answer: Result<MarkedRows<A>, AllocError>) -> Option<bool> {
     match answer {
         Ok(marked) => Some(

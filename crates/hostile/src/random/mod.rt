@@ -69,7 +69,7 @@ fn run_by<R: Threads + Wait + Sync>(
     (end, written)
 }
 
-/// The same in one piece and by one worker, with all sections.
+/// How a run ends and what it writes, in one piece and by one worker, with all sections.
 fn run_plainly<R: Threads + Wait + Sync>(
     rt: &R,
     alloc: Global,
