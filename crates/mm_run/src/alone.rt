@@ -55,7 +55,7 @@ fn report_rests_alone<'a, A: Allocator + Copy, W: Write>(
     };
     if has_usage(request.choice) {
         match matrix_alone(alloc, citations, &chosen) {
-            Ok(table) => report_usage(request, database, citations, &chosen, &table, to),
+            Ok(matrix) => report_usage(request, database, citations, &chosen, &matrix, to),
             Err(_) => RunEnd::NoMemory,
         }
     } else {

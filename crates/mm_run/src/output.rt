@@ -42,7 +42,8 @@ pub(crate) fn refuse<W: Write>(text: &[u8], fault: Fault, to: &mut W) -> RunEnd
     }
 }
 
-/// Writes the report of what each theorem cites, for a database without a fault. It needs no table.
+/// Writes the report of what each theorem cites, for a database without a fault. It needs no
+/// matrix.
 pub(crate) fn report_citations<'a, A: Allocator + Copy, W: Write>(
     alloc: A,
     request: &Request<'_>,
@@ -71,20 +72,20 @@ pub(crate) fn report_usage<'a, A: Allocator, W: Write>(
     database: &Database<'a, A>,
     citations: &Citations<A>,
     chosen: &Columns<A>,
-    table: &Matrix<A>,
+    matrix: &Matrix<A>,
     to: &mut W,
 ) -> RunEnd
     requires judged { IsJudged request.now.essential request.now.with_open database.now
         citations.now }
     requires chosen { chosen.now ≡ columns database.now.statements request.now.only }
-    requires table { IsMatrix citations.now chosen.now table.now }
+    requires matrix { IsMatrix citations.now chosen.now matrix.now }
     requires choice { request.now.choice ≡ choices.Citations → ⊥ }
     ensures { Answers result database.now.text request.now (W.contents to.old)
         (W.contents to.new) }
 {
     // Only the contract needs the citations.
     let _ = citations;
-    match write_requested_report(to, request, database, chosen, table) {
+    match write_requested_report(to, request, database, chosen, matrix) {
         Ok(()) => RunEnd::Accepted,
         Err(_) => RunEnd::WriteFailed,
     }
@@ -136,7 +137,7 @@ fn report_rests<'a, R: Threads + Sync, A: Allocator + Copy + Send + Sync, W: Wri
     };
     if has_usage(request.choice) {
         match matrix(rt, alloc, citations, &chosen) {
-            Ok(table) => report_usage(request, database, citations, &chosen, &table, to),
+            Ok(matrix) => report_usage(request, database, citations, &chosen, &matrix, to),
             Err(_) => RunEnd::NoMemory,
         }
     } else {

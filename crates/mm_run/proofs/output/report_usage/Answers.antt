@@ -8,9 +8,9 @@ returns-in-Ok g c =
     let request = c.args.request.now in (
       (d.read, c.requires.judged.sound),
       (
-        report_of request d c.args.chosen.now c.args.table.now,
-        rests request d c.args.citations.now c.args.chosen.now c.args.table.now c.requires.judged
-            c.requires.chosen c.requires.table c.requires.choice,
+        report_of request d c.args.chosen.now c.args.matrix.now,
+        rests request d c.args.citations.now c.args.chosen.now c.args.matrix.now c.requires.judged
+            c.requires.chosen c.requires.matrix c.requires.choice,
         c.in-Ok.ensures.ok,
       ),
     )
@@ -20,9 +20,9 @@ returns-in-Err g c =
     let d = c.args.database.now in
     let request = c.args.request.now in
     let cut = c.in-Err.ensures.err in (
-      report_of request d c.args.chosen.now c.args.table.now,
+      report_of request d c.args.chosen.now c.args.matrix.now,
       cut.0,
-      rests request d c.args.citations.now c.args.chosen.now c.args.table.now c.requires.judged
-          c.requires.chosen c.requires.table c.requires.choice,
+      rests request d c.args.citations.now c.args.chosen.now c.args.matrix.now c.requires.judged
+          c.requires.chosen c.requires.matrix c.requires.choice,
       cut.1,
     )
