@@ -22,11 +22,11 @@ pub(crate) fn send_cells<W: Write, A: Allocator>(
     sink: &mut Sink,
     to: &mut W,
     marked: &MarkedRows<A>,
-    i: u32,
+    row: u32,
 )
-    requires { i < marked.now.rows }
+    requires { row < marked.now.rows }
     ensures { Sent (W.contents to.old) (W.contents to.new) sink.old sink.new
-        (cells One (marks_of marked.now i)) }
+        (cells One (marks_of marked.now row)) }
 {
     let mut digits = [b'0'; CELLS];
     let words = marked.columns().div_ceil(64);
@@ -34,7 +34,7 @@ pub(crate) fn send_cells<W: Write, A: Allocator>(
     while word < words {
         let word_count = (words - word).min(WORDS_AT_A_TIME);
         let part = &mut digits[..64 * word_count as usize];
-        marked.write_cells(i, word, part);
+        marked.write_cells(row, word, part);
         // The last word may go on past the last column.
         let cells_left = marked.columns() - 64 * word;
         sink.send(to, &part[..cells_left.min(64 * word_count) as usize]);

@@ -108,8 +108,9 @@ fn send_citation_lines<W: Write, D: Allocator, C: Allocator>(
         (citing_rows database.now.statements (option_copied only.entry) citations.now
         labels.now)) }
 {
-    for i in 0..citations.rows() {
-        send_citation_line(sink, to, database, only, labels.label(i), citations.of(i));
+    for row in 0..citations.rows() {
+        let label = labels.label(row);
+        send_citation_line(sink, to, database, only, label, citations.of(row));
     }
 }
 
