@@ -423,15 +423,15 @@ unrecorded_drawn n i v w u closed w_is i_below_n above kept =
     at-open : (x : ℕ)
         → times_recorded x w
         ≡ cond (i == x) 1 0 + times_in x v.settled + times_in x v.reported + times_in x
-        v.between_after_skip
+        v.skipped
     at-open x = ap (λ (y : View). times_recorded x y) w_is
 
     at-closed : (x : ℕ)
         → times_recorded x v
-        ≡ 0 + times_in x v.settled + times_in x v.reported + times_in x v.between_after_skip
+        ≡ 0 + times_in x v.settled + times_in x v.reported + times_in x v.skipped
     at-closed x =
         ap (λ (o : Option ℕ). times_open x o + times_in x v.settled + times_in x v.reported
-        + times_in x v.between_after_skip) closed
+        + times_in x v.skipped) closed
 
     more : (x : ℕ) → times_recorded x v ≤ times_recorded x u
     more x = let k = kept x in let o = at-open x in let e = at-closed x in omega (arith, k, o, e)
