@@ -139,7 +139,7 @@ module _ {A : Type 0} (job : Job A) where
   -- a seat that has settled and reported the same
   tells_of_same_seat : (w : WorkerState A) (s : SeatValue) → s.view.settled ≡ w.seat.view.settled
       → s.view.reported ≡ w.seat.view.reported → Tells job w
-      → Tells job (record { seat = s; found = w.found })
+      → Tells job (record { seat = s; findings = w.findings })
   tells_of_same_seat w s settled reported tells = record {
     found = tells.found;
     settled = settled ∙ tells.settled;
@@ -149,7 +149,7 @@ module _ {A : Type 0} (job : Job A) where
   -- a worker before its first theorem
   pub between_at_start : (s : SeatValue) (f : Findings A) → IsFreshSeat job.board.now s
       → f.valid.items ≡ []
-      → f.cites ≡ [] → f.faulty ≡ None → IsBetweenTheorems job (record { seat = s; found = f })
+      → f.cites ≡ [] → f.faulty ≡ None → IsBetweenTheorems job (record { seat = s; findings = f })
   between_at_start s f fresh valid cites faulty = record {
     of_board = fresh.of_board;
     closed = fresh.closed;
@@ -167,7 +167,7 @@ module _ {A : Type 0} (job : Job A) where
 
   -- a worker that had no memory to begin
   pub done_at_start : (s : SeatValue) (f : Findings A) → IsFreshSeat job.board.now s
-      → f.short_of_memory ≡ true → IsDone job (record { seat = s; found = f })
+      → f.short_of_memory ≡ true → IsDone job (record { seat = s; findings = f })
   done_at_start s f fresh out = record {
     between =
         record {
@@ -184,7 +184,7 @@ module _ {A : Type 0} (job : Job A) where
       → i < job.board.now.count → IsSeatOf job.board.now s
       → s.view ≡ record w.seat.view { open_number = Some i }
       → ((x : ℕ) → 0 < times_recorded x w.seat.view → x < i)
-      → HasDrawn job i (record { seat = s; found = w.found })
+      → HasDrawn job i (record { seat = s; findings = w.findings })
   drawn_after_claim i w s home is_between_theorems below at view_is above = record {
     theorem = subst (λ n. i < n) home.count below;
     of_board = at;
@@ -216,7 +216,7 @@ module _ {A : Type 0} (job : Job A) where
 
     -- the look skipped the number
     pub between_after_skip : IsSeatOf job.board.now s → is_some s.view.open_number ≡ false
-        → IsBetweenTheorems job (record { seat = s; found = w.found })
+        → IsBetweenTheorems job (record { seat = s; findings = w.findings })
     between_after_skip at none = record {
       of_board = at;
       closed = closed s.view.open_number none;
@@ -240,17 +240,17 @@ module _ {A : Type 0} (job : Job A) where
 
     module _ (u : SeatValue) (x : ℕ) (g : Findings A) (some : is_some s.view.open_number ≡ true)
         (at : IsSeatOf job.board.now u)
-        (short : g.short_of_memory ≡ false → w.found.short_of_memory ≡ false) where
+        (short : g.short_of_memory ≡ false → w.findings.short_of_memory ≡ false) where
       -- the proof is valid, and the number was settled
       pub settled : u.view ≡ after_settle s.view x
-          → (g.short_of_memory ≡ false → FindsValid job i w.found g)
-          → IsBetweenTheorems job (record { seat = u; found = g })
+          → (g.short_of_memory ≡ false → FindsValid job i w.findings g)
+          → IsBetweenTheorems job (record { seat = u; findings = g })
       settled view_is finds = record {
         of_board = at;
         closed = ap (λ (v : View). v.open_number) view_is;
         tells =
             λ e. let t = drawn.tells (short e) in let v = finds e in record {
-              found = findings_after_valid w.found g i t.found drawn.theorem v;
+              found = findings_after_valid w.findings g i t.found drawn.theorem v;
               settled =
                   ap (λ (v : View). v.settled) view_is
                   ∙ ap₂ (λ (l : List ℕ) (o : Option ℕ). l ++ open_list o)
@@ -268,14 +268,14 @@ module _ {A : Type 0} (job : Job A) where
       -- all numbers above one that was reported
       pub reported : u.view ≡ after_report s.view x
           → ((y : ℕ) → 0 < times_in y w.seat.view.reported → f ≤ y)
-          → (g.short_of_memory ≡ false → FindsFault job i w.found g)
-          → IsBetweenTheorems job (record { seat = u; found = g })
+          → (g.short_of_memory ≡ false → FindsFault job i w.findings g)
+          → IsBetweenTheorems job (record { seat = u; findings = g })
       reported view_is own finds = record {
         of_board = at;
         closed = ap (λ (v : View). v.open_number) view_is;
         tells =
             λ e. let t = drawn.tells (short e) in let v = finds e in record {
-              found = findings_after_fault w.found g i t.found drawn.theorem v;
+              found = findings_after_fault w.findings g i t.found drawn.theorem v;
               settled =
                   ap (λ (v : View). v.settled) view_is ∙ same_settled ∙ t.settled ∙ sym v.valid_are;
               reported =
@@ -343,9 +343,9 @@ unrecorded_less (suc n) i v w h i_below_n z p =
 
 module _ {A : Type 0} (job : Job A) where
   -- one worker's seat
-  pub gathered_of_first : (w : WorkerState A) (gs : List (Findings A)) → gs ≡ w.found
+  pub gathered_of_first : (w : WorkerState A) (gs : List (Findings A)) → gs ≡ w.findings
       ∷ [] → IsDone job w
-      → w.found.short_of_memory ≡ false → AreGathered job w.seat gs
+      → w.findings.short_of_memory ≡ false → AreGathered job w.seat gs
   gathered_of_first w gs are is_done short =
       let t = is_done.between.tells short in
       subst (λ (l : List (Findings A)). AreGathered job w.seat l) (sym are) (record {
@@ -353,22 +353,22 @@ module _ {A : Type 0} (job : Job A) where
         closed = is_done.between.closed;
         over = is_done.over short;
         found =
-            All-push (AreFindings job.database.now.statements job.essential) [] w.found
+            All-push (AreFindings job.database.now.statements job.essential) [] w.findings
             (λ k e l. absurd (omega arith)) t.found;
         settled =
             λ i p. (
-              w.found,
+              w.findings,
               (0, omega arith, refl),
-              times_contains i w.found.valid.items
+              times_contains i w.findings.valid.items
                   (subst (λ (l : List ℕ). 0 < times_in i l) t.settled p),
             );
-        reported = λ i p. (w.found, (0, omega arith, refl), t.reported i p);
+        reported = λ i p. (w.findings, (0, omega arith, refl), t.reported i p);
       })
 
   -- one more worker's seat
   pub gathered_more : (s u : SeatValue) (fs gs : List (Findings A)) (w : WorkerState A)
-      → gs ≡ fs ++ w.found ∷ [] → AreGathered job s fs → IsDone job w
-      → w.found.short_of_memory ≡ false
+      → gs ≡ fs ++ w.findings ∷ [] → AreGathered job s fs → IsDone job w
+      → w.findings.short_of_memory ≡ false
       → IsSeatOf job.board.now u → u.view ≡ after_join s.view w.seat.view
       → AreGathered job u gs
   gathered_more s u fs gs w are are_gathered is_done short at view_is =
@@ -379,7 +379,7 @@ module _ {A : Type 0} (job : Job A) where
         over = ap (λ (v : View). v.over) view_is
             ∙ ap (λ (b : Bool). b || w.seat.view.over) are_gathered.over;
         found =
-            All-push (AreFindings job.database.now.statements job.essential) fs w.found
+            All-push (AreFindings job.database.now.statements job.essential) fs w.findings
             are_gathered.found
             t.found;
         settled =
@@ -393,25 +393,26 @@ module _ {A : Type 0} (job : Job A) where
       })
     where
       valid : (i : ℕ) → (0 < times_in i s.view.settled) ⊎ (0 < times_in i w.seat.view.settled)
-          → IsFoundValid (fs ++ w.found ∷ []) i
+          → IsFoundValid (fs ++ w.findings ∷ []) i
       valid i (inl p) =
           let r = are_gathered.settled i p in
-          (r.0, Contains-append_left fs (w.found ∷ []) r.0 r.1, r.2)
+          (r.0, Contains-append_left fs (w.findings ∷ []) r.0 r.1, r.2)
       valid i (inr p) =
           let t = is_done.between.tells short in (
-            w.found,
-            Contains-push fs w.found,
-            times_contains i w.found.valid.items
+            w.findings,
+            Contains-push fs w.findings,
+            times_contains i w.findings.valid.items
                 (subst (λ (l : List ℕ). 0 < times_in i l) t.settled p),
           )
 
       faulty : (i : ℕ) → (0 < times_in i s.view.reported) ⊎ (0 < times_in i w.seat.view.reported)
-          → IsFoundFaulty (fs ++ w.found ∷ []) i
+          → IsFoundFaulty (fs ++ w.findings ∷ []) i
       faulty i (inl p) =
           let r = are_gathered.reported i p in
-          (r.0, Contains-append_left fs (w.found ∷ []) r.0 r.1, r.2)
+          (r.0, Contains-append_left fs (w.findings ∷ []) r.0 r.1, r.2)
       faulty i (inr p) =
-          let t = is_done.between.tells short in (w.found, Contains-push fs w.found, t.reported i p)
+          let t = is_done.between.tells short in
+          (w.findings, Contains-push fs w.findings, t.reported i p)
 
 -- a number drawn and judged
 pub unrecorded_drawn : (n i : ℕ) (v w u : View) → v.open_number ≡ None

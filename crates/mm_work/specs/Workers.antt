@@ -75,14 +75,14 @@ module _ {A : Type 0} where
   -- what the worker found is right, the numbers that its seat has settled are the indices of the
   -- proofs that it found valid, and what the seat has reported is the index of the fault
   pub record Tells (job : Job A) (w : WorkerState A) : Type 0 where
-    pub found : AreFindings job.database.now.statements job.essential w.found
-    pub settled : w.seat.view.settled ≡ w.found.valid.items
+    pub found : AreFindings job.database.now.statements job.essential w.findings
+    pub settled : w.seat.view.settled ≡ w.findings.valid.items
     pub reported : (i : ℕ) → 0 < times_in i w.seat.view.reported
-        → faulty_index w.found.faulty ≡ Some i
+        → faulty_index w.findings.faulty ≡ Some i
 
   -- the same if the worker didn't run out of memory
   abbrev pub TellsUnlessShort : Job A → WorkerState A → Type 0
-  TellsUnlessShort job w = w.found.short_of_memory ≡ false → Tells job w
+  TellsUnlessShort job w = w.findings.short_of_memory ≡ false → Tells job w
 
   -- A worker between two theorems: its seat is one of the job's board and has no number open. What
   -- it found is right, and is what the seat has settled and reported, unless memory ran out.
@@ -103,7 +103,7 @@ module _ {A : Type 0} where
   -- a worker that drew until no number was left, or that ran out of memory
   pub record IsDone (job : Job A) (w : WorkerState A) : Type 0 where
     pub between : IsBetweenTheorems job w
-    pub over : w.found.short_of_memory ≡ false → w.seat.view.over ≡ true
+    pub over : w.findings.short_of_memory ≡ false → w.seat.view.over ≡ true
 
   -- one of the workers found the proof of the theorem with this index valid
   abbrev pub IsFoundValid : List (Findings A) → ℕ → Type 0

@@ -57,8 +57,8 @@ pub fn check_all<'d, R: Threads + Wait + Sync, A: Allocator + Copy + Send + Sync
     // The floor is the least index of a theorem whose proof has a fault, or the count.
     let (floor, _) = board.close(gathered.seat);
     if (floor as usize) < count {
-        return Ok(Judged::Faulty(found_fault(database, essential, &gathered.found, floor)));
+        return Ok(Judged::Faulty(found_fault(database, essential, &gathered.all_findings, floor)));
     }
-    let lists = merge(alloc, database, essential, &gathered.found)?;
+    let lists = merge(alloc, database, essential, &gathered.all_findings)?;
     judged_valid(alloc, database, essential, lists)
 }

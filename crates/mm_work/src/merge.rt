@@ -39,26 +39,27 @@ fn note_lists(positions: &mut [ListPosition], worker: usize, valid: &[u32])
 /// Where the citations of each theorem are.
 fn positions_of<A: Allocator + Copy>(
     alloc: A,
-    found: &[Findings<A>],
+    all_findings: &[Findings<A>],
     count: usize,
 ) -> Result<Vec<ListPosition, A>, AllocError>
-    requires { All (λ f. All (λ i. i < count) f.valid.items) found.now }
+    requires { All (λ f. All (λ i. i < count) f.valid.items) all_findings.now }
     ensures count { IfOk result (λ positions. length positions.items ≡ count) }
     ensures positions { IfOk result
-        (λ positions. (i : ℕ) → IsFoundValid found.now i → HasPosition positions.items found.now i) }
+        (λ positions. (i : ℕ) → IsFoundValid all_findings.now i
+        → HasPosition positions.items all_findings.now i) }
 {
     let mut positions = Vec::new(alloc);
     positions.resize(count, ListPosition { worker: 0, list: 0 })?;
-    for (worker, findings) in found.iter().enumerate() {
+    for (worker, findings) in all_findings.iter().enumerate() {
         note_lists(&mut positions, worker, &findings.valid);
     }
     Ok(positions)
 }
 
 /// How many citations the workers found together.
-fn citation_count<A: Allocator>(found: &[Findings<A>]) -> usize {
+fn citation_count<A: Allocator>(all_findings: &[Findings<A>]) -> usize {
     let mut count = 0usize;
-    for findings in found {
+    for findings in all_findings {
         count = count.saturating_add(findings.cites.item_count());
     }
     count
@@ -69,21 +70,21 @@ pub(crate) fn merge<'d, A: Allocator + Copy>(
     alloc: A,
     database: &Database<'d, A>,
     essential: bool,
-    found: &[Findings<A>],
+    all_findings: &[Findings<A>],
 ) -> Result<Lists<u32, A>, AllocError>
-    requires found { All (AreFindings database.now.statements essential) found.now }
+    requires found { All (AreFindings database.now.statements essential) all_findings.now }
     requires valid { (i : ℕ) → i < length (theorems database.now.statements)
-        → IsFoundValid found.now i }
+        → IsFoundValid all_findings.now i }
     ensures { IfOk result
         (λ lists. AreCitedUpTo database.now.statements essential (theorems database.now.statements)
         (length (theorems database.now.statements)) lists) }
 {
     // Only the contract uses it.
     let _ = essential;
-    let positions = positions_of(alloc, found, database.theorems().len())?;
-    let mut lists = Lists::with_room(alloc, positions.len(), citation_count(found));
+    let positions = positions_of(alloc, all_findings, database.theorems().len())?;
+    let mut lists = Lists::with_room(alloc, positions.len(), citation_count(all_findings));
     for position in &positions {
-        lists.push(found[position.worker].cites.get(position.list))?;
+        lists.push(all_findings[position.worker].cites.get(position.list))?;
     }
     Ok(lists)
 }
@@ -92,17 +93,17 @@ pub(crate) fn merge<'d, A: Allocator + Copy>(
 pub(crate) fn found_fault<'d, A: Allocator>(
     database: &Database<'d, A>,
     essential: bool,
-    found: &[Findings<A>],
+    all_findings: &[Findings<A>],
     index: u32,
 ) -> Fault
-    requires found { All (AreFindings database.now.statements essential) found.now }
-    requires faulty { IsFoundFaulty found.now index }
+    requires found { All (AreFindings database.now.statements essential) all_findings.now }
+    requires faulty { IsFoundFaulty all_findings.now index }
     ensures { HasFault database.now.statements (theorem_of database.now.statements index) result }
 {
     // Only the contract uses these.
     let _ = database;
     let _ = essential;
-    for findings in found {
+    for findings in all_findings {
         if let Some(faulty) = findings.faulty
             && faulty.index == index
         {

@@ -23,7 +23,7 @@ impl<'p, 'j, 'd, A: Allocator> Promise<WorkerState<A>> for &'p Job<'j, 'd, A> {
 #[derive(Drop)]
 pub(crate) struct Gathered<A: Allocator> {
     pub seat: Seat,
-    pub found: Vec<Findings<A>, A>,
+    pub all_findings: Vec<Findings<A>, A>,
 }
 
 /// A seat for one more worker, split off this one. `None` if this one has only its own share.
@@ -39,16 +39,16 @@ fn split_off<A: Allocator>(board: &Board<A>, seat: &mut Seat) -> Option<Seat>
 /// Adds what a worker found to the list. Fails if the worker ran out of memory, or if there is none
 /// for the list.
 fn add_findings<A: Allocator>(
-    all: &mut Vec<Findings<A>, A>,
-    found: Findings<A>,
+    all_findings: &mut Vec<Findings<A>, A>,
+    findings: Findings<A>,
 ) -> Result<(), AllocError>
-    ensures added { OnOk result (all.new.items ≡ all.old.items ++ found ∷ []) }
-    ensures short { OnOk result (found.short_of_memory ≡ false) }
+    ensures added { OnOk result (all_findings.new.items ≡ all_findings.old.items ++ findings ∷ []) }
+    ensures short { OnOk result (findings.short_of_memory ≡ false) }
 {
-    if found.short_of_memory {
+    if findings.short_of_memory {
         return Err(AllocError);
     }
-    all.push(found)?;
+    all_findings.push(findings)?;
     Ok(())
 }
 
@@ -62,20 +62,20 @@ fn join_all<A: Allocator + Copy>(
 ) -> Result<Gathered<A>, AllocError>
     requires first { IsDone job.now first }
     requires others { All (IsDone job.now) others.items }
-    ensures { IfOk result (λ g. AreGathered job.now g.seat g.found.items) }
+    ensures { IfOk result (λ g. AreGathered job.now g.seat g.all_findings.items) }
 {
-    let WorkerState { mut seat, found } = first;
-    let mut all = Vec::new(alloc);
-    add_findings(&mut all, found)?;
+    let WorkerState { mut seat, findings } = first;
+    let mut all_findings = Vec::new(alloc);
+    add_findings(&mut all_findings, findings)?;
     while let Some(other) = others.pop() {
         let WorkerState {
             seat: other_seat,
-            found,
+            findings,
         } = other;
-        add_findings(&mut all, found)?;
+        add_findings(&mut all_findings, findings)?;
         job.board.join(&mut seat, other_seat);
     }
-    Ok(Gathered { seat, found: all })
+    Ok(Gathered { seat, all_findings })
 }
 
 /// Has all theorems checked by `workers` workers. The calling thread is worker 0. Each further
@@ -91,7 +91,7 @@ pub(crate) fn work_all<R: Threads + Wait + Sync, A: Allocator + Copy + Send + Sy
 ) -> Result<Gathered<A>, AllocError>
     requires job { IsOfDatabase job.now }
     requires ready { IsFreshSeat job.now.board.now seat }
-    ensures { IfOk result (λ g. AreGathered job.now g.seat g.found.items) }
+    ensures { IfOk result (λ g. AreGathered job.now g.seat g.all_findings.items) }
 {
     thread::scope(
         thread::scope_env(),
@@ -99,7 +99,7 @@ pub(crate) fn work_all<R: Threads + Wait + Sync, A: Allocator + Copy + Send + Sy
         move |scope| -> Result<Gathered<A>, AllocError>
             requires job { IsOfDatabase job.now }
             requires ready { IsFreshSeat job.now.board.now seat }
-            ensures { IfOk result (λ g. AreGathered job.entry.now g.seat g.found.items) }
+            ensures { IfOk result (λ g. AreGathered job.entry.now g.seat g.all_findings.items) }
         {
             let mut own_seat = seat;
             let mut handles = Vec::with_capacity(alloc, workers as usize)?;

@@ -83,7 +83,7 @@ impl<A: Allocator> Findings<A> {
 #[derive(Drop)]
 pub(crate) struct WorkerState<A: Allocator> {
     pub seat: Seat,
-    pub found: Findings<A>,
+    pub findings: Findings<A>,
 }
 
 /// Checks the proof of the theorem with this index, and adds the result to what the worker found.
@@ -92,27 +92,27 @@ fn check_theorem<A: Allocator + Copy>(
     alloc: A,
     job: &Job<'_, '_, A>,
     checker: &mut Checker<'_, A>,
-    found: &mut Findings<A>,
+    findings: &mut Findings<A>,
     index: u32,
 ) -> bool
     requires index { index < length (theorems job.now.database.now.statements) }
     requires made_for { IsMadeFor job.now.database.now.statements checker.old }
     ensures made_for { IsMadeFor job.now.database.now.statements checker.new }
-    ensures short { found.new.short_of_memory ≡ false → found.old.short_of_memory ≡ false }
-    ensures valid { found.new.short_of_memory ≡ false → result ≡ true
-        → FindsValid job.now index found.old found.new }
-    ensures faulty { found.new.short_of_memory ≡ false → result ≡ false
-        → FindsFault job.now index found.old found.new }
+    ensures short { findings.new.short_of_memory ≡ false → findings.old.short_of_memory ≡ false }
+    ensures valid { findings.new.short_of_memory ≡ false → result ≡ true
+        → FindsValid job.now index findings.old findings.new }
+    ensures faulty { findings.new.short_of_memory ≡ false → result ≡ false
+        → FindsFault job.now index findings.old findings.new }
 {
     let database = job.database;
     let theorem = database.theorems()[index as usize];
     match verify(alloc, database, checker, theorem, job.essential) {
-        Ok(checked) => match found.add_valid(index, checked.cites()) {
+        Ok(checked) => match findings.add_valid(index, checked.cites()) {
             Ok(()) => return true,
-            Err(_) => found.short_of_memory = true,
+            Err(_) => findings.short_of_memory = true,
         },
-        Err(VerifyRefused::Fault(fault)) => found.faulty = Some(IndexedFault { index, fault }),
-        Err(VerifyRefused::Memory) => found.short_of_memory = true,
+        Err(VerifyRefused::Fault(fault)) => findings.faulty = Some(IndexedFault { index, fault }),
+        Err(VerifyRefused::Memory) => findings.short_of_memory = true,
     }
     false
 }
@@ -139,7 +139,7 @@ fn settle_drawn<A: Allocator + Copy>(
     if state.seat.held().is_none() {
         return;
     }
-    if check_theorem(alloc, job, checker, &mut state.found, index) {
+    if check_theorem(alloc, job, checker, &mut state.findings, index) {
         board.settle(&mut state.seat, index);
     } else {
         board.report(&mut state.seat, index);
@@ -160,10 +160,10 @@ pub(crate) fn work<A: Allocator + Copy, G: Gate>(
 {
     let mut state = WorkerState {
         seat,
-        found: Findings::new(alloc, job.database.theorems().len(), job.room),
+        findings: Findings::new(alloc, job.database.theorems().len(), job.room),
     };
     let Ok(mut checker) = Checker::new(alloc, job.database, job.rules) else {
-        state.found.short_of_memory = true;
+        state.findings.short_of_memory = true;
         return state;
     };
     let board = job.board;

@@ -35,7 +35,7 @@ found_fault-requires-clause-faulty g c =
     let l = c.if-floor-count.true in omega (arith, l, count) in
     subst (λ (fs : List (Findings _)). IsFoundFaulty fs c.close-floor.result.0)
     (sym c.deref.ensures.value)
-    (faulty_at _ c.in_ok-gathered.gathered.seat c.in_ok-gathered.gathered.found.items
+    (faulty_at _ c.in_ok-gathered.gathered.seat c.in_ok-gathered.gathered.all_findings.items
     c.in_ok-gathered.ensures c.close-floor.result.0 (c.close-floor.ensures.whole all).0 within)
 
 pub returns-then-floor-count : goal.returns-then-floor-count
@@ -50,7 +50,7 @@ returns-then-floor-count g c =
     first_fault db c.theorems-count.ensures.few c.theorems-count.ensures.complete
     c.close-floor.result.0
     c.found_fault.result
-    (valid_below _ c.in_ok-gathered.gathered.seat c.in_ok-gathered.gathered.found.items h
+    (valid_below _ c.in_ok-gathered.gathered.seat c.in_ok-gathered.gathered.all_findings.items h
     c.close-floor.result.0 (c.close-floor.ensures.finished all h.over h.closed))
     (omega (arith, same, l)) c.found_fault.ensures
 

@@ -46,7 +46,7 @@ other_index found fault index is other e =
 
 pub loop-findings-preserved : goal.loop-findings-preserved
 loop-findings-preserved g c =
-    none_more c.args.found.now c.loop-findings.findings-index c.args.index
+    none_more c.args.all_findings.now c.loop-findings.findings-index c.args.index
     c.findings-item.result c.findings-item.is
     c.loop-findings-test.true
     (elim c.in_default.branch [

@@ -5,4 +5,4 @@ use Rattle.mm_work.proofs.merge.found_fault.Given as goal
 
 abbrev pub invariant-loop-findings : goal.invariant-loop-findings
 invariant-loop-findings g l =
-    AllWithin (λ f. faulty_index f.faulty ≡ Some l.index → ⊥) l.found 0 l.findings-index
+    AllWithin (λ f. faulty_index f.faulty ≡ Some l.index → ⊥) l.all_findings 0 l.findings-index

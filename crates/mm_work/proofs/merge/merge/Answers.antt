@@ -7,8 +7,8 @@ use Rattle.mm_work.proofs.PositionsLaw.{list_cited}
 use Rattle.mm_work.proofs.VerifyLaw.{cited_more}
 use Rattle.mm_work.proofs.merge.merge.Goals as goal
 
-pub offset_bounds-found-position : goal.offset_bounds-found-position
-offset_bounds-found-position g c =
+pub offset_bounds-all_findings-position : goal.offset_bounds-all_findings-position
+offset_bounds-all_findings-position g c =
     let db = c.args.database.now.statements in
     let k = c.loop-position.position-index in
     let same = c.deref-position-items.ensures.value in
@@ -17,12 +17,12 @@ offset_bounds-found-position g c =
     let n = c.in_ok-positions.ensures.count in
     let t = ap (λ (ts : List ℕ). length ts) c.theorems.ensures.theorems in
     omega (arith, l, e, n, t) in
-    at_most_of_less (worker_within db c.args.essential c.args.found.now c.requires.found
+    at_most_of_less (worker_within db c.args.essential c.args.all_findings.now c.requires.found
     c.in_ok-positions.positions.items c.deref-position-items.result.now k _ same
     (c.in_ok-positions.ensures.positions k (c.requires.valid k within)))
 
-pub bounds-found-position : goal.bounds-found-position
-bounds-found-position g c =
+pub bounds-all_findings-position : goal.bounds-all_findings-position
+bounds-all_findings-position g c =
     let db = c.args.database.now.statements in
     let k = c.loop-position.position-index in
     let same = c.deref-position-items.ensures.value in
@@ -31,7 +31,7 @@ bounds-found-position g c =
     let n = c.in_ok-positions.ensures.count in
     let t = ap (λ (ts : List ℕ). length ts) c.theorems.ensures.theorems in
     omega (arith, l, e, n, t) in
-    worker_within db c.args.essential c.args.found.now c.requires.found
+    worker_within db c.args.essential c.args.all_findings.now c.requires.found
     c.in_ok-positions.positions.items
     c.deref-position-items.result.now k _ same
     (c.in_ok-positions.ensures.positions k (c.requires.valid k within))
@@ -39,7 +39,7 @@ bounds-found-position g c =
 pub get-requires : goal.get-requires
 get-requires g c =
     let db = c.args.database.now.statements in
-    let fs = c.args.found.now in
+    let fs = c.args.all_findings.now in
     let k = c.loop-position.position-index in
     let same = c.deref-position-items.ensures.value in
     let within : k < length (theorems db) =
@@ -51,12 +51,12 @@ get-requires g c =
     list_within db c.args.essential fs c.requires.found c.in_ok-positions.positions.items
     c.deref-position-items.result.now k _ same h _
     (found_there db c.args.essential fs c.requires.found c.in_ok-positions.positions.items
-    c.deref-position-items.result.now k _ same h c.index-found-position.result)
+    c.deref-position-items.result.now k _ same h c.index-all_findings-position.result)
 
 pub loop-position-preserved : goal.loop-position-preserved
 loop-position-preserved g c =
     let db = c.args.database.now.statements in
-    let fs = c.args.found.now in
+    let fs = c.args.all_findings.now in
     let k = c.loop-position.position-index in
     let same = c.deref-position-items.ensures.value in
     let within : k < length (theorems db) =
@@ -67,7 +67,7 @@ loop-position-preserved g c =
     let h = c.in_ok-positions.ensures.positions k (c.requires.valid k within) in
     let there =
     found_there db c.args.essential fs c.requires.found c.in_ok-positions.positions.items
-    c.deref-position-items.result.now k _ same h c.index-found-position.result in
+    c.deref-position-items.result.now k _ same h c.index-all_findings-position.result in
     rw c.in_ok-push.ensures.ok
     (cited_more db c.args.essential
     (theorems db) k c.loop-position.lists c.get.result.now c.loop-position.invariant
@@ -89,7 +89,8 @@ returns g c =
 
 pub positions_of-requires : goal.positions_of-requires
 positions_of-requires g c = λ k d l.
-    subst (λ (ts : List ℕ). All (λ i. i < length ts) (get_or c.args.found.now k d).valid.items)
+    subst (λ (ts : List ℕ). All (λ i. i < length ts)
+    (get_or c.args.all_findings.now k d).valid.items)
     (sym c.theorems.ensures.theorems) (c.requires.found k d l).known
 
 pub loop-position-init : goal.loop-position-init

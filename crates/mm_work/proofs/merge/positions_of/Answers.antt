@@ -10,18 +10,19 @@ use Rattle.mm_work.proofs.merge.positions_of.Goals as goal
 
 pub loop-worker-preserved : goal.loop-worker-preserved
 loop-worker-preserved g c =
-    let fs = c.args.found.now in
+    let fs = c.args.all_findings.now in
     let w = c.loop-worker.worker in
     let old = c.loop-worker.positions.items in
     let new = c.note_lists.new.positions in
-    let one = c.index-found-worker.result in
+    let one = c.index-all_findings-worker.result in
     let long : length new ≡ length old =
     c.note_lists.ensures.count
     ∙ ap (λ (ps : List ListPosition). length ps) c.deref_mut.ensures.value in
     let same = written_back c.loop-worker.positions.len new old (long
     ∙ sym c.loop-worker.positions.ok.0) in
     let is =
-    slice_get_read fs (length fs) w one refl c.loop-worker-test.true c.index-found-worker.is in
+    slice_get_read fs (length fs) w one refl c.loop-worker-test.true
+    c.index-all_findings-worker.is in
     record {
       count = ap (λ (ps : List ListPosition). length ps) same ∙ long
           ∙ c.loop-worker.invariant.count;
@@ -45,5 +46,5 @@ pub returns-clause-positions : goal.returns-clause-positions
 returns-clause-positions g c =
     let end = c.loop-worker.auto.worker-end in
     let past = c.loop-worker-test.false in
-    has_position_all c.args.found.now c.loop-worker.positions.items
+    has_position_all c.args.all_findings.now c.loop-worker.positions.items
     (λ v f i l e m. c.loop-worker.invariant.has v f i (omega (arith, l, end, past)) e m)

@@ -7,9 +7,10 @@ use Rattle.mm_work.proofs.threads.join_all.Goals as goal
 pub loop-other-init : goal.loop-other-init
 loop-other-init g c = record {
   gathered =
-      gathered_of_first c.args.job.now c.args.first c.add_findings.new.all.items
+      gathered_of_first c.args.job.now c.args.first c.add_findings.new.all_findings.items
       (c.in_ok-add_findings.ensures.added
-      ∙ ap (λ (fs : List (Findings _)). fs ++ c.args.first.found ∷ []) c.new-all.ensures.items)
+      ∙ ap (λ (fs : List (Findings _)). fs ++ c.args.first.findings
+      ∷ []) c.new-all_findings.ensures.items)
       c.requires.first c.in_ok-add_findings.ensures.short;
   others = c.requires.others;
 }
@@ -27,8 +28,9 @@ join-requires-clause-closed g c =
 pub loop-other-preserved : goal.loop-other-preserved
 loop-other-preserved g c = record {
   gathered =
-      gathered_more c.args.job.now c.loop-other.seat c.join.new.seat c.loop-other.all.items
-      c.add_findings-in-Some.new.all.items c.in-Some.other c.in_ok-add_findings-2.ensures.added
+      gathered_more c.args.job.now c.loop-other.seat c.join.new.seat c.loop-other.all_findings.items
+      c.add_findings-in-Some.new.all_findings.items c.in-Some.other
+      c.in_ok-add_findings-2.ensures.added
       c.loop-other.invariant.gathered
       (All_last (IsDone c.args.job.now) c.loop-other.others.items c.pop.new.self.items
       c.in-Some.other c.in-Some.ensures.items c.loop-other.invariant.others)

@@ -31,7 +31,7 @@ returns-in-Ok-add_valid-clause-valid g c = λ short valid. record {
   valid_are = c.in-Ok-add_valid.ensures.valid;
   cites_are =
       c.in-Ok-add_valid.ensures.cites
-      ∙ ap (λ (l : List ℕ). c.args.found.now.cites ++ l ∷ []) c.cites.ensures;
+      ∙ ap (λ (l : List ℕ). c.args.findings.now.cites ++ l ∷ []) c.cites.ensures;
   faulty_is = c.in-Ok-add_valid.ensures.faulty;
 }
 

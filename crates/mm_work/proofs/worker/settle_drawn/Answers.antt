@@ -32,7 +32,7 @@ pub returns-then-check_theorem-clause-between : goal.returns-then-check_theorem-
 returns-then-check_theorem-clause-between g c =
     settled c.args.job.now c.args.index c.args.state.now c.requires.drawn c.look.new.seat
     c.look.result c.look.ensures.event.1 c.settle.new.seat c.settle.ensures.event.0
-    c.check_theorem.new.found
+    c.check_theorem.new.findings
     (ap (λ (o : Option ℕ). is_some o) (sym c.held.ensures) ∙ c.is_none.ensures
     ∙ ap (λ (b : Bool). not b) c.if-is_none.false)
     c.settle.ensures.home c.check_theorem.ensures.short c.settle.ensures.event.2
@@ -52,7 +52,7 @@ pub returns-else-check_theorem-clause-between : goal.returns-else-check_theorem-
 returns-else-check_theorem-clause-between g c =
     reported c.args.job.now c.args.index c.args.state.now c.requires.drawn c.look.new.seat
     c.look.result c.look.ensures.event.1 c.report.new.seat c.report.ensures.event.0
-    c.check_theorem.new.found
+    c.check_theorem.new.findings
     (ap (λ (o : Option ℕ). is_some o) (sym c.held.ensures) ∙ c.is_none.ensures
     ∙ ap (λ (b : Bool). not b) c.if-is_none.false)
     c.report.ensures.home c.check_theorem.ensures.short c.report.ensures.event.2
