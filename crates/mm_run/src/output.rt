@@ -83,7 +83,7 @@ pub(crate) fn report_usage<'a, A: Allocator, W: Write>(
     ensures { Answers result database.now.text request.now (W.contents to.old)
         (W.contents to.new) }
 {
-    // Only the contract needs the citations.
+    // Only the contract uses the citations: the matrix is theirs.
     let _ = citations;
     match write_requested_report(to, request, database, chosen, matrix) {
         Ok(()) => RunEnd::Accepted,
@@ -109,7 +109,7 @@ pub(crate) fn report_rows<'a, A: Allocator, W: Write>(
     ensures { Answers result database.now.text request.now (W.contents to.old)
         (W.contents to.new) }
 {
-    // Only the contract needs the citations.
+    // Only the contract uses the citations: the marked rows are theirs.
     let _ = citations;
     match write_rows(to, request, database, chosen, marked) {
         Ok(()) => RunEnd::Accepted,

@@ -26,9 +26,9 @@ pub(crate) fn judged_valid<'a, A: Allocator + Copy>(
         (length (theorems database.now.statements)) lists }
     ensures { IfOk result (λ judged. IsJudgement database.now.statements essential judged) }
 {
-    // The proof needs the clauses of `len`.
+    // The number isn't needed, but the proof needs what `len` promises of the database.
     let _ = database.len();
-    // Only the contract uses it.
+    // Only the contract uses `essential`: it says by which nodes the lists were found.
     let _ = essential;
     let theorems = database.theorems().to_vec(alloc)?;
     Ok(Judged::Valid(Citations::new(theorems, lists)))
@@ -44,7 +44,7 @@ pub(crate) fn check_in_order<'a, A: Allocator + Copy>(
     requires { AreRules database.now.statements rules.now }
     ensures { IfOk result (λ judged. IsJudgement database.now.statements essential judged) }
 {
-    // The proof needs the clauses of `len`.
+    // The number isn't needed, but the proof needs what `len` promises of the database.
     let _ = database.len();
     let mut checker = Checker::new(alloc, database, rules)?;
     let mut lists = Lists::with_room(alloc, database.theorems().len(), citations_room(database));

@@ -79,7 +79,7 @@ pub(crate) fn merge<'d, A: Allocator + Copy>(
         (λ lists. AreCitedUpTo database.now.statements essential (theorems database.now.statements)
         (length (theorems database.now.statements)) lists) }
 {
-    // Only the contract uses it.
+    // Only the contract uses `essential`: it says by which nodes the citations were found.
     let _ = essential;
     let positions = positions_of(alloc, all_findings, database.theorems().len())?;
     let mut lists = Lists::with_room(alloc, positions.len(), citation_count(all_findings));
@@ -100,7 +100,7 @@ pub(crate) fn found_fault<'d, A: Allocator>(
     requires faulty { IsFoundFaulty all_findings.now index }
     ensures { HasFault database.now.statements (theorem_of database.now.statements index) result }
 {
-    // Only the contract uses these.
+    // Only the contract uses these two: they say what the findings are about.
     let _ = database;
     let _ = essential;
     for findings in all_findings {

@@ -24,13 +24,13 @@ use Rattle.mm_library.proofs.ghost_bytes.GhostBytes.add.Code as code
 abbrev slice : Slot 2
 slice = SliceRefOf (1 ∷ []) tt (plain (λ _. u8)) (λ _. tt)
 
-abbrev stayed : Stays f.writing_ends.signature.params f.writing_ends.kept
+abbrev stayed : Stays f.ended.signature.params f.ended.kept
 stayed = (stay_ref (0 ∷ []) tt (plain (λ _. R)), (stay_dropped slice yes, tt))
 
 pub add_spec : {M : Type 1} → statement M
 add_spec 𝓤 𝓛 𝓜 𝓡 wired =
-    let c = f.clauses 𝓛 𝓜.mem 𝓡.returns in let W = walk_of 𝓛 f.writing_ends stayed c in
-    proved 𝓛 f.writing_ends stayed c 𝓜 𝓡
+    let c = f.clauses 𝓛 𝓜.mem 𝓡.returns in let W = walk_of 𝓛 f.ended stayed c in
+    proved 𝓛 f.ended stayed c 𝓜 𝓡
     (Goes-ref 𝓛 2 0 tt (plain (λ _. R)), (Goes-dropped 𝓛 2 slice yes (λ κs x w. refl), tt))
     f.Key.name code.function (code.unfolded 𝓤 𝓛.H 𝓜 𝓡 wired)
     (λ κs. (mut_vals, (shr_slice_vals, tt)))
@@ -52,7 +52,7 @@ add_spec 𝓤 𝓛 𝓜 𝓡 wired =
     -- [two parts of self; its token; self's first part; the other tokens]
     sets ! (of_opd ! (unit_lit !)) refl (tt, tt) $
     returns ! (look_at ! 0 refl) $ free_all ! refl $ move ! (3 ∷ []) $
-    suffices ! _ (ends_at 𝓛 f.writing_ends stayed c y vunit tt (h', (tt, tt)) (tt, (tt, tt))) $
+    suffices ! _ (ends_at 𝓛 f.ended stayed c y vunit tt (h', (tt, tt)) (tt, (tt, tt))) $
     says ! refl $
     group ! 3 $ nothing ! $ nothing ! $ join ! $ move ! (1 ∷ 0 ∷ []) $ join ! $
     move ! (1 ∷ 2 ∷ []) $ join ! $ frame ! $ frame ! $
