@@ -1,6 +1,6 @@
 -- The report that is written is that of the database.
 use Rattle.std.proofs.Common.{◌≡◌, ◌∙◌, ℕ, List, Option, [], ap, ap₂, sym, length, map, ◌++◌}
-use Rattle.std.proofs.Common.{append_assoc, append-nil, Bool}
+use Rattle.std.proofs.Common.{append_assoc, append-nil}
 use Rattle.std.specs.Prelude.{slice_index_or}
 use Rattle.std.proofs.lemmas.List.{length-map}
 use Rattle.std.proofs.lemmas.List.FromFn.{length-map-range_with_len}

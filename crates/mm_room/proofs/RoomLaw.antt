@@ -59,7 +59,8 @@ module _ {M : Type 1} {𝓤 : Ura M} {𝓛 : Logic 𝓤} {K : Type 0} {Γ : List
         → (v ≡ live 0 vnil → Seq K 𝓛 Γ G)
         → Seq K 𝓛 (‵ (Taken.own_val x (v ∷ [])) ∷ Γ) G
     taken t n s None v told some none =
-        fpick t (λ us. fsplit t $ feq_l t (λ is. fpick t (λ vss. fsplit t $ feq_l t (λ same. drop t $
+        fpick t (λ us. fsplit t $
+        feq_l t (λ is. fpick t (λ vss. fsplit t $ feq_l t (λ same. drop t $
         none (ap only is ∙ ap (λ (ws : List Val). live 0 (of_list ws)) same)))))
     taken t n s (Some m) v told some none =
         fpick t (λ us. fsplit t $

@@ -1,10 +1,10 @@
-use Rattle.std.proofs.Common.{◌≡◌, ◌∙◌, ◌+◌, ap, Bool, true, false, List, ℕ, [], ◌∷◌, ◌-◌, length}
+use Rattle.std.proofs.Common.{◌≡◌, ◌∙◌, ◌+◌, ap, List, ℕ, [], ◌∷◌, ◌-◌, length}
 use Rattle.std.proofs.Common.{rules, subst, sym, arith}
 use Rattle.std.proofs.lemmas.List.{length-append}
 use Rattle.mm_spec.specs.Output.{IsOutput}
 use Rattle.mm_spec.specs.Request.{Request}
 use Rattle.mm_run.specs.Counted.{IsJudgedText}
-use Rattle.mm_library.specs.Calls.{WritingEnds, citing, requests_of, lengths_of}
+use Rattle.mm_library.specs.Calls.{WritingEnds, citing}
 use Rattle.mm_library.specs.declared.status.Status.{Status}
 use Rattle.mm_library.proofs.CallLaw.{writing_ends, one_output, two_outputs}
 use Rattle.mm_library.proofs.report.write_outputs.Goals as goal
