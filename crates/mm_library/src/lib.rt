@@ -97,9 +97,9 @@ pub extern "C" fn mmdepend_report_and_citations(
         (report_len.new ∷ citations_len.new ∷ []) out.new }
 {
     let request = request(only, has_only, choice, form, essential, with_open);
-    let (status, report, citations) = outputs_if_asked(room, text, request, true, out);
-    *report_len = report;
-    *citations_len = citations;
+    let (status, first_len, second_len) = outputs_if_asked(room, text, request, true, out);
+    *report_len = first_len;
+    *citations_len = second_len;
     status.number()
 }
 
