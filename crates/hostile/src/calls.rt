@@ -55,7 +55,7 @@ pub(crate) fn checked<A: Allocator + Copy>(
     check(alloc, database, theorem, steps, false)
 }
 
-/// The same, by a checker that is given.
+/// What a theorem cites, or why its proof wasn't found valid, by this checker.
 pub(crate) fn checked_by<A: Allocator + Copy>(
     checker: &mut Checker<'_, A>,
     alloc: A,

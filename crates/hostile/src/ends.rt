@@ -7,7 +7,7 @@ use std::io::{self, ErrorKind, Read, Write};
 /// A reader that returns at most ten bytes a call. One of its calls fails; those after it return
 /// bytes again.
 #[derive(Drop)]
-pub(crate) struct Failing<'t> {
+pub(crate) struct FailingReader<'t> {
     pub text: &'t [u8],
     /// Which call fails: 1 for the first one, 0 for none.
     pub fails_at: usize,
@@ -15,7 +15,7 @@ pub(crate) struct Failing<'t> {
     pub calls: usize,
 }
 
-impl Read for Failing<'_> {
+impl Read for FailingReader<'_> {
     fn read(&mut self, into: &mut [u8]) -> io::Result<usize> {
         self.calls = self.calls.saturating_add(1);
         if self.calls == self.fails_at {
@@ -38,14 +38,15 @@ pub(crate) enum Stop {
 /// A writer that takes one byte a call. After a given number of bytes one call takes none; those
 /// after it take bytes again.
 #[derive(Drop)]
-pub(crate) struct Stopping {
+pub(crate) struct StoppingWriter {
     pub taken: Vec<u8>,
+    /// After how many bytes a call takes none.
     pub room: usize,
     pub stop: Stop,
     pub calls: usize,
 }
 
-impl Write for Stopping {
+impl Write for StoppingWriter {
     fn write(&mut self, bytes: &[u8]) -> io::Result<usize> {
         let before = self.calls;
         self.calls = self.calls.saturating_add(1);
@@ -72,36 +73,39 @@ impl Write for Stopping {
 /// A writer that keeps what it takes, and the count of an allocator at its first call and at its
 /// last.
 #[derive(Drop)]
-pub(crate) struct Noting<'h> {
+pub(crate) struct GrowthWatching<'h> {
     heap: &'h Refusing<Global>,
     pub taken: Vec<u8>,
     pub calls: usize,
-    first: u64,
-    last: u64,
+    /// The count at the first call.
+    first_count: u64,
+    /// The count at the last call.
+    last_count: u64,
 }
 
-impl<'h> Noting<'h> {
-    pub(crate) fn new(alloc: Global, heap: &'h Refusing<Global>) -> Noting<'h> {
-        Noting {
+impl<'h> GrowthWatching<'h> {
+    /// A writer that has taken nothing yet.
+    pub(crate) fn new(alloc: Global, heap: &'h Refusing<Global>) -> GrowthWatching<'h> {
+        GrowthWatching {
             heap,
             taken: Vec::new(alloc),
             calls: 0,
-            first: 0,
-            last: 0,
+            first_count: 0,
+            last_count: 0,
         }
     }
 
     /// Whether no memory was requested between the first write and the last.
     pub(crate) fn no_growth_between(&self) -> bool {
-        self.first == self.last
+        self.first_count == self.last_count
     }
 }
 
-impl Write for Noting<'_> {
+impl Write for GrowthWatching<'_> {
     fn write(&mut self, bytes: &[u8]) -> io::Result<usize> {
-        self.last = self.heap.count();
+        self.last_count = self.heap.count();
         if self.calls == 0 {
-            self.first = self.last;
+            self.first_count = self.last_count;
         }
         self.calls = self.calls.saturating_add(1);
         match self.taken.extend_from_slice(bytes) {

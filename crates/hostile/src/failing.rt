@@ -1,7 +1,7 @@
 //! Runs whose reader fails or returns few bytes, and runs whose writer fails or takes few bytes.
 
 use crate::calls::{ended, plan_of};
-use crate::ends::{Failing, Stop, Stopping};
+use crate::ends::{FailingReader, Stop, StoppingWriter};
 use crate::texts::{FIRST_REPORT, FIRST_TEXT};
 use mm_plan::Cutting;
 use mm_run::RunEnd;
@@ -11,10 +11,10 @@ use std::io::ErrorKind;
 use std::sync::Wait;
 use std::thread::Threads;
 
-/// A text with a fault, and its refusal.
-const OPEN: &[u8] = b"$c a";
+/// A text whose statement isn't ended, and its refusal.
+const UNENDED: &[u8] = b"$c a";
 
-const OPEN_REFUSAL: &[u8] = b"refused 1:5 E08\n";
+const UNENDED_REFUSAL: &[u8] = b"refused 1:5 E08\n";
 
 /// How many calls it takes to read the first text to its end.
 const READS: usize = 18;
@@ -30,7 +30,7 @@ fn reads<R: Threads + Wait + Sync>(
 ) -> bool {
     let plan = plan_of(Cutting::Count(3), 2, Choice::All);
     let mut written = Vec::new(alloc);
-    let mut from = Failing {
+    let mut from = FailingReader {
         text: FIRST_TEXT,
         fails_at,
         kind,
@@ -69,7 +69,7 @@ fn writes<R: Threads + Wait + Sync>(
     want: (RunEnd, &[u8], usize),
 ) -> bool {
     let plan = plan_of(Cutting::Count(3), 2, Choice::All);
-    let mut to = Stopping {
+    let mut to = StoppingWriter {
         taken: Vec::new(alloc),
         room,
         stop,
@@ -91,9 +91,9 @@ fn a_write_that_fails_is_not_tried_again(rt: HostRuntime) {
             let want = (RunEnd::WriteFailed, &FIRST_REPORT[..room], room + 1);
             assert!(&rt; writes(&rt, rt.alloc(), FIRST_TEXT, room, stop, want));
         }
-        for room in 0..OPEN_REFUSAL.len() {
-            let want = (RunEnd::WriteFailed, &OPEN_REFUSAL[..room], room + 1);
-            assert!(&rt; writes(&rt, rt.alloc(), OPEN, room, stop, want));
+        for room in 0..UNENDED_REFUSAL.len() {
+            let want = (RunEnd::WriteFailed, &UNENDED_REFUSAL[..room], room + 1);
+            assert!(&rt; writes(&rt, rt.alloc(), UNENDED, room, stop, want));
         }
     }
 }

@@ -3,8 +3,9 @@
 use std::alloc::{AllocError, Allocator};
 use std::sync::atomic::{AtomicU64, Ordering};
 
-/// How many growths are left if none is to be refused: more than any test has.
-const MANY: u64 = 0x4000_0000_0000_0000;
+/// How many growths there are up to the refused one if none is to be refused: more than any test
+/// has.
+const NONE_REFUSED: u64 = 0x4000_0000_0000_0000;
 
 /// An allocator that passes each call on to another one, except for one growth of memory, which it
 /// refuses. A call gets a `&` to it, and so do the call's threads: a growth of any of them counts.
@@ -12,7 +13,7 @@ pub struct Refusing<B: Allocator> {
     inner: B,
     /// How many growths there are up to the refused one. After that it goes below 0, and so wraps
     /// to the greatest number.
-    left: AtomicU64,
+    growths_left: AtomicU64,
 }
 
 impl<B: Allocator> Refusing<B> {
@@ -20,48 +21,51 @@ impl<B: Allocator> Refusing<B> {
     pub(crate) fn new(inner: B) -> Refusing<B> {
         Refusing {
             inner,
-            left: AtomicU64::new(MANY),
+            growths_left: AtomicU64::new(NONE_REFUSED),
         }
     }
 
     /// From here on refuses only the growth of this number; the next one is number 1.
     pub(crate) fn refuse(&self, number: u64) {
-        self.left.store(number, Ordering::SeqCst);
+        self.growths_left.store(number, Ordering::SeqCst);
     }
 
     /// Refuses no growth from here on.
     pub(crate) fn refuse_none(&self) {
-        self.left.store(MANY, Ordering::SeqCst);
+        self.growths_left.store(NONE_REFUSED, Ordering::SeqCst);
     }
 
     /// A number that each growth changes, and that nothing else changes.
     pub(crate) fn count(&self) -> u64 {
-        self.left.load(Ordering::SeqCst)
+        self.growths_left.load(Ordering::SeqCst)
     }
 
     /// Whether the growth that was to be refused came, and was refused.
     pub(crate) fn has_refused(&self) -> bool {
-        let left = self.count();
-        left == 0 || left > MANY
+        let growths_left = self.count();
+        growths_left == 0 || growths_left > NONE_REFUSED
     }
 }
 
 impl<B: Allocator> Drop for Refusing<B> {
     fn drop(self) {
-        let Self { inner: _, left: _ } = self;
+        let Self {
+            inner: _,
+            growths_left: _,
+        } = self;
     }
 }
 
 /// Counts a growth, and returns whether it is the one to refuse.
-fn tick(left: &AtomicU64) -> bool {
-    left.fetch_sub(1, Ordering::SeqCst) == 1
+fn count_growth(growths_left: &AtomicU64) -> bool {
+    growths_left.fetch_sub(1, Ordering::SeqCst) == 1
 }
 
 unsafe impl<B: Allocator> Allocator for Refusing<B> {
     ghost dealloc_token = { λ heap ty ptr. B.dealloc_token heap.inner ty ptr };
 
     fn allocate(&self, size: usize, align: usize) -> Result<*mut u8, AllocError> {
-        if tick(&self.left) {
+        if count_growth(&self.growths_left) {
             return Err(AllocError);
         }
         self.inner.allocate(size, align)

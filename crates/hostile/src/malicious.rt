@@ -28,6 +28,7 @@ fn run_on<R: Threads + Wait + Sync>(
     (end, written)
 }
 
+/// The end of a run on a text with this fault at this place.
 fn refused(at: usize, code: Code) -> RunEnd {
     RunEnd::Refused(Fault {
         at: at.min(1000) as u32,

@@ -8,7 +8,7 @@ pub(crate) const FIRST_TEXT: &[u8] =
 pub(crate) const FIRST_REPORT: &[u8] =
     b"mmdepend 1\naxioms 2\ntheorems 1\nmatrix\nwi2:10\ncounts\nwi2:1\nusage\nwi:1:wi2\nax-1:0:\nend\n";
 
-/// Its beginning, up to the first axiom: 118 bytes.
+/// The beginning of the first text, up to its first axiom: 118 bytes.
 pub(crate) const BASE: &[u8] =
     b"$c wff |- ( -> ) $.\n$v p q $.\nwp $f wff p $.\nwq $f wff q $.\nwi $a wff ( p -> q ) $.\nax-1 $a |- ( p -> ( q -> p ) ) $.\n";
 
@@ -34,7 +34,7 @@ pub(crate) const NOT_DISJOINT: &[u8] =
 
 pub(crate) const NOT_DISJOINT_REFUSAL: &[u8] = b"refused 8:31 E36\n";
 
-/// The same with a `$d` for them.
+/// That text with a `$d` for the two, so that the proof is valid.
 pub(crate) const DISJOINT: &[u8] =
     b"$c wff |- ( -> ) $.\n$v p q $.\nwp $f wff p $.\nwq $f wff q $.\nwi $a wff ( p -> q ) $.\nax-1 $a |- ( p -> ( q -> p ) ) $.\n${ $d p q $. ax-d $a |- ( p -> q ) $. $}\n${ $d p q $. good $p |- ( p -> q ) $= wp wq ax-d $. $}\n";
 

@@ -11,7 +11,7 @@ use Rattle.mm_board.specs.declared.views.View.{View}
 use Rattle.mm_board.specs.Records.{times_in, times_open, times_recorded, open_count, record_length}
 use Rattle.mm_board.specs.Rule.{total, times_reported, times_skipped, settled_count, over_share}
 use Rattle.mm_board.specs.Rule.{IsCountOrReported, SeatRule, BoardRule}
-use Rattle.mm_board.specs.Events.{after_split, new_seat_view, KeepsTheRest, after_join}
+use Rattle.mm_board.specs.Events.{after_split, new_seat_view, SplitKeepsRule, after_join}
 use Rattle.mm_board.specs.Events.{spent_view}
 use Rattle.mm_board.specs.Table.{MeetsRule}
 use Rattle.mm_board.proofs.SumsLaw.{total_set, total_snoc, times_in_append}
@@ -27,111 +27,116 @@ record Regroups (n c f : ℕ) (views after : List View) : Type 0 where
   over : total over_share views ≤ total over_share after
   seats : (seat : ℕ) (v : View) → get_elem? after seat ≡ some v → SeatRule n views c f v
 
-module _ (n c f d : ℕ) (views after : List View) (r : BoardRule n c f d views)
-    (m : Regroups n c f views after) where
-  still : (x : ℕ) → IsCountOrReported n views x → IsCountOrReported n after x
-  still x (inl e) = inl e
-  still x (inr p) = inr (let k = m.reported x in omega arith)
+module _ (n c f d : ℕ) (views after : List View) (rule : BoardRule n c f d views)
+    (regroups : Regroups n c f views after) where
+  still_count_or_reported : (x : ℕ) → IsCountOrReported n views x → IsCountOrReported n after x
+  still_count_or_reported x (inl e) = inl e
+  still_count_or_reported x (inr p) = inr (let k = regroups.reported x in omega arith)
 
-  regrouped : BoardRule n c f d after
-  regrouped = record {
-    once = λ x. m.once x ∙ r.once x;
-    lengths = m.lengths ∙ r.lengths;
+  rule_regrouped : BoardRule n c f d after
+  rule_regrouped = record {
+    once = λ x. regroups.once x ∙ rule.once x;
+    lengths = regroups.lengths ∙ rule.lengths;
     least =
         record {
-          at_most = r.least.at_most;
-          lowest = λ y p. r.least.lowest y (let k = m.reported y in omega arith);
-          is = still f r.least.is;
+          at_most = rule.least.at_most;
+          lowest = λ y p. rule.least.lowest y (let k = regroups.reported y in omega arith);
+          is_count_or_reported = still_count_or_reported f rule.least.is_count_or_reported;
         };
-    settled = r.settled ∙ sym m.settled;
-    skipped = λ x p. r.skipped x (let k = m.skipped x in omega arith);
+    settled = rule.settled ∙ sym regroups.settled;
+    skipped = λ x p. rule.skipped x (let k = regroups.skipped x in omega arith);
     seats =
-        λ seat v e. let o = m.seats seat v e in
+        λ seat v e. let o = regroups.seats seat v e in
         record {
           count = o.count;
           floor = o.floor;
-          seen = λ p. still v.seen (o.seen p);
+          seen = λ p. still_count_or_reported v.seen (o.seen p);
           over = o.over;
           spent = o.spent;
         };
-    shares = m.shares ∙ r.shares;
-    bound = let o = m.over in let b = r.bound in omega arith;
+    shares = regroups.shares ∙ rule.shares;
+    bound = let o = regroups.over in let b = rule.bound in omega arith;
   }
 
 -- a total after a split
-cut : (g : View → ℕ) (views : List View) (id : ℕ) (v : View) → get_elem? views id ≡ some v
+total_after_split : (g : View → ℕ) (views : List View) (id : ℕ) (v : View)
+    → get_elem? views id ≡ some v
     → g (after_split v) + g (new_seat_view v) ≡ g v
     → total g (set views id (after_split v) ++ new_seat_view v ∷ []) ≡ total g views
-cut g views id v at e =
+total_after_split g views id v at e =
     let t = total_set g views id v (after_split v) at in
     let a = total_snoc g (set views id (after_split v)) (new_seat_view v) in omega arith
 
-pub splits : (n id : ℕ) (v : View) → 1 < v.share
+pub split_allowed : (n id : ℕ) (v : View) → 1 < v.share
     → Splits (MeetsRule n) id v (after_split v) (new_seat_view v)
-splits n id v more s r at = (
+split_allowed n id v more s r at = (
   r.0,
-  regrouped n _ _ _ s.views _ r.1 record {
-    once = λ x. cut (times_recorded x) s.views id v at (stand x);
+  rule_regrouped n _ _ _ s.views _ r.1 record {
+    once = λ x. total_after_split (times_recorded x) s.views id v at (record_split x);
     lengths =
-        cut record_length s.views id v at
+        total_after_split record_length s.views id v at
         (let a : record_length (after_split v) ≡ record_length v = refl in
         let b : record_length (new_seat_view v) ≡ 0 = refl in omega arith);
-    reported = λ x. cut (λ u. times_in x u.reported) s.views id v at (omega arith);
-    settled = cut (λ u. length u.settled) s.views id v at (omega arith);
-    skipped = λ x. cut (λ u. times_in x u.skipped) s.views id v at (omega arith);
-    shares = cut (λ u. u.share) s.views id v at (omega arith);
-    over = let t = cut over_share s.views id v at (halves v.over) in omega arith;
+    reported = λ x. total_after_split (λ u. times_in x u.reported) s.views id v at (omega arith);
+    settled = total_after_split (λ u. length u.settled) s.views id v at (omega arith);
+    skipped = λ x. total_after_split (λ u. times_in x u.skipped) s.views id v at (omega arith);
+    shares = total_after_split (λ u. u.share) s.views id v at (omega arith);
+    over = let t = total_after_split over_share s.views id v at (over_share_split v.over) in
+        omega arith;
     seats = λ seat u e. elim (at_snoc (set s.views id (after_split v)) (new_seat_view v) u seat e) [
       | inl h ↦ elim (at_set s.views id seat (after_split v) u h) [
-        | inl p ↦ subst (SeatRule n s.views (get_or s.words 0 0) (get_or s.words 1 0)) p.1 left
+        | inl p ↦ subst (SeatRule n s.views (get_or s.words 0 0) (get_or s.words 1 0)) p.1
+            rule_of_old_seat
         | inr p ↦ r.1.seats seat u p.1
       ]
-      | inr h ↦ subst (SeatRule n s.views (get_or s.words 0 0) (get_or s.words 1 0)) h right
+      | inr h ↦
+          subst (SeatRule n s.views (get_or s.words 0 0) (get_or s.words 1 0)) h rule_of_new_seat
     ];
   },
 )
   where
-    o : SeatRule n s.views (get_or s.words 0 0) (get_or s.words 1 0) v
-    o = r.1.seats id v at
+    old_seat_rule : SeatRule n s.views (get_or s.words 0 0) (get_or s.words 1 0) v
+    old_seat_rule = r.1.seats id v at
 
-    stand : (x : ℕ)
+    record_split : (x : ℕ)
         → times_recorded x (after_split v) + times_recorded x (new_seat_view v) ≡ times_recorded x v
-    stand x =
+    record_split x =
         let a : times_recorded x (after_split v) ≡ times_recorded x v = refl in
         let b : times_recorded x (new_seat_view v) ≡ 0 = refl in omega arith
 
-    halves : (b : Bool) → cond b (v.share - 1) 0 + cond b 1 0 ≡ cond b v.share 0
-    halves true = omega arith
-    halves false = refl
+    over_share_split : (b : Bool) → cond b (v.share - 1) 0 + cond b 1 0 ≡ cond b v.share 0
+    over_share_split true = omega arith
+    over_share_split false = refl
 
-    left : SeatRule n s.views (get_or s.words 0 0) (get_or s.words 1 0) (after_split v)
-    left =
+    rule_of_old_seat : SeatRule n s.views (get_or s.words 0 0) (get_or s.words 1 0) (after_split v)
+    rule_of_old_seat =
         let live : 0 < v.share = omega arith in
         record {
-          count = λ p. o.count live;
-          floor = λ p. o.floor live;
-          seen = λ p. o.seen live;
-          over = o.over;
+          count = λ p. old_seat_rule.count live;
+          floor = λ p. old_seat_rule.floor live;
+          seen = λ p. old_seat_rule.seen live;
+          over = old_seat_rule.over;
           spent = λ e. absurd (omega arith);
         }
 
-    right : SeatRule n s.views (get_or s.words 0 0) (get_or s.words 1 0) (new_seat_view v)
-    right =
+    rule_of_new_seat : SeatRule n s.views (get_or s.words 0 0) (get_or s.words 1 0)
+        (new_seat_view v)
+    rule_of_new_seat =
         let live : 0 < v.share = omega arith in
         record {
-          count = λ p. o.count live;
-          floor = λ p. o.floor live;
-          seen = λ p. o.seen live;
-          over = o.over;
+          count = λ p. old_seat_rule.count live;
+          floor = λ p. old_seat_rule.floor live;
+          seen = λ p. old_seat_rule.seen live;
+          over = old_seat_rule.over;
           spent = λ e. absurd (omega arith);
         }
 
 -- a total after a join
-glued : (g : View → ℕ) (views : List View) (id : ℕ) (v : View) (other : ℕ) (w : View)
+total_after_join : (g : View → ℕ) (views : List View) (id : ℕ) (v : View) (other : ℕ) (w : View)
     → get_elem? views id ≡ some v → get_elem? (set views id (after_join v w)) other ≡ some w
     → total g (set (set views id (after_join v w)) other spent_view) + g v + g w
     ≡ total g views + g (after_join v w) + g spent_view
-glued g views id v other w at at_other =
+total_after_join g views id v other w at at_other =
     let t = total_set g views id v (after_join v w) at in
     let t' = total_set g (set views id (after_join v w)) other w spent_view at_other in omega arith
 
@@ -147,7 +152,7 @@ set_middle (u ∷ before) after v w = ap (λ l. u ∷ l) (set_middle before afte
 
 -- a split changes two views, and nothing else has to change
 pub split_keeps : (n : ℕ) (v : View) → 1 < v.share
-    → KeepsTheRest n v (after_split v) (new_seat_view v)
+    → SplitKeepsRule n v (after_split v) (new_seat_view v)
 split_keeps n v more c f d before after r =
     let s : State (Unit {0}) View =
     record { words = c ∷ f ∷ d ∷ []; homes = []; views = before ++ v ∷ after } in
@@ -155,91 +160,100 @@ split_keeps n v more c f d before after r =
     ap (λ l. l ++ new_seat_view v ∷ []) (set_middle before after v (after_split v))
     ∙ append_assoc before (after_split v ∷ after) (new_seat_view v ∷ []) in
     subst (BoardRule n c f d) same
-    (splits n (length before) v more s (refl, r) (at_middle before after v)).1
+    (split_allowed n (length before) v more s (refl, r) (at_middle before after v)).1
 
-pub joins : (n id : ℕ) (v : View) (other : ℕ) (w : View) → w.open_number ≡ None → 0 < v.share
+pub join_allowed : (n id : ℕ) (v : View) (other : ℕ) (w : View) → w.open_number ≡ None → 0 < v.share
     → 0 < w.share → Joins (MeetsRule n) id v other w (after_join v w) spent_view
-joins n id v other w closed live live_w s r at apart at_other = (
+join_allowed n id v other w closed live live_w s r at apart at_other = (
   r.0,
-  regrouped n _ _ _ s.views _ r.1 record {
+  rule_regrouped n _ _ _ s.views _ r.1 record {
     once =
-        λ x. let t = glued (times_recorded x) s.views id v other w at at_other in
+        λ x. let t = total_after_join (times_recorded x) s.views id v other w at at_other in
         let a = times_in_append x v.settled w.settled in
         let b = times_in_append x v.reported w.reported in
         let c = times_in_append x v.skipped w.skipped in
-        let e : times_open x w.open_number ≡ 0 = ap (λ (o : Option ℕ). times_open x o) closed in
+        let e : times_open x w.open_number
+        ≡ 0 = ap (λ (first_seat_rule : Option ℕ). times_open x first_seat_rule) closed in
         let i : times_recorded x (after_join v w)
         ≡ times_open x v.open_number + times_in x (v.settled ++ w.settled)
         + times_in x (v.reported ++ w.reported) + times_in x (v.skipped ++ w.skipped) = refl in
         let j : times_recorded x v
         ≡ times_open x v.open_number + times_in x v.settled + times_in x v.reported
         + times_in x v.skipped = refl in
-        let k : times_recorded x w
+        let second_seat_rule : times_recorded x w
         ≡ times_open x w.open_number + times_in x w.settled + times_in x w.reported
         + times_in x w.skipped = refl in
         let z : times_recorded x spent_view ≡ 0 = refl in omega arith;
     lengths =
-        let t = glued record_length s.views id v other w at at_other in
+        let t = total_after_join record_length s.views id v other w at at_other in
         let a = length-append v.settled w.settled in let b = length-append v.reported w.reported in
         let c = length-append v.skipped w.skipped in
-        let e : open_count w.open_number ≡ 0 = ap (λ (o : Option ℕ). open_count o) closed in
+        let e : open_count w.open_number
+        ≡ 0 = ap (λ (first_seat_rule : Option ℕ). open_count first_seat_rule) closed in
         let i : record_length (after_join v w)
         ≡ open_count v.open_number + length (v.settled ++ w.settled)
         + length (v.reported ++ w.reported) + length (v.skipped ++ w.skipped) = refl in
         let j : record_length v
         ≡ open_count v.open_number + length v.settled + length v.reported
         + length v.skipped = refl in
-        let k : record_length w
+        let second_seat_rule : record_length w
         ≡ open_count w.open_number + length w.settled + length w.reported
         + length w.skipped = refl in
         let z : record_length spent_view ≡ 0 = refl in omega arith;
     reported =
-        λ x. let t = glued (λ u. times_in x u.reported) s.views id v other w at at_other in
+        λ x. let t =
+        total_after_join (λ u. times_in x u.reported) s.views id v other w at at_other in
         let a = times_in_append x v.reported w.reported in omega arith;
     settled =
-        let t = glued (λ u. length u.settled) s.views id v other w at at_other in
+        let t = total_after_join (λ u. length u.settled) s.views id v other w at at_other in
         let a = length-append v.settled w.settled in omega arith;
     skipped =
-        λ x. let t = glued (λ u. times_in x u.skipped) s.views id v other w at at_other in
+        λ x. let t =
+        total_after_join (λ u. times_in x u.skipped) s.views id v other w at at_other in
         let a = times_in_append x v.skipped w.skipped in omega arith;
-    shares = let t = glued (λ u. u.share) s.views id v other w at at_other in omega arith;
+    shares = let t = total_after_join (λ u. u.share) s.views id v other w at at_other in
+        omega arith;
     over =
-        let t = glued over_share s.views id v other w at at_other in let e = sums v.over w.over in
+        let t = total_after_join over_share s.views id v other w at at_other in let e =
+        over_share_joined v.over w.over in
         let z : over_share spent_view ≡ 0 =
         refl in
         let i : over_share (after_join v w)
         ≡ cond (v.over || w.over) (v.share + w.share) 0 = refl in
         let j : over_share v ≡ cond v.over v.share 0 = refl in
-        let k : over_share w ≡ cond w.over w.share 0 = refl in omega arith;
+        let second_seat_rule : over_share w ≡ cond w.over w.share 0 = refl in omega arith;
     seats = λ seat u e. elim (at_set (set s.views id (after_join v w)) other seat spent_view u e) [
-      | inl p ↦ subst (SeatRule n s.views (get_or s.words 0 0) (get_or s.words 1 0)) p.1 gone
+      | inl p ↦ subst (SeatRule n s.views (get_or s.words 0 0) (get_or s.words 1 0)) p.1
+          rule_of_spent_seat
       | inr p ↦ elim (at_set s.views id seat (after_join v w) u p.1) [
-        | inl q ↦ subst (SeatRule n s.views (get_or s.words 0 0) (get_or s.words 1 0)) q.1 one
+        | inl q ↦ subst (SeatRule n s.views (get_or s.words 0 0) (get_or s.words 1 0)) q.1
+            rule_of_joined_seat
         | inr q ↦ r.1.seats seat u q.1
       ]
     ];
   },
 )
   where
-    sums : (a b : Bool) → cond a v.share 0 + cond b w.share 0 ≤ cond (a || b) (v.share + w.share) 0
-    sums true true = omega arith
-    sums true false = omega arith
-    sums false true = omega arith
-    sums false false = omega arith
+    over_share_joined : (a b : Bool) → cond a v.share 0 + cond b w.share 0
+        ≤ cond (a || b) (v.share + w.share) 0
+    over_share_joined true true = omega arith
+    over_share_joined true false = omega arith
+    over_share_joined false true = omega arith
+    over_share_joined false false = omega arith
 
-    o : SeatRule n s.views (get_or s.words 0 0) (get_or s.words 1 0) v
-    o = r.1.seats id v at
+    first_seat_rule : SeatRule n s.views (get_or s.words 0 0) (get_or s.words 1 0) v
+    first_seat_rule = r.1.seats id v at
 
-    at_w : get_elem? s.views other ≡ some w
-    at_w =
+    second_seat_view : get_elem? s.views other ≡ some w
+    second_seat_view =
         elim (at_set s.views id other (after_join v w) w at_other)
         [ inl q ↦ absurd (apart q.0) | inr q ↦ q.1 ]
 
-    k : SeatRule n s.views (get_or s.words 0 0) (get_or s.words 1 0) w
-    k = r.1.seats other w at_w
+    second_seat_rule : SeatRule n s.views (get_or s.words 0 0) (get_or s.words 1 0) w
+    second_seat_rule = r.1.seats other w second_seat_view
 
-    gone : SeatRule n s.views (get_or s.words 0 0) (get_or s.words 1 0) spent_view
-    gone =
+    rule_of_spent_seat : SeatRule n s.views (get_or s.words 0 0) (get_or s.words 1 0) spent_view
+    rule_of_spent_seat =
         record {
           count = λ p. absurd (omega arith);
           floor = λ p. absurd (omega arith);
@@ -253,20 +267,25 @@ joins n id v other w closed live live_w s r at apart at_other = (
           };
         }
 
-    lesser : (v.seen < w.seen) ⊎ (w.seen ≤ v.seen) → IsCountOrReported n s.views (min v.seen w.seen)
-    lesser (inl lt) = let is : min v.seen w.seen ≡ v.seen = omega arith in rw is (o.seen live)
-    lesser (inr le) = let is : min v.seen w.seen ≡ w.seen = omega arith in rw is (k.seen live_w)
+    seen_of_joined : (v.seen < w.seen) ⊎ (w.seen ≤ v.seen) → IsCountOrReported n s.views
+        (min v.seen w.seen)
+    seen_of_joined (inl lt) = let is : min v.seen w.seen ≡ v.seen = omega arith in
+        rw is (first_seat_rule.seen live)
+    seen_of_joined (inr le) = let is : min v.seen w.seen ≡ w.seen = omega arith in
+        rw is (second_seat_rule.seen live_w)
 
     either_over : (a b : Bool) → v.over ≡ a → w.over ≡ b → (a || b) ≡ true → n < get_or s.words 0 0
-    either_over true b ev ew h = o.over ev
-    either_over false true ev ew h = k.over ew
+    either_over true b ev ew h = first_seat_rule.over ev
+    either_over false true ev ew h = second_seat_rule.over ew
     either_over false false ev ew h = absurd (cc)
 
-    one : SeatRule n s.views (get_or s.words 0 0) (get_or s.words 1 0) (after_join v w)
-    one = record {
-      count = λ p. o.count live;
-      floor = λ p. let a = o.floor live in let b = k.floor live_w in omega arith;
-      seen = λ p. lesser (cases_lt v.seen w.seen);
+    rule_of_joined_seat : SeatRule n s.views (get_or s.words 0 0) (get_or s.words 1 0)
+        (after_join v w)
+    rule_of_joined_seat = record {
+      count = λ p. first_seat_rule.count live;
+      floor = λ p. let a = first_seat_rule.floor live in let b = second_seat_rule.floor live_w in
+          omega arith;
+      seen = λ p. seen_of_joined (cases_lt v.seen w.seen);
       over = λ e. either_over v.over w.over refl refl e;
       spent = λ e. absurd (omega arith);
     }

@@ -13,21 +13,19 @@ use Rattle.mm_board.specs.Records.{times_in, times_open, times_recorded, open_co
 use Rattle.mm_board.specs.Rule.{over_share, BoardRule}
 use Rattle.mm_board.specs.Events.{IsClaimWord, IsFloorWord, IsSettledWord}
 use Rattle.mm_board.specs.Table.{MeetsRule}
-use Rattle.mm_board.proofs.SumsLaw.{once_more, times_in_append, times_same, times_own}
+use Rattle.mm_board.proofs.SumsLaw.{once_below_next, times_in_append, counted_is_equal}
+use Rattle.mm_board.proofs.SumsLaw.{equal_is_counted}
 use Rattle.mm_board.proofs.MovingLaw.{Moves, moved}
 
 -- the three steps that change a word, and the rule of the new words
-module _ (n : ℕ) (s : State (Unit {0}) View) (r : MeetsRule n s) (id : ℕ) (v w : View)
+module _ (n : ℕ) (s : State (Unit {0}) View) (meets_rule : MeetsRule n s) (id : ℕ) (v w : View)
     (at : get_elem? s.views id ≡ some v) (live : 0 < v.share) where
-  word0 : ℕ
-  word0 = get_or s.words 0 0
-
-  pub at_claim : (z : ℕ)
+  pub claim_word_step_keeps_rule : (z : ℕ)
       → Moves n (get_or s.words 0 0) (get_or s.words 1 0) (get_or s.words 2 0) z
       (get_or s.words 1 0) (get_or s.words 2 0) v w
       → (carried : List (ℕ × Unit {0})) → MeetsRule n (stepped s 0 z id carried w keeps)
-  at_claim z m carried =
-      let three = r.0 in
+  claim_word_step_keeps_rule z moves carried =
+      let three = meets_rule.0 in
       let a : get_or (set s.words 0 z) 0 0 ≡ z = get_or-set_same s.words 0 z 0 (omega arith) in
       let b : get_or (set s.words 0 z) 1 0 ≡ get_or s.words 1 0 =
       get_or-set_other s.words 0 1 z 0 (λ e. omega arith) in
@@ -35,15 +33,15 @@ module _ (n : ℕ) (s : State (Unit {0}) View) (r : MeetsRule n s) (id : ℕ) (v
       get_or-set_other s.words 0 2 z 0 (λ e. omega arith) in (
         length-set s.words 0 z
             ∙ three,
-        rw (a, b, c) (moved n _ _ _ _ _ _ v w s.views id r.1 at live m),
+        rw (a, b, c) (moved n _ _ _ _ _ _ v w s.views id meets_rule.1 at live moves),
       )
 
-  pub at_floor : (z : ℕ)
+  pub floor_word_step_keeps_rule : (z : ℕ)
       → Moves n (get_or s.words 0 0) (get_or s.words 1 0) (get_or s.words 2 0)
       (get_or s.words 0 0) z (get_or s.words 2 0) v w
       → (carried : List (ℕ × Unit {0})) → MeetsRule n (stepped s 1 z id carried w keeps)
-  at_floor z m carried =
-      let three = r.0 in
+  floor_word_step_keeps_rule z moves carried =
+      let three = meets_rule.0 in
       let a : get_or (set s.words 1 z) 0 0 ≡ get_or s.words 0 0 =
       get_or-set_other s.words 1 0 z 0 (λ e. omega arith) in
       let b : get_or (set s.words 1 z) 1 0 ≡ z = get_or-set_same s.words 1 z 0 (omega arith) in
@@ -51,15 +49,15 @@ module _ (n : ℕ) (s : State (Unit {0}) View) (r : MeetsRule n s) (id : ℕ) (v
       get_or-set_other s.words 1 2 z 0 (λ e. omega arith) in (
         length-set s.words 1 z
             ∙ three,
-        rw (a, b, c) (moved n _ _ _ _ _ _ v w s.views id r.1 at live m),
+        rw (a, b, c) (moved n _ _ _ _ _ _ v w s.views id meets_rule.1 at live moves),
       )
 
-  pub at_settled : (z : ℕ)
+  pub settled_word_step_keeps_rule : (z : ℕ)
       → Moves n (get_or s.words 0 0) (get_or s.words 1 0) (get_or s.words 2 0) (get_or s.words 0 0)
       (get_or s.words 1 0) z v w
       → (carried : List (ℕ × Unit {0})) → MeetsRule n (stepped s 2 z id carried w keeps)
-  at_settled z m carried =
-      let three = r.0 in
+  settled_word_step_keeps_rule z moves carried =
+      let three = meets_rule.0 in
       let a : get_or (set s.words 2 z) 0 0 ≡ get_or s.words 0 0 =
       get_or-set_other s.words 2 0 z 0 (λ e. omega arith) in
       let b : get_or (set s.words 2 z) 1 0 ≡ get_or s.words 1 0 =
@@ -67,12 +65,12 @@ module _ (n : ℕ) (s : State (Unit {0}) View) (r : MeetsRule n s) (id : ℕ) (v
       let c : get_or (set s.words 2 z) 2 0 ≡ z = get_or-set_same s.words 2 z 0 (omega arith) in (
         length-set s.words 2 z
             ∙ three,
-        rw (a, b, c) (moved n _ _ _ _ _ _ v w s.views id r.1 at live m),
+        rw (a, b, c) (moved n _ _ _ _ _ _ v w s.views id meets_rule.1 at live moves),
       )
 
   -- what the rule says of the seat that steps
   pub count_is : v.count ≡ n
-  count_is = (r.1.seats id v at).count live
+  count_is = (meets_rule.1.seats id v at).count live
 
   pub claim_word : IsClaimWord v (get_or s.words 0 0)
   claim_word = (
@@ -81,7 +79,7 @@ module _ (n : ℕ) (s : State (Unit {0}) View) (r : MeetsRule n s) (id : ℕ) (v
     s.views,
     subst
         (λ (k : ℕ). BoardRule k (get_or s.words 0 0) (get_or s.words 1 0)
-        (get_or s.words 2 0) s.views) (sym count_is) r.1,
+        (get_or s.words 2 0) s.views) (sym count_is) meets_rule.1,
     (id, at),
   )
 
@@ -92,7 +90,7 @@ module _ (n : ℕ) (s : State (Unit {0}) View) (r : MeetsRule n s) (id : ℕ) (v
     s.views,
     subst
         (λ (k : ℕ). BoardRule k (get_or s.words 0 0) (get_or s.words 1 0)
-        (get_or s.words 2 0) s.views) (sym count_is) r.1,
+        (get_or s.words 2 0) s.views) (sym count_is) meets_rule.1,
     (id, at),
   )
 
@@ -103,7 +101,7 @@ module _ (n : ℕ) (s : State (Unit {0}) View) (r : MeetsRule n s) (id : ℕ) (v
     s.views,
     subst
         (λ (k : ℕ). BoardRule k (get_or s.words 0 0) (get_or s.words 1 0)
-        (get_or s.words 2 0) s.views) (sym count_is) r.1,
+        (get_or s.words 2 0) s.views) (sym count_is) meets_rule.1,
     (id, at),
   )
 
@@ -118,14 +116,14 @@ module _ (n b c : ℕ) (v : View) (floor : b ≤ v.seen) where
       → times_open y v.open_number ≡ cond (i == y) 1 0
   times_of_open y i e = ap (λ (o : Option ℕ). times_open y o) e
 
-  one_open : (i : ℕ) → v.open_number ≡ Some i → open_count v.open_number ≡ 1
-  one_open i e = ap (λ (o : Option ℕ). open_count o) e
+  one_open_count : (i : ℕ) → v.open_number ≡ Some i → open_count v.open_number ≡ 1
+  one_open_count i e = ap (λ (o : Option ℕ). open_count o) e
 
-  not_over : v.over ≡ false → over_share v ≡ 0
-  not_over e = ap (λ (o : Bool). cond o v.share 0) e
+  not_over_no_share : v.over ≡ false → over_share v ≡ 0
+  not_over_no_share e = ap (λ (o : Bool). cond o v.share 0) e
 
-  pub glances : (a : ℕ) → Moves n a b c a b c v v
-  glances a = record {
+  pub reads_only : (a : ℕ) → Moves n a b c a b c v v
+  reads_only a = record {
     count = refl;
     share = refl;
     once = λ x. refl;
@@ -143,12 +141,12 @@ module _ (n b c : ℕ) (v : View) (floor : b ≤ v.seen) where
     bound = λ t h. omega arith;
   }
 
-  pub draws : (x : ℕ) → x < n → v.open_number ≡ None → v.over ≡ false
+  pub claims_number : (x : ℕ) → x < n → v.open_number ≡ None → v.over ≡ false
       → Moves n x b c (x + 1) b c v (record v { open_number = Some x })
-  draws x lt closed isopen = record {
+  claims_number x x_below_n closed isopen = record {
     count = refl;
     share = refl;
-    once = λ y. let o = once_more y x n lt in let e = none_open_times y closed in
+    once = λ y. let o = once_below_next y x n x_below_n in let e = none_open_times y closed in
         let is : times_recorded y (record v { open_number = Some x })
         ≡ cond (x == y) 1 0 + times_in y v.settled + times_in y v.reported
         + times_in y v.skipped = refl in
@@ -172,14 +170,14 @@ module _ (n b c : ℕ) (v : View) (floor : b ≤ v.seen) where
     seen = inl refl;
     over = λ h. inl h;
     bound =
-        λ t h. let e = not_over isopen in
+        λ t h. let e = not_over_no_share isopen in
         let same : over_share (record v { open_number = Some x }) ≡ over_share v = refl in
         omega arith;
   }
 
-  pub draws_none : (x : ℕ) → n ≤ x → v.over ≡ false → 0 < v.share
+  pub claims_none : (x : ℕ) → n ≤ x → v.over ≡ false → 0 < v.share
       → Moves n x b c (x + 1) b c v (record v { over = true })
-  draws_none x le isopen live = record {
+  claims_none x n_at_most_x isopen live = record {
     count = refl;
     share = refl;
     once =
@@ -198,14 +196,14 @@ module _ (n b c : ℕ) (v : View) (floor : b ≤ v.seen) where
     seen = inl refl;
     over = λ h. inr (omega arith);
     bound =
-        λ t h. let e = not_over isopen in
+        λ t h. let e = not_over_no_share isopen in
         let now : over_share (record v { over = true }) ≡ v.share = refl in omega arith;
   }
 
-  pub looks_open : (a i : ℕ) → b < i → v.open_number ≡ Some i
+  pub look_skips : (a i : ℕ) → b < i → v.open_number ≡ Some i
       → Moves n a b c a b c v
       (record v { open_number = None; skipped = v.skipped ++ i ∷ []; seen = b })
-  looks_open a i lt open_is = record {
+  look_skips a i b_below_i open_is = record {
     count = refl;
     share = refl;
     once = λ y. let e = times_of_open y i open_is in let t = times_in_append y v.skipped (i ∷ []) in
@@ -217,7 +215,7 @@ module _ (n b c : ℕ) (v : View) (floor : b ≤ v.seen) where
         let was : times_recorded y v
         ≡ times_open y v.open_number + times_in y v.settled + times_in y v.reported
         + times_in y v.skipped = refl in omega arith;
-    lengths = let e = one_open i open_is in let t = length-append v.skipped (i ∷ []) in
+    lengths = let e = one_open_count i open_is in let t = length-append v.skipped (i ∷ []) in
         let is : record_length
         (record v { open_number = None; skipped = v.skipped ++ i ∷ []; seen = b })
         ≡ 0 + length v.settled + length v.reported + length (v.skipped ++ i ∷ []) = refl in
@@ -233,7 +231,7 @@ module _ (n b c : ℕ) (v : View) (floor : b ≤ v.seen) where
     skip_new =
         λ y h. let t = times_in_append y v.skipped (i ∷ []) in
         let one : times_in y (i ∷ []) ≡ cond (i == y) 1 0 + 0 = refl in
-        let same = times_same y i (omega arith) in omega arith;
+        let same = counted_is_equal y i (omega arith) in omega arith;
     seen_floor = omega arith;
     seen = inr refl;
     over = λ h. inl h;
@@ -244,8 +242,8 @@ module _ (n b c : ℕ) (v : View) (floor : b ≤ v.seen) where
         omega arith;
   }
 
-  pub looks_shut : (a : ℕ) → Moves n a b c a b c v (record v { seen = b })
-  looks_shut a = record {
+  pub look_sees : (a : ℕ) → Moves n a b c a b c v (record v { seen = b })
+  look_sees a = record {
     count = refl;
     share = refl;
     once = λ x. refl;
@@ -264,9 +262,9 @@ module _ (n b c : ℕ) (v : View) (floor : b ≤ v.seen) where
         λ t h. let same : over_share (record v { seen = b }) ≡ over_share v = refl in omega arith;
   }
 
-  pub settling : (a i : ℕ) → v.open_number ≡ Some i
+  pub settles_number : (a i : ℕ) → v.open_number ≡ Some i
       → Moves n a b c a b (c + 1) v (record v { open_number = None; settled = v.settled ++ i ∷ [] })
-  settling a i open_is = record {
+  settles_number a i open_is = record {
     count = refl;
     share = refl;
     once = λ y. let e = times_of_open y i open_is in let t = times_in_append y v.settled (i ∷ []) in
@@ -277,7 +275,7 @@ module _ (n b c : ℕ) (v : View) (floor : b ≤ v.seen) where
         let was : times_recorded y v
         ≡ times_open y v.open_number + times_in y v.settled + times_in y v.reported
         + times_in y v.skipped = refl in omega arith;
-    lengths = let e = one_open i open_is in let t = length-append v.settled (i ∷ []) in
+    lengths = let e = one_open_count i open_is in let t = length-append v.settled (i ∷ []) in
         let is : record_length (record v { open_number = None; settled = v.settled ++ i ∷ [] })
         ≡ 0 + length (v.settled ++ i ∷ []) + length v.reported + length v.skipped = refl in
         let was : record_length v
@@ -300,10 +298,10 @@ module _ (n b c : ℕ) (v : View) (floor : b ≤ v.seen) where
         omega arith;
   }
 
-  pub reporting : (a i : ℕ) → v.open_number ≡ Some i
+  pub reports_number : (a i : ℕ) → v.open_number ≡ Some i
       → Moves n a b c a (min b i) c v
       (record v { open_number = None; reported = v.reported ++ i ∷ []; seen = min b i })
-  reporting a i open_is = record {
+  reports_number a i open_is = record {
     count = refl;
     share = refl;
     once =
@@ -316,7 +314,7 @@ module _ (n b c : ℕ) (v : View) (floor : b ≤ v.seen) where
         let was : times_recorded y v
         ≡ times_open y v.open_number + times_in y v.settled + times_in y v.reported
         + times_in y v.skipped = refl in omega arith;
-    lengths = let e = one_open i open_is in let t = length-append v.reported (i ∷ []) in
+    lengths = let e = one_open_count i open_is in let t = length-append v.reported (i ∷ []) in
         let is : record_length
         (record v { open_number = None; reported = v.reported ++ i ∷ []; seen = min b i })
         ≡ 0 + length v.settled + length (v.reported ++ i ∷ []) + length v.skipped = refl in
@@ -329,8 +327,8 @@ module _ (n b c : ℕ) (v : View) (floor : b ≤ v.seen) where
     report_new =
         λ y h. let t = times_in_append y v.reported (i ∷ []) in
         let one : times_in y (i ∷ []) ≡ cond (i == y) 1 0 + 0 = refl in
-        let same = times_same y i (omega arith) in omega arith;
-    floor = go (cases_lt i b);
+        let same = counted_is_equal y i (omega arith) in omega arith;
+    floor = floor_by_order (cases_lt i b);
     settled = refl;
     skip_new = λ y h. omega arith;
     seen_floor = omega arith;
@@ -343,12 +341,14 @@ module _ (n b c : ℕ) (v : View) (floor : b ≤ v.seen) where
         omega arith;
   }
     where
-      own : 0 < times_in i (v.reported ++ i ∷ [])
-      own =
+      i_is_reported : 0 < times_in i (v.reported ++ i ∷ [])
+      i_is_reported =
           let t = times_in_append i v.reported (i ∷ []) in
-          let one : times_in i (i ∷ []) ≡ cond (i == i) 1 0 + 0 = refl in let here = times_own i in
+          let one : times_in i (i ∷ []) ≡ cond (i == i) 1 0 + 0 = refl in let here =
+          equal_is_counted i in
           omega arith
 
-      go : (i < b) ⊎ (b ≤ i) → (min b i ≡ b) ⊎ (0 < times_in (min b i) (v.reported ++ i ∷ []))
-      go (inl lt) = let is : min b i ≡ i = omega arith in inr (rw is own)
-      go (inr le) = inl (omega arith)
+      floor_by_order : (i < b) ⊎ (b ≤ i) → (min b i ≡ b)
+          ⊎ (0 < times_in (min b i) (v.reported ++ i ∷ []))
+      floor_by_order (inl lt) = let is : min b i ≡ i = omega arith in inr (rw is i_is_reported)
+      floor_by_order (inr le) = inl (omega arith)

@@ -11,13 +11,13 @@ IsClaimWord v x =
     (floor settled : ℕ) × (views : List View) × BoardRule v.count x floor settled views
     × IsSeatView views v
 
--- the same of the floor word
+-- x is the floor word of some state that meets the rule, in which a seat has the view v
 abbrev pub IsFloorWord : View → ℕ → Type 0
 IsFloorWord v x =
     (claim settled : ℕ) × (views : List View) × BoardRule v.count claim x settled views
     × IsSeatView views v
 
--- the same of the settled word
+-- x is the settled word of some state that meets the rule, in which a seat has the view v
 abbrev pub IsSettledWord : View → ℕ → Type 0
 IsSettledWord v x =
     (claim floor : ℕ) × (views : List View) × BoardRule v.count claim floor x views
@@ -81,10 +81,11 @@ abbrev pub new_seat_view : View → View
 new_seat_view v =
     record v { share = 1; open_number = None; settled = []; reported = []; skipped = [] }
 
--- The view v of a seat becomes w, and a new seat has the view u; nothing else changes: whatever the
--- words and the views of all other seats are, the rule holds of the same words and views.
-abbrev pub KeepsTheRest : ℕ → View → View → View → Type 0
-KeepsTheRest n v w u =
+-- A split that turns the view v of a seat into w, and gives a new seat the view u, changes nothing
+-- else: if the rule holds before it, it holds of the same words and the same views of all other
+-- seats after it.
+abbrev pub SplitKeepsRule : ℕ → View → View → View → Type 0
+SplitKeepsRule n v w u =
     (claim_word floor_word settled_word : ℕ) (before after : List View)
     → BoardRule n claim_word floor_word settled_word (before ++ v ∷ after)
     → BoardRule n claim_word floor_word settled_word (before ++ w ∷ (after ++ u ∷ []))

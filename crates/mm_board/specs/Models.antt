@@ -18,8 +18,8 @@ pub record SeatValue : Type 0 where
 abbrev pub IsSeatOf : BoardValue → SeatValue → Type 0
 IsSeatOf board seat = (seat.table ≡ board.table) × (seat.view.count ≡ board.count)
 
--- a board's table has three words and no slot, and its key is the count of numbers
-pub record KeepsTable (table : TableId) (key count : ℕ) : Type 0 where
+-- A board keeps this of its table: three words, no slot, and the count of numbers as the key.
+pub record IsBoardTable (table : TableId) (key count : ℕ) : Type 0 where
   pub three_words : table.words ≡ 3
   pub no_slot : table.slots ≡ 0
   pub key_is : key ≡ count

@@ -5,8 +5,8 @@ use Rattle.std.specs.Prelude.{if◌then◌else◌}
 use Rattle.mm_board.specs.declared.board.TheConstants.{MOST_SEATS}
 use Rattle.mm_board.specs.declared.views.View.{View}
 
--- the first seat of a board of n numbers: it stands for all seats that a
--- board has, and its record is empty
+-- the first seat of a board of n numbers: it stands for all seats that a board has at a time, and
+-- its record is empty
 abbrev pub first_view : ℕ → View
 first_view n =
     record {

@@ -42,7 +42,7 @@ IsCountOrReported n views x = (x ≡ n) ⊎ (0 < times_reported views x)
 pub record IsLeastReported (n : ℕ) (views : List View) (x : ℕ) : Type 0 where
   pub at_most : x ≤ n
   pub lowest : (y : ℕ) → 0 < times_reported views y → x ≤ y
-  pub is : IsCountOrReported n views x
+  pub is_count_or_reported : IsCountOrReported n views x
 
 -- some seat has this view
 abbrev pub IsSeatView : List View → View → Type 0
@@ -64,7 +64,8 @@ pub record BoardRule (n claim_word floor_word settled_word : ℕ) (views : List 
   -- each number below both the claim word and n is in one record, once, and no other number is in
   -- any
   pub once : (x : ℕ) → total (times_recorded x) views ≡ once_below x (min claim_word n)
-  -- so all records have that many numbers (it follows from `once`, and spares a count of them)
+  -- all records together have that many numbers: it follows from `once`, but stands here since the
+  -- proof would have to count the numbers
   pub lengths : total record_length views ≡ min claim_word n
   -- the floor word is the least reported number, or n
   pub least : IsLeastReported n views floor_word

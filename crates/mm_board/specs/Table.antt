@@ -20,7 +20,7 @@ TokenState = Me (Unit {0}) View
 -- x` says
 abbrev pub StepTells : (View → ℕ → Type 0) → (View → ℕ → View) → Step (Unit {0}) → TokenState → ℕ
     → TokenState → Type 0
-StepTells IsWord after st old x new = (new.0 ≡ after old.0 x) × (new.1 ≡ old.1) × IsWord old.0 x
+StepTells IsWord after step old x new = (new.0 ≡ after old.0 x) × (new.1 ≡ old.1) × IsWord old.0 x
 
 -- a step that only reads leaves the view as it is
 abbrev pub unchanged_view : View → ℕ → View

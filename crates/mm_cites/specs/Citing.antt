@@ -27,11 +27,11 @@ pub record IsFileOrder (c : Citing) : Type 0 where
   pub earlier : (i k : ℕ) → i < length c.theorems → k < length (list_at c i)
       → slice_index (list_at c i) k < theorem_at c i
 
--- theorem t cites a
+-- theorem t cites a: its row has a in its list
 pub record HasCitation (c : Citing) (t a : ℕ) : Type 0 where
   pub row : ℕ
-  pub place : ℕ
+  pub list_index : ℕ
   pub within : row < length c.theorems
-  pub listed : place < length (list_at c row)
+  pub listed : list_index < length (list_at c row)
   pub theorem : theorem_at c row ≡ t
-  pub cited : slice_index (list_at c row) place ≡ a
+  pub cited : slice_index (list_at c row) list_index ≡ a

@@ -3,33 +3,38 @@ use Rattle.std.proofs.Common.{◌≡◌, ◌∙◌, ℕ, List, [], ◌++◌, ◌
 use Rattle.std.proofs.Common.{length, take, min, sym, ap, arith}
 use Rattle.std.proofs.lemmas.Bool.{cases_lt}
 use Rattle.std.proofs.Math.Seq.{take-append_seam, take-append-add}
-use Rattle.std.proofs.lemmas.List.{append-nil, append_assoc, length-append, length-take-le, nil_from_length}
+use Rattle.std.proofs.lemmas.List.{append-nil, append_assoc, length-append, length-take-le}
+use Rattle.std.proofs.lemmas.List.{nil_from_length}
 use Rattle.std.proofs.lemmas.List.{take_all}
 
 -- as many of bs as fit are put behind the first n of xs, and zs are left behind them
 pub put_behind : (n k : ℕ) (xs bs zs : List ℕ) → n < length xs
     → k ≡ min (length bs) (length xs - n) → length zs + (n + k) ≡ length xs
     → take (n + length bs) (take n xs ++ (take k bs ++ zs)) ≡ take (length xs) (take n xs ++ bs)
-put_behind n k xs bs zs within is rest = go (cases_lt (length xs - n) (length bs))
+put_behind n k xs bs zs within k_is rest = by_room (cases_lt (length xs - n) (length bs))
   where
-    long : length (take n xs) ≡ n
-    long = length-take-le n xs (omega (arith, within))
+    front_length : length (take n xs) ≡ n
+    front_length = length-take-le n xs (omega (arith, within))
 
-    go : (length xs - n < length bs) ⊎ (length bs ≤ length xs - n)
+    by_room : (length xs - n < length bs) ⊎ (length bs ≤ length xs - n)
         → take (n + length bs) (take n xs ++ (take k bs ++ zs)) ≡ take (length xs) (take n xs ++ bs)
-    go (inl over) =
-        let most : k ≡ length xs - n = omega (arith, is, over) in
+    by_room (inl over) =
+        let most : k ≡ length xs - n = omega (arith, k_is, over) in
         let none : zs ≡ [] = nil_from_length zs (omega (arith, rest, most, within)) in
         let some : length (take k bs) ≡ k = length-take-le k bs (omega (arith, most, over)) in
-        let all : length (take n xs ++ take k bs) ≡ n + k = length-append (take n xs) (take k bs) ∙ omega (arith, long, some) in
-        let count : length xs ≡ length (take n xs) + k = omega (arith, long, most, within) in
-        ap (λ (cs : List ℕ). take (n + length bs) (take n xs ++ cs)) (ap (λ (cs : List ℕ). take k bs ++ cs) none ∙ append-nil (take k bs))
+        let all : length (take n xs ++ take k bs) ≡ n + k = length-append (take n xs) (take k bs)
+        ∙ omega (arith, front_length, some) in
+        let count : length xs ≡ length (take n xs) + k = omega
+        (arith, front_length, most, within) in
+        ap (λ (cs : List ℕ). take (n + length bs) (take n xs ++ cs))
+        (ap (λ (cs : List ℕ). take k bs ++ cs) none ∙ append-nil (take k bs))
         ∙ take_all (n + length bs) (take n xs ++ take k bs) (omega (arith, all, most, over))
         ∙ sym (ap (λ (m : ℕ). take m (take n xs ++ bs)) count ∙ take-append-add (take n xs) bs k)
-    go (inr fits) =
-        let most : k ≡ length bs = omega (arith, is, fits) in
+    by_room (inr fits) =
+        let most : k ≡ length bs = omega (arith, k_is, fits) in
         let whole : take k bs ≡ bs = take_all k bs (omega (arith, most)) in
-        let all : length (take n xs ++ bs) ≡ n + length bs = length-append (take n xs) bs ∙ omega (arith, long) in
+        let all : length (take n xs ++ bs) ≡ n + length bs = length-append (take n xs) bs
+        ∙ omega (arith, front_length) in
         ap (λ (cs : List ℕ). take (n + length bs) (take n xs ++ (cs ++ zs))) whole
         ∙ ap (take (n + length bs)) (sym (append_assoc (take n xs) bs zs))
         ∙ ap (λ (m : ℕ). take m ((take n xs ++ bs) ++ zs)) (sym all)

@@ -16,14 +16,14 @@ use Rattle.mm_spec.specs.declared.Form.TheVariants.{One, Two}
 use Rattle.mm_spec.specs.declared.Fault.{Fault}
 use Rattle.mm_library.specs.Fronts.{IsAtFront}
 use Rattle.mm_library.specs.declared.status.Status.{Status}
-use Rattle.mm_library.specs.declared.status.Status.TheVariants.{Accepted, Refused, NotText}
+use Rattle.mm_library.specs.declared.status.Status.TheVariants.{Accepted, Refused, TypecodeNotUtf8}
 use Rattle.mm_library.specs.declared.status.Status.TheVariants.{OutTooShort, RoomTooSmall}
 use Rattle.mm_library.specs.declared.status.Status.TheVariants.{NoSuchRequest}
 
 abbrev pub status_number : Status → ℕ
 status_number Accepted = 0
 status_number Refused = 1
-status_number NotText = 2
+status_number TypecodeNotUtf8 = 2
 status_number OutTooShort = 3
 status_number RoomTooSmall = 4
 status_number NoSuchRequest = 5
@@ -74,7 +74,7 @@ pub record Asks (call : Call) (request : Request) : Type 0 where
 -- the call asks for none, and the status says why
 abbrev pub Refuses : Status → Call → Type 0
 Refuses NoSuchRequest call = (choice_of call.choice ≡ None) ⊎ (form_of call.form ≡ None)
-Refuses NotText call =
+Refuses TypecodeNotUtf8 call =
     (choice_of call.choice ≢ None) × (form_of call.form ≢ None) × ¬ IsText call.only
 Refuses _ call = ⊥
 
@@ -92,34 +92,46 @@ HasVerdict _ text with_open = ⊥
 
 -- the outputs of a text for these requests, of these lengths, stand one behind the other at the
 -- front of `out`
-pub record Wrote (text : List ℕ) (requests : List Request) (lengths out : List ℕ) : Type 0 where
+pub record HasOutputs (text : List ℕ) (requests : List Request)
+    (lengths out : List ℕ) : Type 0 where
   pub outputs : List (List ℕ)
   pub are_outputs : AllZip (IsOutput text) requests outputs
   pub are_lengths : lengths ≡ map length outputs
   pub at_front : IsAtFront (flat_map (λ bytes. bytes) outputs) out
 
 -- how it ends to write these outputs
-abbrev pub Writes : Status → (with_open : Bool) → List Request → (text lengths out : List ℕ)
+abbrev pub WritingEnds : Status → (with_open : Bool) → List Request → (text lengths out : List ℕ)
     → Type 0
-Writes NotText with_open requests text lengths out = ⊥
-Writes NoSuchRequest with_open requests text lengths out = ⊥
-Writes RoomTooSmall with_open requests text lengths out = sum lengths ≡ 0
-Writes OutTooShort with_open requests text lengths out =
-    Wrote text requests lengths out × (length out < sum lengths)
-Writes verdict with_open requests text lengths out =
-    HasVerdict verdict text with_open × Wrote text requests lengths out
+WritingEnds TypecodeNotUtf8 with_open requests text lengths out = ⊥
+WritingEnds NoSuchRequest with_open requests text lengths out = ⊥
+WritingEnds RoomTooSmall with_open requests text lengths out = sum lengths ≡ 0
+WritingEnds OutTooShort with_open requests text lengths out =
+    HasOutputs text requests lengths out × (length out < sum lengths)
+WritingEnds verdict with_open requests text lengths out =
+    HasVerdict verdict text with_open × HasOutputs text requests lengths out
     × (sum lengths ≤ length out)
 
 -- how a call ends that writes the outputs `of` its request
-abbrev pub Ends : Status → Call → (of : Request → List Request) → (text lengths out : List ℕ)
+abbrev pub CallEnds : Status → Call → (of : Request → List Request) → (text lengths out : List ℕ)
     → Type 0
-Ends NotText call of text lengths out = Refuses NotText call × (sum lengths ≡ 0)
-Ends NoSuchRequest call of text lengths out =
+CallEnds TypecodeNotUtf8 call of text lengths out = Refuses TypecodeNotUtf8 call × (sum lengths ≡ 0)
+CallEnds NoSuchRequest call of text lengths out =
     Refuses NoSuchRequest call × (sum lengths ≡ 0)
-Ends status call of text lengths out =
+CallEnds status call of text lengths out =
     (request : Request) × Asks call request
-    × Writes status request.with_open (of request) text lengths out
+    × WritingEnds status request.with_open (of request) text lengths out
 
--- the same request, for what each theorem cites
+-- a request turned into the one for the citations
 abbrev pub citing : Request → Request
 citing request = record request { choice = Citations }
+
+-- the requests whose outputs a call writes: the one that it asks for, and if wanted the same for
+-- the citations
+abbrev pub requests_of : (with_citations : Bool) → Request → List Request
+requests_of with_citations request =
+    request ∷ (if with_citations then citing request ∷ [] else [])
+
+-- the lengths of these outputs
+abbrev pub lengths_of : (with_citations : Bool) → (report_len citations_len : ℕ) → List ℕ
+lengths_of with_citations report_len citations_len =
+    report_len ∷ (if with_citations then citations_len ∷ [] else [])

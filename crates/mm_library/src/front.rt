@@ -4,30 +4,34 @@ ghost use Rattle.std.specs.Prelude.{◌≡◌, ◌+◌, ℕ, List, [], ◌∷◌
 ghost use Rattle.std.specs.Prelude.{if◌then◌else◌, length, take};
 ghost use Rattle.mm_library.specs.declared.status.Status.TheVariants.{OutTooShort};
 
-use crate::seen::Seen;
+use crate::ghost_bytes::GhostBytes;
 use crate::status::Status;
 use std::io::{self, ErrorKind, Write};
 
 /// A writer that puts its bytes at the front of a slice, and counts those that find no place.
 #[derive(Drop)]
 pub(crate) struct Front<'a> {
+    /// The slice.
     pub(crate) out: &'a mut [u8],
+    /// How many bytes were written, whether or not they found a place.
     pub(crate) len: usize,
-    pub(crate) seen: Seen,
-    ghost counted: { len ≡ length seen.bytes },
-    ghost placed: { take len out.now ≡ take (length out.now) seen.bytes },
+    /// What was written.
+    pub(crate) written: GhostBytes,
+    ghost counted: { len ≡ length written.bytes },
+    ghost placed: { take len out.now ≡ take (length out.now) written.bytes },
 }
 
 impl<'a> Front<'a> {
+    /// A writer that has written nothing yet.
     pub(crate) fn new(out: &'a mut [u8]) -> Front<'a>
         ensures name { result.out.ghost_name ≡ out.entry.ghost_name }
-        ensures bytes { result.seen.bytes ≡ [] }
+        ensures bytes { result.written.bytes ≡ [] }
         ensures long { length result.out.now ≡ length out.old }
     {
         Front {
             out,
             len: 0,
-            seen: Seen::none(),
+            written: GhostBytes::none(),
         }
     }
 
@@ -44,8 +48,8 @@ impl<'a> Front<'a> {
     }
 }
 
-/// Puts bytes behind the first `len` bytes of `out`, as many of them as fit.
-pub(crate) fn place(out: &mut [u8], len: usize, bytes: &[u8])
+/// Copies bytes behind the first `len` bytes of `out`, as many of them as fit.
+pub(crate) fn copy_behind(out: &mut [u8], len: usize, bytes: &[u8])
     ensures old { take len out.new ≡ take len out.old }
     ensures long { length out.new ≡ length out.old }
     ensures new { take (len + length bytes.now) out.new
@@ -58,14 +62,14 @@ pub(crate) fn place(out: &mut [u8], len: usize, bytes: &[u8])
 }
 
 impl<'a> Write for Front<'a> {
-    ghost contents = { λ f. Some (f.out.ghost_name ∷ f.seen.bytes) };
+    ghost contents = { λ f. Some (f.out.ghost_name ∷ f.written.bytes) };
 
     fn write(&mut self, bytes: &[u8]) -> io::Result<usize> {
         let Some(len) = self.len.checked_add(bytes.len()) else {
             return Err(io::Error::from(ErrorKind::FileTooLarge));
         };
-        place(self.out, self.len, bytes);
-        self.seen.add(bytes);
+        copy_behind(self.out, self.len, bytes);
+        self.written.add(bytes);
         self.len = len;
         Ok(bytes.len())
     }

@@ -6,20 +6,20 @@
 
 ghost use Rattle.std.specs.Prelude.{◌≡◌, ◌⊎◌, [], ◌∷◌, length, take};
 ghost use Rattle.mm_spec.specs.Ends.{reading_limit};
-ghost use Rattle.mm_library.specs.Calls.{Ends, call_of, citing, status_number};
+ghost use Rattle.mm_library.specs.Calls.{CallEnds, call_of, citing, status_number};
 ghost use Rattle.mm_library.specs.Fronts.{IsAtFront};
 ghost use Rattle.mm_library.specs.declared.status.Status.{Status};
 ghost use Rattle.mm_version.specs.declared.TheConstants.{VERSION};
 
 mod front;
+mod ghost_bytes;
 mod in_room;
 mod report;
 mod request;
-mod seen;
 mod status;
 
-use crate::front::place;
-use crate::in_room::{report_and_citations_if_asked, report_if_asked};
+use crate::front::copy_behind;
+use crate::in_room::outputs_if_asked;
 use crate::request::request;
 pub use crate::status::Status;
 pub use mm_room::Room;
@@ -63,17 +63,17 @@ pub extern "C" fn mmdepend_report(
 ) -> u32
     ensures room { (room.new.units ≡ room.old.units) ⊎ (room.new.units ≡ 0) }
     ensures ends { (status : Status) × (result ≡ status_number status)
-        × Ends status (call_of has_only only.now choice form essential with_open)
+        × CallEnds status (call_of has_only only.now choice form essential with_open)
         (λ request. request ∷ []) (take reading_limit text.now) (written.new ∷ []) out.new }
 {
     let request = request(only, has_only, choice, form, essential, with_open);
-    let (status, len) = report_if_asked(room, text, request, out);
+    let (status, len, _) = outputs_if_asked(room, text, request, false, out);
     *written = len;
     status.number()
 }
 
-/// The same, and behind the output for the request the output for the same request with the
-/// sections 4, the citations, after one check of the proofs. `report_len` and `citations_len` get
+/// Writes what `mmdepend_report` writes, and behind it a second output, for the same request with
+/// the sections 4, the citations. The proofs are checked once. `report_len` and `citations_len` get
 /// the lengths of the two outputs in bytes, with status 0, 1 and 3, and otherwise 0. With status 3
 /// the two together don't fit in `out`; with status 1 both outputs are the refusal.
 #[unsafe(no_mangle)]
@@ -92,14 +92,14 @@ pub extern "C" fn mmdepend_report_and_citations(
 ) -> u32
     ensures room { (room.new.units ≡ room.old.units) ⊎ (room.new.units ≡ 0) }
     ensures ends { (status : Status) × (result ≡ status_number status)
-        × Ends status (call_of has_only only.now choice form essential with_open)
+        × CallEnds status (call_of has_only only.now choice form essential with_open)
         (λ request. request ∷ citing request ∷ []) (take reading_limit text.now)
         (report_len.new ∷ citations_len.new ∷ []) out.new }
 {
     let request = request(only, has_only, choice, form, essential, with_open);
-    let (status, report, citations) = report_and_citations_if_asked(room, text, request, out);
-    *report_len = report;
-    *citations_len = citations;
+    let (status, first_len, second_len) = outputs_if_asked(room, text, request, true, out);
+    *report_len = first_len;
+    *citations_len = second_len;
     status.number()
 }
 
@@ -109,6 +109,6 @@ pub extern "C" fn mmdepend_report_and_citations(
 pub extern "C" fn mmdepend_version(out: &mut [u8]) -> usize
     ensures { (result ≡ length VERSION.now) × IsAtFront VERSION.now out.new }
 {
-    place(out, 0, VERSION.as_bytes());
+    copy_behind(out, 0, VERSION.as_bytes());
     VERSION.len()
 }

@@ -47,7 +47,7 @@ pub(crate) fn request<'a>(
         return Err(Status::NoSuchRequest);
     };
     if has_only && std::str::from_utf8(only).is_err() {
-        return Err(Status::NotText);
+        return Err(Status::TypecodeNotUtf8);
     }
     Ok(Request {
         only: if has_only { Some(only) } else { None },

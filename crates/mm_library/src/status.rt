@@ -11,7 +11,7 @@ pub enum Status {
     /// 1: the text has a fault, and `out` has the refusal for it.
     Refused,
     /// 2: the typecode isn't UTF-8.
-    NotText,
+    TypecodeNotUtf8,
     /// 3: `out` is too short for what is to be written. It has as much as fits.
     OutTooShort,
     /// 4: the room is too small.

@@ -29,41 +29,42 @@ separated_next (y ∷ z ∷ ys) x false none some =
     ∙ sym (append_assoc y (32 ∷ separated (z ∷ ys)) (32 ∷ x))
 
 module _ (db : List Statement) (only : Option Bytes) (cited : List ℕ) where
-  abbrev pub first : ℕ → List ℕ
-  first i = listed db only (take i cited)
+  abbrev pub listed_before : ℕ → List ℕ
+  listed_before i = listed db only (take i cited)
 
   abbrev pub is_listed : ℕ → Bool
   is_listed a = list_any (has_typecode only) (statement_at db a)
 
-  one_more : (i : ℕ) → i < length cited → (b : Bool) → is_listed (get_or cited i 0) ≡ b
-      → first (i + 1) ≡ first i ++ cond b (get_or cited i 0 ∷ []) []
-  one_more i l b e =
+  listed_next : (i : ℕ) → i < length cited → (b : Bool) → is_listed (get_or cited i 0) ≡ b
+      → listed_before (i + 1) ≡ listed_before i ++ cond b (get_or cited i 0 ∷ []) []
+  listed_next i l b e =
       ap (listed db only) (take_more cited i 0 l)
       ∙ filter_snoc is_listed (take i cited) (get_or cited i 0)
-      ∙ ap (λ c. first i ++ cond c (get_or cited i 0 ∷ []) []) e
+      ∙ ap (λ c. listed_before i ++ cond c (get_or cited i 0 ∷ []) []) e
 
-  pub first_more : (i : ℕ) → i < length cited → is_listed (get_or cited i 0) ≡ true
-      → first (i + 1) ≡ first i ++ get_or cited i 0 ∷ []
-  first_more i l e = one_more i l true e
+  pub listed_before_more : (i : ℕ) → i < length cited → is_listed (get_or cited i 0) ≡ true
+      → listed_before (i + 1) ≡ listed_before i ++ get_or cited i 0 ∷ []
+  listed_before_more i l e = listed_next i l true e
 
-  pub first_same : (i : ℕ) → i < length cited → is_listed (get_or cited i 0) ≡ false
-      → first (i + 1) ≡ first i
-  first_same i l e = one_more i l false e ∙ append-nil (first i)
+  pub listed_before_same : (i : ℕ) → i < length cited → is_listed (get_or cited i 0) ≡ false
+      → listed_before (i + 1) ≡ listed_before i
+  listed_before_same i l e = listed_next i l false e ∙ append-nil (listed_before i)
 
   pub count_more : (i : ℕ) → i < length cited → is_listed (get_or cited i 0) ≡ true
-      → length (first (i + 1)) ≡ length (first i) + 1
-  count_more i l e = ap length (first_more i l e) ∙ length-append (first i) (get_or cited i 0 ∷ [])
+      → length (listed_before (i + 1)) ≡ length (listed_before i) + 1
+  count_more i l e = ap length (listed_before_more i l e) ∙ length-append (listed_before i)
+      (get_or cited i 0 ∷ [])
 
   pub count_same : (i : ℕ) → i < length cited → is_listed (get_or cited i 0) ≡ false
-      → length (first (i + 1)) ≡ length (first i)
-  count_same i l e = ap length (first_same i l e)
+      → length (listed_before (i + 1)) ≡ length (listed_before i)
+  count_same i l e = ap length (listed_before_same i l e)
 
   -- the labels of the first of them
   abbrev pub labels : ℕ → List Bytes
-  labels i = map (label_at db) (first i)
+  labels i = map (label_at db) (listed_before i)
 
   pub labels_more : (i : ℕ) → i < length cited → is_listed (get_or cited i 0) ≡ true
       → labels (i + 1) ≡ labels i ++ label_at db (get_or cited i 0) ∷ []
   labels_more i l e =
-      ap (map (label_at db)) (first_more i l e)
-      ∙ map-append (label_at db) (first i) (get_or cited i 0 ∷ [])
+      ap (map (label_at db)) (listed_before_more i l e)
+      ∙ map-append (label_at db) (listed_before i) (get_or cited i 0 ∷ [])

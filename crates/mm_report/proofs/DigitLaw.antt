@@ -24,8 +24,8 @@ digits_append f from n both e =
     ∙ ap (map f) (sym (range_append 0 from n))
     ∙ ap (λ k. map f (range_with_len 0 k)) e
 
-pub row_long : (m : Marks) (i : ℕ) → length (marks_of m i) ≡ m.columns
-row_long m i =
+pub marks_length : (m : Marks) (i : ℕ) → length (marks_of m i) ≡ m.columns
+marks_length m i =
     length-map (range_with_len 0 m.columns) (mark m i) ∙ length-range_with_len 0 m.columns
 
 -- how column j of a row is written
@@ -37,9 +37,9 @@ pub cells_are : (m : Marks) (i : ℕ)
     → map (cell_text m i) (range_with_len 0 m.columns) ≡ map digit_of (marks_of m i)
 cells_are m i =
     ext_get_or 0 (map (cell_text m i) (range_with_len 0 m.columns)) (map digit_of (marks_of m i))
-    (long ∙ sym (length-map (marks_of m i) digit_of ∙ row_long m i))
+    (long ∙ sym (length-map (marks_of m i) digit_of ∙ marks_length m i))
     (λ k lt. let less : k < m.columns = omega (arith, lt, long) in
-    let within : k < length (marks_of m i) = omega (arith, less, row_long m i) in
+    let within : k < length (marks_of m i) = omega (arith, less, marks_length m i) in
     get_or-map-range_with_len (cell_text m i) 0 m.columns k k 0 less (zero-add k)
     ∙ ap digit_of (mark_at_range (mark m i) 0 m.columns k less ∙ ap (mark m i) (zero-add k))
     ∙ sym (get_or-map digit_of (marks_of m i) k false 0 within

@@ -10,14 +10,15 @@ use Rattle.mm_spec.specs.Text.{Bytes}
 
 -- a selection among the numbers below n is below n
 pub selected_below : (p : ℕ → Bool) (n : ℕ) → All (λ k. k < n) (filter p (range_with_len 0 n))
-selected_below p n i d h = let k = below n 0 i h in omega (arith, k)
+selected_below p n i d h = let k = selected_below_end n 0 i h in omega (arith, k)
   where
-    below : (m a i : ℕ) → i < length (filter p (range_with_len a m))
+    selected_below_end : (m a i : ℕ) → i < length (filter p (range_with_len a m))
         → get_or (filter p (range_with_len a m)) i d < a + m
-    below zero a i h = absurd (omega arith)
-    below (suc m) a i h = by (p a) (below m (a + 1)) i h
+    selected_below_end zero a i h = absurd (omega arith)
+    selected_below_end (suc m) a i i_inside =
+        by_test (p a) (selected_below_end m (a + 1)) i i_inside
       where
-        by : (b : Bool)
+        by_test : (b : Bool)
             → ((i : ℕ) → i < length (filter p (range_with_len (a + 1) m))
             → get_or (filter p (range_with_len (a + 1) m)) i d < a + 1 + m)
             → (i : ℕ)
@@ -28,9 +29,9 @@ selected_below p n i d h = let k = below n 0 i h in omega (arith, k)
             (cond b (a ∷ filter p (range_with_len (a + 1) m))
             (filter p (range_with_len (a + 1) m))) i d
             < a + suc m
-        by true r zero h = omega arith
-        by true r (suc i) h = let k = r i (omega arith) in omega (arith, k)
-        by false r i h = let k = r i h in omega (arith, k)
+        by_test true r zero i_inside = omega arith
+        by_test true r (suc i) i_inside = let k = r i (omega arith) in omega (arith, k)
+        by_test false r i i_inside = let k = r i i_inside in omega (arith, k)
 
 -- what is looked up of part of a list, each after a space
 pub spaced_map : (f : ℕ → Bytes) (ks : List ℕ) (from to : ℕ)
@@ -45,8 +46,9 @@ spaced_map f ks from to =
 pub some_spaced : (names : List Bytes) (from to : ℕ) → from < to → to ≤ length names
     → 0 < length (flat_map (λ (l : Bytes). 32 ∷ l) (slice_range names from to))
 some_spaced names from to order within =
-    some (slice_range names from to) (simp (length-take, length-drop) (omega arith))
+    some_bytes (slice_range names from to) (simp (length-take, length-drop) (omega arith))
   where
-    some : (ls : List Bytes) → 0 < length ls → 0 < length (flat_map (λ (l : Bytes). 32 ∷ l) ls)
-    some [] none = absurd (omega arith)
-    some (l ∷ ls) none = omega arith
+    some_bytes : (ls : List Bytes) → 0 < length ls → 0
+        < length (flat_map (λ (l : Bytes). 32 ∷ l) ls)
+    some_bytes [] none = absurd (omega arith)
+    some_bytes (l ∷ ls) none = omega arith

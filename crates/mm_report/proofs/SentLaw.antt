@@ -20,11 +20,11 @@ use Rattle.mm_report.specs.Rows.{marks_of}
 pub sent_none : (a : Option (List ℕ)) (s : Pending) → Sent a a s s []
 sent_none a s =
     record {
-      out = [];
-      wrote = Appends-nil a;
-      fine = λ e. (e, sym (append-nil s.held));
-      part = (0, refl);
-      stuck = λ e. refl;
+      bytes = [];
+      is_written = Appends-nil a;
+      if_not_failed = λ e. (e, sym (append-nil s.held));
+      is_prefix = (0, refl);
+      if_failed_before = λ e. refl;
     }
 
 pub sent_as : {a b : Option (List ℕ)} {s t : Pending} {x : List ℕ} (y : List ℕ) → x ≡ y
@@ -33,49 +33,55 @@ sent_as {a} {b} {s} {t} {x} y e h = subst (Sent a b s t) e h
 
 pub sent_more : {a b c : Option (List ℕ)} {r s t : Pending} {x y : List ℕ} → Sent a b r s x
     → Sent b c s t y → Sent a c r t (x ++ y)
-sent_more {a} {b} {c} {r} {s} {t} {x} {y} h k = record {
-  out = h.out ++ k.out;
-  wrote = Appends-trans a b c h.out k.out h.wrote k.wrote;
-  fine =
-      λ e. let f = k.fine e in let g = h.fine f.0 in (
+sent_more {a} {b} {c} {r} {s} {t} {x} {y} sent sent_then = record {
+  bytes = sent.bytes ++ sent_then.bytes;
+  is_written = Appends-trans a b c sent.bytes sent_then.bytes sent.is_written sent_then.is_written;
+  if_not_failed =
+      λ e. let f = sent_then.if_not_failed e in let g = sent.if_not_failed f.0 in (
         g.0,
-        append_assoc h.out k.out t.held ∙ ap (λ z. h.out ++ z) f.1
-            ∙ sym (append_assoc h.out s.held y) ∙ ap (λ z. z ++ y) g.1 ∙ append_assoc r.held x y,
+        append_assoc sent.bytes sent_then.bytes t.held ∙ ap (λ z. sent.bytes ++ z) f.1
+            ∙ sym (append_assoc sent.bytes s.held y) ∙ ap (λ z. z ++ y) g.1
+            ∙ append_assoc r.held x y,
       );
-  part = parts (cases_Bool s.failed);
-  stuck = λ e. ap (λ z. z ++ k.out) (h.stuck e) ∙ k.stuck (still e (cases_Bool s.failed));
+  is_prefix = prefix_by_failure (cases_Bool s.failed);
+  if_failed_before = λ e. ap (λ z. z ++ sent_then.bytes) (sent.if_failed_before e)
+      ∙ sent_then.if_failed_before (failed_still e (cases_Bool s.failed));
 }
   where
-    still : r.failed ≡ true → (s.failed ≡ true) ⊎ (s.failed ≡ false) → s.failed ≡ true
-    still e (inl t) = t
-    still e (inr f) = let g = (h.fine f).0 in absurd (let no : true ≡ false = sym e ∙ g in cc)
+    failed_still : r.failed ≡ true → (s.failed ≡ true) ⊎ (s.failed ≡ false) → s.failed ≡ true
+    failed_still e (inl t) = t
+    failed_still e (inr f) = let g = (sent.if_not_failed f).0 in
+        absurd (let no : true ≡ false = sym e ∙ g in cc)
 
-    parts : (s.failed ≡ true) ⊎ (s.failed ≡ false)
-        → (n : ℕ) × (h.out ++ k.out ≡ take n (r.held ++ (x ++ y)))
-    parts (inr f) = (
-      length h.out + k.part.0,
-      ap (λ z. h.out ++ z) k.part.1 ∙ sym (take-append-add h.out (s.held ++ y) k.part.0)
-          ∙ ap (take (length h.out + k.part.0))
-          (sym (append_assoc h.out s.held y) ∙ ap (λ z. z ++ y) (h.fine f).1
+    prefix_by_failure : (s.failed ≡ true) ⊎ (s.failed ≡ false)
+        → (n : ℕ) × (sent.bytes ++ sent_then.bytes ≡ take n (r.held ++ (x ++ y)))
+    prefix_by_failure (inr f) = (
+      length sent.bytes + sent_then.is_prefix.0,
+      ap (λ z. sent.bytes ++ z) sent_then.is_prefix.1
+          ∙ sym (take-append-add sent.bytes (s.held ++ y) sent_then.is_prefix.0)
+          ∙ ap (take (length sent.bytes + sent_then.is_prefix.0))
+          (sym (append_assoc sent.bytes s.held y) ∙ ap (λ z. z ++ y) (sent.if_not_failed f).1
           ∙ append_assoc r.held x y),
     )
-    parts (inl e) = (
-      min h.part.0 (length (r.held ++ x)),
-      ap (λ z. h.out ++ z) (k.stuck e) ∙ append-nil h.out ∙ h.part.1
-          ∙ sym (take_min h.part.0 (r.held ++ x))
-          ∙ sym (take-append-le (min h.part.0 (length (r.held ++ x))) (r.held ++ x) y (omega arith))
-          ∙ ap (take (min h.part.0 (length (r.held ++ x)))) (append_assoc r.held x y),
+    prefix_by_failure (inl e) = (
+      min sent.is_prefix.0 (length (r.held ++ x)),
+      ap (λ z. sent.bytes ++ z) (sent_then.if_failed_before e) ∙ append-nil sent.bytes
+          ∙ sent.is_prefix.1
+          ∙ sym (take_min sent.is_prefix.0 (r.held ++ x))
+          ∙ sym (take-append-le (min sent.is_prefix.0 (length (r.held ++ x))) (r.held ++ x) y
+          (omega arith))
+          ∙ ap (take (min sent.is_prefix.0 (length (r.held ++ x)))) (append_assoc r.held x y),
     )
 
 -- nothing is written after a failure
 pub sent_stuck : (a : Option (List ℕ)) (s : Pending) (x : List ℕ) → s.failed ≡ true → Sent a a s s x
 sent_stuck a s x e =
     record {
-      out = [];
-      wrote = Appends-nil a;
-      fine = λ f. absurd (let no : true ≡ false = sym e ∙ f in cc);
-      part = (0, refl);
-      stuck = λ f. refl;
+      bytes = [];
+      is_written = Appends-nil a;
+      if_not_failed = λ f. absurd (let no : true ≡ false = sym e ∙ f in cc);
+      is_prefix = (0, refl);
+      if_failed_before = λ f. refl;
     }
 
 -- a piece that is held
@@ -83,41 +89,45 @@ pub sent_held : (a : Option (List ℕ)) (s t : Pending) (x : List ℕ) → t.hel
     → t.failed ≡ s.failed → Sent a a s t x
 sent_held a s t x e f =
     record {
-      out = [];
-      wrote = Appends-nil a;
-      fine = λ g. (sym f ∙ g, e);
-      part = (0, refl);
-      stuck = λ g. refl;
+      bytes = [];
+      is_written = Appends-nil a;
+      if_not_failed = λ g. (sym f ∙ g, e);
+      is_prefix = (0, refl);
+      if_failed_before = λ g. refl;
     }
 
 -- what was held is written, or a beginning of it
 pub sent_flushed : (a b : Option (List ℕ)) (s t : Pending) → Appends a b s.held → s.failed ≡ false
     → t.held ≡ [] → Sent a b s t []
-sent_flushed a b s t w f e =
+sent_flushed a b s t appends f e =
     record {
-      out = s.held;
-      wrote = w;
-      fine = λ g. (f, ap (λ z. s.held ++ z) e);
-      part = (length s.held, sym (take-append_seam s.held []));
-      stuck = λ g. absurd (let no : true ≡ false = sym g ∙ f in cc);
+      bytes = s.held;
+      is_written = appends;
+      if_not_failed = λ g. (f, ap (λ z. s.held ++ z) e);
+      is_prefix = (length s.held, sym (take-append_seam s.held []));
+      if_failed_before = λ g. absurd (let no : true ≡ false = sym g ∙ f in cc);
     }
 
 -- a piece that is written past an empty buffer
 pub sent_past : (a b : Option (List ℕ)) (s t : Pending) (x : List ℕ) → Appends a b x
     → s.failed ≡ false → s.held ≡ [] → t.held ≡ [] → Sent a b s t x
-sent_past a b s t x w f e g =
+sent_past a b s t x appends failed_is held_is t_held_is =
     record {
-      out = x;
-      wrote = w;
-      fine = λ h. (f, ap (λ z. x ++ z) g ∙ append-nil x ∙ ap (λ z. z ++ x) (sym e));
-      part = (
+      bytes = x;
+      is_written = appends;
+      if_not_failed = λ h. (
+        failed_is,
+        ap (λ z. x ++ z) t_held_is ∙ append-nil x
+            ∙ ap (λ z. z ++ x) (sym held_is),
+      );
+      is_prefix = (
         length x,
         sym
-            (ap (λ z. take (length x) (z ++ x)) e ∙ take_all (length x) x (omega arith)),
+            (ap (λ z. take (length x) (z ++ x)) held_is ∙ take_all (length x) x (omega arith)),
       );
-      stuck = λ h.
+      if_failed_before = λ h.
           absurd (let no : true
-          ≡ false = sym h ∙ f in
+          ≡ false = sym h ∙ failed_is in
           cc);
     }
 
@@ -128,11 +138,11 @@ one_if b = cond b 1 0
 count_map : {X : Type 0} (p : X → Bool) (xs : List X) → count_by p xs ≡ count_by (λ b. b) (map p xs)
 unfolding one_if
 count_map {X} p xs =
-    sym (sum-map (λ x. one_if (p x)) xs) ∙ ap sum (twice xs) ∙ sum-map one_if (map p xs)
+    sym (sum-map (λ x. one_if (p x)) xs) ∙ ap sum (map_of_map xs) ∙ sum-map one_if (map p xs)
   where
-    twice : (ys : List X) → map (λ x. one_if (p x)) ys ≡ map one_if (map p ys)
-    twice [] = refl
-    twice (y ∷ ys) = ap (λ z. one_if (p y) ∷ z) (twice ys)
+    map_of_map : (ys : List X) → map (λ x. one_if (p x)) ys ≡ map one_if (map p ys)
+    map_of_map [] = refl
+    map_of_map (y ∷ ys) = ap (λ z. one_if (p y) ∷ z) (map_of_map ys)
 
 pub marks_counted : (m : Marks) (i : ℕ)
     → count_by (λ j. mark m i j) (range_with_len 0 m.columns) ≡ count_by (λ b. b) (marks_of m i)
@@ -154,30 +164,34 @@ range_append b (suc a) n =
 pub sent_all : (a b c : Option (List ℕ)) (s t : Pending) (x : List ℕ)
     → Sent a b (pending [] false) s x → Sent b c s t [] → t.failed ≡ false → t.held ≡ []
     → Appends a c x
-sent_all a b c s t x h k f e =
-    let m = sent_more h k in
-    let w = (m.fine f).1 in
+sent_all a b c s t x sent sent_then f e =
+    let m = sent_more sent sent_then in
+    let w = (m.if_not_failed f).1 in
     subst (Appends a c)
-    (sym (append-nil m.out) ∙ ap (λ z. m.out ++ z) (sym e) ∙ w ∙ append-nil x) m.wrote
+    (sym (append-nil m.bytes) ∙ ap (λ z. m.bytes ++ z) (sym e) ∙ w ∙ append-nil x) m.is_written
 
--- or a beginning
+-- or a prefix was written
 pub sent_part : (a b c : Option (List ℕ)) (s t : Pending) (x : List ℕ)
     → Sent a b (pending [] false) s x → Sent b c s t [] → (k : ℕ) × Appends a c (take k x)
-sent_part a b c s t x h k =
-    let m = sent_more h k in
-    (m.part.0, subst (Appends a c) (m.part.1 ∙ ap (take m.part.0) (append-nil x)) m.wrote)
+sent_part a b c s t x sent sent_then =
+    let m = sent_more sent sent_then in (
+      m.is_prefix.0,
+      subst (Appends a c) (m.is_prefix.1
+          ∙ ap (take m.is_prefix.0) (append-nil x)) m.is_written,
+    )
 
-same_test : (n : ℕ) → n < 100 → (eqb (length (decimal n)) 1) ≡ ltb n 10
+one_digit_test : (n : ℕ) → n < 100 → (eqb (length (decimal n)) 1) ≡ ltb n 10
 unfolding digits
-same_test n lt = agree_below_at (λ k. eqb (length (decimal k)) 1) (λ k. ltb k 10) 100 n refl lt
+one_digit_test n lt = agree_below_at (λ k. eqb (length (decimal k)) 1) (λ k. ltb k 10) 100 n refl lt
 
-pub two_short : (n : ℕ) → n < 10 → 48 ∷ decimal n ≡ two_digits n
-two_short n lt =
-    sym (ap (λ b. cond b (48 ∷ decimal n) (decimal n)) (same_test n (omega arith) ∙ lt-ltb n 10 lt))
+pub two_digits_below_ten : (n : ℕ) → n < 10 → 48 ∷ decimal n ≡ two_digits n
+two_digits_below_ten n lt =
+    sym (ap (λ b. cond b (48 ∷ decimal n) (decimal n))
+    (one_digit_test n (omega arith) ∙ lt-ltb n 10 lt))
 
-pub two_long : (n : ℕ) → n < 100 → 10 ≤ n → decimal n ≡ two_digits n
-two_long n lt le =
-    sym (ap (λ b. cond b (48 ∷ decimal n) (decimal n)) (same_test n lt ∙ le-ltb n 10 le))
+pub two_digits_from_ten : (n : ℕ) → n < 100 → 10 ≤ n → decimal n ≡ two_digits n
+two_digits_from_ten n lt le =
+    sym (ap (λ b. cond b (48 ∷ decimal n) (decimal n)) (one_digit_test n lt ∙ le-ltb n 10 le))
 
 pub on_ok : {T E : Type 0} (r : Result T E) (P Q : Type 0) → (P → Q) → OnOk r P → OnOk r Q
 on_ok (Ok x) P Q f h = f h

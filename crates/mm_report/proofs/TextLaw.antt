@@ -1,6 +1,6 @@
 -- The report that is written is that of the database.
 use Rattle.std.proofs.Common.{◌≡◌, ◌∙◌, ℕ, List, Option, [], ap, ap₂, sym, length, map, ◌++◌}
-use Rattle.std.proofs.Common.{append_assoc, append-nil, Bool}
+use Rattle.std.proofs.Common.{append_assoc, append-nil}
 use Rattle.std.specs.Prelude.{slice_index_or}
 use Rattle.std.proofs.lemmas.List.{length-map}
 use Rattle.std.proofs.lemmas.List.FromFn.{length-map-range_with_len}
@@ -33,10 +33,10 @@ same_report request d columns m opened names heads o n h =
     (rows_of m x)) n h
 
 -- as many labels as rows
-pub labels_long : (db : List Statement) (m : Marks) (names : List Bytes)
+pub labels_length : (db : List Statement) (m : Marks) (names : List Bytes)
     → names ≡ map (label_at db) (theorems db) → length (theorems db) ≡ m.rows
     → length names ≡ m.rows
-labels_long db m names n rows =
+labels_length db m names n rows =
     ap (λ (ls : List Bytes). length ls) n ∙ length-map (theorems db) (label_at db) ∙ rows
 
 -- two sections that were sent as one
@@ -46,4 +46,5 @@ two_sections h a b u e = ap (λ (x : List ℕ). x ++ u ++ e) (sym (append_assoc 
 -- a section that isn't sent
 pub without_usage : (h a b u e : List ℕ) → u ≡ [] → h ++ (a ++ b) ++ e ≡ h ++ a ++ b ++ u ++ e
 without_usage h a b u e none =
-    rw none (ap (λ (x : List ℕ). x ++ e) (sym (append_assoc h a b) ∙ sym (append-nil (h ++ a ++ b))))
+    rw none (ap (λ (x : List ℕ). x ++ e) (sym (append_assoc h a b)
+    ∙ sym (append-nil (h ++ a ++ b))))

@@ -132,13 +132,13 @@ module _ (m : Marks) (labels : ℕ → Bytes) (j : ℕ) (inside : j < m.columns)
       (λ k lo hi. is_marked k ∙ none k lo hi))
       ∙ append-nil (users_before m labels j n)
 
-  above : (last : Option ℕ) (k : ℕ) → first_after last ≤ k → IsAbove last k
-  above None k h = tt
-  above (Some i) k h = omega arith
+  above_from_first : (last : Option ℕ) (k : ℕ) → first_after last ≤ k → IsAbove last k
+  above_from_first None k h = tt
+  above_from_first (Some i) k h = omega arith
 
-  reach : (last : Option ℕ) (i : ℕ) → IsAbove last i → first_after last ≤ i
-  reach None i h = omega arith
-  reach (Some l) i h = omega arith
+  first_from_above : (last : Option ℕ) (i : ℕ) → IsAbove last i → first_after last ≤ i
+  first_from_above None i h = omega arith
+  first_from_above (Some l) i h = omega arith
 
   -- up to the next marked theorem nothing is added
   users_before_to : (last : Option ℕ) (n : ℕ) → first_after last ≤ n
@@ -148,7 +148,7 @@ module _ (m : Marks) (labels : ℕ → Bytes) (j : ℕ) (inside : j < m.columns)
       let e : first_after last + (n - first_after last) ≡ n = omega arith in
       ap (users_before m labels j) (sym e)
       ∙ users_before_gap (first_after last) (n - first_after last)
-      (λ k lo hi. none k (above last k lo) (omega arith))
+      (λ k lo hi. none k (above_from_first last k lo) (omega arith))
 
   -- after a marked theorem there is one
   some_gathered : (i : ℕ) → mark m i j ≡ true → 0 < length (users_before m labels j (i + 1))
@@ -169,25 +169,25 @@ module _ (m : Marks) (labels : ℕ → Bytes) (j : ℕ) (inside : j < m.columns)
       ++ after_label last (spaced (run m labels j first end))
       ≡ separated_rows (users_before m labels j end)
   users_more last first end marked up order none all =
-      text last marked (users_before_to last first (reach last first up) none)
+      text_by_last last marked (users_before_to last first (first_from_above last first up) none)
     where
-      whole : users_before m labels j end
+      users_before_end : users_before m labels j end
           ≡ users_before m labels j first ++ run m labels j first end
-      whole =
+      users_before_end =
           let e : first + (end - first) ≡ end = omega arith in
           ap (users_before m labels j) (sym e)
           ∙ users_before_run first (end - first) (λ k lo hi. all k lo (omega arith))
 
-      text : (o : Option ℕ) → IfSome o (λ i. mark m i j ≡ true)
+      text_by_last : (o : Option ℕ) → IfSome o (λ i. mark m i j ≡ true)
           → users_before m labels j first ≡ users_before m labels j (first_after o)
           → separated_rows (users_before m labels j (first_after o))
           ++ after_label o (spaced (run m labels j first end))
           ≡ separated_rows (users_before m labels j end)
-      text None marked e =
-          sym (ap separated_rows (whole ∙ ap (λ z. z ++ run m labels j first end) e)
+      text_by_last None marked e =
+          sym (ap separated_rows (users_before_end ∙ ap (λ z. z ++ run m labels j first end) e)
           ∙ separated_spaced (run m labels j first end))
-      text (Some i) marked e =
-          sym (ap separated_rows (whole ∙ ap (λ z. z ++ run m labels j first end) e)
+      text_by_last (Some i) marked e =
+          sym (ap separated_rows (users_before_end ∙ ap (λ z. z ++ run m labels j first end) e)
           ∙ separated_append (users_before m labels j (i + 1)) (run m labels j first end)
           (some_gathered i marked))
 
@@ -197,9 +197,9 @@ module _ (m : Marks) (labels : ℕ → Bytes) (j : ℕ) (inside : j < m.columns)
       ≡ separated_rows (users_before m labels j n)
   users_all last n le none = ap separated_rows (sym (users_before_to last n le none))
 
-  one_more : (r : Row) (b : Bool) → length {A = Row} (cond b (r ∷ []) []) ≡ cond b 1 0
-  one_more r true = refl
-  one_more r false = refl
+  length_of_one : (r : Row) (b : Bool) → length {A = Row} (cond b (r ∷ []) []) ≡ cond b 1 0
+  length_of_one r true = refl
+  length_of_one r false = refl
 
   -- the count of a column
   pub users_counted : (n : ℕ)
@@ -214,7 +214,7 @@ module _ (m : Marks) (labels : ℕ → Bytes) (j : ℕ) (inside : j < m.columns)
       ∙ length-append (users_before m labels j n)
       (filter (λ r. mark_at j r.marks) (row m labels j n ∷ [])) in
       let o =
-      one_more (row m labels j n) (mark_at j (row m labels j n).marks)
+      length_of_one (row m labels j n) (mark_at j (row m labels j n).marks)
       ∙ ap (λ b. cond b 1 0) (is_marked n) in
       ap (λ k. count_by (λ i. mark m i j) (range_with_len 0 k)) e ∙ t
       ∙ sym (g ∙ omega (arith, i, o)) ∙ ap (λ k. length (users_before m labels j k)) (sym e)

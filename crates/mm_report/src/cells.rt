@@ -11,33 +11,33 @@ use mm_rows::MarkedRows;
 use std::alloc::Allocator;
 use std::io::Write;
 
-/// The number of words of marks that are written at a time.
-const WORDS: u32 = 8;
+/// How many words of marks are written at a time.
+const WORDS_AT_A_TIME: u32 = 8;
 
-/// The number of cells of these words.
-const CELLS: usize = 64 * WORDS as usize;
+/// How many cells these words have.
+const CELLS: usize = 64 * WORDS_AT_A_TIME as usize;
 
 /// Sends a theorem's cells, those of some words at a time.
 pub(crate) fn send_cells<W: Write, A: Allocator>(
     sink: &mut Sink,
     to: &mut W,
     marked: &MarkedRows<A>,
-    i: u32,
+    row: u32,
 )
-    requires { i < marked.now.rows }
+    requires { row < marked.now.rows }
     ensures { Sent (W.contents to.old) (W.contents to.new) sink.old sink.new
-        (cells One (marks_of marked.now i)) }
+        (cells One (marks_of marked.now row)) }
 {
     let mut digits = [b'0'; CELLS];
     let words = marked.columns().div_ceil(64);
     let mut word = 0u32;
     while word < words {
-        let count = (words - word).min(WORDS);
-        let part = &mut digits[..64 * count as usize];
-        marked.write_cells(i, word, part);
-        // The last word may extend past the last column.
-        let left = marked.columns() - 64 * word;
-        sink.send(to, &part[..left.min(64 * count) as usize]);
-        word += count;
+        let word_count = (words - word).min(WORDS_AT_A_TIME);
+        let part = &mut digits[..64 * word_count as usize];
+        marked.write_cells(row, word, part);
+        // The last word may go on past the last column.
+        let cells_left = marked.columns() - 64 * word;
+        sink.send(to, &part[..cells_left.min(64 * word_count) as usize]);
+        word += word_count;
     }
 }

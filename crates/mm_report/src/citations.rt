@@ -10,8 +10,8 @@ ghost use Rattle.mm_report.specs.Rows.{text_request};
 ghost use Rattle.mm_spec.specs.declared.Choice.TheVariants as choices;
 ghost use Rattle.mm_report.specs.Sent.{Sent};
 
-use crate::counted::open_theorems;
 use crate::labels::{TheoremLabels, label_of};
+use crate::open_columns::open_theorems;
 use crate::sink::{Sink, WriteFailed};
 use crate::text::{send_head, send_line};
 use mm_cites::Citations;
@@ -108,8 +108,9 @@ fn send_citation_lines<W: Write, D: Allocator, C: Allocator>(
         (citing_rows database.now.statements (option_copied only.entry) citations.now
         labels.now)) }
 {
-    for i in 0..citations.rows() {
-        send_citation_line(sink, to, database, only, labels.label(i), citations.of(i));
+    for row in 0..citations.rows() {
+        let label = labels.label(row);
+        send_citation_line(sink, to, database, only, label, citations.of(row));
     }
 }
 
@@ -137,9 +138,9 @@ pub fn write_requested_citations<'a, W: Write, A: Allocator, C: Allocator, D: Al
     let mut sink = Sink::new();
     let labels = TheoremLabels::new(database);
     let axioms = chosen.len() as u64;
-    let opened = open_theorems(database, chosen, request.with_open);
+    let open_columns = open_theorems(database, chosen, request.with_open);
     let theorems = citations.rows() as u64;
-    send_head(&mut sink, to, request, axioms, opened, theorems);
+    send_head(&mut sink, to, request, axioms, open_columns, theorems);
     send_line(&mut sink, to, b"citations");
     send_citation_lines(&mut sink, to, database, request.only, &labels, citations);
     send_line(&mut sink, to, b"end");

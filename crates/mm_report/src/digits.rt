@@ -11,33 +11,33 @@ use mm_rows::MarkedRows;
 use std::alloc::Allocator;
 use std::io::Write;
 
-/// The number of words of marks that are written at a time.
-const WORDS: u32 = 32;
+/// How many words of marks are written at a time.
+const WORDS_AT_A_TIME: u32 = 32;
 
-/// The number of digits of these words.
-const DIGITS: usize = 16 * WORDS as usize;
+/// How many digits these words have.
+const DIGITS: usize = 16 * WORDS_AT_A_TIME as usize;
 
 /// Sends a theorem's digits, those of some words at a time.
 pub(crate) fn send_digits<W: Write, A: Allocator>(
     sink: &mut Sink,
     to: &mut W,
     marked: &MarkedRows<A>,
-    i: u32,
+    row: u32,
 )
-    requires { i < marked.now.rows }
+    requires { row < marked.now.rows }
     ensures { Sent (W.contents to.old) (W.contents to.new) sink.old sink.new
-        (cells Two (marks_of marked.now i)) }
+        (cells Two (marks_of marked.now row)) }
 {
     let mut digits = [b'0'; DIGITS];
     let words = marked.columns().div_ceil(64);
     let mut word = 0u32;
     while word < words {
-        let count = (words - word).min(WORDS);
-        let part = &mut digits[..16 * count as usize];
-        marked.write_digits(i, word, part);
-        // The last word may extend past the last column.
-        let left = marked.columns().div_ceil(4) - 16 * word;
-        sink.send(to, &part[..left.min(16 * count) as usize]);
-        word += count;
+        let word_count = (words - word).min(WORDS_AT_A_TIME);
+        let part = &mut digits[..16 * word_count as usize];
+        marked.write_digits(row, word, part);
+        // The last word may go on past the last column.
+        let digits_left = marked.columns().div_ceil(4) - 16 * word;
+        sink.send(to, &part[..digits_left.min(16 * word_count) as usize]);
+        word += word_count;
     }
 }

@@ -27,6 +27,7 @@ impl<'d, 'a, D: Allocator> Model for TheoremLabels<'d, 'a, D> {
 }
 
 impl<'d, 'a, D: Allocator> TheoremLabels<'d, 'a, D> {
+    /// The labels of the theorems of this database.
     pub fn new(database: &'d Database<'a, D>) -> TheoremLabels<'d, 'a, D>
         ensures { result
             ≡ map (label_at database.entry.now.statements)
@@ -80,6 +81,7 @@ impl<'d, 'a, D: Allocator> Model for ColumnLabels<'d, 'a, D> {
 }
 
 impl<'d, 'a, D: Allocator> ColumnLabels<'d, 'a, D> {
+    /// The labels of these columns of the database.
     pub fn new<A: Allocator>(
         database: &'d Database<'a, D>,
         chosen: &'d Columns<A>,

@@ -1,78 +1,43 @@
--- A block that is cut from the units of a room, and the two cases of what `take` gives. Assumes `Logic`.
-use Rattle.std.proofs.Common.{◌≡◌, ℕ, zero, suc, ◌*◌, ◌^◌, ◌<◌, ◌≤◌, List, [], ◌∷◌, ◌++◌}
-use Rattle.std.proofs.Common.{IfSome, None, Some, refl, sym, ap, subst, ◌∙◌, arith}
+-- A `Block` as it lies in memory: a pointer, which is made of nothing, and a field of no bytes.
+-- Assumes `Logic`.
+use Rattle.std.proofs.Common.{◌≡◌, List, [], ◌∷◌, refl}
 use seplogic.Ra.Ura.{Ura}
-use mir.Syntax.{Ty, Body}
-use mir.Val.{Val, vcons, vnil, of_list}
-use base.Logic.{ent, sep, id⊢}
-use prog.Memory.{size, capped}
-use prog.Capped.{capped_is, capped_small}
-use prog.Wp.{Env, Calls, Loops, Wp, after_seq, after_block}
-use types.Logic.{Logic, sem}
-use types.Kit.{Item, Goal, Seq, Post, any_q, post, ‵, ◌$◌, move, drop, rewrite, fsplit, fpick, feq_l}
-use types.Match.{live}
+use mir.Syntax.{ty_ptr, ty_struct, tcons, tnil}
+use mir.Val.{Val, vstruct, vcons, vnil}
+use types.Logic.{Logic}
 use denote.RattleType.{RattleType}
-use denote.Laws.{Is}
-use denote.RawPtr.{Ptr, block_ptr, in_a_block}
-use denote.Steps.{only, peeks}
-use Rattle.core.specs.contracts.option.Option as option
-use Rattle.core.proofs.slots.Carves.{carve}
-use Rattle.mm_room.specs.Units.{units, units_at, way_back}
-use Rattle.mm_room.specs.contracts.memory.Memory as memory
-use Rattle.mm_room.proofs.MemoryLaw.{Fields, memory_val, fields_shown, memory_is}
+use denote.Laws.{Is, Makes, Typed, Lawful}
+use denote.RawPtr.{Ptr, RawPtr, ptr_val, rawptr_vals, rawptr_pure, rawptr_Lawful, rawptr_Tells}
+use denote.Struct.Struct.{Struct, Shape, Struct-Makes, Struct-Pure, Struct-Lawful, Struct-Tells}
 
-abbrev pub Taken : RattleType
-Taken = option.the_row memory.the_row
+abbrev no_field : Shape
+no_field = record { name = []; args = []; types = []; fields = [] }
 
--- what `take` says of the n units that it gives for s bytes
-abbrev pub Told : (n s : ℕ) → Taken.Denot → Type 0
-Told n s x = IfSome x (λ m. (m.units ≡ n) × (0 < m.units) × (s ≤ m.units * 16) × (s < 2 ^ 63))
+abbrev two_fields : Shape
+two_fields = record { name = []; args = []; types = []; fields = RawPtr ∷ Struct no_field ∷ [] }
 
--- the units are room for a type that they hold, with the way back
-pub cut : {M : Type 1} {𝓤 : Ura M} (𝓛 : Logic 𝓤) (τ : Ty) (b o n s : ℕ) → capped (size τ) ≡ s
-    → 0 < n → s ≤ n * 16 → s < 2 ^ 63
-    → ent 𝓤 (sem 𝓛 (units_at (block_ptr b o) n))
-    (sep 𝓤 (𝓛.H.room τ b o) (sem 𝓛 (way_back n τ (block_ptr b o))))
-cut 𝓛 τ b o zero s sized some fits short = absurd (omega (arith, some))
-cut 𝓛 τ b o (suc n) s sized some fits short =
-    let small : size τ < 2 ^ 63 = capped_small (size τ) (omega (arith, sized, short)) in
-    let same : size τ ≡ s = sym (capped_is (size τ) (omega (arith, small))) ∙ sized in
-    carve 𝓛 (units (suc n)) τ (suc n) b o refl refl (omega (arith, same, fits))
+-- what the fields of a `Block` own
+abbrev pub Fields : RattleType
+Fields = Struct two_fields
 
-module _ {M : Type 1} {𝓤 : Ura M} {𝓛 : Logic 𝓤} {K : Type 0} {Γ : List (Item 𝓤)} {G : Goal 𝓤 𝓛.H} where
-  -- units that are not none lie in a block
-  in_block : K → (p : Ptr) (n : ℕ) → 0 < n
-      → ((b o : ℕ) → p ≡ block_ptr b o → Seq K 𝓛 (‵ (units_at (block_ptr b o) n) ∷ Γ) G)
-      → Seq K 𝓛 (‵ (units_at p n) ∷ Γ) G
-  in_block t p zero some k = absurd (omega (arith, some))
-  in_block t p (suc n) some k = in_a_block t p (λ (q : Ptr). units_at q (suc n)) (id⊢ 𝓤 _) k
+abbrev pub block_val : Ptr → Val
+block_val p = vstruct (vcons (ptr_val p) (vcons (vstruct vnil) vnil))
 
-  -- what `take` gave is the units in a block, or nothing
-  pub taken : K → (n s : ℕ) (x : Taken.Denot) (v : Val) → Told n s x
-      → ((b o : ℕ) → 0 < n → s ≤ n * 16 → s < 2 ^ 63
-      → v ≡ live 1 (vcons (memory_val (block_ptr b o)) vnil)
-      → Seq K 𝓛 (‵ (units_at (block_ptr b o) n) ∷ Γ) G)
-      → (v ≡ live 0 vnil → Seq K 𝓛 Γ G)
-      → Seq K 𝓛 (‵ (Taken.own_val x (v ∷ [])) ∷ Γ) G
-  taken t n s None v told some none =
-      fpick t (λ us. fsplit t $ feq_l t (λ is. fpick t (λ vss. fsplit t $ feq_l t (λ same. drop t $
-      none (ap only is ∙ ap (λ (ws : List Val). live 0 (of_list ws)) same)))))
-  taken t n s (Some m) v told some none =
-      fpick t (λ us. fsplit t $ feq_l t (λ is. fpick t (λ vss. fsplit t $ feq_l t (λ same. fsplit t $
-      move t (1 ∷ []) $ drop t $ fsplit t $
-      peeks t Fields (Is Fields) (fields_shown 𝓛) (m.at, tt) vss.0 (λ are. drop t $
-      rewrite t 0 (λ (k : ℕ). ‵ (units_at m.at k)) told.0 refl $
-      in_block t m.at n (subst (λ (k : ℕ). 0 < k) told.0 told.1) (λ b o lies.
-      some b o (subst (λ (k : ℕ). 0 < k) told.0 told.1) (subst (λ (k : ℕ). s ≤ k * 16) told.0 told.2) told.3
-      (ap only is ∙ ap (λ (ws : List Val). live 1 (of_list ws)) (same ∙ ap (λ (ws : List Val). ws ++ []) (memory_is m.at vss.0 are))
-      ∙ ap (λ (p : Ptr). live 1 (vcons (memory_val p) vnil)) lies)))))))
+module _ {M : Type 1} {𝓤 : Ura M} (𝓛 : Logic 𝓤) where
+  pub fields_Makes : Makes 𝓛 Fields (Is Fields)
+  fields_Makes = Struct-Makes 𝓛 two_fields (rawptr_pure, (Struct-Pure no_field tt, tt))
 
--- what comes after a statement b' of a body, where the rest is b
-abbrev pub rest_runs : {M : Type 1} {𝓤 : Ura M} (𝓛 : Logic 𝓤) → Calls 𝓤 𝓛.H → Loops 𝓤 𝓛.H
-    → Env 𝓤 𝓛.H → Body → Post 𝓤 𝓛.H → Post 𝓤 𝓛.H
-rest_runs {𝓤 = 𝓤} 𝓛 C Λ E b q =
-    any_q (after_seq 𝓤 𝓛.H (Wp 𝓤 𝓛.H C Λ E b (post 𝓤 𝓛.H q)) (post 𝓤 𝓛.H q))
+  fields_Lawful : Lawful 𝓛 Fields
+  fields_Lawful = Struct-Lawful 𝓛 two_fields (rawptr_Lawful 𝓛, (Struct-Lawful 𝓛 no_field tt, tt))
 
--- what comes after a block of statements
-abbrev pub block_ends : {M : Type 1} {𝓤 : Ura M} (𝓛 : Logic 𝓤) → Post 𝓤 𝓛.H → Post 𝓤 𝓛.H
-block_ends {𝓤 = 𝓤} 𝓛 q = any_q (after_block 𝓤 𝓛.H (post 𝓤 𝓛.H q))
+pub fields_are : (p : Ptr) → Is Fields (p, (tt, tt)) (block_val p ∷ [])
+fields_are p = ((rawptr_vals p, (vstruct vnil ∷ [], tt)), (refl, (refl, ((tt, (refl, tt)), tt))))
+
+pub block_typed : {M : Type 1} {𝓤 : Ura M} (𝓛 : Logic 𝓤) (p : Ptr)
+    → Typed (ty_struct [] (tcons ty_ptr (tcons (ty_struct [] tnil) tnil)) ∷ []) (block_val p ∷ [])
+block_typed 𝓛 p = (fields_Lawful 𝓛).typed (p, (tt, tt)) (block_val p ∷ []) (fields_are p)
+
+pub block_is : (p : Ptr) (vs : List Val) → Is Fields (p, (tt, tt)) vs → vs ≡ block_val p ∷ []
+block_is p vs =
+    Struct-Tells two_fields (rawptr_vals, (λ _. vstruct vnil ∷ [], tt))
+    (rawptr_Tells, (Struct-Tells no_field tt tt, tt)) (p, (tt, tt)) vs

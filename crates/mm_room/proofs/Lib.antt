@@ -1,6 +1,6 @@
--- The walks of this crate: `Memory::none` makes no memory, `allocate` turns the units of a room into
--- the block that is asked for, and `deallocate` turns that block back into them.
+-- The walks of this crate: `Memory::none` makes no memory, `allocate` turns the units of a room
+-- into the block that is asked for, and `deallocate` turns that block back into them.
 pub mod MemoryLaw
+pub mod RoomLaw
 pub mod BlockLaw
-pub mod HandleLaw
 pub mod ReuseLaw

@@ -25,8 +25,10 @@ fields_Makes 𝓛 = Struct-Makes 𝓛 one_pointer (rawptr_pure, tt)
 pub fields_are : (p : Ptr) → Is Fields (p, tt) (memory_val p ∷ [])
 fields_are p = ((rawptr_vals p, tt), (refl, (refl, tt)))
 
-pub memory_typed : {M : Type 1} {𝓤 : Ura M} (𝓛 : Logic 𝓤) (p : Ptr) → Typed (ty_struct [] (tcons ty_ptr tnil) ∷ []) (memory_val p ∷ [])
-memory_typed 𝓛 p = (Struct-Lawful 𝓛 one_pointer (rawptr_Lawful 𝓛, tt)).typed (p, tt) (memory_val p ∷ []) (fields_are p)
+pub memory_typed : {M : Type 1} {𝓤 : Ura M} (𝓛 : Logic 𝓤) (p : Ptr)
+    → Typed (ty_struct [] (tcons ty_ptr tnil) ∷ []) (memory_val p ∷ [])
+memory_typed 𝓛 p = (Struct-Lawful 𝓛 one_pointer (rawptr_Lawful 𝓛, tt)).typed (p, tt) (memory_val p
+    ∷ []) (fields_are p)
 
 pub fields_shown : {M : Type 1} {𝓤 : Ura M} (𝓛 : Logic 𝓤) → Shows 𝓛 Fields (Is Fields)
 fields_shown 𝓛 = shows 𝓛 Fields

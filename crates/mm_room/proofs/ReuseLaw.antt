@@ -1,5 +1,5 @@
--- A block of a free list as the block that is asked for, and the two cases of what `take` gives.
--- Assumes `Logic`.
+-- A block of a free list as the block that is asked for, and the two cases of what `take_block`
+-- gives. Assumes `Logic`.
 use Rattle.std.proofs.Common.{◌≡◌, ℕ, ◌*◌, ◌^◌, ◌<◌, ◌≤◌, List, [], ◌∷◌, ◌++◌}
 use Rattle.std.proofs.Common.{IfSome, None, Some, refl, sym, ap, subst, ◌∙◌, arith}
 use seplogic.Ra.Ura.{Ura}
@@ -10,7 +10,8 @@ use base.Fml.{froom}
 use prog.Memory.{size, capped}
 use prog.Capped.{capped_is, capped_small}
 use types.Logic.{Logic, sem}
-use types.Kit.{Item, Goal, Seq, ‵, raw, ◌⊛◌, ◌$◌, ◌∵◌, !, qed, done, move, drop, use1, use2, split, frame, assume, rewrite, fsplit, fjoin, fpick, feq_l}
+use types.Kit.{Item, Goal, Seq, ‵, raw, ◌⊛◌, ◌$◌, ◌∵◌, !, qed, done, move, drop, use1, use2, split}
+use types.Kit.{frame, assume, rewrite, fsplit, fjoin, fpick, feq_l}
 use types.Match.{live}
 use denote.RattleType.{RattleType}
 use denote.Laws.{Is, shows}
@@ -22,19 +23,20 @@ use Rattle.core.specs.declared.alloc.Allocator.{Ghosts}
 use Rattle.core.proofs.slots.Carves.{carve}
 use Rattle.mm_room.specs.Units.{units, block_at, block_units, block_back}
 use Rattle.mm_room.specs.contracts.block.Block as block
-use Rattle.mm_room.proofs.HandleLaw.{Fields, block_val, block_is}
+use Rattle.mm_room.proofs.BlockLaw.{Fields, block_val, block_is}
 
 module _ (A : RattleType) (g : Ghosts A.Denot) where
   abbrev pub Taken : RattleType
   Taken = option.the_row (block.the_row (param 0 A) g)
 
-  -- what `take` says of the block that it gives for s bytes
+  -- what `take_block` says of the block that it gives for s bytes
   abbrev pub Told : A.Denot → ℕ → Taken.Denot → Type 0
   Told h s x =
       IfSome x (λ b. (b.alloc ≡ h) × (b.units ≡ block_units s) × (s ≤ b.units * 16) × (s < 2 ^ 63))
 
 -- a block is room for a type that it holds, with the way back
-pub reuse : {M : Type 1} {𝓤 : Ura M} (𝓛 : Logic 𝓤) (holds : Ty → Ptr → base.Fml.Fml) (τ : Ty) (b o s : ℕ)
+pub reuse : {M : Type 1} {𝓤 : Ura M} (𝓛 : Logic 𝓤) (holds : Ty → Ptr → base.Fml.Fml)
+    (τ : Ty) (b o s : ℕ)
     → capped (size τ) ≡ s → s ≤ block_units s * 16 → s < 2 ^ 63
     → ent 𝓤 (sem 𝓛 (block_at holds (block_units s) (block_ptr b o)))
     (sep 𝓤 (𝓛.H.room τ b o) (sem 𝓛 (block_back holds τ (block_ptr b o))))
@@ -47,11 +49,13 @@ reuse {𝓤 = 𝓤} 𝓛 holds τ b o s sized fits short =
     (carve 𝓛 (units n) τ n b o refl refl (omega (arith, same, fits))) $ split ! $ frame ! $
     -- [the way back to the units; the right to give them back]
     assume ! (‵ (froom τ b o)) $ move ! (0 ∷ 1 ∷ []) $
-    use2 𝓛 (‵ (froom (units n) b o)) (apply∗ 𝓤 (𝓛.H.room τ b o) (𝓛.H.room (units n) b o)) $ fjoin ! $
+    use2 𝓛 (‵ (froom (units n) b o)) (apply∗ 𝓤 (𝓛.H.room τ b o) (𝓛.H.room (units n) b o)) $
+    fjoin ! $
     rewrite ! 0 (λ (k : ℕ). ‵ (block_at holds (block_units k) p)) (sym sized) refl $ done !
 
-module _ (A : RattleType) (g : Ghosts A.Denot) {M : Type 1} {𝓤 : Ura M} {𝓛 : Logic 𝓤} {K : Type 0} {Γ : List (Item 𝓤)} {G : Goal 𝓤 𝓛.H} where
-  -- what `take` gave is a block, or nothing
+module _ (A : RattleType) (g : Ghosts A.Denot) {M : Type 1} {𝓤 : Ura M} {𝓛 : Logic 𝓤} {K : Type 0}
+    {Γ : List (Item 𝓤)} {G : Goal 𝓤 𝓛.H} where
+  -- what `take_block` gave is a block, or nothing
   pub taken : K → (h : A.Denot) (s : ℕ) (x : (Taken A g).Denot) (v : Val) → Told A g h s x
       → ((b o : ℕ) → s ≤ block_units s * 16 → s < 2 ^ 63
       → v ≡ live 1 (vcons (block_val (block_ptr b o)) vnil)
@@ -62,13 +66,16 @@ module _ (A : RattleType) (g : Ghosts A.Denot) {M : Type 1} {𝓤 : Ura M} {𝓛
       fpick t (λ us. fsplit t $ feq_l t (λ is. fpick t (λ vss. fsplit t $ feq_l t (λ same. drop t $
       none (ap only is ∙ ap (λ (ws : List Val). live 0 (of_list ws)) same)))))
   taken t h s (Some x) v told some none =
-      fpick t (λ us. fsplit t $ feq_l t (λ is. fpick t (λ vss. fsplit t $ feq_l t (λ same. fsplit t $
+      fpick t (λ us. fsplit t $
+      feq_l t (λ is. fpick t (λ vss. fsplit t $ feq_l t (λ same. fsplit t $
       move t (1 ∷ []) $ drop t $ fsplit t $
       peeks t Fields (Is Fields) (shows 𝓛 Fields) (x.at, (tt, tt)) vss.0 (λ are. drop t $
       rewrite t 0 (λ (k : ℕ). ‵ (block_at (g.dealloc_token x.alloc) k x.at)) told.1 refl $
-      rewrite t 0 (λ (a : A.Denot). ‵ (block_at (g.dealloc_token a) (block_units s) x.at)) told.0 refl $
+      rewrite t 0 (λ (a : A.Denot). ‵ (block_at (g.dealloc_token a) (block_units s) x.at)) told.0
+      refl $
       in_a_block t x.at (λ (p : Ptr). block_at (g.dealloc_token h) (block_units s) p)
       (fst∗ 𝓤 (never 𝓤) (sem 𝓛 (g.dealloc_token h (units (block_units s)) null_ptr))) (λ b o lies.
       some b o (subst (λ (k : ℕ). s ≤ k * 16) told.1 told.2) told.3
-      (ap only is ∙ ap (λ (ws : List Val). live 1 (of_list ws)) (same ∙ ap (λ (ws : List Val). ws ++ []) (block_is x.at vss.0 are))
+      (ap only is ∙ ap (λ (ws : List Val). live 1 (of_list ws)) (same
+      ∙ ap (λ (ws : List Val). ws ++ []) (block_is x.at vss.0 are))
       ∙ ap (λ (p : Ptr). live 1 (vcons (block_val p) vnil)) lies)))))))

@@ -24,7 +24,8 @@ way_back n τ p = fwand (room_for τ p) (units_at p n)
 abbrev pub block_at : (Ty → Ptr → Fml) → ℕ → Ptr → Fml
 block_at holds n p = owned_block holds (units n) p
 
--- n units, rounded up to four sizes of blocks from one power of two to the next
+-- n units, rounded up to one of four sizes of blocks from one power of two to the next: those of
+-- which only the three highest bits from the first set one on, 61 to 63 of 64, are not zero
 abbrev pub rounded : ℕ → ℕ
 rounded n = next_multiple_of n (2 ^ (61 - leading_zeros w64 n))
 

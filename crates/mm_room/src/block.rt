@@ -12,7 +12,7 @@ use std::marker::{Model, PhantomData};
 #[derive(Drop)]
 pub(crate) struct Block<A: Allocator> {
     pub(crate) at: *mut u8,
-    pub(crate) by: PhantomData<A>,
+    pub(crate) given_by: PhantomData<A>,
     ghost alloc: { A },
     ghost units: { ℕ },
 }
@@ -22,15 +22,15 @@ impl<A: Allocator> Model for Block<A> {
 }
 
 impl<A: Allocator> Block<A> {
-    /// A block of so many units, if the allocator has one.
-    pub(crate) fn take(alloc: &A, units: usize) -> Option<Block<A>>
+    /// A new block of so many units, if the allocator has memory for it.
+    pub(crate) fn allocate(alloc: &A, units: usize) -> Option<Block<A>>
         requires { units * 16 < 2 ^ 63 }
         ensures { IfSome result (λ b. (b.alloc ≡ alloc.now) × (b.units ≡ units)) }
     {
         match alloc.allocate(units * UNIT, UNIT) {
             Ok(at) => Some(Block {
                 at,
-                by: PhantomData,
+                given_by: PhantomData,
             }),
             Err(_) => None,
         }
@@ -42,7 +42,7 @@ impl<A: Allocator> Block<A> {
         requires units { self.units ≡ units }
         requires fits { units * 16 < 2 ^ 63 }
     {
-        let Block { at, by: _ } = self;
+        let Block { at, given_by: _ } = self;
         unsafe { alloc.deallocate(at, units * UNIT, UNIT) }
     }
 }

@@ -38,7 +38,7 @@ impl<A: Allocator> FreeList<A> {
     }
 
     /// Takes a block of so many units from the list, if it has one.
-    pub(crate) fn take(&mut self, units: usize) -> Option<Block<A>>
+    pub(crate) fn take_block(&mut self, units: usize) -> Option<Block<A>>
         ensures alloc { self.new.alloc ≡ self.old.alloc }
         ensures block { IfSome result (λ b. (b.alloc ≡ self.old.alloc) × (b.units ≡ units)) }
     {
@@ -49,9 +49,9 @@ impl<A: Allocator> FreeList<A> {
         }
     }
 
-    /// Adds a block of so many units to the list. It comes back if the list has blocks of another
-    /// size, and if out of memory.
-    pub(crate) fn put(&mut self, block: Block<A>, units: usize) -> Result<(), Block<A>>
+    /// Adds a block of so many units to the list. Returns it if the list has blocks of another
+    /// size, or if there is no memory for the list.
+    pub(crate) fn put_block(&mut self, block: Block<A>, units: usize) -> Result<(), Block<A>>
         requires alloc { block.alloc ≡ self.old.alloc }
         requires units { block.units ≡ units }
         requires fits { units * 16 < 2 ^ 63 }
@@ -71,7 +71,7 @@ impl<A: Allocator> FreeList<A> {
     }
 
     /// Gives all blocks back to their allocator.
-    pub(crate) fn free(self) {
+    pub(crate) fn free_blocks(self) {
         let FreeList {
             alloc,
             units,

@@ -9,11 +9,12 @@ use bumpalo::Bump;
 use std::alloc::{AllocError, Allocator};
 use std::cell::Cell;
 
-/// The units of a page. The size of an arena's chunk is a number of pages less one unit.
+/// The units of a page of 4,096 bytes. The chunk of an arena is a number of pages less one unit.
 const UNITS_OF_PAGE: usize = 256;
 
-/// The bytes of its pages that an arena keeps for itself.
-const KEPT: usize = 64;
+/// How many bytes of its pages an arena of `bumpalo` has no capacity for: 48 for the footer of the
+/// chunk, and the 16 that the system's allocator typically keeps beside a block (`OVERHEAD` there).
+const ARENA_OVERHEAD: usize = 64;
 
 /// An allocator that gives its whole room to one block at a time, whatever the size of the block.
 /// While that block is out, each request is refused.
@@ -34,13 +35,13 @@ impl Lender {
         }
     }
 
-    /// An arena whose one chunk is the whole room, except for its own notes and what is left of a
-    /// page of 4,096 bytes. What is freed last in the arena is used again; the rest comes back with
-    /// the arena's end. Fails if a block is out.
+    /// An arena whose one chunk is as much of the room as whole pages of 4,096 bytes cover. A freed
+    /// block is used again only if it was allocated last; the others come back at the arena's end.
+    /// Fails if a block is out.
     pub fn arena(&self) -> Result<Bump<&Lender>, AllocError> {
         let pages = self.units.saturating_add(1) / UNITS_OF_PAGE;
         let size = pages.saturating_mul(UNITS_OF_PAGE * UNIT);
-        Bump::try_with_capacity(self, size.saturating_sub(KEPT))
+        Bump::try_with_capacity(self, size.saturating_sub(ARENA_OVERHEAD))
     }
 
     /// The room back, whole, or a room of no unit if a block is still out.
@@ -55,7 +56,7 @@ impl Lender {
     }
 
     /// The whole memory, if it is here and a block of this size in bytes fits.
-    fn take(&self, size: usize) -> Option<Memory>
+    fn take_memory(&self, size: usize) -> Option<Memory>
         ensures { IfSome result (λ m. (m.units ≡ self.now.units) × (0 < m.units)
             × (size ≤ m.units * 16) × (size < 2 ^ 63)) }
     {
@@ -70,7 +71,7 @@ impl Lender {
     }
 
     /// Puts the memory back.
-    fn give(&self, memory: Memory)
+    fn put_back(&self, memory: Memory)
         requires { memory.units ≡ self.now.units }
     {
         let units = self.units;
@@ -83,13 +84,13 @@ unsafe impl Allocator for Lender {
 
     // No type has a greater alignment than a unit.
     fn allocate(&self, size: usize, _align: usize) -> Result<*mut u8, AllocError> {
-        match self.take(size) {
+        match self.take_memory(size) {
             Some(Memory { at }) => Ok(at),
             None => Err(AllocError),
         }
     }
 
     unsafe fn deallocate(&self, ptr: *mut u8, _size: usize, _align: usize) {
-        self.give(Memory { at: ptr });
+        self.put_back(Memory { at: ptr });
     }
 }

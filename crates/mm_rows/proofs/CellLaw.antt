@@ -49,8 +49,8 @@ bit_of_byte k lt =
     (agree_below_at (λ x. eqb (get_or BITS x 0) (2 ^ (x % 8))) (λ x. true) 64 k refl lt)
 
 -- a bit is tested by the number that has it alone
-tested : (y b : ℕ) → y < 256 → b < 8 → eqb (bit_and y (2 ^ b)) (2 ^ b) ≡ eqb (bit_at y b) 1
-tested y b small lt =
+bit_tested : (y b : ℕ) → y < 256 → b < 8 → eqb (bit_and y (2 ^ b)) (2 ^ b) ≡ eqb (bit_at y b) 1
+bit_tested y b small lt =
     let q : (8 * y + b) / 8 ≡ y = omega arith in
     let r : (8 * y + b) % 8 ≡ b = omega arith in
     sym (ap₂ (λ m n. eqb (bit_and m (2 ^ n)) (2 ^ n)) q r)
@@ -58,13 +58,13 @@ tested y b small lt =
     (λ n. eqb (bit_at (n / 8) (n % 8)) 1) 2048 (8 * y + b) refl (omega arith)
     ∙ ap₂ (λ m n. eqb (bit_at m n) 1) q r
 
-low : (n b : ℕ) → b < 8 → bit_at (n % 256) b ≡ bit_at n b
-low n b lt =
+low_byte_bit : (n b : ℕ) → b < 8 → bit_at (n % 256) b ≡ bit_at n b
+low_byte_bit n b lt =
     let whole : n / 256 * 2 ^ 8 + n % 256 ≡ n = omega arith in
     sym (bit_at_cat_low (n / 256) 8 (n % 256) b lt) ∙ ap (λ x. bit_at x b) whole
 
-powers : (j : ℕ) → j < 8 → 256 ^ j ≡ 2 ^ (8 * j)
-powers j lt =
+power_of_256 : (j : ℕ) → j < 8 → 256 ^ j ≡ 2 ^ (8 * j)
+power_of_256 j lt =
     eqb-true _ _
     (agree_below_at (λ x. eqb (256 ^ x) (2 ^ (8 * x))) (λ x. true) 8 j refl lt)
 
@@ -72,8 +72,8 @@ byte_bit : (word k : ℕ) → k < 64
     → bit_at (word / 256 ^ (k / 8) % 256) (k % 8) ≡ bit_at word k
 byte_bit word k lt =
     let is : 8 * (k / 8) + k % 8 ≡ k = omega arith in
-    low (word / 256 ^ (k / 8)) (k % 8) (omega arith)
-    ∙ ap (λ p. bit_at (word / p) (k % 8)) (powers (k / 8) (omega arith))
+    low_byte_bit (word / 256 ^ (k / 8)) (k % 8) (omega arith)
+    ∙ ap (λ p. bit_at (word / p) (k % 8)) (power_of_256 (k / 8) (omega arith))
     ∙ shifted word (8 * (k / 8)) (k % 8)
     ∙ ap (bit_at word) is
 
@@ -103,22 +103,24 @@ shown false = refl
 
 pub lane_is : (word k : ℕ) → word < 2 ^ 64 → k < 64
     → get_or (lanes word) k 0 ≡ digit_of (eqb (bit_at word k) 1)
-lane_is word k fits lt =
+lane_is word k fits k_below_64 =
     let y = word / 256 ^ (k / 8) % 256 in
     let at : get_or (masked word) k 0 ≡ bit_and y (2 ^ (k % 8)) =
-    get_or-zip2 bit_and (spread word) BITS k 0 0 0 lt lt
-    ∙ ap₂ bit_and (spread_at word k fits lt) (bit_of_byte k lt) in
+    get_or-zip2 bit_and (spread word) BITS k 0 0 0 k_below_64 k_below_64
+    ∙ ap₂ bit_and (spread_at word k fits k_below_64) (bit_of_byte k k_below_64) in
     ap (λ ms. get_or (sel_l ms (replicate 64 49) (replicate 64 48)) k 0)
     (tops_compared w8 eqb (masked word) BITS)
-    ∙ get_or-sel_l (zip2 eqb (masked word) BITS) (replicate 64 49) (replicate 64 48) k 0 lt lt lt
-    ∙ ap₂ (cond (get_or (zip2 eqb (masked word) BITS) k false)) (get_or-replicate 64 k 49 0 lt)
-    (get_or-replicate 64 k 48 0 lt)
+    ∙ get_or-sel_l (zip2 eqb (masked word) BITS) (replicate 64 49) (replicate 64 48) k 0 k_below_64
+    k_below_64 k_below_64
+    ∙ ap₂ (cond (get_or (zip2 eqb (masked word) BITS) k false))
+    (get_or-replicate 64 k 49 0 k_below_64)
+    (get_or-replicate 64 k 48 0 k_below_64)
     ∙ shown (get_or (zip2 eqb (masked word) BITS) k false)
     ∙ ap digit_of
-    (get_or-zip2 eqb (masked word) BITS k 0 0 false lt lt
-    ∙ ap₂ eqb at (bit_of_byte k lt)
-    ∙ tested y (k % 8) (omega arith) (omega arith)
-    ∙ ap (λ n. eqb n 1) (byte_bit word k lt))
+    (get_or-zip2 eqb (masked word) BITS k 0 0 false k_below_64 k_below_64
+    ∙ ap₂ eqb at (bit_of_byte k k_below_64)
+    ∙ bit_tested y (k % 8) (omega arith) (omega arith)
+    ∙ ap (λ n. eqb n 1) (byte_bit word k k_below_64))
 
 -- the cells of the first w words are written
 abbrev pub AreCells : List ℕ → List ℕ → ℕ → Type 0
@@ -129,12 +131,12 @@ pub cells_more : (words into lanes : List ℕ) (w : ℕ) → w < length words
     → length into ≡ 64 * length words → length lanes ≡ 64
     → ((k : ℕ) → k < 64 → get_or lanes k 0 ≡ digit_of (eqb (bit_at (get_or words w 0) k) 1))
     → AreCells words into w → AreCells words (put_chunk (64 * w) into lanes) (w + 1)
-cells_more words into lanes w within size long each h i lt = go (cases_lt i (64 * w))
+cells_more words into lanes w within size long each are_cells i lt = by_word (cases_lt i (64 * w))
   where
-    go : (i < 64 * w) ⊎ (64 * w ≤ i)
+    by_word : (i < 64 * w) ⊎ (64 * w ≤ i)
         → get_or (put_chunk (64 * w) into lanes) i 0 ≡ digit_of (is_bit words i)
-    go (inl l) = get_or-put_chunk_below (64 * w) into lanes i 0 l ∙ h i l
-    go (inr g) =
+    by_word (inl l) = get_or-put_chunk_below (64 * w) into lanes i 0 l ∙ are_cells i l
+    by_word (inr g) =
         let is : 64 * w + (i - 64 * w) ≡ i = omega arith in
         let q : w ≡ i / 64 = omega arith in
         let r : i - 64 * w ≡ i % 64 = omega arith in
@@ -145,7 +147,7 @@ cells_more words into lanes w within size long each h i lt = go (cases_lt i (64 
         ∙ ap₂ (λ a b. digit_of (eqb (bit_at (get_or words a 0) b) 1)) q r
 
 module _ (m : Marks) (rows columns : ℕ) (words : List ℕ)
-    (view : m ≡ marks rows columns words) (t : IsTable rows columns words) where
+    (view : m ≡ marks rows columns words) (is_table : IsTable rows columns words) where
   -- cells that were written from a word on
   pub cells_are : (i word : ℕ) (part into old : List ℕ) → i < m.rows
       → part ≡ row_at words (words_for columns) i
@@ -156,12 +158,12 @@ module _ (m : Marks) (rows columns : ℕ) (words : List ℕ)
       ≡ digit_of (is_bit (take (word + length old / 64 - word) (drop word part)) k))
       → into ≡ map (λ j. digit_of (mark_at j (row_marks m i)))
       (range_with_len (64 * word) (length old))
-  cells_are i word part into old lt is within whole same each =
+  cells_are i word part into old lt part_is within whole into_length each =
       ext_get_or 0 into (map cell (range_with_len (64 * word) (length old)))
-      (same ∙ sym
+      (into_length ∙ sym
       (length-map (range_with_len (64 * word) (length old)) cell
       ∙ length-range_with_len (64 * word) (length old)))
-      (λ k less. at k (omega (arith, same, less)))
+      (λ k less. cell_at_place k (omega (arith, into_length, less)))
     where
       cell : ℕ → ℕ
       cell j = digit_of (mark_at j (row_marks m i))
@@ -170,13 +172,13 @@ module _ (m : Marks) (rows columns : ℕ) (words : List ℕ)
           → is_bit part j ≡ mark_at j (row_marks m i)
       mark j inside =
           let lt' = subst (λ (x : Marks). i < x.rows) view lt in
-          ap (λ xs. is_bit xs j) is
-          ∙ row_mark m rows columns words view t i j lt' inside
+          ap (λ xs. is_bit xs j) part_is
+          ∙ row_mark m rows columns words view is_table i j lt' inside
           ∙ sym (ap (λ (x : Marks). mark_at j (row_marks x i)) view)
 
-      at : (k : ℕ) → k < length old
+      cell_at_place : (k : ℕ) → k < length old
           → get_or into k 0 ≡ get_or (map cell (range_with_len (64 * word) (length old))) k 0
-      at k less =
+      cell_at_place k less =
           let width : 64 * word + length old ≤ 64 * words_for columns =
           subst (λ (x : Marks). 64 * word + length old ≤ 64 * words_for x.columns) view within in
           let q : word + k / 64 ≡ (64 * word + k) / 64 = omega arith in

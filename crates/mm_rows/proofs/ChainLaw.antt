@@ -19,29 +19,29 @@ use Rattle.mm_spec.proofs.BoolLaw.{or_with_false}
 use Rattle.mm_rows.specs.BitRows.{IsBitRow, HasCitedRows, row_at}
 
 -- a rising list has a number once
-pub once : (xs : List ℕ) (i j : ℕ) → IsStatementList xs → i < length xs → j < length xs
+pub index_is_unique : (xs : List ℕ) (i j : ℕ) → IsStatementList xs → i < length xs → j < length xs
     → get_or xs i 0 ≡ get_or xs j 0 → i ≡ j
-once xs i j r p q e = go (cases_order i j)
+index_is_unique xs i j is_statement_list p q e = by_order (cases_order i j)
   where
-    go : (i ≡ j) ⊎ ((i < j) ⊎ (j < i)) → i ≡ j
-    go (inl h) = h
-    go (inr (inl l)) = let m = r.rises i j l q in absurd (omega arith)
-    go (inr (inr g)) = let m = r.rises j i g p in absurd (omega arith)
+    by_order : (i ≡ j) ⊎ ((i < j) ⊎ (j < i)) → i ≡ j
+    by_order (inl h) = h
+    by_order (inr (inl l)) = let m = is_statement_list.rises i j l q in absurd (omega arith)
+    by_order (inr (inr g)) = let m = is_statement_list.rises j i g p in absurd (omega arith)
 
 -- a place of a list below n whose statement is a, or rests on it
 abbrev pub IsVia : Citing → List ℕ → ℕ → ℕ → Type 0
 IsVia c cited n a =
     (m : ℕ) × (m < n) × ((get_or cited m 0 ≡ a) ⊎ RestsOn (HasCitation c) (get_or cited m 0) a)
 
--- the bits of a row that is made from the first n citations
-pub record Made (c : Citing) (columns cited : List ℕ) (n : ℕ) (row : List ℕ) : Type 0 where
+-- the bits of a row that is filled from the first n citations
+pub record FilledFrom (c : Citing) (columns cited : List ℕ) (n : ℕ) (row : List ℕ) : Type 0 where
   pub words : length row ≡ words_for (length columns)
   pub marks : (j : ℕ) → j < length columns
       → Decides (is_bit row j) (IsVia c cited n (get_or columns j 0))
   pub past : (j : ℕ) → length columns ≤ j → is_bit row j ≡ false
 
-pub made_more : (c : Citing) (columns cited : List ℕ) (n : ℕ) (row mid new : List ℕ)
-    → Made c columns cited n row
+pub filled_more : (c : Citing) (columns cited : List ℕ) (n : ℕ) (row mid new : List ℕ)
+    → FilledFrom c columns cited n row
     → length new ≡ length row
     → ((j : ℕ) → j < length columns
     → Decides (is_bit mid j) ((is_bit row j ≡ true) ⊎ (get_or cited n 0 ≡ get_or columns j 0)))
@@ -50,108 +50,134 @@ pub made_more : (c : Citing) (columns cited : List ℕ) (n : ℕ) (row mid new :
     → Decides (is_bit new j)
     ((is_bit mid j ≡ true) ⊎ RestsOn (HasCitation c) (get_or cited n 0) (get_or columns j 0)))
     → ((j : ℕ) → length columns ≤ j → is_bit new j ≡ is_bit mid j)
-    → Made c columns cited (n + 1) new
-made_more c columns cited n row mid new h same a b d e = record {
-  words = same ∙ h.words;
-  marks = λ j lt. (λ t. to j lt ((d j lt).0 t), λ v. from j lt v.0 v.1 v.2 (cases_eq v.0 n));
-  past = λ j le. e j le ∙ b j le ∙ h.past j le;
+    → FilledFrom c columns cited (n + 1) new
+filled_more c columns cited n row mid new filled_from new_length a b d e = record {
+  words = new_length ∙ filled_from.words;
+  marks = λ j lt. (
+    λ t. marked_to_via j lt ((d j lt).0 t),
+    λ v. via_to_marked j lt v.0 v.1 v.2
+        (cases_eq v.0 n),
+  );
+  past = λ j le. e j le ∙ b j le ∙ filled_from.past j le;
 }
   where
-    more : (j : ℕ) → IsVia c cited n (get_or columns j 0)
+    via_next : (j : ℕ) → IsVia c cited n (get_or columns j 0)
         → IsVia c cited (n + 1) (get_or columns j 0)
-    more j v = let lt = v.1 in (v.0, omega arith, v.2)
+    via_next j v = let lt = v.1 in (v.0, omega arith, v.2)
 
-    to : (j : ℕ) → j < length columns
+    marked_to_via : (j : ℕ) → j < length columns
         → (is_bit mid j ≡ true) ⊎ RestsOn (HasCitation c) (get_or cited n 0) (get_or columns j 0)
         → IsVia c cited (n + 1) (get_or columns j 0)
-    to j lt (inr r) = (n, omega arith, inr r)
-    to j lt (inl t) =
-        ⊎_elim (λ u. more j ((h.marks j lt).0 u)) (λ is. (n, omega arith, inl is)) ((a j lt).0 t)
+    marked_to_via j lt (inr r) = (n, omega arith, inr r)
+    marked_to_via j lt (inl t) =
+        ⊎_elim (λ u. via_next j ((filled_from.marks j lt).0 u)) (λ is. (n, omega arith, inl is))
+        ((a j lt).0 t)
 
-    set_by : (j : ℕ) → j < length columns
+    marked_by_citation : (j : ℕ) → j < length columns
         → (get_or cited n 0 ≡ get_or columns j 0)
         ⊎ RestsOn (HasCitation c) (get_or cited n 0) (get_or columns j 0) → is_bit new j ≡ true
-    set_by j lt (inl is) = (d j lt).1 (inl ((a j lt).1 (inr is)))
-    set_by j lt (inr r) = (d j lt).1 (inr r)
+    marked_by_citation j lt (inl is) = (d j lt).1 (inl ((a j lt).1 (inr is)))
+    marked_by_citation j lt (inr r) = (d j lt).1 (inr r)
 
-    from : (j : ℕ) → j < length columns → (m : ℕ) → m < n + 1
+    via_to_marked : (j : ℕ) → j < length columns → (m : ℕ) → m < n + 1
         → (get_or cited m 0 ≡ get_or columns j 0)
         ⊎ RestsOn (HasCitation c) (get_or cited m 0) (get_or columns j 0) → (m ≡ n) ⊎ (m ≡ n → ⊥)
         → is_bit new j ≡ true
-    from j lt m below v (inl is) =
-        set_by j lt
+    via_to_marked j lt m below v (inl is) =
+        marked_by_citation j lt
         (subst (λ x. (get_or cited x 0 ≡ get_or columns j 0)
         ⊎ RestsOn (HasCitation c) (get_or cited x 0) (get_or columns j 0)) is v)
-    from j lt m below v (inr ne) =
-        (d j lt).1 (inl ((a j lt).1 (inl ((h.marks j lt).1 (m, omega arith, v)))))
+    via_to_marked j lt m below v (inr ne) =
+        (d j lt).1 (inl ((a j lt).1 (inl ((filled_from.marks j lt).1 (m, omega arith, v)))))
 
 -- all citations of a theorem
-pub made_all : (c : Citing) (columns : List ℕ) (i : ℕ) (row : List ℕ) → IsFileOrder c
-    → i < length c.theorems → Made c columns (list_at c i) (length (list_at c i)) row
+pub filled_all : (c : Citing) (columns : List ℕ) (i : ℕ) (row : List ℕ) → IsFileOrder c
+    → i < length c.theorems → FilledFrom c columns (list_at c i) (length (list_at c i)) row
     → IsBitRow c columns (theorem_at c i) row
-made_all c columns i row o within h = record {
-  words = h.words;
+filled_all c columns i row is_file_order within filled_from = record {
+  words = filled_from.words;
   marks =
       λ j lt. (
-        λ t. to (get_or columns j 0) ((h.marks j lt).0 t),
-        λ r. (h.marks j lt).1
-            (from (get_or columns j 0) r),
+        λ t. marked_to_via (get_or columns j 0) ((filled_from.marks j lt).0 t),
+        λ r. (filled_from.marks j lt).1
+            (via_to_marked (get_or columns j 0) r),
       );
-  past = h.past;
+  past = filled_from.past;
 }
   where
-    cites : (m : ℕ) → m < length (list_at c i) → HasCitation c (theorem_at c i) (get_or (list_at c i) m 0)
-    cites m lt =
-        record { row = i; place = m; within = within; listed = lt; theorem = refl; cited = refl }
+    cites_at : (m : ℕ) → m < length (list_at c i) → HasCitation c (theorem_at c i)
+        (get_or (list_at c i) m 0)
+    cites_at m m_inside =
+        record {
+          row = i;
+          list_index = m;
+          within = within;
+          listed = m_inside;
+          theorem =
+              refl;
+          cited = refl;
+        }
 
-    to : (a : ℕ) → IsVia c (list_at c i) (length (list_at c i)) a
+    marked_to_via : (a : ℕ) → IsVia c (list_at c i) (length (list_at c i)) a
         → RestsOn (HasCitation c) (theorem_at c i) a
-    to a v =
+    marked_to_via a is_via =
         let step = (rests_step (HasCitation c) (theorem_at c i) a).1 in
-        ⊎_elim (λ e. step (inl (subst (HasCitation c (theorem_at c i)) e (cites v.0 v.1))))
-        (λ r. step (inr (get_or (list_at c i) v.0 0, cites v.0 v.1, r))) v.2
+        ⊎_elim (λ e. step
+        (inl (subst (HasCitation c (theorem_at c i)) e (cites_at is_via.0 is_via.1))))
+        (λ r. step (inr (get_or (list_at c i) is_via.0 0, cites_at is_via.0 is_via.1, r))) is_via.2
 
-    via : (b a : ℕ) → HasCitation c (theorem_at c i) b → (b ≡ a) ⊎ RestsOn (HasCitation c) b a
+    via_of_citation : (b a : ℕ) → HasCitation c (theorem_at c i) b → (b ≡ a)
+        ⊎ RestsOn (HasCitation c) b a
         → IsVia c (list_at c i) (length (list_at c i)) a
-    via b a s v =
-        let is : s.row ≡ i = once c.theorems s.row i o.rising s.within within s.theorem in
-        let listed : s.place < length (list_at c i) =
-        subst (λ x. s.place < length (list_at c x)) is s.listed in
-        let cited : get_or (list_at c i) s.place 0 ≡ b =
-        subst (λ x. get_or (list_at c x) s.place 0 ≡ b) is s.cited in
-        (s.place, listed, subst (λ x. (x ≡ a) ⊎ RestsOn (HasCitation c) x a) (sym cited) v)
+    via_of_citation b a has_citation v =
+        let is : has_citation.row ≡ i = index_is_unique c.theorems has_citation.row i
+        is_file_order.rising has_citation.within
+        within has_citation.theorem in
+        let listed : has_citation.list_index < length (list_at c i) =
+        subst (λ x. has_citation.list_index < length (list_at c x)) is has_citation.listed in
+        let cited : get_or (list_at c i) has_citation.list_index 0 ≡ b =
+        subst (λ x. get_or (list_at c x) has_citation.list_index 0 ≡ b) is has_citation.cited in (
+          has_citation.list_index,
+          listed,
+          subst (λ x. (x ≡ a) ⊎ RestsOn (HasCitation c) x a)
+              (sym cited) v,
+        )
 
-    from : (a : ℕ) → RestsOn (HasCitation c) (theorem_at c i) a
+    via_to_marked : (a : ℕ) → RestsOn (HasCitation c) (theorem_at c i) a
         → IsVia c (list_at c i) (length (list_at c i)) a
-    from a r =
-        ⊎_elim (λ s. via a a s (inl refl)) (λ h. via h.0 a h.1 (inr h.2))
-        ((rests_step (HasCitation c) (theorem_at c i) a).0 r)
+    via_to_marked a rests_on =
+        ⊎_elim (λ s. via_of_citation a a s (inl refl))
+        (λ filled_from. via_of_citation filled_from.0 a filled_from.1 (inr filled_from.2))
+        ((rests_step (HasCitation c) (theorem_at c i) a).0 rests_on)
 
 -- what rests on nothing
-pub no_theorem : (c : Citing) (t a : ℕ)
-    → ((i : ℕ) → i < length c.theorems → get_or c.theorems i 0 ≡ t → ⊥) → RestsOn (HasCitation c) t a → ⊥
-no_theorem c t a none r =
+pub rests_on_nothing : (c : Citing) (t a : ℕ)
+    → ((i : ℕ) → i < length c.theorems → get_or c.theorems i 0 ≡ t → ⊥)
+    → RestsOn (HasCitation c) t a → ⊥
+rests_on_nothing c t a none r =
     ⊎_elim (λ s. none s.row s.within s.theorem) (λ h. none h.1.row h.1.within h.1.theorem)
     ((rests_step (HasCitation c) t a).0 r)
 
 -- a finished row is or-ed into another
-pub ored : (c : Citing) (columns : List ℕ) (t : ℕ) (old from new : List ℕ)
+pub marks_of_or : (c : Citing) (columns : List ℕ) (t : ℕ) (old from new : List ℕ)
     → IsBitRow c columns t from → length new ≡ length old → length old ≡ words_for (length columns)
     → ((k : ℕ) → k < length old → get_or new k 0 ≡ bit_or (get_or old k 0) (get_or from k 0))
     → ((j : ℕ) → j < length columns
-    → Decides (is_bit new j) ((is_bit old j ≡ true) ⊎ RestsOn (HasCitation c) t (get_or columns j 0)))
+    → Decides (is_bit new j) ((is_bit old j ≡ true)
+    ⊎ RestsOn (HasCitation c) t (get_or columns j 0)))
     × ((j : ℕ) → length columns ≤ j → is_bit new j ≡ is_bit old j)
-ored c columns t old from new h same words each =
-    let bits = or_bits new old from same (words ∙ sym h.words) each in (
+marks_of_or c columns t old from new is_bit_row same words each =
+    let bits = or_bits new old from same (words ∙ sym is_bit_row.words) each in (
       (λ j lt. Decides-at (is_bit new j) (is_bit old j || is_bit from j) (bits j)
-          (Decides-or (is_bit old j) (is_bit from j) ((λ e. e), λ e. e) (h.marks j lt))),
-      λ j le. bits j ∙ or_with_false (is_bit old j) (is_bit from j) (h.past j le),
+          (Decides-or (is_bit old j) (is_bit from j) ((λ e. e), λ e. e) (is_bit_row.marks j lt))),
+      λ j le. bits j ∙ or_with_false (is_bit old j) (is_bit from j) (is_bit_row.past j le),
     )
 
 -- before the first citation
-pub made_none : (c : Citing) (columns cited row : List ℕ) → length row ≡ words_for (length columns)
-    → ((j : ℕ) → is_bit row j ≡ false) → Made c columns cited 0 row
-made_none c columns cited row words empty = record {
+pub filled_none : (c : Citing) (columns cited row : List ℕ) → length row
+    ≡ words_for (length columns)
+    → ((j : ℕ) → is_bit row j ≡ false) → FilledFrom c columns cited 0 row
+filled_none c columns cited row words empty = record {
   words = words;
   marks =
       λ j lt. (
@@ -220,20 +246,21 @@ pub column_marked : (columns row new : List ℕ) (j s : ℕ) → IsStatementList
     → ((k : ℕ) → is_bit new k ≡ (eqb k j || is_bit row k))
     → (k : ℕ) → k < length columns
     → Decides (is_bit new k) ((is_bit row k ≡ true) ⊎ (s ≡ get_or columns k 0))
-column_marked columns row new j s rising found set k lt = by (cases_eq k j)
+column_marked columns row new j s rising found set k k_inside = by_column (cases_eq k j)
   where
-    by : (k ≡ j) ⊎ (k ≢ j)
+    by_column : (k ≡ j) ⊎ (k ≢ j)
         → Decides (is_bit new k) ((is_bit row k ≡ true) ⊎ (s ≡ get_or columns k 0))
-    by (inl e) = (
+    by_column (inl e) = (
       λ t. inr (sym found.1 ∙ ap (λ i. get_or columns i 0) (sym e)),
       λ h. set k ∙ ap (λ b. b || is_bit row k) (eq-eqb k j e),
     )
-    by (inr ne) =
+    by_column (inr ne) =
         let same : is_bit new k ≡ is_bit row k =
         set k ∙ ap (λ b. b || is_bit row k) (ne_eqb k j ne) in (
           λ t. inl (sym same ∙ t),
           λ h. same ∙ ⊎_elim (λ b. b)
-              (λ e. absurd (ne (once columns k j rising lt found.0 (sym e ∙ sym found.1)))) h,
+              (λ e. absurd
+              (ne (index_is_unique columns k j rising k_inside found.0 (sym e ∙ sym found.1)))) h,
         )
 
 pub column_past : (columns row new : List ℕ) (j s : ℕ)

@@ -1,5 +1,6 @@
 -- How many bits of a row are set.
-use Rattle.std.proofs.Common.{◌≡◌, ℕ, zero, suc, Bool, true, false, List, min, ◌⊎◌, inl, inr, ◌<◌, ◌≤◌, ◌+◌}
+use Rattle.std.proofs.Common.{◌≡◌, ℕ, zero, suc, Bool, true, false, List, min, ◌⊎◌, inl, inr, ◌<◌}
+use Rattle.std.proofs.Common.{◌≤◌, ◌+◌}
 use Rattle.std.proofs.Common.{◌*◌, ◌/◌, ◌%◌, ◌-◌, ◌^◌, length, sym, ap, ap₂, refl, arith, get_or}
 use Rattle.std.proofs.Common.{eqb, take, map, sum, cond, count_by, count_ones, ◌∙◌, zero-add}
 use Rattle.std.proofs.lemmas.Bool.{cases_eq}
@@ -12,7 +13,7 @@ use Rattle.std.proofs.lemmas.Nat.Bits.{bit_at-lt}
 use Rattle.std.proofs.Math.Nat.{mod-eq_of_lt}
 use Rattle.std.specs.Int.{bit_at}
 use Rattle.std.specs.List.{range_with_len, sum_by}
-use Rattle.mm_rows.specs.Bits.{is_bit, spot}
+use Rattle.mm_rows.specs.Bits.{is_bit, bit_index}
 use Rattle.mm_rows.specs.BitRows.{row_at}
 use Rattle.mm_rows.proofs.BitLaw.{bit_here}
 use Rattle.mm_rows.proofs.TransposeLaw.{row_bit, row_length}
@@ -53,7 +54,7 @@ tally_add p n (suc m) =
     let b = tally_more (λ k. p (n + k)) m in
     ap (tally p) e ∙ omega (arith, i, a, b)
 
--- nothing from n on passes
+-- if no number from n on passes, those below n are all that pass
 pub tally_short : (p : ℕ → Bool) (n m : ℕ) → n ≤ m → ((k : ℕ) → n ≤ k → p k ≡ false)
     → tally p m ≡ tally p n
 tally_short p n m le none =
@@ -78,24 +79,25 @@ pub all_counted : (p : ℕ → Bool) (n result : ℕ) → n < 2 ^ 64
     → result ≡ tally p n
 all_counted p n result few is = let within = tally_within p n in omega (arith, few, is, within)
 
-no_ones : count_ones 0 ≡ 0
-no_ones = let l = ones_le_self 0 in omega (arith, l)
+ones_of_zero : count_ones 0 ≡ 0
+ones_of_zero = let l = ones_le_self 0 in omega (arith, l)
 
-one_one : (count_ones 1 ≡ 0) ⊎ (count_ones 1 ≡ 0 → ⊥) → count_ones 1 ≡ 1
-one_one (inl e) = let z = zero_from_ones 1 e in absurd (omega (arith, z))
-one_one (inr ne) = let l = ones_le_self 1 in omega (arith, l, ne)
+ones_of_one : (count_ones 1 ≡ 0) ⊎ (count_ones 1 ≡ 0 → ⊥) → count_ones 1 ≡ 1
+ones_of_one (inl e) = let z = zero_from_ones 1 e in absurd (omega (arith, z))
+ones_of_one (inr ne) = let l = ones_le_self 1 in omega (arith, l, ne)
 
 one_bit : (b : ℕ) → b < 2 → count_ones b ≡ cond (eqb b 1) 1 0
-one_bit b lt = go (cases_eq b 0)
+one_bit b lt = by_bit (cases_eq b 0)
   where
-    go : (b ≡ 0) ⊎ (b ≡ 0 → ⊥) → count_ones b ≡ cond (eqb b 1) 1 0
-    go (inl e) = ap count_ones e ∙ no_ones ∙ sym (ap (λ x. cond (eqb x 1) 1 0) e)
-    go (inr ne) =
+    by_bit : (b ≡ 0) ⊎ (b ≡ 0 → ⊥) → count_ones b ≡ cond (eqb b 1) 1 0
+    by_bit (inl e) = ap count_ones e ∙ ones_of_zero ∙ sym (ap (λ x. cond (eqb x 1) 1 0) e)
+    by_bit (inr ne) =
         let e : b ≡ 1 = omega arith in
-        ap count_ones e ∙ one_one (cases_eq (count_ones 1) 0) ∙ sym (ap (λ x. cond (eqb x 1) 1 0) e)
+        ap count_ones e ∙ ones_of_one (cases_eq (count_ones 1) 0)
+        ∙ sym (ap (λ x. cond (eqb x 1) 1 0) e)
 
 ones_mod : (w n : ℕ) → count_ones (w % 2 ^ n) ≡ tally (λ k. eqb (bit_at w k) 1) n
-ones_mod w zero = let e : w % 1 ≡ 0 = omega arith in ap count_ones e ∙ no_ones
+ones_mod w zero = let e : w % 1 ≡ 0 = omega arith in ap count_ones e ∙ ones_of_zero
 ones_mod w (suc n) =
     let one : suc n ≡ 1 + n = omega arith in
     let i = ones_mod w n in
@@ -133,12 +135,13 @@ all_ones row fits =
 -- the ones of a row of a table are its marks
 pub row_ones : (words : List ℕ) (width i rows n : ℕ) → i < rows → length words ≡ rows * width
     → n ≤ 64 * width
-    → ((j : ℕ) → n ≤ j → j < 64 * width → is_bit words (spot width i j) ≡ false)
+    → ((j : ℕ) → n ≤ j → j < 64 * width → is_bit words (bit_index width i j) ≡ false)
     → tally (is_bit (row_at words width i)) (64 * length (row_at words width i))
-    ≡ tally (λ j. is_bit words (spot width i j)) n
-row_ones words width i rows n lt size few past =
+    ≡ tally (λ j. is_bit words (bit_index width i j)) n
+row_ones words width i rows n i_below_rows size few past =
     let row = row_at words width i in
-    let long : length (row_at words width i) ≡ width = row_length words width i rows lt size in
+    let long : length (row_at words width i)
+    ≡ width = row_length words width i rows i_below_rows size in
     let all_bits : n + (64 * width - n) ≡ 64 * width = omega arith in
     let a = tally_add (is_bit row) n (64 * width - n) in
     let none =
@@ -146,7 +149,7 @@ row_ones words width i rows n lt size few past =
     (λ k l. row_bit words width i (n + k) (omega arith)
     ∙ past (n + k) (omega arith) (omega arith)) in
     let some =
-    tally_agree (is_bit row) (λ j. is_bit words (spot width i j)) n
+    tally_agree (is_bit row) (λ j. is_bit words (bit_index width i j)) n
     (λ k l. row_bit words width i k (omega arith)) in
     ap (λ m. tally (is_bit row) (64 * m)) long ∙ ap (tally (is_bit row)) (sym all_bits)
     ∙ omega (arith, a, none, some)

@@ -14,7 +14,7 @@ use Rattle.std.specs.Int.{bit_at}
 use Rattle.std.specs.List.{range_with_len}
 use Rattle.mm_spec.specs.Report.{bit_of, mark_at, digit_at, hex_digit}
 use Rattle.mm_spec.proofs.BitLaw.{shifted}
-use Rattle.mm_rows.specs.Bits.{is_bit, words_for, spot, four_at, IsTable}
+use Rattle.mm_rows.specs.Bits.{is_bit, words_for, bit_index, four_at, IsTable}
 use Rattle.mm_rows.specs.BitRows.{marks, row_at}
 use Rattle.mm_rows.specs.Marks.{Marks, mark, row_marks}
 use Rattle.mm_rows.specs.declared.digits.TheConstants.{NUMBERS, DIGITS}
@@ -47,19 +47,19 @@ four_low word k =
     omega (arith, a, b, c, d, e)
 
 -- both lists have the numbers of the four columns
-number_of : (n : ℕ) → n < 16 → get_or NUMBERS n 0 ≡ four_at n 0
-number_of n lt =
+numbers_right : (n : ℕ) → n < 16 → get_or NUMBERS n 0 ≡ four_at n 0
+numbers_right n lt =
     eqb-true _ _
     (agree_below_at (λ x. eqb (get_or NUMBERS x 0) (four_at x 0)) (λ x. true) 16 n refl lt)
 
-digit_of : (n : ℕ) → n < 16 → get_or DIGITS n 0 ≡ hex_digit (four_at n 0)
-digit_of n lt =
+digits_right : (n : ℕ) → n < 16 → get_or DIGITS n 0 ≡ hex_digit (four_at n 0)
+digits_right n lt =
     eqb-true _ _
     (agree_below_at (λ x. eqb (get_or DIGITS x 0) (hex_digit (four_at x 0)))
     (λ x. true) 16 n refl lt)
 
 pub number_is : (word k : ℕ) → get_or NUMBERS (four word k) 0 ≡ four_at word k
-number_is word k = number_of (four word k) (four_small word k) ∙ sym (four_low word k)
+number_is word k = numbers_right (four word k) (four_small word k) ∙ sym (four_low word k)
 
 -- each lane is looked up
 abbrev pub fours : ℕ → List ℕ
@@ -74,7 +74,7 @@ lane_is word k lt =
     let first : 16 * ((0 + k) / 16) + get_or (fours word) k 0 ≡ four word k =
     omega (arith, is, lt) in
     get_or-swz_l_below w8 16 DIGITS 0 (fours word) k lt (omega (arith, is, small))
-    ∙ ap (λ n. get_or DIGITS n 0) first ∙ digit_of (four word k) small
+    ∙ ap (λ n. get_or DIGITS n 0) first ∙ digits_right (four word k) small
     ∙ ap hex_digit (sym (four_low word k))
 
 -- the bytes of a word that stands twice in sixteen lanes
@@ -162,13 +162,13 @@ pub digits_more : (words into lanes : List ℕ) (w : ℕ) → w < length words
     → length into ≡ 16 * length words → length lanes ≡ 16
     → ((k : ℕ) → k < 16 → get_or lanes k 0 ≡ hex_digit (four_at (get_or words w 0) k))
     → AreDigits words into w → AreDigits words (put_chunk (16 * w) into lanes) (w + 1)
-digits_more words into lanes w within size long each h i lt = go (cases_lt i (16 * w))
+digits_more words into lanes w within size long each are_digits i lt = by_word (cases_lt i (16 * w))
   where
-    go : (i < 16 * w) ⊎ (16 * w ≤ i)
+    by_word : (i < 16 * w) ⊎ (16 * w ≤ i)
         → get_or (put_chunk (16 * w) into lanes) i 0
         ≡ hex_digit (four_at (get_or words (i / 16) 0) (i % 16))
-    go (inl l) = get_or-put_chunk_below (16 * w) into lanes i 0 l ∙ h i l
-    go (inr g) =
+    by_word (inl l) = get_or-put_chunk_below (16 * w) into lanes i 0 l ∙ are_digits i l
+    by_word (inr g) =
         let is : 16 * w + (i - 16 * w) ≡ i = omega arith in
         let q : w ≡ i / 16 = omega arith in
         let r : i - 16 * w ≡ i % 16 = omega arith in
@@ -185,34 +185,35 @@ mark_is zero (b ∷ bs) = refl
 mark_is (suc n) (b ∷ bs) = mark_is n bs
 
 bit_is : (x : ℕ) → x < 2 → x ≡ bit_of (eqb x 1)
-bit_is x lt = go (cases_eq x 0)
+bit_is x lt = by_bit (cases_eq x 0)
   where
-    go : (x ≡ 0) ⊎ (x ≡ 0 → ⊥) → x ≡ bit_of (eqb x 1)
-    go (inl e) = e ∙ sym (ap (λ y. bit_of (eqb y 1)) e)
-    go (inr ne) = let e : x ≡ 1 = omega (arith, ne, lt) in e ∙ sym (ap (λ y. bit_of (eqb y 1)) e)
+    by_bit : (x ≡ 0) ⊎ (x ≡ 0 → ⊥) → x ≡ bit_of (eqb x 1)
+    by_bit (inl e) = e ∙ sym (ap (λ y. bit_of (eqb y 1)) e)
+    by_bit (inr ne) = let e : x ≡ 1 = omega (arith, ne, lt) in
+        e ∙ sym (ap (λ y. bit_of (eqb y 1)) e)
 
 module _ (m : Marks) (rows columns : ℕ) (words : List ℕ)
-    (view : m ≡ marks rows columns words) (t : IsTable rows columns words) where
+    (view : m ≡ marks rows columns words) (is_table : IsTable rows columns words) where
   -- a bit of a row is a mark, and nothing is marked past the last column
   pub row_mark : (i j : ℕ) → i < rows → j < 64 * words_for columns
       → is_bit (row_at words (words_for columns) i) j
       ≡ mark_at j (row_marks (marks rows columns words) i)
-  row_mark i j lt within =
-      row_bit words (words_for columns) i j within ∙ go (cases_lt j columns)
+  row_mark i j i_below_rows within =
+      row_bit words (words_for columns) i j within ∙ by_column (cases_lt j columns)
       ∙ sym (mark_is j (row_marks (marks rows columns words) i))
     where
-      go : (j < columns) ⊎ (columns ≤ j)
-          → is_bit words (spot (words_for columns) i j)
+      by_column : (j < columns) ⊎ (columns ≤ j)
+          → is_bit words (bit_index (words_for columns) i j)
           ≡ get_or (row_marks (marks rows columns words) i) j false
-      go (inl l) =
+      by_column (inl l) =
           sym (get_or-map-range_with_len (mark (marks rows columns words) i) 0 columns j j false l
           (omega arith)
-          ∙ mark_bit rows columns words i j lt l)
-      go (inr g) =
+          ∙ mark_bit rows columns words i j i_below_rows l)
+      by_column (inr g) =
           let long =
           length-map (range_with_len 0 columns) (mark (marks rows columns words) i)
           ∙ length-range_with_len 0 columns in
-          t.past i j lt g within
+          is_table.past i j i_below_rows g within
           ∙ sym (get_or_past (row_marks (marks rows columns words) i) j false
           (omega (arith, long, g)))
 
@@ -231,7 +232,7 @@ module _ (m : Marks) (rows columns : ℕ) (words : List ℕ)
   pub row_digit : (i k : ℕ) (part : List ℕ) → i < m.rows → k < 16 * words_for columns
       → part ≡ row_at words (words_for columns) i
       → four_at (get_or part (k / 16) 0) (k % 16) ≡ digit_at k (row_marks m i)
-  row_digit i k part lt within is =
+  row_digit i k part lt within part_is =
       let lt' = subst (λ (x : Marks). i < x.rows) view lt in
       let row = row_at words (words_for columns) i in
       let ms = row_marks (marks rows columns words) i in
@@ -248,13 +249,13 @@ module _ (m : Marks) (rows columns : ℕ) (words : List ℕ)
       omega (arith, a, b, c, d, e, f) in
       subst (λ (x : Marks). four_at (get_or part (k / 16) 0) (k % 16) ≡ digit_at k (row_marks x i))
       (sym view)
-      (ap (λ xs. four_at (get_or xs (k / 16) 0) (k % 16)) is ∙ whole)
+      (ap (λ xs. four_at (get_or xs (k / 16) 0) (k % 16)) part_is ∙ whole)
 
   pub part_long : (i : ℕ) (part : List ℕ) → i < m.rows → part ≡ row_at words (words_for columns) i
       → length part ≡ words_for columns
   part_long i part lt is =
       let lt' = subst (λ (x : Marks). i < x.rows) view lt in
-      ap length is ∙ row_length words (words_for columns) i rows lt' t.size
+      ap length is ∙ row_length words (words_for columns) i rows lt' is_table.size
 
   -- digits that were written from a word on
   pub digits_are : (i word : ℕ) (part into old : List ℕ) → i < m.rows
@@ -268,19 +269,19 @@ module _ (m : Marks) (rows columns : ℕ) (words : List ℕ)
       (k % 16)))
       → into ≡ map (λ k. hex_digit (digit_at k (row_marks m i)))
       (range_with_len (16 * word) (length old))
-  digits_are i word part into old lt is within whole same each =
+  digits_are i word part into old lt part_is within whole into_length each =
       ext_get_or 0 into (map digit (range_with_len (16 * word) (length old)))
-      (same ∙ sym
+      (into_length ∙ sym
       (length-map (range_with_len (16 * word) (length old)) digit
       ∙ length-range_with_len (16 * word) (length old)))
-      (λ k less. at k (omega (arith, same, less)))
+      (λ k less. digit_at_place k (omega (arith, into_length, less)))
     where
       digit : ℕ → ℕ
       digit k = hex_digit (digit_at k (row_marks m i))
 
-      at : (k : ℕ) → k < length old
+      digit_at_place : (k : ℕ) → k < length old
           → get_or into k 0 ≡ get_or (map digit (range_with_len (16 * word) (length old))) k 0
-      at k less =
+      digit_at_place k less =
           let width : 16 * word + length old ≤ 16 * words_for columns =
           subst (λ (x : Marks). 16 * word + length old ≤ 16 * words_for x.columns) view within in
           let q : word + k / 16 ≡ (16 * word + k) / 16 = omega arith in
@@ -291,6 +292,6 @@ module _ (m : Marks) (rows columns : ℕ) (words : List ℕ)
           (get_or-take (word + length old / 16 - word) (drop word part) (k / 16) 0 here
           ∙ get_or-drop word part (k / 16) 0)
           ∙ ap₂ (λ a b. hex_digit (four_at (get_or part a 0) b)) q r
-          ∙ ap hex_digit (row_digit i (16 * word + k) part lt (omega (arith, width, less)) is)
+          ∙ ap hex_digit (row_digit i (16 * word + k) part lt (omega (arith, width, less)) part_is)
           ∙ sym (get_or-map-range_with_len digit (16 * word) (length old) k
           (16 * word + k) 0 less refl)

@@ -11,8 +11,8 @@ use mir.Syntax.{w32, w64}
 use mir.Syntax as mircode
 
 -- what the lanes add up to
-abbrev pub added : List ℕ → ℕ
-added xs =
+abbrev pub lanes_total : List ℕ → ℕ
+lanes_total xs =
     fold_l (act2 (mircode.add mircode.unsigned) (s_int w64) (s_int w64) (s_int w64)) 0
     (map (act1 (mircode.cast mircode.unsigned mircode.unsigned w64) (s_int w32) (s_int w64))
     (map (act1 mircode.count_ones (s_int w64) (s_int w32)) xs))
@@ -25,7 +25,7 @@ lanes_sum : (a : ℕ) (xs : List ℕ)
 lanes_sum a [] = refl
 lanes_sum a (x ∷ xs) = lanes_sum (a + count_ones x) xs
 
-pub lanes_are : (xs : List ℕ) → added xs ≡ sum_by count_ones xs
+pub lanes_are : (xs : List ℕ) → lanes_total xs ≡ sum_by count_ones xs
 lanes_are xs = lanes_sum 0 xs
 
 -- eight words more

@@ -5,22 +5,22 @@ use Rattle.std.proofs.lemmas.Nat.{mul-add-lt, mul-le}
 use Rattle.std.proofs.Math.Nat.{add-mul, mul_left_comm, mul_comm}
 use Rattle.std.proofs.lemmas.List.{length-drop, length-take-le}
 use Rattle.std.specs.Int.{bit_at}
-use Rattle.mm_rows.specs.Bits.{is_bit, spot}
+use Rattle.mm_rows.specs.Bits.{is_bit, bit_index}
 use Rattle.mm_rows.specs.BitRows.{row_at}
 use Rattle.mm_rows.proofs.BitLaw.{part_bit, past_words}
 
 -- where bit j of row i lies
-pub spot_word : (width i j : ℕ) → spot width i j / 64 ≡ i * width + j / 64
-spot_word width i j = let m = mul_left_comm i 64 width in omega (arith, m)
+pub bit_index_word : (width i j : ℕ) → bit_index width i j / 64 ≡ i * width + j / 64
+bit_index_word width i j = let m = mul_left_comm i 64 width in omega (arith, m)
 
-pub spot_bit : (width i j : ℕ) → spot width i j % 64 ≡ j % 64
-spot_bit width i j = let m = mul_left_comm i 64 width in omega (arith, m)
+pub bit_index_bit : (width i j : ℕ) → bit_index width i j % 64 ≡ j % 64
+bit_index_bit width i j = let m = mul_left_comm i 64 width in omega (arith, m)
 
 -- a place lies within the words
-pub spot_within : (width n i j len : ℕ) → i < n → j < 64 * width → len ≡ n * width
-    → spot width i j / 64 < len
-spot_within width n i j len a b e =
-    let w = spot_word width i j in
+pub bit_index_within : (width n i j len : ℕ) → i < n → j < 64 * width → len ≡ n * width
+    → bit_index width i j / 64 < len
+bit_index_within width n i j len a b e =
+    let w = bit_index_word width i j in
     let c : j / 64 < width = omega arith in
     let m = mul-add-lt i width (j / 64) n a c in
     let t = mul_comm width n in
@@ -28,13 +28,13 @@ spot_within width n i j len a b e =
 
 -- a row as a part of all words
 pub row_bit : (words : List ℕ) (width i j : ℕ) → j < 64 * width
-    → is_bit (row_at words width i) j ≡ is_bit words (spot width i j)
+    → is_bit (row_at words width i) j ≡ is_bit words (bit_index width i j)
 row_bit words width i j lt =
     let w : i * width + width - i * width ≡ width = omega arith in
     let d : j / 64 < width = omega arith in
     ap (λ n. is_bit (take n (drop (i * width) words)) j) w ∙ part_bit words width i j d
-    ∙ sym (ap₂ (λ a b. eqb (bit_at (get_or words a 0) b) 1) (spot_word width i j)
-    (spot_bit width i j))
+    ∙ sym (ap₂ (λ a b. eqb (bit_at (get_or words a 0) b) 1) (bit_index_word width i j)
+    (bit_index_bit width i j))
 
 pub row_length : (words : List ℕ) (width i n : ℕ) → i < n → length words ≡ n * width
     → length (row_at words width i) ≡ width

@@ -10,12 +10,12 @@ use Rattle.std.proofs.Math.Seq.{get_or-append_seam}
 use Rattle.mm_cites.specs.Citing.{Citing, HasCitation, IsFileOrder, theorem_at, list_at}
 use Rattle.mm_rows.specs.BitRows.{IsBitRow, HasCitedRows, AreBitRows, row_at}
 use Rattle.mm_spec.specs.Laws.Chains.{IsWave, TheoremChain}
-use Rattle.mm_rows.specs.Waves.{IsCitingTheorem, AreWaves, IsByWave, HasRow, AreMade}
+use Rattle.mm_rows.specs.Waves.{IsCitingTheorem, AreWaves, IsByWave, HasRow, AreFilled}
 use Rattle.mm_rows.specs.Bits.{words_for}
 use Rattle.std.specs.List.{Contains, AllZip, range_with_len}
 use Rattle.std.specs.List.Sorted.{IsPermutation, IsNonDecreasingBy}
 use Rattle.std.proofs.lemmas.List.Sorted.{All-permutation, Contains-permutation}
-use Rattle.mm_rows.proofs.ChainLaw.{once}
+use Rattle.mm_rows.proofs.ChainLaw.{index_is_unique}
 
 -- a wave from the first n citations of theorem i
 pub record WaveTo (c : Citing) (waves : List ℕ) (i : ℕ) (cited : List ℕ) (n wave : ℕ) : Type 0 where
@@ -29,77 +29,87 @@ pub record WaveTo (c : Citing) (waves : List ℕ) (i : ℕ) (cited : List ℕ) (
 pub earlier_row : (c : Citing) (i r k : ℕ) → IsFileOrder c → i < length c.theorems
     → k < length (list_at c i) → r < length c.theorems → theorem_at c r ≡ get_or (list_at c i) k 0
     → r < i
-earlier_row c i r k o within listed lt e = go (cases_order r i)
+earlier_row c i r k is_file_order within listed r_inside e = by_order (cases_order r i)
   where
-    m : get_or (list_at c i) k 0 < theorem_at c i
-    m = o.earlier i k within listed
+    cited_is_earlier : get_or (list_at c i) k 0 < theorem_at c i
+    cited_is_earlier = is_file_order.earlier i k within listed
 
-    go : (r ≡ i) ⊎ ((r < i) ⊎ (i < r)) → r < i
-    go (inl s) = let a = ap (theorem_at c) s in let b = m in absurd (omega (arith, a, b))
-    go (inr (inl l)) = l
-    go (inr (inr g)) = let n = o.rising.rises i r g lt in let b = m in absurd (omega (arith, b, n))
+    by_order : (r ≡ i) ⊎ ((r < i) ⊎ (i < r)) → r < i
+    by_order (inl s) = let a = ap (theorem_at c) s in let b = cited_is_earlier in
+        absurd (omega (arith, a, b))
+    by_order (inr (inl l)) = l
+    by_order (inr (inr g)) = let n = is_file_order.rising.rises i r g r_inside in
+        let b = cited_is_earlier in
+        absurd (omega (arith, b, n))
 
 -- one theorem more
 pub wave_more : (c : Citing) (waves : List ℕ) (i : ℕ) (cited : List ℕ) (n wave r : ℕ)
     → IsFileOrder c → i < length c.theorems → AreWaves c i waves → n < length cited
     → r < length c.theorems → theorem_at c r ≡ get_or cited n 0 → WaveTo c waves i cited n wave
     → (r < length waves) × WaveTo c waves i cited (n + 1) (max wave (get_or waves r 0 + 1))
-wave_more c waves i cited n wave r o within w lt inside is h = (
-  let s = w.size in let b = before in
+wave_more c waves i cited n wave r is_file_order within are_waves n_inside inside is wave_to = (
+  let s = are_waves.size in let b = before in
       omega (arith, s, b),
-  pick (cases_lt wave (get_or waves r 0 + 1)),
+  by_longer (cases_lt wave (get_or waves r 0 + 1)),
 )
   where
     listed : n < length (list_at c i)
-    listed = subst (λ xs. n < length xs) h.same lt
+    listed = subst (λ xs. n < length xs) wave_to.same n_inside
 
     before : r < i
-    before = earlier_row c i r n o within listed inside (is ∙ ap (λ xs. get_or xs n 0) h.same)
+    before = earlier_row c i r n is_file_order within listed inside
+        (is ∙ ap (λ xs. get_or xs n 0) wave_to.same)
 
     cites : HasCitation c (theorem_at c i) (theorem_at c r)
     cites =
         record {
           row = i;
-          place = n;
+          list_index = n;
           within = within;
           listed = listed;
           theorem = refl;
-          cited = sym (is ∙ ap (λ xs. get_or xs n 0) h.same);
+          cited = sym (is ∙ ap (λ xs. get_or xs n 0) wave_to.same);
         }
 
-    longer : TheoremChain (HasCitation c) (IsCitingTheorem c) (theorem_at c i) (suc (get_or waves r 0))
-    longer = (theorem_at c r, cites, (r, inside, refl), (w.each r before).0)
+    longer : TheoremChain (HasCitation c) (IsCitingTheorem c) (theorem_at c i)
+        (suc (get_or waves r 0))
+    longer = (theorem_at c r, cites, (r, inside, refl), (are_waves.each r before).0)
 
     above : (x : ℕ) → wave ≤ x → get_or waves r 0 + 1 ≤ x → (m s : ℕ) → m < n + 1
         → s < length c.theorems → theorem_at c s ≡ get_or cited m 0 → get_or waves s 0 + 1 ≤ x
-    above x a b m s l t e = go (cases_eq m n)
+    above x wave_at_most_x b m s l s_inside e = by_place (cases_eq m n)
       where
-        go : (m ≡ n) ⊎ (m ≡ n → ⊥) → get_or waves s 0 + 1 ≤ x
-        go (inl f) =
+        by_place : (m ≡ n) ⊎ (m ≡ n → ⊥) → get_or waves s 0 + 1 ≤ x
+        by_place (inl f) =
             let same : s ≡ r =
-            once c.theorems s r o.rising t inside (e ∙ ap (λ k. get_or cited k 0) f ∙ sym is) in
+            index_is_unique c.theorems s r is_file_order.rising s_inside inside
+            (e ∙ ap (λ k. get_or cited k 0) f
+            ∙ sym is) in
             subst (λ k. get_or waves k 0 + 1 ≤ x) (sym same) b
-        go (inr f) = let y = h.above m s (omega arith) t e in omega (arith, y, a)
+        by_place (inr f) = let y = wave_to.above m s (omega arith) s_inside e in
+            omega (arith, y, wave_at_most_x)
 
-    pick : (wave < get_or waves r 0 + 1) ⊎ (get_or waves r 0 + 1 ≤ wave)
+    by_longer : (wave < get_or waves r 0 + 1) ⊎ (get_or waves r 0 + 1 ≤ wave)
         → WaveTo c waves i cited (n + 1) (max wave (get_or waves r 0 + 1))
-    pick (inl l) =
+    by_longer (inl l) =
         let top : max wave (get_or waves r 0 + 1) ≡ get_or waves r 0 + 1 = omega arith in
         let one : suc (get_or waves r 0) ≡ max wave (get_or waves r 0 + 1) = omega arith in
         let b = before in
-        let few = w.small r before in
+        let few = are_waves.small r before in
         record {
-          same = h.same;
-          chain = subst (TheoremChain (HasCitation c) (IsCitingTheorem c) (theorem_at c i)) one longer;
+          same = wave_to.same;
+          chain = subst (TheoremChain (HasCitation c) (IsCitingTheorem c) (theorem_at c i))
+              one longer;
           above = above (max wave (get_or waves r 0 + 1)) (omega arith) (omega arith);
           small = omega (arith, top, few, b);
         }
-    pick (inr g) =
+    by_longer (inr g) =
         let top : wave ≡ max wave (get_or waves r 0 + 1) = omega arith in
-        let small = h.small in
+        let small = wave_to.small in
         record {
-          same = h.same;
-          chain = subst (TheoremChain (HasCitation c) (IsCitingTheorem c) (theorem_at c i)) top h.chain;
+          same = wave_to.same;
+          chain = subst (TheoremChain (HasCitation c) (IsCitingTheorem c) (theorem_at c i))
+              top wave_to.chain;
           above = above (max wave (get_or waves r 0 + 1)) (omega arith) (omega arith);
           small = omega (arith, top, small);
         }
@@ -108,46 +118,54 @@ wave_more c waves i cited n wave r o within w lt inside is h = (
 pub wave_same : (c : Citing) (waves : List ℕ) (i : ℕ) (cited : List ℕ) (n wave : ℕ)
     → ((r : ℕ) → r < length c.theorems → theorem_at c r ≡ get_or cited n 0 → ⊥)
     → WaveTo c waves i cited n wave → WaveTo c waves i cited (n + 1) wave
-wave_same c waves i cited n wave none h =
+wave_same c waves i cited n wave none wave_to =
     record {
-      same = h.same;
-      chain = h.chain;
-      above = λ m r lt within e. go m r lt within e (cases_eq m n);
-      small = h.small;
+      same = wave_to.same;
+      chain = wave_to.chain;
+      above = λ m r lt within e. by_place m r lt within e (cases_eq m n);
+      small = wave_to.small;
     }
   where
-    go : (m r : ℕ) → m < n + 1 → r < length c.theorems → theorem_at c r ≡ get_or cited m 0
+    by_place : (m r : ℕ) → m < n + 1 → r < length c.theorems → theorem_at c r ≡ get_or cited m 0
         → (m ≡ n) ⊎ (m ≡ n → ⊥) → get_or waves r 0 + 1 ≤ wave
-    go m r lt within e (inl f) = absurd (none r within (e ∙ ap (λ k. get_or cited k 0) f))
-    go m r lt within e (inr f) = h.above m r (omega arith) within e
+    by_place m r lt within e (inl f) = absurd (none r within (e ∙ ap (λ k. get_or cited k 0) f))
+    by_place m r lt within e (inr f) = wave_to.above m r (omega arith) within e
 
 -- all citations
 pub wave_all : (c : Citing) (waves : List ℕ) (i : ℕ) (cited : List ℕ) (wave : ℕ) → IsFileOrder c
     → i < length c.theorems → AreWaves c i waves → WaveTo c waves i cited (length cited) wave
     → IsWave (HasCitation c) (IsCitingTheorem c) (theorem_at c i) wave
-wave_all c waves i cited wave o within w h = (h.chain, longest)
+wave_all c waves i cited wave is_file_order within are_waves wave_to = (wave_to.chain, longest)
   where
-    step : (m b : ℕ) → HasCitation c (theorem_at c i) b → IsCitingTheorem c b
+    chain_from_cited : (m b : ℕ) → HasCitation c (theorem_at c i) b → IsCitingTheorem c b
         → TheoremChain (HasCitation c) (IsCitingTheorem c) b m → suc m ≤ wave
-    step m b s t chain =
-        let row : s.row ≡ i = once c.theorems s.row i o.rising s.within within s.theorem in
-        let listed : s.place < length (list_at c i) =
-        subst (λ x. s.place < length (list_at c x)) row s.listed in
-        let cited_b : get_or (list_at c i) s.place 0 ≡ b =
-        subst (λ x. get_or (list_at c x) s.place 0 ≡ b) row s.cited in
-        let before : t.0 < i =
-        earlier_row c i t.0 s.place o within listed t.1 (t.2 ∙ sym cited_b) in
+    chain_from_cited m b has_citation is_citing_theorem chain =
+        let row : has_citation.row ≡ i = index_is_unique c.theorems has_citation.row i
+        is_file_order.rising has_citation.within
+        within has_citation.theorem in
+        let listed : has_citation.list_index < length (list_at c i) =
+        subst (λ x. has_citation.list_index < length (list_at c x)) row has_citation.listed in
+        let cited_b : get_or (list_at c i) has_citation.list_index 0 ≡ b =
+        subst (λ x. get_or (list_at c x) has_citation.list_index 0 ≡ b) row has_citation.cited in
+        let before : is_citing_theorem.0 < i =
+        earlier_row c i is_citing_theorem.0 has_citation.list_index is_file_order within listed
+        is_citing_theorem.1 (is_citing_theorem.2 ∙ sym cited_b) in
         let deep =
-        (w.each t.0 before).1 m
-        (subst (λ x. TheoremChain (HasCitation c) (IsCitingTheorem c) x m) (sym t.2) chain) in
+        (are_waves.each is_citing_theorem.0 before).1 m
+        (subst (λ x. TheoremChain (HasCitation c) (IsCitingTheorem c) x m)
+        (sym is_citing_theorem.2) chain) in
         let up =
-        h.above s.place t.0 (subst (λ xs. s.place < length xs) (sym h.same) listed) t.1
-        (t.2 ∙ sym cited_b ∙ ap (λ xs. get_or xs s.place 0) (sym h.same)) in
+        wave_to.above has_citation.list_index is_citing_theorem.0
+        (subst (λ xs. has_citation.list_index < length xs) (sym wave_to.same) listed)
+        is_citing_theorem.1
+        (is_citing_theorem.2 ∙ sym cited_b ∙ ap (λ xs. get_or xs has_citation.list_index 0)
+        (sym wave_to.same)) in
         omega (arith, deep, up)
 
-    longest : (m : ℕ) → TheoremChain (HasCitation c) (IsCitingTheorem c) (theorem_at c i) m → m ≤ wave
+    longest : (m : ℕ) → TheoremChain (HasCitation c) (IsCitingTheorem c) (theorem_at c i) m → m
+        ≤ wave
     longest zero k = omega arith
-    longest (suc m) k = step m k.0 k.1 k.2 k.3
+    longest (suc m) k = chain_from_cited m k.0 k.1 k.2 k.3
 
 pub waves_none : (c : Citing) → AreWaves c 0 []
 waves_none c =
@@ -160,49 +178,55 @@ waves_none c =
 pub waves_more : (c : Citing) (n wave : ℕ) (waves : List ℕ) → AreWaves c n waves
     → IsWave (HasCitation c) (IsCitingTheorem c) (theorem_at c n) wave → wave ≤ n
     → AreWaves c (n + 1) (waves ++ wave ∷ [])
-waves_more c n wave waves h w small = record {
-  size = let l = length-append waves (wave ∷ []) in let s = h.size in omega (arith, l, s);
+waves_more c n wave waves are_waves is_wave small = record {
+  size = let l = length-append waves (wave ∷ []) in let s = are_waves.size in omega (arith, l, s);
   each =
-      λ r lt. at (IsWave (HasCitation c) (IsCitingTheorem c) (theorem_at c r)) r lt (λ l. h.each r l)
-      (λ e. subst (λ k. IsWave (HasCitation c) (IsCitingTheorem c) (theorem_at c k) wave) (sym e) w)
+      λ r lt. by_row (IsWave (HasCitation c) (IsCitingTheorem c) (theorem_at c r)) r
+      lt (λ l. are_waves.each r l)
+      (λ e. subst (λ k. IsWave (HasCitation c) (IsCitingTheorem c) (theorem_at c k) wave)
+      (sym e) is_wave)
       (cases_eq r n);
-  small = λ r lt. at (λ x. x ≤ r) r lt (λ l. h.small r l) (λ e. omega arith) (cases_eq r n);
+  small = λ r lt. by_row (λ x. x ≤ r) r lt (λ l. are_waves.small r l)
+      (λ e. omega arith) (cases_eq r n);
 }
   where
-    at : (P : ℕ → Type 0) (r : ℕ) → r < n + 1 → (r < n → P (get_or waves r 0)) → (r ≡ n → P wave)
+    by_row : (P : ℕ → Type 0) (r : ℕ) → r < n + 1 → (r < n → P (get_or waves r 0))
+        → (r ≡ n → P wave)
         → (r ≡ n) ⊎ (r ≡ n → ⊥) → P (get_or (waves ++ wave ∷ []) r 0)
-    at P r lt below new (inl e) =
-        subst P (sym (get_or_push waves wave 0 r (h.size ∙ sym e))) (new e)
-    at P r lt below new (inr ne) =
-        subst P (sym (get_or_append_left waves (wave ∷ []) 0 r (let s = h.size in omega arith)))
+    by_row P r lt below new (inl e) =
+        subst P (sym (get_or_push waves wave 0 r (are_waves.size ∙ sym e))) (new e)
+    by_row P r lt below new (inr ne) =
+        subst P (sym (get_or_append_left waves (wave ∷ []) 0 r (let s = are_waves.size in
+        omega arith)))
         (below (omega arith))
 
 -- a cited theorem has a lower wave
-pub lower : (c : Citing) (waves : List ℕ) (i r k : ℕ) → AreWaves c (length c.theorems) waves
+pub cited_wave_is_lower : (c : Citing) (waves : List ℕ) (i r k : ℕ)
+    → AreWaves c (length c.theorems) waves
     → i < length c.theorems → r < length c.theorems → k < length (list_at c i)
     → theorem_at c r ≡ get_or (list_at c i) k 0 → get_or waves r 0 < get_or waves i 0
-lower c waves i r k w within inside listed e =
+cited_wave_is_lower c waves i r k are_waves within inside listed e =
     let cites : HasCitation c (theorem_at c i) (theorem_at c r) =
     record {
       row = i;
-      place = k;
+      list_index = k;
       within = within;
       listed = listed;
       theorem = refl;
       cited = sym e;
     } in
     let one : suc (get_or waves r 0) ≤ get_or waves i 0 =
-    (w.each i within).1 (suc (get_or waves r 0))
-    (theorem_at c r, cites, (r, inside, refl), (w.each r inside).0) in
+    (are_waves.each i within).1 (suc (get_or waves r 0))
+    (theorem_at c r, cites, (r, inside, refl), (are_waves.each r inside).0) in
     omega arith
 
 -- ---- rows by wave
 
-pub by_wave_is : (waves : List ℕ) (ps qs : List (ℕ × ℕ))
+pub rows_by_wave_are : (waves : List ℕ) (ps qs : List (ℕ × ℕ))
     → All (λ p. (p.1 < length waves) × (get_or waves p.1 0 ≡ p.0)) ps
     → ((r : ℕ) → r < length waves → Contains ps (get_or waves r 0, r))
     → IsPermutation ps qs → IsNonDecreasingBy (λ p. p.0) qs → IsByWave waves (map (λ p. p.1) qs)
-by_wave_is waves ps qs each all moved rises = record {
+rows_by_wave_are waves ps qs each all moved rises = record {
   known =
       λ k d l. let h = (entry k l) in
       subst (λ r. r < length waves)
@@ -246,88 +270,101 @@ pub zip_at : {Y : Type 0} (P : ℕ → Y → Type 0) (n a : ℕ) (ys : List Y)
 zip_at P zero a [] h = (refl, λ k d l. absurd (omega arith))
 zip_at P zero a (y ∷ ys) h = absurd h
 zip_at P (suc n) a [] h = absurd h
-zip_at P (suc n) a (y ∷ ys) h =
-    let r = zip_at P n (a + 1) ys h.1 in ((let e = r.0 in omega (arith, e)), λ k d l. at k d l r.1)
+zip_at P (suc n) a (y ∷ ys) all_zip =
+    let r = zip_at P n (a + 1) ys all_zip.1 in
+    ((let e = r.0 in omega (arith, e)), λ k d l. at k d l r.1)
   where
     at : (k : ℕ) (d : _) → k < suc n → ((k : ℕ) (d : _) → k < n → P (a + 1 + k) (get_or ys k d))
         → P (a + k) (get_or (y ∷ ys) k d)
-    at zero d l r = let e : a ≡ a + 0 = omega arith in subst (λ i. P i y) e h.0
+    at zero d l r = let e : a ≡ a + 0 = omega arith in subst (λ i. P i y) e all_zip.0
     at (suc k) d l r =
         let e : a + 1 + k ≡ a + suc k = omega arith in
         subst (λ i. P i (get_or ys k d)) e (r k d (omega arith))
 
--- ---- rows that are made
+-- ---- rows that are filled
 
-pub made_none : (c : Citing) (columns rows bits : List ℕ) → AreMade c columns rows 0 bits bits
-made_none c columns rows bits =
-    record { size = refl; kept = λ r h. h; made = λ m l. absurd (omega arith) }
+pub filled_none : (c : Citing) (columns rows bits : List ℕ) → AreFilled c columns rows 0 bits bits
+filled_none c columns rows bits =
+    record { size = refl; none_lost = λ r h. h; filled = λ m l. absurd (omega arith) }
 
-pub made_more : (c : Citing) (columns rows : List ℕ) (k : ℕ) (first old new row : List ℕ) (i : ℕ)
+pub filled_more : (c : Citing) (columns rows : List ℕ) (k : ℕ) (first old new row : List ℕ) (i : ℕ)
     → i ≡ get_or rows k 0 → IsBitRow c columns (theorem_at c i) row → length new ≡ length old
     → row_at new (words_for (length columns)) i ≡ row
     → ((r : ℕ) → (r ≡ i → ⊥)
     → row_at new (words_for (length columns)) r ≡ row_at old (words_for (length columns)) r)
-    → AreMade c columns rows k first old → AreMade c columns rows (k + 1) first new
-made_more c columns rows k first old new row i is bits same here others h = record {
-  size = same ∙ h.size;
-  kept = λ r b. again r (h.kept r b) (cases_eq r i);
-  made = λ m l. go m l (cases_eq m k);
-}
+    → AreFilled c columns rows k first old → AreFilled c columns rows (k + 1) first new
+filled_more c columns rows k first old new row i i_is bits new_length here others are_filled =
+    record {
+      size = new_length ∙ are_filled.size;
+      none_lost = λ r b. still_filled r (are_filled.none_lost r b) (cases_eq r i);
+      filled = λ m l. by_place m l (cases_eq m k);
+    }
   where
-    fresh : (r : ℕ) → r ≡ i → HasRow c columns new r
-    fresh r e =
+    filled_at_place : (r : ℕ) → r ≡ i → HasRow c columns new r
+    filled_at_place r e =
         subst (HasRow c columns new) (sym e)
         (subst (IsBitRow c columns (theorem_at c i)) (sym here) bits)
 
-    again : (r : ℕ) → HasRow c columns old r → (r ≡ i) ⊎ (r ≡ i → ⊥) → HasRow c columns new r
-    again r b (inl e) = fresh r e
-    again r b (inr ne) = subst (IsBitRow c columns (theorem_at c r)) (sym (others r ne)) b
+    still_filled : (r : ℕ) → HasRow c columns old r → (r ≡ i) ⊎ (r ≡ i → ⊥) → HasRow c columns new r
+    still_filled r b (inl e) = filled_at_place r e
+    still_filled r b (inr ne) = subst (IsBitRow c columns (theorem_at c r)) (sym (others r ne)) b
 
-    go : (m : ℕ) → m < k + 1 → (m ≡ k) ⊎ (m ≡ k → ⊥) → HasRow c columns new (get_or rows m 0)
-    go m l (inl e) = fresh (get_or rows m 0) (ap (λ x. get_or rows x 0) e ∙ sym is)
-    go m l (inr ne) =
-        again (get_or rows m 0) (h.made m (omega arith)) (cases_eq (get_or rows m 0) i)
+    by_place : (m : ℕ) → m < k + 1 → (m ≡ k) ⊎ (m ≡ k → ⊥) → HasRow c columns new (get_or rows m 0)
+    by_place m l (inl e) =
+        filled_at_place (get_or rows m 0) (ap (λ x. get_or rows x 0) e ∙ sym i_is)
+    by_place m l (inr ne) =
+        still_filled (get_or rows m 0) (are_filled.filled m (omega arith))
+        (cases_eq (get_or rows m 0) i)
 
--- a row that could be made can still be made
+-- a row that could be filled can still be filled
 pub ready_still : (c : Citing) (columns rows : List ℕ) (k : ℕ) (old new : List ℕ)
-    → AreMade c columns rows k old new → (i : ℕ) → HasCitedRows c columns old i → HasCitedRows c columns new i
-ready_still c columns rows k old new h i ready = λ r n l m e. h.kept r (ready r n l m e)
+    → AreFilled c columns rows k old new → (i : ℕ) → HasCitedRows c columns old i
+    → HasCitedRows c columns new i
+ready_still c columns rows k old new h i ready = λ r n l m e. h.none_lost r (ready r n l m e)
 
 -- ---- wave by wave
 
--- the first so many rows by wave are made
-pub record MadeTo (c : Citing) (columns rows : List ℕ) (from : ℕ) (bits : List ℕ) : Type 0 where
+-- the first so many rows by wave are filled
+pub record FilledUpTo (c : Citing) (columns rows : List ℕ) (from : ℕ) (bits : List ℕ) : Type 0 where
   pub size : length bits ≡ length c.theorems * words_for (length columns)
   pub within : from ≤ length rows
-  pub made : (p : ℕ) → p < from → HasRow c columns bits (get_or rows p 0)
+  pub filled : (p : ℕ) → p < from → HasRow c columns bits (get_or rows p 0)
 
 -- the rows of a wave need those before them
 pub wave_ready : (c : Citing) (columns waves rows : List ℕ) (from to : ℕ) (bits : List ℕ)
-    → AreWaves c (length c.theorems) waves → IsByWave waves rows → MadeTo c columns rows from bits
+    → AreWaves c (length c.theorems) waves → IsByWave waves rows
+    → FilledUpTo c columns rows from bits
     → from < length rows → to ≤ length rows
     → ((p : ℕ) → from ≤ p → p < to
     → get_or waves (get_or rows p 0) 0 ≡ get_or waves (get_or rows from 0) 0)
     → (p : ℕ) → from ≤ p → p < to
     → (get_or rows p 0 < length c.theorems) × HasCitedRows c columns bits (get_or rows p 0)
-wave_ready c columns waves rows from to bits w o h inside within same p l m =
-    (known, λ r k lt listed e. ready r (lower c waves (get_or rows p 0) r k w known lt listed e) lt)
+wave_ready c columns waves rows from to bits are_waves is_by_wave filled_up_to
+    inside within same p from_at_most_p p_below_to = (
+      known,
+      λ r k lt listed e. ready r
+          (cited_wave_is_lower c waves (get_or rows p 0) r k are_waves known lt listed e) lt,
+    )
   where
     known : get_or rows p 0 < length c.theorems
-    known = let s = w.size in let k = o.known p 0 (omega arith) in omega (arith, s, k)
+    known = let s = are_waves.size in let k = is_by_wave.known p 0 (omega arith) in
+        omega (arith, s, k)
 
     ready : (r : ℕ) → get_or waves r 0 < get_or waves (get_or rows p 0) 0 → r < length c.theorems
         → HasRow c columns bits r
-    ready r low lt =
-        let q = o.all r (let s = w.size in omega (arith, s, lt)) in
+    ready r low r_inside =
+        let q = is_by_wave.all r (let s = are_waves.size in omega (arith, s, r_inside)) in
         let is : get_or rows q.0 0 ≡ r = get_or_default rows q.0 0 r q.1 ∙ q.2 in
         subst (HasRow c columns bits) is
-        (h.made q.0 (before q.0 q.1 (ap (λ x. get_or waves x 0) is) (cases_lt q.0 from)))
+        (filled_up_to.filled q.0 (before q.0 q.1 (ap (λ x. get_or waves x 0) is)
+        (cases_lt q.0 from)))
       where
         before : (q : ℕ) → q < length rows → get_or waves (get_or rows q 0) 0 ≡ get_or waves r 0
             → (q < from) ⊎ (from ≤ q) → q < from
         before q k e (inl b) = b
         before q k e (inr b) =
-            absurd (let up = o.rises from q b k in let s = same p l m in
+            absurd (let up = is_by_wave.rises from q b k in
+            let s = same p from_at_most_p p_below_to in
             omega (arith, up, s, e, low))
 
 pub part_length : (xs : List ℕ) (from to : ℕ) → to ≤ length xs
@@ -340,33 +377,40 @@ pub part_at : (xs : List ℕ) (from to i d : ℕ) → i < to - from
     → get_or (slice_range xs from to) i d ≡ get_or xs (from + i) d
 part_at xs from to i d l = get_or-take (to - from) (drop from xs) i d l ∙ get_or-drop from xs i d
 
-pub made_wave : (c : Citing) (columns rows part : List ℕ) (from to : ℕ) (old new : List ℕ)
-    → MadeTo c columns rows from old → to ≤ length rows → part ≡ slice_range rows from to
+pub filled_wave : (c : Citing) (columns rows part : List ℕ) (from to : ℕ) (old new : List ℕ)
+    → FilledUpTo c columns rows from old → to ≤ length rows → part ≡ slice_range rows from to
     → from ≤ to
-    → AreMade c columns part (length part) old new → MadeTo c columns rows to new
-made_wave c columns rows part from to old new h within is order m =
-    record { size = m.size ∙ h.size; within = within; made = λ p l. go p l (cases_lt p from) }
+    → AreFilled c columns part (length part) old new → FilledUpTo c columns rows to new
+filled_wave c columns rows part from to old new filled_up_to within part_is order are_filled =
+    record {
+      size = are_filled.size ∙ filled_up_to.size;
+      within = within;
+      filled =
+          λ p l. by_place p l (cases_lt p from);
+    }
   where
-    go : (p : ℕ) → p < to → (p < from) ⊎ (from ≤ p) → HasRow c columns new (get_or rows p 0)
-    go p l (inl b) = m.kept (get_or rows p 0) (h.made p b)
-    go p l (inr b) =
+    by_place : (p : ℕ) → p < to → (p < from) ⊎ (from ≤ p) → HasRow c columns new (get_or rows p 0)
+    by_place p l (inl b) = are_filled.none_lost (get_or rows p 0) (filled_up_to.filled p b)
+    by_place p l (inr b) =
         let long : length part ≡ to - from =
-        ap (λ xs. length xs) is ∙ part_length rows from to within in
+        ap (λ xs. length xs) part_is ∙ part_length rows from to within in
         let e : from + (p - from) ≡ p = omega (arith, b) in
         let at : get_or part (p - from) 0 ≡ get_or rows p 0 =
-        ap (λ xs. get_or xs (p - from) 0) is
+        ap (λ xs. get_or xs (p - from) 0) part_is
         ∙ part_at rows from to (p - from) 0 (omega (arith, l, b)) ∙ ap (λ x. get_or rows x 0) e in
-        subst (HasRow c columns new) at (m.made (p - from) (omega (arith, long, l, b)))
+        subst (HasRow c columns new) at (are_filled.filled (p - from) (omega (arith, long, l, b)))
 
-pub made_all : (c : Citing) (columns waves rows bits : List ℕ) (from : ℕ)
-    → AreWaves c (length c.theorems) waves → IsByWave waves rows → MadeTo c columns rows from bits
+pub filled_all : (c : Citing) (columns waves rows bits : List ℕ) (from : ℕ)
+    → AreWaves c (length c.theorems) waves → IsByWave waves rows
+    → FilledUpTo c columns rows from bits
     → length rows ≤ from → AreBitRows c columns (length c.theorems) bits
-made_all c columns waves rows bits from w o h end = record {
-  size = h.size;
+filled_all c columns waves rows bits from are_waves is_by_wave filled_up_to end = record {
+  size = filled_up_to.size;
   each = λ r lt.
-      let q = o.all r (let s = w.size in omega (arith, s, lt)) in
+      let q = is_by_wave.all r (let s = are_waves.size in omega (arith, s, lt)) in
       let is : get_or rows q.0 0 ≡ r = get_or_default rows q.0 0 r q.1 ∙ q.2 in
-      subst (HasRow c columns bits) is (h.made q.0 (let l = q.1 in omega (arith, l, end)));
+      subst (HasRow c columns bits) is (filled_up_to.filled q.0 (let l = q.1 in
+      omega (arith, l, end)));
 }
 
 -- one row more, with its wave
@@ -376,18 +420,18 @@ pub pairs_next : (waves : List ℕ) (ps more : List (ℕ × ℕ)) (i : ℕ) → 
     → more ≡ ps ++ (get_or waves i 0, i) ∷ []
     → (i + 1 ≤ length waves) × (length more ≡ i + 1)
     × ((p : ℕ) → p < i + 1 → get_or more p (0, 0) ≡ (get_or waves p 0, p))
-pairs_next waves ps more i l h e = (
-  omega (arith, l),
-  ap length e ∙ length-append ps ((get_or waves i 0, i) ∷ []) ∙ ap (λ n. n + 1) h.1,
-  λ p m. ap (λ qs. get_or qs p (0, 0)) e ∙ by p m (cases_lt p i),
+pairs_next waves ps more i i_inside h more_is = (
+  omega (arith, i_inside),
+  ap length more_is ∙ length-append ps ((get_or waves i 0, i) ∷ []) ∙ ap (λ n. n + 1) h.1,
+  λ p m. ap (λ qs. get_or qs p (0, 0)) more_is ∙ by_row p m (cases_lt p i),
 )
   where
-    by : (p : ℕ) → p < i + 1 → (p < i) ⊎ (i ≤ p)
+    by_row : (p : ℕ) → p < i + 1 → (p < i) ⊎ (i ≤ p)
         → get_or (ps ++ (get_or waves i 0, i) ∷ []) p (0, 0) ≡ (get_or waves p 0, p)
-    by p m (inl k) =
+    by_row p m (inl k) =
         let n = h.1 in
         get_or_append_left ps ((get_or waves i 0, i) ∷ []) (0, 0) p (omega (arith, k, n)) ∙ h.2 p k
-    by p m (inr k) =
+    by_row p m (inr k) =
         let q : i ≡ p = omega (arith, m, k) in
         ap (λ j. get_or (ps ++ (get_or waves i 0, i) ∷ []) j (0, 0)) (sym (h.1 ∙ q))
         ∙ get_or-append_seam ps (get_or waves i 0, i) [] (0, 0)

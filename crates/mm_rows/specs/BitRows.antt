@@ -4,7 +4,7 @@ use Rattle.std.specs.Prelude.{length, slice_index, Decides}
 use Rattle.std.specs.List.{range_with_len}
 use Rattle.mm_spec.specs.Chains.{RestsOn}
 use Rattle.mm_cites.specs.Citing.{Citing, HasCitation, theorem_at, list_at}
-use Rattle.mm_rows.specs.Bits.{is_bit, words_for, spot}
+use Rattle.mm_rows.specs.Bits.{is_bit, words_for, bit_index}
 use Rattle.mm_rows.specs.Marks.{Marks}
 
 -- the bits of statement t: which columns it rests on, and nothing past the last column
@@ -41,7 +41,7 @@ pub record AreBitRows (c : Citing) (columns : List ℕ) (n : ℕ) (bits : List �
 -- the cells of row i of a table of bits
 abbrev pub cells_of : ℕ → List ℕ → ℕ → List Bool
 cells_of columns bits i =
-    map (λ j. is_bit bits (spot (words_for columns) i j)) (range_with_len 0 columns)
+    map (λ j. is_bit bits (bit_index (words_for columns) i j)) (range_with_len 0 columns)
 
 -- the marks of a table of bits
 abbrev pub marks : ℕ → ℕ → List ℕ → Marks

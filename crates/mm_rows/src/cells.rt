@@ -8,13 +8,13 @@ ghost use Rattle.mm_rows.specs.Bits.{is_bit};
 
 use std::simd::prelude::*;
 
-/// The byte of a word in which each of its bits is.
+/// For each bit of a word, which byte of the word it is in.
 const BYTES: [usize; 64] = [
     0, 0, 0, 0, 0, 0, 0, 0, 1, 1, 1, 1, 1, 1, 1, 1, 2, 2, 2, 2, 2, 2, 2, 2, 3, 3, 3, 3, 3, 3, 3, 3,
     4, 4, 4, 4, 4, 4, 4, 4, 5, 5, 5, 5, 5, 5, 5, 5, 6, 6, 6, 6, 6, 6, 6, 6, 7, 7, 7, 7, 7, 7, 7, 7,
 ];
 
-/// The bit of its byte that each bit of a word is.
+/// For each bit of a word, the number that has this bit of the byte alone.
 const BITS: [u8; 64] = [
     1, 2, 4, 8, 16, 32, 64, 128, 1, 2, 4, 8, 16, 32, 64, 128, 1, 2, 4, 8, 16, 32, 64, 128, 1, 2, 4,
     8, 16, 32, 64, 128, 1, 2, 4, 8, 16, 32, 64, 128, 1, 2, 4, 8, 16, 32, 64, 128, 1, 2, 4, 8, 16,

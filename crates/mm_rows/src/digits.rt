@@ -7,22 +7,22 @@ ghost use Rattle.mm_rows.specs.Bits.{four_at};
 
 use std::simd::prelude::*;
 
-/// The number of four columns, indexed by the same columns as the lowest bits of a word, where the
-/// first column is the lowest bit.
+/// The number of four columns, whose first column is the highest bit. The index is the number that
+/// they make in a word of marks, where the first column is the lowest bit.
 const NUMBERS: [u8; 16] = [0, 8, 4, 12, 2, 10, 6, 14, 1, 9, 5, 13, 3, 11, 7, 15];
 
-/// The same numbers as hexadecimal digits.
+/// The same numbers as hexadecimal digits, with the same index.
 const DIGITS: [u8; 16] = *b"084c2a6e195d3b7f";
 
-/// Returns the number of the four columns of digit k of a word.
-pub fn number(word: u64, k: usize) -> u8
+/// Returns the number that digit `k` of a word stands for, that of its four columns.
+pub fn digit_value(word: u64, k: usize) -> u8
     requires { k < 16 }
     ensures { result ≡ four_at word k }
 {
     NUMBERS[((word >> (4 * k)) & 15) as usize]
 }
 
-/// Returns the digits of a word. A byte has two of them, the first in its lower half.
+/// Returns the digits of a word. A byte of the word has two of them, the first in its lower half.
 #[inline(always)]
 fn word_digits(word: u64) -> u8x16
     ensures length { length result ≡ 16 }

@@ -7,8 +7,8 @@ ghost use Rattle.mm_rows.specs.Marks.{IsMatrix};
 ghost use Rattle.mm_cites.specs.Citing.{IsStatementList};
 
 use crate::columns::Columns;
-use crate::places::Places;
-use crate::rows::{fill_in_place, finish};
+use crate::indices::StatementIndices;
+use crate::rows::{fill_in_place, table_of_rows};
 use crate::table::{MarkedRows, Matrix};
 use mm_cites::Citations;
 use std::alloc::{AllocError, Allocator};
@@ -16,8 +16,8 @@ use std::alloc::{AllocError, Allocator};
 /// Fills in all rows.
 fn fill_in_order<A: Allocator>(
     citations: &Citations<A>,
-    theorems: &Places<A>,
-    columns: &Places<A>,
+    theorems: &StatementIndices<A>,
+    columns: &StatementIndices<A>,
     bits: &mut [u64],
 )
     requires theorems { theorems.now ≡ citations.now.theorems }
@@ -40,16 +40,17 @@ fn all_rows_in_order<A: Allocator + Copy>(
     ensures { IfOk result
         (λ v. AreBitRows citations.now columns.now (length citations.now.theorems) v.items) }
 {
-    let theorems = Places::new(alloc, citations.theorems())?;
-    let columns = Places::new(alloc, columns)?;
+    let theorems = StatementIndices::new(alloc, citations.theorems())?;
+    let columns = StatementIndices::new(alloc, columns)?;
     let mut bits = Vec::new(alloc);
     bits.resize(citations.rows() as usize * columns.words(), 0u64)?;
     fill_in_order(citations, &theorems, &columns, &mut bits);
     Ok(bits)
 }
 
-/// The same as `marked_rows`, on the calling thread alone. Fails only if out of memory.
-pub fn marked_rows_in_order<A: Allocator + Copy>(
+/// Returns what `marked_rows` returns, computed on the calling thread alone, row by row in file
+/// order. Fails only if out of memory.
+pub fn marked_rows_alone<A: Allocator + Copy>(
     alloc: A,
     citations: &Citations<A>,
     columns: &Columns<A>,
@@ -57,17 +58,18 @@ pub fn marked_rows_in_order<A: Allocator + Copy>(
     ensures { IfOk result (λ m. IsMatrix citations.now columns.now m) }
 {
     let bits = all_rows_in_order(alloc, citations, columns.statements())?;
-    Ok(finish(citations, columns, bits))
+    Ok(table_of_rows(citations, columns, bits))
 }
 
-/// The same as `matrix`, on the calling thread alone. Fails only if out of memory.
-pub fn matrix_in_order<A: Allocator + Copy>(
+/// Returns what `matrix` returns, computed on the calling thread alone. Fails only if out of
+/// memory.
+pub fn matrix_alone<A: Allocator + Copy>(
     alloc: A,
     citations: &Citations<A>,
     columns: &Columns<A>,
 ) -> Result<Matrix<A>, AllocError>
     ensures { IfOk result (λ m. IsMatrix citations.now columns.now m) }
 {
-    let marked = marked_rows_in_order(alloc, citations, columns)?;
+    let marked = marked_rows_alone(alloc, citations, columns)?;
     Matrix::with_columns(alloc, marked)
 }

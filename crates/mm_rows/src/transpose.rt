@@ -6,26 +6,26 @@ ghost use Rattle.std.specs.Prelude.{◌≡◌, ◌<◌, ◌≤◌, ◌+◌, ◌*
 ghost use Rattle.std.specs.Prelude.{false};
 ghost use Rattle.std.specs.Int.{bit_at};
 ghost use Rattle.mm_rows.specs.Bits.{is_bit, words_for, AreTransposed, IsTable};
-ghost use Rattle.mm_rows.specs.Bands.{in_row, AreRowBytes, Written};
+ghost use Rattle.mm_rows.specs.Bands.{bit_in_rows, AreRowBytes, ColumnsWritten};
 
 use crate::bits::{next_set, or_row};
 use std::alloc::{AllocError, Allocator};
 use std::simd::prelude::*;
 
-/// Marks the columns in which any row of band w has a mark.
-fn mark_columns(any: &mut [u64], bits: &[u64], rows: usize, w: usize)
-    requires size { length bits.now ≡ rows * length any.old }
+/// Sets in `has_mark` the bits of the columns in which a row of band w has a mark, and no others.
+fn mark_columns(has_mark: &mut [u64], bits: &[u64], rows: usize, w: usize)
+    requires size { length bits.now ≡ rows * length has_mark.old }
     requires few_rows { rows < 2147483648 }
-    requires narrow { length any.old ≤ 67108864 }
+    requires narrow { length has_mark.old ≤ 67108864 }
     requires band { 64 * w < rows }
-    ensures { (k j : ℕ) → k < 64 → j < 64 * length any.old
-        → in_row rows (length any.old) bits.now (64 * w + k) j ≡ true
-        → is_bit any.new j ≡ true }
+    ensures { (k j : ℕ) → k < 64 → j < 64 * length has_mark.old
+        → bit_in_rows rows (length has_mark.old) bits.now (64 * w + k) j ≡ true
+        → is_bit has_mark.new j ≡ true }
 {
-    let across = any.len();
-    any.fill(0);
+    let across = has_mark.len();
+    has_mark.fill(0);
     for i in 64 * w..(64 * w + 64).min(rows) {
-        or_row(any, &bits[i * across..i * across + across]);
+        or_row(has_mark, &bits[i * across..i * across + across]);
     }
 }
 
@@ -46,7 +46,7 @@ fn row_bytes(bits: &[u64], across: usize, rows: usize, w: usize, at: usize) -> [
     bytes
 }
 
-/// Returns bit `b` of each of 64 bytes.
+/// Returns a word with bit `b` of each of 64 bytes.
 #[inline(always)]
 fn lane_bits(bytes: u8x64, b: usize) -> u64
     requires { b < 8 }
@@ -68,8 +68,8 @@ fn write_columns(
     requires table { IsTable rows columns bits.now }
     requires band { 64 * w < rows }
     requires within { at < 8 * words_for columns }
-    requires written { Written rows columns bits.now transposed.old w (8 * at) }
-    ensures { Written rows columns bits.now transposed.new w (8 * at + 8) }
+    requires written { ColumnsWritten rows columns bits.now transposed.old w (8 * at) }
+    ensures { ColumnsWritten rows columns bits.now transposed.new w (8 * at + 8) }
 {
     let down = rows.div_ceil(64);
     let bytes = u8x64::from_array(row_bytes(bits, columns.div_ceil(64), rows, w, at));
@@ -82,24 +82,25 @@ fn write_columns(
     }
 }
 
-/// Writes the word that band w makes of each column. `any` is a row for its own use.
+/// Writes the word that band w makes of each column. `has_mark` is a row of bits for the call to
+/// work in: what it has before and after doesn't matter.
 fn transpose_band(
     transposed: &mut [u64],
     bits: &[u64],
-    any: &mut [u64],
+    has_mark: &mut [u64],
     rows: usize,
     columns: usize,
     w: usize,
 )
     requires table { IsTable rows columns bits.now }
     requires band { 64 * w < rows }
-    requires width { length any.old ≡ words_for columns }
-    requires written { Written rows columns bits.now transposed.old w 0 }
-    ensures { Written rows columns bits.now transposed.new (w + 1) 0 }
+    requires width { length has_mark.old ≡ words_for columns }
+    requires written { ColumnsWritten rows columns bits.now transposed.old w 0 }
+    ensures { ColumnsWritten rows columns bits.now transposed.new (w + 1) 0 }
 {
-    mark_columns(any, bits, rows, w);
+    mark_columns(has_mark, bits, rows, w);
     let mut at = 0usize;
-    while let Some(j) = next_set(any, 8 * at) {
+    while let Some(j) = next_set(has_mark, 8 * at) {
         write_columns(transposed, bits, rows, columns, w, j / 8);
         at = j / 8 + 1;
     }
@@ -109,18 +110,18 @@ fn transpose_band(
 fn transpose_bands(
     transposed: &mut [u64],
     bits: &[u64],
-    any: &mut [u64],
+    has_mark: &mut [u64],
     rows: usize,
     columns: usize,
 )
     requires table { IsTable rows columns bits.now }
-    requires width { length any.old ≡ words_for columns }
+    requires width { length has_mark.old ≡ words_for columns }
     requires size { length transposed.old ≡ columns * words_for rows }
     requires empty { (k : ℕ) → slice_index transposed.old k ≡ 0 }
     ensures { AreTransposed rows columns bits.now transposed.new }
 {
     for w in 0..rows.div_ceil(64) {
-        transpose_band(transposed, bits, any, rows, columns, w);
+        transpose_band(transposed, bits, has_mark, rows, columns, w);
     }
 }
 
@@ -136,10 +137,10 @@ pub fn transpose<A: Allocator + Copy>(
 {
     let rows = rows as usize;
     let columns = columns as usize;
-    let mut any = Vec::new(alloc);
-    any.resize(columns.div_ceil(64), 0u64)?;
+    let mut has_mark = Vec::new(alloc);
+    has_mark.resize(columns.div_ceil(64), 0u64)?;
     let mut transposed = Vec::new(alloc);
     transposed.resize(columns * rows.div_ceil(64), 0u64)?;
-    transpose_bands(&mut transposed, bits, &mut any, rows, columns);
+    transpose_bands(&mut transposed, bits, &mut has_mark, rows, columns);
     Ok(transposed)
 }

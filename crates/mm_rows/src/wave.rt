@@ -9,11 +9,11 @@ ghost use Rattle.mm_cites.specs.Citing.{HasCitation, IsStatementList, theorem_at
 ghost use Rattle.mm_spec.specs.Laws.Chains.{IsWave};
 ghost use Rattle.mm_rows.specs.BitRows.{IsBitRow, HasCitedRows, AreBitRows, row_at};
 ghost use Rattle.mm_rows.specs.Marks.{IsMatrix};
-ghost use Rattle.mm_rows.specs.Waves.{IsCitingTheorem, AreWaves, IsByWave, AreMade};
+ghost use Rattle.mm_rows.specs.Waves.{IsCitingTheorem, AreWaves, IsByWave, AreFilled};
 
 use crate::columns::Columns;
-use crate::places::Places;
-use crate::rows::{bit_row, fill_in_place, finish};
+use crate::indices::StatementIndices;
+use crate::rows::{bit_row, fill_in_place, table_of_rows};
 use crate::table::{MarkedRows, Matrix};
 use mm_cites::Citations;
 use rayon::prelude::*;
@@ -23,7 +23,7 @@ use std::thread::Threads;
 /// Returns the wave of a theorem. `waves` has those of the theorems before it.
 fn next_wave<A: Allocator>(
     citations: &Citations<A>,
-    theorems: &Places<A>,
+    theorems: &StatementIndices<A>,
     waves: &[u32],
     i: u32,
 ) -> u32
@@ -43,11 +43,11 @@ fn next_wave<A: Allocator>(
     wave
 }
 
-/// Returns the waves of all theorems. `theorems` has the places of the theorems.
+/// Returns the waves of all theorems. `theorems` has the indices of their statements.
 fn waves_of<A: Allocator + Copy>(
     alloc: A,
     citations: &Citations<A>,
-    theorems: &Places<A>,
+    theorems: &StatementIndices<A>,
 ) -> Result<Vec<u32, A>, AllocError>
     requires { theorems.now ≡ citations.now.theorems }
     ensures { IfOk result (λ v. AreWaves citations.now (length citations.now.theorems) v.items) }
@@ -68,12 +68,12 @@ pub fn waves<A: Allocator + Copy>(
 ) -> Result<Vec<u32, A>, AllocError>
     ensures { IfOk result (λ v. AreWaves citations.now (length citations.now.theorems) v.items) }
 {
-    let theorems = Places::new(alloc, citations.theorems())?;
+    let theorems = StatementIndices::new(alloc, citations.theorems())?;
     waves_of(alloc, citations, &theorems)
 }
 
 /// Returns the rows of all theorems, those of the lowest wave first.
-fn by_wave<A: Allocator + Copy>(alloc: A, waves: &[u32]) -> Result<Vec<u32, A>, AllocError>
+fn rows_by_wave<A: Allocator + Copy>(alloc: A, waves: &[u32]) -> Result<Vec<u32, A>, AllocError>
     requires { length waves.now < 2147483648 }
     ensures { IfOk result (λ v. IsByWave waves.now v.items) }
 {
@@ -126,8 +126,8 @@ fn bit_rows<R: Threads + Sync, A: Allocator + Copy + Send + Sync>(
     rt: &R,
     alloc: A,
     citations: &Citations<A>,
-    theorems: &Places<A>,
-    columns: &Places<A>,
+    theorems: &StatementIndices<A>,
+    columns: &StatementIndices<A>,
     bits: &[u64],
     rows: &[u32],
 ) -> Result<Vec<Result<Vec<u64, A>, AllocError>, A>, AllocError>
@@ -165,8 +165,8 @@ fn fill_side_by_side<R: Threads + Sync, A: Allocator + Copy + Send + Sync>(
     rt: &R,
     alloc: A,
     citations: &Citations<A>,
-    theorems: &Places<A>,
-    columns: &Places<A>,
+    theorems: &StatementIndices<A>,
+    columns: &StatementIndices<A>,
     rows: &[u32],
     bits: &mut [u64],
 ) -> Result<(), AllocError>
@@ -177,12 +177,12 @@ fn fill_side_by_side<R: Threads + Sync, A: Allocator + Copy + Send + Sync>(
         (λ i. (i < length citations.now.theorems)
         × HasCitedRows citations.now columns.now bits.old i) rows.now }
     ensures { OnOk result
-        (AreMade citations.now columns.now rows.now (length rows.now) bits.old bits.new) }
+        (AreFilled citations.now columns.now rows.now (length rows.now) bits.old bits.new) }
 {
     let width = columns.words();
-    let made = bit_rows(rt, alloc, citations, theorems, columns, bits, rows)?;
+    let new_rows = bit_rows(rt, alloc, citations, theorems, columns, bits, rows)?;
     for k in 0..rows.len() {
-        match &made[k] {
+        match &new_rows[k] {
             Ok(row) => store(bits, width, rows[k], row),
             Err(_) => return Err(AllocError),
         }
@@ -193,8 +193,8 @@ fn fill_side_by_side<R: Threads + Sync, A: Allocator + Copy + Send + Sync>(
 /// Fills in some rows, none of which needs another, one by one.
 fn fill_in_turn<A: Allocator>(
     citations: &Citations<A>,
-    theorems: &Places<A>,
-    columns: &Places<A>,
+    theorems: &StatementIndices<A>,
+    columns: &StatementIndices<A>,
     rows: &[u32],
     bits: &mut [u64],
 )
@@ -204,7 +204,7 @@ fn fill_in_turn<A: Allocator>(
     requires ready { All
         (λ i. (i < length citations.now.theorems)
         × HasCitedRows citations.now columns.now bits.old i) rows.now }
-    ensures { AreMade citations.now columns.now rows.now (length rows.now) bits.old bits.new }
+    ensures { AreFilled citations.now columns.now rows.now (length rows.now) bits.old bits.new }
 {
     for k in 0..rows.len() {
         fill_in_place(citations, theorems, columns, rows[k], bits);
@@ -219,8 +219,8 @@ fn fill_wave<R: Threads + Sync, A: Allocator + Copy + Send + Sync>(
     rt: &R,
     alloc: A,
     citations: &Citations<A>,
-    theorems: &Places<A>,
-    columns: &Places<A>,
+    theorems: &StatementIndices<A>,
+    columns: &StatementIndices<A>,
     rows: &[u32],
     bits: &mut [u64],
 ) -> Result<(), AllocError>
@@ -231,7 +231,7 @@ fn fill_wave<R: Threads + Sync, A: Allocator + Copy + Send + Sync>(
         (λ i. (i < length citations.now.theorems)
         × HasCitedRows citations.now columns.now bits.old i) rows.now }
     ensures { OnOk result
-        (AreMade citations.now columns.now rows.now (length rows.now) bits.old bits.new) }
+        (AreFilled citations.now columns.now rows.now (length rows.now) bits.old bits.new) }
 {
     if rows.len() < FEWEST_FOR_THREADS {
         fill_in_turn(citations, theorems, columns, rows, bits);
@@ -246,8 +246,8 @@ fn fill_waves<R: Threads + Sync, A: Allocator + Copy + Send + Sync>(
     rt: &R,
     alloc: A,
     citations: &Citations<A>,
-    theorems: &Places<A>,
-    columns: &Places<A>,
+    theorems: &StatementIndices<A>,
+    columns: &StatementIndices<A>,
     waves: &[u32],
     bits: &mut [u64],
 ) -> Result<(), AllocError>
@@ -259,7 +259,7 @@ fn fill_waves<R: Threads + Sync, A: Allocator + Copy + Send + Sync>(
     ensures { OnOk result
         (AreBitRows citations.now columns.now (length citations.now.theorems) bits.new) }
 {
-    let rows = by_wave(alloc, waves)?;
+    let rows = rows_by_wave(alloc, waves)?;
     let mut from = 0;
     while from < rows.len() {
         let to = wave_end(waves, &rows, from);
@@ -288,8 +288,8 @@ fn all_rows<R: Threads + Sync, A: Allocator + Copy + Send + Sync>(
     ensures { IfOk result
         (λ v. AreBitRows citations.now columns.now (length citations.now.theorems) v.items) }
 {
-    let theorems = Places::new(alloc, citations.theorems())?;
-    let columns = Places::new(alloc, columns)?;
+    let theorems = StatementIndices::new(alloc, citations.theorems())?;
+    let columns = StatementIndices::new(alloc, columns)?;
     let waves = waves_of(alloc, citations, &theorems)?;
     let mut bits = Vec::new(alloc);
     bits.resize(citations.rows() as usize * columns.words(), 0u64)?;
@@ -308,11 +308,11 @@ pub fn marked_rows<R: Threads + Sync, A: Allocator + Copy + Send + Sync>(
     ensures { IfOk result (λ m. IsMatrix citations.now columns.now m) }
 {
     let bits = all_rows(rt, alloc, citations, columns.statements())?;
-    Ok(finish(citations, columns, bits))
+    Ok(table_of_rows(citations, columns, bits))
 }
 
-/// Returns the same with the columns too, for the usage, in twice the memory. Fails only if out of
-/// memory.
+/// Returns the marked rows together with their columns, for the usage, in twice the memory. Fails
+/// only if out of memory.
 pub fn matrix<R: Threads + Sync, A: Allocator + Copy + Send + Sync>(
     rt: &R,
     alloc: A,

@@ -35,11 +35,12 @@ module _ (db : List Statement) (request : Request) (c : Citing)
   -- what is listed of a theorem is what it cites
   are_cited : (i : ℕ) → i < length c.theorems
       → AreCited db request (theorem_at c i) (listed db request.only (list_at c i))
-  are_cited i l = record {
-    rising = IsStrictlyIncreasing-filter is_chosen (list_at c i) (cited.rising i l);
+  are_cited i i_inside = record {
+    rising = IsStrictlyIncreasing-filter is_chosen (list_at c i) (cited.rising i i_inside);
     cited = λ a. (
-      λ e. let p = member_filter is_chosen (list_at c i) a e in ((cited.exact i l a).0 p.1, p.0),
-      λ h. filter_member is_chosen (list_at c i) a h.1 ((cited.exact i l a).1 h.0),
+      λ e. let p = member_filter is_chosen (list_at c i) a e in
+          ((cited.exact i i_inside a).0 p.1, p.0),
+      λ h. filter_member is_chosen (list_at c i) a h.1 ((cited.exact i i_inside a).1 h.0),
     );
   }
     where
@@ -53,7 +54,8 @@ module _ (db : List Statement) (request : Request) (c : Citing)
       let f = λ (i : ℕ). citing_row db request.only c (get_or names i []) i in
       let s = ap (λ (ts : List ℕ). length ts) cited.theorems_are in
       let n = length-map-range_with_len f 0 (length c.theorems) in
-      zip_of_each (IsCitingRowOf db request) (theorems db) (citing_rows db request.only c names) 0 (f 0)
+      zip_of_each (IsCitingRowOf db request) (theorems db) (citing_rows db request.only c names) 0
+      (f 0)
       (omega (arith, n, s))
       (λ i l.
       let inside : i < length c.theorems = omega (arith, s, l) in
@@ -75,7 +77,7 @@ module _ (db : List Statement) (request : Request) (c : Citing)
       → IsReportOf request.choice db opened request
       (citation_report request opened (length axioms)
       (citing_rows db request.only c (map (label_at db) (theorems db))))
-  is_citation_report opened axioms is choice =
+  is_citation_report opened axioms axioms_is choice =
       subst (λ (o : Choice). IsReportOf o db opened request
       (citation_report request opened (length axioms)
       (citing_rows db request.only c (map (label_at db) (theorems db))))) (sym choice) (
@@ -83,5 +85,5 @@ module _ (db : List Statement) (request : Request) (c : Citing)
         citing_rows_are,
         ap
             (λ (l : List ℕ). citation_report request opened (length l)
-            (citing_rows db request.only c (map (label_at db) (theorems db)))) is,
+            (citing_rows db request.only c (map (label_at db) (theorems db)))) axioms_is,
       )

@@ -13,31 +13,32 @@ use Rattle.mm_database.specs.Database.{Contents}
 use Rattle.mm_report.specs.Rows.{open_theorems}
 use Rattle.mm_run.specs.Counted.{IsCounted}
 
-open_line_is : (d : Contents) (w : Bool) (only : Option Bytes) (axioms : List ℕ) → IsCounted w d
+open_theorems_are : (d : Contents) (w : Bool) (only : Option Bytes) (axioms : List ℕ)
+    → IsCounted w d
     → axioms ≡ columns d.statements only
     → open_theorems w d axioms
     ≡ (if w then Some
     (count_by (λ a. list_any is_open_theorem (statement_at d.read a))
     (columns (counted true d.read) only)) else None)
-open_line_is d true only axioms h is =
+open_theorems_are d true only axioms h is =
     ap₂ (λ (b : Bool) (xs : List ℕ). Some
     (count_by (λ a. b && list_any is_open_theorem (statement_at d.read a)) xs)) h.flag (is
     ∙ ap (λ db. columns db only) h.statements)
-open_line_is d false only axioms h is = refl
+open_theorems_are d false only axioms h is = refl
 
-pub written : (request : Request) (d : Contents) (axioms bytes : List ℕ)
+pub is_output : (request : Request) (d : Contents) (axioms bytes : List ℕ)
     → IsCounted request.with_open d
     → HasNoFault (length d.text) (lexed_of d.text) request.with_open d.read
     → axioms ≡ columns d.statements request.only
     → IsReportOf request.choice d.statements
     (open_theorems request.with_open d axioms) request bytes
     → IsOutput d.text request bytes
-written request d axioms bytes h sound is report =
+is_output request d axioms bytes is_counted sound is report =
     inr (
       d.read,
       sound,
       subst (λ o. IsReportOf request.choice (counted request.with_open d.read) o request bytes)
-          (open_line_is d request.with_open request.only axioms h is)
+          (open_theorems_are d request.with_open request.only axioms is_counted is)
           (subst (λ db. IsReportOf request.choice db
-          (open_theorems request.with_open d axioms) request bytes) h.statements report),
+          (open_theorems request.with_open d axioms) request bytes) is_counted.statements report),
     )

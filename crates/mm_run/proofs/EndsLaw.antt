@@ -6,12 +6,17 @@ use Rattle.mm_spec.specs.declared.RunEnd.{RunEnd}
 use Rattle.mm_spec.specs.declared.RunEnd.TheVariants.{Accepted, Refused, ReadFailed, WriteFailed}
 use Rattle.mm_spec.specs.declared.RunEnd.TheVariants.{NoMemory}
 
-pub ends_so : (end : RunEnd) (text : List ℕ) (request : Request)
-    → (before after held holds : Option (List ℕ))
-    → Gave before after text → Answers end text request held holds
-    → Ends end request before after held holds
-ends_so Accepted text request before after held holds g a = (text, g, a)
-ends_so (Refused f) text request before after held holds g a = (text, g, a)
-ends_so ReadFailed text request before after held holds g a = absurd a
-ends_so WriteFailed text request before after held holds g a = (text, g, a)
-ends_so NoMemory text request before after held holds g a = a
+pub ends_of_answers : (end : RunEnd) (text : List ℕ) (request : Request)
+    → (input_before input_after output_before output_after : Option (List ℕ))
+    → Gave input_before input_after text → Answers end text request output_before output_after
+    → Ends end request input_before input_after output_before output_after
+ends_of_answers Accepted text request input_before input_after output_before output_after gave
+    answers = (text, gave, answers)
+ends_of_answers (Refused f) text request input_before input_after output_before output_after gave
+    answers = (text, gave, answers)
+ends_of_answers ReadFailed text request input_before input_after output_before output_after gave
+    answers = absurd answers
+ends_of_answers WriteFailed text request input_before input_after output_before output_after gave
+    answers = (text, gave, answers)
+ends_of_answers NoMemory text request input_before input_after output_before output_after
+    gave answers = answers

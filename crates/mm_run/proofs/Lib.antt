@@ -1,10 +1,10 @@
--- `read_all` keeps that the text so far was taken from the reader (`Consumes`). `judge` makes of what
--- reading and checking found the first fault, or a database without one; `answer` and `judge_alone`
--- end with it. `answer` and `write_judged` then call what writes a refusal or a report. The
--- rows are those of the definitions by `rows_are` and `is_report` (`RowsLaw.antt`), lists of
--- citations by `is_citation_report` (`CitationsLaw.antt`). `written` (`CountedLaw.antt`) then gives
--- `IsOutput` of the text, with open theorems as they count. `ends_so` (`EndsLaw.antt`) turns
--- `Answers` of the text into `Ends`, the contract of `run`.
+-- `read_all` keeps that the text so far was taken from the reader (`Consumes`). `judged_text` makes
+-- of what reading and checking found the first fault, or a database without one; `answer` and
+-- `judge_alone` end with it. `answer` and `write_judged` then call what writes a refusal or a
+-- report. The rows are those of the definitions by `rows_are` and `is_report` (`RowsLaw.antt`),
+-- lists of citations by `is_citation_report` (`CitationsLaw.antt`). `is_output` (`CountedLaw.antt`)
+-- then gives `IsOutput` of the text, with open theorems as they count. `ends_of_answers`
+-- (`EndsLaw.antt`) turns `Answers` of the text into `Ends`, the contract of `run`.
 pub mod CountedLaw
 pub mod RowsLaw
 pub mod EndsLaw

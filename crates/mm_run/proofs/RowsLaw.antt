@@ -19,8 +19,8 @@ use Rattle.mm_work.specs.Citing.{Citing, HasCitation, theorem_at}
 use Rattle.mm_rows.specs.Marks.{Marks, mark, IsMatrix}
 use Rattle.mm_report.specs.Rows.{row_of, rows_of, marks_of, open_theorems, report_of}
 use Rattle.mm_run.specs.Counted.{IsJudged}
-use Rattle.mm_run.proofs.CountedLaw.{written}
-use Rattle.mm_work.specs.Judged.{AllCited, Shows}
+use Rattle.mm_run.proofs.CountedLaw.{is_output}
+use Rattle.mm_work.specs.Judged.{AllCited, CitesAsDatabase}
 
 -- two lists agree at each place
 pub zip_of_each : {A B : Type 0} (R : A → B → Type 0) (xs : List A) (ys : List B) (d : A) (e : B)
@@ -32,24 +32,26 @@ zip_of_each R (x ∷ xs) [] d e n h = absurd (omega (arith, n))
 zip_of_each R (x ∷ xs) (y ∷ ys) d e n h =
     (h 0 (omega arith), zip_of_each R xs ys d e (omega (arith, n)) (λ i l. h (suc i) (omega arith)))
 
-decides : {P Q : Type 0} (b : Bool) → Decides b P → P ↔ Q → Decides b Q
-decides b h e = ((λ t. e.0 (h.0 t)), (λ q. h.1 (e.1 q)))
+decides_through : {P Q : Type 0} (b : Bool) → Decides b P → P ↔ Q → Decides b Q
+decides_through b h e = ((λ t. e.0 (h.0 t)), (λ q. h.1 (e.1 q)))
 
 module _ (db : List Statement) (request : Request) (c : Citing) (m : Marks)
-    (same : c.theorems ≡ theorems db) (shows : Shows db request.essential c)
-    (h : IsMatrix c (columns db request.only) m) where
+    (same : c.theorems ≡ theorems db) (shows : CitesAsDatabase db request.essential c)
+    (is_matrix : IsMatrix c (columns db request.only) m) where
   marks_zip : (i : ℕ) → i < length (theorems db)
       → AllZip (λ a b. Decides b (proof.RestsOn db request.essential (get_or (theorems db) i 0) a))
       (columns db request.only) (marks_of m i)
-  marks_zip i l =
+  marks_zip i i_inside =
       let n = length-map-range_with_len (mark m i) 0 m.columns in
-      let w = h.columns_are in
-      zip_of_each (λ a b. Decides b (proof.RestsOn db request.essential (get_or (theorems db) i 0) a))
+      let w = is_matrix.columns_are in
+      zip_of_each
+      (λ a b. Decides b (proof.RestsOn db request.essential (get_or (theorems db) i 0) a))
       (columns db request.only) (marks_of m i) 0 false (omega (arith, n, w))
       (λ j k.
-      let inside : i < length c.theorems = subst (λ (ts : List ℕ). i < length ts) (sym same) l in
+      let inside : i < length c.theorems = subst (λ (ts : List ℕ). i < length ts)
+      (sym same) i_inside in
       let d =
-      decides (mark m i j) (h.marked i j inside k)
+      decides_through (mark m i j) (is_matrix.marked i j inside k)
       (chains_alike (HasCitation c) (proof.Cites db request.essential) shows.same (theorem_at c i)
       (get_or (columns db request.only) j 0)) in
       subst (λ b. Decides b
@@ -66,10 +68,11 @@ module _ (db : List Statement) (request : Request) (c : Citing) (m : Marks)
   rows_are =
       let names = map (label_at db) (theorems db) in
       let f = λ (i : ℕ). row_of m (get_or names i []) i in
-      let r = h.rows in
+      let r = is_matrix.rows in
       let s = ap (λ (ts : List ℕ). length ts) same in
       let n = length-map-range_with_len f 0 m.rows in
-      zip_of_each (IsRowOf db request) (theorems db) (rows_of m names) 0 (f 0) (omega (arith, n, r, s))
+      zip_of_each (IsRowOf db request) (theorems db) (rows_of m names) 0 (f 0)
+      (omega (arith, n, r, s))
       (λ i l.
       subst (λ (x : Row). IsRowOf db request (get_or (theorems db) i 0) x)
       (sym (get_or-map-range_with_len f 0 m.rows i i (f 0) (omega (arith, r, s, l))
@@ -77,16 +80,16 @@ module _ (db : List Statement) (request : Request) (c : Citing) (m : Marks)
       (get_or-map (label_at db) (theorems db) i 0 [] l, marks_zip i l))
 
 -- the report of rows is that of a choice other than the citations
-reports : (db : List Statement) (opened : Option ℕ) (request : Request) (choice : Choice)
+is_report_of_rows : (db : List Statement) (opened : Option ℕ) (request : Request) (choice : Choice)
     → (rows : List Row)
     → (choice ≡ Citations → ⊥) → AllZip (IsRowOf db request) (theorems db) rows
     → IsReportOf choice db opened request
     (report request opened (map (label_at db) (columns db request.only)) rows)
-reports db opened request All rows other h = (rows, h, refl)
-reports db opened request Matrix rows other h = (rows, h, refl)
-reports db opened request Counts rows other h = (rows, h, refl)
-reports db opened request Usage rows other h = (rows, h, refl)
-reports db opened request Citations rows other h = absurd (other refl)
+is_report_of_rows db opened request All rows other h = (rows, h, refl)
+is_report_of_rows db opened request Matrix rows other h = (rows, h, refl)
+is_report_of_rows db opened request Counts rows other h = (rows, h, refl)
+is_report_of_rows db opened request Usage rows other h = (rows, h, refl)
+is_report_of_rows db opened request Citations rows other h = absurd (other refl)
 
 -- what is written of a database without a fault
 pub is_report : (request : Request) (db : List Statement) (opened : Option ℕ) (c : Citing)
@@ -96,21 +99,22 @@ pub is_report : (request : Request) (db : List Statement) (opened : Option ℕ) 
     → IsReportOf request.choice db opened request
     (report request opened (map (label_at db) axioms)
     (rows_of m (map (label_at db) (theorems db))))
-is_report request db opened c axioms m cited is h other =
-    let h' = subst (λ (l : List ℕ). IsMatrix c l m) is h in
+is_report request db opened c axioms m cited is is_matrix other =
+    let h' = subst (λ (l : List ℕ). IsMatrix c l m) is is_matrix in
     let rows = rows_of m (map (label_at db) (theorems db)) in
     let here =
-    reports db opened request request.choice rows other
+    is_report_of_rows db opened request request.choice rows other
     (rows_are db request c m cited.theorems_are cited.shows h') in
     subst (λ (l : List ℕ). IsReportOf request.choice db opened request
     (report request opened (map (label_at db) l) rows)) (sym is) here
 
 -- the report of a table is the output of the text
-pub rests : (request : Request) (d : Contents) (c : Citing) (axioms : List ℕ)
-    → (m : Marks) → IsJudged request.essential request.with_open d c → axioms ≡ columns d.statements request.only
+pub table_is_output : (request : Request) (d : Contents) (c : Citing) (axioms : List ℕ)
+    → (m : Marks) → IsJudged request.essential request.with_open d c → axioms
+    ≡ columns d.statements request.only
     → IsMatrix c axioms m → (request.choice ≡ Citations → ⊥)
     → IsOutput d.text request (report_of request d axioms m)
-rests request d c axioms m judged is table other =
-    written request d axioms _ judged.counted judged.sound is
+table_is_output request d c axioms m judged is table other =
+    is_output request d axioms _ judged.counted judged.sound is
     (is_report request d.statements (open_theorems request.with_open d axioms) c axioms m
     judged.cited is table other)

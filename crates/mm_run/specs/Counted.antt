@@ -10,6 +10,7 @@ use Rattle.mm_work.specs.Judged.{AllCited}
 use Rattle.mm_run.specs.declared.judged.JudgedText.{JudgedText}
 use Rattle.mm_run.specs.declared.judged.JudgedText.TheVariants.{Faulty, Sound}
 
+-- the database has this flag, and its statements are those that were read, as they count with it
 pub record IsCounted (with_open : Bool) (d : Contents) : Type 0 where
   pub flag : d.with_open ≡ with_open
   pub statements : d.statements ≡ counted with_open d.read

@@ -7,12 +7,12 @@ ghost use Rattle.mm_spec.specs.Ends.{Answers, reading_limit};
 ghost use Rattle.mm_run.specs.Counted.{IsJudged, IsJudgedText};
 
 use crate::RunEnd;
-use crate::judged::{JudgedText, judge};
+use crate::judged::{JudgedText, judged_text};
 use crate::output::{refuse, report_citations, report_rows, report_usage};
 use mm_database::Database;
 use mm_lex::lex_alone;
 use mm_report::{Choice, Request, has_usage};
-use mm_rows::{Columns, marked_rows_in_order, matrix_in_order};
+use mm_rows::{Columns, marked_rows_alone, matrix_alone};
 use mm_stmt::read_owned;
 use mm_work::{Citations, check_alone};
 use std::alloc::{AllocError, Allocator};
@@ -33,7 +33,7 @@ pub fn judge_alone<'a, A: Allocator + Copy>(
     let lexed = lex_alone(alloc, text)?;
     let database = read_owned(alloc, text, lexed, with_open)?;
     let judged = check_alone(alloc, &database, essential)?;
-    Ok(judge(database, judged))
+    Ok(judged_text(database, judged))
 }
 
 /// Writes the report of what each theorem rests on, for a database without a fault.
@@ -54,12 +54,12 @@ fn report_rests_alone<'a, A: Allocator + Copy, W: Write>(
         return RunEnd::NoMemory;
     };
     if has_usage(request.choice) {
-        match matrix_in_order(alloc, citations, &chosen) {
-            Ok(table) => report_usage(request, database, citations, &chosen, &table, to),
+        match matrix_alone(alloc, citations, &chosen) {
+            Ok(matrix) => report_usage(request, database, citations, &chosen, &matrix, to),
             Err(_) => RunEnd::NoMemory,
         }
     } else {
-        match marked_rows_in_order(alloc, citations, &chosen) {
+        match marked_rows_alone(alloc, citations, &chosen) {
             Ok(marked) => report_rows(request, database, citations, &chosen, &marked, to),
             Err(_) => RunEnd::NoMemory,
         }
@@ -67,8 +67,8 @@ fn report_rests_alone<'a, A: Allocator + Copy, W: Write>(
 }
 
 /// Writes the output of a judged text: the refusal for its first fault, or the report that is
-/// requested. `text` is that text, and the request has the two flags by which it was judged. One
-/// judged text serves as many requests as are wanted.
+/// requested. `text` is the text that was judged, and the request has the flags `essential` and
+/// `with_open` with which it was judged. One judged text serves any number of such requests.
 pub fn write_judged<'a, A: Allocator + Copy, W: Write>(
     alloc: A,
     text: &[u8],

@@ -7,8 +7,8 @@ use mm_lex::Cuts;
 use mm_plan::Cutting;
 use std::alloc::{AllocError, Allocator};
 
-/// How many of the places are within the length, up to the first that isn't.
-fn within(places: &[u32], len: usize) -> usize
+/// How many places are within the length, up to the first that isn't.
+fn count_within(places: &[u32], len: usize) -> usize
     ensures few { result ≤ length places.now }
     ensures within { (i : ℕ) → i < result → slice_index places.now i ≤ len }
 {
@@ -34,9 +34,9 @@ pub fn cuts_of<A: Allocator + Copy>(
     match cutting {
         Cutting::Count(count) => Cuts::equal(alloc, len, *count),
         Cutting::Places(places) => {
-            let mut kept = Vec::new(alloc);
-            kept.extend_from_slice(&places[..within(places, len)])?;
-            match Cuts::from_places(kept, len) {
+            let mut places_within = Vec::new(alloc);
+            places_within.extend_from_slice(&places[..count_within(places, len)])?;
+            match Cuts::from_places(places_within, len) {
                 Ok(cuts) => Ok(cuts),
                 Err(_) => unreachable!("the places of a lawful plan rise"),
             }

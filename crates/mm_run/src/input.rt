@@ -10,8 +10,8 @@ use std::io::Read;
 /// recognised.
 pub const READING_LIMIT: usize = 2_147_483_648;
 
-/// How many bytes are requested at a time.
-const PIECE: usize = 65536;
+/// How many bytes are requested of a reader at a time.
+const PIECE_LEN: usize = 65536;
 
 /// Why a text was not read: a read failed, or out of memory.
 #[derive(Clone, Copy)]
@@ -41,10 +41,10 @@ pub fn read_all<R: Read, A: Allocator>(
     ensures gave { OnOk result (Gave (R.remaining from.old) (R.remaining from.new) text.new.items) }
     ensures few { OnOk result (length text.new.items ≤ reading_limit) }
 {
-    let mut piece = [0u8; PIECE];
+    let mut piece = [0u8; PIECE_LEN];
     while text.len() < READING_LIMIT {
-        let room = (READING_LIMIT - text.len()).min(PIECE);
-        match from.read(&mut piece[..room]) {
+        let wanted = (READING_LIMIT - text.len()).min(PIECE_LEN);
+        match from.read(&mut piece[..wanted]) {
             Ok(0) => return Ok(()),
             Ok(count) => text.extend_from_slice(&piece[..count])?,
             Err(_) => return Err(ReadRefused::Failed),

@@ -1,7 +1,7 @@
 //! What judging a text comes to.
 
 ghost use Rattle.std.specs.Prelude.{Bool, List, ℕ};
-ghost use Rattle.mm_work.specs.Judged.{Judges};
+ghost use Rattle.mm_work.specs.Judged.{IsJudgement};
 ghost use Rattle.mm_run.specs.Counted.{IsJudgedText, IsReadFrom};
 
 use mm_database::Database;
@@ -18,15 +18,15 @@ pub enum JudgedText<'a, A: Allocator> {
     Sound(Database<'a, A>, Citations<A>),
 }
 
-/// What judging a text comes to, given its database and what checking all proofs found. A faulty
-/// proof stands before the fault at which reading stopped.
-pub(crate) fn judge<'a, A: Allocator>(
+/// What judging a text comes to, given its database and what checking all proofs found. The fault
+/// of a proof is the first of the text, since reading stops at a fault: all proofs are before it.
+pub(crate) fn judged_text<'a, A: Allocator>(
     database: Database<'a, A>,
     judged: Judged<A>,
 ) -> JudgedText<'a, A>
     ensures { (text : List ℕ) → (essential with_open : Bool)
         → IsReadFrom text with_open database.entry
-        → Judges database.entry.statements essential judged
+        → IsJudgement database.entry.statements essential judged
         → IsJudgedText text essential with_open result }
 {
     match judged {

@@ -13,7 +13,7 @@ ghost use Rattle.mm_plan.specs.Plans.{IsLawfulPlan, request_of};
 
 use crate::RunEnd;
 use crate::cuts::cuts_of;
-use crate::judged::{JudgedText, judge};
+use crate::judged::{JudgedText, judged_text};
 use mm_database::Database;
 use mm_lex::lex;
 use mm_plan::Plan;
@@ -42,7 +42,8 @@ pub(crate) fn refuse<W: Write>(text: &[u8], fault: Fault, to: &mut W) -> RunEnd
     }
 }
 
-/// Writes the report of what each theorem cites, for a database without a fault. It needs no table.
+/// Writes the report of what each theorem cites, for a database without a fault. It needs no
+/// matrix.
 pub(crate) fn report_citations<'a, A: Allocator + Copy, W: Write>(
     alloc: A,
     request: &Request<'_>,
@@ -71,20 +72,20 @@ pub(crate) fn report_usage<'a, A: Allocator, W: Write>(
     database: &Database<'a, A>,
     citations: &Citations<A>,
     chosen: &Columns<A>,
-    table: &Matrix<A>,
+    matrix: &Matrix<A>,
     to: &mut W,
 ) -> RunEnd
     requires judged { IsJudged request.now.essential request.now.with_open database.now
         citations.now }
     requires chosen { chosen.now ≡ columns database.now.statements request.now.only }
-    requires table { IsMatrix citations.now chosen.now table.now }
+    requires matrix { IsMatrix citations.now chosen.now matrix.now }
     requires choice { request.now.choice ≡ choices.Citations → ⊥ }
     ensures { Answers result database.now.text request.now (W.contents to.old)
         (W.contents to.new) }
 {
-    // Only the contract needs the citations.
+    // Only the contract uses the citations: the matrix is theirs.
     let _ = citations;
-    match write_requested_report(to, request, database, chosen, table) {
+    match write_requested_report(to, request, database, chosen, matrix) {
         Ok(()) => RunEnd::Accepted,
         Err(_) => RunEnd::WriteFailed,
     }
@@ -108,7 +109,7 @@ pub(crate) fn report_rows<'a, A: Allocator, W: Write>(
     ensures { Answers result database.now.text request.now (W.contents to.old)
         (W.contents to.new) }
 {
-    // Only the contract needs the citations.
+    // Only the contract uses the citations: the marked rows are theirs.
     let _ = citations;
     match write_rows(to, request, database, chosen, marked) {
         Ok(()) => RunEnd::Accepted,
@@ -136,7 +137,7 @@ fn report_rests<'a, R: Threads + Sync, A: Allocator + Copy + Send + Sync, W: Wri
     };
     if has_usage(request.choice) {
         match matrix(rt, alloc, citations, &chosen) {
-            Ok(table) => report_usage(request, database, citations, &chosen, &table, to),
+            Ok(matrix) => report_usage(request, database, citations, &chosen, &matrix, to),
             Err(_) => RunEnd::NoMemory,
         }
     } else {
@@ -204,7 +205,7 @@ pub fn answer<R: Threads + Wait + Sync, A: Allocator + Copy + Send + Sync, W: Wr
     let Ok(judged) = check_all(rt, alloc, &database, plan.workers, plan.essential, &Open) else {
         return RunEnd::NoMemory;
     };
-    match judge(database, judged) {
+    match judged_text(database, judged) {
         JudgedText::Faulty(fault) => refuse(text, fault, to),
         JudgedText::Sound(database, citations) => {
             report(rt, alloc, &plan.request(), &database, &citations, to)

@@ -14,30 +14,32 @@ use Rattle.mm_work.proofs.CitedLaw.{cited_valid}
 use Rattle.std.proofs.lemmas.List.{get_or_default}
 
 module _ {A : Type 0} (job : Job A) (seat : SeatValue) (fs : List (Findings A))
-    (h : AreGathered job seat fs) where
+    (are_gathered : AreGathered job seat fs) where
   abbrev db : List Statement
   db = job.database.now.statements
 
   -- the theorems below the floor are valid
-  pub valid_below : (first : ℕ) → ((x : ℕ) → x < first → times_in x seat.view.settled ≡ 1) → (n : ℕ)
-      → n < first → IsValid db (theorem_of db n)
-  valid_below first all n l =
+  pub valid_below : (floor : ℕ) → ((x : ℕ) → x < floor → times_in x seat.view.settled ≡ 1) → (n : ℕ)
+      → n < floor → IsValid db (theorem_of db n)
+  valid_below floor all n l =
       let one = all n l in
-      let r = h.settled n (omega (arith, one)) in
+      let r = are_gathered.settled n (omega (arith, one)) in
       let f : AreFindings db job.essential r.0 =
-      subst (λ (x : Findings A). AreFindings db job.essential x) r.1.2 (h.found r.1.0 r.0 r.1.1) in
+      subst (λ (x : Findings A). AreFindings db job.essential x) r.1.2
+      (are_gathered.found r.1.0 r.0 r.1.1) in
       cited_valid db job.essential _ _
       (subst (λ i. IsCited db job.essential (theorem_of db i) (get_or r.0.cites r.2.0 []))
       (get_or_default r.0.valid.items r.2.0 0 n r.2.1 ∙ r.2.2) (f.each r.2.0 r.2.1))
 
   -- the floor is a theorem with a fault, where it is no theorem's end
-  pub faulty_at : (first : ℕ) → IsLeastReported job.board.now.count (seat.view ∷ []) first
-      → first < job.board.now.count → IsFoundFaulty fs first
-  faulty_at first least l = by least.is
+  pub faulty_at : (floor : ℕ) → IsLeastReported job.board.now.count (seat.view ∷ []) floor
+      → floor < job.board.now.count → IsFoundFaulty fs floor
+  faulty_at floor least l = by_floor least.is_count_or_reported
     where
-      by : (first ≡ job.board.now.count) ⊎ (0 < times_reported (seat.view ∷ []) first)
-          → IsFoundFaulty fs first
-      by (inl e) = absurd (omega (arith, e, l))
-      by (inr p) =
-          let own : times_reported (seat.view ∷ []) first
-          ≡ times_in first seat.view.reported + 0 = refl in h.reported first (omega (arith, p, own))
+      by_floor : (floor ≡ job.board.now.count) ⊎ (0 < times_reported (seat.view ∷ []) floor)
+          → IsFoundFaulty fs floor
+      by_floor (inl e) = absurd (omega (arith, e, l))
+      by_floor (inr p) =
+          let own : times_reported (seat.view ∷ []) floor
+          ≡ times_in floor seat.view.reported + 0 = refl in
+          are_gathered.reported floor (omega (arith, p, own))

@@ -16,29 +16,29 @@ use Rattle.mm_spec.proofs.CitedLaw.{cites_earlier, proof_theorem}
 use Rattle.mm_spec.proofs.ListLaw.{member_at}
 use Rattle.mm_cites.specs.Citing.{Citing, citing, HasCitation, IsStatementList, IsFileOrder}
 use Rattle.mm_cites.proofs.RisingLaw.{filter_rising}
-use Rattle.mm_work.specs.Judged.{IsCited, AreCitedUpTo, Shows}
+use Rattle.mm_work.specs.Judged.{IsCited, AreCitedUpTo, CitesAsDatabase}
 
 -- a member stands at some place
 member_place : (xs : List ℕ) (x : ℕ) → is_member xs x ≡ true
     → (i : ℕ) × (i < length xs) × (get_or xs i 0 ≡ x)
 member_place [] x m = absurd (true≢false (sym m))
-member_place (y ∷ xs) x m = by (or_cases (x == y) (is_member xs x) m) (member_place xs x)
+member_place (y ∷ xs) x m = by_head (or_cases (x == y) (is_member xs x) m) (member_place xs x)
   where
-    by : ((x == y) ≡ true) ⊎ (is_member xs x ≡ true)
+    by_head : ((x == y) ≡ true) ⊎ (is_member xs x ≡ true)
         → (is_member xs x ≡ true → (i : ℕ) × (i < length xs) × (get_or xs i 0 ≡ x))
         → (i : ℕ) × (i < suc (length xs)) × (get_or (y ∷ xs) i 0 ≡ x)
-    by (inl e) r = (0, omega arith, sym (eqb-true x y e))
-    by (inr h) r = let k = r h in (suc k.0, (let l = k.1 in omega (arith, l)), k.2)
+    by_head (inl e) r = (0, omega arith, sym (eqb-true x y e))
+    by_head (inr h) r = let k = r h in (suc k.0, (let l = k.1 in omega (arith, l)), k.2)
 
 in_range : (n a x : ℕ) → a ≤ x → x < a + n → is_member (range_with_len a n) x ≡ true
 in_range zero a x l h = absurd (omega arith)
 in_range (suc n) a x l h =
-    by (cases_lt a x) (λ k. in_range n (a + 1) x (omega (arith, k)) (omega arith))
+    by_start (cases_lt a x) (λ k. in_range n (a + 1) x (omega (arith, k)) (omega arith))
   where
-    by : (a < x) ⊎ (x ≤ a) → (a < x → is_member (range_with_len (a + 1) n) x ≡ true)
+    by_start : (a < x) ⊎ (x ≤ a) → (a < x → is_member (range_with_len (a + 1) n) x ≡ true)
         → is_member (range_with_len a (suc n)) x ≡ true
-    by (inl k) r = or_right (x == a) (is_member (range_with_len (a + 1) n) x) (r k)
-    by (inr k) r =
+    by_start (inl k) r = or_right (x == a) (is_member (range_with_len (a + 1) n) x) (r k)
+    by_start (inr k) r =
         or_left (x == a) (is_member (range_with_len (a + 1) n) x) (eq-eqb x a (omega arith))
 
 -- a theorem stands in the list of theorems
@@ -64,18 +64,19 @@ module _ (db : List Statement) (few : length db < 2 ^ 31) (complete : AreComplet
   -- the theorems before theorem i are valid
   pub valid_before : (i : ℕ) → ((n : ℕ) → n < i → IsValid db (get_or (theorems db) n 0))
       → i < length (theorems db) → AreValid db (get_or (theorems db) i 0)
-  valid_before i h l j k th =
+  valid_before i h i_inside j k th =
       let p = theorem_place db j th in
-      by p.0 p.1 p.2 (cases_lt p.0 i)
+      by_index p.0 p.1 p.2 (cases_lt p.0 i)
     where
-      by : (n : ℕ) → n < length (theorems db) → get_or (theorems db) n 0 ≡ j → (n < i) ⊎ (i ≤ n)
+      by_index : (n : ℕ) → n < length (theorems db) → get_or (theorems db) n 0 ≡ j
+          → (n < i) ⊎ (i ≤ n)
           → IsValid db j
-      by n m e (inl s) = subst (λ t. IsValid db t) e (h n s)
-      by n m e (inr s) = absurd (go (cases_lt i n))
+      by_index n m e (inl s) = subst (λ t. IsValid db t) e (h n s)
+      by_index n m e (inr s) = absurd (not_later (cases_lt i n))
         where
-          go : (i < n) ⊎ (n ≤ i) → ⊥
-          go (inl q) = let r = theorems_rise.rises i n q m in omega (arith, r, e, k)
-          go (inr q) =
+          not_later : (i < n) ⊎ (n ≤ i) → ⊥
+          not_later (inl q) = let r = theorems_rise.rises i n q m in omega (arith, r, e, k)
+          not_later (inr q) =
               let same : get_or (theorems db) n 0
               ≡ get_or (theorems db) i 0 = ap (λ x. get_or (theorems db) x 0)
               (let o : n ≡ i = omega (arith, s, q) in o) in
@@ -90,44 +91,46 @@ module _ (db : List Statement) (few : length db < 2 ^ 31) (complete : AreComplet
       subst (λ t. IsValid db t) p.2 (cited_valid db by_essential _ _ (h.each p.0 p.1))
 
   module _ (by_essential : Bool) (lists : List (List ℕ))
-      (h : AreCitedUpTo db by_essential (theorems db) (length (theorems db)) lists) where
-    abbrev c : Citing
-    c = citing (theorems db) lists
+      (are_cited_up_to : AreCitedUpTo db by_essential (theorems db) (length (theorems db)) lists)
+    where
+      abbrev c : Citing
+      c = citing (theorems db) lists
 
-    pub file_order : IsFileOrder c
-    file_order = record {
-      rising = theorems_rise;
-      each = h.count;
-      earlier =
-          λ i k l m. cites_earlier db by_essential (get_or (theorems db) i 0) _
-          (((h.each i l).checked.exact (get_or (get_or lists i []) k 0)).0
-          (member_at (get_or lists i []) k 0 m));
-    }
+      pub file_order : IsFileOrder c
+      file_order = record {
+        rising = theorems_rise;
+        each = are_cited_up_to.count;
+        earlier =
+            λ i k l m. cites_earlier db by_essential (get_or (theorems db) i 0) _
+            (((are_cited_up_to.each i l).checked.exact (get_or (get_or lists i []) k 0)).0
+            (member_at (get_or lists i []) k 0 m));
+      }
 
-    pub shows : Shows db by_essential c
-    shows = record { same = λ t a. ((to t a), (from t a)) }
-      where
-        to : (t a : ℕ) → HasCitation c t a → proof.Cites db by_essential t a
-        to t a x =
-            let l = get_or lists x.row [] in
-            let b = get_or l x.place 0 in
-            subst (λ y. proof.Cites db by_essential t y) x.cited
-            (subst (λ y. proof.Cites db by_essential y b) x.theorem
-            (((h.each x.row x.within).checked.exact b).0 (member_at l x.place 0 x.listed)))
+      pub shows : CitesAsDatabase db by_essential c
+      shows = record { same = λ t a. ((to t a), (from t a)) }
+        where
+          to : (t a : ℕ) → HasCitation c t a → proof.Cites db by_essential t a
+          to t a has_citation =
+              let l = get_or lists has_citation.row [] in
+              let b = get_or l has_citation.list_index 0 in
+              subst (λ y. proof.Cites db by_essential t y) has_citation.cited
+              (subst (λ y. proof.Cites db by_essential y b) has_citation.theorem
+              (((are_cited_up_to.each has_citation.row has_citation.within).checked.exact b).0
+              (member_at l has_citation.list_index 0 has_citation.listed)))
 
-        from : (t a : ℕ) → proof.Cites db by_essential t a → HasCitation c t a
-        from t a x =
-            let p = theorem_place db t (proof_theorem db t x.1 x.2) in
-            let l = get_or lists p.0 [] in
-            let m : is_member l a ≡ true =
-            ((h.each p.0 p.1).checked.exact a).1
-            (subst (λ y. proof.Cites db by_essential y a) (sym p.2) x) in
-            let q = member_place l a m in
-            record {
-              row = p.0;
-              place = q.0;
-              within = p.1;
-              listed = q.1;
-              theorem = p.2;
-              cited = q.2;
-            }
+          from : (t a : ℕ) → proof.Cites db by_essential t a → HasCitation c t a
+          from t a x =
+              let p = theorem_place db t (proof_theorem db t x.1 x.2) in
+              let l = get_or lists p.0 [] in
+              let m : is_member l a ≡ true =
+              ((are_cited_up_to.each p.0 p.1).checked.exact a).1
+              (subst (λ y. proof.Cites db by_essential y a) (sym p.2) x) in
+              let q = member_place l a m in
+              record {
+                row = p.0;
+                list_index = q.0;
+                within = p.1;
+                listed = q.1;
+                theorem = p.2;
+                cited = q.2;
+              }

@@ -18,21 +18,23 @@ pub cited_more : (db : List Statement) (by_essential : Bool) (ts : List ℕ) (n 
     → (lists : List (List ℕ)) (cites : List ℕ)
     → AreCitedUpTo db by_essential ts n lists → IsCited db by_essential (get_or ts n 0) cites
     → AreCitedUpTo db by_essential ts (n + 1) (lists ++ cites ∷ [])
-cited_more db by_essential ts n lists cites h one = record {
-  count = (let l = length-append lists (cites ∷ []) in let c = h.count in omega (arith, l, c));
-  each = λ i l. by i (cases_lt i n) l;
+cited_more db by_essential ts n lists cites are_cited_up_to one = record {
+  count = (let l = length-append lists (cites ∷ []) in let c = are_cited_up_to.count in
+      omega (arith, l, c));
+  each = λ i l. by_index i (cases_lt i n) l;
 }
   where
-    by : (i : ℕ) → (i < n) ⊎ (n ≤ i) → i < n + 1
+    by_index : (i : ℕ) → (i < n) ⊎ (n ≤ i) → i < n + 1
         → IsCited db by_essential (get_or ts i 0) (get_or (lists ++ cites ∷ []) i [])
-    by i (inl l) m =
-        let c = h.count in
+    by_index i (inl l) m =
+        let c = are_cited_up_to.count in
         subst (λ ys. IsCited db by_essential (get_or ts i 0) ys)
-        (sym (get_or_append_left lists (cites ∷ []) [] i (omega (arith, l, c)))) (h.each i l)
-    by i (inr l) m =
+        (sym (get_or_append_left lists (cites ∷ []) [] i (omega (arith, l, c))))
+        (are_cited_up_to.each i l)
+    by_index i (inr l) m =
         let same : i ≡ n = omega (arith, l, m) in
         let last : get_or (lists ++ cites ∷ []) n [] ≡ cites =
-        get_or-append_right lists (cites ∷ []) n n [] h.count (omega arith)
+        get_or-append_right lists (cites ∷ []) n n [] are_cited_up_to.count (omega arith)
         ∙ ap (λ j. get_or (cites ∷ []) j []) (zero-of n) in
         subst (λ j. IsCited db by_essential (get_or ts j 0) (get_or (lists ++ cites ∷ []) j []))
         (sym same) (subst (λ ys. IsCited db by_essential (get_or ts n 0) ys) (sym last) one)
@@ -55,15 +57,15 @@ module _ (db : List Statement) (few : length db < 2 ^ 31) (complete : AreComplet
   pub all_cited : (by_essential : Bool) (ts : List ℕ) (lists : List (List ℕ)) → ts ≡ theorems db
       → AreCitedUpTo db by_essential (theorems db) (length (theorems db)) lists
       → IsFileOrder (citing ts lists) × AllCited db by_essential (citing ts lists)
-  all_cited by_essential ts lists e h =
+  all_cited by_essential ts lists ts_is are_cited_up_to =
       subst (λ (us : List ℕ). IsFileOrder (citing us lists)
-      × AllCited db by_essential (citing us lists)) (sym e) (
-        file_order db few complete by_essential lists h,
+      × AllCited db by_essential (citing us lists)) (sym ts_is) (
+        file_order db few complete by_essential lists are_cited_up_to,
         record {
           theorems_are = refl;
-          valid = all_valid db few complete by_essential lists h;
-          rising = λ i l. (h.each i l).checked.rising;
-          exact = λ i l. (h.each i l).checked.exact;
-          shows = shows db few complete by_essential lists h;
+          valid = all_valid db few complete by_essential lists are_cited_up_to;
+          rising = λ i l. (are_cited_up_to.each i l).checked.rising;
+          exact = λ i l. (are_cited_up_to.each i l).checked.exact;
+          shows = shows db few complete by_essential lists are_cited_up_to;
         },
       )

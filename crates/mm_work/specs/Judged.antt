@@ -29,7 +29,7 @@ pub record AreCitedUpTo (db : List Statement) (by_essential : Bool) (ts : List �
       → IsCited db by_essential (slice_index ts i) (slice_index_or lists i [])
 
 -- the lists are what the theorems of a database cite
-pub record Shows (db : List Statement) (by_essential : Bool) (c : Citing) : Type 0 where
+pub record CitesAsDatabase (db : List Statement) (by_essential : Bool) (c : Citing) : Type 0 where
   pub same : (t a : ℕ) → HasCitation c t a ↔ proof.Cites db by_essential t a
 
 -- all theorems are valid, and these are their citations, each list in ascending order, with each
@@ -40,7 +40,7 @@ pub record AllCited (db : List Statement) (by_essential : Bool) (c : Citing) : T
   pub rising : (i : ℕ) → i < length c.theorems → IsStrictlyIncreasing (list_at c i)
   pub exact : (i : ℕ) → i < length c.theorems → (a : ℕ)
       → Decides (is_member (list_at c i) a) (proof.Cites db by_essential (theorem_at c i) a)
-  pub shows : Shows db by_essential c
+  pub shows : CitesAsDatabase db by_essential c
 
 -- the proof of some theorem has this fault, and those of the earlier ones have none
 abbrev pub IsFirstFault : List Statement → Fault → Type 0
@@ -51,12 +51,12 @@ abbrev pub HasFault : List Statement → ℕ → Fault → Type 0
 HasFault db t f = ProofFault db t (proof_end (slice_get db t)) f
 
 -- if the refusal is a fault, it is that of the theorem's proof
-abbrev pub Faults : List Statement → ℕ → VerifyRefused → Type 0
-Faults db t (FaultOf f) = HasFault db t f
-Faults db t Memory = Unit {0}
+abbrev pub IsRefusalOf : List Statement → ℕ → VerifyRefused → Type 0
+IsRefusalOf db t (FaultOf f) = HasFault db t f
+IsRefusalOf db t Memory = Unit {0}
 
 -- what was found: the citations of all theorems, or the first fault of a proof
 module _ {A : Type 0} where
-  abbrev pub Judges : List Statement → Bool → Judged A → Type 0
-  Judges db by_essential (Valid citations) = AllCited db by_essential citations
-  Judges db by_essential (Faulty f) = IsFirstFault db f
+  abbrev pub IsJudgement : List Statement → Bool → Judged A → Type 0
+  IsJudgement db by_essential (Valid citations) = AllCited db by_essential citations
+  IsJudgement db by_essential (Faulty f) = IsFirstFault db f

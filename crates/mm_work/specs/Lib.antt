@@ -1,4 +1,4 @@
 pub use Rattle.mm_cites.specs.Citing
 pub mod Judged
 pub mod Workers
-pub mod Places
+pub mod Positions

@@ -13,7 +13,7 @@ use Rattle.mm_work.specs.Judged.{IsCited, HasFault}
 use Rattle.mm_work.specs.declared.job.Job.{Job}
 use Rattle.mm_work.specs.declared.worker.IndexedFault.{IndexedFault}
 use Rattle.mm_work.specs.declared.worker.Findings.{Findings}
-use Rattle.mm_work.specs.declared.worker.Worked.{Worked}
+use Rattle.mm_work.specs.declared.worker.WorkerState.{WorkerState}
 
 -- the theorem with this index
 abbrev pub theorem_of : List Statement → ℕ → ℕ
@@ -31,7 +31,7 @@ faulty_index g = option_map (λ f. f.index) g
 
 -- a seat that can begin to work: one of the board, which has drawn nothing yet
 pub record IsFreshSeat (home : BoardValue) (seat : SeatValue) : Type 0 where
-  pub at : IsSeatOf home seat
+  pub of_board : IsSeatOf home seat
   pub not_over : seat.view.over ≡ false
   pub closed : seat.view.open_number ≡ None
   pub none_settled : seat.view.settled ≡ []
@@ -74,36 +74,36 @@ module _ {A : Type 0} where
 
   -- what the worker found is right, the numbers that its seat has settled are the indices of the
   -- proofs that it found valid, and what the seat has reported is the index of the fault
-  pub record Tells (job : Job A) (w : Worked A) : Type 0 where
-    pub found : AreFindings job.database.now.statements job.essential w.found
-    pub settled : w.seat.view.settled ≡ w.found.valid.items
+  pub record Tells (job : Job A) (w : WorkerState A) : Type 0 where
+    pub found : AreFindings job.database.now.statements job.essential w.findings
+    pub settled : w.seat.view.settled ≡ w.findings.valid.items
     pub reported : (i : ℕ) → 0 < times_in i w.seat.view.reported
-        → faulty_index w.found.faulty ≡ Some i
+        → faulty_index w.findings.faulty ≡ Some i
 
   -- the same if the worker didn't run out of memory
-  abbrev pub TellsUnlessShort : Job A → Worked A → Type 0
-  TellsUnlessShort job w = w.found.short_of_memory ≡ false → Tells job w
+  abbrev pub TellsUnlessShort : Job A → WorkerState A → Type 0
+  TellsUnlessShort job w = w.findings.short_of_memory ≡ false → Tells job w
 
   -- A worker between two theorems: its seat is one of the job's board and has no number open. What
   -- it found is right, and is what the seat has settled and reported, unless memory ran out.
-  pub record IsBetweenTheorems (job : Job A) (w : Worked A) : Type 0 where
-    pub at : IsSeatOf job.board.now w.seat
+  pub record IsBetweenTheorems (job : Job A) (w : WorkerState A) : Type 0 where
+    pub of_board : IsSeatOf job.board.now w.seat
     pub closed : w.seat.view.open_number ≡ None
     pub tells : TellsUnlessShort job w
 
   -- A worker that has drawn the theorem with index i: as between two theorems, but that this number
   -- is open. It is above all that the seat has reported.
-  pub record HasDrawn (job : Job A) (i : ℕ) (w : Worked A) : Type 0 where
+  pub record HasDrawn (job : Job A) (i : ℕ) (w : WorkerState A) : Type 0 where
     pub theorem : i < length (theorems job.database.now.statements)
-    pub at : IsSeatOf job.board.now w.seat
-    pub held : w.seat.view.open_number ≡ Some i
-    pub above : (x : ℕ) → 0 < times_in x w.seat.view.reported → x < i
+    pub of_board : IsSeatOf job.board.now w.seat
+    pub is_open : w.seat.view.open_number ≡ Some i
+    pub above_reported : (x : ℕ) → 0 < times_in x w.seat.view.reported → x < i
     pub tells : TellsUnlessShort job w
 
   -- a worker that drew until no number was left, or that ran out of memory
-  pub record IsDone (job : Job A) (w : Worked A) : Type 0 where
+  pub record IsDone (job : Job A) (w : WorkerState A) : Type 0 where
     pub between : IsBetweenTheorems job w
-    pub over : w.found.short_of_memory ≡ false → w.seat.view.over ≡ true
+    pub over : w.findings.short_of_memory ≡ false → w.seat.view.over ≡ true
 
   -- one of the workers found the proof of the theorem with this index valid
   abbrev pub IsFoundValid : List (Findings A) → ℕ → Type 0
@@ -116,7 +116,7 @@ module _ {A : Type 0} where
   -- the workers' seats were joined to this one, none of them ran out of memory, and this is what
   -- they found
   pub record AreGathered (job : Job A) (seat : SeatValue) (fs : List (Findings A)) : Type 0 where
-    pub at : IsSeatOf job.board.now seat
+    pub of_board : IsSeatOf job.board.now seat
     pub closed : seat.view.open_number ≡ None
     pub over : seat.view.over ≡ true
     pub found : All (AreFindings job.database.now.statements job.essential) fs

@@ -2,10 +2,10 @@
 
 ghost use Rattle.std.specs.Prelude.{◌≡◌, ◌≤◌, IfOk};
 ghost use Rattle.mm_spec.specs.Limits.{worker_limit};
-ghost use Rattle.mm_work.specs.Judged.{Judges};
+ghost use Rattle.mm_work.specs.Judged.{IsJudgement};
 
 use crate::gate::Gate;
-use crate::in_order::{check_in_order, valid};
+use crate::in_order::{check_in_order, judged_valid};
 use crate::job::Job;
 use crate::judged::Judged;
 use crate::merge::{found_fault, merge};
@@ -34,7 +34,7 @@ pub fn check_all<'d, R: Threads + Wait + Sync, A: Allocator + Copy + Send + Sync
     gate: &G,
 ) -> Result<Judged<A>, AllocError>
     requires { (1 ≤ workers) × (workers ≤ worker_limit) }
-    ensures { IfOk result (λ judged. Judges database.now.statements essential judged) }
+    ensures { IfOk result (λ judged. IsJudgement database.now.statements essential judged) }
 {
     let count = database.theorems().len();
     let rules = Rules::new(alloc, database)?;
@@ -54,10 +54,11 @@ pub fn check_all<'d, R: Threads + Wait + Sync, A: Allocator + Copy + Send + Sync
     }
     // What follows needs no rules, and their memory.
     drop(rules);
-    let (first, _) = board.close(gathered.seat);
-    if (first as usize) < count {
-        return Ok(Judged::Faulty(found_fault(database, essential, &gathered.found, first)));
+    // The floor is the least index of a theorem whose proof has a fault, or the count.
+    let (floor, _) = board.close(gathered.seat);
+    if (floor as usize) < count {
+        return Ok(Judged::Faulty(found_fault(database, essential, &gathered.all_findings, floor)));
     }
-    let lists = merge(alloc, database, essential, &gathered.found)?;
-    valid(alloc, database, essential, lists)
+    let lists = merge(alloc, database, essential, &gathered.all_findings)?;
+    judged_valid(alloc, database, essential, lists)
 }

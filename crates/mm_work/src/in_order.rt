@@ -2,7 +2,7 @@
 
 ghost use Rattle.std.specs.Prelude.{◌≡◌, IfOk, length};
 ghost use Rattle.mm_rules.specs.Rules.{AreRules};
-ghost use Rattle.mm_work.specs.Judged.{Judges, AreCitedUpTo};
+ghost use Rattle.mm_work.specs.Judged.{IsJudgement, AreCitedUpTo};
 ghost use Rattle.mm_spec.specs.Output.{theorems};
 
 use crate::judged::Judged;
@@ -16,7 +16,7 @@ use mm_rules::Rules;
 use std::alloc::{AllocError, Allocator};
 
 /// The answer if all proofs are valid. `lists` has what each theorem cites, in file order.
-pub(crate) fn valid<'a, A: Allocator + Copy>(
+pub(crate) fn judged_valid<'a, A: Allocator + Copy>(
     alloc: A,
     database: &Database<'a, A>,
     essential: bool,
@@ -24,11 +24,11 @@ pub(crate) fn valid<'a, A: Allocator + Copy>(
 ) -> Result<Judged<A>, AllocError>
     requires { AreCitedUpTo database.now.statements essential (theorems database.now.statements)
         (length (theorems database.now.statements)) lists }
-    ensures { IfOk result (λ judged. Judges database.now.statements essential judged) }
+    ensures { IfOk result (λ judged. IsJudgement database.now.statements essential judged) }
 {
-    // The proof needs the clauses of `len`.
+    // The number isn't needed, but the proof needs what `len` promises of the database.
     let _ = database.len();
-    // Only the contract uses it.
+    // Only the contract uses `essential`: it says by which nodes the lists were found.
     let _ = essential;
     let theorems = database.theorems().to_vec(alloc)?;
     Ok(Judged::Valid(Citations::new(theorems, lists)))
@@ -42,9 +42,9 @@ pub(crate) fn check_in_order<'a, A: Allocator + Copy>(
     essential: bool,
 ) -> Result<Judged<A>, AllocError>
     requires { AreRules database.now.statements rules.now }
-    ensures { IfOk result (λ judged. Judges database.now.statements essential judged) }
+    ensures { IfOk result (λ judged. IsJudgement database.now.statements essential judged) }
 {
-    // The proof needs the clauses of `len`.
+    // The number isn't needed, but the proof needs what `len` promises of the database.
     let _ = database.len();
     let mut checker = Checker::new(alloc, database, rules)?;
     let mut lists = Lists::with_room(alloc, database.theorems().len(), citations_room(database));
@@ -56,7 +56,7 @@ pub(crate) fn check_in_order<'a, A: Allocator + Copy>(
             Err(VerifyRefused::Memory) => return Err(AllocError),
         }
     }
-    valid(alloc, database, essential, lists)
+    judged_valid(alloc, database, essential, lists)
 }
 
 /// Checks the proofs of all theorems on the calling thread alone, in file order, with the answer of
@@ -66,7 +66,7 @@ pub fn check_alone<'a, A: Allocator + Copy>(
     database: &Database<'a, A>,
     essential: bool,
 ) -> Result<Judged<A>, AllocError>
-    ensures { IfOk result (λ judged. Judges database.now.statements essential judged) }
+    ensures { IfOk result (λ judged. IsJudgement database.now.statements essential judged) }
 {
     let rules = Rules::new(alloc, database)?;
     check_in_order(alloc, database, &rules, essential)

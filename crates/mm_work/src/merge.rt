@@ -4,7 +4,7 @@ ghost use Rattle.std.specs.Prelude.{◌≡◌, ◌<◌, ◌≤◌, ◌⊎◌, �
 ghost use Rattle.mm_spec.specs.Output.{theorems};
 ghost use Rattle.mm_work.specs.Judged.{AreCitedUpTo, HasFault};
 ghost use Rattle.mm_work.specs.Workers.{AreFindings, IsFoundValid, IsFoundFaulty, theorem_of};
-ghost use Rattle.mm_work.specs.Places.{IsNoted, HasPlace};
+ghost use Rattle.mm_work.specs.Positions.{IsNoted, HasPosition};
 
 use crate::worker::Findings;
 use mm_database::Database;
@@ -12,58 +12,55 @@ use mm_lists::Lists;
 use mm_spec::Fault;
 use std::alloc::{AllocError, Allocator};
 
-/// Where the citations of a theorem are: which worker has them, and at which place among the
-/// theorems that this worker found valid.
+/// Where the citations of a theorem are.
 #[derive(Clone, Copy)]
-pub(crate) struct WorkerPlace {
+pub(crate) struct ListPosition {
+    /// Which worker's findings have them.
     pub worker: usize,
-    pub place: usize,
+    /// The index of their list among the lists of these findings.
+    pub list: usize,
 }
 
-/// Notes where the citations of a worker's theorems are.
-fn note(places: &mut [WorkerPlace], worker: usize, valid: &[u32])
-    requires { All (λ i. i < length places.old) valid.now }
-    ensures count { length places.new ≡ length places.old }
-    ensures noted { All (λ i. IsNoted places.new worker valid.now i) valid.now }
+/// Notes where the citations of the theorems are that a worker found valid, which have the indices
+/// `valid`.
+fn note_lists(positions: &mut [ListPosition], worker: usize, valid: &[u32])
+    requires { All (λ i. i < length positions.old) valid.now }
+    ensures count { length positions.new ≡ length positions.old }
+    ensures noted { All (λ i. IsNoted positions.new worker valid.now i) valid.now }
     ensures others { (i : ℕ)
-        → IsNoted places.new worker valid.now i
-        ⊎ (slice_get places.new i ≡ slice_get places.old i) }
+        → IsNoted positions.new worker valid.now i
+        ⊎ (slice_get positions.new i ≡ slice_get positions.old i) }
 {
-    for (place, index) in valid.iter().enumerate() {
-        places[*index as usize] = WorkerPlace { worker, place };
+    for (list, index) in valid.iter().enumerate() {
+        positions[*index as usize] = ListPosition { worker, list };
     }
 }
 
 /// Where the citations of each theorem are.
-fn places<A: Allocator + Copy>(
+fn positions_of<A: Allocator + Copy>(
     alloc: A,
-    found: &[Findings<A>],
+    all_findings: &[Findings<A>],
     count: usize,
-) -> Result<Vec<WorkerPlace, A>, AllocError>
-    requires { All (λ f. All (λ i. i < count) f.valid.items) found.now }
-    ensures count { IfOk result (λ places. length places.items ≡ count) }
-    ensures places { IfOk result
-        (λ places. (i : ℕ) → IsFoundValid found.now i → HasPlace places.items found.now i) }
+) -> Result<Vec<ListPosition, A>, AllocError>
+    requires { All (λ f. All (λ i. i < count) f.valid.items) all_findings.now }
+    ensures count { IfOk result (λ positions. length positions.items ≡ count) }
+    ensures positions { IfOk result
+        (λ positions. (i : ℕ) → IsFoundValid all_findings.now i
+        → HasPosition positions.items all_findings.now i) }
 {
-    let mut places = Vec::new(alloc);
-    places.resize(
-        count,
-        WorkerPlace {
-            worker: 0,
-            place: 0,
-        },
-    )?;
-    for (worker, one) in found.iter().enumerate() {
-        note(&mut places, worker, &one.valid);
+    let mut positions = Vec::new(alloc);
+    positions.resize(count, ListPosition { worker: 0, list: 0 })?;
+    for (worker, findings) in all_findings.iter().enumerate() {
+        note_lists(&mut positions, worker, &findings.valid);
     }
-    Ok(places)
+    Ok(positions)
 }
 
 /// How many citations the workers found together.
-fn citation_count<A: Allocator>(found: &[Findings<A>]) -> usize {
+fn citation_count<A: Allocator>(all_findings: &[Findings<A>]) -> usize {
     let mut count = 0usize;
-    for one in found {
-        count = count.saturating_add(one.cites.item_count());
+    for findings in all_findings {
+        count = count.saturating_add(findings.cites.item_count());
     }
     count
 }
@@ -73,21 +70,21 @@ pub(crate) fn merge<'d, A: Allocator + Copy>(
     alloc: A,
     database: &Database<'d, A>,
     essential: bool,
-    found: &[Findings<A>],
+    all_findings: &[Findings<A>],
 ) -> Result<Lists<u32, A>, AllocError>
-    requires found { All (AreFindings database.now.statements essential) found.now }
+    requires found { All (AreFindings database.now.statements essential) all_findings.now }
     requires valid { (i : ℕ) → i < length (theorems database.now.statements)
-        → IsFoundValid found.now i }
+        → IsFoundValid all_findings.now i }
     ensures { IfOk result
         (λ lists. AreCitedUpTo database.now.statements essential (theorems database.now.statements)
         (length (theorems database.now.statements)) lists) }
 {
-    // Only the contract uses it.
+    // Only the contract uses `essential`: it says by which nodes the citations were found.
     let _ = essential;
-    let places = places(alloc, found, database.theorems().len())?;
-    let mut lists = Lists::with_room(alloc, places.len(), citation_count(found));
-    for place in &places {
-        lists.push(found[place.worker].cites.get(place.place))?;
+    let positions = positions_of(alloc, all_findings, database.theorems().len())?;
+    let mut lists = Lists::with_room(alloc, positions.len(), citation_count(all_findings));
+    for position in &positions {
+        lists.push(all_findings[position.worker].cites.get(position.list))?;
     }
     Ok(lists)
 }
@@ -96,18 +93,18 @@ pub(crate) fn merge<'d, A: Allocator + Copy>(
 pub(crate) fn found_fault<'d, A: Allocator>(
     database: &Database<'d, A>,
     essential: bool,
-    found: &[Findings<A>],
+    all_findings: &[Findings<A>],
     index: u32,
 ) -> Fault
-    requires found { All (AreFindings database.now.statements essential) found.now }
-    requires faulty { IsFoundFaulty found.now index }
+    requires found { All (AreFindings database.now.statements essential) all_findings.now }
+    requires faulty { IsFoundFaulty all_findings.now index }
     ensures { HasFault database.now.statements (theorem_of database.now.statements index) result }
 {
-    // Only the contract uses these.
+    // Only the contract uses these two: they say what the findings are about.
     let _ = database;
     let _ = essential;
-    for one in found {
-        if let Some(faulty) = one.faulty
+    for findings in all_findings {
+        if let Some(faulty) = findings.faulty
             && faulty.index == index
         {
             return faulty.fault;

@@ -3,7 +3,7 @@
 ghost use Rattle.std.specs.Prelude.{◌≡◌, IfOk, IfErr, IsTrue};
 ghost use Rattle.mm_check.specs.Checker.{IsMadeFor};
 ghost use Rattle.mm_spec.specs.Output.{is_theorem_at};
-ghost use Rattle.mm_work.specs.Judged.{IsCited, Faults};
+ghost use Rattle.mm_work.specs.Judged.{IsCited, IsRefusalOf};
 
 use mm_check::{CheckRefused, Checked, Checker};
 use mm_database::Database;
@@ -34,7 +34,7 @@ pub(crate) fn verify<'a, A: Allocator + Copy>(
     ensures made_for { IsMadeFor database.now.statements checker.new }
     ensures valid { IfOk result
         (λ checked. IsCited database.now.statements essential theorem checked.cites) }
-    ensures refused { IfErr result (λ e. Faults database.now.statements theorem e) }
+    ensures refused { IfErr result (λ e. IsRefusalOf database.now.statements theorem e) }
 {
     let steps = match read_proof(alloc, database, theorem) {
         Ok(steps) => steps,

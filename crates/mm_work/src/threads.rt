@@ -5,74 +5,77 @@ ghost use Rattle.mm_work.specs.Workers.{IsOfDatabase, IsFreshSeat, IsDone, AreGa
 
 use crate::gate::Gate;
 use crate::job::Job;
-use crate::worker::{Findings, Worked, work};
+use crate::worker::{Findings, WorkerState, work};
 use mm_board::{Board, Seat};
 use std::alloc::{AllocError, Allocator};
 use std::sync::Wait;
 use std::thread;
 use std::thread::{Promise, Threads};
 
-/// A thread promises that what it returns is what a worker of this job has when it is done.
-impl<'p, 'j, 'd, A: Allocator> Promise<Worked<A>> for &'p Job<'j, 'd, A> {
+/// A thread promises that it returns the state of a worker of this job that is done.
+impl<'p, 'j, 'd, A: Allocator> Promise<WorkerState<A>> for &'p Job<'j, 'd, A> {
     ghost use Rattle.mm_work.specs.Workers.{IsDone};
 
-    ghost kept_by = { λ job worked. IsDone job.now worked };
+    ghost kept_by = { λ job state. IsDone job.now state };
 }
 
 /// What the workers found, and the seat that absorbed theirs.
 #[derive(Drop)]
 pub(crate) struct Gathered<A: Allocator> {
     pub seat: Seat,
-    pub found: Vec<Findings<A>, A>,
+    pub all_findings: Vec<Findings<A>, A>,
 }
 
-/// A seat for one more worker; `None` if the seat has no share to give.
-fn split<A: Allocator>(board: &Board<A>, seat: &mut Seat) -> Option<Seat>
+/// A seat for one more worker, split off this one. `None` if this one has only its own share.
+fn split_off<A: Allocator>(board: &Board<A>, seat: &mut Seat) -> Option<Seat>
     requires { IsFreshSeat board.now seat.old }
-    ensures own { IsFreshSeat board.now seat.new }
-    ensures other { IfSome result (λ new. IsFreshSeat board.now new) }
-    ensures last { IfNone result (seat.old.view.share ≡ 1) }
+    ensures old_seat { IsFreshSeat board.now seat.new }
+    ensures new_seat { IfSome result (λ new. IsFreshSeat board.now new) }
+    ensures last_share { IfNone result (seat.old.view.share ≡ 1) }
 {
     board.split(seat).ok()
 }
 
 /// Adds what a worker found to the list. Fails if the worker ran out of memory, or if there is none
 /// for the list.
-fn add<A: Allocator>(all: &mut Vec<Findings<A>, A>, found: Findings<A>) -> Result<(), AllocError>
-    ensures added { OnOk result (all.new.items ≡ all.old.items ++ found ∷ []) }
-    ensures short { OnOk result (found.short_of_memory ≡ false) }
+fn add_findings<A: Allocator>(
+    all_findings: &mut Vec<Findings<A>, A>,
+    findings: Findings<A>,
+) -> Result<(), AllocError>
+    ensures added { OnOk result (all_findings.new.items ≡ all_findings.old.items ++ findings ∷ []) }
+    ensures short { OnOk result (findings.short_of_memory ≡ false) }
 {
-    if found.short_of_memory {
+    if findings.short_of_memory {
         return Err(AllocError);
     }
-    all.push(found)?;
+    all_findings.push(findings)?;
     Ok(())
 }
 
-/// Joins the seats of `others` to that of `own`, and lists what all workers found. Fails if a
-/// worker ran out of memory, or if there is none for the list.
+/// Joins the seats of the other workers to that of the first, and lists what all workers found.
+/// Fails if a worker ran out of memory, or if there is none for the list.
 fn join_all<A: Allocator + Copy>(
     alloc: A,
     job: &Job<'_, '_, A>,
-    own: Worked<A>,
-    mut others: Vec<Worked<A>, A>,
+    first: WorkerState<A>,
+    mut others: Vec<WorkerState<A>, A>,
 ) -> Result<Gathered<A>, AllocError>
-    requires own { IsDone job.now own }
+    requires first { IsDone job.now first }
     requires others { All (IsDone job.now) others.items }
-    ensures { IfOk result (λ g. AreGathered job.now g.seat g.found.items) }
+    ensures { IfOk result (λ g. AreGathered job.now g.seat g.all_findings.items) }
 {
-    let Worked { mut seat, found } = own;
-    let mut all = Vec::new(alloc);
-    add(&mut all, found)?;
+    let WorkerState { mut seat, findings } = first;
+    let mut all_findings = Vec::new(alloc);
+    add_findings(&mut all_findings, findings)?;
     while let Some(other) = others.pop() {
-        let Worked {
-            seat: theirs,
-            found,
+        let WorkerState {
+            seat: other_seat,
+            findings,
         } = other;
-        add(&mut all, found)?;
-        job.board.join(&mut seat, theirs);
+        add_findings(&mut all_findings, findings)?;
+        job.board.join(&mut seat, other_seat);
     }
-    Ok(Gathered { seat, found: all })
+    Ok(Gathered { seat, all_findings })
 }
 
 /// Has all theorems checked by `workers` workers. The calling thread is worker 0. Each further
@@ -88,7 +91,7 @@ pub(crate) fn work_all<R: Threads + Wait + Sync, A: Allocator + Copy + Send + Sy
 ) -> Result<Gathered<A>, AllocError>
     requires job { IsOfDatabase job.now }
     requires ready { IsFreshSeat job.now.board.now seat }
-    ensures { IfOk result (λ g. AreGathered job.now g.seat g.found.items) }
+    ensures { IfOk result (λ g. AreGathered job.now g.seat g.all_findings.items) }
 {
     thread::scope(
         thread::scope_env(),
@@ -96,29 +99,29 @@ pub(crate) fn work_all<R: Threads + Wait + Sync, A: Allocator + Copy + Send + Sy
         move |scope| -> Result<Gathered<A>, AllocError>
             requires job { IsOfDatabase job.now }
             requires ready { IsFreshSeat job.now.board.now seat }
-            ensures { IfOk result (λ g. AreGathered job.entry.now g.seat g.found.items) }
+            ensures { IfOk result (λ g. AreGathered job.entry.now g.seat g.all_findings.items) }
         {
-            let mut mine = seat;
+            let mut own_seat = seat;
             let mut handles = Vec::with_capacity(alloc, workers as usize)?;
             for worker in 1..workers {
-                if let Some(other) = split(job.board, &mut mine) {
+                if let Some(new_seat) = split_off(job.board, &mut own_seat) {
                     if let Ok(handle) = scope.spawn_with(
                         job,
-                        move || -> Worked<A>
+                        move || -> WorkerState<A>
                             requires job { IsOfDatabase job.now }
-                            requires ready { IsFreshSeat job.now.board.now other }
+                            requires ready { IsFreshSeat job.now.board.now new_seat }
                             ensures { IsDone job.entry.now result }
-                        { work(alloc, job, gate, other, worker) },
+                        { work(alloc, job, gate, new_seat, worker) },
                     ) {
                         handles.push(handle)?;
                     }
                 }
             }
-            let own = work(alloc, job, gate, mine, 0);
+            let first = work(alloc, job, gate, own_seat, 0);
             let Ok(others) = thread::join_promised(rt, handles) else {
                 return Err(AllocError);
             };
-            join_all(alloc, job, own, others)
+            join_all(alloc, job, first, others)
         },
     )
 }

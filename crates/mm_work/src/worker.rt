@@ -29,8 +29,8 @@ pub(crate) struct Findings<A: Allocator> {
     pub valid: Vec<u32, A>,
     /// What each of these cites.
     pub cites: Lists<u32, A>,
-    /// The fault of a proof that isn't valid. After reporting it the worker skips all that it
-    /// draws.
+    /// The fault of a proof that isn't valid. Once the worker has reported it, it skips all
+    /// theorems that it draws.
     pub faulty: Option<IndexedFault>,
     /// Whether the worker ran out of memory. Then the other fields are meaningless.
     pub short_of_memory: bool,
@@ -49,7 +49,8 @@ impl<A: Allocator> Drop for Findings<A> {
 }
 
 impl<A: Allocator> Findings<A> {
-    /// Nothing found yet, with room for the citations of `theorems` theorems, `room` in all.
+    /// Nothing found yet. There is room for the lists of `theorems` theorems, with `room` citations
+    /// in all.
     fn new(alloc: A, theorems: usize, room: usize) -> Findings<A>
     where
         A: Copy,
@@ -65,8 +66,8 @@ impl<A: Allocator> Findings<A> {
         }
     }
 
-    /// Keeps what a valid theorem cites.
-    fn keep(&mut self, index: u32, cites: &[u32]) -> Result<(), AllocError>
+    /// Adds a theorem whose proof is valid, and what it cites.
+    fn add_valid(&mut self, index: u32, cites: &[u32]) -> Result<(), AllocError>
         ensures valid { OnOk result (self.new.valid.items ≡ self.old.valid.items ++ index ∷ []) }
         ensures cites { OnOk result (self.new.cites ≡ self.old.cites ++ cites.now ∷ []) }
         ensures faulty { self.new.faulty ≡ self.old.faulty }
@@ -80,38 +81,38 @@ impl<A: Allocator> Findings<A> {
 
 /// A worker's seat, and what it found.
 #[derive(Drop)]
-pub(crate) struct Worked<A: Allocator> {
+pub(crate) struct WorkerState<A: Allocator> {
     pub seat: Seat,
-    pub found: Findings<A>,
+    pub findings: Findings<A>,
 }
 
-/// Checks the proof of the theorem with this index, and keeps the result. Returns whether the proof
-/// is valid and what it cites was kept.
-fn check<A: Allocator + Copy>(
+/// Checks the proof of the theorem with this index, and adds the result to what the worker found.
+/// Returns whether the proof is valid and what the theorem cites was added.
+fn check_theorem<A: Allocator + Copy>(
     alloc: A,
     job: &Job<'_, '_, A>,
     checker: &mut Checker<'_, A>,
-    found: &mut Findings<A>,
+    findings: &mut Findings<A>,
     index: u32,
 ) -> bool
     requires index { index < length (theorems job.now.database.now.statements) }
     requires made_for { IsMadeFor job.now.database.now.statements checker.old }
     ensures made_for { IsMadeFor job.now.database.now.statements checker.new }
-    ensures short { found.new.short_of_memory ≡ false → found.old.short_of_memory ≡ false }
-    ensures valid { found.new.short_of_memory ≡ false → result ≡ true
-        → FindsValid job.now index found.old found.new }
-    ensures faulty { found.new.short_of_memory ≡ false → result ≡ false
-        → FindsFault job.now index found.old found.new }
+    ensures short { findings.new.short_of_memory ≡ false → findings.old.short_of_memory ≡ false }
+    ensures valid { findings.new.short_of_memory ≡ false → result ≡ true
+        → FindsValid job.now index findings.old findings.new }
+    ensures faulty { findings.new.short_of_memory ≡ false → result ≡ false
+        → FindsFault job.now index findings.old findings.new }
 {
     let database = job.database;
     let theorem = database.theorems()[index as usize];
     match verify(alloc, database, checker, theorem, job.essential) {
-        Ok(checked) => match found.keep(index, checked.cites()) {
+        Ok(checked) => match findings.add_valid(index, checked.cites()) {
             Ok(()) => return true,
-            Err(_) => found.short_of_memory = true,
+            Err(_) => findings.short_of_memory = true,
         },
-        Err(VerifyRefused::Fault(fault)) => found.faulty = Some(IndexedFault { index, fault }),
-        Err(VerifyRefused::Memory) => found.short_of_memory = true,
+        Err(VerifyRefused::Fault(fault)) => findings.faulty = Some(IndexedFault { index, fault }),
+        Err(VerifyRefused::Memory) => findings.short_of_memory = true,
     }
     false
 }
@@ -122,26 +123,26 @@ fn settle_drawn<A: Allocator + Copy>(
     alloc: A,
     job: &Job<'_, '_, A>,
     checker: &mut Checker<'_, A>,
-    worked: &mut Worked<A>,
+    state: &mut WorkerState<A>,
     index: u32,
 )
     requires made_for { IsMadeFor job.now.database.now.statements checker.old }
-    requires drawn { HasDrawn job.now index worked.old }
+    requires drawn { HasDrawn job.now index state.old }
     ensures made_for { IsMadeFor job.now.database.now.statements checker.new }
-    ensures between { IsBetweenTheorems job.now worked.new }
-    ensures over { worked.new.seat.view.over ≡ worked.old.seat.view.over }
-    ensures kept { (i : ℕ)
-        → times_recorded i worked.new.seat.view ≡ times_recorded i worked.old.seat.view }
+    ensures between { IsBetweenTheorems job.now state.new }
+    ensures over { state.new.seat.view.over ≡ state.old.seat.view.over }
+    ensures same_record { (i : ℕ)
+        → times_recorded i state.new.seat.view ≡ times_recorded i state.old.seat.view }
 {
     let board = job.board;
-    board.look(&mut worked.seat);
-    if worked.seat.held().is_none() {
+    board.look(&mut state.seat);
+    if state.seat.held().is_none() {
         return;
     }
-    if check(alloc, job, checker, &mut worked.found, index) {
-        board.settle(&mut worked.seat, index);
+    if check_theorem(alloc, job, checker, &mut state.findings, index) {
+        board.settle(&mut state.seat, index);
     } else {
-        board.report(&mut worked.seat, index);
+        board.report(&mut state.seat, index);
     }
 }
 
@@ -152,23 +153,23 @@ pub(crate) fn work<A: Allocator + Copy, G: Gate>(
     gate: &G,
     seat: Seat,
     worker: u32,
-) -> Worked<A>
+) -> WorkerState<A>
     requires job { IsOfDatabase job.now }
     requires ready { IsFreshSeat job.now.board.now seat }
     ensures { IsDone job.now result }
 {
-    let mut worked = Worked {
+    let mut state = WorkerState {
         seat,
-        found: Findings::new(alloc, job.database.theorems().len(), job.room),
+        findings: Findings::new(alloc, job.database.theorems().len(), job.room),
     };
     let Ok(mut checker) = Checker::new(alloc, job.database, job.rules) else {
-        worked.found.short_of_memory = true;
-        return worked;
+        state.findings.short_of_memory = true;
+        return state;
     };
     let board = job.board;
-    while let Some(index) = board.claim(&mut worked.seat) {
+    while let Some(index) = board.claim(&mut state.seat) {
         gate.enter(worker, index);
-        settle_drawn(alloc, job, &mut checker, &mut worked, index);
+        settle_drawn(alloc, job, &mut checker, &mut state, index);
     }
-    worked
+    state
 }

@@ -19,46 +19,54 @@ use Rattle.mmdepend.specs.declared.ending.Ending.TheVariants.{Ran, Helped, HelpF
 use Rattle.mmdepend.specs.declared.ending.Ending.TheVariants.{NotOpened, NoMemory}
 
 -- a prefix of the text was written, or the whole text
-abbrev pub IsWrittenPrefix : (held holds : Option (List ℕ)) → List ℕ → Type 0
-IsWrittenPrefix held holds text = (k : ℕ) × Appends held holds (take k text)
+abbrev pub IsPrefixWritten : (before after : Option (List ℕ)) → List ℕ → Type 0
+IsPrefixWritten before after text = (k : ℕ) × Appends before after (take k text)
 
 -- the file that is opened: `None` if no file is named, or if it is `-`
 abbrev pub opened_name : Option (List ℕ) → Option (List ℕ)
 opened_name None = None
 opened_name (Some name) = if bytes_eq name (codes "-") then None else Some name
 
-abbrev pub opens : Line → Option (List ℕ)
-opens line = opened_name (option_map string_bytes line.file)
+-- the file that a line names for opening
+abbrev pub opened_file_of : Line → Option (List ℕ)
+opened_file_of line = opened_name (option_map string_bytes line.file)
 
 -- `remaining` is what is still to be read of an opened file.
 module _ {File : Type 0} (remaining : File → Option (List ℕ)) where
   -- A run reads standard input if no file is opened. If a file is opened, it reads that, and
   -- standard input stays as it was.
   abbrev pub Runs : {X : Type 0} → Option X → RunEnd → Line
-      → (before after held holds : Option (List ℕ)) → Type 0
-  Runs None end line before after held holds =
-      Ends end (request_of line.plan) before after held holds
-  Runs (Some name) end line before after held holds =
-      Keeps before after
+      → (input_before input_after output_before output_after : Option (List ℕ)) → Type 0
+  Runs None end line input_before input_after output_before output_after =
+      Ends end (request_of line.plan) input_before input_after output_before output_after
+  Runs (Some name) end line input_before input_after output_before output_after =
+      Keeps input_before input_after
       × ((opened read : File)
-      × Ends end (request_of line.plan) (remaining opened) (remaining read) held holds)
+      × Ends end (request_of line.plan) (remaining opened)
+      (remaining read) output_before output_after)
 
   -- what the words say, according to the ending, and what is read from standard input and written
   -- to the output
-  abbrev pub IsEndingOf : List Text → Ending → (before after held holds : Option (List ℕ)) → Type 0
-  IsEndingOf words (Ran end) before after held holds =
-      (line : Line) × AreReadAs words line × Runs (opens line) end line before after held holds
-  IsEndingOf words NotOpened before after held holds =
-      (line : Line) × AreReadAs words line × IsSome (opens line) × Keeps before after
-      × Keeps held holds
-  IsEndingOf words (Helped text) before after held holds =
-      IsLineRefusal words (Help text) × Keeps before after × Appends held holds (string_bytes text)
-  IsEndingOf words (HelpFailed text) before after held holds =
-      IsLineRefusal words (Help text) × Keeps before after
-      × IsWrittenPrefix held holds (string_bytes text)
-  IsEndingOf words (Misread text) before after held holds =
-      IsLineRefusal words (Bad text) × Keeps before after × Keeps held holds
-  IsEndingOf words NoMemory before after held holds = Keeps before after × Keeps held holds
+  abbrev pub IsEndingOf : List Text → Ending
+      → (input_before input_after output_before output_after : Option (List ℕ)) → Type 0
+  IsEndingOf words (Ran end) input_before input_after output_before output_after =
+      (line : Line) × AreReadAs words line
+      × Runs (opened_file_of line) end line input_before input_after output_before output_after
+  IsEndingOf words NotOpened input_before input_after output_before output_after =
+      (line : Line) × AreReadAs words line × IsSome (opened_file_of line)
+      × Keeps input_before input_after
+      × Keeps output_before output_after
+  IsEndingOf words (Helped text) input_before input_after output_before output_after =
+      IsLineRefusal words (Help text) × Keeps input_before input_after
+      × Appends output_before output_after (string_bytes text)
+  IsEndingOf words (HelpFailed text) input_before input_after output_before output_after =
+      IsLineRefusal words (Help text) × Keeps input_before input_after
+      × IsPrefixWritten output_before output_after (string_bytes text)
+  IsEndingOf words (Misread text) input_before input_after output_before output_after =
+      IsLineRefusal words (Bad text) × Keeps input_before input_after
+      × Keeps output_before output_after
+  IsEndingOf words NoMemory input_before input_after output_before output_after =
+      Keeps input_before input_after × Keeps output_before output_after
 
 abbrev pub run_status_of : RunEnd → ℕ
 run_status_of Accepted = 0
@@ -100,8 +108,10 @@ message_of NoMemory = message (codes "out of memory")
 -- status.
 module _ {File : Type 0} (remaining : File → Option (List ℕ)) where
   pub record Ended (words : List Text) (status : ℕ)
-      (before after held holds told tells : Option (List ℕ)) : Type 0 where
+      (input_before input_after output_before output_after errors_before errors_after : Option
+      (List ℕ)) : Type 0 where
     pub ending : Ending
-    pub is_ending : IsEndingOf remaining words ending before after held holds
-    pub message_written : IsWrittenPrefix told tells (message_of ending)
+    pub is_ending : IsEndingOf remaining words ending input_before input_after
+        output_before output_after
+    pub message_written : IsPrefixWritten errors_before errors_after (message_of ending)
     pub status_is : status ≡ status_of ending

@@ -2,7 +2,7 @@
 
 ghost use Rattle.std.specs.Prelude.{◌≡◌, IsTrue, map, option_map};
 ghost use Rattle.std.specs.Io.KnownBytes.{Appends};
-ghost use Rattle.mmdepend.specs.Endings.{Ended, IsEndingOf, IsWrittenPrefix, opens};
+ghost use Rattle.mmdepend.specs.Endings.{Ended, IsEndingOf, IsPrefixWritten, opened_file_of};
 
 use crate::ending::Ending;
 use mm_line::{Line, LineRefused, line};
@@ -18,9 +18,9 @@ use std::thread::Threads;
 
 /// Writes the text and returns `true`, or returns `false` after a failed write, when a prefix of
 /// the text was written.
-fn put<W: Write>(to: &mut W, text: &[u8]) -> bool
+fn write_text<W: Write>(to: &mut W, text: &[u8]) -> bool
     ensures whole { IsTrue result → Appends (W.contents to.old) (W.contents to.new) text.now }
-    ensures beginning { IsWrittenPrefix (W.contents to.old) (W.contents to.new) text.now }
+    ensures beginning { IsPrefixWritten (W.contents to.old) (W.contents to.new) text.now }
 {
     match write_whole(to, text) {
         Ok(()) => true,
@@ -30,7 +30,7 @@ fn put<W: Write>(to: &mut W, text: &[u8]) -> bool
 
 /// The file to open; `None` if standard input is read, which `-` names too.
 fn opened_file(line: &Line) -> Option<&str>
-    ensures { option_map (λ name. name.now) result ≡ opens line.now }
+    ensures { option_map (λ name. name.now) result ≡ opened_file_of line.now }
 {
     match &line.file {
         Some(name) => {
@@ -45,7 +45,7 @@ fn opened_file(line: &Line) -> Option<&str>
 }
 
 /// Reads the words, opens the file that they name, and calls `run`; or writes help or the version.
-fn end<S: AsStr, R: Threads + Wait + Files + Sync, I: Read, O: Write>(
+fn run_words<S: AsStr, R: Threads + Wait + Files + Sync, I: Read, O: Write>(
     rt: &R,
     alloc: Global,
     words: &[S],
@@ -58,7 +58,7 @@ fn end<S: AsStr, R: Threads + Wait + Files + Sync, I: Read, O: Write>(
     let line = match line(alloc, words) {
         Ok(line) => line,
         Err(LineRefused::Help(text)) => {
-            return if put(output, text.as_bytes()) {
+            return if write_text(output, text.as_bytes()) {
                 Ending::Helped(text)
             } else {
                 Ending::HelpFailed(text)
@@ -92,7 +92,8 @@ pub fn status<S: AsStr, R: Threads + Wait + Files + Sync, I: Read, O: Write, E: 
         (O.contents output.old) (O.contents output.new)
         (E.contents errors.old) (E.contents errors.new) }
 {
-    let ending = end(rt, alloc, words, input, output);
-    let _ = put(errors, ending.message());
+    let ending = run_words(rt, alloc, words, input, output);
+    // If the message can't be written, the status says alone how the program ended.
+    let _ = write_text(errors, ending.message());
     ending.status()
 }

@@ -31,22 +31,24 @@ impl Read for Failing {
 /// take nothing.
 #[derive(Drop)]
 struct LimitedWriter {
-    left: usize,
+    /// How many bytes it still takes.
+    bytes_left: usize,
+    /// Whether calls after that fail.
     fails: bool,
 }
 
 /// A writer that is closed from its first call on.
 fn closed() -> LimitedWriter {
     LimitedWriter {
-        left: 0,
+        bytes_left: 0,
         fails: true,
     }
 }
 
 impl Write for LimitedWriter {
     fn write(&mut self, bytes: &[u8]) -> io::Result<usize> {
-        if self.left > 0 && !bytes.is_empty() {
-            self.left -= 1;
+        if self.bytes_left > 0 && !bytes.is_empty() {
+            self.bytes_left -= 1;
             return Ok(1);
         }
         if self.fails {
@@ -79,9 +81,16 @@ fn ends<R: Threads + Wait + Files + Sync + AllocGlobal, I: Read + Drop>(
     errors: &[u8],
 ) -> bool {
     let mut written = Vec::new(rt.alloc());
-    let mut told = Vec::new(rt.alloc());
-    let found = status(rt, rt.alloc(), words, &mut input, &mut written, &mut told);
-    found == number && written.as_slice() == output && told.as_slice() == errors
+    let mut message = Vec::new(rt.alloc());
+    let found = status(
+        rt,
+        rt.alloc(),
+        words,
+        &mut input,
+        &mut written,
+        &mut message,
+    );
+    found == number && written.as_slice() == output && message.as_slice() == errors
 }
 
 #[test]
@@ -161,22 +170,24 @@ fn a_file_is_read_in_place_of_the_input(rt: HostRuntime) -> Result<(), Fail> {
 fn stops<R: Threads + Wait + Files + Sync + AllocGlobal>(
     rt: &R,
     words: &[&str],
-    left: usize,
+    bytes_left: usize,
     fails: bool,
 ) -> bool {
     let mut text = FIRST;
-    let mut output = LimitedWriter { left, fails };
-    let mut told = Vec::new(rt.alloc());
-    let found = status(rt, rt.alloc(), words, &mut text, &mut output, &mut told);
-    found == 3 && output.left == 0 && told.as_slice() == b"mmdepend: writing failed\n".as_slice()
+    let mut output = LimitedWriter { bytes_left, fails };
+    let mut message = Vec::new(rt.alloc());
+    let found = status(rt, rt.alloc(), words, &mut text, &mut output, &mut message);
+    found == 3
+        && output.bytes_left == 0
+        && message.as_slice() == b"mmdepend: writing failed\n".as_slice()
 }
 
 #[test]
 fn an_output_that_is_closed(rt: HostRuntime) {
     for fails in [true, false] {
-        for left in [0, 1, 42, 84] {
-            assert!(&rt; stops(&rt, &["mmdepend"], left, fails));
-            assert!(&rt; stops(&rt, &["mmdepend", "--help"], left, fails));
+        for bytes_left in [0, 1, 42, 84] {
+            assert!(&rt; stops(&rt, &["mmdepend"], bytes_left, fails));
+            assert!(&rt; stops(&rt, &["mmdepend", "--help"], bytes_left, fails));
         }
     }
 }

@@ -6,7 +6,7 @@ ghost use Rattle.std.specs.Prelude.{◌≡◌, IfOk};
 ghost use Rattle.mm_spec.specs.Lexed.{tokens_of, lexical_fault};
 
 use super::words::{PLACE, is_summary};
-use super::{MOST, met};
+use super::{MOST_GROWTHS, was_refused};
 use crate::heap::Refusing;
 use crate::texts::{DISJOINT, FIRST_TEXT};
 use linked_list_allocator::LocalHeap;
@@ -61,11 +61,11 @@ fn tokens_are_given_back_and_the_text_is_as_it_was(rt: HostRuntime) -> Result<()
     let heap = Refusing::new(&local);
     let text = DISJOINT.to_vec(rt.alloc())?;
     let unused = local.used();
-    for number in 1..MOST {
+    for number in 1..MOST_GROWTHS {
         let lexed = lexed_in(&rt, rt.alloc(), &heap, &text)?;
         assert!(&rt; local.used() > unused);
         heap.refuse(number);
-        let refused = met(
+        let refused = was_refused(
             &rt,
             &heap,
             has_disjoint_variables(read_owned(&heap, &text, lexed, false)),
@@ -85,12 +85,12 @@ fn pieces_are_given_back(rt: HostRuntime) -> Result<(), AllocError> {
     let local = LocalHeap::new(rt.alloc(), SIZE)?;
     let heap = Refusing::new(&local);
     let unused = local.used();
-    for number in 1..MOST {
+    for number in 1..MOST_GROWTHS {
         let first = lex_piece(&heap, FIRST_TEXT, 0, PLACE)?;
         let second = lex_piece(&heap, FIRST_TEXT, PLACE, 170)?;
         assert!(&rt; local.used() > unused);
         heap.refuse(number);
-        let refused = met(
+        let refused = was_refused(
             &rt,
             &heap,
             is_summary(join(&heap, FIRST_TEXT, first, second)),

@@ -1,6 +1,6 @@
 //! The lists in which layers keep what they find: if an element is refused, nothing was appended.
 
-use super::{MOST, met};
+use super::{MOST_GROWTHS, was_refused};
 use crate::heap::Refusing;
 use mm_lists::Lists;
 use mm_machine::{DisjointCache, Machine};
@@ -20,9 +20,9 @@ fn list_refused<R: Abort>(rt: &R, heap: &Refusing<Global>, number: u64) -> bool 
     let mut lists = Lists::new(heap);
     heap.refuse(number);
     match lists.push(&FIRST) {
-        Ok(()) => met(rt, heap, Some(lists.get(0) == FIRST.as_slice())),
+        Ok(()) => was_refused(rt, heap, Some(lists.get(0) == FIRST.as_slice())),
         Err(_) => {
-            let refused = met(rt, heap, None);
+            let refused = was_refused(rt, heap, None);
             match lists.push(&SECOND) {
                 Ok(()) => assert!(rt; lists.get(0) == SECOND.as_slice()),
                 Err(_) => assert!(rt; false),
@@ -35,7 +35,7 @@ fn list_refused<R: Abort>(rt: &R, heap: &Refusing<Global>, number: u64) -> bool 
 #[test]
 fn a_list_that_is_refused_is_not_appended(rt: HostRuntime) {
     let heap = Refusing::new(rt.alloc());
-    for number in 1..MOST {
+    for number in 1..MOST_GROWTHS {
         if !list_refused(&rt, &heap, number) {
             assert!(&rt; number > 2);
             return;
@@ -50,9 +50,9 @@ fn step_refused<R: Abort>(rt: &R, heap: &Refusing<Global>, most: usize, number: 
     heap.refuse(number);
     let mut steps = Steps::none(heap, 13, most);
     match steps.push(20, Step::Label(2)) {
-        Ok(()) => met(rt, heap, Some(steps.step(0) == Step::Label(2))),
+        Ok(()) => was_refused(rt, heap, Some(steps.step(0) == Step::Label(2))),
         Err(_) => {
-            let refused = met(rt, heap, None);
+            let refused = was_refused(rt, heap, None);
             assert_eq!(rt; steps.len(), 0);
             match steps.push(30, Step::Label(3)) {
                 Ok(()) => assert!(rt; steps.step(0) == Step::Label(3) && steps.place(0) == 30),
@@ -84,13 +84,13 @@ fn is_list<A: Allocator>(answer: Result<DisjointCache<A>, AllocError>) -> Option
 fn pairs_without_memory(rt: HostRuntime) {
     let heap = Refusing::new(rt.alloc());
     heap.refuse(1);
-    assert!(&rt; met(&rt, &heap, is_list(DisjointCache::new(&heap))));
+    assert!(&rt; was_refused(&rt, &heap, is_list(DisjointCache::new(&heap))));
     heap.refuse(2);
-    assert!(&rt; !met(&rt, &heap, is_list(DisjointCache::new(&heap))));
+    assert!(&rt; !was_refused(&rt, &heap, is_list(DisjointCache::new(&heap))));
 }
 
-/// Whether a formula, kept and pushed again, is one of two entries.
-fn is_kept(heap: &Refusing<Global>) -> Result<bool, AllocError> {
+/// Whether a formula that is marked and repeated is then one of two entries.
+fn is_repeated(heap: &Refusing<Global>) -> Result<bool, AllocError> {
     let mut machine = Machine::new(heap, 3)?;
     machine.push(&[Sym::new(0), Sym::new(2)])?;
     machine.mark(0)?;
@@ -99,9 +99,9 @@ fn is_kept(heap: &Refusing<Global>) -> Result<bool, AllocError> {
     Ok(alone && machine.only().is_none())
 }
 
-/// The same; `None` if it ran out of memory.
-fn kept(heap: &Refusing<Global>) -> Option<bool> {
-    match is_kept(heap) {
+/// Whether `is_repeated` says so, or `None` if the machine ran out of memory.
+fn repeated(heap: &Refusing<Global>) -> Option<bool> {
+    match is_repeated(heap) {
         Ok(is_right) => Some(is_right),
         Err(_) => None,
     }
@@ -110,10 +110,10 @@ fn kept(heap: &Refusing<Global>) -> Option<bool> {
 #[test]
 fn entries_without_memory(rt: HostRuntime) {
     let heap = Refusing::new(rt.alloc());
-    for number in 1..MOST {
+    for number in 1..MOST_GROWTHS {
         heap.refuse(number);
-        let refused = met(&rt, &heap, kept(&heap));
-        assert!(&rt; kept(&heap) == Some(true));
+        let refused = was_refused(&rt, &heap, repeated(&heap));
+        assert!(&rt; repeated(&heap) == Some(true));
         if !refused {
             assert!(&rt; number > 7);
             return;

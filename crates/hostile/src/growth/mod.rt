@@ -13,12 +13,13 @@ use crate::heap::Refusing;
 use std::alloc::Allocator;
 use std::process::Abort;
 
-/// More growths than any of the calls has.
-const MOST: u64 = 10_000;
+/// More growths of memory than any of the calls has.
+const MOST_GROWTHS: u64 = 10_000;
 
-/// Asserts that a call without an answer met the refusal, and that an answer is right. Afterwards
-/// no growth is refused. Returns whether the growth that was to be refused came.
-fn met<R: Abort, B: Allocator>(rt: &R, heap: &Refusing<B>, answer: Option<bool>) -> bool {
+/// Returns whether the growth that was to be refused came, and so was refused. Asserts that it was
+/// if the call has no answer, and otherwise that the answer is right. Afterwards no growth is
+/// refused.
+fn was_refused<R: Abort, B: Allocator>(rt: &R, heap: &Refusing<B>, answer: Option<bool>) -> bool {
     let refused = heap.has_refused();
     heap.refuse_none();
     match answer {

@@ -5,7 +5,7 @@ ghost use Rattle.mm_spec.specs.Citation.{steps_at, reading_faults_at};
 ghost use Rattle.mm_spec.specs.Output.{is_theorem_at};
 ghost use Rattle.mm_steps.specs.Read.{read};
 
-use super::{MOST, met};
+use super::{MOST_GROWTHS, was_refused};
 use crate::calls::{all_checked, checked, checked_by};
 use crate::heap::Refusing;
 use crate::texts::THROUGH;
@@ -20,7 +20,7 @@ use std::process::Abort;
 use std::sync::Wait;
 use std::thread::Threads;
 
-/// The database.
+/// The database of the text with two theorems.
 pub(crate) fn database_of<R: Threads + Sync, A: Allocator + Copy + Send + Sync>(
     rt: &R,
     alloc: A,
@@ -42,7 +42,7 @@ fn first_theorem<A: Allocator>(database: &Database<'_, A>) -> Option<u32>
     }
 }
 
-/// Whether these are the steps of its proof.
+/// Whether these are the steps of the first theorem's proof.
 fn are_steps<A: Allocator>(answer: Result<Steps<A>, ProofRefused>) -> Option<bool> {
     match answer {
         Ok(steps) => Some(
@@ -66,9 +66,9 @@ fn read_in_turn<'h, R: Abort>(
 ) -> bool
     requires { IsTrue (is_theorem_at database.now.statements theorem) }
 {
-    for number in 1..MOST {
+    for number in 1..MOST_GROWTHS {
         heap.refuse(number);
-        let refused = met(rt, heap, are_steps(read_proof(heap, database, theorem)));
+        let refused = was_refused(rt, heap, are_steps(read_proof(heap, database, theorem)));
         assert!(rt; are_steps(read_proof(heap, database, theorem)) == Some(true));
         if !refused {
             return number > 1;
@@ -77,7 +77,7 @@ fn read_in_turn<'h, R: Abort>(
     false
 }
 
-/// The same on the first theorem.
+/// Refuses each growth of reading the first theorem's proof in turn.
 fn first_read<'h, R: Abort>(
     rt: &R,
     heap: &'h Refusing<Global>,
@@ -97,7 +97,7 @@ fn a_proof_read_without_memory(rt: HostRuntime) -> Result<(), AllocError> {
     Ok(())
 }
 
-/// Whether this is what it cites.
+/// Whether this is what the first theorem cites.
 fn is_checked<A: Allocator>(answer: Result<Checked<A>, CheckRefused>) -> Option<bool> {
     match answer {
         Ok(checked) => Some(checked.theorem() == 13 && checked.cites() == [4u32, 5, 9].as_slice()),
@@ -120,9 +120,9 @@ fn rules_in_turn<'h, R: Abort>(
     heap: &'h Refusing<Global>,
     database: &Database<'static, &'h Refusing<Global>>,
 ) -> bool {
-    for number in 1..MOST {
+    for number in 1..MOST_GROWTHS {
         heap.refuse(number);
-        let refused = met(rt, heap, are_rules(Rules::new(heap, database)));
+        let refused = was_refused(rt, heap, are_rules(Rules::new(heap, database)));
         assert!(rt; are_rules(Rules::new(heap, database)) == Some(true));
         if !refused {
             return number > 5;
@@ -140,7 +140,7 @@ fn rules_made_without_memory(rt: HostRuntime) -> Result<(), AllocError> {
 }
 
 /// Whether there is a checker.
-fn is_made<A: Allocator>(answer: Result<Checker<A>, AllocError>) -> Option<bool> {
+fn is_checker<A: Allocator>(answer: Result<Checker<A>, AllocError>) -> Option<bool> {
     match answer {
         Ok(_) => Some(true),
         Err(_) => None,
@@ -148,16 +148,16 @@ fn is_made<A: Allocator>(answer: Result<Checker<A>, AllocError>) -> Option<bool>
 }
 
 /// Refuses each growth of creating a checker in turn.
-fn made_in_turn<'h, R: Abort>(
+fn checker_made_in_turn<'h, R: Abort>(
     rt: &R,
     heap: &'h Refusing<Global>,
     database: &Database<'static, &'h Refusing<Global>>,
 ) -> bool {
     let rules = Rules::none(heap);
-    for number in 1..MOST {
+    for number in 1..MOST_GROWTHS {
         heap.refuse(number);
-        let refused = met(rt, heap, is_made(Checker::new(heap, database, &rules)));
-        assert!(rt; is_made(Checker::new(heap, database, &rules)) == Some(true));
+        let refused = was_refused(rt, heap, is_checker(Checker::new(heap, database, &rules)));
+        assert!(rt; is_checker(Checker::new(heap, database, &rules)) == Some(true));
         if !refused {
             return number > 3;
         }
@@ -169,7 +169,7 @@ fn made_in_turn<'h, R: Abort>(
 fn a_checker_made_without_memory(rt: HostRuntime) -> Result<(), AllocError> {
     let heap = Refusing::new(rt.alloc());
     let database = database_of(&rt, &heap)?;
-    assert!(&rt; made_in_turn(&rt, &heap, &database));
+    assert!(&rt; checker_made_in_turn(&rt, &heap, &database));
     Ok(())
 }
 
@@ -185,9 +185,9 @@ fn checked_in_turn<'h, R: Abort>(
     requires steps { steps.now ≡ read theorem (steps_at database.now.statements theorem) }
     requires sound { reading_faults_at database.now.statements theorem ≡ [] }
 {
-    for number in 1..MOST {
+    for number in 1..MOST_GROWTHS {
         heap.refuse(number);
-        let refused = met(
+        let refused = was_refused(
             rt,
             heap,
             is_checked(checked(heap, database, theorem, steps)),
@@ -220,7 +220,7 @@ fn checker_refused<'h, R: Abort>(
     };
     heap.refuse(number);
     let first = is_checked(checked_by(&mut checker, heap, database, theorem, steps));
-    let refused = met(rt, heap, first);
+    let refused = was_refused(rt, heap, first);
     let again = is_checked(checked_by(&mut checker, heap, database, theorem, steps));
     assert!(rt; again == Some(true));
     Some(refused)
@@ -238,7 +238,7 @@ fn checkers_in_turn<'h, R: Abort>(
     requires steps { steps.now ≡ read theorem (steps_at database.now.statements theorem) }
     requires sound { reading_faults_at database.now.statements theorem ≡ [] }
 {
-    for number in 1..MOST {
+    for number in 1..MOST_GROWTHS {
         match checker_refused(rt, heap, database, theorem, steps, number) {
             Some(true) => {}
             Some(false) => return number > 5,
@@ -248,7 +248,7 @@ fn checkers_in_turn<'h, R: Abort>(
     false
 }
 
-/// The two functions above, on the first theorem.
+/// Refuses in turn each growth of a check of the first theorem, and of a checker's first check.
 fn first_checked<'h, R: Abort>(
     rt: &R,
     heap: &'h Refusing<Global>,
@@ -288,9 +288,9 @@ fn is_board<A: Allocator>(answer: Result<(Board<A>, Seat), BoardFault>) -> Optio
 #[test]
 fn a_board_without_memory(rt: HostRuntime) {
     let heap = Refusing::new(rt.alloc());
-    for number in 1..MOST {
+    for number in 1..MOST_GROWTHS {
         heap.refuse(number);
-        let refused = met(&rt, &heap, is_board(Board::new(&heap, 3)));
+        let refused = was_refused(&rt, &heap, is_board(Board::new(&heap, 3)));
         assert!(&rt; is_board(Board::new(&heap, 3)) == Some(true));
         if !refused {
             assert!(&rt; number > 1);
@@ -322,9 +322,9 @@ fn judged_in_turn<'h, R: Abort + Threads + Wait + Sync>(
     heap: &'h Refusing<Global>,
     database: &Database<'static, &'h Refusing<Global>>,
 ) -> bool {
-    for number in 1..MOST {
+    for number in 1..MOST_GROWTHS {
         heap.refuse(number);
-        let refused = met(rt, heap, is_judged(all_checked(rt, heap, database, 2)));
+        let refused = was_refused(rt, heap, is_judged(all_checked(rt, heap, database, 2)));
         assert!(rt; is_judged(all_checked(rt, heap, database, 2)) == Some(true));
         if !refused {
             return number > 10;

@@ -1,7 +1,7 @@
 //! The calls that compute rows, on the database with two theorems.
 
 use super::proofs::database_of;
-use super::{MOST, met};
+use super::{MOST_GROWTHS, was_refused};
 use crate::calls::all_checked;
 use crate::heap::Refusing;
 use mm_rows::{Columns, MarkedRows, Matrix, marked_rows, matrix, waves};
@@ -39,9 +39,9 @@ fn waves_in_turn<'h, R: Abort>(
     heap: &'h Refusing<Global>,
     citations: &Citations<&'h Refusing<Global>>,
 ) -> bool {
-    for number in 1..MOST {
+    for number in 1..MOST_GROWTHS {
         heap.refuse(number);
-        let refused = met(rt, heap, are_waves(waves(heap, citations)));
+        let refused = was_refused(rt, heap, are_waves(waves(heap, citations)));
         assert!(rt; are_waves(waves(heap, citations)) == Some(true));
         if !refused {
             return number > 1;
@@ -72,9 +72,9 @@ fn columns_in_turn<R: Abort>(
     database: &Database<'static, Global>,
 ) -> bool {
     let only = Some(b"|-".as_slice());
-    for number in 1..MOST {
+    for number in 1..MOST_GROWTHS {
         heap.refuse(number);
-        let refused = met(rt, heap, are_columns(Columns::new(heap, database, only)));
+        let refused = was_refused(rt, heap, are_columns(Columns::new(heap, database, only)));
         assert!(rt; are_columns(Columns::new(heap, database, only)) == Some(true));
         if !refused {
             return number > 1;
@@ -112,9 +112,9 @@ fn rows_in_turn<'h, R: Abort + Threads + Sync>(
     citations: &Citations<&'h Refusing<Global>>,
     columns: &Columns<&'h Refusing<Global>>,
 ) -> bool {
-    for number in 1..MOST {
+    for number in 1..MOST_GROWTHS {
         heap.refuse(number);
-        let refused = met(rt, heap, is_full(matrix(rt, heap, citations, columns)));
+        let refused = was_refused(rt, heap, is_full(matrix(rt, heap, citations, columns)));
         assert!(rt; is_full(matrix(rt, heap, citations, columns)) == Some(true));
         if !refused {
             return number > 5;
@@ -132,7 +132,7 @@ fn rows_without_memory(rt: HostRuntime) -> Result<(), AllocError> {
     Ok(())
 }
 
-/// The same, from the rows alone.
+/// Whether each of the two theorems rests on each of the three axioms, from the rows alone.
 fn are_full<A: Allocator>(answer: Result<MarkedRows<A>, AllocError>) -> Option<bool> {
     match answer {
         Ok(marked) => Some(
@@ -151,9 +151,9 @@ fn rows_alone_in_turn<'h, R: Abort + Threads + Sync>(
     citations: &Citations<&'h Refusing<Global>>,
     columns: &Columns<&'h Refusing<Global>>,
 ) -> bool {
-    for number in 1..MOST {
+    for number in 1..MOST_GROWTHS {
         heap.refuse(number);
-        let refused = met(
+        let refused = was_refused(
             rt,
             heap,
             are_full(marked_rows(rt, heap, citations, columns)),

@@ -1,8 +1,8 @@
 //! Runs with two workers and three pieces.
 
-use super::{MOST, met};
+use super::{MOST_GROWTHS, was_refused};
 use crate::calls::{ended, plan_of};
-use crate::ends::Noting;
+use crate::ends::GrowthWatching;
 use crate::heap::Refusing;
 use crate::texts::{
     BASE, COMPRESSED, COMPRESSED_REPORT, DISJOINT, DISJOINT_REPORT, FIRST_REPORT, FIRST_TEXT,
@@ -26,7 +26,7 @@ fn answer<R: Threads + Wait + Sync>(
     output: &[u8],
 ) -> Option<bool> {
     let plan = plan_of(Cutting::Count(3), 2, Choice::All);
-    let mut to = Noting::new(alloc, heap);
+    let mut to = GrowthWatching::new(alloc, heap);
     let end = ended(rt, heap, &plan, &mut text, &mut to);
     if end == Some(RunEnd::NoMemory) && to.calls == 0 {
         return None;
@@ -54,7 +54,7 @@ fn refused_at<R: Abort + Threads + Wait + Sync>(
 ) -> bool {
     heap.refuse(number);
     let first = answer(rt, alloc, heap, text, output);
-    let refused = met(rt, heap, first);
+    let refused = was_refused(rt, heap, first);
     let again = answer(rt, alloc, heap, text, output);
     assert!(rt; again == Some(true));
     refused
@@ -70,7 +70,7 @@ fn refused_in_turn<R: Abort + Threads + Wait + Sync>(
     step: u64,
 ) {
     let heap = Refusing::new(alloc);
-    for turn in 0..MOST {
+    for turn in 0..MOST_GROWTHS {
         if !refused_at(
             rt,
             &heap,
@@ -103,7 +103,7 @@ fn a_run_without_memory_writes_nothing(rt: HostRuntime) {
 
 /// A database of `count` theorems. Its report is written in several pieces, and several threads
 /// compute its rows.
-fn many(alloc: Global, count: u32) -> Result<Vec<u8>, AllocError> {
+fn many_theorems(alloc: Global, count: u32) -> Result<Vec<u8>, AllocError> {
     let mut text = BASE.to_vec(alloc)?;
     for number in 0..count {
         text.push(b't')?;
@@ -126,7 +126,7 @@ fn output_of<R: Threads + Wait + Sync>(rt: &R, alloc: Global, mut text: &[u8]) -
 #[test]
 fn a_long_report_takes_no_memory_while_it_is_written(rt: HostRuntime) -> Result<(), AllocError> {
     let alloc = rt.alloc();
-    let text = many(alloc, 1500)?;
+    let text = many_theorems(alloc, 1500)?;
     let output = output_of(&rt, alloc, &text);
     assert!(&rt; output.len() > 30_000);
     refused_in_turn(&rt, alloc, &text, &output, 61);

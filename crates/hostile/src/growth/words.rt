@@ -1,6 +1,6 @@
 //! The calls that turn a text into statements.
 
-use super::{MOST, met};
+use super::{MOST_GROWTHS, was_refused};
 use crate::heap::Refusing;
 use crate::texts::{FIRST_TEXT, THROUGH};
 use mm_lex::{Cuts, Lexed, Piece, Word, join, lex, lex_piece};
@@ -28,9 +28,9 @@ fn is_cut<A: Allocator + Copy>(answer: Result<Cuts<A>, AllocError>) -> Option<bo
 #[test]
 fn equal_cuts_without_memory(rt: HostRuntime) {
     let heap = Refusing::new(rt.alloc());
-    for number in 1..MOST {
+    for number in 1..MOST_GROWTHS {
         heap.refuse(number);
-        let refused = met(&rt, &heap, is_cut(Cuts::equal(&heap, 170, 3)));
+        let refused = was_refused(&rt, &heap, is_cut(Cuts::equal(&heap, 170, 3)));
         assert!(&rt; is_cut(Cuts::equal(&heap, 170, 3)) == Some(true));
         if !refused {
             assert!(&rt; number > 1);
@@ -58,9 +58,9 @@ fn is_beginning<A: Allocator>(answer: Result<Piece<A>, AllocError>) -> Option<bo
 #[test]
 fn a_piece_without_memory(rt: HostRuntime) {
     let heap = Refusing::new(rt.alloc());
-    for number in 1..MOST {
+    for number in 1..MOST_GROWTHS {
         heap.refuse(number);
-        let refused = met(
+        let refused = was_refused(
             &rt,
             &heap,
             is_beginning(lex_piece(&heap, FIRST_TEXT, 0, PLACE)),
@@ -106,8 +106,8 @@ fn joined(
 #[test]
 fn pieces_joined_without_memory(rt: HostRuntime) -> Result<(), AllocError> {
     let heap = Refusing::new(rt.alloc());
-    for number in 1..MOST {
-        let refused = met(&rt, &heap, is_summary(joined(&heap, Some(number))?));
+    for number in 1..MOST_GROWTHS {
+        let refused = was_refused(&rt, &heap, is_summary(joined(&heap, Some(number))?));
         assert!(&rt; is_summary(joined(&heap, None)?) == Some(true));
         if !refused {
             assert!(&rt; number > 1);
@@ -134,9 +134,9 @@ fn is_lexed<A: Allocator>(answer: Result<Lexed<A>, AllocError>) -> Option<bool> 
 fn lexing_without_memory(rt: HostRuntime) -> Result<(), AllocError> {
     let heap = Refusing::new(rt.alloc());
     let cuts = Cuts::equal(&heap, FIRST_TEXT.len(), 3)?;
-    for number in 1..MOST {
+    for number in 1..MOST_GROWTHS {
         heap.refuse(number);
-        let refused = met(&rt, &heap, is_lexed(lex(&rt, &heap, FIRST_TEXT, &cuts)));
+        let refused = was_refused(&rt, &heap, is_lexed(lex(&rt, &heap, FIRST_TEXT, &cuts)));
         assert!(&rt; is_lexed(lex(&rt, &heap, FIRST_TEXT, &cuts)) == Some(true));
         if !refused {
             assert!(&rt; number > 1);
@@ -166,9 +166,9 @@ fn statements_without_memory(rt: HostRuntime) -> Result<(), AllocError> {
     let cuts = Cuts::equal(&heap, THROUGH.len(), 1)?;
     let lexed = lex(&rt, &heap, THROUGH, &cuts)?;
     let tokens = lexed.tokens.to_vec(&heap)?;
-    for number in 1..MOST {
+    for number in 1..MOST_GROWTHS {
         heap.refuse(number);
-        let refused = met(&rt, &heap, is_read(read(&heap, THROUGH, &lexed, false)));
+        let refused = was_refused(&rt, &heap, is_read(read(&heap, THROUGH, &lexed, false)));
         assert!(&rt; lexed.tokens.as_slice() == tokens.as_slice());
         assert!(&rt; lexed.fault.is_none());
         assert!(&rt; is_read(read(&heap, THROUGH, &lexed, false)) == Some(true));

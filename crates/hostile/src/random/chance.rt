@@ -2,13 +2,15 @@
 
 ghost use Rattle.std.specs.Prelude.{◌<◌};
 
-/// A source of pseudorandom numbers; the same seed always gives the same numbers.
+/// A source of pseudorandom numbers, the generator SplitMix64 with its constants. The same seed
+/// always gives the same numbers.
 #[derive(Drop)]
 pub(crate) struct Chance {
     state: u64,
 }
 
 impl Chance {
+    /// A source with this seed.
     pub(crate) fn new(seed: u64) -> Chance {
         Chance { state: seed }
     }

@@ -4,7 +4,7 @@ use super::chance::Chance;
 use super::words::{Word, Words};
 
 /// What is inserted into texts: words that occur in few texts, and statements with a fault.
-const ODD: [Word; 54] = [
+const INSERTED: [Word; 54] = [
     b"$c",
     b"$v",
     b"$f",
@@ -62,13 +62,14 @@ const ODD: [Word; 54] = [
 ];
 
 /// Theorems with faults of compressed proofs that the other changes rarely cause.
-const LETTERS: [Word; 2] = [b"x1 $p wff p $= ( ) ZA $.", b"x1 $p wff p $= ( ) B $."];
+const COMPRESSED_FAULTS: [Word; 2] = [b"x1 $p wff p $= ( ) ZA $.", b"x1 $p wff p $= ( ) B $."];
 
-fn odd_by(chance: &mut Chance) -> Word {
+/// One of the words or statements that are inserted.
+fn inserted_by(chance: &mut Chance) -> Word {
     if chance.once_in(12) {
-        LETTERS[chance.below(2)]
+        COMPRESSED_FAULTS[chance.below(2)]
     } else {
-        ODD[chance.below(54)]
+        INSERTED[chance.below(54)]
     }
 }
 
@@ -84,7 +85,7 @@ fn beginning_from(words: &[Word], from: usize) -> usize {
 }
 
 /// Inserts a word at this place, which may be the end. Does nothing if there is no such place.
-fn put(words: &mut Words, word: Word, at: usize) {
+fn insert(words: &mut Words, word: Word, at: usize) {
     if at <= words.list.len() {
         let _ = words.list.insert(at, word);
     }
@@ -103,17 +104,17 @@ fn change(words: &mut Words, chance: &mut Chance) {
         0 => {
             let _ = words.list.remove(at);
         }
-        1 => put(words, word, at),
+        1 => insert(words, word, at),
         2 => words.list[at] = words.list[chance.below(count)],
-        3 => words.list[at] = odd_by(chance),
+        3 => words.list[at] = inserted_by(chance),
         4 => {
             let _ = words.list.remove(at);
-            put(words, word, at + 1);
+            insert(words, word, at + 1);
         }
-        5 => put(words, odd_by(chance), at),
+        5 => insert(words, inserted_by(chance), at),
         _ => {
             let at = beginning_from(&words.list, at);
-            put(words, odd_by(chance), at);
+            insert(words, inserted_by(chance), at);
         }
     }
 }

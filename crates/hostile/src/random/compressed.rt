@@ -5,7 +5,7 @@ use super::formulas::FLOATING;
 use super::words::{Word, Words};
 use std::alloc::Global;
 
-/// The letters that end a number; the next list has those before them.
+/// The letters that end a number. `EARLIER_LETTERS` has those that may be before them.
 const LAST_LETTERS: [Word; 20] = [
     b"A", b"B", b"C", b"D", b"E", b"F", b"G", b"H", b"I", b"J", b"K", b"L", b"M", b"N", b"O", b"P",
     b"Q", b"R", b"S", b"T",

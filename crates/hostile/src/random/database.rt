@@ -2,7 +2,7 @@
 
 use super::chance::Chance;
 use super::compressed::compressed;
-use super::formulas::{ALL, Choice, Formula, conditional, formula_by};
+use super::formulas::{ALL_VARIABLES, Formula, VariableRange, conditional, formula_by};
 use super::words::{Word, Words};
 use std::alloc::Global;
 
@@ -39,7 +39,7 @@ struct Theorem {
 
 /// A formula, with the proof that it is one.
 fn syntax(alloc: Global, chance: &mut Chance) -> Theorem {
-    let formula = formula_by(alloc, ALL, chance);
+    let formula = formula_by(alloc, ALL_VARIABLES, chance);
     let mut proof = Words::new(alloc);
     proof.add_all(&formula.proof.list);
     Theorem {
@@ -53,8 +53,8 @@ fn syntax(alloc: Global, chance: &mut Chance) -> Theorem {
 
 /// An instance of the first axiom.
 fn instance(alloc: Global, chance: &mut Chance) -> Theorem {
-    let first = formula_by(alloc, ALL, chance);
-    let second = formula_by(alloc, ALL, chance);
+    let first = formula_by(alloc, ALL_VARIABLES, chance);
+    let second = formula_by(alloc, ALL_VARIABLES, chance);
     let mut proof = Words::new(alloc);
     proof.add_all(&first.proof.list);
     proof.add_all(&second.proof.list);
@@ -71,8 +71,8 @@ fn instance(alloc: Global, chance: &mut Chance) -> Theorem {
 /// A conditional whose second part is the hypothesis, proved by the theorem of the head, or by
 /// detachment as that theorem is.
 fn consequent(alloc: Global, label: Word, chance: &mut Chance) -> Theorem {
-    let first = formula_by(alloc, ALL, chance);
-    let second = formula_by(alloc, ALL, chance);
+    let first = formula_by(alloc, ALL_VARIABLES, chance);
+    let second = formula_by(alloc, ALL_VARIABLES, chance);
     let formula = conditional(alloc, &second, &first);
     let mut proof = Words::new(alloc);
     proof.add_all(&first.proof.list);
@@ -97,8 +97,8 @@ fn consequent(alloc: Global, label: Word, chance: &mut Chance) -> Theorem {
 
 /// A conditional of two formulas without a common variable.
 fn with_disjoint(alloc: Global, chance: &mut Chance) -> Theorem {
-    let first = formula_by(alloc, Choice { first: 0, count: 1 }, chance);
-    let second = formula_by(alloc, Choice { first: 1, count: 1 }, chance);
+    let first = formula_by(alloc, VariableRange { first: 0, count: 1 }, chance);
+    let second = formula_by(alloc, VariableRange { first: 1, count: 1 }, chance);
     let mut proof = Words::new(alloc);
     proof.add_all(&first.proof.list);
     proof.add_all(&second.proof.list);

@@ -18,46 +18,47 @@ pub(crate) struct Formula {
 
 /// Which variables a formula may have: `count` of them, from the number `first` on.
 #[derive(Clone, Copy)]
-pub(crate) struct Choice {
+pub(crate) struct VariableRange {
     pub first: usize,
     pub count: usize,
 }
 
 /// All variables.
-pub(crate) const ALL: Choice = Choice { first: 0, count: 3 };
+pub(crate) const ALL_VARIABLES: VariableRange = VariableRange { first: 0, count: 3 };
 
-fn add_variable(formula: &mut Formula, choice: Choice, chance: &mut Chance) {
-    let number = choice.first.min(2) + chance.below(choice.count.max(1).min(3));
+/// Appends one of these variables.
+fn add_variable(formula: &mut Formula, range: VariableRange, chance: &mut Chance) {
+    let number = range.first.min(2) + chance.below(range.count.max(1).min(3));
     formula.symbols.add(VARIABLES[number % 3]);
     formula.proof.add(FLOATING[number % 3]);
 }
 
 /// Appends a variable, or a conditional of two.
-fn add_small(formula: &mut Formula, choice: Choice, chance: &mut Chance) {
+fn add_small(formula: &mut Formula, range: VariableRange, chance: &mut Chance) {
     if chance.once_in(2) {
-        return add_variable(formula, choice, chance);
+        return add_variable(formula, range, chance);
     }
     formula.symbols.add(b"(");
-    add_variable(formula, choice, chance);
+    add_variable(formula, range, chance);
     formula.symbols.add(b"->");
-    add_variable(formula, choice, chance);
+    add_variable(formula, range, chance);
     formula.symbols.add(b")");
     formula.proof.add(b"wi");
 }
 
 /// A formula with up to four occurrences of these variables.
-pub(crate) fn formula_by(alloc: Global, choice: Choice, chance: &mut Chance) -> Formula {
+pub(crate) fn formula_by(alloc: Global, range: VariableRange, chance: &mut Chance) -> Formula {
     let mut formula = Formula {
         symbols: Words::new(alloc),
         proof: Words::new(alloc),
     };
     if chance.once_in(2) {
-        add_small(&mut formula, choice, chance);
+        add_small(&mut formula, range, chance);
     } else {
         formula.symbols.add(b"(");
-        add_small(&mut formula, choice, chance);
+        add_small(&mut formula, range, chance);
         formula.symbols.add(b"->");
-        add_small(&mut formula, choice, chance);
+        add_small(&mut formula, range, chance);
         formula.symbols.add(b")");
         formula.proof.add(b"wi");
     }

@@ -69,7 +69,7 @@ fn run_by<R: Threads + Wait + Sync>(
     (end, written)
 }
 
-/// The same in one piece and by one worker, with all sections.
+/// How a run ends and what it writes, in one piece and by one worker, with all sections.
 fn run_plainly<R: Threads + Wait + Sync>(
     rt: &R,
     alloc: Global,
@@ -169,7 +169,7 @@ fn text_by(alloc: Global, chance: &mut Chance) -> (Vec<u8>, bool) {
     (text, is_unchanged)
 }
 
-/// How many texts were accepted, and each fault that texts had.
+/// How many texts were accepted, and how many had the fault of each code, by its number.
 #[derive(Drop)]
 struct Tally {
     accepted: usize,
@@ -177,6 +177,7 @@ struct Tally {
 }
 
 impl Tally {
+    /// Counts a text whose run ended so.
     fn count(&mut self, end: Option<RunEnd>) {
         match end {
             Some(RunEnd::Accepted) => self.accepted = self.accepted.saturating_add(1),

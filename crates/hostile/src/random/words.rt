@@ -13,16 +13,19 @@ pub(crate) struct Words {
 }
 
 impl Words {
+    /// No word.
     pub(crate) fn new(alloc: Global) -> Words {
         Words {
             list: Vec::new(alloc),
         }
     }
 
+    /// Appends a word.
     pub(crate) fn add(&mut self, word: Word) {
         let _ = self.list.push(word);
     }
 
+    /// Appends words.
     pub(crate) fn add_all(&mut self, words: &[Word]) {
         for word in words {
             self.add(word);

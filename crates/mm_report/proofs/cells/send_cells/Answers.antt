@@ -13,22 +13,22 @@ loop-word-init g c =
       within = omega arith;
       sent =
           sent_as _
-          (ap (λ n. map (cell_text c.args.marked.now c.args.i) (range_with_len 0 n)) none)
+          (ap (λ n. map (cell_text c.args.marked.now c.args.row) (range_with_len 0 n)) none)
           (sent_none (g.W.Write.contents c.args.to.now) c.args.sink.now);
     }
 
 pub loop-word-preserved : goal.loop-word-preserved
 loop-word-preserved g c =
-    let f = cell_text c.args.marked.now c.args.i in
+    let f = cell_text c.args.marked.now c.args.row in
     let columns = c.args.marked.now.columns in
     let word = c.loop-word.word in
-    let count = c.min-count.result in
+    let count = c.min-word_count.result in
     let words = c.div_ceil-words.ensures in
     let is = c.columns.ensures in
     let same = c.columns-in-loop-word.ensures in
     let inside = c.loop-word-test.true in
-    let least = c.min-count.ensures in
-    let long = c.min-count.array_long in
+    let least = c.min-word_count.ensures in
+    let long = c.min-word_count.array_long in
     let shown = c.min.ensures in
     let few : 64 * count ≤ length c.loop-word.digits = omega (arith, least, long) in
     let part =
@@ -54,12 +54,12 @@ loop-word-preserved g c =
 
 pub returns : goal.returns
 returns g c =
-    let f = cell_text c.args.marked.now c.args.i in
+    let f = cell_text c.args.marked.now c.args.row in
     let columns = c.args.marked.now.columns in
     let words = c.div_ceil-words.ensures in
     let is = c.columns.ensures in
     let past = c.loop-word-test.false in
     let all : min (64 * c.loop-word.word) columns ≡ columns = omega (arith, words, is, past) in
     sent_as _
-    (ap (λ n. map f (range_with_len 0 n)) all ∙ cells_are c.args.marked.now c.args.i)
+    (ap (λ n. map f (range_with_len 0 n)) all ∙ cells_are c.args.marked.now c.args.row)
     c.loop-word.invariant.sent

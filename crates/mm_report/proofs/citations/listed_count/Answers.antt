@@ -2,7 +2,8 @@ use Rattle.std.proofs.Common.{◌<◌, length, sym, ◌∙◌, arith}
 use Rattle.std.specs.Option.{option_map}
 use Rattle.mm_report.proofs.CitationLaw.{count_more, count_same}
 use Rattle.mm_report.proofs.citations.listed_count.Goals as goal
-use Rattle.mm_report.proofs.citations.listed_count.Goals.{then-has_chosen_typecode, else-has_chosen_typecode}
+use Rattle.mm_report.proofs.citations.listed_count.Goals.{then-has_chosen_typecode}
+use Rattle.mm_report.proofs.citations.listed_count.Goals.{else-has_chosen_typecode}
 
 pub loop-statement-preserved : goal.loop-statement-preserved
 loop-statement-preserved g c =

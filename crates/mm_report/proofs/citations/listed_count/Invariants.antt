@@ -1,6 +1,6 @@
 use Rattle.std.proofs.Common.{◌≡◌, ◌≤◌, length}
 use Rattle.std.specs.Option.{option_map}
-use Rattle.mm_report.proofs.CitationLaw.{first}
+use Rattle.mm_report.proofs.CitationLaw.{listed_before}
 use Rattle.mm_report.proofs.citations.listed_count.Given as goal
 
 abbrev pub invariant-loop-statement : goal.invariant-loop-statement
@@ -8,5 +8,6 @@ invariant-loop-statement g l = record {
   few : l.count ≤ l.statement-index;
   counted : l.count
       ≡ length
-      (first l.database.statements (option_map (λ w. w.now) l.only) l.cited l.statement-index);
+      (listed_before l.database.statements (option_map (λ w. w.now) l.only) l.cited
+      l.statement-index);
 }

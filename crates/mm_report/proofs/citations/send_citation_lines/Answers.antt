@@ -11,8 +11,8 @@ use Rattle.mm_report.specs.Rows.{AreAssertions, citing_row, listed_labels}
 use Rattle.mm_report.proofs.SentLaw.{sent_none, sent_more, sent_as}
 use Rattle.mm_report.proofs.citations.send_citation_lines.Goals as goal
 
-pub loop-i-init : goal.loop-i-init
-loop-i-init g c =
+pub loop-row-init : goal.loop-row-init
+loop-row-init g c =
     record {
       within = omega arith;
       sent = sent_none (g.W.Write.contents c.args.to.now) c.args.sink.now;
@@ -20,15 +20,15 @@ loop-i-init g c =
 
 pub send_citation_line-requires : goal.send_citation_line-requires
 send_citation_line-requires g c =
-    let l : c.loop-i.i < length c.args.citations.now.theorems = omega arith in
+    let l : c.loop-row.row < length c.args.citations.now.theorems = omega arith in
     subst (λ (xs : List ℕ). AreAssertions c.args.database.now.statements xs)
-    (sym c.of.ensures.list) (c.requires.cited.assertions c.loop-i.i l)
+    (sym c.of.ensures.list) (c.requires.cited.assertions c.loop-row.row l)
 
-pub loop-i-preserved : goal.loop-i-preserved
-loop-i-preserved g c =
+pub loop-row-preserved : goal.loop-row-preserved
+loop-row-preserved g c =
     let db = c.args.database.now.statements in
     let only = option_map (λ w. w.now) c.args.only in
-    let i = c.loop-i.i in
+    let i = c.loop-row.row in
     let f : ℕ → CitingRow =
     λ k. citing_row db only c.args.citations.now (slice_index_or c.args.labels.now k []) k in
     let more =
@@ -36,20 +36,20 @@ loop-i-preserved g c =
     ∙ sym (flat_map_more citation_line [] (map f (range_with_len 0 i)) (f i)) in
     let line =
     ap₂ (λ (w : Bytes) (xs : List ℕ). list_line w (listed_labels db only xs))
-    c.label.ensures c.of.ensures.list in
+    c.label-label.ensures c.of.ensures.list in
     record {
       within = omega arith;
       sent = sent_as _ (sym more)
-          (sent_more c.loop-i.invariant.sent (sent_as _ line c.send_citation_line.ensures));
+          (sent_more c.loop-row.invariant.sent (sent_as _ line c.send_citation_line.ensures));
     }
 
 pub returns : goal.returns
 returns g c =
     let db = c.args.database.now.statements in
     let only = option_map (λ w. w.now) c.args.only in
-    let end : c.loop-i.i ≡ length c.args.citations.now.theorems = omega arith in
+    let end : c.loop-row.row ≡ length c.args.citations.now.theorems = omega arith in
     sent_as _
     (ap (λ n. flat_map citation_line
     (map (λ i. citing_row db only c.args.citations.now
     (slice_index_or c.args.labels.now i []) i) (range_with_len 0 n))) end)
-    c.loop-i.invariant.sent
+    c.loop-row.invariant.sent

@@ -7,11 +7,11 @@ use Rattle.mm_report.specs.Rows.{citing_row}
 use Rattle.mm_report.specs.Sent.{Sent}
 use Rattle.mm_report.proofs.citations.send_citation_lines.Given as goal
 
-abbrev pub invariant-loop-i : goal.invariant-loop-i
-invariant-loop-i g l = record {
-  within : l.i ≤ length l.citations.theorems;
+abbrev pub invariant-loop-row : goal.invariant-loop-row
+invariant-loop-row g l = record {
+  within : l.row ≤ length l.citations.theorems;
   sent : Sent (g.W.Write.contents l.fn.to) (g.W.Write.contents l.to) l.fn.sink l.sink
       (flat_map citation_line
       (map (λ i. citing_row l.database.statements (option_map (λ w. w.now) l.only) l.citations
-      (slice_index_or l.labels i []) i) (range_with_len 0 l.i)));
+      (slice_index_or l.labels i []) i) (range_with_len 0 l.row)));
 }

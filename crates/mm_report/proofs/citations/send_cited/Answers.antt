@@ -7,9 +7,10 @@ use Rattle.mm_spec.specs.Report.{separated}
 use Rattle.mm_spec.specs.Output.{label_at}
 use Rattle.mm_report.specs.Rows.{listed, next_label}
 use Rattle.mm_report.proofs.SentLaw.{sent_more, sent_as}
-use Rattle.mm_report.proofs.CitationLaw.{labels, first_same, labels_more, separated_next}
+use Rattle.mm_report.proofs.CitationLaw.{labels, listed_before_same, labels_more, separated_next}
 use Rattle.mm_report.proofs.citations.send_cited.Goals as goal
-use Rattle.mm_report.proofs.citations.send_cited.Goals.{then-has_chosen_typecode, else-has_chosen_typecode}
+use Rattle.mm_report.proofs.citations.send_cited.Goals.{then-has_chosen_typecode}
+use Rattle.mm_report.proofs.citations.send_cited.Goals.{else-has_chosen_typecode}
 
 pub loop-statement-preserved : goal.loop-statement-preserved
 loop-statement-preserved g c =
@@ -43,7 +44,7 @@ loop-statement-preserved g c =
       | else-has_chosen_typecode w ↦
           let same =
           ap (λ (xs : List ℕ). map (label_at db) xs)
-          (first_same db only cited i l
+          (listed_before_same db only cited i l
           (sym c.has_chosen_typecode.ensures ∙ w.if-has_chosen_typecode.false)) in
           rw (w.is_first-is, w.sink-is, w.to-is) (record {
             none = λ e. same ∙ inv.none e;

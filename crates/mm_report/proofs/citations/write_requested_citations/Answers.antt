@@ -1,6 +1,5 @@
-use Rattle.std.proofs.Common.{◌≡◌, ◌∙◌, ℕ, Bool, List, Option, [], ap, ap₂, sym, length, map, subst}
+use Rattle.std.proofs.Common.{◌≡◌, ◌∙◌, ℕ, List, Option, [], ap, ap₂, sym, length, map, subst}
 use Rattle.std.specs.Prelude.{slice_index_or, flat_map}
-use Rattle.std.specs.Option.{option_copied}
 use Rattle.std.proofs.lemmas.List.{length-map}
 use Rattle.std.proofs.lemmas.List.FromFn.{length-map-range_with_len}
 use Rattle.mm_database.specs.Database.{Contents}
@@ -39,9 +38,9 @@ returns g c =
     let db = c.args.database.now.statements in
     let request = c.args.request.now in
     let opened =
-    subst (λ (r : Request). c.open_theorems-opened.result
+    subst (λ (r : Request). c.open_theorems-open_columns.result
     ≡ open_theorems r.with_open c.args.database.now c.args.chosen.now) c.request.view_is
-    c.open_theorems-opened.ensures in
+    c.open_theorems-open_columns.ensures in
     let only = request.only in
     let citing = c.args.citations.now in
     let names = c.new-labels.result in
@@ -50,17 +49,20 @@ returns g c =
     ∙ sym (length-map-range_with_len
     (λ i. citing_row db only citing (slice_index_or names i []) i) 0 (length citing.theorems)) in
     let first =
-    ap (λ (n : ℕ). head request.form c.len-axioms.result c.open_theorems-opened.result n) count in
+    ap (λ (n : ℕ). head request.form c.len-axioms.result c.open_theorems-open_columns.result n)
+    count in
     let listed =
     ap (λ (r : Request). flat_map citation_line (citing_rows db r.only citing names))
     c.request.view_is in
     let sent =
     sent_as _
-    (same_report request c.args.database.now c.args.chosen.now citing c.open_theorems-opened.result c.len-axioms.result names opened
+    (same_report request c.args.database.now c.args.chosen.now citing
+    c.open_theorems-open_columns.result c.len-axioms.result names opened
     c.len-axioms.ensures.len c.new-labels.ensures)
     (sent_more
     (sent_more (sent_as _ first c.send_head.ensures)
-    (sent_more c.send_line.ensures (sent_as _ listed c.send_citation_lines.ensures))) c.send_line-2.ensures) in
+    (sent_more c.send_line.ensures (sent_as _ listed c.send_citation_lines.ensures)))
+    c.send_line-2.ensures) in
     record {
       ok =
           written c.finish.result c.new-sink.ensures sent c.finish.ensures.sent

@@ -4,7 +4,7 @@ use Rattle.std.specs.Int.{div_ceil}
 use Rattle.std.proofs.lemmas.List.{length-take-le}
 use Rattle.std.proofs.lemmas.List.FromFn.{take-map-range_with_len}
 use Rattle.mm_report.proofs.SentLaw.{sent_none, sent_more, sent_as}
-use Rattle.mm_report.proofs.DigitLaw.{digit_text, digits_append, row_long}
+use Rattle.mm_report.proofs.DigitLaw.{digit_text, digits_append, marks_length}
 use Rattle.mm_report.proofs.digits.send_digits.Goals as goal
 
 pub loop-word-init : goal.loop-word-init
@@ -14,22 +14,22 @@ loop-word-init g c =
       within = omega arith;
       sent =
           sent_as _
-          (ap (λ n. map (digit_text c.args.marked.now c.args.i) (range_with_len 0 n)) none)
+          (ap (λ n. map (digit_text c.args.marked.now c.args.row) (range_with_len 0 n)) none)
           (sent_none (g.W.Write.contents c.args.to.now) c.args.sink.now);
     }
 
 pub loop-word-preserved : goal.loop-word-preserved
 loop-word-preserved g c =
-    let f = digit_text c.args.marked.now c.args.i in
+    let f = digit_text c.args.marked.now c.args.row in
     let columns = c.args.marked.now.columns in
     let word = c.loop-word.word in
-    let count = c.min-count.result in
+    let count = c.min-word_count.result in
     let words = c.div_ceil-words.ensures in
     let is = c.columns.ensures in
     let same = c.columns-in-loop-word.ensures in
     let inside = c.loop-word-test.true in
-    let least = c.min-count.ensures in
-    let long = c.min-count.array_long in
+    let least = c.min-word_count.ensures in
+    let long = c.min-word_count.array_long in
     let shown = c.min.ensures in
     let all = c.div_ceil.ensures in
     let few : 16 * count ≤ length c.loop-word.digits = omega (arith, least, long) in
@@ -57,9 +57,9 @@ loop-word-preserved g c =
 
 pub returns : goal.returns
 returns g c =
-    let f = digit_text c.args.marked.now c.args.i in
+    let f = digit_text c.args.marked.now c.args.row in
     let columns = c.args.marked.now.columns in
-    let long = row_long c.args.marked.now c.args.i in
+    let long = marks_length c.args.marked.now c.args.row in
     let words = c.div_ceil-words.ensures in
     let is = c.columns.ensures in
     let past = c.loop-word-test.false in

@@ -8,12 +8,12 @@ use Rattle.mm_spec.specs.Report.{has_section, section, head, line, matrix_line, 
 use Rattle.mm_spec.specs.Report.{usage_lines}
 use Rattle.mm_report.specs.Rows.{rows_of, open_theorems}
 use Rattle.mm_report.proofs.SentLaw.{sent_more, sent_as, written, written_part}
-use Rattle.mm_report.proofs.TextLaw.{rows_length, same_report, labels_long, without_usage}
+use Rattle.mm_report.proofs.TextLaw.{rows_length, same_report, labels_length, without_usage}
 use Rattle.mm_report.proofs.text.write_rows.Goals as goal
 
 pub send_rows-requires : goal.send_rows-requires
 send_rows-requires g c =
-    labels_long c.args.database.now.statements c.args.marked.now c.new-labels.result
+    labels_length c.args.database.now.statements c.args.marked.now c.new-labels.result
     c.new-labels.ensures c.requires.rows
 
 pub returns : goal.returns
@@ -22,28 +22,30 @@ returns g c =
     let m = c.args.marked.now in
     let request = c.args.request.now in
     let opened =
-    subst (λ (r : Request). c.open_theorems-opened.result
+    subst (λ (r : Request). c.open_theorems-open_columns.result
     ≡ open_theorems r.with_open c.args.database.now c.args.chosen.now) c.request.view_is
-    c.open_theorems-opened.ensures in
+    c.open_theorems-open_columns.ensures in
     let names = c.new-labels.result in
     let heads = map (label_at db) c.args.chosen.now in
     let rows = rows_of m names in
     let count =
     rows_length m names c.len-theorems.result c.len-theorems.ensures
-    (labels_long db m names c.new-labels.ensures c.requires.rows) in
+    (labels_length db m names c.new-labels.ensures c.requires.rows) in
     let wide = c.len-axioms.ensures.len ∙ sym (length-map c.args.chosen.now (label_at db)) in
-    let first = ap₂ (λ (a b : ℕ). head request.form a c.open_theorems-opened.result b) wide count in
-    let none : section (has_section request.choice Usage) (codes "usage") (usage_lines rows 0 heads)
-    ≡ [] =
+    let first = ap₂ (λ (a b : ℕ). head request.form a c.open_theorems-open_columns.result b) wide
+    count in
+    let none : section (has_section request.choice Usage) (codes "usage") (usage_lines rows 0 heads) ≡ [] =
     ap (λ (b : Bool). section b (codes "usage") (usage_lines rows 0 heads)) c.requires.no_usage in
     let sent =
     sent_as _
-    (without_usage (head request.form (length heads) c.open_theorems-opened.result (length rows))
+    (without_usage (head request.form (length heads) c.open_theorems-open_columns.result
+    (length rows))
     (section (has_section request.choice Matrix) (codes "matrix")
     (flat_map (matrix_line request.form) rows))
     (section (has_section request.choice Counts) (codes "counts") (flat_map count_line rows)) _
     (line (codes "end")) none
-    ∙ same_report request c.args.database.now c.args.chosen.now m c.open_theorems-opened.result names heads opened
+    ∙ same_report request c.args.database.now c.args.chosen.now m
+    c.open_theorems-open_columns.result names heads opened
     c.new-labels.ensures refl)
     (sent_more (sent_more (sent_as _ first c.send_head.ensures) c.send_rows.ensures)
     c.send_line.ensures) in

@@ -1,7 +1,8 @@
 use Rattle.std.proofs.Common.{◌+◌, ◌*◌, ◌/◌, ◌%◌, ◌^◌, arith, ap, sym, subst, ◌∙◌, w64}
 use Rattle.std.proofs.lemmas.Nat.Bits.{bit_at-trailing_zeros, bit_at-zero}
 use Rattle.std.specs.Int.{bit_at}
-use Rattle.mm_rows.proofs.BitLaw.{Seeking, row_as_set, seek_as_set, seek_as_set_on, found}
+use Rattle.mm_rows.proofs.BitLaw.{Seeking, row_of_sought, seeking_first_sought, seeking_next_sought}
+use Rattle.mm_rows.proofs.BitLaw.{bit_found}
 use Rattle.mm_rows.proofs.BitLaw.{none_below, is_sought, is_not_sought}
 use Rattle.mm_rows.proofs.bits.next_bit.Goals as goal
 
@@ -13,9 +14,10 @@ loop-word-init c =
       few = c.requires;
       begun = omega arith;
       seeking =
-          subst (λ w. Seeking (row_as_set c.args.set c.args.row.now) from (from / 64)
-          (w / 2 ^ (from % 64) * 2 ^ (from % 64) % 2 ^ 64)) (sym c.as_set.ensures)
-          (seek_as_set c.args.set c.args.row.now from c.if-row-at.false (c.type_inv.row _).fits);
+          subst (λ w. Seeking (row_of_sought c.args.set c.args.row.now) from (from / 64)
+          (w / 2 ^ (from % 64) * 2 ^ (from % 64) % 2 ^ 64)) (sym c.sought_bits.ensures)
+          (seeking_first_sought c.args.set c.args.row.now from c.if-row-at.false
+          (c.type_inv.row _).fits);
     }
 
 pub returns-then-word-ne0-clause-some : goal.returns-then-word-ne0-clause-some
@@ -26,7 +28,7 @@ returns-then-word-ne0-clause-some c =
     let t =
     bit_at-trailing_zeros w64 c.loop-word.word (omega arith) c.loop-word.invariant.seeking.fits in
     let f =
-    found (row_as_set set row) c.args.from c.loop-word.at c.loop-word.word _
+    bit_found (row_of_sought set row) c.args.from c.loop-word.at c.loop-word.word _
     c.loop-word.invariant.seeking t.0 t.1 t.2 in
     let small = t.0 in (
       f.0,
@@ -42,9 +44,10 @@ returns-then-row-at-2-clause-none c = λ k lo hi.
     let row = c.args.row.now in
     let end = c.if-row-at-2.true in
     is_not_sought c.args.set row k (omega (arith, hi)) (c.type_inv.row _).fits
-    (none_below (row_as_set c.args.set row) c.args.from c.loop-word.at c.loop-word.word
+    (none_below (row_of_sought c.args.set row) c.args.from c.loop-word.at c.loop-word.word
     c.loop-word.invariant.seeking
-    (λ b lt. ap (λ x. bit_at x b) c.if-word-ne0.false ∙ bit_at-zero b) k lo (omega (arith, hi, end)))
+    (λ b lt. ap (λ x. bit_at x b) c.if-word-ne0.false ∙ bit_at-zero b) k lo
+    (omega (arith, hi, end)))
 
 pub loop-word-preserved : goal.loop-word-preserved
 loop-word-preserved c =
@@ -54,9 +57,9 @@ loop-word-preserved c =
       few = c.requires;
       begun = let b = c.loop-word.invariant.begun in omega arith;
       seeking =
-          subst (Seeking (row_as_set c.args.set row) c.args.from (c.loop-word.at + 1))
-          (sym c.as_set-word.ensures)
-          (seek_as_set_on c.args.set row c.args.from c.loop-word.at c.loop-word.word
+          subst (Seeking (row_of_sought c.args.set row) c.args.from (c.loop-word.at + 1))
+          (sym c.sought_bits-word.ensures)
+          (seeking_next_sought c.args.set row c.args.from c.loop-word.at c.loop-word.word
           c.if-row-at-2.false (c.type_inv.row _).fits c.loop-word.invariant.begun
           c.loop-word.invariant.seeking c.if-word-ne0.false);
     }

@@ -1,5 +1,5 @@
 use Rattle.std.proofs.Common.{◌<◌, ◌≤◌, ◌+◌, ◌-◌, ◌*◌, length}
-use Rattle.mm_rows.proofs.BitLaw.{Seeking, row_as_set}
+use Rattle.mm_rows.proofs.BitLaw.{Seeking, row_of_sought}
 use Rattle.mm_rows.proofs.bits.next_bit.Given as goal
 
 abbrev pub invariant-loop-word : goal.invariant-loop-word
@@ -7,7 +7,7 @@ invariant-loop-word l = record {
   within : l.at < length l.row;
   few : length l.row ≤ 2147483648;
   begun : l.from < 64 * (l.at + 1);
-  seeking : Seeking (row_as_set l.set l.row) l.from l.at l.word;
+  seeking : Seeking (row_of_sought l.set l.row) l.from l.at l.word;
 }
 
 abbrev pub decreases-loop-word : goal.decreases-loop-word

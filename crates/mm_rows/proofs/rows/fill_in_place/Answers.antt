@@ -2,7 +2,7 @@ use Rattle.std.proofs.Common.{ℕ, List, ◌∙◌, ◌++◌, ◌*◌, length, d
 use Rattle.mm_rows.specs.Bits.{words_for}
 use Rattle.mm_rows.specs.BitRows.{IsBitRow, row_at}
 use Rattle.mm_cites.specs.Citing.{theorem_at}
-use Rattle.mm_rows.proofs.PlaceLaw.{ready_before, row_here, row_there}
+use Rattle.mm_rows.proofs.RowPlaceLaw.{ready_before, row_here, row_there}
 use Rattle.std.proofs.lemmas.List.{length-take-le}
 use Rattle.mm_rows.proofs.rows.fill_in_place.Goals as goal
 

@@ -6,12 +6,14 @@ pub loop-i-preserved : goal.loop-i-preserved
 loop-i-preserved c = record {
   from = let f = c.loop-i.invariant.from in omega arith;
   marked =
-      marked_more (length c.args.any.now) c.args.rows c.args.bits.now c.loop-i.any c.or_row.new.into
+      marked_more (length c.args.has_mark.now) c.args.rows c.args.bits.now
+      c.loop-i.has_mark c.or_row.new.into
       (64 * c.args.w) c.loop-i.i (omega arith) c.requires.size (omega arith)
       (omega arith) c.or_row.ensures c.loop-i.invariant.marked;
 }
 
 pub returns : goal.returns
 returns c =
-    all_marked (length c.args.any.now) c.args.rows c.args.bits.now c.loop-i.any c.args.w c.loop-i.i
+    all_marked (length c.args.has_mark.now) c.args.rows c.args.bits.now
+    c.loop-i.has_mark c.args.w c.loop-i.i
     (omega arith) c.loop-i.invariant.marked

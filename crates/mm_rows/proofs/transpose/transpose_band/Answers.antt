@@ -1,7 +1,7 @@
 use Rattle.std.proofs.Common.{◌<◌, ◌+◌, ◌*◌, ◌/◌, length, arith, subst, ap, sym, ◌∙◌}
 use Rattle.mm_rows.specs.Bits.{words_for}
 use Rattle.mm_rows.proofs.BandLaw.{written_skip, written_band}
-use Rattle.mm_rows.specs.Bands.{Written}
+use Rattle.mm_rows.specs.Bands.{ColumnsWritten}
 use Rattle.mm_rows.proofs.transpose.transpose_band.Goals as goal
 
 pub write_columns-requires-clause-written : goal.write_columns-requires-clause-written
@@ -10,9 +10,9 @@ write_columns-requires-clause-written c =
     let band : c.args.w < words_for c.args.rows = omega (arith, b) in
     let first = c.in-Some.ensures.some.0 in
     let less = c.in-Some.ensures.some.3 in
-    written_skip c.args.rows c.args.columns c.args.bits.now c.mark_columns.new.any
+    written_skip c.args.rows c.args.columns c.args.bits.now c.mark_columns.new.has_mark
     c.loop-j.transposed
-    (length c.args.any.now) c.args.w (8 * c.loop-j.at)
+    (length c.args.has_mark.now) c.args.w (8 * c.loop-j.at)
     (8 * (c.in-Some.j / 8)) c.requires.width band c.mark_columns.ensures (omega (arith, first))
     (λ j le lt. less j le (omega arith)) c.loop-j.invariant.written
 
@@ -22,9 +22,9 @@ returns c =
     let band : c.args.w < words_for c.args.rows = omega (arith, b) in
     let end = c.args.columns + 8 * c.loop-j.at in
     let all =
-    written_skip c.args.rows c.args.columns c.args.bits.now c.mark_columns.new.any
+    written_skip c.args.rows c.args.columns c.args.bits.now c.mark_columns.new.has_mark
     c.loop-j.transposed
-    (length c.args.any.now) c.args.w
+    (length c.args.has_mark.now) c.args.w
     (8 * c.loop-j.at) end c.requires.width band c.mark_columns.ensures (omega arith)
     (λ j le lt. c.in_default.ensures.none j le) c.loop-j.invariant.written in
     written_band c.args.rows c.args.columns c.args.bits.now c.loop-j.transposed c.args.w end
@@ -40,7 +40,8 @@ pub loop-j-preserved : goal.loop-j-preserved
 loop-j-preserved c = record {
   within = (let i = c.in-Some.ensures.some.1 in omega (arith, i));
   written =
-      subst (λ n. Written c.args.rows c.args.columns c.args.bits.now c.write_columns.new.transposed
+      subst (λ n. ColumnsWritten c.args.rows c.args.columns c.args.bits.now
+      c.write_columns.new.transposed
       c.args.w n) (omega arith) c.write_columns.ensures;
 }
 

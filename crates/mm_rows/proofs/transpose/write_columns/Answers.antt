@@ -1,6 +1,6 @@
 use Rattle.std.proofs.Common.{ℕ, ◌≡◌, ◌<◌, ◌≤◌, ◌+◌, ◌*◌, arith, subst, length, ap, sym, ◌∙◌}
 use Rattle.mm_rows.specs.Bits.{words_for}
-use Rattle.mm_rows.specs.Bands.{AreRowBytes, Written}
+use Rattle.mm_rows.specs.Bands.{AreRowBytes, ColumnsWritten}
 use Rattle.mm_rows.proofs.BandLaw.{lane_is_word, written_word, written_zero, written_zeros}
 use Rattle.mm_rows.proofs.BandLaw.{word_in_row}
 use Rattle.mm_rows.proofs.transpose.write_columns.Goals as goal
@@ -33,7 +33,7 @@ loop-j-preserved c =
     let zero =
     λ (e : c.lane_bits-word.result ≡ 0). written_zero rows columns bits c.loop-j.transposed w j
     c.lane_bits-word.result band is e h.written in
-    let more : Written rows columns bits c.if-word-ne0.transposed w (j + 1) =
+    let more : ColumnsWritten rows columns bits c.if-word-ne0.transposed w (j + 1) =
     elim c.if-word-ne0.branch [
       | then-word-ne0 b ↦ rw (b.transposed-is, c.div_ceil-down.ensures) word
       | else-word-ne0 b ↦ rw b.transposed-is (zero b.if-word-ne0.false)

@@ -1,5 +1,5 @@
 use Rattle.std.proofs.Common.{◌≤◌, ◌+◌, ◌*◌}
-use Rattle.mm_rows.specs.Bands.{Written}
+use Rattle.mm_rows.specs.Bands.{ColumnsWritten}
 use Rattle.mm_rows.proofs.transpose.write_columns.Given as goal
 
 abbrev pub invariant-loop-j : goal.invariant-loop-j
@@ -7,5 +7,5 @@ invariant-loop-j l =
     record {
       from : 8 * l.at ≤ l.j;
       within : l.j ≤ 8 * l.at + 8;
-      written : Written l.rows l.columns l.bits l.transposed l.w l.j;
+      written : ColumnsWritten l.rows l.columns l.bits l.transposed l.w l.j;
     }

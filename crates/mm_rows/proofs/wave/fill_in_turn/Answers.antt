@@ -2,7 +2,7 @@ use Rattle.std.proofs.Common.{◌∙◌, length, get_or, arith, refl}
 use Rattle.mm_rows.specs.Bits.{words_for}
 use Rattle.mm_rows.specs.BitRows.{row_at}
 use Rattle.mm_rows.proofs.TransposeLaw.{row_end}
-use Rattle.mm_rows.proofs.WaveLaw.{made_more, ready_still}
+use Rattle.mm_rows.proofs.WaveLaw.{filled_more, ready_still}
 use Rattle.mm_rows.proofs.wave.fill_in_turn.Goals as goal
 
 pub fill_in_place-requires-clause-fits : goal.fill_in_place-requires-clause-fits
@@ -25,6 +25,6 @@ loop-k-preserved g c =
     let rows = c.args.rows.now in
     let i = get_or rows k 0 in
     let row = row_at c.fill_in_place.new.bits (words_for (length c.args.columns.now)) i in
-    made_more c.args.citations.now c.args.columns.now rows k c.args.bits.now c.loop-k.bits
+    filled_more c.args.citations.now c.args.columns.now rows k c.args.bits.now c.loop-k.bits
     c.fill_in_place.new.bits row i refl c.fill_in_place.ensures.row
     (omega arith) refl c.fill_in_place.ensures.others c.loop-k.invariant

@@ -1,5 +1,5 @@
-use Rattle.mm_rows.specs.Waves.{AreMade}
+use Rattle.mm_rows.specs.Waves.{AreFilled}
 use Rattle.mm_rows.proofs.wave.fill_in_turn.Given as goal
 
 abbrev pub invariant-loop-k : goal.invariant-loop-k
-invariant-loop-k g l = AreMade l.citations l.columns l.rows l.k l.initial.bits l.bits
+invariant-loop-k g l = AreFilled l.citations l.columns l.rows l.k l.initial.bits l.bits

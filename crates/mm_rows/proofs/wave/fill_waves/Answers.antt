@@ -2,7 +2,7 @@ use Rattle.std.proofs.Common.{ℕ, List, ◌≡◌, ◌<◌, ◌≤◌, ◌+◌,
 use Rattle.std.proofs.Common.{subst, sym, ap, arith}
 use Rattle.std.proofs.lemmas.Grind.{get_or_default_zero}
 use Rattle.mm_rows.specs.BitRows.{HasCitedRows}
-use Rattle.mm_rows.proofs.WaveLaw.{wave_ready, made_wave, made_all, part_length, part_at}
+use Rattle.mm_rows.proofs.WaveLaw.{wave_ready, filled_wave, filled_all, part_length, part_at}
 use Rattle.mm_rows.proofs.wave.fill_waves.Goals as goal
 
 pub fill_wave-requires-clause-ready : goal.fill_wave-requires-clause-ready
@@ -43,7 +43,7 @@ loop-from-preserved g c =
     let inside : to ≤ length rows =
     subst (λ (xs : List ℕ). to ≤ length xs) c.deref.ensures.value c.wave_end-to.ensures.within in
     let further = c.wave_end-to.ensures.further in
-    made_wave c.args.citations.now c.args.columns.now rows
+    filled_wave c.args.citations.now c.args.columns.now rows
     (slice_range part from to) from to c.loop-from.bits c.fill_wave.new.bits
     c.loop-from.invariant inside
     (ap (λ (xs : List ℕ). slice_range xs from to) c.deref-in-loop-from.ensures.value)
@@ -51,6 +51,6 @@ loop-from-preserved g c =
 
 pub returns : goal.returns
 returns g c =
-    made_all c.args.citations.now c.args.columns.now c.args.waves.now c.in_ok-rows.rows.items
+    filled_all c.args.citations.now c.args.columns.now c.args.waves.now c.in_ok-rows.rows.items
     c.loop-from.bits c.loop-from.from c.requires.waves c.in_ok-rows.ensures c.loop-from.invariant
     (omega arith)

@@ -13,7 +13,7 @@ report-requires-clause-judged g c κs within =
     (subst
     (λ (j : JudgedText _). IsJudgedText c.args.text.now plan.essential plan.with_open j)
     c.in-Sound.is
-    (c.judge.ensures c.args.text.now plan.essential plan.with_open c.in-Ok.ensures
+    (c.judged_text.ensures c.args.text.now plan.essential plan.with_open c.in-Ok.ensures
     c.in-Ok-check_all.ensures)).1
 
 pub returns-in-Faulty : goal.returns-in-Faulty
@@ -23,7 +23,7 @@ returns-in-Faulty g c =
     (subst
     (λ (j : JudgedText _). IsJudgedText c.args.text.now plan.essential plan.with_open j)
     c.in-Faulty.is
-    (c.judge.ensures c.args.text.now plan.essential plan.with_open c.in-Ok.ensures
+    (c.judged_text.ensures c.args.text.now plan.essential plan.with_open c.in-Ok.ensures
     c.in-Ok-check_all.ensures))
 
 pub returns-in-Sound : goal.returns-in-Sound
@@ -32,7 +32,7 @@ returns-in-Sound g c =
     let judged =
     subst (λ (j : JudgedText _). IsJudgedText c.args.text.now plan.essential plan.with_open j)
     c.in-Sound.is
-    (c.judge.ensures c.args.text.now plan.essential plan.with_open c.in-Ok.ensures
+    (c.judged_text.ensures c.args.text.now plan.essential plan.with_open c.in-Ok.ensures
     c.in-Ok-check_all.ensures) in
     subst
     (λ (t : List ℕ). Answers c.report.result t (request_of plan)

@@ -2,7 +2,7 @@ use Rattle.std.proofs.Common.{◌≡◌, ◌∙◌, ap}
 use Rattle.mm_spec.specs.Request.{Request}
 use Rattle.mm_spec.specs.Output.{columns}
 use Rattle.mm_report.specs.Rows.{citation_report_of, open_theorems}
-use Rattle.mm_run.proofs.CountedLaw.{written}
+use Rattle.mm_run.proofs.CountedLaw.{is_output}
 use Rattle.mm_run.proofs.CitationsLaw.{citations_of, is_citation_report}
 use Rattle.mm_run.proofs.output.report_citations.Goals as goal
 
@@ -21,7 +21,8 @@ returns-in-Ok-write_requested_citations g c =
       (d.read, c.requires.judged.sound),
       (
         citation_report_of request d c.in-Ok.columns c.args.citations.now,
-        written request d c.in-Ok.columns _ c.requires.judged.counted c.requires.judged.sound axioms
+        is_output request d c.in-Ok.columns _ c.requires.judged.counted
+            c.requires.judged.sound axioms
             (is_citation_report d.statements request c.args.citations.now
             c.requires.judged.cited opened c.in-Ok.columns axioms c.requires.choice),
         c.in-Ok-write_requested_citations.ensures.ok,
@@ -38,7 +39,7 @@ returns g c =
     let cut = c.in-Err.ensures.err in (
       citation_report_of request d c.in-Ok.columns c.args.citations.now,
       cut.0,
-      written request d c.in-Ok.columns _ c.requires.judged.counted c.requires.judged.sound axioms
+      is_output request d c.in-Ok.columns _ c.requires.judged.counted c.requires.judged.sound axioms
           (is_citation_report d.statements request c.args.citations.now
           c.requires.judged.cited opened c.in-Ok.columns axioms c.requires.choice),
       cut.1,

@@ -1,5 +1,5 @@
 use Rattle.mm_report.specs.Rows.{report_of}
-use Rattle.mm_run.proofs.RowsLaw.{rests}
+use Rattle.mm_run.proofs.RowsLaw.{table_is_output}
 use Rattle.mm_run.proofs.output.report_rows.Goals as goal
 
 pub returns-in-Ok : goal.returns-in-Ok
@@ -9,7 +9,8 @@ returns-in-Ok g c =
       (d.read, c.requires.judged.sound),
       (
         report_of request d c.args.chosen.now c.args.marked.now,
-        rests request d c.args.citations.now c.args.chosen.now c.args.marked.now c.requires.judged
+        table_is_output request d c.args.citations.now c.args.chosen.now c.args.marked.now
+            c.requires.judged
             c.requires.chosen c.requires.marked c.requires.choice,
         c.in-Ok.ensures.ok,
       ),
@@ -22,7 +23,8 @@ returns-in-Err g c =
     let cut = c.in-Err.ensures.err in (
       report_of request d c.args.chosen.now c.args.marked.now,
       cut.0,
-      rests request d c.args.citations.now c.args.chosen.now c.args.marked.now c.requires.judged
+      table_is_output request d c.args.citations.now c.args.chosen.now
+          c.args.marked.now c.requires.judged
           c.requires.chosen c.requires.marked c.requires.choice,
       cut.1,
     )

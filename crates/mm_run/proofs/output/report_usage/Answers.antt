@@ -1,5 +1,5 @@
 use Rattle.mm_report.specs.Rows.{report_of}
-use Rattle.mm_run.proofs.RowsLaw.{rests}
+use Rattle.mm_run.proofs.RowsLaw.{table_is_output}
 use Rattle.mm_run.proofs.output.report_usage.Goals as goal
 
 pub returns-in-Ok : goal.returns-in-Ok
@@ -8,9 +8,10 @@ returns-in-Ok g c =
     let request = c.args.request.now in (
       (d.read, c.requires.judged.sound),
       (
-        report_of request d c.args.chosen.now c.args.table.now,
-        rests request d c.args.citations.now c.args.chosen.now c.args.table.now c.requires.judged
-            c.requires.chosen c.requires.table c.requires.choice,
+        report_of request d c.args.chosen.now c.args.matrix.now,
+        table_is_output request d c.args.citations.now c.args.chosen.now c.args.matrix.now
+            c.requires.judged
+            c.requires.chosen c.requires.matrix c.requires.choice,
         c.in-Ok.ensures.ok,
       ),
     )
@@ -20,9 +21,10 @@ returns-in-Err g c =
     let d = c.args.database.now in
     let request = c.args.request.now in
     let cut = c.in-Err.ensures.err in (
-      report_of request d c.args.chosen.now c.args.table.now,
+      report_of request d c.args.chosen.now c.args.matrix.now,
       cut.0,
-      rests request d c.args.citations.now c.args.chosen.now c.args.table.now c.requires.judged
-          c.requires.chosen c.requires.table c.requires.choice,
+      table_is_output request d c.args.citations.now c.args.chosen.now
+          c.args.matrix.now c.requires.judged
+          c.requires.chosen c.requires.matrix c.requires.choice,
       cut.1,
     )

@@ -31,26 +31,27 @@ found_fault-requires-clause-faulty g c =
     let s = c.share.ensures.share in let r = c.share.ensures.range.1 in
     let f = c.if-share-lt-MOST_SEATS.false in omega (arith, s, r, f) in
     let count = c.in-Ok.ensures.board.0 in
-    let within : c.close-first.result.0 < c.in-Ok.board.count =
-    let l = c.if-first-count.true in omega (arith, l, count) in
-    subst (λ (fs : List (Findings _)). IsFoundFaulty fs c.close-first.result.0)
+    let within : c.close-floor.result.0 < c.in-Ok.board.count =
+    let l = c.if-floor-count.true in omega (arith, l, count) in
+    subst (λ (fs : List (Findings _)). IsFoundFaulty fs c.close-floor.result.0)
     (sym c.deref.ensures.value)
-    (faulty_at _ c.in_ok-gathered.gathered.seat c.in_ok-gathered.gathered.found.items
-    c.in_ok-gathered.ensures c.close-first.result.0 (c.close-first.ensures.whole all).0 within)
+    (faulty_at _ c.in_ok-gathered.gathered.seat c.in_ok-gathered.gathered.all_findings.items
+    c.in_ok-gathered.ensures c.close-floor.result.0 (c.close-floor.ensures.whole all).0 within)
 
-pub returns-then-first-count : goal.returns-then-first-count
-returns-then-first-count g c =
+pub returns-then-floor-count : goal.returns-then-floor-count
+returns-then-floor-count g c =
     let db = c.args.database.now.statements in
     let h = c.in_ok-gathered.ensures in
     let all : c.in_ok-gathered.gathered.seat.view.share ≡ 64 =
     let s = c.share.ensures.share in let r = c.share.ensures.range.1 in
     let f = c.if-share-lt-MOST_SEATS.false in omega (arith, s, r, f) in
     let same = ap (λ (ts : List ℕ). length ts) c.theorems-count.ensures.theorems in
-    let l = c.if-first-count.true in
-    first_fault db c.theorems-count.ensures.few c.theorems-count.ensures.complete c.close-first.result.0
+    let l = c.if-floor-count.true in
+    first_fault db c.theorems-count.ensures.few c.theorems-count.ensures.complete
+    c.close-floor.result.0
     c.found_fault.result
-    (valid_below _ c.in_ok-gathered.gathered.seat c.in_ok-gathered.gathered.found.items h
-    c.close-first.result.0 (c.close-first.ensures.finished all h.over h.closed))
+    (valid_below _ c.in_ok-gathered.gathered.seat c.in_ok-gathered.gathered.all_findings.items h
+    c.close-floor.result.0 (c.close-floor.ensures.finished all h.over h.closed))
     (omega (arith, same, l)) c.found_fault.ensures
 
 pub merge-requires-clause-found : goal.merge-requires-clause-found
@@ -67,9 +68,9 @@ merge-requires-clause-valid g c =
     let s = c.share.ensures.share in let r = c.share.ensures.range.1 in
     let f = c.if-share-lt-MOST_SEATS.false in omega (arith, s, r, f) in
     let same = ap (λ (ts : List ℕ). length ts) c.theorems-count.ensures.theorems in
-    let past = c.if-first-count.false in
+    let past = c.if-floor-count.false in
     subst (λ (fs : List (Findings _)). (i : ℕ) → i < length (theorems db) → IsFoundValid fs i)
     (sym c.deref-2.ensures.value)
-    (λ i l. let one = c.close-first.ensures.finished all h.over h.closed i
+    (λ i l. let one = c.close-floor.ensures.finished all h.over h.closed i
     (omega (arith, same, past, l)) in
     h.settled i (omega (arith, one)))

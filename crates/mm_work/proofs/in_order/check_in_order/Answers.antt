@@ -1,14 +1,14 @@
 use Rattle.std.proofs.Common.{◌≡◌, ℕ, List, length, get_or, sym, ap, subst, arith, IsTrue}
 use Rattle.mm_spec.specs.Output.{theorems, is_theorem_at}
 use Rattle.mm_proof.proofs.TheoremsLaw.{theorems_are}
-use Rattle.mm_work.specs.Judged.{AreCitedUpTo, HasFault, Faults, IsCited, IsFirstFault}
+use Rattle.mm_work.specs.Judged.{AreCitedUpTo, HasFault, IsRefusalOf, IsCited, IsFirstFault}
 use Rattle.mm_spec.specs.declared.Fault.{Fault}
 use Rattle.mm_work.specs.declared.proof.VerifyRefused.{VerifyRefused}
 use Rattle.mm_work.proofs.VerifyLaw.{cited_more, cited_before, first_fault}
 use Rattle.mm_work.proofs.in_order.check_in_order.Goals as goal
 
-pub valid-requires : goal.valid-requires
-valid-requires g c =
+pub judged_valid-requires : goal.judged_valid-requires
+judged_valid-requires g c =
     let db = c.args.database.now.statements in
     let same = ap (λ (ts : List ℕ). length ts) c.theorems-theorems.ensures.theorems in
     let end : c.loop-theorem.theorem-index ≡ length (theorems db) = omega (arith, same) in
@@ -37,7 +37,7 @@ returns-in-Err-Fault g c =
     c.loop-theorem.lists c.loop-theorem.invariant.cited) (omega (arith, within, same))
     (subst (λ (ts : List ℕ). HasFault db (get_or ts i 0) c.in-Err-Fault.fault)
     c.theorems-theorems.ensures.theorems
-    (subst (λ (e : VerifyRefused). Faults db (get_or c.theorems-theorems.result.now i 0) e)
+    (subst (λ (e : VerifyRefused). IsRefusalOf db (get_or c.theorems-theorems.result.now i 0) e)
     c.in-Err-Fault.field-0-is c.in-Err-Fault.ensures.refused)))
 
 pub loop-theorem-preserved : goal.loop-theorem-preserved

@@ -2,7 +2,7 @@ use Rattle.mm_spec.specs.Output.{theorems}
 use Rattle.mm_work.specs.Judged.{AreCitedUpTo}
 use Rattle.mm_work.proofs.merge.merge.Given as goal
 
-abbrev pub invariant-loop-place : goal.invariant-loop-place
-invariant-loop-place g l =
+abbrev pub invariant-loop-position : goal.invariant-loop-position
+invariant-loop-position g l =
     AreCitedUpTo l.database.statements l.essential
-    (theorems l.database.statements) l.place-index l.lists
+    (theorems l.database.statements) l.position-index l.lists

@@ -1,23 +1,24 @@
 use Rattle.std.proofs.Common.{◌∙◌, ◌++◌, ◌∷◌, [], List, ap}
 use Rattle.mm_work.specs.Workers.{IsDone}
 use Rattle.mm_work.specs.declared.worker.Findings.{Findings}
-use Rattle.mm_work.proofs.WorkersLaw.{gathered_first, gathered_more, All_front, All_last}
+use Rattle.mm_work.proofs.WorkersLaw.{gathered_of_first, gathered_more, All_before_last, All_last}
 use Rattle.mm_work.proofs.threads.join_all.Goals as goal
 
 pub loop-other-init : goal.loop-other-init
 loop-other-init g c = record {
   gathered =
-      gathered_first c.args.job.now c.args.own c.add.new.all.items
-      (c.in_ok-add.ensures.added
-      ∙ ap (λ (fs : List (Findings _)). fs ++ c.args.own.found ∷ []) c.new-all.ensures.items)
-      c.requires.own c.in_ok-add.ensures.short;
+      gathered_of_first c.args.job.now c.args.first c.add_findings.new.all_findings.items
+      (c.in_ok-add_findings.ensures.added
+      ∙ ap (λ (fs : List (Findings _)). fs ++ c.args.first.findings
+      ∷ []) c.new-all_findings.ensures.items)
+      c.requires.first c.in_ok-add_findings.ensures.short;
   others = c.requires.others;
 }
 
 pub join-requires-clause-other_home : goal.join-requires-clause-other_home
 join-requires-clause-other_home g c =
     (All_last (IsDone c.args.job.now) c.loop-other.others.items c.pop.new.self.items
-    c.in-Some.other c.in-Some.ensures.items c.loop-other.invariant.others).between.at
+    c.in-Some.other c.in-Some.ensures.items c.loop-other.invariant.others).between.of_board
 
 pub join-requires-clause-closed : goal.join-requires-clause-closed
 join-requires-clause-closed g c =
@@ -27,13 +28,14 @@ join-requires-clause-closed g c =
 pub loop-other-preserved : goal.loop-other-preserved
 loop-other-preserved g c = record {
   gathered =
-      gathered_more c.args.job.now c.loop-other.seat c.join.new.seat c.loop-other.all.items
-      c.add-in-Some.new.all.items c.in-Some.other c.in_ok-add-2.ensures.added
+      gathered_more c.args.job.now c.loop-other.seat c.join.new.seat c.loop-other.all_findings.items
+      c.add_findings-in-Some.new.all_findings.items c.in-Some.other
+      c.in_ok-add_findings-2.ensures.added
       c.loop-other.invariant.gathered
       (All_last (IsDone c.args.job.now) c.loop-other.others.items c.pop.new.self.items
       c.in-Some.other c.in-Some.ensures.items c.loop-other.invariant.others)
-      c.in_ok-add-2.ensures.short c.join.ensures.home c.join.ensures.joined;
+      c.in_ok-add_findings-2.ensures.short c.join.ensures.home c.join.ensures.joined;
   others =
-      All_front (IsDone c.args.job.now) c.loop-other.others.items c.pop.new.self.items
+      All_before_last (IsDone c.args.job.now) c.loop-other.others.items c.pop.new.self.items
       c.in-Some.other c.in-Some.ensures.items c.loop-other.invariant.others;
 }

@@ -4,7 +4,7 @@ use Rattle.mm_work.proofs.threads.join_all.Given as goal
 
 abbrev pub invariant-loop-other : goal.invariant-loop-other
 invariant-loop-other g l = record {
-  gathered : AreGathered l.job l.seat l.all.items;
+  gathered : AreGathered l.job l.seat l.all_findings.items;
   others : All (IsDone l.job) l.others.items;
 }
 

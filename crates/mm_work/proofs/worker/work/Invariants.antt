@@ -7,9 +7,9 @@ use Rattle.mm_work.proofs.worker.work.Given as goal
 abbrev pub invariant-loop-index : goal.invariant-loop-index
 invariant-loop-index g l = record {
   made_for : IsMadeFor l.job.database.now.statements l.checker;
-  between : IsBetweenTheorems l.job l.worked;
-  not_over : l.worked.seat.view.over ≡ false;
+  between : IsBetweenTheorems l.job l.state;
+  not_over : l.state.seat.view.over ≡ false;
 }
 
 abbrev pub decreases-loop-index : goal.decreases-loop-index
-decreases-loop-index g l = unrecorded l.job.board.now.count l.worked.seat.view
+decreases-loop-index g l = unrecorded l.job.board.now.count l.state.seat.view

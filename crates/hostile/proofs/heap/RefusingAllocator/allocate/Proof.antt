@@ -41,9 +41,10 @@ use denote.Triple.Call.{calls_at}
 use Rattle.std.proofs.alloc.Calls.{Al, α, seen, Answer, answer_val, Answer-typed, Answer-Ok}
 use Rattle.std.proofs.alloc.Calls.{Answer-err, takes_key, Takes, at_takes, Answered, Takes-goes}
 use Rattle.std.proofs.alloc.Calls.{Takes-gives, answers}
-use Rattle.hostile.proofs.TicksLaw.{Tick, at_tick, Tick_goes, Tick_gives}
-use Rattle.hostile.proofs.heap.tick.Symbol as c_sym
-use Rattle.hostile.proofs.heap.tick.Met as c_met
+use Rattle.hostile.proofs.CountGrowthLaw.{CountGrowth, at_count_growth, CountGrowth_goes}
+use Rattle.hostile.proofs.CountGrowthLaw.{CountGrowth_gives}
+use Rattle.hostile.proofs.heap.count_growth.Symbol as c_sym
+use Rattle.hostile.proofs.heap.count_growth.Met as c_met
 use Rattle.hostile.specs.contracts.heap.Refusing as wrapper
 use Rattle.hostile.specs.contracts.heap.RefusingAllocator.allocate as F
 use Rattle.hostile.specs.contracts.heap.RefusingAllocator.allocate.Key as key
@@ -72,7 +73,7 @@ module _ (Z : Al) where
 module _ (Z : Al) {M : Type 1} {𝓤 : Ura M} (𝓛 : Logic 𝓤) (at_mem : Memory → SProp 𝓤)
     (run : Routine → Fun 𝓤) (𝓣 : Tables 𝓤 𝓛.H)
     (tk : Triple 𝓤 (𝓣.C (takes_key Z)) (Takes Z 𝓛 at_mem run))
-    (kn : Triple 𝓤 (𝓣.C c_sym.name) (Tick 𝓛 at_mem run)) where
+    (kn : Triple 𝓤 (𝓣.C c_sym.name) (CountGrowth 𝓛 at_mem run)) where
   open 𝓛 use {H}
 
   abbrev held : Clauses 𝓤 (ended Z)
@@ -115,12 +116,13 @@ module _ (Z : Al) {M : Type 1} {𝓤 : Ura M} (𝓛 : Logic 𝓤) (at_mem : Memo
         (λ l. pass_all ! refl
         ((tt, tt), ((tt, record { fits = fn }), ((tt, record { fits = fa }), tt))) $
         sets ! (addr ! (through ! refl (fld ! refl (stop !)))) refl (tt, tt) $
-        use2 𝓛 (raw ((Tick 𝓛 at_mem run).pre (at_tick 𝓛 at_mem run κ₁ q₁ c)))
-        (Tick_goes 𝓛 at_mem run κ₁ q₁ c) $
-        calls_at ! (fm_of 𝓤 H 𝓛.laws 𝓣) (Tick 𝓛 at_mem run) kn (at_tick 𝓛 at_mem run κ₁ q₁ c)
+        use2 𝓛 (raw ((CountGrowth 𝓛 at_mem run).pre (at_count_growth 𝓛 at_mem run κ₁ q₁ c)))
+        (CountGrowth_goes 𝓛 at_mem run κ₁ q₁ c) $
+        calls_at ! (fm_of 𝓤 H 𝓛.laws 𝓣) (CountGrowth 𝓛 at_mem run) kn
+        (at_count_growth 𝓛 at_mem run κ₁ q₁ c)
         (and_then ! (get ! refl) (no_more !)) (λ u.
         use1 𝓛 (later (some (λ (x : Bool). given (u ≡ vbool x) (‵ (flft κ₁ q₁)))))
-        (Tick_gives 𝓛 at_mem run κ₁ q₁ c u) $ await ! tt $ pick !
+        (CountGrowth_gives 𝓛 at_mem run κ₁ q₁ c u) $ await ! tt $ pick !
         (λ x. learn ! (λ eu. lands_as ! eu refl (tt, tt) $
         first ! $ branches ! (get ! refl)
         (λ t. sets ! (agg ! (no_more !)) refl (tt, tt) $ sets !
@@ -189,5 +191,6 @@ allocate_spec 𝓤 𝓛 𝓜 𝓡 wired Y L g d d' met _ =
     (λ κs. ((λ r vs s. s.0), (uint_Tells w64, (uint_Tells w64, tt))))
     (λ κs qs bounds a τ are. walk Z 𝓛 𝓜.mem 𝓡.returns 𝓣 (met.allocate d')
     (cited 𝓤 𝓛.H _ 𝓜 𝓡 𝓡.env c_sym.name (𝓡.env c_sym.name) refl
-    (c_met.met 𝓤 𝓛 𝓜 𝓡 (code.calls-hostile::heap::tick 𝓡.env wired))) κs.0 κs.1.0 qs.0 qs.1.0
+    (c_met.met 𝓤 𝓛 𝓜 𝓡 (code.calls-hostile::heap::count_growth 𝓡.env wired)))
+    κs.0 κs.1.0 qs.0 qs.1.0
     bounds.0 a.0 a.1.0 a.1.1.0 τ are.1.0.1 are.1.1.0.1)))

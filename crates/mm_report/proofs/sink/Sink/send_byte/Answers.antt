@@ -13,11 +13,11 @@ pub returns-else-not-is_full : goal.returns-else-not-is_full
 returns-else-not-is_full g c =
     sent_more c.make_room.ensures.sent
     (sent_stuck (g.W.Write.contents c.make_room.new.to) c.make_room.new.self (c.args.byte ∷ [])
-    (by (cases_Bool c.make_room.new.self.failed)))
+    (by_failure (cases_Bool c.make_room.new.self.failed)))
   where
-    by : (c.make_room.new.self.failed ≡ true) ⊎ (c.make_room.new.self.failed ≡ false)
+    by_failure : (c.make_room.new.self.failed ≡ true) ⊎ (c.make_room.new.self.failed ≡ false)
         → c.make_room.new.self.failed ≡ true
-    by (inl t) = t
-    by (inr f) =
+    by_failure (inl t) = t
+    by_failure (inr f) =
         let room = c.make_room.ensures.room f in let full = c.if-not-is_full.ensures.full in
         absurd (omega (arith, room, full))

@@ -1,4 +1,5 @@
--- `allocate` gives the units of the room as the block that is asked for, with the way back. Assumes `Logic`.
+-- `allocate` gives the units of the room as the block that is asked for, with the way back. Assumes
+-- `Logic`.
 use Rattle.std.proofs.Common.{◌≡◌, true, false, [], ◌∷◌, refl, lit<, w64, Ok, Err}
 use Rattle.std.proofs.raw_atomic.Walks.{proved}
 use base.Logic.{id⊢}
@@ -8,11 +9,13 @@ use contract.Monad.{fact}
 use contract.Running.{tables}
 use prog.Memory.{size, align, capped}
 use prog.Wp.{Env}
-use types.Kit.{‵, raw, ◌⊛◌, some, later, at_ret, ◌$◌, ◌∵◌, !, qed, done, move, drop, use0, use1, split, join, fsplit, fjoin, pick, await, suffices, group}
+use types.Kit.{‵, raw, ◌⊛◌, some, later, at_ret, ◌$◌, ◌∵◌, !, qed, done, move, drop, use0, use1}
+use types.Kit.{split, join, fsplit, fjoin, pick, await, suffices, group}
 use types.Part.{whole, sub, agg}
 use types.Match.{vrt, in_variant}
 use types.Run.{enter, of_opd, lit, stop, fld, no_more, and_then, first, switches_on, exec, returns}
-use types.ByLocal.{alloc_all, pass_all, free_all, look_at, get, get_in, get_tag, sets, sets_last, lands_as, env}
+use types.ByLocal.{alloc_all, pass_all, free_all, look_at, get, get_in, get_tag, sets, sets_last}
+use types.ByLocal.{lands_as, env}
 use denote.Builtin.{RefOf, usize}
 use denote.Plain.{uint_vals, uint_Tells}
 use denote.RawPtr.{block_ptr}
@@ -30,12 +33,12 @@ use Rattle.core.proofs.alloc.Calls.{Answer, answer_val, Answer-Ok, Answer-err}
 use Rattle.core.proofs.alloc.Shapes.{arm_body}
 use Rattle.mm_room.specs.Units.{way_back}
 use Rattle.mm_room.specs.contracts.lender.Lender as lender
-use Rattle.mm_room.proofs.BlockLaw.{Taken, Told, taken, cut, rest_runs}
+use Rattle.mm_room.proofs.RoomLaw.{Taken, Told, taken, cut_from_units, rest_runs}
 use Rattle.mm_room.specs.contracts.lender.LenderAllocator.allocate as f
 use Rattle.mm_room.proofs.lender.LenderAllocator.allocate.Statement.{statement}
 use Rattle.mm_room.proofs.lender.LenderAllocator.allocate.Code as code
-use Rattle.mm_room.specs.contracts.lender.Lender.take as g
-use Rattle.mm_room.proofs.lender.Lender.take.Met.{met}
+use Rattle.mm_room.specs.contracts.lender.Lender.take_memory as g
+use Rattle.mm_room.proofs.lender.Lender.take_memory.Met.{met}
 
 -- the slot of the lender
 abbrev lent : Slot 1
@@ -46,7 +49,8 @@ stayed = (stay_dropped _ _, (stay_dropped _ _, (stay_dropped _ _, tt)))
 
 pub allocate_spec : {M : Type 1} → statement M
 allocate_spec 𝓤 𝓛 𝓜 𝓡 wired =
-    let c = f.clauses 𝓛 𝓜.mem 𝓡.returns in let W = walk_of 𝓛 f.ended stayed c in let 𝓣 = tables 𝓤 𝓛.H 𝓜 𝓡 𝓡.env in
+    let c = f.clauses 𝓛 𝓜.mem 𝓡.returns in let W = walk_of 𝓛 f.ended stayed c in
+    let 𝓣 = tables 𝓤 𝓛.H 𝓜 𝓡 𝓡.env in
     proved 𝓛 f.ended stayed c 𝓜 𝓡 (
       Goes-dropped 𝓛 1 lent f.ended.kept.0 (λ κs x w. refl),
       (
@@ -59,49 +63,68 @@ allocate_spec 𝓤 𝓛 𝓜 𝓡 wired =
     (λ κs. (shr_Tells (named 0) κs.0 lender.the_row, (uint_Tells w64, (uint_Tells w64, tt))))
     (λ κs qs bounds a τ are.
     let n = a.0.now.units in let s = a.1.0 in
-    let y : W.Ghost = ((κs, qs, bounds, a, (shr_vals a.0, (uint_vals w64 s, (uint_vals w64 a.1.1.0, tt)))), τ) in
+    let y : W.Ghost =
+    ((κs, qs, bounds, a, (shr_vals a.0, (uint_vals w64 s, (uint_vals w64 a.1.1.0, tt)))), τ) in
     let G = triple_of 𝓛 g.signature (g.spec 𝓛 𝓜.mem 𝓡.returns) in
-    let z : G.Ghost = ((κs, qs, bounds, (a.0, (s, tt)), (shr_vals a.0, (uint_vals w64 s, tt))), tt) in
+    let z : G.Ghost = (
+      (κs, qs, bounds, (a.0, (s, tt)), (shr_vals a.0, (uint_vals w64 s, tt))),
+      tt,
+    ) in
     qed 𝓛 ((raw (alive 𝓛 f.signature κs qs) ⊛ ‵ (owns (types_at f.signature.params κs) a y.0.4))
     ∷ raw (fact 𝓤 ((capped (size τ) ≡ s) × (capped (align τ) ≡ a.1.1.0))) ∷ []) ∵
     move ! (1 ∷ []) $ heard ! _ (λ asked.
     split ! $ move ! (1 ∷ []) $ fsplit ! $ move ! (1 ∷ []) $ fsplit ! $ move ! (1 ∷ []) $ drop ! $
-    nothing ! $ move ! (1 ∷ 0 ∷ []) $ fjoin ! $ move ! (1 ∷ 0 ∷ []) $ fjoin ! $ move ! (1 ∷ 0 ∷ []) $ join ! $
+    nothing ! $ move ! (1 ∷ 0 ∷ []) $ fjoin ! $ move ! (1 ∷ 0 ∷ []) $ fjoin ! $
+    move ! (1 ∷ 0 ∷ []) $ join ! $
     -- [the tokens, with the lender and the size]
     nothing ! $ move ! (1 ∷ 0 ∷ []) $ join ! $ use1 𝓛 (raw (G.pre z)) (id⊢ 𝓤 _) $
     enter ! _ _ _ _ _ $
-    alloc_all ! (λ l. pass_all ! refl ((tt, tt), ((tt, record { fits = are.1.0.1 }), ((tt, record { fits = are.1.1.0.1 }), tt))) $
+    alloc_all ! (λ l. pass_all ! refl
+    ((tt, tt), ((tt, record { fits = are.1.0.1 }), ((tt, record { fits = are.1.1.0.1 }), tt))) $
     let En : Env 𝓤 𝓛.H = env code.Mir.locals l in let Ends = at_ret En (W.post y) in
-    calls_at ! (framed 𝓤 𝓛.H 𝓜 𝓣) G (met 𝓤 𝓛 𝓜 𝓡 (code.calls-mm_room::lender::Lender::take 𝓡.env wired)) z
+    calls_at ! (framed 𝓤 𝓛.H 𝓜 𝓣) G
+    (met 𝓤 𝓛 𝓜 𝓡 (code.calls-mm_room::lender::Lender::take_memory 𝓡.env wired)) z
     (and_then ! (get ! refl) (and_then ! (get ! refl) (no_more !))) (λ v.
-    use1 𝓛 (later (some (λ (x : Taken.Denot). (raw (alive 𝓛 f.signature κs qs) ⊛ ‵ (Taken.own_val x (v ∷ []))) ⊛
-    some (λ (ws : Lasts g.ended z.0.0 z.0.3). ‵ (lasts g.ended z.0.0 z.0.3 ws) ⊛ raw (fact 𝓤 (Told n s x)))))) (id⊢ 𝓤 _) $
-    await ! tt $ pick ! (λ x. split ! $ move ! (1 ∷ []) $ pick ! (λ ws. split ! $ drop ! $ heard ! _ (λ told. split ! $ move ! (1 ∷ []) $
-    -- [what `take` gave; the tokens]
+    use1 𝓛 (later
+    (some (λ (x : Taken.Denot). (raw (alive 𝓛 f.signature κs qs) ⊛ ‵ (Taken.own_val x (v ∷ []))) ⊛
+    some (λ (ws : Lasts g.ended z.0.0 z.0.3). ‵ (lasts g.ended z.0.0 z.0.3 ws) ⊛ raw
+    (fact 𝓤 (Told n s x)))))) (id⊢ 𝓤 _) $
+    await ! tt $ pick ! (λ x. split ! $ move ! (1 ∷ []) $
+    pick ! (λ ws. split ! $ drop ! $ heard ! _ (λ told. split ! $ move ! (1 ∷ []) $
+    -- [what `take_memory` gave; the tokens]
     taken ! n s x v told
     (λ b o units fits short is.
-    use1 𝓛 (‵ (froom τ b o) ⊛ ‵ (way_back n τ (block_ptr b o))) (cut 𝓛 τ b o n s asked.0 units fits short) $
+    use1 𝓛 (‵ (froom τ b o) ⊛ ‵ (way_back n τ (block_ptr b o)))
+    (cut_from_units 𝓛 τ b o n s asked.0 units fits short) $
     lands_as ! is refl (tt, (record { fits = lit< tt }, ((tt, tt), tt))) $
     first ! $ switches_on ! (get_tag ! (vrt ! refl (fld ! refl (stop !))) (whole !)) $
     exec ! 𝓣.C 𝓣.Λ En (arm_body 0 code.Mir.s-2) (rest_runs 𝓛 𝓣.C 𝓣.Λ En code.Mir.t-3 Ends) $
-    sets ! (of_opd ! (get_in ! (vrt ! refl (fld ! refl (fld ! refl (stop !)))) (sub ! 0 refl (in_variant ! 1 0 refl refl (whole !))))) refl (tt, tt) $
-    sets_last ! (agg ! (and_then ! (lit ! tt) (and_then ! (get ! refl) (no_more !)))) refl (tt, (record { fits = lit< tt }, (tt, tt))) $
+    sets ! (of_opd ! (get_in ! (vrt ! refl (fld ! refl (fld ! refl (stop !))))
+    (sub ! 0 refl (in_variant ! 1 0 refl refl (whole !))))) refl (tt, tt) $
+    sets_last ! (agg ! (and_then ! (lit ! tt) (and_then ! (get ! refl) (no_more !)))) refl
+    (tt, (record { fits = lit< tt }, (tt, tt))) $
     exec ! 𝓣.C 𝓣.Λ En code.Mir.t-3 Ends $
     sets ! (of_opd ! (get ! refl)) refl (tt, (record { fits = lit< tt }, (tt, tt))) $
     returns ! (look_at ! 0 refl) $ free_all ! refl $
-    suffices ! _ (ends_at 𝓛 f.ended stayed c y (answer_val true b o) (Ok (block_ptr b o)) (tt, (tt, (tt, tt))) (tt, (tt, (tt, tt)))) $
+    suffices ! _ (ends_at 𝓛 f.ended stayed c y (answer_val true b o) (Ok (block_ptr b o))
+    (tt, (tt, (tt, tt))) (tt, (tt, (tt, tt)))) $
     -- [the block with the way back; the tokens]
     use0 𝓛 (‵ (Answer.own_val (Ok (block_ptr b o)) (answer_val true b o ∷ []))) (Answer-Ok 𝓛 b o) $
-    nothing ! $ nothing ! $ join ! $ nothing ! $ join ! $ nothing ! $ join ! $ move ! (3 ∷ 0 ∷ 1 ∷ 2 ∷ []) $ group ! 3 $ done !)
+    nothing ! $ nothing ! $ join ! $ nothing ! $ join ! $ nothing ! $ join ! $
+    move ! (3 ∷ 0 ∷ 1 ∷ 2 ∷ []) $ group ! 3 $ done !)
     (λ is.
     lands_as ! is refl (tt, (record { fits = lit< tt }, tt)) $
     first ! $ switches_on ! (get_tag ! (vrt ! refl (fld ! refl (stop !))) (whole !)) $
     exec ! 𝓣.C 𝓣.Λ En (arm_body 1 code.Mir.s-2) (rest_runs 𝓛 𝓣.C 𝓣.Λ En code.Mir.t-3 Ends) $
     sets ! (agg ! (no_more !)) refl (tt, tt) $
-    sets_last ! (agg ! (and_then ! (lit ! tt) (and_then ! (get ! refl) (no_more !)))) refl (tt, (record { fits = lit< tt }, (tt, tt))) $
+    sets_last ! (agg ! (and_then ! (lit ! tt) (and_then ! (get ! refl) (no_more !)))) refl
+    (tt, (record { fits = lit< tt }, (tt, tt))) $
     exec ! 𝓣.C 𝓣.Λ En code.Mir.t-3 Ends $
     sets ! (of_opd ! (get ! refl)) refl (tt, (record { fits = lit< tt }, (tt, tt))) $
     returns ! (look_at ! 0 refl) $ free_all ! refl $
-    suffices ! _ (ends_at 𝓛 f.ended stayed c y (answer_val false 0 0) (Err (record {})) (tt, (tt, (tt, tt))) (tt, (tt, (tt, tt)))) $
-    nothing ! $ use0 𝓛 (‵ (Answer.own_val (Err (record {})) (answer_val false 0 0 ∷ []))) (Answer-err 𝓛) $
-    nothing ! $ nothing ! $ join ! $ nothing ! $ join ! $ nothing ! $ join ! $ move ! (3 ∷ 0 ∷ 1 ∷ 2 ∷ []) $ group ! 3 $ done !))))))))
+    suffices ! _ (ends_at 𝓛 f.ended stayed c y (answer_val false 0 0) (Err (record {}))
+    (tt, (tt, (tt, tt))) (tt, (tt, (tt, tt)))) $
+    nothing ! $
+    use0 𝓛 (‵ (Answer.own_val (Err (record {})) (answer_val false 0 0 ∷ []))) (Answer-err 𝓛) $
+    nothing ! $ nothing ! $ join ! $ nothing ! $ join ! $ nothing ! $ join ! $
+    move ! (3 ∷ 0 ∷ 1 ∷ 2 ∷ []) $ group ! 3 $ done !))))))))

@@ -26,6 +26,11 @@ none_spec 𝓤 𝓛 𝓜 𝓡 wired =
     enter ! _ _ _ _ _ $ alloc_all ! (λ l. pass_all ! refl tt $
     sets ! (agg ! (and_then ! (lit ! tt) (no_more !))) refl (tt, (record { fits = lit< tt }, tt)) $
     returns ! (look_at ! 0 refl) $ free_all ! refl $
-    suffices ! _ (ends_at 𝓛 f.ended tt c y (memory_val null_ptr) (record { at = null_ptr; units = 0 }) tt tt) $ says ! refl $
-    nothing ! $ owned ! Fields (Is Fields) (fields_Makes 𝓛) (null_ptr, tt) (memory_val null_ptr ∷ []) (fields_are null_ptr) $ fjoin ! $
+    suffices ! _ (ends_at 𝓛 f.ended tt c y (memory_val null_ptr) (record {
+      at = null_ptr;
+      units =
+          0;
+    }) tt tt) $ says ! refl $
+    nothing ! $ owned ! Fields (Is Fields) (fields_Makes 𝓛) (null_ptr, tt) (memory_val null_ptr
+    ∷ []) (fields_are null_ptr) $ fjoin ! $
     nothing ! $ nothing ! $ done !))

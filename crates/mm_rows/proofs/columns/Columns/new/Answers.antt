@@ -9,7 +9,8 @@ use Rattle.mm_cites.specs.Citing.{IsStatementList}
 use Rattle.mm_cites.proofs.RisingLaw.{filter_at, filter_rising}
 use Rattle.mm_rows.proofs.ColumnLaw.{filter_snoc, columns_are, axiom_asserts}
 use Rattle.mm_rows.proofs.columns.Columns.new.Goals as goal
-use Rattle.mm_rows.proofs.columns.Columns.new.Goals.{then-has_chosen_typecode+in_ok-push, else-has_chosen_typecode}
+use Rattle.mm_rows.proofs.columns.Columns.new.Goals.{then-has_chosen_typecode+in_ok-push}
+use Rattle.mm_rows.proofs.columns.Columns.new.Goals.{else-has_chosen_typecode}
 
 pub has_chosen_typecode-requires : goal.has_chosen_typecode-requires
 has_chosen_typecode-requires g c =

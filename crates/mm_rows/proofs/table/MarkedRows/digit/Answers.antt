@@ -5,17 +5,17 @@ use Rattle.mm_rows.proofs.TableLaw.{row_fits}
 use Rattle.mm_rows.proofs.DigitLaw.{part_long, row_digit}
 use Rattle.mm_rows.proofs.table.MarkedRows.digit.Goals as goal
 
-pub part-words-requires : goal.part-words-requires
-part-words-requires g c =
+pub row_words-words-requires : goal.row_words-words-requires
+row_words-words-requires g c =
     row_fits c.args.self.now c.self.inside.rows c.self.inside.columns c.self.inside.bits.items
-    (sym c.self.view_is) c.self.invariant c.args.row c.div_ceil-across.result
-    c.deref.result.now c.requires.row c.div_ceil-across.ensures c.deref.ensures.value
+    (sym c.self.view_is) c.self.invariant c.args.row c.div_ceil-width.result
+    c.deref.result.now c.requires.row c.div_ceil-width.ensures c.deref.ensures.value
 
 pub bounds-words-i : goal.bounds-words-i
 bounds-words-i g c =
     let is =
-    c.part-words.ensures
-    ∙ ap₂ (λ w xs. row_at xs w c.args.row) c.div_ceil-across.ensures c.deref.ensures.value in
+    c.row_words-words.ensures
+    ∙ ap₂ (λ w xs. row_at xs w c.args.row) c.div_ceil-width.ensures c.deref.ensures.value in
     let long =
     part_long c.args.self.now c.self.inside.rows c.self.inside.columns c.self.inside.bits.items
     (sym c.self.view_is) c.self.invariant c.args.row _ c.requires.row is in
@@ -26,11 +26,11 @@ bounds-words-i g c =
 pub returns : goal.returns
 returns g c =
     let is =
-    c.part-words.ensures
-    ∙ ap₂ (λ w xs. row_at xs w c.args.row) c.div_ceil-across.ensures c.deref.ensures.value in
+    c.row_words-words.ensures
+    ∙ ap₂ (λ w xs. row_at xs w c.args.row) c.div_ceil-width.ensures c.deref.ensures.value in
     let small : 4 * c.args.i < c.self.inside.columns =
     subst (λ (m : Marks). 4 * c.args.i < m.columns) (sym c.self.view_is) c.requires.column in
-    c.number.ensures
+    c.digit_value.ensures
     ∙ row_digit c.args.self.now c.self.inside.rows c.self.inside.columns
     c.self.inside.bits.items
     (sym c.self.view_is) c.self.invariant c.args.row c.args.i _ c.requires.row

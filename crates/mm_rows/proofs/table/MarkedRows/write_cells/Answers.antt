@@ -7,17 +7,17 @@ use Rattle.mm_rows.proofs.DigitLaw.{part_long}
 use Rattle.mm_rows.proofs.CellLaw.{cells_are}
 use Rattle.mm_rows.proofs.table.MarkedRows.write_cells.Goals as goal
 
-pub part-words-requires : goal.part-words-requires
-part-words-requires g c =
+pub row_words-words-requires : goal.row_words-words-requires
+row_words-words-requires g c =
     row_fits c.args.self.now c.self.inside.rows c.self.inside.columns c.self.inside.bits.items
-    (sym c.self.view_is) c.self.invariant c.args.row c.div_ceil-across.result
-    c.deref.result.now c.requires.row c.div_ceil-across.ensures c.deref.ensures.value
+    (sym c.self.view_is) c.self.invariant c.args.row c.div_ceil-width.result
+    c.deref.result.now c.requires.row c.div_ceil-width.ensures c.deref.ensures.value
 
 pub slice_bounds-write_cells-end : goal.slice_bounds-write_cells-end
 slice_bounds-write_cells-end g c =
     let is =
-    c.part-words.ensures
-    ∙ ap₂ (λ w xs. row_at xs w c.args.row) c.div_ceil-across.ensures c.deref.ensures.value in
+    c.row_words-words.ensures
+    ∙ ap₂ (λ w xs. row_at xs w c.args.row) c.div_ceil-width.ensures c.deref.ensures.value in
     let long =
     part_long c.args.self.now c.self.inside.rows c.self.inside.columns c.self.inside.bits.items
     (sym c.self.view_is) c.self.invariant c.args.row _ c.requires.row is in
@@ -29,8 +29,8 @@ slice_bounds-write_cells-end g c =
 pub returns : goal.returns
 returns g c =
     let is =
-    c.part-words.ensures
-    ∙ ap₂ (λ w xs. row_at xs w c.args.row) c.div_ceil-across.ensures c.deref.ensures.value in
+    c.row_words-words.ensures
+    ∙ ap₂ (λ w xs. row_at xs w c.args.row) c.div_ceil-width.ensures c.deref.ensures.value in
     cells_are c.args.self.now c.self.inside.rows c.self.inside.columns c.self.inside.bits.items
     (sym c.self.view_is) c.self.invariant c.args.row c.args.word _ c.write_cells.new.into
     c.args.into.now c.requires.row is c.requires.within c.requires.whole

@@ -6,17 +6,17 @@ use Rattle.mm_rows.proofs.TableLaw.{row_fits}
 use Rattle.mm_rows.proofs.DigitLaw.{part_long, digits_are}
 use Rattle.mm_rows.proofs.table.MarkedRows.write_digits.Goals as goal
 
-pub part-words-requires : goal.part-words-requires
-part-words-requires g c =
+pub row_words-words-requires : goal.row_words-words-requires
+row_words-words-requires g c =
     row_fits c.args.self.now c.self.inside.rows c.self.inside.columns c.self.inside.bits.items
-    (sym c.self.view_is) c.self.invariant c.args.row c.div_ceil-across.result
-    c.deref.result.now c.requires.row c.div_ceil-across.ensures c.deref.ensures.value
+    (sym c.self.view_is) c.self.invariant c.args.row c.div_ceil-width.result
+    c.deref.result.now c.requires.row c.div_ceil-width.ensures c.deref.ensures.value
 
 pub slice_bounds-write_digits-end : goal.slice_bounds-write_digits-end
 slice_bounds-write_digits-end g c =
     let is =
-    c.part-words.ensures
-    ∙ ap₂ (λ w xs. row_at xs w c.args.row) c.div_ceil-across.ensures c.deref.ensures.value in
+    c.row_words-words.ensures
+    ∙ ap₂ (λ w xs. row_at xs w c.args.row) c.div_ceil-width.ensures c.deref.ensures.value in
     let long =
     part_long c.args.self.now c.self.inside.rows c.self.inside.columns c.self.inside.bits.items
     (sym c.self.view_is) c.self.invariant c.args.row _ c.requires.row is in
@@ -28,8 +28,8 @@ slice_bounds-write_digits-end g c =
 pub returns : goal.returns
 returns g c =
     let is =
-    c.part-words.ensures
-    ∙ ap₂ (λ w xs. row_at xs w c.args.row) c.div_ceil-across.ensures c.deref.ensures.value in
+    c.row_words-words.ensures
+    ∙ ap₂ (λ w xs. row_at xs w c.args.row) c.div_ceil-width.ensures c.deref.ensures.value in
     digits_are c.args.self.now c.self.inside.rows c.self.inside.columns c.self.inside.bits.items
     (sym c.self.view_is) c.self.invariant c.args.row c.args.word _ c.write_digits.new.into
     c.args.into.now c.requires.row is c.requires.within c.requires.whole

@@ -5,19 +5,20 @@ use Rattle.mm_rows.specs.Users.{AreColumns, IsColumn}
 use Rattle.mm_rows.proofs.TableLaw.{column_fits}
 use Rattle.mm_rows.proofs.table.Matrix.column.Goals as goal
 
-pub part-requires : goal.part-requires
-part-requires g c =
-    column_fits c.args.self.now c.self.inside.users.items
-    (subst (λ m. AreColumns m c.self.inside.users.items) c.self.view_is c.self.invariant)
-    c.args.column c.div_ceil-down.result c.deref.result.now c.requires
-    (c.div_ceil-down.ensures ∙ ap words_for c.rows.ensures) c.deref.ensures.value
+pub row_words-requires : goal.row_words-requires
+row_words-requires g c =
+    column_fits c.args.self.now c.self.inside.columns_bits.items
+    (subst (λ m. AreColumns m c.self.inside.columns_bits.items) c.self.view_is c.self.invariant)
+    c.args.column c.div_ceil-height.result c.deref.result.now c.requires
+    (c.div_ceil-height.ensures ∙ ap words_for c.rows.ensures) c.deref.ensures.value
 
 pub returns : goal.returns
 returns g c =
     let columns =
-    subst (λ m. AreColumns m c.self.inside.users.items) c.self.view_is c.self.invariant in
+    subst (λ m. AreColumns m c.self.inside.columns_bits.items) c.self.view_is c.self.invariant in
     subst (IsColumn c.args.self.now c.args.column)
-    (sym (c.part.ensures
-    ∙ ap₂ (λ w xs. row_at xs w c.args.column) (c.div_ceil-down.ensures ∙ ap words_for c.rows.ensures)
+    (sym (c.row_words.ensures
+    ∙ ap₂ (λ w xs. row_at xs w c.args.column) (c.div_ceil-height.ensures
+    ∙ ap words_for c.rows.ensures)
     c.deref.ensures.value))
     (columns.each c.args.column c.requires)

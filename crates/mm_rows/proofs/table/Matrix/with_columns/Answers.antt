@@ -7,6 +7,7 @@ pub invariant_of-result : goal.invariant_of-result
 invariant_of-result g c =
     let inside = c.marked.inside in
     columns_are c.args.marked inside.rows inside.columns inside.bits.items (sym c.marked.view_is)
-    c.marked.invariant c.in_ok-users.users.items
-    (subst (λ (xs : List ℕ). AreTransposed inside.rows inside.columns xs c.in_ok-users.users.items)
-    c.deref.ensures.value c.in_ok-users.ensures)
+    c.marked.invariant c.in_ok-columns_bits.columns_bits.items
+    (subst (λ (xs : List ℕ). AreTransposed inside.rows inside.columns xs
+    c.in_ok-columns_bits.columns_bits.items)
+    c.deref.ensures.value c.in_ok-columns_bits.ensures)

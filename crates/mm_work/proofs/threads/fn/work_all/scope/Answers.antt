@@ -10,7 +10,7 @@ use Rattle.mm_work.proofs.threads.fn.work_all.scope.Goals as goal
 
 pub join_all-requires : goal.join_all-requires
 join_all-requires g c = record {
-  own = c.work-own.ensures;
+  first = c.work-first.ensures;
   others = λ k d l.
       let len = c.in-Ok-join_promised.ensures.len in
       let ok = c.in-Ok-join_promised.others.ok.0 in
@@ -24,8 +24,8 @@ join_all-requires g c = record {
 
 pub loop-worker-preserved : goal.loop-worker-preserved
 loop-worker-preserved g c = record {
-  ready = c.split.ensures.own;
-  promised = elim c.match-split.branch [
+  ready = c.split_off.ensures.old_seat;
+  promised = elim c.match-split_off.branch [
     | in-Some+in-Ok+in_ok-push w ↦ rw (w.handles-is, w.in_ok-push.ensures.items)
         (All-push (λ h. h.promise.now ≡ c.captures.job.now) c.loop-worker.handles.items
         w.in-Ok.handle c.loop-worker.invariant.promised (ap (λ p. p.now) w.in-Ok.ensures.ok))

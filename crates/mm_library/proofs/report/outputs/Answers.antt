@@ -1,0 +1,13 @@
+use Rattle.std.proofs.Common.{subst}
+use Rattle.mm_spec.specs.Request.{Request}
+use Rattle.mm_run.specs.Counted.{IsJudgedText}
+use Rattle.mm_library.proofs.report.outputs.Goals as goal
+
+pub write_outputs-requires : goal.write_outputs-requires
+write_outputs-requires g c =
+    record {
+      judged =
+          subst
+          (λ (r : Request). IsJudgedText c.args.text.now r.essential r.with_open
+          c.in-Ok.judged) c.request.view_is c.in-Ok.ensures;
+    }

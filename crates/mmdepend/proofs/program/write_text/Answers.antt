@@ -1,0 +1,13 @@
+use Rattle.std.proofs.Common.{length, sym, subst}
+use Rattle.std.proofs.Math.Seq.{take-length}
+use Rattle.std.specs.Io.KnownBytes.{Appends}
+use Rattle.mmdepend.proofs.program.write_text.Goals as goal
+
+pub returns-in-Ok-clause-beginning : goal.returns-in-Ok-clause-beginning
+returns-in-Ok-clause-beginning g c =
+    let p = c.args.text.now in (
+      length p,
+      subst
+          (Appends (g.W.Write.contents c.args.to.now) (g.W.Write.contents c.write_whole.new.to))
+          (sym (take-length p)) c.in-Ok.ensures.whole,
+    )
