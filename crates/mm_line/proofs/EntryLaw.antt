@@ -236,5 +236,5 @@ module _ (c : Command) (m : ArgMatches) (p : IsParsedFrom c m)
             (p.parsed (p.from.globals ∙ globals)).values is in
             reads first_value_found.0
             ((bytes_eq-Decides first_value_found.0.0.now id).0 first_value_found.2)
-                first_value_found.3
+            first_value_found.3
             (is ∙ ap (λ (y : MatchedArg). Some y) (sym first_value_found.1))

@@ -50,7 +50,10 @@ impl<'a, A: Allocator + Copy> Scope<'a, A> {
             let token = tokens[at as usize];
             let (number, known) = self.names.numbered(token.bytes(text));
             numbers.push(Sym::new(number as u32))?;
-            least_found = lesser(least_found, fault_with_code(token.start, self.symbol_code(known)));
+            least_found = lesser(
+                least_found,
+                fault_with_code(token.start, self.symbol_code(known)),
+            );
         }
         Ok(least_found)
     }
@@ -171,7 +174,10 @@ impl<'a, A: Allocator + Copy> Scope<'a, A> {
         match outline.kind {
             Kind::Constants => {
                 let deep = fault_with_code(first, code_if(deep > 0, Code::ConstantInBlock));
-                lesser(deep, fault_with_code(end, code_if(count == 0, Code::EmptyDeclaration)))
+                lesser(
+                    deep,
+                    fault_with_code(end, code_if(count == 0, Code::EmptyDeclaration)),
+                )
             }
             Kind::Variables => fault_with_code(end, code_if(count == 0, Code::EmptyDeclaration)),
             _ => fault_with_code(end, code_if(count < 2, Code::TooFewVariables)),

@@ -101,8 +101,16 @@ module _ (db : List Statement) (k : ℕ)
 
   usable_good : (w : Bytes) → AllByRecursion IsGoodLabel (usable db k w)
   usable_good w =
-      grind (arith, common_steps, and_parts, each_any, each_filter, passing_statement, good_label,
-          labelled_rule)
+      grind (
+        arith,
+        common_steps,
+        and_parts,
+        each_any,
+        each_filter,
+        passing_statement,
+        good_label,
+        labelled_rule,
+      )
 
   mandatory_good : AllByRecursion IsGoodLabel (mandatory_hypotheses db k)
   mandatory_good =
