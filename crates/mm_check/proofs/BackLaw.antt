@@ -205,7 +205,8 @@ module _ (counts : ℕ → ℕ → Bool) (at : ℕ → Trees) where
     module _ (l : ℕ) (ts : Trees) (f : Formula) (cs : Trees) (here : at (suc i) ≡ more ts l f cs)
         (before : at i ≡ ts ⧺ cs) (count : length ws ≡ tree_count ts) (vs : List Bool)
         (from : (n : ℕ) → flag_at vs n ≡ true → (b ≡ true) × (counts l n ≡ true))
-        (to : (n : ℕ) → n < tree_count cs → b ≡ true → counts l n ≡ true → flag_at vs n ≡ true) where
+        (to : (n : ℕ) → n < tree_count cs → b ≡ true → counts l n ≡ true → flag_at vs n ≡ true)
+        where
       flag_after : (n : ℕ) → flag_at (ws ++ vs) (tree_count ts + n) ≡ flag_at vs n
       flag_after n = ap (λ k. flag_at (ws ++ vs) (k + n)) (sym count)
           ∙ get_or-append-add ws vs n false
@@ -265,7 +266,8 @@ module _ (counts : ℕ → ℕ → Bool) (at : ℕ → Trees) where
               let p = some_place counts (λ n. flag_at (ws ++ vs) (tree_count ts + n)) cs a k in
               let e = (from p.0 (sym (flag_after p.0) ∙ p.1)).0 in
               found ts l f cs here count e
-              (inr (other_places counts (λ n. flag_at (ws ++ vs) (tree_count ts + n)) (counts l) cs a
+              (inr (other_places counts (λ n. flag_at (ws ++ vs) (tree_count ts + n))
+              (counts l) cs a
               (λ n u q. (from n (sym (flag_after n) ∙ q)).1) k))
       label_up (inr (inr h)) = inr (repeated_earlier h)
 
@@ -302,7 +304,8 @@ module _ (counts : ℕ → ℕ → Bool) (at : ℕ → Trees) where
           by_root : HasNode counts (flag_at (ws ++ flag ∷ [])) (more (at i) l f cs) a
               → IsToBeFound i (ws ++ []) (step_flags_after b (marked j) step_flags) a
           by_root (inl k) = inl (same_places (flag ∷ []) [] k)
-          by_root (inr k) = tree_down (by_flag (sym (last_flag (tree_count (at i)) count) ∙ k.0)) k.1
+          by_root (inr k) =
+              tree_down (by_flag (sym (last_flag (tree_count (at i)) count) ∙ k.0)) k.1
       marked_down (inr h) = by_step (repeated_step_cases (at i) l f cs here h)
         where
           by_step : ((b ≡ true) × ((a ≡ l) ⊎ HasNode counts (counts l) cs a))

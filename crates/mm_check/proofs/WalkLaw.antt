@@ -310,8 +310,10 @@ module _ (db : List Statement) (t : ℕ) (steps : List PlacedStep) (n i : ℕ)
       let e = r.fits in
       let k = some_row (context_at db t) r.forests (0 + i) (get_or (steps_of steps) i (label 0)) m
       in
-      let same : tree_count (forest_at r.forests n) ≡ tree_count (forest_at r.forests (suc (0 + i))) =
-      ap (λ j. tree_count (forest_at r.forests j)) (let q : n ≡ suc (0 + i) = omega (arith, next) in q) in
+      let same : tree_count (forest_at r.forests n)
+      ≡ tree_count (forest_at r.forests (suc (0 + i))) =
+      ap (λ j. tree_count (forest_at r.forests j))
+      (let q : n ≡ suc (0 + i) = omega (arith, next) in q) in
       omega (arith, e, k, same)
 
   -- the same by the values that the code has

@@ -17,7 +17,8 @@ use Rattle.mm_spec.specs.Opened.{counted}
 use Rattle.mm_spec.specs.declared.Fault.{Fault}
 use Rattle.mm_spec.specs.declared.Word.{Word}
 use Rattle.mm_spec.proofs.OpenedLaw.{counted_got, counted_then, counted_length}
-use Rattle.mm_outline.specs.Parts.{AreWithin, HasEnd, IsOutline, as_tokens, between, statement_between, nth_word}
+use Rattle.mm_outline.specs.Parts.{AreWithin, HasEnd, IsOutline, as_tokens, between}
+use Rattle.mm_outline.specs.Parts.{statement_between, nth_word}
 use Rattle.mm_outline.specs.Parts.{statement_of, token_of}
 use Rattle.mm_outline.specs.Statements.{statements}
 use Rattle.mm_outline.specs.declared.parts.Kind.{Kind}

@@ -24,7 +24,8 @@ module _ (db : List Statement) (b : BlockLists) (blocks : IsBlocks db b) (k : �
     where
       by_order : (j < k) ⊎ (k ≤ j)
           → is_active_local b j k
-          ≡ (nat_lt j k && (list_any is_disjoint_statement (statement_at db j) && is_block_open db j k))
+          ≡ (nat_lt j k && (list_any is_disjoint_statement (statement_at db j)
+          && is_block_open db j k))
       by_order (inl l) = ap (λ c. nat_lt j k && c)
           (sym (ap₂ (λ p q. p && q) t (blocks.ended j k l h)))
       by_order (inr g) =

@@ -179,8 +179,10 @@ module _ (db : List Statement) (k : ℕ) where
           let v = w.0 in
           let t = get_or ts v 0 in
           let same =
-          eqb-true j t (and_parts (nat_eq j t) (not (nat_eq t never) && is_block_open db t k) w.2).0 in
-          let rest = (and_parts (nat_eq j t) (not (nat_eq t never) && is_block_open db t k) w.2).1 in
+          eqb-true j t (and_parts (nat_eq j t) (not (nat_eq t never) && is_block_open db t k) w.2).0
+          in
+          let rest = (and_parts (nat_eq j t) (not (nat_eq t never) && is_block_open db t k) w.2).1
+          in
           let m = sym (variables_are v) ∙ w.1 in
           let s =
           typed.some v (mandatory_named v m)

@@ -65,7 +65,8 @@ module _ (test : Statement → Bool) (db : List Statement) where
           subst (λ i. is_staying test db i k ≡ false) (sym e)
           (false_from_ne_true (is_staying test db last k)
           (λ t. true≢false
-          (sym (and_parts (list_any test (statement_at db last)) (is_block_open db last k) t).1 ∙ out)))
+          (sym (and_parts (list_any test (statement_at db last)) (is_block_open db last k) t).1
+          ∙ out)))
       by_order i i_lt_k o (inr (inr g)) = is_candidate.after i i_lt_k (inl g)
 
   pub candidate_open : (k last : ℕ) → IsCandidate test db k last
@@ -107,7 +108,8 @@ module _ (test : Statement → Bool) (db : List Statement) where
           (sym (on_earlier i k (k + 1) (omega arith) (omega arith) t) ∙ is_latest.after i l o))
       by_order i h o (inr g) =
           let i_is_k : i ≡ k = omega arith in
-          ap (λ b. b && is_block_open db i (k + 1)) (ap (λ i. list_any test (statement_at db i)) i_is_k ∙ e)
+          ap (λ b. b && is_block_open db i (k + 1))
+          (ap (λ i. list_any test (statement_at db i)) i_is_k ∙ e)
 
   pub latest_start : (last : ℕ) → last ≡ never → IsLatest test db 0 last
   latest_start last e = record { found = λ n. absurd (n e); after = λ i h o. absurd (omega arith) }

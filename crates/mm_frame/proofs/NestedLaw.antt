@@ -17,11 +17,14 @@ module _ (db : List Statement) where
       (is_block_open_exact db j k h).1 (λ i a b. inside i a (omega arith))
 
   -- to the end of the inner one is to where it began
-  pub stays_nested : (i j k : ℕ) → i < j → j ≤ k → is_block_open db j k ≡ true → is_block_open db i k ≡ is_block_open db i j
+  pub stays_nested : (i j k : ℕ) → i < j → j ≤ k → is_block_open db j k ≡ true
+      → is_block_open db i k ≡ is_block_open db i j
   stays_nested i j k i_lt_j j_le_k e =
-      same_tests (is_block_open db i k) (is_block_open db i j) (stays_earlier i j k (omega arith) j_le_k)
+      same_tests (is_block_open db i k) (is_block_open db i j)
+      (stays_earlier i j k (omega arith) j_le_k)
       (λ f. (is_block_open_exact db i k (omega arith)).1
-      (outer ((is_block_open_exact db i j (omega arith)).0 f) ((is_block_open_exact db j k j_le_k).0 e)))
+      (outer ((is_block_open_exact db i j (omega arith)).0 f)
+      ((is_block_open_exact db j k j_le_k).0 e)))
     where
       outer : InBlock db i j → InBlock db j k → InBlock db i k
       outer f g m a b = by_order (cases_lt j m)

@@ -38,4 +38,5 @@ pub record AreReady (db : List Statement) (k : ℕ) (last_floats stamps : List �
 abbrev pub is_float_of : List Statement → ℕ → List ℕ → ℕ → ℕ → Bool
 is_float_of db k last_floats j v =
     nat_eq j (slice_index last_floats v)
-    && (not (nat_eq (slice_index last_floats v) never) && is_block_open db (slice_index last_floats v) k)
+    && (not (nat_eq (slice_index last_floats v) never)
+    && is_block_open db (slice_index last_floats v) k)

@@ -92,7 +92,8 @@ module _ (c : Context) where
       → postfix forest ≡ ls → run c 0 ls [] ≡ Ok (formulas forest)
   forest_run ls good forest d e =
       let g : AreGood c (postfix forest) = subst (AreGood c) (sym e) good in
-      ap (λ x. run c 0 x []) (sym e ∙ sym (append-nil (postfix forest))) ∙ runs_forest c forest d g 0 [] []
+      ap (λ x. run c 0 x []) (sym e ∙ sym (append-nil (postfix forest)))
+      ∙ runs_forest c forest d g 0 [] []
 
   -- a run over the labels succeeds exactly if they are the postfix list of a forest of derivations
   pub exact_ok : (ls : List ℕ) → AreGood c ls

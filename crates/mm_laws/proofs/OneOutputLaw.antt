@@ -284,7 +284,8 @@ shape_unique ts f g s t =
     by_split (inr (inr h)) =
         absurd (t.no_more (begins_front t.before h.0 t.first (subst BeginStatements h.1 s.begins)))
 
-same_statements : (ts : List Token) (a b : List Statement) → AreLongestStatements ts a → AreLongestStatements ts b → a ≡ b
+same_statements : (ts : List Token) (a b : List Statement) → AreLongestStatements ts a
+    → AreLongestStatements ts b → a ≡ b
 same_statements ts a b h k = sym (longest_unique ts a h) ∙ longest_unique ts b k
 
 end_unique : (len : ℕ) (ts : List Token) (f g : Fault) → FileEndFault len ts f
@@ -296,14 +297,17 @@ end_unique len ts f g s t = by_kinds s.code t.code
         append_cancel_left
         (flat_map spelling_of t.statements) s.are_statements.rest t.are_statements.rest
         (sym (subst (λ r. ts ≡ flat_map spelling_of r ++ s.are_statements.rest)
-        (same_statements ts s.statements t.statements s.are_statements t.are_statements) s.are_statements.splits)
+        (same_statements ts s.statements t.statements s.are_statements t.are_statements)
+        s.are_statements.splits)
         ∙ t.are_statements.splits)
 
     by_kinds : ((s.are_statements.rest ≢ []) × (f ≡ fault len OpenStatement))
-        ⊎ ((s.are_statements.rest ≡ []) × (count_by is_closing s.statements < count_by is_opening s.statements)
+        ⊎ ((s.are_statements.rest ≡ [])
+        × (count_by is_closing s.statements < count_by is_opening s.statements)
         × (f ≡ fault len OpenBlock))
         → ((t.are_statements.rest ≢ []) × (g ≡ fault len OpenStatement))
-        ⊎ ((t.are_statements.rest ≡ []) × (count_by is_closing t.statements < count_by is_opening t.statements)
+        ⊎ ((t.are_statements.rest ≡ [])
+        × (count_by is_closing t.statements < count_by is_opening t.statements)
         × (g ≡ fault len OpenBlock))
         → f ≡ g
     by_kinds (inl h) (inl k) = h.1 ∙ sym k.1
@@ -357,20 +361,23 @@ not_shorter : (len : ℕ) (x : LexedText) (a b : List Statement) (f g : Option F
     → h.rest ≡ s ∷ zs → length a < length b → ⊥
 not_shorter len x a b f g h k s zs is lt =
     let stop = subst (λ r. StopsReading len x h.statements a r f) is h.stops in
-    let statements = same_statements x.tokens h.statements k.statements h.are_statements k.are_statements in
+    let statements = same_statements x.tokens h.statements k.statements h.are_statements
+    k.are_statements in
     stop.0 (sym stop.1 ∙ ap (λ r. scope_fault r (length a)) statements ∙ k.lawful (length a) lt)
 
 read_unique : (len : ℕ) (x : LexedText) (a b : List Statement) (f g : Option Fault)
     → IsRead len x a f → IsRead len x b g → (a ≡ b) × (f ≡ g)
 read_unique len x a b f g h k =
     by_front (fronts_of a b h.rest k.rest
-    (sym h.splits ∙ same_statements x.tokens h.statements k.statements h.are_statements k.are_statements ∙ k.splits))
+    (sym h.splits ∙ same_statements x.tokens h.statements k.statements h.are_statements
+    k.are_statements ∙ k.splits))
   where
     by_front : Fronts a h.rest b k.rest → (a ≡ b) × (f ≡ g)
     by_front (inl e) = (
       e.0,
       stops_unique len x k.statements b k.rest f g
-          (subst (λ r. StopsReading len x r b k.rest f) (same_statements x.tokens h.statements k.statements h.are_statements k.are_statements)
+          (subst (λ r. StopsReading len x r b k.rest f)
+          (same_statements x.tokens h.statements k.statements h.are_statements k.are_statements)
           (subst (λ r. StopsReading len x h.statements b r f) e.1
           (subst (λ d. StopsReading len x h.statements d h.rest f) e.0 h.stops)))
           k.stops,

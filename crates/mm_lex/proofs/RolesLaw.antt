@@ -1,6 +1,7 @@
 -- What a word is.
 use Rattle.std.proofs.Common.{◌≡◌, ℕ, zero, suc, ◌+◌, ◌-◌, ◌<◌, ◌≤◌, ◌||◌, ◌&&◌, ◌==◌, Bool, true}
-use Rattle.std.proofs.Common.{false, List, [], ◌∷◌, length, drop, get_or, refl, ◌∙◌, not, subst, sym}
+use Rattle.std.proofs.Common.{false, List, [], ◌∷◌, length, drop, get_or, refl, ◌∙◌, not, subst}
+use Rattle.std.proofs.Common.{sym}
 use Rattle.std.proofs.Common.{inl, inr, ◌⊎◌, codes}
 use Rattle.std.specs.List.{list_any, list_all}
 use Rattle.std.proofs.Common.{arith}

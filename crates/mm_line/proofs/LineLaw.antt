@@ -42,12 +42,14 @@ use Rattle.mm_spec.specs.declared.Choice.TheVariants.{All, Matrix, Counts, Usage
 use Rattle.mm_spec.specs.declared.Form.{Form}
 use Rattle.mm_spec.specs.declared.Form.TheVariants.{One, Two}
 use Rattle.mm_spec.specs.Derivation.{is_member}
-use Rattle.mm_line.specs.Lines.{IsCommand, IsReportRule, IsFormRule, IsFlag, IsAsking, IsLineRefusal}
+use Rattle.mm_line.specs.Lines.{IsCommand, IsReportRule, IsFormRule, IsFlag, IsAsking}
+use Rattle.mm_line.specs.Lines.{IsLineRefusal}
 use Rattle.mm_line.specs.Lines.{command_of, flag_rule, number_rule, only_rule, report_rule}
 use Rattle.mm_line.specs.Lines.{file_rule, form_rule, form_word, form_words, report_word}
 use Rattle.mm_line.specs.Lines.{report_words, AreReadAs}
 use Rattle.mm_line.specs.Found.{Finds, HasForm, HasNumber, HasReport, IsFor}
-use Rattle.mm_line.proofs.EntryLaw.{Defaulted, default_reads, nothing_in, rule_in_place, simple_parts}
+use Rattle.mm_line.proofs.EntryLaw.{Defaulted, default_reads, nothing_in, rule_in_place}
+use Rattle.mm_line.proofs.EntryLaw.{simple_parts}
 use Rattle.mm_plan.specs.declared.Cutting.TheVariants.{Count}
 use Rattle.mm_plan.specs.Plans.{IsLawfulCutting, only_of}
 use Rattle.mm_line.specs.declared.command_line.Line.{Line}

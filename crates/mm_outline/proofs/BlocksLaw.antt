@@ -95,7 +95,8 @@ module _ (db : List Statement) (s : Statement) (b : BlockLists) (x : IsBlocks db
 
   of_front : (j : ℕ) → j < length db → get_or of_more j 0 ≡ get_or b.of j 0
   of_front j h =
-      get_or_append_left b.of (innermost b.open_blocks ∷ []) 0 j (let c = x.count in omega (arith, c, h))
+      get_or_append_left b.of (innermost b.open_blocks ∷ []) 0 j
+      (let c = x.count in omega (arith, c, h))
 
   of_last : get_or of_more (length db) 0 ≡ innermost b.open_blocks
   of_last =
@@ -198,7 +199,8 @@ module _ (db : List Statement) (s : Statement) (b : BlockLists) (x : IsBlocks db
         at-old : (j : ℕ) → j < length db → get_or ends (get_or of_more j 0) 0 ≡ never
             → (depth (more db s) j ≤ depth (more db s) (length (more db s)))
             × (get_or opens (depth (more db s) j) 0 ≡ get_or of_more j 0)
-        at-old j h e = by_becomes (g.becomes j h) (ap (λ k. get_or ends k 0) (sym (of_front j h)) ∙ e)
+        at-old j h e =
+            by_becomes (g.becomes j h) (ap (λ k. get_or ends k 0) (sym (of_front j h)) ∙ e)
           where
             by_becomes : Becomes j → get_or ends (get_or b.of j 0) 0 ≡ never
                 → (depth (more db s) j ≤ depth (more db s) (length (more db s)))
@@ -225,7 +227,8 @@ module _ (db : List Statement) (s : Statement) (b : BlockLists) (x : IsBlocks db
                 → (get_or ends (get_or of_more j 0) 0 ≡ never)
                 ⊎ (get_or ends (get_or of_more j 0) 0 < length (more db s))
             by_becomes (inl (f, inl o)) = inl (ap (λ k. get_or ends k 0) (of_front j h) ∙ o.0)
-            by_becomes (inl (f, inr c)) = inr (rw (of_front j h) (omega (arith, c.0, length_more db s)))
+            by_becomes (inl (f, inr c)) =
+                inr (rw (of_front j h) (omega (arith, c.0, length_more db s)))
             by_becomes (inr p) = inr (rw (of_front j h) (omega (arith, p.0, p.1, length_more db s)))
 
         ended : (j k : ℕ) → j < k → k ≤ length (more db s)
@@ -292,7 +295,8 @@ module _ (db : List Statement) (s : Statement) (b : BlockLists) (x : IsBlocks db
                 ∙ ap (λ q. nat_le (length db + 1) (get_or ends q 0)) (sym of_last))
 
             by_order : (length db < k) ⊎ (k ≤ length db)
-                → is_block_open (more db s) j k ≡ nat_le k (end_of (block_lists of_more ends opens) j)
+                → is_block_open (more db s) j k
+                ≡ nat_le k (end_of (block_lists of_more ends opens) j)
             by_order (inl m) =
                 let e : k ≡ length db + 1 = omega (arith, l, m, length_more db s) in
                 subst
@@ -340,7 +344,8 @@ module _ (db : List Statement) (s : Statement) (b : BlockLists) (x : IsBlocks db
   )
 
   pub blocks_plain : is_opening s ≡ false → is_closing s ≡ false
-      → IsBlocks (db ++ s ∷ []) (block_lists (b.of ++ innermost b.open_blocks ∷ []) b.ends b.open_blocks)
+      → IsBlocks (db ++ s ∷ []) (block_lists
+      (b.of ++ innermost b.open_blocks ∷ []) b.ends b.open_blocks)
   blocks_plain o c =
       let d = depth_plain o c in
       let m = brackets_counted false false o c in
@@ -458,7 +463,8 @@ module _ (db : List Statement) (s : Statement) (b : BlockLists) (x : IsBlocks db
 
   pub blocks_closing : is_opening s ≡ false → is_closing s ≡ true → 0 < depth db (length db)
       → IsBlocks (db ++ s ∷ [])
-      (block_lists (b.of ++ innermost b.open_blocks ∷ []) (set b.ends (innermost b.open_blocks) (length b.of))
+      (block_lists (b.of ++ innermost b.open_blocks ∷ [])
+      (set b.ends (innermost b.open_blocks) (length b.of))
       (take (length b.open_blocks - 1) b.open_blocks))
   blocks_closing o c deep =
       let d = depth_closing o c in
@@ -469,7 +475,8 @@ module _ (db : List Statement) (s : Statement) (b : BlockLists) (x : IsBlocks db
         stack = omega (arith, k, d, shorter, deep);
         longer = omega (arith, length-set b.ends (innermost b.open_blocks) (length b.of));
         few-more =
-            let m = x.few in omega (arith, m, length-set b.ends (innermost b.open_blocks) (length b.of));
+            let m = x.few in omega (arith, m, length-set b.ends (innermost b.open_blocks)
+            (length b.of));
         opened =
             λ l h. let i : l < length b.open_blocks = omega (arith, h, shorter) in
             rw (opens-front l h)
@@ -478,7 +485,8 @@ module _ (db : List Statement) (s : Statement) (b : BlockLists) (x : IsBlocks db
         still =
             λ l h. let i : l < length b.open_blocks = omega (arith, h, shorter) in
             ap (λ q. get_or ends q 0) (opens-front l h)
-            ∙ get_or-set_other b.ends (innermost b.open_blocks) (get_or b.open_blocks l 0) (length b.of) 0
+            ∙ get_or-set_other b.ends (innermost b.open_blocks) (get_or b.open_blocks l 0)
+            (length b.of) 0
             (other l h)
             ∙ x.still l i;
         rising =
@@ -516,9 +524,11 @@ module _ (db : List Statement) (s : Statement) (b : BlockLists) (x : IsBlocks db
 
       by_end : (j : ℕ) → j < length db → (end_of b j ≡ never) ⊎ (end_of b j < length db)
           → Becomes ends opens j
-      by_end j h (inl e) = by_case (cases_eq (get_or b.of j 0) (innermost b.open_blocks)) (x.at j h e)
+      by_end j h (inl e) =
+          by_case (cases_eq (get_or b.of j 0) (innermost b.open_blocks)) (x.at j h e)
         where
-          by_case : (get_or b.of j 0 ≡ innermost b.open_blocks) ⊎ (get_or b.of j 0 ≢ innermost b.open_blocks)
+          by_case : (get_or b.of j 0 ≡ innermost b.open_blocks)
+              ⊎ (get_or b.of j 0 ≢ innermost b.open_blocks)
               → (depth db j ≤ depth db (length db))
               × (get_or b.open_blocks (depth db j) 0 ≡ get_or b.of j 0) → Becomes ends opens j
           by_case (inl q) y =
@@ -549,7 +559,8 @@ module _ (db : List Statement) (s : Statement) (b : BlockLists) (x : IsBlocks db
               inl (
                 e,
                 inl (
-                  get_or-set_other b.ends (innermost b.open_blocks) (get_or b.of j 0) (length b.of) 0 q
+                  get_or-set_other b.ends (innermost b.open_blocks) (get_or b.of j 0)
+                  (length b.of) 0 q
                       ∙ e,
                   omega (arith, d, below),
                   opens-front (depth db j)

@@ -66,7 +66,8 @@ module _ (text : List ℕ) (ws : List Word) (d from i : ℕ) (part : Part) where
       o ≡ table.transition (progress text ws d part i) (class (token_at text ws i).word)
       (token_at text ws i)
 
-  pub goes_go : Goes text ws d from part i → i < length ws → (q : Progress) → LeadsOn (table.continued q)
+  pub goes_go : Goes text ws d from part i → i < length ws → (q : Progress)
+      → LeadsOn (table.continued q)
       → Leads (start d) (tokens_from text ws from) [] q (tokens_from text ws (i + 1))
   goes_go g h q e =
       leads_then g
@@ -82,7 +83,8 @@ module _ (text : List ℕ) (ws : List Word) (d from i : ℕ) (part : Part) where
       (tokens_from text ws (i + 1)))
       (sym (tokens_from_one text ws i h)) (leads_done e))
 
-  pub goes_stop : Goes text ws d from part i → i < length ws → LeadsOn table.unexpected → (f : Fault)
+  pub goes_stop : Goes text ws d from part i → i < length ws → LeadsOn table.unexpected
+      → (f : Fault)
       → f ≡ fault (token_at text ws i).at (shape_code (is_start part) (token_at text ws i).word)
       → (statements_from (start d) (tokens_from text ws from) ≡ [])
       × (shape_fault_from (start d) (tokens_from text ws from) ≡ Some f)

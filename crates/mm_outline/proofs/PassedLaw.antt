@@ -19,7 +19,8 @@ TakesWords (Labelled l) = ⊥
 TakesWords _ = Unit {0}
 
 -- it stays where it is further on
-pub part_later : (part : Part) (i j : ℕ) → TakesWords part → i ≤ j → IsPartBefore part i → IsPartBefore part j
+pub part_later : (part : Part) (i j : ℕ) → TakesWords part → i ≤ j → IsPartBefore part i
+    → IsPartBefore part j
 part_later Start i j t h p = absurd t
 part_later (Labelled l) i j t h p = absurd t
 part_later (Words k w) i j t h p = (p.0, p.1, omega arith)

@@ -114,7 +114,8 @@ by_limit P text none some = by_order (cases_lt text_limit (length text))
   where
     by_order : (text_limit < length text) ⊎ (length text ≤ text_limit) → P (tokens_of text)
     by_order (inl h) = subst P (sym (tokens_of_long text h)) none
-    by_order (inr h) = subst P (sym (tokens_of_read text (reading text None (words_of text)) h refl)) some
+    by_order (inr h) =
+        subst P (sym (tokens_of_read text (reading text None (words_of text)) h refl)) some
 
 -- each token is a word of the text
 pub tokens_are_words : (text : List ℕ) → All (IsWord text) (tokens_of text)
@@ -201,8 +202,10 @@ tokens_tokens text c (w ∷ ws) =
         subst (λ r. All P r.tokens) (sym (reading_opening text c w ws e)) (rest (Some w.start))
     by_role Closing e rest =
         subst (λ r. All P r.tokens) (sym (reading_closing text c w ws e)) (rest None)
-    by_role Comment e rest = subst (λ r. All P r.tokens) (sym (reading_comment text c w ws e)) (rest c)
-    by_role Faulty e rest = subst (λ r. All P r.tokens) (sym (reading_faulty text c w ws e)) (All-nil P)
+    by_role Comment e rest =
+        subst (λ r. All P r.tokens) (sym (reading_comment text c w ws e)) (rest c)
+    by_role Faulty e rest =
+        subst (λ r. All P r.tokens) (sym (reading_faulty text c w ws e)) (All-nil P)
 
 -- the first byte of each token tells whether it has a `$`
 pub tokens_tell : (text : List ℕ) → AreTokens text (tokens_of text)
@@ -235,7 +238,8 @@ tokens_few text =
 pub tokens_small : (text : List ℕ) → length (tokens_of text) < 2 ^ 31
 tokens_small text = by_order (cases_lt text_limit (length text))
   where
-    by_order : (text_limit < length text) ⊎ (length text ≤ text_limit) → length (tokens_of text) < 2 ^ 31
+    by_order : (text_limit < length text) ⊎ (length text ≤ text_limit)
+        → length (tokens_of text) < 2 ^ 31
     by_order (inl h) =
         let e : length (tokens_of text) ≡ 0 = ap length (tokens_of_long text h) in omega (arith, e)
     by_order (inr h) = let n = tokens_few text in omega (arith, h, n)

@@ -115,7 +115,8 @@ module _ (text : List ℕ) (ws : List Word) where
   progress d Start i = table.start d
   progress d (Labelled l) i = table.labelled d (token_at text ws l)
   progress d (Words kind k) i = table.words d (statement_with kind k) (between text ws (k + 1) i)
-  progress d (Formula k) i = table.formula d (label_before k) (start_of k) (between text ws (k + 1) i)
+  progress d (Formula k) i =
+      table.formula d (label_before k) (start_of k) (between text ws (k + 1) i)
   progress d (Proof k e) i = table.words d (theorem_with k e) (between text ws (e + 1) i)
 
   abbrev pub transition_of : ℕ → ℕ → Transition → table.Transition

@@ -42,7 +42,8 @@ module _ (db : List Statement) (k : ℕ) (w : Bytes) where
     where
       before : (i : ℕ) → (nat_eq i j || false) ≡ true → i < 0 + k
       before i e =
-          let i_is_j : i ≡ j = eqb-true i j (passes_alone (nat_eq i j) e) in let h = is_before db j k
+          let i_is_j : i ≡ j = eqb-true i j
+          (passes_alone (nat_eq i j) e) in let h = is_before db j k
           active_at_k in
           omega (arith, i_is_j, h)
 

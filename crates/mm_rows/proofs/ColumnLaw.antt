@@ -106,7 +106,8 @@ pub typecode_test : (db : List Statement) (k x : ℕ) (v w : Bytes)
     → list_any is_assertion (statement_at db k) ≡ true → typecode_of db k ≡ Some x
     → slice_get (symbol_names db) x ≡ Some v
     → bytes_eq v w ≡ list_any (has_typecode (Some w)) (statement_at db k)
-typecode_test db k x v w is e n = let f = passing_statement db is_assertion k is in by_kind f.0 f.1 f.2
+typecode_test db k x v w is e n =
+    let f = passing_statement db is_assertion k is in by_kind f.0 f.1 f.2
   where
     -- a statement with a label, for each list of its symbols
     labelled : (s : Statement) → slice_get db k ≡ Some s → is_labelled_kind (kind_of s) ≡ true

@@ -69,7 +69,8 @@ module _ (db : List Statement) (few : length db < never) (w : Bytes) where
       by_is_in : (b : Bool) → is_in w (words xs) ≡ b
           → IsEntryOf (db ++ constants k xs e ∷ []) w
           (if b then declared_entry false (length db) w x else x)
-      by_is_in false h = known_same db (constants k xs e) w x kn (in_nil (words xs) false h) refl refl
+      by_is_in false h =
+          known_same db (constants k xs e) w x kn (in_nil (words xs) false h) refl refl
       by_is_in true h =
           let new = constant_new n xs law w h in
           fresh x kn (no_constant x kn new.0) (no_variable x kn new.1) h
@@ -82,7 +83,8 @@ module _ (db : List Statement) (few : length db < never) (w : Bytes) where
       by_is_in : (b : Bool) → is_in w (words xs) ≡ b
           → IsEntryOf (db ++ variables k xs e ∷ []) w
           (if b then declared_entry true (length db) w x else x)
-      by_is_in false h = known_same db (variables k xs e) w x kn refl (in_nil (words xs) false h) refl
+      by_is_in false h =
+          known_same db (variables k xs e) w x kn refl (in_nil (words xs) false h) refl
       by_is_in true h =
           let new = variable_new n xs law w h in
           known_variable db (variables k xs e) w x kn (no_constant x kn new.0) new.1 refl
@@ -156,7 +158,8 @@ module _ (db : List Statement) (few : length db < never) (w : Bytes) where
       → is_in w (flat_map label_words db) ≡ is_some o
       → is_in w (flat_map label_words (db ++ s ∷ [])) ≡ is_some (label_after m (label_of s) w o)
   labelled_after s m o e =
-      in_more db s w label_words ∙ ap (λ b. b || is_in w (label_words s ++ [])) e ∙ by_token (label_of s)
+      in_more db s w label_words ∙ ap (λ b. b || is_in w (label_words s ++ [])) e
+      ∙ by_token (label_of s)
     where
       one : (l : Token) (b : Bool) → bytes_eq w l.word ≡ b
           → (is_some o || (b || false)) ≡ is_some (if b then Some m else o)
@@ -203,11 +206,13 @@ pub keeps_after : (text : List ℕ) (ws : List spec.Word) (db : List Statement)
     → least (scope_faults (names_before db (length db)) (depth db (length db))
     (statement_between text ws k p m e))
     ≡ None
-    → (is_closing (statement_between text ws k p m e) ≡ true → 0 < depth db (length db)) → (c : BlockLists)
+    → (is_closing (statement_between text ws k p m e) ≡ true → 0 < depth db (length db))
+    → (c : BlockLists)
     → c ≡ pushed k b → (number : ℕ) → number ≡ length b.of
     → (new : List ℕ → Option Symbol)
     → ((w : List ℕ)
-    → entry_of (new w) ≡ entry_after number (statement_between text ws k p m e) w (entry_of (look w)))
+    → entry_of (new w) ≡ entry_after number (statement_between text ws k p m e) w
+    (entry_of (look w)))
     → (names : List ℕ → Option ℕ)
     → ((w : List ℕ)
     → names w ≡ label_after number (label_of (statement_between text ws k p m e)) w (labels w))
@@ -221,14 +226,18 @@ keeps_after text ws db look labels b x few k p m e law deep c same number is new
           (blocks_after text ws db b x.blocks few k p m e deep);
       symbols =
           λ w. subst (IsEntryOf (db ++ statement_between text ws k p m e ∷ []) w)
-          (sym (after w ∙ ap (λ i. entry_after i (statement_between text ws k p m e) w (entry_of (look w))) n))
-          (known_after db few w (statement_between text ws k p m e) (depth db (length db)) (entry_of (look w))
+          (sym (after w ∙ ap (λ i. entry_after i (statement_between text ws k p m e) w
+          (entry_of (look w))) n))
+          (known_after db few w (statement_between text ws k p m e) (depth db (length db))
+          (entry_of (look w))
           (x.symbols w)
           (least_none
-          (scope_faults (names_before db (length db)) (depth db (length db)) (statement_between text ws k p m e))
+          (scope_faults (names_before db (length db)) (depth db (length db))
+          (statement_between text ws k p m e))
           law));
       labels_known =
-          λ w. labelled_after db few w (statement_between text ws k p m e) number (labels w) (x.labels_known w)
+          λ w. labelled_after db few w (statement_between text ws k p m e) number (labels w)
+          (x.labels_known w)
           ∙ ap is_some (sym (known w));
       labels_are =
           labels_after db s labels names x.labels_are

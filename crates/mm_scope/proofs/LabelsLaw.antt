@@ -65,9 +65,11 @@ module _ (db : List Statement) (s : Statement) (find new : List ℕ → Option �
       ⊎ ((is_labelled w s ≡ false) × (new w ≡ find w))
   here w None e h = inr (ap (λ o. elim o [ None ↦ false | Some l ↦ bytes_eq l.word w ]) e, h)
   here w (Some l) e h =
-      by_equality (bytes_eq l.word w) (ap (λ o. elim o [ None ↦ false | Some l ↦ bytes_eq l.word w ]) e) h
+      by_equality (bytes_eq l.word w)
+      (ap (λ o. elim o [ None ↦ false | Some l ↦ bytes_eq l.word w ]) e) h
     where
-      by_equality : (b : Bool) → is_labelled w s ≡ b → new w ≡ (if b then Some (length db) else find w)
+      by_equality : (b : Bool) → is_labelled w s ≡ b
+          → new w ≡ (if b then Some (length db) else find w)
           → ((is_labelled w s ≡ true) × (new w ≡ Some (length db)))
           ⊎ ((is_labelled w s ≡ false) × (new w ≡ find w))
       by_equality true p q = inl (p, q)

@@ -10,7 +10,8 @@ use Rattle.mm_spec.specs.Statement.{Statement, constants, variables, disjoint, f
 use Rattle.mm_spec.specs.Statement.{axiomatic, provable, opening, closing}
 use Rattle.mm_spec.specs.Scope.{is_active, is_some_still_active, is_still_active, variables_of}
 use Rattle.mm_spec.specs.Scope.{is_block_open}
-use Rattle.mm_outline.specs.Blocks.{BlockLists, IsBlocks, end_of, never, end_in, is_never, is_open_in}
+use Rattle.mm_outline.specs.Blocks.{BlockLists, IsBlocks, end_of, never, end_in, is_never}
+use Rattle.mm_outline.specs.Blocks.{is_open_in}
 use Rattle.mm_scope.specs.WordEntry.{Latest}
 use Rattle.mm_outline.specs.Typed.{typed_words}
 

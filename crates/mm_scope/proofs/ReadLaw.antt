@@ -181,7 +181,8 @@ depth_is : (text : List ℕ) (ws : List Word) (db : List Statement) (b : BlockLi
     → depth_after k (depth db (length db))
     ≡ depth (db ++ statement_between text ws k w m e ∷ []) (length db + 1)
 depth_is text ws db b x few kind.Open w m e =
-    (let y = depth_opening db (statement_between text ws kind.Open w m e) b x few refl refl in omega (arith, y))
+    (let y = depth_opening db (statement_between text ws kind.Open w m e) b x few refl refl in omega
+    (arith, y))
 depth_is text ws db b x few kind.Close w m e =
     sym (depth_closing db (statement_between text ws kind.Close w m e) b x few refl refl
     ∙ less_one_is (depth db (length db)))
@@ -205,7 +206,8 @@ pub reading_more : (text : List ℕ) (ws : List Word) (db : List Statement) (dee
     → (k : Kind) (w m e : ℕ) → at ≤ e → e < length ws
     → Leads (start deep) (tokens_from text ws at) (statement_between text ws k w m e ∷ [])
     (start (depth_after k deep)) (tokens_from text ws (e + 1))
-    → None ≡ least (scope_faults (names_before db (length db)) deep (statement_between text ws k w m e))
+    → None ≡ least (scope_faults (names_before db (length db)) deep
+    (statement_between text ws k w m e))
     → IsReadTo text ws (db ++ statement_between text ws k w m e ∷ []) (depth_after k deep) (e + 1)
 reading_more text ws db deep at r small b x k w m e later within l f = record {
   leads = leads_then r.leads l;
@@ -232,7 +234,8 @@ reading_more text ws db deep at r small b x k w m e later within l f = record {
       where
         by_order : (j < length db) ⊎ (length db ≤ j)
             → scope_fault (db ++ statement_between text ws k w m e ∷ []) j ≡ None
-        by_order (inl i) = scope_fault_front db (statement_between text ws k w m e ∷ []) j i ∙ r.lawful j i
+        by_order (inl i) =
+            scope_fault_front db (statement_between text ws k w m e ∷ []) j i ∙ r.lawful j i
         by_order (inr i) =
             let same : length db ≡ j = omega (arith, h, i, long) in
             subst (λ j. scope_fault (db ++ statement_between text ws k w m e ∷ []) j ≡ None) same

@@ -83,7 +83,8 @@ module _ (db : List Statement) (lawful : (k : ℕ) → k < length db → IsLawfu
 
   constant_before : (k : ℕ) (w : Bytes) → is_in w (names_before db k).constants ≡ true
       → is_variable_number db (index_of w (symbol_names db)) ≡ false
-  constant_before k w c = grind (arith, common_steps, constant_apart, declared_before, variable_word)
+  constant_before k w c =
+      grind (arith, common_steps, constant_apart, declared_before, variable_word)
 
   -- statement i is the `$f` of x
   pub record Types (i x : ℕ) : Type 0 where

@@ -82,12 +82,14 @@ not_constant_and_variable _ w c v = true≢false (sym c)
 
 pub new_constant : (n : Names) (d : ℕ) (s : Statement) (w : Bytes) → scope_faults n d s ≡ []
     → is_in w (constants_of s) ≡ true → is_in w n.all_variables ≡ false
-new_constant n d (constants k xs e) w f m = grind (arith, common_steps, append_none, each_none, second_of_three, when_none)
+new_constant n d (constants k xs e) w f m =
+    grind (arith, common_steps, append_none, each_none, second_of_three, when_none)
 new_constant n d _ w f m = absurd (true≢false (sym m))
 
 pub new_variable : (n : Names) (d : ℕ) (s : Statement) (w : Bytes) → scope_faults n d s ≡ []
     → is_in w (variables_of s) ≡ true → is_in w n.constants ≡ false
-new_variable n d (variables k xs e) w f m = grind (arith, common_steps, append_none, each_none, first_of_three, when_none)
+new_variable n d (variables k xs e) w f m =
+    grind (arith, common_steps, append_none, each_none, first_of_three, when_none)
 new_variable n d _ w f m = absurd (true≢false (sym m))
 
 -- ---- formulas

@@ -88,14 +88,17 @@ member_filter t xs x e = passes_and_is_member xs (sym (any_filter t (λ y. x == 
 
 pub filter_member : (t : ℕ → Bool) (xs : List ℕ) (x : ℕ) → t x ≡ true → is_member xs x ≡ true
     → is_member (filter t xs) x ≡ true
-filter_member t xs x e m = grind (arith, common_steps, and_from, any_filter, eqb-true, or_cases, or_left, or_right)
+filter_member t xs x e m =
+    grind (arith, common_steps, and_from, any_filter, eqb-true, or_cases, or_left, or_right)
 
 -- ---- what holds of each element
 
 pub each_member : (P : ℕ → Type 0) (xs : List ℕ) → ((x : ℕ) → is_member xs x ≡ true → P x)
     → AllByRecursion P xs
 each_member P [] h = tt
-each_member P (x ∷ xs) h = grind (arith, common_steps, eq-eqb, or_left, or_right, each_member P xs (λ y m. h y (or_right (y == x) (is_member xs y) m)))
+each_member P (x ∷ xs) h =
+    grind (arith, common_steps, eq-eqb, or_left, or_right, each_member P xs
+    (λ y m. h y (or_right (y == x) (is_member xs y) m)))
 
 pub each_map : {X Y : Type 0} (P : Y → Type 0) (f : X → Y) (xs : List X)
     → AllByRecursion (λ x. P (f x)) xs → AllByRecursion P (map f xs)
@@ -185,7 +188,8 @@ declares f [] k zero s w e h m = absurd (cc)
 declares f [] k (suc i) s w e h m = absurd (cc)
 declares f (x ∷ db) zero i s w e h m = absurd (omega arith)
 declares f (x ∷ db) (suc k) zero s w e h m = grind (arith, common_steps, list_any-append, or_left)
-declares f (x ∷ db) (suc k) (suc i) s w e h m = grind (arith, common_steps, list_any-append, or_right, declares f db k i s w e (omega arith) m)
+declares f (x ∷ db) (suc k) (suc i) s w e h m =
+    grind (arith, common_steps, list_any-append, or_right, declares f db k i s w e (omega arith) m)
 
 pub declared_before : (f : Statement → List Bytes) (db : List Statement) (k : ℕ) (w : Bytes)
     → is_in w (flat_map f (take k db)) ≡ true → is_in w (flat_map f db) ≡ true

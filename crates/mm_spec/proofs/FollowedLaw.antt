@@ -92,7 +92,9 @@ no_dollar b e = grind (arith, common_steps, eqb-true)
 
 pub label_plain : (w : Bytes) → is_label w ≡ true → has_dollar w ≡ false
 label_plain [] e = refl
-label_plain (b ∷ w) e = grind (arith, common_steps, and_parts, no_dollar, label_plain w (and_parts (is_label_byte b) (is_label w) e).1)
+label_plain (b ∷ w) e =
+    grind (arith, common_steps, and_parts, no_dollar, label_plain w
+    (and_parts (is_label_byte b) (is_label w) e).1)
 
 follow_label : (d : ℕ) (l : Token) → is_label l.word ≡ true → (ts : List Token)
     → follow (Some (at_start d)) (l ∷ ts) ≡ follow (Some (at_label d)) ts
@@ -191,7 +193,8 @@ statements_followed (s ∷ list) d w n =
     let first : is_closing s ≡ true → 0 < d = first_closes s d (n 1) in
     let step = blocks_counted s d first in
     let rest =
-    statements_followed list (depth_following s d) (and_parts (is_complete s) (list_all is_complete list) w).1
+    statements_followed list (depth_following s d)
+    (and_parts (is_complete s) (list_all is_complete list) w).1
     (λ k. fewer_closed_later s d (depth_following s d) (take k list) (n (suc k)) step) in (
       rest.0,
       follow_append (spelling_of s) (flat_map spelling_of list) (Some (at_start d))

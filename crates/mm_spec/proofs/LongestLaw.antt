@@ -11,12 +11,14 @@ use Rattle.std.proofs.lemmas.Bool.{and_parts}
 use Rattle.mm_spec.specs.Text.{Token, token, has_dollar, is_label}
 use Rattle.mm_spec.specs.Statement.{Statement, constants, variables, disjoint, floating, essential}
 use Rattle.mm_spec.specs.Statement.{axiomatic, provable, opening, closing, spelling_of, is_plain}
-use Rattle.mm_spec.specs.Statement.{is_complete, is_opening, is_closing, AreStatements, AreLongestStatements}
+use Rattle.mm_spec.specs.Statement.{is_complete, is_opening, is_closing, AreStatements}
+use Rattle.mm_spec.specs.Statement.{AreLongestStatements}
 use Rattle.mm_spec.specs.Laws.Table.{Class, constant_keyword, variable_keyword, disjoint_keyword}
 use Rattle.mm_spec.specs.Laws.Table.{floating_keyword, essential_keyword}
 use Rattle.mm_spec.specs.Laws.Table.{axiom_keyword, theorem_keyword, equals, dot, open_block}
 use Rattle.mm_spec.specs.Laws.Table.{close_block}
-use Rattle.mm_spec.specs.Laws.Table.{plain, class, Progress, start, labelled, words, formula, Transition}
+use Rattle.mm_spec.specs.Laws.Table.{plain, class, Progress, start, labelled, words, formula}
+use Rattle.mm_spec.specs.Laws.Table.{Transition}
 use Rattle.mm_spec.specs.Laws.Table.{unexpected, continued, completed, transition, statements_after}
 use Rattle.mm_spec.specs.Laws.Table.{label_transition, statements_from}
 use Rattle.mm_spec.specs.Laws.Table.{statements_of}
@@ -35,7 +37,9 @@ read_words : (d : ℕ) (make : List Token → ℕ → Statement) (xs ws : List T
     ≡ make (ws ++ xs) k ∷ statements_from (start d) ts
 read_words d make [] ws k ts e =
     ap (λ x. make x k ∷ statements_from (start d) ts) (sym (append-nil ws))
-read_words d make (x ∷ xs) ws k ts e = grind (arith, common_steps, and_parts, append_assoc, plain_word, read_words d make xs (ws ++ x ∷ []) k ts (and_parts (not (has_dollar x.word)) (is_plain xs) e).1)
+read_words d make (x ∷ xs) ws k ts e =
+    grind (arith, common_steps, and_parts, append_assoc, plain_word, read_words d make xs
+    (ws ++ x ∷ []) k ts (and_parts (not (has_dollar x.word)) (is_plain xs) e).1)
 
 read_formula : (d : ℕ) (l : Token) (k : ℕ) (xs ws : List Token) (q : ℕ) (ts : List Token)
     → is_plain xs ≡ true
@@ -43,7 +47,9 @@ read_formula : (d : ℕ) (l : Token) (k : ℕ) (xs ws : List Token) (q : ℕ) (t
     ≡ statements_from (words d (provable l k (ws ++ xs) q) []) ts
 read_formula d l k [] ws q ts e =
     ap (λ x. statements_from (words d (provable l k x q) []) ts) (sym (append-nil ws))
-read_formula d l k (x ∷ xs) ws q ts e = grind (arith, common_steps, and_parts, append_assoc, plain_word, read_formula d l k xs (ws ++ x ∷ []) q ts (and_parts (not (has_dollar x.word)) (is_plain xs) e).1)
+read_formula d l k (x ∷ xs) ws q ts e =
+    grind (arith, common_steps, and_parts, append_assoc, plain_word, read_formula d l k xs
+    (ws ++ x ∷ []) q ts (and_parts (not (has_dollar x.word)) (is_plain xs) e).1)
 
 read_label : (d : ℕ) (l : Token) (ts : List Token) → is_label l.word ≡ true
     → statements_from (start d) (l ∷ ts) ≡ statements_from (labelled d l) ts
@@ -323,7 +329,8 @@ read_on (t ∷ us) r list part b h =
 
 -- ---- the longest list, and no other
 
-statements_read : (list : List Statement) (d : ℕ) (ts : List Token) → list_all is_complete list ≡ true
+statements_read : (list : List Statement) (d : ℕ) (ts : List Token)
+    → list_all is_complete list ≡ true
     → ((n : ℕ) → count_by is_closing (take n list) ≤ d + count_by is_opening (take n list))
     → (e : ℕ) × (e + count_by is_closing list ≡ d + count_by is_opening list)
     × (statements_from (start d) (flat_map spelling_of list ++ ts)
@@ -333,7 +340,8 @@ statements_read (s ∷ list) d ts w n =
     let first : is_closing s ≡ true → 0 < d = first_closes s d (n 1) in
     let step = blocks_counted s d first in
     let x =
-    statements_read list (depth_following s d) ts (and_parts (is_complete s) (list_all is_complete list) w).1
+    statements_read list (depth_following s d) ts
+    (and_parts (is_complete s) (list_all is_complete list) w).1
     (λ k. fewer_closed_later s d (depth_following s d) (take k list) (n (suc k)) step) in (
       x.0,
       blocks_balance s list d x.0 (depth_following s d) x.1 step,
@@ -346,12 +354,14 @@ statements_read (s ∷ list) d ts w n =
 pub statements_read_at_start : (list : List Statement) (ts : List Token) → AreStatements list
     → (e : ℕ) × (e + count_by is_closing list ≡ 0 + count_by is_opening list)
     × (statements_of (flat_map spelling_of list ++ ts) ≡ list ++ statements_from (start e) ts)
-statements_read_at_start list ts r = statements_read list 0 ts r.whole (λ n. let m = r.nested n in omega (arith, m))
+statements_read_at_start list ts r =
+    statements_read list 0 ts r.whole (λ n. let m = r.nested n in omega (arith, m))
 
 -- the statements that are read are the longest list
 pub is_longest : (ts : List Token) → AreLongestStatements ts (statements_of ts)
 is_longest ts =
-    record { are_statements = read.balanced.are_statements; rest = read.rest; splits = read.is; longest = no_more }
+    record { are_statements = read.balanced.are_statements; rest = read.rest; splits = read.is;
+    longest = no_more }
   where
     read : ReadOn [] (start 0) [] ts
     read = read_on ts (start 0) [] [] balanced_nothing refl
@@ -405,7 +415,8 @@ pub longest_unique : (ts : List Token) (list : List Statement) → AreLongestSta
 longest_unique ts list r =
     let x = statements_read_at_start list r.rest r.are_statements in
     let b : Balanced x.0 list =
-    record { are_statements = r.are_statements; count = x.1 ∙ zero-add (count_by is_opening list) } in
+    record { are_statements = r.are_statements; count = x.1 ∙ zero-add (count_by is_opening list) }
+    in
     let of_the_rest = read_on r.rest (start x.0) list [] b refl in
     ap statements_of r.splits ∙ x.2
     ∙ ap (λ y. list ++ y)

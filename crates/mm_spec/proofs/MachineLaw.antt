@@ -13,7 +13,8 @@ use Rattle.mm_spec.specs.Derivation.{Substitution, substitute, Matches, KeepsDis
 use Rattle.mm_spec.specs.Derivation.{Follows, Trees, none, more, formulas, postfix, AreDerivations}
 use Rattle.mm_spec.specs.Limits.{formula_limit}
 use Rattle.mm_spec.specs.Valid.{Reason, Fails}
-use Rattle.mm_spec.proofs.UnifyLaw.{same_equal, equal_same, found_formula, found_all, found_disjoint}
+use Rattle.mm_spec.proofs.UnifyLaw.{same_equal, equal_same, found_formula, found_all}
+use Rattle.mm_spec.proofs.UnifyLaw.{found_disjoint}
 use Rattle.mm_spec.specs.Laws.Stack.{substitution_from, are_equal, unless_failed, unless_too_long}
 use Rattle.mm_spec.specs.Laws.Stack.{apply, step, IsCompleteRule}
 use Rattle.mm_spec.specs.Laws.Complete.{IsComplete}
@@ -85,7 +86,8 @@ module _ (c : Context) where
   -- a forest's derivations are run, and leave their formulas
   pub runs_forest : (forest : Trees) → AreDerivations c forest → AreGood (postfix forest)
       → (n : ℕ) (ls : List ℕ) (es : List Formula)
-      → run n (postfix forest ++ ls) es ≡ run (n + length (postfix forest)) ls (es ++ formulas forest)
+      → run n (postfix forest ++ ls) es
+      ≡ run (n + length (postfix forest)) ls (es ++ formulas forest)
   runs_forest none d good n ls es =
       let count : n ≡ n + 0 = omega arith in
       ap₂ (λ k x. run k ls x) count (sym (append-nil es))

@@ -24,7 +24,8 @@ member_push xs y i =
 pub member_filter : (p : ℕ → Bool) (xs : List ℕ) (i : ℕ)
     → is_member (filter p xs) i ≡ (p i && is_member xs i)
 member_filter p [] i = sym (and-false (p i))
-member_filter p (x ∷ xs) i = grind (arith, common_steps, cases_eq, eq-eqb, ne_eqb, member_filter p xs i)
+member_filter p (x ∷ xs) i =
+    grind (arith, common_steps, cases_eq, eq-eqb, ne_eqb, member_filter p xs i)
 
 pub member_range : (n a i : ℕ) → a ≤ i → is_member (range_with_len a n) i ≡ nat_lt i (a + n)
 member_range zero a i h = sym (le-ltb i (a + 0) (omega arith))
@@ -69,7 +70,8 @@ module _ (test : Statement → Bool) (db : List Statement) where
   pub active_member : IsLocalTest test → (k i : ℕ)
       → is_member (active_of test db k) i
       ≡ (nat_lt i k && (list_any test (statement_at db i) && is_block_open db i k))
-  active_member local k i = grind (arith, common_steps, and-false, and-true, member_filter, member_range)
+  active_member local k i =
+      grind (arith, common_steps, and-false, and-true, member_filter, member_range)
 
 pub essential_local : (s : Statement) (b : Bool) → is_essential s ≡ true → is_still_active s b ≡ b
 essential_local (essential l k xs d) b h = refl

@@ -19,7 +19,8 @@ use Rattle.mm_spec.specs.Laws.Table.{close_block}
 use Rattle.mm_spec.specs.Laws.Table.{plain, other, ClassedWord, table, lookup, keyword, class}
 use Rattle.mm_spec.specs.Statement.{Statement, constants, variables, disjoint, floating, essential}
 use Rattle.mm_spec.specs.Statement.{axiomatic, provable, opening, closing, spelling_of, is_plain}
-use Rattle.mm_spec.specs.Statement.{is_complete, is_opening, is_closing, AreStatements, BeginStatements}
+use Rattle.mm_spec.specs.Statement.{is_complete, is_opening, is_closing, AreStatements}
+use Rattle.mm_spec.specs.Statement.{BeginStatements}
 use Rattle.mm_spec.proofs.FollowedLaw.{State, at_label, at_start, begins_followed, depth_following}
 use Rattle.mm_spec.proofs.FollowedLaw.{blocks_counted}
 use Rattle.mm_spec.proofs.FollowedLaw.{follow, in_formula, in_proof, in_symbols, label_at_start}
@@ -118,7 +119,8 @@ balanced_more d list s b w h = record {
             → count_by is_closing (take n (list ++ s ∷ []))
             ≤ count_by is_opening (take n (list ++ s ∷ []))
         within_or_after true e =
-            rw (take-append-le n list (s ∷ []) (leb-true n (length list) e)) (b.are_statements.nested n)
+            rw (take-append-le n list (s ∷ []) (leb-true n (length list) e))
+            (b.are_statements.nested n)
         within_or_after false e =
             let long : length (list ++ s ∷ []) ≤ n =
             let l = leb-false n (length list) e in omega (arith, l, length-append list (s ∷ [])) in
@@ -339,7 +341,8 @@ reads_next (at_label d) ts x t theorem_keyword m = goes_on (at_label d) (in_form
     })
 reads_next (in_symbols d) ts x t plain m =
     goes_on (in_symbols d) (in_symbols d) ts x t refl (words_more x.part x.is_part t m)
-reads_next (in_symbols d) ts x t dot m = words_end d ts x.statements x.part x.is_part x.balanced x.is t m
+reads_next (in_symbols d) ts x t dot m =
+    words_end d ts x.statements x.part x.is_part x.balanced x.is t m
 reads_next (in_formula d) ts x t plain m =
     let p = x.is_part in goes_on (in_formula d) (in_formula d) ts x t refl
     (record {
@@ -368,7 +371,8 @@ reads_next (in_formula d) ts x t equals m =
     })
 reads_next (in_proof d) ts x t plain m =
     goes_on (in_proof d) (in_proof d) ts x t refl (words_more x.part x.is_part t m)
-reads_next (in_proof d) ts x t dot m = words_end d ts x.statements x.part x.is_part x.balanced x.is t m
+reads_next (in_proof d) ts x t dot m =
+    words_end d ts x.statements x.part x.is_part x.balanced x.is t m
 reads_next _ ts x t _ m = tt
 
 pub follow_reads : (us ts : List Token) (q : State) → Reads q ts

@@ -9,7 +9,8 @@ use Rattle.std.proofs.lemmas.Option.{same_Some}
 use Rattle.mm_spec.specs.Text.{Token, Fault, fault}
 use Rattle.mm_spec.specs.Statement.{Statement, spelling_of, is_opening, is_closing, AreStatements}
 use Rattle.mm_spec.specs.Statement.{AreLongestStatements}
-use Rattle.mm_spec.specs.Statement.{ShapeFault, FileEndFault, BeginStatements, IsBetween, shape_code}
+use Rattle.mm_spec.specs.Statement.{ShapeFault, FileEndFault, BeginStatements, IsBetween}
+use Rattle.mm_spec.specs.Statement.{shape_code}
 use Rattle.mm_spec.specs.Lexed.{LexedText}
 use Rattle.mm_spec.specs.Output.{TextFault}
 use Rattle.mm_spec.specs.Laws.Table.{Class, floating_keyword, equals, close_block, plain, class}
@@ -313,7 +314,9 @@ end_fault len ts f e h =
         record {
           statements = statements_of ts;
           are_statements = is_longest ts;
-          code = inl (goes_on ts r b y n (is_longest ts), sym (same_Some (fault len OpenStatement) f h));
+          code =
+              inl (goes_on ts r b y n (is_longest ts), sym
+              (same_Some (fault len OpenStatement) f h));
         }
 
     by_progress : (r : Progress) (b : Bool) → follow (Some (at_start 0)) ts ≡ Some (state_of b r)
@@ -378,7 +381,8 @@ text_fault len x =
 
 pub text_fault_is : (len : ℕ) (x : LexedText) (f : Fault) → text_fault len x ≡ Some f
     → TextFault len x f
-text_fault_is len x f e = grind (arith, common_steps, end_fault, no_shape_fault, same_Some, shape_fault)
+text_fault_is len x f e =
+    grind (arith, common_steps, end_fault, no_shape_fault, same_Some, shape_fault)
 
 pub no_text_fault : (len : ℕ) (x : LexedText) → text_fault len x ≡ None → (f : Fault)
     → ¬ TextFault len x f

@@ -8,7 +8,8 @@ use Rattle.std.proofs.lemmas.Slice.Eq.{bytes_eq-Decides}
 use Rattle.std.specs.List.{list_all, AllByRecursion}
 use Rattle.std.proofs.lemmas.Bool.{and_from, and_parts, not-true}
 use Rattle.mm_spec.specs.Laws.Complete.{binds, IsBound, AreBound}
-use Rattle.mm_spec.specs.Derivation.{Formula, Pair, Context, Substitution, substitute, are_all_disjoint}
+use Rattle.mm_spec.specs.Derivation.{Formula, Pair, Context, Substitution, substitute}
+use Rattle.mm_spec.specs.Derivation.{are_all_disjoint}
 use Rattle.mm_spec.specs.Laws.Stack.{are_equal, tail, substitution_from}
 
 pub same_equal : (ps qs : List Formula) → are_equal ps qs ≡ true → ps ≡ qs
@@ -40,7 +41,8 @@ module _ (c : Context) where
   binder_value σ x [] e = absurd (true≢false (sym e))
   binder_value σ x (t ∷ []) e = absurd (true≢false (sym e))
   binder_value σ x (t ∷ y ∷ z ∷ zs) e = absurd (true≢false (sym e))
-  binder_value σ x (t ∷ y ∷ []) e = grind (arith, common_steps, and_parts, append-nil, eqb-true, not-true)
+  binder_value σ x (t ∷ y ∷ []) e =
+      grind (arith, common_steps, and_parts, append-nil, eqb-true, not-true)
 
   pub found_is : (hs : List Formula) (σ : Substitution) (x : ℕ) → IsBound c hs x
       → substitution_from c hs (map (substitute c σ) hs) x ≡ σ x

@@ -92,7 +92,8 @@ pub words_between_cases : (text : List ℕ) (i to : ℕ) → i < to →
     ((begins_word text i ≡ true)
     × (words_between text i to ≡ word_at text i ∷ words_between text (i + 1) to))
     ⊎ ((begins_word text i ≡ false) × (words_between text i to ≡ words_between text (i + 1) to))
-words_between_cases text i to h = grind (arith, common_steps, words_between_skip, words_between_take)
+words_between_cases text i to h =
+    grind (arith, common_steps, words_between_skip, words_between_take)
 
 IsWord_here : (text : List ℕ) (i : ℕ) → i < length text → begins_word text i ≡ true
     → IsWord text (word_at text i)

@@ -5,7 +5,8 @@ use Rattle.std.specs.Prelude.{bytes_eq, count_by, if◌then◌else◌}
 use Rattle.std.specs.List.{list_any, range_with_len, AllZip, filter}
 use Rattle.mm_spec.specs.Text.{Bytes, Token, Fault}
 use Rattle.mm_spec.specs.Lexed.{LexedText, lexed_of}
-use Rattle.mm_spec.specs.Statement.{Statement, axiomatic, provable, AreLongestStatements, ShapeFault}
+use Rattle.mm_spec.specs.Statement.{Statement, axiomatic, provable, AreLongestStatements}
+use Rattle.mm_spec.specs.Statement.{ShapeFault}
 use Rattle.mm_spec.specs.Statement.{FileEndFault, symbols_of}
 use Rattle.mm_spec.specs.Opened.{is_open_theorem, counted}
 use Rattle.mm_spec.specs.Scope.{statement_at, label_words}

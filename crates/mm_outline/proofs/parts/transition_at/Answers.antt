@@ -6,7 +6,8 @@ use Rattle.mm_outline.proofs.parts.transition_at.Goals as goal
 
 pub transition_for-requires-clause-label : goal.transition_for-requires-clause-label
 transition_for-requires-clause-label c =
-    subst (λ b. IfAtStart c.args.part (c.is_label_at-is_label.result ≡ is_label b)) c.bytes-word.ensures
+    subst (λ b. IfAtStart c.args.part (c.is_label_at-is_label.result ≡ is_label b))
+    c.bytes-word.ensures
     c.is_label_at-is_label.ensures
 
 pub returns-clause-same : goal.returns-clause-same

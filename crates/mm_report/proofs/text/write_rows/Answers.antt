@@ -34,7 +34,8 @@ returns g c =
     let wide = c.len-axioms.ensures.len ∙ sym (length-map c.args.chosen.now (label_at db)) in
     let first = ap₂ (λ (a b : ℕ). head request.form a c.open_theorems-open_columns.result b) wide
     count in
-    let none : section (has_section request.choice Usage) (codes "usage") (usage_lines rows 0 heads) ≡ [] =
+    let none : section (has_section request.choice Usage) (codes "usage") (usage_lines rows 0 heads)
+    ≡ [] =
     ap (λ (b : Bool). section b (codes "usage") (usage_lines rows 0 heads)) c.requires.no_usage in
     let sent =
     sent_as _

@@ -14,5 +14,6 @@ invariant-loop-at g l = record {
       → is_some (find l.seen.entries w)
       ≡ is_in w (words (between l.text l.tokens l.from l.at));
   least : (n : Names) → AreNamesOf l.self n
-      → l.least_found ≡ least (at_each (listed_codes n l.kind) [] (between l.text l.tokens l.from l.at));
+      → l.least_found ≡ least (at_each (listed_codes n l.kind) []
+      (between l.text l.tokens l.from l.at));
 }

@@ -23,7 +23,8 @@ returns-in-Constants g c = λ n.
       c.lesser.ensures block none (c.fault_with_code-deep.ensures ∙ c.code_if.ensures first)
           (c.fault_with_code.ensures ∙ c.code_if-in-Constants.ensures end
           ∙ ap (λ b. least (at end (when b EmptyDeclaration)))
-          (none_between n text ws o.keyword o.middle c.requires.order (omega (arith, within, later)))),
+          (none_between n text ws o.keyword o.middle c.requires.order
+          (omega (arith, within, later)))),
       ap (λ kd. scope_faults n c.args.deep (statement_between text ws kd o.keyword o.middle o.end))
           c.in-Constants.is
           ∙ ap (λ kd. (block ++ none) ++ at_each (listed_codes n kd) [] xs) (sym c.in-Constants.is),
@@ -42,7 +43,8 @@ returns-in-Variables g c = λ n.
       none,
       c.fault_with_code-in-Variables.ensures ∙ c.code_if-in-Variables.ensures end
           ∙ ap (λ b. least (at end (when b EmptyDeclaration)))
-          (none_between n text ws o.keyword o.middle c.requires.order (omega (arith, within, later))),
+          (none_between n text ws o.keyword o.middle c.requires.order
+          (omega (arith, within, later))),
       ap (λ kd. scope_faults n c.args.deep (statement_between text ws kd o.keyword o.middle o.end))
           c.in-Variables.is
           ∙ ap (λ kd. none ++ at_each (listed_codes n kd) [] xs) (sym c.in-Variables.is),
