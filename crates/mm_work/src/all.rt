@@ -46,7 +46,7 @@ pub fn check_all<'d, R: Threads + Wait + Sync, A: Allocator + Copy + Send + Sync
         rules: &rules,
         board: &board,
         essential,
-        room: citations_room(database),
+        room: citations_room(database) / workers as usize,
     };
     let gathered = work_all(rt, alloc, &job, gate, seat, workers)?;
     if gathered.seat.share() < MOST_SEATS {
