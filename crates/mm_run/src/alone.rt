@@ -4,7 +4,7 @@ ghost use Rattle.std.specs.Prelude.{◌≡◌, ◌≤◌, IfOk, length};
 ghost use Rattle.mm_spec.specs.declared.Choice.TheVariants as choices;
 ghost use Rattle.mm_spec.specs.Output.{columns};
 ghost use Rattle.mm_spec.specs.Ends.{Answers, reading_limit};
-ghost use Rattle.mm_run.specs.Counted.{IsJudged, IsJudgedText};
+ghost use Rattle.mm_run.specs.Counted.{IsJudged, IsJudgedText, IsReadFrom};
 
 use crate::RunEnd;
 use crate::judged::{JudgedText, judged_text};
@@ -89,6 +89,27 @@ pub fn write_judged<'a, A: Allocator + Copy, W: Write>(
                 report_rests_alone(alloc, request, database, citations, to)
             }
         }
+    }
+}
+
+/// Checks all proofs of a database on the calling thread alone, and writes the output of the text
+/// from which it was read.
+pub(crate) fn answer_by_one<'a, A: Allocator + Copy, W: Write>(
+    alloc: A,
+    text: &[u8],
+    request: &Request<'_>,
+    database: Database<'a, A>,
+    to: &mut W,
+) -> RunEnd
+    requires read { IsReadFrom text.now request.now.with_open database }
+    ensures { Answers result text.now request.now (W.contents to.old) (W.contents to.new) }
+{
+    match check_alone(alloc, &database, request.essential) {
+        Ok(judged) => {
+            let judged = judged_text(database, judged);
+            write_judged(alloc, text, request, &judged, to)
+        }
+        Err(_) => RunEnd::NoMemory,
     }
 }
 

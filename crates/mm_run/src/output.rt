@@ -12,6 +12,7 @@ ghost use Rattle.mm_rows.specs.Marks.{IsMatrix};
 ghost use Rattle.mm_plan.specs.Plans.{IsLawfulPlan, request_of};
 
 use crate::RunEnd;
+use crate::alone::answer_by_one;
 use crate::cuts::cuts_of;
 use crate::judged::{JudgedText, judged_text};
 use mm_database::Database;
@@ -202,6 +203,9 @@ pub fn answer<R: Threads + Wait + Sync, A: Allocator + Copy + Send + Sync, W: Wr
     let Ok(database) = database_of(rt, alloc, text, plan) else {
         return RunEnd::NoMemory;
     };
+    if plan.workers == 1 {
+        return answer_by_one(alloc, text, &plan.request(), database, to);
+    }
     let Ok(judged) = check_all(rt, alloc, &database, plan.workers, plan.essential, &Open) else {
         return RunEnd::NoMemory;
     };

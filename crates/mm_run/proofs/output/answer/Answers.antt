@@ -9,7 +9,7 @@ use Rattle.mm_run.proofs.output.answer.Goals as goal
 pub report-requires-clause-judged : goal.report-requires-clause-judged
 report-requires-clause-judged g c κs within =
     let plan = c.args.plan.now in
-    rw c.request.ensures
+    rw c.request-in-Sound.ensures
     (subst
     (λ (j : JudgedText _). IsJudgedText c.args.text.now plan.essential plan.with_open j)
     c.in-Sound.is
@@ -39,5 +39,5 @@ returns-in-Sound g c =
     (g.W.Write.contents c.args.to.now) (g.W.Write.contents c.report.new.to)) judged.0
     (subst
     (λ (r : Request). Answers c.report.result c.in-Sound.database.text r
-    (g.W.Write.contents c.args.to.now) (g.W.Write.contents c.report.new.to)) c.request.ensures
+    (g.W.Write.contents c.args.to.now) (g.W.Write.contents c.report.new.to)) c.request-in-Sound.ensures
     c.report.ensures)
