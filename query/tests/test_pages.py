@@ -130,6 +130,33 @@ class Faults(World):
             self.refuses("rests", "example.mm", "x", why=f"example.mm:{place}: refused {code}")
 
 
+class Language(World):
+    """docs/LANGUAGE.md: what it says of each text that shows a point of our own."""
+
+    def test_the_points(self) -> None:
+        text = (TOP / "docs" / "LANGUAGE.md").read_text()
+        part = text[text.index("## What is this project's own") :]
+        head = re.findall(r"^```\n(.*?)^```", part, re.S | re.M)[0]
+        tried = 0
+        for line in part.splitlines():
+            row = line[2:-2].split(" | ")
+            if len(row) != 4 or not re.match(r"`[^`]*`\Z", row[1]):
+                continue
+            shown = row[1][1:-1].replace("<0C>", "\x0c") + "\n"
+            self.write("point.mm", (head if shown[0] != "$" else "") + shown)
+            code = re.match(r"E\d\d", row[2])
+            came = self.query("verify", "point.mm")
+            self.assertEqual(came.status, 1 if code else 0, line)
+            self.assertIn(f" refused {code[0]}" if code else ": valid, ", came.out, line)
+            accepted = not code or "with `--open` accepted" in row[2]
+            came = self.query("verify", "--open", "point.mm")
+            self.assertEqual(came.status, 0 if accepted else 1, line)
+            if "`t` cites nothing" in row[2]:
+                self.assertEqual(self.query("cites", "point.mm", "t").out, "")
+            tried += 1
+        self.assertEqual(tried, 10)
+
+
 class ReportPage(World):
     """docs/REPORT.md: its examples are what the program gives."""
 
