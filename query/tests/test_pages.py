@@ -1,7 +1,9 @@
 """The examples of the pages: each command of docs/COOKBOOK.md is run, and shows what stands
-there."""
+there; and what other pages show of texts, reports and faults is what the program gives."""
 
+import os
 import re
+import shutil
 import subprocess
 import unittest
 
@@ -128,6 +130,49 @@ class Faults(World):
             self.assertIn(FAULTS[code][0], came.out)
             self.assertIn(advice, came.out)
             self.refuses("rests", "example.mm", "x", why=f"example.mm:{place}: refused {code}")
+
+    def test_the_commands(self) -> None:
+        text = (TOP / "docs" / "FAULTS.md").read_text()
+        commands = re.findall(r"`((?:LC_ALL=C|sed|metamath) .*?)`", text)
+        shows, removes, joins = commands
+        self.write("set.mm", b"\xef\xbb\xbf$c a $.\nb $a a $.\n$( \xe9 $)\n")
+        shown = self.ran("bash", "-c", shows).lines()
+        self.assertEqual([line[0] for line in shown], ["1", "3"])
+        self.assertEqual(self.ran("bash", "-c", removes), self.ran("true"))
+        self.assertEqual(self.report("set.mm"), "refused 3:4 E01\n")
+        if not shutil.which("metamath"):
+            self.skipTest("there is no metamath.exe")
+        self.write("main.mm", "$c a $.\n$[ part.mm $]\nb $a a $.\n")
+        self.write("part.mm", "$c c $.\n")
+        self.assertEqual(self.ran("bash", "-c", joins).status, 0)
+        self.assertIn("axioms 1\n", self.report("flat.mm"))
+
+
+class Definitions(unittest.TestCase):
+    """docs/DEFINITIONS.md: how many lines it says that there are."""
+
+    def test_the_lines(self) -> None:
+        text = (TOP / "docs" / "DEFINITIONS.md").read_text()
+        told = re.findall(r"some ([\d,]+) for `\w+`", text)
+        commands = re.findall(r"```sh\n(.*?)```", text, re.S)[0]
+        came = subprocess.run(
+            ["sh", "-e", "-c", commands], cwd=TOP, capture_output=True, text=True, check=True
+        )
+        for number, counted in zip(told, came.stdout.split(), strict=True):
+            self.assertAlmostEqual(int(number.replace(",", "")), int(counted), delta=100)
+
+
+class Map(unittest.TestCase):
+    """docs/README.md names each page, and each page begins with whom it is for."""
+
+    def test_the_pages(self) -> None:
+        text = (TOP / "docs" / "README.md").read_text()
+        for page in [*sorted((TOP / "docs").glob("*.md")), TOP / "bench" / "README.md"]:
+            start = page.read_text().split("\n\n")[1]
+            self.assertRegex(start, r"\AThis (page|map) is for who(m|ever) ", page.name)
+            self.assertIn("fterwards you know", page.read_text()[:1200], page.name)
+            if page != TOP / "docs" / "README.md":
+                self.assertIn(f"({os.path.relpath(page, TOP / 'docs')})", text)
 
 
 class Language(World):
