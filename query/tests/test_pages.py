@@ -162,6 +162,20 @@ class Definitions(unittest.TestCase):
             self.assertAlmostEqual(int(number.replace(",", "")), int(counted), delta=100)
 
 
+class Proofs(unittest.TestCase):
+    """docs/PROOFS.md: the function and the wrong body that it shows are those of mm_outline."""
+
+    def test_what_is_shown(self) -> None:
+        text = (TOP / "docs" / "PROOFS.md").read_text()
+        crate = TOP / "crates" / "mm_outline"
+        shown = re.findall(r"```rust\n(.*?)```", text, re.S)
+        self.assertEqual(len(shown), 1)
+        self.assertIn(shown[0], (crate / "src" / "words.rt").read_text())
+        name = re.findall(r"this is the edit `(\w+)`", text)[0]
+        edit = (crate / "must-fail" / f"{name}.edit").read_text()
+        self.assertIn(f"```\n{edit.strip()}\n```", text)
+
+
 class Map(unittest.TestCase):
     """docs/README.md names each page, and each page begins with whom it is for."""
 
