@@ -162,10 +162,21 @@ class Definitions(unittest.TestCase):
             self.assertAlmostEqual(int(number.replace(",", "")), int(counted), delta=100)
 
 
-class Proofs(unittest.TestCase):
-    """docs/PROOFS.md: the function and the wrong body that it shows are those of mm_outline."""
+class Sources(unittest.TestCase):
+    """docs/BOARD.md and docs/PROOFS.md: what they show of sources stands there."""
 
-    def test_what_is_shown(self) -> None:
+    def test_the_board(self) -> None:
+        text = (TOP / "docs" / "BOARD.md").read_text()
+        crate = TOP / "crates" / "mm_board"
+        for language, file in {
+            "rust": crate / "src" / "tests.rt",
+            "antt": crate / "proofs" / "tests" / "search" / "Invariants.antt",
+        }.items():
+            shown = re.findall(rf"```{language}\n(.*?)```", text, re.S)
+            self.assertEqual(len(shown), 1)
+            self.assertIn(shown[0], file.read_text())
+
+    def test_the_proofs(self) -> None:
         text = (TOP / "docs" / "PROOFS.md").read_text()
         crate = TOP / "crates" / "mm_outline"
         shown = re.findall(r"```rust\n(.*?)```", text, re.S)
