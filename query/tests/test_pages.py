@@ -66,6 +66,18 @@ class Cookbook(World):
         self.assertTrue((self.room / "set.html").read_bytes()[:15].lower() == b"<!doctype html>")
 
 
+    @unittest.skipUnless((DATABASES / "set.mm").exists(), "set.mm isn't installed")
+    def test_reports(self) -> None:
+        text = PAGE.read_text()
+        part = text[text.index("\n### Reports\n") : text.index("\n## Is it valid?\n")]
+        (self.room / "set.mm").symlink_to(DATABASES / "set.mm")
+        (self.room / "mmdepend").symlink_to(program() or "")
+        commands = re.findall(r"```sh\n(.*?)```", part, re.S)[0]
+        path = f"{self.room}:{self.surroundings()['PATH']}"
+        self.assertEqual(self.ran("bash", "-e", "-c", commands, PATH=path), self.ran("true"))
+        self.assertEqual(self.answers("cites", "report", "zorn", "--on", "ax-ac2"), ["numth3"])
+
+
 class Manual(World):
     """man/mmquery.1 and the completions."""
 
