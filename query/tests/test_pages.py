@@ -65,7 +65,6 @@ class Cookbook(World):
         self.assertTrue((self.room / "set.png").read_bytes().startswith(b"\x89PNG\r\n\x1a\n"))
         self.assertTrue((self.room / "set.html").read_bytes()[:15].lower() == b"<!doctype html>")
 
-
     @unittest.skipUnless((DATABASES / "set.mm").exists(), "set.mm isn't installed")
     def test_reports(self) -> None:
         text = PAGE.read_text()
