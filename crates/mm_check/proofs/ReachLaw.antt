@@ -23,7 +23,7 @@ use Rattle.std.specs.Option.{option_map}
 use Rattle.std.proofs.Math.Bool.{or-false}
 use Rattle.std.proofs.lemmas.Bool.{or_left, or_right}
 use Rattle.mm_spec.specs.Output.{is_theorem_at, proof_end}
-use Rattle.mm_database.specs.Database.{last_place}
+use Rattle.mm_database.specs.Database.{end_at}
 use Rattle.mm_rule.specs.Assertions.{is_assertion_at}
 use Rattle.mm_check.specs.Contract.{is_labelled_step}
 use Rattle.mm_check.specs.Reached.{IsReached, steps_of}
@@ -230,12 +230,12 @@ no_step_reached db t stack ends noted e f n =
 
 -- the place of the end of a theorem's proof
 pub end_is : (db : List Statement) (t at : ℕ) → is_theorem_at db t ≡ true
-    → option_map last_place (slice_get db t) ≡ Some at → proof_end (slice_get db t) ≡ at
+    → option_map end_at (slice_get db t) ≡ Some at → proof_end (slice_get db t) ≡ at
 end_is db t at h e = by_statement (slice_get db t) h e
   where
     by_statement : (o : Option Statement)
         → list_any is_theorem (elim o [ None ↦ [] | Some s ↦ s ∷ [] ]) ≡ true
-        → option_map last_place o ≡ Some at → proof_end o ≡ at
+        → option_map end_at o ≡ Some at → proof_end o ≡ at
     by_statement None h e = absurd (true≢false (sym h))
     by_statement (Some (provable l p xs q ps d)) h e = cc
     by_statement (Some s) h e = absurd (true≢false (sym h))

@@ -16,7 +16,7 @@ use Rattle.mm_spec.specs.Frame.{is_disjoint_statement, formula_at}
 use Rattle.mm_spec.proofs.BoolLaw.{same_tests}
 use Rattle.mm_outline.specs.Blocks.{BlockLists, IsBlocks, end_of}
 use Rattle.mm_database.specs.Pairs.{has_pair, IsBefore, is_pair_before, AreRising}
-use Rattle.mm_database.specs.DisjointIndex.{has_symbol, is_active_local, AreKnown}
+use Rattle.mm_database.specs.DisjointIndex.{has_symbol, is_active_local, HaveBlocks}
 use Rattle.mm_outline.proofs.StatementsLaw.{is_there}
 
 -- ---- pairs by their places
@@ -101,9 +101,9 @@ partitioned ps are_rising x y i j d l m e = by_equality (cases_eq i j)
 
 -- ---- the blocks of the pairs
 
-pub are_known : (db : List Statement) (b : BlockLists) → IsBlocks db b → (ps : List (ℕ × ℕ))
-    → ((x j : ℕ) → has_pair ps x j ≡ has_symbol db x j) → AreKnown b ps
-are_known db b blocks ps are p l =
+pub have_blocks : (db : List Statement) (b : BlockLists) → IsBlocks db b → (ps : List (ℕ × ℕ))
+    → ((x j : ℕ) → has_pair ps x j ≡ has_symbol db x j) → HaveBlocks b ps
+have_blocks db b blocks ps are p l =
     let j = (get_or ps p (0, 0)).1 in
     let x = (get_or ps p (0, 0)).0 in
     let e = sym (are x j) ∙ at_has ps p (0, 0) l in

@@ -28,7 +28,7 @@ use Rattle.mm_outline.proofs.StatementsLaw.{get_mapped, statement_is}
 use Rattle.mm_database.specs.Database.{Contents, contents, kind_of}
 use Rattle.mm_database.specs.RetainedWords.{AreRetained, IsRetained, retained_words, label_tokens}
 use Rattle.mm_outline.specs.Parts.{is_labelled_kind}
-use Rattle.mm_database.specs.RetainedWords.{label_word, last_place}
+use Rattle.mm_database.specs.RetainedWords.{label_word, end_at}
 use Rattle.mm_database.proofs.KindsLaw.{theorem_at}
 
 -- ---- what is kept of an outline is that of its statement
@@ -64,7 +64,7 @@ module _ (text : List ℕ) (ws : List Word) where
   proof_made kind.Axiom k m e h = none_between m e h
 
   last_made : (o : Kind) (k m e : ℕ) → HasEnd o k m e
-      → (nth_word ws e).start ≡ last_place (statement_between text ws o k m e)
+      → (nth_word ws e).start ≡ end_at (statement_between text ws o k m e)
   last_made kind.Theorem k m e h = refl
   last_made kind.Open k m e h = ap (λ i. (nth_word ws i).start) (sym (h.0 ∙ h.1))
   last_made kind.Close k m e h = ap (λ i. (nth_word ws i).start) (sym (h.0 ∙ h.1))
@@ -176,11 +176,11 @@ module _ (text : List ℕ) (db : List Statement) (w : Bool) (fault : Option Faul
   abbrev s : Statement
   s = get_or db k (opening 0)
 
-  got : slice_get db k ≡ Some s
-  got = slice_get-get_or db k (opening 0) below
+  s_is_statement_k : slice_get db k ≡ Some s
+  s_is_statement_k = slice_get-get_or db k (opening 0) below
 
   kind_here : (x : Kind) → option_map kind_of (slice_get db k) ≡ Some x → kind_of s ≡ x
-  kind_here x h = let e : Some (kind_of s) ≡ Some x = sym (ap (option_map kind_of) got) ∙ h in cc
+  kind_here x h = let e : Some (kind_of s) ≡ Some x = sym (ap (option_map kind_of) s_is_statement_k) ∙ h in cc
 
   label_read : option_map (λ t. t.word) (option_and_then label_of (slice_get n.statements k))
       ≡ option_map (λ t. t.word) (label_of s)
@@ -189,7 +189,7 @@ module _ (text : List ℕ) (db : List Statement) (w : Bool) (fault : Option Faul
       (option_and_then label_of (slice_get n.statements k))
       ≡ option_map (λ t. t.word) (label_of s)) is
       (ap (option_map (λ t. t.word))
-      (counted_then w db label_of (λ l k xs e ps d. refl) k ∙ ap (option_and_then label_of) got))
+      (counted_then w db label_of (λ l k xs e ps d. refl) k ∙ ap (option_and_then label_of) s_is_statement_k))
 
   -- no label
   pub label_missing : (x : Kind) → option_map kind_of (slice_get db k) ≡ Some x
@@ -206,7 +206,7 @@ module _ (text : List ℕ) (db : List Statement) (w : Bool) (fault : Option Faul
 
     module _ (words : List Word) (e : words ≡ get_or retained k []) where
       one : IsRetained text s words
-      one = subst (IsRetained text s) (sym e) (h.each k s got)
+      one = subst (IsRetained text s) (sym e) (h.each k s s_is_statement_k)
 
       front : words ≡ (one.label ++ one.proof) ++ one.last ∷ []
       front = one.words_are ∙ sym (append_assoc one.label one.proof (one.last ∷ []))
@@ -222,16 +222,16 @@ module _ (text : List ℕ) (db : List Statement) (w : Bool) (fault : Option Faul
 
       -- the last token
       pub last_is_retained : (d : Word)
-          → option_map last_place (slice_get n.statements k)
+          → option_map end_at (slice_get n.statements k)
           ≡ Some (get_or words (length words - 1) d).start
       last_is_retained d =
           let m : length words - 1 ≡ length (one.label ++ one.proof) = omega (arith, long) in
           let last =
           ap₂ (λ ys i. get_or ys i d) front m
           ∙ get_or-append_seam (one.label ++ one.proof) one.last [] d in
-          subst (λ (n : Contents). option_map last_place (slice_get n.statements k)
+          subst (λ (n : Contents). option_map end_at (slice_get n.statements k)
           ≡ Some (get_or words (length words - 1) d).start) is
-          (counted_got w db last_place (λ l k xs e ps d. refl) k ∙ ap (option_map last_place) got
+          (counted_got w db end_at (λ l k xs e ps d. refl) k ∙ ap (option_map end_at) s_is_statement_k
           ∙ ap Some (sym one.last_is) ∙ ap (λ x. Some x.start) (sym last))
 
       module _ (x : Kind) (kind : kind_of s ≡ x) (of_kind : is_labelled_kind x ≡ true) where
@@ -278,7 +278,7 @@ module _ (text : List ℕ) (db : List Statement) (w : Bool) (fault : Option Faul
       module _ (counts : option_map kind_of (slice_get n.statements k) ≡ Some kind.Theorem) where
         theorem : (kind_of s ≡ kind.Theorem) × (slice_get (counted w db) k ≡ Some s)
         theorem =
-            theorem_at w db k s got
+            theorem_at w db k s s_is_statement_k
             (subst (λ (n : Contents). option_map kind_of (slice_get n.statements k)
             ≡ Some kind.Theorem) (sym is) counts)
 

@@ -18,8 +18,8 @@ abbrev pub is_active_local : BlockLists → ℕ → ℕ → Bool
 is_active_local b j k = nat_lt j k && nat_le k (end_of b j)
 
 -- the statements of the pairs have a block
-abbrev pub AreKnown : BlockLists → List (ℕ × ℕ) → Type 0
-AreKnown b ps =
+abbrev pub HaveBlocks : BlockLists → List (ℕ × ℕ) → Type 0
+HaveBlocks b ps =
     (p : ℕ) → p < length ps
     → ((get_or ps p (0, 0)).1 < length b.of)
     × (get_or b.of (get_or ps p (0, 0)).1 0 < length b.ends)
@@ -50,7 +50,7 @@ pair_lists pairs skips = record { pairs = pairs; skips = skips }
 -- the pairs are in order, their statements have a block, and the skips are theirs
 pub record IsOrdered (b : BlockLists) (index : PairLists) : Type 0 where
   pub rising : AreRising index.pairs
-  pub known : AreKnown b index.pairs
+  pub known : HaveBlocks b index.pairs
   pub skips_are : AreSkips b index.pairs index.skips
 
 -- each symbol with each `$d` that has it

@@ -25,7 +25,7 @@ pub struct DisjointIndex<A: Allocator> {
     starts: Vec<usize, A>,
 }
 
-/// Lets all fields go in one call, so that a proof has one step for it at each exit.
+/// Dropped in one call: docs/PROOFS.md, "What a check costs".
 impl<A: Allocator> Drop for DisjointIndex<A> {
     fn drop(self) {
         let Self {

@@ -60,7 +60,7 @@ pub struct NameTable<'a, A: Allocator> {
     longest_label: usize,
 }
 
-/// Lets all fields go in one call, so that a proof has one step for it at each exit.
+/// Dropped in one call: docs/PROOFS.md, "What a check costs".
 impl<'a, A: Allocator> Drop for NameTable<'a, A> {
     fn drop(self) {
         let Self {

@@ -23,7 +23,7 @@ struct Chains<A: Allocator> {
     links: Vec<(u32, usize), A>,
 }
 
-/// Lets all fields go in one call, so that a proof has one step for it at each exit.
+/// Dropped in one call: docs/PROOFS.md, "What a check costs".
 impl<A: Allocator> Drop for Chains<A> {
     fn drop(self) {
         let Self { heads: _, links: _ } = self;

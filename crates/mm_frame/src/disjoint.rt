@@ -11,7 +11,7 @@ ghost use Rattle.mm_frame.specs.Together.{has_later};
 ghost use Rattle.mm_database.specs.Pairs.{has_pair, AreRising};
 
 use crate::disjoint_index::sort_and_dedup_pairs;
-use crate::sources::Sources;
+use crate::sources::FrameSources;
 use mm_database::disjoint_index::{DisjointIndex, add_active};
 use mm_outline::blocks::Blocks;
 use mm_outline::symbol::Sym;
@@ -101,7 +101,7 @@ fn symbol_pairs<A: Allocator + Copy>(
 /// removed.
 pub(crate) fn mandatory_pairs<A: Allocator + Copy>(
     alloc: A,
-    sources: &Sources<A>,
+    sources: &FrameSources<A>,
     variables: &[Sym],
     assertion: u32,
     variables_by_statement: &mut Vec<(u32, u32), A>,

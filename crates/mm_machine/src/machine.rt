@@ -62,7 +62,7 @@ pub struct Machine<A: Allocator> {
     symbol_count: usize,
 }
 
-/// Lets all fields go in one call, so that a proof has one step for it at each exit.
+/// Dropped in one call: docs/PROOFS.md, "What a check costs".
 impl<A: Allocator> Drop for Machine<A> {
     fn drop(self) {
         let Self {

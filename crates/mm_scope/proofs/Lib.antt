@@ -1,5 +1,5 @@
 -- The loop of `outline` keeps two things: `IsReadTo` (the lawful statements lead to `at`) and
--- `IsKeptOf` (names, blocks and numbers are theirs). `knows_is` (`KnowsLaw.antt`) says that what is
+-- `IsReadSoFar` (names, blocks and numbers are theirs). `knows_is` (`KnowsLaw.antt`) says that what is
 -- kept is what the judge needs. `both_least` and `each_more` (`JudgeLaw.antt`) show that the code's
 -- fault is the least one, rule by rule and symbol by symbol. `keeps_after` (`AddLaw.antt`) adds a
 -- lawful statement, `names_next` and `formulas_more` (`NumberedLaw.antt`) its symbols.

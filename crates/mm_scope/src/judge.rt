@@ -155,8 +155,9 @@ impl<'a, A: Allocator + Copy> Scope<'a, A> {
         }
     }
 
-    /// Returns the fault of a `$c`, `$v` or `$d` as a whole.
-    fn list_fault(_text: &[u8], tokens: &[Word], deep: u32, outline: Outline) -> Option<Fault>
+    /// Returns the fault of a `$c`, `$v` or `$d` that isn't one of its symbols: that it stands in a
+    /// block, or has too few symbols.
+    fn whole_statement_fault(_text: &[u8], tokens: &[Word], deep: u32, outline: Outline) -> Option<Fault>
         requires among { IsAmong _text.now tokens.now outline }
         requires order { outline.keyword < outline.middle }
         requires lists { lists_symbols outline.kind ≡ true }
@@ -173,9 +174,9 @@ impl<'a, A: Allocator + Copy> Scope<'a, A> {
         let count = outline.middle - outline.keyword - 1;
         match outline.kind {
             Kind::Constants => {
-                let deep = fault_with_code(first, code_if(deep > 0, Code::ConstantInBlock));
+                let block_fault = fault_with_code(first, code_if(deep > 0, Code::ConstantInBlock));
                 lesser(
-                    deep,
+                    block_fault,
                     fault_with_code(end, code_if(count == 0, Code::EmptyDeclaration)),
                 )
             }
@@ -274,7 +275,7 @@ impl<'a, A: Allocator + Copy> Scope<'a, A> {
     {
         let from = outline.keyword + 1;
         let rest = self.declared_fault(alloc, text, tokens, outline.kind, from, outline.middle)?;
-        let whole = Self::list_fault(text, tokens, deep, outline);
+        let whole = Self::whole_statement_fault(text, tokens, deep, outline);
         Ok(lesser(whole, rest))
     }
 }

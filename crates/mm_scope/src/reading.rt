@@ -9,8 +9,8 @@ ghost use Rattle.mm_outline.specs.Parts.{AreWithin, IsOutline, depth_after, stat
 ghost use Rattle.mm_outline.specs.Tokens.{AreTokens};
 ghost use Rattle.mm_outline.specs.Statements.{end_fault_of, lexed, statements};
 ghost use Rattle.mm_scope.specs.Scopes.{IsAmong, IsScopeAfter, names_in};
-ghost use Rattle.mm_scope.specs.Keeps.{HasTaken, IsKeptOf, MayTake, formulas_of, kept_by};
-ghost use Rattle.mm_scope.specs.Keeps.{reading_of};
+ghost use Rattle.mm_scope.specs.ReadSoFar.{HasTaken, IsReadSoFar, MayTake, formulas_of, read_so_far};
+ghost use Rattle.mm_scope.specs.ReadSoFar.{reading_of};
 
 use crate::scope::Scope;
 use mm_database::names::no_names;
@@ -34,7 +34,7 @@ pub struct Outlined<'a, A: Allocator> {
     pub fault: Option<Fault>,
 }
 
-/// Lets all fields go in one call, so that a proof has one step for it at each exit.
+/// Dropped in one call: docs/PROOFS.md, "What a check costs".
 impl<'a, A: Allocator> Drop for Outlined<'a, A> {
     fn drop(self) {
         let Self {
@@ -126,7 +126,7 @@ fn end_fault(lexical: Option<Fault>, text: &[u8], part: Part, deep: u32) -> Opti
 /// Returns what there is before the first statement is read.
 fn nothing_read<'a, A: Allocator + Copy>(alloc: A) -> Result<Outlined<'a, A>, AllocError>
     ensures { IfOk result
-        (λ r. (r.outlines.items ≡ []) × (r.fault ≡ None) × IsKeptOf [] (kept_by r)) }
+        (λ r. (r.outlines.items ≡ []) × (r.fault ≡ None) × IsReadSoFar [] (read_so_far r)) }
 {
     let scope = no_scope(alloc)?;
     Ok(Outlined {
@@ -151,8 +151,8 @@ impl<'a, A: Allocator + Copy> Outlined<'a, A> {
         requires among { IsAmong text.now tokens.now outline }
         requires few { length tokens.now < 2 ^ 31 }
         requires sound { self.old.fault ≡ None }
-        requires kept { IsKeptOf (statements text.now tokens.now self.old.outlines.items)
-            (kept_by self.old) }
+        requires kept { IsReadSoFar (statements text.now tokens.now self.old.outlines.items)
+            (read_so_far self.old) }
         requires next { MayTake (statements text.now tokens.now self.old.outlines.items) deep
             (statement_of text.now tokens.now outline) }
         ensures { OnOk result
@@ -190,7 +190,7 @@ pub fn outline<'a, A: Allocator + Copy>(
     ensures outlines { IfOk result
         (λ d. All (λ o. IsOutline o × (o.end < length tokens.now)) d.outlines.items) }
     ensures kept { IfOk result
-        (λ d. IsKeptOf (statements text.now tokens.now d.outlines.items) (kept_by d)) }
+        (λ d. IsReadSoFar (statements text.now tokens.now d.outlines.items) (read_so_far d)) }
     ensures read { IfOk result
         (λ d. IsRead (length text.now) (lexed text.now tokens.now lexical)
         (statements text.now tokens.now d.outlines.items) d.fault) }

@@ -10,7 +10,7 @@ use Rattle.mm_outline.specs.Parts.{statement_of, token_of, as_tokens, depth_afte
 use Rattle.mm_outline.specs.declared.parts.Outline.{Outline}
 use Rattle.mm_outline.specs.NextStatement.{tokens_from}
 use Rattle.mm_outline.specs.Statements.{statements}
-use Rattle.mm_scope.specs.Keeps.{IsKeptOf, kept_by}
+use Rattle.mm_scope.specs.ReadSoFar.{IsReadSoFar, read_so_far}
 use Rattle.mm_scope.proofs.ReadLaw.{reading_more, read_unlawful, read_stopped, read_ended, some_not}
 use Rattle.mm_scope.proofs.ReadLaw.{none_is, inside_block}
 use Rattle.mm_scope.proofs.BoundsLaw.{few_symbols}
@@ -75,8 +75,8 @@ returns-then-is_some-clause-kept g c =
     let stays =
     c.in_ok-take-in-Whole.ensures.stays
     (some_not c.take.new.self.fault (sym c.is_some.ensures ∙ c.if-is_some.true)) in
-    subst (λ (xs : List Outline). IsKeptOf (statements c.args.text.now c.args.tokens.now xs)
-    (kept_by c.take.new.self)) (sym stays.0) stays.1
+    subst (λ (xs : List Outline). IsReadSoFar (statements c.args.text.now c.args.tokens.now xs)
+    (read_so_far c.take.new.self)) (sym stays.0) stays.1
 
 pub returns-then-is_some-clause-read : goal.returns-then-is_some-clause-read
 returns-then-is_some-clause-read g c =

@@ -1,7 +1,7 @@
 use Rattle.std.proofs.Common.{◌≡◌, ◌-◌, ◌<◌, length, All, None}
 use Rattle.mm_outline.specs.Parts.{IsOutline}
 use Rattle.mm_outline.specs.Statements.{statements}
-use Rattle.mm_scope.specs.Keeps.{IsKeptOf, kept_by}
+use Rattle.mm_scope.specs.ReadSoFar.{IsReadSoFar, read_so_far}
 use Rattle.mm_scope.proofs.ReadLaw.{IsReadTo}
 use Rattle.mm_scope.proofs.reading.outline.Given as goal
 
@@ -10,7 +10,7 @@ invariant-statements g l = record {
   outlines : All (λ o. IsOutline o × (o.end < length l.tokens)) l.read.outlines.items;
   reading : IsReadTo l.text l.tokens
       (statements l.text l.tokens l.read.outlines.items) l.deep l.at;
-  kept : IsKeptOf (statements l.text l.tokens l.read.outlines.items) (kept_by l.read);
+  kept : IsReadSoFar (statements l.text l.tokens l.read.outlines.items) (read_so_far l.read);
   sound : l.read.fault ≡ None;
 }
 

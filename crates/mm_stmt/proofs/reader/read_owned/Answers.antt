@@ -12,7 +12,7 @@ use Rattle.mm_database.specs.FrameTables.{AreFrameTables}
 use Rattle.mm_database.specs.Database.{Contents, IsDatabase, AreStatementLists}
 use Rattle.mm_database.specs.declared.reading.Reading.{Reading}
 use Rattle.mm_database.proofs.RetainedWordsLaw.{retained_are}
-use Rattle.mm_scope.specs.Keeps.{IsKeptOf, kept_by}
+use Rattle.mm_scope.specs.ReadSoFar.{IsReadSoFar, read_so_far}
 use Rattle.mm_database.specs.ParsedStatements.{IsSound}
 use Rattle.mm_spec.specs.Opened.{counted}
 use Rattle.mm_stmt.proofs.AssembleLaw.{is_read, names_few, sound}
@@ -66,7 +66,7 @@ reading_of-requires g c =
           subst (λ (ws : List Word). IsSound (statements text ws os)) lent
           (sound text ws os _ _ outlined.read small _ _ _ outlined.kept.keeps outlined.few);
       kept =
-          subst (λ (ws : List Word). IsKeptOf (statements text ws os) (kept_by read)) lent
+          subst (λ (ws : List Word). IsReadSoFar (statements text ws os) (read_so_far read)) lent
           outlined.kept;
       few_symbols =
           names_few text ws os _ _ outlined.read small (names_of read.scope.names.symbols)
@@ -83,7 +83,7 @@ new-requires g c =
     let w = c.args.with_open in
     let lent : ws ≡ words = c.as_slice-words.ensures.value ∙ c.requires.tokens in
     let kept =
-    subst (λ (us : List Word). IsKeptOf (statements text us os) (kept_by c.in_ok-outlined.outlined))
+    subst (λ (us : List Word). IsReadSoFar (statements text us os) (read_so_far c.in_ok-outlined.outlined))
     lent outlined.kept in
     let statement_lists =
     subst (λ (us : List Word). AreStatementLists (counted w (statements text us os))

@@ -5,7 +5,7 @@ use Rattle.mm_spec.specs.declared.Code.TheVariants.{ConstantInBlock, EmptyDeclar
 use Rattle.mm_outline.specs.Parts.{between, statement_between, nth_word}
 use Rattle.mm_scope.specs.Knows.{listed_codes}
 use Rattle.mm_scope.proofs.JudgeLaw.{none_between}
-use Rattle.mm_scope.proofs.scope.Scope.list_fault.Goals as goal
+use Rattle.mm_scope.proofs.scope.Scope.whole_statement_fault.Goals as goal
 
 pub returns-in-Constants : goal.returns-in-Constants
 returns-in-Constants g c = λ n.
