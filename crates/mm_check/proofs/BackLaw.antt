@@ -72,7 +72,7 @@ flag_front : (ws us vs : List Bool) (n : ℕ) → n < length ws
 flag_front ws us vs n h =
     get_or_append_left ws us false n h ∙ sym (get_or_append_left ws vs false n h)
 
--- what is wanted stays so
+-- a flag that is set stays set
 step_flags_stay : (b : Bool) (s : Step) (step_flags : List Bool) (k : ℕ) → flag_at step_flags k
     ≡ true
     → flag_at (step_flags_after b s step_flags) k ≡ true
@@ -81,39 +81,39 @@ step_flags_stay false (marked j) step_flags k e = e
 step_flags_stay true (marked j) step_flags k e = by_order (k == j) refl
     (cases_lt k (length step_flags))
   where
-    by_order : (q : Bool) → (k == j) ≡ q → (k < length step_flags) ⊎ (length step_flags ≤ k)
+    by_order : (are_equal : Bool) → (k == j) ≡ are_equal → (k < length step_flags) ⊎ (length step_flags ≤ k)
         → flag_at (step_flags_after true (marked j) step_flags) k ≡ true
-    by_order true q (inl h) =
-        let same = eqb-true k j q in
+    by_order true equality (inl h) =
+        let same = eqb-true k j equality in
         subst (λ n. get_or (step_flags_after true (marked j) step_flags) n false ≡ true) (sym same)
         (get_or-set_same step_flags j true false (subst (λ n. n < length step_flags) same h))
-    by_order true q (inr h) = absurd (true≢false (sym e ∙ past step_flags k h))
+    by_order true equality (inr h) = absurd (true≢false (sym e ∙ no_flag_past_the_end step_flags k h))
       where
-        past : (ws : List Bool) (k : ℕ) → length ws ≤ k → flag_at ws k ≡ false
-        past [] zero h = refl
-        past [] (suc k) h = refl
-        past (w ∷ ws) zero h = absurd (omega (arith, h))
-        past (w ∷ ws) (suc k) h = past ws k (omega (arith, h))
-    by_order false q h = get_or-set_other step_flags j k true false (eqb-false k j q) ∙ e
+        no_flag_past_the_end : (ws : List Bool) (k : ℕ) → length ws ≤ k → flag_at ws k ≡ false
+        no_flag_past_the_end [] zero h = refl
+        no_flag_past_the_end [] (suc k) h = refl
+        no_flag_past_the_end (w ∷ ws) zero h = absurd (omega (arith, h))
+        no_flag_past_the_end (w ∷ ws) (suc k) h = no_flag_past_the_end ws k (omega (arith, h))
+    by_order false equality h = get_or-set_other step_flags j k true false (eqb-false k j equality) ∙ e
 
--- a step of a mark makes the earlier one wanted, if it is essential itself
+-- a step that repeats a marked step sets the flag of that step, if its own entry is essential
 repeated_step_has_flag : (j : ℕ) (step_flags : List Bool) → j < length step_flags → (b : Bool) → b
     ≡ true
     → flag_at (step_flags_after b (marked j) step_flags) j ≡ true
 repeated_step_has_flag j step_flags h true e = get_or-set_same step_flags j true false h
 repeated_step_has_flag j step_flags h false e = absurd (true≢false (sym e))
 
--- and no other
+-- and it sets no other flag
 no_other_step_gets_flag : (j : ℕ) (step_flags : List Bool) (b : Bool) (k : ℕ)
     → flag_at (step_flags_after b (marked j) step_flags) k ≡ true
     → (flag_at step_flags k ≡ true) ⊎ ((k ≡ j) × (b ≡ true))
 no_other_step_gets_flag j step_flags false k e = inl e
 no_other_step_gets_flag j step_flags true k e = by_equality (k == j) refl
   where
-    by_equality : (q : Bool) → (k == j) ≡ q → (flag_at step_flags k ≡ true)
+    by_equality : (are_equal : Bool) → (k == j) ≡ are_equal → (flag_at step_flags k ≡ true)
         ⊎ ((k ≡ j) × (true ≡ true))
-    by_equality true q = inr (eqb-true k j q, refl)
-    by_equality false q = inl (sym (get_or-set_other step_flags j k true false (eqb-false k j q))
+    by_equality true equality = inr (eqb-true k j equality, refl)
+    by_equality false equality = inl (sym (get_or-set_other step_flags j k true false (eqb-false k j equality))
         ∙ e)
 
 pub step_flags_count : (b : Bool) (s : Step) (step_flags : List Bool)

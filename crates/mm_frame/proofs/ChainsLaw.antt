@@ -17,7 +17,8 @@ use Rattle.mm_spec.specs.Scope.{statement_at}
 use Rattle.mm_spec.specs.Derivation.{is_member}
 use Rattle.mm_spec.specs.Frame.{symbol_names, is_disjoint_statement, formula_at}
 use Rattle.mm_outline.proofs.StatementsLaw.{is_there}
-use Rattle.mm_frame.specs.Chains.{IsRisingFrom, IsLinkChain, AreLinked, HasChain, AreChains}
+use Rattle.mm_spec.specs.Rising.{IsRisingFrom}
+use Rattle.mm_frame.specs.Chains.{IsLinkChain, AreLinked, HasChain, AreChains}
 use Rattle.mm_database.specs.DisjointIndex.{has_symbol}
 use Rattle.mm_database.specs.Pairs.{has_pair, IsBefore, AreRising}
 use Rattle.mm_database.specs.ParsedStatements.{IsSound}

@@ -23,14 +23,15 @@ use Rattle.mm_outline.specs.Blocks.{never}
 use Rattle.mm_frame.specs.Latest.{is_staying}
 use Rattle.mm_database.specs.ParsedStatements.{IsSound, typed_variable_at}
 use Rattle.mm_frame.specs.Hypotheses.{AreLastFloats, is_float_of}
-use Rattle.mm_spec.proofs.RisingLaw.{Rising, filter_is}
+use Rattle.mm_spec.specs.Rising.{IsRisingFrom}
+use Rattle.mm_spec.proofs.RisingLaw.{filter_is}
 use Rattle.mm_frame.proofs.FloatLaw.{typed_float, floating_typed, formula_is, floating_is}
 use Rattle.mm_frame.proofs.FloatLaw.{typecode_constant, variable_below, float_active}
 use Rattle.mm_spec.proofs.MemberLaw.{member_filter, member_range, active_member, essential_local}
 
 -- a list that is strictly rising, by its neighbours
 pub rising_is : (xs : List ℕ) (a : ℕ) → IsStrictlyIncreasing xs
-    → (0 < length xs → a ≤ get_or xs 0 0) → Rising a xs
+    → (0 < length xs → a ≤ get_or xs 0 0) → IsRisingFrom a xs
 rising_is [] a inc h = tt
 rising_is (y ∷ ys) a inc h = (
   h (omega arith),

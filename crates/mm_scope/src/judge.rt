@@ -117,7 +117,7 @@ impl<'a, A: Allocator + Copy> Scope<'a, A> {
         let token = tokens[from as usize];
         let (number, known) = self.names.numbered(token.bytes(text));
         numbers.push(Sym::new(number as u32))?;
-        let typecode = fault_with_code(token.start, Self::typecode_code(known));
+        let typecode = fault_with_code(token.start, Self::typecode_fault_code(known));
         let rest = self.symbols_fault(text, tokens, from + 1, to, numbers)?;
         Ok(lesser(typecode, rest))
     }
@@ -157,14 +157,14 @@ impl<'a, A: Allocator + Copy> Scope<'a, A> {
 
     /// Returns the fault of a `$c`, `$v` or `$d` that isn't one of its symbols: that it stands in a
     /// block, or has too few symbols.
-    fn whole_statement_fault(_text: &[u8], tokens: &[Word], deep: u32, outline: Outline) -> Option<Fault>
+    fn whole_statement_fault(_text: &[u8], tokens: &[Word], depth: u32, outline: Outline) -> Option<Fault>
         requires among { IsAmong _text.now tokens.now outline }
         requires order { outline.keyword < outline.middle }
         requires lists { lists_symbols outline.kind ≡ true }
         ensures { (n : DeclaredNames)
             → (faults : List SpecFault)
             × (result ≡ least faults)
-            × (scope_faults n deep (statement_of _text.now tokens.now outline)
+            × (scope_faults n depth (statement_of _text.now tokens.now outline)
             ≡ faults
             ++ at_each (listed_codes n outline.kind) []
             (between _text.now tokens.now (outline.keyword + 1) outline.middle)) }
@@ -174,7 +174,7 @@ impl<'a, A: Allocator + Copy> Scope<'a, A> {
         let count = outline.middle - outline.keyword - 1;
         match outline.kind {
             Kind::Constants => {
-                let block_fault = fault_with_code(first, code_if(deep > 0, Code::ConstantInBlock));
+                let block_fault = fault_with_code(first, code_if(depth > 0, Code::ConstantInBlock));
                 lesser(
                     block_fault,
                     fault_with_code(end, code_if(count == 0, Code::EmptyDeclaration)),
@@ -186,13 +186,13 @@ impl<'a, A: Allocator + Copy> Scope<'a, A> {
     }
 
     /// Returns the least fault of the next statement, and appends the numbers of the symbols of a
-    /// `$e`, `$a` or `$p`. `deep` is the number of blocks that are open.
+    /// `$e`, `$a` or `$p`. `depth` is the number of blocks that are open.
     pub(crate) fn fault(
         &self,
         alloc: A,
         text: &'a [u8],
         tokens: &[Word],
-        deep: u32,
+        depth: u32,
         outline: Outline,
         numbers: &mut Vec<Sym, A>,
     ) -> Result<Option<Fault>, AllocError>
@@ -205,7 +205,7 @@ impl<'a, A: Allocator + Copy> Scope<'a, A> {
             (statement_of text.now tokens.now outline)) }
         ensures fault { IfOk result
             (IsLeastFault self.now
-            (λ n. scope_faults n deep (statement_of text.now tokens.now outline))) }
+            (λ n. scope_faults n depth (statement_of text.now tokens.now outline))) }
     {
         let kind = outline.kind;
         let keyword = outline.keyword;
@@ -213,9 +213,9 @@ impl<'a, A: Allocator + Copy> Scope<'a, A> {
         match kind {
             Kind::Open => Ok(None),
             Kind::Close => Ok(None),
-            Kind::Constants => self.declared(alloc, text, tokens, deep, outline),
-            Kind::Variables => self.declared(alloc, text, tokens, deep, outline),
-            Kind::Disjoint => self.declared(alloc, text, tokens, deep, outline),
+            Kind::Constants => self.declared(alloc, text, tokens, depth, outline),
+            Kind::Variables => self.declared(alloc, text, tokens, depth, outline),
+            Kind::Disjoint => self.declared(alloc, text, tokens, depth, outline),
             Kind::Floating => {
                 let label = self.label_fault(text, tokens, keyword - 1);
                 Ok(lesser(label, self.floating_fault(text, tokens, keyword, middle)))
@@ -263,7 +263,7 @@ impl<'a, A: Allocator + Copy> Scope<'a, A> {
         alloc: A,
         text: &'a [u8],
         tokens: &[Word],
-        deep: u32,
+        depth: u32,
         outline: Outline,
     ) -> Result<Option<Fault>, AllocError>
         requires among { IsAmong text.now tokens.now outline }
@@ -271,11 +271,11 @@ impl<'a, A: Allocator + Copy> Scope<'a, A> {
         requires lists { lists_symbols outline.kind ≡ true }
         ensures { IfOk result
             (IsLeastFault self.now
-            (λ n. scope_faults n deep (statement_of text.now tokens.now outline))) }
+            (λ n. scope_faults n depth (statement_of text.now tokens.now outline))) }
     {
         let from = outline.keyword + 1;
         let rest = self.declared_fault(alloc, text, tokens, outline.kind, from, outline.middle)?;
-        let whole = Self::whole_statement_fault(text, tokens, deep, outline);
+        let whole = Self::whole_statement_fault(text, tokens, depth, outline);
         Ok(lesser(whole, rest))
     }
 }

@@ -12,7 +12,7 @@ use Rattle.mm_database.specs.Names.{find, names_of}
 use Rattle.mm_scope.proofs.KnowsLaw.{knows_is}
 use Rattle.mm_scope.proofs.NumberedLaw.{declared, names_shorter, names_next, taken_numbers}
 use Rattle.mm_scope.proofs.NumberedLaw.{formulas_more}
-use Rattle.mm_scope.proofs.reading.Outlined.take.Goals as goal
+use Rattle.mm_scope.proofs.reading.Outlined.add_if_lawful.Goals as goal
 
 pub fault-requires-clause-few : goal.fault-requires-clause-few
 fault-requires-clause-few g c =
@@ -49,7 +49,7 @@ returns-then-is_some g c =
     ∙ take_all (length begun) begun (le_refl (length begun)) in
     record {
       fault =
-          fault ∙ ap (λ n. least (scope_faults (names_before db n) c.args.deep s))
+          fault ∙ ap (λ n. least (scope_faults (names_before db n) c.args.depth s))
           (length-map os (statement_of text ws));
       taken = search rules;
       stays = λ some. (
@@ -94,7 +94,7 @@ returns g c =
     c.args.self.now.places.items k.formulas c.number_others.new.numbers.items more in
     record {
       fault =
-          fault ∙ ap (λ n. least (scope_faults (names_before db n) c.args.deep s))
+          fault ∙ ap (λ n. least (scope_faults (names_before db n) c.args.depth s))
           (length-map os (statement_of text ws));
       taken = λ none. (
         c.in_ok-push.ensures.items,
