@@ -81,20 +81,23 @@ step_flags_stay false (marked j) step_flags k e = e
 step_flags_stay true (marked j) step_flags k e = by_order (k == j) refl
     (cases_lt k (length step_flags))
   where
-    by_order : (are_equal : Bool) → (k == j) ≡ are_equal → (k < length step_flags) ⊎ (length step_flags ≤ k)
+    by_order : (are_equal : Bool) → (k == j) ≡ are_equal
+        → (k < length step_flags) ⊎ (length step_flags ≤ k)
         → flag_at (step_flags_after true (marked j) step_flags) k ≡ true
     by_order true equality (inl h) =
         let same = eqb-true k j equality in
         subst (λ n. get_or (step_flags_after true (marked j) step_flags) n false ≡ true) (sym same)
         (get_or-set_same step_flags j true false (subst (λ n. n < length step_flags) same h))
-    by_order true equality (inr h) = absurd (true≢false (sym e ∙ no_flag_past_the_end step_flags k h))
+    by_order true equality (inr h) =
+        absurd (true≢false (sym e ∙ no_flag_past_the_end step_flags k h))
       where
         no_flag_past_the_end : (ws : List Bool) (k : ℕ) → length ws ≤ k → flag_at ws k ≡ false
         no_flag_past_the_end [] zero h = refl
         no_flag_past_the_end [] (suc k) h = refl
         no_flag_past_the_end (w ∷ ws) zero h = absurd (omega (arith, h))
         no_flag_past_the_end (w ∷ ws) (suc k) h = no_flag_past_the_end ws k (omega (arith, h))
-    by_order false equality h = get_or-set_other step_flags j k true false (eqb-false k j equality) ∙ e
+    by_order false equality h =
+        get_or-set_other step_flags j k true false (eqb-false k j equality) ∙ e
 
 -- a step that repeats a marked step sets the flag of that step, if its own entry is essential
 repeated_step_has_flag : (j : ℕ) (step_flags : List Bool) → j < length step_flags → (b : Bool) → b
@@ -113,7 +116,8 @@ no_other_step_gets_flag j step_flags true k e = by_equality (k == j) refl
     by_equality : (are_equal : Bool) → (k == j) ≡ are_equal → (flag_at step_flags k ≡ true)
         ⊎ ((k ≡ j) × (true ≡ true))
     by_equality true equality = inr (eqb-true k j equality, refl)
-    by_equality false equality = inl (sym (get_or-set_other step_flags j k true false (eqb-false k j equality))
+    by_equality false equality =
+        inl (sym (get_or-set_other step_flags j k true false (eqb-false k j equality))
         ∙ e)
 
 pub step_flags_count : (b : Bool) (s : Step) (step_flags : List Bool)

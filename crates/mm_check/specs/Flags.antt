@@ -11,7 +11,8 @@ use Rattle.mm_rule.specs.Assertions.{is_assertion_at}
 -- assertion's node is essential
 abbrev pub child_flags : List Statement → Bool → ℕ → List Bool
 child_flags db node_is_essential l =
-    map (λ h. node_is_essential && list_any is_essential (statement_at db h)) (mandatory_hypotheses db l)
+    map (λ h. node_is_essential && list_any is_essential (statement_at db h))
+    (mandatory_hypotheses db l)
 
 -- the flags of the entries that a step takes from the stack, given whether the entry that it pushes
 -- is essential

@@ -377,7 +377,8 @@ module _ (b : BlockLists) (ps : List (ℕ × ℕ)) (rising : AreRising ps) (x y 
   }
 
   -- of two pairs of one symbol, the earlier has no greater statement
-  statements_ascend : (q r : ℕ) → q ≤ r → r < length ps → (get_or ps q (0, 0)).0 ≡ (get_or ps r (0, 0)).0
+  statements_ascend : (q r : ℕ) → q ≤ r → r < length ps
+      → (get_or ps q (0, 0)).0 ≡ (get_or ps r (0, 0)).0
       → (get_or ps q (0, 0)).1 ≤ (get_or ps r (0, 0)).1
   statements_ascend q r q_le_r r_lt_length_ps e = by_equality (cases_eq q r)
     where

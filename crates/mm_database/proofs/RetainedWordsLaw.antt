@@ -180,7 +180,8 @@ module _ (text : List ℕ) (db : List Statement) (w : Bool) (fault : Option Faul
   s_is_statement_k = slice_get-get_or db k (opening 0) below
 
   kind_here : (x : Kind) → option_map kind_of (slice_get db k) ≡ Some x → kind_of s ≡ x
-  kind_here x h = let e : Some (kind_of s) ≡ Some x = sym (ap (option_map kind_of) s_is_statement_k) ∙ h in cc
+  kind_here x h =
+      let e : Some (kind_of s) ≡ Some x = sym (ap (option_map kind_of) s_is_statement_k) ∙ h in cc
 
   label_read : option_map (λ t. t.word) (option_and_then label_of (slice_get n.statements k))
       ≡ option_map (λ t. t.word) (label_of s)
@@ -189,7 +190,8 @@ module _ (text : List ℕ) (db : List Statement) (w : Bool) (fault : Option Faul
       (option_and_then label_of (slice_get n.statements k))
       ≡ option_map (λ t. t.word) (label_of s)) is
       (ap (option_map (λ t. t.word))
-      (counted_then w db label_of (λ l k xs e ps d. refl) k ∙ ap (option_and_then label_of) s_is_statement_k))
+      (counted_then w db label_of (λ l k xs e ps d. refl) k
+      ∙ ap (option_and_then label_of) s_is_statement_k))
 
   -- no label
   pub label_missing : (x : Kind) → option_map kind_of (slice_get db k) ≡ Some x
@@ -231,7 +233,8 @@ module _ (text : List ℕ) (db : List Statement) (w : Bool) (fault : Option Faul
           ∙ get_or-append_seam (one.label ++ one.proof) one.last [] d in
           subst (λ (n : Contents). option_map end_at (slice_get n.statements k)
           ≡ Some (get_or words (length words - 1) d).start) is
-          (counted_got w db end_at (λ l k xs e ps d. refl) k ∙ ap (option_map end_at) s_is_statement_k
+          (counted_got w db end_at (λ l k xs e ps d. refl) k
+          ∙ ap (option_map end_at) s_is_statement_k
           ∙ ap Some (sym one.last_is) ∙ ap (λ x. Some x.start) (sym last))
 
       module _ (x : Kind) (kind : kind_of s ≡ x) (of_kind : is_labelled_kind x ≡ true) where

@@ -72,14 +72,16 @@ module _ (text : List ℕ) (r : Reading) (w : Word) (b : Bool) (none : r.fault �
       ∙ rw (none, append-nil) refl
 
   pub append_reading_closing : roles.Closing ≡ role_of b (bytes_of text w)
-      → append_reading text r (w ∷ []) ≡ record { tokens = r.tokens; fault = r.fault; open_comment = None }
+      → append_reading text r (w ∷ [])
+      ≡ record { tokens = r.tokens; fault = r.fault; open_comment = None }
   append_reading_closing role =
       append_reading_none text r _ none
       ∙ ap (with_tokens r.tokens)
       (reading_closing text r.open_comment w [] (role_is role) ∙ reading_end text None)
       ∙ rw (none, append-nil) refl
 
-  pub append_reading_comment : roles.Comment ≡ role_of b (bytes_of text w) → append_reading text r (w ∷ []) ≡ r
+  pub append_reading_comment : roles.Comment ≡ role_of b (bytes_of text w)
+      → append_reading text r (w ∷ []) ≡ r
   append_reading_comment role =
       append_reading_none text r _ none
       ∙ ap (with_tokens r.tokens)
@@ -104,7 +106,8 @@ append_reading_append text r xs ys = by_fault r.tokens r.fault r.open_comment
   where
     by_fault : (ts : List Word) (f : Option Fault) (c : Option ℕ)
         → append_reading text (record { tokens = ts; fault = f; open_comment = c }) (xs ++ ys)
-        ≡ append_reading text (append_reading text (record { tokens = ts; fault = f; open_comment = c }) xs) ys
+        ≡ append_reading text (append_reading text
+        (record { tokens = ts; fault = f; open_comment = c }) xs) ys
     by_fault ts None c =
         ap (with_tokens ts) (reading_append text c xs ys)
         ∙ append_reading_with_tokens text ts ys (reading text c xs).tokens (reading text c xs).fault
@@ -118,7 +121,8 @@ resolved_carried p x c Before h = h
 resolved_carried p x c (At q) h = refl
 
 -- The words go on inside a comment.
-pub append_reading_inside : (text : List ℕ) (ws : List Word) (p : ℕ) (r next : Side) (items : List Word)
+pub append_reading_inside : (text : List ℕ) (ws : List Word) (p : ℕ) (r next : Side)
+    (items : List Word)
     → ((q : ℕ) → reading text (Some q) ws ≡ side_reading q next) →
     r.fault ≡ None → is_some (resolved p r.open_comment) ≡ true → items ≡ r.tokens ++ next.tokens →
     record {
@@ -144,7 +148,8 @@ not_before x Nowhere h c = refl
 not_before x Before h c = absurd (omega (arith, same_Some 0 1 (sym (h 0) ∙ h 1)))
 not_before x (At q) h c = refl
 
-pub append_reading_outside : (text : List ℕ) (ws : List Word) (p : ℕ) (r next : Side) (items : List Word)
+pub append_reading_outside : (text : List ℕ) (ws : List Word) (p : ℕ) (r next : Side)
+    (items : List Word)
     → ((q : ℕ) → reading text None ws ≡ side_reading q next) →
     r.fault ≡ None → is_some (resolved p r.open_comment) ≡ false → items ≡ r.tokens ++ next.tokens →
     record {
@@ -184,14 +189,17 @@ same_next t text from here to w same next =
     subst (λ (s : List ℕ). words_between s from to ≡ w ∷ words_between s here to) same next
 
 pub append_reading_next : (text : List ℕ) (all r s : Reading) (w : Word) (vs ws : List Word)
-    → all ≡ append_reading text r vs → vs ≡ w ∷ ws → s ≡ append_reading text r (w ∷ []) → all ≡ append_reading text s ws
+    → all ≡ append_reading text r vs → vs ≡ w ∷ ws → s ≡ append_reading text r (w ∷ [])
+    → all ≡ append_reading text s ws
 append_reading_next text all r s w vs ws e next step =
     e ∙ ap (append_reading text r) next ∙ append_reading_append text r (w ∷ []) ws
     ∙ ap (λ (q : Reading). append_reading text q ws) (sym step)
 
-pub append_reading_done : (text : List ℕ) (all r : Reading) (vs : List Word) → all ≡ append_reading text r vs
+pub append_reading_done : (text : List ℕ) (all r : Reading) (vs : List Word)
+    → all ≡ append_reading text r vs
     → vs ≡ [] → all ≡ r
-append_reading_done text all r vs e next = e ∙ ap (append_reading text r) next ∙ append_reading_nil text r
+append_reading_done text all r vs e next =
+    e ∙ ap (append_reading text r) next ∙ append_reading_nil text r
 
 -- Plain words change nothing in a comment.
 pub reading_skips : (text : List ℕ) (p n from to : ℕ) → ArePlain text from (from + n)
@@ -225,20 +233,23 @@ reading_skips text p (suc n) from to plain =
     (cases_lt from to)
 
 -- Outside a comment a plain word is a token.
-pub append_reading_plain : (text : List ℕ) (r : Reading) (w : Word) (items : List Word) → r.fault ≡ None
+pub append_reading_plain : (text : List ℕ) (r : Reading) (w : Word) (items : List Word)
+    → r.fault ≡ None
     → is_some r.open_comment ≡ false → IsPlainWord (bytes_of text w) → items ≡ r.tokens ++ w ∷ []
     → record { tokens = items; fault = r.fault; open_comment = r.open_comment }
     ≡ append_reading text r (w ∷ [])
 append_reading_plain text r w items none closed plain e =
     rw e
-    (sym (append_reading_token text r w false none (sym closed) (sym (plain_token (bytes_of text w) plain))))
+    (sym (append_reading_token text r w false none (sym closed)
+    (sym (plain_token (bytes_of text w) plain))))
 
 -- Inside a comment, and after a fault, it changes nothing.
 pub ignored_inside : (faulty inside : Bool) → inside ≡ true → (faulty || inside) ≡ true
 ignored_inside faulty inside e = ap (λ (b : Bool). faulty || b) e ∙ or-true faulty
 
 -- So it is left out, as are those that follow it.
-pub append_reading_skips : (text : List ℕ) (all r : Reading) (w : Word) (vs : List Word) (from upto to : ℕ)
+pub append_reading_skips : (text : List ℕ) (all r : Reading) (w : Word) (vs : List Word)
+    (from upto to : ℕ)
     → (is_some r.fault || is_some r.open_comment) ≡ true → IsPlainWord (bytes_of text w)
     → from ≤ upto
     → ArePlain text from upto → all ≡ append_reading text r vs → vs ≡ w ∷ words_between text from to
@@ -264,8 +275,10 @@ append_reading_skips text all r w vs from upto to ignored plain le others e next
     by_fault ts (Some f) c h = refl
 
 -- three lists of words, one after another
-pub append_reading_three : (text : List ℕ) (c : Option ℕ) (first mid last : Reading) (ws vs us : List Word)
-    → reading text c ws ≡ first → mid ≡ append_reading text first vs → last ≡ append_reading text mid us →
+pub append_reading_three : (text : List ℕ) (c : Option ℕ) (first mid last : Reading)
+    (ws vs us : List Word)
+    → reading text c ws ≡ first → mid ≡ append_reading text first vs
+    → last ≡ append_reading text mid us →
     reading text c (ws ++ (vs ++ us)) ≡ last
 append_reading_three text c first mid last ws vs us a b d =
     reading_append text c ws (vs ++ us) ∙ ap (λ (r : Reading). append_reading text r (vs ++ us)) a
@@ -293,7 +306,8 @@ module _ (text : List ℕ) (a b c : ℕ) where
         readings = r.readings;
       }
 
-  pub piece_before_unbroken : (first second : Option Between) (between : Between) → first ≡ Some between
+  pub piece_before_unbroken : (first second : Option Between) (between : Between)
+      → first ≡ Some between
       → second ≡ None → MatchOption first (IsUnbroken text a b) (IsReadBetween text a b) →
       MatchOption second (IsUnbroken text b c) (IsReadBetween text b c)
       → IsReadBetween text a c between
@@ -309,7 +323,8 @@ module _ (text : List ℕ) (a b c : ℕ) where
   pub piece_both : (first second : Option Between) (before after between : Between)
       → first ≡ Some before → second ≡ Some after
       → MatchOption first (IsUnbroken text a b) (IsReadBetween text a b) →
-      MatchOption second (IsUnbroken text b c) (IsReadBetween text b c) → between.head_end ≡ before.head_end
+      MatchOption second (IsUnbroken text b c) (IsReadBetween text b c)
+      → between.head_end ≡ before.head_end
       → between.tail_start ≡ after.tail_start →
       ((ws us : List Word) → AreReadings text ws before.outside before.inside
       → AreReadings text us after.outside after.inside →
@@ -340,5 +355,6 @@ whole_reading text piece between s from to e =
     (IsReadBetween text piece.from piece.to)) e s in
     let broken : IsBroken text 0 (length text) between.head_end between.tail_start =
     subst (λ (b : ℕ). IsBroken text 0 b between.head_end between.tail_start) to
-    (subst (λ (a : ℕ). IsBroken text a piece.to between.head_end between.tail_start) from x.broken) in
+    (subst (λ (a : ℕ). IsBroken text a piece.to between.head_end between.tail_start) from x.broken)
+    in
     ap (reading text None) (sym (whole_broken broken)) ∙ x.readings.out 0

@@ -75,7 +75,10 @@ impl<A: Allocator> Piece<A> {
     {
         Word {
             start: self.from,
-            end: self.between.as_ref().map_or(self.from, |between| between.head_end),
+            end: self
+                .between
+                .as_ref()
+                .map_or(self.from, |between| between.head_end),
         }
     }
 
@@ -85,7 +88,10 @@ impl<A: Allocator> Piece<A> {
         ensures { result ≡ tail_of self.now }
     {
         Word {
-            start: self.between.as_ref().map_or(self.to, |between| between.tail_start),
+            start: self
+                .between
+                .as_ref()
+                .map_or(self.to, |between| between.tail_start),
             end: self.to,
         }
     }

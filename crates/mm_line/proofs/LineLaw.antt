@@ -82,7 +82,8 @@ rules_added (a ∷ args) (r ∷ rules) old new app added is same simple =
     (rule_added old added.0 a app r added.1 is rule parts.0) others parts.1
 
 pub is_command : (c : Command) (report_option form_option : Rule) → IsReportRule report_option
-    → IsFormRule form_option → app_of c ≡ command_of report_option form_option → IsCommand (app_of c)
+    → IsFormRule form_option → app_of c ≡ command_of report_option form_option
+    → IsCommand (app_of c)
 is_command c report_option form_option is is_form same =
     record {
       report_option = report_option;

@@ -113,9 +113,10 @@ command_of report_option form_option =
     (with_rule
     (with_rule
     (with_rule
-    (with_rule (with_rule app_with_name (number_rule (codes "workers"))) (number_rule (codes "pieces")))
-    only_rule) report_option) form_option) (flag_rule (codes "essential"))) (flag_rule (codes "open")))
-    file_rule
+    (with_rule
+    (with_rule app_with_name (number_rule (codes "workers"))) (number_rule (codes "pieces")))
+    only_rule) report_option) form_option) (flag_rule (codes "essential")))
+    (flag_rule (codes "open"))) file_rule
 
 -- the command line's description, for some lists of the words of `--report` and `--form`
 pub record IsCommand (app : App) : Type 0 where

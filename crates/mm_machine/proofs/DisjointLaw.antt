@@ -29,4 +29,5 @@ module _ (db : List Statement) (t : ℕ) (ps : List (ℕ × ℕ)) (h : AreDisjoi
   pub either_insert_keeps_disjoint : (a b : ℕ) (qs : List (ℕ × ℕ)) → Disjoint a b
       → InsertsPair ps a b qs ⊎ InsertsPair ps b a qs → AreDisjointAt db t qs
   either_insert_keeps_disjoint a b qs d (inl e) = insert_keeps_disjoint a b qs d e
-  either_insert_keeps_disjoint a b qs d (inr e) = insert_keeps_disjoint b a qs (either_order db t a b d) e
+  either_insert_keeps_disjoint a b qs d (inr e) =
+      insert_keeps_disjoint b a qs (either_order db t a b d) e

@@ -8,7 +8,8 @@ use Rattle.mm_spec.specs.CompressedProof.{Letter, letters_from, Group, is_early,
 use Rattle.std.specs.Result.{OkIff, result_ok}
 use Rattle.std.proofs.lemmas.List.{same_from_push}
 use Rattle.mm_proof.specs.declared.digits.LetterKind.{LetterKind}
-use Rattle.mm_proof.specs.declared.digits.LetterKind.TheVariants.{Early, Last, Mark, UnknownStep, Other}
+use Rattle.mm_proof.specs.declared.digits.LetterKind.TheVariants.{Early, Last, Mark, UnknownStep}
+use Rattle.mm_proof.specs.declared.digits.LetterKind.TheVariants.{Other}
 use Rattle.mm_proof.specs.Number.{IsNumber, HasLetterKind, saturated}
 
 abbrev bytes : List Letter → List ℕ

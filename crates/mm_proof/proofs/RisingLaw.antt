@@ -140,7 +140,8 @@ proof_follows text db fault is_read k l p xs e ps d is =
     }
 
 -- a statement that counts as a theorem is the same statement in what was read
-statement_as_read : (db : List Statement) (with_open : Bool) (counted_statements : List Statement) → counted_statements
+statement_as_read : (db : List Statement) (with_open : Bool) (counted_statements : List Statement)
+    → counted_statements
     ≡ counted with_open db
     → (k : ℕ) (l : Token) (p : ℕ) (xs : List Token) (e : ℕ) (ps : List Token) (d : ℕ)
     → slice_get counted_statements k ≡ Some (provable l p xs e ps d)

@@ -63,7 +63,8 @@ module _ (db : List Statement) (s : Statement) (find new : List ℕ → Option �
       → new w ≡ label_after (length db) o w (find w)
       → ((is_labelled w s ≡ true) × (new w ≡ Some (length db)))
       ⊎ ((is_labelled w s ≡ false) × (new w ≡ find w))
-  labelled_or_unchanged w None e h = inr (ap (λ o. elim o [ None ↦ false | Some l ↦ bytes_eq l.word w ]) e, h)
+  labelled_or_unchanged w None e h =
+      inr (ap (λ o. elim o [ None ↦ false | Some l ↦ bytes_eq l.word w ]) e, h)
   labelled_or_unchanged w (Some l) e h =
       by_equality (bytes_eq l.word w)
       (ap (λ o. elim o [ None ↦ false | Some l ↦ bytes_eq l.word w ]) e) h
@@ -79,7 +80,9 @@ module _ (db : List Statement) (s : Statement) (find new : List ℕ → Option �
       → ((w : Bytes) → is_labelled w s ≡ true → find w ≡ None) → AreLabels (db ++ s ∷ []) new
   labels_after is fresh = record {
     found = λ w k e. found w k e (labelled_or_unchanged w (label_of s) refl (is w));
-    missing = λ w e k. missing w k e (labelled_or_unchanged w (label_of s) refl (is w)) (cases_order k (length db));
+    missing =
+        λ w e k. missing w k e (labelled_or_unchanged w (label_of s) refl (is w))
+        (cases_order k (length db));
     only = λ w j k e f. only w j k e f (cases_lt j (length db)) (cases_lt k (length db));
   }
     where
@@ -127,7 +130,8 @@ module _ (db : List Statement) (s : Statement) (find new : List ℕ → Option �
       only : (w : Bytes) (j k : ℕ) → list_any (is_labelled w) (statement_at (db ++ s ∷ []) j) ≡ true
           → list_any (is_labelled w) (statement_at (db ++ s ∷ []) k) ≡ true
           → (j < length db) ⊎ (length db ≤ j) → (k < length db) ⊎ (length db ≤ k) → j ≡ k
-      only w j k e f (inl l) (inl m) = x.only w j k (sym (label_before w j l) ∙ e) (sym (label_before w k m) ∙ f)
+      only w j k e f (inl l) (inl m) =
+          x.only w j k (sym (label_before w j l) ∙ e) (sym (label_before w k m) ∙ f)
       only w j k e f (inl l) (inr m) = absurd (apart w j k e f l m)
       only w j k e f (inr l) (inl m) = absurd (apart w k j f e m l)
       only w j k e f (inr l) (inr m) =

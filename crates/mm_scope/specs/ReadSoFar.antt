@@ -64,7 +64,8 @@ module _ {A : Type 0} where
         (statement_of text tokens o))
     pub taken : r.fault ≡ None
         → (r.outlines.items ≡ before ++ o ∷ [])
-        × IsReadSoFar (statements text tokens before ++ statement_of text tokens o ∷ []) (read_so_far r)
+        × IsReadSoFar (statements text tokens before ++ statement_of text tokens o ∷ [])
+        (read_so_far r)
     pub stays : r.fault ≢ None
         → (r.outlines.items ≡ before) × IsReadSoFar (statements text tokens before) (read_so_far r)
 

@@ -157,7 +157,12 @@ impl<'a, A: Allocator + Copy> Scope<'a, A> {
 
     /// Returns the fault of a `$c`, `$v` or `$d` that isn't one of its symbols: that it stands in a
     /// block, or has too few symbols.
-    fn whole_statement_fault(_text: &[u8], tokens: &[Word], depth: u32, outline: Outline) -> Option<Fault>
+    fn whole_statement_fault(
+        _text: &[u8],
+        tokens: &[Word],
+        depth: u32,
+        outline: Outline,
+    ) -> Option<Fault>
         requires among { IsAmong _text.now tokens.now outline }
         requires order { outline.keyword < outline.middle }
         requires lists { lists_symbols outline.kind ≡ true }

@@ -151,7 +151,8 @@ module _ {text : List ℕ} {ts : List Word} {open_comment : Option ℕ} {at : �
 
 -- ---- one stretch of words after another
 
-pub append_reading_with_tokens : (text : List ℕ) (ts ys us : List Word) (f : Option Fault) (c : Option ℕ) →
+pub append_reading_with_tokens : (text : List ℕ) (ts ys us : List Word) (f : Option Fault)
+    (c : Option ℕ) →
     with_tokens ts (append_reading text (record { tokens = us; fault = f; open_comment = c }) ys)
     ≡ append_reading text (record { tokens = ts ++ us; fault = f; open_comment = c }) ys
 append_reading_with_tokens text ts ys us None c = rw append_assoc refl
@@ -164,15 +165,18 @@ reading_one text c w ws h = reading_token text [] c w ws h
 
 pub reading_append : (text : List ℕ) (c : Option ℕ) (xs ys : List Word)
     → reading text c (xs ++ ys) ≡ append_reading text (reading text c xs) ys
-reading_append text c [] ys = sym (ap (λ (r : Reading). append_reading text r ys) (reading_end text c))
+reading_append text c [] ys =
+    sym (ap (λ (r : Reading). append_reading text r ys) (reading_end text c))
 reading_append text c (x ∷ xs) ys =
     by_role (role_of (is_some c) (bytes_of text x)) refl (λ d. reading_append text d xs ys)
   where
     by_role : (r : Role) → role_of (is_some c) (bytes_of text x) ≡ r
-        → ((d : Option ℕ) → reading text d (xs ++ ys) ≡ append_reading text (reading text d xs) ys) →
+        → ((d : Option ℕ) → reading text d (xs ++ ys) ≡ append_reading text (reading text d xs) ys)
+        →
         reading text c (x ∷ (xs ++ ys)) ≡ append_reading text (reading text c (x ∷ xs)) ys
     by_role Token h ih = reading_one text c x (xs ++ ys) h ∙ ap (with_tokens (x ∷ [])) (ih c)
-        ∙ append_reading_with_tokens text (x ∷ []) ys (reading text c xs).tokens (reading text c xs).fault
+        ∙ append_reading_with_tokens text (x ∷ []) ys (reading text c xs).tokens
+        (reading text c xs).fault
         (reading text c xs).open_comment
         ∙ sym (ap (λ (r : Reading). append_reading text r ys) (reading_one text c x xs h))
     by_role Opening h ih =

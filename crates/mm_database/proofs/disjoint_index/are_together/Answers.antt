@@ -86,7 +86,8 @@ loop-pairs-preserved-then-x_statement-y_statement-2 g c =
       x_end_within = i.x_end_within;
       y_end_within = omega (arith, down, wr);
       none_in_common = none_before_y_end b ps c.requires.ordered.rising c.args.x c.args.y c.args.at
-          x_end y_end c.skip_last-y_end.result i.none_in_common x_statement.0 i.x_end_within y_statement.0 wr has_x less
+          x_end y_end c.skip_last-y_end.result i.none_in_common x_statement.0 i.x_end_within
+          y_statement.0 wr has_x less
           c.skip_last-y_end.ensures.passed;
     }
 
@@ -129,7 +130,8 @@ loop-pairs-preserved g c =
       x_end_within = omega (arith, down, wl);
       y_end_within = i.y_end_within;
       none_in_common = none_before_x_end b ps c.requires.ordered.rising c.args.x c.args.y at x_end
-          y_end c.skip_last-x_end.result i.none_in_common x_statement.0 wl y_statement.0 i.y_end_within has_y why
+          y_end c.skip_last-x_end.result i.none_in_common x_statement.0 wl y_statement.0
+          i.y_end_within has_y why
           c.skip_last-x_end.ensures.passed;
     }
 

@@ -32,9 +32,11 @@ returns-clause-readings g c ws us before after =
     ] in
     record {
       out =
-          λ p. append_reading_three c.args.text.now _ _ _ _ ws _ us (before.out p) (outside_joined p)
+          λ p. append_reading_three c.args.text.now _ _ _ _ ws _ us (before.out p)
+          (outside_joined p)
           (c.in_ok-append_reading.ensures c.args.text.now us after p);
       within =
-          λ p. append_reading_three c.args.text.now _ _ _ _ ws _ us (before.within p) (inside_joined p)
+          λ p. append_reading_three c.args.text.now _ _ _ _ ws _ us (before.within p)
+          (inside_joined p)
           (c.in_ok-append_reading-2.ensures c.args.text.now us after p);
     }

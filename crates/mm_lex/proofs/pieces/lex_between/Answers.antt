@@ -9,7 +9,8 @@ use Rattle.mm_spec.specs.Words.{words_between}
 use Rattle.mm_lex.specs.Beginnings.{ArePlain}
 use Rattle.mm_lex.specs.Plain.{IsPlainWord}
 use Rattle.mm_spec.specs.Readings.{bytes_of, reading}
-use Rattle.mm_lex.proofs.PiecesLaw.{append_reading_next, append_reading_done, append_reading_skips, append_reading_some}
+use Rattle.mm_lex.proofs.PiecesLaw.{append_reading_next, append_reading_done, append_reading_skips}
+use Rattle.mm_lex.proofs.PiecesLaw.{append_reading_some}
 use Rattle.mm_lex.proofs.PiecesLaw.{same_next}
 use Rattle.mm_lex.proofs.pieces.lex_between.Goals as goal
 use Rattle.mm_lex.proofs.pieces.lex_between.Goals.{else-loop-scanner-test}
@@ -52,12 +53,14 @@ loop-scanner-preserved-then-ignores_plain-2 g c =
     record {
       same_text = c.skip_plain.ensures.text ∙ same;
       outside_reading =
-          λ p. append_reading_skips text _ (side_reading p (side c.loop-scanner.outside)) word _ here upto
+          λ p. append_reading_skips text _
+          (side_reading p (side c.loop-scanner.outside)) word _ here upto
           c.args.tail_start
           (sym (c.ignores_plain.ensures p) ∙ c.if-ignores_plain.true) plain
           c.skip_plain.ensures.onward others (before.outside_reading p) next;
       inside_reading =
-          λ p. append_reading_skips text _ (side_reading p (side c.loop-scanner.inside)) word _ here upto
+          λ p. append_reading_skips text _
+          (side_reading p (side c.loop-scanner.inside)) word _ here upto
           c.args.tail_start
           (sym (c.ignores_plain-then-ignores_plain.ensures p) ∙ c.if-ignores_plain-2.true) plain
           c.skip_plain.ensures.onward others (before.inside_reading p) next;

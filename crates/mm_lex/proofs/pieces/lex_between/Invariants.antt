@@ -12,10 +12,12 @@ invariant-loop-scanner g l = record {
   same_text : l.scanner.text.now ≡ l.text;
   outside_reading : (p : ℕ)
       → reading l.text None (words_between l.text l.head_end l.tail_start)
-      ≡ append_reading l.text (side_reading p (side l.outside)) (words_between l.text l.scanner.from l.tail_start);
+      ≡ append_reading l.text (side_reading p (side l.outside))
+      (words_between l.text l.scanner.from l.tail_start);
   inside_reading : (p : ℕ)
       → reading l.text (Some p) (words_between l.text l.head_end l.tail_start)
-      ≡ append_reading l.text (side_reading p (side l.inside)) (words_between l.text l.scanner.from l.tail_start);
+      ≡ append_reading l.text (side_reading p (side l.inside))
+      (words_between l.text l.scanner.from l.tail_start);
 }
 
 abbrev pub decreases-loop-scanner : goal.decreases-loop-scanner

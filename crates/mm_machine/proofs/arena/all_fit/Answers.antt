@@ -52,7 +52,8 @@ returns-then-not-is_fitting c =
           essential_tested xs es parts hs j part_index h one next n w.in-Essential.is
           (w.is_fitting-is ∙ w.fits-is_fitting.ensures
           ∙ ap (λ z. bytes_eq (span_formula xs (get_or es j no_symbols))
-          (replaced xs es (take ((part_index + n) - part_index) (drop part_index z)))) parts_are) w.part_index-is
+          (replaced xs es (take ((part_index + n) - part_index) (drop part_index z)))) parts_are)
+          w.part_index-is
     ] in
     sym (c.loop-j.invariant.left
     ∙ fit_next xs es parts hs j part_index h one next tested j_lt_length_hs j_lt_length_es h_is
@@ -85,14 +86,16 @@ loop-j-preserved c =
           essential_tested xs es parts hs j part_index h one next n w.in-Essential.is
           (w.is_fitting-is ∙ w.fits-is_fitting.ensures
           ∙ ap (λ z. bytes_eq (span_formula xs (get_or es j no_symbols))
-          (replaced xs es (take ((part_index + n) - part_index) (drop part_index z)))) parts_are) w.part_index-is
+          (replaced xs es (take ((part_index + n) - part_index) (drop part_index z)))) parts_are)
+          w.part_index-is
     ] in
     record {
       part_count_is = part_count_next xs es parts hs j part_index h one next tested j_lt_length_hs
           j_lt_length_es h_is
           c.loop-j.invariant.part_count_is;
       left = c.loop-j.invariant.left
-          ∙ fit_next xs es parts hs j part_index h one next tested j_lt_length_hs j_lt_length_es h_is
+          ∙ fit_next xs es parts hs j part_index h one next tested j_lt_length_hs j_lt_length_es
+          h_is
           ∙ ap (λ b. b && fit_from xs es parts hs (j + 1) next) c.if-not-is_fitting.false;
     }
 
@@ -103,5 +106,6 @@ returns c =
     let all = subst (λ z. length z ≤ j) (ap (λ (r : CompiledRule). r.hypotheses) c.rule.view_is)
     c.loop-j-test.false in
     sym (c.loop-j.invariant.left
-    ∙ fit_end c.args.symbols.now c.args.premises.now c.args.rule.now.parts hs j c.loop-j.part_index all
+    ∙ fit_end c.args.symbols.now c.args.premises.now c.args.rule.now.parts hs j c.loop-j.part_index
+    all
     (omega (arith, all, c.requires.count)))

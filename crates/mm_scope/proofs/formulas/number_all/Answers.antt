@@ -32,6 +32,7 @@ loop-token_index-preserved g c =
     ∙ ap₂ (λ x y. x ++ y ∷ []) c.loop-token_index.invariant
     (c.new.ensures ∙ c.numbered-number.ensures.number
     ∙ ap (λ w. index_of w ns) c.bytes.ensures)
-    ∙ append_assoc c.args.numbers.now.items xs (index_of (token_at text ws token_index).word ns ∷ [])
+    ∙ append_assoc c.args.numbers.now.items xs
+    (index_of (token_at text ws token_index).word ns ∷ [])
     ∙ ap (λ l. c.args.numbers.now.items ++ l)
     (sym (numbers_more text ws ns c.args.from token_index (omega arith) (omega arith)))

@@ -83,7 +83,8 @@ new-requires g c =
     let w = c.args.with_open in
     let lent : ws ≡ words = c.as_slice-words.ensures.value ∙ c.requires.tokens in
     let kept =
-    subst (λ (us : List Word). IsReadSoFar (statements text us os) (read_so_far c.in_ok-outlined.outlined))
+    subst (λ (us : List Word). IsReadSoFar (statements text us os)
+    (read_so_far c.in_ok-outlined.outlined))
     lent outlined.kept in
     let statement_lists =
     subst (λ (us : List Word). AreStatementLists (counted w (statements text us os))

@@ -6,7 +6,8 @@ use Rattle.mm_lex.specs.Pieces.{side_reading}
 use Rattle.mm_lex.specs.Between.{side}
 use Rattle.mm_lex.specs.Plain.{IsPlainWord}
 use Rattle.mm_lex.specs.Beginnings.{ArePlain}
-use Rattle.mm_lex.proofs.PiecesLaw.{append_reading_done, append_reading_next, append_reading_plain, append_reading_skips, append_reading_some}
+use Rattle.mm_lex.proofs.PiecesLaw.{append_reading_done, append_reading_next, append_reading_plain}
+use Rattle.mm_lex.proofs.PiecesLaw.{append_reading_skips, append_reading_some}
 use Rattle.mm_lex.proofs.PiecesLaw.{ignored_inside, none_from, same_next}
 use Rattle.mm_lex.proofs.modes.ModeReading.read_rest.Goals as goal
 
@@ -64,7 +65,8 @@ loop-found-preserved-then-is_open g c =
       same_text = c.skip_plain.ensures.text ∙ same;
       no_fault = before.no_fault;
       same_reading =
-          λ p. append_reading_skips text _ (side_reading p (side c.loop-found.self)) word _ here upto
+          λ p. append_reading_skips text _
+          (side_reading p (side c.loop-found.self)) word _ here upto
           c.args.to (ignored_inside _ _ (sym (c.is_open.ensures p) ∙ c.if-is_open.true)) plain
           c.skip_plain.ensures.onward others (before.same_reading p) next;
     }
@@ -86,7 +88,8 @@ loop-found-preserved g c =
       same_reading =
           λ p. append_reading_next text _ (side_reading p (side c.loop-found.self)) _ word _ _
           (before.same_reading p)
-          next (append_reading_plain text (side_reading p (side c.loop-found.self)) word _ before.no_fault
+          next (append_reading_plain text
+          (side_reading p (side c.loop-found.self)) word _ before.no_fault
           (sym (c.is_open.ensures p) ∙ c.if-is_open.false) plain c.in_ok-push.ensures.items);
     }
 

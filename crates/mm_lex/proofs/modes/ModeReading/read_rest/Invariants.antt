@@ -11,8 +11,10 @@ invariant-loop-found g l = record {
   same_text : l.scanner.text.now ≡ l.text;
   no_fault : l.self.fault ≡ None;
   same_reading : (p : ℕ)
-      → append_reading l.text (side_reading p (side l.fn.self)) (words_between l.text l.fn.scanner.from l.to)
-      ≡ append_reading l.text (side_reading p (side l.self)) (words_between l.text l.scanner.from l.to);
+      → append_reading l.text (side_reading p (side l.fn.self))
+      (words_between l.text l.fn.scanner.from l.to)
+      ≡ append_reading l.text (side_reading p (side l.self))
+      (words_between l.text l.scanner.from l.to);
 }
 
 abbrev pub decreases-loop-found : goal.decreases-loop-found
