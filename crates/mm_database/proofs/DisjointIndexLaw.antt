@@ -284,7 +284,7 @@ module _ (b : BlockLists) (ps : List (ℕ × ℕ)) (rising : AreRising ps) (x at
             let v = below (end - 1) (omega (arith, p_lt_end, i)) in
             n (omega (arith, p_lt_end)) (omega (arith, u, v))
 
-    -- one that has the symbol and is active stands before the place
+    -- a pair of the symbol and an earlier statement stands before index `start`
     pub inside_if : (p : ℕ) → p < length ps → (get_or ps p (0, 0)).0 ≡ x
         → (get_or ps p (0, 0)).1 < at
         → p < start
@@ -349,7 +349,7 @@ module _ (b : BlockLists) (ps : List (ℕ × ℕ)) (rising : AreRising ps) (x at
 
 -- ---- whether two symbols have one together
 
--- what both have stands before where the search is
+-- an active statement that is paired with both symbols has its two pairs before `x_end` and `y_end`
 pub record NoneInCommon (b : BlockLists) (ps : List (ℕ × ℕ)) (x y at x_end y_end : ℕ) : Type 0 where
   pub met : (p q : ℕ) → p < length ps → q < length ps → (get_or ps p (0, 0)).0 ≡ x
       → (get_or ps q (0, 0)).0 ≡ y → (get_or ps p (0, 0)).1 ≡ (get_or ps q (0, 0)).1
@@ -470,7 +470,7 @@ module _ (b : BlockLists) (ps : List (ℕ × ℕ)) (rising : AreRising ps) (x y 
               (e ∙ sym ex) in
               omega (arith, u, v, s, why)
 
-  -- one of the two has none x_end
+  -- if one of the two symbols has no pair before its end, no active statement has both symbols
   pub none_at_end : (x_end y_end : ℕ) → NoneInCommon b ps x y at x_end y_end
       → ((p : ℕ) → p < x_end → (get_or ps p (0, 0)).0 ≡ x → ⊥)
       ⊎ ((p : ℕ) → p < y_end → (get_or ps p (0, 0)).0 ≡ y → ⊥)

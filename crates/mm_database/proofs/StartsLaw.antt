@@ -75,7 +75,7 @@ starts_next ps n starts known h = record {
     by_equality p l (inl e) = let s = ap (λ k. (get_or ps k (0, 0)).0) e in omega (arith, s, known)
     by_equality p l (inr ne) = h.known p (omega arith)
 
--- all pairs
+-- the starts for the first n pairs are those for all pairs, if there are no more than n
 pub starts_all : (ps : List (ℕ × ℕ)) (n : ℕ) (starts : List ℕ) → length ps ≤ n
     → StartsTo ps n starts → AreStarts ps starts
 starts_all ps n starts all h x = by_order (cases_lt x (length starts))

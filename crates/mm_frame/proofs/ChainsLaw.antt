@@ -78,7 +78,7 @@ begins : (links : List (ℕ × ℕ)) (n k : ℕ) (js : List ℕ) → IsLinkChain
 begins links n k [] c some e = absurd (omega (arith, c, some))
 begins links n k (j ∷ js) c some e = ap (λ b. b || is_member js k) (eq-eqb k j (sym e ∙ c.2))
 
--- the same by another test, from an earlier least
+-- a chain stays such for a test with the same values and a lower least statement
 same_chain : (has now : ℕ → Bool) (a b : ℕ) (links : List (ℕ × ℕ)) (n : ℕ) → a ≤ b
     → ((j : ℕ) → has j ≡ now j) → HasChain has b links n → HasChain now a links n
 same_chain has now a b links n l same h = record {
@@ -228,7 +228,7 @@ module _ (has : ℕ → ℕ → Bool) (heads : List ℕ) (links : List (ℕ × �
                   ∙ or-false (has y j));
             }
 
--- the same chains by another test, from an earlier least
+-- chains stay such for a test with the same values and a lower least statement
 pub same_chains : (has now : ℕ → ℕ → Bool) (a b : ℕ) (heads : List ℕ) (links : List (ℕ × ℕ))
     → a ≤ b → ((x j : ℕ) → has x j ≡ now x j) → AreChains has b heads links
     → AreChains now a heads links

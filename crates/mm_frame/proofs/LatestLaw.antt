@@ -231,7 +231,7 @@ module _ (test : Statement → Bool) (db : List Statement) where
           by_membership (inl m) = m
           by_membership (inr (n, l)) = absurd (n last_is_never)
 
--- one more at the end of the list
+-- a list of the latest statements stays such with the one at the next place
 pub each_pushed : (test : Statement → Bool) (db : List Statement) (xs ys : List ℕ) (last k : ℕ)
     → length xs ≡ k + 1 → ys ≡ xs ++ last ∷ []
     → ((i : ℕ) → i ≤ k → IsLatest test db i (get_or xs i 0)) → IsLatest test db (k + 1) last

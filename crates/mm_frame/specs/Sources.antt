@@ -5,7 +5,7 @@ use Rattle.mm_frame.specs.Latest.{AreLatest}
 use Rattle.mm_database.specs.ParsedStatements.{IsSound}
 use Rattle.mm_frame.specs.declared.sources.FrameSources.{FrameSources}
 
--- all are those of the statements, which are sound
+-- the statements are sound, and the latest `$e` and the index of the `$d` are theirs
 module _ {A : Type 0} where
   pub record AreSources (s : FrameSources A) : Type 0 where
     pub sound : IsSound s.statements.now.list

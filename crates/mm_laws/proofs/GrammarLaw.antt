@@ -58,7 +58,7 @@ comment_word_is_no_closing word h = by_closes (closes_comment word) refl
     by_closes true e = absurd (true≢false (sym h ∙ closing_is_no_comment_word word e))
     by_closes false e = e
 
--- what each class is read as
+-- the role that a word of each class has
 role_token : (word : List ℕ) → is_token word ≡ true → role_of false word ≡ roles.Token
 unfolding role_of
 role_token word h = rw h refl

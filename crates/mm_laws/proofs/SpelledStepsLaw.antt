@@ -83,7 +83,7 @@ still_mark items more k i h =
 abbrev AreMarks : List Item → List ℕ → Type 0
 AreMarks before marks = (k i : ℕ) → slice_get marks k ≡ Some i → IsMark before k i
 
--- one mark more
+-- the marks are those of the items with one mark more
 one_mark_more : (before : List Item) (marks : List ℕ) (count : ℕ) → 0 < count
     → count ≡ count_by is_number before → length marks ≡ count_by is_mark_item before
     → AreMarks before marks → AreMarks (before ++ mark ∷ []) (marks ++ (count - 1) ∷ [])

@@ -62,7 +62,8 @@ module _ (db : List Statement) (s : Statement) where
       let n : j - j ≡ 0 = omega arith in
       ap (λ m. list_all (λ i. nat_le (depth more j) (depth more i)) (range_with_len (j + 1) m)) n
 
-  -- one place more
+  -- the block of statement j is open after the new statement exactly if it is open before it, and
+  -- the depth after it is no less than that at j
   pub stays_last : (j : ℕ) → j < length db
       → is_block_open more j (length db + 1)
       ≡ (is_block_open db j (length db) && nat_le (depth db j) (depth more (length db + 1)))

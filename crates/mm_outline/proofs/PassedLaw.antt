@@ -18,7 +18,7 @@ TakesWords Start = ⊥
 TakesWords (Labelled l) = ⊥
 TakesWords _ = Unit {0}
 
--- it stays where it is further on
+-- a part that takes words before token i does so before each later token
 pub part_later : (part : Part) (i j : ℕ) → TakesWords part → i ≤ j → IsPartBefore part i
     → IsPartBefore part j
 part_later Start i j t h p = absurd t
@@ -28,7 +28,7 @@ part_later (Formula w) i j t h p = (p.0, omega arith)
 part_later (Proof w e) i j t h p = (p.0, p.1, omega arith)
 
 module _ (text : List ℕ) (ws : List Word) (d : ℕ) where
-  -- one plain word
+  -- a word without `$` continues the statement and leaves the part as it is
   one : (part : Part) (i : ℕ) → TakesWords part → IsPartBefore part i → i < length ws
       → has_dollar (token_at text ws i).word ≡ false
       → table.continued (progress text ws d part (i + 1))

@@ -83,7 +83,7 @@ empty_at db k ps t is =
     ap (λ o. elim o [ Some (provable l p xs a qs d) ↦ reading_faults db k d qs | _ ↦ [] ]) t.is
     ∙ ap (reading_faults db k t.dot) is
 
--- those of a normal proof
+-- the faults of reading a normal proof are those of its words
 pub normal_at : (db : List Statement) (k : ℕ) (ps : List Token) (t : IsProvable db k ps)
     → (first : Token) (rest : List Token)
     → ps ≡ first ∷ rest → bytes_eq first.word (codes "(") ≡ false

@@ -199,7 +199,7 @@ module _ (text : List ℕ) (ws : List spec.Word) (db : List Statement) (b : Bloc
   blocks_after kind.Theorem p m e deep =
       blocks_plain db (statement_between text ws kind.Theorem p m e) b x few refl refl
 
--- what is kept after one lawful statement more
+-- the code knows what it has to know after one lawful statement more
 pub keeps_after : (text : List ℕ) (ws : List spec.Word) (db : List Statement)
     → (look : List ℕ → Option Symbol) (labels : List ℕ → Option ℕ) (b : BlockLists)
     → KnowsStatements db look labels b → length db < never → (k : Kind) (p m e : ℕ)

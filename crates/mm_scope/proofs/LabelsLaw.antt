@@ -115,11 +115,11 @@ module _ (db : List Statement) (s : Statement) (find new : List ℕ → Option �
           (slice_get_past (db ++ s ∷ []) k (omega (arith, m, length-append db (s ∷ []))))
 
       -- a label of the new statement is none before
-      apart : (w : Bytes) (j k : ℕ)
+      no_earlier_label : (w : Bytes) (j k : ℕ)
           → list_any (is_labelled w) (statement_at (db ++ s ∷ []) j) ≡ true
           → list_any (is_labelled w) (statement_at (db ++ s ∷ []) k) ≡ true → j < length db
           → length db ≤ k → ⊥
-      apart w j k e f l m =
+      no_earlier_label w j k e f l m =
           let b = is_there (is_labelled w) (db ++ s ∷ []) k f in
           let same : k ≡ length db = omega (arith, b, m, length-append db (s ∷ [])) in
           let new : is_labelled w s ≡ true =
@@ -132,8 +132,8 @@ module _ (db : List Statement) (s : Statement) (find new : List ℕ → Option �
           → (j < length db) ⊎ (length db ≤ j) → (k < length db) ⊎ (length db ≤ k) → j ≡ k
       only w j k e f (inl l) (inl m) =
           x.only w j k (sym (label_before w j l) ∙ e) (sym (label_before w k m) ∙ f)
-      only w j k e f (inl l) (inr m) = absurd (apart w j k e f l m)
-      only w j k e f (inr l) (inl m) = absurd (apart w k j f e m l)
+      only w j k e f (inl l) (inr m) = absurd (no_earlier_label w j k e f l m)
+      only w j k e f (inr l) (inl m) = absurd (no_earlier_label w k j f e m l)
       only w j k e f (inr l) (inr m) =
           let a = is_there (is_labelled w) (db ++ s ∷ []) j e in
           let b = is_there (is_labelled w) (db ++ s ∷ []) k f in

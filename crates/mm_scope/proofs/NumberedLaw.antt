@@ -54,7 +54,7 @@ place_front w (n ∷ ns) more h = by_equality (bytes_eq w n) refl (place_front w
     by_equality true e r = refl
     by_equality false e r = ap suc (r (sym (ap (λ b. b || is_in w ns) e) ∙ h))
 
--- what more words add
+-- further words add names after those that there are, and change none of them
 more_names : (d ws : List Bytes)
     → (more : List Bytes) × (first_occurrences [] (d ++ ws) ≡ first_occurrences [] d ++ more)
 more_names d [] =
@@ -131,7 +131,7 @@ module _ (db : List Statement) (lawful : (k : ℕ) → k < length db → scope_f
       (same_maps (formula_of db) (formula_of all) db (λ k t e. sym (formula-kept k t e)))
       ∙ sym (map-append (formula_of all) db (s ∷ []))
 
-  -- one statement more
+  -- formulas of statements stay such with that of one statement more
   pub formulas_more : (numbers places : List ℕ) → AreFormulas db numbers places → (more : List ℕ)
       → more ≡ numbers ++ formula_of all s → AreFormulas all more (with_end places (length more))
   formulas_more numbers places f more e =

@@ -79,7 +79,7 @@ module _ (db : List Statement) (s : Statement) (w : Bytes) where
     otherwise = λ c. other_same c nt ∙ k.otherwise c;
   }
 
-  -- it declares it as a constant
+  -- what is known of a word after a statement that declares it as a constant
   pub known_constant : IsEntryOf db w None → is_in w (constants_of s ++ []) ≡ true
       → is_in w (variables_of s ++ []) ≡ false → is_in w (typed_words s ++ []) ≡ false → (n : ℕ)
       → IsEntryOf (db ++ s ∷ []) w (Some (entry false n never w))
@@ -110,7 +110,7 @@ module _ (db : List Statement) (s : Statement) (w : Bytes) where
   is_declared None = (refl, refl, refl)
   is_declared (Some e) = (refl, refl, refl)
 
-  -- it declares it as a variable
+  -- what is known of a word after a statement that declares it as a variable
   pub known_variable : (x : Option WordEntry) → IsEntryOf db w x → is_constant_entry x ≡ false
       → is_in w (flat_map variables_of (active_statements db (length db))) ≡ false
       → is_in w (constants_of s ++ []) ≡ false → is_in w (variables_of s ++ []) ≡ true
@@ -131,7 +131,7 @@ module _ (db : List Statement) (s : Statement) (w : Bytes) where
         otherwise = λ c. other_same c nt ∙ k.otherwise c ∙ other_declared c x;
       }
 
-  -- it types it
+  -- what is known of a word after a `$f` that types it
   pub known_typed : (e : WordEntry) → IsEntryOf db w (Some e) → length db < never → (c : Bytes)
       → is_in w (flat_map typed_words (active_statements db (length db))) ≡ false
       → list_any (is_other c w) (flat_map typings_of db) ≡ false

@@ -56,7 +56,8 @@ module _ {A : Type 0} where
     places = r.places.items;
   }
 
-  -- what there is after a statement was taken: its fault, and where it has none, all with it
+  -- after the next statement there is its fault; if it has none, the statement was added to what
+  -- had been read, otherwise nothing was
   pub record HasTaken (text : List ℕ) (tokens : List Word) (before : List Outline) (deep : ℕ)
       (o : Outline) (r : Outlined A) : Type 0 where
     pub fault : r.fault

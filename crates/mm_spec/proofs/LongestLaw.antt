@@ -130,7 +130,7 @@ IsPartRead (words d make ws) part = IsMadeOf make ws part
 IsPartRead (formula d l k ws) part =
     (is_label l.word ≡ true) × (is_plain ws ≡ true) × (part ≡ l ∷ token k (codes "$p") ∷ ws)
 
--- what the last token of the part does is what it says
+-- the transition by the last token of a part says what has been read: that part
 abbrev TransitionHolds : ℕ → List Token → Transition → Type 0
 TransitionHolds d part unexpected = Unit {0}
 TransitionHolds d part (continued r) = (depth_of_progress r ≡ d) × IsPartRead r part

@@ -32,7 +32,7 @@ use Rattle.mm_spec.proofs.FindsLaw.{any_map, passing_statement, statement_passes
 
 -- ---- one statement
 
--- what an `$a` and a `$p` have in common stays
+-- the function has the same value for a `$p` and for the `$a` with the same label and formula
 abbrev pub IsAlike : {X : Type 0} → (Statement → X) → Type 0
 IsAlike f =
     (l : Token) (k : ℕ) (xs : List Token) (e : ℕ) (ps : List Token) (d : ℕ)

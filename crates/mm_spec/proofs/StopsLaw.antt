@@ -69,7 +69,8 @@ follow_one : (p : Bool) (r : Progress) (t : Token) (ts : List Token)
     ≡ follow (state_after (proves p r (class t.word)) (transition r (class t.word) t)) ts
 follow_one p r t ts = ap (λ o. follow o ts) (same_transition p r (class t.word) t)
 
--- all tokens are expected
+-- if the tokens have no fault of shape, `follow` comes to the state of what has been read after
+-- them
 followed : (ts : List Token) (p : Bool) (r : Progress) → shape_fault_from r ts ≡ None
     → (b : Bool) × (follow (Some (state_of p r)) ts ≡ Some (state_of b (progress_from r ts)))
 followed [] p r e = (p, refl)

@@ -123,7 +123,7 @@ word_at_is : (text : List ℕ) (i e : ℕ) → e ≡ (word_at text i).end
 unfolding word_at
 word_at_is text i e h = ap (λ (x : ℕ). let w : Word = record { start = i; end = x } in w) (sym h)
 
--- no other word begins in it
+-- no other word begins within a word
 inside : (text : List ℕ) (i e j : ℕ) → e ≡ (word_at text i).end → i + 1 ≤ j → j < e
     → begins_word text j ≡ false
 inside text i e j h a b =
