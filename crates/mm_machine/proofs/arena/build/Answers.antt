@@ -8,7 +8,6 @@ use Rattle.mm_machine.specs.Arena.{span_formula}
 use Rattle.mm_machine.specs.Replaced.{replaced_part, replaced}
 use Rattle.mm_machine.proofs.GrowLaw.{variable_in}
 use Rattle.mm_machine.proofs.LongerLaw.{longer, replaced_more}
-use Rattle.mm_machine.proofs.arena.build.Goals.{}
 use Rattle.mm_machine.proofs.arena.build.Goals.{in-Variable+in_ok-append_symbols-in-Variable+else-len-gt-FORMULA_LIMIT}
 use Rattle.mm_machine.proofs.arena.build.Goals.{in-Constant+in_ok-push-in-Constant}
 use Rattle.mm_machine.proofs.arena.build.Goals as goal

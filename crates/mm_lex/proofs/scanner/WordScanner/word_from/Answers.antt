@@ -6,7 +6,6 @@ use Rattle.mm_lex.specs.Plain.{plain_at}
 use Rattle.mm_lex.proofs.BlockLaw.{found_word, none_inside, plain_word, run_on, white_one}
 use Rattle.mm_lex.proofs.BlockLaw.{white_zero}
 use Rattle.mm_lex.proofs.scanner.WordScanner.word_from.Goals as goal
-use Rattle.mm_lex.proofs.scanner.WordScanner.word_from.Goals.{}
 use Rattle.mm_lex.proofs.scanner.WordScanner.word_from.Goals.{then-loop-stop-test+else-len-scanner-gt64}
 use Rattle.mm_lex.proofs.scanner.WordScanner.word_from.Goals.{else-loop-stop-test}
 
