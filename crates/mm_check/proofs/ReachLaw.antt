@@ -75,15 +75,16 @@ module _ (c : Context) where
       (λ m. within_at lists old h.0 j w h.2 a
       (subst (λ z. is_member z a ≡ true) h.3.2 (last_member h.3.0 h.1 a h.3.3 m)))
 
--- one step more
-pub next : (db : List Statement) (t : ℕ) (steps_so_far : List Step) (stack ends : List Formula)
+-- the forest that is reached after the steps and one good step more
+pub reached_after_step : (db : List Statement) (t : ℕ) (steps_so_far : List Step)
+    (stack ends : List Formula)
     → (noted : List ℕ) (s : Step) (out : List Formula) (then : List ℕ)
     → IsReached db t steps_so_far stack ends noted → IsGoodStep (context_at db t) (length ends) s
     → step_entries (context_at db t) s ends stack ≡ Ok out
     → ((a : ℕ)
     → is_member then a ≡ (is_member noted a || (is_labelled_step s a && is_assertion_at db a)))
     → IsReached db t (steps_so_far ++ s ∷ []) out (ends ++ top out ∷ []) then
-next db t steps_so_far stack ends noted s out then is_reached good entries_are notes =
+reached_after_step db t steps_so_far stack ends noted s out then is_reached good entries_are notes =
     let c = context_at db t in
     let same : step_entries c s ends (formulas is_reached.forest) ≡ Ok out =
     ap (step_entries c s ends) is_reached.entries_are ∙ entries_are in

@@ -207,69 +207,77 @@ module _ (text : List ℕ) (db : List Statement) (w : Bool) (fault : Option Faul
     retained_below = let c = h.count in let l = below in omega (arith, c, l)
 
     module _ (words : List Word) (e : words ≡ get_or retained k []) where
-      one : IsRetained text s words
-      one = subst (IsRetained text s) (sym e) (h.each k s s_is_statement_k)
+      retained_k : IsRetained text s words
+      retained_k = subst (IsRetained text s) (sym e) (h.each k s s_is_statement_k)
 
-      front : words ≡ (one.label ++ one.proof) ++ one.last ∷ []
-      front = one.words_are ∙ sym (append_assoc one.label one.proof (one.last ∷ []))
+      words_end_in_last : words ≡ (retained_k.label ++ retained_k.proof) ++ retained_k.last ∷ []
+      words_end_in_last =
+          retained_k.words_are ∙ sym (append_assoc retained_k.label retained_k.proof
+          (retained_k.last ∷ []))
 
-      long : length words ≡ length (one.label ++ one.proof) + 1
-      long = ap length front ∙ length-append (one.label ++ one.proof) (one.last ∷ [])
+      word_count : length words ≡ length (retained_k.label ++ retained_k.proof) + 1
+      word_count =
+          ap length words_end_in_last ∙ length-append (retained_k.label ++ retained_k.proof)
+          (retained_k.last ∷ [])
 
       pub some_are_retained : 0 < length words
-      some_are_retained = omega (arith, long)
+      some_are_retained = omega (arith, word_count)
 
       pub word_within : AreWithin text words
-      word_within = one.within
+      word_within = retained_k.within
 
       -- the last token
       pub last_is_retained : (d : Word)
           → option_map end_at (slice_get n.statements k)
           ≡ Some (get_or words (length words - 1) d).start
       last_is_retained d =
-          let m : length words - 1 ≡ length (one.label ++ one.proof) = omega (arith, long) in
+          let m : length words - 1 ≡ length (retained_k.label ++ retained_k.proof) = omega
+          (arith, word_count) in
           let last =
-          ap₂ (λ ys i. get_or ys i d) front m
-          ∙ get_or-append_seam (one.label ++ one.proof) one.last [] d in
+          ap₂ (λ ys i. get_or ys i d) words_end_in_last m
+          ∙ get_or-append_seam (retained_k.label ++ retained_k.proof) retained_k.last [] d in
           subst (λ (n : Contents). option_map end_at (slice_get n.statements k)
           ≡ Some (get_or words (length words - 1) d).start) is
           (counted_got w db end_at (λ l k xs e ps d. refl) k
           ∙ ap (option_map end_at) s_is_statement_k
-          ∙ ap Some (sym one.last_is) ∙ ap (λ x. Some x.start) (sym last))
+          ∙ ap Some (sym retained_k.last_is) ∙ ap (λ x. Some x.start) (sym last))
 
       module _ (x : Kind) (kind : kind_of s ≡ x) (of_kind : is_labelled_kind x ≡ true) where
         labelled : is_labelled_kind (kind_of s) ≡ true
         labelled = ap is_labelled_kind kind ∙ of_kind
 
-        first : (v : Word) × (one.label ≡ v ∷ []) × (token_of text v ≡ (has_label s labelled).0)
-        first =
+        first_is_label : (v : Word) × (retained_k.label ≡ v ∷ [])
+            × (token_of text v ≡ (has_label s labelled).0)
+        first_is_label =
             let l = has_label s labelled in
-            only_word text one.label l.0
-            (one.label_is ∙ ap (λ o. elim o [ None ↦ [] | Some l ↦ l ∷ [] ]) l.1)
+            only_word text retained_k.label l.0
+            (retained_k.label_is ∙ ap (λ o. elim o [ None ↦ [] | Some l ↦ l ∷ [] ]) l.1)
 
-        begins : words ≡ first.0 ∷ (one.proof ++ one.last ∷ [])
-        begins = one.words_are ∙ ap (λ l. l ++ (one.proof ++ one.last ∷ [])) first.1
+        begins : words ≡ first_is_label.0 ∷ (retained_k.proof ++ retained_k.last ∷ [])
+        begins =
+            retained_k.words_are ∙ ap (λ l. l ++ (retained_k.proof ++ retained_k.last ∷ []))
+            first_is_label.1
 
         label_first : (d : Word)
             → Some (slice_range text (get_or words 0 d).start (get_or words 0 d).end)
             ≡ option_map (λ t. t.word) (option_and_then label_of (slice_get n.statements k))
         label_first d =
             ap (λ ys. Some (token_of text (get_or ys 0 d)).word) begins
-            ∙ ap (λ t. Some t.word) first.2
+            ∙ ap (λ t. Some t.word) first_is_label.2
             ∙ sym (label_read ∙ ap (option_map (λ t. t.word)) (has_label s labelled).1)
 
-        two : length words ≡ suc (length one.proof + 1)
-        two = ap length begins ∙ ap suc (length-append one.proof (one.last ∷ []))
+        two : length words ≡ suc (length retained_k.proof + 1)
+        two = ap length begins ∙ ap suc (length-append retained_k.proof (retained_k.last ∷ []))
 
         two_are_retained : 2 ≤ length words
         two_are_retained = omega (arith, two)
 
         -- the words of the proof
-        proof_words : slice_range words 1 (length words - 1) ≡ one.proof
+        proof_words : slice_range words 1 (length words - 1) ≡ retained_k.proof
         proof_words =
-            let m : (length words - 1) - 1 ≡ length one.proof = omega (arith, two) in
+            let m : (length words - 1) - 1 ≡ length retained_k.proof = omega (arith, two) in
             ap₂ (λ m ys. take m (drop 1 ys)) m begins
-            ∙ take-append_seam one.proof (one.last ∷ [])
+            ∙ take-append_seam retained_k.proof (retained_k.last ∷ [])
 
       -- the label
       pub label_is_retained : (x : Kind) → option_map kind_of (slice_get db k) ≡ Some x
@@ -293,7 +301,7 @@ module _ (text : List ℕ) (db : List Statement) (w : Bool) (fault : Option Faul
         proof_is_retained =
             subst (λ (n : Contents). option_map proof_of (slice_get n.statements k)
             ≡ Some (as_tokens n.text (slice_range words 1 (length words - 1)))) is
-            (ap (option_map proof_of) theorem.1 ∙ ap Some (sym one.proof_is)
+            (ap (option_map proof_of) theorem.1 ∙ ap Some (sym retained_k.proof_is)
             ∙ ap (λ xs. Some (as_tokens text xs)) (sym (proof_words kind.Theorem theorem.0 refl)))
 
         pub proof_within : AreWithin n.text (slice_range words 1 (length words - 1))
@@ -301,4 +309,4 @@ module _ (text : List ℕ) (db : List Statement) (w : Bool) (fault : Option Faul
             subst (λ (n : Contents). AreWithin n.text (slice_range words 1 (length words - 1))) is
             (All-take (λ w. (w.start ≤ w.end) × (w.end ≤ length text)) (length words - 1 - 1)
             (drop 1 words)
-            (All-drop (λ w. (w.start ≤ w.end) × (w.end ≤ length text)) 1 words one.within))
+            (All-drop (λ w. (w.start ≤ w.end) × (w.end ≤ length text)) 1 words retained_k.within))

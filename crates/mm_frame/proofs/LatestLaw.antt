@@ -166,8 +166,8 @@ module _ (test : Statement → Bool) (db : List Statement) where
     all = λ i h e. all i h e (is_walked.all i h e);
   }
     where
-      here : (last < k) × (is_staying test db last k ≡ true)
-      here = is_walked.found ne
+      last_is_staying : (last < k) × (is_staying test db last k ≡ true)
+      last_is_staying = is_walked.found ne
 
       only : (i : ℕ) → is_member (xs ++ last ∷ []) i ≡ true
           → (i < k) × (is_staying test db i k ≡ true)
@@ -178,7 +178,8 @@ module _ (test : Statement → Bool) (db : List Statement) where
               → (i < k) × (is_staying test db i k ≡ true)
           by_values true b p q t = is_walked.only i p
           by_values false true p q t =
-              subst (λ i. (i < k) × (is_staying test db i k ≡ true)) (sym (eqb-true i last q)) here
+              subst (λ i. (i < k) × (is_staying test db i k ≡ true))
+              (sym (eqb-true i last q)) last_is_staying
           by_values false false p q t = absurd (true≢false (sym t))
 
       all : (i : ℕ) → i < k → is_staying test db i k ≡ true

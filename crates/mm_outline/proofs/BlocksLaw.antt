@@ -488,7 +488,7 @@ module _ (db : List Statement) (s : Statement) (b : BlockLists) (x : IsBlocks db
             ap (λ q. get_or ends q 0) (opens-front l h)
             ∙ get_or-set_other b.ends (innermost b.open_blocks) (get_or b.open_blocks l 0)
             (length b.of) 0
-            (other l h)
+            (none_is_innermost l h)
             ∙ x.still l i;
         rising =
             λ l q h i. let j : l < length opens = omega (arith, h, i) in
@@ -516,9 +516,9 @@ module _ (db : List Statement) (s : Statement) (b : BlockLists) (x : IsBlocks db
       opens-front l h =
           get_or-take (length b.open_blocks - 1) b.open_blocks l 0 (omega (arith, h, shorter))
 
-      other : (l : ℕ) → l < length (take (length b.open_blocks - 1) b.open_blocks)
+      none_is_innermost : (l : ℕ) → l < length (take (length b.open_blocks - 1) b.open_blocks)
           → get_or b.open_blocks l 0 ≢ innermost b.open_blocks
-      other l h e =
+      none_is_innermost l h e =
           let r = x.rising l (length b.open_blocks - 1) (omega (arith, h, shorter))
           (let k = x.stack in omega (arith, k)) in
           omega (arith, r, e)

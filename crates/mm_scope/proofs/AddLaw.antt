@@ -39,17 +39,19 @@ module _ (db : List Statement) (few : length db < never) (w : Bytes) where
   abbrev n : Names
   n = names_before db (length db)
 
-  all : take (length db) db ≡ db
-  all = take_all (length db) db (le_refl (length db))
+  all_taken : take (length db) db ≡ db
+  all_taken = take_all (length db) db (le_refl (length db))
 
   -- with no entry, or that of a variable
   no_constant : (x : Option WordEntry) → IsEntryOf db w x → is_in w n.constants ≡ false
       → is_constant_entry x ≡ false
-  no_constant x k e = sym k.constant ∙ sym (ap (λ xs. is_in w (flat_map constants_of xs)) all) ∙ e
+  no_constant x k e =
+      sym k.constant ∙ sym (ap (λ xs. is_in w (flat_map constants_of xs)) all_taken) ∙ e
 
   no_variable : (x : Option WordEntry) → IsEntryOf db w x → is_in w n.all_variables ≡ false
       → is_variable_entry x ≡ false
-  no_variable x k e = sym k.variable ∙ sym (ap (λ xs. is_in w (flat_map variables_of xs)) all) ∙ e
+  no_variable x k e =
+      sym k.variable ∙ sym (ap (λ xs. is_in w (flat_map variables_of xs)) all_taken) ∙ e
 
   in_nil : (xs : List Bytes) (b : Bool) → is_in w xs ≡ b → is_in w (xs ++ []) ≡ b
   in_nil xs b e = ap (is_in w) (append-nil xs) ∙ e
@@ -108,7 +110,7 @@ module _ (db : List Statement) (few : length db < never) (w : Bytes) where
           known_typed db (floating l k (c ∷ v ∷ []) e) w o kn few c.word
           (sym (typed_in w (active_statements db (length db)))
           ∙ ap (λ u. list_any (λ t. bytes_eq u t.variable) n.active_typings) (sym same) ∙ new.1)
-          (sym (ap (λ xs. list_any (is_other c.word w) (flat_map typings_of xs)) all)
+          (sym (ap (λ xs. list_any (is_other c.word w) (flat_map typings_of xs)) all_taken)
           ∙ ap (λ u. list_any (is_other c.word u) n.all_typings) (sym same) ∙ new.2)
           refl refl (ap (λ u. record { typecode = c.word; variable = u } ∷ []) same)
 
@@ -161,17 +163,17 @@ module _ (db : List Statement) (few : length db < never) (w : Bytes) where
       in_more db s w label_words ∙ ap (λ b. b || is_in w (label_words s ++ [])) e
       ∙ by_token (label_of s)
     where
-      one : (l : Token) (b : Bool) → bytes_eq w l.word ≡ b
+      by_word : (l : Token) (b : Bool) → bytes_eq w l.word ≡ b
           → (is_some o || (b || false)) ≡ is_some (if b then Some m else o)
-      one l true h = or-true (is_some o)
-      one l false h = or-false (is_some o)
+      by_word l true h = or-true (is_some o)
+      by_word l false h = or-false (is_some o)
 
       by_token : (q : Option Token)
           → (is_some o || is_in w (elim q [ None ↦ [] | Some l ↦ l.word ∷ [] ] ++ []))
           ≡ is_some (label_after m q w o)
       by_token None = or-false (is_some o)
       by_token (Some l) =
-          one l (bytes_eq w l.word) refl
+          by_word l (bytes_eq w l.word) refl
           ∙ ap (λ b. is_some (if b then Some m else o)) (bytes_eq_sym w l.word)
 
 module _ (text : List ℕ) (ws : List spec.Word) (db : List Statement) (b : BlockLists)

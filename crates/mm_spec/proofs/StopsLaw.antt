@@ -93,7 +93,7 @@ followed (t ∷ ts) p r e =
     by_transition b (continued q) e of_the_rest = of_the_rest q b e
     by_transition b (completed d s) e of_the_rest = of_the_rest (start d) b e
 
--- the first that is not
+-- the first unexpected token, and the fault at it
 record FirstUnexpected (r : Progress) (ts : List Token) (f : Fault) : Type 0 where
   before : List Token
   first : Token
