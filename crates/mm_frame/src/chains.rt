@@ -55,9 +55,9 @@ fn add_link<A: Allocator>(
         (AddsInFront (λ x. nat_eq x symbol) statement chains.old chains.new) }
 {
     let index = symbol.number() as usize;
-    let head = chains.heads[index];
-    if !begins_with(&chains.links, head, statement) {
-        chains.links.push((statement, head))?;
+    let first_link = chains.heads[index];
+    if !begins_with(&chains.links, first_link, statement) {
+        chains.links.push((statement, first_link))?;
         chains.heads[index] = chains.links.len();
     }
     Ok(())

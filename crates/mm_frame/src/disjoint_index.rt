@@ -48,11 +48,11 @@ fn skips_of<A: Allocator + Copy>(
 {
     let mut skips = Vec::new(alloc);
     for index in 0..pairs.len() {
-        let mut first = index;
-        while first > 0 && is_covered(blocks, pairs[first - 1], pairs[index]) {
-            first = skips[first - 1];
+        let mut covered_from = index;
+        while covered_from > 0 && is_covered(blocks, pairs[covered_from - 1], pairs[index]) {
+            covered_from = skips[covered_from - 1];
         }
-        skips.push(first)?;
+        skips.push(covered_from)?;
     }
     Ok(skips)
 }

@@ -19,7 +19,8 @@ use Rattle.std.proofs.Math.Bool.{or-false, or-true}
 use Rattle.mm_spec.proofs.FaultlessLaw.{append_none, least_none}
 use Rattle.mm_outline.specs.Blocks.{BlockLists, IsBlocks, never, pushed}
 use Rattle.mm_scope.specs.WordEntry.{WordEntry, entry_of, declared_entry, typed_entry}
-use Rattle.mm_scope.specs.WordEntry.{IsEntryOf, is_other, is_constant_entry, is_variable_entry}
+use Rattle.mm_scope.specs.WordEntry.{IsEntryOf, gives_other_typecode, is_constant_entry}
+use Rattle.mm_scope.specs.WordEntry.{is_variable_entry}
 use Rattle.mm_scope.specs.WordEntry.{entry_after, label_after}
 use Rattle.mm_outline.specs.Parts.{statement_between}
 use Rattle.mm_scope.specs.ReadSoFar.{KnowsStatements}
@@ -110,8 +111,9 @@ module _ (db : List Statement) (few : length db < never) (w : Bytes) where
           known_typed db (floating l k (c ∷ v ∷ []) e) w o kn few c.word
           (sym (typed_in w (active_statements db (length db)))
           ∙ ap (λ u. list_any (λ t. bytes_eq u t.variable) n.active_typings) (sym same) ∙ new.1)
-          (sym (ap (λ xs. list_any (is_other c.word w) (flat_map typings_of xs)) all_taken)
-          ∙ ap (λ u. list_any (is_other c.word u) n.all_typings) (sym same) ∙ new.2)
+          (sym (ap (λ xs. list_any (gives_other_typecode c.word w) (flat_map typings_of xs))
+          all_taken)
+          ∙ ap (λ u. list_any (gives_other_typecode c.word u) n.all_typings) (sym same) ∙ new.2)
           refl refl (ap (λ u. record { typecode = c.word; variable = u } ∷ []) same)
 
       by_equality : (b : Bool) → bytes_eq v.word w ≡ b

@@ -15,7 +15,8 @@ use Rattle.mm_outline.specs.Blocks.{BlockLists, IsBlocks, never, end_in, is_neve
 use Rattle.mm_scope.specs.Knows as judge
 use Rattle.mm_scope.specs.Knows.{Knows, has_other_typecode, is_typed_here}
 use Rattle.mm_scope.specs.WordEntry.{entry_of}
-use Rattle.mm_scope.specs.WordEntry.{IsEntryOf, typed_by, typecode_by, is_other, is_constant_entry}
+use Rattle.mm_scope.specs.WordEntry.{IsEntryOf, typed_by, typecode_by, gives_other_typecode}
+use Rattle.mm_scope.specs.WordEntry.{is_constant_entry}
 use Rattle.mm_scope.specs.WordEntry.{is_variable_entry}
 use Rattle.mm_outline.specs.Typed.{has_word, typed_words}
 use Rattle.mm_scope.specs.ReadSoFar.{KnowsStatements}
@@ -119,6 +120,6 @@ knows_is db look labels b k few =
           λ w h. typed_in w (active_statements db (length db))
           ∙ typed_active db b k.blocks few w (look w) (k.symbols w);
       otherwise =
-          λ c w h. ap (λ xs. list_any (is_other c w) (flat_map typings_of xs)) all
+          λ c w h. ap (λ xs. list_any (gives_other_typecode c w) (flat_map typings_of xs)) all
           ∙ (k.symbols w).otherwise c ∙ other_is c (look w);
     }

@@ -174,19 +174,25 @@ impl<'a, A: Allocator + Copy> Scope<'a, A> {
             ++ at_each (listed_codes n outline.kind) []
             (between _text.now tokens.now (outline.keyword + 1) outline.middle)) }
     {
-        let first = tokens[outline.keyword as usize].start;
-        let end = tokens[outline.middle as usize].start;
-        let count = outline.middle - outline.keyword - 1;
+        let keyword_at = tokens[outline.keyword as usize].start;
+        let end_at = tokens[outline.middle as usize].start;
+        let symbol_count = outline.middle - outline.keyword - 1;
         match outline.kind {
             Kind::Constants => {
-                let block_fault = fault_with_code(first, code_if(depth > 0, Code::ConstantInBlock));
+                let block_fault = fault_with_code(
+                    keyword_at,
+                    code_if(depth > 0, Code::ConstantInBlock),
+                );
                 lesser(
                     block_fault,
-                    fault_with_code(end, code_if(count == 0, Code::EmptyDeclaration)),
+                    fault_with_code(end_at, code_if(symbol_count == 0, Code::EmptyDeclaration)),
                 )
             }
-            Kind::Variables => fault_with_code(end, code_if(count == 0, Code::EmptyDeclaration)),
-            _ => fault_with_code(end, code_if(count < 2, Code::TooFewVariables)),
+            Kind::Variables => fault_with_code(
+                end_at,
+                code_if(symbol_count == 0, Code::EmptyDeclaration),
+            ),
+            _ => fault_with_code(end_at, code_if(symbol_count < 2, Code::TooFewVariables)),
         }
     }
 
@@ -342,12 +348,12 @@ fn is_among(text: &[u8], tokens: &[Word], from: u32, at: u32) -> bool
 {
     let token = tokens[at as usize];
     let word = token.bytes(text);
-    let mut found = false;
+    let mut is_found = false;
     for earlier in from..at {
         let other = tokens[earlier as usize];
-        found = word == other.bytes(text) || found;
+        is_found = word == other.bytes(text) || is_found;
     }
-    found
+    is_found
 }
 
 /// Whether the word at `at` of a list that begins at `from` occurs earlier in the list. If the list
@@ -378,21 +384,21 @@ fn is_repeated<'a, A: Allocator + Copy>(
         Ok(is_among(text, tokens, from, at))
     } else {
         let token = tokens[at as usize];
-        see(seen, token.bytes(text))
+        insert_word(seen, token.bytes(text))
     }
 }
 
-/// Returns whether the word is in `seen`, and adds it.
-fn see<'a, A: Allocator + Copy>(
+/// Adds the word to `seen`, and returns whether it was there before.
+fn insert_word<'a, A: Allocator + Copy>(
     seen: &mut NameMap<'a, u32, A>,
     word: &'a [u8],
 ) -> Result<bool, AllocError>
-    ensures was { IfOk result (λ b. b ≡ is_some (find seen.old.entries word.now)) }
-    ensures now { OnOk result
+    ensures was_seen { IfOk result (λ b. b ≡ is_some (find seen.old.entries word.now)) }
+    ensures inserted { OnOk result
         ((w : List ℕ)
         → find seen.new.entries w
         ≡ (if bytes_eq word.now w then Some 0 else find seen.old.entries w)) }
 {
-    let old = seen.insert(Name { bytes: word }, 0)?;
-    Ok(old.is_some())
+    let previous = seen.insert(Name { bytes: word }, 0)?;
+    Ok(previous.is_some())
 }

@@ -158,12 +158,12 @@ impl<'a, A: Allocator + Copy> Outlined<'a, A> {
         ensures { OnOk result
             (HasTaken text.now tokens.now self.old.outlines.items depth outline self.new) }
     {
-        let begin = self.numbers.len();
+        let number_count = self.numbers.len();
         self.fault = self
             .scope
             .fault(alloc, text, tokens, depth, outline, &mut self.numbers)?;
         if self.fault.is_some() {
-            self.numbers.truncate(begin);
+            self.numbers.truncate(number_count);
             return Ok(());
         }
         self.scope.add(text, tokens, outline)?;

@@ -42,7 +42,7 @@ returns-then-is_some g c =
     let begun = c.args.self.now.numbers.items in
     let untouched : c.truncate.new.self.items ≡ begun =
     c.truncate.ensures.items
-    ∙ ap₂ take (c.len-begin.ensures ∙ c.args.self.now.numbers.ok.0)
+    ∙ ap₂ take (c.len-number_count.ensures ∙ c.args.self.now.numbers.ok.0)
     c.in_ok-self.ensures.numbers
     ∙ take-append-le (length begun) begun (judged (names_in c.args.self.now.scope) s)
     (le_refl (length begun))
