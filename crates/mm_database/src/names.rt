@@ -56,7 +56,7 @@ pub struct NameTable<'a, A: Allocator> {
     /// The length of the longest symbol in bytes. A longer word is no symbol, and isn't hashed to
     /// find that out; so a very long symbol is hashed once, when it is declared.
     longest_symbol: usize,
-    /// The same for labels.
+    /// The length of the longest label in bytes, for the same reason.
     longest_label: usize,
 }
 

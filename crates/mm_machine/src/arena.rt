@@ -234,7 +234,7 @@ fn are_disjoint<A: Allocator>(
     true
 }
 
-/// The same, without `cache`.
+/// Whether two symbols are disjoint at the theorem, found without a cache.
 fn are_disjoint_in_database<A: Allocator>(
     database: &Database<A>,
     theorem: u32,

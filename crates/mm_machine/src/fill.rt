@@ -61,7 +61,8 @@ fn put_all(symbols: &[Sym], list: &mut [Sym], at: usize)
     list[at..end].copy_from_slice(symbols);
 }
 
-/// The same for a number of symbols that is known when the program is compiled.
+/// Writes symbols from index `at` on. It is fast for 2, 4 or 8 symbols, if their number is known
+/// when the program is compiled.
 #[inline(always)]
 fn put_width(symbols: &[Sym], list: &mut [Sym], at: usize)
     requires { at + length symbols.now ≤ length list.old }
@@ -80,8 +81,9 @@ fn put_width(symbols: &[Sym], list: &mut [Sym], at: usize)
     }
 }
 
-/// The same, by a copy of the first `width` symbols and one of the last. These overlap if there are
-/// fewer than twice as many. With a constant `width`, a copy is a few instructions and no call.
+/// Writes symbols from index `at` on, by a copy of the first `width` symbols and one of the last.
+/// The two overlap if there are fewer than twice as many symbols. With a constant `width`, a copy
+/// is a few instructions and no call.
 #[inline(always)]
 fn put_ends(symbols: &[Sym], list: &mut [Sym], at: usize, width: usize)
     requires many { width ≤ length symbols.now }

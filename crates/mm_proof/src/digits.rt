@@ -52,8 +52,8 @@ pub(crate) fn with_digit(number: u64, base: u64, digit: u64) -> u64
     }
 }
 
-/// The same for a large number, which proofs hardly ever have: a call, so that the usual path has
-/// no jump.
+/// Returns what [`with_digit`] returns, for a large number, which proofs hardly ever have: a call,
+/// so that the usual path has no jump.
 #[cold]
 #[inline(never)]
 fn with_digit_of_large(number: u64, base: u64, digit: u64) -> u64

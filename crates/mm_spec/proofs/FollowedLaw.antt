@@ -146,7 +146,8 @@ statement_followed (opening k) d e h = refl
 statement_followed (closing k) zero e h = absurd (let x = h refl in omega arith)
 statement_followed (closing k) (suc d) e h = refl
 
--- how the count of blocks goes on
+-- the depth after a statement and the blocks that it closes are the depth before it and the blocks
+-- that it opens
 pub blocks_counted : (s : Statement) (d : ℕ) → (is_closing s ≡ true → 0 < d)
     → depth_following s d + cond (is_closing s) 1 0 ≡ d + cond (is_opening s) 1 0
 blocks_counted (constants k xs t) d h = refl
