@@ -182,7 +182,7 @@ pub plain_more : (ws : List Token) (t : Token) → is_plain ws ≡ true → has_
     → is_plain (ws ++ t ∷ []) ≡ true
 plain_more ws t e h = grind (arith, common_steps, list_all-append)
 
--- tokens that are whole statements stay such with the tokens of one whole statement more
+-- after a token that completes a statement, the tokens are whole statements
 closes : (d : ℕ) (ts : List Token) (list : List Statement) (part : List Token) (s : Statement)
     → Balanced d list → ts ≡ flat_map spelling_of list ++ part → is_complete s ≡ true
     → (is_closing s ≡ true → 0 < d) → (t : Token) → spelling_of s ≡ part ++ t ∷ [] → (e : ℕ)
