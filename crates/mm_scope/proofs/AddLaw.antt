@@ -1,4 +1,4 @@
--- What is kept after one lawful statement more.
+-- What the code knows after one lawful statement more.
 use Rattle.std.proofs.Common.{Result, Ok, Err, OnOk, ◌≡◌, ℕ, ◌<◌, Bool, true, false, ◌||◌, not}
 use Rattle.std.proofs.Common.{List, [], ◌∷◌, ◌++◌, length, take, flat_map, bytes_eq, Option, None}
 use Rattle.std.proofs.Common.{Some, is_some, refl, sym, ap, ◌∙◌, subst, le_refl, take_all}

@@ -1,4 +1,4 @@
--- What is kept of each word is what the judge asks for.
+-- What the code knows of each word is what the judge asks for.
 use Rattle.std.proofs.Common.{◌≡◌, ◌≢◌, ℕ, zero, suc, ◌<◌, ◌≤◌, Bool, true, false, ◌&&◌, ◌||◌, not}
 use Rattle.std.proofs.Common.{List, [], ◌∷◌, length, flat_map, bytes_eq, nat_eq, Option, None, Some}
 use Rattle.std.proofs.Common.{refl, sym, ap, ◌∙◌, arith, ◌⊎◌, inl, inr, le_refl, take_all}

@@ -116,9 +116,9 @@ module _ (db : List Statement) (lawful : (k : ℕ) → k < length db → scope_f
   abbrev all : List Statement
   all = db ++ s ∷ []
 
-  formula-kept : (k : ℕ) (t : Statement) → slice_get db k ≡ Some t
+  formula_is_unchanged : (k : ℕ) (t : Statement) → slice_get db k ≡ Some t
       → formula_of all t ≡ formula_of db t
-  formula-kept k t e =
+  formula_is_unchanged k t e =
       let g = names_grow db s in
       same_places (symbol_names all) (symbol_names db) (words (symbols_of t))
       (λ w h. ap (index_of w) g.1
@@ -128,7 +128,7 @@ module _ (db : List Statement) (lawful : (k : ℕ) → k < length db → scope_f
   formulas-next : map (formula_of db) db ++ formula_of all s ∷ [] ≡ map (formula_of all) all
   formulas-next =
       ap (λ fs. fs ++ formula_of all s ∷ [])
-      (same_maps (formula_of db) (formula_of all) db (λ k t e. sym (formula-kept k t e)))
+      (same_maps (formula_of db) (formula_of all) db (λ k t e. sym (formula_is_unchanged k t e)))
       ∙ sym (map-append (formula_of all) db (s ∷ []))
 
   -- formulas of statements stay such with that of one statement more

@@ -151,7 +151,7 @@ impl<'a, A: Allocator + Copy> Outlined<'a, A> {
         requires among { IsAmong text.now tokens.now outline }
         requires few { length tokens.now < 2 ^ 31 }
         requires no_fault { self.old.fault ≡ None }
-        requires kept { IsReadSoFar (statements text.now tokens.now self.old.outlines.items)
+        requires is_read_so_far { IsReadSoFar (statements text.now tokens.now self.old.outlines.items)
             (read_so_far self.old) }
         requires next { MayTake (statements text.now tokens.now self.old.outlines.items) depth
             (statement_of text.now tokens.now outline) }
@@ -189,7 +189,7 @@ pub fn outline_statements<'a, A: Allocator + Copy>(
     ensures few { IfOk result (λ d. length d.outlines.items < 2 ^ 31) }
     ensures outlines { IfOk result
         (λ d. All (λ o. IsOutline o × (o.end < length tokens.now)) d.outlines.items) }
-    ensures kept { IfOk result
+    ensures is_read_so_far { IfOk result
         (λ d. IsReadSoFar (statements text.now tokens.now d.outlines.items) (read_so_far d)) }
     ensures read { IfOk result
         (λ d. IsRead (length text.now) (lexed text.now tokens.now lexical)

@@ -321,7 +321,7 @@ module _ (w : Bool) (db : List Statement) where
       subst (λ (c : ℕ → Context). HasCompleteFrame (c k) ((c k).rule l)) (sym counted_context)
       (h k l)
 
--- a theorem among them was read as it is
+-- a theorem among the counted statements is the same statement in what was read
 pub theorem_read : (w : Bool) (db : List Statement) (j : ℕ) (l : Token) (k : ℕ) (xs : List Token)
     → (e : ℕ) (ps : List Token) (d : ℕ)
     → slice_get (counted w db) j ≡ Some (provable l k xs e ps d)

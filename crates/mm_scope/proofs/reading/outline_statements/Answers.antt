@@ -70,8 +70,8 @@ returns-then-is_some-clause-outlines g c =
     subst (λ (xs : List Outline). All (λ o. IsOutline o × (o.end < length c.args.tokens.now)) xs)
     (sym stays) c.statements.invariant.outlines
 
-pub returns-then-is_some-clause-kept : goal.returns-then-is_some-clause-kept
-returns-then-is_some-clause-kept g c =
+pub returns-then-is_some-clause-is_read_so_far : goal.returns-then-is_some-clause-is_read_so_far
+returns-then-is_some-clause-is_read_so_far g c =
     let stays =
     c.in_ok-add_if_lawful-in-Whole.ensures.stays
     (some_not c.add_if_lawful.new.self.fault (sym c.is_some.ensures ∙ c.if-is_some.true)) in
@@ -118,7 +118,8 @@ statements-preserved g c =
     ∙ map-append (statement_of text ws) s.read.outlines.items (o ∷ []) in
     let next =
     reading_more text ws db s.depth s.at s.invariant.reading c.requires.few b
-    s.invariant.kept.keeps.blocks o.kind o.keyword o.middle o.end c.in-Whole.ensures.1.later
+    s.invariant.is_read_so_far.keeps.blocks o.kind o.keyword o.middle o.end
+    c.in-Whole.ensures.1.later
     c.in-Whole.ensures.1.within c.in-Whole.ensures.1.leads lawful in
     record {
       outlines =
@@ -128,7 +129,7 @@ statements-preserved g c =
           (λ o. IsOutline o × (o.end < length ws)) s.read.outlines.items o s.invariant.outlines
           (c.in-Whole.ensures.0, c.in-Whole.ensures.1.within));
       reading = rw (more, c.depth_after-depth.ensures) next;
-      kept = rw more taken.1;
+      is_read_so_far = rw more taken.1;
       no_fault = sym none;
     }
 

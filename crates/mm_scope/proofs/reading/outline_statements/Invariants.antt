@@ -10,7 +10,8 @@ invariant-statements g l = record {
   outlines : All (λ o. IsOutline o × (o.end < length l.tokens)) l.read.outlines.items;
   reading : IsReadTo l.text l.tokens
       (statements l.text l.tokens l.read.outlines.items) l.depth l.at;
-  kept : IsReadSoFar (statements l.text l.tokens l.read.outlines.items) (read_so_far l.read);
+  is_read_so_far : IsReadSoFar (statements l.text l.tokens l.read.outlines.items)
+      (read_so_far l.read);
   no_fault : l.read.fault ≡ None;
 }
 

@@ -18,7 +18,7 @@ pub fault-requires-clause-few : goal.fault-requires-clause-few
 fault-requires-clause-few g c =
     let db = statements c.args.text.now c.args.tokens.now c.args.self.now.outlines.items in
     let s = statement_of c.args.text.now c.args.tokens.now c.args.outline in
-    let e = ap length c.requires.kept.names_are in
+    let e = ap length c.requires.is_read_so_far.names_are in
     let l = names_shorter db s in
     let f = c.requires.next.few_names in
     omega (arith, e, l, f)
@@ -30,7 +30,7 @@ returns-then-is_some g c =
     let os = c.args.self.now.outlines.items in
     let db = statements text ws os in
     let s = statement_of text ws c.args.outline in
-    let k = c.requires.kept in
+    let k = c.requires.is_read_so_far in
     let next = c.requires.next in
     let b = c.args.self.now.scope.blocks in
     let few = next.few in
@@ -72,7 +72,7 @@ returns g c =
     let os = c.args.self.now.outlines.items in
     let db = statements text ws os in
     let s = statement_of text ws c.args.outline in
-    let k = c.requires.kept in
+    let k = c.requires.is_read_so_far in
     let next = c.requires.next in
     let b = c.args.self.now.scope.blocks in
     let few = next.few in
