@@ -46,8 +46,8 @@ impl<'a, A: Allocator + Copy> Scope<'a, A> {
             ++ numbers_in (names_in self.now) (between text.now tokens.now from to)) }
     {
         let mut least_found = None;
-        for at in from..to {
-            let token = tokens[at as usize];
+        for token_index in from..to {
+            let token = tokens[token_index as usize];
             let (number, known) = self.names.numbered(token.bytes(text));
             numbers.push(Sym::new(number as u32))?;
             least_found = lesser(
@@ -78,9 +78,9 @@ impl<'a, A: Allocator + Copy> Scope<'a, A> {
         let is_short = to - from <= MAX_WORDS_COMPARED;
         let mut seen = IndexMap::new(alloc);
         let mut least_found = None;
-        for at in from..to {
-            let repeated = is_repeated(&mut seen, is_short, text, tokens, from, at)?;
-            let token = tokens[at as usize];
+        for token_index in from..to {
+            let repeated = is_repeated(&mut seen, is_short, text, tokens, from, token_index)?;
+            let token = tokens[token_index as usize];
             let word = token.bytes(text);
             let code = self.declared_code(kind, word, repeated);
             least_found = lesser(least_found, fault_with_code(token.start, code));
@@ -122,14 +122,14 @@ impl<'a, A: Allocator + Copy> Scope<'a, A> {
         Ok(lesser(typecode, rest))
     }
 
-    /// Returns the fault of the label at the token `at`.
-    fn label_fault(&self, text: &[u8], tokens: &[Word], at: u32) -> Option<Fault>
+    /// Returns the fault of the label at the token `token_index`.
+    fn label_fault(&self, text: &[u8], tokens: &[Word], token_index: u32) -> Option<Fault>
         requires words { AreWithin text.now tokens.now }
-        requires within { at < length tokens.now }
+        requires within { token_index < length tokens.now }
         ensures { IsLeastFault self.now
-            (λ n. label_faults n (token_at text.now tokens.now at)) result }
+            (λ n. label_faults n (token_at text.now tokens.now token_index)) result }
     {
-        let token = tokens[at as usize];
+        let token = tokens[token_index as usize];
         fault_with_code(token.start, self.label_code(token.bytes(text)))
     }
 
@@ -337,16 +337,16 @@ fn lesser(first: Option<Fault>, second: Option<Fault>) -> Option<Fault>
 /// longer list are kept in a map.
 const MAX_WORDS_COMPARED: u32 = 16;
 
-/// Whether the word at `at` is among the words before it, from `from` on.
-fn is_among(text: &[u8], tokens: &[Word], from: u32, at: u32) -> bool
+/// Whether the word at `token_index` is among the words before it, from `from` on.
+fn is_among(text: &[u8], tokens: &[Word], from: u32, token_index: u32) -> bool
     requires words { AreWithin text.now tokens.now }
-    requires order { from ≤ at }
-    requires within { at < length tokens.now }
+    requires order { from ≤ token_index }
+    requires within { token_index < length tokens.now }
     ensures { result
-        ≡ is_in (token_at text.now tokens.now at).word
-        (words (between text.now tokens.now from at)) }
+        ≡ is_in (token_at text.now tokens.now token_index).word
+        (words (between text.now tokens.now from token_index)) }
 {
-    let token = tokens[at as usize];
+    let token = tokens[token_index as usize];
     let word = token.bytes(text);
     let mut is_found = false;
     for earlier in from..at {
@@ -356,34 +356,34 @@ fn is_among(text: &[u8], tokens: &[Word], from: u32, at: u32) -> bool
     is_found
 }
 
-/// Whether the word at `at` of a list that begins at `from` occurs earlier in the list. If the list
-/// isn't short, `seen` has the words before `at`, and the call adds the one at `at`.
+/// Whether the word at `token_index` of a list that begins at `from` occurs earlier in the list. If the list
+/// isn't short, `seen` has the words before `token_index`, and the call adds the one at `token_index`.
 fn is_repeated<'a, A: Allocator + Copy>(
     seen: &mut NameMap<'a, u32, A>,
     is_short: bool,
     text: &'a [u8],
     tokens: &[Word],
     from: u32,
-    at: u32,
+    token_index: u32,
 ) -> Result<bool, AllocError>
     requires words { AreWithin text.now tokens.now }
-    requires order { from ≤ at }
-    requires within { at < length tokens.now }
+    requires order { from ≤ token_index }
+    requires within { token_index < length tokens.now }
     requires seen { is_short ≡ false → (w : List ℕ)
         → is_some (find seen.old.entries w)
-        ≡ is_in w (words (between text.now tokens.now from at)) }
+        ≡ is_in w (words (between text.now tokens.now from token_index)) }
     ensures repeated { IfOk result
-        (λ b. b ≡ is_in (token_at text.now tokens.now at).word
-        (words (between text.now tokens.now from at))) }
+        (λ b. b ≡ is_in (token_at text.now tokens.now token_index).word
+        (words (between text.now tokens.now from token_index))) }
     ensures seen { OnOk result
         (is_short ≡ false → (w : List ℕ)
         → is_some (find seen.new.entries w)
-        ≡ is_in w (words (between text.now tokens.now from (at + 1)))) }
+        ≡ is_in w (words (between text.now tokens.now from (token_index + 1)))) }
 {
     if is_short {
-        Ok(is_among(text, tokens, from, at))
+        Ok(is_among(text, tokens, from, token_index))
     } else {
-        let token = tokens[at as usize];
+        let token = tokens[token_index as usize];
         insert_word(seen, token.bytes(text))
     }
 }

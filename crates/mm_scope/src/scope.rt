@@ -347,8 +347,8 @@ impl<'a, A: Allocator + Copy> Scope<'a, A> {
         ensures names { OnOk result
             (Declares self.old self.new (listed_words text.now tokens.now outline)) }
     {
-        for at in outline.keyword + 1..outline.middle {
-            let token = tokens[at as usize];
+        for token_index in outline.keyword + 1..outline.middle {
+            let token = tokens[token_index as usize];
             let word = token.bytes(text);
             let symbol = declared(&self.names, is_variable, number, word);
             self.names.set_symbol(word, symbol)?;

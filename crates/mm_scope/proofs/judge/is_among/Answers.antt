@@ -9,7 +9,7 @@ pub loop-earlier-preserved : goal.loop-earlier-preserved
 loop-earlier-preserved c =
     let text = c.args.text.now in
     let ws = c.args.tokens.now in
-    let word = (token_at text ws c.args.at).word in
+    let word = (token_at text ws c.args.token_index).word in
     let i = c.loop-earlier.earlier in
     let test = c.loop-earlier-test.true in
     let within = c.requires.within in
