@@ -356,8 +356,9 @@ fn is_among(text: &[u8], tokens: &[Word], from: u32, token_index: u32) -> bool
     is_found
 }
 
-/// Whether the word at `token_index` of a list that begins at `from` occurs earlier in the list. If the list
-/// isn't short, `seen` has the words before `token_index`, and the call adds the one at `token_index`.
+/// Whether the word at `token_index` of a list that begins at `from` occurs earlier in the list. If
+/// the list isn't short, `seen` has the words before `token_index`, and the call adds the one at
+/// `token_index`.
 fn is_repeated<'a, A: Allocator + Copy>(
     seen: &mut NameMap<'a, u32, A>,
     is_short: bool,
