@@ -154,7 +154,8 @@ impl<A: Allocator + Copy> ModeReading<A> {
             ((text : List ℕ) (ws : List Word)
             → AreReadings text ws (side outside.now) (side inside.now) →
             (p : ℕ)
-            → side_reading p (side self.new) ≡ append_reading text (side_reading p (side self.old)) ws) }
+            → side_reading p (side self.new)
+            ≡ append_reading text (side_reading p (side self.old)) ws) }
     {
         if self.fault.is_some() {
             return Ok(());

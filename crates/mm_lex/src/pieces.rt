@@ -160,8 +160,8 @@ fn lex_between<A: Allocator + Copy>(
     ensures head_end { IfOk result (λ between. between.head_end ≡ head_end) }
     ensures tail_start { IfOk result (λ between. between.tail_start ≡ tail_start) }
     ensures readings { IfOk result
-        (λ between. AreReadings text.now (words_between text.now head_end tail_start) (side between.outside)
-        (side between.inside)) }
+        (λ between. AreReadings text.now (words_between text.now head_end tail_start)
+        (side between.outside) (side between.inside)) }
 {
     let mut outside = ModeReading::with_room(alloc, CommentState::Nowhere, room);
     let mut inside = ModeReading::new(alloc, CommentState::Before);

@@ -9,8 +9,8 @@ ghost use Rattle.mm_outline.specs.Parts.{AreWithin, IsOutline, depth_after, stat
 ghost use Rattle.mm_outline.specs.Tokens.{AreTokens};
 ghost use Rattle.mm_outline.specs.Statements.{end_fault_of, lexed, statements};
 ghost use Rattle.mm_scope.specs.Scopes.{IsAmong, IsScopeAfter, names_in};
-ghost use Rattle.mm_scope.specs.ReadSoFar.{HasTaken, IsReadSoFar, MayTake, formulas_of, read_so_far};
-ghost use Rattle.mm_scope.specs.ReadSoFar.{reading_of};
+ghost use Rattle.mm_scope.specs.ReadSoFar.{HasTaken, IsReadSoFar, MayTake, formulas_of};
+ghost use Rattle.mm_scope.specs.ReadSoFar.{read_so_far, reading_of};
 
 use crate::scope::Scope;
 use mm_database::names::no_names;
@@ -151,8 +151,8 @@ impl<'a, A: Allocator + Copy> Outlined<'a, A> {
         requires among { IsAmong text.now tokens.now outline }
         requires few { length tokens.now < 2 ^ 31 }
         requires no_fault { self.old.fault ≡ None }
-        requires is_read_so_far { IsReadSoFar (statements text.now tokens.now self.old.outlines.items)
-            (read_so_far self.old) }
+        requires is_read_so_far { IsReadSoFar
+            (statements text.now tokens.now self.old.outlines.items) (read_so_far self.old) }
         requires next { MayTake (statements text.now tokens.now self.old.outlines.items) depth
             (statement_of text.now tokens.now outline) }
         ensures { OnOk result

@@ -18,8 +18,8 @@ pub(crate) fn reading_of<'a, A: Allocator + Copy>(
     outlined: Outlined<'a, A>,
 ) -> Result<Reading<'a, A>, AllocError>
     requires sound { IsSound (statements text.now (tokens_of text.now) outlined.outlines.items) }
-    requires is_read_so_far { IsReadSoFar (statements text.now (tokens_of text.now) outlined.outlines.items)
-        (read_so_far outlined) }
+    requires is_read_so_far { IsReadSoFar
+        (statements text.now (tokens_of text.now) outlined.outlines.items) (read_so_far outlined) }
     requires few_symbols { length (names_of outlined.scope.names.symbols) < 2 ^ 31 }
     ensures { IfOk result (λ r. r ≡ reading_of text.now outlined.entry) }
 {
