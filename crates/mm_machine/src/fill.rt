@@ -55,7 +55,8 @@ fn put_four(symbols: &[Sym], list: &mut [Sym], index: usize)
 fn put_all(symbols: &[Sym], list: &mut [Sym], index: usize)
     requires { index + length symbols.now ≤ length list.old }
     ensures same_length { length list.new ≡ length list.old }
-    ensures written { take (index + length symbols.now) list.new ≡ take index list.old ++ symbols.now }
+    ensures written { take (index + length symbols.now) list.new
+        ≡ take index list.old ++ symbols.now }
 {
     let end = index + symbols.len();
     list[index..end].copy_from_slice(symbols);
@@ -67,7 +68,8 @@ fn put_all(symbols: &[Sym], list: &mut [Sym], index: usize)
 fn put_width(symbols: &[Sym], list: &mut [Sym], index: usize)
     requires { index + length symbols.now ≤ length list.old }
     ensures same_length { length list.new ≡ length list.old }
-    ensures written { take (index + length symbols.now) list.new ≡ take index list.old ++ symbols.now }
+    ensures written { take (index + length symbols.now) list.new
+        ≡ take index list.old ++ symbols.now }
 {
     if symbols.len() == 2 {
         put_two(symbols, list, index);
@@ -90,7 +92,8 @@ fn put_ends(symbols: &[Sym], list: &mut [Sym], index: usize, width: usize)
     requires few { length symbols.now ≤ 2 * width }
     requires room { index + length symbols.now ≤ length list.old }
     ensures same_length { length list.new ≡ length list.old }
-    ensures written { take (index + length symbols.now) list.new ≡ take index list.old ++ symbols.now }
+    ensures written { take (index + length symbols.now) list.new
+        ≡ take index list.old ++ symbols.now }
 {
     let left = symbols.len() - width;
     put_width(&symbols[..width], list, index);
@@ -102,7 +105,8 @@ fn put_ends(symbols: &[Sym], list: &mut [Sym], index: usize, width: usize)
 pub fn put_symbols(symbols: &[Sym], list: &mut [Sym], index: usize)
     requires { index + length symbols.now ≤ length list.old }
     ensures same_length { length list.new ≡ length list.old }
-    ensures written { take (index + length symbols.now) list.new ≡ take index list.old ++ symbols.now }
+    ensures written { take (index + length symbols.now) list.new
+        ≡ take index list.old ++ symbols.now }
 {
     let count = symbols.len();
     if count <= 1 {
