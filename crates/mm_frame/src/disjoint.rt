@@ -58,7 +58,8 @@ fn add_together<A: Allocator>(
     Ok(())
 }
 
-/// Appends the `$d` that are active at `at`, each paired with those of the symbols that it has.
+/// Appends the `$d` that are active at the statement `at`, each paired with those of the symbols
+/// that it has.
 fn add_all_active<A: Allocator>(
     blocks: &Blocks<A>,
     disjoint_index: &DisjointIndex<A>,
