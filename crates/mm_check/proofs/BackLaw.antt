@@ -210,74 +210,74 @@ module _ (counts : ℕ → ℕ → Bool) (at : ℕ → Trees) where
         (before : at i ≡ ts ⧺ cs) (count : length ws ≡ tree_count ts) (vs : List Bool)
         (from : (n : ℕ) → flag_at vs n ≡ true → (b ≡ true) × (counts l n ≡ true))
         (to : (n : ℕ) → n < tree_count cs → b ≡ true → counts l n ≡ true → flag_at vs n ≡ true)
-        where
-      flag_after : (n : ℕ) → flag_at (ws ++ vs) (tree_count ts + n) ≡ flag_at vs n
-      flag_after n = ap (λ k. flag_at (ws ++ vs) (k + n)) (sym count)
-          ∙ get_or-append-add ws vs n false
+      where
+        flag_after : (n : ℕ) → flag_at (ws ++ vs) (tree_count ts + n) ≡ flag_at vs n
+        flag_after n = ap (λ k. flag_at (ws ++ vs) (k + n)) (sym count)
+            ∙ get_or-append-add ws vs n false
 
-      old_places : (us xs : List Bool) → HasNode counts (flag_at (ws ++ us)) ts a
-          → HasNode counts (flag_at (ws ++ xs)) ts a
-      old_places us xs h =
-          other_places counts (flag_at (ws ++ us)) (flag_at (ws ++ xs)) ts a
-          (λ n k e. sym (flag_front ws us xs n (omega (arith, k, count))) ∙ e) h
+        old_places : (us xs : List Bool) → HasNode counts (flag_at (ws ++ us)) ts a
+            → HasNode counts (flag_at (ws ++ xs)) ts a
+        old_places us xs h =
+            other_places counts (flag_at (ws ++ us)) (flag_at (ws ++ xs)) ts a
+            (λ n k e. sym (flag_front ws us xs n (omega (arith, k, count))) ∙ e) h
 
-      in_row : HasNode counts (flag_at (ws ++ vs)) (ts ⧺ cs) a
-          → IsToBeFound i (ws ++ vs) step_flags a
-      in_row h = inl (subst (λ t. HasNode counts (flag_at (ws ++ vs)) t a) (sym before) h)
+        in_row : HasNode counts (flag_at (ws ++ vs)) (ts ⧺ cs) a
+            → IsToBeFound i (ws ++ vs) step_flags a
+        in_row h = inl (subst (λ t. HasNode counts (flag_at (ws ++ vs)) t a) (sym before) h)
 
-      node_down : b ≡ true → (a ≡ l) ⊎ HasNode counts (counts l) cs a
-          → ((b ≡ true) × (a ≡ l)) ⊎ IsToBeFound i (ws ++ vs) step_flags a
-      node_down e (inl h) = inl (e, h)
-      node_down e (inr h) =
-          inr (in_row
-          (join_right counts (flag_at (ws ++ vs)) ts cs a
-          (other_places counts (counts l) (λ n. flag_at (ws ++ vs) (tree_count ts + n)) cs a
-          (λ n k p. flag_after n ∙ to n k e p) h)))
+        node_down : b ≡ true → (a ≡ l) ⊎ HasNode counts (counts l) cs a
+            → ((b ≡ true) × (a ≡ l)) ⊎ IsToBeFound i (ws ++ vs) step_flags a
+        node_down e (inl h) = inl (e, h)
+        node_down e (inr h) =
+            inr (in_row
+            (join_right counts (flag_at (ws ++ vs)) ts cs a
+            (other_places counts (counts l) (λ n. flag_at (ws ++ vs) (tree_count ts + n)) cs a
+            (λ n k p. flag_after n ∙ to n k e p) h)))
 
-      label_down : IsToBeFound (suc i) (ws ++ flag ∷ []) step_flags a
-          → ((b ≡ true) × (a ≡ l)) ⊎ IsToBeFound i (ws ++ vs) step_flags a
-      label_down (inl h) =
-          by_root (subst (λ t. HasNode counts (flag_at (ws ++ flag ∷ [])) t a) here h)
-        where
-          by_root : HasNode counts (flag_at (ws ++ flag ∷ [])) (more ts l f cs) a
-              → ((b ≡ true) × (a ≡ l)) ⊎ IsToBeFound i (ws ++ vs) step_flags a
-          by_root (inl k) =
-              inr (in_row
-              (join_left counts (flag_at (ws ++ vs)) ts cs a (old_places (flag ∷ []) vs k)))
-          by_root (inr k) = node_down (by_flag (sym (last_flag (tree_count ts) count) ∙ k.0)) k.1
-      label_down (inr h) = by_step (repeated_step_cases ts l f cs here h)
-        where
-          by_step : ((b ≡ true) × ((a ≡ l) ⊎ HasNode counts (counts l) cs a))
-              ⊎ IsOfRepeatedStep i step_flags a
-              → ((b ≡ true) × (a ≡ l)) ⊎ IsToBeFound i (ws ++ vs) step_flags a
-          by_step (inl k) = node_down k.0 k.1
-          by_step (inr k) = inr (inr k)
+        label_down : IsToBeFound (suc i) (ws ++ flag ∷ []) step_flags a
+            → ((b ≡ true) × (a ≡ l)) ⊎ IsToBeFound i (ws ++ vs) step_flags a
+        label_down (inl h) =
+            by_root (subst (λ t. HasNode counts (flag_at (ws ++ flag ∷ [])) t a) here h)
+          where
+            by_root : HasNode counts (flag_at (ws ++ flag ∷ [])) (more ts l f cs) a
+                → ((b ≡ true) × (a ≡ l)) ⊎ IsToBeFound i (ws ++ vs) step_flags a
+            by_root (inl k) =
+                inr (in_row
+                (join_left counts (flag_at (ws ++ vs)) ts cs a (old_places (flag ∷ []) vs k)))
+            by_root (inr k) = node_down (by_flag (sym (last_flag (tree_count ts) count) ∙ k.0)) k.1
+        label_down (inr h) = by_step (repeated_step_cases ts l f cs here h)
+          where
+            by_step : ((b ≡ true) × ((a ≡ l) ⊎ HasNode counts (counts l) cs a))
+                ⊎ IsOfRepeatedStep i step_flags a
+                → ((b ≡ true) × (a ≡ l)) ⊎ IsToBeFound i (ws ++ vs) step_flags a
+            by_step (inl k) = node_down k.0 k.1
+            by_step (inr k) = inr (inr k)
 
-      label_up : ((b ≡ true) × (a ≡ l)) ⊎ IsToBeFound i (ws ++ vs) step_flags a
-          → IsToBeFound (suc i) (ws ++ flag ∷ []) step_flags a
-      label_up (inl h) = found ts l f cs here count h.0 (inl h.1)
-      label_up (inr (inl h)) =
-          by_part (join_parts counts (flag_at (ws ++ vs)) ts cs a
-          (subst (λ t. HasNode counts (flag_at (ws ++ vs)) t a) before h))
-        where
-          by_part : HasNode counts (flag_at (ws ++ vs)) ts a
-              ⊎ HasNode counts (λ n. flag_at (ws ++ vs) (tree_count ts + n)) cs a
-              → IsToBeFound (suc i) (ws ++ flag ∷ []) step_flags a
-          by_part (inl k) =
-              inl (subst (λ t. HasNode counts (flag_at (ws ++ flag ∷ [])) t a) (sym here)
-              (inl (old_places vs (flag ∷ []) k)))
-          by_part (inr k) =
-              let p = some_place counts (λ n. flag_at (ws ++ vs) (tree_count ts + n)) cs a k in
-              let e = (from p.0 (sym (flag_after p.0) ∙ p.1)).0 in
-              found ts l f cs here count e
-              (inr (other_places counts (λ n. flag_at (ws ++ vs) (tree_count ts + n))
-              (counts l) cs a
-              (λ n u q. (from n (sym (flag_after n) ∙ q)).1) k))
-      label_up (inr (inr h)) = inr (repeated_earlier h)
+        label_up : ((b ≡ true) × (a ≡ l)) ⊎ IsToBeFound i (ws ++ vs) step_flags a
+            → IsToBeFound (suc i) (ws ++ flag ∷ []) step_flags a
+        label_up (inl h) = found ts l f cs here count h.0 (inl h.1)
+        label_up (inr (inl h)) =
+            by_part (join_parts counts (flag_at (ws ++ vs)) ts cs a
+            (subst (λ t. HasNode counts (flag_at (ws ++ vs)) t a) before h))
+          where
+            by_part : HasNode counts (flag_at (ws ++ vs)) ts a
+                ⊎ HasNode counts (λ n. flag_at (ws ++ vs) (tree_count ts + n)) cs a
+                → IsToBeFound (suc i) (ws ++ flag ∷ []) step_flags a
+            by_part (inl k) =
+                inl (subst (λ t. HasNode counts (flag_at (ws ++ flag ∷ [])) t a) (sym here)
+                (inl (old_places vs (flag ∷ []) k)))
+            by_part (inr k) =
+                let p = some_place counts (λ n. flag_at (ws ++ vs) (tree_count ts + n)) cs a k in
+                let e = (from p.0 (sym (flag_after p.0) ∙ p.1)).0 in
+                found ts l f cs here count e
+                (inr (other_places counts (λ n. flag_at (ws ++ vs) (tree_count ts + n))
+                (counts l) cs a
+                (λ n u q. (from n (sym (flag_after n) ∙ q)).1) k))
+        label_up (inr (inr h)) = inr (repeated_earlier h)
 
-      pub label_back : IsToBeFound (suc i) (ws ++ flag ∷ []) step_flags a
-          ↔ (((b ≡ true) × (a ≡ l)) ⊎ IsToBeFound i (ws ++ vs) step_flags a)
-      label_back = (label_down, label_up)
+        pub label_back : IsToBeFound (suc i) (ws ++ flag ∷ []) step_flags a
+            ↔ (((b ≡ true) × (a ≡ l)) ⊎ IsToBeFound i (ws ++ vs) step_flags a)
+        label_back = (label_down, label_up)
 
     -- the step of a mark, whose entry goes
     module _ (j l : ℕ) (f : Formula) (cs : Trees) (earlier : j < i)

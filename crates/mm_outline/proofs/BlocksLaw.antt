@@ -476,8 +476,12 @@ module _ (db : List Statement) (s : Statement) (b : BlockLists) (x : IsBlocks db
         stack = omega (arith, k, d, shorter, deep);
         longer = omega (arith, length-set b.ends (innermost b.open_blocks) (length b.of));
         few-more =
-            let m = x.few in omega (arith, m, length-set b.ends (innermost b.open_blocks)
-            (length b.of));
+            let m = x.few in omega (
+              arith,
+              m,
+              length-set b.ends (innermost b.open_blocks)
+                  (length b.of),
+            );
         opened =
             λ l h. let i : l < length b.open_blocks = omega (arith, h, shorter) in
             rw (opens-front l h)
@@ -561,7 +565,7 @@ module _ (db : List Statement) (s : Statement) (b : BlockLists) (x : IsBlocks db
                 e,
                 inl (
                   get_or-set_other b.ends (innermost b.open_blocks) (get_or b.of j 0)
-                  (length b.of) 0 q
+                      (length b.of) 0 q
                       ∙ e,
                   omega (arith, d, below),
                   opens-front (depth db j)

@@ -97,8 +97,15 @@ pub each_member : (P : ℕ → Type 0) (xs : List ℕ) → ((x : ℕ) → is_mem
     → AllByRecursion P xs
 each_member P [] h = tt
 each_member P (x ∷ xs) h =
-    grind (arith, common_steps, eq-eqb, or_left, or_right, each_member P xs
-    (λ y m. h y (or_right (y == x) (is_member xs y) m)))
+    grind (
+      arith,
+      common_steps,
+      eq-eqb,
+      or_left,
+      or_right,
+      each_member P xs
+          (λ y m. h y (or_right (y == x) (is_member xs y) m)),
+    )
 
 pub each_map : {X Y : Type 0} (P : Y → Type 0) (f : X → Y) (xs : List X)
     → AllByRecursion (λ x. P (f x)) xs → AllByRecursion P (map f xs)

@@ -93,8 +93,14 @@ no_dollar b e = grind (arith, common_steps, eqb-true)
 pub label_plain : (w : Bytes) → is_label w ≡ true → has_dollar w ≡ false
 label_plain [] e = refl
 label_plain (b ∷ w) e =
-    grind (arith, common_steps, and_parts, no_dollar, label_plain w
-    (and_parts (is_label_byte b) (is_label w) e).1)
+    grind (
+      arith,
+      common_steps,
+      and_parts,
+      no_dollar,
+      label_plain w
+          (and_parts (is_label_byte b) (is_label w) e).1,
+    )
 
 follow_label : (d : ℕ) (l : Token) → is_label l.word ≡ true → (ts : List Token)
     → follow (Some (at_start d)) (l ∷ ts) ≡ follow (Some (at_label d)) ts

@@ -316,8 +316,11 @@ end_fault len ts f e h =
           statements = statements_of ts;
           are_statements = is_longest ts;
           code =
-              inl (goes_on ts r b y n (is_longest ts), sym
-              (same_Some (fault len OpenStatement) f h));
+              inl (
+                goes_on ts r b y n (is_longest ts),
+                sym
+                    (same_Some (fault len OpenStatement) f h),
+              );
         }
 
     by_progress : (r : Progress) (b : Bool) → follow (Some (at_start 0)) ts ≡ Some (state_of b r)

@@ -53,8 +53,13 @@ pub words_between_skips : (text : List ℕ) (n from e to : ℕ) → from + n ≡
 words_between_skips text zero from e to h le none =
     let same : from ≡ e = omega arith in ap (λ x. words_between text x to) same
 words_between_skips text (suc n) from e to h le none =
-    grind (arith, common_steps, words_between_skip, words_between_skips text n (from + 1) e to
-    (omega arith) le (λ j a b. none j (omega arith) b))
+    grind (
+      arith,
+      common_steps,
+      words_between_skip,
+      words_between_skips text n (from + 1) e to
+          (omega arith) le (λ j a b. none j (omega arith) b),
+    )
 
 -- a place with a white byte before it, or at the beginning
 pub begins_word_first : (text : List ℕ) (i : ℕ) → i < length text → white_at text i ≡ false
