@@ -50,7 +50,7 @@ module _ {A : Type 0} (fs : List (Frame A)) where
       ap₂ (λ o l. o ∷ l) (frame_at_push f p few (each 0 (omega arith)))
       (frames_at_push f ps few (λ i l. each (suc i) (omega (arith, l))))
 
-  -- a frame more
+  -- the frames of the statements with the frame of one assertion more
   pub frames_at_more : (f : Frame A) (ps : List ℕ) → AreFrameIndices (length fs) ps
       → length fs < never
       → frames_at (fs ++ f ∷ []) (ps ++ length fs ∷ [])

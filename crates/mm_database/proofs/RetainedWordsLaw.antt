@@ -226,7 +226,7 @@ module _ (text : List ℕ) (db : List Statement) (w : Bool) (fault : Option Faul
       pub word_within : AreWithin text words
       word_within = retained_k.within
 
-      -- the last token
+      -- the last of the retained words is the last token of the statement
       pub last_is_retained : (d : Word)
           → option_map end_at (slice_get n.statements k)
           ≡ Some (get_or words (length words - 1) d).start
@@ -279,7 +279,7 @@ module _ (text : List ℕ) (db : List Statement) (w : Bool) (fault : Option Faul
             ap₂ (λ m ys. take m (drop 1 ys)) m begins
             ∙ take-append_seam retained_k.proof (retained_k.last ∷ [])
 
-      -- the label
+      -- the first of the retained words of a labelled statement is its label
       pub label_is_retained : (x : Kind) → option_map kind_of (slice_get db k) ≡ Some x
           → is_labelled_kind x ≡ true → (d : Word)
           → Some (slice_range text (get_or words 0 d).start (get_or words 0 d).end)

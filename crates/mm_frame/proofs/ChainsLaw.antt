@@ -235,7 +235,7 @@ pub same_chains : (has now : ℕ → ℕ → Bool) (a b : ℕ) (heads : List ℕ
 same_chains has now a b heads links l same h x m =
     same_chain (has x) (now x) a b links (get_or heads x 0) l (same x) (h x m)
 
--- a symbol more
+-- the chains have the statement for the first i + 1 symbols
 pub more_symbols : (has : ℕ → ℕ → Bool) (xs : List ℕ) (i d s k : ℕ) → i < length xs
     → s ≡ get_or xs i d → (x j : ℕ)
     → ((has x j || (is_member (take i xs) x && nat_eq j k)) || (nat_eq x s && nat_eq j k))

@@ -346,7 +346,7 @@ module _ (unmarked marked : List ℕ) (es : List Span) (last : ℕ) (e : Span)
       (All-get_or (IsIn (arena unmarked marked)) es last no_symbols (omega (arith, is_last))
       h.inside)
 
-  -- it is a marked one
+  -- the top entry is a marked one
   pub marked_top : e.store ≡ Marked → IsMarkedEntry marked e
   marked_top q =
       record {
@@ -360,7 +360,7 @@ module _ (unmarked marked : List ℕ) (es : List Span) (last : ℕ) (e : Span)
       → span_formula (arena [] marked) e ≡ top (span_formulas (arena unmarked marked) es)
   marked_top_is q = marked_formula [] unmarked marked e (marked_top q) ∙ sym top_is
 
-  -- it is the last unmarked one
+  -- the top entry is the last unmarked one
   module _ (unmarked_top : e.store ≡ Unmarked) where
     reach_is : first_unmarked (e ∷ []) (length unmarked) ≡ e.start
     reach_is = ap (λ p. begin_one p e [] (length unmarked)) unmarked_top

@@ -57,7 +57,7 @@ theorem_within db k ps t = within db k _ t.is
     within (x ∷ db) zero s e = omega arith
     within (x ∷ db) (suc k) s e = let h = within db k s e in omega (arith, h)
 
--- its last token is the one at its end
+-- the `$.` of the theorem stands at its end
 pub end_is : (db : List Statement) (k end : ℕ) (ps : List Token) (t : IsProvable db k ps)
     → option_map end_at (slice_get db k) ≡ Some end → t.dot ≡ end
 end_is db k end ps t e =
