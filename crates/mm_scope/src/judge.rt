@@ -349,7 +349,7 @@ fn is_among(text: &[u8], tokens: &[Word], from: u32, token_index: u32) -> bool
     let token = tokens[token_index as usize];
     let word = token.bytes(text);
     let mut is_found = false;
-    for earlier in from..at {
+    for earlier in from..token_index {
         let other = tokens[earlier as usize];
         is_found = word == other.bytes(text) || is_found;
     }
