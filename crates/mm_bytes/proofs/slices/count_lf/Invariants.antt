@@ -1,5 +1,5 @@
 use Rattle.std.proofs.Common.{◌≡◌, ◌≤◌, length, ◌-◌, count_by, take, ◌==◌}
-use Rattle.mm_bytes.proofs.runs.count_lf.Given as goal
+use Rattle.mm_bytes.proofs.slices.count_lf.Given as goal
 
 abbrev pub invariant-loop-at : goal.invariant-loop-at
 invariant-loop-at l =

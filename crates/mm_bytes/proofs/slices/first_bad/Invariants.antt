@@ -1,6 +1,6 @@
 use Rattle.std.proofs.Common.{◌≡◌, ◌≤◌, ◌<◌, ◌-◌, ℕ, length, get_or, false}
 use Rattle.mm_bytes.specs.Masks.{is_bad}
-use Rattle.mm_bytes.proofs.runs.first_bad.Given as goal
+use Rattle.mm_bytes.proofs.slices.first_bad.Given as goal
 
 abbrev pub invariant-loop-at : goal.invariant-loop-at
 invariant-loop-at l =

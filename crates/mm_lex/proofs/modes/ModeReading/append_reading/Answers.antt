@@ -1,9 +1,9 @@
 use Rattle.std.proofs.Common.{List, sym, ap, ◌∙◌, ◌++◌}
 use Rattle.mm_spec.specs.declared.Word.{Word}
-use Rattle.mm_lex.specs.Inners.{side}
-use Rattle.mm_lex.proofs.PiecesLaw.{none_from, go_on_inside, go_on_outside}
-use Rattle.mm_lex.proofs.modes.ModeReading.go_on.Goals as goal
-use Rattle.mm_lex.proofs.modes.ModeReading.go_on.Goals.{then-is_open, else-is_open}
+use Rattle.mm_lex.specs.Between.{side}
+use Rattle.mm_lex.proofs.PiecesLaw.{none_from, append_reading_inside, append_reading_outside}
+use Rattle.mm_lex.proofs.modes.ModeReading.append_reading.Goals as goal
+use Rattle.mm_lex.proofs.modes.ModeReading.append_reading.Goals.{then-is_open, else-is_open}
 
 pub returns : goal.returns
 returns g c text ws readings p =
@@ -13,10 +13,10 @@ returns g c text ws readings p =
     ∙ ap (λ (ts : List Word). c.args.self.now.tokens.items ++ ts) c.deref.ensures.value in
     rw c.after-self.ensures
     (elim c.if-is_open.branch [
-      | then-is_open w ↦ go_on_inside text ws p (side c.args.self.now)
+      | then-is_open w ↦ append_reading_inside text ws p (side c.args.self.now)
           (side c.if-is_open.next.now) _ (λ q. rw w.next-is (readings.within q)) none
           (sym (c.is_open.ensures p) ∙ w.if-is_open.true) items
-      | else-is_open w ↦ go_on_outside text ws p (side c.args.self.now)
+      | else-is_open w ↦ append_reading_outside text ws p (side c.args.self.now)
           (side c.if-is_open.next.now) _ (λ q. rw w.next-is (readings.out q)) none
           (sym (c.is_open.ensures p) ∙ w.if-is_open.false) items
     ])

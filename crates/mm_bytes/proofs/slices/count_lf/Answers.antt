@@ -5,8 +5,8 @@ use Rattle.std.proofs.lemmas.List.Sums.{count_by-le-length}
 use Rattle.std.proofs.lemmas.List.{length-take}
 use lib.Lanes.{chunk}
 use Rattle.mm_bytes.proofs.CountLaw.{count_by_chunk}
-use Rattle.mm_bytes.proofs.runs.count_lf.Goals as goal
-use Rattle.mm_bytes.proofs.runs.count_lf.Goals.{After-lf_mask}
+use Rattle.mm_bytes.proofs.slices.count_lf.Goals as goal
+use Rattle.mm_bytes.proofs.slices.count_lf.Goals.{After-lf_mask}
 
 -- the count after a block
 count_after_block : (c : After-lf_mask)

@@ -1,7 +1,7 @@
 use Rattle.std.proofs.Common.{◌∙◌, sym, arith}
 use Rattle.mm_bytes.specs.Masks.{is_bad}
 use Rattle.mm_bytes.proofs.CountLaw.{position_none, position_some, position_block, none_block}
-use Rattle.mm_bytes.proofs.runs.first_bad.Goals as goal
+use Rattle.mm_bytes.proofs.slices.first_bad.Goals as goal
 
 pub returns-then-bad-ne0 : goal.returns-then-bad-ne0
 returns-then-bad-ne0 c =

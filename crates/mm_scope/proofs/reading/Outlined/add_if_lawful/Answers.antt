@@ -12,13 +12,13 @@ use Rattle.mm_database.specs.Names.{find, names_of}
 use Rattle.mm_scope.proofs.KnowsLaw.{knows_is}
 use Rattle.mm_scope.proofs.NumberedLaw.{declared, names_shorter, names_next, taken_numbers}
 use Rattle.mm_scope.proofs.NumberedLaw.{formulas_more}
-use Rattle.mm_scope.proofs.reading.Outlined.take.Goals as goal
+use Rattle.mm_scope.proofs.reading.Outlined.add_if_lawful.Goals as goal
 
 pub fault-requires-clause-few : goal.fault-requires-clause-few
 fault-requires-clause-few g c =
     let db = statements c.args.text.now c.args.tokens.now c.args.self.now.outlines.items in
     let s = statement_of c.args.text.now c.args.tokens.now c.args.outline in
-    let e = ap length c.requires.kept.names_are in
+    let e = ap length c.requires.is_read_so_far.names_are in
     let l = names_shorter db s in
     let f = c.requires.next.few_names in
     omega (arith, e, l, f)
@@ -30,7 +30,7 @@ returns-then-is_some g c =
     let os = c.args.self.now.outlines.items in
     let db = statements text ws os in
     let s = statement_of text ws c.args.outline in
-    let k = c.requires.kept in
+    let k = c.requires.is_read_so_far in
     let next = c.requires.next in
     let b = c.args.self.now.scope.blocks in
     let few = next.few in
@@ -42,14 +42,14 @@ returns-then-is_some g c =
     let begun = c.args.self.now.numbers.items in
     let untouched : c.truncate.new.self.items ≡ begun =
     c.truncate.ensures.items
-    ∙ ap₂ take (c.len-begin.ensures ∙ c.args.self.now.numbers.ok.0)
+    ∙ ap₂ take (c.len-number_count.ensures ∙ c.args.self.now.numbers.ok.0)
     c.in_ok-self.ensures.numbers
     ∙ take-append-le (length begun) begun (judged (names_in c.args.self.now.scope) s)
     (le_refl (length begun))
     ∙ take_all (length begun) begun (le_refl (length begun)) in
     record {
       fault =
-          fault ∙ ap (λ n. least (scope_faults (names_before db n) c.args.deep s))
+          fault ∙ ap (λ n. least (scope_faults (names_before db n) c.args.depth s))
           (length-map os (statement_of text ws));
       taken = search rules;
       stays = λ some. (
@@ -72,7 +72,7 @@ returns g c =
     let os = c.args.self.now.outlines.items in
     let db = statements text ws os in
     let s = statement_of text ws c.args.outline in
-    let k = c.requires.kept in
+    let k = c.requires.is_read_so_far in
     let next = c.requires.next in
     let b = c.args.self.now.scope.blocks in
     let few = next.few in
@@ -94,7 +94,7 @@ returns g c =
     c.args.self.now.places.items k.formulas c.number_others.new.numbers.items more in
     record {
       fault =
-          fault ∙ ap (λ n. least (scope_faults (names_before db n) c.args.deep s))
+          fault ∙ ap (λ n. least (scope_faults (names_before db n) c.args.depth s))
           (length-map os (statement_of text ws));
       taken = λ none. (
         c.in_ok-push.ensures.items,

@@ -1,19 +1,20 @@
 use Rattle.std.proofs.Common.{rules, arith, ◌≤◌, length, ◌≡◌, ◌∙◌, ℕ, List, [], Some, not, sym}
 use Rattle.std.proofs.Common.{ap, subst}
 use Rattle.mm_lex.specs.Pieces.{side_reading}
-use Rattle.mm_lex.specs.Inners.{side}
+use Rattle.mm_lex.specs.Between.{side}
 use Rattle.mm_spec.specs.declared.TheConstants.{TEXT_LIMIT}
 use Rattle.mm_lex.specs.declared.scanner.WordScanner.{WordScanner}
-use Rattle.mm_spec.specs.Laws.Readings.{go_on}
+use Rattle.mm_spec.specs.Laws.Readings.{append_reading}
 use Rattle.mm_spec.specs.Words.{words_between}
 use Rattle.mm_lex.specs.Beginnings.{ArePlain}
 use Rattle.mm_lex.specs.Plain.{IsPlainWord}
 use Rattle.mm_spec.specs.Readings.{bytes_of, reading}
-use Rattle.mm_lex.proofs.PiecesLaw.{go_on_next, go_on_done, go_on_skips, go_on_some}
+use Rattle.mm_lex.proofs.PiecesLaw.{append_reading_next, append_reading_done, append_reading_skips}
+use Rattle.mm_lex.proofs.PiecesLaw.{append_reading_some}
 use Rattle.mm_lex.proofs.PiecesLaw.{same_next}
-use Rattle.mm_lex.proofs.pieces.lex_inner.Goals as goal
-use Rattle.mm_lex.proofs.pieces.lex_inner.Goals.{else-loop-scanner-test}
-use Rattle.mm_lex.proofs.pieces.lex_inner.Goals.{then-loop-scanner-test+in-None-1}
+use Rattle.mm_lex.proofs.pieces.lex_between.Goals as goal
+use Rattle.mm_lex.proofs.pieces.lex_between.Goals.{else-loop-scanner-test}
+use Rattle.mm_lex.proofs.pieces.lex_between.Goals.{then-loop-scanner-test+in-None-1}
 
 pub loop-scanner-preserved : goal.loop-scanner-preserved
 loop-scanner-preserved g c =
@@ -21,15 +22,15 @@ loop-scanner-preserved g c =
     let text = c.args.text.now in
     let word = c.in-Some.found.word in
     let next =
-    same_next _ text c.loop-scanner.scanner.from c.next_word.new.self.from c.args.tail word
+    same_next _ text c.loop-scanner.scanner.from c.next_word.new.self.from c.args.tail_start word
     before.same_text c.in-Some.ensures.words in
     record {
       same_text = c.in-Some.ensures.text ∙ before.same_text;
       outside_reading =
-          λ p. go_on_next text _ (side_reading p (side c.loop-scanner.outside)) _ word _ _
+          λ p. append_reading_next text _ (side_reading p (side c.loop-scanner.outside)) _ word _ _
           (before.outside_reading p) next (c.in_ok-read_word.ensures p);
       inside_reading =
-          λ p. go_on_next text _ (side_reading p (side c.loop-scanner.inside)) _ word _ _
+          λ p. append_reading_next text _ (side_reading p (side c.loop-scanner.inside)) _ word _ _
           (before.inside_reading p) next (c.in_ok-read_word-2.ensures p);
     }
 
@@ -42,7 +43,7 @@ loop-scanner-preserved-then-ignores_plain-2 g c =
     let here = c.next_word.new.self.from in
     let upto = c.skip_plain.new.self.from in
     let next =
-    same_next _ text c.loop-scanner.scanner.from here c.args.tail word before.same_text
+    same_next _ text c.loop-scanner.scanner.from here c.args.tail_start word before.same_text
     c.in-Some.ensures.words in
     let plain =
     subst (λ (t : List ℕ). IsPlainWord (bytes_of t word)) before.same_text
@@ -52,13 +53,15 @@ loop-scanner-preserved-then-ignores_plain-2 g c =
     record {
       same_text = c.skip_plain.ensures.text ∙ same;
       outside_reading =
-          λ p. go_on_skips text _ (side_reading p (side c.loop-scanner.outside)) word _ here upto
-          c.args.tail
+          λ p. append_reading_skips text _
+          (side_reading p (side c.loop-scanner.outside)) word _ here upto
+          c.args.tail_start
           (sym (c.ignores_plain.ensures p) ∙ c.if-ignores_plain.true) plain
           c.skip_plain.ensures.onward others (before.outside_reading p) next;
       inside_reading =
-          λ p. go_on_skips text _ (side_reading p (side c.loop-scanner.inside)) word _ here upto
-          c.args.tail
+          λ p. append_reading_skips text _
+          (side_reading p (side c.loop-scanner.inside)) word _ here upto
+          c.args.tail_start
           (sym (c.ignores_plain-then-ignores_plain.ensures p) ∙ c.if-ignores_plain-2.true) plain
           c.skip_plain.ensures.onward others (before.inside_reading p) next;
     }
@@ -71,7 +74,7 @@ new-scanner-requires g c =
 
 pub next_word-requires-clause-within : goal.next_word-requires-clause-within
 next_word-requires-clause-within g c =
-    subst (λ (t : List ℕ). c.args.tail ≤ length t) (sym c.loop-scanner.invariant.same_text)
+    subst (λ (t : List ℕ). c.args.tail_start ≤ length t) (sym c.loop-scanner.invariant.same_text)
     c.requires.within
 
 pub next_word-requires-clause-short : goal.next_word-requires-clause-short
@@ -84,17 +87,17 @@ returns-clause-readings g c =
     let before = c.loop-scanner.invariant in
     let text = c.args.text.now in
     let from = c.loop-scanner.scanner.from in
-    let to = c.args.tail in
+    let to = c.args.tail_start in
     let known : (words_between text from to
     ≡ words_between text c.loop-scanner-test.scanner.from to)
     × ((p : ℕ)
-    → reading text (Some p) (words_between text c.args.head to)
+    → reading text (Some p) (words_between text c.args.head_end to)
     ≡ side_reading p (side c.loop-scanner.inside)) =
     elim c.loop-scanner-test.branch [
       | else-loop-scanner-test w ↦ (
         ap (λ (b : WordScanner). words_between text b.from to) (sym w.scanner-is),
         λ p. before.inside_reading p
-            ∙ go_on_some text (side_reading p (side c.loop-scanner.inside)) _
+            ∙ append_reading_some text (side_reading p (side c.loop-scanner.inside)) _
             (c.is_none.ensures ∙ ap not w.loop-scanner-test.false),
       )
       | then-loop-scanner-test+in-None-1 w ↦
@@ -108,13 +111,13 @@ returns-clause-readings g c =
           done in (
             here ∙ sym there
                 ∙ ap (λ (b : WordScanner). words_between text b.from to) (sym w.scanner-is),
-            λ p. go_on_done text _ _ _ (before.inside_reading p) here,
+            λ p. append_reading_done text _ _ _ (before.inside_reading p) here,
           )
     ] in
     record {
       out =
           λ p. before.outside_reading p
-          ∙ ap (go_on text (side_reading p (side c.loop-scanner.outside))) known.0
+          ∙ ap (append_reading text (side_reading p (side c.loop-scanner.outside))) known.0
           ∙ sym (c.in_ok-read_rest.ensures p);
       within = known.1;
     }

@@ -5,7 +5,7 @@ use Rattle.mm_spec.specs.declared.Code.TheVariants.{ConstantInBlock, EmptyDeclar
 use Rattle.mm_outline.specs.Parts.{between, statement_between, nth_word}
 use Rattle.mm_scope.specs.Knows.{listed_codes}
 use Rattle.mm_scope.proofs.JudgeLaw.{none_between}
-use Rattle.mm_scope.proofs.scope.Scope.list_fault.Goals as goal
+use Rattle.mm_scope.proofs.scope.Scope.whole_statement_fault.Goals as goal
 
 pub returns-in-Constants : goal.returns-in-Constants
 returns-in-Constants g c = λ n.
@@ -17,15 +17,15 @@ returns-in-Constants g c = λ n.
     let later = c.requires.among.outline.3 in
     let first = (nth_word ws o.keyword).start in
     let end = (nth_word ws o.middle).start in
-    let block = at first (when (nat_lt 0 c.args.deep) ConstantInBlock) in
+    let block = at first (when (nat_lt 0 c.args.depth) ConstantInBlock) in
     let none = at end (when (is_empty n xs) EmptyDeclaration) in (
       block ++ none,
-      c.lesser.ensures block none (c.fault_with_code-deep.ensures ∙ c.code_if.ensures first)
+      c.lesser.ensures block none (c.fault_with_code-block_fault.ensures ∙ c.code_if.ensures first)
           (c.fault_with_code.ensures ∙ c.code_if-in-Constants.ensures end
           ∙ ap (λ b. least (at end (when b EmptyDeclaration)))
           (none_between n text ws o.keyword o.middle c.requires.order
           (omega (arith, within, later)))),
-      ap (λ kd. scope_faults n c.args.deep (statement_between text ws kd o.keyword o.middle o.end))
+      ap (λ kd. scope_faults n c.args.depth (statement_between text ws kd o.keyword o.middle o.end))
           c.in-Constants.is
           ∙ ap (λ kd. (block ++ none) ++ at_each (listed_codes n kd) [] xs) (sym c.in-Constants.is),
     )
@@ -45,7 +45,7 @@ returns-in-Variables g c = λ n.
           ∙ ap (λ b. least (at end (when b EmptyDeclaration)))
           (none_between n text ws o.keyword o.middle c.requires.order
           (omega (arith, within, later))),
-      ap (λ kd. scope_faults n c.args.deep (statement_between text ws kd o.keyword o.middle o.end))
+      ap (λ kd. scope_faults n c.args.depth (statement_between text ws kd o.keyword o.middle o.end))
           c.in-Variables.is
           ∙ ap (λ kd. none ++ at_each (listed_codes n kd) [] xs) (sym c.in-Variables.is),
     )

@@ -30,7 +30,7 @@ pub record KnowsStatements (db : List Statement) (look : List ℕ → Option Sym
   pub labels_known : (w : List ℕ) → is_in w (flat_map label_words db) ≡ is_some (labels w)
   pub labels_are : AreLabels db labels
 
--- all that is kept after some statements: names, blocks, and the symbols by their numbers
+-- all that has been read after some statements: names, blocks, and the symbols by their numbers
 pub record ReadSoFar : Type 0 where
   pub look : List ℕ → Option Symbol
   pub labels : List ℕ → Option ℕ
@@ -39,14 +39,15 @@ pub record ReadSoFar : Type 0 where
   pub numbers : List ℕ
   pub places : List ℕ
 
-pub record IsKeptOf (db : List Statement) (k : ReadSoFar) : Type 0 where
+-- what has been read is that of these statements
+pub record IsReadSoFar (db : List Statement) (k : ReadSoFar) : Type 0 where
   pub keeps : KnowsStatements db k.look k.labels k.blocks
   pub names_are : k.names ≡ symbol_names db
   pub formulas : AreFormulas db k.numbers k.places
 
 module _ {A : Type 0} where
-  abbrev pub kept_by : Outlined A → ReadSoFar
-  kept_by r = record {
+  abbrev pub read_so_far : Outlined A → ReadSoFar
+  read_so_far r = record {
     look = find r.scope.names.symbols;
     labels = find r.scope.names.labels;
     blocks = r.scope.blocks;
@@ -55,7 +56,8 @@ module _ {A : Type 0} where
     places = r.places.items;
   }
 
-  -- what there is after a statement was taken: its fault, and where it has none, all with it
+  -- after the next statement there is its fault; if it has none, the statement was added to what
+  -- had been read, otherwise nothing was
   pub record HasTaken (text : List ℕ) (tokens : List Word) (before : List Outline) (deep : ℕ)
       (o : Outline) (r : Outlined A) : Type 0 where
     pub fault : r.fault
@@ -63,9 +65,10 @@ module _ {A : Type 0} where
         (statement_of text tokens o))
     pub taken : r.fault ≡ None
         → (r.outlines.items ≡ before ++ o ∷ [])
-        × IsKeptOf (statements text tokens before ++ statement_of text tokens o ∷ []) (kept_by r)
+        × IsReadSoFar (statements text tokens before ++ statement_of text tokens o ∷ [])
+        (read_so_far r)
     pub stays : r.fault ≢ None
-        → (r.outlines.items ≡ before) × IsKeptOf (statements text tokens before) (kept_by r)
+        → (r.outlines.items ≡ before) × IsReadSoFar (statements text tokens before) (read_so_far r)
 
   -- the symbols of each statement
   abbrev pub formulas_of : Outlined A → List (List ℕ)

@@ -6,19 +6,19 @@ use Rattle.mm_lex.specs.Stretches.{joined_word}
 use Rattle.mm_lex.specs.declared.modes.CommentState.{CommentState}
 use Rattle.mm_lex.specs.declared.modes.CommentState.TheVariants.{Nowhere, Before, At}
 use Rattle.mm_lex.specs.declared.modes.ModeReading.{ModeReading}
-use Rattle.mm_lex.specs.declared.pieces.Inner.{Inner}
+use Rattle.mm_lex.specs.declared.pieces.Between.{Between as LexedBetween}
 
 abbrev pub side : {A : Type 0} → ModeReading A → Side
 side mode =
     record { tokens = mode.tokens.items; fault = mode.fault; open_comment = mode.open_comment }
 
-abbrev pub between_of : {A : Type 0} → Inner A → Between
-between_of inner =
+abbrev pub between_of : {A : Type 0} → LexedBetween A → Between
+between_of between =
     record {
-      head = inner.head;
-      tail = inner.tail;
-      outside = side inner.outside;
-      inside = side inner.inside;
+      head_end = between.head_end;
+      tail_start = between.tail_start;
+      outside = side between.outside;
+      inside = side between.inside;
     }
 
 -- Between the ends of two adjacent stretches there is what is between those of each, and the word
@@ -28,7 +28,7 @@ IsJoined text before after joined =
     (ws us : List Word)
     → AreReadings text ws before.outside before.inside
     → AreReadings text us after.outside after.inside
-    → AreReadings text (ws ++ (joined_word before.tail after.head ++ us)) joined.outside
+    → AreReadings text (ws ++ (joined_word before.tail_start after.head_end ++ us)) joined.outside
     joined.inside
 
 -- the comment that is open after two lists of words: `first` says which is open after the first
