@@ -119,7 +119,7 @@ pub(crate) fn report_rows<'a, A: Allocator, W: Write>(
 }
 
 /// Writes the report of what each theorem rests on, for a database without a fault.
-fn report_rests<'a, R: Threads + Sync, A: Allocator + Copy + Send + Sync, W: Write>(
+fn report_dependence<'a, R: Threads + Sync, A: Allocator + Copy + Send + Sync, W: Write>(
     rt: &R,
     alloc: A,
     request: &Request<'_>,
@@ -166,7 +166,7 @@ fn report<'a, R: Threads + Sync, A: Allocator + Copy + Send + Sync, W: Write>(
     if request.choice == Choice::Citations {
         report_citations(alloc, request, database, citations, to)
     } else {
-        report_rests(rt, alloc, request, database, citations, to)
+        report_dependence(rt, alloc, request, database, citations, to)
     }
 }
 

@@ -13,7 +13,7 @@ use Rattle.mm_cites.specs.Citing.{citing, IsFileOrder}
 use Rattle.mm_work.specs.Judged.{IsCited, AreCitedUpTo, AllCited, IsFirstFault, HasFault}
 use Rattle.mm_work.proofs.CitedLaw.{cited_valid, valid_before, all_valid, file_order, shows}
 
--- one list of citations more
+-- the citations of one more theorem, appended
 pub cited_more : (db : List Statement) (by_essential : Bool) (ts : List ℕ) (n : ℕ)
     → (lists : List (List ℕ)) (cites : List ℕ)
     → AreCitedUpTo db by_essential ts n lists → IsCited db by_essential (get_or ts n 0) cites

@@ -141,7 +141,8 @@ fn words_that_are_no_line(rt: HostRuntime) {
     }
 }
 
-// If a file is named, standard input isn't read, so one that fails changes nothing.
+// Where a file is named, standard input isn't read: that it would fail changes nothing. Where none
+// is named, its failure is reported.
 #[test]
 fn files_that_cannot_be_opened_or_read(rt: HostRuntime) {
     let unopened = b"mmdepend: cannot open the file\n".as_slice();

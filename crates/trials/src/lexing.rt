@@ -81,7 +81,7 @@ fn gives_places(rt: HostRuntime) -> Result<(), AllocError> {
 
 /// Asserts that the text, cut twice at each place, with an empty piece between, is read as it is when
 /// it is whole.
-fn every_cut_is_read_alike<R: Abort + Threads + Sync>(
+fn assert_cuts_read_alike<R: Abort + Threads + Sync>(
     rt: &R,
     alloc: Global,
     text: &[u8],
@@ -109,7 +109,7 @@ fn lexes_every_cut(rt: HostRuntime) -> Result<(), AllocError> {
     let whole = in_pieces(&rt, rt.alloc(), TEXT_WITH_COMMENTS, 1)?;
     assert_eq!(rt; whole.tokens.len(), 4);
     assert_eq!(rt; whole.fault, fault(30, Code::OpenComment));
-    every_cut_is_read_alike(&rt, rt.alloc(), TEXT_WITH_COMMENTS, &whole)
+    assert_cuts_read_alike(&rt, rt.alloc(), TEXT_WITH_COMMENTS, &whole)
 }
 
 /// Two theorems, cut at each place, and into many more pieces than they have bytes.
@@ -119,7 +119,7 @@ fn lexes_theorems_in_pieces(rt: HostRuntime) -> Result<(), AllocError> {
     let whole = in_pieces(&rt, rt.alloc(), &text, 1)?;
     assert_eq!(rt; whole.tokens.len(), THROUGH_TOKENS);
     assert_eq!(rt; whole.fault, None);
-    every_cut_is_read_alike(&rt, rt.alloc(), &text, &whole)?;
+    assert_cuts_read_alike(&rt, rt.alloc(), &text, &whole)?;
     let lexed = in_pieces(&rt, rt.alloc(), &text, 65536)?;
     assert_eq!(rt; lexed.tokens.as_slice(), whole.tokens.as_slice());
     assert_eq!(rt; lexed.fault, None);
@@ -161,7 +161,7 @@ fn lexes_many_pieces(rt: HostRuntime) -> Result<(), AllocError> {
 }
 
 /// Asserts the ends of a piece, and the tokens and the fault of both of its readings.
-fn is_piece<R: Abort>(
+fn assert_piece<R: Abort>(
     rt: &R,
     piece: &Piece<Global>,
     ends: [Word; 2],
@@ -192,7 +192,7 @@ fn summarizes_stretches(rt: HostRuntime) -> Result<(), AllocError> {
     for (from, to, ends, outside, inside_fault) in rows {
         if from <= to && to <= SMALL.len() {
             let piece = lex_piece(rt.alloc(), SMALL, from, to)?;
-            is_piece(&rt, &piece, ends, outside, inside_fault);
+            assert_piece(&rt, &piece, ends, outside, inside_fault);
             assert!(&rt; piece.from() as usize == from && piece.to() as usize == to);
             assert_eq!(rt; piece.is_unbroken(), from == 6);
         }

@@ -16,6 +16,11 @@ use std::process::Abort;
 use std::sync::Wait;
 use std::thread::Threads;
 
+/// How many pieces the text is cut into, and how many workers a run has.
+const PIECES: u32 = 3;
+
+const WORKERS: u32 = 2;
+
 /// Whether a run wrote exactly this output, and allocated nothing while it wrote. `None` if it ran
 /// out of memory and wrote nothing.
 fn answer<R: Threads + Wait + Sync>(
@@ -25,7 +30,7 @@ fn answer<R: Threads + Wait + Sync>(
     mut text: &[u8],
     output: &[u8],
 ) -> Option<bool> {
-    let plan = plan_of(Cutting::Count(3), 2, Choice::All);
+    let plan = plan_of(Cutting::Count(PIECES), WORKERS, Choice::All);
     let mut to = GrowthWatching::new(alloc, heap);
     let end = ended(rt, heap, &plan, &mut text, &mut to);
     if end == Some(RunEnd::NoMemory) && to.calls == 0 {
