@@ -55,12 +55,12 @@ fn report_dependence_alone<'a, A: Allocator + Copy, W: Write>(
     };
     if has_usage(request.choice) {
         match matrix_alone(alloc, citations, &chosen) {
-            Ok(matrix) => report_usage(request, database, citations, &chosen, &matrix, to),
+            Ok(matrix) => report_usage(request, database, &chosen, &matrix, to),
             Err(_) => RunEnd::NoMemory,
         }
     } else {
         match marked_rows_alone(alloc, citations, &chosen) {
-            Ok(marked) => report_rows(request, database, citations, &chosen, &marked, to),
+            Ok(marked) => report_rows(request, database, &chosen, &marked, to),
             Err(_) => RunEnd::NoMemory,
         }
     }

@@ -10,7 +10,7 @@ use std::rt::HostRuntime;
 use std::thread::Threads;
 
 /// The place and the number of the fault of a text, and how many statements are before it.
-fn stops<R: Threads + Sync>(
+fn fault_and_count<R: Threads + Sync>(
     rt: &R,
     alloc: Global,
     text: &[u8],
@@ -26,12 +26,12 @@ fn stops<R: Threads + Sync>(
 #[test]
 fn stops_where_a_statement_is_at_fault(rt: HostRuntime) -> Result<(), AllocError> {
     for example in shapes() {
-        let (fault, before) = stops(&rt, rt.alloc(), example.text)?;
+        let (fault, before) = fault_and_count(&rt, rt.alloc(), example.text)?;
         assert_eq!(rt; fault, example.fault);
         assert_eq!(rt; before as usize, example.before);
     }
     for example in scopes() {
-        let (fault, before) = stops(&rt, rt.alloc(), example.text)?;
+        let (fault, before) = fault_and_count(&rt, rt.alloc(), example.text)?;
         assert_eq!(rt; fault, example.fault);
         assert_eq!(rt; before as usize, example.before);
     }

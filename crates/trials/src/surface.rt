@@ -40,7 +40,9 @@ fn bytes(rt: HostRuntime) {
 
 /// Asserts what a piece of the whole text says.
 fn assert_whole<R: Abort>(rt: &R, piece: &Piece<Global>) {
-    assert!(rt; piece.from() == 0 && piece.to() == 170 && !piece.is_unbroken());
+    assert!(rt;
+        piece.from() == 0 && piece.to() as usize == FIRST_TEXT.len() && !piece.is_unbroken()
+    );
     let head = piece.head();
     let tail = piece.tail();
     assert!(rt; head.start == 0 && head.end == 0 && tail.start == 170 && tail.end == 170);
@@ -51,7 +53,7 @@ fn assert_whole<R: Abort>(rt: &R, piece: &Piece<Global>) {
 #[test]
 fn pieces(rt: HostRuntime) -> Result<(), AllocError> {
     let first = lex_piece(rt.alloc(), FIRST_TEXT, 0, 60)?;
-    let second = lex_piece(rt.alloc(), FIRST_TEXT, 60, 170)?;
+    let second = lex_piece(rt.alloc(), FIRST_TEXT, 60, FIRST_TEXT.len())?;
     let whole = join(rt.alloc(), FIRST_TEXT, first, second)?;
     assert_whole(&rt, &whole);
     Ok(())
@@ -215,7 +217,7 @@ fn rows(rt: HostRuntime) -> Result<(), AllocError> {
 }
 
 /// Whether the report of the text is written.
-fn has_report(
+fn is_report_written(
     alloc: Global,
     database: &Database<Global>,
     chosen: &Columns<Global>,
@@ -239,7 +241,7 @@ fn has_report(
 }
 
 /// Whether the report of the text's citations is written.
-fn has_citations(
+fn are_citations_written(
     alloc: Global,
     database: &Database<Global>,
     chosen: &Columns<Global>,
@@ -269,8 +271,8 @@ fn reports(rt: HostRuntime) -> Result<(), AllocError> {
     let citations = citations_of(&rt, alloc, &database)?;
     let columns = Columns::new(alloc, &database, None)?;
     let matrix = matrix(&rt, alloc, &citations, &columns)?;
-    assert!(&rt; has_report(alloc, &database, &columns, &matrix));
-    assert!(&rt; has_citations(alloc, &database, &columns, &citations));
+    assert!(&rt; is_report_written(alloc, &database, &columns, &matrix));
+    assert!(&rt; are_citations_written(alloc, &database, &columns, &citations));
     Ok(())
 }
 

@@ -130,12 +130,15 @@ pub(crate) const FIRST_FAULTY: u32 = 2000;
 
 pub(crate) const ANOTHER_FAULTY: u32 = 2900;
 
+/// How many bytes `BASE` has.
+const BASE_BYTES: u32 = 118;
+
 /// How many bytes each of these theorems has.
 const BYTES_OF_EACH: u32 = 54;
 
 /// The place of the first fault of that text: the `$.` of the first theorem whose proof lacks its
 /// last step, 48 bytes from its beginning.
-pub(crate) const MANY_FAULT_AT: u32 = BASE.len() as u32 + FIRST_FAULTY * BYTES_OF_EACH + 48;
+pub(crate) const MANY_FAULT_AT: u32 = BASE_BYTES + FIRST_FAULTY * BYTES_OF_EACH + 48;
 
 /// Adds a label: a letter, and the four digits of a number below ten thousand.
 pub(crate) fn add_label(text: &mut Vec<u8>, letter: u8, number: u32) -> Result<(), AllocError> {
