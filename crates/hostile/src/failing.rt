@@ -24,8 +24,8 @@ const WORKERS: u32 = 2;
 /// How many calls it takes to read the first text to its end.
 const READS: usize = 18;
 
-/// Whether a run on the first text has the end, the output and the number of reader calls in `want`.
-/// The reader fails at the call of the number `fails_at`.
+/// Whether a run on the first text has the end, the output and the number of reader calls in
+/// `want`. The reader fails at the call of the number `fails_at`.
 fn failed_run_is<R: Threads + Wait + Sync>(
     rt: &R,
     alloc: Global,

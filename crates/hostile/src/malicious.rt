@@ -83,8 +83,8 @@ fn with_bad_byte(alloc: Global, front: &[u8], spaces: u32) -> Result<Vec<u8>, Al
     Ok(text)
 }
 
-/// Whether a bad byte after the given number of spaces is refused at its place, with cuts before and
-/// after it.
+/// Whether a bad byte after the given number of spaces is refused at its place, with cuts before
+/// and after it.
 fn is_bad_byte_refused<R: Threads + Wait + Sync>(
     rt: &R,
     alloc: Global,

@@ -220,7 +220,7 @@ word_within columns down j w len small band size =
     let t = mul_comm down columns in
     omega (arith, m, t, size)
 
--- one word more
+-- after word w of column j was written, the columns are written up to j in band w
 pub written_word : (rows columns : ℕ) (bits transposed : List ℕ) (w j word : ℕ) → w < words_for rows
     → j < columns → IsColumnWord rows (words_for columns) bits w j word
     → ColumnsWritten rows columns bits transposed w j
@@ -321,7 +321,7 @@ written_skip rows columns bits has_mark transposed across w from to width band m
         let e : true ≡ false = sym yes ∙ no in
         absurd (cc)
 
--- the next band
+-- where all columns of band w are written, band w + 1 is next
 pub written_band : (rows columns : ℕ) (bits transposed : List ℕ) (w from : ℕ) → columns ≤ from
     → ColumnsWritten rows columns bits transposed w from
     → ColumnsWritten rows columns bits transposed (w + 1) 0

@@ -8,7 +8,7 @@ use Rattle.mm_rows.specs.Indices.{AreIndicesOf}
 use Rattle.mm_rows.specs.declared.indices.TheConstants.{NO_INDEX}
 use Rattle.mm_rows.proofs.ChainLaw.{index_is_unique}
 
--- no statement is noted yet
+-- before any index was set, the first 0 statements have their indices
 pub indices_none : (list indices : List ℕ)
     → ((s : ℕ) → s < length indices → get_or indices s 0 ≡ NO_INDEX) → AreIndicesOf list 0 indices
 indices_none list indices none =
@@ -23,7 +23,7 @@ indices_none list indices none =
     no_index s (inl l) = get_or_default indices s NO_INDEX 0 l ∙ none s l
     no_index s (inr g) = get_or_past indices s NO_INDEX g
 
--- one statement more
+-- after statement n of the list was set to n, the first n + 1 statements have their indices
 pub indices_more : (list indices : List ℕ) (n : ℕ) → IsStatementList list → n < length list
     → get_or list n 0 < length indices → AreIndicesOf list n indices
     → AreIndicesOf list (n + 1) (slice_set indices (get_or list n 0) n)

@@ -8,5 +8,6 @@ pub record AreIndicesOf (list : List ℕ) (n : ℕ) (indices : List ℕ) : Type 
       → (get_or indices s NO_INDEX < n) × (slice_index list (get_or indices s NO_INDEX) ≡ s)
   pub all : (i : ℕ) → i < n → get_or indices (slice_index list i) NO_INDEX ≡ i
 
+-- for each statement its index in the whole list
 abbrev pub AreIndices : List ℕ → List ℕ → Type 0
 AreIndices list indices = AreIndicesOf list (length list) indices

@@ -91,10 +91,10 @@ impl<'a, A: Allocator> StatementIndices<'a, A> {
         ensures none { IfNone result ((i : ℕ) → i < length self.now
             → slice_index self.now i ≡ statement → ⊥) }
     {
-        let at = statement as usize;
-        if self.indices.len() <= at || self.indices[at] == NO_INDEX {
+        let number = statement as usize;
+        if self.indices.len() <= number || self.indices[number] == NO_INDEX {
             return None;
         }
-        Some(self.indices[at] as usize)
+        Some(self.indices[number] as usize)
     }
 }

@@ -110,15 +110,16 @@ fn wave_end(waves: &[u32], rows: &[u32], from: usize) -> usize
     to
 }
 
-/// Writes a row to its place.
-fn store(bits: &mut [u64], width: usize, i: u32, row: &[u64])
-    requires fits { i * width + width ≤ length bits.old }
+/// Writes the words of the row with this index among those of all rows.
+fn store(bits: &mut [u64], width: usize, row_index: u32, row: &[u64])
+    requires fits { row_index * width + width ≤ length bits.old }
     requires words { length row.now ≡ width }
-    ensures here { row_at bits.new width i ≡ row.now }
-    ensures others { (r : ℕ) → (r ≡ i → ⊥) → row_at bits.new width r ≡ row_at bits.old width r }
+    ensures here { row_at bits.new width row_index ≡ row.now }
+    ensures others { (r : ℕ) → (r ≡ row_index → ⊥)
+        → row_at bits.new width r ≡ row_at bits.old width r }
 {
-    let at = i as usize * width;
-    bits[at..at + width].copy_from_slice(row);
+    let begin = row_index as usize * width;
+    bits[begin..begin + width].copy_from_slice(row);
 }
 
 /// Returns the bits of some rows, in the order of `rows`. They are computed in parallel.

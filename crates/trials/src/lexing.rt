@@ -79,8 +79,8 @@ fn gives_places(rt: HostRuntime) -> Result<(), AllocError> {
     Ok(())
 }
 
-/// Asserts that the text, cut twice at each place, with an empty piece between, is read as it is when
-/// it is whole.
+/// Asserts that the text, cut twice at each place, with an empty piece between, is read as it is
+/// when it is whole.
 fn assert_cuts_read_alike<R: Abort + Threads + Sync>(
     rt: &R,
     alloc: Global,

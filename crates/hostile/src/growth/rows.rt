@@ -32,8 +32,8 @@ fn are_waves<A: Allocator>(answer: Result<Vec<u32, A>, AllocError>) -> Option<bo
     }
 }
 
-/// Refuses each growth of computing the waves in turn. Returns whether the last call met no refusal,
-/// and the first one did.
+/// Refuses each growth of computing the waves in turn. Returns whether the last call met no
+/// refusal, and the first one did.
 fn waves_in_turn<'h, R: Abort>(
     rt: &R,
     heap: &'h Refusing<Global>,
@@ -66,8 +66,8 @@ fn are_columns<A: Allocator>(answer: Result<Columns<A>, AllocError>) -> Option<b
     }
 }
 
-/// Refuses each growth of listing the columns in turn. Returns whether the last call met no refusal,
-/// and the first one did.
+/// Refuses each growth of listing the columns in turn. Returns whether the last call met no
+/// refusal, and the first one did.
 fn columns_in_turn<R: Abort>(
     rt: &R,
     heap: &Refusing<Global>,

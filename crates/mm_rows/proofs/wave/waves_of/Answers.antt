@@ -13,21 +13,27 @@ loop-theorem_index-init g c = record {
 
 pub wave_of_theorem-wave-requires-clause-within : goal.wave_of_theorem-wave-requires-clause-within
 wave_of_theorem-wave-requires-clause-within g c =
-    let t = c.loop-theorem_index-test.true in let n = c.rows-theorem_index-end.ensures.rows in omega (arith, t, n)
+    let t = c.loop-theorem_index-test.true in
+    let n = c.rows-theorem_index-end.ensures.rows in omega (arith, t, n)
 
 pub wave_of_theorem-wave-requires-clause-waves : goal.wave_of_theorem-wave-requires-clause-waves
 wave_of_theorem-wave-requires-clause-waves g c =
-    subst (AreWaves c.args.citations.now c.loop-theorem_index.theorem_index) (sym c.deref.ensures.value)
+    subst (AreWaves c.args.citations.now c.loop-theorem_index.theorem_index)
+    (sym c.deref.ensures.value)
     c.loop-theorem_index.invariant.waves
 
 pub loop-theorem_index-preserved : goal.loop-theorem_index-preserved
 loop-theorem_index-preserved g c = record {
   within =
-      (let t = c.loop-theorem_index-test.true in let n = c.rows-theorem_index-end.ensures.rows in omega (arith, t, n));
+      (let t = c.loop-theorem_index-test.true in let n = c.rows-theorem_index-end.ensures.rows in
+      omega (arith, t, n));
   waves =
-      subst (AreWaves c.args.citations.now (c.loop-theorem_index.theorem_index + 1)) (sym c.in_ok-push.ensures.items)
-      (waves_more c.args.citations.now c.loop-theorem_index.theorem_index c.wave_of_theorem-wave.result c.loop-theorem_index.waves.items
-      c.loop-theorem_index.invariant.waves c.wave_of_theorem-wave.ensures.wave c.wave_of_theorem-wave.ensures.small);
+      subst (AreWaves c.args.citations.now (c.loop-theorem_index.theorem_index + 1))
+      (sym c.in_ok-push.ensures.items)
+      (waves_more c.args.citations.now c.loop-theorem_index.theorem_index
+      c.wave_of_theorem-wave.result c.loop-theorem_index.waves.items
+      c.loop-theorem_index.invariant.waves c.wave_of_theorem-wave.ensures.wave
+      c.wave_of_theorem-wave.ensures.small);
 }
 
 pub returns : goal.returns
@@ -35,6 +41,7 @@ returns g c =
     let t = c.loop-theorem_index-test.false in
     let n = c.rows-theorem_index-end.ensures.rows in
     let w = c.loop-theorem_index.invariant.within in
-    let all : c.loop-theorem_index.theorem_index ≡ length c.args.citations.now.theorems = omega (arith, t, n, w) in
+    let all : c.loop-theorem_index.theorem_index ≡ length c.args.citations.now.theorems =
+    omega (arith, t, n, w) in
     subst (λ k. AreWaves c.args.citations.now k c.loop-theorem_index.waves.items) all
     c.loop-theorem_index.invariant.waves
