@@ -114,7 +114,7 @@ fn wave_end(waves: &[u32], rows: &[u32], from: usize) -> usize
 fn store(bits: &mut [u64], width: usize, row_index: u32, row: &[u64])
     requires fits { row_index * width + width ≤ length bits.old }
     requires words { length row.now ≡ width }
-    ensures here { row_at bits.new width row_index ≡ row.now }
+    ensures written { row_at bits.new width row_index ≡ row.now }
     ensures others { (r : ℕ) → (r ≡ row_index → ⊥)
         → row_at bits.new width r ≡ row_at bits.old width r }
 {
