@@ -98,7 +98,7 @@ ends_if_asked OutTooShort call of request text lengths out asks wrote = (request
 ends_if_asked RoomTooSmall call of request text lengths out asks wrote = (request, asks, wrote)
 ends_if_asked NoSuchRequest call of request text lengths out asks wrote = absurd wrote
 
--- the call asks for none
+-- a call that asks for no request ends with the status that says why, and writes nothing
 pub ends_if_refused : (status : Status) (call : Call) (of : Request → List Request)
     (text lengths out : List ℕ) → Refuses status call → sum lengths ≡ 0
     → CallEnds status call of text lengths out

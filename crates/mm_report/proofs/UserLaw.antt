@@ -18,7 +18,7 @@ use Rattle.mm_rows.specs.Marks.{Marks, mark, IsAbove, first_after}
 use Rattle.mm_report.specs.Rows.{row_of, after_label}
 use Rattle.mm_report.proofs.SentLaw.{range_append}
 
--- all are selected
+-- if the test passes for all items, all are selected
 filter_all : {X : Type 0} (p : X → Bool) (f : ℕ → X) (a n : ℕ)
     → ((k : ℕ) → a ≤ k → k < a + n → p (f k) ≡ true)
     → filter p (map f (range_with_len a n)) ≡ map f (range_with_len a n)
@@ -28,7 +28,7 @@ filter_all {X} p f a (suc n) h =
     ap (λ (b : Bool). cond b (f a ∷ rest) rest) (h a (omega arith) (omega arith))
     ∙ ap (λ z. f a ∷ z) (filter_all p f (a + 1) n (λ k lo hi. h k (omega arith) (omega arith)))
 
--- none is
+-- if the test passes for no item, none is selected
 filter_none : {X : Type 0} (p : X → Bool) (f : ℕ → X) (a n : ℕ)
     → ((k : ℕ) → a ≤ k → k < a + n → p (f k) ≡ false) → filter p (map f (range_with_len a n)) ≡ []
 filter_none p f a zero h = refl
