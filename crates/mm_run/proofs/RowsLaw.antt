@@ -81,7 +81,7 @@ module _ (db : List Statement) (request : Request) (c : Citing) (m : Marks)
       (omega arith)))
       (get_or-map (label_at db) (theorems db) i 0 [] l, marks_zip i l))
 
--- the report of rows is that of a choice other than the citations
+-- for a choice other than the citations, the report is that of the rows
 is_report_of_rows : (db : List Statement) (opened : Option ℕ) (request : Request) (choice : Choice)
     → (rows : List Row)
     → (choice ≡ Citations → ⊥) → AllZip (IsRowOf db request) (theorems db) rows
@@ -93,7 +93,7 @@ is_report_of_rows db opened request Counts rows other h = (rows, h, refl)
 is_report_of_rows db opened request Usage rows other h = (rows, h, refl)
 is_report_of_rows db opened request Citations rows other h = absurd (other refl)
 
--- what is written of a database without a fault
+-- from the marks of the chains of citations, the report is that of the definitions
 pub is_report : (request : Request) (db : List Statement) (opened : Option ℕ) (c : Citing)
     → (axioms : List ℕ) (m : Marks)
     → AllCited db request.essential c → axioms ≡ columns db request.only → IsMatrix c axioms m
@@ -110,7 +110,7 @@ is_report request db opened c axioms m cited is is_matrix other =
     subst (λ (l : List ℕ). IsReportOf request.choice db opened request
     (report request opened (map (label_at db) l) rows)) (sym is) of_rows
 
--- the report of a table is the output of the text
+-- the report of a database's marks is the output of its text
 pub table_is_output : (request : Request) (d : Contents) (c : Citing) (axioms : List ℕ)
     → (m : Marks) → IsJudged request.essential request.with_open d c → axioms
     ≡ columns d.statements request.only
