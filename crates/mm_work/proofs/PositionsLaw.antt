@@ -33,13 +33,13 @@ others_unchanged (y ∷ xs) (suc i) (suc j) x n = others_unchanged xs i j x (λ 
 pub same_worker : (old new : List ListPosition) (worker : ℕ) (valid : List ℕ) (i : ℕ)
     → slice_get new i ≡ slice_get old i → IsWithWorker old worker valid i
     → IsWithWorker new worker valid i
-same_worker old new worker valid i e is_noted =
+same_worker old new worker valid i e with_worker =
     record {
-      position = is_noted.position;
-      position_is = e ∙ is_noted.position_is;
-      worker_is = is_noted.worker_is;
-      within = is_noted.within;
-      index_is = is_noted.index_is;
+      position = with_worker.position;
+      position_is = e ∙ with_worker.position_is;
+      worker_is = with_worker.worker_is;
+      within = with_worker.within;
+      index_is = with_worker.index_is;
     }
 
 module _ (first old : List ListPosition) (worker : ℕ) (valid : List ℕ) (k x : ℕ)
@@ -94,7 +94,8 @@ module _ (first old : List ListPosition) (worker : ℕ) (valid : List ℕ) (k x 
           by_old (inr e) = inr (others_unchanged old x i position n ∙ e)
 
 module _ {A : Type 0} (fs : List (Findings A)) where
-  -- after the positions of worker w were set, all that workers up to w found valid has a position
+  -- after the positions of worker w were set, everything that the workers up to w found
+  -- valid has a position
   pub has_position_more : (old new : List ListPosition) (w : ℕ) (one : Findings A)
       → slice_get fs w ≡ Some one
       → ((i : ℕ) → Contains one.valid.items i → IsWithWorker new w one.valid.items i)
