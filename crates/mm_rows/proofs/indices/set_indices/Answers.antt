@@ -1,7 +1,7 @@
 use Rattle.std.proofs.Common.{refl, arith, ◌∙◌}
 use Rattle.std.proofs.lemmas.List.{length-set}
 use Rattle.mm_rows.proofs.IndicesLaw.{indices_none, indices_more}
-use Rattle.mm_rows.proofs.indices.note_indices.Goals as goal
+use Rattle.mm_rows.proofs.indices.set_indices.Goals as goal
 
 pub loop-index-init : goal.loop-index-init
 loop-index-init c = (refl, indices_none c.args.statements.now c.args.indices.now c.requires.none)

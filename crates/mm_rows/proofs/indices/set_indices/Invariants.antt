@@ -1,6 +1,6 @@
 use Rattle.std.proofs.Common.{◌≡◌, length}
 use Rattle.mm_rows.specs.Indices.{AreIndicesOf}
-use Rattle.mm_rows.proofs.indices.note_indices.Given as goal
+use Rattle.mm_rows.proofs.indices.set_indices.Given as goal
 
 abbrev pub invariant-loop-index : goal.invariant-loop-index
 invariant-loop-index l =
