@@ -37,8 +37,8 @@ returns-clause-others g c = λ r ne.
     ∙ row_there before c.fill_row.new.row rest width i r long c.fill_row.ensures.words ne
     ∙ ap (λ (xs : List ℕ). row_at xs width r) (sym c.split_at_mut-before.ensures.value)
 
-pub overflow_mul-i : goal.overflow_mul-i
-overflow_mul-i g c =
+pub overflow_mul-theorem_index : goal.overflow_mul-theorem_index
+overflow_mul-theorem_index g c =
     let e = ap (λ w. c.args.theorem_index * w) c.words-width.ensures in
     let f = c.requires.fits in
     omega (arith, e, f)
