@@ -157,7 +157,7 @@ module _ (test : Statement → Bool) (db : List Statement) where
       → IsWalked k (xs ++ last ∷ []) next
   walked_next k xs last next few is_walked ne is_latest = record {
     found =
-        λ n. let f = is_latest.found n in let l = here.0 in (
+        λ n. let f = is_latest.found n in let l = last_is_staying.0 in (
           (let a = f.0 in omega (arith, a, l)),
           on_nested next last k f.0 (omega (arith, l)) here.1
               ∙ f.1,
@@ -193,12 +193,12 @@ module _ (test : Statement → Bool) (db : List Statement) where
               → (next ≢ never) × (i ≤ next)
           by_presence i_lt_last (inl n) b =
               absurd (true≢false
-              (sym (on_earlier i last k (omega arith) (let l = here.0 in omega (arith, l))
+              (sym (on_earlier i last k (omega arith) (let l = last_is_staying.0 in omega (arith, l))
               staying_at_k)
               ∙ is_latest.after i i_lt_last (inr n)))
           by_presence i_lt_last (inr n) (inl l) =
               absurd (true≢false
-              (sym (on_earlier i last k (omega arith) (let l = here.0 in omega (arith, l))
+              (sym (on_earlier i last k (omega arith) (let l = last_is_staying.0 in omega (arith, l))
               staying_at_k)
               ∙ is_latest.after i i_lt_last (inl l)))
           by_presence i_lt_last (inr n) (inr l) = (n, l)
