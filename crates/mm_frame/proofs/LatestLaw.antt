@@ -159,7 +159,7 @@ module _ (test : Statement → Bool) (db : List Statement) where
     found =
         λ n. let f = is_latest.found n in let l = last_is_staying.0 in (
           (let a = f.0 in omega (arith, a, l)),
-          on_nested next last k f.0 (omega (arith, l)) here.1
+          on_nested next last k f.0 (omega (arith, l)) last_is_staying.1
               ∙ f.1,
         );
     only = λ i e. only i e;
