@@ -16,19 +16,24 @@ const UNENDED: &[u8] = b"$c a";
 
 const UNENDED_REFUSAL: &[u8] = b"refused 1:5 E08\n";
 
+/// How many pieces the text is cut into, and how many workers a run has.
+const PIECES: u32 = 3;
+
+const WORKERS: u32 = 2;
+
 /// How many calls it takes to read the first text to its end.
 const READS: usize = 18;
 
-/// Whether a run on the first text, whose reader fails at that call, has this end, writes this
-/// output, and calls the reader that often.
-fn reads<R: Threads + Wait + Sync>(
+/// Whether a run on the first text has the end, the output and the number of reader calls in
+/// `want`. The reader fails at the call of the number `fails_at`.
+fn failed_run_is<R: Threads + Wait + Sync>(
     rt: &R,
     alloc: Global,
     fails_at: usize,
     kind: ErrorKind,
     want: (RunEnd, &[u8], usize),
 ) -> bool {
-    let plan = plan_of(Cutting::Count(3), 2, Choice::All);
+    let plan = plan_of(Cutting::Count(PIECES), WORKERS, Choice::All);
     let mut written = Vec::new(alloc);
     let mut from = FailingReader {
         text: FIRST_TEXT,
@@ -51,16 +56,16 @@ fn a_read_that_fails_is_not_tried_again(rt: HostRuntime) {
     ] {
         for fails_at in 1..READS + 1 {
             let want = (RunEnd::ReadFailed, b"".as_slice(), fails_at);
-            assert!(&rt; reads(&rt, rt.alloc(), fails_at, kind, want));
+            assert!(&rt; failed_run_is(&rt, rt.alloc(), fails_at, kind, want));
         }
         let want = (RunEnd::Accepted, FIRST_REPORT, READS);
-        assert!(&rt; reads(&rt, rt.alloc(), READS + 1, kind, want));
+        assert!(&rt; failed_run_is(&rt, rt.alloc(), READS + 1, kind, want));
     }
 }
 
-/// Whether a run on the text, whose writer takes that many bytes before a call that takes none, has
-/// this end, writes this output, and calls the writer that often.
-fn writes<R: Threads + Wait + Sync>(
+/// Whether a run on the text has the end, the output and the number of writer calls in `want`. The
+/// writer takes `room` bytes before the first call that takes none.
+fn stopped_run_is<R: Threads + Wait + Sync>(
     rt: &R,
     alloc: Global,
     mut text: &[u8],
@@ -68,7 +73,7 @@ fn writes<R: Threads + Wait + Sync>(
     stop: Stop,
     want: (RunEnd, &[u8], usize),
 ) -> bool {
-    let plan = plan_of(Cutting::Count(3), 2, Choice::All);
+    let plan = plan_of(Cutting::Count(PIECES), WORKERS, Choice::All);
     let mut to = StoppingWriter {
         taken: Vec::new(alloc),
         room,
@@ -89,11 +94,11 @@ fn a_write_that_fails_is_not_tried_again(rt: HostRuntime) {
     ] {
         for room in 0..FIRST_REPORT.len() {
             let want = (RunEnd::WriteFailed, &FIRST_REPORT[..room], room + 1);
-            assert!(&rt; writes(&rt, rt.alloc(), FIRST_TEXT, room, stop, want));
+            assert!(&rt; stopped_run_is(&rt, rt.alloc(), FIRST_TEXT, room, stop, want));
         }
         for room in 0..UNENDED_REFUSAL.len() {
             let want = (RunEnd::WriteFailed, &UNENDED_REFUSAL[..room], room + 1);
-            assert!(&rt; writes(&rt, rt.alloc(), UNENDED, room, stop, want));
+            assert!(&rt; stopped_run_is(&rt, rt.alloc(), UNENDED, room, stop, want));
         }
     }
 }
@@ -103,5 +108,5 @@ fn a_writer_that_takes_one_byte_a_call_has_the_whole(rt: HostRuntime) {
     let stop = Stop::TakesNothing;
     let room = FIRST_REPORT.len();
     let want = (RunEnd::Accepted, FIRST_REPORT, room);
-    assert!(&rt; writes(&rt, rt.alloc(), FIRST_TEXT, room, stop, want));
+    assert!(&rt; stopped_run_is(&rt, rt.alloc(), FIRST_TEXT, room, stop, want));
 }

@@ -29,7 +29,7 @@ fn run_on<R: Threads + Wait + Sync>(
 }
 
 /// The end of a run on a text with this fault at this place.
-fn refused(at: usize, code: Code) -> RunEnd {
+fn refused_at(at: usize, code: Code) -> RunEnd {
     RunEnd::Refused(Fault {
         at: at.min(1000) as u32,
         code,
@@ -43,8 +43,8 @@ fn end_of(beginning: &[u8]) -> RunEnd {
         return RunEnd::Accepted;
     }
     match beginning.last() {
-        Some(b'$') => refused(len.saturating_sub(1), Code::StrayDollar),
-        _ => refused(len, Code::OpenStatement),
+        Some(b'$') => refused_at(len.saturating_sub(1), Code::StrayDollar),
+        _ => refused_at(len, Code::OpenStatement),
     }
 }
 
@@ -74,7 +74,7 @@ fn refusals_of_texts_that_are_cut_short(rt: HostRuntime) {
 }
 
 /// These bytes, the given number of spaces, and a byte that no text may have.
-fn spaced(alloc: Global, front: &[u8], spaces: u32) -> Result<Vec<u8>, AllocError> {
+fn with_bad_byte(alloc: Global, front: &[u8], spaces: u32) -> Result<Vec<u8>, AllocError> {
     let mut text = front.to_vec(alloc)?;
     for _ in 0..spaces {
         text.push(b' ')?;
@@ -83,16 +83,16 @@ fn spaced(alloc: Global, front: &[u8], spaces: u32) -> Result<Vec<u8>, AllocErro
     Ok(text)
 }
 
-/// Asserts that a bad byte after the given number of spaces is refused at its place, with cuts
-/// before and after it.
-fn bad_byte_at<R: Threads + Wait + Sync>(
+/// Whether a bad byte after the given number of spaces is refused at its place, with cuts before
+/// and after it.
+fn is_bad_byte_refused<R: Threads + Wait + Sync>(
     rt: &R,
     alloc: Global,
     front: &[u8],
     spaces: u32,
     place: u32,
 ) -> Result<bool, AllocError> {
-    let text = spaced(alloc, front, spaces)?;
+    let text = with_bad_byte(alloc, front, spaces)?;
     let cuts = vec![in alloc; place, place.saturating_add(1)]?;
     let (end, written) = run_on(rt, alloc, Cutting::Places(cuts), &text);
     let line = format!(in alloc; "refused 1:{} E01\n", place.saturating_add(1))?;
@@ -106,8 +106,8 @@ fn bad_byte_at<R: Threads + Wait + Sync>(
 #[test]
 fn a_bad_byte_after_spaces(rt: HostRuntime) -> Result<(), AllocError> {
     for spaces in 0..130u32 {
-        assert!(&rt; bad_byte_at(&rt, rt.alloc(), b"", spaces, spaces)?);
-        assert!(&rt; bad_byte_at(&rt, rt.alloc(), b"$( ", spaces, spaces + 3)?);
+        assert!(&rt; is_bad_byte_refused(&rt, rt.alloc(), b"", spaces, spaces)?);
+        assert!(&rt; is_bad_byte_refused(&rt, rt.alloc(), b"$( ", spaces, spaces + 3)?);
     }
     Ok(())
 }

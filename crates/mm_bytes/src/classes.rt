@@ -66,24 +66,24 @@ fn padded(bytes: &[u8]) -> [u8; 64]
 /// Whether a byte is white space: tab, line feed, form feed, carriage return or space.
 #[tactic(auto, unfolding(mm_spec::specs::Bytes::is_white))]
 #[inline(always)]
-pub fn is_white(b: u8) -> bool
-    ensures { result ≡ is_white b }
+pub fn is_white(byte: u8) -> bool
+    ensures { result ≡ is_white byte }
 {
-    matches!(b, b'\t' | b'\n' | 0x0C | b'\r' | b' ')
+    matches!(byte, b'\t' | b'\n' | 0x0C | b'\r' | b' ')
 }
 
 /// Whether a byte is printable and no space: `!` to `~`.
 #[tactic(auto, unfolding(mm_spec::specs::Bytes::is_printable))]
 #[inline(always)]
-pub fn is_printable(b: u8) -> bool
-    ensures { result ≡ is_printable b }
+pub fn is_printable(byte: u8) -> bool
+    ensures { result ≡ is_printable byte }
 {
-    matches!(b, b'!'..=b'~')
+    matches!(byte, b'!'..=b'~')
 }
 
 #[tactic(auto, unfolding(crate::specs::Masks::is_bad))]
-pub(crate) fn is_bad(b: u8) -> bool
-    ensures { result ≡ is_bad b }
+pub(crate) fn is_bad(byte: u8) -> bool
+    ensures { result ≡ is_bad byte }
 {
-    !is_white(b) && !is_printable(b)
+    !is_white(byte) && !is_printable(byte)
 }

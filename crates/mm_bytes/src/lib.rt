@@ -6,12 +6,12 @@
 
 mod classes;
 mod lanes;
-mod runs;
+mod slices;
 
 pub use classes::{
     Classes, class_block, class_tail, dollars_block, dollars_tail, is_printable, is_white,
 };
-pub use runs::{count_lf, first_bad};
+pub use slices::{count_lf, first_bad};
 
 #[cfg(test)]
 mod tests;

@@ -72,7 +72,7 @@ flag_front : (ws us vs : List Bool) (n : ℕ) → n < length ws
 flag_front ws us vs n h =
     get_or_append_left ws us false n h ∙ sym (get_or_append_left ws vs false n h)
 
--- what is wanted stays so
+-- a flag that is set stays set
 step_flags_stay : (b : Bool) (s : Step) (step_flags : List Bool) (k : ℕ) → flag_at step_flags k
     ≡ true
     → flag_at (step_flags_after b s step_flags) k ≡ true
@@ -81,39 +81,43 @@ step_flags_stay false (marked j) step_flags k e = e
 step_flags_stay true (marked j) step_flags k e = by_order (k == j) refl
     (cases_lt k (length step_flags))
   where
-    by_order : (q : Bool) → (k == j) ≡ q → (k < length step_flags) ⊎ (length step_flags ≤ k)
+    by_order : (are_equal : Bool) → (k == j) ≡ are_equal
+        → (k < length step_flags) ⊎ (length step_flags ≤ k)
         → flag_at (step_flags_after true (marked j) step_flags) k ≡ true
-    by_order true q (inl h) =
-        let same = eqb-true k j q in
+    by_order true equality (inl h) =
+        let same = eqb-true k j equality in
         subst (λ n. get_or (step_flags_after true (marked j) step_flags) n false ≡ true) (sym same)
         (get_or-set_same step_flags j true false (subst (λ n. n < length step_flags) same h))
-    by_order true q (inr h) = absurd (true≢false (sym e ∙ past step_flags k h))
+    by_order true equality (inr h) =
+        absurd (true≢false (sym e ∙ no_flag_past_the_end step_flags k h))
       where
-        past : (ws : List Bool) (k : ℕ) → length ws ≤ k → flag_at ws k ≡ false
-        past [] zero h = refl
-        past [] (suc k) h = refl
-        past (w ∷ ws) zero h = absurd (omega (arith, h))
-        past (w ∷ ws) (suc k) h = past ws k (omega (arith, h))
-    by_order false q h = get_or-set_other step_flags j k true false (eqb-false k j q) ∙ e
+        no_flag_past_the_end : (ws : List Bool) (k : ℕ) → length ws ≤ k → flag_at ws k ≡ false
+        no_flag_past_the_end [] zero h = refl
+        no_flag_past_the_end [] (suc k) h = refl
+        no_flag_past_the_end (w ∷ ws) zero h = absurd (omega (arith, h))
+        no_flag_past_the_end (w ∷ ws) (suc k) h = no_flag_past_the_end ws k (omega (arith, h))
+    by_order false equality h =
+        get_or-set_other step_flags j k true false (eqb-false k j equality) ∙ e
 
--- a step of a mark makes the earlier one wanted, if it is essential itself
+-- a step that repeats a marked step sets the flag of that step, if its own entry is essential
 repeated_step_has_flag : (j : ℕ) (step_flags : List Bool) → j < length step_flags → (b : Bool) → b
     ≡ true
     → flag_at (step_flags_after b (marked j) step_flags) j ≡ true
 repeated_step_has_flag j step_flags h true e = get_or-set_same step_flags j true false h
 repeated_step_has_flag j step_flags h false e = absurd (true≢false (sym e))
 
--- and no other
+-- and it sets no other flag
 no_other_step_gets_flag : (j : ℕ) (step_flags : List Bool) (b : Bool) (k : ℕ)
     → flag_at (step_flags_after b (marked j) step_flags) k ≡ true
     → (flag_at step_flags k ≡ true) ⊎ ((k ≡ j) × (b ≡ true))
 no_other_step_gets_flag j step_flags false k e = inl e
 no_other_step_gets_flag j step_flags true k e = by_equality (k == j) refl
   where
-    by_equality : (q : Bool) → (k == j) ≡ q → (flag_at step_flags k ≡ true)
+    by_equality : (are_equal : Bool) → (k == j) ≡ are_equal → (flag_at step_flags k ≡ true)
         ⊎ ((k ≡ j) × (true ≡ true))
-    by_equality true q = inr (eqb-true k j q, refl)
-    by_equality false q = inl (sym (get_or-set_other step_flags j k true false (eqb-false k j q))
+    by_equality true equality = inr (eqb-true k j equality, refl)
+    by_equality false equality =
+        inl (sym (get_or-set_other step_flags j k true false (eqb-false k j equality))
         ∙ e)
 
 pub step_flags_count : (b : Bool) (s : Step) (step_flags : List Bool)
@@ -206,74 +210,74 @@ module _ (counts : ℕ → ℕ → Bool) (at : ℕ → Trees) where
         (before : at i ≡ ts ⧺ cs) (count : length ws ≡ tree_count ts) (vs : List Bool)
         (from : (n : ℕ) → flag_at vs n ≡ true → (b ≡ true) × (counts l n ≡ true))
         (to : (n : ℕ) → n < tree_count cs → b ≡ true → counts l n ≡ true → flag_at vs n ≡ true)
-        where
-      flag_after : (n : ℕ) → flag_at (ws ++ vs) (tree_count ts + n) ≡ flag_at vs n
-      flag_after n = ap (λ k. flag_at (ws ++ vs) (k + n)) (sym count)
-          ∙ get_or-append-add ws vs n false
+      where
+        flag_after : (n : ℕ) → flag_at (ws ++ vs) (tree_count ts + n) ≡ flag_at vs n
+        flag_after n = ap (λ k. flag_at (ws ++ vs) (k + n)) (sym count)
+            ∙ get_or-append-add ws vs n false
 
-      old_places : (us xs : List Bool) → HasNode counts (flag_at (ws ++ us)) ts a
-          → HasNode counts (flag_at (ws ++ xs)) ts a
-      old_places us xs h =
-          other_places counts (flag_at (ws ++ us)) (flag_at (ws ++ xs)) ts a
-          (λ n k e. sym (flag_front ws us xs n (omega (arith, k, count))) ∙ e) h
+        old_places : (us xs : List Bool) → HasNode counts (flag_at (ws ++ us)) ts a
+            → HasNode counts (flag_at (ws ++ xs)) ts a
+        old_places us xs h =
+            other_places counts (flag_at (ws ++ us)) (flag_at (ws ++ xs)) ts a
+            (λ n k e. sym (flag_front ws us xs n (omega (arith, k, count))) ∙ e) h
 
-      in_row : HasNode counts (flag_at (ws ++ vs)) (ts ⧺ cs) a
-          → IsToBeFound i (ws ++ vs) step_flags a
-      in_row h = inl (subst (λ t. HasNode counts (flag_at (ws ++ vs)) t a) (sym before) h)
+        in_row : HasNode counts (flag_at (ws ++ vs)) (ts ⧺ cs) a
+            → IsToBeFound i (ws ++ vs) step_flags a
+        in_row h = inl (subst (λ t. HasNode counts (flag_at (ws ++ vs)) t a) (sym before) h)
 
-      node_down : b ≡ true → (a ≡ l) ⊎ HasNode counts (counts l) cs a
-          → ((b ≡ true) × (a ≡ l)) ⊎ IsToBeFound i (ws ++ vs) step_flags a
-      node_down e (inl h) = inl (e, h)
-      node_down e (inr h) =
-          inr (in_row
-          (join_right counts (flag_at (ws ++ vs)) ts cs a
-          (other_places counts (counts l) (λ n. flag_at (ws ++ vs) (tree_count ts + n)) cs a
-          (λ n k p. flag_after n ∙ to n k e p) h)))
+        node_down : b ≡ true → (a ≡ l) ⊎ HasNode counts (counts l) cs a
+            → ((b ≡ true) × (a ≡ l)) ⊎ IsToBeFound i (ws ++ vs) step_flags a
+        node_down e (inl h) = inl (e, h)
+        node_down e (inr h) =
+            inr (in_row
+            (join_right counts (flag_at (ws ++ vs)) ts cs a
+            (other_places counts (counts l) (λ n. flag_at (ws ++ vs) (tree_count ts + n)) cs a
+            (λ n k p. flag_after n ∙ to n k e p) h)))
 
-      label_down : IsToBeFound (suc i) (ws ++ flag ∷ []) step_flags a
-          → ((b ≡ true) × (a ≡ l)) ⊎ IsToBeFound i (ws ++ vs) step_flags a
-      label_down (inl h) =
-          by_root (subst (λ t. HasNode counts (flag_at (ws ++ flag ∷ [])) t a) here h)
-        where
-          by_root : HasNode counts (flag_at (ws ++ flag ∷ [])) (more ts l f cs) a
-              → ((b ≡ true) × (a ≡ l)) ⊎ IsToBeFound i (ws ++ vs) step_flags a
-          by_root (inl k) =
-              inr (in_row
-              (join_left counts (flag_at (ws ++ vs)) ts cs a (old_places (flag ∷ []) vs k)))
-          by_root (inr k) = node_down (by_flag (sym (last_flag (tree_count ts) count) ∙ k.0)) k.1
-      label_down (inr h) = by_step (repeated_step_cases ts l f cs here h)
-        where
-          by_step : ((b ≡ true) × ((a ≡ l) ⊎ HasNode counts (counts l) cs a))
-              ⊎ IsOfRepeatedStep i step_flags a
-              → ((b ≡ true) × (a ≡ l)) ⊎ IsToBeFound i (ws ++ vs) step_flags a
-          by_step (inl k) = node_down k.0 k.1
-          by_step (inr k) = inr (inr k)
+        label_down : IsToBeFound (suc i) (ws ++ flag ∷ []) step_flags a
+            → ((b ≡ true) × (a ≡ l)) ⊎ IsToBeFound i (ws ++ vs) step_flags a
+        label_down (inl h) =
+            by_root (subst (λ t. HasNode counts (flag_at (ws ++ flag ∷ [])) t a) here h)
+          where
+            by_root : HasNode counts (flag_at (ws ++ flag ∷ [])) (more ts l f cs) a
+                → ((b ≡ true) × (a ≡ l)) ⊎ IsToBeFound i (ws ++ vs) step_flags a
+            by_root (inl k) =
+                inr (in_row
+                (join_left counts (flag_at (ws ++ vs)) ts cs a (old_places (flag ∷ []) vs k)))
+            by_root (inr k) = node_down (by_flag (sym (last_flag (tree_count ts) count) ∙ k.0)) k.1
+        label_down (inr h) = by_step (repeated_step_cases ts l f cs here h)
+          where
+            by_step : ((b ≡ true) × ((a ≡ l) ⊎ HasNode counts (counts l) cs a))
+                ⊎ IsOfRepeatedStep i step_flags a
+                → ((b ≡ true) × (a ≡ l)) ⊎ IsToBeFound i (ws ++ vs) step_flags a
+            by_step (inl k) = node_down k.0 k.1
+            by_step (inr k) = inr (inr k)
 
-      label_up : ((b ≡ true) × (a ≡ l)) ⊎ IsToBeFound i (ws ++ vs) step_flags a
-          → IsToBeFound (suc i) (ws ++ flag ∷ []) step_flags a
-      label_up (inl h) = found ts l f cs here count h.0 (inl h.1)
-      label_up (inr (inl h)) =
-          by_part (join_parts counts (flag_at (ws ++ vs)) ts cs a
-          (subst (λ t. HasNode counts (flag_at (ws ++ vs)) t a) before h))
-        where
-          by_part : HasNode counts (flag_at (ws ++ vs)) ts a
-              ⊎ HasNode counts (λ n. flag_at (ws ++ vs) (tree_count ts + n)) cs a
-              → IsToBeFound (suc i) (ws ++ flag ∷ []) step_flags a
-          by_part (inl k) =
-              inl (subst (λ t. HasNode counts (flag_at (ws ++ flag ∷ [])) t a) (sym here)
-              (inl (old_places vs (flag ∷ []) k)))
-          by_part (inr k) =
-              let p = some_place counts (λ n. flag_at (ws ++ vs) (tree_count ts + n)) cs a k in
-              let e = (from p.0 (sym (flag_after p.0) ∙ p.1)).0 in
-              found ts l f cs here count e
-              (inr (other_places counts (λ n. flag_at (ws ++ vs) (tree_count ts + n))
-              (counts l) cs a
-              (λ n u q. (from n (sym (flag_after n) ∙ q)).1) k))
-      label_up (inr (inr h)) = inr (repeated_earlier h)
+        label_up : ((b ≡ true) × (a ≡ l)) ⊎ IsToBeFound i (ws ++ vs) step_flags a
+            → IsToBeFound (suc i) (ws ++ flag ∷ []) step_flags a
+        label_up (inl h) = found ts l f cs here count h.0 (inl h.1)
+        label_up (inr (inl h)) =
+            by_part (join_parts counts (flag_at (ws ++ vs)) ts cs a
+            (subst (λ t. HasNode counts (flag_at (ws ++ vs)) t a) before h))
+          where
+            by_part : HasNode counts (flag_at (ws ++ vs)) ts a
+                ⊎ HasNode counts (λ n. flag_at (ws ++ vs) (tree_count ts + n)) cs a
+                → IsToBeFound (suc i) (ws ++ flag ∷ []) step_flags a
+            by_part (inl k) =
+                inl (subst (λ t. HasNode counts (flag_at (ws ++ flag ∷ [])) t a) (sym here)
+                (inl (old_places vs (flag ∷ []) k)))
+            by_part (inr k) =
+                let p = some_place counts (λ n. flag_at (ws ++ vs) (tree_count ts + n)) cs a k in
+                let e = (from p.0 (sym (flag_after p.0) ∙ p.1)).0 in
+                found ts l f cs here count e
+                (inr (other_places counts (λ n. flag_at (ws ++ vs) (tree_count ts + n))
+                (counts l) cs a
+                (λ n u q. (from n (sym (flag_after n) ∙ q)).1) k))
+        label_up (inr (inr h)) = inr (repeated_earlier h)
 
-      pub label_back : IsToBeFound (suc i) (ws ++ flag ∷ []) step_flags a
-          ↔ (((b ≡ true) × (a ≡ l)) ⊎ IsToBeFound i (ws ++ vs) step_flags a)
-      label_back = (label_down, label_up)
+        pub label_back : IsToBeFound (suc i) (ws ++ flag ∷ []) step_flags a
+            ↔ (((b ≡ true) × (a ≡ l)) ⊎ IsToBeFound i (ws ++ vs) step_flags a)
+        label_back = (label_down, label_up)
 
     -- the step of a mark, whose entry goes
     module _ (j l : ℕ) (f : Formula) (cs : Trees) (earlier : j < i)

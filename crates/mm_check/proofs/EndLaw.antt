@@ -17,7 +17,7 @@ use Rattle.mm_spec.specs.Valid.{Derives, ProofEndFault, IsEndCode}
 use Rattle.mm_spec.specs.Frame.{formula_at}
 use Rattle.mm_spec.specs.Citation.{context_at, is_theorem, IsProof, Cites}
 use Rattle.mm_spec.proofs.FindsLaw.{inside_of}
-use Rattle.mm_database.specs.Database.{last_place}
+use Rattle.mm_database.specs.Database.{end_at}
 use Rattle.mm_rules.specs.Rules.{RuleLists}
 use Rattle.mm_machine.specs.DisjointCache.{AreDisjointAt}
 use Rattle.mm_machine.specs.State.{MachineState, machine_state}
@@ -88,7 +88,7 @@ module _ (db : List Statement) (t : ℕ) (steps : List PlacedStep) where
         exact = λ a. subst (λ b. Decides b (Cites db essential t a)) (sym (same a)) (exact a);
       }
 
-    pub ends_here : (at : ℕ) (code : Code) → option_map last_place (slice_get db t) ≡ Some at
+    pub ends_here : (at : ℕ) (code : Code) → option_map end_at (slice_get db t) ≡ Some at
         → IsEndCode (context_at db t) c.machine.stack (formula_at db t) code
         → ProofFault db t (proof_end (slice_get db t)) (fault at code)
     ends_here at code last is_end_code =

@@ -21,7 +21,8 @@ use Rattle.mm_check.specs.Contract.{IsReady, StepRefuses, refusal_at}
 use Rattle.mm_check.specs.Checker.{CheckerState, checker_state, IsAtTheorem, HasPerformed, Performs}
 use Rattle.mm_check.specs.Checker.{IsStepRefusal}
 use Rattle.mm_check.specs.Reached.{IsReached, HasRun, AreEndFormulas, steps_of}
-use Rattle.mm_check.proofs.ReachLaw.{no_step_reached, next, take_step, step_at_is_good}
+use Rattle.mm_check.proofs.ReachLaw.{no_step_reached, reached_after_step, take_step}
+use Rattle.mm_check.proofs.ReachLaw.{step_at_is_good}
 use Rattle.mm_check.proofs.ReachLaw.{failing_step_refuses}
 
 get_front : (ends more : List Formula) (j : ℕ) (f : Formula) → slice_get ends j ≡ Some f
@@ -122,7 +123,8 @@ module _ (db : List Statement) (t : ℕ) (steps : List PlacedStep) (i : ℕ) (c 
       reached : IsReached db t (steps_of (take (i + 1) steps)) d.machine.stack ends d.noted
       reached =
           rw (take_step steps i inside, ← is)
-          (next db t (steps_of (take i steps)) c.machine.stack p.ran.ends c.noted a d.machine.stack
+          (reached_after_step db t (steps_of (take i steps)) c.machine.stack p.ran.ends c.noted a
+          d.machine.stack
           d.noted p.ran.reached good_step (entries_are.entries_are p.ran.ends p.ran.agree)
           entries_are.noted)
 
@@ -154,13 +156,13 @@ module _ (db : List Statement) (t : ℕ) (steps : List PlacedStep) (i : ℕ) (c 
         reached = reached;
         agree = agree;
         before = before;
-        present = λ j l m. at j m l (cases_lt j i);
+        present = λ j l m. is_present j m l (cases_lt j i);
       }
         where
-          at : (j : ℕ) → is_marked steps j ≡ true → j < i + 1 → (j < i) ⊎ (i ≤ j)
+          is_present : (j : ℕ) → is_marked steps j ≡ true → j < i + 1 → (j < i) ⊎ (i ≤ j)
               → Contains d.machine.marks j
-          at j m l (inl h) = earlier j h m
-          at j m l (inr h) =
+          is_present j m l (inl h) = earlier j h m
+          is_present j m l (inr h) =
               absurd (true≢false
               (sym m ∙ ap (is_marked steps) (let q : j ≡ i = omega (arith, h, l) in q) ∙ e))
       by_mark true e = record {

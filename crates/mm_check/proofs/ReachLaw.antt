@@ -23,7 +23,7 @@ use Rattle.std.specs.Option.{option_map}
 use Rattle.std.proofs.Math.Bool.{or-false}
 use Rattle.std.proofs.lemmas.Bool.{or_left, or_right}
 use Rattle.mm_spec.specs.Output.{is_theorem_at, proof_end}
-use Rattle.mm_database.specs.Database.{last_place}
+use Rattle.mm_database.specs.Database.{end_at}
 use Rattle.mm_rule.specs.Assertions.{is_assertion_at}
 use Rattle.mm_check.specs.Contract.{is_labelled_step}
 use Rattle.mm_check.specs.Reached.{IsReached, steps_of}
@@ -75,15 +75,16 @@ module _ (c : Context) where
       (λ m. within_at lists old h.0 j w h.2 a
       (subst (λ z. is_member z a ≡ true) h.3.2 (last_member h.3.0 h.1 a h.3.3 m)))
 
--- one step more
-pub next : (db : List Statement) (t : ℕ) (steps_so_far : List Step) (stack ends : List Formula)
+-- the forest that is reached after the steps and one good step more
+pub reached_after_step : (db : List Statement) (t : ℕ) (steps_so_far : List Step)
+    (stack ends : List Formula)
     → (noted : List ℕ) (s : Step) (out : List Formula) (then : List ℕ)
     → IsReached db t steps_so_far stack ends noted → IsGoodStep (context_at db t) (length ends) s
     → step_entries (context_at db t) s ends stack ≡ Ok out
     → ((a : ℕ)
     → is_member then a ≡ (is_member noted a || (is_labelled_step s a && is_assertion_at db a)))
     → IsReached db t (steps_so_far ++ s ∷ []) out (ends ++ top out ∷ []) then
-next db t steps_so_far stack ends noted s out then is_reached good entries_are notes =
+reached_after_step db t steps_so_far stack ends noted s out then is_reached good entries_are notes =
     let c = context_at db t in
     let same : step_entries c s ends (formulas is_reached.forest) ≡ Ok out =
     ap (step_entries c s ends) is_reached.entries_are ∙ entries_are in
@@ -230,12 +231,12 @@ no_step_reached db t stack ends noted e f n =
 
 -- the place of the end of a theorem's proof
 pub end_is : (db : List Statement) (t at : ℕ) → is_theorem_at db t ≡ true
-    → option_map last_place (slice_get db t) ≡ Some at → proof_end (slice_get db t) ≡ at
+    → option_map end_at (slice_get db t) ≡ Some at → proof_end (slice_get db t) ≡ at
 end_is db t at h e = by_statement (slice_get db t) h e
   where
     by_statement : (o : Option Statement)
         → list_any is_theorem (elim o [ None ↦ [] | Some s ↦ s ∷ [] ]) ≡ true
-        → option_map last_place o ≡ Some at → proof_end o ≡ at
+        → option_map end_at o ≡ Some at → proof_end o ≡ at
     by_statement None h e = absurd (true≢false (sym h))
     by_statement (Some (provable l p xs q ps d)) h e = cc
     by_statement (Some s) h e = absurd (true≢false (sym h))

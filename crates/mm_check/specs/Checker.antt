@@ -38,7 +38,7 @@ pub record AreOfDatabase (db : List Statement) (symbol_count : ℕ) (rules : Rul
 abbrev pub IsMadeFor : List Statement → CheckerState → Type 0
 IsMadeFor db c = AreOfDatabase db c.machine.symbol_count c.rules
 
--- they are, and the pairs of symbols are disjoint at the theorem
+-- the symbols and the rules are those of the database, and the pairs are disjoint at the theorem
 pub record AreAtTheorem (db : List Statement) (t symbol_count : ℕ) (rules : RuleLists)
     (cache : List (ℕ × ℕ)) :
     Type 0 where
@@ -46,11 +46,11 @@ pub record AreAtTheorem (db : List Statement) (t symbol_count : ℕ) (rules : Ru
   pub theorem : t < length db
   pub disjoint_are : AreDisjointAt db t cache
 
--- it checks the proof of the theorem
+-- the checker is made for the database, and its pairs of symbols are disjoint at the theorem
 abbrev pub IsAtTheorem : List Statement → ℕ → CheckerState → Type 0
 IsAtTheorem db t c = AreAtTheorem db t c.machine.symbol_count c.rules c.cache
 
--- it has performed the first `i` of the steps
+-- the checker has performed the first `i` steps of the theorem's proof
 pub record HasPerformed (db : List Statement) (t : ℕ) (steps : List PlacedStep) (i : ℕ)
     (c : CheckerState) : Type 0 where
   pub at : IsAtTheorem db t c

@@ -7,19 +7,22 @@ use Rattle.mm_spec.specs.Frame.{is_essential, mandatory_hypotheses}
 use Rattle.mm_spec.specs.Steps.{Step, label, marked}
 use Rattle.mm_rule.specs.Assertions.{is_assertion_at}
 
--- for each mandatory hypothesis of an assertion, whether its entry is essential; `b` says whether
--- the assertion's node is
+-- for each mandatory hypothesis of an assertion, whether its entry is essential, given whether the
+-- assertion's node is essential
 abbrev pub child_flags : List Statement → Bool → ℕ → List Bool
-child_flags db b l =
-    map (λ h. b && list_any is_essential (statement_at db h)) (mandatory_hypotheses db l)
+child_flags db node_is_essential l =
+    map (λ h. node_is_essential && list_any is_essential (statement_at db h))
+    (mandatory_hypotheses db l)
 
--- the flags of the entries that a step takes from the stack; `b` says whether the entry that it
--- pushes is essential
+-- the flags of the entries that a step takes from the stack, given whether the entry that it pushes
+-- is essential
 abbrev pub taken_flags : List Statement → Bool → Step → List Bool
-taken_flags db b (label l) = if is_assertion_at db l then child_flags db b l else []
-taken_flags db b (marked j) = []
+taken_flags db entry_is_essential (label l) =
+    if is_assertion_at db l then child_flags db entry_is_essential l else []
+taken_flags db entry_is_essential (marked j) = []
 
--- the flags of the earlier steps; `b` says whether the entry that the step pushes is essential
+-- the flags of the earlier steps, given whether the entry that the step pushes is essential
 abbrev pub step_flags_after : Bool → Step → List Bool → List Bool
-step_flags_after b (label l) step_flags = step_flags
-step_flags_after b (marked j) step_flags = if b then slice_set step_flags j true else step_flags
+step_flags_after entry_is_essential (label l) step_flags = step_flags
+step_flags_after entry_is_essential (marked j) step_flags =
+    if entry_is_essential then slice_set step_flags j true else step_flags

@@ -4,7 +4,7 @@ use Rattle.std.proofs.Common.{[], ◌∷◌, length, get_or, refl, arith}
 use Rattle.std.specs.List.{range_with_len, filter}
 use Rattle.mm_cites.specs.Citing.{IsStatementList}
 
--- an element of a selection passes
+-- each element of a selection passes the test
 pub filter_at : (p : ℕ → Bool) (xs : List ℕ) (i d : ℕ) → i < length (filter p xs)
     → p (get_or (filter p xs) i d) ≡ true
 filter_at p [] i d h = absurd (omega arith)
@@ -18,7 +18,7 @@ filter_at p (x ∷ xs) i d h = by_test (p x) refl (filter_at p xs) i h
     by_test true e r (suc i) h = r i d (omega arith)
     by_test false e r i h = r i d h
 
--- a selection of numbers in order rises
+-- a selection of the numbers below n, in order, is a statement list: each is above the one before
 pub filter_rising : (p : ℕ → Bool) (n : ℕ) → n < 2 ^ 31
     → IsStatementList (filter p (range_with_len 0 n))
 filter_rising p n few =

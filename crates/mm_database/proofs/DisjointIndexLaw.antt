@@ -16,7 +16,7 @@ use Rattle.mm_spec.specs.Frame.{is_disjoint_statement, formula_at}
 use Rattle.mm_spec.proofs.BoolLaw.{same_tests}
 use Rattle.mm_outline.specs.Blocks.{BlockLists, IsBlocks, end_of}
 use Rattle.mm_database.specs.Pairs.{has_pair, IsBefore, is_pair_before, AreRising}
-use Rattle.mm_database.specs.DisjointIndex.{has_symbol, is_active_local, AreKnown}
+use Rattle.mm_database.specs.DisjointIndex.{has_symbol, is_active_local, HaveBlocks}
 use Rattle.mm_outline.proofs.StatementsLaw.{is_there}
 
 -- ---- pairs by their places
@@ -101,9 +101,9 @@ partitioned ps are_rising x y i j d l m e = by_equality (cases_eq i j)
 
 -- ---- the blocks of the pairs
 
-pub are_known : (db : List Statement) (b : BlockLists) → IsBlocks db b → (ps : List (ℕ × ℕ))
-    → ((x j : ℕ) → has_pair ps x j ≡ has_symbol db x j) → AreKnown b ps
-are_known db b blocks ps are p l =
+pub have_blocks : (db : List Statement) (b : BlockLists) → IsBlocks db b → (ps : List (ℕ × ℕ))
+    → ((x j : ℕ) → has_pair ps x j ≡ has_symbol db x j) → HaveBlocks b ps
+have_blocks db b blocks ps are p l =
     let j = (get_or ps p (0, 0)).1 in
     let x = (get_or ps p (0, 0)).0 in
     let e = sym (are x j) ∙ at_has ps p (0, 0) l in
@@ -113,9 +113,7 @@ are_known db b blocks ps are p l =
     (is_member (formula_at db j) x) e).0 in
     (let c = blocks.count in omega (arith, c, m), blocks.known j m)
 
--- ---- the way back
-
--- ---- what stands before a place
+-- ---- the pairs before that of a symbol and a statement
 
 -- so many pairs stand before that of the symbol and the place
 pub record IsPartedAt (ps : List (ℕ × ℕ)) (x at start : ℕ) : Type 0 where
@@ -123,7 +121,7 @@ pub record IsPartedAt (ps : List (ℕ × ℕ)) (x at start : ℕ) : Type 0 where
   pub before : (p : ℕ) → p < start → is_pair_before (get_or ps p (0, 0)) x at ≡ true
   pub after : (p : ℕ) → start ≤ p → p < length ps → is_pair_before (get_or ps p (0, 0)) x at ≡ false
 
--- the same by the values that the code has
+-- the same for a list and a symbol that are equal to these
 module _ (qs ps : List (ℕ × ℕ)) (y x : ℕ) (same : qs ≡ ps) (is : y ≡ x) where
   pub parted_by_values : (at start : ℕ) → start ≤ length qs
       → ((p : ℕ) → p < start → is_pair_before (get_or qs p (0, 0)) y at ≡ true)
@@ -139,7 +137,7 @@ module _ (qs ps : List (ℕ × ℕ)) (y x : ℕ) (same : qs ≡ ps) (is : y ≡ 
 
 -- ---- what is added of one symbol
 
--- those from `end` on have been looked at
+-- the pairs from index `end` up to `start` have been looked at
 pub record AddsFromEnd (b : BlockLists) (ps : List (ℕ × ℕ)) (x at start end : ℕ)
     (old now : List (ℕ × ℕ)) : Type 0 where
   pub inside : end ≤ start
@@ -163,7 +161,7 @@ module _ (b : BlockLists) (ps : List (ℕ × ℕ)) (rising : AreRising ps) (x at
         by_symbol (inl m) = absurd (omega (arith, m, e))
         by_symbol (inr (s, m)) = m
 
-    -- one that is open is added
+    -- a `$d` whose block is open is added
     pub added_open : (end next : ℕ) (old now : List (ℕ × ℕ))
         → AddsFromEnd b ps x at start end old now
         → 0 < end → (get_or ps (end - 1) (0, 0)).0 ≡ x
@@ -228,7 +226,7 @@ module _ (b : BlockLists) (ps : List (ℕ × ℕ)) (rising : AreRising ps) (x at
         all p next_le_p p_lt_start e f (inr (inr q)) =
             longer (get_or ps p (0, 0)).1 x (a.all p (omega (arith, q)) p_lt_start e f)
 
-    -- one that is not is passed over
+    -- a `$d` whose block is closed is passed over
     pub added_closed : (end next : ℕ) (old now : List (ℕ × ℕ))
         → AddsFromEnd b ps x at start end old now
         → 0 < end → nat_le at (end_of b (get_or ps (end - 1) (0, 0)).1) ≡ false
@@ -286,7 +284,7 @@ module _ (b : BlockLists) (ps : List (ℕ × ℕ)) (rising : AreRising ps) (x at
             let v = below (end - 1) (omega (arith, p_lt_end, i)) in
             n (omega (arith, p_lt_end)) (omega (arith, u, v))
 
-    -- one that has the symbol and is active stands before the place
+    -- a pair of the symbol and an earlier statement stands before index `start`
     pub inside_if : (p : ℕ) → p < length ps → (get_or ps p (0, 0)).0 ≡ x
         → (get_or ps p (0, 0)).1 < at
         → p < start
@@ -351,7 +349,7 @@ module _ (b : BlockLists) (ps : List (ℕ × ℕ)) (rising : AreRising ps) (x at
 
 -- ---- whether two symbols have one together
 
--- what both have stands before where the search is
+-- an active statement that is paired with both symbols has its two pairs before `x_end` and `y_end`
 pub record NoneInCommon (b : BlockLists) (ps : List (ℕ × ℕ)) (x y at x_end y_end : ℕ) : Type 0 where
   pub met : (p q : ℕ) → p < length ps → q < length ps → (get_or ps p (0, 0)).0 ≡ x
       → (get_or ps q (0, 0)).0 ≡ y → (get_or ps p (0, 0)).1 ≡ (get_or ps q (0, 0)).1
@@ -378,10 +376,11 @@ module _ (b : BlockLists) (ps : List (ℕ × ℕ)) (rising : AreRising ps) (x y 
         );
   }
 
-  -- the pair of the lower statement comes first
-  order_of : (q r : ℕ) → q ≤ r → r < length ps → (get_or ps q (0, 0)).0 ≡ (get_or ps r (0, 0)).0
+  -- of two pairs of one symbol, the earlier has no greater statement
+  statements_ascend : (q r : ℕ) → q ≤ r → r < length ps
+      → (get_or ps q (0, 0)).0 ≡ (get_or ps r (0, 0)).0
       → (get_or ps q (0, 0)).1 ≤ (get_or ps r (0, 0)).1
-  order_of q r q_le_r r_lt_length_ps e = by_equality (cases_eq q r)
+  statements_ascend q r q_le_r r_lt_length_ps e = by_equality (cases_eq q r)
     where
       by_equality : (q ≡ r) ⊎ (q ≢ r) → (get_or ps q (0, 0)).1 ≤ (get_or ps r (0, 0)).1
       by_equality (inl s) = let t = ap (λ i. (get_or ps i (0, 0)).1) s in omega (arith, t)
@@ -438,7 +437,7 @@ module _ (b : BlockLists) (ps : List (ℕ × ℕ)) (rising : AreRising ps) (x y 
               let t : p ≡ x_end - 1 = omega (arith, p_lt_x_end, n) in
               let u = ap (λ i. (get_or ps i (0, 0)).1) t in
               let v =
-              order_of q (y_end - 1) (omega (arith, q_lt_y_end)) (omega (arith, sr, wr))
+              statements_ascend q (y_end - 1) (omega (arith, q_lt_y_end)) (omega (arith, sr, wr))
               (f ∙ sym ey) in
               omega (arith, u, v, s, c)
 
@@ -467,11 +466,11 @@ module _ (b : BlockLists) (ps : List (ℕ × ℕ)) (rising : AreRising ps) (x y 
               let q_is_previous_y_end : q ≡ y_end - 1 = omega (arith, q_lt_y_end, n) in
               let u = ap (λ i. (get_or ps i (0, 0)).1) q_is_previous_y_end in
               let v =
-              order_of p (x_end - 1) (omega (arith, p_lt_x_end)) (omega (arith, sl, wl))
+              statements_ascend p (x_end - 1) (omega (arith, p_lt_x_end)) (omega (arith, sl, wl))
               (e ∙ sym ex) in
               omega (arith, u, v, s, why)
 
-  -- one of the two has none x_end
+  -- if one of the two symbols has no pair before its end, no active statement has both symbols
   pub none_at_end : (x_end y_end : ℕ) → NoneInCommon b ps x y at x_end y_end
       → ((p : ℕ) → p < x_end → (get_or ps p (0, 0)).0 ≡ x → ⊥)
       ⊎ ((p : ℕ) → p < y_end → (get_or ps p (0, 0)).0 ≡ y → ⊥)

@@ -50,7 +50,7 @@ module _ {A : Type 0} (fs : List (Frame A)) where
       ap₂ (λ o l. o ∷ l) (frame_at_push f p few (each 0 (omega arith)))
       (frames_at_push f ps few (λ i l. each (suc i) (omega (arith, l))))
 
-  -- a frame more
+  -- the frames of the statements with the frame of one assertion more
   pub frames_at_more : (f : Frame A) (ps : List ℕ) → AreFrameIndices (length fs) ps
       → length fs < never
       → frames_at (fs ++ f ∷ []) (ps ++ length fs ∷ [])
@@ -84,22 +84,25 @@ module _ {A : Type 0} (fs : List (Frame A)) where
           let none = get_or_past (frames_at fs ps) k None (omega (arith, l, n)) in
           absurd (true≢false (sym is ∙ ap is_some none))
 
-  -- and its index is that of one of the frames
+  -- if statement k has a frame, its index is that of one of the frames
   pub frame_at_index : (ps : List ℕ) (k p : ℕ) → IsSome (get_or (frames_at fs ps) k None)
       → p ≡ slice_index ps k → (p < length fs) × ((d : Frame A)
       → get_or (frames_at fs ps) k None ≡ Some (mandatory_in (get_or fs p d)))
   frame_at_index ps k p is e = by_order (cases_lt p (length fs))
     where
-      at : ℕ → Option Mandatory
-      at q = option_map mandatory_in (slice_get fs q)
+      frame_with_index : ℕ → Option Mandatory
+      frame_with_index q = option_map mandatory_in (slice_get fs q)
 
-      here : get_or (frames_at fs ps) k None ≡ at p
-      here = get_or-map at ps k 0 None (index_there ps k is) ∙ ap at (sym e)
+      frame_is : get_or (frames_at fs ps) k None ≡ frame_with_index p
+      frame_is =
+          get_or-map frame_with_index ps k 0 None (index_there ps k is)
+          ∙ ap frame_with_index (sym e)
 
       by_order : (p < length fs) ⊎ (length fs ≤ p)
           → (p < length fs) × ((d : Frame A)
           → get_or (frames_at fs ps) k None ≡ Some (mandatory_in (get_or fs p d)))
-      by_order (inl l) = (l, λ d. here ∙ ap (option_map mandatory_in) (slice_get-get_or fs p d l))
+      by_order (inl l) =
+          (l, λ d. frame_is ∙ ap (option_map mandatory_in) (slice_get-get_or fs p d l))
       by_order (inr l) =
           absurd (true≢false
-          (sym is ∙ ap is_some (here ∙ ap (option_map mandatory_in) (slice_get_past fs p l))))
+          (sym is ∙ ap is_some (frame_is ∙ ap (option_map mandatory_in) (slice_get_past fs p l))))

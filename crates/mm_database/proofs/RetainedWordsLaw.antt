@@ -28,7 +28,7 @@ use Rattle.mm_outline.proofs.StatementsLaw.{get_mapped, statement_is}
 use Rattle.mm_database.specs.Database.{Contents, contents, kind_of}
 use Rattle.mm_database.specs.RetainedWords.{AreRetained, IsRetained, retained_words, label_tokens}
 use Rattle.mm_outline.specs.Parts.{is_labelled_kind}
-use Rattle.mm_database.specs.RetainedWords.{label_word, last_place}
+use Rattle.mm_database.specs.RetainedWords.{label_word, end_at}
 use Rattle.mm_database.proofs.KindsLaw.{theorem_at}
 
 -- ---- what is kept of an outline is that of its statement
@@ -64,7 +64,7 @@ module _ (text : List ℕ) (ws : List Word) where
   proof_made kind.Axiom k m e h = none_between m e h
 
   last_made : (o : Kind) (k m e : ℕ) → HasEnd o k m e
-      → (nth_word ws e).start ≡ last_place (statement_between text ws o k m e)
+      → (nth_word ws e).start ≡ end_at (statement_between text ws o k m e)
   last_made kind.Theorem k m e h = refl
   last_made kind.Open k m e h = ap (λ i. (nth_word ws i).start) (sym (h.0 ∙ h.1))
   last_made kind.Close k m e h = ap (λ i. (nth_word ws i).start) (sym (h.0 ∙ h.1))
@@ -176,11 +176,12 @@ module _ (text : List ℕ) (db : List Statement) (w : Bool) (fault : Option Faul
   abbrev s : Statement
   s = get_or db k (opening 0)
 
-  got : slice_get db k ≡ Some s
-  got = slice_get-get_or db k (opening 0) below
+  s_is_statement_k : slice_get db k ≡ Some s
+  s_is_statement_k = slice_get-get_or db k (opening 0) below
 
   kind_here : (x : Kind) → option_map kind_of (slice_get db k) ≡ Some x → kind_of s ≡ x
-  kind_here x h = let e : Some (kind_of s) ≡ Some x = sym (ap (option_map kind_of) got) ∙ h in cc
+  kind_here x h =
+      let e : Some (kind_of s) ≡ Some x = sym (ap (option_map kind_of) s_is_statement_k) ∙ h in cc
 
   label_read : option_map (λ t. t.word) (option_and_then label_of (slice_get n.statements k))
       ≡ option_map (λ t. t.word) (label_of s)
@@ -189,7 +190,8 @@ module _ (text : List ℕ) (db : List Statement) (w : Bool) (fault : Option Faul
       (option_and_then label_of (slice_get n.statements k))
       ≡ option_map (λ t. t.word) (label_of s)) is
       (ap (option_map (λ t. t.word))
-      (counted_then w db label_of (λ l k xs e ps d. refl) k ∙ ap (option_and_then label_of) got))
+      (counted_then w db label_of (λ l k xs e ps d. refl) k
+      ∙ ap (option_and_then label_of) s_is_statement_k))
 
   -- no label
   pub label_missing : (x : Kind) → option_map kind_of (slice_get db k) ≡ Some x
@@ -205,70 +207,79 @@ module _ (text : List ℕ) (db : List Statement) (w : Bool) (fault : Option Faul
     retained_below = let c = h.count in let l = below in omega (arith, c, l)
 
     module _ (words : List Word) (e : words ≡ get_or retained k []) where
-      one : IsRetained text s words
-      one = subst (IsRetained text s) (sym e) (h.each k s got)
+      retained_k : IsRetained text s words
+      retained_k = subst (IsRetained text s) (sym e) (h.each k s s_is_statement_k)
 
-      front : words ≡ (one.label ++ one.proof) ++ one.last ∷ []
-      front = one.words_are ∙ sym (append_assoc one.label one.proof (one.last ∷ []))
+      words_end_in_last : words ≡ (retained_k.label ++ retained_k.proof) ++ retained_k.last ∷ []
+      words_end_in_last =
+          retained_k.words_are ∙ sym (append_assoc retained_k.label retained_k.proof
+          (retained_k.last ∷ []))
 
-      long : length words ≡ length (one.label ++ one.proof) + 1
-      long = ap length front ∙ length-append (one.label ++ one.proof) (one.last ∷ [])
+      word_count : length words ≡ length (retained_k.label ++ retained_k.proof) + 1
+      word_count =
+          ap length words_end_in_last ∙ length-append (retained_k.label ++ retained_k.proof)
+          (retained_k.last ∷ [])
 
       pub some_are_retained : 0 < length words
-      some_are_retained = omega (arith, long)
+      some_are_retained = omega (arith, word_count)
 
       pub word_within : AreWithin text words
-      word_within = one.within
+      word_within = retained_k.within
 
-      -- the last token
+      -- the last of the retained words is the last token of the statement
       pub last_is_retained : (d : Word)
-          → option_map last_place (slice_get n.statements k)
+          → option_map end_at (slice_get n.statements k)
           ≡ Some (get_or words (length words - 1) d).start
       last_is_retained d =
-          let m : length words - 1 ≡ length (one.label ++ one.proof) = omega (arith, long) in
+          let m : length words - 1 ≡ length (retained_k.label ++ retained_k.proof) = omega
+          (arith, word_count) in
           let last =
-          ap₂ (λ ys i. get_or ys i d) front m
-          ∙ get_or-append_seam (one.label ++ one.proof) one.last [] d in
-          subst (λ (n : Contents). option_map last_place (slice_get n.statements k)
+          ap₂ (λ ys i. get_or ys i d) words_end_in_last m
+          ∙ get_or-append_seam (retained_k.label ++ retained_k.proof) retained_k.last [] d in
+          subst (λ (n : Contents). option_map end_at (slice_get n.statements k)
           ≡ Some (get_or words (length words - 1) d).start) is
-          (counted_got w db last_place (λ l k xs e ps d. refl) k ∙ ap (option_map last_place) got
-          ∙ ap Some (sym one.last_is) ∙ ap (λ x. Some x.start) (sym last))
+          (counted_got w db end_at (λ l k xs e ps d. refl) k
+          ∙ ap (option_map end_at) s_is_statement_k
+          ∙ ap Some (sym retained_k.last_is) ∙ ap (λ x. Some x.start) (sym last))
 
       module _ (x : Kind) (kind : kind_of s ≡ x) (of_kind : is_labelled_kind x ≡ true) where
         labelled : is_labelled_kind (kind_of s) ≡ true
         labelled = ap is_labelled_kind kind ∙ of_kind
 
-        first : (v : Word) × (one.label ≡ v ∷ []) × (token_of text v ≡ (has_label s labelled).0)
-        first =
+        first_is_label : (v : Word) × (retained_k.label ≡ v ∷ [])
+            × (token_of text v ≡ (has_label s labelled).0)
+        first_is_label =
             let l = has_label s labelled in
-            only_word text one.label l.0
-            (one.label_is ∙ ap (λ o. elim o [ None ↦ [] | Some l ↦ l ∷ [] ]) l.1)
+            only_word text retained_k.label l.0
+            (retained_k.label_is ∙ ap (λ o. elim o [ None ↦ [] | Some l ↦ l ∷ [] ]) l.1)
 
-        begins : words ≡ first.0 ∷ (one.proof ++ one.last ∷ [])
-        begins = one.words_are ∙ ap (λ l. l ++ (one.proof ++ one.last ∷ [])) first.1
+        begins : words ≡ first_is_label.0 ∷ (retained_k.proof ++ retained_k.last ∷ [])
+        begins =
+            retained_k.words_are ∙ ap (λ l. l ++ (retained_k.proof ++ retained_k.last ∷ []))
+            first_is_label.1
 
         label_first : (d : Word)
             → Some (slice_range text (get_or words 0 d).start (get_or words 0 d).end)
             ≡ option_map (λ t. t.word) (option_and_then label_of (slice_get n.statements k))
         label_first d =
             ap (λ ys. Some (token_of text (get_or ys 0 d)).word) begins
-            ∙ ap (λ t. Some t.word) first.2
+            ∙ ap (λ t. Some t.word) first_is_label.2
             ∙ sym (label_read ∙ ap (option_map (λ t. t.word)) (has_label s labelled).1)
 
-        two : length words ≡ suc (length one.proof + 1)
-        two = ap length begins ∙ ap suc (length-append one.proof (one.last ∷ []))
+        two : length words ≡ suc (length retained_k.proof + 1)
+        two = ap length begins ∙ ap suc (length-append retained_k.proof (retained_k.last ∷ []))
 
         two_are_retained : 2 ≤ length words
         two_are_retained = omega (arith, two)
 
         -- the words of the proof
-        proof_words : slice_range words 1 (length words - 1) ≡ one.proof
+        proof_words : slice_range words 1 (length words - 1) ≡ retained_k.proof
         proof_words =
-            let m : (length words - 1) - 1 ≡ length one.proof = omega (arith, two) in
+            let m : (length words - 1) - 1 ≡ length retained_k.proof = omega (arith, two) in
             ap₂ (λ m ys. take m (drop 1 ys)) m begins
-            ∙ take-append_seam one.proof (one.last ∷ [])
+            ∙ take-append_seam retained_k.proof (retained_k.last ∷ [])
 
-      -- the label
+      -- the first of the retained words of a labelled statement is its label
       pub label_is_retained : (x : Kind) → option_map kind_of (slice_get db k) ≡ Some x
           → is_labelled_kind x ≡ true → (d : Word)
           → Some (slice_range text (get_or words 0 d).start (get_or words 0 d).end)
@@ -278,7 +289,7 @@ module _ (text : List ℕ) (db : List Statement) (w : Bool) (fault : Option Faul
       module _ (counts : option_map kind_of (slice_get n.statements k) ≡ Some kind.Theorem) where
         theorem : (kind_of s ≡ kind.Theorem) × (slice_get (counted w db) k ≡ Some s)
         theorem =
-            theorem_at w db k s got
+            theorem_at w db k s s_is_statement_k
             (subst (λ (n : Contents). option_map kind_of (slice_get n.statements k)
             ≡ Some kind.Theorem) (sym is) counts)
 
@@ -290,7 +301,7 @@ module _ (text : List ℕ) (db : List Statement) (w : Bool) (fault : Option Faul
         proof_is_retained =
             subst (λ (n : Contents). option_map proof_of (slice_get n.statements k)
             ≡ Some (as_tokens n.text (slice_range words 1 (length words - 1)))) is
-            (ap (option_map proof_of) theorem.1 ∙ ap Some (sym one.proof_is)
+            (ap (option_map proof_of) theorem.1 ∙ ap Some (sym retained_k.proof_is)
             ∙ ap (λ xs. Some (as_tokens text xs)) (sym (proof_words kind.Theorem theorem.0 refl)))
 
         pub proof_within : AreWithin n.text (slice_range words 1 (length words - 1))
@@ -298,4 +309,4 @@ module _ (text : List ℕ) (db : List Statement) (w : Bool) (fault : Option Faul
             subst (λ (n : Contents). AreWithin n.text (slice_range words 1 (length words - 1))) is
             (All-take (λ w. (w.start ≤ w.end) × (w.end ≤ length text)) (length words - 1 - 1)
             (drop 1 words)
-            (All-drop (λ w. (w.start ≤ w.end) × (w.end ≤ length text)) 1 words one.within))
+            (All-drop (λ w. (w.start ≤ w.end) × (w.end ≤ length text)) 1 words retained_k.within))

@@ -45,8 +45,8 @@ starts_more ps n starts r lt below h = record {
     longer : length (starts ++ n ∷ []) ≡ length starts + 1
     longer = length-append starts (n ∷ [])
 
-    here : IsStart ps (length starts) n
-    here = record {
+    new_start_is : IsStart ps (length starts) n
+    new_start_is = record {
       within = omega arith;
       before = λ p l. h.known p l;
       after = λ p l m. let up = no_lower ps r n p l m in omega (arith, up, below);
@@ -56,7 +56,7 @@ starts_more ps n starts r lt below h = record {
         → IsStart ps x (get_or (starts ++ n ∷ []) x 0)
     each x l (inl e) =
         subst (IsStart ps x) (sym (get_or_push starts n 0 x (sym e)))
-        (subst (λ y. IsStart ps y n) (sym e) here)
+        (subst (λ y. IsStart ps y n) (sym e) new_start_is)
     each x l (inr ne) =
         let x_lt_length_starts : x < length starts = omega (arith, l, longer, ne) in
         subst (IsStart ps x) (sym (get_or_append_left starts (n ∷ []) 0 x x_lt_length_starts))
@@ -75,7 +75,7 @@ starts_next ps n starts known h = record {
     by_equality p l (inl e) = let s = ap (λ k. (get_or ps k (0, 0)).0) e in omega (arith, s, known)
     by_equality p l (inr ne) = h.known p (omega arith)
 
--- all pairs
+-- the starts for the first n pairs are those for all pairs, if there are no more than n
 pub starts_all : (ps : List (ℕ × ℕ)) (n : ℕ) (starts : List ℕ) → length ps ≤ n
     → StartsTo ps n starts → AreStarts ps starts
 starts_all ps n starts all h x = by_order (cases_lt x (length starts))
@@ -91,14 +91,14 @@ starts_all ps n starts all h x = by_order (cases_lt x (length starts))
 
 -- ---- among the pairs of one symbol
 
-module _ (ps : List (ℕ × ℕ)) (rising : AreRising ps) (x at from to : ℕ) (first : IsStart ps x from)
-    (last : IsStart ps (x + 1) to) where
-  here : (p : ℕ) (d : ℕ × ℕ) → from ≤ p → p < to → (get_or ps p d).0 ≡ x
-  here p d l m =
-      let inside = last.within in
+module _ (ps : List (ℕ × ℕ)) (rising : AreRising ps) (x at from to : ℕ)
+    (from_starts_x : IsStart ps x from) (to_ends_x : IsStart ps (x + 1) to) where
+  symbol_is_x : (p : ℕ) (d : ℕ × ℕ) → from ≤ p → p < to → (get_or ps p d).0 ≡ x
+  symbol_is_x p d l m =
+      let inside = to_ends_x.within in
       let lt : p < length ps = omega (arith, inside, m) in
-      let low = first.after p l lt in
-      let high = last.before p m in
+      let low = from_starts_x.after p l lt in
+      let high = to_ends_x.before p m in
       ap (λ (q : ℕ × ℕ). q.0) (get_or_default ps p d (0, 0) lt) ∙ (omega (arith, low, high))
 
   part_at : (i : ℕ) (d : ℕ × ℕ) → i < to - from
@@ -108,7 +108,7 @@ module _ (ps : List (ℕ × ℕ)) (rising : AreRising ps) (x at from to : ℕ) (
   part_long : length (slice_range ps from to) ≡ to - from
   part_long =
       length-take-le (to - from) (drop from ps)
-      (let e = length-drop from ps in let inside = last.within in omega (arith, e, inside))
+      (let e = length-drop from ps in let inside = to_ends_x.within in omega (arith, e, inside))
 
   pub part_partitioned : IsPartitionedBy (λ p. nat_lt p.1 at) (slice_range ps from to)
   part_partitioned i j d l m e = by_equality (cases_eq i j)
@@ -117,7 +117,7 @@ module _ (ps : List (ℕ × ℕ)) (rising : AreRising ps) (x at from to : ℕ) (
       long = let n = part_long in omega (arith, m, n)
 
       inside : from + j < length ps
-      inside = let w = last.within in let n = long in omega (arith, w, n)
+      inside = let w = to_ends_x.within in let n = long in omega (arith, w, n)
 
       statement_lt : i < j
           → IsBefore (get_or ps (from + i) d).0 (get_or ps (from + i) d).1
@@ -125,8 +125,8 @@ module _ (ps : List (ℕ × ℕ)) (rising : AreRising ps) (x at from to : ℕ) (
           → (get_or ps (from + i) d).1 < (get_or ps (from + j) d).1
       statement_lt i_lt_j (inl s) =
           let n = long in
-          let a = here (from + i) d (omega arith) (omega (arith, i_lt_j, n)) in
-          let b = here (from + j) d (omega arith) (omega (arith, n)) in
+          let a = symbol_is_x (from + i) d (omega arith) (omega (arith, i_lt_j, n)) in
+          let b = symbol_is_x (from + j) d (omega arith) (omega (arith, n)) in
           absurd (omega (arith, a, b, s))
       statement_lt i_lt_j (inr (s, t)) = t
 
@@ -151,7 +151,8 @@ module _ (ps : List (ℕ × ℕ)) (rising : AreRising ps) (x at from to : ℕ) (
     before_point p l = by_order (cases_lt p from)
       where
         by_order : (p < from) ⊎ (from ≤ p) → is_pair_before (get_or ps p (0, 0)) x at ≡ true
-        by_order (inl k) = is_pair_before_if (get_or ps p (0, 0)) x at (inl (first.before p k))
+        by_order (inl k) =
+            is_pair_before_if (get_or ps p (0, 0)) x at (inl (from_starts_x.before p k))
         by_order (inr k) =
             let long = part_long in
             let short : p - from < to - from = omega (arith, k, l, bound, long) in
@@ -162,7 +163,7 @@ module _ (ps : List (ℕ × ℕ)) (rising : AreRising ps) (x at from to : ℕ) (
             (sym (part_at (p - from) (0, 0) short ∙ ap (λ i. get_or ps i (0, 0)) same))
             ∙ point.0 (p - from) (0, 0) (omega arith) (omega (arith, k, l))) in
             is_pair_before_if (get_or ps p (0, 0)) x at
-            (inr (here p (0, 0) k (omega (arith, short, k)), less))
+            (inr (symbol_is_x p (0, 0) k (omega (arith, short, k)), less))
 
     pub after_point : (p : ℕ) → from + n ≤ p → p < length ps
         → is_pair_before (get_or ps p (0, 0)) x at ≡ false
@@ -176,15 +177,16 @@ module _ (ps : List (ℕ × ℕ)) (rising : AreRising ps) (x at from to : ℕ) (
         not_before is_before (inr k) = impossible is_before
           where
             impossible : IsBefore (get_or ps p (0, 0)).0 (get_or ps p (0, 0)).1 x at → ⊥
-            impossible (inl s) = let h = last.after p k p_lt_length_ps in omega (arith, h, s)
-            impossible (inr (s, t)) = let h = last.after p k p_lt_length_ps in omega (arith, h, s)
+            impossible (inl s) = let h = to_ends_x.after p k p_lt_length_ps in omega (arith, h, s)
+            impossible (inr (s, t)) =
+                let h = to_ends_x.after p k p_lt_length_ps in omega (arith, h, s)
         not_before is_before (inl k) = impossible is_before
           where
             low : from ≤ p
             low = omega arith
 
             impossible : IsBefore (get_or ps p (0, 0)).0 (get_or ps p (0, 0)).1 x at → ⊥
-            impossible (inl s) = let h = here p (0, 0) low k in omega (arith, h, s)
+            impossible (inl s) = let h = symbol_is_x p (0, 0) low k in omega (arith, h, s)
             impossible (inr (s, t)) =
                 let short : p - from < to - from = omega (arith, low, k) in
                 let same : from + (p - from) ≡ p = omega (arith, low) in

@@ -34,7 +34,7 @@ first_step : (e : List Bytes) (v : Bytes) (ws : List Bytes) (b : Bool) → is_in
 first_step e v ws b h =
     ap (λ b. elim b [ true ↦ first_occurrences e ws | false ↦ v ∷ first_occurrences (v ∷ e) ws ]) h
 
--- one word more
+-- the first occurrences in a list with one word more: the word is added if it is new
 pub first_snoc : (ws e : List Bytes) (w : Bytes)
     → first_occurrences e (ws ++ w ∷ [])
     ≡ first_occurrences e ws ++ if_new (is_in w e || is_in w ws) w

@@ -16,7 +16,7 @@ use Rattle.mm_database.specs.RetainedWords.{AreRetained}
 use Rattle.mm_database.specs.declared.reading.Reading.{Reading}
 use Rattle.mm_database.specs.declared.tables.StatementTables.{StatementTables}
 use Rattle.mm_database.specs.declared.statement_lists.StatementLists.{StatementLists}
-pub use Rattle.mm_database.specs.RetainedWords.{last_place}
+pub use Rattle.mm_database.specs.RetainedWords.{end_at}
 pub use Rattle.mm_outline.specs.Parts.{is_labelled_kind}
 pub use Rattle.mm_database.specs.Kinds.{kind_of}
 

@@ -15,29 +15,29 @@ has_symbol db x j =
 
 -- statement j is before k, and its block is open there
 abbrev pub is_active_local : BlockLists → ℕ → ℕ → Bool
-is_active_local b j k = nat_lt j k && nat_le k (end_of b j)
+is_active_local blocks j k = nat_lt j k && nat_le k (end_of blocks j)
 
 -- the statements of the pairs have a block
-abbrev pub AreKnown : BlockLists → List (ℕ × ℕ) → Type 0
-AreKnown b ps =
+abbrev pub HaveBlocks : BlockLists → List (ℕ × ℕ) → Type 0
+HaveBlocks blocks ps =
     (p : ℕ) → p < length ps
-    → ((get_or ps p (0, 0)).1 < length b.of)
-    × (get_or b.of (get_or ps p (0, 0)).1 0 < length b.ends)
+    → ((get_or ps p (0, 0)).1 < length blocks.of)
+    × (get_or blocks.of (get_or ps p (0, 0)).1 0 < length blocks.ends)
 
 -- pair p has the symbol of pair q, and a block that ends no later
 abbrev pub IsCovered : BlockLists → ℕ × ℕ → ℕ × ℕ → Type 0
-IsCovered b p q = (p.0 ≡ q.0) × (end_of b p.1 ≤ end_of b q.1)
+IsCovered blocks p q = (p.0 ≡ q.0) × (end_of blocks p.1 ≤ end_of blocks q.1)
 
--- the pairs with the indices from `first` to q are covered by the pair with index q
+-- the pairs with the indices from `from` to q are covered by the pair with index q
 abbrev pub Covers : BlockLists → List (ℕ × ℕ) → ℕ → ℕ → Type 0
-Covers b ps first q =
-    (p : ℕ) → first ≤ p → p ≤ q → IsCovered b (get_or ps p (0, 0)) (get_or ps q (0, 0))
+Covers blocks ps from q =
+    (p : ℕ) → from ≤ p → p ≤ q → IsCovered blocks (get_or ps p (0, 0)) (get_or ps q (0, 0))
 
 -- for each pair an index from which on it covers the pairs up to it
-pub record AreSkips (b : BlockLists) (ps : List (ℕ × ℕ)) (skips : List ℕ) : Type 0 where
+pub record AreSkips (blocks : BlockLists) (ps : List (ℕ × ℕ)) (skips : List ℕ) : Type 0 where
   pub count : length skips ≡ length ps
   pub within : (q : ℕ) → q < length ps → get_or skips q 0 ≤ q
-  pub covers : (q : ℕ) → q < length ps → Covers b ps (get_or skips q 0) q
+  pub covers : (q : ℕ) → q < length ps → Covers blocks ps (get_or skips q 0) q
 
 -- symbols, each with a `$d` that has it, and for each of these pairs an index to skip to
 pub record PairLists : Type 0 where
@@ -48,13 +48,13 @@ abbrev pub pair_lists : List (ℕ × ℕ) → List ℕ → PairLists
 pair_lists pairs skips = record { pairs = pairs; skips = skips }
 
 -- the pairs are in order, their statements have a block, and the skips are theirs
-pub record IsOrdered (b : BlockLists) (index : PairLists) : Type 0 where
+pub record IsOrdered (blocks : BlockLists) (index : PairLists) : Type 0 where
   pub rising : AreRising index.pairs
-  pub known : AreKnown b index.pairs
-  pub skips_are : AreSkips b index.pairs index.skips
+  pub known : HaveBlocks blocks index.pairs
+  pub skips_are : AreSkips blocks index.pairs index.skips
 
 -- each symbol with each `$d` that has it
-pub record IsDisjointIndex (db : List Statement) (b : BlockLists) (index : PairLists) : Type 0
+pub record IsDisjointIndex (db : List Statement) (blocks : BlockLists) (index : PairLists) : Type 0
   where
     pub members_are : (x j : ℕ) → has_pair index.pairs x j ≡ has_symbol db x j
-    pub ordered : IsOrdered b index
+    pub ordered : IsOrdered blocks index

@@ -28,7 +28,8 @@ pub record IsSound (db : List Statement) : Type 0 where
   pub symbols_have_numbers : (k : ℕ) → k < length db
       → All (λ s. s < length (symbol_names db)) (formula_at db k)
 
--- what is kept of sound statements is theirs: blocks, formulas, and which symbols are variables
+-- the statements are sound, and these are their blocks, their formulas, and which symbols are
+-- variables
 pub record AreParsedStatements (db : List Statement) (b : BlockLists) (formulas : List (List ℕ))
     (variable_flags : List Bool) : Type 0 where
   pub sound : IsSound db

@@ -18,16 +18,16 @@ retained_words ws o = label_word ws o ++ (slice_range ws (o.middle + 1) o.end
     ++ nth_word ws o.end ∷ [])
 
 -- the place of a statement's last token
-abbrev pub last_place : Statement → ℕ
-last_place (constants k xs d) = d
-last_place (variables k xs d) = d
-last_place (disjoint k xs d) = d
-last_place (floating l k xs d) = d
-last_place (essential l k xs d) = d
-last_place (axiomatic l k xs d) = d
-last_place (provable l k xs e ps d) = d
-last_place (opening k) = k
-last_place (closing k) = k
+abbrev pub end_at : Statement → ℕ
+end_at (constants k xs d) = d
+end_at (variables k xs d) = d
+end_at (disjoint k xs d) = d
+end_at (floating l k xs d) = d
+end_at (essential l k xs d) = d
+end_at (axiomatic l k xs d) = d
+end_at (provable l k xs e ps d) = d
+end_at (opening k) = k
+end_at (closing k) = k
 
 -- the label if there is one
 abbrev pub label_tokens : Statement → List Token
@@ -42,7 +42,7 @@ pub record IsRetained (text : List ℕ) (s : Statement) (words : List Word) : Ty
   pub within : AreWithin text words
   pub label_is : as_tokens text label ≡ label_tokens s
   pub proof_is : as_tokens text proof ≡ proof_of s
-  pub last_is : last.start ≡ last_place s
+  pub last_is : last.start ≡ end_at s
 
 -- the kept words of each statement
 pub record AreRetained (text : List ℕ) (db : List Statement) (retained : List (List Word)) : Type 0

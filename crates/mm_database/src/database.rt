@@ -18,7 +18,7 @@ ghost use Rattle.mm_spec.specs.Laws.Complete.{AreComplete};
 ghost use Rattle.mm_spec.specs.Lexed.{lexed_of};
 ghost use Rattle.mm_spec.specs.Output.{IsRead, theorems, columns, label_at};
 ghost use Rattle.mm_outline.specs.Parts.{as_tokens, AreWithin};
-ghost use Rattle.mm_database.specs.Database.{kind_of, last_place, typecode_of, contents_of};
+ghost use Rattle.mm_database.specs.Database.{kind_of, end_at, typecode_of, contents_of};
 ghost use Rattle.mm_database.specs.Database.{IsDatabase};
 ghost use Rattle.mm_database.specs.Kinds.{is_axiom_kind, is_theorem_kind};
 
@@ -41,7 +41,7 @@ pub struct Database<'a, A: Allocator> {
     tables: StatementTables<A>,
 }
 
-/// Lets all fields go in one call, so that a proof has one step for it at each exit.
+/// Dropped in one call: docs/PROOFS.md, "What a check costs".
 impl<'a, A: Allocator> Drop for Database<'a, A> {
     fn drop(self) {
         let Self {
@@ -133,7 +133,7 @@ impl<'a, A: Allocator> Database<'a, A> {
     /// Returns the place of a statement's last token, a byte offset from 0.
     pub fn end_at(&self, statement: u32) -> u32
         requires { statement < length self.now.statements }
-        ensures { option_map last_place (slice_get self.now.statements statement) ≡ Some result }
+        ensures { option_map end_at (slice_get self.now.statements statement) ≡ Some result }
     {
         let words = self.tables.retained_words.get(statement as usize);
         words[words.len() - 1].start

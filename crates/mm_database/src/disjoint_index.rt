@@ -25,7 +25,7 @@ pub struct DisjointIndex<A: Allocator> {
     starts: Vec<usize, A>,
 }
 
-/// Lets all fields go in one call, so that a proof has one step for it at each exit.
+/// Dropped in one call: docs/PROOFS.md, "What a check costs".
 impl<A: Allocator> Drop for DisjointIndex<A> {
     fn drop(self) {
         let Self {
@@ -76,7 +76,7 @@ fn start_of(pairs: &[(u32, u32)], starts: &[usize], symbol: usize) -> usize
     }
 }
 
-/// Returns the number of pairs before the pair of `symbol` and `at`.
+/// Returns the number of pairs before the pair of `symbol` and the statement `at`.
 fn count_before(pairs: &[(u32, u32)], starts: &[usize], symbol: u32, at: u32) -> usize
     requires rising { AreRising pairs.now }
     requires starts { AreStarts pairs.now starts.now }
@@ -106,8 +106,8 @@ fn ends_with(pairs: &[(u32, u32)], end: usize, symbol: u32) -> bool
 }
 
 /// Returns how many of the first `end` pairs are still to be looked at once the last of them has
-/// been. If the block of its `$d` is closed at `at`, those of the pairs that it covers are closed
-/// too, and are skipped with it.
+/// been. If the block of its `$d` is closed at the statement `at`, those of the pairs that it
+/// covers are closed too, and are skipped with it.
 fn skip_last<A: Allocator>(
     blocks: &Blocks<A>,
     disjoint_index: &DisjointIndex<A>,

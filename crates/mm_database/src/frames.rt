@@ -29,7 +29,7 @@ pub struct Frames<A: Allocator> {
     indices: Vec<u32, A>,
 }
 
-/// Lets all fields go in one call, so that a proof has one step for it at each exit.
+/// Dropped in one call: docs/PROOFS.md, "What a check costs".
 impl<A: Allocator> Drop for Frames<A> {
     fn drop(self) {
         let Self {

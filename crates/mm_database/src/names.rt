@@ -56,11 +56,11 @@ pub struct NameTable<'a, A: Allocator> {
     /// The length of the longest symbol in bytes. A longer word is no symbol, and isn't hashed to
     /// find that out; so a very long symbol is hashed once, when it is declared.
     longest_symbol: usize,
-    /// The same for labels.
+    /// The length of the longest label in bytes, for the same reason.
     longest_label: usize,
 }
 
-/// Lets all fields go in one call, so that a proof has one step for it at each exit.
+/// Dropped in one call: docs/PROOFS.md, "What a check costs".
 impl<'a, A: Allocator> Drop for NameTable<'a, A> {
     fn drop(self) {
         let Self {

@@ -13,7 +13,7 @@ pub struct Reading<'a, A: Allocator> {
     pub fault: Option<Fault>,
 }
 
-/// Lets all fields go in one call, so that a proof has one step for it at each exit.
+/// Dropped in one call: docs/PROOFS.md, "What a check costs".
 impl<'a, A: Allocator> Drop for Reading<'a, A> {
     fn drop(self) {
         let Self {

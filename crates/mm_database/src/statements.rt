@@ -33,7 +33,7 @@ pub struct Statements<'a, A: Allocator> {
     variable_flags: Vec<bool, A>,
 }
 
-/// Lets all fields go in one call, so that a proof has one step for it at each exit.
+/// Dropped in one call: docs/PROOFS.md, "What a check costs".
 impl<'a, A: Allocator> Drop for Statements<'a, A> {
     fn drop(self) {
         let Self {

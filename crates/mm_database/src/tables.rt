@@ -15,7 +15,7 @@ pub struct StatementTables<A: Allocator> {
     pub retained_words: Lists<Word, A>,
 }
 
-/// Lets all fields go in one call, so that a proof has one step for it at each exit.
+/// Dropped in one call: docs/PROOFS.md, "What a check costs".
 impl<A: Allocator> Drop for StatementTables<A> {
     fn drop(self) {
         let Self {

@@ -17,7 +17,8 @@ use Rattle.mm_spec.specs.Scope.{statement_at}
 use Rattle.mm_spec.specs.Derivation.{is_member}
 use Rattle.mm_spec.specs.Frame.{symbol_names, is_disjoint_statement, formula_at}
 use Rattle.mm_outline.proofs.StatementsLaw.{is_there}
-use Rattle.mm_frame.specs.Chains.{IsRisingFrom, IsLinkChain, AreLinked, HasChain, AreChains}
+use Rattle.mm_spec.specs.Rising.{IsRisingFrom}
+use Rattle.mm_frame.specs.Chains.{IsLinkChain, AreLinked, HasChain, AreChains}
 use Rattle.mm_database.specs.DisjointIndex.{has_symbol}
 use Rattle.mm_database.specs.Pairs.{has_pair, IsBefore, AreRising}
 use Rattle.mm_database.specs.ParsedStatements.{IsSound}
@@ -77,7 +78,7 @@ begins : (links : List (ℕ × ℕ)) (n k : ℕ) (js : List ℕ) → IsLinkChain
 begins links n k [] c some e = absurd (omega (arith, c, some))
 begins links n k (j ∷ js) c some e = ap (λ b. b || is_member js k) (eq-eqb k j (sym e ∙ c.2))
 
--- the same by another test, from an earlier least
+-- a chain stays such for a test with the same values and a lower least statement
 same_chain : (has now : ℕ → Bool) (a b : ℕ) (links : List (ℕ × ℕ)) (n : ℕ) → a ≤ b
     → ((j : ℕ) → has j ≡ now j) → HasChain has b links n → HasChain now a links n
 same_chain has now a b links n l same h = record {
@@ -227,14 +228,14 @@ module _ (has : ℕ → ℕ → Bool) (heads : List ℕ) (links : List (ℕ × �
                   ∙ or-false (has y j));
             }
 
--- the same chains by another test, from an earlier least
+-- chains stay such for a test with the same values and a lower least statement
 pub same_chains : (has now : ℕ → ℕ → Bool) (a b : ℕ) (heads : List ℕ) (links : List (ℕ × ℕ))
     → a ≤ b → ((x j : ℕ) → has x j ≡ now x j) → AreChains has b heads links
     → AreChains now a heads links
 same_chains has now a b heads links l same h x m =
     same_chain (has x) (now x) a b links (get_or heads x 0) l (same x) (h x m)
 
--- a symbol more
+-- the chains have the statement for the first i + 1 symbols
 pub more_symbols : (has : ℕ → ℕ → Bool) (xs : List ℕ) (i d s k : ℕ) → i < length xs
     → s ≡ get_or xs i d → (x j : ℕ)
     → ((has x j || (is_member (take i xs) x && nat_eq j k)) || (nat_eq x s && nat_eq j k))

@@ -38,7 +38,7 @@ any_pair f (q ∷ qs) h = by_head (f q) refl h (λ k. any_pair f qs k)
 
 -- ---- the variables after one, in the same statement
 
--- those up to `at` have been looked at
+-- the pairs after index `place` and before index `at` have been looked at
 pub record AddsLater (by_statement : List (ℕ × ℕ)) (place at : ℕ) (old now : List (ℕ × ℕ)) : Type 0
   where
     pub further : place < at
@@ -277,7 +277,7 @@ module _ (db : List Statement) (b : BlockLists) (blocks : IsBlocks db b) (k : �
         nat_lt p.low p.high && is_member vs p.low && is_member vs p.high
         && disjoint_at db k p.low p.high
 
-    -- both stand in one statement
+    -- whether two variables are in one of the `$d` statements
     abbrev pub together : ℕ → ℕ → Bool
     together x y = list_any (λ p. has_later by_statement p x y) by_statement
 

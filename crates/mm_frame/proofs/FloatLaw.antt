@@ -197,7 +197,7 @@ module _ (db : List Statement) (sound : IsSound db) where
         (sound.symbols_have_numbers k h 1 0
         (subst (λ (xs : List ℕ). 1 < length xs) (sym formula_is) (omega arith)))
 
-    -- its typecode is no variable
+    -- the typecode of the `$f` is no variable
     pub typecode_constant : is_variable_number db (index_of f.typecode.word (symbol_names db))
         ≡ false
     typecode_constant =

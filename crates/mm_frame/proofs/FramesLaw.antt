@@ -61,15 +61,15 @@ typed_some db sound k v ts few t e = record {
         let b = variable_below db sound k v few (typed_float db sound k v few e) in
         omega (arith, b, c)
 
-    here : get_or (set ts v k) v 0 ≡ k
-    here = get_or-set_same ts v k 0 below
+    float_is_set : get_or (set ts v k) v 0 ≡ k
+    float_is_set = get_or-set_same ts v k 0 below
 
     by_equality : (u : ℕ) → u < length (symbol_names db) → get_or (set ts v k) u 0 ≢ never
         → (u ≡ v) ⊎ (u ≢ v)
         → (get_or (set ts v k) u 0 < k + 1) × (typed_variable_at db (get_or (set ts v k) u 0)
         ≡ Some u)
     by_equality u h ne (inl s) =
-        let is = ap (λ i. get_or (set ts v k) i 0) s ∙ here in
+        let is = ap (λ i. get_or (set ts v k) i 0) s ∙ float_is_set in
         ((omega (arith, is)), ap (typed_variable_at db) is ∙ e ∙ ap Some (sym s))
     by_equality u h ne (inr n) =
         let is = get_or-set_other ts v u k 0 n in
@@ -89,7 +89,7 @@ typed_some db sound k v ts few t e = record {
     alone j u j_lt_next_k l is on (inr m) q =
         let k_is_j : k ≡ j = omega arith in
         let s = same_Some _ _ (sym is ∙ sym (ap (typed_variable_at db) k_is_j) ∙ e) in
-        ap (λ i. get_or (set ts v k) i 0) s ∙ here ∙ k_is_j
+        ap (λ i. get_or (set ts v k) i 0) s ∙ float_is_set ∙ k_is_j
 
 -- ---- the frames
 

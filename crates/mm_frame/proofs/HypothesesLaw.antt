@@ -23,33 +23,34 @@ use Rattle.mm_outline.specs.Blocks.{never}
 use Rattle.mm_frame.specs.Latest.{is_staying}
 use Rattle.mm_database.specs.ParsedStatements.{IsSound, typed_variable_at}
 use Rattle.mm_frame.specs.Hypotheses.{AreLastFloats, is_float_of}
-use Rattle.mm_spec.proofs.RisingLaw.{Rising, filter_is}
+use Rattle.mm_spec.specs.Rising.{IsRisingFrom}
+use Rattle.mm_spec.proofs.RisingLaw.{filter_is}
 use Rattle.mm_frame.proofs.FloatLaw.{typed_float, floating_typed, formula_is, floating_is}
 use Rattle.mm_frame.proofs.FloatLaw.{typecode_constant, variable_below, float_active}
 use Rattle.mm_spec.proofs.MemberLaw.{member_filter, member_range, active_member, essential_local}
 
 -- a list that is strictly rising, by its neighbours
 pub rising_is : (xs : List ℕ) (a : ℕ) → IsStrictlyIncreasing xs
-    → (0 < length xs → a ≤ get_or xs 0 0) → Rising a xs
+    → (0 < length xs → a ≤ get_or xs 0 0) → IsRisingFrom a xs
 rising_is [] a inc h = tt
 rising_is (y ∷ ys) a inc h = (
   h (omega arith),
-  rising_is ys (y + 1) (λ k l. tail k (inc (k + 1) (omega arith)))
-      (λ l. first (inc 0 (omega arith))),
+  rising_is ys (y + 1) (λ k l. tail_increases k (inc (k + 1) (omega arith)))
+      (λ l. second_is_greater (inc 0 (omega arith))),
 )
   where
-    first : get_or (y ∷ ys) 0 0 < get_or (y ∷ ys) (0 + 1) 0 → y + 1 ≤ get_or ys 0 0
-    first s =
+    second_is_greater : get_or (y ∷ ys) 0 0 < get_or (y ∷ ys) (0 + 1) 0 → y + 1 ≤ get_or ys 0 0
+    second_is_greater s =
         let e : 0 + 1 ≡ suc 0 = omega arith in let t = subst (λ i. y < get_or (y ∷ ys) i 0) e s in
         omega (arith, t)
 
-    tail : (k : ℕ) → get_or (y ∷ ys) (k + 1) 0 < get_or (y ∷ ys) (k + 1 + 1) 0
+    tail_increases : (k : ℕ) → get_or (y ∷ ys) (k + 1) 0 < get_or (y ∷ ys) (k + 1 + 1) 0
         → get_or ys k 0 < get_or ys (k + 1) 0
-    tail k s =
-        let next_k_is_next_k : k + 1 ≡ suc k = omega arith in
+    tail_increases k s =
+        let one_more_than_k : k + 1 ≡ suc k = omega arith in
         let f : k + 1 + 1 ≡ suc (k + 1) = omega arith in
         subst (λ i. get_or ys k 0 < get_or (y ∷ ys) i 0) f
-        (subst (λ i. get_or (y ∷ ys) i 0 < get_or (y ∷ ys) (k + 1 + 1) 0) next_k_is_next_k s)
+        (subst (λ i. get_or (y ∷ ys) i 0 < get_or (y ∷ ys) (k + 1 + 1) 0) one_more_than_k s)
 
 filter_filter : (p q : ℕ → Bool) (xs : List ℕ)
     → filter p (filter q xs) ≡ filter (λ j. q j && p j) xs

@@ -157,17 +157,17 @@ module _ (test : Statement → Bool) (db : List Statement) where
       → IsWalked k (xs ++ last ∷ []) next
   walked_next k xs last next few is_walked ne is_latest = record {
     found =
-        λ n. let f = is_latest.found n in let l = here.0 in (
+        λ n. let f = is_latest.found n in let l = last_is_staying.0 in (
           (let a = f.0 in omega (arith, a, l)),
-          on_nested next last k f.0 (omega (arith, l)) here.1
+          on_nested next last k f.0 (omega (arith, l)) last_is_staying.1
               ∙ f.1,
         );
     only = λ i e. only i e;
     all = λ i h e. all i h e (is_walked.all i h e);
   }
     where
-      here : (last < k) × (is_staying test db last k ≡ true)
-      here = is_walked.found ne
+      last_is_staying : (last < k) × (is_staying test db last k ≡ true)
+      last_is_staying = is_walked.found ne
 
       only : (i : ℕ) → is_member (xs ++ last ∷ []) i ≡ true
           → (i < k) × (is_staying test db i k ≡ true)
@@ -178,7 +178,8 @@ module _ (test : Statement → Bool) (db : List Statement) where
               → (i < k) × (is_staying test db i k ≡ true)
           by_values true b p q t = is_walked.only i p
           by_values false true p q t =
-              subst (λ i. (i < k) × (is_staying test db i k ≡ true)) (sym (eqb-true i last q)) here
+              subst (λ i. (i < k) × (is_staying test db i k ≡ true))
+              (sym (eqb-true i last q)) last_is_staying
           by_values false false p q t = absurd (true≢false (sym t))
 
       all : (i : ℕ) → i < k → is_staying test db i k ≡ true
@@ -192,12 +193,12 @@ module _ (test : Statement → Bool) (db : List Statement) where
               → (next ≢ never) × (i ≤ next)
           by_presence i_lt_last (inl n) b =
               absurd (true≢false
-              (sym (on_earlier i last k (omega arith) (let l = here.0 in omega (arith, l))
+              (sym (on_earlier i last k (omega arith) (let l = last_is_staying.0 in omega (arith, l))
               staying_at_k)
               ∙ is_latest.after i i_lt_last (inr n)))
           by_presence i_lt_last (inr n) (inl l) =
               absurd (true≢false
-              (sym (on_earlier i last k (omega arith) (let l = here.0 in omega (arith, l))
+              (sym (on_earlier i last k (omega arith) (let l = last_is_staying.0 in omega (arith, l))
               staying_at_k)
               ∙ is_latest.after i i_lt_last (inl l)))
           by_presence i_lt_last (inr n) (inr l) = (n, l)
@@ -231,7 +232,7 @@ module _ (test : Statement → Bool) (db : List Statement) where
           by_membership (inl m) = m
           by_membership (inr (n, l)) = absurd (n last_is_never)
 
--- one more at the end of the list
+-- a list of the latest statements stays such with the one at the next place
 pub each_pushed : (test : Statement → Bool) (db : List Statement) (xs ys : List ℕ) (last k : ℕ)
     → length xs ≡ k + 1 → ys ≡ xs ++ last ∷ []
     → ((i : ℕ) → i ≤ k → IsLatest test db i (get_or xs i 0)) → IsLatest test db (k + 1) last

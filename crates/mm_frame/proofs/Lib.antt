@@ -2,7 +2,7 @@
 -- (`filter_is` of `mm_spec`, `unique` in `PairsLaw.antt`). `candidate_open` and `walked_end`
 -- (`LatestLaw.antt`) find the active `$e`, `mandatory_is` the variables, and `hypotheses_are`
 -- (`HypothesesLaw.antt`) the hypotheses. `with_disjoint` and `pairs_more` (`ChainsLaw.antt`) give
--- the `$d` by variables, with `are_known` of `mm_database` `IsDisjointIndex`, and `pairs_are`
+-- the `$d` by variables, with `have_blocks` of `mm_database` `IsDisjointIndex`, and `pairs_are`
 -- (`DisjointLaw.antt`) the pairs. (`SkipsLaw.antt`: the loops of `skips_of`; `LoopsLaw.antt`: one
 -- more element in the loops that collect.) The loop of `frames_of` adds to the frames by
 -- `frames_more` (`FramesLaw.antt`). So `frame_tables_of` has `AreFrameTables`.

@@ -65,7 +65,7 @@ mandatory_first x [] xs ys n v h e m =
     m ∙ ap (λ zs. v && is_member zs x) e ∙ ap (λ z. v && z) (sym (or-false (is_member ys x)))
 mandatory_first x (o ∷ old) xs ys n v h e m = absurd (omega (arith, h))
 
--- those of the next formula
+-- the variables of the next formula, when those of the formulas before it have been found
 pub mandatory_next : (x : ℕ) (f : ℕ → List ℕ) (es : List ℕ) (i d : ℕ) (xs : List ℕ)
     (n b v k : Bool) → i < length es → xs ≡ f (get_or es i d)
     → b ≡ (v && (k || list_any (λ j. is_member (f j) x) (take i es)))

@@ -9,7 +9,7 @@ use Rattle.mm_spec.proofs.ActivityLaw.{is_block_open_exact}
 use Rattle.mm_spec.proofs.BoolLaw.{same_tests}
 
 module _ (db : List Statement) where
-  -- what stays open is open before
+  -- the block of statement j is open at k if it is open at a later statement
   pub stays_earlier : (j k l : ℕ) → j ≤ k → k ≤ l → is_block_open db j l ≡ true
       → is_block_open db j k ≡ true
   stays_earlier j k l h m e =

@@ -337,6 +337,6 @@ sorted_rows m (suc n) a =
     (sym (has_rows (range_with_len 0 m) (range_with_len (a + 1) n) x y) ∙ f)).0 in
     inl (omega (arith, u, l)))
 
--- all pairs are in order
+-- the list of all pairs of numbers below n is sorted
 pub sorted_pairs : (n : ℕ) → Sorted (pairs_of n)
 sorted_pairs n = sorted_rows n n 0

@@ -10,7 +10,7 @@ use Rattle.mm_spec.specs.Derivation.{is_member}
 use Rattle.mm_frame.specs.Hypotheses.{AreStamps}
 use Rattle.mm_spec.proofs.MemberLaw.{member_push}
 
--- one symbol more
+-- stamps stay those of the variables if a symbol is stamped and added to them
 pub stamp_more : (n stamp : ℕ) (stamps variables : List ℕ) (s : ℕ)
     → AreStamps n stamp stamps variables → s < n
     → AreStamps n stamp (set stamps s stamp) (variables ++ s ∷ [])
@@ -20,13 +20,13 @@ stamp_more n stamp stamps variables s m h = record {
   marked = λ x l. marked x l (cases_eq x s) ∙ sym (member_push variables s x);
 }
   where
-    here : get_or (set stamps s stamp) s 0 ≡ stamp
-    here = get_or-set_same stamps s stamp 0 (let c = m.count in omega (arith, c, h))
+    stamp_is_set : get_or (set stamps s stamp) s 0 ≡ stamp
+    stamp_is_set = get_or-set_same stamps s stamp 0 (let c = m.count in omega (arith, c, h))
 
     within : (x : ℕ) → x < n → (x ≡ s) ⊎ (x ≢ s) → get_or (set stamps s stamp) x 0 ≤ stamp
     within x l (inl e) =
         subst (λ x. get_or (set stamps s stamp) x 0 ≤ stamp) (sym e)
-        (subst (λ v. v ≤ stamp) (sym here) (le_refl stamp))
+        (subst (λ v. v ≤ stamp) (sym stamp_is_set) (le_refl stamp))
     within x l (inr e) =
         subst (λ v. v ≤ stamp) (sym (get_or-set_other stamps s x stamp 0 e)) (m.within x l)
 
@@ -34,7 +34,7 @@ stamp_more n stamp stamps variables s m h = record {
         → nat_eq (get_or (set stamps s stamp) x 0) stamp ≡ (is_member variables x || nat_eq x s)
     marked x l (inl e) =
         ap (λ x. nat_eq (get_or (set stamps s stamp) x 0) stamp) e
-        ∙ eq-eqb (get_or (set stamps s stamp) s 0) stamp here
+        ∙ eq-eqb (get_or (set stamps s stamp) s 0) stamp stamp_is_set
         ∙ sym (ap (λ b. is_member variables x || b) (eq-eqb x s e)
         ∙ or-true (is_member variables x))
     marked x l (inr e) =
@@ -91,7 +91,7 @@ not_listed v m s x e = by_equality (cases_eq x s)
         ∙ ap (λ a. m x || (a && nat_eq x s)) (sym (ap v q ∙ e))
     by_equality (inr q) = right_false (m x) (v x) ∙ ap (λ a. m x || (v x && a)) (sym (ne_eqb x s q))
 
--- one symbol more in the row
+-- a variable is among the found ones and those of the row with one symbol more
 pub listed_row : (f v t e : Bool) → ((f || (v && t)) || (v && e)) ≡ (f || (v && (t || e)))
 listed_row true v t e = refl
 listed_row false false t e = refl

@@ -4,12 +4,8 @@
 use Rattle.std.specs.Prelude.{◌≡◌, ℕ, ◌<◌, ◌≤◌, ◌+◌, ◌-◌, Bool, ◌&&◌, ◌||◌, List, [], ◌∷◌, length}
 use Rattle.std.specs.Prelude.{get_or, nat_eq}
 use Rattle.mm_spec.specs.Derivation.{is_member}
+use Rattle.mm_spec.specs.Rising.{IsRisingFrom}
 use Rattle.mm_frame.specs.declared.chains.Chains.{Chains}
-
--- ascending, from `least` on
-abbrev pub IsRisingFrom : ℕ → List ℕ → Type 0
-IsRisingFrom least [] = Unit {0}
-IsRisingFrom least (j ∷ js) = (least ≤ j) × IsRisingFrom (j + 1) js
 
 -- the links from link n on have these statements, in this order
 abbrev pub IsLinkChain : List (ℕ × ℕ) → ℕ → List ℕ → Type 0

@@ -16,7 +16,8 @@ module _ (test : Statement → Bool) (db : List Statement) where
     pub found : last ≢ never → (last < k) × (list_any test (statement_at db last) ≡ true)
     pub after : (i : ℕ) → i < k → (last < i) ⊎ (last ≡ never) → is_staying i k ≡ false
 
-  -- the same, and `last` is active at k
+  -- no statement of the kind after `last` is active at k, and `last` is; it may be `never`, for
+  -- none
   pub record IsLatest (k last : ℕ) : Type 0 where
     pub found : last ≢ never → (last < k) × (is_staying last k ≡ true)
     pub after : (i : ℕ) → i < k → (last < i) ⊎ (last ≡ never) → is_staying i k ≡ false

@@ -3,11 +3,11 @@ use Rattle.mm_spec.specs.Frame.{is_essential}
 use Rattle.mm_database.specs.DisjointIndex.{IsDisjointIndex}
 use Rattle.mm_frame.specs.Latest.{AreLatest}
 use Rattle.mm_database.specs.ParsedStatements.{IsSound}
-use Rattle.mm_frame.specs.declared.sources.Sources.{Sources}
+use Rattle.mm_frame.specs.declared.sources.FrameSources.{FrameSources}
 
--- all are those of the statements, which are sound
+-- the statements are sound, and the latest `$e` and the index of the `$d` are theirs
 module _ {A : Type 0} where
-  pub record AreSources (s : Sources A) : Type 0 where
+  pub record AreSources (s : FrameSources A) : Type 0 where
     pub sound : IsSound s.statements.now.list
     pub essentials_are : AreLatest is_essential s.statements.now.list s.essentials.now
     pub index_is : IsDisjointIndex s.statements.now.list s.statements.now.blocks

@@ -9,8 +9,8 @@ use mm_database::statements::Statements;
 use mm_outline::blocks::NEVER;
 use std::alloc::{AllocError, Allocator};
 
-/// Returns the last `$e` that is active at `at`, or `NEVER`. No `$e` after the candidate is active
-/// there, so it goes back from `candidate`.
+/// Returns the last `$e` that is active at the statement `at`, or `NEVER`. No `$e` after the
+/// candidate is active there, so it goes back from `candidate`.
 fn last_open<A: Allocator>(
     statements: &Statements<A>,
     latest: &[u32],
@@ -52,7 +52,7 @@ pub(crate) fn latest_essentials<A: Allocator + Copy>(
     Ok(latest)
 }
 
-/// Lists the `$e` that are active at `at`, in some order. Replaces what `into` has.
+/// Lists the `$e` that are active at the statement `at`, in some order. Replaces what `into` has.
 pub(crate) fn active_essentials<A: Allocator>(
     statements: &Statements<A>,
     latest: &[u32],

@@ -23,7 +23,7 @@ struct Chains<A: Allocator> {
     links: Vec<(u32, usize), A>,
 }
 
-/// Lets all fields go in one call, so that a proof has one step for it at each exit.
+/// Dropped in one call: docs/PROOFS.md, "What a check costs".
 impl<A: Allocator> Drop for Chains<A> {
     fn drop(self) {
         let Self { heads: _, links: _ } = self;
@@ -55,9 +55,9 @@ fn add_link<A: Allocator>(
         (AddsInFront (λ x. nat_eq x symbol) statement chains.old chains.new) }
 {
     let index = symbol.number() as usize;
-    let head = chains.heads[index];
-    if !begins_with(&chains.links, head, statement) {
-        chains.links.push((statement, head))?;
+    let first_link = chains.heads[index];
+    if !begins_with(&chains.links, first_link, statement) {
+        chains.links.push((statement, first_link))?;
         chains.heads[index] = chains.links.len();
     }
     Ok(())

@@ -11,7 +11,7 @@ ghost use Rattle.mm_frame.specs.Together.{has_later};
 ghost use Rattle.mm_database.specs.Pairs.{has_pair, AreRising};
 
 use crate::disjoint_index::sort_and_dedup_pairs;
-use crate::sources::Sources;
+use crate::sources::FrameSources;
 use mm_database::disjoint_index::{DisjointIndex, add_active};
 use mm_outline::blocks::Blocks;
 use mm_outline::symbol::Sym;
@@ -58,7 +58,8 @@ fn add_together<A: Allocator>(
     Ok(())
 }
 
-/// Appends the `$d` that are active at `at`, each paired with those of the symbols that it has.
+/// Appends the `$d` that are active at the statement `at`, each paired with those of the symbols
+/// that it has.
 fn add_all_active<A: Allocator>(
     blocks: &Blocks<A>,
     disjoint_index: &DisjointIndex<A>,
@@ -101,7 +102,7 @@ fn symbol_pairs<A: Allocator + Copy>(
 /// removed.
 pub(crate) fn mandatory_pairs<A: Allocator + Copy>(
     alloc: A,
-    sources: &Sources<A>,
+    sources: &FrameSources<A>,
     variables: &[Sym],
     assertion: u32,
     variables_by_statement: &mut Vec<(u32, u32), A>,

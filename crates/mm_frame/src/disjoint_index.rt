@@ -3,7 +3,7 @@
 ghost use Rattle.std.specs.Prelude.{◌≡◌, ◌<◌, ◌+◌, ◌-◌, ◌&&◌, ℕ, IfOk};
 ghost use Rattle.std.specs.Prelude.{length, get_or, nat_eq, nat_le};
 ghost use Rattle.mm_outline.specs.Blocks.{end_of};
-ghost use Rattle.mm_database.specs.DisjointIndex.{AreKnown, AreSkips};
+ghost use Rattle.mm_database.specs.DisjointIndex.{HaveBlocks, AreSkips};
 ghost use Rattle.mm_database.specs.DisjointIndex.{IsDisjointIndex};
 ghost use Rattle.mm_database.specs.Pairs.{has_pair, AreRising};
 ghost use Rattle.mm_database.specs.Starts.{AreStarts};
@@ -43,16 +43,16 @@ fn skips_of<A: Allocator + Copy>(
     blocks: &Blocks<A>,
     pairs: &[(u32, u32)],
 ) -> Result<Vec<usize, A>, AllocError>
-    requires known { AreKnown blocks.now pairs.now }
+    requires known { HaveBlocks blocks.now pairs.now }
     ensures { IfOk result (λ v. AreSkips blocks.now pairs.now v.items) }
 {
     let mut skips = Vec::new(alloc);
     for index in 0..pairs.len() {
-        let mut first = index;
-        while first > 0 && is_covered(blocks, pairs[first - 1], pairs[index]) {
-            first = skips[first - 1];
+        let mut covered_from = index;
+        while covered_from > 0 && is_covered(blocks, pairs[covered_from - 1], pairs[index]) {
+            covered_from = skips[covered_from - 1];
         }
-        skips.push(first)?;
+        skips.push(covered_from)?;
     }
     Ok(skips)
 }

@@ -13,7 +13,7 @@ use crate::active::latest_essentials;
 use crate::disjoint::mandatory_pairs;
 use crate::disjoint_index::disjoint_index_of;
 use crate::hypotheses::list_hypotheses;
-use crate::sources::Sources;
+use crate::sources::FrameSources;
 use mm_database::disjoint_index::DisjointIndex;
 use mm_database::frames::{Frame, FrameTables, Frames};
 use mm_database::statements::Statements;
@@ -45,7 +45,7 @@ fn set_last_float<A: Allocator>(
     }
 }
 
-/// Lists that are filled anew for each assertion, so that their memory is reused.
+/// Lists that are kept from one assertion to the next, so that their memory is reused.
 struct Scratch<A: Allocator> {
     /// For each symbol 1 more than the last assertion for which it is a mandatory variable, or 0.
     stamps: Vec<u32, A>,
@@ -59,7 +59,7 @@ struct Scratch<A: Allocator> {
     pairs_by_statement: Vec<(u32, u32), A>,
 }
 
-/// Lets all fields go in one call, so that a proof has one step for it at each exit.
+/// Dropped in one call: docs/PROOFS.md, "What a check costs".
 impl<A: Allocator> Drop for Scratch<A> {
     fn drop(self) {
         let Self {
@@ -84,7 +84,7 @@ fn copied<A: Allocator + Copy>(alloc: A, numbers: &[u32]) -> Result<Vec<u32, A>,
 /// Returns the frame of an assertion.
 fn frame_of<A: Allocator + Copy>(
     alloc: A,
-    sources: &Sources<A>,
+    sources: &FrameSources<A>,
     last_floats: &[u32],
     assertion: u32,
     scratch: &mut Scratch<A>,
@@ -122,7 +122,7 @@ fn frame_of<A: Allocator + Copy>(
 /// Adds a statement, with its frame if it is an assertion.
 fn add_frame<A: Allocator + Copy>(
     alloc: A,
-    sources: &Sources<A>,
+    sources: &FrameSources<A>,
     last_floats: &[u32],
     statement: u32,
     scratch: &mut Scratch<A>,
@@ -159,7 +159,7 @@ pub(crate) fn frames_of<A: Allocator + Copy>(
 {
     let count = statements.len();
     let essentials = latest_essentials(alloc, statements)?;
-    let sources = Sources {
+    let sources = FrameSources {
         statements,
         essentials: &essentials,
         disjoint_index,

@@ -12,7 +12,7 @@ ghost use Rattle.mm_frame.specs.Hypotheses.{AreReady, AreStamps, AreLastFloats, 
 ghost use Rattle.mm_frame.specs.Hypotheses.{is_float_of};
 
 use crate::active::active_essentials;
-use crate::sources::Sources;
+use crate::sources::FrameSources;
 use mm_database::statements::Statements;
 use mm_outline::blocks::NEVER;
 use mm_outline::symbol::Sym;
@@ -158,7 +158,7 @@ fn sort_and_dedup_numbers<A: Allocator>(numbers: &mut Vec<u32, A>)
 /// Lists the mandatory hypotheses of an assertion in `hyps` and its mandatory variables in
 /// `variables`, and marks these variables. Replaces what the two lists have.
 pub(crate) fn list_hypotheses<A: Allocator>(
-    sources: &Sources<A>,
+    sources: &FrameSources<A>,
     last_floats: &[u32],
     assertion: u32,
     stamps: &mut Vec<u32, A>,

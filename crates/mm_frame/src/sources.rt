@@ -1,4 +1,4 @@
-//! What frames are found from.
+//! What the frames are made from.
 
 use mm_database::disjoint_index::DisjointIndex;
 use mm_database::statements::Statements;
@@ -6,7 +6,7 @@ use std::alloc::Allocator;
 
 /// The statements, the last active `$e` at each, and the `$d` by their variables.
 #[derive(Drop)]
-pub struct Sources<'s, 't, A: Allocator> {
+pub struct FrameSources<'s, 't, A: Allocator> {
     pub statements: &'s Statements<'t, A>,
     pub essentials: &'s [u32],
     pub disjoint_index: &'s DisjointIndex<A>,

@@ -39,7 +39,7 @@ bad_byte : (lexed (codes "$c a" ++ 7 ∷ codes "b $.")).fault ≡ Some (fault 4 
 unfolding lexed
 bad_byte = refl
 
--- no statement goes on with a `$}` too many
+-- the statements end before a `$}` that closes no block
 stops_at : statements (codes "$c a $. $} $c b $.") ≡ constants 0 (token 3 (codes "a") ∷ []) 5 ∷ []
 unfolding statements
 stops_at = refl

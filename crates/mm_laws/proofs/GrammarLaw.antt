@@ -15,7 +15,7 @@ use Rattle.mm_spec.specs.Roles.{is_comment_mark}
 use Rattle.mm_spec.specs.Roles.{has_comment_mark, is_token, opens_comment, closes_comment}
 use Rattle.mm_spec.specs.Roles.{is_comment_word}
 use Rattle.mm_spec.specs.Readings.{Reading, reading, with_tokens, bytes_of}
-use Rattle.mm_spec.specs.Laws.Readings.{go_on}
+use Rattle.mm_spec.specs.Laws.Readings.{append_reading}
 use Rattle.mm_laws.specs.Grammar.{Lexeme, Single, Comment, LastComment, IsLexeme, IsLastComment}
 use Rattle.mm_laws.specs.Grammar.{AreCommentWords}
 use Rattle.mm_laws.specs.Grammar.{words_in, words_in_last_comment, tokens_in, IsWellBegun, IsFaulty}
@@ -58,7 +58,7 @@ comment_word_is_no_closing word h = by_closes (closes_comment word) refl
     by_closes true e = absurd (true≢false (sym h ∙ closing_is_no_comment_word word e))
     by_closes false e = e
 
--- what each class is read as
+-- the role that a word of each class has
 role_token : (word : List ℕ) → is_token word ≡ true → role_of false word ≡ roles.Token
 unfolding role_of
 role_token word h = rw h refl
@@ -145,7 +145,7 @@ IsWellBegun_reading text ws ts c begun =
     ap (reading text None) begun.words
     ∙ reading_append text None (flat_map words_in begun.lexemes)
     (words_in_last_comment begun.last_comment)
-    ∙ ap (λ (r : Reading). go_on text r (words_in_last_comment begun.last_comment))
+    ∙ ap (λ (r : Reading). append_reading text r (words_in_last_comment begun.last_comment))
     (reading_lexemes text begun.lexemes begun.are_lexemes)
     ∙ ap (with_tokens (flat_map tokens_in begun.lexemes))
     (reading_last_comment text begun.last_comment begun.is_last_comment)
@@ -342,7 +342,7 @@ faulty_word text ws f r s = (
         let read_on : reading text None (s.before ++ s.w ∷ [])
         ≡ with_tokens r.tokens (reading text r.open_comment (s.w ∷ [])) =
         reading_append text None s.before (s.w ∷ [])
-        ∙ ap (λ (q : Reading). go_on text q (s.w ∷ [])) s.begun in
+        ∙ ap (λ (q : Reading). append_reading text q (s.w ∷ [])) s.begun in
         let fault =
         ap (λ (q : Reading). q.fault)
         (sym whole ∙ read_on

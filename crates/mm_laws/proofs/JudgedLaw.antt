@@ -163,7 +163,7 @@ module _ (c : Context) (all_complete : (l : ℕ) → HasCompleteFrame c (c.rule 
       map_append [] x ys = refl
       map_append (y ∷ xs) x ys = ap (λ z. y.step ∷ z) (map_append xs x ys)
 
-  -- no two of them
+  -- steps from which a derivation of the formula follows have no step fault
   pub no_step_fault : (d : Trees) → Derives c (steps_of ps) formula d → (f : Fault)
       → ¬ StepFault c ps f
   no_step_fault d h f s =

@@ -19,28 +19,28 @@ use Rattle.mm_spec.proofs.StopsLaw.{no_text_fault}
 abbrev faulty : List ℕ
 faulty = codes "$c a $. ${ $c b $. $}"
 
-abbrev front : List Statement
-front = constants 0 (token 3 (codes "a") ∷ []) 5 ∷ opening 8 ∷ []
+abbrev before_fault : List Statement
+before_fault = constants 0 (token 3 (codes "a") ∷ []) 5 ∷ opening 8 ∷ []
 
-front_lawful : (k : ℕ) → k < 2 → scope_fault (statements faulty) k ≡ None
+before_fault_lawful : (k : ℕ) → k < 2 → scope_fault (statements faulty) k ≡ None
 unfolding statements
-front_lawful zero h = refl
-front_lawful (suc zero) h = refl
-front_lawful (suc (suc k)) h = absurd (omega arith)
+before_fault_lawful zero h = refl
+before_fault_lawful (suc zero) h = refl
+before_fault_lawful (suc (suc k)) h = absurd (omega arith)
 
-front_valid : AreValid front 2
+front_valid : AreValid before_fault 2
 front_valid zero h t = absurd (true≢false (sym t))
 front_valid (suc zero) h t = absurd (true≢false (sym t))
 front_valid (suc (suc k)) h t = absurd (omega arith)
 
-front_read : IsRead 21 (lexed_of faulty) front (Some (fault 11 ConstantInBlock))
+front_read : IsRead 21 (lexed_of faulty) before_fault (Some (fault 11 ConstantInBlock))
 unfolding statements
 front_read = record {
   statements = statements faulty;
   are_statements = is_longest (lexed_of faulty).tokens;
   rest = constants 11 (token 14 (codes "b") ∷ []) 16 ∷ closing 19 ∷ [];
   splits = refl;
-  lawful = front_lawful;
+  lawful = before_fault_lawful;
   stops = ((λ e. cc), refl);
 }
 
@@ -49,7 +49,7 @@ unfolding digits
 refused =
     inl (
       fault 11 ConstantInBlock,
-      (front, Some (fault 11 ConstantInBlock), front_read, inr (front_valid, refl)),
+      (before_fault, Some (fault 11 ConstantInBlock), front_read, inr (front_valid, refl)),
       refl,
     )
 

@@ -16,7 +16,7 @@ pub as_read : (P : List Statement → ℕ → Type 0) → WhereRead P → (len :
     → (db : List Statement) (fault : Option Fault) → IsRead len x db fault → (k : ℕ) → P db k
 as_read P h len x db fault r = h len x db fault r false
 
--- what is read is lawful
+-- each statement that was read is lawful
 pub lawful_read : (len : ℕ) (x : LexedText) (db : List Statement) (fault : Option Fault)
     → IsRead len x db fault → (k : ℕ) → k < length db → IsLawful db k
 lawful_read len x db fault r k h =

@@ -31,7 +31,7 @@ first_below x (y ∷ ys) h a m =
 own_member : (x : ℕ) (xs : List ℕ) → is_member (x ∷ xs) x ≡ true
 own_member x xs = or_left (x == x) (is_member xs x) (eq-eqb x x refl)
 
--- the same members, the same list
+-- two ascending lists with the same members are the same list
 pub same_list : (xs ys : List ℕ) → IsStrictlyIncreasing xs → IsStrictlyIncreasing ys
     → ((a : ℕ) → is_member xs a ≡ is_member ys a) → xs ≡ ys
 same_list [] [] h k same = refl
@@ -55,7 +55,8 @@ same_list (x ∷ xs) (y ∷ ys) h k same =
         let m = first_is_least y x xs h (same y ∙ own_member y ys) in
         omega arith
 
-    -- what is after the one first element is after the other
+    -- a member of one list that comes after its first element comes after the first element of the
+    -- other list
     in_other_tail : (a b c : ℕ) (bs cs : List ℕ) → b ≡ c → IsStrictlyIncreasing (b ∷ bs)
         → is_member bs a ≡ true → is_member (c ∷ cs) a ≡ true → is_member cs a ≡ true
     in_other_tail a b c bs cs e r m n = at_first_or_later (or_cases (a == c) (is_member cs a) n)

@@ -27,7 +27,7 @@ lawful_up_to_next list n h e m is k l = at_last_or_before (cases_lt k n)
         let same : k ≡ n = omega (arith, is, l, b) in ap (scope_fault list) same ∙ e
 
 module _ (len : ℕ) (x : LexedText) where
-  -- where the first statements are lawful, the reading goes on
+  -- if the first statements of a text are lawful, the text has a reading
   read_from : (rest db : List Statement) → statements_of x.tokens ≡ db ++ rest
       → AreLawful (statements_of x.tokens) (length db) → IsReadable len x
   read_from [] db is lawful = by_text_fault (text_fault len x) refl

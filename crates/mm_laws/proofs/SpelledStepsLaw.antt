@@ -83,7 +83,7 @@ still_mark items more k i h =
 abbrev AreMarks : List Item → List ℕ → Type 0
 AreMarks before marks = (k i : ℕ) → slice_get marks k ≡ Some i → IsMark before k i
 
--- one mark more
+-- the marks are those of the items with one mark more
 one_mark_more : (before : List Item) (marks : List ℕ) (count : ℕ) → 0 < count
     → count ≡ count_by is_number before → length marks ≡ count_by is_mark_item before
     → AreMarks before marks → AreMarks (before ++ mark ∷ []) (marks ++ (count - 1) ∷ [])
@@ -113,11 +113,11 @@ module _ (hypotheses labels : List ℕ) where
 
   steps_from_nothing : (before : List Item) → AreStepsFrom before [] []
   steps_from_nothing before =
-      record { count = refl; each = λ b after n e. absurd (none b after n e) }
+      record { count = refl; each = λ b after n e. absurd (nothing_has_no_number b after n e) }
     where
-      none : (b after : List Item) (n : ℕ) → [] ≡ b ++ number n ∷ after → ⊥
-      none [] after n e = cc
-      none (x ∷ b) after n e = cc
+      nothing_has_no_number : (b after : List Item) (n : ℕ) → [] ≡ b ++ number n ∷ after → ⊥
+      nothing_has_no_number [] after n e = cc
+      nothing_has_no_number (x ∷ b) after n e = cc
 
   steps_from_number : (before items : List Item) (ss : List Step) (n : ℕ) (s : Step)
       → NamesStep hypotheses labels before n s → AreStepsFrom (before ++ number n ∷ []) items ss
@@ -308,12 +308,13 @@ module _ (hypotheses labels : List ℕ) where
       → AreSteps hypotheses labels (map item_of gs)
       (steps_of (group_steps (hypotheses ++ labels) [] 0 gs))
   groups_name_steps gs f =
-      let h = steps_from_groups gs [] [] 0 refl refl (λ k i e. absurd (none k i e)) f in
+      let h = steps_from_groups gs [] [] 0 refl refl
+      (λ k i e. absurd (nothing_has_no_mark k i e)) f in
       record { count = h.count; each = h.each }
     where
-      none : (k i : ℕ) → slice_get {X = ℕ} [] k ≡ Some i → ⊥
-      none zero i e = cc
-      none (suc k) i e = cc
+      nothing_has_no_mark : (k i : ℕ) → slice_get {X = ℕ} [] k ≡ Some i → ⊥
+      nothing_has_no_mark zero i e = cc
+      nothing_has_no_mark (suc k) i e = cc
 
 -- ---- labels
 

@@ -160,7 +160,8 @@ spelling_unique letters (a ∷ items) (b ∷ others) h k =
 
 -- ---- brackets
 
--- one word of brackets more
+-- the labels and letters of a compressed proof with one word more in front, given whether that word
+-- is `)`
 abbrev bracketed_by : Token → List Token → Bool → Compressed
 bracketed_by t ts b =
     elim b [
@@ -168,7 +169,7 @@ bracketed_by t ts b =
       | false ↦ with_label t (bracketed ts)
     ]
 
--- what stands in brackets and after them
+-- the labels stand in the brackets, and the letters after them
 pub bracketed_is : (labels : List Token) (closing : Token) (letters : List Token)
     → closing.word ≡ codes ")" → AllByRecursion (λ t. t.word ≢ codes ")") labels
     → bracketed (labels ++ closing ∷ letters) ≡ record { labels = labels; letters = Some letters }

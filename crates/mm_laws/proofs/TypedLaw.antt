@@ -94,7 +94,7 @@ module _ (db : List Statement) (lawful : (k : ℕ) → k < length db → IsLawfu
         constant = t.constant;
       }
 
-  -- what stands in a hypothesis
+  -- a symbol of the formula of a mandatory hypothesis is one of the hypotheses' symbols
   in_hypothesis : (x j : ℕ) → is_active db j k ≡ true → is_mandatory db k j ≡ true
       → in_formula x j ≡ true → in_hypotheses x ≡ true
   in_hypothesis x j a m h =

@@ -13,10 +13,10 @@ use Rattle.mm_lex.specs.declared.modes.CommentState.{CommentState}
 use Rattle.mm_lex.specs.declared.modes.CommentState.TheVariants.{Nowhere, Before, At}
 use Rattle.mm_spec.specs.Roles.{role_of, fault_of}
 use Rattle.mm_spec.specs.Readings.{Reading, reading, with_tokens, bytes_of}
-use Rattle.mm_spec.specs.Laws.Readings.{go_on}
+use Rattle.mm_spec.specs.Laws.Readings.{append_reading}
 use Rattle.mm_lex.specs.Pieces.{resolved, side_reading, Side, Between, Stretch, AreReadings}
 use Rattle.mm_lex.specs.Pieces.{IsReadBetween, IsSummary}
-use Rattle.mm_lex.specs.Inners.{carried}
+use Rattle.mm_lex.specs.Between.{carried}
 use Rattle.mm_spec.specs.Words.{word_at, words_between, words_of}
 use Rattle.mm_lex.specs.Plain.{IsPlainWord}
 use Rattle.mm_lex.specs.Beginnings.{ArePlain}
@@ -25,7 +25,7 @@ use Rattle.mm_lex.proofs.StretchesLaw.{join_words, join_broken, join_unbroken_br
 use Rattle.mm_lex.proofs.StretchesLaw.{join_broken_unbroken, join_unbroken, whole_broken}
 use Rattle.mm_spec.proofs.ReadingsLaw.{reading_opening, reading_closing, reading_comment}
 use Rattle.mm_spec.proofs.ReadingsLaw.{reading_faulty, reading_end, reading_append, reading_one}
-use Rattle.mm_spec.proofs.ReadingsLaw.{go_on_with_tokens}
+use Rattle.mm_spec.proofs.ReadingsLaw.{append_reading_with_tokens}
 use Rattle.mm_spec.proofs.WordRunsLaw.{words_between_none}
 use Rattle.mm_spec.proofs.WordsLaw.{words_between_cases}
 use Rattle.mm_lex.proofs.RolesLaw.{plain_comment, plain_token}
@@ -38,13 +38,13 @@ some_from : {X : Type 0} (o : Option X) → is_some o ≡ true → (x : X) × (o
 some_from None h = cc
 some_from (Some x) h = (x, refl)
 
-pub go_on_none : (text : List ℕ) (r : Reading) (ws : List Word) → r.fault ≡ None
-    → go_on text r ws ≡ with_tokens r.tokens (reading text r.open_comment ws)
-go_on_none text r ws h = rw h refl
+pub append_reading_none : (text : List ℕ) (r : Reading) (ws : List Word) → r.fault ≡ None
+    → append_reading text r ws ≡ with_tokens r.tokens (reading text r.open_comment ws)
+append_reading_none text r ws h = rw h refl
 
-pub go_on_some : (text : List ℕ) (r : Reading) (ws : List Word) → is_some r.fault ≡ true
-    → go_on text r ws ≡ r
-go_on_some text r ws h = let e = some_from r.fault h in rw e.1 refl
+pub append_reading_some : (text : List ℕ) (r : Reading) (ws : List Word) → is_some r.fault ≡ true
+    → append_reading text r ws ≡ r
+append_reading_some text r ws h = let e = some_from r.fault h in rw e.1 refl
 
 module _ (text : List ℕ) (r : Reading) (w : Word) (b : Bool) (none : r.fault ≡ None)
     (is : b ≡ is_some r.open_comment) where
@@ -52,62 +52,65 @@ module _ (text : List ℕ) (r : Reading) (w : Word) (b : Bool) (none : r.fault �
       → role_of (is_some r.open_comment) (bytes_of text w) ≡ f
   role_is role = ap (λ (x : Bool). role_of x (bytes_of text w)) (sym is) ∙ sym role
 
-  pub go_on_token : roles.Token ≡ role_of b (bytes_of text w)
-      → go_on text r (w ∷ [])
+  pub append_reading_token : roles.Token ≡ role_of b (bytes_of text w)
+      → append_reading text r (w ∷ [])
       ≡ record { tokens = r.tokens ++ w ∷ []; fault = r.fault; open_comment = r.open_comment }
-  go_on_token role =
-      go_on_none text r _ none
+  append_reading_token role =
+      append_reading_none text r _ none
       ∙ ap (with_tokens r.tokens)
       (reading_one text r.open_comment w [] (role_is role)
       ∙ ap (with_tokens (w ∷ [])) (reading_end text r.open_comment))
       ∙ rw none refl
 
-  pub go_on_opening : roles.Opening ≡ role_of b (bytes_of text w)
-      → go_on text r (w ∷ [])
+  pub append_reading_opening : roles.Opening ≡ role_of b (bytes_of text w)
+      → append_reading text r (w ∷ [])
       ≡ record { tokens = r.tokens; fault = r.fault; open_comment = Some w.start }
-  go_on_opening role =
-      go_on_none text r _ none
+  append_reading_opening role =
+      append_reading_none text r _ none
       ∙ ap (with_tokens r.tokens)
       (reading_opening text r.open_comment w [] (role_is role) ∙ reading_end text (Some w.start))
       ∙ rw (none, append-nil) refl
 
-  pub go_on_closing : roles.Closing ≡ role_of b (bytes_of text w)
-      → go_on text r (w ∷ []) ≡ record { tokens = r.tokens; fault = r.fault; open_comment = None }
-  go_on_closing role =
-      go_on_none text r _ none
+  pub append_reading_closing : roles.Closing ≡ role_of b (bytes_of text w)
+      → append_reading text r (w ∷ [])
+      ≡ record { tokens = r.tokens; fault = r.fault; open_comment = None }
+  append_reading_closing role =
+      append_reading_none text r _ none
       ∙ ap (with_tokens r.tokens)
       (reading_closing text r.open_comment w [] (role_is role) ∙ reading_end text None)
       ∙ rw (none, append-nil) refl
 
-  pub go_on_comment : roles.Comment ≡ role_of b (bytes_of text w) → go_on text r (w ∷ []) ≡ r
-  go_on_comment role =
-      go_on_none text r _ none
+  pub append_reading_comment : roles.Comment ≡ role_of b (bytes_of text w)
+      → append_reading text r (w ∷ []) ≡ r
+  append_reading_comment role =
+      append_reading_none text r _ none
       ∙ ap (with_tokens r.tokens)
       (reading_comment text r.open_comment w [] (role_is role) ∙ reading_end text r.open_comment)
       ∙ rw (append-nil, ← none) refl
 
-  pub go_on_faulty : roles.Faulty ≡ role_of b (bytes_of text w)
-      → go_on text r (w ∷ [])
+  pub append_reading_faulty : roles.Faulty ≡ role_of b (bytes_of text w)
+      → append_reading text r (w ∷ [])
       ≡ record {
         tokens = r.tokens;
         fault = Some (fault_of b w.start (bytes_of text w));
         open_comment = r.open_comment;
       }
-  go_on_faulty role =
-      go_on_none text r _ none
+  append_reading_faulty role =
+      append_reading_none text r _ none
       ∙ ap (with_tokens r.tokens) (reading_faulty text r.open_comment w [] (role_is role))
       ∙ rw (append-nil, is) refl
 
-pub go_on_append : (text : List ℕ) (r : Reading) (xs ys : List Word)
-    → go_on text r (xs ++ ys) ≡ go_on text (go_on text r xs) ys
-go_on_append text r xs ys = by_fault r.tokens r.fault r.open_comment
+pub append_reading_append : (text : List ℕ) (r : Reading) (xs ys : List Word)
+    → append_reading text r (xs ++ ys) ≡ append_reading text (append_reading text r xs) ys
+append_reading_append text r xs ys = by_fault r.tokens r.fault r.open_comment
   where
     by_fault : (ts : List Word) (f : Option Fault) (c : Option ℕ)
-        → go_on text (record { tokens = ts; fault = f; open_comment = c }) (xs ++ ys)
-        ≡ go_on text (go_on text (record { tokens = ts; fault = f; open_comment = c }) xs) ys
+        → append_reading text (record { tokens = ts; fault = f; open_comment = c }) (xs ++ ys)
+        ≡ append_reading text (append_reading text
+        (record { tokens = ts; fault = f; open_comment = c }) xs) ys
     by_fault ts None c =
         ap (with_tokens ts) (reading_append text c xs ys)
-        ∙ go_on_with_tokens text ts ys (reading text c xs).tokens (reading text c xs).fault
+        ∙ append_reading_with_tokens text ts ys (reading text c xs).tokens (reading text c xs).fault
         (reading text c xs).open_comment
     by_fault ts (Some f) c = refl
 
@@ -118,7 +121,8 @@ resolved_carried p x c Before h = h
 resolved_carried p x c (At q) h = refl
 
 -- The words go on inside a comment.
-pub go_on_inside : (text : List ℕ) (ws : List Word) (p : ℕ) (r next : Side) (items : List Word)
+pub append_reading_inside : (text : List ℕ) (ws : List Word) (p : ℕ) (r next : Side)
+    (items : List Word)
     → ((q : ℕ) → reading text (Some q) ws ≡ side_reading q next) →
     r.fault ≡ None → is_some (resolved p r.open_comment) ≡ true → items ≡ r.tokens ++ next.tokens →
     record {
@@ -126,11 +130,11 @@ pub go_on_inside : (text : List ℕ) (ws : List Word) (p : ℕ) (r next : Side) 
       fault = next.fault;
       open_comment = resolved p (carried r.open_comment next.open_comment);
     }
-    ≡ go_on text (side_reading p r) ws
-go_on_inside text ws p r next items readings none is_open e =
+    ≡ append_reading text (side_reading p r) ws
+append_reading_inside text ws p r next items readings none is_open e =
     let opened = some_from (resolved p r.open_comment) is_open in
-    let all : go_on text (side_reading p r) ws
-    ≡ with_tokens r.tokens (reading text (resolved p r.open_comment) ws) = go_on_none text
+    let all : append_reading text (side_reading p r) ws
+    ≡ with_tokens r.tokens (reading text (resolved p r.open_comment) ws) = append_reading_none text
     (side_reading p r) ws none in
     rw (e, resolved_carried p opened.0 r.open_comment next.open_comment opened.1)
     (sym (all ∙ ap (λ (c : Option ℕ). with_tokens r.tokens (reading text c ws)) opened.1
@@ -144,7 +148,8 @@ not_before x Nowhere h c = refl
 not_before x Before h c = absurd (omega (arith, same_Some 0 1 (sym (h 0) ∙ h 1)))
 not_before x (At q) h c = refl
 
-pub go_on_outside : (text : List ℕ) (ws : List Word) (p : ℕ) (r next : Side) (items : List Word)
+pub append_reading_outside : (text : List ℕ) (ws : List Word) (p : ℕ) (r next : Side)
+    (items : List Word)
     → ((q : ℕ) → reading text None ws ≡ side_reading q next) →
     r.fault ≡ None → is_some (resolved p r.open_comment) ≡ false → items ≡ r.tokens ++ next.tokens →
     record {
@@ -152,11 +157,11 @@ pub go_on_outside : (text : List ℕ) (ws : List Word) (p : ℕ) (r next : Side)
       fault = next.fault;
       open_comment = resolved p (carried r.open_comment next.open_comment);
     }
-    ≡ go_on text (side_reading p r) ws
-go_on_outside text ws p r next items readings none is_open e =
+    ≡ append_reading text (side_reading p r) ws
+append_reading_outside text ws p r next items readings none is_open e =
     let closed : resolved p r.open_comment ≡ None = none_from (resolved p r.open_comment) is_open in
-    let all : go_on text (side_reading p r) ws
-    ≡ with_tokens r.tokens (reading text (resolved p r.open_comment) ws) = go_on_none text
+    let all : append_reading text (side_reading p r) ws
+    ≡ with_tokens r.tokens (reading text (resolved p r.open_comment) ws) = append_reading_none text
     (side_reading p r) ws none in
     rw (
       e,
@@ -166,11 +171,11 @@ go_on_outside text ws p r next items readings none is_open e =
     (sym (all ∙ ap (λ (c : Option ℕ). with_tokens r.tokens (reading text c ws)) closed
     ∙ ap (with_tokens r.tokens) (readings p)))
 
-pub go_on_nil : (text : List ℕ) (r : Reading) → go_on text r [] ≡ r
-go_on_nil text r = by_fault r.tokens r.fault r.open_comment
+pub append_reading_nil : (text : List ℕ) (r : Reading) → append_reading text r [] ≡ r
+append_reading_nil text r = by_fault r.tokens r.fault r.open_comment
   where
     by_fault : (ts : List Word) (f : Option Fault) (c : Option ℕ)
-        → go_on text (record { tokens = ts; fault = f; open_comment = c }) []
+        → append_reading text (record { tokens = ts; fault = f; open_comment = c }) []
         ≡ record { tokens = ts; fault = f; open_comment = c }
     by_fault ts None c = ap (with_tokens ts) (reading_end text c) ∙ rw append-nil refl
     by_fault ts (Some f) c = refl
@@ -183,15 +188,18 @@ pub same_next : (t text : List ℕ) (from here to : ℕ) (w : Word) → t ≡ te
 same_next t text from here to w same next =
     subst (λ (s : List ℕ). words_between s from to ≡ w ∷ words_between s here to) same next
 
-pub go_on_next : (text : List ℕ) (all r s : Reading) (w : Word) (vs ws : List Word)
-    → all ≡ go_on text r vs → vs ≡ w ∷ ws → s ≡ go_on text r (w ∷ []) → all ≡ go_on text s ws
-go_on_next text all r s w vs ws e next step =
-    e ∙ ap (go_on text r) next ∙ go_on_append text r (w ∷ []) ws
-    ∙ ap (λ (q : Reading). go_on text q ws) (sym step)
+pub append_reading_next : (text : List ℕ) (all r s : Reading) (w : Word) (vs ws : List Word)
+    → all ≡ append_reading text r vs → vs ≡ w ∷ ws → s ≡ append_reading text r (w ∷ [])
+    → all ≡ append_reading text s ws
+append_reading_next text all r s w vs ws e next step =
+    e ∙ ap (append_reading text r) next ∙ append_reading_append text r (w ∷ []) ws
+    ∙ ap (λ (q : Reading). append_reading text q ws) (sym step)
 
-pub go_on_done : (text : List ℕ) (all r : Reading) (vs : List Word) → all ≡ go_on text r vs
+pub append_reading_done : (text : List ℕ) (all r : Reading) (vs : List Word)
+    → all ≡ append_reading text r vs
     → vs ≡ [] → all ≡ r
-go_on_done text all r vs e next = e ∙ ap (go_on text r) next ∙ go_on_nil text r
+append_reading_done text all r vs e next =
+    e ∙ ap (append_reading text r) next ∙ append_reading_nil text r
 
 -- Plain words change nothing in a comment.
 pub reading_skips : (text : List ℕ) (p n from to : ℕ) → ArePlain text from (from + n)
@@ -225,33 +233,36 @@ reading_skips text p (suc n) from to plain =
     (cases_lt from to)
 
 -- Outside a comment a plain word is a token.
-pub go_on_plain : (text : List ℕ) (r : Reading) (w : Word) (items : List Word) → r.fault ≡ None
+pub append_reading_plain : (text : List ℕ) (r : Reading) (w : Word) (items : List Word)
+    → r.fault ≡ None
     → is_some r.open_comment ≡ false → IsPlainWord (bytes_of text w) → items ≡ r.tokens ++ w ∷ []
     → record { tokens = items; fault = r.fault; open_comment = r.open_comment }
-    ≡ go_on text r (w ∷ [])
-go_on_plain text r w items none closed plain e =
+    ≡ append_reading text r (w ∷ [])
+append_reading_plain text r w items none closed plain e =
     rw e
-    (sym (go_on_token text r w false none (sym closed) (sym (plain_token (bytes_of text w) plain))))
+    (sym (append_reading_token text r w false none (sym closed)
+    (sym (plain_token (bytes_of text w) plain))))
 
 -- Inside a comment, and after a fault, it changes nothing.
 pub ignored_inside : (faulty inside : Bool) → inside ≡ true → (faulty || inside) ≡ true
 ignored_inside faulty inside e = ap (λ (b : Bool). faulty || b) e ∙ or-true faulty
 
 -- So it is left out, as are those that follow it.
-pub go_on_skips : (text : List ℕ) (all r : Reading) (w : Word) (vs : List Word) (from upto to : ℕ)
+pub append_reading_skips : (text : List ℕ) (all r : Reading) (w : Word) (vs : List Word)
+    (from upto to : ℕ)
     → (is_some r.fault || is_some r.open_comment) ≡ true → IsPlainWord (bytes_of text w)
     → from ≤ upto
-    → ArePlain text from upto → all ≡ go_on text r vs → vs ≡ w ∷ words_between text from to
-    → all ≡ go_on text r (words_between text upto to)
-go_on_skips text all r w vs from upto to ignored plain le others e next =
-    e ∙ ap (go_on text r) next ∙ by_fault r.tokens r.fault r.open_comment ignored
+    → ArePlain text from upto → all ≡ append_reading text r vs → vs ≡ w ∷ words_between text from to
+    → all ≡ append_reading text r (words_between text upto to)
+append_reading_skips text all r w vs from upto to ignored plain le others e next =
+    e ∙ ap (append_reading text r) next ∙ by_fault r.tokens r.fault r.open_comment ignored
   where
     by_fault : (ts : List Word) (f : Option Fault) (c : Option ℕ)
         → (is_some f || is_some c) ≡ true →
-        go_on text
+        append_reading text
         (record { tokens = ts; fault = f; open_comment = c })
         (w ∷ words_between text from to)
-        ≡ go_on text (record { tokens = ts; fault = f; open_comment = c })
+        ≡ append_reading text (record { tokens = ts; fault = f; open_comment = c })
         (words_between text upto to)
     by_fault ts None None h = cc
     by_fault ts None (Some p) h =
@@ -264,13 +275,15 @@ go_on_skips text all r w vs from upto to ignored plain le others e next =
     by_fault ts (Some f) c h = refl
 
 -- three lists of words, one after another
-pub go_on_three : (text : List ℕ) (c : Option ℕ) (first mid last : Reading) (ws vs us : List Word)
-    → reading text c ws ≡ first → mid ≡ go_on text first vs → last ≡ go_on text mid us →
+pub append_reading_three : (text : List ℕ) (c : Option ℕ) (first mid last : Reading)
+    (ws vs us : List Word)
+    → reading text c ws ≡ first → mid ≡ append_reading text first vs
+    → last ≡ append_reading text mid us →
     reading text c (ws ++ (vs ++ us)) ≡ last
-go_on_three text c first mid last ws vs us a b d =
-    reading_append text c ws (vs ++ us) ∙ ap (λ (r : Reading). go_on text r (vs ++ us)) a
-    ∙ go_on_append text first vs us
-    ∙ ap (λ (r : Reading). go_on text r us) (sym b) ∙ sym d
+append_reading_three text c first mid last ws vs us a b d =
+    reading_append text c ws (vs ++ us) ∙ ap (λ (r : Reading). append_reading text r (vs ++ us)) a
+    ∙ append_reading_append text first vs us
+    ∙ ap (λ (r : Reading). append_reading text r us) (sym b) ∙ sym d
 
 -- ---- pieces
 
@@ -284,7 +297,7 @@ module _ (text : List ℕ) (a b c : ℕ) where
       (subst
       (λ (o : Option Between). MatchOption o (IsUnbroken text a b) (IsReadBetween text a b)) e s)
       r
-  piece_after_unbroken first (Some inner) e s r =
+  piece_after_unbroken first (Some between) e s r =
       record {
         broken = join_unbroken_broken
             (subst (λ (o : Option Between). MatchOption o (IsUnbroken text a b)
@@ -293,12 +306,13 @@ module _ (text : List ℕ) (a b c : ℕ) where
         readings = r.readings;
       }
 
-  pub piece_before_unbroken : (first second : Option Between) (inner : Between) → first ≡ Some inner
+  pub piece_before_unbroken : (first second : Option Between) (between : Between)
+      → first ≡ Some between
       → second ≡ None → MatchOption first (IsUnbroken text a b) (IsReadBetween text a b) →
       MatchOption second (IsUnbroken text b c) (IsReadBetween text b c)
-      → IsReadBetween text a c inner
-  piece_before_unbroken first second inner e f s r =
-      let x : IsReadBetween text a b inner =
+      → IsReadBetween text a c between
+  piece_before_unbroken first second between e f s r =
+      let x : IsReadBetween text a b between =
       subst (λ (o : Option Between). MatchOption o (IsUnbroken text a b) (IsReadBetween text a b)) e
       s in
       let y : IsUnbroken text b c =
@@ -306,18 +320,19 @@ module _ (text : List ℕ) (a b c : ℕ) where
       r in
       record { broken = join_broken_unbroken x.broken y; readings = x.readings }
 
-  pub piece_both : (first second : Option Between) (before after inner : Between)
+  pub piece_both : (first second : Option Between) (before after between : Between)
       → first ≡ Some before → second ≡ Some after
       → MatchOption first (IsUnbroken text a b) (IsReadBetween text a b) →
-      MatchOption second (IsUnbroken text b c) (IsReadBetween text b c) → inner.head ≡ before.head
-      → inner.tail ≡ after.tail →
+      MatchOption second (IsUnbroken text b c) (IsReadBetween text b c)
+      → between.head_end ≡ before.head_end
+      → between.tail_start ≡ after.tail_start →
       ((ws us : List Word) → AreReadings text ws before.outside before.inside
       → AreReadings text us after.outside after.inside →
       AreReadings text
-      (ws ++ (joined_word before.tail after.head ++ us)) inner.outside inner.inside)
+      (ws ++ (joined_word before.tail_start after.head_end ++ us)) between.outside between.inside)
       →
-      IsReadBetween text a c inner
-  piece_both first second before after inner e f s r head tail readings =
+      IsReadBetween text a c between
+  piece_both first second before after between e f s r head tail readings =
       let x : IsReadBetween text a b before =
       subst (λ (o : Option Between). MatchOption o (IsUnbroken text a b) (IsReadBetween text a b)) e
       s in
@@ -331,14 +346,15 @@ module _ (text : List ℕ) (a b c : ℕ) where
       }
 
 -- what lies between head and tail of the piece of the whole text is the whole text
-pub whole_reading : (text : List ℕ) (piece : Stretch) (inner : Between) → IsSummary text piece
-    → piece.from ≡ 0 → piece.to ≡ length text → piece.between ≡ Some inner →
-    reading text None (words_of text) ≡ side_reading 0 inner.outside
-whole_reading text piece inner s from to e =
-    let x : IsReadBetween text piece.from piece.to inner =
+pub whole_reading : (text : List ℕ) (piece : Stretch) (between : Between) → IsSummary text piece
+    → piece.from ≡ 0 → piece.to ≡ length text → piece.between ≡ Some between →
+    reading text None (words_of text) ≡ side_reading 0 between.outside
+whole_reading text piece between s from to e =
+    let x : IsReadBetween text piece.from piece.to between =
     subst (λ (o : Option Between). MatchOption o (IsUnbroken text piece.from piece.to)
     (IsReadBetween text piece.from piece.to)) e s in
-    let broken : IsBroken text 0 (length text) inner.head inner.tail =
-    subst (λ (b : ℕ). IsBroken text 0 b inner.head inner.tail) to
-    (subst (λ (a : ℕ). IsBroken text a piece.to inner.head inner.tail) from x.broken) in
+    let broken : IsBroken text 0 (length text) between.head_end between.tail_start =
+    subst (λ (b : ℕ). IsBroken text 0 b between.head_end between.tail_start) to
+    (subst (λ (a : ℕ). IsBroken text a piece.to between.head_end between.tail_start) from x.broken)
+    in
     ap (reading text None) (sym (whole_broken broken)) ∙ x.readings.out 0

@@ -37,7 +37,7 @@ has_comment_mark_none (a ∷ []) zero h = refl
 has_comment_mark_none (a ∷ b ∷ word) zero h = absurd (omega arith)
 has_comment_mark_none (a ∷ word) (suc i) h = has_comment_mark_none word i (omega arith)
 
--- the loop's step, at the place i and the one before it
+-- a word has a comment mark if its bytes at i - 1 and i are one
 pub has_comment_mark_yes : (word : List ℕ) (i : ℕ) → 1 ≤ i → i < length word
     → is_comment_mark (get_or word (i - 1) 0) (get_or word i 0) ≡ true
     → has_comment_mark (drop (i - 1) word) ≡ true

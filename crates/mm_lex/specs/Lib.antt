@@ -1,6 +1,6 @@
 pub mod Stretches
 pub mod Pieces
-pub mod Inners
+pub mod Between
 pub mod Cuts
 pub mod Places
 pub mod Plain

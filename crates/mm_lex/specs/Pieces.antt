@@ -20,8 +20,8 @@ pub record Side : Type 0 where
 
 -- what is between the end of a head and the beginning of a tail, read outside and inside a comment
 pub record Between : Type 0 where
-  pub head : ℕ
-  pub tail : ℕ
+  pub head_end : ℕ
+  pub tail_start : ℕ
   pub outside : Side
   pub inside : Side
 
@@ -55,8 +55,8 @@ pub record AreReadings (text : List ℕ) (ws : List Word) (outside inside : Side
 
 -- head and tail of a stretch are known by its white space, and the words between them are read
 pub record IsReadBetween (text : List ℕ) (from to : ℕ) (b : Between) : Type 0 where
-  pub broken : IsBroken text from to b.head b.tail
-  pub readings : AreReadings text (words_between text b.head b.tail) b.outside b.inside
+  pub broken : IsBroken text from to b.head_end b.tail_start
+  pub readings : AreReadings text (words_between text b.head_end b.tail_start) b.outside b.inside
 
 -- the summary of the stretch
 abbrev pub IsSummary : List ℕ → Stretch → Type 0
@@ -73,10 +73,10 @@ pub record IsWholeText (text : List ℕ) (s : Stretch) : Type 0 where
 -- ---- what its calls return
 
 abbrev pub head_of : Stretch → Word
-head_of s = record { start = s.from; end = elim s.between [ None ↦ s.from | Some b ↦ b.head ] }
+head_of s = record { start = s.from; end = elim s.between [ None ↦ s.from | Some b ↦ b.head_end ] }
 
 abbrev pub tail_of : Stretch → Word
-tail_of s = record { start = elim s.between [ None ↦ s.to | Some b ↦ b.tail ]; end = s.to }
+tail_of s = record { start = elim s.between [ None ↦ s.to | Some b ↦ b.tail_start ]; end = s.to }
 
 abbrev pub tokens_in_mode : Bool → Stretch → List Word
 tokens_in_mode inside s =

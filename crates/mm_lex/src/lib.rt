@@ -64,8 +64,8 @@ pub fn lex<R: Threads + Sync, A: Allocator + Copy + Send + Sync>(
     Ok(whole.into_lexed())
 }
 
-/// The same on the calling thread alone, which reads the text as one piece. Fails only if out of
-/// memory.
+/// Splits a text into tokens, as [`lex`] does, on the calling thread alone, which reads the text as
+/// one piece. Fails only if out of memory.
 pub fn lex_alone<A: Allocator + Copy>(alloc: A, text: &[u8]) -> Result<Lexed<A>, AllocError>
     ensures tokens { IfOk result (λ lexed. lexed.tokens.items ≡ tokens_of text.now) }
     ensures fault { IfOk result (λ lexed. lexed.fault ≡ lexical_fault text.now) }

@@ -4,9 +4,9 @@ ghost use Rattle.std.specs.Prelude.{◌≡◌, ◌<◌, ◌≤◌, ◌+◌, ℕ,
 ghost use Rattle.std.specs.Prelude.{is_some, true, ◌||◌};
 ghost use Rattle.mm_spec.specs.Readings.{bytes_of};
 ghost use Rattle.mm_spec.specs.Words.{words_between};
-ghost use Rattle.mm_spec.specs.Laws.Readings.{go_on, start};
+ghost use Rattle.mm_spec.specs.Laws.Readings.{append_reading, start};
 ghost use Rattle.mm_lex.specs.Pieces.{resolved, side_reading, AreReadings};
-ghost use Rattle.mm_lex.specs.Inners.{carried, side};
+ghost use Rattle.mm_lex.specs.Between.{carried, side};
 ghost use Rattle.mm_lex.specs.Plain.{IsPlainWord};
 
 use crate::roles::{role, word_fault};
@@ -92,7 +92,7 @@ impl<A: Allocator + Copy> ModeReading<A> {
         ensures { OnOk result
             ((p : ℕ)
             → side_reading p (side self.new)
-            ≡ go_on text.now (side_reading p (side self.old)) (word ∷ [])) }
+            ≡ append_reading text.now (side_reading p (side self.old)) (word ∷ [])) }
     {
         if self.fault.is_some() {
             return Ok(());
@@ -123,7 +123,7 @@ impl<A: Allocator + Copy> ModeReading<A> {
         ensures { OnOk result
             ((p : ℕ)
             → side_reading p (side self.new)
-            ≡ go_on text.now (side_reading p (side self.old))
+            ≡ append_reading text.now (side_reading p (side self.old))
             (words_between text.now scanner.entry.from to)) }
     {
         if self.fault.is_some() {
@@ -145,7 +145,7 @@ impl<A: Allocator + Copy> ModeReading<A> {
     }
 
     /// Reads further words, given their readings in both modes.
-    pub fn go_on(
+    pub fn append_reading(
         &mut self,
         outside: &ModeReading<A>,
         inside: &ModeReading<A>,
@@ -154,7 +154,8 @@ impl<A: Allocator + Copy> ModeReading<A> {
             ((text : List ℕ) (ws : List Word)
             → AreReadings text ws (side outside.now) (side inside.now) →
             (p : ℕ)
-            → side_reading p (side self.new) ≡ go_on text (side_reading p (side self.old)) ws) }
+            → side_reading p (side self.new)
+            ≡ append_reading text (side_reading p (side self.old)) ws) }
     {
         if self.fault.is_some() {
             return Ok(());

@@ -5,7 +5,7 @@ ghost use Rattle.std.specs.Prelude.{if◌then◌else◌};
 ghost use Rattle.std.specs.Option.{option_map};
 ghost use Rattle.mm_lex.specs.Pieces.{fault_in_mode, head_of, resolved, stretch, tail_of};
 ghost use Rattle.mm_lex.specs.Pieces.{tokens_in_mode, AreReadings, IsSummary, IsWholeText, Stretch};
-ghost use Rattle.mm_lex.specs.Inners.{between_of, IsJoined, side};
+ghost use Rattle.mm_lex.specs.Between.{between_of, IsJoined, side};
 ghost use Rattle.mm_lex.specs.Stretches.{joined_word};
 ghost use Rattle.mm_spec.specs.Lexed.{fault_in, lexical_fault, tokens_of};
 ghost use Rattle.mm_spec.specs.Words.{words_between};
@@ -17,12 +17,13 @@ use crate::{Code, Fault, Lexed, TEXT_LIMIT, Word};
 use std::alloc::{AllocError, Allocator};
 use std::marker::Model;
 
-/// What is between the head and the tail of a stretch, read outside a comment and inside one. The
-/// head ends at the place `head`, and the tail begins at the place `tail`.
+/// What is between the head and the tail of a stretch, read outside a comment and inside one.
 #[derive(Drop)]
-pub struct Inner<A: Allocator> {
-    pub head: u32,
-    pub tail: u32,
+pub struct Between<A: Allocator> {
+    /// The place at which the head ends, a byte offset from 0.
+    pub head_end: u32,
+    /// The place at which the tail begins, a byte offset from 0.
+    pub tail_start: u32,
     pub outside: ModeReading<A>,
     pub inside: ModeReading<A>,
 }
@@ -36,13 +37,13 @@ pub struct Inner<A: Allocator> {
 pub struct Piece<A: Allocator> {
     from: u32,
     to: u32,
-    inner: Option<Inner<A>>,
+    between: Option<Between<A>>,
 }
 
 impl<A: Allocator> Model for Piece<A> {
     ghost Value = { Stretch };
 
-    ghost view = { λ p. stretch p.from p.to (option_map between_of p.inner) };
+    ghost view = { λ p. stretch p.from p.to (option_map between_of p.between) };
 }
 
 impl<A: Allocator> Piece<A> {
@@ -64,7 +65,7 @@ impl<A: Allocator> Piece<A> {
     pub fn is_unbroken(&self) -> bool
         ensures { result ≡ not (is_some self.now.between) }
     {
-        self.inner.is_none()
+        self.between.is_none()
     }
 
     /// Its bytes before the first white space, which may end a word of the stretch before it.
@@ -74,7 +75,10 @@ impl<A: Allocator> Piece<A> {
     {
         Word {
             start: self.from,
-            end: self.inner.as_ref().map_or(self.from, |inner| inner.head),
+            end: self
+                .between
+                .as_ref()
+                .map_or(self.from, |between| between.head_end),
         }
     }
 
@@ -84,7 +88,10 @@ impl<A: Allocator> Piece<A> {
         ensures { result ≡ tail_of self.now }
     {
         Word {
-            start: self.inner.as_ref().map_or(self.to, |inner| inner.tail),
+            start: self
+                .between
+                .as_ref()
+                .map_or(self.to, |between| between.tail_start),
             end: self.to,
         }
     }
@@ -94,9 +101,9 @@ impl<A: Allocator> Piece<A> {
     pub fn tokens(&self, inside: bool) -> &[Word]
         ensures { result.now ≡ tokens_in_mode inside self.now }
     {
-        match &self.inner {
+        match &self.between {
             None => &[],
-            Some(inner) => inner.reading(inside).tokens.as_slice(),
+            Some(between) => between.reading(inside).tokens.as_slice(),
         }
     }
 
@@ -105,9 +112,9 @@ impl<A: Allocator> Piece<A> {
     pub fn fault(&self, inside: bool) -> Option<Fault>
         ensures { result ≡ fault_in_mode inside self.now }
     {
-        self.inner
+        self.between
             .as_ref()
-            .and_then(|inner| inner.reading(inside).fault)
+            .and_then(|between| between.reading(inside).fault)
     }
 
     /// The tokens and the lexical fault of the whole text that this is the summary of, by its
@@ -119,8 +126,8 @@ impl<A: Allocator> Piece<A> {
         ensures fault { (text : List ℕ) → IsWholeText text self
             → result.fault ≡ lexical_fault text }
     {
-        let reading = match self.inner {
-            Some(inner) => inner.outside,
+        let reading = match self.between {
+            Some(between) => between.outside,
             None => unreachable!("a stretch that begins the text isn't unbroken"),
         };
         Lexed {
@@ -130,7 +137,7 @@ impl<A: Allocator> Piece<A> {
     }
 }
 
-impl<A: Allocator> Inner<A> {
+impl<A: Allocator> Between<A> {
     fn reading(&self, inside: bool) -> &ModeReading<A>
         ensures { result.now ≡ (if inside then self.now.inside else self.now.outside) }
     {
@@ -140,27 +147,27 @@ impl<A: Allocator> Inner<A> {
 
 /// The words that begin between two places, read in both modes. `room` is the number of tokens for
 /// which memory is reserved at first.
-fn lex_inner<A: Allocator + Copy>(
+fn lex_between<A: Allocator + Copy>(
     alloc: A,
     text: &[u8],
-    head: usize,
-    tail: usize,
+    head_end: usize,
+    tail_start: usize,
     room: usize,
-) -> Result<Inner<A>, AllocError>
-    requires order { head ≤ tail }
-    requires within { tail ≤ length text.now }
+) -> Result<Between<A>, AllocError>
+    requires order { head_end ≤ tail_start }
+    requires within { tail_start ≤ length text.now }
     requires short { length text.now ≤ TEXT_LIMIT }
-    ensures head { IfOk result (λ inner. inner.head ≡ head) }
-    ensures tail { IfOk result (λ inner. inner.tail ≡ tail) }
+    ensures head_end { IfOk result (λ between. between.head_end ≡ head_end) }
+    ensures tail_start { IfOk result (λ between. between.tail_start ≡ tail_start) }
     ensures readings { IfOk result
-        (λ inner. AreReadings text.now (words_between text.now head tail) (side inner.outside)
-        (side inner.inside)) }
+        (λ between. AreReadings text.now (words_between text.now head_end tail_start)
+        (side between.outside) (side between.inside)) }
 {
     let mut outside = ModeReading::with_room(alloc, CommentState::Nowhere, room);
     let mut inside = ModeReading::new(alloc, CommentState::Before);
-    let mut scanner = WordScanner::new(text, head);
+    let mut scanner = WordScanner::new(text, head_end);
     while inside.fault.is_none()
-        && let Some(found) = scanner.next_word(tail)
+        && let Some(found) = scanner.next_word(tail_start)
     {
         // A plain word that changes neither reading is left out, as are those that follow it.
         if found.is_plain && outside.ignores_plain() && inside.ignores_plain() {
@@ -171,10 +178,10 @@ fn lex_inner<A: Allocator + Copy>(
         }
     }
     // A reading stays as it is after its fault, so only the reading outside is continued.
-    outside.read_rest(text, scanner, tail)?;
-    Ok(Inner {
-        head: head as u32,
-        tail: tail as u32,
+    outside.read_rest(text, scanner, tail_start)?;
+    Ok(Between {
+        head_end: head_end as u32,
+        tail_start: tail_start as u32,
         outside,
         inside,
     })
@@ -196,14 +203,16 @@ pub(crate) fn lex_piece_with_room<A: Allocator + Copy>(
     ensures to { IfOk result (λ piece. piece.to ≡ to) }
     ensures summary { IfOk result (IsSummary text.now) }
 {
-    let inner = match bounds(text, from, to) {
+    let between = match bounds(text, from, to) {
         None => None,
-        Some((head, tail)) => Some(lex_inner(alloc, text, head, tail, room)?),
+        Some((head_end, tail_start)) => {
+            Some(lex_between(alloc, text, head_end, tail_start, room)?)
+        },
     };
     Ok(Piece {
         from: from as u32,
         to: to as u32,
-        inner,
+        between,
     })
 }
 
@@ -227,33 +236,33 @@ pub fn lex_piece<A: Allocator + Copy>(
 }
 
 /// What is between the head of one stretch and the tail of the next.
-fn join_inner<A: Allocator + Copy>(
+fn join_between<A: Allocator + Copy>(
     text: &[u8],
-    before: Inner<A>,
-    after: Inner<A>,
-) -> Result<Inner<A>, AllocError>
-    requires within { after.head ≤ length text.now }
+    before: Between<A>,
+    after: Between<A>,
+) -> Result<Between<A>, AllocError>
+    requires within { after.head_end ≤ length text.now }
     requires short { length text.now ≤ TEXT_LIMIT }
-    ensures head { IfOk result (λ inner. inner.head ≡ before.head) }
-    ensures tail { IfOk result (λ inner. inner.tail ≡ after.tail) }
+    ensures head_end { IfOk result (λ between. between.head_end ≡ before.head_end) }
+    ensures tail_start { IfOk result (λ between. between.tail_start ≡ after.tail_start) }
     ensures readings { IfOk result
-        (λ inner. IsJoined text.now (between_of before) (between_of after) (between_of inner)) }
+        (λ between. IsJoined text.now (between_of before) (between_of after) (between_of between)) }
 {
     let mut outside = before.outside;
     let mut inside = before.inside;
-    if before.tail < after.head {
+    if before.tail_start < after.head_end {
         let word = Word {
-            start: before.tail,
-            end: after.head,
+            start: before.tail_start,
+            end: after.head_end,
         };
         outside.read_word(text, word, false)?;
         inside.read_word(text, word, false)?;
     }
-    outside.go_on(&after.outside, &after.inside)?;
-    inside.go_on(&after.outside, &after.inside)?;
-    Ok(Inner {
-        head: before.head,
-        tail: after.tail,
+    outside.append_reading(&after.outside, &after.inside)?;
+    inside.append_reading(&after.outside, &after.inside)?;
+    Ok(Between {
+        head_end: before.head_end,
+        tail_start: after.tail_start,
         outside,
         inside,
     })
@@ -277,14 +286,14 @@ pub fn join<A: Allocator + Copy>(
 {
     let from = first.from;
     let to = second.to;
-    let inner = match first.inner {
-        None => second.inner,
-        Some(before) => match second.inner {
+    let between = match first.between {
+        None => second.between,
+        Some(before) => match second.between {
             None => Some(before),
-            Some(after) => Some(join_inner(text, before, after)?),
+            Some(after) => Some(join_between(text, before, after)?),
         },
     };
-    Ok(Piece { from, to, inner })
+    Ok(Piece { from, to, between })
 }
 
 /// The fault of a faulty word if there is one, otherwise that of a comment open at the end.

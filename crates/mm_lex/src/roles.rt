@@ -35,10 +35,10 @@ fn has_dollar(word: &[u8]) -> bool
 }
 
 #[tactic(auto, unfolding(mm_spec::specs::Roles::is_dollar_and))]
-fn is_dollar_and(b: u8, word: &[u8]) -> bool
-    ensures { result ≡ is_dollar_and b word.now }
+fn is_dollar_and(byte: u8, word: &[u8]) -> bool
+    ensures { result ≡ is_dollar_and byte word.now }
 {
-    word.len() == 2 && word[0] == b'$' && word[1] == b
+    word.len() == 2 && word[0] == b'$' && word[1] == byte
 }
 
 #[tactic(auto, unfolding(mm_spec::specs::Roles::is_keyword))]

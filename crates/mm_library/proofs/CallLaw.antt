@@ -37,7 +37,7 @@ writing_ends verdict with_open requests text lengths out len judged wrote total 
     by_length false e =
         by_verdict verdict judged (let l = ltb-false (length out) len e in omega (arith, l, total))
 
--- the lengths of outputs that weren't written
+-- where no output was written, the lengths add up to 0
 pub no_lengths : (with_citations : Bool) → sum (lengths_of with_citations 0 0) ≡ 0
 no_lengths true = refl
 no_lengths false = refl
@@ -85,7 +85,7 @@ two_outputs request other text out bytes more first both k len is_output other_i
     second_length : length both ≡ length first + length more → len - k ≡ length more
     second_length sizes = omega (arith, sizes, len_is, k_is)
 
--- the call asks for a request, and its outputs were written
+-- a call that asks for a request ends as it ended to write the outputs of that request
 pub ends_if_asked : (status : Status) (call : Call) (of : Request
     → List Request) (request : Request)
     (text lengths out : List ℕ) → Asks call request
@@ -98,7 +98,7 @@ ends_if_asked OutTooShort call of request text lengths out asks wrote = (request
 ends_if_asked RoomTooSmall call of request text lengths out asks wrote = (request, asks, wrote)
 ends_if_asked NoSuchRequest call of request text lengths out asks wrote = absurd wrote
 
--- the call asks for none
+-- a call that asks for no request ends with the status that says why, and writes nothing
 pub ends_if_refused : (status : Status) (call : Call) (of : Request → List Request)
     (text lengths out : List ℕ) → Refuses status call → sum lengths ≡ 0
     → CallEnds status call of text lengths out

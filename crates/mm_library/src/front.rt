@@ -56,8 +56,8 @@ pub(crate) fn copy_behind(out: &mut [u8], len: usize, bytes: &[u8])
         ≡ take (length out.old) (take len out.old ++ bytes.now) }
 {
     if len < out.len() {
-        let n = bytes.len().min(out.len() - len);
-        out[len..len + n].copy_from_slice(&bytes[..n]);
+        let count = bytes.len().min(out.len() - len);
+        out[len..len + count].copy_from_slice(&bytes[..count]);
     }
 }
 

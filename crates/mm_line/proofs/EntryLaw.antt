@@ -74,10 +74,10 @@ rule_in_place xs rules k d r e lt =
     sym (get_or-map rule_of xs k d r lt) ∙ ap (λ (l : List Rule). slice_index_or l k r) e
 
 -- an entry is found by its id
-found : (xs : List Entry) (id : Text) → HasIn xs id
+entry_is_found : (xs : List Entry) (id : Text) → HasIn xs id
     → is_some (find (λ e. bytes_eq e.0.now id) xs) ≡ true
-found [] id h = let l = h.1 in absurd (omega arith)
-found (x ∷ xs) id h = by_first_id (bytes_eq x.0.now id) refl h (found xs id)
+entry_is_found [] id h = let l = h.1 in absurd (omega arith)
+entry_is_found (x ∷ xs) id h = by_first_id (bytes_eq x.0.now id) refl h (entry_is_found xs id)
   where
     in_rest : HasIn (x ∷ xs) id → bytes_eq x.0.now id ≡ false → HasIn xs id
     in_rest (zero, l, e) other = absurd (true≢false (sym (e x) ∙ other))
@@ -222,7 +222,7 @@ module _ (c : Command) (m : ArgMatches) (p : IsParsedFrom c m)
         let has : HasId (found_of m) id =
         subst (HasId (found_of m)) id_at_index (default_present c m p globals k a d.inside wants) in
         by_entry (find (λ e. bytes_eq e.0.now id) (found_of m).entries.items) refl
-        (found (found_of m).entries.items id has)
+        (entry_is_found (found_of m).entries.items id has)
       where
         by_entry : (o : Option Entry)
             → find (λ e. bytes_eq e.0.now id) (found_of m).entries.items ≡ o

@@ -81,10 +81,17 @@ rules_added (a ∷ args) (r ∷ rules) old new app added is same simple =
     rules_added args rules added.0 new (with_rule app r) added.2
     (rule_added old added.0 a app r added.1 is rule parts.0) others parts.1
 
-pub is_command : (c : Command) (report form : Rule) → IsReportRule report → IsFormRule form
-    → app_of c ≡ command_of report form → IsCommand (app_of c)
-is_command c report form is is_form same =
-    record { report = report; is_report = is; form = form; is_form = is_form; is = same }
+pub is_command : (c : Command) (report_option form_option : Rule) → IsReportRule report_option
+    → IsFormRule form_option → app_of c ≡ command_of report_option form_option
+    → IsCommand (app_of c)
+is_command c report_option form_option is is_form same =
+    record {
+      report_option = report_option;
+      is_report = is;
+      form_option = form_option;
+      is_form = is_form;
+      is = same;
+    }
 
 command_simple : (report form : Rule) → IsReportRule report → IsFormRule form
     → is_simple_and_free (command_of report form) ≡ true
@@ -97,7 +104,7 @@ command_simple report form is is_form =
 pub simple : (app : App) → IsCommand app → is_simple_and_free app ≡ true
 simple app is =
     subst (λ (a : App). is_simple_and_free a ≡ true) (sym is.is)
-    (command_simple is.report is.form is.is_report is.is_form)
+    (command_simple is.report_option is.form_option is.is_report is.is_form)
 
 not_memory : (kind : ErrorKind) → IsAsking kind → kind ≡ OutOfMemory → ⊥
 not_memory kind (inl h) m = let e : DisplayHelp ≡ OutOfMemory = sym h ∙ m in cc

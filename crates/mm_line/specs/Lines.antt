@@ -65,11 +65,11 @@ only_rule =
 
 -- an option with one of the given words; the second argument is its default
 abbrev pub word_rule : Text → Text → Bor (List (Bor Text)) → Rule
-word_rule id first names = record (new_rule id) {
+word_rule id default names = record (new_rule id) {
   long = Some id;
   action = Some Set;
   value_names = 1;
-  defaults = first ∷ [];
+  defaults = default ∷ [];
   parser = Some (Names names);
 }
 
@@ -98,31 +98,33 @@ abbrev pub flag_rule : Text → Rule
 flag_rule id = record (new_rule id) { long = Some id; action = Some SetTrue }
 
 -- the program's name, and that it has a version
-abbrev pub named : App
-named =
+abbrev pub app_with_name : App
+app_with_name =
     let app = new_app (codes "mmdepend") in
     record app { top = record app.top { has_version = true } }
 
 -- mmdepend [--workers N] [--pieces N] [--only T] [--report PART] [--form N] [--essential] [--open]
 -- [FILE]
 unfoldable pub command_of : Rule → Rule → App
-command_of report form =
+command_of report_option form_option =
     with_rule
     (with_rule
     (with_rule
     (with_rule
     (with_rule
     (with_rule
-    (with_rule (with_rule named (number_rule (codes "workers"))) (number_rule (codes "pieces")))
-    only_rule) report) form) (flag_rule (codes "essential"))) (flag_rule (codes "open")))
-    file_rule
+    (with_rule
+    (with_rule app_with_name (number_rule (codes "workers"))) (number_rule (codes "pieces")))
+    only_rule) report_option) form_option) (flag_rule (codes "essential")))
+    (flag_rule (codes "open"))) file_rule
 
+-- the command line's description, for some lists of the words of `--report` and `--form`
 pub record IsCommand (app : App) : Type 0 where
-  pub report : Rule
-  pub is_report : IsReportRule report
-  pub form : Rule
-  pub is_form : IsFormRule form
-  pub is : app ≡ command_of report form
+  pub report_option : Rule
+  pub is_report : IsReportRule report_option
+  pub form_option : Rule
+  pub is_form : IsFormRule form_option
+  pub is : app ≡ command_of report_option form_option
 
 -- the number that an entry spells
 abbrev pub number_of : Text → List Row → Option ℕ

@@ -10,7 +10,7 @@ pub struct Line {
     pub file: Option<String>,
 }
 
-/// Lets all fields go in one call, so that a proof has one step for it at each exit.
+/// Dropped in one call: docs/PROOFS.md, "What a check costs".
 impl Drop for Line {
     fn drop(self) {
         let Self { plan: _, file: _ } = self;

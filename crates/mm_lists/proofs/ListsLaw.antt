@@ -39,7 +39,7 @@ starts_rise from ends len (suc i) zero h o l = absurd (omega arith)
 starts_rise from (e ∷ ends) len (suc i) (suc j) h o l =
     starts_rise e ends len i j h.1 (omega arith) (omega arith)
 
--- one place more
+-- ends of lists stay such with the end of one list more
 ends_more : (from : ℕ) (ends : List ℕ) (len more : ℕ) → AreEnds from ends len
     → AreEnds from (ends ++ (len + more) ∷ []) (len + more)
 ends_more from [] len more h = (omega (arith, h), refl)

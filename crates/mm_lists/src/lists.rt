@@ -16,7 +16,7 @@ pub struct Lists<T, A: Allocator> {
     places: Vec<u32, A>,
 }
 
-/// Lets all fields go in one call, so that a proof has one step for it at each exit.
+/// Dropped in one call: docs/PROOFS.md, "What a check costs".
 impl<T: Drop, A: Allocator> Drop for Lists<T, A> {
     fn drop(self) {
         let Self {

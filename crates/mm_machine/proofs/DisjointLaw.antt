@@ -19,14 +19,15 @@ module _ (db : List Statement) (t : ℕ) (ps : List (ℕ × ℕ)) (h : AreDisjoi
   either_disjoint a b (inl p) = has_disjoint a b p
   either_disjoint a b (inr p) = either_order db t b a (has_disjoint b a p)
 
-  pub marked_apart : (a b : ℕ) (qs : List (ℕ × ℕ)) → Disjoint a b → InsertsPair ps a b qs
+  pub insert_keeps_disjoint : (a b : ℕ) (qs : List (ℕ × ℕ)) → Disjoint a b → InsertsPair ps a b qs
       → AreDisjointAt db t qs
-  marked_apart a b qs d (inl e) = subst (AreDisjointAt db t) (sym e) h
-  marked_apart a b qs d (inr e) =
+  insert_keeps_disjoint a b qs d (inl e) = subst (AreDisjointAt db t) (sym e) h
+  insert_keeps_disjoint a b qs d (inr e) =
       subst (AreDisjointAt db t) (sym e)
       (All-push (λ (p : ℕ × ℕ). are_disjoint (context_at db t) p.0 p.1 ≡ true) ps (a, b) h d)
 
-  pub either_marked : (a b : ℕ) (qs : List (ℕ × ℕ)) → Disjoint a b
+  pub either_insert_keeps_disjoint : (a b : ℕ) (qs : List (ℕ × ℕ)) → Disjoint a b
       → InsertsPair ps a b qs ⊎ InsertsPair ps b a qs → AreDisjointAt db t qs
-  either_marked a b qs d (inl e) = marked_apart a b qs d e
-  either_marked a b qs d (inr e) = marked_apart b a qs (either_order db t a b d) e
+  either_insert_keeps_disjoint a b qs d (inl e) = insert_keeps_disjoint a b qs d e
+  either_insert_keeps_disjoint a b qs d (inr e) =
+      insert_keeps_disjoint b a qs (either_order db t a b d) e

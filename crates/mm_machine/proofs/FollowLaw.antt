@@ -315,27 +315,29 @@ pub record IsMoved (unmarked marked : List ℕ) (es : List Span) (unmarked' mark
 module _ (unmarked marked : List ℕ) (es : List Span) (last : ℕ) (e : Span)
     (is_last : last + 1 ≡ length es) (is : e ≡ get_or es last no_symbols)
     (h : IsStack unmarked marked es) where
-  abbrev pub front : List Span
-  front = take last es
+  abbrev pub all_but_last : List Span
+  all_but_last = take last es
 
-  pub split_before_last : es ≡ front ++ e ∷ []
+  pub split_before_last : es ≡ all_but_last ++ e ∷ []
   split_before_last =
       sym (take_all (last + 1) es (omega (arith, is_last)))
-      ∙ take_more es last no_symbols (omega (arith, is_last)) ∙ ap (λ z. front ++ z ∷ []) (sym is)
+      ∙ take_more es last no_symbols (omega (arith, is_last))
+      ∙ ap (λ z. all_but_last ++ z ∷ []) (sym is)
 
   last_top : span_formulas (arena unmarked marked) es
-      ≡ span_formulas (arena unmarked marked) front ++ span_formula (arena unmarked marked) e ∷ []
+      ≡ span_formulas (arena unmarked marked) all_but_last
+      ++ span_formula (arena unmarked marked) e ∷ []
   last_top = ap (span_formulas (arena unmarked marked)) split_before_last
-      ∙ formulas_push (arena unmarked marked) front e
+      ∙ formulas_push (arena unmarked marked) all_but_last e
 
   pub top_is : top (span_formulas (arena unmarked marked) es)
       ≡ span_formula (arena unmarked marked) e
   top_is =
       ap top last_top
-      ∙ top_append (span_formulas (arena unmarked marked) front)
+      ∙ top_append (span_formulas (arena unmarked marked) all_but_last)
       (span_formula (arena unmarked marked) e)
 
-  split_stack : IsStack unmarked marked (front ++ e ∷ [])
+  split_stack : IsStack unmarked marked (all_but_last ++ e ∷ [])
   split_stack = subst (IsStack unmarked marked) split_before_last h
 
   pub last_in : IsIn (arena unmarked marked) e
@@ -344,7 +346,7 @@ module _ (unmarked marked : List ℕ) (es : List Span) (last : ℕ) (e : Span)
       (All-get_or (IsIn (arena unmarked marked)) es last no_symbols (omega (arith, is_last))
       h.inside)
 
-  -- it is a marked one
+  -- the top entry is a marked one
   pub marked_top : e.store ≡ Marked → IsMarkedEntry marked e
   marked_top q =
       record {
@@ -358,7 +360,7 @@ module _ (unmarked marked : List ℕ) (es : List Span) (last : ℕ) (e : Span)
       → span_formula (arena [] marked) e ≡ top (span_formulas (arena unmarked marked) es)
   marked_top_is q = marked_formula [] unmarked marked e (marked_top q) ∙ sym top_is
 
-  -- it is the last unmarked one
+  -- the top entry is the last unmarked one
   module _ (unmarked_top : e.store ≡ Unmarked) where
     reach_is : first_unmarked (e ∷ []) (length unmarked) ≡ e.start
     reach_is = ap (λ p. begin_one p e [] (length unmarked)) unmarked_top
@@ -395,39 +397,39 @@ module _ (unmarked marked : List ℕ) (es : List Span) (last : ℕ) (e : Span)
         ≡ top (span_formulas (arena unmarked marked) es)
     new_formula_is = new_formula ∙ moved_is ∙ sym top_is
 
-    pub set_is : (m : Span) → slice_set es last m ≡ front ++ m ∷ []
+    pub set_is : (m : Span) → slice_set es last m ≡ all_but_last ++ m ∷ []
     set_is m =
         ap (λ z. slice_set z last m) split_before_last
-        ∙ set_last front last e m (length-take-le last es (omega (arith, is_last)))
+        ∙ set_last all_but_last last e m (length-take-le last es (omega (arith, is_last)))
 
-    front_stack : IsStack cut_unmarked marked front
+    front_stack : IsStack cut_unmarked marked all_but_last
     front_stack =
-        subst (λ n. IsStack (take n unmarked) marked front) reach_is
-        (cut_stack unmarked marked front (e ∷ []) split_stack)
+        subst (λ n. IsStack (take n unmarked) marked all_but_last) reach_is
+        (cut_stack unmarked marked all_but_last (e ∷ []) split_stack)
 
-    front_formulas : span_formulas (arena cut_unmarked marked) front
-        ≡ span_formulas (arena unmarked marked) front
+    front_formulas : span_formulas (arena cut_unmarked marked) all_but_last
+        ≡ span_formulas (arena unmarked marked) all_but_last
     front_formulas =
-        subst (λ n. span_formulas (arena (take n unmarked) marked) front
-        ≡ span_formulas (arena unmarked marked) front) reach_is
-        (cut_formulas unmarked marked front (e ∷ []) split_stack)
+        subst (λ n. span_formulas (arena (take n unmarked) marked) all_but_last
+        ≡ span_formulas (arena unmarked marked) all_but_last) reach_is
+        (cut_formulas unmarked marked all_but_last (e ∷ []) split_stack)
 
-    grown_stack : IsStack cut_unmarked (marked ++ moved) front
-    grown_stack = marked_stack cut_unmarked marked front front_stack moved
+    grown_stack : IsStack cut_unmarked (marked ++ moved) all_but_last
+    grown_stack = marked_stack cut_unmarked marked all_but_last front_stack moved
 
     pub moved_stack : IsStack cut_unmarked (marked ++ moved) (slice_set es last entry')
     moved_stack =
         subst (IsStack cut_unmarked (marked ++ moved)) (sym (set_is entry'))
-        (repeat_stack cut_unmarked (marked ++ moved) front grown_stack entry' new_marked)
+        (repeat_stack cut_unmarked (marked ++ moved) all_but_last grown_stack entry' new_marked)
 
     pub moved_formulas : span_formulas (arena cut_unmarked (marked ++ moved))
         (slice_set es last entry')
         ≡ span_formulas (arena unmarked marked) es
     moved_formulas =
         ap (span_formulas (arena cut_unmarked (marked ++ moved))) (set_is entry')
-        ∙ repeat_formulas cut_unmarked (marked ++ moved) front grown_stack entry' new_marked
+        ∙ repeat_formulas cut_unmarked (marked ++ moved) all_but_last grown_stack entry' new_marked
         ∙ ap₂ (λ us u. us ++ u ∷ [])
-        (marked_formulas cut_unmarked marked front front_stack moved ∙ front_formulas)
+        (marked_formulas cut_unmarked marked all_but_last front_stack moved ∙ front_formulas)
         (new_formula ∙ moved_is)
         ∙ sym last_top
 

@@ -13,18 +13,18 @@ pub not_absent : (xs : List ℕ) (x n : ℕ) → IsBinarySearchResult (λ y. nat
     → IsRising xs → Contains xs x → ⊥
 not_absent xs x n is_binary_search_result up there = by_order (cases_lt there.0 n)
   where
-    found : get_or xs there.0 0 ≡ x
-    found = get_or_default xs there.0 0 x there.1 ∙ there.2
+    x_is_there : get_or xs there.0 0 ≡ x
+    x_is_there = get_or_default xs there.0 0 x there.1 ∙ there.2
 
     by_order : (there.0 < n) ⊎ (n ≤ there.0) → ⊥
     by_order (inl l) =
         let s = searched xs x (Err n) is_binary_search_result up in let b = s.1 there.0 l in omega
-        (arith, b, found)
+        (arith, b, x_is_there)
     by_order (inr l) =
         let s = searched xs x (Err n) is_binary_search_result up in let b = s.2 there.0 l there.1 in
-        omega (arith, b, found)
+        omega (arith, b, x_is_there)
 
--- a greater one more
+-- an ascending list with a greater number more at its end ascends
 pub rising_more : (xs : List ℕ) (n : ℕ) → IsRising xs → All (λ j. j < n) xs
     → IsRising (xs ++ n ∷ [])
 rising_more xs n up below a b h l = by_order (cases_lt b (length xs))

@@ -189,14 +189,14 @@ fn all_fit(symbols: &Symbols, rule: &Rule, premises: &[Span]) -> bool
         ≡ are_equal (map (span_formula symbols.now) premises.now)
         (map (replaced symbols.now premises.now) (all_parts rule.now.parts 0 rule.now.hypotheses)) }
 {
-    let mut at = 0;
+    let mut part_index = 0;
     for (j, hypothesis) in rule.hypotheses.iter().enumerate() {
         let is_fitting = match *hypothesis {
             Hypothesis::Floating(typecode) => is_typed(symbols, typecode, premises[j]),
-            Hypothesis::Essential(count) => {
-                let end = at + count as usize;
-                let wanted = &rule.parts[at..end];
-                at = end;
+            Hypothesis::Essential(part_count) => {
+                let end = part_index + part_count as usize;
+                let wanted = &rule.parts[part_index..end];
+                part_index = end;
                 fits(symbols, premises, wanted, premises[j])
             }
         };
@@ -234,7 +234,7 @@ fn are_disjoint<A: Allocator>(
     true
 }
 
-/// The same, without `cache`.
+/// Whether two symbols are disjoint at the theorem, found without a cache.
 fn are_disjoint_in_database<A: Allocator>(
     database: &Database<A>,
     theorem: u32,

@@ -12,109 +12,115 @@ use mm_database::Sym;
 use mm_rule::RuleSymbol;
 use mm_spec::FORMULA_LIMIT;
 
-/// Writes a symbol at index `at`.
+/// Writes a symbol at an index of a list.
 #[inline(always)]
-fn put_symbol(symbol: Sym, list: &mut [Sym], at: usize)
-    requires { at < length list.old }
+fn put_symbol(symbol: Sym, list: &mut [Sym], index: usize)
+    requires { index < length list.old }
     ensures same_length { length list.new ≡ length list.old }
-    ensures written { take (at + 1) list.new ≡ take at list.old ++ symbol ∷ [] }
+    ensures written { take (index + 1) list.new ≡ take index list.old ++ symbol ∷ [] }
 {
-    list[at] = symbol;
+    list[index] = symbol;
 }
 
-/// Writes two symbols from index `at` on.
+/// Writes two symbols from `index` on.
 #[inline(always)]
-fn put_two(symbols: &[Sym], list: &mut [Sym], at: usize)
+fn put_two(symbols: &[Sym], list: &mut [Sym], index: usize)
     requires two { length symbols.now ≡ 2 }
-    requires room { at + 2 ≤ length list.old }
+    requires room { index + 2 ≤ length list.old }
     ensures same_length { length list.new ≡ length list.old }
-    ensures written { take (at + 2) list.new ≡ take at list.old ++ symbols.now }
+    ensures written { take (index + 2) list.new ≡ take index list.old ++ symbols.now }
 {
-    put_symbol(symbols[0], list, at);
-    put_symbol(symbols[1], list, at + 1);
+    put_symbol(symbols[0], list, index);
+    put_symbol(symbols[1], list, index + 1);
 }
 
-/// Writes four symbols from index `at` on. All are read before the first is written, so that a
+/// Writes four symbols from `index` on. All are read before the first is written, so that a
 /// compiler needs no test whether the lists overlap, and copies them at once.
 #[inline(always)]
-fn put_four(symbols: &[Sym], list: &mut [Sym], at: usize)
+fn put_four(symbols: &[Sym], list: &mut [Sym], index: usize)
     requires four { length symbols.now ≡ 4 }
-    requires room { at + 4 ≤ length list.old }
+    requires room { index + 4 ≤ length list.old }
     ensures same_length { length list.new ≡ length list.old }
-    ensures written { take (at + 4) list.new ≡ take at list.old ++ symbols.now }
+    ensures written { take (index + 4) list.new ≡ take index list.old ++ symbols.now }
 {
     let (first, second, third, last) = (symbols[0], symbols[1], symbols[2], symbols[3]);
-    put_symbol(first, list, at);
-    put_symbol(second, list, at + 1);
-    put_symbol(third, list, at + 2);
-    put_symbol(last, list, at + 3);
+    put_symbol(first, list, index);
+    put_symbol(second, list, index + 1);
+    put_symbol(third, list, index + 2);
+    put_symbol(last, list, index + 3);
 }
 
-/// Writes symbols from index `at` on.
+/// Writes symbols from `index` on.
 #[inline(always)]
-fn put_all(symbols: &[Sym], list: &mut [Sym], at: usize)
-    requires { at + length symbols.now ≤ length list.old }
+fn put_all(symbols: &[Sym], list: &mut [Sym], index: usize)
+    requires { index + length symbols.now ≤ length list.old }
     ensures same_length { length list.new ≡ length list.old }
-    ensures written { take (at + length symbols.now) list.new ≡ take at list.old ++ symbols.now }
+    ensures written { take (index + length symbols.now) list.new
+        ≡ take index list.old ++ symbols.now }
 {
-    let end = at + symbols.len();
-    list[at..end].copy_from_slice(symbols);
+    let end = index + symbols.len();
+    list[index..end].copy_from_slice(symbols);
 }
 
-/// The same for a number of symbols that is known when the program is compiled.
+/// Writes symbols from `index` on. It is fast for 2, 4 or 8 symbols, if their number is known
+/// when the program is compiled.
 #[inline(always)]
-fn put_width(symbols: &[Sym], list: &mut [Sym], at: usize)
-    requires { at + length symbols.now ≤ length list.old }
+fn put_width(symbols: &[Sym], list: &mut [Sym], index: usize)
+    requires { index + length symbols.now ≤ length list.old }
     ensures same_length { length list.new ≡ length list.old }
-    ensures written { take (at + length symbols.now) list.new ≡ take at list.old ++ symbols.now }
+    ensures written { take (index + length symbols.now) list.new
+        ≡ take index list.old ++ symbols.now }
 {
     if symbols.len() == 2 {
-        put_two(symbols, list, at);
+        put_two(symbols, list, index);
     } else if symbols.len() == 4 {
-        put_four(symbols, list, at);
+        put_four(symbols, list, index);
     } else if symbols.len() == 8 {
-        put_four(&symbols[..4], list, at);
-        put_four(&symbols[4..], list, at + 4);
+        put_four(&symbols[..4], list, index);
+        put_four(&symbols[4..], list, index + 4);
     } else {
-        put_all(symbols, list, at);
+        put_all(symbols, list, index);
     }
 }
 
-/// The same, by a copy of the first `width` symbols and one of the last. These overlap if there are
-/// fewer than twice as many. With a constant `width`, a copy is a few instructions and no call.
+/// Writes symbols from `index` on, by a copy of the first `width` symbols and one of the last.
+/// The two overlap if there are fewer than twice as many symbols. With a constant `width`, a copy
+/// is a few instructions and no call.
 #[inline(always)]
-fn put_ends(symbols: &[Sym], list: &mut [Sym], at: usize, width: usize)
+fn put_ends(symbols: &[Sym], list: &mut [Sym], index: usize, width: usize)
     requires many { width ≤ length symbols.now }
     requires few { length symbols.now ≤ 2 * width }
-    requires room { at + length symbols.now ≤ length list.old }
+    requires room { index + length symbols.now ≤ length list.old }
     ensures same_length { length list.new ≡ length list.old }
-    ensures written { take (at + length symbols.now) list.new ≡ take at list.old ++ symbols.now }
+    ensures written { take (index + length symbols.now) list.new
+        ≡ take index list.old ++ symbols.now }
 {
     let left = symbols.len() - width;
-    put_width(&symbols[..width], list, at);
-    put_width(&symbols[left..], list, at + left);
+    put_width(&symbols[..width], list, index);
+    put_width(&symbols[left..], list, index + left);
 }
 
-/// Writes what replaces a variable from index `at` on. It mostly is short.
+/// Writes what replaces a variable from `index` on. It mostly is short.
 #[inline(always)]
-pub fn put_symbols(symbols: &[Sym], list: &mut [Sym], at: usize)
-    requires { at + length symbols.now ≤ length list.old }
+pub fn put_symbols(symbols: &[Sym], list: &mut [Sym], index: usize)
+    requires { index + length symbols.now ≤ length list.old }
     ensures same_length { length list.new ≡ length list.old }
-    ensures written { take (at + length symbols.now) list.new ≡ take at list.old ++ symbols.now }
+    ensures written { take (index + length symbols.now) list.new
+        ≡ take index list.old ++ symbols.now }
 {
     let count = symbols.len();
     if count <= 1 {
         if count == 1 {
-            put_symbol(symbols[0], list, at);
+            put_symbol(symbols[0], list, index);
         }
     } else if count <= 4 {
-        put_ends(symbols, list, at, 2);
+        put_ends(symbols, list, index, 2);
     } else if count <= 8 {
-        put_ends(symbols, list, at, 4);
+        put_ends(symbols, list, index, 4);
     } else if count <= 16 {
-        put_ends(symbols, list, at, 8);
+        put_ends(symbols, list, index, 8);
     } else {
-        put_all(symbols, list, at);
+        put_all(symbols, list, index);
     }
 }
 
@@ -134,7 +140,7 @@ pub fn fill(
     ensures written { IfSome result
         (λ n. take n list.new ≡ replaced symbols.now premises.now formula.now) }
 {
-    let mut at = 0;
+    let mut written_count = 0;
     // How many elements of the list are left over, if each part that is to come takes one.
     let mut spare = list.len().checked_sub(formula.len())?;
     for part in formula {
@@ -144,18 +150,18 @@ pub fn fill(
                 if replacement.len() > spare + 1 {
                     return None;
                 }
-                put_symbols(replacement, list, at);
+                put_symbols(replacement, list, written_count);
                 spare = spare + 1 - replacement.len();
-                at += replacement.len();
+                written_count += replacement.len();
             }
             RuleSymbol::Constant(symbol) => {
-                put_symbol(symbol, list, at);
-                at += 1;
+                put_symbol(symbol, list, written_count);
+                written_count += 1;
             }
         }
     }
-    if at > FORMULA_LIMIT {
+    if written_count > FORMULA_LIMIT {
         return None;
     }
-    Some(at)
+    Some(written_count)
 }

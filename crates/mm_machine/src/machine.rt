@@ -34,7 +34,7 @@ const MAX_SHORT_FORMULA: usize = 1_024;
 /// Why a step wasn't performed.
 #[derive(Drop)]
 pub enum StepRefused {
-    /// It isn't a step of a derivation.
+    /// The step isn't one of a derivation, for this reason.
     Fault(Reason),
     /// Out of memory.
     Memory,
@@ -62,7 +62,7 @@ pub struct Machine<A: Allocator> {
     symbol_count: usize,
 }
 
-/// Lets all fields go in one call, so that a proof has one step for it at each exit.
+/// Dropped in one call: docs/PROOFS.md, "What a check costs".
 impl<A: Allocator> Drop for Machine<A> {
     fn drop(self) {
         let Self {
@@ -423,7 +423,7 @@ fn replace_by_formula<A: Allocator>(
     }
 }
 
-/// The same, with the formula built in a list that grows.
+/// Replaces the entries from index `below` on by one whose formula is built in a list that grows.
 #[inline(never)]
 fn replace_by_long_formula<A: Allocator>(
     below: usize,

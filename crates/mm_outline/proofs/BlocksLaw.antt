@@ -62,7 +62,8 @@ module _ (db : List Statement) (s : Statement) where
       let n : j - j ≡ 0 = omega arith in
       ap (λ m. list_all (λ i. nat_le (depth more j) (depth more i)) (range_with_len (j + 1) m)) n
 
-  -- one place more
+  -- the block of statement j is open after the new statement exactly if it is open before it, and
+  -- the depth after it is no less than that at j
   pub stays_last : (j : ℕ) → j < length db
       → is_block_open more j (length db + 1)
       ≡ (is_block_open db j (length db) && nat_le (depth db j) (depth more (length db + 1)))
@@ -475,8 +476,12 @@ module _ (db : List Statement) (s : Statement) (b : BlockLists) (x : IsBlocks db
         stack = omega (arith, k, d, shorter, deep);
         longer = omega (arith, length-set b.ends (innermost b.open_blocks) (length b.of));
         few-more =
-            let m = x.few in omega (arith, m, length-set b.ends (innermost b.open_blocks)
-            (length b.of));
+            let m = x.few in omega (
+              arith,
+              m,
+              length-set b.ends (innermost b.open_blocks)
+                  (length b.of),
+            );
         opened =
             λ l h. let i : l < length b.open_blocks = omega (arith, h, shorter) in
             rw (opens-front l h)
@@ -487,7 +492,7 @@ module _ (db : List Statement) (s : Statement) (b : BlockLists) (x : IsBlocks db
             ap (λ q. get_or ends q 0) (opens-front l h)
             ∙ get_or-set_other b.ends (innermost b.open_blocks) (get_or b.open_blocks l 0)
             (length b.of) 0
-            (other l h)
+            (none_is_innermost l h)
             ∙ x.still l i;
         rising =
             λ l q h i. let j : l < length opens = omega (arith, h, i) in
@@ -515,9 +520,9 @@ module _ (db : List Statement) (s : Statement) (b : BlockLists) (x : IsBlocks db
       opens-front l h =
           get_or-take (length b.open_blocks - 1) b.open_blocks l 0 (omega (arith, h, shorter))
 
-      other : (l : ℕ) → l < length (take (length b.open_blocks - 1) b.open_blocks)
+      none_is_innermost : (l : ℕ) → l < length (take (length b.open_blocks - 1) b.open_blocks)
           → get_or b.open_blocks l 0 ≢ innermost b.open_blocks
-      other l h e =
+      none_is_innermost l h e =
           let r = x.rising l (length b.open_blocks - 1) (omega (arith, h, shorter))
           (let k = x.stack in omega (arith, k)) in
           omega (arith, r, e)
@@ -560,7 +565,7 @@ module _ (db : List Statement) (s : Statement) (b : BlockLists) (x : IsBlocks db
                 e,
                 inl (
                   get_or-set_other b.ends (innermost b.open_blocks) (get_or b.of j 0)
-                  (length b.of) 0 q
+                      (length b.of) 0 q
                       ∙ e,
                   omega (arith, d, below),
                   opens-front (depth db j)

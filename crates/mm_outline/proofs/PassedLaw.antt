@@ -18,7 +18,7 @@ TakesWords Start = ⊥
 TakesWords (Labelled l) = ⊥
 TakesWords _ = Unit {0}
 
--- it stays where it is further on
+-- a part that takes words before token i does so before each later token
 pub part_later : (part : Part) (i j : ℕ) → TakesWords part → i ≤ j → IsPartBefore part i
     → IsPartBefore part j
 part_later Start i j t h p = absurd t
@@ -28,27 +28,28 @@ part_later (Formula w) i j t h p = (p.0, omega arith)
 part_later (Proof w e) i j t h p = (p.0, p.1, omega arith)
 
 module _ (text : List ℕ) (ws : List Word) (d : ℕ) where
-  -- one plain word
-  one : (part : Part) (i : ℕ) → TakesWords part → IsPartBefore part i → i < length ws
+  -- a word without `$` continues the statement and leaves the part as it is
+  plain_word_continues : (part : Part) (i : ℕ) → TakesWords part → IsPartBefore part i
+      → i < length ws
       → has_dollar (token_at text ws i).word ≡ false
       → table.continued (progress text ws d part (i + 1))
       ≡ table.transition (progress text ws d part i) (table.class (token_at text ws i).word)
       (token_at text ws i)
-  one Start i t p h e = absurd t
-  one (Labelled l) i t p h e = absurd t
-  one (Words k w) i t p h e =
+  plain_word_continues Start i t p h e = absurd t
+  plain_word_continues (Labelled l) i t p h e = absurd t
+  plain_word_continues (Words k w) i t p h e =
       ap (λ xs. table.continued (table.words d (statement_with text ws k w) xs))
       (between_more text ws (w + 1) i (omega arith) h)
       ∙ ap (λ b. table.transition (progress text ws d (Words k w) i)
       (elim b [ true ↦ table.keyword (token_at text ws i).word | false ↦ table.plain ])
       (token_at text ws i)) (sym e)
-  one (Formula w) i t p h e =
+  plain_word_continues (Formula w) i t p h e =
       ap (λ xs. table.continued (table.formula d (label_before text ws w) (start_of text ws w) xs))
       (between_more text ws (w + 1) i (omega arith) h)
       ∙ ap (λ b. table.transition (progress text ws d (Formula w) i)
       (elim b [ true ↦ table.keyword (token_at text ws i).word | false ↦ table.plain ])
       (token_at text ws i)) (sym e)
-  one (Proof w q) i t p h e =
+  plain_word_continues (Proof w q) i t p h e =
       ap (λ xs. table.continued (table.words d (theorem_with text ws w q) xs))
       (between_more text ws (q + 1) i (omega arith) h)
       ∙ ap (λ b. table.transition (progress text ws d (Proof w q) i)
@@ -71,7 +72,7 @@ module _ (text : List ℕ) (ws : List Word) (d : ℕ) where
       let first : Leads (progress text ws d part i)
       (token_at text ws i ∷ tokens_from text ws (i + 1)) []
       (progress text ws d part (i + 1)) (tokens_from text ws (i + 1)) = leads_go
-      (one part i t p there (e i (omega arith) (omega arith))) in
+      (plain_word_continues part i t p there (e i (omega arith) (omega arith))) in
       let rest =
       passed part n (i + 1) t (part_later part i (i + 1) t (omega arith) p) (omega (arith, h))
       (λ k a b. e k (omega (arith, a)) (omega (arith, b))) in

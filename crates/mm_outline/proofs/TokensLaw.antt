@@ -31,7 +31,8 @@ use Rattle.mm_spec.proofs.ListLaw.{pairs_head, pairs_tail}
 use Rattle.mm_outline.specs.Parts.{AreWithin}
 use Rattle.mm_outline.specs.Tokens.{AreTokens}
 
--- what tokens keep of words: it holds of no words, and of one word more before others that are read
+-- a property of tokens among words: it holds of no tokens, and of one word more in front, whether
+-- that is a token or not
 module _ (Q : List Word → List Word → Type 0) (none : (ws : List Word) → Q ws [])
     (taken : (w : Word) (ws ts : List Word) → Q ws ts → Q (w ∷ ws) (w ∷ ts))
     (skipped : (w : Word) (ws ts : List Word) → Q ws ts → Q (w ∷ ws) ts) where

@@ -26,17 +26,18 @@ abbrev pub innermost : List ℕ → ℕ
 innermost opens = slice_index opens (length opens - 1)
 
 abbrev pub pushed : Kind → BlockLists → BlockLists
-pushed Open b =
-    block_lists (b.of ++ innermost b.open_blocks ∷ []) (b.ends ++ never ∷ [])
-    (b.open_blocks ++ length b.ends ∷ [])
-pushed Close b =
-    block_lists (b.of ++ innermost b.open_blocks ∷ [])
-    (slice_set b.ends (innermost b.open_blocks) (length b.of))
-    (take (length b.open_blocks - 1) b.open_blocks)
-pushed _ b = block_lists (b.of ++ innermost b.open_blocks ∷ []) b.ends b.open_blocks
+pushed Open blocks =
+    block_lists (blocks.of ++ innermost blocks.open_blocks ∷ []) (blocks.ends ++ never ∷ [])
+    (blocks.open_blocks ++ length blocks.ends ∷ [])
+pushed Close blocks =
+    block_lists (blocks.of ++ innermost blocks.open_blocks ∷ [])
+    (slice_set blocks.ends (innermost blocks.open_blocks) (length blocks.of))
+    (take (length blocks.open_blocks - 1) blocks.open_blocks)
+pushed _ blocks =
+    block_lists (blocks.of ++ innermost blocks.open_blocks ∷ []) blocks.ends blocks.open_blocks
 
 abbrev pub end_of : BlockLists → ℕ → ℕ
-end_of b j = get_or b.ends (get_or b.of j 0) 0
+end_of blocks j = get_or blocks.ends (get_or blocks.of j 0) 0
 
 abbrev pub is_never : Option ℕ → Bool
 is_never None = false
@@ -48,21 +49,22 @@ end_in ends (Some block) = slice_get ends block
 
 -- whether the statement is known and its block is still open
 abbrev pub is_open_in : BlockLists → ℕ → Bool
-is_open_in b j = is_never (end_in b.ends (slice_get b.of j))
+is_open_in blocks j = is_never (end_in blocks.ends (slice_get blocks.of j))
 
-pub record IsBlocks (db : List Statement) (b : BlockLists) : Type 0 where
-  pub count : length b.of ≡ length db
-  pub few : length b.ends ≤ length db + 1
+pub record IsBlocks (db : List Statement) (blocks : BlockLists) : Type 0 where
+  pub count : length blocks.of ≡ length db
+  pub few : length blocks.ends ≤ length db + 1
   pub nested : count_by is_closing db ≤ count_by is_opening db
-  pub stack : length b.open_blocks ≡ depth db (length db) + 1
-  pub known : (j : ℕ) → j < length db → get_or b.of j 0 < length b.ends
-  pub opened : (l : ℕ) → l < length b.open_blocks → get_or b.open_blocks l 0 < length b.ends
-  pub still : (l : ℕ) → l < length b.open_blocks
-      → get_or b.ends (get_or b.open_blocks l 0) 0 ≡ never
-  pub rising : (l m : ℕ) → l < m → m < length b.open_blocks
-      → get_or b.open_blocks l 0 < get_or b.open_blocks m 0
-  pub at : (j : ℕ) → j < length db → end_of b j ≡ never
+  pub stack : length blocks.open_blocks ≡ depth db (length db) + 1
+  pub known : (j : ℕ) → j < length db → get_or blocks.of j 0 < length blocks.ends
+  pub opened : (l : ℕ) → l < length blocks.open_blocks
+      → get_or blocks.open_blocks l 0 < length blocks.ends
+  pub still : (l : ℕ) → l < length blocks.open_blocks
+      → get_or blocks.ends (get_or blocks.open_blocks l 0) 0 ≡ never
+  pub rising : (l m : ℕ) → l < m → m < length blocks.open_blocks
+      → get_or blocks.open_blocks l 0 < get_or blocks.open_blocks m 0
+  pub at : (j : ℕ) → j < length db → end_of blocks j ≡ never
       → (depth db j ≤ depth db (length db))
-      × (get_or b.open_blocks (depth db j) 0 ≡ get_or b.of j 0)
-  pub ended : (j k : ℕ) → j < k → k ≤ length db → is_block_open db j k ≡ nat_le k (end_of b j)
-  pub bounds : (j : ℕ) → j < length db → (end_of b j ≡ never) ⊎ (end_of b j < length db)
+      × (get_or blocks.open_blocks (depth db j) 0 ≡ get_or blocks.of j 0)
+  pub ended : (j k : ℕ) → j < k → k ≤ length db → is_block_open db j k ≡ nat_le k (end_of blocks j)
+  pub bounds : (j : ℕ) → j < length db → (end_of blocks j ≡ never) ⊎ (end_of blocks j < length db)

@@ -55,7 +55,7 @@ token_at text ws i = token_of text (nth_word ws i)
 abbrev pub between : List ℕ → List Word → ℕ → ℕ → List Token
 between text ws i j = as_tokens text (slice_range ws i j)
 
--- what the turns in the code are
+-- an outline by its fields
 abbrev pub outline : Kind → ℕ → ℕ → ℕ → Outline
 outline kind keyword middle end =
     record { kind = kind; keyword = keyword; middle = middle; end = end }

@@ -20,7 +20,7 @@ pub struct Blocks<A: Allocator> {
     open_blocks: Vec<u32, A>,
 }
 
-/// Lets all fields go in one call, so that a proof has one step for it at each exit.
+/// Dropped in one call: docs/PROOFS.md, "What a check costs".
 impl<A: Allocator> Drop for Blocks<A> {
     fn drop(self) {
         let Self {

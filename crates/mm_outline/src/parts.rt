@@ -148,7 +148,7 @@ fn transition_for(
     }
 }
 
-/// A statement of one token.
+/// The statement of the one token with the index `at`.
 fn one_token_statement(kind: Kind, at: u32) -> Transition
     ensures { result ≡ Complete (outline kind at at at) }
 {
@@ -170,7 +170,7 @@ fn is_label_at(part: Part, word: &[u8]) -> bool
     }
 }
 
-/// What the token at `at` does.
+/// What the token with the index `at` does.
 fn transition_at(text: &[u8], tokens: &[Word], deep: u32, part: Part, at: u32) -> Transition
     requires tokens { AreTokens text.now tokens.now }
     requires inside { at < length tokens.now }
@@ -220,7 +220,7 @@ fn is_start(part: Part) -> bool
     matches!(part, Part::Start)
 }
 
-/// The fault of the token that is not expected at `at`.
+/// The fault of the token with the index `at`, which is not expected.
 fn unexpected(text: &[u8], tokens: &[Word], part: Part, at: u32) -> Fault
     requires tokens { AreTokens text.now tokens.now }
     requires inside { at < length tokens.now }

@@ -33,7 +33,7 @@ pub struct Plan<A: Allocator> {
     pub with_open: bool,
 }
 
-/// Lets all fields go in one call, so that a proof has one step for it at each exit.
+/// Dropped in one call: docs/PROOFS.md, "What a check costs".
 impl<A: Allocator> Drop for Plan<A> {
     fn drop(self) {
         let Self {

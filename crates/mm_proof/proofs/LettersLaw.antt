@@ -66,7 +66,7 @@ letters_end text i end l =
 abbrev pub StandsBefore : LettersState → List Token → ℕ → Type 0
 StandsBefore s ts end = (from : ℕ) × StandsAt s from × AreInOrder from ts end
 
--- the same after the first of these words
+-- what was read stands before the words after the first one, once that has been read
 pub stands_after : (s new : LettersState) (text : List ℕ) (w : Place) (ws : List Place) (end : ℕ)
     → w.start ≤ w.end → w.end ≤ length text → StandsBefore s (as_tokens text (w ∷ ws)) end
     → StandsAt new w.end → StandsBefore new (as_tokens text ws) end
@@ -402,7 +402,7 @@ pub no_fault : (s : LettersState) (end : ℕ) (all : List Letter) → is_some s.
 no_fault s end [] n some h = absurd (some refl)
 no_fault s end (x ∷ xs) n some h = end_faults s end x xs h ∙ ap (λ b. at end (when b OpenNumber)) n
 
--- all letters are after the last word
+-- all letters have been read after the last word
 pub all_read : (s : LettersState) (text : List ℕ) (ws : List Place) (n : ℕ) (all : List Letter)
     → length ws ≤ n → Continues s all (letters_of (as_tokens text (drop n ws))) → Continues s all []
 all_read s text ws n all l h =

@@ -8,8 +8,9 @@ use Rattle.mm_spec.specs.CompressedProof.{Letter, letters_from, Group, is_early,
 use Rattle.std.specs.Result.{OkIff, result_ok}
 use Rattle.std.proofs.lemmas.List.{same_from_push}
 use Rattle.mm_proof.specs.declared.digits.LetterKind.{LetterKind}
-use Rattle.mm_proof.specs.declared.digits.LetterKind.TheVariants.{Early, Last, Mark, Unknown, Other}
-use Rattle.mm_proof.specs.Number.{IsNumber, IsLetter, saturated}
+use Rattle.mm_proof.specs.declared.digits.LetterKind.TheVariants.{Early, Last, Mark, UnknownStep}
+use Rattle.mm_proof.specs.declared.digits.LetterKind.TheVariants.{Other}
+use Rattle.mm_proof.specs.Number.{IsNumber, HasLetterKind, saturated}
 
 abbrev bytes : List Letter → List ℕ
 bytes xs = map (λ x. x.byte) xs
@@ -74,16 +75,16 @@ each_early (b ∷ bs) (suc i) d e l =
     each_early bs i d (and_parts (is_early b) (list_all is_early bs) e).1 (omega arith)
 
 -- a byte that isn't early is no early letter of a number
-kind_early : (k : LetterKind) (b : ℕ) → IsLetter b k → ((x : ℕ) → k ≡ Early x → ⊥)
+kind_early : (k : LetterKind) (b : ℕ) → HasLetterKind b k → ((x : ℕ) → k ≡ Early x → ⊥)
     → is_early b ≡ false
 kind_early (Early d) b h n = absurd (n d refl)
 kind_early (Last d) b h n = h.0
 kind_early Mark b h n = ap is_early h
-kind_early Unknown b h n = ap is_early h
+kind_early UnknownStep b h n = ap is_early h
 kind_early Other b h n = h.0
 
 pub not_early : (bs : List ℕ) (b n i d : ℕ) (k : LetterKind) → i < length bs
-    → IsLetter (get_or bs i d) k → ((x : ℕ) → k ≡ Early x → ⊥) → IsNumber (bs ++ b ∷ []) n → ⊥
+    → HasLetterKind (get_or bs i d) k → ((x : ℕ) → k ≡ Early x → ⊥) → IsNumber (bs ++ b ∷ []) n → ⊥
 not_early bs b n i d k l h e s =
     true≢false
     (sym (each_early bs i d (spelled bs b n s).early l) ∙ kind_early k (get_or bs i d) h e)

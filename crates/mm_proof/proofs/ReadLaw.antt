@@ -13,7 +13,7 @@ use Rattle.mm_spec.specs.Citation.{is_theorem, reading_faults_at, steps_at}
 use Rattle.mm_spec.specs.Text.{fault}
 use Rattle.mm_spec.specs.declared.Code.TheVariants.{EmptyProof}
 use Rattle.mm_proof.specs.Refused.{word_faults}
-use Rattle.mm_database.specs.Database.{last_place}
+use Rattle.mm_database.specs.Database.{end_at}
 use Rattle.mm_spec.specs.Output.{is_theorem_at}
 use Rattle.mm_spec.specs.declared.Word.{Word}
 use Rattle.mm_outline.specs.Parts.{as_tokens}
@@ -57,11 +57,11 @@ theorem_within db k ps t = within db k _ t.is
     within (x ∷ db) zero s e = omega arith
     within (x ∷ db) (suc k) s e = let h = within db k s e in omega (arith, h)
 
--- its last token is the one at its end
+-- the `$.` of the theorem stands at its end
 pub end_is : (db : List Statement) (k end : ℕ) (ps : List Token) (t : IsProvable db k ps)
-    → option_map last_place (slice_get db k) ≡ Some end → t.dot ≡ end
+    → option_map end_at (slice_get db k) ≡ Some end → t.dot ≡ end
 end_is db k end ps t e =
-    let same : Some t.dot ≡ Some end = sym (ap (option_map last_place) t.is) ∙ e in cc
+    let same : Some t.dot ≡ Some end = sym (ap (option_map end_at) t.is) ∙ e in cc
 
 -- the reading faults of a compressed proof
 pub compressed_at : (db : List Statement) (k : ℕ) (ps : List Token) (t : IsProvable db k ps)
@@ -83,7 +83,7 @@ empty_at db k ps t is =
     ap (λ o. elim o [ Some (provable l p xs a qs d) ↦ reading_faults db k d qs | _ ↦ [] ]) t.is
     ∙ ap (reading_faults db k t.dot) is
 
--- those of a normal proof
+-- the faults of reading a normal proof are those of its words
 pub normal_at : (db : List Statement) (k : ℕ) (ps : List Token) (t : IsProvable db k ps)
     → (first : Token) (rest : List Token)
     → ps ≡ first ∷ rest → bytes_eq first.word (codes "(") ≡ false

@@ -139,26 +139,27 @@ proof_follows text db fault is_read k l p xs e ps d is =
           ((ps ++ token d (codes "$.") ∷ []) ++ [])));
     }
 
--- what counts as a theorem was read as it is
-statement_as_read : (db : List Statement) (w : Bool) (counts : List Statement) → counts
-    ≡ counted w db
+-- a statement that counts as a theorem is the same statement in what was read
+statement_as_read : (db : List Statement) (with_open : Bool) (counted_statements : List Statement)
+    → counted_statements
+    ≡ counted with_open db
     → (k : ℕ) (l : Token) (p : ℕ) (xs : List Token) (e : ℕ) (ps : List Token) (d : ℕ)
-    → slice_get counts k ≡ Some (provable l p xs e ps d)
+    → slice_get counted_statements k ≡ Some (provable l p xs e ps d)
     → slice_get db k ≡ Some (provable l p xs e ps d)
-statement_as_read db w counts are k l p xs e ps d is =
-    theorem_read w db k l p xs e ps d
+statement_as_read db with_open counted_statements are k l p xs e ps d is =
+    theorem_read with_open db k l p xs e ps d
     (subst (λ c. slice_get c k ≡ Some (provable l p xs e ps d)) are is)
 
-pub proof_rising : (text : List ℕ) (db : List Statement) (w : Bool) (fault : Option Fault)
-    → IsRead (length text) (lexed_of text) db fault → (counts : List Statement)
-    → counts ≡ counted w db
+pub proof_rising : (text : List ℕ) (db : List Statement) (with_open : Bool) (fault : Option Fault)
+    → IsRead (length text) (lexed_of text) db fault → (counted_statements : List Statement)
+    → counted_statements ≡ counted with_open db
     → (k : ℕ) (l : Token) (p : ℕ) (xs : List Token) (e : ℕ) (ps : List Token) (d : ℕ)
-    → slice_get counts k ≡ Some (provable l p xs e ps d) → AllPairs Earlier ps
-proof_rising text db w fault is_read counts are k l p xs e ps d is =
+    → slice_get counted_statements k ≡ Some (provable l p xs e ps d) → AllPairs Earlier ps
+proof_rising text db with_open fault is_read counted_statements are k l p xs e ps d is =
     λ i j x less here. let f =
     pairs_front Follows ps (token d (codes "$.") ∷ [])
     (proof_follows text db fault is_read k l p xs e ps d
-    (statement_as_read db w counts are k l p xs e ps d is)) i j x less here in
+    (statement_as_read db with_open counted_statements are k l p xs e ps d is)) i j x less here in
     let a = f.0 in let b = f.1 in omega (arith, a, b)
 
 in_order : (from : ℕ) (ts : List Token) (d : Token) → AllPairs Follows (ts ++ d ∷ [])
@@ -178,13 +179,13 @@ in_order from (t ∷ ts) d p a =
     long [] h = All-head (Follows t) d [] h
     long (u ∷ us) h = All-head (Follows t) u (us ++ d ∷ []) h
 
-pub proof_in_order : (text : List ℕ) (db : List Statement) (w : Bool) (fault : Option Fault)
-    → IsRead (length text) (lexed_of text) db fault → (counts : List Statement)
-    → counts ≡ counted w db
+pub proof_in_order : (text : List ℕ) (db : List Statement) (with_open : Bool) (fault : Option Fault)
+    → IsRead (length text) (lexed_of text) db fault → (counted_statements : List Statement)
+    → counted_statements ≡ counted with_open db
     → (k : ℕ) (l : Token) (p : ℕ) (xs : List Token) (e : ℕ) (ps : List Token) (d : ℕ)
-    → slice_get counts k ≡ Some (provable l p xs e ps d) → AreInOrder 0 ps d
-proof_in_order text db w fault r counts are k l p xs e ps d is =
+    → slice_get counted_statements k ≡ Some (provable l p xs e ps d) → AreInOrder 0 ps d
+proof_in_order text db with_open fault r counted_statements are k l p xs e ps d is =
     in_order 0 ps (token d (codes "$."))
     (proof_follows text db fault r k l p xs e ps d
-    (statement_as_read db w counts are k l p xs e ps d is))
+    (statement_as_read db with_open counted_statements are k l p xs e ps d is))
     (λ i x here. omega arith)

@@ -4,7 +4,8 @@ use Rattle.std.specs.Prelude.{◌≡◌, ℕ, ◌-◌, min, true, false, ◌==�
 use Rattle.std.specs.List.{list_all}
 use Rattle.mm_spec.specs.CompressedProof.{Group, is_early, is_last, value}
 use Rattle.mm_proof.specs.declared.digits.LetterKind.{LetterKind}
-use Rattle.mm_proof.specs.declared.digits.LetterKind.TheVariants.{Early, Last, Mark, Unknown, Other}
+use Rattle.mm_proof.specs.declared.digits.LetterKind.TheVariants.{Early, Last, Mark, UnknownStep}
+use Rattle.mm_proof.specs.declared.digits.LetterKind.TheVariants.{Other}
 
 -- the word consists of early letters followed by a last one, and has this value
 pub record IsNumber (word : List ℕ) (n : ℕ) : Type 0 where
@@ -14,13 +15,13 @@ pub record IsNumber (word : List ℕ) (n : ℕ) : Type 0 where
   pub last : IsTrue (is_last group.last.byte)
   pub value_is : value group ≡ n
 
--- what a byte is, and its digit
-abbrev pub IsLetter : ℕ → LetterKind → Type 0
-IsLetter b (Early d) = (is_early b ≡ true) × (d ≡ b - 84)
-IsLetter b (Last d) = (is_early b ≡ false) × (is_last b ≡ true) × (d ≡ b - 64)
-IsLetter b Mark = b ≡ 90
-IsLetter b Unknown = b ≡ 63
-IsLetter b Other =
+-- the kind of a byte, and its digit; `A` is 65, `U` is 85, `Z` is 90, `?` is 63
+abbrev pub HasLetterKind : ℕ → LetterKind → Type 0
+HasLetterKind b (Early d) = (is_early b ≡ true) × (d ≡ b - 84)
+HasLetterKind b (Last d) = (is_early b ≡ false) × (is_last b ≡ true) × (d ≡ b - 64)
+HasLetterKind b Mark = b ≡ 90
+HasLetterKind b UnknownStep = b ≡ 63
+HasLetterKind b Other =
     (is_early b ≡ false) × (is_last b ≡ false) × ((b == 90) ≡ false) × ((b == 63) ≡ false)
 
 -- a number as 64 bits hold it: all that are above the greatest 64-bit number become that number

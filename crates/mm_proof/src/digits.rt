@@ -1,7 +1,7 @@
 //! The letters of compressed proofs, and the numbers that they spell.
 
 ghost use Rattle.std.specs.Prelude.{◌≡◌, ◌+◌, ◌*◌, ◌<◌, ◌≤◌, ℕ, IfSome, IfNone};
-ghost use Rattle.mm_proof.specs.Number.{IsNumber, IsLetter, saturated};
+ghost use Rattle.mm_proof.specs.Number.{IsNumber, HasLetterKind, saturated};
 
 /// What a byte after the brackets of a compressed proof is (Metamath book, "Compressed Proofs").
 #[derive(Clone, Copy)]
@@ -13,14 +13,14 @@ pub(crate) enum LetterKind {
     /// `Z`: the step before it is marked.
     Mark,
     /// `?`: a step is missing.
-    Unknown,
+    UnknownStep,
     /// Any other byte.
     Other,
 }
 
 /// Returns what a byte is.
 pub(crate) fn letter_of(byte: u8) -> LetterKind
-    ensures { IsLetter byte result }
+    ensures { HasLetterKind byte result }
 {
     // `A` is byte 65 and spells 1, and so does `U`, which is byte 85.
     if b'A' <= byte && byte <= b'T' {
@@ -30,7 +30,7 @@ pub(crate) fn letter_of(byte: u8) -> LetterKind
     } else {
         match byte {
             b'Z' => LetterKind::Mark,
-            b'?' => LetterKind::Unknown,
+            b'?' => LetterKind::UnknownStep,
             _ => LetterKind::Other,
         }
     }
@@ -52,8 +52,8 @@ pub(crate) fn with_digit(number: u64, base: u64, digit: u64) -> u64
     }
 }
 
-/// The same for a large number, which proofs hardly ever have: a call, so that the usual path has
-/// no jump.
+/// Returns what [`with_digit`] returns, for a large number, which proofs hardly ever have: a call,
+/// so that the usual path has no jump.
 #[cold]
 #[inline(never)]
 fn with_digit_of_large(number: u64, base: u64, digit: u64) -> u64

@@ -6,7 +6,7 @@ ghost use Rattle.mm_spec.specs.Steps.{placed};
 ghost use Rattle.mm_spec.specs.CompressedProof.{letters_of, letter_faults, step_of};
 ghost use Rattle.mm_outline.specs.Parts.{as_tokens, AreWithin};
 ghost use Rattle.mm_steps.specs.Read.{read, as_step, IsEarlier};
-ghost use Rattle.mm_proof.specs.Number.{IsLetter, saturated};
+ghost use Rattle.mm_proof.specs.Number.{HasLetterKind, saturated};
 ghost use Rattle.mm_proof.specs.declared.digits.LetterKind.TheVariants.{Last};
 ghost use Rattle.mm_proof.specs.Letters.{letters_state, letter, with_number, step_as_list};
 ghost use Rattle.mm_proof.specs.Letters.{if_begun};
@@ -147,10 +147,10 @@ impl<A: Allocator> LettersRead<A> {
         requires small { digit ≤ 20 }
         requires stands { IsReadUpTo self.old number _at }
         ensures stands { OnOk result (StandsAt self.new (_at + 1)) }
-        ensures reads { OnOk result ((byte : ℕ) → IsLetter byte (Last digit)
+        ensures reads { OnOk result ((byte : ℕ) → HasLetterKind byte (Last digit)
             → ReadsLetters (with_number self.old (if_begun number)) (letter _at byte ∷ [])
             (with_number self.new None)) }
-        ensures refuses { IfErr result (λ e. (byte : ℕ) → IsLetter byte (Last digit)
+        ensures refuses { IfErr result (λ e. (byte : ℕ) → HasLetterKind byte (Last digit)
             → RefusesLetters (with_number self.old (if_begun number)) (letter _at byte ∷ []) e) }
     {
         let begun = with_next_digit(number, 20, digit);
@@ -211,7 +211,7 @@ impl<A: Allocator> LettersRead<A> {
                 number.at = at + 1;
                 Ok(())
             }
-            LetterKind::Unknown => Err(refused(at, Code::IncompleteProof)),
+            LetterKind::UnknownStep => Err(refused(at, Code::IncompleteProof)),
             LetterKind::Other => Err(refused(at, Code::BadLetter)),
         }
     }

@@ -10,7 +10,7 @@ use std::alloc::{AllocError, AllocFailed};
 /// Why no steps were read from a proof.
 #[derive(Drop)]
 pub enum ProofRefused {
-    /// Its first reading fault.
+    /// The first fault of reading the proof.
     Fault(Fault),
     /// Out of memory.
     Memory,

@@ -13,10 +13,11 @@ use Rattle.mm_spec.specs.Report.{separated}
 use Rattle.mm_rows.proofs.ColumnLaw.{filter_snoc}
 use Rattle.mm_report.specs.Rows.{listed, next_label}
 
--- one label more
-pub separated_next : (xs : List Bytes) (x : Bytes) (is_first : Bool) → (is_first ≡ true → xs ≡ [])
-    → (is_first ≡ false → 0 < length xs)
-    → separated (xs ++ x ∷ []) ≡ separated xs ++ next_label is_first x
+-- a label added to a list of labels, with a space before it unless it is the first
+pub separated_next : (xs : List Bytes) (x : Bytes) (is_first_label : Bool)
+    → (is_first_label ≡ true → xs ≡ [])
+    → (is_first_label ≡ false → 0 < length xs)
+    → separated (xs ++ x ∷ []) ≡ separated xs ++ next_label is_first_label x
 separated_next xs x true none some =
     let e = none refl in
     ap (λ (z : List Bytes). separated (z ++ x ∷ [])) e

@@ -14,7 +14,7 @@ use Rattle.mm_report.proofs.UserLaw.{mark_at_range}
 abbrev pub digit_text : Marks → ℕ → ℕ → ℕ
 digit_text m i k = hex_digit (digit_at k (row_marks m i))
 
--- some digits, and those after them
+-- the digits from 0 up to `from` and the n after them are those up to `both`
 pub digits_append : (f : ℕ → ℕ) (from n both : ℕ) → from + n ≡ both
     → map f (range_with_len 0 from) ++ map f (range_with_len from n) ≡ map f (range_with_len 0 both)
 digits_append f from n both e =
@@ -32,7 +32,7 @@ marks_length m i =
 abbrev pub cell_text : Marks → ℕ → ℕ → ℕ
 cell_text m i j = digit_of (mark_at j (row_marks m i))
 
--- all cells of a row
+-- the cells of all columns are the digits of the marks of the row
 pub cells_are : (m : Marks) (i : ℕ)
     → map (cell_text m i) (range_with_len 0 m.columns) ≡ map digit_of (marks_of m i)
 cells_are m i =

@@ -73,7 +73,7 @@ sent_more {a} {b} {c} {r} {s} {t} {x} {y} sent sent_then = record {
           ∙ ap (take (min sent.is_prefix.0 (length (r.held ++ x)))) (append_assoc r.held x y),
     )
 
--- nothing is written after a failure
+-- after a failure anything counts as sent, though nothing is written
 pub sent_stuck : (a : Option (List ℕ)) (s : Pending) (x : List ℕ) → s.failed ≡ true → Sent a a s s x
 sent_stuck a s x e =
     record {
@@ -84,7 +84,7 @@ sent_stuck a s x e =
       if_failed_before = λ f. refl;
     }
 
--- a piece that is held
+-- a piece was sent if it is appended to the bytes that are held
 pub sent_held : (a : Option (List ℕ)) (s t : Pending) (x : List ℕ) → t.held ≡ s.held ++ x
     → t.failed ≡ s.failed → Sent a a s t x
 sent_held a s t x e f =
@@ -96,7 +96,7 @@ sent_held a s t x e f =
       if_failed_before = λ g. refl;
     }
 
--- what was held is written, or a beginning of it
+-- where all that was held was written, and nothing is held any more, nothing further was sent
 pub sent_flushed : (a b : Option (List ℕ)) (s t : Pending) → Appends a b s.held → s.failed ≡ false
     → t.held ≡ [] → Sent a b s t []
 sent_flushed a b s t appends f e =
@@ -108,7 +108,7 @@ sent_flushed a b s t appends f e =
       if_failed_before = λ g. absurd (let no : true ≡ false = sym g ∙ f in cc);
     }
 
--- a piece that is written past an empty buffer
+-- a piece was sent if it was written past an empty buffer
 pub sent_past : (a b : Option (List ℕ)) (s t : Pending) (x : List ℕ) → Appends a b x
     → s.failed ≡ false → s.held ≡ [] → t.held ≡ [] → Sent a b s t x
 sent_past a b s t x appends failed_is held_is t_held_is =
@@ -148,7 +148,7 @@ pub marks_counted : (m : Marks) (i : ℕ)
     → count_by (λ j. mark m i j) (range_with_len 0 m.columns) ≡ count_by (λ b. b) (marks_of m i)
 marks_counted m i = count_map (λ j. mark m i j) (range_with_len 0 m.columns)
 
--- numbers from b on, and those after them
+-- the a + n numbers from b on are the first a of them and the n after these
 pub range_append : (b a n : ℕ)
     → range_with_len b (a + n) ≡ range_with_len b a ++ range_with_len (b + a) n
 range_append b zero n =
@@ -160,7 +160,7 @@ range_append b (suc a) n =
     ∙ ap (λ r. b ∷ r)
     (range_append (b + 1) a n ∙ ap (λ m. range_with_len (b + 1) a ++ range_with_len m n) after)
 
--- all was written
+-- what was sent was written whole, if nothing failed and nothing is held any more
 pub sent_all : (a b c : Option (List ℕ)) (s t : Pending) (x : List ℕ)
     → Sent a b (pending [] false) s x → Sent b c s t [] → t.failed ≡ false → t.held ≡ []
     → Appends a c x
@@ -170,7 +170,7 @@ sent_all a b c s t x sent sent_then f e =
     subst (Appends a c)
     (sym (append-nil m.bytes) ∙ ap (λ z. m.bytes ++ z) (sym e) ∙ w ∙ append-nil x) m.is_written
 
--- or a prefix was written
+-- in any case a prefix of what was sent was written
 pub sent_part : (a b c : Option (List ℕ)) (s t : Pending) (x : List ℕ)
     → Sent a b (pending [] false) s x → Sent b c s t [] → (k : ℕ) × Appends a c (take k x)
 sent_part a b c s t x sent sent_then =

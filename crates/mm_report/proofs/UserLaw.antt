@@ -18,7 +18,7 @@ use Rattle.mm_rows.specs.Marks.{Marks, mark, IsAbove, first_after}
 use Rattle.mm_report.specs.Rows.{row_of, after_label}
 use Rattle.mm_report.proofs.SentLaw.{range_append}
 
--- all are selected
+-- if the test passes for all items, all are selected
 filter_all : {X : Type 0} (p : X → Bool) (f : ℕ → X) (a n : ℕ)
     → ((k : ℕ) → a ≤ k → k < a + n → p (f k) ≡ true)
     → filter p (map f (range_with_len a n)) ≡ map f (range_with_len a n)
@@ -28,7 +28,7 @@ filter_all {X} p f a (suc n) h =
     ap (λ (b : Bool). cond b (f a ∷ rest) rest) (h a (omega arith) (omega arith))
     ∙ ap (λ z. f a ∷ z) (filter_all p f (a + 1) n (λ k lo hi. h k (omega arith) (omega arith)))
 
--- none is
+-- if the test passes for no item, none is selected
 filter_none : {X : Type 0} (p : X → Bool) (f : ℕ → X) (a n : ℕ)
     → ((k : ℕ) → a ≤ k → k < a + n → p (f k) ≡ false) → filter p (map f (range_with_len a n)) ≡ []
 filter_none p f a zero h = refl
@@ -101,7 +101,7 @@ module _ (m : Marks) (labels : ℕ → Bytes) (j : ℕ) (inside : j < m.columns)
   is_marked : (i : ℕ) → mark_at j ((row m labels j) i).marks ≡ mark m i j
   is_marked i = mark_at_range (mark m i) 0 m.columns j inside ∙ ap (mark m i) (zero-add j)
 
-  -- the theorems below n, and those of the next d
+  -- the users below n + d are those below n, and then those among the next d theorems
   users_before_next : (n d : ℕ)
       → users_before m labels j (n + d)
       ≡ users_before m labels j n ++ users j (map (row m labels j) (range_with_len n d))
@@ -112,7 +112,7 @@ module _ (m : Marks) (labels : ℕ → Bytes) (j : ℕ) (inside : j < m.columns)
       ∙ filter-append (λ r. mark_at j r.marks) (map (row m labels j) (range_with_len 0 n))
       (map (row m labels j) (range_with_len n d))
 
-  -- all of the next are marked
+  -- if all of the next d theorems are marked, all of them are added to the users
   users_before_run : (n d : ℕ) → ((k : ℕ) → n ≤ k → k < n + d → mark m k j ≡ true)
       → users_before m labels j (n + d)
       ≡ users_before m labels j n ++ map (row m labels j) (range_with_len n d)
@@ -122,7 +122,7 @@ module _ (m : Marks) (labels : ℕ → Bytes) (j : ℕ) (inside : j < m.columns)
       (filter_all (λ r. mark_at j r.marks) (row m labels j) n d
       (λ k lo hi. is_marked k ∙ all k lo hi))
 
-  -- none of the next is marked
+  -- if none of the next d theorems is marked, none is added to the users
   users_before_gap : (n d : ℕ) → ((k : ℕ) → n ≤ k → k < n + d → mark m k j ≡ false)
       → users_before m labels j (n + d) ≡ users_before m labels j n
   users_before_gap n d none =
@@ -132,25 +132,27 @@ module _ (m : Marks) (labels : ℕ → Bytes) (j : ℕ) (inside : j < m.columns)
       (λ k lo hi. is_marked k ∙ none k lo hi))
       ∙ append-nil (users_before m labels j n)
 
-  above_from_first : (last : Option ℕ) (k : ℕ) → first_after last ≤ k → IsAbove last k
+  above_from_first : (last_sent : Option ℕ) (k : ℕ) → first_after last_sent ≤ k
+      → IsAbove last_sent k
   above_from_first None k h = tt
   above_from_first (Some i) k h = omega arith
 
-  first_from_above : (last : Option ℕ) (i : ℕ) → IsAbove last i → first_after last ≤ i
+  first_from_above : (last_sent : Option ℕ) (i : ℕ) → IsAbove last_sent i
+      → first_after last_sent ≤ i
   first_from_above None i h = omega arith
   first_from_above (Some l) i h = omega arith
 
   -- up to the next marked theorem nothing is added
-  users_before_to : (last : Option ℕ) (n : ℕ) → first_after last ≤ n
-      → ((k : ℕ) → IsAbove last k → k < n → mark m k j ≡ false)
-      → users_before m labels j n ≡ users_before m labels j (first_after last)
-  users_before_to last n le none =
-      let e : first_after last + (n - first_after last) ≡ n = omega arith in
+  users_before_to : (last_sent : Option ℕ) (n : ℕ) → first_after last_sent ≤ n
+      → ((k : ℕ) → IsAbove last_sent k → k < n → mark m k j ≡ false)
+      → users_before m labels j n ≡ users_before m labels j (first_after last_sent)
+  users_before_to last_sent n le none =
+      let e : first_after last_sent + (n - first_after last_sent) ≡ n = omega arith in
       ap (users_before m labels j) (sym e)
-      ∙ users_before_gap (first_after last) (n - first_after last)
-      (λ k lo hi. none k (above_from_first last k lo) (omega arith))
+      ∙ users_before_gap (first_after last_sent) (n - first_after last_sent)
+      (λ k lo hi. none k (above_from_first last_sent k lo) (omega arith))
 
-  -- after a marked theorem there is one
+  -- after a marked theorem there is a user
   some_gathered : (i : ℕ) → mark m i j ≡ true → 0 < length (users_before m labels j (i + 1))
   some_gathered i e =
       let one =
@@ -160,16 +162,18 @@ module _ (m : Marks) (labels : ℕ → Bytes) (j : ℕ) (inside : j < m.columns)
       ∙ length-append (users_before m labels j i) (row m labels j i ∷ []) in
       omega (arith, one)
 
-  -- the labels of a run
-  pub users_more : (last : Option ℕ) (first end : ℕ) → IfSome last (λ i. mark m i j ≡ true)
-      → IsAbove last first → first ≤ end
-      → ((k : ℕ) → IsAbove last k → k < first → mark m k j ≡ false)
+  -- the labels of a run of marked theorems are added to those that were sent
+  pub users_more : (last_sent : Option ℕ) (first end : ℕ)
+      → IfSome last_sent (λ i. mark m i j ≡ true)
+      → IsAbove last_sent first → first ≤ end
+      → ((k : ℕ) → IsAbove last_sent k → k < first → mark m k j ≡ false)
       → ((k : ℕ) → first ≤ k → k < end → mark m k j ≡ true)
-      → separated_rows (users_before m labels j (first_after last))
-      ++ after_label last (spaced (run m labels j first end))
+      → separated_rows (users_before m labels j (first_after last_sent))
+      ++ after_label last_sent (spaced (run m labels j first end))
       ≡ separated_rows (users_before m labels j end)
-  users_more last first end marked up order none all =
-      text_by_last last marked (users_before_to last first (first_from_above last first up) none)
+  users_more last_sent first end marked up order none all =
+      text_by_last last_sent marked (users_before_to last_sent first
+      (first_from_above last_sent first up) none)
     where
       users_before_end : users_before m labels j end
           ≡ users_before m labels j first ++ run m labels j first end
@@ -191,11 +195,12 @@ module _ (m : Marks) (labels : ℕ → Bytes) (j : ℕ) (inside : j < m.columns)
           ∙ separated_append (users_before m labels j (i + 1)) (run m labels j first end)
           (some_gathered i marked))
 
-  pub users_all : (last : Option ℕ) (n : ℕ) → first_after last ≤ n
-      → ((k : ℕ) → IsAbove last k → k < n → mark m k j ≡ false)
-      → separated_rows (users_before m labels j (first_after last))
+  -- if no theorem after the last one that was sent is marked, all users were sent
+  pub users_all : (last_sent : Option ℕ) (n : ℕ) → first_after last_sent ≤ n
+      → ((k : ℕ) → IsAbove last_sent k → k < n → mark m k j ≡ false)
+      → separated_rows (users_before m labels j (first_after last_sent))
       ≡ separated_rows (users_before m labels j n)
-  users_all last n le none = ap separated_rows (sym (users_before_to last n le none))
+  users_all last_sent n le none = ap separated_rows (sym (users_before_to last_sent n le none))
 
   length_of_one : (r : Row) (b : Bool) → length {A = Row} (cond b (r ∷ []) []) ≡ cond b 1 0
   length_of_one r true = refl
@@ -231,7 +236,7 @@ usage_push rows a (k ∷ ls) l =
     ∙ sym (append_assoc (usage_line rows a k) (usage_lines rows (a + 1) ls)
     (usage_line rows (a + suc (length ls)) l))
 
--- one column more
+-- the lines of the first j + 1 columns are those of the first j, and then that of column j
 pub usage_more : (rows : List Row) (names : List Bytes) (j : ℕ) → j < length names
     → usage_lines rows 0 (take (j + 1) names)
     ≡ usage_lines rows 0 (take j names) ++ usage_line rows j (get_or names j [])

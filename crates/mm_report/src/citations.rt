@@ -37,11 +37,11 @@ fn listed_count<D: Allocator>(database: &Database<'_, D>, only: Option<&[u8]>, c
 }
 
 /// Sends a label, after a space if others are before it.
-fn send_next<W: Write>(sink: &mut Sink, to: &mut W, label: &[u8], is_first: bool)
+fn send_next_label<W: Write>(sink: &mut Sink, to: &mut W, label: &[u8], is_first_label: bool)
     ensures { Sent (W.contents to.old) (W.contents to.new) sink.old sink.new
-        (next_label is_first label.now) }
+        (next_label is_first_label label.now) }
 {
-    if is_first {
+    if is_first_label {
         sink.send(to, label);
         return;
     }
@@ -61,11 +61,11 @@ fn send_cited<W: Write, D: Allocator>(
     ensures { Sent (W.contents to.old) (W.contents to.new) sink.old sink.new
         (separated (listed_labels database.now.statements (option_copied only.entry) cited.now)) }
 {
-    let mut is_first = true;
+    let mut is_first_label = true;
     for statement in cited {
         if has_chosen_typecode(database, only, *statement) {
-            send_next(sink, to, label_of(database, *statement), is_first);
-            is_first = false;
+            send_next_label(sink, to, label_of(database, *statement), is_first_label);
+            is_first_label = false;
         }
     }
 }

@@ -22,7 +22,7 @@ impl<A: Allocator> Model for Block<A> {
 }
 
 impl<A: Allocator> Block<A> {
-    /// A new block of so many units, if the allocator has memory for it.
+    /// A new block of `units` units, if the allocator has memory for it.
     pub(crate) fn allocate(alloc: &A, units: usize) -> Option<Block<A>>
         requires { units * 16 < 2 ^ 63 }
         ensures { IfSome result (λ b. (b.alloc ≡ alloc.now) × (b.units ≡ units)) }
@@ -36,7 +36,7 @@ impl<A: Allocator> Block<A> {
         }
     }
 
-    /// Gives the block of so many units back to the allocator.
+    /// Gives the block of `units` units back to the allocator.
     pub(crate) fn free(self, alloc: &A, units: usize)
         requires alloc { self.alloc ≡ alloc.now }
         requires units { self.units ≡ units }

@@ -16,7 +16,7 @@ pub(crate) struct FreeList<A: Allocator> {
     ghost alike: { All (λ b. (b.alloc ≡ alloc) × (b.units ≡ units)) blocks.items },
 }
 
-/// The allocator of a list is known by the tag of the slot that it lies in.
+/// A slot's tag is an allocator. A list fits into the slot if its blocks are from that allocator.
 impl<A: Allocator> Fits for FreeList<A> {
     type Tag = A;
 
@@ -37,7 +37,7 @@ impl<A: Allocator> FreeList<A> {
         }
     }
 
-    /// Takes a block of so many units from the list, if it has one.
+    /// Takes a block of `units` units from the list, if it has one.
     pub(crate) fn take_block(&mut self, units: usize) -> Option<Block<A>>
         ensures alloc { self.new.alloc ≡ self.old.alloc }
         ensures block { IfSome result (λ b. (b.alloc ≡ self.old.alloc) × (b.units ≡ units)) }
@@ -49,7 +49,7 @@ impl<A: Allocator> FreeList<A> {
         }
     }
 
-    /// Adds a block of so many units to the list. Returns it if the list has blocks of another
+    /// Adds a block of `units` units to the list. Returns it if the list has blocks of another
     /// size, or if there is no memory for the list.
     pub(crate) fn put_block(&mut self, block: Block<A>, units: usize) -> Result<(), Block<A>>
         requires alloc { block.alloc ≡ self.old.alloc }

@@ -33,7 +33,7 @@ pub struct Reusing<A: Allocator> {
     ghost alike: { All (λ list. list ≡ alloc) lists.items },
 }
 
-/// The units of a block for so many bytes.
+/// The units of a block for `size` bytes.
 fn units_for(size: usize) -> usize
     ensures { result ≡ block_units size }
 {
@@ -42,7 +42,7 @@ fn units_for(size: usize) -> usize
     units.next_multiple_of(step)
 }
 
-/// The index of the list for blocks of so many units. Blocks of two sizes have two lists.
+/// The index of the list for blocks of `units` units. Blocks of two sizes have two lists.
 fn list_index(units: usize) -> usize {
     let zeros = units.leading_zeros();
     let three_bits = units.wrapping_shl(zeros) >> THIRD_HIGHEST_BIT;
@@ -88,7 +88,7 @@ impl<A: Allocator> Reusing<A> {
         Ok(Reusing { alloc, lists })
     }
 
-    /// Takes a freed block of so many units out of its list, if there is one.
+    /// Takes a freed block of `units` units out of its list, if there is one.
     fn take_freed(&self, units: usize) -> Option<Block<A>>
         ensures { IfSome result (λ b. (b.alloc ≡ self.now.alloc) × (b.units ≡ units)) }
     {
@@ -99,7 +99,7 @@ impl<A: Allocator> Reusing<A> {
         block
     }
 
-    /// A block for so many bytes: a freed one, or else a new one. `None` if there is no memory.
+    /// A block for `size` bytes: a freed one, or else a new one. `None` if there is no memory.
     fn take_block(&self, size: usize) -> Option<Block<A>>
         ensures { IfSome result (λ b. (b.alloc ≡ self.now.alloc) × (b.units ≡ block_units size)
             × (size ≤ b.units * 16) × (size < 2 ^ 63)) }
@@ -117,7 +117,7 @@ impl<A: Allocator> Reusing<A> {
         }
     }
 
-    /// Adds a block for so many bytes to its list. If no list takes it, the other allocator gets it
+    /// Adds a block for `size` bytes to its list. If no list takes it, the other allocator gets it
     /// back.
     fn give_back(&self, block: Block<A>, size: usize)
         requires alloc { block.alloc ≡ self.now.alloc }

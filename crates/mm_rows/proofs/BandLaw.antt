@@ -20,7 +20,7 @@ use Rattle.mm_rows.proofs.TransposeLaw.{bit_index_word, bit_index_bit, row_bit, 
 use lib.Lanes.{zip2, mask_l}
 use Rattle.mm_spec.proofs.BitLaw.{shifted}
 
--- a bit is that of 2 ^ b alone, where there is one
+-- the test whether a word has the bit of 2 ^ b gives its bit b
 bit_of_pow : (n b : ℕ) → cond (eqb (bit_and n (2 ^ b)) (2 ^ b)) 1 0 ≡ bit_at n b
 bit_of_pow n b = ap (λ x. cond (eqb x (2 ^ b)) 1 0) (and_pow n b) ∙ by_bit (cases_eq (bit_at n b) 0)
   where
@@ -56,7 +56,7 @@ lane_bit v n m b k long m_is k_below_n =
     ∙ ap (λ x. cond (eqb (bit_and (get_or v k 0) x) x) 1 0) m_is
     ∙ bit_of_pow (get_or v k 0) b
 
--- a row of the table, and none past it
+-- for a row of the table the bit is the one in its words, and past the last row none is set
 pub bit_in_rows_within : (rows across : ℕ) (bits : List ℕ) (i j : ℕ) → i < rows
     → bit_in_rows rows across bits i j ≡ is_bit bits (bit_index across i j)
 bit_in_rows_within rows across bits i j lt =
@@ -111,7 +111,7 @@ all_marked across rows bits has_mark w end le are_marked k j k_below_64 small on
         let no = bit_in_rows_past rows across bits (64 * w + k) j g in
         absurd (let e : true ≡ false = sym one ∙ no in cc)
 
--- a bit of a byte of a word
+-- bit b of the byte that begins at bit s of a word is bit s + b of the word
 pub byte_bit : (n s b : ℕ) → b < 8 → bit_at (bit_and (n / 2 ^ s) 255) b ≡ bit_at n (s + b)
 byte_bit n s b lt =
     let l = bit_at-lt (n / 2 ^ s) b in
@@ -119,7 +119,7 @@ byte_bit n s b lt =
     let least : min (bit_at (n / 2 ^ s) b) 1 ≡ bit_at (n / 2 ^ s) b = omega (arith, l) in
     bit_at_and (n / 2 ^ s) 255 b ∙ ap (min (bit_at (n / 2 ^ s) b)) all ∙ least ∙ shifted n s b
 
--- bit b of byte at of a row
+-- bit b of the byte with index `at` of row i is bit 8 * at + b of that row
 pub row_byte : (bits : List ℕ) (across i at b : ℕ) → b < 8
     → eqb (bit_at (bit_and (get_or bits (i * across + at / 8) 0 / 2 ^ (8 * (at % 8))) 255) b) 1
     ≡ is_bit bits (bit_index across i (8 * at + b))
@@ -131,7 +131,7 @@ row_byte bits across i at b lt =
     (bit_index_word across i (8 * at + b) ∙ ap (λ x. i * across + x) q)
     (bit_index_bit across i (8 * at + b) ∙ r))
 
--- the bytes of the first n of the rows from first on are there
+-- of the rows from `first` on, the first n have their byte with index `at` among these bytes
 pub record BytesTo (across : ℕ) (bits : List ℕ) (at : ℕ) (bytes : List ℕ)
     (first n : ℕ) : Type 0 where
   pub size : length bytes ≡ 64
@@ -205,7 +205,7 @@ lane_is_word rows across bits w at bytes j word are lo hi same k lt =
     ap (λ x. eqb x 1) (same k lt) ∙ are k (j % 8) lt (omega arith)
     ∙ ap (bit_in_rows rows across bits (64 * w + k)) is
 
--- a column without a mark in a band
+-- a word of 0 is that of a column without a mark in band w
 pub no_mark : (rows across : ℕ) (bits : List ℕ) (w j : ℕ)
     → ((k : ℕ) → k < 64 → bit_in_rows rows across bits (64 * w + k) j ≡ true → ⊥)
     → IsColumnWord rows across bits w j 0
@@ -220,7 +220,7 @@ word_within columns down j w len small band size =
     let t = mul_comm down columns in
     omega (arith, m, t, size)
 
--- one word more
+-- after word w of column j was written, band w is written in the columns up to j
 pub written_word : (rows columns : ℕ) (bits transposed : List ℕ) (w j word : ℕ) → w < words_for rows
     → j < columns → IsColumnWord rows (words_for columns) bits w j word
     → ColumnsWritten rows columns bits transposed w j
@@ -264,7 +264,7 @@ written_word rows columns bits transposed w j word band small is_column_word col
         (sym (other_words_same l w band (λ e f. ne e)))
         (columns_written.written_below l a (omega arith))
 
--- columns without a mark need no word
+-- columns without a mark in band w are passed, as their words are zero already
 pub written_zeros : (rows columns : ℕ) (bits transposed : List ℕ) (w from to : ℕ) → w < words_for
     rows
     → ((j : ℕ) → from ≤ j → j < to → j < columns → IsColumnWord rows (words_for columns) bits w j 0)
@@ -321,7 +321,7 @@ written_skip rows columns bits has_mark transposed across w from to width band m
         let e : true ≡ false = sym yes ∙ no in
         absurd (cc)
 
--- the next band
+-- where all columns of band w are written, band w + 1 is next
 pub written_band : (rows columns : ℕ) (bits transposed : List ℕ) (w from : ℕ) → columns ≤ from
     → ColumnsWritten rows columns bits transposed w from
     → ColumnsWritten rows columns bits transposed (w + 1) 0
@@ -342,7 +342,7 @@ written_band rows columns bits transposed w from columns_at_most_from columns_wr
         (columns_written.written_below j a (omega arith))
     by_band j v a b d (inr ne) = columns_written.earlier_bands j v a (omega arith) d
 
--- all bands are written
+-- after all bands, the words are those of the transposed table
 pub written_all : (rows columns : ℕ) (bits transposed : List ℕ) (w : ℕ) → words_for rows ≤ w
     → ColumnsWritten rows columns bits transposed w 0 → AreTransposed rows columns bits transposed
 written_all rows columns bits transposed w le columns_written = record {

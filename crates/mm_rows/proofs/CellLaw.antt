@@ -22,7 +22,7 @@ use Rattle.mm_rows.specs.declared.cells.TheConstants.{BYTES, BITS}
 use Rattle.mm_rows.proofs.DigitLaw.{row_mark}
 use lib.Lanes.{put_chunk, number_l, digits_l, zip2, sel_l, pick_l, top}
 
--- a byte of a word that stands in all lanes
+-- a word in each of eight lanes
 abbrev pub eight : ℕ → List ℕ
 eight word = word ∷ word ∷ word ∷ word ∷ word ∷ word ∷ word ∷ word ∷ []
 
@@ -77,7 +77,7 @@ byte_bit word k lt =
     ∙ shifted word (8 * (k / 8)) (k % 8)
     ∙ ap (bit_at word) is
 
--- the lanes
+-- for each of 64 lanes the byte of the word that its cell is in
 abbrev pub spread : ℕ → List ℕ
 spread word = pick_l 0 (all_bytes word ++ all_bytes word) BYTES
 
@@ -148,7 +148,7 @@ cells_more words into lanes w within size long each are_cells i lt = by_word (ca
 
 module _ (m : Marks) (rows columns : ℕ) (words : List ℕ)
     (view : m ≡ marks rows columns words) (is_table : IsTable rows columns words) where
-  -- cells that were written from a word on
+  -- the cells that were written from word `word` of a row on are those of its columns
   pub cells_are : (i word : ℕ) (part into old : List ℕ) → i < m.rows
       → part ≡ row_at words (words_for columns) i
       → 64 * word + length old ≤ 64 * words_for m.columns → length old % 64 ≡ 0

@@ -90,7 +90,7 @@ filled_more c columns cited n row mid new filled_from new_length a b d e = recor
     via_to_marked j lt m below v (inr ne) =
         (d j lt).1 (inl ((a j lt).1 (inl ((filled_from.marks j lt).1 (m, omega arith, v)))))
 
--- all citations of a theorem
+-- after all citations of a theorem, its row is right
 pub filled_all : (c : Citing) (columns : List ℕ) (i : ℕ) (row : List ℕ) → IsFileOrder c
     → i < length c.theorems → FilledFrom c columns (list_at c i) (length (list_at c i)) row
     → IsBitRow c columns (theorem_at c i) row
@@ -173,7 +173,7 @@ marks_of_or c columns t old from new is_bit_row same words each =
       λ j le. bits j ∙ or_with_false (is_bit old j) (is_bit from j) (is_bit_row.past j le),
     )
 
--- before the first citation
+-- before the first citation, no bit is set
 pub filled_none : (c : Citing) (columns cited row : List ℕ) → length row
     ≡ words_for (length columns)
     → ((j : ℕ) → is_bit row j ≡ false) → FilledFrom c columns cited 0 row

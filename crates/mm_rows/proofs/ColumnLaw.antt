@@ -17,7 +17,7 @@ use Rattle.mm_spec.proofs.FaultlessLaw.{index_of_get}
 use Rattle.mm_spec.proofs.BoolLaw.{passes_alone}
 use Rattle.mm_database.specs.Database.{typecode_of, is_labelled_kind, kind_of}
 
--- a selection of a selection
+-- a selection of a selection is the selection by both tests
 pub filter_filter : (p q r : ℕ → Bool) (xs : List ℕ) → ((x : ℕ) → r x ≡ (p x && q x))
     → filter q (filter p xs) ≡ filter r xs
 filter_filter p q r [] h = refl
@@ -29,7 +29,7 @@ filter_filter p q r (x ∷ xs) h = by_test (p x) (h x) (filter_filter p q r xs h
     by_test false e i = i ∙ sym (ap (λ c. cond c (x ∷ filter r xs) (filter r xs)) e)
     by_test true e i = ap₂ (λ (c : Bool) (l : List ℕ). cond c (x ∷ l) l) (sym e) i
 
--- one element more
+-- a selection of a list with one more element at its end
 pub filter_snoc : (p : ℕ → Bool) (xs : List ℕ) (x : ℕ)
     → filter p (xs ++ x ∷ []) ≡ filter p xs ++ cond (p x) (x ∷ []) []
 filter_snoc p xs x = filter-append p xs (x ∷ [])

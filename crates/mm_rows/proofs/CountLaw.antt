@@ -73,7 +73,7 @@ tally_within p (suc n) =
     one_at_most true = omega arith
     one_at_most false = omega arith
 
--- a count that a u64 holds is told as it is
+-- a count below 2 ^ 64 isn't cut off
 pub all_counted : (p : ℕ → Bool) (n result : ℕ) → n < 2 ^ 64
     → result ≡ min (tally p n) (2 ^ 64 - 1)
     → result ≡ tally p n
@@ -124,7 +124,7 @@ words_count row fits (suc n) le =
     ap (λ m. sum_by count_ones (take m row)) one ∙ omega (arith, i, more, w, s, a)
     ∙ ap (tally (is_bit row)) (sym bits)
 
--- the bits of all words
+-- the ones of all words are counted bit by bit
 pub all_ones : (row : List ℕ) → ((k : ℕ) → get_or row k 0 < 2 ^ 64)
     → sum (map count_ones row) ≡ tally (is_bit row) (64 * length row)
 all_ones row fits =

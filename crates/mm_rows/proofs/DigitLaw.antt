@@ -22,7 +22,7 @@ use Rattle.mm_rows.proofs.TransposeLaw.{row_bit, row_length}
 use Rattle.mm_rows.proofs.TableLaw.{mark_bit}
 use lib.Lanes.{put_chunk, number_l, digits_l}
 
--- the four lowest bits of a word after a place
+-- bit b of the four that begin at bit s of a word is bit s + b of the word
 low_bit : (n s b : ℕ) → b < 4 → bit_at (bit_and (n / 2 ^ s) 15) b ≡ bit_at n (s + b)
 low_bit n s b lt =
     let l = bit_at-lt (n / 2 ^ s) b in
@@ -30,7 +30,7 @@ low_bit n s b lt =
     let least : min (bit_at (n / 2 ^ s) b) 1 ≡ bit_at (n / 2 ^ s) b = omega (arith, l) in
     bit_at_and (n / 2 ^ s) 15 b ∙ ap (min (bit_at (n / 2 ^ s) b)) all ∙ least ∙ shifted n s b
 
--- four bits, and what they are as the lowest
+-- the number that bits 4k to 4k + 3 of a word make, the first of them lowest
 abbrev pub four : ℕ → ℕ → ℕ
 four word k = bit_and (word / 2 ^ (4 * k)) 15
 
@@ -61,7 +61,7 @@ digits_right n lt =
 pub number_is : (word k : ℕ) → get_or NUMBERS (four word k) 0 ≡ four_at word k
 number_is word k = numbers_right (four word k) (four_small word k) ∙ sym (four_low word k)
 
--- each lane is looked up
+-- the sixteen groups of four bits of a word, as numbers
 abbrev pub fours : ℕ → List ℕ
 fours word = map (four word) (range_with_len 0 16)
 
@@ -178,7 +178,7 @@ digits_more words into lanes w within size long each are_digits i lt = by_word (
         ∙ each (i - 16 * w) (omega arith)
         ∙ ap₂ (λ a b. hex_digit (four_at (get_or words a 0) b)) q r
 
--- a mark of a list
+-- mark n of a list is its element n, and past its end nothing is marked
 mark_is : (n : ℕ) (xs : List Bool) → mark_at n xs ≡ get_or xs n false
 mark_is n [] = refl
 mark_is zero (b ∷ bs) = refl
@@ -228,7 +228,7 @@ module _ (m : Marks) (rows columns : ℕ) (words : List ℕ)
       ∙ bit_is _ (bit_at-lt (get_or row ((4 * k + b) / 64) 0) ((4 * k + b) % 64))
       ∙ ap bit_of (row_mark i (4 * k + b) lt (omega arith))
 
-  -- a digit of a row
+  -- the number of four bits of a row is the digit of their columns
   pub row_digit : (i k : ℕ) (part : List ℕ) → i < m.rows → k < 16 * words_for columns
       → part ≡ row_at words (words_for columns) i
       → four_at (get_or part (k / 16) 0) (k % 16) ≡ digit_at k (row_marks m i)
@@ -257,7 +257,7 @@ module _ (m : Marks) (rows columns : ℕ) (words : List ℕ)
       let lt' = subst (λ (x : Marks). i < x.rows) view lt in
       ap length is ∙ row_length words (words_for columns) i rows lt' is_table.size
 
-  -- digits that were written from a word on
+  -- the digits that were written from word `word` of a row on are those of its columns
   pub digits_are : (i word : ℕ) (part into old : List ℕ) → i < m.rows
       → part ≡ row_at words (words_for columns) i
       → 16 * word + length old ≤ 16 * words_for m.columns → length old % 16 ≡ 0

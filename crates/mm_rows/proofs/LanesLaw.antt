@@ -28,7 +28,7 @@ lanes_sum a (x ∷ xs) = lanes_sum (a + count_ones x) xs
 pub lanes_are : (xs : List ℕ) → lanes_total xs ≡ sum_by count_ones xs
 lanes_are xs = lanes_sum 0 xs
 
--- eight words more
+-- the ones of eight more words are added
 pub eight_more : (row : List ℕ) (at : ℕ) → at + 8 ≤ length row
     → sum_by count_ones (take (at + 8) row)
     ≡ sum_by count_ones (take at row) + sum_by count_ones (take 8 (drop at row))

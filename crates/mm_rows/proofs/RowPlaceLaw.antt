@@ -1,4 +1,4 @@
--- A row that is written at its place among all rows.
+-- A row that is written among the words of all rows.
 use Rattle.std.proofs.Common.{◌≡◌, ℕ, ◌+◌, ◌-◌, ◌*◌, ◌<◌, ◌≤◌, List, ◌++◌, length, take, drop}
 use Rattle.std.proofs.Common.{subst, sym, ap, ap₂, ◌∙◌, arith, ◌⊎◌, inl, inr}
 use Rattle.std.proofs.lemmas.Bool.{cases_order}
@@ -32,7 +32,7 @@ ready_before c columns bits before rest i is_file_order within parts long ready 
     (ap (λ xs. row_at xs width r) (sym parts)
     ∙ row_kept before rest width r (omega (arith, low, long))) (ready r k lt listed e)
 
--- the row that is written
+-- the words that stand after those of i rows are row i
 pub row_here : (before new tail : List ℕ) (width i : ℕ) → length before ≡ i * width
     → length new ≡ width → row_at (before ++ (new ++ tail)) width i ≡ new
 row_here before new tail width i long short =
@@ -41,7 +41,7 @@ row_here before new tail width i long short =
     ∙ take-append-le width new tail (omega (arith, short))
     ∙ take_all width new (omega (arith, short))
 
--- the other rows
+-- each other row is as it was
 pub row_there : (before new rest : List ℕ) (width i r : ℕ) → length before ≡ i * width
     → length new ≡ width → (r ≡ i → ⊥)
     → row_at (before ++ (new ++ drop width rest)) width r ≡ row_at (before ++ rest) width r

@@ -40,7 +40,7 @@ module _ (m : Marks) (rows columns : ℕ) (words : List ℕ)
       bit_index_within width rows i j (length xs) lt' (omega (arith, w))
       (ap length e ∙ is_table.size ∙ sym (ap (λ a. rows * a) w))
 
-  -- a cell that is read
+  -- the bit that is read for a cell is its mark
   pub cell_is : (i j width : ℕ) (xs : List ℕ) → i < m.rows → j < m.columns
       → width ≡ words_for columns → xs ≡ words → is_bit xs (bit_index width i j) ≡ mark m i j
   cell_is i j width xs lt l w e =
@@ -67,7 +67,7 @@ module _ (m : Marks) (rows columns : ℕ) (words : List ℕ)
       (λ j. mark (marks rows columns words) i j) columns
       (λ j l. sym (mark_bit rows columns words i j lt' l)))
 
-  -- the words of all columns
+  -- the transposed words are those of all columns
   pub columns_are : (transposed : List ℕ) → AreTransposed rows columns words transposed
       → AreColumns m transposed
   columns_are transposed are_transposed =
@@ -93,7 +93,7 @@ module _ (m : Marks) (rows columns : ℕ) (words : List ℕ)
       past_last_row j lt i le (inr g) =
           row_past transposed (words_for rows) j columns i lt are_transposed.size g
 
--- the words of one of them
+-- the words of a column end within the words of all columns
 pub column_fits : (m : Marks) (users : List ℕ) → AreColumns m users → (j width : ℕ) (xs : List ℕ)
     → j < m.columns → width ≡ words_for m.rows → xs ≡ users → j * width + width ≤ length xs
 column_fits m users a j width xs lt w e =

@@ -1,4 +1,4 @@
--- The places of bits in a table.
+-- The indices of bits in a table.
 use Rattle.std.proofs.Common.{◌≡◌, ℕ, false, List, ◌<◌, ◌≤◌, ◌+◌, ◌*◌, ◌/◌, ◌%◌, ◌-◌}
 use Rattle.std.proofs.Common.{length, sym, ap, ap₂, arith, get_or, eqb, take, drop, ◌∙◌}
 use Rattle.std.proofs.lemmas.Nat.{mul-add-lt, mul-le}
@@ -9,14 +9,14 @@ use Rattle.mm_rows.specs.Bits.{is_bit, bit_index}
 use Rattle.mm_rows.specs.BitRows.{row_at}
 use Rattle.mm_rows.proofs.BitLaw.{part_bit, past_words}
 
--- where bit j of row i lies
+-- bit j of row i lies in word j / 64 of that row, at j % 64
 pub bit_index_word : (width i j : ℕ) → bit_index width i j / 64 ≡ i * width + j / 64
 bit_index_word width i j = let m = mul_left_comm i 64 width in omega (arith, m)
 
 pub bit_index_bit : (width i j : ℕ) → bit_index width i j % 64 ≡ j % 64
 bit_index_bit width i j = let m = mul_left_comm i 64 width in omega (arith, m)
 
--- a place lies within the words
+-- the word of a bit is one of the words
 pub bit_index_within : (width n i j len : ℕ) → i < n → j < 64 * width → len ≡ n * width
     → bit_index width i j / 64 < len
 bit_index_within width n i j len a b e =
@@ -26,7 +26,7 @@ bit_index_within width n i j len a b e =
     let t = mul_comm width n in
     omega (arith, w, m, t)
 
--- a row as a part of all words
+-- a bit of a row is the bit with its index among the bits of all rows
 pub row_bit : (words : List ℕ) (width i j : ℕ) → j < 64 * width
     → is_bit (row_at words width i) j ≡ is_bit words (bit_index width i j)
 row_bit words width i j lt =
@@ -46,14 +46,14 @@ row_length words width i n lt size =
     ∙ length-take-le width (drop (i * width) words)
     (omega (arith, m, s, size, length-drop (i * width) words))
 
--- bits past the words of a row
+-- bits past the words of a row are not set
 pub row_past : (words : List ℕ) (width i n j : ℕ) → i < n → length words ≡ n * width
     → 64 * width ≤ j → is_bit (row_at words width i) j ≡ false
 row_past words width i n j lt size le =
     past_words (row_at words width i) j
     (let l = row_length words width i n lt size in omega (arith, l))
 
--- where a row ends
+-- a row ends within the words of all rows
 pub row_end : (width i n len : ℕ) → i < n → len ≡ n * width → i * width + width ≤ len
 row_end width i n len lt size =
     let m = mul-le (i + 1) width n width (omega arith) (omega arith) in let s = add-mul i 1 width in

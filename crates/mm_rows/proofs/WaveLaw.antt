@@ -42,13 +42,13 @@ earlier_row c i r k is_file_order within listed r_inside e = by_order (cases_ord
         let b = cited_is_earlier in
         absurd (omega (arith, b, n))
 
--- one theorem more
+-- the wave from one more citation: of citation n, the theorem in row r
 pub wave_more : (c : Citing) (waves : List ℕ) (i : ℕ) (cited : List ℕ) (n wave r : ℕ)
     → IsFileOrder c → i < length c.theorems → AreWaves c i waves → n < length cited
     → r < length c.theorems → theorem_at c r ≡ get_or cited n 0 → WaveTo c waves i cited n wave
     → (r < length waves) × WaveTo c waves i cited (n + 1) (max wave (get_or waves r 0 + 1))
 wave_more c waves i cited n wave r is_file_order within are_waves n_inside inside is wave_to = (
-  let s = are_waves.size in let b = before in
+  let s = are_waves.size in let b = r_is_earlier in
       omega (arith, s, b),
   by_longer (cases_lt wave (get_or waves r 0 + 1)),
 )
@@ -56,8 +56,8 @@ wave_more c waves i cited n wave r is_file_order within are_waves n_inside insid
     listed : n < length (list_at c i)
     listed = subst (λ xs. n < length xs) wave_to.same n_inside
 
-    before : r < i
-    before = earlier_row c i r n is_file_order within listed inside
+    r_is_earlier : r < i
+    r_is_earlier = earlier_row c i r n is_file_order within listed inside
         (is ∙ ap (λ xs. get_or xs n 0) wave_to.same)
 
     cites : HasCitation c (theorem_at c i) (theorem_at c r)
@@ -73,7 +73,7 @@ wave_more c waves i cited n wave r is_file_order within are_waves n_inside insid
 
     longer : TheoremChain (HasCitation c) (IsCitingTheorem c) (theorem_at c i)
         (suc (get_or waves r 0))
-    longer = (theorem_at c r, cites, (r, inside, refl), (are_waves.each r before).0)
+    longer = (theorem_at c r, cites, (r, inside, refl), (are_waves.each r r_is_earlier).0)
 
     above : (x : ℕ) → wave ≤ x → get_or waves r 0 + 1 ≤ x → (m s : ℕ) → m < n + 1
         → s < length c.theorems → theorem_at c s ≡ get_or cited m 0 → get_or waves s 0 + 1 ≤ x
@@ -94,8 +94,8 @@ wave_more c waves i cited n wave r is_file_order within are_waves n_inside insid
     by_longer (inl l) =
         let top : max wave (get_or waves r 0 + 1) ≡ get_or waves r 0 + 1 = omega arith in
         let one : suc (get_or waves r 0) ≡ max wave (get_or waves r 0 + 1) = omega arith in
-        let b = before in
-        let few = are_waves.small r before in
+        let b = r_is_earlier in
+        let few = are_waves.small r r_is_earlier in
         record {
           same = wave_to.same;
           chain = subst (TheoremChain (HasCitation c) (IsCitingTheorem c) (theorem_at c i))
@@ -114,7 +114,7 @@ wave_more c waves i cited n wave r is_file_order within are_waves n_inside insid
           small = omega (arith, top, small);
         }
 
--- what is no theorem adds nothing
+-- a citation of what is no theorem leaves the wave as it is
 pub wave_same : (c : Citing) (waves : List ℕ) (i : ℕ) (cited : List ℕ) (n wave : ℕ)
     → ((r : ℕ) → r < length c.theorems → theorem_at c r ≡ get_or cited n 0 → ⊥)
     → WaveTo c waves i cited n wave → WaveTo c waves i cited (n + 1) wave
@@ -131,7 +131,7 @@ wave_same c waves i cited n wave none wave_to =
     by_place m r lt within e (inl f) = absurd (none r within (e ∙ ap (λ k. get_or cited k 0) f))
     by_place m r lt within e (inr f) = wave_to.above m r (omega arith) within e
 
--- all citations
+-- the wave from all citations of theorem i is its wave
 pub wave_all : (c : Citing) (waves : List ℕ) (i : ℕ) (cited : List ℕ) (wave : ℕ) → IsFileOrder c
     → i < length c.theorems → AreWaves c i waves → WaveTo c waves i cited (length cited) wave
     → IsWave (HasCitation c) (IsCitingTheorem c) (theorem_at c i) wave
@@ -147,11 +147,11 @@ wave_all c waves i cited wave is_file_order within are_waves wave_to = (wave_to.
         subst (λ x. has_citation.list_index < length (list_at c x)) row has_citation.listed in
         let cited_b : get_or (list_at c i) has_citation.list_index 0 ≡ b =
         subst (λ x. get_or (list_at c x) has_citation.list_index 0 ≡ b) row has_citation.cited in
-        let before : is_citing_theorem.0 < i =
+        let is_earlier : is_citing_theorem.0 < i =
         earlier_row c i is_citing_theorem.0 has_citation.list_index is_file_order within listed
         is_citing_theorem.1 (is_citing_theorem.2 ∙ sym cited_b) in
         let deep =
-        (are_waves.each is_citing_theorem.0 before).1 m
+        (are_waves.each is_citing_theorem.0 is_earlier).1 m
         (subst (λ x. TheoremChain (HasCitation c) (IsCitingTheorem c) x m)
         (sym is_citing_theorem.2) chain) in
         let up =
@@ -222,6 +222,7 @@ cited_wave_is_lower c waves i r k are_waves within inside listed e =
 
 -- ---- rows by wave
 
+-- the rows of pairs that are sorted by their waves are all rows, those of the lowest wave first
 pub rows_by_wave_are : (waves : List ℕ) (ps qs : List (ℕ × ℕ))
     → All (λ p. (p.1 < length waves) × (get_or waves p.1 0 ≡ p.0)) ps
     → ((r : ℕ) → r < length waves → Contains ps (get_or waves r 0, r))
@@ -262,8 +263,9 @@ rows_by_wave_are waves ps qs each all moved rises = record {
         × (get_or waves (get_or qs k (0, 0)).1 0 ≡ (get_or qs k (0, 0)).0)
     entry k l = sorted k (0, 0) (inside k l)
 
--- ---- the items that a map gives, by their places
+-- ---- the items that a map gives, by their indices
 
+-- what holds of the numbers from a on, each with an item, holds of each item by its index
 pub zip_at : {Y : Type 0} (P : ℕ → Y → Type 0) (n a : ℕ) (ys : List Y)
     → AllZip P (range_with_len a n) ys
     → (length ys ≡ n) × ((k : ℕ) (d : Y) → k < n → P (a + k) (get_or ys k d))
@@ -324,13 +326,13 @@ ready_still c columns rows k old new h i ready = λ r n l m e. h.none_lost r (re
 
 -- ---- wave by wave
 
--- the first so many rows by wave are filled
+-- the first `from` rows, in the order of their waves, are filled
 pub record FilledUpTo (c : Citing) (columns rows : List ℕ) (from : ℕ) (bits : List ℕ) : Type 0 where
   pub size : length bits ≡ length c.theorems * words_for (length columns)
   pub within : from ≤ length rows
   pub filled : (p : ℕ) → p < from → HasRow c columns bits (get_or rows p 0)
 
--- the rows of a wave need those before them
+-- for each row of a wave, the rows that it needs are filled if those of the waves below are
 pub wave_ready : (c : Citing) (columns waves rows : List ℕ) (from to : ℕ) (bits : List ℕ)
     → AreWaves c (length c.theorems) waves → IsByWave waves rows
     → FilledUpTo c columns rows from bits
@@ -356,13 +358,14 @@ wave_ready c columns waves rows from to bits are_waves is_by_wave filled_up_to
         let q = is_by_wave.all r (let s = are_waves.size in omega (arith, s, r_inside)) in
         let is : get_or rows q.0 0 ≡ r = get_or_default rows q.0 0 r q.1 ∙ q.2 in
         subst (HasRow c columns bits) is
-        (filled_up_to.filled q.0 (before q.0 q.1 (ap (λ x. get_or waves x 0) is)
+        (filled_up_to.filled q.0 (before_the_wave q.0 q.1 (ap (λ x. get_or waves x 0) is)
         (cases_lt q.0 from)))
       where
-        before : (q : ℕ) → q < length rows → get_or waves (get_or rows q 0) 0 ≡ get_or waves r 0
+        before_the_wave : (q : ℕ) → q < length rows
+            → get_or waves (get_or rows q 0) 0 ≡ get_or waves r 0
             → (q < from) ⊎ (from ≤ q) → q < from
-        before q k e (inl b) = b
-        before q k e (inr b) =
+        before_the_wave q k e (inl b) = b
+        before_the_wave q k e (inr b) =
             absurd (let up = is_by_wave.rises from q b k in
             let s = same p from_at_most_p p_below_to in
             omega (arith, up, s, e, low))
@@ -413,7 +416,7 @@ filled_all c columns waves rows bits from are_waves is_by_wave filled_up_to end 
       omega (arith, l, end)));
 }
 
--- one row more, with its wave
+-- row i and its wave are appended to the pairs of the first i rows
 pub pairs_next : (waves : List ℕ) (ps more : List (ℕ × ℕ)) (i : ℕ) → i < length waves
     → (i ≤ length waves) × (length ps ≡ i)
     × ((p : ℕ) → p < i → get_or ps p (0, 0) ≡ (get_or waves p 0, p))

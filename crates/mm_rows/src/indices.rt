@@ -32,8 +32,8 @@ impl<'a, A: Allocator> Model for StatementIndices<'a, A> {
         IsStatementList p.statements.now × AreIndices p.statements.now p.indices.items };
 }
 
-/// Returns the number of statements up to the last one in an ascending list.
-fn count_to_last(statements: &[u32]) -> usize
+/// Returns 1 more than the last statement of an ascending list, and 0 for none.
+fn count_through_last(statements: &[u32]) -> usize
     requires { IsStatementList statements.now }
     ensures { (i : ℕ) → i < length statements.now → slice_index statements.now i < result }
 {
@@ -44,11 +44,11 @@ fn count_to_last(statements: &[u32]) -> usize
 }
 
 /// Writes the indices of the statements of an ascending list into `indices`, which has none yet.
-fn note_indices(statements: &[u32], indices: &mut [u32])
+fn set_indices(statements: &[u32], indices: &mut [u32])
     requires rising { IsStatementList statements.now }
     requires room { (i : ℕ) → i < length statements.now
         → slice_index statements.now i < length indices.old }
-    requires none { (s : ℕ) → s < length indices.old → slice_index indices.old s ≡ 4294967295 }
+    requires none { (s : ℕ) → s < length indices.old → slice_index indices.old s ≡ NO_INDEX }
     ensures { AreIndices statements.now indices.new }
 {
     for (index, statement) in statements.iter().enumerate() {
@@ -66,8 +66,8 @@ impl<'a, A: Allocator + Copy> StatementIndices<'a, A> {
         ensures { IfOk result (λ p. p ≡ statements.now) }
     {
         let mut indices = Vec::new(alloc);
-        indices.resize(count_to_last(statements), NO_INDEX)?;
-        note_indices(statements, &mut indices);
+        indices.resize(count_through_last(statements), NO_INDEX)?;
+        set_indices(statements, &mut indices);
         Ok(StatementIndices {
             statements,
             indices,
@@ -91,10 +91,10 @@ impl<'a, A: Allocator> StatementIndices<'a, A> {
         ensures none { IfNone result ((i : ℕ) → i < length self.now
             → slice_index self.now i ≡ statement → ⊥) }
     {
-        let at = statement as usize;
-        if self.indices.len() <= at || self.indices[at] == NO_INDEX {
+        let number = statement as usize;
+        if self.indices.len() <= number || self.indices[number] == NO_INDEX {
             return None;
         }
-        Some(self.indices[at] as usize)
+        Some(self.indices[number] as usize)
     }
 }

@@ -21,23 +21,23 @@ use std::alloc::{AllocError, Allocator};
 use std::thread::Threads;
 
 /// Returns the wave of a theorem. `waves` has those of the theorems before it.
-fn next_wave<A: Allocator>(
+fn wave_of_theorem<A: Allocator>(
     citations: &Citations<A>,
     theorems: &StatementIndices<A>,
     waves: &[u32],
-    i: u32,
+    theorem_index: u32,
 ) -> u32
     requires theorems { theorems.now ≡ citations.now.theorems }
-    requires within { i < length citations.now.theorems }
-    requires waves { AreWaves citations.now i waves.now }
+    requires within { theorem_index < length citations.now.theorems }
+    requires waves { AreWaves citations.now theorem_index waves.now }
     ensures wave { IsWave (HasCitation citations.now) (IsCitingTheorem citations.now)
-        (theorem_at citations.now i) result }
-    ensures small { result ≤ i }
+        (theorem_at citations.now theorem_index) result }
+    ensures small { result ≤ theorem_index }
 {
     let mut wave = 0u32;
-    for statement in citations.of(i) {
-        if let Some(r) = theorems.find(*statement) {
-            wave = wave.max(waves[r] + 1);
+    for statement in citations.of(theorem_index) {
+        if let Some(cited_index) = theorems.find(*statement) {
+            wave = wave.max(waves[cited_index] + 1);
         }
     }
     wave
@@ -53,8 +53,8 @@ fn waves_of<A: Allocator + Copy>(
     ensures { IfOk result (λ v. AreWaves citations.now (length citations.now.theorems) v.items) }
 {
     let mut waves = Vec::new(alloc);
-    for i in 0..citations.rows() {
-        let wave = next_wave(citations, theorems, &waves, i);
+    for theorem_index in 0..citations.rows() {
+        let wave = wave_of_theorem(citations, theorems, &waves, theorem_index);
         waves.push(wave)?;
     }
     Ok(waves)
@@ -110,15 +110,16 @@ fn wave_end(waves: &[u32], rows: &[u32], from: usize) -> usize
     to
 }
 
-/// Writes a row to its place.
-fn store(bits: &mut [u64], width: usize, i: u32, row: &[u64])
-    requires fits { i * width + width ≤ length bits.old }
+/// Writes the words of the row with this index among those of all rows.
+fn store(bits: &mut [u64], width: usize, row_index: u32, row: &[u64])
+    requires fits { row_index * width + width ≤ length bits.old }
     requires words { length row.now ≡ width }
-    ensures here { row_at bits.new width i ≡ row.now }
-    ensures others { (r : ℕ) → (r ≡ i → ⊥) → row_at bits.new width r ≡ row_at bits.old width r }
+    ensures written { row_at bits.new width row_index ≡ row.now }
+    ensures others { (r : ℕ) → (r ≡ row_index → ⊥)
+        → row_at bits.new width r ≡ row_at bits.old width r }
 {
-    let at = i as usize * width;
-    bits[at..at + width].copy_from_slice(row);
+    let begin = row_index as usize * width;
+    bits[begin..begin + width].copy_from_slice(row);
 }
 
 /// Returns the bits of some rows, in the order of `rows`. They are computed in parallel.

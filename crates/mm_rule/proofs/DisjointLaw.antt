@@ -59,31 +59,31 @@ module _ (db : List Statement) (k : ℕ) where
       → All (λ (p : ℕ × ℕ). are_disjoint (context_at db k) p.0 p.1 ≡ true) ps
   pairs_disjoint ps e =
       All-from_recursion (λ (p : ℕ × ℕ). are_disjoint (context_at db k) p.0 p.1 ≡ true) ps
-      (back ps (subst (AllByRecursion Is) (sym e) each))
+      (of_pairs ps (subst (AllByRecursion Is) (sym e) all_are_disjoint))
     where
       Is : Pair → Type 0
       Is p = are_disjoint (context_at db k) p.low p.high ≡ true
 
-      last : (a b c d : Bool) → (a && b && c && d) ≡ true → d ≡ true
-      last true true true d h = h
-      last true true false d h = absurd (cc)
-      last true false c d h = absurd (cc)
-      last false b c d h = absurd (cc)
+      last_part : (a b c d : Bool) → (a && b && c && d) ≡ true → d ≡ true
+      last_part true true true d h = h
+      last_part true true false d h = absurd (cc)
+      last_part true false c d h = absurd (cc)
+      last_part false b c d h = absurd (cc)
 
       in_order : Pair → Bool
       in_order p =
           nat_lt p.low p.high && is_member (mandatory_variables db k) p.low
           && is_member (mandatory_variables db k) p.high && disjoint_at db k p.low p.high
 
-      each : AllByRecursion Is (mandatory_pairs db k)
-      each =
+      all_are_disjoint : AllByRecursion Is (mandatory_pairs db k)
+      all_are_disjoint =
           each_filter Is in_order (pairs_of (length (symbol_names db)))
           (each_any (λ p. in_order p ≡ true → Is p) (pairs_of (length (symbol_names db)))
           (λ p h. disjoint_if p.low p.high
-          (last (nat_lt p.low p.high) (is_member (mandatory_variables db k) p.low)
+          (last_part (nat_lt p.low p.high) (is_member (mandatory_variables db k) p.low)
           (is_member (mandatory_variables db k) p.high) (disjoint_at db k p.low p.high) h)))
 
-      back : (ps : List (ℕ × ℕ)) → AllByRecursion Is (as_pairs ps)
+      of_pairs : (ps : List (ℕ × ℕ)) → AllByRecursion Is (as_pairs ps)
           → AllByRecursion (λ (p : ℕ × ℕ). are_disjoint (context_at db k) p.0 p.1 ≡ true) ps
-      back [] h = tt
-      back (p ∷ ps) h = (h.0, back ps h.1)
+      of_pairs [] h = tt
+      of_pairs (p ∷ ps) h = (h.0, of_pairs ps h.1)

@@ -22,9 +22,9 @@ weaker : (P Q : ℕ → Type 0) → ((x : ℕ) → P x → Q x) → (xs : List �
 weaker P Q f [] h = tt
 weaker P Q f (x ∷ xs) h = (f x h.0, weaker P Q f xs h.1)
 
-kept : (P : ℕ → Type 0) (t : ℕ → Bool) (xs : List ℕ) → AllByRecursion P xs
+filter_keeps : (P : ℕ → Type 0) (t : ℕ → Bool) (xs : List ℕ) → AllByRecursion P xs
     → AllByRecursion P (filter t xs)
-kept P t xs h = each_filter P t xs (weaker P (λ x. t x ≡ true → P x) (λ x p e. p) xs h)
+filter_keeps P t xs h = each_filter P t xs (weaker P (λ x. t x ≡ true → P x) (λ x p e. p) xs h)
 
 filter_few : (t : ℕ → Bool) (xs : List ℕ) → length (filter t xs) ≤ length xs
 filter_few t [] = omega arith
@@ -49,7 +49,7 @@ hyps_few db k =
 pub hyps_below : (db : List Statement) (k : ℕ) → k ≤ length db
     → All (λ h. h < length db) (mandatory_hypotheses db k)
 hyps_below db k u = All-from_recursion (λ h. h < length db) (mandatory_hypotheses db k)
-    (kept (λ h. h < length db) _ _
+    (filter_keeps (λ h. h < length db) _ _
     (each_filter (λ h. h < length db) (λ j. is_active db j k) (range_with_len 0 k)
     (each_any (λ j. is_active db j k ≡ true → j < length db) (range_with_len 0 k)
     (λ j e. let b = is_before db j k e in omega (arith, b)))))

@@ -31,7 +31,7 @@ pub map_push : {X Y : Type 0} (f : X → Y) (xs : List X) (x : X)
 map_push f [] x = refl
 map_push f (y ∷ xs) x = ap (λ z. f y ∷ z) (map_push f xs x)
 
--- one element more
+-- the map of the first i + 1 elements is that of the first i, followed by the value of the next one
 pub map_take_more : {X Y : Type 0} (f : X → Y) (xs : List X) (i : ℕ) (d : X) → i < length xs
     → map f (take (i + 1) xs) ≡ map f (take i xs) ++ f (get_or xs i d) ∷ []
 map_take_more f xs i d h = ap (map f) (take_more xs i d h) ∙ map_push f (take i xs) (get_or xs i d)

@@ -196,7 +196,7 @@ pub struct RuleCompiler<A: Allocator> {
     numbers: Vec<u32, A>,
 }
 
-/// Lets all fields go in one call, so that a proof has one step for it at each exit.
+/// Dropped in one call: docs/PROOFS.md, "What a check costs".
 impl<A: Allocator> Drop for RuleCompiler<A> {
     fn drop(self) {
         let Self {

@@ -23,7 +23,7 @@ use Rattle.mm_run.proofs.RowsLaw.{zip_of_each}
 
 module _ (db : List Statement) (request : Request) (c : Citing)
     (cited : AllCited db request.essential c) where
-  -- the lists are those of the database
+  -- the lists are those of the database's theorems, and all that they list are assertions
   pub citations_of : AreCitationsOf db c
   citations_of = record {
     theorems_are = cited.theorems_are;
@@ -71,7 +71,7 @@ module _ (db : List Statement) (request : Request) (c : Citing)
         ),
       ))
 
-  -- what is written of a database without a fault
+  -- from the lists of citations, the report is that of the definitions
   pub is_citation_report : (opened : Option ℕ) (axioms : List ℕ) → axioms ≡ columns db request.only
       → request.choice ≡ Citations
       → IsReportOf request.choice db opened request

@@ -22,7 +22,7 @@ use Rattle.mm_run.specs.Counted.{IsJudged}
 use Rattle.mm_run.proofs.CountedLaw.{is_output}
 use Rattle.mm_work.specs.Judged.{AllCited, CitesAsDatabase}
 
--- two lists agree at each place
+-- two lists of one length whose elements are related at each index are related as lists
 pub zip_of_each : {A B : Type 0} (R : A → B → Type 0) (xs : List A) (ys : List B) (d : A) (e : B)
     → length xs ≡ length ys → ((i : ℕ) → i < length xs → R (get_or xs i d) (get_or ys i e))
     → AllZip R xs ys
@@ -32,12 +32,14 @@ zip_of_each R (x ∷ xs) [] d e n h = absurd (omega (arith, n))
 zip_of_each R (x ∷ xs) (y ∷ ys) d e n h =
     (h 0 (omega arith), zip_of_each R xs ys d e (omega (arith, n)) (λ i l. h (suc i) (omega arith)))
 
+-- a Boolean that decides a statement decides each equivalent one
 decides_through : {P Q : Type 0} (b : Bool) → Decides b P → P ↔ Q → Decides b Q
 decides_through b h e = ((λ t. e.0 (h.0 t)), (λ q. h.1 (e.1 q)))
 
 module _ (db : List Statement) (request : Request) (c : Citing) (m : Marks)
     (same : c.theorems ≡ theorems db) (shows : CitesAsDatabase db request.essential c)
     (is_matrix : IsMatrix c (columns db request.only) m) where
+  -- the marks of row i decide which columns theorem i rests on
   marks_zip : (i : ℕ) → i < length (theorems db)
       → AllZip (λ a b. Decides b (proof.RestsOn db request.essential (get_or (theorems db) i 0) a))
       (columns db request.only) (marks_of m i)
@@ -79,7 +81,7 @@ module _ (db : List Statement) (request : Request) (c : Citing) (m : Marks)
       (omega arith)))
       (get_or-map (label_at db) (theorems db) i 0 [] l, marks_zip i l))
 
--- the report of rows is that of a choice other than the citations
+-- for a choice other than the citations, the report is that of the rows
 is_report_of_rows : (db : List Statement) (opened : Option ℕ) (request : Request) (choice : Choice)
     → (rows : List Row)
     → (choice ≡ Citations → ⊥) → AllZip (IsRowOf db request) (theorems db) rows
@@ -91,7 +93,7 @@ is_report_of_rows db opened request Counts rows other h = (rows, h, refl)
 is_report_of_rows db opened request Usage rows other h = (rows, h, refl)
 is_report_of_rows db opened request Citations rows other h = absurd (other refl)
 
--- what is written of a database without a fault
+-- from the marks of the chains of citations, the report is that of the definitions
 pub is_report : (request : Request) (db : List Statement) (opened : Option ℕ) (c : Citing)
     → (axioms : List ℕ) (m : Marks)
     → AllCited db request.essential c → axioms ≡ columns db request.only → IsMatrix c axioms m
@@ -100,15 +102,15 @@ pub is_report : (request : Request) (db : List Statement) (opened : Option ℕ) 
     (report request opened (map (label_at db) axioms)
     (rows_of m (map (label_at db) (theorems db))))
 is_report request db opened c axioms m cited is is_matrix other =
-    let h' = subst (λ (l : List ℕ). IsMatrix c l m) is is_matrix in
+    let is_matrix_of_columns = subst (λ (l : List ℕ). IsMatrix c l m) is is_matrix in
     let rows = rows_of m (map (label_at db) (theorems db)) in
-    let here =
+    let of_rows =
     is_report_of_rows db opened request request.choice rows other
-    (rows_are db request c m cited.theorems_are cited.shows h') in
+    (rows_are db request c m cited.theorems_are cited.shows is_matrix_of_columns) in
     subst (λ (l : List ℕ). IsReportOf request.choice db opened request
-    (report request opened (map (label_at db) l) rows)) (sym is) here
+    (report request opened (map (label_at db) l) rows)) (sym is) of_rows
 
--- the report of a table is the output of the text
+-- the report of a database's marks is the output of its text
 pub table_is_output : (request : Request) (d : Contents) (c : Citing) (axioms : List ℕ)
     → (m : Marks) → IsJudged request.essential request.with_open d c → axioms
     ≡ columns d.statements request.only

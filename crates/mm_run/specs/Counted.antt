@@ -7,6 +7,7 @@ use Rattle.mm_spec.specs.Output.{FirstFault, HasNoFault, IsRead}
 use Rattle.mm_work.specs.Citing.{Citing}
 use Rattle.mm_database.specs.Database.{Contents}
 use Rattle.mm_work.specs.Judged.{AllCited}
+use Rattle.mm_rows.specs.Marks.{Marks, IsMatrix}
 use Rattle.mm_run.specs.declared.judged.JudgedText.{JudgedText}
 use Rattle.mm_run.specs.declared.judged.JudgedText.TheVariants.{Faulty, Sound}
 
@@ -27,6 +28,14 @@ pub record IsJudged (essential with_open : Bool) (d : Contents) (c : Citing) : T
   pub sound : HasNoFault (length d.text) (lexed_of d.text) with_open d.read
   pub counted : IsCounted with_open d
   pub cited : AllCited d.statements essential c
+
+-- the database was judged without a fault, and these marks are those of its theorems' citations in
+-- these columns
+pub record IsMatrixOf (essential with_open : Bool) (d : Contents) (columns : List ℕ) (m : Marks)
+    : Type 0 where
+  pub citations : Citing
+  pub judged : IsJudged essential with_open d citations
+  pub marked : IsMatrix citations columns m
 
 -- the text has this first fault, or none, and then this database and these citations
 module _ {A : Type 0} where

@@ -37,7 +37,7 @@ pub fn judge_alone<'a, A: Allocator + Copy>(
 }
 
 /// Writes the report of what each theorem rests on, for a database without a fault.
-fn report_rests_alone<'a, A: Allocator + Copy, W: Write>(
+fn report_dependence_alone<'a, A: Allocator + Copy, W: Write>(
     alloc: A,
     request: &Request<'_>,
     database: &Database<'a, A>,
@@ -55,12 +55,12 @@ fn report_rests_alone<'a, A: Allocator + Copy, W: Write>(
     };
     if has_usage(request.choice) {
         match matrix_alone(alloc, citations, &chosen) {
-            Ok(matrix) => report_usage(request, database, citations, &chosen, &matrix, to),
+            Ok(matrix) => report_usage(request, database, &chosen, &matrix, to),
             Err(_) => RunEnd::NoMemory,
         }
     } else {
         match marked_rows_alone(alloc, citations, &chosen) {
-            Ok(marked) => report_rows(request, database, citations, &chosen, &marked, to),
+            Ok(marked) => report_rows(request, database, &chosen, &marked, to),
             Err(_) => RunEnd::NoMemory,
         }
     }
@@ -86,7 +86,7 @@ pub fn write_judged<'a, A: Allocator + Copy, W: Write>(
             if request.choice == Choice::Citations {
                 report_citations(alloc, request, database, citations, to)
             } else {
-                report_rests_alone(alloc, request, database, citations, to)
+                report_dependence_alone(alloc, request, database, citations, to)
             }
         }
     }

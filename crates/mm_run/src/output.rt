@@ -7,8 +7,7 @@ ghost use Rattle.mm_spec.specs.Request.{Request};
 ghost use Rattle.mm_spec.specs.Lexed.{lexed_of};
 ghost use Rattle.mm_spec.specs.Output.{FirstFault, columns};
 ghost use Rattle.mm_spec.specs.Ends.{Answers, reading_limit};
-ghost use Rattle.mm_run.specs.Counted.{IsJudged, IsReadFrom};
-ghost use Rattle.mm_rows.specs.Marks.{IsMatrix};
+ghost use Rattle.mm_run.specs.Counted.{IsJudged, IsMatrixOf, IsReadFrom};
 ghost use Rattle.mm_plan.specs.Plans.{IsLawfulPlan, request_of};
 
 use crate::RunEnd;
@@ -71,21 +70,17 @@ pub(crate) fn report_citations<'a, A: Allocator + Copy, W: Write>(
 pub(crate) fn report_usage<'a, A: Allocator, W: Write>(
     request: &Request<'_>,
     database: &Database<'a, A>,
-    citations: &Citations<A>,
     chosen: &Columns<A>,
     matrix: &Matrix<A>,
     to: &mut W,
 ) -> RunEnd
-    requires judged { IsJudged request.now.essential request.now.with_open database.now
-        citations.now }
     requires chosen { chosen.now ≡ columns database.now.statements request.now.only }
-    requires matrix { IsMatrix citations.now chosen.now matrix.now }
+    requires matrix { IsMatrixOf request.now.essential request.now.with_open database.now
+        chosen.now matrix.now }
     requires choice { request.now.choice ≡ choices.Citations → ⊥ }
     ensures { Answers result database.now.text request.now (W.contents to.old)
         (W.contents to.new) }
 {
-    // Only the contract uses the citations: the matrix is theirs.
-    let _ = citations;
     match write_requested_report(to, request, database, chosen, matrix) {
         Ok(()) => RunEnd::Accepted,
         Err(_) => RunEnd::WriteFailed,
@@ -96,22 +91,18 @@ pub(crate) fn report_usage<'a, A: Allocator, W: Write>(
 pub(crate) fn report_rows<'a, A: Allocator, W: Write>(
     request: &Request<'_>,
     database: &Database<'a, A>,
-    citations: &Citations<A>,
     chosen: &Columns<A>,
     marked: &MarkedRows<A>,
     to: &mut W,
 ) -> RunEnd
-    requires judged { IsJudged request.now.essential request.now.with_open database.now
-        citations.now }
     requires chosen { chosen.now ≡ columns database.now.statements request.now.only }
-    requires marked { IsMatrix citations.now chosen.now marked.now }
+    requires marked { IsMatrixOf request.now.essential request.now.with_open database.now
+        chosen.now marked.now }
     requires choice { request.now.choice ≡ choices.Citations → ⊥ }
     requires no_usage { has_section request.now.choice choices.Usage ≡ false }
     ensures { Answers result database.now.text request.now (W.contents to.old)
         (W.contents to.new) }
 {
-    // Only the contract uses the citations: the marked rows are theirs.
-    let _ = citations;
     match write_rows(to, request, database, chosen, marked) {
         Ok(()) => RunEnd::Accepted,
         Err(_) => RunEnd::WriteFailed,
@@ -119,7 +110,7 @@ pub(crate) fn report_rows<'a, A: Allocator, W: Write>(
 }
 
 /// Writes the report of what each theorem rests on, for a database without a fault.
-fn report_rests<'a, R: Threads + Sync, A: Allocator + Copy + Send + Sync, W: Write>(
+fn report_dependence<'a, R: Threads + Sync, A: Allocator + Copy + Send + Sync, W: Write>(
     rt: &R,
     alloc: A,
     request: &Request<'_>,
@@ -138,12 +129,12 @@ fn report_rests<'a, R: Threads + Sync, A: Allocator + Copy + Send + Sync, W: Wri
     };
     if has_usage(request.choice) {
         match matrix(rt, alloc, citations, &chosen) {
-            Ok(matrix) => report_usage(request, database, citations, &chosen, &matrix, to),
+            Ok(matrix) => report_usage(request, database, &chosen, &matrix, to),
             Err(_) => RunEnd::NoMemory,
         }
     } else {
         match marked_rows(rt, alloc, citations, &chosen) {
-            Ok(marked) => report_rows(request, database, citations, &chosen, &marked, to),
+            Ok(marked) => report_rows(request, database, &chosen, &marked, to),
             Err(_) => RunEnd::NoMemory,
         }
     }
@@ -166,7 +157,7 @@ fn report<'a, R: Threads + Sync, A: Allocator + Copy + Send + Sync, W: Write>(
     if request.choice == Choice::Citations {
         report_citations(alloc, request, database, citations, to)
     } else {
-        report_rests(rt, alloc, request, database, citations, to)
+        report_dependence(rt, alloc, request, database, citations, to)
     }
 }
 

@@ -1,4 +1,4 @@
--- What is kept after one lawful statement more.
+-- What the code knows after one lawful statement more.
 use Rattle.std.proofs.Common.{Result, Ok, Err, OnOk, ◌≡◌, ℕ, ◌<◌, Bool, true, false, ◌||◌, not}
 use Rattle.std.proofs.Common.{List, [], ◌∷◌, ◌++◌, length, take, flat_map, bytes_eq, Option, None}
 use Rattle.std.proofs.Common.{Some, is_some, refl, sym, ap, ◌∙◌, subst, le_refl, take_all}
@@ -19,10 +19,11 @@ use Rattle.std.proofs.Math.Bool.{or-false, or-true}
 use Rattle.mm_spec.proofs.FaultlessLaw.{append_none, least_none}
 use Rattle.mm_outline.specs.Blocks.{BlockLists, IsBlocks, never, pushed}
 use Rattle.mm_scope.specs.WordEntry.{WordEntry, entry_of, declared_entry, typed_entry}
-use Rattle.mm_scope.specs.WordEntry.{IsEntryOf, is_other, is_constant_entry, is_variable_entry}
+use Rattle.mm_scope.specs.WordEntry.{IsEntryOf, gives_other_typecode, is_constant_entry}
+use Rattle.mm_scope.specs.WordEntry.{is_variable_entry}
 use Rattle.mm_scope.specs.WordEntry.{entry_after, label_after}
 use Rattle.mm_outline.specs.Parts.{statement_between}
-use Rattle.mm_scope.specs.Keeps.{KnowsStatements}
+use Rattle.mm_scope.specs.ReadSoFar.{KnowsStatements}
 use Rattle.mm_database.specs.declared.names.Symbol.{Symbol}
 use Rattle.mm_outline.specs.declared.parts.Kind.{Kind}
 use Rattle.mm_outline.specs.declared.parts.Kind.TheVariants as kind
@@ -39,17 +40,19 @@ module _ (db : List Statement) (few : length db < never) (w : Bytes) where
   abbrev n : Names
   n = names_before db (length db)
 
-  all : take (length db) db ≡ db
-  all = take_all (length db) db (le_refl (length db))
+  all_taken : take (length db) db ≡ db
+  all_taken = take_all (length db) db (le_refl (length db))
 
   -- with no entry, or that of a variable
   no_constant : (x : Option WordEntry) → IsEntryOf db w x → is_in w n.constants ≡ false
       → is_constant_entry x ≡ false
-  no_constant x k e = sym k.constant ∙ sym (ap (λ xs. is_in w (flat_map constants_of xs)) all) ∙ e
+  no_constant x k e =
+      sym k.constant ∙ sym (ap (λ xs. is_in w (flat_map constants_of xs)) all_taken) ∙ e
 
   no_variable : (x : Option WordEntry) → IsEntryOf db w x → is_in w n.all_variables ≡ false
       → is_variable_entry x ≡ false
-  no_variable x k e = sym k.variable ∙ sym (ap (λ xs. is_in w (flat_map variables_of xs)) all) ∙ e
+  no_variable x k e =
+      sym k.variable ∙ sym (ap (λ xs. is_in w (flat_map variables_of xs)) all_taken) ∙ e
 
   in_nil : (xs : List Bytes) (b : Bool) → is_in w xs ≡ b → is_in w (xs ++ []) ≡ b
   in_nil xs b e = ap (is_in w) (append-nil xs) ∙ e
@@ -108,8 +111,9 @@ module _ (db : List Statement) (few : length db < never) (w : Bytes) where
           known_typed db (floating l k (c ∷ v ∷ []) e) w o kn few c.word
           (sym (typed_in w (active_statements db (length db)))
           ∙ ap (λ u. list_any (λ t. bytes_eq u t.variable) n.active_typings) (sym same) ∙ new.1)
-          (sym (ap (λ xs. list_any (is_other c.word w) (flat_map typings_of xs)) all)
-          ∙ ap (λ u. list_any (is_other c.word u) n.all_typings) (sym same) ∙ new.2)
+          (sym (ap (λ xs. list_any (gives_other_typecode c.word w) (flat_map typings_of xs))
+          all_taken)
+          ∙ ap (λ u. list_any (gives_other_typecode c.word u) n.all_typings) (sym same) ∙ new.2)
           refl refl (ap (λ u. record { typecode = c.word; variable = u } ∷ []) same)
 
       by_equality : (b : Bool) → bytes_eq v.word w ≡ b
@@ -161,17 +165,17 @@ module _ (db : List Statement) (few : length db < never) (w : Bytes) where
       in_more db s w label_words ∙ ap (λ b. b || is_in w (label_words s ++ [])) e
       ∙ by_token (label_of s)
     where
-      one : (l : Token) (b : Bool) → bytes_eq w l.word ≡ b
+      by_word : (l : Token) (b : Bool) → bytes_eq w l.word ≡ b
           → (is_some o || (b || false)) ≡ is_some (if b then Some m else o)
-      one l true h = or-true (is_some o)
-      one l false h = or-false (is_some o)
+      by_word l true h = or-true (is_some o)
+      by_word l false h = or-false (is_some o)
 
       by_token : (q : Option Token)
           → (is_some o || is_in w (elim q [ None ↦ [] | Some l ↦ l.word ∷ [] ] ++ []))
           ≡ is_some (label_after m q w o)
       by_token None = or-false (is_some o)
       by_token (Some l) =
-          one l (bytes_eq w l.word) refl
+          by_word l (bytes_eq w l.word) refl
           ∙ ap (λ b. is_some (if b then Some m else o)) (bytes_eq_sym w l.word)
 
 module _ (text : List ℕ) (ws : List spec.Word) (db : List Statement) (b : BlockLists)
@@ -199,7 +203,7 @@ module _ (text : List ℕ) (ws : List spec.Word) (db : List Statement) (b : Bloc
   blocks_after kind.Theorem p m e deep =
       blocks_plain db (statement_between text ws kind.Theorem p m e) b x few refl refl
 
--- what is kept after one lawful statement more
+-- the code knows what it has to know after one lawful statement more
 pub keeps_after : (text : List ℕ) (ws : List spec.Word) (db : List Statement)
     → (look : List ℕ → Option Symbol) (labels : List ℕ → Option ℕ) (b : BlockLists)
     → KnowsStatements db look labels b → length db < never → (k : Kind) (p m e : ℕ)

@@ -105,9 +105,9 @@ shorter f g h (x ∷ xs) =
     let a = length-append (f x) (flat_map f xs) in let b = length-append (g x) (flat_map g xs) in
     let p = h x in let r = shorter f g h xs in omega (arith, a, b, p, r)
 
-front : {X : Type 0} (f : Statement → List X) (xs ys : List Statement)
+front_is_shorter : {X : Type 0} (f : Statement → List X) (xs ys : List Statement)
     → length (flat_map f xs) ≤ length (flat_map f (xs ++ ys))
-front f xs ys =
+front_is_shorter f xs ys =
     let a = ap length (flat_map-append f xs ys) in
     let b = length-append (flat_map f xs) (flat_map f ys) in omega (arith, a, b)
 
@@ -131,7 +131,7 @@ module _ (ts rest : List Token) (list : List Statement)
   spelled-few =
       let a = ap length splits in
       let b = length-append (flat_map spelling_of list) rest in
-      let c = front spelling_of db more in
+      let c = front_is_shorter spelling_of db more in
       let d : length (flat_map spelling_of (db ++ more)) ≡ length (flat_map spelling_of list) =
       ap (λ l. length (flat_map spelling_of l)) (sym is) in
       omega (arith, a, b, c, d)

@@ -20,12 +20,12 @@ module _ (text : List ℕ) (ws : List Word) (from i : ℕ) (later : from ≤ i)
   abbrev so_far : List (List ℕ)
   so_far = words (between text ws from i)
 
-  abbrev here : List ℕ
-  here = (token_at text ws i).word
+  abbrev next_word : List ℕ
+  next_word = (token_at text ws i).word
 
   pub declared_step : (v : Bool) (n : ℕ) (s : Symbol) (old cur new : List ℕ → Option Symbol)
-      → ((w : List ℕ) → new w ≡ (if bytes_eq here w then Some s else cur w))
-      → entry_of (Some s) ≡ declared_entry v n here (entry_of (cur here))
+      → ((w : List ℕ) → new w ≡ (if bytes_eq next_word w then Some s else cur w))
+      → entry_of (Some s) ≡ declared_entry v n next_word (entry_of (cur next_word))
       → ((w : List ℕ)
       → entry_of (cur w)
       ≡ (if is_in w (words (between text ws from i)) then declared_entry v n w
@@ -35,7 +35,7 @@ module _ (text : List ℕ) (ws : List Word) (from i : ℕ) (later : from ≤ i)
       ≡ (if is_in w (words (between text ws from (i + 1))) then declared_entry v n w
       (entry_of (old w)) else entry_of (old w))
   declared_step v n s old cur new u e k w =
-      ap entry_of (u w) ∙ by_equality (bytes_eq here w) refl
+      ap entry_of (u w) ∙ by_equality (bytes_eq next_word w) refl
       ∙ ap (λ b. if b then declared_entry v n w (entry_of (old w)) else entry_of (old w))
       (sym (in_more text ws from i later inside w))
     where
@@ -44,13 +44,14 @@ module _ (text : List ℕ) (ws : List Word) (from i : ℕ) (later : from ≤ i)
       again true o = twice v n w o
       again false o = refl
 
-      by_equality : (b : Bool) → bytes_eq here w ≡ b
+      by_equality : (b : Bool) → bytes_eq next_word w ≡ b
           → entry_of (if b then Some s else cur w)
           ≡ (if is_in w so_far
-          || (bytes_eq here w || false) then declared_entry v n w (entry_of (old w)) else entry_of
+          || (bytes_eq next_word w || false) then declared_entry v n w
+          (entry_of (old w)) else entry_of
           (old w))
       by_equality true h =
-          let same : here ≡ w = (bytes_eq-Decides here w).0 h in
+          let same : next_word ≡ w = (bytes_eq-Decides next_word w).0 h in
           e ∙ ap (λ x. declared_entry v n x (entry_of (cur x))) same
           ∙ ap (declared_entry v n w) (k w) ∙ again (is_in w so_far) (entry_of (old w))
           ∙ ap (λ b. if b then declared_entry v n w (entry_of (old w)) else entry_of (old w))

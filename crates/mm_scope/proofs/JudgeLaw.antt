@@ -70,33 +70,35 @@ module _ (text : List ℕ) (ws : List spec.Word) (from i : ℕ) where
       sym (in_before w [] (between text ws from i)
       ∙ or-false (is_in w (words (between text ws from i))))
 
-  abbrev pub here : Bytes
-  here = (token_at text ws i).word
+  abbrev pub next_word : Bytes
+  next_word = (token_at text ws i).word
 
-  -- one symbol more
+  -- the faults of the words with one symbol more are those of the earlier words, followed by those
+  -- of the symbol
   pub each_more : from ≤ i → i < length ws → (codes : List Bytes → Bytes → List Code)
       → at_each codes [] (between text ws from (i + 1))
       ≡ at_each codes [] (between text ws from i)
-      ++ at (token_at text ws i).at (codes earlier here)
+      ++ at (token_at text ws i).at (codes earlier next_word)
   each_more h l codes = rw (between_more text ws from i h l, at_each_snoc) refl
 
-  -- one word more
+  -- a word is among the words with one more exactly if it is among the earlier ones or is that one
   pub in_more : from ≤ i → i < length ws → (w : Bytes)
       → is_in w (words (between text ws from (i + 1)))
-      ≡ (is_in w (words (between text ws from i)) || (bytes_eq here w || false))
+      ≡ (is_in w (words (between text ws from i)) || (bytes_eq next_word w || false))
   in_more h l w =
       ap (λ ts. is_in w (words ts)) (between_more text ws from i h l)
       ∙ ap (is_in w) (map-append (λ t. t.word) (between text ws from i) (token_at text ws i ∷ []))
-      ∙ list_any-append (bytes_eq w) (words (between text ws from i)) (here ∷ [])
-      ∙ ap (λ b. is_in w (words (between text ws from i)) || (b || false)) (bytes_eq_sym w here)
+      ∙ list_any-append (bytes_eq w) (words (between text ws from i)) (next_word ∷ [])
+      ∙ ap (λ b. is_in w (words (between text ws from i)) || (b || false))
+      (bytes_eq_sym w next_word)
 
   pub among_more : from ≤ i → i < length ws → (w : Bytes)
-      → (bytes_eq w here || is_in w (words (between text ws from i)))
+      → (bytes_eq w next_word || is_in w (words (between text ws from i)))
       ≡ is_in w (words (between text ws from (i + 1)))
-  among_more h l w = rw (in_more h l w, bytes_eq_sym w here) (grind arith)
+  among_more h l w = rw (in_more h l w, bytes_eq_sym w next_word) (grind arith)
 
   pub seen_more : from ≤ i → i < length ws → (old new : Bytes → Option ℕ)
-      → ((w : Bytes) → new w ≡ (if bytes_eq here w then Some 0 else old w))
+      → ((w : Bytes) → new w ≡ (if bytes_eq next_word w then Some 0 else old w))
       → ((w : Bytes) → is_some (old w) ≡ is_in w (words (between text ws from i)))
       → (w : Bytes) → is_some (new w) ≡ is_in w (words (between text ws from (i + 1)))
   seen_more h l old new u e w = rw (u w, in_more h l w, sym (e w)) (grind arith)
@@ -110,7 +112,7 @@ between_first text ws i j h l =
     let n : j - i ≡ suc (j - (i + 1)) = omega arith in
     ap₂ (λ m ys. map (token_of text) (take m ys)) n e
 
--- so many words are no two
+-- a `$f` that has not two words between its keyword and its end has a fault at its keyword
 pub no_two : (n : Names) (keyword : ℕ) (xs : List Token) → length xs ≢ 2
     → Some (fault keyword BadFloating) ≡ least (floating_faults n keyword xs)
 no_two n keyword xs h = grind (arith, common_steps)

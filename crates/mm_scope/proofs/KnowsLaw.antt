@@ -1,4 +1,4 @@
--- What is kept of each word is what the judge asks for.
+-- What the code knows of each word is what the judge asks for.
 use Rattle.std.proofs.Common.{◌≡◌, ◌≢◌, ℕ, zero, suc, ◌<◌, ◌≤◌, Bool, true, false, ◌&&◌, ◌||◌, not}
 use Rattle.std.proofs.Common.{List, [], ◌∷◌, length, flat_map, bytes_eq, nat_eq, Option, None, Some}
 use Rattle.std.proofs.Common.{refl, sym, ap, ◌∙◌, arith, ◌⊎◌, inl, inr, le_refl, take_all}
@@ -15,10 +15,11 @@ use Rattle.mm_outline.specs.Blocks.{BlockLists, IsBlocks, never, end_in, is_neve
 use Rattle.mm_scope.specs.Knows as judge
 use Rattle.mm_scope.specs.Knows.{Knows, has_other_typecode, is_typed_here}
 use Rattle.mm_scope.specs.WordEntry.{entry_of}
-use Rattle.mm_scope.specs.WordEntry.{IsEntryOf, typed_by, typecode_by, is_other, is_constant_entry}
+use Rattle.mm_scope.specs.WordEntry.{IsEntryOf, typed_by, typecode_by, gives_other_typecode}
+use Rattle.mm_scope.specs.WordEntry.{is_constant_entry}
 use Rattle.mm_scope.specs.WordEntry.{is_variable_entry}
 use Rattle.mm_outline.specs.Typed.{has_word, typed_words}
-use Rattle.mm_scope.specs.Keeps.{KnowsStatements}
+use Rattle.mm_scope.specs.ReadSoFar.{KnowsStatements}
 use Rattle.mm_database.specs.Names.{is_constant_in, is_variable_in}
 use Rattle.mm_database.specs.declared.names.Symbol.{Symbol}
 use Rattle.mm_scope.proofs.LatestLaw.{latest_is}
@@ -119,6 +120,6 @@ knows_is db look labels b k few =
           λ w h. typed_in w (active_statements db (length db))
           ∙ typed_active db b k.blocks few w (look w) (k.symbols w);
       otherwise =
-          λ c w h. ap (λ xs. list_any (is_other c w) (flat_map typings_of xs)) all
+          λ c w h. ap (λ xs. list_any (gives_other_typecode c w) (flat_map typings_of xs)) all
           ∙ (k.symbols w).otherwise c ∙ other_is c (look w);
     }

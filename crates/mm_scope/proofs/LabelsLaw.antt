@@ -45,26 +45,27 @@ module _ (db : List Statement) (s : Statement) (find new : List ℕ → Option �
   abbrev at_label : ℕ → Option Token → Bytes → Bool
   at_label k o w = elim o [ None ↦ false | Some l ↦ bytes_eq l.word w ]
 
-  front : (w : Bytes) (k : ℕ) → k < length db
+  label_before : (w : Bytes) (k : ℕ) → k < length db
       → list_any (is_labelled w) (statement_at (db ++ s ∷ []) k)
       ≡ list_any (is_labelled w) (statement_at db k)
-  front w k h =
+  label_before w k h =
       ap (λ o. list_any (is_labelled w) (elim o [ None ↦ [] | Some t ↦ t ∷ [] ]))
       (get_front db (s ∷ []) k h)
 
-  last : (w : Bytes)
+  label_at_last : (w : Bytes)
       → list_any (is_labelled w) (statement_at (db ++ s ∷ []) (length db)) ≡ is_labelled w s
-  last w =
+  label_at_last w =
       ap (λ o. list_any (is_labelled w) (elim o [ None ↦ [] | Some t ↦ t ∷ [] ])) (get_seam db s [])
       ∙ or-false (is_labelled w s)
 
   -- the statement has the label, or the map is the old one there
-  here : (w : Bytes) (o : Option Token) → label_of s ≡ o
+  labelled_or_unchanged : (w : Bytes) (o : Option Token) → label_of s ≡ o
       → new w ≡ label_after (length db) o w (find w)
       → ((is_labelled w s ≡ true) × (new w ≡ Some (length db)))
       ⊎ ((is_labelled w s ≡ false) × (new w ≡ find w))
-  here w None e h = inr (ap (λ o. elim o [ None ↦ false | Some l ↦ bytes_eq l.word w ]) e, h)
-  here w (Some l) e h =
+  labelled_or_unchanged w None e h =
+      inr (ap (λ o. elim o [ None ↦ false | Some l ↦ bytes_eq l.word w ]) e, h)
+  labelled_or_unchanged w (Some l) e h =
       by_equality (bytes_eq l.word w)
       (ap (λ o. elim o [ None ↦ false | Some l ↦ bytes_eq l.word w ]) e) h
     where
@@ -78,8 +79,10 @@ module _ (db : List Statement) (s : Statement) (find new : List ℕ → Option �
   pub labels_after : ((w : Bytes) → new w ≡ label_after (length db) (label_of s) w (find w))
       → ((w : Bytes) → is_labelled w s ≡ true → find w ≡ None) → AreLabels (db ++ s ∷ []) new
   labels_after is fresh = record {
-    found = λ w k e. found w k e (here w (label_of s) refl (is w));
-    missing = λ w e k. missing w k e (here w (label_of s) refl (is w)) (cases_order k (length db));
+    found = λ w k e. found w k e (labelled_or_unchanged w (label_of s) refl (is w));
+    missing =
+        λ w e k. missing w k e (labelled_or_unchanged w (label_of s) refl (is w))
+        (cases_order k (length db));
     only = λ w j k e f. only w j k e f (cases_lt j (length db)) (cases_lt k (length db));
   }
     where
@@ -92,11 +95,11 @@ module _ (db : List Statement) (s : Statement) (find new : List ℕ → Option �
           let same = same_Some (length db) k (sym q ∙ e) in (
             omega (arith, same, length-append db (s ∷ [])),
             (ap (λ i. list_any (is_labelled w) (statement_at (db ++ s ∷ []) i)) (sym same)
-                ∙ last w ∙ p),
+                ∙ label_at_last w ∙ p),
           )
       found w k e (inr (p, q)) =
           let f = x.found w k (sym q ∙ e) in
-          ((let l = f.0 in omega (arith, l, length-append db (s ∷ []))), front w k f.0 ∙ f.1)
+          ((let l = f.0 in omega (arith, l, length-append db (s ∷ []))), label_before w k f.0 ∙ f.1)
 
       missing : (w : Bytes) (k : ℕ) → new w ≡ None
           → ((is_labelled w s ≡ true) × (new w ≡ Some (length db)))
@@ -105,31 +108,32 @@ module _ (db : List Statement) (s : Statement) (find new : List ℕ → Option �
           → list_any (is_labelled w) (statement_at (db ++ s ∷ []) k) ≡ false
       missing w k e (inl (p, q)) c = absurd (let z = sym q ∙ e in cc)
       missing w k e (inr (p, q)) (inl m) =
-          ap (λ i. list_any (is_labelled w) (statement_at (db ++ s ∷ []) i)) m ∙ last w ∙ p
-      missing w k e (inr (p, q)) (inr (inl m)) = front w k m ∙ x.missing w (sym q ∙ e) k
+          ap (λ i. list_any (is_labelled w) (statement_at (db ++ s ∷ []) i)) m ∙ label_at_last w ∙ p
+      missing w k e (inr (p, q)) (inr (inl m)) = label_before w k m ∙ x.missing w (sym q ∙ e) k
       missing w k e (inr (p, q)) (inr (inr m)) =
           ap (λ o. list_any (is_labelled w) (elim o [ None ↦ [] | Some t ↦ t ∷ [] ]))
           (slice_get_past (db ++ s ∷ []) k (omega (arith, m, length-append db (s ∷ []))))
 
       -- a label of the new statement is none before
-      apart : (w : Bytes) (j k : ℕ)
+      no_earlier_label : (w : Bytes) (j k : ℕ)
           → list_any (is_labelled w) (statement_at (db ++ s ∷ []) j) ≡ true
           → list_any (is_labelled w) (statement_at (db ++ s ∷ []) k) ≡ true → j < length db
           → length db ≤ k → ⊥
-      apart w j k e f l m =
+      no_earlier_label w j k e f l m =
           let b = is_there (is_labelled w) (db ++ s ∷ []) k f in
           let same : k ≡ length db = omega (arith, b, m, length-append db (s ∷ [])) in
           let new : is_labelled w s ≡ true =
-          sym (last w)
+          sym (label_at_last w)
           ∙ sym (ap (λ i. list_any (is_labelled w) (statement_at (db ++ s ∷ []) i)) same) ∙ f in
-          true≢false (sym e ∙ front w j l ∙ x.missing w (fresh w new) j)
+          true≢false (sym e ∙ label_before w j l ∙ x.missing w (fresh w new) j)
 
       only : (w : Bytes) (j k : ℕ) → list_any (is_labelled w) (statement_at (db ++ s ∷ []) j) ≡ true
           → list_any (is_labelled w) (statement_at (db ++ s ∷ []) k) ≡ true
           → (j < length db) ⊎ (length db ≤ j) → (k < length db) ⊎ (length db ≤ k) → j ≡ k
-      only w j k e f (inl l) (inl m) = x.only w j k (sym (front w j l) ∙ e) (sym (front w k m) ∙ f)
-      only w j k e f (inl l) (inr m) = absurd (apart w j k e f l m)
-      only w j k e f (inr l) (inl m) = absurd (apart w k j f e m l)
+      only w j k e f (inl l) (inl m) =
+          x.only w j k (sym (label_before w j l) ∙ e) (sym (label_before w k m) ∙ f)
+      only w j k e f (inl l) (inr m) = absurd (no_earlier_label w j k e f l m)
+      only w j k e f (inr l) (inl m) = absurd (no_earlier_label w k j f e m l)
       only w j k e f (inr l) (inr m) =
           let a = is_there (is_labelled w) (db ++ s ∷ []) j e in
           let b = is_there (is_labelled w) (db ++ s ∷ []) k f in

@@ -1,10 +1,10 @@
--- The loop of `outline` keeps two things: `IsReadTo` (the lawful statements lead to `at`) and
--- `IsKeptOf` (names, blocks and numbers are theirs). `knows_is` (`KnowsLaw.antt`) says that what is
--- kept is what the judge needs. `both_least` and `each_more` (`JudgeLaw.antt`) show that the code's
--- fault is the least one, rule by rule and symbol by symbol. `keeps_after` (`AddLaw.antt`) adds a
--- lawful statement, `names_next` and `formulas_more` (`NumberedLaw.antt`) its symbols.
--- `reading_more` (`ReadLaw.antt`) goes on; `read_unlawful`, `read_stopped` and `read_ended` end in
--- `IsRead`.
+-- The loop of `outline_statements` keeps two things: `IsReadTo` (the lawful statements lead to
+-- `at`) and `IsReadSoFar` (names, blocks and numbers are theirs). `knows_is` (`KnowsLaw.antt`) says
+-- that what has been read is what the judge needs. `both_least` and `each_more` (`JudgeLaw.antt`)
+-- show that the code's fault is the least one, rule by rule and symbol by symbol. `keeps_after`
+-- (`AddLaw.antt`) adds a lawful statement, `names_next` and `formulas_more` (`NumberedLaw.antt`)
+-- its symbols. `reading_more` (`ReadLaw.antt`) goes on; `read_unlawful`, `read_stopped` and
+-- `read_ended` end in `IsRead`.
 pub mod AddLaw
 pub mod BoundsLaw
 pub mod DeclaredLaw

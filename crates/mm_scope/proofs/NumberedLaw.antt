@@ -54,7 +54,7 @@ place_front w (n ∷ ns) more h = by_equality (bytes_eq w n) refl (place_front w
     by_equality true e r = refl
     by_equality false e r = ap suc (r (sym (ap (λ b. b || is_in w ns) e) ∙ h))
 
--- what more words add
+-- further words add names after those that there are, and change none of them
 more_names : (d ws : List Bytes)
     → (more : List Bytes) × (first_occurrences [] (d ++ ws) ≡ first_occurrences [] d ++ more)
 more_names d [] =
@@ -116,9 +116,9 @@ module _ (db : List Statement) (lawful : (k : ℕ) → k < length db → scope_f
   abbrev all : List Statement
   all = db ++ s ∷ []
 
-  formula-kept : (k : ℕ) (t : Statement) → slice_get db k ≡ Some t
+  formula_is_unchanged : (k : ℕ) (t : Statement) → slice_get db k ≡ Some t
       → formula_of all t ≡ formula_of db t
-  formula-kept k t e =
+  formula_is_unchanged k t e =
       let g = names_grow db s in
       same_places (symbol_names all) (symbol_names db) (words (symbols_of t))
       (λ w h. ap (index_of w) g.1
@@ -128,10 +128,10 @@ module _ (db : List Statement) (lawful : (k : ℕ) → k < length db → scope_f
   formulas-next : map (formula_of db) db ++ formula_of all s ∷ [] ≡ map (formula_of all) all
   formulas-next =
       ap (λ fs. fs ++ formula_of all s ∷ [])
-      (same_maps (formula_of db) (formula_of all) db (λ k t e. sym (formula-kept k t e)))
+      (same_maps (formula_of db) (formula_of all) db (λ k t e. sym (formula_is_unchanged k t e)))
       ∙ sym (map-append (formula_of all) db (s ∷ []))
 
-  -- one statement more
+  -- formulas of statements stay such with that of one statement more
   pub formulas_more : (numbers places : List ℕ) → AreFormulas db numbers places → (more : List ℕ)
       → more ≡ numbers ++ formula_of all s → AreFormulas all more (with_end places (length more))
   formulas_more numbers places f more e =

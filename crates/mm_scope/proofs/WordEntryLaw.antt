@@ -14,20 +14,21 @@ use Rattle.mm_spec.specs.Scope.{Typing, active_statements, variables_of, constan
 use Rattle.mm_outline.specs.Blocks.{never}
 use Rattle.mm_scope.specs.WordEntry.{WordEntry, entry, declared_entry, typed_entry}
 use Rattle.mm_scope.specs.WordEntry.{IsEntryOf, Latest, typed_by, typecode_by, declared_by}
-use Rattle.mm_scope.specs.WordEntry.{is_other}
+use Rattle.mm_scope.specs.WordEntry.{gives_other_typecode}
 use Rattle.mm_scope.specs.WordEntry.{is_constant_entry, is_variable_entry}
 use Rattle.mm_outline.specs.Typed.{typed_words}
 use Rattle.mm_scope.proofs.LatestLaw.{latest_stays, latest_new}
 
 none_other : (c w : Bytes) (ts : List Typing) → is_in w (map (λ t. t.variable) ts ++ []) ≡ false
-    → list_any (is_other c w) (ts ++ []) ≡ false
+    → list_any (gives_other_typecode c w) (ts ++ []) ≡ false
 none_other c w [] e = refl
 none_other c w (t ∷ ts) e = by_equality (bytes_eq w t.variable) e (none_other c w ts)
   where
     by_equality : (b : Bool) → (b || is_in w (map (λ t. t.variable) ts ++ [])) ≡ false
         → (is_in w (map (λ t. t.variable) ts ++ []) ≡ false
-        → list_any (is_other c w) (ts ++ []) ≡ false)
-        → ((b && not (bytes_eq c t.typecode)) || list_any (is_other c w) (ts ++ [])) ≡ false
+        → list_any (gives_other_typecode c w) (ts ++ []) ≡ false)
+        → ((b && not (bytes_eq c t.typecode)) || list_any (gives_other_typecode c w) (ts ++ []))
+        ≡ false
     by_equality true e r = absurd (true≢false e)
     by_equality false e r = r e
 
@@ -39,12 +40,12 @@ module _ (db : List Statement) (s : Statement) (w : Bytes) where
       ∙ list_any-append (bytes_eq w) (flat_map f db) (f s ++ [])
 
   other_more : (c : Bytes)
-      → list_any (is_other c w) (flat_map typings_of (db ++ s ∷ []))
-      ≡ (list_any (is_other c w) (flat_map typings_of db)
-      || list_any (is_other c w) (typings_of s ++ []))
+      → list_any (gives_other_typecode c w) (flat_map typings_of (db ++ s ∷ []))
+      ≡ (list_any (gives_other_typecode c w) (flat_map typings_of db)
+      || list_any (gives_other_typecode c w) (typings_of s ++ []))
   other_more c =
-      ap (list_any (is_other c w)) (flat_map-append typings_of db (s ∷ []))
-      ∙ list_any-append (is_other c w) (flat_map typings_of db) (typings_of s ++ [])
+      ap (list_any (gives_other_typecode c w)) (flat_map-append typings_of db (s ∷ []))
+      ∙ list_any-append (gives_other_typecode c w) (flat_map typings_of db) (typings_of s ++ [])
 
   -- the statement has not the word among these
   pub in_same : (f : Statement → List Bytes) → is_in w (f s ++ []) ≡ false
@@ -58,13 +59,13 @@ module _ (db : List Statement) (s : Statement) (w : Bytes) where
       in_more f ∙ ap (λ b. is_in w (flat_map f db) || b) n ∙ or-true (is_in w (flat_map f db))
 
   other_same : (c : Bytes) → is_in w (typed_words s ++ []) ≡ false
-      → list_any (is_other c w) (flat_map typings_of (db ++ s ∷ []))
-      ≡ list_any (is_other c w) (flat_map typings_of db)
+      → list_any (gives_other_typecode c w) (flat_map typings_of (db ++ s ∷ []))
+      ≡ list_any (gives_other_typecode c w) (flat_map typings_of db)
   other_same c n =
       other_more c
-      ∙ ap (λ b. list_any (is_other c w) (flat_map typings_of db) || b)
+      ∙ ap (λ b. list_any (gives_other_typecode c w) (flat_map typings_of db) || b)
       (none_other c w (typings_of s) n)
-      ∙ or-false (list_any (is_other c w) (flat_map typings_of db))
+      ∙ or-false (list_any (gives_other_typecode c w) (flat_map typings_of db))
 
   -- the statement says nothing of the word
   pub known_same : (x : Option WordEntry) → IsEntryOf db w x
@@ -79,7 +80,7 @@ module _ (db : List Statement) (s : Statement) (w : Bytes) where
     otherwise = λ c. other_same c nt ∙ k.otherwise c;
   }
 
-  -- it declares it as a constant
+  -- what is known of a word after a statement that declares it as a constant
   pub known_constant : IsEntryOf db w None → is_in w (constants_of s ++ []) ≡ true
       → is_in w (variables_of s ++ []) ≡ false → is_in w (typed_words s ++ []) ≡ false → (n : ℕ)
       → IsEntryOf (db ++ s ∷ []) w (Some (entry false n never w))
@@ -110,7 +111,7 @@ module _ (db : List Statement) (s : Statement) (w : Bytes) where
   is_declared None = (refl, refl, refl)
   is_declared (Some e) = (refl, refl, refl)
 
-  -- it declares it as a variable
+  -- what is known of a word after a statement that declares it as a variable
   pub known_variable : (x : Option WordEntry) → IsEntryOf db w x → is_constant_entry x ≡ false
       → is_in w (flat_map variables_of (active_statements db (length db))) ≡ false
       → is_in w (constants_of s ++ []) ≡ false → is_in w (variables_of s ++ []) ≡ true
@@ -131,10 +132,10 @@ module _ (db : List Statement) (s : Statement) (w : Bytes) where
         otherwise = λ c. other_same c nt ∙ k.otherwise c ∙ other_declared c x;
       }
 
-  -- it types it
+  -- what is known of a word after a `$f` that types it
   pub known_typed : (e : WordEntry) → IsEntryOf db w (Some e) → length db < never → (c : Bytes)
       → is_in w (flat_map typed_words (active_statements db (length db))) ≡ false
-      → list_any (is_other c w) (flat_map typings_of db) ≡ false
+      → list_any (gives_other_typecode c w) (flat_map typings_of db) ≡ false
       → is_in w (constants_of s ++ []) ≡ false → is_in w (variables_of s ++ []) ≡ false
       → typings_of s ≡ record { typecode = c; variable = w } ∷ []
       → IsEntryOf (db ++ s ∷ []) w (typed_entry (length db) c (Some e))
@@ -153,9 +154,10 @@ module _ (db : List Statement) (s : Statement) (w : Bytes) where
       typed : is_in w (typed_words s ++ []) ≡ true
       typed = ap (λ ts. is_in w (map (λ t. t.variable) ts ++ [])) is ∙ ap (λ b. b || false) self
 
-      now : (d : Bytes) → list_any (is_other d w) (typings_of s ++ []) ≡ not (bytes_eq d c)
+      now : (d : Bytes) → list_any (gives_other_typecode d w) (typings_of s ++ [])
+          ≡ not (bytes_eq d c)
       now d =
-          ap (λ ts. list_any (is_other d w) (ts ++ [])) is
+          ap (λ ts. list_any (gives_other_typecode d w) (ts ++ [])) is
           ∙ ap (λ b. (b && not (bytes_eq d c)) || false) self ∙ or-false (not (bytes_eq d c))
 
       again : (a b y : Bool) → (a && b) ≡ false → ((a && y) || y) ≡ y
@@ -183,7 +185,7 @@ module _ (db : List Statement) (s : Statement) (w : Bytes) where
           by_equality false z q = absurd (true≢false q)
 
       other : (d : Bytes)
-          → list_any (is_other d w) (flat_map typings_of (db ++ s ∷ []))
+          → list_any (gives_other_typecode d w) (flat_map typings_of (db ++ s ∷ []))
           ≡ (not (nat_eq (length db) never) && not (bytes_eq d c))
       other d =
           let new : nat_eq (length db) never ≡ false =

@@ -1,5 +1,5 @@
 pub mod Formulas
-pub mod Keeps
+pub mod ReadSoFar
 pub mod Knows
 pub mod Scopes
 pub mod WordEntry

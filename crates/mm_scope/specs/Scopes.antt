@@ -16,7 +16,7 @@ use Rattle.mm_database.specs.declared.names.Symbol.{Symbol}
 use Rattle.mm_scope.specs.declared.scope.Scope.{Scope}
 use Rattle.mm_scope.specs.Knows.{Knows, fault_at}
 use Rattle.mm_scope.specs.WordEntry.{WordEntry, entry_of}
-use Rattle.mm_scope.specs.Keeps.{KnowsStatements}
+use Rattle.mm_scope.specs.ReadSoFar.{KnowsStatements}
 
 -- the outline is that of a whole statement among these tokens of a text
 pub record IsAmong (text : List ℕ) (tokens : List Word) (o : Outline) : Type 0 where

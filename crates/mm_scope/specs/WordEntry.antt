@@ -17,15 +17,21 @@ pub record WordEntry : Type 0 where
   pub typecode : List ℕ
 
 abbrev pub entry : Bool → ℕ → ℕ → List ℕ → WordEntry
-entry v j t c = record { is_variable = v; declared = j; typed = t; typecode = c }
+entry is_variable declared typed typecode = record {
+  is_variable = is_variable;
+  declared = declared;
+  typed = typed;
+  typecode = typecode;
+}
 
 abbrev pub entry_of : Option Symbol → Option WordEntry
 entry_of None = None
 entry_of (Some s) = Some (entry s.is_variable s.declared s.typed s.typecode.now)
 
 -- whether the typing gives the word another typecode
-abbrev pub is_other : Bytes → Bytes → Typing → Bool
-is_other c w t = bytes_eq w t.variable && not (bytes_eq c t.typecode)
+abbrev pub gives_other_typecode : Bytes → Bytes → Typing → Bool
+gives_other_typecode typecode word typing =
+    bytes_eq word typing.variable && not (bytes_eq typecode typing.typecode)
 
 module _ (db : List Statement) (f : Statement → List Bytes) (w : Bytes) where
   -- the last statement that has the word, the only one that may be active
@@ -65,22 +71,24 @@ pub record IsEntryOf (db : List Statement) (w : Bytes) (x : Option WordEntry) : 
   pub typed : typed_by x ≢ never → Latest db typed_words w (typed_by x)
   pub untyped : typed_by x ≡ never → is_in w (flat_map typed_words db) ≡ false
   pub otherwise : (c : Bytes)
-      → list_any (is_other c w) (flat_map typings_of db)
+      → list_any (gives_other_typecode c w) (flat_map typings_of db)
       ≡ (not (nat_eq (typed_by x) never) && not (bytes_eq c (typecode_by x)))
 
 -- the entry after the symbol's declaration by a statement
 abbrev pub declared_entry : Bool → ℕ → List ℕ → Option WordEntry → Option WordEntry
-declared_entry v number w None = Some (entry v number never w)
-declared_entry v number w (Some e) = Some (entry v number e.typed e.typecode)
+declared_entry is_variable number word None = Some (entry is_variable number never word)
+declared_entry is_variable number word (Some e) =
+    Some (entry is_variable number e.typed e.typecode)
 
 -- the entry of a word after the declaration of words by a statement
 abbrev pub after_declaring : Bool → ℕ → List (List ℕ) → List ℕ → Option WordEntry → Option WordEntry
-after_declaring v number ws w x = if is_in w ws then declared_entry v number w x else x
+after_declaring is_variable number declared word old =
+    if is_in word declared then declared_entry is_variable number word old else old
 
 -- the entry after a `$f`
 abbrev pub typed_entry : ℕ → List ℕ → Option WordEntry → Option WordEntry
-typed_entry number c None = None
-typed_entry number c (Some e) = Some (entry e.is_variable e.declared number c)
+typed_entry number typecode None = None
+typed_entry number typecode (Some e) = Some (entry e.is_variable e.declared number typecode)
 
 -- the entry of a word after the `$f` of a variable, by the entries before it
 abbrev pub after_typing : ℕ → List ℕ → List ℕ → (List ℕ → Option WordEntry) → List ℕ

@@ -31,8 +31,8 @@ fn number_all<'a, A: Allocator + Copy>(
         ≡ numbers.old.items
         ++ numbers_in (names_of names.now.symbols) (between text.now tokens.now from to)) }
 {
-    for at in from..to {
-        let word = tokens[at as usize];
+    for token_index in from..to {
+        let word = tokens[token_index as usize];
         let (number, _) = names.numbered(word.bytes(text));
         numbers.push(Sym::new(number as u32))?;
     }

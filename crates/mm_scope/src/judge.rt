@@ -46,8 +46,8 @@ impl<'a, A: Allocator + Copy> Scope<'a, A> {
             ++ numbers_in (names_in self.now) (between text.now tokens.now from to)) }
     {
         let mut least_found = None;
-        for at in from..to {
-            let token = tokens[at as usize];
+        for token_index in from..to {
+            let token = tokens[token_index as usize];
             let (number, known) = self.names.numbered(token.bytes(text));
             numbers.push(Sym::new(number as u32))?;
             least_found = lesser(
@@ -78,9 +78,9 @@ impl<'a, A: Allocator + Copy> Scope<'a, A> {
         let is_short = to - from <= MAX_WORDS_COMPARED;
         let mut seen = IndexMap::new(alloc);
         let mut least_found = None;
-        for at in from..to {
-            let repeated = is_repeated(&mut seen, is_short, text, tokens, from, at)?;
-            let token = tokens[at as usize];
+        for token_index in from..to {
+            let repeated = is_repeated(&mut seen, is_short, text, tokens, from, token_index)?;
+            let token = tokens[token_index as usize];
             let word = token.bytes(text);
             let code = self.declared_code(kind, word, repeated);
             least_found = lesser(least_found, fault_with_code(token.start, code));
@@ -117,19 +117,19 @@ impl<'a, A: Allocator + Copy> Scope<'a, A> {
         let token = tokens[from as usize];
         let (number, known) = self.names.numbered(token.bytes(text));
         numbers.push(Sym::new(number as u32))?;
-        let typecode = fault_with_code(token.start, Self::typecode_code(known));
+        let typecode = fault_with_code(token.start, Self::typecode_fault_code(known));
         let rest = self.symbols_fault(text, tokens, from + 1, to, numbers)?;
         Ok(lesser(typecode, rest))
     }
 
-    /// Returns the fault of the label at the token `at`.
-    fn label_fault(&self, text: &[u8], tokens: &[Word], at: u32) -> Option<Fault>
+    /// Returns the fault of the label at the token `token_index`.
+    fn label_fault(&self, text: &[u8], tokens: &[Word], token_index: u32) -> Option<Fault>
         requires words { AreWithin text.now tokens.now }
-        requires within { at < length tokens.now }
+        requires within { token_index < length tokens.now }
         ensures { IsLeastFault self.now
-            (λ n. label_faults n (token_at text.now tokens.now at)) result }
+            (λ n. label_faults n (token_at text.now tokens.now token_index)) result }
     {
-        let token = tokens[at as usize];
+        let token = tokens[token_index as usize];
         fault_with_code(token.start, self.label_code(token.bytes(text)))
     }
 
@@ -155,43 +155,55 @@ impl<'a, A: Allocator + Copy> Scope<'a, A> {
         }
     }
 
-    /// Returns the fault of a `$c`, `$v` or `$d` as a whole.
-    fn list_fault(_text: &[u8], tokens: &[Word], deep: u32, outline: Outline) -> Option<Fault>
+    /// Returns the fault of a `$c`, `$v` or `$d` that isn't one of its symbols: that it stands in a
+    /// block, or has too few symbols.
+    fn whole_statement_fault(
+        _text: &[u8],
+        tokens: &[Word],
+        depth: u32,
+        outline: Outline,
+    ) -> Option<Fault>
         requires among { IsAmong _text.now tokens.now outline }
         requires order { outline.keyword < outline.middle }
         requires lists { lists_symbols outline.kind ≡ true }
         ensures { (n : DeclaredNames)
             → (faults : List SpecFault)
             × (result ≡ least faults)
-            × (scope_faults n deep (statement_of _text.now tokens.now outline)
+            × (scope_faults n depth (statement_of _text.now tokens.now outline)
             ≡ faults
             ++ at_each (listed_codes n outline.kind) []
             (between _text.now tokens.now (outline.keyword + 1) outline.middle)) }
     {
-        let first = tokens[outline.keyword as usize].start;
-        let end = tokens[outline.middle as usize].start;
-        let count = outline.middle - outline.keyword - 1;
+        let keyword_at = tokens[outline.keyword as usize].start;
+        let end_at = tokens[outline.middle as usize].start;
+        let symbol_count = outline.middle - outline.keyword - 1;
         match outline.kind {
             Kind::Constants => {
-                let deep = fault_with_code(first, code_if(deep > 0, Code::ConstantInBlock));
+                let block_fault = fault_with_code(
+                    keyword_at,
+                    code_if(depth > 0, Code::ConstantInBlock),
+                );
                 lesser(
-                    deep,
-                    fault_with_code(end, code_if(count == 0, Code::EmptyDeclaration)),
+                    block_fault,
+                    fault_with_code(end_at, code_if(symbol_count == 0, Code::EmptyDeclaration)),
                 )
             }
-            Kind::Variables => fault_with_code(end, code_if(count == 0, Code::EmptyDeclaration)),
-            _ => fault_with_code(end, code_if(count < 2, Code::TooFewVariables)),
+            Kind::Variables => fault_with_code(
+                end_at,
+                code_if(symbol_count == 0, Code::EmptyDeclaration),
+            ),
+            _ => fault_with_code(end_at, code_if(symbol_count < 2, Code::TooFewVariables)),
         }
     }
 
     /// Returns the least fault of the next statement, and appends the numbers of the symbols of a
-    /// `$e`, `$a` or `$p`. `deep` is the number of blocks that are open.
+    /// `$e`, `$a` or `$p`. `depth` is the number of blocks that are open.
     pub(crate) fn fault(
         &self,
         alloc: A,
         text: &'a [u8],
         tokens: &[Word],
-        deep: u32,
+        depth: u32,
         outline: Outline,
         numbers: &mut Vec<Sym, A>,
     ) -> Result<Option<Fault>, AllocError>
@@ -204,7 +216,7 @@ impl<'a, A: Allocator + Copy> Scope<'a, A> {
             (statement_of text.now tokens.now outline)) }
         ensures fault { IfOk result
             (IsLeastFault self.now
-            (λ n. scope_faults n deep (statement_of text.now tokens.now outline))) }
+            (λ n. scope_faults n depth (statement_of text.now tokens.now outline))) }
     {
         let kind = outline.kind;
         let keyword = outline.keyword;
@@ -212,9 +224,9 @@ impl<'a, A: Allocator + Copy> Scope<'a, A> {
         match kind {
             Kind::Open => Ok(None),
             Kind::Close => Ok(None),
-            Kind::Constants => self.declared(alloc, text, tokens, deep, outline),
-            Kind::Variables => self.declared(alloc, text, tokens, deep, outline),
-            Kind::Disjoint => self.declared(alloc, text, tokens, deep, outline),
+            Kind::Constants => self.declared(alloc, text, tokens, depth, outline),
+            Kind::Variables => self.declared(alloc, text, tokens, depth, outline),
+            Kind::Disjoint => self.declared(alloc, text, tokens, depth, outline),
             Kind::Floating => {
                 let label = self.label_fault(text, tokens, keyword - 1);
                 Ok(lesser(label, self.floating_fault(text, tokens, keyword, middle)))
@@ -262,7 +274,7 @@ impl<'a, A: Allocator + Copy> Scope<'a, A> {
         alloc: A,
         text: &'a [u8],
         tokens: &[Word],
-        deep: u32,
+        depth: u32,
         outline: Outline,
     ) -> Result<Option<Fault>, AllocError>
         requires among { IsAmong text.now tokens.now outline }
@@ -270,11 +282,11 @@ impl<'a, A: Allocator + Copy> Scope<'a, A> {
         requires lists { lists_symbols outline.kind ≡ true }
         ensures { IfOk result
             (IsLeastFault self.now
-            (λ n. scope_faults n deep (statement_of text.now tokens.now outline))) }
+            (λ n. scope_faults n depth (statement_of text.now tokens.now outline))) }
     {
         let from = outline.keyword + 1;
         let rest = self.declared_fault(alloc, text, tokens, outline.kind, from, outline.middle)?;
-        let whole = Self::list_fault(text, tokens, deep, outline);
+        let whole = Self::whole_statement_fault(text, tokens, depth, outline);
         Ok(lesser(whole, rest))
     }
 }
@@ -325,68 +337,69 @@ fn lesser(first: Option<Fault>, second: Option<Fault>) -> Option<Fault>
 /// longer list are kept in a map.
 const MAX_WORDS_COMPARED: u32 = 16;
 
-/// Whether the word at `at` is among the words before it, from `from` on.
-fn is_among(text: &[u8], tokens: &[Word], from: u32, at: u32) -> bool
+/// Whether the word at `token_index` is among the words before it, from `from` on.
+fn is_among(text: &[u8], tokens: &[Word], from: u32, token_index: u32) -> bool
     requires words { AreWithin text.now tokens.now }
-    requires order { from ≤ at }
-    requires within { at < length tokens.now }
+    requires order { from ≤ token_index }
+    requires within { token_index < length tokens.now }
     ensures { result
-        ≡ is_in (token_at text.now tokens.now at).word
-        (words (between text.now tokens.now from at)) }
+        ≡ is_in (token_at text.now tokens.now token_index).word
+        (words (between text.now tokens.now from token_index)) }
 {
-    let token = tokens[at as usize];
+    let token = tokens[token_index as usize];
     let word = token.bytes(text);
-    let mut found = false;
-    for earlier in from..at {
+    let mut is_found = false;
+    for earlier in from..token_index {
         let other = tokens[earlier as usize];
-        found = word == other.bytes(text) || found;
+        is_found = word == other.bytes(text) || is_found;
     }
-    found
+    is_found
 }
 
-/// Whether the word at `at` of a list that begins at `from` occurs earlier in the list. If the list
-/// isn't short, `seen` has the words before `at`, and the call adds the one at `at`.
+/// Whether the word at `token_index` of a list that begins at `from` occurs earlier in the list. If
+/// the list isn't short, `seen` has the words before `token_index`, and the call adds the one at
+/// `token_index`.
 fn is_repeated<'a, A: Allocator + Copy>(
     seen: &mut NameMap<'a, u32, A>,
     is_short: bool,
     text: &'a [u8],
     tokens: &[Word],
     from: u32,
-    at: u32,
+    token_index: u32,
 ) -> Result<bool, AllocError>
     requires words { AreWithin text.now tokens.now }
-    requires order { from ≤ at }
-    requires within { at < length tokens.now }
+    requires order { from ≤ token_index }
+    requires within { token_index < length tokens.now }
     requires seen { is_short ≡ false → (w : List ℕ)
         → is_some (find seen.old.entries w)
-        ≡ is_in w (words (between text.now tokens.now from at)) }
+        ≡ is_in w (words (between text.now tokens.now from token_index)) }
     ensures repeated { IfOk result
-        (λ b. b ≡ is_in (token_at text.now tokens.now at).word
-        (words (between text.now tokens.now from at))) }
+        (λ b. b ≡ is_in (token_at text.now tokens.now token_index).word
+        (words (between text.now tokens.now from token_index))) }
     ensures seen { OnOk result
         (is_short ≡ false → (w : List ℕ)
         → is_some (find seen.new.entries w)
-        ≡ is_in w (words (between text.now tokens.now from (at + 1)))) }
+        ≡ is_in w (words (between text.now tokens.now from (token_index + 1)))) }
 {
     if is_short {
-        Ok(is_among(text, tokens, from, at))
+        Ok(is_among(text, tokens, from, token_index))
     } else {
-        let token = tokens[at as usize];
-        see(seen, token.bytes(text))
+        let token = tokens[token_index as usize];
+        insert_word(seen, token.bytes(text))
     }
 }
 
-/// Returns whether the word is in `seen`, and adds it.
-fn see<'a, A: Allocator + Copy>(
+/// Adds the word to `seen`, and returns whether it was there before.
+fn insert_word<'a, A: Allocator + Copy>(
     seen: &mut NameMap<'a, u32, A>,
     word: &'a [u8],
 ) -> Result<bool, AllocError>
-    ensures was { IfOk result (λ b. b ≡ is_some (find seen.old.entries word.now)) }
-    ensures now { OnOk result
+    ensures was_seen { IfOk result (λ b. b ≡ is_some (find seen.old.entries word.now)) }
+    ensures inserted { OnOk result
         ((w : List ℕ)
         → find seen.new.entries w
         ≡ (if bytes_eq word.now w then Some 0 else find seen.old.entries w)) }
 {
-    let old = seen.insert(Name { bytes: word }, 0)?;
-    Ok(old.is_some())
+    let previous = seen.insert(Name { bytes: word }, 0)?;
+    Ok(previous.is_some())
 }

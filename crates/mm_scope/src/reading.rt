@@ -9,8 +9,8 @@ ghost use Rattle.mm_outline.specs.Parts.{AreWithin, IsOutline, depth_after, stat
 ghost use Rattle.mm_outline.specs.Tokens.{AreTokens};
 ghost use Rattle.mm_outline.specs.Statements.{end_fault_of, lexed, statements};
 ghost use Rattle.mm_scope.specs.Scopes.{IsAmong, IsScopeAfter, names_in};
-ghost use Rattle.mm_scope.specs.Keeps.{HasTaken, IsKeptOf, MayTake, formulas_of, kept_by};
-ghost use Rattle.mm_scope.specs.Keeps.{reading_of};
+ghost use Rattle.mm_scope.specs.ReadSoFar.{HasTaken, IsReadSoFar, MayTake, formulas_of};
+ghost use Rattle.mm_scope.specs.ReadSoFar.{read_so_far, reading_of};
 
 use crate::scope::Scope;
 use mm_database::names::no_names;
@@ -34,7 +34,7 @@ pub struct Outlined<'a, A: Allocator> {
     pub fault: Option<Fault>,
 }
 
-/// Lets all fields go in one call, so that a proof has one step for it at each exit.
+/// Dropped in one call: docs/PROOFS.md, "What a check costs".
 impl<'a, A: Allocator> Drop for Outlined<'a, A> {
     fn drop(self) {
         let Self {
@@ -75,14 +75,14 @@ impl<'a, A: Allocator> Outlined<'a, A> {
 }
 
 /// Returns the number of blocks that are open after a statement.
-fn depth_after(kind: Kind, deep: u32) -> u32
-    requires { deep < 2 ^ 31 }
-    ensures { result ≡ depth_after kind deep }
+fn depth_after(kind: Kind, depth: u32) -> u32
+    requires { depth < 2 ^ 31 }
+    ensures { result ≡ depth_after kind depth }
 {
     match kind {
-        Kind::Open => deep + 1,
-        Kind::Close => { if deep == 0 { 0 } else { deep - 1 } }
-        _ => deep,
+        Kind::Open => depth + 1,
+        Kind::Close => { if depth == 0 { 0 } else { depth - 1 } }
+        _ => depth,
     }
 }
 
@@ -98,15 +98,15 @@ fn no_scope<'a, A: Allocator + Copy>(alloc: A) -> Result<Scope<'a, A>, AllocErro
 }
 
 /// Returns the fault at the end of a text.
-fn end_fault(lexical: Option<Fault>, text: &[u8], part: Part, deep: u32) -> Option<Fault>
+fn end_fault(lexical: Option<Fault>, text: &[u8], part: Part, depth: u32) -> Option<Fault>
     requires short { lexical ≡ None → length text.now < 2 ^ 31 }
-    ensures { result ≡ end_fault_of lexical (length text.now) part deep }
+    ensures { result ≡ end_fault_of lexical (length text.now) part depth }
 {
     match lexical {
         Some(fault) => Some(fault),
         None => match part {
             Part::Start => {
-                if deep == 0 {
+                if depth == 0 {
                     None
                 } else {
                     Some(Fault {
@@ -126,7 +126,7 @@ fn end_fault(lexical: Option<Fault>, text: &[u8], part: Part, deep: u32) -> Opti
 /// Returns what there is before the first statement is read.
 fn nothing_read<'a, A: Allocator + Copy>(alloc: A) -> Result<Outlined<'a, A>, AllocError>
     ensures { IfOk result
-        (λ r. (r.outlines.items ≡ []) × (r.fault ≡ None) × IsKeptOf [] (kept_by r)) }
+        (λ r. (r.outlines.items ≡ []) × (r.fault ≡ None) × IsReadSoFar [] (read_so_far r)) }
 {
     let scope = no_scope(alloc)?;
     Ok(Outlined {
@@ -140,30 +140,30 @@ fn nothing_read<'a, A: Allocator + Copy>(alloc: A) -> Result<Outlined<'a, A>, Al
 
 impl<'a, A: Allocator + Copy> Outlined<'a, A> {
     /// Adds the next statement if it is lawful. Otherwise notes its fault and changes nothing else.
-    fn take(
+    fn add_if_lawful(
         &mut self,
         alloc: A,
         text: &'a [u8],
         tokens: &[Word],
-        deep: u32,
+        depth: u32,
         outline: Outline,
     ) -> Result<(), AllocError>
         requires among { IsAmong text.now tokens.now outline }
         requires few { length tokens.now < 2 ^ 31 }
-        requires sound { self.old.fault ≡ None }
-        requires kept { IsKeptOf (statements text.now tokens.now self.old.outlines.items)
-            (kept_by self.old) }
-        requires next { MayTake (statements text.now tokens.now self.old.outlines.items) deep
+        requires no_fault { self.old.fault ≡ None }
+        requires is_read_so_far { IsReadSoFar
+            (statements text.now tokens.now self.old.outlines.items) (read_so_far self.old) }
+        requires next { MayTake (statements text.now tokens.now self.old.outlines.items) depth
             (statement_of text.now tokens.now outline) }
         ensures { OnOk result
-            (HasTaken text.now tokens.now self.old.outlines.items deep outline self.new) }
+            (HasTaken text.now tokens.now self.old.outlines.items depth outline self.new) }
     {
-        let begin = self.numbers.len();
+        let number_count = self.numbers.len();
         self.fault = self
             .scope
-            .fault(alloc, text, tokens, deep, outline, &mut self.numbers)?;
+            .fault(alloc, text, tokens, depth, outline, &mut self.numbers)?;
         if self.fault.is_some() {
-            self.numbers.truncate(begin);
+            self.numbers.truncate(number_count);
             return Ok(());
         }
         self.scope.add(text, tokens, outline)?;
@@ -176,7 +176,7 @@ impl<'a, A: Allocator + Copy> Outlined<'a, A> {
 }
 
 /// Reads the statements up to the first fault of words, shape, symbols, labels or scope.
-pub fn outline<'a, A: Allocator + Copy>(
+pub fn outline_statements<'a, A: Allocator + Copy>(
     alloc: A,
     text: &'a [u8],
     tokens: &[Word],
@@ -189,23 +189,23 @@ pub fn outline<'a, A: Allocator + Copy>(
     ensures few { IfOk result (λ d. length d.outlines.items < 2 ^ 31) }
     ensures outlines { IfOk result
         (λ d. All (λ o. IsOutline o × (o.end < length tokens.now)) d.outlines.items) }
-    ensures kept { IfOk result
-        (λ d. IsKeptOf (statements text.now tokens.now d.outlines.items) (kept_by d)) }
+    ensures is_read_so_far { IfOk result
+        (λ d. IsReadSoFar (statements text.now tokens.now d.outlines.items) (read_so_far d)) }
     ensures read { IfOk result
         (λ d. IsRead (length text.now) (lexed text.now tokens.now lexical)
         (statements text.now tokens.now d.outlines.items) d.fault) }
 {
     let mut read = nothing_read(alloc)?;
-    let mut deep = 0;
+    let mut depth = 0;
     let mut at = 0;
     'statements: loop {
-        match next_statement(text, tokens, deep, at) {
+        match next_statement(text, tokens, depth, at) {
             NextStatement::Whole(outline) => {
-                read.take(alloc, text, tokens, deep, outline)?;
+                read.add_if_lawful(alloc, text, tokens, depth, outline)?;
                 if read.fault.is_some() {
                     return Ok(read);
                 }
-                deep = depth_after(outline.kind, deep);
+                depth = depth_after(outline.kind, depth);
                 at = outline.end + 1;
             }
             NextStatement::Stopped(fault) => {
@@ -213,7 +213,7 @@ pub fn outline<'a, A: Allocator + Copy>(
                 return Ok(read);
             }
             NextStatement::Ended(part) => {
-                read.fault = end_fault(lexical, text, part, deep);
+                read.fault = end_fault(lexical, text, part, depth);
                 return Ok(read);
             }
         }

@@ -84,20 +84,14 @@ impl<'a, A: Allocator + Copy> Scope<'a, A> {
     }
 
     /// Returns what is wrong with a word as a typecode. `known` is what is known of the word.
-    pub(crate) fn typecode_code(known: Option<Symbol<'a>>) -> Option<Code>
+    pub(crate) fn typecode_fault_code(known: Option<Symbol<'a>>) -> Option<Code>
         ensures { (place : ℕ)
             → fault_at place result
             ≡ least (at place (when (not (is_constant_in known.entry)) BadTypecode)) }
     {
         match known {
-            Some(symbol) => {
-                if symbol.is_variable {
-                    Some(Code::BadTypecode)
-                } else {
-                    None
-                }
-            }
-            None => Some(Code::BadTypecode),
+            Some(symbol) if !symbol.is_variable => None,
+            _ => Some(Code::BadTypecode),
         }
     }
 
@@ -164,7 +158,7 @@ impl<'a, A: Allocator + Copy> Scope<'a, A> {
     {
         match self.names.symbol(variable) {
             Some(symbol) => {
-                if Self::typecode_code(self.names.symbol(typecode)).is_none()
+                if Self::typecode_fault_code(self.names.symbol(typecode)).is_none()
                     && self.is_active(symbol)
                 {
                     Some(self.floating_code(typecode, symbol))
@@ -353,8 +347,8 @@ impl<'a, A: Allocator + Copy> Scope<'a, A> {
         ensures names { OnOk result
             (Declares self.old self.new (listed_words text.now tokens.now outline)) }
     {
-        for at in outline.keyword + 1..outline.middle {
-            let token = tokens[at as usize];
+        for token_index in outline.keyword + 1..outline.middle {
+            let token = tokens[token_index as usize];
             let word = token.bytes(text);
             let symbol = declared(&self.names, is_variable, number, word);
             self.names.set_symbol(word, symbol)?;

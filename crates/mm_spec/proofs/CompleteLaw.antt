@@ -147,7 +147,7 @@ module _ (db : List Statement) (lawful : (k : ℕ) → k < length db → IsLawfu
           let y = typing a.0 s.0 s.1 (typing_floats q s.0 s.2) in
           (a.0, a.1, at_word a.0 x w y.0 y.1 (y.2 w s.2) is)
 
-  -- so has each mandatory variable, at the assertion
+  -- each mandatory variable of a statement with a formula has a `$f` that is active there
   pub mandatory_typed : (k x : ℕ) (s : Statement) → slice_get db k ≡ Some s → has_formula s ≡ true
       → is_member (mandatory_variables db k) x ≡ true
       → (i : ℕ) × (is_active db i k ≡ true) × Types i x × (is_variable_number db x ≡ true)
@@ -196,7 +196,7 @@ module _ (db : List Statement) (lawful : (k : ℕ) → k < length db → IsLawfu
       → is_member (mandatory_variables db k) x ≡ true
   of_formula k x h v = grind (arith, common_steps, filter_member, list_any-append, or_left)
 
-  -- so is each variable of a mandatory hypothesis
+  -- each variable of a mandatory hypothesis is a mandatory variable
   pub of_hypothesis : (k j x : ℕ) → is_active db j k ≡ true → is_mandatory db k j ≡ true
       → is_member (formula_at db j) x ≡ true → is_variable_number db x ≡ true
       → is_member (mandatory_variables db k) x ≡ true
@@ -269,7 +269,7 @@ module _ (db : List Statement) (lawful : (k : ℕ) → k < length db → IsLawfu
           let y = typing j s.0 s.1 s.2 in
           mandatory_if_typed (index_of y.0 (symbol_names db)) y.1 p.1
 
-  -- both variables of a mandatory pair are
+  -- both variables of a mandatory pair are mandatory variables
   pub of_pair : (k : ℕ) (p : Pair) → is_mandatory_pair db k p ≡ true
       → (is_member (mandatory_variables db k) p.low ≡ true)
       × (is_member (mandatory_variables db k) p.high ≡ true)
@@ -342,7 +342,7 @@ module _ (db : List Statement) (lawful : (k : ℕ) → k < length db → IsLawfu
         bound_pair p h =
             let q = of_pair k p h in (mandatory_bound p.low q.0, mandatory_bound p.high q.1)
 
-  -- what lawful statements stand for asks for no variable that its hypotheses don't have
+  -- each rule that a lawful statement stands for has all variables that it names in its hypotheses
   pub lawful_complete : AreComplete db
   lawful_complete m k = by_activity (is_active db k m)
     where

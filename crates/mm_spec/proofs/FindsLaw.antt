@@ -97,8 +97,15 @@ pub each_member : (P : ℕ → Type 0) (xs : List ℕ) → ((x : ℕ) → is_mem
     → AllByRecursion P xs
 each_member P [] h = tt
 each_member P (x ∷ xs) h =
-    grind (arith, common_steps, eq-eqb, or_left, or_right, each_member P xs
-    (λ y m. h y (or_right (y == x) (is_member xs y) m)))
+    grind (
+      arith,
+      common_steps,
+      eq-eqb,
+      or_left,
+      or_right,
+      each_member P xs
+          (λ y m. h y (or_right (y == x) (is_member xs y) m)),
+    )
 
 pub each_map : {X Y : Type 0} (P : Y → Type 0) (f : X → Y) (xs : List X)
     → AllByRecursion (λ x. P (f x)) xs → AllByRecursion P (map f xs)
@@ -162,7 +169,7 @@ some_active_passes db k q i a e =
 pub same_word : (v w : Bytes) → bytes_eq v w ≡ true → v ≡ w
 same_word v w e = (bytes_eq-Decides v w).0 e
 
--- what declares a word
+-- a word that the statements declare is declared by one of them
 pub declaring_statement : (f : Statement → List Bytes) (db : List Statement) (w : Bytes)
     → is_in w (flat_map f db) ≡ true
     → (i : ℕ) × (s : Statement) × (slice_get db i ≡ Some s) × (is_in w (f s) ≡ true)
@@ -179,7 +186,7 @@ declaring_statement f (x ∷ db) w e =
     in_first_or_later (inl h) of_the_rest = (0, x, refl, h)
     in_first_or_later (inr h) of_the_rest = let r = of_the_rest h in (suc r.0, r.1, r.2, r.3)
 
--- it is declared before each later place
+-- a word that statement i declares is declared before each later statement
 pub declares : (f : Statement → List Bytes) (db : List Statement) (k i : ℕ) (s : Statement)
     → (w : Bytes)
     → slice_get db i ≡ Some s → i < k → is_in w (f s) ≡ true

@@ -93,8 +93,14 @@ no_dollar b e = grind (arith, common_steps, eqb-true)
 pub label_plain : (w : Bytes) → is_label w ≡ true → has_dollar w ≡ false
 label_plain [] e = refl
 label_plain (b ∷ w) e =
-    grind (arith, common_steps, and_parts, no_dollar, label_plain w
-    (and_parts (is_label_byte b) (is_label w) e).1)
+    grind (
+      arith,
+      common_steps,
+      and_parts,
+      no_dollar,
+      label_plain w
+          (and_parts (is_label_byte b) (is_label w) e).1,
+    )
 
 follow_label : (d : ℕ) (l : Token) → is_label l.word ≡ true → (ts : List Token)
     → follow (Some (at_start d)) (l ∷ ts) ≡ follow (Some (at_label d)) ts
@@ -146,7 +152,8 @@ statement_followed (opening k) d e h = refl
 statement_followed (closing k) zero e h = absurd (let x = h refl in omega arith)
 statement_followed (closing k) (suc d) e h = refl
 
--- how the count of blocks goes on
+-- the depth after a statement and the blocks that it closes are the depth before it and the blocks
+-- that it opens
 pub blocks_counted : (s : Statement) (d : ℕ) → (is_closing s ≡ true → 0 < d)
     → depth_following s d + cond (is_closing s) 1 0 ≡ d + cond (is_opening s) 1 0
 blocks_counted (constants k xs t) d h = refl

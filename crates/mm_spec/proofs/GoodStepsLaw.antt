@@ -89,8 +89,14 @@ each_usable : (db : List Statement) (k : ℕ) (ts : List Token)
     → length ts ≤ length (flat_map (λ t. usable db k t.word) ts)
 each_usable db k [] e = omega arith
 each_usable db k (t ∷ ts) e =
-    grind (arith, common_steps, append_none, length-append, each_usable db k ts
-    (append_none (proof_label_faults db k t) (flat_map (proof_label_faults db k) ts) e).1)
+    grind (
+      arith,
+      common_steps,
+      append_none,
+      length-append,
+      each_usable db k ts
+          (append_none (proof_label_faults db k t) (flat_map (proof_label_faults db k) ts) e).1,
+    )
 
 module _ (db : List Statement) (k : ℕ)
     (all_complete : (l : ℕ) → HasCompleteFrame (context_at db k) (rule_at db k l)) where

@@ -40,7 +40,7 @@ member xs a h = list_any_at (λ y. a == y) xs h.0 a h.1 (eq-eqb a (get_or xs h.0
 pub member_at : (xs : List ℕ) (i d : ℕ) → i < length xs → is_member xs (get_or xs i d) ≡ true
 member_at xs i d h = member xs (get_or xs i d) (Contains-get_or xs i d h)
 
--- what sorting and dropping repeated numbers keeps
+-- sorting and dropping repeated numbers changes no membership
 pub sort_and_dedup_same : (xs ys zs : List ℕ) → IsPermutation xs ys → zs ≡ dedup nat_eq ys → (a : ℕ)
     → is_member zs a ≡ is_member xs a
 sort_and_dedup_same xs ys zs p e a =

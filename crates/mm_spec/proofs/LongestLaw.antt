@@ -38,8 +38,15 @@ read_words : (d : ℕ) (make : List Token → ℕ → Statement) (xs ws : List T
 read_words d make [] ws k ts e =
     ap (λ x. make x k ∷ statements_from (start d) ts) (sym (append-nil ws))
 read_words d make (x ∷ xs) ws k ts e =
-    grind (arith, common_steps, and_parts, append_assoc, plain_word, read_words d make xs
-    (ws ++ x ∷ []) k ts (and_parts (not (has_dollar x.word)) (is_plain xs) e).1)
+    grind (
+      arith,
+      common_steps,
+      and_parts,
+      append_assoc,
+      plain_word,
+      read_words d make xs
+          (ws ++ x ∷ []) k ts (and_parts (not (has_dollar x.word)) (is_plain xs) e).1,
+    )
 
 read_formula : (d : ℕ) (l : Token) (k : ℕ) (xs ws : List Token) (q : ℕ) (ts : List Token)
     → is_plain xs ≡ true
@@ -48,8 +55,15 @@ read_formula : (d : ℕ) (l : Token) (k : ℕ) (xs ws : List Token) (q : ℕ) (t
 read_formula d l k [] ws q ts e =
     ap (λ x. statements_from (words d (provable l k x q) []) ts) (sym (append-nil ws))
 read_formula d l k (x ∷ xs) ws q ts e =
-    grind (arith, common_steps, and_parts, append_assoc, plain_word, read_formula d l k xs
-    (ws ++ x ∷ []) q ts (and_parts (not (has_dollar x.word)) (is_plain xs) e).1)
+    grind (
+      arith,
+      common_steps,
+      and_parts,
+      append_assoc,
+      plain_word,
+      read_formula d l k xs
+          (ws ++ x ∷ []) q ts (and_parts (not (has_dollar x.word)) (is_plain xs) e).1,
+    )
 
 read_label : (d : ℕ) (l : Token) (ts : List Token) → is_label l.word ≡ true
     → statements_from (start d) (l ∷ ts) ≡ statements_from (labelled d l) ts
@@ -130,7 +144,7 @@ IsPartRead (words d make ws) part = IsMadeOf make ws part
 IsPartRead (formula d l k ws) part =
     (is_label l.word ≡ true) × (is_plain ws ≡ true) × (part ≡ l ∷ token k (codes "$p") ∷ ws)
 
--- what the last token of the part does is what it says
+-- the transition by the last token of a part says what has been read: that part
 abbrev TransitionHolds : ℕ → List Token → Transition → Type 0
 TransitionHolds d part unexpected = Unit {0}
 TransitionHolds d part (continued r) = (depth_of_progress r ≡ d) × IsPartRead r part
@@ -360,8 +374,12 @@ statements_read_at_start list ts r =
 -- the statements that are read are the longest list
 pub is_longest : (ts : List Token) → AreLongestStatements ts (statements_of ts)
 is_longest ts =
-    record { are_statements = read.balanced.are_statements; rest = read.rest; splits = read.is;
-    longest = no_more }
+    record {
+      are_statements = read.balanced.are_statements;
+      rest = read.rest;
+      splits = read.is;
+      longest = no_more;
+    }
   where
     read : ReadOn [] (start 0) [] ts
     read = read_on ts (start 0) [] [] balanced_nothing refl

@@ -131,7 +131,7 @@ listed_node counts root_counts (more ts l f cs) a e =
     in_earlier_or_last (inr k) of_the_rest in_children =
         by_root_counts (root_counts (tree_count ts)) refl k in_children
 
--- so it is decided whether there is such a node
+-- there is such a node exactly if its label is in the list of the labels of such nodes
 pub node_labels_are : (counts : ℕ → ℕ → Bool) (root_counts : ℕ → Bool) (ts : Trees) (a : ℕ)
     → HasNode counts root_counts ts a ↔ (is_member (node_labels counts root_counts ts) a ≡ true)
 node_labels_are counts root_counts ts a =

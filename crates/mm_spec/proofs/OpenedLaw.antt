@@ -32,7 +32,7 @@ use Rattle.mm_spec.proofs.FindsLaw.{any_map, passing_statement, statement_passes
 
 -- ---- one statement
 
--- what an `$a` and a `$p` have in common stays
+-- the function has the same value for a `$p` and for the `$a` with the same label and formula
 abbrev pub IsAlike : {X : Type 0} → (Statement → X) → Type 0
 IsAlike f =
     (l : Token) (k : ℕ) (xs : List Token) (e : ℕ) (ps : List Token) (d : ℕ)
@@ -321,7 +321,7 @@ module _ (w : Bool) (db : List Statement) where
       subst (λ (c : ℕ → Context). HasCompleteFrame (c k) ((c k).rule l)) (sym counted_context)
       (h k l)
 
--- a theorem among them was read as it is
+-- a theorem among the counted statements is the same statement in what was read
 pub theorem_read : (w : Bool) (db : List Statement) (j : ℕ) (l : Token) (k : ℕ) (xs : List Token)
     → (e : ℕ) (ps : List Token) (d : ℕ)
     → slice_get (counted w db) j ≡ Some (provable l k xs e ps d)

@@ -7,7 +7,7 @@ use Rattle.mm_spec.specs.Roles.{is_comment_word}
 use Rattle.mm_spec.specs.Words.{words_of, words_between}
 use Rattle.mm_spec.proofs.WordRunsLaw.{IsNextWord}
 use Rattle.mm_spec.specs.Readings.{Reading, reading, with_tokens, bytes_of}
-use Rattle.mm_spec.specs.Laws.Readings.{go_on}
+use Rattle.mm_spec.specs.Laws.Readings.{append_reading}
 use Rattle.mm_spec.specs.declared.Word.{Word}
 use Rattle.mm_spec.specs.declared.Fault.{Fault}
 use Rattle.mm_spec.specs.declared.Role.{Role}
@@ -151,11 +151,12 @@ module _ {text : List ℕ} {ts : List Word} {open_comment : Option ℕ} {at : �
 
 -- ---- one stretch of words after another
 
-pub go_on_with_tokens : (text : List ℕ) (ts ys us : List Word) (f : Option Fault) (c : Option ℕ) →
-    with_tokens ts (go_on text (record { tokens = us; fault = f; open_comment = c }) ys)
-    ≡ go_on text (record { tokens = ts ++ us; fault = f; open_comment = c }) ys
-go_on_with_tokens text ts ys us None c = rw append_assoc refl
-go_on_with_tokens text ts ys us (Some f) c = refl
+pub append_reading_with_tokens : (text : List ℕ) (ts ys us : List Word) (f : Option Fault)
+    (c : Option ℕ) →
+    with_tokens ts (append_reading text (record { tokens = us; fault = f; open_comment = c }) ys)
+    ≡ append_reading text (record { tokens = ts ++ us; fault = f; open_comment = c }) ys
+append_reading_with_tokens text ts ys us None c = rw append_assoc refl
+append_reading_with_tokens text ts ys us (Some f) c = refl
 
 pub reading_one : (text : List ℕ) (c : Option ℕ) (w : Word) (ws : List Word)
     → role_of (is_some c) (bytes_of text w) ≡ Token →
@@ -163,27 +164,30 @@ pub reading_one : (text : List ℕ) (c : Option ℕ) (w : Word) (ws : List Word)
 reading_one text c w ws h = reading_token text [] c w ws h
 
 pub reading_append : (text : List ℕ) (c : Option ℕ) (xs ys : List Word)
-    → reading text c (xs ++ ys) ≡ go_on text (reading text c xs) ys
-reading_append text c [] ys = sym (ap (λ (r : Reading). go_on text r ys) (reading_end text c))
+    → reading text c (xs ++ ys) ≡ append_reading text (reading text c xs) ys
+reading_append text c [] ys =
+    sym (ap (λ (r : Reading). append_reading text r ys) (reading_end text c))
 reading_append text c (x ∷ xs) ys =
     by_role (role_of (is_some c) (bytes_of text x)) refl (λ d. reading_append text d xs ys)
   where
     by_role : (r : Role) → role_of (is_some c) (bytes_of text x) ≡ r
-        → ((d : Option ℕ) → reading text d (xs ++ ys) ≡ go_on text (reading text d xs) ys) →
-        reading text c (x ∷ (xs ++ ys)) ≡ go_on text (reading text c (x ∷ xs)) ys
+        → ((d : Option ℕ) → reading text d (xs ++ ys) ≡ append_reading text (reading text d xs) ys)
+        →
+        reading text c (x ∷ (xs ++ ys)) ≡ append_reading text (reading text c (x ∷ xs)) ys
     by_role Token h ih = reading_one text c x (xs ++ ys) h ∙ ap (with_tokens (x ∷ [])) (ih c)
-        ∙ go_on_with_tokens text (x ∷ []) ys (reading text c xs).tokens (reading text c xs).fault
+        ∙ append_reading_with_tokens text (x ∷ []) ys (reading text c xs).tokens
+        (reading text c xs).fault
         (reading text c xs).open_comment
-        ∙ sym (ap (λ (r : Reading). go_on text r ys) (reading_one text c x xs h))
+        ∙ sym (ap (λ (r : Reading). append_reading text r ys) (reading_one text c x xs h))
     by_role Opening h ih =
         reading_opening text c x (xs ++ ys) h ∙ ih (Some x.start)
-        ∙ sym (ap (λ (r : Reading). go_on text r ys) (reading_opening text c x xs h))
+        ∙ sym (ap (λ (r : Reading). append_reading text r ys) (reading_opening text c x xs h))
     by_role Closing h ih =
         reading_closing text c x (xs ++ ys) h ∙ ih None
-        ∙ sym (ap (λ (r : Reading). go_on text r ys) (reading_closing text c x xs h))
+        ∙ sym (ap (λ (r : Reading). append_reading text r ys) (reading_closing text c x xs h))
     by_role Comment h ih =
         reading_comment text c x (xs ++ ys) h ∙ ih c
-        ∙ sym (ap (λ (r : Reading). go_on text r ys) (reading_comment text c x xs h))
+        ∙ sym (ap (λ (r : Reading). append_reading text r ys) (reading_comment text c x xs h))
     by_role Faulty h ih =
         reading_faulty text c x (xs ++ ys) h
-        ∙ sym (ap (λ (r : Reading). go_on text r ys) (reading_faulty text c x xs h))
+        ∙ sym (ap (λ (r : Reading). append_reading text r ys) (reading_faulty text c x xs h))

@@ -28,7 +28,7 @@ use Rattle.mm_spec.proofs.FollowedLaw.{next}
 
 -- ---- what is followed begins a list
 
--- what the class says of the word
+-- the word is as the class requires
 abbrev pub Meaning : Class → Bytes → Type 0
 Meaning constant_keyword w = w ≡ codes "$c"
 Meaning variable_keyword w = w ≡ codes "$v"
@@ -182,7 +182,7 @@ pub plain_more : (ws : List Token) (t : Token) → is_plain ws ≡ true → has_
     → is_plain (ws ++ t ∷ []) ≡ true
 plain_more ws t e h = grind (arith, common_steps, list_all-append)
 
--- a whole statement more
+-- after a token that completes a statement, the tokens are whole statements
 closes : (d : ℕ) (ts : List Token) (list : List Statement) (part : List Token) (s : Statement)
     → Balanced d list → ts ≡ flat_map spelling_of list ++ part → is_complete s ≡ true
     → (is_closing s ≡ true → 0 < d) → (t : Token) → spelling_of s ≡ part ++ t ∷ [] → (e : ℕ)
@@ -211,7 +211,7 @@ goes_on q r ts x t e p = record {
       ap (λ y. y ++ t ∷ []) x.is ∙ append_assoc (flat_map spelling_of x.statements) x.part (t ∷ []);
 }
 
--- what is reached
+-- if there is a state, these tokens have been read in it
 abbrev pub Reaches : Option State → List Token → Type 0
 Reaches None ts = Unit {0}
 Reaches (Some q) ts = Reads q ts
@@ -394,7 +394,7 @@ follow_reads (u ∷ us) ts q x =
     by_state (Some r) y of_the_rest =
         subst (Reaches (follow (Some r) us)) (append_assoc ts (u ∷ []) us) (of_the_rest r y)
 
--- what was read can be ended
+-- tokens whose last part begins a complete statement can be continued to whole statements
 ended : (d : ℕ) (ts : List Token) (list : List Statement) (part : List Token) (s : Statement)
     → Balanced d list → ts ≡ flat_map spelling_of list ++ part → is_complete s ≡ true
     → (is_closing s ≡ true → 0 < d) → (rest : List Token) → spelling_of s ≡ part ++ rest

@@ -69,7 +69,8 @@ follow_one : (p : Bool) (r : Progress) (t : Token) (ts : List Token)
     ≡ follow (state_after (proves p r (class t.word)) (transition r (class t.word) t)) ts
 follow_one p r t ts = ap (λ o. follow o ts) (same_transition p r (class t.word) t)
 
--- all tokens are expected
+-- if the tokens have no fault of shape, `follow` comes to the state of what has been read after
+-- them
 followed : (ts : List Token) (p : Bool) (r : Progress) → shape_fault_from r ts ≡ None
     → (b : Bool) × (follow (Some (state_of p r)) ts ≡ Some (state_of b (progress_from r ts)))
 followed [] p r e = (p, refl)
@@ -92,7 +93,7 @@ followed (t ∷ ts) p r e =
     by_transition b (continued q) e of_the_rest = of_the_rest q b e
     by_transition b (completed d s) e of_the_rest = of_the_rest (start d) b e
 
--- the first that is not
+-- the first unexpected token, and the fault at it
 record FirstUnexpected (r : Progress) (ts : List Token) (f : Fault) : Type 0 where
   before : List Token
   first : Token
@@ -315,8 +316,11 @@ end_fault len ts f e h =
           statements = statements_of ts;
           are_statements = is_longest ts;
           code =
-              inl (goes_on ts r b y n (is_longest ts), sym
-              (same_Some (fault len OpenStatement) f h));
+              inl (
+                goes_on ts r b y n (is_longest ts),
+                sym
+                    (same_Some (fault len OpenStatement) f h),
+              );
         }
 
     by_progress : (r : Progress) (b : Bool) → follow (Some (at_start 0)) ts ≡ Some (state_of b r)

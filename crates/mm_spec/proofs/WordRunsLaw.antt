@@ -53,8 +53,13 @@ pub words_between_skips : (text : List ℕ) (n from e to : ℕ) → from + n ≡
 words_between_skips text zero from e to h le none =
     let same : from ≡ e = omega arith in ap (λ x. words_between text x to) same
 words_between_skips text (suc n) from e to h le none =
-    grind (arith, common_steps, words_between_skip, words_between_skips text n (from + 1) e to
-    (omega arith) le (λ j a b. none j (omega arith) b))
+    grind (
+      arith,
+      common_steps,
+      words_between_skip,
+      words_between_skips text n (from + 1) e to
+          (omega arith) le (λ j a b. none j (omega arith) b),
+    )
 
 -- a place with a white byte before it, or at the beginning
 pub begins_word_first : (text : List ℕ) (i : ℕ) → i < length text → white_at text i ≡ false
@@ -123,7 +128,7 @@ word_at_is : (text : List ℕ) (i e : ℕ) → e ≡ (word_at text i).end
 unfolding word_at
 word_at_is text i e h = ap (λ (x : ℕ). let w : Word = record { start = i; end = x } in w) (sym h)
 
--- no other word begins in it
+-- no other word begins within a word
 inside : (text : List ℕ) (i e j : ℕ) → e ≡ (word_at text i).end → i + 1 ≤ j → j < e
     → begins_word text j ≡ false
 inside text i e j h a b =

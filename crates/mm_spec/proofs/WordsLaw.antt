@@ -104,7 +104,7 @@ IsWord_here text i h begins =
 abbrev IsWordFrom : List ℕ → ℕ → Word → Type 0
 IsWordFrom text low w = IsWord text w × (low ≤ w.start)
 
--- what begins in a stretch of places are words, and begins there
+-- each of the words between two places is a word of the text, and begins at `low` or later
 pub words_between_each : (text : List ℕ) (low n i to : ℕ) → i + n ≡ to → to ≤ length text → low ≤ i
     → All (IsWordFrom text low) (words_between text i to)
 words_between_each text low zero i to e le lo =
@@ -183,7 +183,8 @@ Contains_first : {X : Type 0} (x : X) (xs : List X) (y : X) → Contains (x ∷ 
 Contains_first x xs y (zero, h, e) = inl e
 Contains_first x xs y (suc k, h, e) = inr (k, (omega arith), e)
 
--- what a list contains after its head stands after the head
+-- in a list of words that follow each other, each one after the first begins after the end of the
+-- first
 after_head : (w : Word) (ws : List Word) → AllPairs EndsBefore (w ∷ ws) → (v : Word)
     → Contains ws v → w.end ≤ v.start
 after_head w ws all v (k, h, e) =
@@ -214,7 +215,8 @@ same_head text w v ws vs are_w are_v rise_w rise_v in_vs in_ws =
     (Contains_first w ws v (in_ws v (Contains_head v vs))))
     (Contains_first v vs w (in_vs w (Contains_head w ws)))
 
--- what is in the tail is in the other tail
+-- if two lists begin with the same word, and the first has only words of the second, the same is
+-- true of what follows that word
 same_tail : (text : List ℕ) (w : Word) (ws vs : List Word) → All (IsWord text) (w ∷ ws)
     → AllPairs EndsBefore (w ∷ ws) → AreIn (w ∷ ws) (w ∷ vs) → AreIn ws vs
 same_tail text w ws vs are rise in_vs u has =

@@ -11,6 +11,7 @@ pub mod Opened
 pub mod Scope
 pub mod Lawful
 pub mod Derivation
+pub mod Rising
 pub mod Frame
 pub mod Steps
 pub mod NormalProof

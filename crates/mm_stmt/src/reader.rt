@@ -11,7 +11,7 @@ use crate::statement_lists::list_statements;
 use mm_database::Database;
 use mm_database::tables::StatementTables;
 use mm_frame::frames::frame_tables_of;
-use mm_scope::reading::outline;
+use mm_scope::reading::outline_statements;
 use mm_spec::Lexed;
 use std::alloc::{AllocError, Allocator};
 
@@ -62,7 +62,7 @@ pub fn read_owned<'a, A: Allocator + Copy>(
 {
     let Lexed { tokens, fault } = lexed;
     let words = tokens.as_slice();
-    let outlined = outline(alloc, text, words, fault)?;
+    let outlined = outline_statements(alloc, text, words, fault)?;
     let statement_lists = list_statements(alloc, text, words, &outlined.outlines, with_open)?;
     let retained_words = retain_all_words(alloc, words, &outlined.outlines)?;
     // The frames and the index of the `$d` need no tokens, so the memory of the tokens is free for

@@ -3,7 +3,7 @@
 ghost use Rattle.std.specs.Prelude.{◌≡◌, ◌<◌, ◌^◌, IfOk, length};
 ghost use Rattle.mm_spec.specs.Lexed.{tokens_of};
 ghost use Rattle.mm_outline.specs.Statements.{statements};
-ghost use Rattle.mm_scope.specs.Keeps.{IsKeptOf, kept_by, reading_of};
+ghost use Rattle.mm_scope.specs.ReadSoFar.{IsReadSoFar, read_so_far, reading_of};
 ghost use Rattle.mm_database.specs.Names.{names_of};
 ghost use Rattle.mm_database.specs.ParsedStatements.{IsSound};
 
@@ -18,8 +18,8 @@ pub(crate) fn reading_of<'a, A: Allocator + Copy>(
     outlined: Outlined<'a, A>,
 ) -> Result<Reading<'a, A>, AllocError>
     requires sound { IsSound (statements text.now (tokens_of text.now) outlined.outlines.items) }
-    requires kept { IsKeptOf (statements text.now (tokens_of text.now) outlined.outlines.items)
-        (kept_by outlined) }
+    requires is_read_so_far { IsReadSoFar
+        (statements text.now (tokens_of text.now) outlined.outlines.items) (read_so_far outlined) }
     requires few_symbols { length (names_of outlined.scope.names.symbols) < 2 ^ 31 }
     ensures { IfOk result (λ r. r ≡ reading_of text.now outlined.entry) }
 {

@@ -31,7 +31,7 @@ module _ {A : Type 0} (job : Job A) (seat : SeatValue) (fs : List (Findings A))
       (subst (λ i. IsCited db job.essential (theorem_of db i) (get_or r.0.cites r.2.0 []))
       (get_or_default r.0.valid.items r.2.0 0 n r.2.1 ∙ r.2.2) (f.each r.2.0 r.2.1))
 
-  -- the floor is a theorem with a fault, where it is no theorem's end
+  -- if the floor is below the count, a fault was found in the proof of the theorem with that index
   pub faulty_at : (floor : ℕ) → IsLeastReported job.board.now.count (seat.view ∷ []) floor
       → floor < job.board.now.count → IsFoundFaulty fs floor
   faulty_at floor least l = by_floor least.is_count_or_reported

@@ -18,11 +18,11 @@ use Rattle.mm_cites.specs.Citing.{Citing, citing, HasCitation, IsStatementList, 
 use Rattle.mm_cites.proofs.RisingLaw.{filter_rising}
 use Rattle.mm_work.specs.Judged.{IsCited, AreCitedUpTo, CitesAsDatabase}
 
--- a member stands at some place
-member_place : (xs : List ℕ) (x : ℕ) → is_member xs x ≡ true
+-- a member of a list is its element at some index
+index_of_member : (xs : List ℕ) (x : ℕ) → is_member xs x ≡ true
     → (i : ℕ) × (i < length xs) × (get_or xs i 0 ≡ x)
-member_place [] x m = absurd (true≢false (sym m))
-member_place (y ∷ xs) x m = by_head (or_cases (x == y) (is_member xs x) m) (member_place xs x)
+index_of_member [] x m = absurd (true≢false (sym m))
+index_of_member (y ∷ xs) x m = by_head (or_cases (x == y) (is_member xs x) m) (index_of_member xs x)
   where
     by_head : ((x == y) ≡ true) ⊎ (is_member xs x ≡ true)
         → (is_member xs x ≡ true → (i : ℕ) × (i < length xs) × (get_or xs i 0 ≡ x))
@@ -41,12 +41,12 @@ in_range (suc n) a x l h =
     by_start (inr k) r =
         or_left (x == a) (is_member (range_with_len (a + 1) n) x) (eq-eqb x a (omega arith))
 
--- a theorem stands in the list of theorems
-theorem_place : (db : List Statement) (t : ℕ) → is_theorem_at db t ≡ true
+-- a theorem has an index in the list of theorems
+index_of_theorem : (db : List Statement) (t : ℕ) → is_theorem_at db t ≡ true
     → (i : ℕ) × (i < length (theorems db)) × (get_or (theorems db) i 0 ≡ t)
-theorem_place db t h =
+index_of_theorem db t h =
     let f = passing_statement db is_theorem t h in
-    member_place (theorems db) t
+    index_of_member (theorems db) t
     (filter_member (λ j. list_any is_theorem (statement_at db j))
     (range_with_len 0 (length db)) t h
     (in_range (length db) 0 t (omega arith)
@@ -65,7 +65,7 @@ module _ (db : List Statement) (few : length db < 2 ^ 31) (complete : AreComplet
   pub valid_before : (i : ℕ) → ((n : ℕ) → n < i → IsValid db (get_or (theorems db) n 0))
       → i < length (theorems db) → AreValid db (get_or (theorems db) i 0)
   valid_before i h i_inside j k th =
-      let p = theorem_place db j th in
+      let p = index_of_theorem db j th in
       by_index p.0 p.1 p.2 (cases_lt p.0 i)
     where
       by_index : (n : ℕ) → n < length (theorems db) → get_or (theorems db) n 0 ≡ j
@@ -87,7 +87,7 @@ module _ (db : List Statement) (few : length db < 2 ^ 31) (complete : AreComplet
       → AreCitedUpTo db by_essential (theorems db) (length (theorems db)) lists
       → AreValid db (length db)
   all_valid by_essential lists h j k th =
-      let p = theorem_place db j th in
+      let p = index_of_theorem db j th in
       subst (λ t. IsValid db t) p.2 (cited_valid db by_essential _ _ (h.each p.0 p.1))
 
   module _ (by_essential : Bool) (lists : List (List ℕ))
@@ -120,12 +120,12 @@ module _ (db : List Statement) (few : length db < 2 ^ 31) (complete : AreComplet
 
           from : (t a : ℕ) → proof.Cites db by_essential t a → HasCitation c t a
           from t a x =
-              let p = theorem_place db t (proof_theorem db t x.1 x.2) in
+              let p = index_of_theorem db t (proof_theorem db t x.1 x.2) in
               let l = get_or lists p.0 [] in
               let m : is_member l a ≡ true =
               ((are_cited_up_to.each p.0 p.1).checked.exact a).1
               (subst (λ y. proof.Cites db by_essential y a) (sym p.2) x) in
-              let q = member_place l a m in
+              let q = index_of_member l a m in
               record {
                 row = p.0;
                 list_index = q.0;

@@ -1,4 +1,4 @@
--- Noting where citations are.
+-- Setting the positions of citations.
 use Rattle.std.proofs.Common.{◌≡◌, Bool, ◌≢◌, ℕ, zero, suc, ◌+◌, ◌<◌, ◌≤◌, ◌⊎◌, inl, inr, All, Some}
 use Rattle.std.proofs.Common.{List, [], ◌∷◌, length, get_or, slice_get, slice_set, refl, sym, ap}
 use Rattle.std.proofs.Common.{◌∙◌, subst, arith, take, drop, ◌++◌}
@@ -9,18 +9,18 @@ use Rattle.std.proofs.lemmas.Option.{slice_get-get_or, slice_get_within, get_or_
 use Rattle.mm_spec.specs.Statement.{Statement}
 use Rattle.mm_work.specs.declared.merge.ListPosition.{ListPosition}
 use Rattle.mm_work.specs.declared.worker.Findings.{Findings}
-use Rattle.mm_work.specs.Positions.{IsNoted, HasPosition}
+use Rattle.mm_work.specs.Positions.{IsWithWorker, HasPosition}
 use Rattle.mm_work.specs.Judged.{IsCited}
 use Rattle.mm_work.specs.Workers.{IsFoundValid, AreFindings, theorem_of}
 
--- an element that was written
-written_there : {X : Type 0} (xs : List X) (i : ℕ) (x : X) → i < length xs
+-- the element at an index that was set is the new one
+set_at_index : {X : Type 0} (xs : List X) (i : ℕ) (x : X) → i < length xs
     → slice_get (slice_set xs i x) i ≡ Some x
-written_there [] i x l = absurd (omega arith)
-written_there (y ∷ xs) zero x l = refl
-written_there (y ∷ xs) (suc i) x l = written_there xs i x (omega arith)
+set_at_index [] i x l = absurd (omega arith)
+set_at_index (y ∷ xs) zero x l = refl
+set_at_index (y ∷ xs) (suc i) x l = set_at_index xs i x (omega arith)
 
--- the others
+-- the elements at other indices are as they were
 others_unchanged : {X : Type 0} (xs : List X) (i j : ℕ) (x : X) → j ≢ i
     → slice_get (slice_set xs i x) j ≡ slice_get xs j
 others_unchanged [] i j x n = refl
@@ -29,16 +29,17 @@ others_unchanged (y ∷ xs) zero (suc j) x n = refl
 others_unchanged (y ∷ xs) (suc i) zero x n = refl
 others_unchanged (y ∷ xs) (suc i) (suc j) x n = others_unchanged xs i j x (λ e. n (ap suc e))
 
--- where a place is the same, what is noted there is too
-pub same_noted : (old new : List ListPosition) (worker : ℕ) (valid : List ℕ) (i : ℕ)
-    → slice_get new i ≡ slice_get old i → IsNoted old worker valid i → IsNoted new worker valid i
-same_noted old new worker valid i e is_noted =
+-- if a theorem's position is as it was, its citations are with the same worker
+pub same_worker : (old new : List ListPosition) (worker : ℕ) (valid : List ℕ) (i : ℕ)
+    → slice_get new i ≡ slice_get old i → IsWithWorker old worker valid i
+    → IsWithWorker new worker valid i
+same_worker old new worker valid i e with_worker =
     record {
-      position = is_noted.position;
-      position_is = e ∙ is_noted.position_is;
-      worker_is = is_noted.worker_is;
-      within = is_noted.within;
-      index_is = is_noted.index_is;
+      position = with_worker.position;
+      position_is = e ∙ with_worker.position_is;
+      worker_is = with_worker.worker_is;
+      within = with_worker.within;
+      index_is = with_worker.index_is;
     }
 
 module _ (first old : List ListPosition) (worker : ℕ) (valid : List ℕ) (k x : ℕ)
@@ -48,86 +49,92 @@ module _ (first old : List ListPosition) (worker : ℕ) (valid : List ℕ) (k x 
   abbrev new : List ListPosition
   new = slice_set old x position
 
-  noted_here : IsNoted new worker valid x
-  noted_here =
+  with_worker_at_index : IsWithWorker new worker valid x
+  with_worker_at_index =
       record {
         position = position;
-        position_is = written_there old x position inside;
+        position_is = set_at_index old x position inside;
         worker_is = worker_is;
         within = subst (λ n. n < length valid) (sym list_is) within;
         index_is = ap (λ n. get_or valid n 0) list_is ∙ index;
       }
 
-  pub noted_more : ((q : ℕ) → q < k → IsNoted old worker valid (get_or valid q 0)) → (q : ℕ)
-      → q < k + 1 → IsNoted new worker valid (get_or valid q 0)
-  noted_more h q l = by_index (cases_eq (get_or valid q 0) x)
+  pub with_worker_more : ((q : ℕ) → q < k → IsWithWorker old worker valid (get_or valid q 0))
+      → (q : ℕ)
+      → q < k + 1 → IsWithWorker new worker valid (get_or valid q 0)
+  with_worker_more h q l = by_index (cases_eq (get_or valid q 0) x)
     where
       by_index : (get_or valid q 0 ≡ x) ⊎ (get_or valid q 0 ≡ x → ⊥)
-          → IsNoted new worker valid (get_or valid q 0)
-      by_index (inl e) = subst (λ i. IsNoted new worker valid i) (sym e) noted_here
-      by_index (inr n) = before (cases_lt q k)
+          → IsWithWorker new worker valid (get_or valid q 0)
+      by_index (inl e) = subst (λ i. IsWithWorker new worker valid i) (sym e) with_worker_at_index
+      by_index (inr n) = by_order (cases_lt q k)
         where
-          before : (q < k) ⊎ (k ≤ q) → IsNoted new worker valid (get_or valid q 0)
-          before (inl b) =
-              same_noted old new worker valid (get_or valid q 0)
+          by_order : (q < k) ⊎ (k ≤ q) → IsWithWorker new worker valid (get_or valid q 0)
+          by_order (inl b) =
+              same_worker old new worker valid (get_or valid q 0)
               (others_unchanged old x (get_or valid q 0) position n) (h q b)
-          before (inr b) =
+          by_order (inr b) =
               absurd (n (ap (λ j. get_or valid j 0) (let e : q ≡ k = omega arith in e) ∙ index))
 
-  pub others_more : ((i : ℕ) → IsNoted old worker valid i ⊎ (slice_get old i ≡ slice_get first i))
-      → (i : ℕ) → IsNoted new worker valid i ⊎ (slice_get new i ≡ slice_get first i)
+  pub others_more : ((i : ℕ) → IsWithWorker old worker valid i
+      ⊎ (slice_get old i ≡ slice_get first i))
+      → (i : ℕ) → IsWithWorker new worker valid i ⊎ (slice_get new i ≡ slice_get first i)
   others_more h i = by_index (cases_eq i x)
     where
       by_index : (i ≡ x) ⊎ (i ≡ x → ⊥)
-          → IsNoted new worker valid i ⊎ (slice_get new i ≡ slice_get first i)
-      by_index (inl e) = inl (subst (λ j. IsNoted new worker valid j) (sym e) noted_here)
-      by_index (inr n) = before (h i)
+          → IsWithWorker new worker valid i ⊎ (slice_get new i ≡ slice_get first i)
+      by_index (inl e) =
+          inl (subst (λ j. IsWithWorker new worker valid j) (sym e) with_worker_at_index)
+      by_index (inr n) = by_old (h i)
         where
-          before : IsNoted old worker valid i ⊎ (slice_get old i ≡ slice_get first i)
-              → IsNoted new worker valid i ⊎ (slice_get new i ≡ slice_get first i)
-          before (inl o) =
-              inl (same_noted old new worker valid i (others_unchanged old x i position n) o)
-          before (inr e) = inr (others_unchanged old x i position n ∙ e)
+          by_old : IsWithWorker old worker valid i ⊎ (slice_get old i ≡ slice_get first i)
+              → IsWithWorker new worker valid i ⊎ (slice_get new i ≡ slice_get first i)
+          by_old (inl o) =
+              inl (same_worker old new worker valid i (others_unchanged old x i position n) o)
+          by_old (inr e) = inr (others_unchanged old x i position n ∙ e)
 
 module _ {A : Type 0} (fs : List (Findings A)) where
-  -- after one more worker
+  -- after the positions of worker w were set, everything that the workers up to w found
+  -- valid has a position
   pub has_position_more : (old new : List ListPosition) (w : ℕ) (one : Findings A)
       → slice_get fs w ≡ Some one
-      → ((i : ℕ) → Contains one.valid.items i → IsNoted new w one.valid.items i)
-      → ((i : ℕ) → IsNoted new w one.valid.items i ⊎ (slice_get new i ≡ slice_get old i))
+      → ((i : ℕ) → Contains one.valid.items i → IsWithWorker new w one.valid.items i)
+      → ((i : ℕ) → IsWithWorker new w one.valid.items i ⊎ (slice_get new i ≡ slice_get old i))
       → ((v : ℕ) (f : Findings A) (i : ℕ) → v < w → slice_get fs v ≡ Some f → Contains
       f.valid.items i
       → HasPosition old fs i)
       → (v : ℕ) (f : Findings A) (i : ℕ) → v < w + 1 → slice_get fs v ≡ Some f
       → Contains f.valid.items i → HasPosition new fs i
-  has_position_more old new w one is noted others h v f i l e m = by_worker (cases_lt v w)
+  has_position_more old new w one is with_worker others h v f i l e m = by_worker (cases_lt v w)
     where
-      of_this_worker : IsNoted new w one.valid.items i → HasPosition new fs i
-      of_this_worker n = record { worker = w; found = one; found_is = is; noted = n }
+      of_this_worker : IsWithWorker new w one.valid.items i → HasPosition new fs i
+      of_this_worker n = record { worker = w; found = one; found_is = is; with_worker = n }
 
       by_worker : (v < w) ⊎ (w ≤ v) → HasPosition new fs i
-      by_worker (inl b) = by_note (h v f i b e m) (others i)
+      by_worker (inl b) = by_old_position (h v f i b e m) (others i)
         where
-          by_note : HasPosition old fs i
-              → IsNoted new w one.valid.items i ⊎ (slice_get new i ≡ slice_get old i)
+          by_old_position : HasPosition old fs i
+              → IsWithWorker new w one.valid.items i ⊎ (slice_get new i ≡ slice_get old i)
               → HasPosition new fs i
-          by_note o (inl n) = of_this_worker n
-          by_note has_position (inr s) =
+          by_old_position o (inl n) = of_this_worker n
+          by_old_position has_position (inr s) =
               record {
                 worker = has_position.worker;
                 found = has_position.found;
                 found_is = has_position.found_is;
-                noted = same_noted old new has_position.worker has_position.found.valid.items i s
-                    has_position.noted;
+                with_worker =
+                    same_worker old new has_position.worker has_position.found.valid.items i s
+                    has_position.with_worker;
               }
       by_worker (inr b) =
           let same : v ≡ w = omega arith in
           let found : f ≡ one =
           sym (get_or_from_slice_get fs v f one e) ∙ ap (λ n. get_or fs n one) same
           ∙ get_or_from_slice_get fs w one one is in
-          of_this_worker (noted i (subst (λ (g : Findings A). Contains g.valid.items i) found m))
+          of_this_worker (with_worker i (subst
+          (λ (g : Findings A). Contains g.valid.items i) found m))
 
-  -- what was found valid has a place
+  -- what was found valid has a position
   pub has_position_all : (positions : List ListPosition)
       → ((v : ℕ) (f : Findings A) (i : ℕ) → v < length fs → slice_get fs v ≡ Some f
       → Contains f.valid.items i → HasPosition positions fs i)
@@ -150,13 +157,14 @@ module _ {A : Type 0} (db : List Statement) (by_essential : Bool) (fs : List (Fi
   abbrev p : ListPosition
   p = get_or qs k d
 
-  is : p ≡ has_position.noted.position
+  is : p ≡ has_position.with_worker.position
   is =
       ap (λ (l : List ListPosition). get_or l k d) same
-      ∙ get_or_from_slice_get ps k has_position.noted.position d has_position.noted.position_is
+      ∙ get_or_from_slice_get ps k has_position.with_worker.position d
+      has_position.with_worker.position_is
 
   worker : p.worker ≡ has_position.worker
-  worker = ap (λ (q : ListPosition). q.worker) is ∙ has_position.noted.worker_is
+  worker = ap (λ (q : ListPosition). q.worker) is ∙ has_position.with_worker.worker_is
 
   pub worker_within : p.worker < length fs
   worker_within =
@@ -176,7 +184,7 @@ module _ {A : Type 0} (db : List Statement) (by_essential : Bool) (fs : List (Fi
   list_index_within : p.list < length has_position.found.valid.items
   list_index_within =
       subst (λ (q : ListPosition). q.list < length has_position.found.valid.items) (sym is)
-      has_position.noted.within
+      has_position.with_worker.within
 
   pub list_within : (f : Findings A) → f ≡ has_position.found → p.list < length f.cites
   list_within f e =
@@ -189,7 +197,7 @@ module _ {A : Type 0} (db : List Statement) (by_essential : Bool) (fs : List (Fi
   list_cited f list f_is list_is =
       let index : get_or has_position.found.valid.items p.list 0 ≡ k =
       ap (λ (q : ListPosition). get_or has_position.found.valid.items q.list 0) is
-      ∙ has_position.noted.index_is in
+      ∙ has_position.with_worker.index_is in
       let one =
       subst (λ i. IsCited db by_essential (theorem_of db i)
       (get_or has_position.found.cites p.list [])) index

@@ -13,12 +13,12 @@ use Rattle.mm_cites.specs.Citing.{citing, IsFileOrder}
 use Rattle.mm_work.specs.Judged.{IsCited, AreCitedUpTo, AllCited, IsFirstFault, HasFault}
 use Rattle.mm_work.proofs.CitedLaw.{cited_valid, valid_before, all_valid, file_order, shows}
 
--- one list of citations more
+-- the citations of one more theorem, appended
 pub cited_more : (db : List Statement) (by_essential : Bool) (ts : List ℕ) (n : ℕ)
     → (lists : List (List ℕ)) (cites : List ℕ)
     → AreCitedUpTo db by_essential ts n lists → IsCited db by_essential (get_or ts n 0) cites
     → AreCitedUpTo db by_essential ts (n + 1) (lists ++ cites ∷ [])
-cited_more db by_essential ts n lists cites are_cited_up_to one = record {
+cited_more db by_essential ts n lists cites are_cited_up_to is_cited = record {
   count = (let l = length-append lists (cites ∷ []) in let c = are_cited_up_to.count in
       omega (arith, l, c));
   each = λ i l. by_index i (cases_lt i n) l;
@@ -32,12 +32,13 @@ cited_more db by_essential ts n lists cites are_cited_up_to one = record {
         (sym (get_or_append_left lists (cites ∷ []) [] i (omega (arith, l, c))))
         (are_cited_up_to.each i l)
     by_index i (inr l) m =
-        let same : i ≡ n = omega (arith, l, m) in
-        let last : get_or (lists ++ cites ∷ []) n [] ≡ cites =
+        let i_is_n : i ≡ n = omega (arith, l, m) in
+        let cites_at_n : get_or (lists ++ cites ∷ []) n [] ≡ cites =
         get_or-append_right lists (cites ∷ []) n n [] are_cited_up_to.count (omega arith)
         ∙ ap (λ j. get_or (cites ∷ []) j []) (zero-of n) in
         subst (λ j. IsCited db by_essential (get_or ts j 0) (get_or (lists ++ cites ∷ []) j []))
-        (sym same) (subst (λ ys. IsCited db by_essential (get_or ts n 0) ys) (sym last) one)
+        (sym i_is_n) (subst (λ ys. IsCited db by_essential (get_or ts n 0) ys)
+        (sym cites_at_n) is_cited)
       where
         zero-of : (k : ℕ) → k - k ≡ 0
         zero-of k = omega arith

@@ -54,12 +54,12 @@ times_contains x (y ∷ l) p = by_tail (cases_lt 0 (times_in x l)) (times_contai
     )
 
 module _ {A : Type 0} (db : List Statement) (by_essential : Bool) where
-  -- one valid theorem more
+  -- findings stay right with the index and the citations of one more valid theorem
   findings_with_valid : (f g : Findings A) (i : ℕ) (cites : List ℕ) → AreFindings db by_essential f
       → i < length (theorems db) → IsCited db by_essential (theorem_of db i) cites
       → g.valid.items ≡ f.valid.items ++ i ∷ [] → g.cites ≡ f.cites ++ cites ∷ []
       → g.faulty ≡ f.faulty → AreFindings db by_essential g
-  findings_with_valid f g i cites are_findings i_inside one v cites_is faulty_is = record {
+  findings_with_valid f g i cites are_findings i_inside is_cited v cites_is faulty_is = record {
     count =
         ap length cites_is ∙ length-append f.cites (cites ∷ []) ∙ ap (λ n. n + 1) are_findings.count
         ∙ sym (length-append f.valid.items (i ∷ [])) ∙ sym (ap length v);
@@ -88,12 +88,12 @@ module _ {A : Type 0} (db : List Statement) (by_essential : Bool) where
           let n = are_findings.count in
           let z : k - length f.valid.items ≡ 0 = omega (arith, k_inside, b) in
           let y : k - length f.cites ≡ 0 = omega (arith, k_inside, b, n) in
-          let last : get_or (f.valid.items ++ i ∷ []) k 0 ≡ i =
+          let index_at_k : get_or (f.valid.items ++ i ∷ []) k 0 ≡ i =
           get_or-append_right f.valid.items (i ∷ []) k 0 b ∙ ap (λ j. get_or (i ∷ []) j 0) z in
-          let list : get_or (f.cites ++ cites ∷ []) k [] ≡ cites =
+          let cites_at_k : get_or (f.cites ++ cites ∷ []) k [] ≡ cites =
           get_or-append_right f.cites (cites ∷ []) k [] (omega (arith, n, b))
           ∙ ap (λ j. get_or (cites ∷ []) j []) y in
-          rw (last, list) one
+          rw (index_at_k, cites_at_k) is_cited
 
 module _ {A : Type 0} (job : Job A) where
   abbrev db : List Statement
@@ -113,7 +113,7 @@ module _ {A : Type 0} (job : Job A) where
     faulty = subst (λ (o : Option IndexedFault). IsFaultFound db o) (sym faulty) tt;
   }
 
-  -- what was found stays right with one theorem more
+  -- findings that are right stay so when one more valid theorem is added, or a fault
   findings_after_valid : (f g : Findings A) (i : ℕ) → AreFindings db job.essential f
       → i < length (theorems db) → FindsValid job i f g → AreFindings db job.essential g
   findings_after_valid f g i h l v =
@@ -419,7 +419,7 @@ pub unrecorded_drawn : (n i : ℕ) (v w u : View) → v.open_number ≡ None
     → w ≡ record v { open_number = Some i } → i < n → ((x : ℕ) → 0 < times_recorded x v → x < i)
     → ((x : ℕ) → times_recorded x u ≡ times_recorded x w) → unrecorded n u < unrecorded n v
 unrecorded_drawn n i v w u closed w_is i_below_n above kept =
-    unrecorded_less n i v u more i_below_n unrecorded_before recorded_after
+    unrecorded_less n i v u recorded_no_less i_below_n unrecorded_before recorded_after
   where
     at-open : (x : ℕ)
         → times_recorded x w
@@ -434,8 +434,9 @@ unrecorded_drawn n i v w u closed w_is i_below_n above kept =
         ap (λ (o : Option ℕ). times_open x o + times_in x v.settled + times_in x v.reported
         + times_in x v.skipped) closed
 
-    more : (x : ℕ) → times_recorded x v ≤ times_recorded x u
-    more x = let k = kept x in let o = at-open x in let e = at-closed x in omega (arith, k, o, e)
+    recorded_no_less : (x : ℕ) → times_recorded x v ≤ times_recorded x u
+    recorded_no_less x =
+        let k = kept x in let o = at-open x in let e = at-closed x in omega (arith, k, o, e)
 
     unrecorded_before : times_recorded i v ≡ 0
     unrecorded_before = by_record (cases_lt 0 (times_recorded i v))
@@ -448,7 +449,7 @@ unrecorded_drawn n i v w u closed w_is i_below_n above kept =
     recorded_after = let k = kept i in let o = at-open i in let e = equal_is_counted i in
         omega (arith, k, o, e)
 
--- the parts of a list whose elements all have a property
+-- if all elements of a list have a property, so have those before the last one, and the last one
 pub All_before_last : {X : Type 0} (P : X → Type 0) (l m : List X) (x : X) → l
     ≡ m ++ x ∷ [] → All P l
     → All P m
@@ -462,8 +463,8 @@ pub All_last : {X : Type 0} (P : X → Type 0) (l m : List X) (x : X) → l ≡ 
 All_last {X} P l m x are all =
     let h = subst (λ (xs : List X). All P xs) are all in
     let r = h (length m) x (let n = length-append m (x ∷ []) in omega (arith, n)) in
-    rw (sym (last m x)) r
+    rw (sym (get_or_appended m x)) r
   where
-    last : {X : Type 0} (l : List X) (x : X) → get_or (l ++ x ∷ []) (length l) x ≡ x
-    last [] x = refl
-    last (y ∷ ys) x = last ys x
+    get_or_appended : {X : Type 0} (l : List X) (x : X) → get_or (l ++ x ∷ []) (length l) x ≡ x
+    get_or_appended [] x = refl
+    get_or_appended (y ∷ ys) x = get_or_appended ys x

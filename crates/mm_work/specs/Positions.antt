@@ -3,9 +3,9 @@ use Rattle.std.specs.Prelude.{◌≡◌, ℕ, ◌<◌, List, Some, length, slice
 use Rattle.mm_work.specs.declared.merge.ListPosition.{ListPosition}
 use Rattle.mm_work.specs.declared.worker.Findings.{Findings}
 
--- the citations of the theorem with index i are noted to be with this worker, which found the
--- proofs of the theorems with the indices `valid` to be valid
-pub record IsNoted (positions : List ListPosition) (worker : ℕ) (valid : List ℕ)
+-- by these positions, the citations of the theorem with index i are with this worker, which found
+-- the proofs of the theorems with the indices `valid` to be valid
+pub record IsWithWorker (positions : List ListPosition) (worker : ℕ) (valid : List ℕ)
     (i : ℕ) : Type 0 where
   pub position : ListPosition
   pub position_is : slice_get positions i ≡ Some position
@@ -13,11 +13,11 @@ pub record IsNoted (positions : List ListPosition) (worker : ℕ) (valid : List 
   pub within : position.list < length valid
   pub index_is : slice_index valid position.list ≡ i
 
--- the citations of the theorem with index i are noted to be with one of the workers
+-- by these positions, the citations of the theorem with index i are with one of the workers
 module _ {A : Type 0} where
   pub record HasPosition (positions : List ListPosition) (fs : List (Findings A))
       (i : ℕ) : Type 0 where
     pub worker : ℕ
     pub found : Findings A
     pub found_is : slice_get fs worker ≡ Some found
-    pub noted : IsNoted positions worker found.valid.items i
+    pub with_worker : IsWithWorker positions worker found.valid.items i

@@ -54,23 +54,24 @@ module _ {A : Type 0} where
         (slice_index_or f.cites k [])
     pub faulty : IsFaultFound db f.faulty
 
-  -- g is f with one theorem more whose proof is valid: that with index i, and what it cites
-  pub record FindsValid (job : Job A) (i : ℕ) (f g : Findings A) : Type 0 where
+  -- `after` is `before` with one theorem more whose proof is valid: that with index i, and what it
+  -- cites
+  pub record FindsValid (job : Job A) (i : ℕ) (before after : Findings A) : Type 0 where
     pub cites : List ℕ
     pub cited : IsCited job.database.now.statements job.essential
         (theorem_of job.database.now.statements i) cites
-    pub valid_are : g.valid.items ≡ f.valid.items ++ i ∷ []
-    pub cites_are : g.cites ≡ f.cites ++ cites ∷ []
-    pub faulty_is : g.faulty ≡ f.faulty
+    pub valid_are : after.valid.items ≡ before.valid.items ++ i ∷ []
+    pub cites_are : after.cites ≡ before.cites ++ cites ∷ []
+    pub faulty_is : after.faulty ≡ before.faulty
 
-  -- g is f with the fault of the proof of the theorem with index i
-  pub record FindsFault (job : Job A) (i : ℕ) (f g : Findings A) : Type 0 where
+  -- `after` is `before` with the fault of the proof of the theorem with index i
+  pub record FindsFault (job : Job A) (i : ℕ) (before after : Findings A) : Type 0 where
     pub fault : Fault
     pub has_fault : HasFault job.database.now.statements
         (theorem_of job.database.now.statements i) fault
-    pub valid_are : g.valid.items ≡ f.valid.items
-    pub cites_are : g.cites ≡ f.cites
-    pub faulty_is : g.faulty ≡ Some (record { index = i; fault = fault })
+    pub valid_are : after.valid.items ≡ before.valid.items
+    pub cites_are : after.cites ≡ before.cites
+    pub faulty_is : after.faulty ≡ Some (record { index = i; fault = fault })
 
   -- what the worker found is right, the numbers that its seat has settled are the indices of the
   -- proofs that it found valid, and what the seat has reported is the index of the fault

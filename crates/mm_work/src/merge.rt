@@ -4,7 +4,7 @@ ghost use Rattle.std.specs.Prelude.{◌≡◌, ◌<◌, ◌≤◌, ◌⊎◌, �
 ghost use Rattle.mm_spec.specs.Output.{theorems};
 ghost use Rattle.mm_work.specs.Judged.{AreCitedUpTo, HasFault};
 ghost use Rattle.mm_work.specs.Workers.{AreFindings, IsFoundValid, IsFoundFaulty, theorem_of};
-ghost use Rattle.mm_work.specs.Positions.{IsNoted, HasPosition};
+ghost use Rattle.mm_work.specs.Positions.{IsWithWorker, HasPosition};
 
 use crate::worker::Findings;
 use mm_database::Database;
@@ -21,14 +21,14 @@ pub(crate) struct ListPosition {
     pub list: usize,
 }
 
-/// Notes where the citations of the theorems are that a worker found valid, which have the indices
-/// `valid`.
-fn note_lists(positions: &mut [ListPosition], worker: usize, valid: &[u32])
+/// Sets the positions of the citations of the theorems that a worker found valid, which have the
+/// indices `valid`.
+fn set_positions(positions: &mut [ListPosition], worker: usize, valid: &[u32])
     requires { All (λ i. i < length positions.old) valid.now }
     ensures count { length positions.new ≡ length positions.old }
-    ensures noted { All (λ i. IsNoted positions.new worker valid.now i) valid.now }
+    ensures with_worker { All (λ i. IsWithWorker positions.new worker valid.now i) valid.now }
     ensures others { (i : ℕ)
-        → IsNoted positions.new worker valid.now i
+        → IsWithWorker positions.new worker valid.now i
         ⊎ (slice_get positions.new i ≡ slice_get positions.old i) }
 {
     for (list, index) in valid.iter().enumerate() {
@@ -51,7 +51,7 @@ fn positions_of<A: Allocator + Copy>(
     let mut positions = Vec::new(alloc);
     positions.resize(count, ListPosition { worker: 0, list: 0 })?;
     for (worker, findings) in all_findings.iter().enumerate() {
-        note_lists(&mut positions, worker, &findings.valid);
+        set_positions(&mut positions, worker, &findings.valid);
     }
     Ok(positions)
 }

@@ -36,7 +36,7 @@ pub(crate) struct Findings<A: Allocator> {
     pub short_of_memory: bool,
 }
 
-/// Lets all fields go in one call, so that a proof has one step for it at each exit.
+/// Dropped in one call: docs/PROOFS.md, "What a check costs".
 impl<A: Allocator> Drop for Findings<A> {
     fn drop(self) {
         let Self {

@@ -17,6 +17,11 @@ const FIRST: &[u8] =
 const FIRST_REPORT: &[u8] =
     b"mmdepend 1\naxioms 2\ntheorems 1\nmatrix\nwi2:10\ncounts\nwi2:1\nusage\nwi:1:wi2\nax-1:0:\nend\n";
 
+/// The status of a run that couldn't read, and of one that couldn't write.
+const READ_FAILED: u8 = 3;
+
+const WRITE_FAILED: u8 = 3;
+
 /// A reader that fails at its first read.
 #[derive(Drop)]
 struct Failing {}
@@ -72,7 +77,7 @@ fn refusal(alloc: Global, words: &[&str]) -> Option<(bool, String)> {
 }
 
 /// Whether the program, on these words and this input, has this status and writes these outputs.
-fn ends<R: Threads + Wait + Files + Sync + AllocGlobal, I: Read + Drop>(
+fn is_run_of<R: Threads + Wait + Files + Sync + AllocGlobal, I: Read + Drop>(
     rt: &R,
     words: &[&str],
     mut input: I,
@@ -82,7 +87,7 @@ fn ends<R: Threads + Wait + Files + Sync + AllocGlobal, I: Read + Drop>(
 ) -> bool {
     let mut written = Vec::new(rt.alloc());
     let mut message = Vec::new(rt.alloc());
-    let found = status(
+    let ended_with = status(
         rt,
         rt.alloc(),
         words,
@@ -90,16 +95,16 @@ fn ends<R: Threads + Wait + Files + Sync + AllocGlobal, I: Read + Drop>(
         &mut written,
         &mut message,
     );
-    found == number && written.as_slice() == output && message.as_slice() == errors
+    ended_with == number && written.as_slice() == output && message.as_slice() == errors
 }
 
 #[test]
 fn a_report_and_a_refusal(rt: HostRuntime) {
     let words = ["mmdepend"];
-    assert!(&rt; ends(&rt, &words, FIRST, 0, FIRST_REPORT, b""));
-    assert!(&rt; ends(&rt, &["mmdepend", "-"], FIRST, 0, FIRST_REPORT, b""));
+    assert!(&rt; is_run_of(&rt, &words, FIRST, 0, FIRST_REPORT, b""));
+    assert!(&rt; is_run_of(&rt, &["mmdepend", "-"], FIRST, 0, FIRST_REPORT, b""));
     let unended = b"$c".as_slice();
-    assert!(&rt; ends(&rt, &words, unended, 1, b"refused 1:3 E08\n", b""));
+    assert!(&rt; is_run_of(&rt, &words, unended, 1, b"refused 1:3 E08\n", b""));
 }
 
 #[test]
@@ -116,7 +121,7 @@ fn options_choose_workers_pieces_columns_and_sections(rt: HostRuntime) {
         "counts",
     ];
     let counts = b"mmdepend 1\naxioms 1\ntheorems 1\ncounts\nwi2:0\nend\n".as_slice();
-    assert!(&rt; ends(&rt, &words, FIRST, 0, counts, b""));
+    assert!(&rt; is_run_of(&rt, &words, FIRST, 0, counts, b""));
 }
 
 #[test]
@@ -131,25 +136,26 @@ fn words_that_are_no_line(rt: HostRuntime) {
     ] {
         match refusal(rt.alloc(), words) {
             Some((true, help)) => {
-                assert!(&rt; ends(&rt, words, FIRST, number, help.as_bytes(), b""));
+                assert!(&rt; is_run_of(&rt, words, FIRST, number, help.as_bytes(), b""));
             }
             Some((false, told)) => {
-                assert!(&rt; ends(&rt, words, FIRST, number, b"", told.as_bytes()));
+                assert!(&rt; is_run_of(&rt, words, FIRST, number, b"", told.as_bytes()));
             }
             None => assert!(&rt; false),
         }
     }
 }
 
-// If a file is named, standard input isn't read, so one that fails changes nothing.
+// Where a file is named, standard input isn't read: that it would fail changes nothing. Where none
+// is named, its failure is reported.
 #[test]
 fn files_that_cannot_be_opened_or_read(rt: HostRuntime) {
     let unopened = b"mmdepend: cannot open the file\n".as_slice();
     let missing = ["mmdepend", "no/such/file.mm"];
-    assert!(&rt; ends(&rt, &missing, Failing {}, 3, b"", unopened));
+    assert!(&rt; is_run_of(&rt, &missing, Failing {}, READ_FAILED, b"", unopened));
     let unread = b"mmdepend: reading failed\n".as_slice();
-    assert!(&rt; ends(&rt, &["mmdepend", "/"], FIRST, 3, b"", unread));
-    assert!(&rt; ends(&rt, &["mmdepend"], Failing {}, 3, b"", unread));
+    assert!(&rt; is_run_of(&rt, &["mmdepend", "/"], FIRST, READ_FAILED, b"", unread));
+    assert!(&rt; is_run_of(&rt, &["mmdepend"], Failing {}, READ_FAILED, b"", unread));
 }
 
 #[test]
@@ -159,7 +165,7 @@ fn a_file_is_read_in_place_of_the_input(rt: HostRuntime) -> Result<(), Fail> {
     let name = path.as_str();
     fs::write(&rt, name, FIRST)?;
     let words = ["mmdepend", name];
-    let is_read = ends(&rt, &words, Failing {}, 0, FIRST_REPORT, b"");
+    let is_read = is_run_of(&rt, &words, Failing {}, 0, FIRST_REPORT, b"");
     fs::remove_file(&rt, name)?;
     assert!(&rt; is_read);
     Ok(())
@@ -167,7 +173,7 @@ fn a_file_is_read_in_place_of_the_input(rt: HostRuntime) -> Result<(), Fail> {
 
 /// Whether the program, on these words and the first text, says that writing failed, with an output
 /// that takes the given number of bytes.
-fn stops<R: Threads + Wait + Files + Sync + AllocGlobal>(
+fn is_stopped_writing<R: Threads + Wait + Files + Sync + AllocGlobal>(
     rt: &R,
     words: &[&str],
     bytes_left: usize,
@@ -176,8 +182,8 @@ fn stops<R: Threads + Wait + Files + Sync + AllocGlobal>(
     let mut text = FIRST;
     let mut output = LimitedWriter { bytes_left, fails };
     let mut message = Vec::new(rt.alloc());
-    let found = status(rt, rt.alloc(), words, &mut text, &mut output, &mut message);
-    found == 3
+    let ended_with = status(rt, rt.alloc(), words, &mut text, &mut output, &mut message);
+    ended_with == WRITE_FAILED
         && output.bytes_left == 0
         && message.as_slice() == b"mmdepend: writing failed\n".as_slice()
 }
@@ -186,8 +192,8 @@ fn stops<R: Threads + Wait + Files + Sync + AllocGlobal>(
 fn an_output_that_is_closed(rt: HostRuntime) {
     for fails in [true, false] {
         for bytes_left in [0, 1, 42, 84] {
-            assert!(&rt; stops(&rt, &["mmdepend"], bytes_left, fails));
-            assert!(&rt; stops(&rt, &["mmdepend", "--help"], bytes_left, fails));
+            assert!(&rt; is_stopped_writing(&rt, &["mmdepend"], bytes_left, fails));
+            assert!(&rt; is_stopped_writing(&rt, &["mmdepend", "--help"], bytes_left, fails));
         }
     }
 }
@@ -202,8 +208,8 @@ fn a_message_that_cannot_be_written_leaves_the_status(rt: HostRuntime) {
     ] {
         let mut text = FIRST;
         let mut written = Vec::new(alloc);
-        let found = status(&rt, alloc, words, &mut text, &mut written, &mut closed());
-        assert_eq!(rt; found, number);
+        let ended_with = status(&rt, alloc, words, &mut text, &mut written, &mut closed());
+        assert_eq!(rt; ended_with, number);
         assert_eq!(rt; written.len(), 0);
     }
 }
@@ -213,7 +219,7 @@ fn a_message_that_cannot_be_written_leaves_the_status(rt: HostRuntime) {
 fn both_outputs_closed(rt: HostRuntime) {
     for words in [["mmdepend"].as_slice(), &["mmdepend", "--help"]] {
         let mut text = FIRST;
-        let found = status(
+        let ended_with = status(
             &rt,
             rt.alloc(),
             words,
@@ -221,6 +227,6 @@ fn both_outputs_closed(rt: HostRuntime) {
             &mut closed(),
             &mut closed(),
         );
-        assert_eq!(rt; found, 3);
+        assert_eq!(rt; ended_with, WRITE_FAILED);
     }
 }

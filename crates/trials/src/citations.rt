@@ -1,7 +1,9 @@
 //! What a proof cites: the assertions of all its nodes, or those of its essential nodes alone.
 
 use crate::databases::database_of;
-use crate::texts::{BASE, CLOSE, CONSEQUENT, DETACHMENT, FIRST_TEXT, joined, through_a_theorem};
+use crate::texts::{
+    A1I_UP_TO_PROOF, AFTER_PROOF, BASE, DETACHMENT, FIRST_TEXT, joined, through_a_theorem,
+};
 use mm_check::check;
 use mm_proof::read_proof;
 use mm_stmt::Database;
@@ -57,7 +59,10 @@ fn formulas_are_not_essential(rt: HostRuntime) -> Result<(), AllocError> {
         b"( wi ax-1 ax-mp ) ABADZCABEF",
     ];
     for proof in proofs {
-        let text = joined(alloc, &[BASE, DETACHMENT, CONSEQUENT, proof, CLOSE])?;
+        let text = joined(
+            alloc,
+            &[BASE, DETACHMENT, A1I_UP_TO_PROOF, proof, AFTER_PROOF],
+        )?;
         assert!(&rt; is_cited(&rt, alloc, &text, false, &[b"wi", b"ax-1", b"ax-mp"])?);
         assert!(&rt; is_cited(&rt, alloc, &text, true, &[b"ax-1", b"ax-mp"])?);
     }

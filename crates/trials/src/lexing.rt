@@ -14,7 +14,7 @@ use std::thread::{self, Threads};
 const TEXT_WITH_COMMENTS: &[u8] = b"$c a $( $c b $) xy $. $( z $) $( $d";
 
 /// The text of the table of stretches.
-const SMALL: &[u8] = b"ab $( c $) d";
+const STRETCHED_TEXT: &[u8] = b"ab $( c $) d";
 
 /// How many tokens the text with two theorems has.
 const THROUGH_TOKENS: usize = 120;
@@ -36,7 +36,7 @@ fn place_and_number<A: Allocator>(lexed: &Lexed<A>) -> Option<(u32, u8)> {
 }
 
 /// The reading of the text in the given number of equal pieces.
-fn in_pieces<R: Threads + Sync, A: Allocator + Copy + Send + Sync>(
+fn lex_in_pieces<R: Threads + Sync, A: Allocator + Copy + Send + Sync>(
     rt: &R,
     alloc: A,
     text: &[u8],
@@ -53,7 +53,7 @@ fn in_pieces<R: Threads + Sync, A: Allocator + Copy + Send + Sync>(
 fn lexes_vectors(rt: HostRuntime) -> Result<(), AllocError> {
     for count in 1..6 {
         for example in words() {
-            let lexed = in_pieces(&rt, rt.alloc(), example.text, count)?;
+            let lexed = lex_in_pieces(&rt, rt.alloc(), example.text, count)?;
             assert_eq!(rt; lexed.tokens.len(), example.before);
             assert_eq!(rt; place_and_number(&lexed), example.fault);
         }
@@ -63,7 +63,7 @@ fn lexes_vectors(rt: HostRuntime) -> Result<(), AllocError> {
             (b"$c a $. $.", 4),
             (b"a,b $( a $c b $) $a a $.\x0C", 4),
         ] {
-            let lexed = in_pieces(&rt, rt.alloc(), text, count)?;
+            let lexed = lex_in_pieces(&rt, rt.alloc(), text, count)?;
             assert_eq!(rt; lexed.tokens.len(), tokens);
             assert_eq!(rt; lexed.fault, None);
         }
@@ -73,15 +73,15 @@ fn lexes_vectors(rt: HostRuntime) -> Result<(), AllocError> {
 
 #[test]
 fn gives_places(rt: HostRuntime) -> Result<(), AllocError> {
-    let lexed = in_pieces(&rt, rt.alloc(), b" $c  ab\n$.", 1)?;
-    let want = [word(1, 3), word(5, 7), word(8, 10)];
-    assert_eq!(rt; lexed.tokens.as_slice(), want.as_slice());
+    let lexed = lex_in_pieces(&rt, rt.alloc(), b" $c  ab\n$.", 1)?;
+    let expected_tokens = [word(1, 3), word(5, 7), word(8, 10)];
+    assert_eq!(rt; lexed.tokens.as_slice(), expected_tokens.as_slice());
     Ok(())
 }
 
-/// Asserts that the text, cut twice at each place, with an empty piece between, is read as it is when
-/// it is whole.
-fn every_cut_is_read_alike<R: Abort + Threads + Sync>(
+/// Asserts that the text, cut twice at each place, with an empty piece between, is read as it is
+/// when it is whole.
+fn assert_cuts_read_alike<R: Abort + Threads + Sync>(
     rt: &R,
     alloc: Global,
     text: &[u8],
@@ -106,21 +106,21 @@ fn every_cut_is_read_alike<R: Abort + Threads + Sync>(
 
 #[test]
 fn lexes_every_cut(rt: HostRuntime) -> Result<(), AllocError> {
-    let whole = in_pieces(&rt, rt.alloc(), TEXT_WITH_COMMENTS, 1)?;
+    let whole = lex_in_pieces(&rt, rt.alloc(), TEXT_WITH_COMMENTS, 1)?;
     assert_eq!(rt; whole.tokens.len(), 4);
     assert_eq!(rt; whole.fault, fault(30, Code::OpenComment));
-    every_cut_is_read_alike(&rt, rt.alloc(), TEXT_WITH_COMMENTS, &whole)
+    assert_cuts_read_alike(&rt, rt.alloc(), TEXT_WITH_COMMENTS, &whole)
 }
 
 /// Two theorems, cut at each place, and into many more pieces than they have bytes.
 #[test]
 fn lexes_theorems_in_pieces(rt: HostRuntime) -> Result<(), AllocError> {
     let text = through_a_theorem(rt.alloc())?;
-    let whole = in_pieces(&rt, rt.alloc(), &text, 1)?;
+    let whole = lex_in_pieces(&rt, rt.alloc(), &text, 1)?;
     assert_eq!(rt; whole.tokens.len(), THROUGH_TOKENS);
     assert_eq!(rt; whole.fault, None);
-    every_cut_is_read_alike(&rt, rt.alloc(), &text, &whole)?;
-    let lexed = in_pieces(&rt, rt.alloc(), &text, 65536)?;
+    assert_cuts_read_alike(&rt, rt.alloc(), &text, &whole)?;
+    let lexed = lex_in_pieces(&rt, rt.alloc(), &text, 65536)?;
     assert_eq!(rt; lexed.tokens.as_slice(), whole.tokens.as_slice());
     assert_eq!(rt; lexed.fault, None);
     Ok(())
@@ -134,9 +134,9 @@ fn lexes_at_every_place(rt: HostRuntime) -> Result<(), AllocError> {
         let mut text = Vec::new(rt.alloc());
         text.extend_from_slice(&spaces[..place as usize])?;
         text.extend_from_slice(b"ab $c x\x80")?;
-        let lexed = in_pieces(&rt, rt.alloc(), &text, 1)?;
-        let want = [word(place, place + 2), word(place + 3, place + 5)];
-        assert_eq!(rt; lexed.tokens.as_slice(), want.as_slice());
+        let lexed = lex_in_pieces(&rt, rt.alloc(), &text, 1)?;
+        let expected_tokens = [word(place, place + 2), word(place + 3, place + 5)];
+        assert_eq!(rt; lexed.tokens.as_slice(), expected_tokens.as_slice());
         assert_eq!(rt; lexed.fault, fault(place + 7, Code::BadByte));
     }
     Ok(())
@@ -149,11 +149,11 @@ fn lexes_many_pieces(rt: HostRuntime) -> Result<(), AllocError> {
     for _ in 0..1000 {
         text.extend_from_slice(b"$c a $( $c b $) xy $. $( z $)\n")?;
     }
-    let whole = in_pieces(&rt, rt.alloc(), &text, 1)?;
+    let whole = lex_in_pieces(&rt, rt.alloc(), &text, 1)?;
     assert_eq!(rt; whole.tokens.len(), 4000);
     assert_eq!(rt; whole.fault, None);
     for count in [2, 63, 64, 65, 1000, 65536] {
-        let lexed = in_pieces(&rt, rt.alloc(), &text, count)?;
+        let lexed = lex_in_pieces(&rt, rt.alloc(), &text, count)?;
         assert_eq!(rt; lexed.tokens.as_slice(), whole.tokens.as_slice());
         assert_eq!(rt; lexed.fault, whole.fault);
     }
@@ -161,7 +161,7 @@ fn lexes_many_pieces(rt: HostRuntime) -> Result<(), AllocError> {
 }
 
 /// Asserts the ends of a piece, and the tokens and the fault of both of its readings.
-fn is_piece<R: Abort>(
+fn assert_piece<R: Abort>(
     rt: &R,
     piece: &Piece<Global>,
     ends: [Word; 2],
@@ -190,9 +190,9 @@ fn summarizes_stretches(rt: HostRuntime) -> Result<(), AllocError> {
         (6, 7, [word(6, 6), word(7, 7)], &[], None),
     ];
     for (from, to, ends, outside, inside_fault) in rows {
-        if from <= to && to <= SMALL.len() {
-            let piece = lex_piece(rt.alloc(), SMALL, from, to)?;
-            is_piece(&rt, &piece, ends, outside, inside_fault);
+        if from <= to && to <= STRETCHED_TEXT.len() {
+            let piece = lex_piece(rt.alloc(), STRETCHED_TEXT, from, to)?;
+            assert_piece(&rt, &piece, ends, outside, inside_fault);
             assert!(&rt; piece.from() as usize == from && piece.to() as usize == to);
             assert_eq!(rt; piece.is_unbroken(), from == 6);
         }
@@ -200,8 +200,8 @@ fn summarizes_stretches(rt: HostRuntime) -> Result<(), AllocError> {
     Ok(())
 }
 
-/// What the summary of the whole text has to be.
-fn is_complete<A: Allocator>(piece: &Piece<A>) -> bool {
+/// Whether this is the summary of the whole text.
+fn is_whole_summary<A: Allocator>(piece: &Piece<A>) -> bool {
     piece.from() == 0
         && piece.to() == 12
         && piece.tokens(false) == [word(0, 2), word(11, 12)].as_slice()
@@ -215,13 +215,13 @@ fn joins_from_the_left(rt: HostRuntime) -> Result<(), AllocError> {
     let alloc = rt.alloc();
     let (first, second) = thread::join(
         &rt,
-        move || lex_piece(alloc, SMALL, 0, 1),
-        move || lex_piece(alloc, SMALL, 1, 9),
+        move || lex_piece(alloc, STRETCHED_TEXT, 0, 1),
+        move || lex_piece(alloc, STRETCHED_TEXT, 1, 9),
     );
-    let third = lex_piece(alloc, SMALL, 9, 12)?;
-    let front = join(alloc, SMALL, first?, second?)?;
-    let whole = join(alloc, SMALL, front, third)?;
-    assert!(rt; is_complete(&whole));
+    let third = lex_piece(alloc, STRETCHED_TEXT, 9, 12)?;
+    let front = join(alloc, STRETCHED_TEXT, first?, second?)?;
+    let whole = join(alloc, STRETCHED_TEXT, front, third)?;
+    assert!(rt; is_whole_summary(&whole));
     Ok(())
 }
 
@@ -231,13 +231,13 @@ fn joins_from_the_right(rt: HostRuntime) -> Result<(), AllocError> {
     let alloc = rt.alloc();
     let (second, third) = thread::join(
         &rt,
-        move || lex_piece(alloc, SMALL, 1, 9),
-        move || lex_piece(alloc, SMALL, 9, 12),
+        move || lex_piece(alloc, STRETCHED_TEXT, 1, 9),
+        move || lex_piece(alloc, STRETCHED_TEXT, 9, 12),
     );
-    let back = join(alloc, SMALL, second?, third?)?;
-    let first = lex_piece(alloc, SMALL, 0, 1)?;
-    let whole = join(alloc, SMALL, first, back)?;
-    assert!(rt; is_complete(&whole));
+    let back = join(alloc, STRETCHED_TEXT, second?, third?)?;
+    let first = lex_piece(alloc, STRETCHED_TEXT, 0, 1)?;
+    let whole = join(alloc, STRETCHED_TEXT, first, back)?;
+    assert!(rt; is_whole_summary(&whole));
     Ok(())
 }
 
@@ -247,10 +247,10 @@ fn joins_from_threads(rt: HostRuntime) -> Result<(), AllocError> {
     let alloc = rt.alloc();
     let (first, second) = thread::join(
         &rt,
-        move || lex_piece(alloc, SMALL, 0, 5),
-        move || lex_piece(alloc, SMALL, 5, 12),
+        move || lex_piece(alloc, STRETCHED_TEXT, 0, 5),
+        move || lex_piece(alloc, STRETCHED_TEXT, 5, 12),
     );
-    let whole = join(alloc, SMALL, first?, second?)?;
-    assert!(rt; is_complete(&whole));
+    let whole = join(alloc, STRETCHED_TEXT, first?, second?)?;
+    assert!(rt; is_whole_summary(&whole));
     Ok(())
 }

@@ -27,7 +27,7 @@ fn counts(line: &Line) -> Option<(u32, u32)> {
 }
 
 /// Whether the words are accepted with these values.
-fn says(
+fn is_line_of(
     alloc: Global,
     words: &[&str],
     pieces: u32,
@@ -50,9 +50,9 @@ fn says(
 #[test]
 fn defaults_stand_for_what_is_left_out(rt: HostRuntime) {
     let alloc = rt.alloc();
-    assert!(&rt; says(alloc, &["mmdepend"], 4, 4, None, Choice::All, None));
+    assert!(&rt; is_line_of(alloc, &["mmdepend"], 4, 4, None, Choice::All, None));
     assert!(&rt;
-        says(
+        is_line_of(
             alloc,
             &["mmdepend", "set.mm"],
             4,
@@ -79,7 +79,7 @@ fn options_stand_before_and_after_the_file(rt: HostRuntime) {
         "usage",
     ];
     assert!(&rt;
-        says(
+        is_line_of(
             alloc,
             &words,
             1,
@@ -97,7 +97,7 @@ fn options_stand_before_and_after_the_file(rt: HostRuntime) {
         ("citations", Choice::Citations),
     ] {
         assert!(&rt;
-            says(
+            is_line_of(
                 alloc,
                 &["mmdepend", "--report", word],
                 4,
@@ -109,7 +109,7 @@ fn options_stand_before_and_after_the_file(rt: HostRuntime) {
         );
     }
     let after = ["mmdepend", "--", "--help"];
-    assert!(&rt; says(alloc, &after, 4, 4, None, Choice::All, Some("--help")));
+    assert!(&rt; is_line_of(alloc, &after, 4, 4, None, Choice::All, Some("--help")));
 }
 
 /// Words, and the form, the nodes and the open theorems that they ask for.
@@ -145,8 +145,8 @@ fn options_of_the_report(rt: HostRuntime) {
 fn the_version_is_told(rt: HostRuntime) {
     for words in [["mmdepend", "--version"], ["mmdepend", "-V"]] {
         match refusal(rt.alloc(), &words) {
-            Some((help, told)) => {
-                assert!(&rt; help);
+            Some((is_help, told)) => {
+                assert!(&rt; is_help);
                 assert!(&rt; told.as_str().starts_with("mmdepend 0.1.0, proved with "));
                 assert!(&rt; told.as_str().ends_with("\n"));
             }
@@ -200,8 +200,8 @@ fn faults_are_told_by_their_texts(rt: HostRuntime) {
     let alloc = rt.alloc();
     for (words, text) in FAULTS {
         match refusal(alloc, words) {
-            Some((help, told)) => {
-                assert!(&rt; !help);
+            Some((is_help, told)) => {
+                assert!(&rt; !is_help);
                 assert_eq!(rt; told.as_str(), text);
             }
             None => assert!(&rt; false),
@@ -213,8 +213,8 @@ fn faults_are_told_by_their_texts(rt: HostRuntime) {
 fn help_has_a_line_for_each_argument(rt: HostRuntime) {
     for words in [["mmdepend", "--help"], ["mmdepend", "-h"]] {
         match refusal(rt.alloc(), &words) {
-            Some((help, told)) => {
-                assert!(&rt; help);
+            Some((is_help, told)) => {
+                assert!(&rt; is_help);
                 assert_eq!(rt; told.as_str(), HELP);
             }
             None => assert!(&rt; false),

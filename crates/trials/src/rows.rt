@@ -46,8 +46,8 @@ fn ones_by_lanes_are_the_plain_sum(rt: HostRuntime) {
     assert_eq!(rt; ones(&[u64::MAX; 5]), 320);
 }
 
-/// The table of a text without a fault, with all axioms as columns.
-fn table_of<R: Threads + Wait + Sync>(
+/// The matrix of a text without a fault, with all axioms as columns.
+fn matrix_of<R: Threads + Wait + Sync>(
     rt: &R,
     alloc: Global,
     text: &[u8],
@@ -61,7 +61,7 @@ fn table_of<R: Threads + Wait + Sync>(
 }
 
 /// Whether `digit` returns these digits for a row of 70 columns.
-fn has_digits(table: &Matrix<Global>, row: u32, digits: &[u8; 18]) -> bool {
+fn is_row_of_digits(table: &Matrix<Global>, row: u32, digits: &[u8; 18]) -> bool {
     if table.rows() <= row || table.columns() != 70 {
         return false;
     }
@@ -74,7 +74,7 @@ fn has_digits(table: &Matrix<Global>, row: u32, digits: &[u8; 18]) -> bool {
 }
 
 /// Whether `write_digits` writes the two words of such a row as these digits.
-fn writes_digits(table: &Matrix<Global>, row: u32, digits: &[u8; 32]) -> bool {
+fn is_row_written_as(table: &Matrix<Global>, row: u32, digits: &[u8; 32]) -> bool {
     if table.rows() <= row || table.columns() != 70 {
         return false;
     }
@@ -86,13 +86,13 @@ fn writes_digits(table: &Matrix<Global>, row: u32, digits: &[u8; 32]) -> bool {
 #[test]
 fn digits_of_more_than_a_word(rt: HostRuntime) -> Result<(), AllocError> {
     let text = seventy(rt.alloc())?;
-    let table = table_of(&rt, rt.alloc(), &text)?;
-    let t = [8, 0, 0, 0, 0, 0, 0, 0, 0, 0, 0, 0, 0, 0, 0, 1, 8, 4];
-    assert!(&rt; has_digits(&table, 0, &t));
-    assert!(&rt; writes_digits(&table, 0, b"80000000000000018400000000000000"));
-    let u = [12, 0, 0, 0, 0, 0, 0, 0, 0, 0, 0, 0, 0, 0, 0, 1, 8, 4];
-    assert!(&rt; has_digits(&table, 1, &u));
-    assert!(&rt; writes_digits(&table, 1, b"c0000000000000018400000000000000"));
+    let table = matrix_of(&rt, rt.alloc(), &text)?;
+    let digits_of_t = [8, 0, 0, 0, 0, 0, 0, 0, 0, 0, 0, 0, 0, 0, 0, 1, 8, 4];
+    assert!(&rt; is_row_of_digits(&table, 0, &digits_of_t));
+    assert!(&rt; is_row_written_as(&table, 0, b"80000000000000018400000000000000"));
+    let digits_of_u = [12, 0, 0, 0, 0, 0, 0, 0, 0, 0, 0, 0, 0, 0, 0, 1, 8, 4];
+    assert!(&rt; is_row_of_digits(&table, 1, &digits_of_u));
+    assert!(&rt; is_row_written_as(&table, 1, b"c0000000000000018400000000000000"));
     Ok(())
 }
 

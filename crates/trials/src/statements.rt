@@ -10,7 +10,7 @@ use std::rt::HostRuntime;
 use std::thread::Threads;
 
 /// The place and the number of the fault of a text, and how many statements are before it.
-fn stops<R: Threads + Sync>(
+fn fault_and_count<R: Threads + Sync>(
     rt: &R,
     alloc: Global,
     text: &[u8],
@@ -26,12 +26,12 @@ fn stops<R: Threads + Sync>(
 #[test]
 fn stops_where_a_statement_is_at_fault(rt: HostRuntime) -> Result<(), AllocError> {
     for example in shapes() {
-        let (fault, before) = stops(&rt, rt.alloc(), example.text)?;
+        let (fault, before) = fault_and_count(&rt, rt.alloc(), example.text)?;
         assert_eq!(rt; fault, example.fault);
         assert_eq!(rt; before as usize, example.before);
     }
     for example in scopes() {
-        let (fault, before) = stops(&rt, rt.alloc(), example.text)?;
+        let (fault, before) = fault_and_count(&rt, rt.alloc(), example.text)?;
         assert_eq!(rt; fault, example.fault);
         assert_eq!(rt; before as usize, example.before);
     }
@@ -69,33 +69,50 @@ fn lends_labels_of_neighbours_as_one(rt: HostRuntime) -> Result<(), AllocError> 
 const WITH_OPEN: &[u8] =
     b"$c wff $. $v p q $. wp $f wff p $. wq $f wff q $. a $a wff p $.\n${ $d p q $. h $e wff q $. o $p wff p $= ? $. $} t $p wff p $= wp a $.\n";
 
-/// The number of the open theorem's statement, and how many statements there are.
+/// The statement number of the open theorem.
 const OPEN: u32 = 8;
 
+/// The statement number of the theorem with a proof.
+const PROVED: u32 = 10;
+
+/// The statement number of the axiom.
+const AXIOM: u32 = 4;
+
+/// How many statements there are.
 const STATEMENTS: u32 = 11;
+
+/// The byte offset of the question mark that is the open theorem's proof.
+const QUESTION_MARK_AT: u32 = 105;
+
+/// The numbers of the text's symbols: its constant, and its two variables.
+const WFF: u32 = 0;
+
+const P: u32 = 1;
+
+const Q: u32 = 2;
 
 /// What is answered with the flag, or else what is answered without it.
 fn by_flag<T: Copy>(with_open: bool, with: T, without: T) -> T {
     if with_open { with } else { without }
 }
 
-/// Asserts what the calls answer that tell what an open theorem counts as.
-fn counts_as<R: Abort>(rt: &R, database: &Database<Global>, with_open: bool) {
+/// Asserts that the open theorem counts as an axiom with the flag, and as a theorem without it.
+fn assert_counted_as<R: Abort>(rt: &R, database: &Database<Global>, with_open: bool) {
     assert_eq!(rt; database.len(), STATEMENTS);
     assert_eq!(rt;
         database.kind(OPEN),
         by_flag(with_open, Kind::Axiom, Kind::Theorem)
     );
     assert_eq!(rt; database.is_open(OPEN), with_open);
-    let mark: &[Word] = &[Word {
-        start: 105,
-        end: 106,
+    let question_mark: &[Word] = &[Word {
+        start: QUESTION_MARK_AT,
+        end: QUESTION_MARK_AT + 1,
     }];
-    let proof: &[Word] = by_flag(with_open, &[], mark);
+    let proof: &[Word] = by_flag(with_open, &[], question_mark);
     assert_eq!(rt; database.proof_words(OPEN), proof);
-    let theorems: &[u32] = by_flag(with_open, &[10], &[OPEN, 10]);
+    let theorems: &[u32] = by_flag(with_open, &[PROVED], &[OPEN, PROVED]);
     assert_eq!(rt; database.theorems(), theorems);
-    let axioms: &[u32] = by_flag(with_open, &[4, OPEN], &[4]);
+    let axioms: &[u32] = by_flag(with_open, &[AXIOM, OPEN], &[AXIOM]);
     assert_eq!(rt; database.axioms(), axioms);
     let labels: &[u8] = by_flag(with_open, b" t", b" o t");
     assert_eq!(rt;
@@ -104,25 +121,25 @@ fn counts_as<R: Abort>(rt: &R, database: &Database<Global>, with_open: bool) {
     );
 }
 
-/// Asserts what the calls answer of its statement, which is the same with the flag and without.
-fn is_the_same_statement<R: Abort>(rt: &R, database: &Database<Global>) {
+/// Asserts what is said of the open theorem's statement, with the flag and without.
+fn assert_open_statement<R: Abort>(rt: &R, database: &Database<Global>) {
     assert!(rt; database.text() == WITH_OPEN);
     assert!(rt; database.fault().is_none());
     assert_eq!(rt; database.len(), STATEMENTS);
-    assert_eq!(rt; database.end_at(OPEN), 107);
+    assert_eq!(rt; database.end_at(OPEN), QUESTION_MARK_AT + 2);
     assert!(rt; database.label(OPEN) == Some(b"o".as_slice()));
     assert_eq!(rt; database.find(b"o"), Some(OPEN));
     assert_eq!(rt;
         database.formula(OPEN),
-        [Sym::new(0), Sym::new(1)].as_slice()
+        [Sym::new(WFF), Sym::new(P)].as_slice()
     );
-    assert_eq!(rt; database.typecode(OPEN), Some(Sym::new(0)));
+    assert_eq!(rt; database.typecode(OPEN), Some(Sym::new(WFF)));
     assert!(rt; database.active_at(OPEN, STATEMENTS));
-    assert!(rt; database.disjoint_at(OPEN, Sym::new(1), Sym::new(2)));
+    assert!(rt; database.disjoint_at(OPEN, Sym::new(P), Sym::new(Q)));
 }
 
-/// Asserts what the calls on symbols answer, which is the same too.
-fn has_the_same_symbols<R: Abort>(rt: &R, database: &Database<Global>) {
+/// Asserts what is said of the symbols, with the flag and without.
+fn assert_symbols<R: Abort>(rt: &R, database: &Database<Global>) {
     assert_eq!(rt; database.symbol_count(), 3);
     for (number, name) in [b"wff".as_slice(), b"p", b"q"].iter().enumerate() {
         let symbol = Sym::new(number as u32);
@@ -131,15 +148,15 @@ fn has_the_same_symbols<R: Abort>(rt: &R, database: &Database<Global>) {
     }
 }
 
-/// Asserts what its frame is, which is the same too.
-fn has_the_same_frame<R: Abort>(rt: &R, database: &Database<Global>) {
+/// Asserts what the open theorem's frame is, with the flag and without.
+fn assert_open_frame<R: Abort>(rt: &R, database: &Database<Global>) {
     assert_eq!(rt; database.len(), STATEMENTS);
     if is_assertion(database, OPEN) {
         let frame = database.frame(OPEN);
         assert_eq!(rt; frame.hyps.as_slice(), [2u32, 3, 7].as_slice());
         assert_eq!(rt;
             frame.pairs.as_slice(),
-            [(Sym::new(1), Sym::new(2))].as_slice()
+            [(Sym::new(P), Sym::new(Q))].as_slice()
         );
     } else {
         assert!(rt; false);
@@ -150,10 +167,10 @@ fn has_the_same_frame<R: Abort>(rt: &R, database: &Database<Global>) {
 fn what_the_calls_answer_of_an_open_theorem(rt: HostRuntime) -> Result<(), AllocError> {
     for with_open in [false, true] {
         let database = database_of(&rt, rt.alloc(), WITH_OPEN, with_open)?;
-        counts_as(&rt, &database, with_open);
-        is_the_same_statement(&rt, &database);
-        has_the_same_symbols(&rt, &database);
-        has_the_same_frame(&rt, &database);
+        assert_counted_as(&rt, &database, with_open);
+        assert_open_statement(&rt, &database);
+        assert_symbols(&rt, &database);
+        assert_open_frame(&rt, &database);
     }
     Ok(())
 }

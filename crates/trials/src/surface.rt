@@ -39,8 +39,10 @@ fn bytes(rt: HostRuntime) {
 }
 
 /// Asserts what a piece of the whole text says.
-fn is_whole<R: Abort>(rt: &R, piece: &Piece<Global>) {
-    assert!(rt; piece.from() == 0 && piece.to() == 170 && !piece.is_unbroken());
+fn assert_whole<R: Abort>(rt: &R, piece: &Piece<Global>) {
+    assert!(rt;
+        piece.from() == 0 && piece.to() as usize == FIRST_TEXT.len() && !piece.is_unbroken()
+    );
     let head = piece.head();
     let tail = piece.tail();
     assert!(rt; head.start == 0 && head.end == 0 && tail.start == 170 && tail.end == 170);
@@ -51,9 +53,9 @@ fn is_whole<R: Abort>(rt: &R, piece: &Piece<Global>) {
 #[test]
 fn pieces(rt: HostRuntime) -> Result<(), AllocError> {
     let first = lex_piece(rt.alloc(), FIRST_TEXT, 0, 60)?;
-    let second = lex_piece(rt.alloc(), FIRST_TEXT, 60, 170)?;
+    let second = lex_piece(rt.alloc(), FIRST_TEXT, 60, FIRST_TEXT.len())?;
     let whole = join(rt.alloc(), FIRST_TEXT, first, second)?;
-    is_whole(&rt, &whole);
+    assert_whole(&rt, &whole);
     Ok(())
 }
 
@@ -62,7 +64,8 @@ fn cuts(rt: HostRuntime) -> Result<(), AllocError> {
     let equal = Cuts::equal(rt.alloc(), FIRST_TEXT.len(), 2)?;
     let lexed = lex(&rt, rt.alloc(), FIRST_TEXT, &equal)?;
     assert!(&rt; lexed.tokens.len() == 62 && lexed.fault == None);
-    let places = [85u32].as_slice().to_vec(rt.alloc())?;
+    let half = FIRST_TEXT.len() as u32 / 2;
+    let places = [half].as_slice().to_vec(rt.alloc())?;
     match Cuts::from_places(places, FIRST_TEXT.len()) {
         Ok(given) => assert!(&rt; given.places() == equal.places()),
         Err(_) => assert!(&rt; false),
@@ -81,7 +84,7 @@ fn database_of<R: Threads + Sync>(
 }
 
 /// Asserts what is said of the statement with the first axiom.
-fn is_axiom<R: Abort>(rt: &R, database: &Database<Global>) {
+fn assert_axiom<R: Abort>(rt: &R, database: &Database<Global>) {
     assert!(rt; database.len() == 7 && database.kind(4) == Kind::Axiom && !database.is_open(4));
     assert!(rt; database.end_at(4) == 81 && database.find(b"wi") == Some(4));
     assert!(rt; database.label(4) == Some(b"wi".as_slice()));
@@ -93,14 +96,14 @@ fn is_axiom<R: Abort>(rt: &R, database: &Database<Global>) {
 }
 
 /// Asserts what is said of the symbols.
-fn has_symbols<R: Abort>(rt: &R, database: &Database<Global>) {
+fn assert_symbols<R: Abort>(rt: &R, database: &Database<Global>) {
     assert!(rt; database.symbol_count() == 7);
     assert!(rt; database.name(Sym::new(3)) == b"->".as_slice());
     assert!(rt; !database.is_variable(Sym::new(3)));
 }
 
 /// Asserts what is said of the statement with the theorem.
-fn is_theorem<R: Abort>(rt: &R, database: &Database<Global>) {
+fn assert_theorem<R: Abort>(rt: &R, database: &Database<Global>) {
     assert!(rt; database.len() == 7);
     assert!(rt; !database.disjoint_at(6, Sym::new(5), Sym::new(6)));
     assert!(rt; database.proof_words(6).len() == 5);
@@ -110,9 +113,9 @@ fn is_theorem<R: Abort>(rt: &R, database: &Database<Global>) {
 fn statements(rt: HostRuntime) -> Result<(), AllocError> {
     let database = database_of(&rt, rt.alloc())?;
     assert!(&rt; database.text() == FIRST_TEXT && database.fault() == None);
-    is_axiom(&rt, &database);
-    has_symbols(&rt, &database);
-    is_theorem(&rt, &database);
+    assert_axiom(&rt, &database);
+    assert_symbols(&rt, &database);
+    assert_theorem(&rt, &database);
     assert!(&rt; database.theorems() == [6u32].as_slice());
     assert!(&rt; database.axioms() == [4u32, 5].as_slice());
     Ok(())
@@ -167,7 +170,7 @@ fn board(rt: HostRuntime) -> Result<(), AllocError> {
 }
 
 /// Enters a gate.
-fn enters<G: Gate>(gate: &G) {
+fn enter<G: Gate>(gate: &G) {
     gate.enter(0, 0);
 }
 
@@ -187,7 +190,7 @@ fn citations_of<R: Threads + Wait + Sync>(
 
 #[test]
 fn citations(rt: HostRuntime) -> Result<(), AllocError> {
-    enters(&Open);
+    enter(&Open);
     let database = database_of(&rt, rt.alloc())?;
     let citations = citations_of(&rt, rt.alloc(), &database)?;
     assert!(&rt; citations.rows() == 1 && citations.theorem(0) == 6);
@@ -214,7 +217,7 @@ fn rows(rt: HostRuntime) -> Result<(), AllocError> {
 }
 
 /// Whether the report of the text is written.
-fn has_report(
+fn is_report_written(
     alloc: Global,
     database: &Database<Global>,
     chosen: &Columns<Global>,
@@ -238,7 +241,7 @@ fn has_report(
 }
 
 /// Whether the report of the text's citations is written.
-fn has_citations(
+fn are_citations_written(
     alloc: Global,
     database: &Database<Global>,
     chosen: &Columns<Global>,
@@ -268,8 +271,8 @@ fn reports(rt: HostRuntime) -> Result<(), AllocError> {
     let citations = citations_of(&rt, alloc, &database)?;
     let columns = Columns::new(alloc, &database, None)?;
     let matrix = matrix(&rt, alloc, &citations, &columns)?;
-    assert!(&rt; has_report(alloc, &database, &columns, &matrix));
-    assert!(&rt; has_citations(alloc, &database, &columns, &citations));
+    assert!(&rt; is_report_written(alloc, &database, &columns, &matrix));
+    assert!(&rt; are_citations_written(alloc, &database, &columns, &citations));
     Ok(())
 }
 

@@ -20,15 +20,16 @@ pub(crate) const DETACHMENT: &[u8] =
     b"${ min $e |- p $. maj $e |- ( p -> q ) $. ax-mp $a |- q $. $}\n";
 
 /// A theorem with a hypothesis, up to its proof, which begins at column 41.
-pub(crate) const CONSEQUENT: &[u8] = b"${ h $e |- p $. a1i $p |- ( q -> p ) $= ";
+pub(crate) const A1I_UP_TO_PROOF: &[u8] = b"${ h $e |- p $. a1i $p |- ( q -> p ) $= ";
 
 /// What follows the proof of that theorem.
-pub(crate) const CLOSE: &[u8] = b" $. $}\n";
+pub(crate) const AFTER_PROOF: &[u8] = b" $. $}\n";
 
-/// The proof of that theorem, and the report on it.
-pub(crate) const CONSEQUENT_PROOF: &[u8] = b"wp wq wp wi h wp wq ax-1 ax-mp";
+/// The proof of that theorem.
+pub(crate) const A1I_PROOF: &[u8] = b"wp wq wp wi h wp wq ax-1 ax-mp";
 
-pub(crate) const CONSEQUENT_REPORT: &[u8] =
+/// The report on a text with that theorem.
+pub(crate) const A1I_REPORT: &[u8] =
     b"mmdepend 1\naxioms 3\ntheorems 1\nmatrix\na1i:111\ncounts\na1i:3\nusage\nwi:1:a1i\nax-1:1:a1i\nax-mp:1:a1i\nend\n";
 
 /// A theorem that cites the theorem before it, twice.
@@ -65,7 +66,7 @@ pub(crate) fn joined(alloc: Global, parts: &[&[u8]]) -> Result<Vec<u8>, AllocErr
 pub(crate) fn consequent(alloc: Global) -> Result<Vec<u8>, AllocError> {
     joined(
         alloc,
-        &[BASE, DETACHMENT, CONSEQUENT, CONSEQUENT_PROOF, CLOSE],
+        &[BASE, DETACHMENT, A1I_UP_TO_PROOF, A1I_PROOF, AFTER_PROOF],
     )
 }
 
@@ -123,9 +124,21 @@ pub(crate) fn chain(alloc: Global) -> Result<Vec<u8>, AllocError> {
 /// How many theorems the text of many theorems has.
 pub(crate) const MANY: u32 = 3000;
 
-/// The place of the fault of that text if `t2000` is the first of its theorems whose proof lacks its
-/// last step: the `$.` of that theorem. A theorem has 54 bytes.
-pub(crate) const MANY_FAULT_AT: u32 = 118 + 2000 * 54 + 48;
+/// The theorems of that text whose proofs lack their last step, in tests of its first fault: the
+/// first one and another.
+pub(crate) const FIRST_FAULTY: u32 = 2000;
+
+pub(crate) const ANOTHER_FAULTY: u32 = 2900;
+
+/// How many bytes `BASE` has.
+const BASE_BYTES: u32 = 118;
+
+/// How many bytes each of these theorems has.
+const BYTES_OF_EACH: u32 = 54;
+
+/// The place of the first fault of that text: the `$.` of the first theorem whose proof lacks its
+/// last step, 48 bytes from its beginning.
+pub(crate) const MANY_FAULT_AT: u32 = BASE_BYTES + FIRST_FAULTY * BYTES_OF_EACH + 48;
 
 /// Adds a label: a letter, and the four digits of a number below ten thousand.
 pub(crate) fn add_label(text: &mut Vec<u8>, letter: u8, number: u32) -> Result<(), AllocError> {

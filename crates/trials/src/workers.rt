@@ -4,7 +4,10 @@
 ghost use Rattle.std.specs.Prelude.{◌≤◌};
 
 use crate::databases::database_of;
-use crate::texts::{BASE, LONG, MANY, MANY_FAULT_AT, SHORT, joined, many, through_a_theorem};
+use crate::texts::{
+    ANOTHER_FAULTY, BASE, FIRST_FAULTY, LONG, MANY, MANY_FAULT_AT, SHORT, joined, many,
+    through_a_theorem,
+};
 use mm_spec::{Code, Fault};
 use mm_work::{Citations, Gate, Judged, Open, check_all};
 use std::alloc::{AllocError, Global};
@@ -18,7 +21,7 @@ use std::thread::Threads;
 const MOST_TURNS: u32 = 10_000_000;
 
 /// What checking the proofs of a text finds.
-fn judged<R: Threads + Wait + Sync, G: Gate>(
+fn check_proofs<R: Threads + Wait + Sync, G: Gate>(
     rt: &R,
     alloc: Global,
     text: &[u8],
@@ -33,7 +36,7 @@ fn judged<R: Threads + Wait + Sync, G: Gate>(
 }
 
 /// Whether the first fault has this place and code.
-fn is_refused(judged: &Judged<Global>, at: u32, code: Code) -> bool {
+fn is_faulty_at(judged: &Judged<Global>, at: u32, code: Code) -> bool {
     match judged {
         Judged::Valid(_) => false,
         Judged::Faulty(fault) => *fault == Fault { at, code },
@@ -41,7 +44,7 @@ fn is_refused(judged: &Judged<Global>, at: u32, code: Code) -> bool {
 }
 
 /// Asserts that these are the citations of the two theorems, by their statements.
-fn cites_through_a_theorem<R: Abort>(rt: &R, citations: &Citations<Global>) {
+fn assert_cites_through_a_theorem<R: Abort>(rt: &R, citations: &Citations<Global>) {
     assert_eq!(rt; citations.rows(), 2);
     assert_eq!(rt; citations.theorems(), [13u32, 17].as_slice());
     assert_eq!(rt; citations.theorem(0), 13);
@@ -51,7 +54,7 @@ fn cites_through_a_theorem<R: Abort>(rt: &R, citations: &Citations<Global>) {
 }
 
 /// Asserts that each of the many theorems cites the same assertion.
-fn many_cite_one<R: Abort>(rt: &R, citations: &Citations<Global>) {
+fn assert_many_cite_one<R: Abort>(rt: &R, citations: &Citations<Global>) {
     assert_eq!(rt; citations.rows(), MANY);
     for row in 0..citations.rows() {
         assert_eq!(rt; citations.theorem(row), row + 6);
@@ -64,12 +67,12 @@ fn two_theorems_by_any_workers(rt: HostRuntime) -> Result<(), AllocError> {
     let valid = through_a_theorem(rt.alloc())?;
     let faulty = joined(rt.alloc(), &[BASE, LONG, SHORT])?;
     for workers in [1, 2, 64] {
-        match judged(&rt, rt.alloc(), &valid, workers, false, &Open)? {
-            Judged::Valid(citations) => cites_through_a_theorem(&rt, &citations),
+        match check_proofs(&rt, rt.alloc(), &valid, workers, false, &Open)? {
+            Judged::Valid(citations) => assert_cites_through_a_theorem(&rt, &citations),
             Judged::Faulty(fault) => panic!(&rt; "a fault at {}", fault.at),
         }
-        let found = judged(&rt, rt.alloc(), &faulty, workers, false, &Open)?;
-        assert!(&rt; is_refused(&found, BASE.len() as u32 + 47, Code::NotOneEntry));
+        let judged_faulty = check_proofs(&rt, rt.alloc(), &faulty, workers, false, &Open)?;
+        assert!(&rt; is_faulty_at(&judged_faulty, BASE.len() as u32 + 47, Code::NotOneEntry));
     }
     Ok(())
 }
@@ -77,14 +80,14 @@ fn two_theorems_by_any_workers(rt: HostRuntime) -> Result<(), AllocError> {
 #[test]
 fn many_theorems_by_any_workers(rt: HostRuntime) -> Result<(), AllocError> {
     let valid = many(rt.alloc(), &[])?;
-    let faulty = many(rt.alloc(), &[2000, 2900])?;
+    let faulty = many(rt.alloc(), &[FIRST_FAULTY, ANOTHER_FAULTY])?;
     for workers in [1, 2, 64] {
-        match judged(&rt, rt.alloc(), &valid, workers, false, &Open)? {
-            Judged::Valid(citations) => many_cite_one(&rt, &citations),
+        match check_proofs(&rt, rt.alloc(), &valid, workers, false, &Open)? {
+            Judged::Valid(citations) => assert_many_cite_one(&rt, &citations),
             Judged::Faulty(fault) => panic!(&rt; "a fault at {}", fault.at),
         }
-        let found = judged(&rt, rt.alloc(), &faulty, workers, false, &Open)?;
-        assert!(&rt; is_refused(&found, MANY_FAULT_AT, Code::NotOneEntry));
+        let judged_faulty = check_proofs(&rt, rt.alloc(), &faulty, workers, false, &Open)?;
+        assert!(&rt; is_faulty_at(&judged_faulty, MANY_FAULT_AT, Code::NotOneEntry));
     }
     Ok(())
 }
@@ -111,6 +114,7 @@ impl Drop for Meeting {
 }
 
 impl Meeting {
+    /// A gate for the workers whose bits are set in `all`.
     fn of(all: u64) -> Meeting {
         Meeting {
             all,
@@ -127,8 +131,8 @@ impl Meeting {
 
 impl Gate for Meeting {
     fn enter(&self, worker: u32, _theorem: u32) {
-        let own = 1u64.wrapping_shl(worker);
-        if self.come.fetch_or(own, Ordering::SeqCst) & own != 0 {
+        let bit_of_worker = 1u64.wrapping_shl(worker);
+        if self.come.fetch_or(bit_of_worker, Ordering::SeqCst) & bit_of_worker != 0 {
             return;
         }
         for _ in 0..MOST_TURNS {
@@ -145,8 +149,8 @@ impl Gate for Meeting {
 fn two_at_the_gate(rt: HostRuntime) -> Result<(), AllocError> {
     let text = through_a_theorem(rt.alloc())?;
     let gate = Meeting::of(0b11);
-    match judged(&rt, rt.alloc(), &text, 2, false, &gate)? {
-        Judged::Valid(citations) => cites_through_a_theorem(&rt, &citations),
+    match check_proofs(&rt, rt.alloc(), &text, 2, false, &gate)? {
+        Judged::Valid(citations) => assert_cites_through_a_theorem(&rt, &citations),
         Judged::Faulty(fault) => panic!(&rt; "a fault at {}", fault.at),
     }
     assert!(&rt; gate.was_held());
@@ -157,8 +161,8 @@ fn two_at_the_gate(rt: HostRuntime) -> Result<(), AllocError> {
 fn four_at_the_gate(rt: HostRuntime) -> Result<(), AllocError> {
     let text = many(rt.alloc(), &[])?;
     let gate = Meeting::of(0b1111);
-    match judged(&rt, rt.alloc(), &text, 4, false, &gate)? {
-        Judged::Valid(citations) => many_cite_one(&rt, &citations),
+    match check_proofs(&rt, rt.alloc(), &text, 4, false, &gate)? {
+        Judged::Valid(citations) => assert_many_cite_one(&rt, &citations),
         Judged::Faulty(fault) => panic!(&rt; "a fault at {}", fault.at),
     }
     assert!(&rt; gate.was_held());

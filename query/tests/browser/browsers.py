@@ -1,4 +1,4 @@
-"""Three browsers behind one interface: Chromium and WebKitGTK by selenium, Firefox by Marionette."""
+"""Chromium and WebKitGTK by selenium, Firefox by Marionette, behind one interface."""
 
 import importlib
 import os

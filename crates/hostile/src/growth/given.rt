@@ -5,7 +5,7 @@
 ghost use Rattle.std.specs.Prelude.{◌≡◌, IfOk};
 ghost use Rattle.mm_spec.specs.Lexed.{tokens_of, lexical_fault};
 
-use super::words::{PLACE, is_summary};
+use super::words::{CUT_AT, is_summary};
 use super::{MOST_GROWTHS, was_refused};
 use crate::heap::Refusing;
 use crate::texts::{DISJOINT, FIRST_TEXT};
@@ -17,7 +17,7 @@ use std::alloc::{AllocError, Allocator, Global};
 use std::thread::Threads;
 
 /// How many bytes the heap has, which is more than any of these calls takes.
-const SIZE: usize = 1_048_576;
+const HEAP_SIZE: usize = 1_048_576;
 
 /// What a text is read as, with the tokens in a heap.
 fn lexed_in<'h, R: Threads + Sync>(
@@ -57,7 +57,7 @@ fn has_disjoint_variables<A: Allocator>(
 
 #[test]
 fn tokens_are_given_back_and_the_text_is_as_it_was(rt: HostRuntime) -> Result<(), AllocError> {
-    let local = LocalHeap::new(rt.alloc(), SIZE)?;
+    let local = LocalHeap::new(rt.alloc(), HEAP_SIZE)?;
     let heap = Refusing::new(&local);
     let text = DISJOINT.to_vec(rt.alloc())?;
     let unused = local.used();
@@ -82,12 +82,12 @@ fn tokens_are_given_back_and_the_text_is_as_it_was(rt: HostRuntime) -> Result<()
 
 #[test]
 fn pieces_are_given_back(rt: HostRuntime) -> Result<(), AllocError> {
-    let local = LocalHeap::new(rt.alloc(), SIZE)?;
+    let local = LocalHeap::new(rt.alloc(), HEAP_SIZE)?;
     let heap = Refusing::new(&local);
     let unused = local.used();
     for number in 1..MOST_GROWTHS {
-        let first = lex_piece(&heap, FIRST_TEXT, 0, PLACE)?;
-        let second = lex_piece(&heap, FIRST_TEXT, PLACE, 170)?;
+        let first = lex_piece(&heap, FIRST_TEXT, 0, CUT_AT)?;
+        let second = lex_piece(&heap, FIRST_TEXT, CUT_AT, FIRST_TEXT.len())?;
         assert!(&rt; local.used() > unused);
         heap.refuse(number);
         let refused = was_refused(

@@ -9,22 +9,23 @@ use mm_stmt::Sym;
 use std::alloc::{AllocError, Allocator, Global};
 use std::process::Abort;
 
-/// What a theorem cites, and what the next one does.
-const FIRST: [u32; 3] = [4, 5, 9];
+/// What a theorem cites.
+const FIRST_CITES: [u32; 3] = [4, 5, 9];
 
-const SECOND: [u32; 2] = [4, 13];
+/// What the next theorem cites.
+const SECOND_CITES: [u32; 2] = [4, 13];
 
-/// Refuses a growth of appending a list to none. If the list was refused, the next is the first.
-/// Returns whether there was such a growth.
+/// Refuses a growth of appending a list to none. Asserts that after a refusal the next list is the
+/// first. Returns whether there was such a growth.
 fn list_refused<R: Abort>(rt: &R, heap: &Refusing<Global>, number: u64) -> bool {
     let mut lists = Lists::new(heap);
     heap.refuse(number);
-    match lists.push(&FIRST) {
-        Ok(()) => was_refused(rt, heap, Some(lists.get(0) == FIRST.as_slice())),
+    match lists.push(&FIRST_CITES) {
+        Ok(()) => was_refused(rt, heap, Some(lists.get(0) == FIRST_CITES.as_slice())),
         Err(_) => {
             let refused = was_refused(rt, heap, None);
-            match lists.push(&SECOND) {
-                Ok(()) => assert!(rt; lists.get(0) == SECOND.as_slice()),
+            match lists.push(&SECOND_CITES) {
+                Ok(()) => assert!(rt; lists.get(0) == SECOND_CITES.as_slice()),
                 Err(_) => assert!(rt; false),
             }
             refused
@@ -44,11 +45,15 @@ fn a_list_that_is_refused_is_not_appended(rt: HostRuntime) {
     assert!(&rt; false);
 }
 
-/// Refuses a growth of appending a step to none, with room for `most` steps. If the step was
-/// refused, there is none, and the next one is the first. Returns whether there was such a growth.
-fn step_refused<R: Abort>(rt: &R, heap: &Refusing<Global>, most: usize, number: u64) -> bool {
+/// The statement number of a theorem.
+const THEOREM: u32 = 13;
+
+/// Refuses a growth of appending a step to none, with room for `room` steps. Asserts that after a
+/// refusal there is no step, and that the next one is the first. Returns whether there was such a
+/// growth.
+fn step_refused<R: Abort>(rt: &R, heap: &Refusing<Global>, room: usize, number: u64) -> bool {
     heap.refuse(number);
-    let mut steps = Steps::none(heap, 13, most);
+    let mut steps = Steps::none(heap, THEOREM, room);
     match steps.push(20, Step::Label(2)) {
         Ok(()) => was_refused(rt, heap, Some(steps.step(0) == Step::Label(2))),
         Err(_) => {
@@ -66,14 +71,14 @@ fn step_refused<R: Abort>(rt: &R, heap: &Refusing<Global>, most: usize, number: 
 #[test]
 fn a_step_that_is_refused_is_not_appended(rt: HostRuntime) {
     let heap = Refusing::new(rt.alloc());
-    for most in [0, 4] {
-        assert!(&rt; step_refused(&rt, &heap, most, 1));
-        assert!(&rt; !step_refused(&rt, &heap, most, 2));
+    for room in [0, 4] {
+        assert!(&rt; step_refused(&rt, &heap, room, 1));
+        assert!(&rt; !step_refused(&rt, &heap, room, 2));
     }
 }
 
 /// Whether there is a list of disjoint pairs.
-fn is_list<A: Allocator>(answer: Result<DisjointCache<A>, AllocError>) -> Option<bool> {
+fn is_disjoint_cache<A: Allocator>(answer: Result<DisjointCache<A>, AllocError>) -> Option<bool> {
     match answer {
         Ok(_) => Some(true),
         Err(_) => None,
@@ -84,9 +89,9 @@ fn is_list<A: Allocator>(answer: Result<DisjointCache<A>, AllocError>) -> Option
 fn pairs_without_memory(rt: HostRuntime) {
     let heap = Refusing::new(rt.alloc());
     heap.refuse(1);
-    assert!(&rt; was_refused(&rt, &heap, is_list(DisjointCache::new(&heap))));
+    assert!(&rt; was_refused(&rt, &heap, is_disjoint_cache(DisjointCache::new(&heap))));
     heap.refuse(2);
-    assert!(&rt; !was_refused(&rt, &heap, is_list(DisjointCache::new(&heap))));
+    assert!(&rt; !was_refused(&rt, &heap, is_disjoint_cache(DisjointCache::new(&heap))));
 }
 
 /// Whether a formula that is marked and repeated is then one of two entries.

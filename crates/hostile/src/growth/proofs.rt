@@ -200,8 +200,8 @@ fn checked_in_turn<'h, R: Abort>(
     false
 }
 
-/// Refuses a growth of a checker's first check, and uses the checker again. Returns whether there
-/// was such a growth; `None` if there is no checker.
+/// Refuses a growth of a checker's first check, and asserts that the checker is right afterwards.
+/// Returns whether there was such a growth; `None` if there is no checker.
 fn checker_refused<'h, R: Abort>(
     rt: &R,
     heap: &'h Refusing<Global>,
@@ -219,10 +219,10 @@ fn checker_refused<'h, R: Abort>(
         return None;
     };
     heap.refuse(number);
-    let first = is_checked(checked_by(&mut checker, heap, database, theorem, steps));
-    let refused = was_refused(rt, heap, first);
-    let again = is_checked(checked_by(&mut checker, heap, database, theorem, steps));
-    assert!(rt; again == Some(true));
+    let is_right = is_checked(checked_by(&mut checker, heap, database, theorem, steps));
+    let refused = was_refused(rt, heap, is_right);
+    let is_right_again = is_checked(checked_by(&mut checker, heap, database, theorem, steps));
+    assert!(rt; is_right_again == Some(true));
     Some(refused)
 }
 

@@ -32,8 +32,8 @@ fn are_waves<A: Allocator>(answer: Result<Vec<u32, A>, AllocError>) -> Option<bo
     }
 }
 
-/// Refuses each growth in turn. Returns whether the last call met no refusal, and the first one
-/// did; the functions below return the same.
+/// Refuses each growth of computing the waves in turn. Returns whether the last call met no
+/// refusal, and the first one did.
 fn waves_in_turn<'h, R: Abort>(
     rt: &R,
     heap: &'h Refusing<Global>,
@@ -66,6 +66,8 @@ fn are_columns<A: Allocator>(answer: Result<Columns<A>, AllocError>) -> Option<b
     }
 }
 
+/// Refuses each growth of listing the columns in turn. Returns whether the last call met no
+/// refusal, and the first one did.
 fn columns_in_turn<R: Abort>(
     rt: &R,
     heap: &Refusing<Global>,
@@ -92,20 +94,22 @@ fn columns_without_memory(rt: HostRuntime) -> Result<(), AllocError> {
 }
 
 /// Whether each of the two theorems rests on each of the three axioms.
-fn is_full<A: Allocator>(answer: Result<Matrix<A>, AllocError>) -> Option<bool> {
+fn is_full_matrix<A: Allocator>(answer: Result<Matrix<A>, AllocError>) -> Option<bool> {
     match answer {
-        Ok(table) => Some(
-            table.rows() == 2
-                && table.columns() == 3
-                && table.row_count(0) == 3
-                && table.row_count(1) == 3
-                && table.column_count(0) == 2
-                && table.next_user(2, Some(0)) == Some(1),
+        Ok(matrix) => Some(
+            matrix.rows() == 2
+                && matrix.columns() == 3
+                && matrix.row_count(0) == 3
+                && matrix.row_count(1) == 3
+                && matrix.column_count(0) == 2
+                && matrix.next_user(2, Some(0)) == Some(1),
         ),
         Err(_) => None,
     }
 }
 
+/// Refuses each growth of computing the matrix in turn. Returns whether the last call met no
+/// refusal, and the first five did.
 fn rows_in_turn<'h, R: Abort + Threads + Sync>(
     rt: &R,
     heap: &'h Refusing<Global>,
@@ -114,8 +118,12 @@ fn rows_in_turn<'h, R: Abort + Threads + Sync>(
 ) -> bool {
     for number in 1..MOST_GROWTHS {
         heap.refuse(number);
-        let refused = was_refused(rt, heap, is_full(matrix(rt, heap, citations, columns)));
-        assert!(rt; is_full(matrix(rt, heap, citations, columns)) == Some(true));
+        let refused = was_refused(
+            rt,
+            heap,
+            is_full_matrix(matrix(rt, heap, citations, columns)),
+        );
+        assert!(rt; is_full_matrix(matrix(rt, heap, citations, columns)) == Some(true));
         if !refused {
             return number > 5;
         }
@@ -133,7 +141,7 @@ fn rows_without_memory(rt: HostRuntime) -> Result<(), AllocError> {
 }
 
 /// Whether each of the two theorems rests on each of the three axioms, from the rows alone.
-fn are_full<A: Allocator>(answer: Result<MarkedRows<A>, AllocError>) -> Option<bool> {
+fn are_full_rows<A: Allocator>(answer: Result<MarkedRows<A>, AllocError>) -> Option<bool> {
     match answer {
         Ok(marked) => Some(
             marked.rows() == 2
@@ -145,6 +153,8 @@ fn are_full<A: Allocator>(answer: Result<MarkedRows<A>, AllocError>) -> Option<b
     }
 }
 
+/// Refuses each growth of computing the rows alone in turn. Returns whether the last call met no
+/// refusal, and the first three did.
 fn rows_alone_in_turn<'h, R: Abort + Threads + Sync>(
     rt: &R,
     heap: &'h Refusing<Global>,
@@ -156,9 +166,9 @@ fn rows_alone_in_turn<'h, R: Abort + Threads + Sync>(
         let refused = was_refused(
             rt,
             heap,
-            are_full(marked_rows(rt, heap, citations, columns)),
+            are_full_rows(marked_rows(rt, heap, citations, columns)),
         );
-        assert!(rt; are_full(marked_rows(rt, heap, citations, columns)) == Some(true));
+        assert!(rt; are_full_rows(marked_rows(rt, heap, citations, columns)) == Some(true));
         if !refused {
             return number > 3;
         }

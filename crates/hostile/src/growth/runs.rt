@@ -16,26 +16,31 @@ use std::process::Abort;
 use std::sync::Wait;
 use std::thread::Threads;
 
+/// How many pieces the text is cut into, and how many workers a run has.
+const PIECES: u32 = 3;
+
+const WORKERS: u32 = 2;
+
 /// Whether a run wrote exactly this output, and allocated nothing while it wrote. `None` if it ran
 /// out of memory and wrote nothing.
-fn answer<R: Threads + Wait + Sync>(
+fn is_right_run<R: Threads + Wait + Sync>(
     rt: &R,
     alloc: Global,
     heap: &Refusing<Global>,
     mut text: &[u8],
     output: &[u8],
 ) -> Option<bool> {
-    let plan = plan_of(Cutting::Count(3), 2, Choice::All);
+    let plan = plan_of(Cutting::Count(PIECES), WORKERS, Choice::All);
     let mut to = GrowthWatching::new(alloc, heap);
     let end = ended(rt, heap, &plan, &mut text, &mut to);
     if end == Some(RunEnd::NoMemory) && to.calls == 0 {
         return None;
     }
-    Some(is_end(end) && to.taken.as_slice() == output && to.no_growth_between())
+    Some(has_output(end) && to.taken.as_slice() == output && to.no_growth_between())
 }
 
-/// Whether a run ended as one that wrote its output.
-fn is_end(end: Option<RunEnd>) -> bool {
+/// Whether a run with this end wrote its whole output.
+fn has_output(end: Option<RunEnd>) -> bool {
     match end {
         Some(RunEnd::Accepted | RunEnd::Refused(_)) => true,
         _ => false,
@@ -44,7 +49,7 @@ fn is_end(end: Option<RunEnd>) -> bool {
 
 /// Asserts that a run whose growth of that number is refused runs out of memory or writes this
 /// output, and that the run after it writes the output. Returns whether the growth came.
-fn refused_at<R: Abort + Threads + Wait + Sync>(
+fn assert_right_with_refusal<R: Abort + Threads + Wait + Sync>(
     rt: &R,
     heap: &Refusing<Global>,
     alloc: Global,
@@ -53,16 +58,20 @@ fn refused_at<R: Abort + Threads + Wait + Sync>(
     number: u64,
 ) -> bool {
     heap.refuse(number);
-    let first = answer(rt, alloc, heap, text, output);
-    let refused = was_refused(rt, heap, first);
-    let again = answer(rt, alloc, heap, text, output);
-    assert!(rt; again == Some(true));
+    let is_right = is_right_run(rt, alloc, heap, text, output);
+    let refused = was_refused(rt, heap, is_right);
+    let is_right_again = is_right_run(rt, alloc, heap, text, output);
+    assert!(rt; is_right_again == Some(true));
     refused
 }
 
+/// How many runs there are at least until one meets no refusal.
+const LEAST_GROWTHS: u64 = 20;
+
 /// Refuses the first growth of a run, in the next run the one that is `step` after it, and so on,
-/// until a run meets no refusal.
-fn refused_in_turn<R: Abort + Threads + Wait + Sync>(
+/// until a run meets no refusal. Asserts that each run is right, and that there were more than
+/// `LEAST_GROWTHS` of them.
+fn assert_right_with_each_refusal<R: Abort + Threads + Wait + Sync>(
     rt: &R,
     alloc: Global,
     text: &[u8],
@@ -71,7 +80,7 @@ fn refused_in_turn<R: Abort + Threads + Wait + Sync>(
 ) {
     let heap = Refusing::new(alloc);
     for turn in 0..MOST_GROWTHS {
-        if !refused_at(
+        if !assert_right_with_refusal(
             rt,
             &heap,
             alloc,
@@ -79,7 +88,7 @@ fn refused_in_turn<R: Abort + Threads + Wait + Sync>(
             output,
             turn.wrapping_mul(step).wrapping_add(1),
         ) {
-            assert!(rt; turn > 20);
+            assert!(rt; turn > LEAST_GROWTHS);
             return;
         }
     }
@@ -97,7 +106,7 @@ fn a_run_without_memory_writes_nothing(rt: HostRuntime) {
         (TWO_FAULTS, TWO_FAULTS_REFUSAL),
     ];
     for (text, output) in rows {
-        refused_in_turn(&rt, rt.alloc(), text, output, 1);
+        assert_right_with_each_refusal(&rt, rt.alloc(), text, output, 1);
     }
 }
 
@@ -129,6 +138,6 @@ fn a_long_report_takes_no_memory_while_it_is_written(rt: HostRuntime) -> Result<
     let text = many_theorems(alloc, 1500)?;
     let output = output_of(&rt, alloc, &text);
     assert!(&rt; output.len() > 30_000);
-    refused_in_turn(&rt, alloc, &text, &output, 61);
+    assert_right_with_each_refusal(&rt, alloc, &text, &output, 61);
     Ok(())
 }

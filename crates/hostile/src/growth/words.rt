@@ -11,16 +11,18 @@ use std::alloc::{AllocError, Allocator, Global};
 const TOKENS: usize = 62;
 
 /// Where that text is cut, in the middle of a word.
-pub(crate) const PLACE: usize = 58;
+pub(crate) const CUT_AT: usize = 58;
 
 fn word(start: u32, end: u32) -> Word {
     Word { start, end }
 }
 
 /// Whether these are cuts of the first text into three equal pieces.
-fn is_cut<A: Allocator + Copy>(answer: Result<Cuts<A>, AllocError>) -> Option<bool> {
+fn are_cuts<A: Allocator + Copy>(answer: Result<Cuts<A>, AllocError>) -> Option<bool> {
     match answer {
-        Ok(cuts) => Some(cuts.places() == [56u32, 113].as_slice() && cuts.text_len() == 170),
+        Ok(cuts) => Some(
+            cuts.places() == [56u32, 113].as_slice() && cuts.text_len() == FIRST_TEXT.len(),
+        ),
         Err(_) => None,
     }
 }
@@ -30,8 +32,12 @@ fn equal_cuts_without_memory(rt: HostRuntime) {
     let heap = Refusing::new(rt.alloc());
     for number in 1..MOST_GROWTHS {
         heap.refuse(number);
-        let refused = was_refused(&rt, &heap, is_cut(Cuts::equal(&heap, 170, 3)));
-        assert!(&rt; is_cut(Cuts::equal(&heap, 170, 3)) == Some(true));
+        let refused = was_refused(
+            &rt,
+            &heap,
+            are_cuts(Cuts::equal(&heap, FIRST_TEXT.len(), 3)),
+        );
+        assert!(&rt; are_cuts(Cuts::equal(&heap, FIRST_TEXT.len(), 3)) == Some(true));
         if !refused {
             assert!(&rt; number > 1);
             return;
@@ -45,7 +51,7 @@ fn is_beginning<A: Allocator>(answer: Result<Piece<A>, AllocError>) -> Option<bo
     match answer {
         Ok(piece) => Some(
             piece.from() == 0
-                && piece.to() == PLACE as u32
+                && piece.to() == CUT_AT as u32
                 && piece.head() == word(0, 0)
                 && piece.tail() == word(57, 58)
                 && piece.tokens(false).len() == 20
@@ -63,9 +69,9 @@ fn a_piece_without_memory(rt: HostRuntime) {
         let refused = was_refused(
             &rt,
             &heap,
-            is_beginning(lex_piece(&heap, FIRST_TEXT, 0, PLACE)),
+            is_beginning(lex_piece(&heap, FIRST_TEXT, 0, CUT_AT)),
         );
-        assert!(&rt; is_beginning(lex_piece(&heap, FIRST_TEXT, 0, PLACE)) == Some(true));
+        assert!(&rt; is_beginning(lex_piece(&heap, FIRST_TEXT, 0, CUT_AT)) == Some(true));
         if !refused {
             assert!(&rt; number > 1);
             return;
@@ -79,7 +85,7 @@ pub(crate) fn is_summary<A: Allocator>(answer: Result<Piece<A>, AllocError>) -> 
     match answer {
         Ok(piece) => Some(
             piece.from() == 0
-                && piece.to() == 170
+                && piece.to() as usize == FIRST_TEXT.len()
                 && piece.head() == word(0, 0)
                 && piece.tail() == word(170, 170)
                 && piece.tokens(false).len() == TOKENS
@@ -91,12 +97,12 @@ pub(crate) fn is_summary<A: Allocator>(answer: Result<Piece<A>, AllocError>) -> 
 
 /// Reads the two parts of the first text with memory, and joins them with a growth refused. If the
 /// join fails, both parts are dropped.
-fn joined(
+fn join_pieces(
     heap: &Refusing<Global>,
     number: Option<u64>,
 ) -> Result<Result<Piece<&Refusing<Global>>, AllocError>, AllocError> {
-    let first = lex_piece(heap, FIRST_TEXT, 0, PLACE)?;
-    let second = lex_piece(heap, FIRST_TEXT, PLACE, 170)?;
+    let first = lex_piece(heap, FIRST_TEXT, 0, CUT_AT)?;
+    let second = lex_piece(heap, FIRST_TEXT, CUT_AT, FIRST_TEXT.len())?;
     if let Some(number) = number {
         heap.refuse(number);
     }
@@ -107,8 +113,8 @@ fn joined(
 fn pieces_joined_without_memory(rt: HostRuntime) -> Result<(), AllocError> {
     let heap = Refusing::new(rt.alloc());
     for number in 1..MOST_GROWTHS {
-        let refused = was_refused(&rt, &heap, is_summary(joined(&heap, Some(number))?));
-        assert!(&rt; is_summary(joined(&heap, None)?) == Some(true));
+        let refused = was_refused(&rt, &heap, is_summary(join_pieces(&heap, Some(number))?));
+        assert!(&rt; is_summary(join_pieces(&heap, None)?) == Some(true));
         if !refused {
             assert!(&rt; number > 1);
             return Ok(());

@@ -67,9 +67,9 @@ const COMPRESSED_FAULTS: [Word; 2] = [b"x1 $p wff p $= ( ) ZA $.", b"x1 $p wff p
 /// One of the words or statements that are inserted.
 fn inserted_by(chance: &mut Chance) -> Word {
     if chance.once_in(12) {
-        COMPRESSED_FAULTS[chance.below(2)]
+        COMPRESSED_FAULTS[chance.below(COMPRESSED_FAULTS.len())]
     } else {
-        INSERTED[chance.below(54)]
+        INSERTED[chance.below(INSERTED.len())]
     }
 }
 

@@ -13,8 +13,8 @@ const LAST_LETTERS: [Word; 20] = [
 
 const EARLIER_LETTERS: [Word; 5] = [b"U", b"V", b"W", b"X", b"Y"];
 
-/// The place of a word among words, if it is one of them.
-fn place_of(words: &[Word], word: Word) -> Option<usize> {
+/// The index of a word among words, if it is one of them.
+fn index_of(words: &[Word], word: Word) -> Option<usize> {
     words.iter().position(|other| *other == word)
 }
 
@@ -32,13 +32,13 @@ fn numbered(alloc: Global, proof: &[Word], hypothesis: Word) -> (Words, Words) {
     let mut hypotheses = Words::new(alloc);
     let mut others = Words::new(alloc);
     for label in [FLOATING[0], FLOATING[1], FLOATING[2], hypothesis] {
-        if place_of(proof, label).is_some() {
+        if index_of(proof, label).is_some() {
             hypotheses.add(label);
         }
     }
     for label in proof {
-        let is_known = place_of(&hypotheses.list, label).is_some();
-        if !is_known && place_of(&others.list, label).is_none() {
+        let is_known = index_of(&hypotheses.list, label).is_some();
+        if !is_known && index_of(&others.list, label).is_none() {
             others.add(label);
         }
     }
@@ -66,7 +66,7 @@ pub(crate) fn compressed(
         add_step(&mut written, &mut numbers, label, labels, chance);
         if chance.once_in(4) {
             written.add(b"Z");
-            let is_hypothesis = place_of(&hypotheses.list, label).is_some();
+            let is_hypothesis = index_of(&hypotheses.list, label).is_some();
             numbers.add(if is_hypothesis { label } else { b"" });
         }
     }
@@ -82,12 +82,12 @@ fn add_step(
     chance: &mut Chance,
 ) {
     let marks = &numbers.list[labels.min(numbers.list.len())..];
-    match place_of(marks, label) {
+    match index_of(marks, label) {
         Some(mark) if mark < 60 && labels < 60 && chance.once_in(2) => {
             add_number(written, labels + mark);
         }
         _ => {
-            if let Some(number) = place_of(&numbers.list, label) {
+            if let Some(number) = index_of(&numbers.list, label) {
                 add_number(written, number % 120);
             }
         }

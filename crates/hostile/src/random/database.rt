@@ -37,8 +37,8 @@ struct Theorem {
     proof: Words,
 }
 
-/// A formula, with the proof that it is one.
-fn syntax(alloc: Global, chance: &mut Chance) -> Theorem {
+/// The theorem that a random formula is one.
+fn wff_theorem(alloc: Global, chance: &mut Chance) -> Theorem {
     let formula = formula_by(alloc, ALL_VARIABLES, chance);
     let mut proof = Words::new(alloc);
     proof.add_all(&formula.proof.list);
@@ -52,7 +52,7 @@ fn syntax(alloc: Global, chance: &mut Chance) -> Theorem {
 }
 
 /// An instance of the first axiom.
-fn instance(alloc: Global, chance: &mut Chance) -> Theorem {
+fn axiom_instance(alloc: Global, chance: &mut Chance) -> Theorem {
     let first = formula_by(alloc, ALL_VARIABLES, chance);
     let second = formula_by(alloc, ALL_VARIABLES, chance);
     let mut proof = Words::new(alloc);
@@ -70,7 +70,7 @@ fn instance(alloc: Global, chance: &mut Chance) -> Theorem {
 
 /// A conditional whose second part is the hypothesis, proved by the theorem of the head, or by
 /// detachment as that theorem is.
-fn consequent(alloc: Global, label: Word, chance: &mut Chance) -> Theorem {
+fn by_consequent(alloc: Global, label: Word, chance: &mut Chance) -> Theorem {
     let first = formula_by(alloc, ALL_VARIABLES, chance);
     let second = formula_by(alloc, ALL_VARIABLES, chance);
     let formula = conditional(alloc, &second, &first);
@@ -156,10 +156,10 @@ fn add_theorem(
 /// A random theorem.
 fn theorem_by(alloc: Global, hypothesis: Word, chance: &mut Chance) -> Theorem {
     match chance.below(5) {
-        0 => syntax(alloc, chance),
-        1 => instance(alloc, chance),
+        0 => wff_theorem(alloc, chance),
+        1 => axiom_instance(alloc, chance),
         2 => with_disjoint(alloc, chance),
-        _ => consequent(alloc, hypothesis, chance),
+        _ => by_consequent(alloc, hypothesis, chance),
     }
 }
 

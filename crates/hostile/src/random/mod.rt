@@ -41,7 +41,7 @@ const CODES: [u8; 37] = [
 /// Random cuts: into equal pieces, or at some places, of which the last may be past the end.
 fn cuts_by(alloc: Global, len: usize, chance: &mut Chance) -> Cutting<Global> {
     if chance.once_in(2) {
-        return Cutting::Count(WORKERS_OR_PIECES[chance.below(24)]);
+        return Cutting::Count(WORKERS_OR_PIECES[chance.below(WORKERS_OR_PIECES.len())]);
     }
     let mut places = Vec::new(alloc);
     let mut place = 0usize;
@@ -63,7 +63,8 @@ fn run_by<R: Threads + Wait + Sync>(
     chance: &mut Chance,
 ) -> (Option<RunEnd>, Vec<u8>) {
     let cuts = cuts_by(alloc, text.len(), chance);
-    let plan = plan_of(cuts, WORKERS_OR_PIECES[chance.below(24)], choice);
+    let workers = WORKERS_OR_PIECES[chance.below(WORKERS_OR_PIECES.len())];
+    let plan = plan_of(cuts, workers, choice);
     let mut written = Vec::new(alloc);
     let end = ended(rt, alloc, &plan, &mut text, &mut written);
     (end, written)
@@ -116,40 +117,44 @@ fn has_sections(report: &[u8], sections: [&[u8]; 3]) -> bool {
     rest == b"end\n".as_slice()
 }
 
-/// Asserts that a report's sections are those of the reports that have one of them each, with the
-/// same first lines.
-fn same_sections<R: Abort + Threads + Wait + Sync>(
+/// Asserts that a report with all sections has the first lines, and in order the sections, of the
+/// three reports that have one section each.
+fn assert_sections<R: Abort + Threads + Wait + Sync>(
     rt: &R,
     alloc: Global,
     text: &[u8],
     report: &[u8],
     chance: &mut Chance,
 ) {
-    let (_, rows) = run_by(rt, alloc, text, Choice::Matrix, chance);
-    let (_, counts) = run_by(rt, alloc, text, Choice::Counts, chance);
-    let (_, users) = run_by(rt, alloc, text, Choice::Usage, chance);
-    let sections = [section_of(&rows), section_of(&counts), section_of(&users)];
+    let (_, matrix_report) = run_by(rt, alloc, text, Choice::Matrix, chance);
+    let (_, counts_report) = run_by(rt, alloc, text, Choice::Counts, chance);
+    let (_, usage_report) = run_by(rt, alloc, text, Choice::Usage, chance);
+    let sections = [
+        section_of(&matrix_report),
+        section_of(&counts_report),
+        section_of(&usage_report),
+    ];
     assert!(rt; has_sections(report, sections));
-    for other in [&rows, &counts, &users] {
+    for other in [&matrix_report, &counts_report, &usage_report] {
         assert!(rt; other[..head_of(other)] == report[..head_of(report)]);
     }
 }
 
 /// Runs a text in several ways, asserts that all write the same, and returns how they end.
-fn judged<R: Abort + Threads + Wait + Sync>(
+fn end_of_all_runs<R: Abort + Threads + Wait + Sync>(
     rt: &R,
     alloc: Global,
     text: &[u8],
     chance: &mut Chance,
 ) -> Option<RunEnd> {
     let (end, written) = run_plainly(rt, alloc, text);
-    let (other_end, other) = run_by(rt, alloc, text, Choice::All, chance);
-    assert!(rt; other_end == end && other.as_slice() == written.as_slice());
+    let (other_end, other_written) = run_by(rt, alloc, text, Choice::All, chance);
+    assert!(rt; other_end == end && other_written.as_slice() == written.as_slice());
     if end == Some(RunEnd::Accepted) {
-        same_sections(rt, alloc, text, &written, chance);
+        assert_sections(rt, alloc, text, &written, chance);
     } else {
-        let (_, counts) = run_by(rt, alloc, text, Choice::Counts, chance);
-        assert!(rt; counts.as_slice() == written.as_slice());
+        let (_, refusal) = run_by(rt, alloc, text, Choice::Counts, chance);
+        assert!(rt; refusal.as_slice() == written.as_slice());
     }
     end
 }
@@ -201,7 +206,7 @@ fn texts_by_chance_have_one_answer(rt: HostRuntime) {
     for seed in 0..TEXTS {
         let mut chance = Chance::new(seed as u64);
         let (text, is_unchanged) = text_by(rt.alloc(), &mut chance);
-        let end = judged(&rt, rt.alloc(), &text, &mut chance);
+        let end = end_of_all_runs(&rt, rt.alloc(), &text, &mut chance);
         assert!(&rt;
             !is_unchanged || end == Some(RunEnd::Accepted),
             "text {seed}"

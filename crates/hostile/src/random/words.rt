@@ -56,13 +56,13 @@ fn is_letter(word: Word) -> bool {
 /// The text of the words. Between letters of a proof there is mostly no space.
 pub(crate) fn text_of(alloc: Global, words: &Words, chance: &mut Chance) -> Vec<u8> {
     let mut text = Vec::new(alloc);
-    let mut before: Word = b"";
+    let mut word_before: Word = b"";
     for word in &words.list {
-        if !is_letter(before) || !is_letter(word) || chance.once_in(4) {
-            let _ = text.extend_from_slice(BETWEEN[chance.below(8)]);
+        if !is_letter(word_before) || !is_letter(word) || chance.once_in(4) {
+            let _ = text.extend_from_slice(BETWEEN[chance.below(BETWEEN.len())]);
         }
         let _ = text.extend_from_slice(word);
-        before = word;
+        word_before = word;
     }
     let _ = text.push(b'\n');
     text

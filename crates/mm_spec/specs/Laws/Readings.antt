@@ -8,6 +8,6 @@ abbrev pub start : Option ℕ → Reading
 start open_comment = record { tokens = []; fault = None; open_comment = open_comment }
 
 -- a reading continued with further words, if it has no fault
-abbrev pub go_on : List ℕ → Reading → List Word → Reading
-go_on text r ws =
+abbrev pub append_reading : List ℕ → Reading → List Word → Reading
+append_reading text r ws =
     elim r.fault [ None ↦ with_tokens r.tokens (reading text r.open_comment ws) | Some f ↦ r ]

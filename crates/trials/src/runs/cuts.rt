@@ -9,7 +9,7 @@ use std::sync::Wait;
 use std::thread::Threads;
 
 /// Whether a run that cuts the text at these places accepts it and writes this report.
-fn reports<R: Threads + Wait + Sync>(
+fn is_report_with_cuts<R: Threads + Wait + Sync>(
     rt: &R,
     alloc: Global,
     places: &[u32],
@@ -29,12 +29,12 @@ fn reports<R: Threads + Wait + Sync>(
 #[test]
 fn every_cut_gives_the_same_report(rt: HostRuntime) -> Result<(), AllocError> {
     let alloc = rt.alloc();
-    for place in 1..170 {
-        assert!(&rt; reports(&rt, alloc, &[place], FIRST_TEXT, FIRST_REPORT)?);
+    for place in 1..FIRST_TEXT.len() as u32 {
+        assert!(&rt; is_report_with_cuts(&rt, alloc, &[place], FIRST_TEXT, FIRST_REPORT)?);
     }
     let text = through_a_theorem(alloc)?;
-    for place in 0..=339 {
-        assert!(&rt; reports(&rt, alloc, &[place], &text, THROUGH_REPORT)?);
+    for place in 0..=text.len() as u32 {
+        assert!(&rt; is_report_with_cuts(&rt, alloc, &[place], &text, THROUGH_REPORT)?);
     }
     Ok(())
 }
@@ -46,22 +46,23 @@ const WITH_COMMENT: &[u8] =
 #[test]
 fn cuts_in_words_give_the_same_report(rt: HostRuntime) -> Result<(), AllocError> {
     let alloc = rt.alloc();
-    assert!(&rt; reports(&rt, alloc, &[119, 124, 129], WITH_COMMENT, FIRST_REPORT)?);
-    let symbol = [97u8; 300];
+    assert!(&rt; is_report_with_cuts(&rt, alloc, &[119, 124, 129], WITH_COMMENT, FIRST_REPORT)?);
+    let symbol = [b'a'; 300];
     let text = joined(alloc, &[b"$c ", &symbol, b" $.\nx $a ", &symbol, b" $.\n"])?;
     let report = b"mmdepend 1\naxioms 1\ntheorems 0\nmatrix\ncounts\nusage\nx:0:\nend\n";
-    assert!(&rt; reports(&rt, alloc, &[64, 128, 200, 200], &text, report)?);
+    assert!(&rt; is_report_with_cuts(&rt, alloc, &[64, 128, 200, 200], &text, report)?);
     Ok(())
 }
 
-// Without its last line feed, so that the text ends 63, 0 and 1 bytes after a whole block of 64.
+// The text is read without its last line feed, so that it ends 63, 0 and 1 bytes after a whole
+// block of 64.
 #[test]
 fn spaces_in_front_change_nothing(rt: HostRuntime) -> Result<(), AllocError> {
-    let spaces = [32u8; 24];
+    let spaces = [b' '; 24];
     for count in [22, 23, 24] {
         let mut text = Vec::new(rt.alloc());
         text.extend_from_slice(&spaces[..count])?;
-        text.extend_from_slice(&FIRST_TEXT[..169])?;
+        text.extend_from_slice(&FIRST_TEXT[..FIRST_TEXT.len() - 1])?;
         assert!(&rt; writes(&rt, rt.alloc(), PLAIN, &text, FIRST_REPORT));
     }
     Ok(())

@@ -1,9 +1,9 @@
 //! Each fault with the line that is written for it (the examples of `docs/FAULTS.md`), and proofs
 //! that come close to one.
 
-use super::{PLAIN, each_writes, writes};
+use super::{PLAIN, assert_each_writes, writes};
 use crate::examples::{scopes, shapes, words};
-use crate::texts::{BASE, CLOSE, CONSEQUENT, CONSEQUENT_REPORT, DETACHMENT, joined};
+use crate::texts::{A1I_REPORT, A1I_UP_TO_PROOF, AFTER_PROOF, BASE, DETACHMENT, joined};
 use std::alloc::AllocError;
 
 #[test]
@@ -52,7 +52,7 @@ const FAULTS_OF_PROOFS: [(&[u8], &[u8]); 14] = [
 
 #[test]
 fn faults_of_proofs(rt: HostRuntime) -> Result<(), AllocError> {
-    each_writes(&rt, rt.alloc(), PLAIN, b"$c a $. ", &FAULTS_OF_PROOFS, b"")
+    assert_each_writes(&rt, rt.alloc(), PLAIN, b"$c a $. ", &FAULTS_OF_PROOFS, b"")
 }
 
 /// Proofs of one theorem, and what is written for them.
@@ -67,16 +67,16 @@ const PROOFS: [(&[u8], &[u8]); 31] = [
     (b"wp wq wp wi h wp wq ax-1", b"refused 8:66 E37\n"),
     (b"wp wq ax-1 h", b"refused 8:54 E37\n"),
     (b"wp wq ax-1", b"refused 8:52 E38\n"),
-    (b"wp wq wp wi h wp wq ax-1 ax-mp", CONSEQUENT_REPORT),
-    (b"( wi ax-1 ax-mp ) ABADCABEF", CONSEQUENT_REPORT),
-    (b"( wi ax-1 ax-mp ) ABADZCABEF", CONSEQUENT_REPORT),
-    (b"( wi ax-1 ax-mp ) ABADCA BEF", CONSEQUENT_REPORT),
-    (b"( wi ax-1 ax-mp ) ABADZZCABEF", CONSEQUENT_REPORT),
+    (b"wp wq wp wi h wp wq ax-1 ax-mp", A1I_REPORT),
+    (b"( wi ax-1 ax-mp ) ABADCABEF", A1I_REPORT),
+    (b"( wi ax-1 ax-mp ) ABADZCABEF", A1I_REPORT),
+    (b"( wi ax-1 ax-mp ) ABADCA BEF", A1I_REPORT),
+    (b"( wi ax-1 ax-mp ) ABADZZCABEF", A1I_REPORT),
     (
         b"( wi $( labels $) ax-1 ax-mp ) ABA $( steps $)\nDCABEF",
-        CONSEQUENT_REPORT,
+        A1I_REPORT,
     ),
-    (b"( wp wi wi ax-1 ax-mp ) ABDECABGH", CONSEQUENT_REPORT),
+    (b"( wp wi wi ax-1 ax-mp ) ABDECABGH", A1I_REPORT),
     (b"( wi ax-1 ax-mp )", b"refused 8:59 E31\n"),
     (b"( wi ax-1 ax-mp ) ABADCABE?", b"refused 8:67 E32\n"),
     (b"( wi ax-1 ax-mp ABADCABEF", b"refused 8:57 E33\n"),
@@ -102,8 +102,8 @@ const PROOFS: [(&[u8], &[u8]); 31] = [
 #[test]
 fn proofs_of_one_theorem(rt: HostRuntime) -> Result<(), AllocError> {
     let alloc = rt.alloc();
-    let before = joined(alloc, &[BASE, DETACHMENT, CONSEQUENT])?;
-    each_writes(&rt, alloc, PLAIN, &before, &PROOFS, CLOSE)
+    let before = joined(alloc, &[BASE, DETACHMENT, A1I_UP_TO_PROOF])?;
+    assert_each_writes(&rt, alloc, PLAIN, &before, &PROOFS, AFTER_PROOF)
 }
 
 /// Statements at the end of a text. The bad byte stands in the second row before the end of the
@@ -162,7 +162,7 @@ const STATEMENTS: [(&[u8], &[u8]); 12] = [
 
 #[test]
 fn faults_of_whole_texts(rt: HostRuntime) -> Result<(), AllocError> {
-    each_writes(&rt, rt.alloc(), PLAIN, BASE, &STATEMENTS, b"")
+    assert_each_writes(&rt, rt.alloc(), PLAIN, BASE, &STATEMENTS, b"")
 }
 
 const HEAD: &[u8] = b"$c ( ) -> A. = wff set |- $. $v p q x $.
@@ -222,5 +222,5 @@ const STEPS: [(&[u8], &[u8]); 14] = [
 #[test]
 fn steps_and_their_entries(rt: HostRuntime) -> Result<(), AllocError> {
     let counts = ["mmdepend", "--report", "counts"];
-    each_writes(&rt, rt.alloc(), &counts, HEAD, &STEPS, b"\n")
+    assert_each_writes(&rt, rt.alloc(), &counts, HEAD, &STEPS, b"\n")
 }

@@ -1,13 +1,13 @@
 //! Runs on texts of many theorems, with 1, with 2 and with 64 workers.
 
 use super::writes;
-use crate::texts::{MANY, add_label, add_number, joined, many};
+use crate::texts::{ANOTHER_FAULTY, FIRST_FAULTY, MANY, add_label, add_number, joined, many};
 use std::alloc::{AllocError, Global};
 use std::sync::Wait;
 use std::thread::Threads;
 
 /// Whether runs with 1, with 2 and with 64 workers all write these bytes.
-fn write_alike<R: Threads + Wait + Sync>(
+fn is_written_by_any_workers<R: Threads + Wait + Sync>(
     rt: &R,
     alloc: Global,
     text: &[u8],
@@ -38,9 +38,9 @@ fn many_theorems(rt: HostRuntime) -> Result<(), AllocError> {
     let alloc = rt.alloc();
     let text = many(alloc, &[])?;
     let report = many_report(alloc)?;
-    assert!(&rt; write_alike(&rt, alloc, &text, &report));
-    let faulty = many(alloc, &[2000, 2900])?;
-    assert!(&rt; write_alike(&rt, alloc, &faulty, b"refused 2007:49 E37\n"));
+    assert!(&rt; is_written_by_any_workers(&rt, alloc, &text, &report));
+    let faulty = many(alloc, &[FIRST_FAULTY, ANOTHER_FAULTY])?;
+    assert!(&rt; is_written_by_any_workers(&rt, alloc, &faulty, b"refused 2007:49 E37\n"));
     Ok(())
 }
 
@@ -100,7 +100,7 @@ fn wide(alloc: Global) -> Result<Vec<u8>, AllocError> {
 }
 
 /// Whether the theorem with this letter and number rests on the axiom.
-fn rests(letter: u8, k: u32, axiom: u32) -> bool {
+fn rests_on(letter: u8, k: u32, axiom: u32) -> bool {
     axiom == axiom_of(b't', k) || letter == b'u' && axiom == axiom_of(b'u', k)
 }
 
@@ -110,19 +110,26 @@ fn add_rows(report: &mut Vec<u8>, letter: u8) -> Result<(), AllocError> {
         add_label(report, letter, k)?;
         report.push(b':')?;
         for axiom in 0..AXIOMS {
-            report.push(if rests(letter, k, axiom) { b'1' } else { b'0' })?;
+            report.push(if rests_on(letter, k, axiom) {
+                b'1'
+            } else {
+                b'0'
+            })?;
         }
         report.push(b'\n')?;
     }
     Ok(())
 }
 
-/// Adds the line of an axiom with its users. A label and the space before it have six bytes.
+/// How many bytes a label and the space before it have.
+const SPACED_LABEL_BYTES: usize = 6;
+
+/// Adds the line of an axiom with its users.
 fn add_usage(report: &mut Vec<u8>, alloc: Global, axiom: u32) -> Result<(), AllocError> {
     let mut users = Vec::new(alloc);
     for letter in [b't', b'u'] {
         for k in 0..WIDE {
-            if rests(letter, k, axiom) {
+            if rests_on(letter, k, axiom) {
                 users.push(b' ')?;
                 add_label(&mut users, letter, k)?;
             }
@@ -131,7 +138,7 @@ fn add_usage(report: &mut Vec<u8>, alloc: Global, axiom: u32) -> Result<(), Allo
     report.push(b'a')?;
     add_number(report, axiom)?;
     report.push(b':')?;
-    add_number(report, (users.len() / 6 % 1000) as u32)?;
+    add_number(report, (users.len() / SPACED_LABEL_BYTES % 1000) as u32)?;
     report.push(b':')?;
     report.extend_from_slice(users.get(1..).unwrap_or(&[]))?;
     report.push(b'\n')?;
@@ -161,6 +168,6 @@ fn rows_made_by_threads(rt: HostRuntime) -> Result<(), AllocError> {
     let alloc = rt.alloc();
     let text = wide(alloc)?;
     let report = wide_report(alloc)?;
-    assert!(&rt; write_alike(&rt, alloc, &text, &report));
+    assert!(&rt; is_written_by_any_workers(&rt, alloc, &text, &report));
     Ok(())
 }

@@ -44,7 +44,7 @@ fn writes<R: Threads + Wait + Sync>(
 }
 
 /// Asserts that each run writes what its case says.
-fn all_write<R: Abort + Threads + Wait + Sync>(
+fn assert_all_write<R: Abort + Threads + Wait + Sync>(
     rt: &R,
     alloc: Global,
     cases: &[Case],
@@ -58,7 +58,7 @@ fn all_write<R: Abort + Threads + Wait + Sync>(
 
 /// Asserts what is written for texts that differ in one part alone: each row has that part and what
 /// is written.
-fn each_writes<R: Abort + Threads + Wait + Sync>(
+fn assert_each_writes<R: Abort + Threads + Wait + Sync>(
     rt: &R,
     alloc: Global,
     words: &[&str],

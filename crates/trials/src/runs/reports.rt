@@ -1,23 +1,23 @@
 //! What reports show: the chosen sections and columns, citations by essential nodes, open theorems,
 //! the second form, and direct citations.
 
-use super::{Case, PLAIN, all_write, writes};
+use super::{Case, PLAIN, assert_all_write, writes};
 use crate::texts::{
-    BASE, CLOSE, CONSEQUENT, CONSEQUENT_PROOF, CONSEQUENT_REPORT, DETACHMENT, FIRST_REPORT,
+    A1I_PROOF, A1I_REPORT, A1I_UP_TO_PROOF, AFTER_PROOF, BASE, DETACHMENT, FIRST_REPORT,
     FIRST_TEXT, NOTHING_REPORT, SAME, THROUGH, THROUGH_REPORT, add_number, chain, joined, seventy,
 };
 use std::alloc::{AllocError, Global};
 
 /// A text with a theorem, `a1i`.
-const ONE: &[&[u8]] = &[BASE, DETACHMENT, CONSEQUENT, CONSEQUENT_PROOF, CLOSE];
+const ONE: &[&[u8]] = &[BASE, DETACHMENT, A1I_UP_TO_PROOF, A1I_PROOF, AFTER_PROOF];
 
 /// The same, and a theorem that rests on it, `a2`.
 const TWO: &[&[u8]] = &[
     BASE,
     DETACHMENT,
-    CONSEQUENT,
-    CONSEQUENT_PROOF,
-    CLOSE,
+    A1I_UP_TO_PROOF,
+    A1I_PROOF,
+    AFTER_PROOF,
     THROUGH,
 ];
 
@@ -26,9 +26,9 @@ const MENTIONING: &[&[u8]] = &[
     BASE,
     DETACHMENT,
     b"ax-u $a |- ( p -> p ) $.\n",
-    CONSEQUENT,
+    A1I_UP_TO_PROOF,
     b"( wi ax-u ax-1 ax-mp ) ABADCABFG",
-    CLOSE,
+    AFTER_PROOF,
 ];
 
 /// Runs that choose sections and columns.
@@ -77,7 +77,7 @@ const SECTIONS: [Case<'static>; 8] = [
 
 #[test]
 fn sections_and_columns(rt: HostRuntime) -> Result<(), AllocError> {
-    all_write(&rt, rt.alloc(), &SECTIONS)
+    assert_all_write(&rt, rt.alloc(), &SECTIONS)
 }
 
 const LOGICAL_REPORT: &[u8] =
@@ -98,9 +98,9 @@ const ESSENTIAL_CASES: [Case<'static>; 7] = [
         parts: &[
             BASE,
             DETACHMENT,
-            CONSEQUENT,
+            A1I_UP_TO_PROOF,
             b"( wi ax-1 ax-mp ) ABADCA BEF",
-            CLOSE,
+            AFTER_PROOF,
         ],
         output: LOGICAL_REPORT,
     },
@@ -109,9 +109,9 @@ const ESSENTIAL_CASES: [Case<'static>; 7] = [
         parts: &[
             BASE,
             DETACHMENT,
-            CONSEQUENT,
+            A1I_UP_TO_PROOF,
             b"( wi ax-1 ax-mp ) ABADZZCABEF",
-            CLOSE,
+            AFTER_PROOF,
         ],
         output: LOGICAL_REPORT,
     },
@@ -143,7 +143,7 @@ const ESSENTIAL_CASES: [Case<'static>; 7] = [
 
 #[test]
 fn citations_by_essential_nodes(rt: HostRuntime) -> Result<(), AllocError> {
-    all_write(&rt, rt.alloc(), &ESSENTIAL_CASES)
+    assert_all_write(&rt, rt.alloc(), &ESSENTIAL_CASES)
 }
 
 const SECOND_FORM: &[&str] = &["mmdepend", "--form", "2", "--report", "matrix"];
@@ -175,7 +175,7 @@ const SECOND_FORM_CASES: [Case<'static>; 4] = [
 #[test]
 fn the_second_form(rt: HostRuntime) -> Result<(), AllocError> {
     let alloc = rt.alloc();
-    all_write(&rt, alloc, &SECOND_FORM_CASES)?;
+    assert_all_write(&rt, alloc, &SECOND_FORM_CASES)?;
     let digits =
         b"mmdepend 2\naxioms 70\ntheorems 2\nmatrix\nt:800000000000000184\nu:c00000000000000184\nend\n";
     assert!(&rt; writes(&rt, alloc, SECOND_FORM, &seventy(alloc)?, digits));
@@ -224,7 +224,7 @@ const CITATIONS_CASES: [Case<'static>; 6] = [
 
 #[test]
 fn direct_citations(rt: HostRuntime) -> Result<(), AllocError> {
-    all_write(&rt, rt.alloc(), &CITATIONS_CASES)
+    assert_all_write(&rt, rt.alloc(), &CITATIONS_CASES)
 }
 
 /// An open theorem, `o`, and one that cites it, `u`.
@@ -296,7 +296,7 @@ const OPEN_CASES: [Case<'static>; 8] = [
 
 #[test]
 fn open_theorems_are_columns(rt: HostRuntime) -> Result<(), AllocError> {
-    all_write(&rt, rt.alloc(), &OPEN_CASES)
+    assert_all_write(&rt, rt.alloc(), &OPEN_CASES)
 }
 
 /// Runs whose proofs are incomplete.
@@ -320,7 +320,7 @@ const INCOMPLETE_CASES: [Case<'static>; 3] = [
 
 #[test]
 fn other_incomplete_proofs_are_refused(rt: HostRuntime) -> Result<(), AllocError> {
-    all_write(&rt, rt.alloc(), &INCOMPLETE_CASES)
+    assert_all_write(&rt, rt.alloc(), &INCOMPLETE_CASES)
 }
 
 /// The report on seventy axioms and two theorems: a row of marks for each, and the axioms that they

@@ -40,9 +40,9 @@ returns-then-is_open_at-clause-found g c =
     let j = (get_or ps (x_end - 1) (0, 0)).1 in
     let some = x_statement.0 in
     let many = y_statement.0 in
-    let il = c.loop-pairs.invariant.0 in
-    let wl = c.loop-pairs.invariant.2 in
-    let wr = c.loop-pairs.invariant.3 in
+    let il = c.loop-pairs.invariant.x_end_falls in
+    let wl = c.loop-pairs.invariant.x_end_within in
+    let wr = c.loop-pairs.invariant.y_end_within in
     let previous_x_end_lt_start : x_end - 1 < start = omega (arith, some, il) in
     let known : x_end - 1 < length ps = omega (arith, some, wl) in
     let known_too : y_end - 1 < length ps = omega (arith, many, wr) in
@@ -78,16 +78,18 @@ loop-pairs-preserved-then-x_statement-y_statement-2 g c =
     < (get_or qs (y_end - 1) (0, 0)).1) v c.if-x_statement-y_statement-2.true in
     let down = c.skip_last-y_end.ensures.less in
     let i = c.loop-pairs.invariant in
-    let ir = i.1 in
-    let wr = i.3 in (
-      i.0,
-      (omega (arith, down, ir)),
-      i.2,
-      (omega (arith, down, wr)),
-      none_before_y_end b ps c.requires.ordered.rising c.args.x c.args.y c.args.at
-          x_end y_end c.skip_last-y_end.result i.4 x_statement.0 i.2 y_statement.0 wr has_x less
-          c.skip_last-y_end.ensures.passed,
-    )
+    let ir = i.y_end_falls in
+    let wr = i.y_end_within in
+    record {
+      x_end_falls = i.x_end_falls;
+      y_end_falls = omega (arith, down, ir);
+      x_end_within = i.x_end_within;
+      y_end_within = omega (arith, down, wr);
+      none_in_common = none_before_y_end b ps c.requires.ordered.rising c.args.x c.args.y c.args.at
+          x_end y_end c.skip_last-y_end.result i.none_in_common x_statement.0 i.x_end_within
+          y_statement.0 wr has_x less
+          c.skip_last-y_end.ensures.passed;
+    }
 
 pub loop-pairs-preserved : goal.loop-pairs-preserved
 loop-pairs-preserved g c =
@@ -120,16 +122,18 @@ loop-pairs-preserved g c =
     ] in
     let down = c.skip_last-x_end.ensures.less in
     let i = c.loop-pairs.invariant in
-    let il = i.0 in
-    let wl = i.2 in (
-      (omega (arith, down, il)),
-      i.1,
-      (omega (arith, down, wl)),
-      i.3,
-      none_before_x_end b ps c.requires.ordered.rising c.args.x c.args.y at x_end
-          y_end c.skip_last-x_end.result i.4 x_statement.0 wl y_statement.0 i.3 has_y why
-          c.skip_last-x_end.ensures.passed,
-    )
+    let il = i.x_end_falls in
+    let wl = i.x_end_within in
+    record {
+      x_end_falls = omega (arith, down, il);
+      y_end_falls = i.y_end_falls;
+      x_end_within = omega (arith, down, wl);
+      y_end_within = i.y_end_within;
+      none_in_common = none_before_x_end b ps c.requires.ordered.rising c.args.x c.args.y at x_end
+          y_end c.skip_last-x_end.result i.none_in_common x_statement.0 wl y_statement.0
+          i.y_end_within has_y why
+          c.skip_last-x_end.ensures.passed;
+    }
 
 pub returns-else-ends_with-clause-none : goal.returns-else-ends_with-clause-none
 returns-else-ends_with-clause-none g c =
@@ -146,9 +150,9 @@ returns-else-ends_with-clause-none g c =
     of.after in
     let none = c.ends_with-in-loop-pairs.ensures.none c.if-ends_with.false in
     λ e. none_at_end b ps c.requires.ordered.rising c.args.x y at c.loop-pairs.x_end y_end
-    c.loop-pairs.invariant.4
+    c.loop-pairs.invariant.none_in_common
     (inr (none_before_end b ps c.requires.ordered.rising y at start parted y_end
-    c.loop-pairs.invariant.1
+    c.loop-pairs.invariant.y_end_falls
     (λ h. other_symbol_by_values _ ps _ y v c.number-in-loop-pairs-2.ensures (y_end - 1) (none h))))
 
 pub returns-after-loop-pairs-clause-none : goal.returns-after-loop-pairs-clause-none
@@ -166,7 +170,7 @@ returns-after-loop-pairs-clause-none g c =
     in
     let none = c.ends_with.ensures.none c.loop-pairs-test.false in
     λ e. none_at_end b ps c.requires.ordered.rising x c.args.y at x_end c.loop-pairs.y_end
-    c.loop-pairs.invariant.4
+    c.loop-pairs.invariant.none_in_common
     (inl (none_before_end b ps c.requires.ordered.rising x at start parted x_end
-    c.loop-pairs.invariant.0
+    c.loop-pairs.invariant.x_end_falls
     (λ h. other_symbol_by_values _ ps _ x v c.number-in-loop-pairs.ensures (x_end - 1) (none h))))

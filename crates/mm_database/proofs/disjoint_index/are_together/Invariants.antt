@@ -3,13 +3,14 @@ use Rattle.mm_database.proofs.DisjointIndexLaw.{NoneInCommon}
 use Rattle.mm_database.proofs.disjoint_index.are_together.Given as goal
 
 abbrev pub invariant-loop-pairs : goal.invariant-loop-pairs
-invariant-loop-pairs g l =
-    (l.x_end ≤ l.initial.x_end) × (l.y_end ≤ l.initial.y_end)
-    × (l.x_end ≤ length l.disjoint_index.pairs) ×
-    (l.y_end ≤ length l.disjoint_index.pairs)
-    × NoneInCommon l.blocks
-    l.disjoint_index.pairs
-    l.fn.x l.fn.y l.fn.at l.x_end l.y_end
+invariant-loop-pairs g l = record {
+  x_end_falls : l.x_end ≤ l.initial.x_end;
+  y_end_falls : l.y_end ≤ l.initial.y_end;
+  x_end_within : l.x_end ≤ length l.disjoint_index.pairs;
+  y_end_within : l.y_end ≤ length l.disjoint_index.pairs;
+  none_in_common : NoneInCommon l.blocks l.disjoint_index.pairs l.fn.x l.fn.y l.fn.at l.x_end
+      l.y_end;
+}
 
 abbrev pub decreases-loop-pairs : goal.decreases-loop-pairs
 decreases-loop-pairs g l = l.x_end + l.y_end

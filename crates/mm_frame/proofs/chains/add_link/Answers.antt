@@ -13,8 +13,9 @@ returns-in_ok-push-clause-chains g c = λ has h.
       c.number-index.ensures,
       c.requires.symbol,
     ) in
-    let head : c.index-head.result.now ≡ get_or heads x 0 =
-    c.index-head.ensures ∙ get_or_default heads x c.index-head.result.now 0 x_lt_length_heads in
+    let head : c.index-first_link.result.now ≡ get_or heads x 0 =
+    c.index-first_link.ensures ∙ get_or_default heads x c.index-first_link.result.now 0
+    x_lt_length_heads in
     let count : c.len.result ≡ length links + 1 =
     omega (arith, c.len.ensures, c.in_ok-push.ensures.len) in
     rw (c.in_ok-push.ensures.items, count, head)
@@ -32,8 +33,9 @@ returns-else-not-begins_with-clause-chains g c = λ has h.
       c.number-index.ensures,
       c.requires.symbol,
     ) in
-    let head : c.index-head.result.now ≡ get_or heads x 0 =
-    c.index-head.ensures ∙ get_or_default heads x c.index-head.result.now 0 x_lt_length_heads in
+    let head : c.index-first_link.result.now ≡ get_or heads x 0 =
+    c.index-first_link.ensures ∙ get_or_default heads x c.index-first_link.result.now 0
+    x_lt_length_heads in
     let met = c.begins_with.ensures.some c.if-not-begins_with.false in
     begun has heads links c.args.symbol x c.args.statement (sym c.number-index.ensures)
     x_lt_length_heads

@@ -1,6 +1,6 @@
 use Rattle.std.proofs.Common.{subst, ℕ, List}
 use Rattle.mm_database.specs.DisjointIndex.{AreSkips, IsDisjointIndex, pair_lists}
-use Rattle.mm_database.proofs.DisjointIndexLaw.{are_known}
+use Rattle.mm_database.proofs.DisjointIndexLaw.{have_blocks}
 use Rattle.mm_frame.proofs.disjoint_index.disjoint_index_of.Goals as goal
 
 pub skips_of-requires : goal.skips_of-requires
@@ -8,7 +8,7 @@ skips_of-requires g c =
     record {
       known =
           rw (c.blocks-2.ensures.blocks, c.deref.ensures.value)
-          (are_known c.args.statements.now.list _ c.blocks-2.ensures.theirs
+          (have_blocks c.args.statements.now.list _ c.blocks-2.ensures.theirs
           c.in_ok-pairs.pairs.items c.in_ok-pairs.ensures.members_are);
     }
 
@@ -23,7 +23,7 @@ returns g c =
       ordered = record {
         rising = c.in_ok-pairs.ensures.rising;
         known =
-            are_known c.args.statements.now.list b c.blocks-2.ensures.theirs ps
+            have_blocks c.args.statements.now.list b c.blocks-2.ensures.theirs ps
             c.in_ok-pairs.ensures.members_are;
         skips_are =
             subst (λ (ps : List (ℕ × ℕ)). AreSkips b ps ss) c.deref.ensures.value

@@ -5,46 +5,49 @@ use Rattle.mm_frame.proofs.disjoint_index.skips_of.Goals as goal
 pub loop-index-init : goal.loop-index-init
 loop-index-init g c = (ap length c.new-skips.ensures.items, λ q h. absurd (omega arith))
 
-pub loop-first-init : goal.loop-first-init
-loop-first-init g c = (
+pub loop-covered_from-init : goal.loop-covered_from-init
+loop-covered_from-init g c = (
   omega arith,
   covers_itself c.args.blocks.now c.args.pairs.now
       c.loop-index.index,
 )
 
-pub loop-first-smaller : goal.loop-first-smaller
-loop-first-smaller g c =
+pub loop-covered_from-smaller : goal.loop-covered_from-smaller
+loop-covered_from-smaller g c =
     let index = c.loop-index.index in
-    let first = c.loop-first.first in
-    let i = c.loop-first.invariant.0 in
-    let t = c.loop-first-test.true in
+    let covered_from = c.loop-covered_from.covered_from in
+    let i = c.loop-covered_from.invariant.0 in
+    let t = c.loop-covered_from-test.true in
     let s =
     skip_read c.args.blocks.now c.args.pairs.now index c.loop-index.skips.items
     c.loop-index.invariant
-    (first - 1)
-    c.index-first.result.now _ (omega (arith, i, t)) c.index-first.ensures in
+    (covered_from - 1)
+    c.index-covered_from.result.now _ (omega (arith, i, t)) c.index-covered_from.ensures in
     let l = s.0 in
     omega (arith, l, t)
 
-pub loop-first-preserved : goal.loop-first-preserved
-loop-first-preserved g c =
+pub loop-covered_from-preserved : goal.loop-covered_from-preserved
+loop-covered_from-preserved g c =
     let index = c.loop-index.index in
-    let first = c.loop-first.first in
-    let i = c.loop-first.invariant in
+    let covered_from = c.loop-covered_from.covered_from in
+    let i = c.loop-covered_from.invariant in
     let l = i.0 in
-    let t = c.loop-first-test.true in
-    covers_before c.args.blocks.now c.args.pairs.now first index c.index-first.result.now t l i.1
+    let t = c.loop-covered_from-test.true in
+    covers_before c.args.blocks.now c.args.pairs.now covered_from index
+    c.index-covered_from.result.now t l i.1
     (sym c.is_covered.ensures ∙ c.if-is_covered.true)
     (skip_read c.args.blocks.now c.args.pairs.now index c.loop-index.skips.items
     c.loop-index.invariant
-    (first - 1)
-    c.index-first.result.now _ (omega (arith, l, t)) c.index-first.ensures)
+    (covered_from - 1)
+    c.index-covered_from.result.now _ (omega (arith, l, t)) c.index-covered_from.ensures)
 
 pub loop-index-preserved : goal.loop-index-preserved
 loop-index-preserved g c =
-    skips_more c.args.blocks.now c.args.pairs.now c.loop-index.index c.loop-first.first
+    skips_more c.args.blocks.now c.args.pairs.now c.loop-index.index
+    c.loop-covered_from.covered_from
     c.loop-index.skips.items
-    c.loop-index.invariant c.loop-first.invariant c.push.new.self.items c.in_ok-push.ensures.items
+    c.loop-index.invariant c.loop-covered_from.invariant c.push.new.self.items
+    c.in_ok-push.ensures.items
 
 pub returns : goal.returns
 returns g c =
@@ -53,17 +56,17 @@ returns g c =
 
 pub is_covered-requires-clause-pair : goal.is_covered-requires-clause-pair
 is_covered-requires-clause-pair g c =
-    let i = c.loop-first.invariant.0 in
+    let i = c.loop-covered_from.invariant.0 in
     let t = c.loop-index-test.true in
-    let f = c.loop-first-test.true in
-    c.requires.known (c.loop-first.first - 1) (omega (arith, i, t, f))
+    let f = c.loop-covered_from-test.true in
+    c.requires.known (c.loop-covered_from.covered_from - 1) (omega (arith, i, t, f))
 
 pub is_covered-requires-clause-covering : goal.is_covered-requires-clause-covering
 is_covered-requires-clause-covering g c = c.requires.known c.loop-index.index c.loop-index-test.true
 
-pub index-first-requires : goal.index-first-requires
-index-first-requires g c =
+pub index-covered_from-requires : goal.index-covered_from-requires
+index-covered_from-requires g c =
     let n = c.loop-index.invariant.0 in
-    let i = c.loop-first.invariant.0 in
-    let f = c.loop-first-test.true in
+    let i = c.loop-covered_from.invariant.0 in
+    let f = c.loop-covered_from-test.true in
     omega (arith, n, i, f)

@@ -10,10 +10,10 @@ invariant-loop-index g l =
     × Covers l.blocks l.pairs
     (get_or l.skips.items q 0) q)
 
-abbrev pub invariant-loop-first : goal.invariant-loop-first
-invariant-loop-first g l =
-    (l.first ≤ l.index)
-    × Covers l.blocks l.pairs l.first l.index
+abbrev pub invariant-loop-covered_from : goal.invariant-loop-covered_from
+invariant-loop-covered_from g l =
+    (l.covered_from ≤ l.index)
+    × Covers l.blocks l.pairs l.covered_from l.index
 
-abbrev pub decreases-loop-first : goal.decreases-loop-first
-decreases-loop-first g l = l.first
+abbrev pub decreases-loop-covered_from : goal.decreases-loop-covered_from
+decreases-loop-covered_from g l = l.covered_from

@@ -4,7 +4,7 @@ use Rattle.clap.specs.Built.{AddsArg, AddsInTurn}
 use Rattle.clap.specs.Walk.{rule_of}
 use Rattle.clap.specs.Simple.{App, app_of, app_of_fields, new_app}
 use Rattle.clap.specs.declared.builder.arg.Arg.{Arg}
-use Rattle.mm_line.specs.Lines.{command_of, form_rule, named, report_rule}
+use Rattle.mm_line.specs.Lines.{command_of, form_rule, app_with_name, report_rule}
 use Rattle.mm_line.proofs.LineLaw.{rules_added, is_command, the_rules}
 use Rattle.mm_line.proofs.words.command.Goals as goal
 
@@ -13,7 +13,7 @@ unfolding command_of
 returns c =
     let plain : app_of c.after_help.result ≡ new_app (codes "mmdepend") =
     ap app_of_fields c.after_help.ensures ∙ ap app_of_fields c.about.ensures ∙ c.new.ensures.app in
-    let start : app_of c.version.result ≡ named =
+    let start : app_of c.version.result ≡ app_with_name =
     ap app_of_fields c.version.ensures
     ∙ ap (λ (a : App). record a { top = record a.top { has_version = true } }) plain in
     let words = c.report_option.ensures in
@@ -36,7 +36,7 @@ returns c =
     IfOk-weaker c.args-2.result _ _
     (λ m h. is_command m (report_rule words.0) (form_rule forms.0) (words.0, words.1, refl)
     (forms.0, forms.1, refl)
-    (rules_added args (the_rules words.0 forms.0) c.version.result m named
+    (rules_added args (the_rules words.0 forms.0) c.version.result m app_with_name
     (subst (λ (l : List Arg). AddsInTurn AddsArg c.version.result l m)
     c.in_ok-arguments.ensures.items h)
     start same refl)) c.args-2.ensures

@@ -32,10 +32,10 @@ returns-then-not-is_fitting c =
     let parts = c.args.rule.now.parts in
     let hs = c.args.rule.now.hypotheses in
     let j = c.loop-j.j in
-    let at = c.loop-j.at in
+    let part_index = c.loop-j.part_index in
     let h = c.hypothesis-item.result in
     let one = c.match-hypothesis.is_fitting in
-    let next = c.match-hypothesis.at in
+    let next = c.match-hypothesis.part_index in
     let hs_are : c.rule.inside.hypotheses.now ≡ hs =
     ap (λ (r : CompiledRule). r.hypotheses) c.rule.view_is in
     let parts_are : c.rule.inside.parts.now ≡ parts =
@@ -44,18 +44,19 @@ returns-then-not-is_fitting c =
     let j_lt_length_es : j < length es = omega (arith, j_lt_length_hs, c.requires.count) in
     let h_is : h ≡ get_or hs j h =
     c.hypothesis-item.is ∙ ap (λ z. get_or z j h) hs_are in
-    let tested : IsTested xs es parts hs j at h one next =
+    let tested : IsTested xs es parts hs j part_index h one next =
     elim c.match-hypothesis.branch [
-      | in-Floating w ↦ typed_tested xs es parts hs j at h one next w.in-Floating.typecode
-          w.in-Floating.is (w.is_fitting-is ∙ w.is_typed-is_fitting.ensures) w.at-is
-      | in-Essential w ↦ let n = w.in-Essential.count in
-          essential_tested xs es parts hs j at h one next n w.in-Essential.is
+      | in-Floating w ↦ typed_tested xs es parts hs j part_index h one next w.in-Floating.typecode
+          w.in-Floating.is (w.is_fitting-is ∙ w.is_typed-is_fitting.ensures) w.part_index-is
+      | in-Essential w ↦ let n = w.in-Essential.part_count in
+          essential_tested xs es parts hs j part_index h one next n w.in-Essential.is
           (w.is_fitting-is ∙ w.fits-is_fitting.ensures
           ∙ ap (λ z. bytes_eq (span_formula xs (get_or es j no_symbols))
-          (replaced xs es (take ((at + n) - at) (drop at z)))) parts_are) w.at-is
+          (replaced xs es (take ((part_index + n) - part_index) (drop part_index z)))) parts_are)
+          w.part_index-is
     ] in
     sym (c.loop-j.invariant.left
-    ∙ fit_next xs es parts hs j at h one next tested j_lt_length_hs j_lt_length_es h_is
+    ∙ fit_next xs es parts hs j part_index h one next tested j_lt_length_hs j_lt_length_es h_is
     ∙ ap (λ b. b && fit_from xs es parts hs (j + 1) next) c.if-not-is_fitting.true)
 
 pub loop-j-preserved : goal.loop-j-preserved
@@ -65,10 +66,10 @@ loop-j-preserved c =
     let parts = c.args.rule.now.parts in
     let hs = c.args.rule.now.hypotheses in
     let j = c.loop-j.j in
-    let at = c.loop-j.at in
+    let part_index = c.loop-j.part_index in
     let h = c.hypothesis-item.result in
     let one = c.match-hypothesis.is_fitting in
-    let next = c.match-hypothesis.at in
+    let next = c.match-hypothesis.part_index in
     let hs_are : c.rule.inside.hypotheses.now ≡ hs =
     ap (λ (r : CompiledRule). r.hypotheses) c.rule.view_is in
     let parts_are : c.rule.inside.parts.now ≡ parts =
@@ -77,22 +78,24 @@ loop-j-preserved c =
     let j_lt_length_es : j < length es = omega (arith, j_lt_length_hs, c.requires.count) in
     let h_is : h ≡ get_or hs j h =
     c.hypothesis-item.is ∙ ap (λ z. get_or z j h) hs_are in
-    let tested : IsTested xs es parts hs j at h one next =
+    let tested : IsTested xs es parts hs j part_index h one next =
     elim c.match-hypothesis.branch [
-      | in-Floating w ↦ typed_tested xs es parts hs j at h one next w.in-Floating.typecode
-          w.in-Floating.is (w.is_fitting-is ∙ w.is_typed-is_fitting.ensures) w.at-is
-      | in-Essential w ↦ let n = w.in-Essential.count in
-          essential_tested xs es parts hs j at h one next n w.in-Essential.is
+      | in-Floating w ↦ typed_tested xs es parts hs j part_index h one next w.in-Floating.typecode
+          w.in-Floating.is (w.is_fitting-is ∙ w.is_typed-is_fitting.ensures) w.part_index-is
+      | in-Essential w ↦ let n = w.in-Essential.part_count in
+          essential_tested xs es parts hs j part_index h one next n w.in-Essential.is
           (w.is_fitting-is ∙ w.fits-is_fitting.ensures
           ∙ ap (λ z. bytes_eq (span_formula xs (get_or es j no_symbols))
-          (replaced xs es (take ((at + n) - at) (drop at z)))) parts_are) w.at-is
+          (replaced xs es (take ((part_index + n) - part_index) (drop part_index z)))) parts_are)
+          w.part_index-is
     ] in
     record {
-      part_count_is = part_count_next xs es parts hs j at h one next tested j_lt_length_hs
+      part_count_is = part_count_next xs es parts hs j part_index h one next tested j_lt_length_hs
           j_lt_length_es h_is
           c.loop-j.invariant.part_count_is;
       left = c.loop-j.invariant.left
-          ∙ fit_next xs es parts hs j at h one next tested j_lt_length_hs j_lt_length_es h_is
+          ∙ fit_next xs es parts hs j part_index h one next tested j_lt_length_hs j_lt_length_es
+          h_is
           ∙ ap (λ b. b && fit_from xs es parts hs (j + 1) next) c.if-not-is_fitting.false;
     }
 
@@ -103,5 +106,6 @@ returns c =
     let all = subst (λ z. length z ≤ j) (ap (λ (r : CompiledRule). r.hypotheses) c.rule.view_is)
     c.loop-j-test.false in
     sym (c.loop-j.invariant.left
-    ∙ fit_end c.args.symbols.now c.args.premises.now c.args.rule.now.parts hs j c.loop-j.at all
+    ∙ fit_end c.args.symbols.now c.args.premises.now c.args.rule.now.parts hs j c.loop-j.part_index
+    all
     (omega (arith, all, c.requires.count)))

@@ -1,5 +1,5 @@
 use Rattle.std.proofs.Common.{sym, ◌∙◌}
-use Rattle.mm_machine.proofs.DisjointLaw.{either_disjoint, either_marked}
+use Rattle.mm_machine.proofs.DisjointLaw.{either_disjoint, either_insert_keeps_disjoint}
 use Rattle.mm_machine.proofs.arena.are_disjoint.Goals as goal
 
 pub returns-then-has-clause-value : goal.returns-then-has-clause-value
@@ -14,7 +14,8 @@ returns-then-not-are_disjoint_in_database-clause-cache g c = c.requires.cache
 
 pub returns-clause-cache : goal.returns-clause-cache
 returns-clause-cache g c =
-    either_marked c.args.database.now.statements c.args.theorem c.args.cache.now c.requires.cache
+    either_insert_keeps_disjoint c.args.database.now.statements c.args.theorem c.args.cache.now
+    c.requires.cache
     c.args.first c.args.second c.insert.new.self
     (sym c.are_disjoint_in_database.ensures ∙ c.if-not-are_disjoint_in_database.false)
     c.insert.ensures

@@ -13,13 +13,13 @@ formula-replacement-requires c =
 pub loop-part-preserved : goal.loop-part-preserved
 loop-part-preserved c = grind (arith, common_steps)
 
-pub returns-then-at-gt-FORMULA_LIMIT-clause-within :
-    goal.returns-then-at-gt-FORMULA_LIMIT-clause-within
-returns-then-at-gt-FORMULA_LIMIT-clause-within c = tt
+pub returns-then-written_count-gt-FORMULA_LIMIT-clause-within :
+    goal.returns-then-written_count-gt-FORMULA_LIMIT-clause-within
+returns-then-written_count-gt-FORMULA_LIMIT-clause-within c = tt
 
-pub returns-then-at-gt-FORMULA_LIMIT-clause-short :
-    goal.returns-then-at-gt-FORMULA_LIMIT-clause-short
-returns-then-at-gt-FORMULA_LIMIT-clause-short c = tt
+pub returns-then-written_count-gt-FORMULA_LIMIT-clause-short :
+    goal.returns-then-written_count-gt-FORMULA_LIMIT-clause-short
+returns-then-written_count-gt-FORMULA_LIMIT-clause-short c = tt
 
 pub returns-clause-written : goal.returns-clause-written
 returns-clause-written c = grind (arith, common_steps)

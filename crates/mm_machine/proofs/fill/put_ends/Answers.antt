@@ -13,7 +13,8 @@ returns-clause-written c =
     let end = take_rest symbols (length symbols - w) in
     let long = ap length end in
     let dropped = length-drop (length symbols - w) symbols in
-    put_twice c.args.list.now c.put_width.new.list c.put_width-2.new.list symbols _ _ c.args.at w _
+    put_twice c.args.list.now c.put_width.new.list c.put_width-2.new.list symbols _ _ c.args.index w
+    _
     (omega (arith, many)) (omega (arith, few)) (omega (arith, room)) refl end
     (length-take-le w symbols many) (omega (arith, long, dropped, many)) c.put_width.ensures.written
     c.put_width-2.ensures.written

@@ -28,25 +28,25 @@ loop-statement-preserved g c =
           let n =
           ap (λ (xs : List Bytes). length xs) more
           ∙ length-append (labels db only cited i) (label_at db (get_or cited i 0) ∷ []) in
-          rw (w.is_first-is, w.sink-is, w.to-is) (record {
+          rw (w.is_first_label-is, w.sink-is, w.to-is) (record {
             none = λ e. absurd (true≢false (sym e));
             some = λ e. omega (arith, n);
             sent =
                 sent_as _
                 (sym (ap separated more
                 ∙ separated_next (labels db only cited i)
-                (label_at db (get_or cited i 0)) c.loop-statement.is_first inv.none inv.some))
+                (label_at db (get_or cited i 0)) c.loop-statement.is_first_label inv.none inv.some))
                 (sent_more inv.sent
                 (sent_as _
-                (ap (next_label c.loop-statement.is_first) w.label_of.ensures)
-                w.send_next.ensures));
+                (ap (next_label c.loop-statement.is_first_label) w.label_of.ensures)
+                w.send_next_label.ensures));
           })
       | else-has_chosen_typecode w ↦
           let same =
           ap (λ (xs : List ℕ). map (label_at db) xs)
           (listed_before_same db only cited i l
           (sym c.has_chosen_typecode.ensures ∙ w.if-has_chosen_typecode.false)) in
-          rw (w.is_first-is, w.sink-is, w.to-is) (record {
+          rw (w.is_first_label-is, w.sink-is, w.to-is) (record {
             none = λ e. same ∙ inv.none e;
             some = λ e. subst (λ (xs : List Bytes). 0 < length xs) (sym same) (inv.some e);
             sent = sent_as _ (sym (ap separated same)) inv.sent;

@@ -8,7 +8,7 @@ use Rattle.mm_rows.proofs.rows.fill_in_place.Goals as goal
 
 pub fill_row-requires-clause-ready : goal.fill_row-requires-clause-ready
 fill_row-requires-clause-ready g c =
-    let i = c.args.i in
+    let i = c.args.theorem_index in
     ready_before c.args.citations.now c.args.columns.now c.args.bits.now
     c.split_at_mut-before.result.0.now c.split_at_mut-before.result.1.now i c.rows.ensures.order
     c.requires.within (sym c.split_at_mut-before.ensures.value)
@@ -17,7 +17,7 @@ fill_row-requires-clause-ready g c =
 
 pub returns-clause-row : goal.returns-clause-row
 returns-clause-row g c =
-    let i = c.args.i in
+    let i = c.args.theorem_index in
     let long = c.split_at_mut-before.ensures.front_len ∙ ap (λ w. i * w) c.words-width.ensures in
     subst (IsBitRow c.args.citations.now c.args.columns.now (theorem_at c.args.citations.now i))
     (sym (row_here c.split_at_mut-before.result.0.now c.fill_row.new.row
@@ -27,7 +27,7 @@ returns-clause-row g c =
 
 pub returns-clause-others : goal.returns-clause-others
 returns-clause-others g c = λ r ne.
-    let i = c.args.i in
+    let i = c.args.theorem_index in
     let width = words_for (length c.args.columns.now) in
     let before = c.split_at_mut-before.result.0.now in
     let rest = c.split_at_mut-before.result.1.now in
@@ -37,21 +37,21 @@ returns-clause-others g c = λ r ne.
     ∙ row_there before c.fill_row.new.row rest width i r long c.fill_row.ensures.words ne
     ∙ ap (λ (xs : List ℕ). row_at xs width r) (sym c.split_at_mut-before.ensures.value)
 
-pub overflow_mul-i : goal.overflow_mul-i
-overflow_mul-i g c =
-    let e = ap (λ w. c.args.i * w) c.words-width.ensures in
+pub overflow_mul-theorem_index : goal.overflow_mul-theorem_index
+overflow_mul-theorem_index g c =
+    let e = ap (λ w. c.args.theorem_index * w) c.words-width.ensures in
     let f = c.requires.fits in
     omega (arith, e, f)
 
 pub split_at_mut-before-requires : goal.split_at_mut-before-requires
 split_at_mut-before-requires g c =
-    let e = ap (λ w. c.args.i * w) c.words-width.ensures in
+    let e = ap (λ w. c.args.theorem_index * w) c.words-width.ensures in
     let f = c.requires.fits in
     omega (arith, e, f)
 
 pub slice_bounds-row-end : goal.slice_bounds-row-end
 slice_bounds-row-end g c =
-    let e = ap (λ w. c.args.i * w) c.words-width.ensures in
+    let e = ap (λ w. c.args.theorem_index * w) c.words-width.ensures in
     let n = c.words-width.ensures in
     let f = c.requires.fits in
     let b = c.split_at_mut-before.ensures.back_len in
@@ -59,7 +59,7 @@ slice_bounds-row-end g c =
 
 pub slice_bounds-row-end-2 : goal.slice_bounds-row-end-2
 slice_bounds-row-end-2 g c =
-    let e = ap (λ w. c.args.i * w) c.words-width.ensures in
+    let e = ap (λ w. c.args.theorem_index * w) c.words-width.ensures in
     let n = c.words-width.ensures in
     let f = c.requires.fits in
     let b = c.split_at_mut-before.ensures.back_len in

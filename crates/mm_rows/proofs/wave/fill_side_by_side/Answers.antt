@@ -60,7 +60,7 @@ loop-k-preserved g c =
     ∙ c.in-Ok.is) filled in
     let here =
     subst (λ (w : ℕ). row_at c.store.new.bits w i ≡ c.in-Ok.row.items) c.words-width.ensures
-    (c.store.ensures.here ∙ c.deref.ensures.value) in
+    (c.store.ensures.written ∙ c.deref.ensures.value) in
     let others =
     subst (λ (w : ℕ). (r : ℕ) → (r ≡ i → ⊥)
     → row_at c.store.new.bits w r ≡ row_at c.loop-k.bits w r) c.words-width.ensures

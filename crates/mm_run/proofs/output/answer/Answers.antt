@@ -39,5 +39,6 @@ returns-in-Sound g c =
     (g.W.Write.contents c.args.to.now) (g.W.Write.contents c.report.new.to)) judged.0
     (subst
     (λ (r : Request). Answers c.report.result c.in-Sound.database.text r
-    (g.W.Write.contents c.args.to.now) (g.W.Write.contents c.report.new.to)) c.request-in-Sound.ensures
+    (g.W.Write.contents c.args.to.now) (g.W.Write.contents c.report.new.to))
+    c.request-in-Sound.ensures
     c.report.ensures)

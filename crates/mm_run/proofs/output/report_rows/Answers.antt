@@ -6,12 +6,12 @@ pub returns-in-Ok : goal.returns-in-Ok
 returns-in-Ok g c =
     let d = c.args.database.now in
     let request = c.args.request.now in (
-      (d.read, c.requires.judged.sound),
+      (d.read, c.requires.marked.judged.sound),
       (
         report_of request d c.args.chosen.now c.args.marked.now,
-        table_is_output request d c.args.citations.now c.args.chosen.now c.args.marked.now
-            c.requires.judged
-            c.requires.chosen c.requires.marked c.requires.choice,
+        table_is_output request d c.requires.marked.citations c.args.chosen.now c.args.marked.now
+            c.requires.marked.judged
+            c.requires.chosen c.requires.marked.marked c.requires.choice,
         c.in-Ok.ensures.ok,
       ),
     )
@@ -23,8 +23,8 @@ returns-in-Err g c =
     let cut = c.in-Err.ensures.err in (
       report_of request d c.args.chosen.now c.args.marked.now,
       cut.0,
-      table_is_output request d c.args.citations.now c.args.chosen.now
-          c.args.marked.now c.requires.judged
-          c.requires.chosen c.requires.marked c.requires.choice,
+      table_is_output request d c.requires.marked.citations c.args.chosen.now
+          c.args.marked.now c.requires.marked.judged
+          c.requires.chosen c.requires.marked.marked c.requires.choice,
       cut.1,
     )

@@ -6,12 +6,12 @@ pub returns-in-Ok : goal.returns-in-Ok
 returns-in-Ok g c =
     let d = c.args.database.now in
     let request = c.args.request.now in (
-      (d.read, c.requires.judged.sound),
+      (d.read, c.requires.matrix.judged.sound),
       (
         report_of request d c.args.chosen.now c.args.matrix.now,
-        table_is_output request d c.args.citations.now c.args.chosen.now c.args.matrix.now
-            c.requires.judged
-            c.requires.chosen c.requires.matrix c.requires.choice,
+        table_is_output request d c.requires.matrix.citations c.args.chosen.now c.args.matrix.now
+            c.requires.matrix.judged
+            c.requires.chosen c.requires.matrix.marked c.requires.choice,
         c.in-Ok.ensures.ok,
       ),
     )
@@ -23,8 +23,8 @@ returns-in-Err g c =
     let cut = c.in-Err.ensures.err in (
       report_of request d c.args.chosen.now c.args.matrix.now,
       cut.0,
-      table_is_output request d c.args.citations.now c.args.chosen.now
-          c.args.matrix.now c.requires.judged
-          c.requires.chosen c.requires.matrix c.requires.choice,
+      table_is_output request d c.requires.matrix.citations c.args.chosen.now
+          c.args.matrix.now c.requires.matrix.judged
+          c.requires.chosen c.requires.matrix.marked c.requires.choice,
       cut.1,
     )

@@ -15,23 +15,24 @@ overflow_cast-number g c =
     let is = c.numbered-number.ensures.number in
     omega (arith, le, is, few)
 
-pub loop-at-init : goal.loop-at-init
-loop-at-init g c =
+pub loop-token_index-init : goal.loop-token_index-init
+loop-token_index-init g c =
     sym (append-nil _)
     ∙ ap (λ l. c.args.numbers.now.items ++ l)
     (numbers_none c.args.text.now c.args.tokens.now (names_of c.args.names.now.symbols) c.args.from)
 
-pub loop-at-preserved : goal.loop-at-preserved
-loop-at-preserved g c =
+pub loop-token_index-preserved : goal.loop-token_index-preserved
+loop-token_index-preserved g c =
     let text = c.args.text.now in
     let ws = c.args.tokens.now in
     let ns = names_of c.args.names.now.symbols in
-    let at = c.loop-at.at in
-    let xs = numbers_in ns (between text ws c.args.from at) in
+    let token_index = c.loop-token_index.token_index in
+    let xs = numbers_in ns (between text ws c.args.from token_index) in
     c.in_ok-push.ensures.items
-    ∙ ap₂ (λ x y. x ++ y ∷ []) c.loop-at.invariant
+    ∙ ap₂ (λ x y. x ++ y ∷ []) c.loop-token_index.invariant
     (c.new.ensures ∙ c.numbered-number.ensures.number
     ∙ ap (λ w. index_of w ns) c.bytes.ensures)
-    ∙ append_assoc c.args.numbers.now.items xs (index_of (token_at text ws at).word ns ∷ [])
+    ∙ append_assoc c.args.numbers.now.items xs
+    (index_of (token_at text ws token_index).word ns ∷ [])
     ∙ ap (λ l. c.args.numbers.now.items ++ l)
-    (sym (numbers_more text ws ns c.args.from at (omega arith) (omega arith)))
+    (sym (numbers_more text ws ns c.args.from token_index (omega arith) (omega arith)))

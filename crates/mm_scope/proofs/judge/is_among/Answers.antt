@@ -9,7 +9,7 @@ pub loop-earlier-preserved : goal.loop-earlier-preserved
 loop-earlier-preserved c =
     let text = c.args.text.now in
     let ws = c.args.tokens.now in
-    let word = (token_at text ws c.args.at).word in
+    let word = (token_at text ws c.args.token_index).word in
     let i = c.loop-earlier.earlier in
     let test = c.loop-earlier-test.true in
     let within = c.requires.within in
@@ -17,8 +17,8 @@ loop-earlier-preserved c =
     let before = words (between text ws c.args.from i) in
     let same = c.eq.ensures ∙ ap₂ bytes_eq c.bytes-word.ensures c.bytes.ensures in
     elim c.if-eq.branch [
-      | then-eq w ↦ w.found-is ∙ w.if-eq.true
+      | then-eq w ↦ w.is_found-is ∙ w.if-eq.true
           ∙ ap (λ b. b || is_in word before) (sym w.if-eq.true ∙ same) ∙ more
-      | else-eq w ↦ w.found-is ∙ c.loop-earlier.invariant
+      | else-eq w ↦ w.is_found-is ∙ c.loop-earlier.invariant
           ∙ ap (λ b. b || is_in word before) (sym w.if-eq.false ∙ same) ∙ more
     ]

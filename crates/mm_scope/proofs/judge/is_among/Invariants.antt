@@ -5,6 +5,6 @@ use Rattle.mm_scope.proofs.judge.is_among.Given as goal
 
 abbrev pub invariant-loop-earlier : goal.invariant-loop-earlier
 invariant-loop-earlier l =
-    l.found
-    ≡ is_in (token_at l.text l.tokens l.at).word
+    l.is_found
+    ≡ is_in (token_at l.text l.tokens l.token_index).word
     (words (between l.text l.tokens l.from l.earlier))

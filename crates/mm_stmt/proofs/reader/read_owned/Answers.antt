@@ -12,7 +12,7 @@ use Rattle.mm_database.specs.FrameTables.{AreFrameTables}
 use Rattle.mm_database.specs.Database.{Contents, IsDatabase, AreStatementLists}
 use Rattle.mm_database.specs.declared.reading.Reading.{Reading}
 use Rattle.mm_database.proofs.RetainedWordsLaw.{retained_are}
-use Rattle.mm_scope.specs.Keeps.{IsKeptOf, kept_by}
+use Rattle.mm_scope.specs.ReadSoFar.{IsReadSoFar, read_so_far}
 use Rattle.mm_database.specs.ParsedStatements.{IsSound}
 use Rattle.mm_spec.specs.Opened.{counted}
 use Rattle.mm_stmt.proofs.AssembleLaw.{is_read, names_few, sound}
@@ -64,13 +64,14 @@ reading_of-requires g c =
     record {
       sound =
           subst (λ (ws : List Word). IsSound (statements text ws os)) lent
-          (sound text ws os _ _ outlined.read small _ _ _ outlined.kept.keeps outlined.few);
-      kept =
-          subst (λ (ws : List Word). IsKeptOf (statements text ws os) (kept_by read)) lent
-          outlined.kept;
+          (sound text ws os _ _ outlined.read small _ _ _ outlined.is_read_so_far.keeps
+          outlined.few);
+      is_read_so_far =
+          subst (λ (ws : List Word). IsReadSoFar (statements text ws os) (read_so_far read)) lent
+          outlined.is_read_so_far;
       few_symbols =
           names_few text ws os _ _ outlined.read small (names_of read.scope.names.symbols)
-          outlined.kept.names_are;
+          outlined.is_read_so_far.names_are;
     }
 
 pub new-requires : goal.new-requires
@@ -82,9 +83,10 @@ new-requires g c =
     let os = c.in_ok-outlined.outlined.outlines.items in
     let w = c.args.with_open in
     let lent : ws ≡ words = c.as_slice-words.ensures.value ∙ c.requires.tokens in
-    let kept =
-    subst (λ (us : List Word). IsKeptOf (statements text us os) (kept_by c.in_ok-outlined.outlined))
-    lent outlined.kept in
+    let is_read_so_far =
+    subst (λ (us : List Word). IsReadSoFar (statements text us os)
+    (read_so_far c.in_ok-outlined.outlined))
+    lent outlined.is_read_so_far in
     let statement_lists =
     subst (λ (us : List Word). AreStatementLists (counted w (statements text us os))
     c.in_ok-statement_lists.statement_lists)
@@ -99,8 +101,8 @@ new-requires g c =
       few = let n = length-map os (statement_of text words) in
           let few = outlined.few in omega (arith, n, few);
       read = is_read text ws words os _ _ lent refl c.requires.fault outlined.read;
-      labels = kept.keeps.labels_are;
-      names_are = kept.names_are;
+      labels = is_read_so_far.keeps.labels_are;
+      names_are = is_read_so_far.names_are;
       frame_tables_are =
           subst (λ (r : Reading _). AreFrameTables r.statements.list r.statements.blocks
           c.in_ok-frame_tables.frame_tables) same c.in_ok-frame_tables.ensures;

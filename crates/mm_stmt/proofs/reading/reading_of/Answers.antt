@@ -10,20 +10,21 @@ pub into_reading-requires : goal.into_reading-requires
 into_reading-requires g c =
     let outlined = c.args.outlined in
     let db = statements c.args.text.now (words_of c.args.text.now) outlined.outlines.items in
-    let kept = c.requires.kept in
+    let is_read_so_far = c.requires.is_read_so_far in
     let symbols =
-    are_symbols _ _ _ _ kept.keeps (names_of outlined.scope.names.symbols)
-    c.in_ok-variable_flags.variable_flags.items kept.names_are c.in_ok-variable_flags.ensures.count
+    are_symbols _ _ _ _ is_read_so_far.keeps (names_of outlined.scope.names.symbols)
+    c.in_ok-variable_flags.variable_flags.items is_read_so_far.names_are
+    c.in_ok-variable_flags.ensures.count
     c.in_ok-variable_flags.ensures.each in
-    let names = ap length kept.names_are in
+    let names = ap length is_read_so_far.names_are in
     let few = c.requires.few_symbols in
     let count = c.in_ok-variable_flags.ensures.count in
     record {
-      places = kept.formulas.order;
+      places = is_read_so_far.formulas.order;
       parts = record {
         sound = c.requires.sound;
-        blocks = kept.keeps.blocks;
-        numbered = rw kept.formulas.are (formulas_numbered db);
+        blocks = is_read_so_far.keeps.blocks;
+        numbered = rw is_read_so_far.formulas.are (formulas_numbered db);
         few_symbols = omega (arith, few, count);
         count = omega (arith, count, names);
         variable = λ s l. symbols.variable s (omega (arith, l, names));

@@ -3,10 +3,11 @@ use Rattle.std.proofs.lemmas.Bool.{not-false}
 use Rattle.mm_spec.specs.Readings.{bytes_of}
 use Rattle.mm_spec.specs.Words.{words_between}
 use Rattle.mm_lex.specs.Pieces.{side_reading}
-use Rattle.mm_lex.specs.Inners.{side}
+use Rattle.mm_lex.specs.Between.{side}
 use Rattle.mm_lex.specs.Plain.{IsPlainWord}
 use Rattle.mm_lex.specs.Beginnings.{ArePlain}
-use Rattle.mm_lex.proofs.PiecesLaw.{go_on_done, go_on_next, go_on_plain, go_on_skips, go_on_some}
+use Rattle.mm_lex.proofs.PiecesLaw.{append_reading_done, append_reading_next, append_reading_plain}
+use Rattle.mm_lex.proofs.PiecesLaw.{append_reading_skips, append_reading_some}
 use Rattle.mm_lex.proofs.PiecesLaw.{ignored_inside, none_from, same_next}
 use Rattle.mm_lex.proofs.modes.ModeReading.read_rest.Goals as goal
 
@@ -19,11 +20,11 @@ returns-then-is_some-2 g c p =
     same_next _ text c.loop-found.scanner.from c.next_word.new.self.from c.args.to word
     before.same_text c.in-Some.ensures.words in
     let all =
-    go_on_next text _ (side_reading p (side c.loop-found.self)) _ word _ _
+    append_reading_next text _ (side_reading p (side c.loop-found.self)) _ word _ _
     (before.same_reading p) next
     (c.in_ok-read_word.ensures p) in
     sym (all
-    ∙ go_on_some text (side_reading p (side c.read_word.new.self))
+    ∙ append_reading_some text (side_reading p (side c.read_word.new.self))
     (words_between text c.next_word.new.self.from c.args.to)
     (sym c.is_some-then-not-found.ensures ∙ c.if-is_some-2.true))
 
@@ -39,7 +40,7 @@ loop-found-preserved-else-is_some-2 g c =
       same_text = c.in-Some.ensures.text ∙ before.same_text;
       no_fault = none_from _ (sym c.is_some-then-not-found.ensures ∙ c.if-is_some-2.false);
       same_reading =
-          λ p. go_on_next text _ (side_reading p (side c.loop-found.self)) _ word _ _
+          λ p. append_reading_next text _ (side_reading p (side c.loop-found.self)) _ word _ _
           (before.same_reading p)
           next (c.in_ok-read_word.ensures p);
     }
@@ -64,7 +65,8 @@ loop-found-preserved-then-is_open g c =
       same_text = c.skip_plain.ensures.text ∙ same;
       no_fault = before.no_fault;
       same_reading =
-          λ p. go_on_skips text _ (side_reading p (side c.loop-found.self)) word _ here upto
+          λ p. append_reading_skips text _
+          (side_reading p (side c.loop-found.self)) word _ here upto
           c.args.to (ignored_inside _ _ (sym (c.is_open.ensures p) ∙ c.if-is_open.true)) plain
           c.skip_plain.ensures.onward others (before.same_reading p) next;
     }
@@ -84,9 +86,10 @@ loop-found-preserved g c =
       same_text = c.in-Some.ensures.text ∙ before.same_text;
       no_fault = before.no_fault;
       same_reading =
-          λ p. go_on_next text _ (side_reading p (side c.loop-found.self)) _ word _ _
+          λ p. append_reading_next text _ (side_reading p (side c.loop-found.self)) _ word _ _
           (before.same_reading p)
-          next (go_on_plain text (side_reading p (side c.loop-found.self)) word _ before.no_fault
+          next (append_reading_plain text
+          (side_reading p (side c.loop-found.self)) word _ before.no_fault
           (sym (c.is_open.ensures p) ∙ c.if-is_open.false) plain c.in_ok-push.ensures.items);
     }
 
@@ -98,4 +101,4 @@ returns g c p =
     subst (λ (t : List ℕ). words_between t c.loop-found.scanner.from c.args.to
     ≡ []) before.same_text
     c.in_default.ensures.words in
-    sym (go_on_done text _ _ _ (before.same_reading p) none)
+    sym (append_reading_done text _ _ _ (before.same_reading p) none)

@@ -1,8 +1,8 @@
 use Rattle.std.proofs.Common.{◌≡◌, ◌+◌, ◌-◌, ℕ, None, length}
 use Rattle.mm_spec.specs.Words.{words_between}
-use Rattle.mm_spec.specs.Laws.Readings.{go_on}
+use Rattle.mm_spec.specs.Laws.Readings.{append_reading}
 use Rattle.mm_lex.specs.Pieces.{side_reading}
-use Rattle.mm_lex.specs.Inners.{side}
+use Rattle.mm_lex.specs.Between.{side}
 use Rattle.mm_lex.proofs.modes.ModeReading.read_rest.Given as goal
 
 -- The reading has no fault, and continued with the remaining words it gives what all words give.
@@ -11,8 +11,10 @@ invariant-loop-found g l = record {
   same_text : l.scanner.text.now ≡ l.text;
   no_fault : l.self.fault ≡ None;
   same_reading : (p : ℕ)
-      → go_on l.text (side_reading p (side l.fn.self)) (words_between l.text l.fn.scanner.from l.to)
-      ≡ go_on l.text (side_reading p (side l.self)) (words_between l.text l.scanner.from l.to);
+      → append_reading l.text (side_reading p (side l.fn.self))
+      (words_between l.text l.fn.scanner.from l.to)
+      ≡ append_reading l.text (side_reading p (side l.self))
+      (words_between l.text l.scanner.from l.to);
 }
 
 abbrev pub decreases-loop-found : goal.decreases-loop-found

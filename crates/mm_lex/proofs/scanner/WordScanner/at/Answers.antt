@@ -36,8 +36,8 @@ invariant_of-result-clause-begins c =
     begins_one text c.args.base marks.white c.starts_of.result c.may_begin.result white
     c.may_begin.ensures c.starts_of.ensures.first c.starts_of.ensures.next
 
-pub invariant_of-result-clause-none : goal.invariant_of-result-clause-none
-invariant_of-result-clause-none c i lt within _ =
+pub invariant_of-result-clause-begins_none : goal.invariant_of-result-clause-begins_none
+invariant_of-result-clause-begins_none c i lt within _ =
     let text = c.args.text.now in
     let marks = c.marks_of-marks.result in
     let white =

@@ -12,9 +12,9 @@ invariant_of-result-clause-further c i lt one =
     let le = (bit_from_one c.at-block.result.starts (c.args.from % 64) i lt one).0 in
     omega (arith, le, c.at-block.ensures.base)
 
-pub invariant_of-result-clause-none : goal.invariant_of-result-clause-none
-invariant_of-result-clause-none c i lt within le none =
+pub invariant_of-result-clause-begins_none : goal.invariant_of-result-clause-begins_none
+invariant_of-result-clause-begins_none c i lt within le none =
     let low : c.args.from % 64 ≤ i = omega (arith, le, c.at-block.ensures.base) in
-    c.at-block.result.none i lt within
+    c.at-block.result.begins_none i lt within
     (omega (arith, c.at-block.ensures.base, c.at-block.ensures.from))
     (sym (bits_from c.at-block.result.starts (c.args.from % 64) i lt low) ∙ none)

@@ -17,7 +17,8 @@ returns-then-to-self-clause-first c =
     (λ i low high lt. run_on
     (λ t k. begins_word t k ≡ false) b.text.now text b.starts c.args.self.now.from b.from b.base
     64 before.same_text b.low (omega arith) before.none_begins
-    (λ k _ _. ap (λ (n : ℕ). bit_at n k) c.loop-self-test.true ∙ bit_at-zero k) b.none i low high
+    (λ k _ _. ap (λ (n : ℕ). bit_at n k) c.loop-self-test.true ∙ bit_at-zero k) b.begins_none i low
+    high
     (omega (arith, c.requires.within)))
 
 pub loop-self-preserved : goal.loop-self-preserved
@@ -32,7 +33,8 @@ loop-self-preserved c =
           λ i low high lt. run_on
           (λ t k. begins_word t k ≡ false) b.text.now text b.starts c.args.self.now.from b.from
           b.base 64 before.same_text b.low (omega arith) before.none_begins
-          (λ k _ _. ap (λ (n : ℕ). bit_at n k) c.loop-self-test.true ∙ bit_at-zero k) b.none i low
+          (λ k _ _. ap (λ (n : ℕ). bit_at n k) c.loop-self-test.true ∙ bit_at-zero k) b.begins_none
+          i low
           (omega (arith, c.next_block.ensures.from)) lt;
     }
 
@@ -49,7 +51,7 @@ returns-then-to-start-clause-first c =
     (λ i low high lt. run_on
     (λ t k. begins_word t k ≡ false) b.text.now text b.starts c.args.self.now.from b.from b.base
     (trailing_zeros w64 b.starts) before.same_text b.low (omega (arith, place.0)) before.none_begins
-    (λ k _ under. place.2 k under) b.none i low high (omega (arith, c.requires.within)))
+    (λ k _ under. place.2 k under) b.begins_none i low high (omega (arith, c.requires.within)))
 
 pub invariant_of-self-clause-begins : goal.invariant_of-self-clause-begins
 invariant_of-self-clause-begins c i lt within one =
@@ -65,12 +67,13 @@ invariant_of-self-clause-further c i lt one =
     bit_at-trailing_zeros w64 b.starts (omega (arith, c.loop-self-test.false)) (omega arith) in
     omega (arith, cleared_above b.starts (trailing_zeros w64 b.starts) place.0 place.2 i lt one)
 
-pub invariant_of-self-clause-none : goal.invariant_of-self-clause-none
-invariant_of-self-clause-none c i lt within le none =
+pub invariant_of-self-clause-begins_none : goal.invariant_of-self-clause-begins_none
+invariant_of-self-clause-begins_none c i lt within le none =
     let b = c.loop-self.self in
     let place =
     bit_at-trailing_zeros w64 b.starts (omega (arith, c.loop-self-test.false)) (omega arith) in
-    b.none i lt within (omega (arith, le, b.further (trailing_zeros w64 b.starts) place.0 place.1))
+    b.begins_none i lt within (omega
+    (arith, le, b.further (trailing_zeros w64 b.starts) place.0 place.1))
     (sym (cleared_other b.starts (trailing_zeros w64 b.starts) place.0 i lt
     (λ e. omega (arith, e, le)))
     ∙ none)
@@ -96,7 +99,7 @@ returns-clause-first c =
           λ i low high. run_on (λ t k. begins_word t k ≡ false) b.text.now text b.starts
           c.args.self.now.from b.from b.base (trailing_zeros w64 b.starts) before.same_text b.low
           (omega (arith, place.0)) before.none_begins
-          (λ k _ under. place.2 k under) b.none i low high
+          (λ k _ under. place.2 k under) b.begins_none i low high
           (omega (arith, c.requires.within, c.if-to-start.false));
     }
 
@@ -123,7 +126,8 @@ returns-then-to-self-clause-done c =
     (λ i low high lt. run_on
     (λ t k. begins_word t k ≡ false) b.text.now text b.starts b.from b.from b.base 64
     c.loop-self.invariant.same_text b.low (omega arith) (λ k a h _. absurd (omega arith))
-    (λ k _ _. ap (λ (n : ℕ). bit_at n k) c.loop-self-test.true ∙ bit_at-zero k) b.none i low high
+    (λ k _ _. ap (λ (n : ℕ). bit_at n k) c.loop-self-test.true ∙ bit_at-zero k) b.begins_none i low
+    high
     (omega (arith, c.requires.within)))
 
 pub returns-then-to-start-clause-done : goal.returns-then-to-start-clause-done
@@ -137,5 +141,5 @@ returns-then-to-start-clause-done c =
     (λ i low high lt. run_on
     (λ t k. begins_word t k ≡ false) b.text.now text b.starts b.from b.from b.base
     (trailing_zeros w64 b.starts) c.loop-self.invariant.same_text b.low (omega (arith, place.0))
-    (λ k a h _. absurd (omega arith)) (λ k _ under. place.2 k under) b.none i low high
+    (λ k a h _. absurd (omega arith)) (λ k _ under. place.2 k under) b.begins_none i low high
     (omega (arith, c.requires.within)))

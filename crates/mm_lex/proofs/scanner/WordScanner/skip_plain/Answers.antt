@@ -15,11 +15,11 @@ pub invariant_of-self-clause-further : goal.invariant_of-self-clause-further
 invariant_of-self-clause-further c i lt one =
     omega (arith, (bit_from_one c.args.self.now.starts c.last_one-end.result i lt one).0)
 
-pub invariant_of-self-clause-none : goal.invariant_of-self-clause-none
-invariant_of-self-clause-none c i lt within le none =
+pub invariant_of-self-clause-begins_none : goal.invariant_of-self-clause-begins_none
+invariant_of-self-clause-begins_none c i lt within le none =
     let b = c.args.self.now in
     let place = bit_at-trailing_zeros w64 b.starts (omega arith) (omega arith) in
-    b.none i lt within
+    b.begins_none i lt within
     (omega (arith, c.if-place-end.true, b.further (trailing_zeros w64 b.starts) place.0 place.1))
     (sym (bits_from b.starts c.last_one-end.result i lt (omega arith)) ∙ none)
 
@@ -44,7 +44,7 @@ returns-then-place-end-clause-plain c =
     (λ i from_here under. run_on
     (λ t k. begins_word t k ≡ false) text text b.starts b.from b.from b.base first refl b.low
     (omega (arith, place.0)) (λ k a h _. absurd (omega arith)) (λ k _ below. place.2 k below)
-    b.none i from_here under (omega (arith, inside, c.if-place-end.true)))
+    b.begins_none i from_here under (omega (arith, inside, c.if-place-end.true)))
     (skipped_plain text b.base b.white b.stops first c.first_one-special.result (omega arith)
     b.white_is b.plain c.first_one-special.ensures.zeros end
     (omega (arith, upto, c.min.ensures)) low one)

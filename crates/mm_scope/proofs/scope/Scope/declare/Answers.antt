@@ -9,39 +9,42 @@ use Rattle.mm_scope.specs.WordEntry.{declared_entry, entry_of}
 use Rattle.mm_scope.proofs.DeclaredLaw.{declared_step}
 use Rattle.mm_scope.proofs.scope.Scope.declare.Goals as goal
 
-pub loop-at-preserved : goal.loop-at-preserved
-loop-at-preserved g c =
+pub loop-token_index-preserved : goal.loop-token_index-preserved
+loop-token_index-preserved g c =
     let from = c.args.outline.keyword + 1 in
-    let test = c.loop-at-test.true in
+    let test = c.loop-token_index-test.true in
     let within = c.requires.among.within in
-    let inside : c.loop-at.at < length c.args.tokens.now = omega (arith, test, within) in
-    let later : from ≤ c.loop-at.at = omega arith in
-    let i = c.loop-at.invariant in
+    let inside : c.loop-token_index.token_index
+    < length c.args.tokens.now = omega (arith, test, within) in
+    let later : from ≤ c.loop-token_index.token_index = omega arith in
+    let i = c.loop-token_index.invariant in
     record {
       labels = λ w. c.in_ok-set_symbol.ensures.labels w ∙ i.labels w;
       symbols =
-          declared_step c.args.text.now c.args.tokens.now from c.loop-at.at later inside
+          declared_step c.args.text.now c.args.tokens.now from c.loop-token_index.token_index later
+          inside
           c.args.is_variable c.args.number c.declared-symbol.result
-          (find c.args.self.now.names.symbols) (find c.loop-at.self.names.symbols)
+          (find c.args.self.now.names.symbols) (find c.loop-token_index.self.names.symbols)
           (find c.set_symbol.new.self.symbols)
           (λ w. c.in_ok-set_symbol.ensures.symbols w
           ∙ ap (λ b. if bytes_eq b w then Some c.declared-symbol.result else
-          find c.loop-at.self.names.symbols w) c.bytes-word.ensures)
+          find c.loop-token_index.self.names.symbols w) c.bytes-word.ensures)
           (c.declared-symbol.ensures
           ∙ ap (λ b. declared_entry c.args.is_variable c.args.number b
-          (entry_of (find c.loop-at.self.names.symbols b))) c.bytes-word.ensures)
+          (entry_of (find c.loop-token_index.self.names.symbols b))) c.bytes-word.ensures)
           i.symbols;
       blocks = i.blocks;
       names =
           λ d h. c.in_ok-set_symbol.ensures.names
           ∙ ap₂ with_name c.bytes-word.ensures (i.names d h)
-          ∙ names_more c.args.text.now c.args.tokens.now from c.loop-at.at later inside d;
+          ∙ names_more c.args.text.now c.args.tokens.now from c.loop-token_index.token_index later
+          inside d;
     }
 
 pub returns-clause-names : goal.returns-clause-names
 returns-clause-names g c d h =
     let from = c.args.outline.keyword + 1 in
-    let e : c.loop-at.at ≡ c.args.outline.middle = omega arith in
-    c.loop-at.invariant.names d h
+    let e : c.loop-token_index.token_index ≡ c.args.outline.middle = omega arith in
+    c.loop-token_index.invariant.names d h
     ∙ ap (λ i. first_occurrences []
     (d ++ words (between c.args.text.now c.args.tokens.now from i))) e

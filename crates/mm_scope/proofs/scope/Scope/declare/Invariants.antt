@@ -6,17 +6,17 @@ use Rattle.mm_outline.specs.Parts.{between}
 use Rattle.mm_scope.specs.WordEntry.{after_declaring, entry_of}
 use Rattle.mm_scope.proofs.scope.Scope.declare.Given as goal
 
-abbrev pub invariant-loop-at : goal.invariant-loop-at
-invariant-loop-at g l = record {
+abbrev pub invariant-loop-token_index : goal.invariant-loop-token_index
+invariant-loop-token_index g l = record {
   labels : (w : List ℕ) → find l.self.names.labels w ≡ find l.initial.self.names.labels w;
   symbols : (w : List ℕ)
       → entry_of (find l.self.names.symbols w)
       ≡ after_declaring l.is_variable l.number
-      (words (between l.text l.tokens (l.fn.outline.keyword + 1) l.at)) w
+      (words (between l.text l.tokens (l.fn.outline.keyword + 1) l.token_index)) w
       (entry_of (find l.initial.self.names.symbols w));
   blocks : l.self.blocks ≡ l.initial.self.blocks;
   names : (d : List (List ℕ)) → names_of l.initial.self.names.symbols ≡ first_occurrences [] d
       → names_of l.self.names.symbols
       ≡ first_occurrences []
-      (d ++ words (between l.text l.tokens (l.fn.outline.keyword + 1) l.at));
+      (d ++ words (between l.text l.tokens (l.fn.outline.keyword + 1) l.token_index));
 }

@@ -7,7 +7,7 @@ use Rattle.mm_scope.proofs.scope.Scope.declared.Goals as goal
 pub returns : goal.returns
 returns g c = λ n k.
     let o = c.args.outline in
-    let whole = c.list_fault-whole.ensures n in
+    let whole = c.whole_statement_fault-whole.ensures n in
     c.lesser.ensures whole.0
     (at_each (listed_codes n o.kind) []
     (between c.args.text.now c.args.tokens.now (o.keyword + 1) o.middle))

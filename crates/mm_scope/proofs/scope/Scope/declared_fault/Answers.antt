@@ -6,14 +6,14 @@ use Rattle.mm_scope.specs.Knows.{listed_codes}
 use Rattle.mm_scope.proofs.JudgeLaw.{earlier, each_more, in_earlier}
 use Rattle.mm_scope.proofs.scope.Scope.declared_fault.Goals as goal
 
-pub loop-at-preserved : goal.loop-at-preserved
-loop-at-preserved g c =
+pub loop-token_index-preserved : goal.loop-token_index-preserved
+loop-token_index-preserved g c =
     let text = c.args.text.now in
     let ws = c.args.tokens.now in
     let from = c.args.from in
-    let i = c.loop-at.at in
+    let i = c.loop-token_index.token_index in
     let t = token_at text ws i in
-    let test = c.loop-at-test.true in
+    let test = c.loop-token_index-test.true in
     let within = c.requires.within in
     let inside : i < length ws = omega (arith, test, within) in
     let later : from ≤ i = omega arith in
@@ -24,7 +24,7 @@ loop-at-preserved g c =
           let codes = listed_codes n c.args.kind in
           let is = c.bytes-word.ensures in
           c.lesser-least_found.ensures (at_each codes [] (between text ws from i))
-          (at t.at (codes e t.word)) (c.loop-at.invariant.least n k)
+          (at t.at (codes e t.word)) (c.loop-token_index.invariant.least n k)
           (c.fault_with_code.ensures
           ∙ c.declared_code-code.ensures e (c.in_ok-repeated.ensures.repeated
           ∙ in_earlier text ws from i t.word ∙ ap (λ w. is_in w e) (sym is)) t.at n k

@@ -8,12 +8,12 @@ use Rattle.mm_scope.specs.Knows.{listed_codes}
 use Rattle.mm_scope.specs.Scopes.{AreNamesOf}
 use Rattle.mm_scope.proofs.scope.Scope.declared_fault.Given as goal
 
-abbrev pub invariant-loop-at : goal.invariant-loop-at
-invariant-loop-at g l = record {
+abbrev pub invariant-loop-token_index : goal.invariant-loop-token_index
+invariant-loop-token_index g l = record {
   seen : l.is_short ≡ false → (w : List ℕ)
       → is_some (find l.seen.entries w)
-      ≡ is_in w (words (between l.text l.tokens l.from l.at));
+      ≡ is_in w (words (between l.text l.tokens l.from l.token_index));
   least : (n : Names) → AreNamesOf l.self n
       → l.least_found ≡ least (at_each (listed_codes n l.kind) []
-      (between l.text l.tokens l.from l.at));
+      (between l.text l.tokens l.from l.token_index));
 }

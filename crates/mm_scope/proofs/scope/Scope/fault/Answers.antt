@@ -11,6 +11,6 @@ returns-in-Floating-clause-fault g c = λ n k.
     c.lesser.ensures (label_faults n (token_at text ws (o.keyword - 1)))
     (floating_faults n (nth_word ws o.keyword).start (between text ws (o.keyword + 1) o.middle))
     (c.label_fault-label.ensures n k) (c.floating_fault.ensures n k)
-    ∙ ap (λ kd. least (scope_faults n c.args.deep
+    ∙ ap (λ kd. least (scope_faults n c.args.depth
     (statement_between text ws kd o.keyword o.middle o.end)))
     (sym c.in-Floating.is)

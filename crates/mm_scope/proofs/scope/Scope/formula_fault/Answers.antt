@@ -34,7 +34,7 @@ returns-clause-fault g c = λ n k.
     let known = c.numbered-number.ensures.symbol ∙ ap (find s.names.symbols) c.bytes.ensures in
     c.lesser.ensures (at t.at (when (not (is_in t.word n.constants)) BadTypecode))
     (at_each (symbol_codes n) [] (between text ws (c.args.from + 1) c.args.to))
-    (c.fault_with_code-typecode.ensures ∙ c.typecode_code.ensures t.at
+    (c.fault_with_code-typecode.ensures ∙ c.typecode_fault_code.ensures t.at
     ∙ ap (λ b. least (at t.at (when (not b) BadTypecode)))
     (ap is_constant_in known ∙ sym (k.constants t.word)))
     (c.in_ok-rest.ensures.fault n k)

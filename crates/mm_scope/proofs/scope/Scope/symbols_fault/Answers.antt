@@ -18,36 +18,37 @@ overflow_cast-number g c =
     let is = c.numbered-number.ensures.number in
     omega (arith, le, is, few)
 
-pub loop-at-preserved : goal.loop-at-preserved
-loop-at-preserved g c =
+pub loop-token_index-preserved : goal.loop-token_index-preserved
+loop-token_index-preserved g c =
     let s = c.args.self.now in
     let text = c.args.text.now in
     let ws = c.args.tokens.now in
-    let test = c.loop-at-test.true in
+    let test = c.loop-token_index-test.true in
     let within = c.requires.within in
-    let inside : c.loop-at.at < length ws = omega (arith, test, within) in
-    let later : c.args.from ≤ c.loop-at.at = omega arith in
+    let inside : c.loop-token_index.token_index < length ws = omega (arith, test, within) in
+    let later : c.args.from ≤ c.loop-token_index.token_index = omega arith in
     record {
       least = λ n k.
-          let t = token_at text ws c.loop-at.at in
+          let t = token_at text ws c.loop-token_index.token_index in
           c.lesser-least_found.ensures
-          (at_each (symbol_codes n) [] (between text ws c.args.from c.loop-at.at))
-          (at t.at (symbol_codes n [] t.word)) (c.loop-at.invariant.least n k)
+          (at_each (symbol_codes n) [] (between text ws c.args.from c.loop-token_index.token_index))
+          (at t.at (symbol_codes n [] t.word)) (c.loop-token_index.invariant.least n k)
           (c.fault_with_code.ensures
           ∙ c.symbol_code.ensures t.word
           (sym (c.numbered-number.ensures.symbol ∙ ap (find s.names.symbols) c.bytes.ensures))
           t.at n k)
           ∙ ap least
-          (sym (each_more text ws c.args.from c.loop-at.at later inside (symbol_codes n)));
+          (sym (each_more text ws c.args.from c.loop-token_index.token_index later inside
+          (symbol_codes n)));
       numbered = (
           let ns = names_of s.names.symbols in
-          let xs = numbers_in ns (between text ws c.args.from c.loop-at.at) in
+          let xs = numbers_in ns (between text ws c.args.from c.loop-token_index.token_index) in
           c.in_ok-push.ensures.items
-          ∙ ap₂ (λ x y. x ++ y ∷ []) c.loop-at.invariant.numbered
+          ∙ ap₂ (λ x y. x ++ y ∷ []) c.loop-token_index.invariant.numbered
           (c.new.ensures ∙ c.numbered-number.ensures.number
           ∙ ap (λ w. index_of w ns) c.bytes.ensures)
           ∙ append_assoc c.args.numbers.now.items xs
-          (index_of (token_at text ws c.loop-at.at).word ns ∷ [])
+          (index_of (token_at text ws c.loop-token_index.token_index).word ns ∷ [])
           ∙ ap (λ l. c.args.numbers.now.items ++ l)
-          (sym (numbers_more text ws ns c.args.from c.loop-at.at later inside)));
+          (sym (numbers_more text ws ns c.args.from c.loop-token_index.token_index later inside)));
     }

@@ -7,11 +7,12 @@ use Rattle.mm_database.specs.Names.{names_of}
 use Rattle.mm_scope.specs.Scopes.{AreNamesOf}
 use Rattle.mm_scope.proofs.scope.Scope.symbols_fault.Given as goal
 
-abbrev pub invariant-loop-at : goal.invariant-loop-at
-invariant-loop-at g l = record {
+abbrev pub invariant-loop-token_index : goal.invariant-loop-token_index
+invariant-loop-token_index g l = record {
   least : (n : Names) → AreNamesOf l.self n
-      → l.least_found ≡ least (at_each (symbol_codes n) [] (between l.text l.tokens l.from l.at));
+      → l.least_found ≡ least (at_each (symbol_codes n) []
+      (between l.text l.tokens l.from l.token_index));
   numbered : l.numbers.items
       ≡ l.initial.numbers.items
-      ++ numbers_in (names_of l.self.names.symbols) (between l.text l.tokens l.from l.at);
+      ++ numbers_in (names_of l.self.names.symbols) (between l.text l.tokens l.from l.token_index);
 }

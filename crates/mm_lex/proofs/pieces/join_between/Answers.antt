@@ -1,0 +1,42 @@
+use Rattle.std.proofs.Common.{◌≡◌, ℕ, sym, lt-ltb, le-ltb}
+use Rattle.mm_spec.specs.Laws.Readings.{append_reading}
+use Rattle.mm_lex.specs.Pieces.{side_reading}
+use Rattle.mm_lex.specs.Between.{side}
+use Rattle.mm_lex.specs.Stretches.{joined_word}
+use Rattle.mm_lex.proofs.PiecesLaw.{append_reading_three, append_reading_nil}
+use Rattle.mm_lex.proofs.pieces.join_between.Goals as goal
+use Rattle.mm_lex.proofs.pieces.join_between.Goals.{then-before-after+in_ok-read_word+in_ok-read_word-2}
+use Rattle.mm_lex.proofs.pieces.join_between.Goals.{else-before-after}
+
+pub returns-clause-readings : goal.returns-clause-readings
+returns-clause-readings g c ws us before after =
+    let outside_joined : (p : ℕ)
+    → side_reading p (side c.if-before-after.outside)
+    ≡ append_reading c.args.text.now (side_reading p (side c.args.before.outside))
+    (joined_word c.args.before.tail_start c.args.after.head_end) =
+    λ p. elim c.if-before-after.branch [
+      | then-before-after+in_ok-read_word+in_ok-read_word-2 w ↦ rw
+          (w.outside-is, lt-ltb _ _ w.if-before-after.true) (w.in_ok-read_word.ensures p)
+      | else-before-after w ↦ rw (w.outside-is, le-ltb _ _ w.if-before-after.false)
+          (sym (append_reading_nil _ _))
+    ] in
+    let inside_joined : (p : ℕ)
+    → side_reading p (side c.if-before-after.inside)
+    ≡ append_reading c.args.text.now (side_reading p (side c.args.before.inside))
+    (joined_word c.args.before.tail_start c.args.after.head_end) =
+    λ p. elim c.if-before-after.branch [
+      | then-before-after+in_ok-read_word+in_ok-read_word-2 w ↦ rw
+          (w.inside-is, lt-ltb _ _ w.if-before-after.true) (w.in_ok-read_word-2.ensures p)
+      | else-before-after w ↦ rw (w.inside-is, le-ltb _ _ w.if-before-after.false)
+          (sym (append_reading_nil _ _))
+    ] in
+    record {
+      out =
+          λ p. append_reading_three c.args.text.now _ _ _ _ ws _ us (before.out p)
+          (outside_joined p)
+          (c.in_ok-append_reading.ensures c.args.text.now us after p);
+      within =
+          λ p. append_reading_three c.args.text.now _ _ _ _ ws _ us (before.within p)
+          (inside_joined p)
+          (c.in_ok-append_reading-2.ensures c.args.text.now us after p);
+    }
