@@ -2,10 +2,11 @@
 
 import json
 import os
+import re
 import unittest
 
 from query.tests.repositories import ADDED, BASE, FREED, WATCH, Repositories, changed
-from query.tests.world import DATABASES
+from query.tests.world import DATABASES, TOP
 
 CHEAT = (
     "2p2e4 $p |- ( 2 + 2 ) = 4 $= df-4",
@@ -554,6 +555,24 @@ class Outputs(Repositories):
         text = (self.room / "summary.md").read_text()
         self.assertTrue(text.startswith("before\n### mmquery gate: 1 finding"))
         self.assertIn("| axioms | db.mm\\:10 | ax-cheat |", text)
+
+
+class Page(Repositories):
+    """docs/GATE.md: its example is what the gate says, but for the line and the commit."""
+
+    def test_the_example(self) -> None:
+        text = (TOP / "docs" / "GATE.md").read_text()
+        command, *shown = re.findall(r"```console\n(.*?)```", text, re.S)[0].splitlines()
+        self.commit(BASE, "set.mm")
+        self.git("update-ref", "refs/remotes/origin/main", "HEAD")
+        self.branch()
+        self.commit(changed(BASE, CHEAT), "set.mm")
+        came = self.query(*command.removeprefix("$ mmquery ").split())
+        numbers = re.compile(r":\d+:|[0-9a-f]{12}")
+        self.assertEqual(
+            [numbers.sub("", line) for line in came.lines()],
+            [numbers.sub("", line) for line in shown],
+        )
 
 
 @unittest.skipUnless((DATABASES / "set.mm").exists(), "there is no set.mm")
