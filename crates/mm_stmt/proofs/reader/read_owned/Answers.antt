@@ -18,23 +18,23 @@ use Rattle.mm_spec.specs.Opened.{counted}
 use Rattle.mm_stmt.proofs.AssembleLaw.{is_read, names_few, sound}
 use Rattle.mm_stmt.proofs.reader.read_owned.Goals as goal
 
-pub outline-requires-clause-words : goal.outline-requires-clause-words
-outline-requires-clause-words g c =
+pub outline_statements-requires-clause-words : goal.outline_statements-requires-clause-words
+outline_statements-requires-clause-words g c =
     subst (AreWithin c.args.text.now)
     (sym (c.as_slice-words.ensures.value ∙ c.requires.tokens)) (tokens_stand c.args.text.now)
 
-pub outline-requires-clause-tokens : goal.outline-requires-clause-tokens
-outline-requires-clause-tokens g c =
+pub outline_statements-requires-clause-tokens : goal.outline_statements-requires-clause-tokens
+outline_statements-requires-clause-tokens g c =
     subst (AreTokens c.args.text.now)
     (sym (c.as_slice-words.ensures.value ∙ c.requires.tokens)) (tokens_tell c.args.text.now)
 
-pub outline-requires-clause-few : goal.outline-requires-clause-few
-outline-requires-clause-few g c =
+pub outline_statements-requires-clause-few : goal.outline_statements-requires-clause-few
+outline_statements-requires-clause-few g c =
     subst (λ (ws : List Word). length ws < 2 ^ 31)
     (sym (c.as_slice-words.ensures.value ∙ c.requires.tokens)) (tokens_small c.args.text.now)
 
-pub outline-requires-clause-short : goal.outline-requires-clause-short
-outline-requires-clause-short g c e =
+pub outline_statements-requires-clause-short : goal.outline_statements-requires-clause-short
+outline_statements-requires-clause-short g c e =
     let s = short_text c.args.text.now (sym c.requires.fault ∙ e) in omega (arith, s)
 
 pub list_statements-requires-clause-words : goal.list_statements-requires-clause-words
