@@ -25,6 +25,9 @@ fn is_report_with_cuts<R: Threads + Wait + Sync>(
     )
 }
 
+/// How many bytes the text of `through_a_theorem` has.
+const THROUGH_LEN: u32 = 339;
+
 // In the second text one theorem cites the other, and each stands in a block with a hypothesis.
 #[test]
 fn every_cut_gives_the_same_report(rt: HostRuntime) -> Result<(), AllocError> {
@@ -33,7 +36,8 @@ fn every_cut_gives_the_same_report(rt: HostRuntime) -> Result<(), AllocError> {
         assert!(&rt; is_report_with_cuts(&rt, alloc, &[place], FIRST_TEXT, FIRST_REPORT)?);
     }
     let text = through_a_theorem(alloc)?;
-    for place in 0..=text.len() as u32 {
+    assert_eq!(&rt; text.len(), THROUGH_LEN as usize);
+    for place in 0..=THROUGH_LEN {
         assert!(&rt; is_report_with_cuts(&rt, alloc, &[place], &text, THROUGH_REPORT)?);
     }
     Ok(())
