@@ -10,7 +10,7 @@ from abc import ABC, abstractmethod
 from pathlib import Path
 from typing import Any
 
-from query.tests.browser.counting import count
+from query.tests.browser.counting import count, same
 from query.tests.browser.marionette import Marionette
 from query.tests.browser.scripts import GATHER
 
@@ -68,8 +68,8 @@ class Browser(ABC):
         """Gives the page a size; whether that can be done."""
 
     @abstractmethod
-    def look(self, scheme: str, media: str = "") -> None:
-        """Light or dark; the media `print` or none."""
+    def look(self, scheme: str, media: str = "") -> bool:
+        """Light or dark; the media `print` or none. Whether that can be done."""
 
     @abstractmethod
     def messages(self) -> list[str]:
@@ -78,6 +78,10 @@ class Browser(ABC):
     @abstractmethod
     def close(self) -> None:
         """Ends it."""
+
+    def stays_silent(self, when: str) -> None:
+        """Counts whether nothing came into the console; nothing is counted where it can't be read."""
+        same(self.messages(), [], f"{self.name}: messages in the console {when}")
 
     def wait(self, script: str, *words: Any, seconds: float = 30) -> Any:
         """Waits until an expression has a value that isn't false."""
@@ -126,7 +130,29 @@ class Browser(ABC):
         return False
 
 
-class Chromium(Browser):
+class Driven(Browser):
+    """A browser that selenium drives."""
+
+    driver: Any
+
+    def go(self, address: str) -> None:
+        self.driver.get(address)
+
+    def run(self, script: str, *words: Any) -> Any:
+        return self.driver.execute_script(script, *words)
+
+    def call(self, function: str, *words: Any) -> Any:
+        return self.driver.execute_async_script(waiting(function), *words)
+
+    def press(self, *keys: str) -> None:
+        webdriver.ActionChains(self.driver).send_keys(*keys).perform()
+
+    def choose(self, selector: str, paths: list[Path]) -> None:
+        field = self.driver.find_element("css selector", selector)
+        field.send_keys("\n".join(map(str, paths)))
+
+
+class Chromium(Driven):
     """Chromium, by chromedriver."""
 
     name = "chromium"
@@ -146,31 +172,16 @@ class Chromium(Browser):
         self.driver.set_script_timeout(500)
         self.size(1280, 900)
 
-    def go(self, address: str) -> None:
-        self.driver.get(address)
-
-    def run(self, script: str, *words: Any) -> Any:
-        return self.driver.execute_script(script, *words)
-
-    def call(self, function: str, *words: Any) -> Any:
-        return self.driver.execute_async_script(waiting(function), *words)
-
-    def press(self, *keys: str) -> None:
-        webdriver.ActionChains(self.driver).send_keys(*keys).perform()
-
-    def choose(self, selector: str, paths: list[Path]) -> None:
-        field = self.driver.find_element("css selector", selector)
-        field.send_keys("\n".join(map(str, paths)))
-
     def size(self, width: int, height: int) -> bool:
         metrics = {"width": width, "height": height, "deviceScaleFactor": 1, "mobile": False}
         self.driver.execute_cdp_cmd("Emulation.setDeviceMetricsOverride", metrics)
         return True
 
-    def look(self, scheme: str, media: str = "") -> None:
+    def look(self, scheme: str, media: str = "") -> bool:
         features = [{"name": "prefers-color-scheme", "value": scheme}]
         words = {"media": media, "features": features}
         self.driver.execute_cdp_cmd("Emulation.setEmulatedMedia", words)
+        return True
 
     def messages(self) -> list[str]:
         return [entry["message"] for entry in self.driver.get_log("browser")]
@@ -233,7 +244,7 @@ class Firefox(Browser):
         self.marionette.ask("WebDriver:SetWindowRect", more)
         return bool(self.run("return window.innerWidth") == width)
 
-    def look(self, scheme: str, media: str = "") -> None:
+    def look(self, scheme: str, media: str = "") -> bool:
         self.marionette.as_browser(
             "Services.prefs.setIntPref('layout.css.prefers-color-scheme.content-override',"
             " arguments[0]);"
@@ -242,6 +253,7 @@ class Firefox(Browser):
             media,
         )
         time.sleep(0.1)
+        return True
 
     def messages(self) -> list[str]:
         found = self.marionette.as_browser(
@@ -285,7 +297,7 @@ class Screen:
         self.process.wait()
 
 
-class WebKit(Browser):
+class WebKit(Driven):
     """WebKitGTK's own browser, by its driver. Its console can't be read, and it can't be told to be
     light or dark."""
 
@@ -314,31 +326,18 @@ class WebKit(Browser):
         found = shutil.which("WebKitWebDriver") and shutil.which("Xvfb") and mini_browser()
         return webdriver is not None and bool(found)
 
-    def go(self, address: str) -> None:
-        self.driver.get(address)
-
-    def run(self, script: str, *words: Any) -> Any:
-        return self.driver.execute_script(script, *words)
-
-    def call(self, function: str, *words: Any) -> Any:
-        return self.driver.execute_async_script(waiting(function), *words)
-
-    def press(self, *keys: str) -> None:
-        webdriver.ActionChains(self.driver).send_keys(*keys).perform()
-
-    def choose(self, selector: str, paths: list[Path]) -> None:
-        field = self.driver.find_element("css selector", selector)
-        field.send_keys("\n".join(map(str, paths)))
-
     def size(self, width: int, height: int) -> bool:
         self.driver.set_window_rect(width=width, height=height)
         return bool(self.run("return window.innerWidth") == width)
 
-    def look(self, scheme: str, media: str = "") -> None:
-        pass
+    def look(self, scheme: str, media: str = "") -> bool:
+        return False
 
     def messages(self) -> list[str]:
         return []
+
+    def stays_silent(self, when: str) -> None:
+        pass
 
     def close(self) -> None:
         self.driver.quit()

@@ -333,7 +333,8 @@ def check_start(browser: Browser, room: Room) -> None:
     name = browser.name
     same(browser.run(NAMES), [], f"{name}: names at the start")
     for scheme in ("light", "dark"):
-        browser.look(scheme)
+        if not browser.look(scheme):
+            continue
         worst = browser.run(CONTRAST)
         count(worst["ratio"] >= 4.5, f"{name}: contrast at the start, {scheme}", worst)
     browser.look("light")
@@ -347,7 +348,7 @@ def check_start(browser: Browser, room: Room) -> None:
         wide = browser.run("return document.documentElement.scrollWidth - window.innerWidth")
         count(wide <= 0, f"{name}: the start fits a telephone", wide)
         browser.size(1280, 900)
-    same(browser.messages(), [], f"{name}: messages in the console at the start")
+    browser.stays_silent("at the start")
 
 
 def check_policy(browser: Browser, room: Room) -> None:
@@ -366,7 +367,7 @@ def check_policy(browser: Browser, room: Room) -> None:
     time.sleep(1)
     asked = [path for path in Asked.paths if path != "/favicon.ico"]
     same(asked, [f"/{room.page.name}"], f"{name}: the page loads nothing")
-    same(browser.messages(), [], f"{name}: messages in the console over HTTP")
+    browser.stays_silent("over HTTP")
     for opened in ("HTTP", "a disk"):
         if opened == "a disk":
             begin(browser, room, spies=False)
@@ -430,7 +431,7 @@ def check_refusals(browser: Browser, room: Room) -> None:
     browser.run("document.getElementById('only').value = 'nothing'")
     browser.choose("#file", [DATABASES / "demo0.mm"])
     told_within(browser, "a typecode without axioms", "has no axiom of typecode nothing")
-    same(browser.messages(), [], f"{browser.name}: messages in the console at refusals")
+    browser.stays_silent("at refusals")
 
 
 def check_changed(browser: Browser, room: Room) -> None:
@@ -463,7 +464,7 @@ def check_cancel(browser: Browser, room: Room) -> None:
         shown(browser, "a database after one that was cancelled")
         title = browser.run("return document.querySelector('h1').textContent")
         same(title, "demo0.mm", f"{browser.name}: that one")
-    same(browser.messages(), [], f"{browser.name}: messages in the console when it is cancelled")
+    browser.stays_silent("when it is cancelled")
 
 
 def check_hostile(browser: Browser, room: Room) -> None:
@@ -493,7 +494,7 @@ def check_hostile(browser: Browser, room: Room) -> None:
         )
         came = [extra, browser.run("return window.taken ?? null")]
         same(came, [[], None], f"{browser.name} {address}: text is no markup")
-    same(browser.messages(), [], f"{browser.name}: messages in the console of a hostile database")
+    browser.stays_silent("of a hostile database")
 
 
 def check_pair(browser: Browser, room: Room) -> None:
@@ -514,7 +515,7 @@ def check_pair(browser: Browser, room: Room) -> None:
     text = " ".join(str(view.get("text")).split())
     for part in ("3new axioms", "renamed was old", "since b now cites c"):
         count(part in text, f"{browser.name}: the difference tells '{part}'", text)
-    same(browser.messages(), [], f"{browser.name}: messages in the console of a comparison")
+    browser.stays_silent("of a comparison")
 
 
 def dropped(path: Path) -> list[list[str]]:
@@ -550,7 +551,7 @@ def check_drop(browser: Browser, room: Room) -> None:
     browser.wait("document.documentElement.dataset.state === 'start'")
     state = browser.run("return document.documentElement.dataset.state")
     same(state, "start", f"{browser.name}: another database can be chosen")
-    same(browser.messages(), [], f"{browser.name}: messages in the console of a dropped file")
+    browser.stays_silent("of a dropped file")
 
 
 def check_database(browser: Browser, room: Room, name: str) -> Truth | None:
@@ -583,7 +584,7 @@ def measure(kind: type[Browser], room: Room, name: str) -> None:
             memories.append(memory.most)
             title = browser.run("return document.querySelector('h1').textContent")
             same(title, label, f"{browser.name}: {label} is shown first")
-            same(browser.messages(), [], f"{browser.name}: messages in the console of {name}.mm")
+            browser.stays_silent(f"of {name}.mm")
         finally:
             browser.close()
     what = f"{kind.name}: seconds until {label} of {name}.mm is shown"
