@@ -198,6 +198,7 @@ impl<'a, A: Allocator> Database<'a, A> {
     /// Returns the number of symbols. The number of each symbol is less than this.
     pub fn symbol_count(&self) -> u32
         ensures count { result ≡ length (symbol_names self.now.statements) }
+        ensures few { result < 2 ^ 31 }
     {
         self.reading.statements.symbol_count()
     }

@@ -27,7 +27,7 @@ ghost use Rattle.mm_machine.specs.State.{TestsRule};
 
 use crate::disjoint_cache::DisjointCache;
 use mm_database::{Database, Sym};
-use mm_rule::{Hypothesis, Rule, RuleSymbol};
+use mm_rule::{Hypothesis, PackedSymbol, Rule, RuleSymbol};
 use mm_spec::FORMULA_LIMIT;
 use std::alloc::{AllocError, Allocator};
 use std::marker::Model;
@@ -138,7 +138,7 @@ pub fn replacement_of(premises: &[Span], number: u32) -> Span
 
 /// Whether an entry is the wanted formula with its variables replaced.
 #[inline(always)]
-fn fits(symbols: &Symbols, premises: &[Span], wanted: &[RuleSymbol], premise: Span) -> bool
+fn fits(symbols: &Symbols, premises: &[Span], wanted: &[PackedSymbol], premise: Span) -> bool
     requires premises { All (IsIn symbols.now) premises.now }
     requires wanted { All (IsVariableBelow (length premises.now)) wanted.now }
     requires premise { IsIn symbols.now premise }
@@ -149,7 +149,7 @@ fn fits(symbols: &Symbols, premises: &[Span], wanted: &[RuleSymbol], premise: Sp
     let list = symbols.list(premise.store);
     let mut at = premise.start;
     for part in wanted {
-        match *part {
+        match part.symbol() {
             RuleSymbol::Variable(number) => {
                 let span = replacement_of(premises, number);
                 if !begins_with(symbols, premise.store, at, premise.end, span) {
@@ -354,7 +354,7 @@ fn append_symbols<A: Allocator>(symbols: &[Sym], list: &mut Vec<Sym, A>) -> Resu
 pub fn build<A: Allocator>(
     symbols: &Symbols,
     premises: &[Span],
-    formula: &[RuleSymbol],
+    formula: &[PackedSymbol],
     list: &mut Vec<Sym, A>,
 ) -> Result<bool, AllocError>
     requires premises { All (IsIn symbols.now) premises.now }
@@ -366,7 +366,7 @@ pub fn build<A: Allocator>(
 {
     list.clear();
     for part in formula {
-        match *part {
+        match part.symbol() {
             RuleSymbol::Variable(number) => {
                 append_symbols(symbols.formula(replacement_of(premises, number)), list)?;
                 if list.len() > FORMULA_LIMIT {

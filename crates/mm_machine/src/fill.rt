@@ -9,7 +9,7 @@ ghost use Rattle.mm_machine.specs.Replaced.{replaced};
 
 use crate::arena::{Span, Symbols, replacement_of};
 use mm_database::Sym;
-use mm_rule::RuleSymbol;
+use mm_rule::{PackedSymbol, RuleSymbol};
 use mm_spec::FORMULA_LIMIT;
 
 /// Writes a symbol at an index of a list.
@@ -130,7 +130,7 @@ pub fn put_symbols(symbols: &[Sym], list: &mut [Sym], index: usize)
 pub fn fill(
     symbols: &Symbols,
     premises: &[Span],
-    formula: &[RuleSymbol],
+    formula: &[PackedSymbol],
     list: &mut [Sym],
 ) -> Option<usize>
     requires premises { All (IsIn symbols.now) premises.now }
@@ -144,7 +144,7 @@ pub fn fill(
     // How many elements of the list are left over, if each part that is to come takes one.
     let mut spare = list.len().checked_sub(formula.len())?;
     for part in formula {
-        match *part {
+        match part.symbol() {
             RuleSymbol::Variable(number) => {
                 let replacement = symbols.formula(replacement_of(premises, number));
                 if replacement.len() > spare + 1 {

@@ -20,7 +20,7 @@ use crate::disjoint_cache::DisjointCache;
 use crate::fill::fill;
 use crate::symbol_list::SymbolList;
 use mm_database::{Database, Sym};
-use mm_rule::{Rule, RuleSymbol, empty, formula, put_number};
+use mm_rule::{PackedSymbol, Rule, empty, formula, put_number};
 use mm_spec::FORMULA_LIMIT;
 use std::alloc::{AllocError, Allocator};
 use std::marker::Model;
@@ -390,7 +390,7 @@ fn move_to_marked<A: Allocator>(
 #[inline(always)]
 fn replace_by_formula<A: Allocator>(
     below: usize,
-    formula: &[RuleSymbol],
+    formula: &[PackedSymbol],
     unmarked: &mut SymbolList<A>,
     marked: &[Sym],
     stack: &mut Vec<Span, A>,
@@ -427,7 +427,7 @@ fn replace_by_formula<A: Allocator>(
 #[inline(never)]
 fn replace_by_long_formula<A: Allocator>(
     below: usize,
-    formula: &[RuleSymbol],
+    formula: &[PackedSymbol],
     unmarked: &mut SymbolList<A>,
     marked: &[Sym],
     stack: &mut Vec<Span, A>,

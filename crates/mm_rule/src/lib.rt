@@ -13,4 +13,4 @@ mod rule;
 
 pub use frames::{formula, hyps, is_assertion, is_essential_hypothesis, pairs};
 pub use lists::{empty, put_number};
-pub use rule::{Hypothesis, Rule, RuleSymbol};
+pub use rule::{Hypothesis, PackedSymbol, Rule, RuleSymbol};

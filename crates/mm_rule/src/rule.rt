@@ -1,6 +1,7 @@
 //! What an assertion requires and what it yields, in terms of the numbers of its hypotheses.
 
-ghost use Rattle.std.specs.Prelude.{◌≡◌};
+ghost use Rattle.std.specs.Prelude.{◌≡◌, ◌<◌, ◌^◌};
+ghost use Rattle.mm_rule.specs.declared.rule.RuleSymbol.TheVariants.{Constant, Variable};
 
 use mm_database::Sym;
 use std::marker::Model;
@@ -12,6 +13,57 @@ pub enum RuleSymbol {
     Constant(Sym),
     /// A variable, by the number of its `$f` among the mandatory hypotheses, from 0.
     Variable(u32),
+}
+
+/// A number from here on stands for a variable, and a smaller one for a constant.
+const FIRST_VARIABLE: u32 = 2_147_483_648;
+
+/// A [`RuleSymbol`] in four bytes: the number of a constant, or 2^31 and the number of a variable.
+/// Rules have millions of symbols, and each step reads those of a rule.
+#[derive(Clone, Copy, Drop)]
+pub struct PackedSymbol(u32);
+
+impl Model for PackedSymbol {
+    ghost use Rattle.mm_rule.specs.declared.rule.RuleSymbol.{RuleSymbol};
+    ghost use Rattle.mm_rule.specs.Packed.{packed, packed_unpacked, unpacked};
+
+    ghost Value = { RuleSymbol };
+
+    ghost view = { λ s. unpacked s.0 };
+
+    ghost inverse = { λ s. record { 0 = packed s } };
+
+    ghost inverse_ok = { λ s h i. record { 0 = packed_unpacked s.0 i } };
+}
+
+impl PackedSymbol {
+    /// A constant.
+    pub fn constant(symbol: Sym) -> PackedSymbol
+        requires { symbol < 2 ^ 31 }
+        ensures { result ≡ Constant symbol }
+    {
+        PackedSymbol(symbol.number())
+    }
+
+    /// A variable, by the number of its `$f`.
+    pub fn variable(number: u32) -> PackedSymbol
+        requires { number < 2 ^ 31 }
+        ensures { result ≡ Variable number }
+    {
+        PackedSymbol(FIRST_VARIABLE + number)
+    }
+
+    /// The symbol.
+    #[inline(always)]
+    pub fn symbol(self) -> RuleSymbol
+        ensures { result ≡ self }
+    {
+        if self.0 < FIRST_VARIABLE {
+            RuleSymbol::Constant(Sym::new(self.0))
+        } else {
+            RuleSymbol::Variable(self.0 - FIRST_VARIABLE)
+        }
+    }
 }
 
 /// What a mandatory hypothesis requires of its premise.
@@ -35,9 +87,9 @@ pub struct Rule<'a> {
     /// The mandatory pairs of disjoint variables, each by the numbers of their `$f`.
     pub pairs: &'a [(u32, u32)],
     /// The symbols of those hypotheses that aren't the first `$f` of a variable.
-    pub parts: &'a [RuleSymbol],
+    pub parts: &'a [PackedSymbol],
     /// The symbols of the assertion's formula.
-    pub formula: &'a [RuleSymbol],
+    pub formula: &'a [PackedSymbol],
 }
 
 impl<'a> Model for Rule<'a> {
@@ -72,7 +124,7 @@ impl<'a> Rule<'a> {
     }
 
     /// The symbols of the assertion's formula.
-    pub fn formula(&self) -> &'a [RuleSymbol]
+    pub fn formula(&self) -> &'a [PackedSymbol]
         ensures { result.now ≡ self.now.formula }
     {
         self.formula

@@ -1,6 +1,6 @@
 -- The rules of a database, and how they are made of its frames.
-use Rattle.std.specs.Prelude.{◌≡◌, ℕ, ◌+◌, ◌<◌, ◌≤◌, true, List, map, length, get_or, slice_range}
-use Rattle.std.specs.Prelude.{All, if◌then◌else◌}
+use Rattle.std.specs.Prelude.{◌≡◌, ℕ, ◌+◌, ◌^◌, ◌<◌, ◌≤◌, true, List, map, length, get_or}
+use Rattle.std.specs.Prelude.{slice_range, All, if◌then◌else◌}
 use Rattle.mm_spec.specs.Statement.{Statement}
 use Rattle.mm_spec.specs.Derivation.{Formula}
 use Rattle.mm_spec.specs.Laws.Complete.{IsBound}
@@ -19,6 +19,11 @@ use Rattle.mm_rule.specs.Rule.{total_part_count, IsVariableBelow}
 abbrev pub AreFirstNumbers : List Statement → List Formula → List ℕ → Type 0
 AreFirstNumbers db hs numbers =
     (x : ℕ) → IsBound (context_at db 0) hs x → get_or numbers x 0 ≡ floating_index db hs x
+
+-- 31 bits are enough for each of the numbers, and for how many there are
+pub record AreShortNumbers (numbers : List ℕ) : Type 0 where
+  pub few : length numbers < 2 ^ 31
+  pub each_is_short : All (λ n. n < 2 ^ 31) numbers
 
 -- each variable of the formula has a `$f`
 abbrev pub AreCovered : List Statement → List Formula → Formula → Type 0

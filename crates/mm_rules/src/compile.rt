@@ -10,10 +10,10 @@ ghost use Rattle.mm_rule.specs.Assertions.{is_assertion_at};
 ghost use Rattle.mm_rule.specs.Rule.{IsCompiled};
 ghost use Rattle.mm_rule.specs.declared.rule.RuleSymbol.TheVariants.{Constant, Variable};
 ghost use Rattle.mm_rules.specs.Rules.{AreCovered, AreFirstNumbers, AreCompiled, numbered_part};
-ghost use Rattle.mm_rules.specs.Rules.{numbered_parts, numbered_pairs};
+ghost use Rattle.mm_rules.specs.Rules.{numbered_parts, numbered_pairs, AreShortNumbers};
 
 use mm_database::{Database, Sym};
-use mm_rule::{Hypothesis, Rule, RuleSymbol, empty, hyps, pairs};
+use mm_rule::{Hypothesis, PackedSymbol, Rule, empty, hyps, pairs};
 use std::alloc::{AllocError, Allocator};
 use std::marker::Model;
 
@@ -60,8 +60,10 @@ fn number_of(numbers: &[u32], symbol: Sym) -> u32
 fn number_variables<A: Allocator>(database: &Database<A>, hyps: &[u32], numbers: &mut [u32])
     requires symbol_count { length numbers.old ≡ length (symbol_names database.now.statements) }
     requires hyps { All (λ h. h < length database.now.statements) hyps.now }
-    requires few { length hyps.now < 2 ^ 32 }
-    ensures { AreFirstNumbers database.now.statements
+    requires few { length hyps.now < 2 ^ 31 }
+    requires short { AreShortNumbers numbers.old }
+    ensures short { AreShortNumbers numbers.new }
+    ensures first_numbers { AreFirstNumbers database.now.statements
         (map (formula_at database.now.statements) hyps.now)
         numbers.new }
 {
@@ -76,15 +78,20 @@ fn number_variables<A: Allocator>(database: &Database<A>, hyps: &[u32], numbers:
 }
 
 /// A symbol as a part of a rule: a variable is given by its number.
-fn compile_symbol<A: Allocator>(database: &Database<A>, numbers: &[u32], symbol: Sym) -> RuleSymbol
+fn compile_symbol<A: Allocator>(
+    database: &Database<A>,
+    numbers: &[u32],
+    symbol: Sym,
+) -> PackedSymbol
     requires symbol_count { length numbers.now ≡ length (symbol_names database.now.statements) }
+    requires short { AreShortNumbers numbers.now }
     requires known { symbol < length (symbol_names database.now.statements) }
     ensures { result ≡ numbered_part database.now.statements numbers.now symbol }
 {
     if database.is_variable(symbol) {
-        RuleSymbol::Variable(number_of(numbers, symbol))
+        PackedSymbol::variable(number_of(numbers, symbol))
     } else {
-        RuleSymbol::Constant(symbol)
+        PackedSymbol::constant(symbol)
     }
 }
 
@@ -93,9 +100,10 @@ fn compile_formula<A: Allocator>(
     database: &Database<A>,
     numbers: &[u32],
     formula: &[Sym],
-    parts: &mut Vec<RuleSymbol, A>,
+    parts: &mut Vec<PackedSymbol, A>,
 ) -> Result<(), AllocError>
     requires symbol_count { length numbers.now ≡ length (symbol_names database.now.statements) }
+    requires short { AreShortNumbers numbers.now }
     requires known { All (λ symbol. symbol < length (symbol_names database.now.statements))
         formula.now }
     ensures { OnOk result
@@ -135,9 +143,10 @@ fn compile_hypotheses<A: Allocator>(
     hyps: &[u32],
     numbers: &[u32],
     hypotheses: &mut Vec<Hypothesis, A>,
-    parts: &mut Vec<RuleSymbol, A>,
+    parts: &mut Vec<PackedSymbol, A>,
 ) -> Result<(), AllocError>
     requires symbol_count { length numbers.now ≡ length (symbol_names database.now.statements) }
+    requires short { AreShortNumbers numbers.now }
     requires placed { AreFirstNumbers database.now.statements
         (map (formula_at database.now.statements) hyps.now) numbers.now }
     requires hyps { All (λ hypothesis. hypothesis < length database.now.statements) hyps.now }
@@ -189,8 +198,8 @@ pub struct RuleCompiler<A: Allocator> {
     assertion: u32,
     hypotheses: Vec<Hypothesis, A>,
     pairs: Vec<(u32, u32), A>,
-    parts: Vec<RuleSymbol, A>,
-    formula: Vec<RuleSymbol, A>,
+    parts: Vec<PackedSymbol, A>,
+    formula: Vec<PackedSymbol, A>,
     /// For each variable of the rule the index of its first `$f` among the mandatory hypotheses.
     /// What other symbols have here means nothing.
     numbers: Vec<u32, A>,
@@ -212,7 +221,7 @@ impl<A: Allocator> Drop for RuleCompiler<A> {
 
 impl<A: Allocator> Model for RuleCompiler<A> {
     ghost use Rattle.std.specs.Prelude.{length};
-    ghost use Rattle.mm_rules.specs.Rules.{CompilerState, compiler_state};
+    ghost use Rattle.mm_rules.specs.Rules.{AreShortNumbers, CompilerState, compiler_state};
     ghost use Rattle.mm_rule.specs.Rule.{compiled_rule};
 
     ghost Value = { CompilerState };
@@ -220,6 +229,8 @@ impl<A: Allocator> Model for RuleCompiler<A> {
     ghost view = { λ m. compiler_state (length m.numbers.items)
         (compiled_rule m.assertion m.hypotheses.items m.pairs.items
         m.parts.items m.formula.items) };
+
+    ghost invariant = { λ m. AreShortNumbers m.numbers.items };
 }
 
 impl<A: Allocator> RuleCompiler<A> {

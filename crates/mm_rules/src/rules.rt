@@ -13,7 +13,7 @@ ghost use Rattle.mm_rules.specs.Rules.{elements_in, rule_size, lists_size};
 use crate::compile::RuleCompiler;
 use mm_database::Database;
 use mm_rule::{
-    Hypothesis, Rule, RuleSymbol, hyps, is_assertion, is_essential_hypothesis, pairs, put_number,
+    Hypothesis, PackedSymbol, Rule, hyps, is_assertion, is_essential_hypothesis, pairs, put_number,
 };
 use std::alloc::{AllocError, Allocator};
 use std::marker::Model;
@@ -55,7 +55,7 @@ pub struct Rules<A: Allocator> {
     hypotheses: Vec<Hypothesis, A>,
     pairs: Vec<(u32, u32), A>,
     /// The symbols of hypotheses and of formulas.
-    parts: Vec<RuleSymbol, A>,
+    parts: Vec<PackedSymbol, A>,
     /// For each statement an index in `ranges` at which its rule may be; `find` verifies it.
     numbers: Vec<u32, A>,
 }

@@ -22,7 +22,7 @@ returns-then-len-gt-FORMULA_LIMIT-clause-short g c =
     let u = c.formula.result.now in
     let i_lt_length_f : i < length f = c.loop-part-test.true in
     let is : replaced_part xs es c.part-item.result ≡ u =
-    ap (replaced_part xs es) c.in-Variable.is
+    ap (replaced_part xs es) (sym c.symbol.ensures ∙ c.in-Variable.is)
     ∙ sym (c.formula.ensures ∙ ap (span_formula xs) c.replacement_of.ensures) in
     let l : length (replaced xs es (take i f)) + length u ≤ length (replaced xs es f) =
     longer xs es f i c.part-item.result u i_lt_length_f (sym c.part-item.is) is in
@@ -37,7 +37,8 @@ formula-requires g c =
     variable_in c.args.symbols.now c.args.premises.now c.args.formula.now c.loop-part.part-index
     c.part-item.result c.in-Variable.number c.replacement_of.result c.requires.premises
     c.requires.formula
-    c.loop-part-test.true c.part-item.is c.in-Variable.is c.replacement_of.ensures
+    c.loop-part-test.true c.part-item.is (sym c.symbol.ensures ∙ c.in-Variable.is)
+    c.replacement_of.ensures
 
 pub returns-then-len-gt-FORMULA_LIMIT-clause-built :
     goal.returns-then-len-gt-FORMULA_LIMIT-clause-built
@@ -54,17 +55,17 @@ loop-part-preserved g c =
     ≡ replaced xs es (take i f) ++ replaced_part xs es p =
     replaced_more xs es f i p c.loop-part-test.true
     ∙ ap (λ z. replaced xs es (take i f) ++ replaced_part xs es z) (sym c.part-item.is) in
-    elim c.match-part.branch [
+    elim c.match-symbol.branch [
       | in-Variable+in_ok-append_symbols-in-Variable+else-len-gt-FORMULA_LIMIT w ↦
           let is : w.formula.result.now ≡ replaced_part xs es p =
           w.formula.ensures ∙ ap (span_formula xs) w.replacement_of.ensures
-          ∙ sym (ap (replaced_part xs es) w.in-Variable.is) in
+          ∙ sym (ap (replaced_part xs es) (sym c.symbol.ensures ∙ w.in-Variable.is)) in
           rw (w.list-is, w.in_ok-append_symbols-in-Variable.ensures)
           (ap₂ (λ u v. u ++ v) c.loop-part.invariant is ∙ sym next)
       | in-Constant+in_ok-push-in-Constant w ↦
           rw (w.list-is, w.in_ok-push-in-Constant.ensures.items)
           (ap₂ (λ u v. u ++ v) c.loop-part.invariant
-          (sym (ap (replaced_part xs es) w.in-Constant.is)) ∙ sym next)
+          (sym (ap (replaced_part xs es) (sym c.symbol.ensures ∙ w.in-Constant.is))) ∙ sym next)
     ]
 
 pub returns-clause-short : goal.returns-clause-short

@@ -24,7 +24,7 @@ returns-then-not-begins_with c =
     let p = c.replacement_of-span.result in
     let i_lt_length_w : i < length w = c.loop-part-test.true in
     let is : replaced_part arena es c.part-item.result ≡ span_formula arena p =
-    ap (replaced_part arena es) c.in-Variable.is
+    ap (replaced_part arena es) (sym c.symbol.ensures ∙ c.in-Variable.is)
     ∙ sym (ap (span_formula arena) c.replacement_of-span.ensures) in
     let no : starts_with nat_eq (slice_range xs a e) (span_formula arena p) ≡ false =
     sym c.begins_with.ensures.value ∙ c.if-not-begins_with.true in
@@ -43,11 +43,11 @@ loop-part-preserved c =
     let a = c.loop-part.at in
     let e = c.args.premise.end in
     let i_lt_length_w : i < length w = c.loop-part-test.true in
-    elim c.match-part.branch [
+    elim c.match-symbol.branch [
       | in-Variable+else-not-begins_with b ↦
           let p = b.replacement_of-span.result in
           let is : replaced_part arena es c.part-item.result ≡ span_formula arena p =
-          ap (replaced_part arena es) b.in-Variable.is
+          ap (replaced_part arena es) (sym c.symbol.ensures ∙ b.in-Variable.is)
           ∙ sym (ap (span_formula arena) b.replacement_of-span.ensures) in
           let yes : starts_with nat_eq (slice_range xs a e) (span_formula arena p) ≡ true =
           sym b.begins_with.ensures.value ∙ b.if-not-begins_with.false in
@@ -56,7 +56,7 @@ loop-part-preserved c =
           let long : length (span_formula arena p) ≡ p.end - p.start =
           length_formula arena p
           (variable_in arena es w i c.part-item.result b.in-Variable.number p c.requires.premises
-          c.requires.wanted i_lt_length_w c.part-item.is b.in-Variable.is
+          c.requires.wanted i_lt_length_w c.part-item.is (sym c.symbol.ensures ∙ b.in-Variable.is)
           b.replacement_of-span.ensures) in
           rw b.at-is (record {
             from = omega (arith, c.loop-part.invariant.from);
@@ -87,7 +87,7 @@ loop-part-preserved c =
             left =
                 c.loop-part.invariant.left
                 ∙ one_more arena es xs w i a e i_lt_length_w c.part-item.result (s ∷ [])
-                (sym c.part-item.is) (ap (replaced_part arena es) b.in-Constant.is)
+                (sym c.part-item.is) (ap (replaced_part arena es) (sym c.symbol.ensures ∙ b.in-Constant.is))
                 ∙ ap (λ z. z && rest_fits arena es xs w i a e i_lt_length_w 1) yes;
           })
     ]
@@ -97,7 +97,8 @@ begins_with-requires-clause-span c =
     variable_in c.args.symbols.now c.args.premises.now c.args.wanted.now c.loop-part.part-index
     c.part-item.result c.in-Variable.number c.replacement_of-span.result c.requires.premises
     c.requires.wanted
-    c.loop-part-test.true c.part-item.is c.in-Variable.is c.replacement_of-span.ensures
+    c.loop-part-test.true c.part-item.is (sym c.symbol.ensures ∙ c.in-Variable.is)
+    c.replacement_of-span.ensures
 
 pub overflow_sub-at : goal.overflow_sub-at
 overflow_sub-at c =

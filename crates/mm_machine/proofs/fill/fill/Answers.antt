@@ -1,4 +1,4 @@
-use Rattle.std.proofs.Common.{arith}
+use Rattle.std.proofs.Common.{sym, ◌∙◌, arith}
 use Rattle.std.proofs.lemmas.Grind.{common_steps}
 use Rattle.mm_machine.proofs.GrowLaw.{variable_in}
 use Rattle.mm_machine.proofs.fill.fill.Goals as goal
@@ -8,7 +8,8 @@ formula-replacement-requires c =
     variable_in c.args.symbols.now c.args.premises.now c.args.formula.now c.loop-part.part-index
     c.part-item.result c.in-Variable.number c.replacement_of.result c.requires.premises
     c.requires.formula
-    c.loop-part-test.true c.part-item.is c.in-Variable.is c.replacement_of.ensures
+    c.loop-part-test.true c.part-item.is (sym c.symbol.ensures ∙ c.in-Variable.is)
+    c.replacement_of.ensures
 
 pub loop-part-preserved : goal.loop-part-preserved
 loop-part-preserved c = grind (arith, common_steps)

@@ -30,7 +30,7 @@ returns-clause-compiled_rule g c =
     let placed : AreFirstNumbers db (map (formula_at db) hyps) numbers =
     written_back db (map (formula_at db) hyps) c.number_variables.new.numbers
     c.self.inside.numbers.items c.self.inside.numbers.len numbers
-    c.deref-2.ensures.value (omega arith) c.number_variables.ensures in
+    c.deref-2.ensures.value (omega arith) c.number_variables.ensures.first_numbers in
     let hs = map (formula_at db) hyps in
     let bound =
     covered db hs f
@@ -43,7 +43,7 @@ returns-clause-compiled_rule g c =
     numbered_same db hs last
     (written_back db hs c.number_variables.new.numbers
     c.self.inside.numbers.items c.self.inside.numbers.len last
-    c.deref-3.ensures.value (omega arith) c.number_variables.ensures) f bound in
+    c.deref-3.ensures.value (omega arith) c.number_variables.ensures.first_numbers) f bound in
     on_ok_weaker c.compile_formula.result
     (λ made. is_compiled_rule db c.args.assertion c.requires.assertion c.requires.complete hyps
     c.pairs.result.now
@@ -64,7 +64,7 @@ compile_hypotheses-requires-clause-placed g c =
     let db = c.args.database.now.statements in
     written_back db (map (formula_at db) c.hyps-hyps.result.now) c.number_variables.new.numbers
     c.self.inside.numbers.items c.self.inside.numbers.len c.deref.result.now c.deref.ensures.value
-    (omega arith) c.number_variables.ensures
+    (omega arith) c.number_variables.ensures.first_numbers
 
 pub returns-in_err-compile_hypotheses-clause-assertion :
     goal.returns-in_err-compile_hypotheses-clause-assertion
