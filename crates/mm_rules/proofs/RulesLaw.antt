@@ -13,120 +13,133 @@ use Rattle.mm_rules.specs.Rules.{rule_lists, elements_in, IsIndexRange, HasRule}
 use Rattle.mm_rules.specs.Rules.{AreRules}
 use Rattle.mm_rule.proofs.SliceLaw.{stretch_more}
 
-module _ {X : Type 0} (xs more : List X) (s : IndexRange) where
-  longer : IsIndexRange (length xs) s → IsIndexRange (length (xs ++ more)) s
-  longer h =
+-- a range of a list in the same list with more elements at its end
+module _ {X : Type 0} (xs added : List X) (s : IndexRange) where
+  is_range_of_longer : IsIndexRange (length xs) s → IsIndexRange (length (xs ++ added)) s
+  is_range_of_longer is_range =
       record {
-        rising = h.rising;
-        within = let w = h.within in
-            omega (arith, w, length-append xs more);
+        rising = is_range.rising;
+        within = let end_le_length = is_range.within in
+            omega (arith, end_le_length, length-append xs added);
       }
 
-  stays : IsIndexRange (length xs) s → elements_in (xs ++ more) s ≡ elements_in xs s
-  stays h = stretch_more xs more s.start s.end h.rising h.within
+  elements_stay : IsIndexRange (length xs) s → elements_in (xs ++ added) s ≡ elements_in xs s
+  elements_stay is_range = stretch_more xs added s.start s.end is_range.rising is_range.within
 
-  module _ (from : s.start ≡ length xs) (to : s.end ≡ length (xs ++ more)) where
-    last_in : IsIndexRange (length (xs ++ more)) s
-    last_in =
+  module _ (start_is : s.start ≡ length xs) (end_is : s.end ≡ length (xs ++ added)) where
+    added_range_is_range : IsIndexRange (length (xs ++ added)) s
+    added_range_is_range =
         record {
-          rising = omega (arith, from, to, length-append xs more);
+          rising = omega (arith, start_is, end_is, length-append xs added);
           within = omega
-              (arith, to);
+              (arith, end_is);
         }
 
-    last_is : elements_in (xs ++ more) s ≡ more
-    last_is =
-        ap₂ (λ a b. slice_range (xs ++ more) a b) from to
-        ∙ ap (take (length (xs ++ more) - length xs)) (drop_at xs more (length xs) refl)
-        ∙ take_all (length (xs ++ more) - length xs) more (omega (arith, length-append xs more))
+    elements_are_added : elements_in (xs ++ added) s ≡ added
+    elements_are_added =
+        ap₂ (λ a b. slice_range (xs ++ added) a b) start_is end_is
+        ∙ ap (take (length (xs ++ added) - length xs)) (drop_at xs added (length xs) refl)
+        ∙ take_all (length (xs ++ added) - length xs) added (omega (arith, length-append xs added))
 
 module _ (db : List Statement) (ranges : List RuleRanges) (hypotheses a : List Hypothesis)
     (pairs p : List (ℕ × ℕ))
     (parts q f : List RuleSymbol) where
   -- the rules that were there
-  rule_stays : (new : List RuleRanges) (s : RuleRanges) → HasRule db
+  has_rule_still : (new : List RuleRanges) (s : RuleRanges) → HasRule db
       (rule_lists ranges hypotheses pairs parts) s
       → HasRule db (rule_lists new (hypotheses ++ a) (pairs ++ p) ((parts ++ q) ++ f)) s
-  rule_stays new s has_rule =
-      let parts1 = longer parts q s.parts has_rule.parts in
-      let formula1 = longer parts q s.formula has_rule.formula in
-      let e1 : elements_in (hypotheses ++ a) s.hypotheses ≡ elements_in hypotheses s.hypotheses =
-      stays hypotheses a s.hypotheses has_rule.hypotheses in
-      let e2 : elements_in (pairs ++ p) s.pairs ≡ elements_in pairs s.pairs =
-      stays pairs p s.pairs has_rule.pairs in
-      let e3 : elements_in ((parts ++ q) ++ f) s.parts ≡ elements_in parts s.parts =
-      stays (parts ++ q) f s.parts parts1 ∙ stays parts q s.parts has_rule.parts in
-      let e4 : elements_in ((parts ++ q) ++ f) s.formula ≡ elements_in parts s.formula =
-      stays (parts ++ q) f s.formula formula1 ∙ stays parts q s.formula has_rule.formula in
+  has_rule_still new s has_rule =
+      let parts_range = is_range_of_longer parts q s.parts has_rule.parts in
+      let formula_range = is_range_of_longer parts q s.formula has_rule.formula in
+      let hypotheses_are : elements_in (hypotheses ++ a) s.hypotheses
+      ≡ elements_in hypotheses s.hypotheses =
+      elements_stay hypotheses a s.hypotheses has_rule.hypotheses in
+      let pairs_are : elements_in (pairs ++ p) s.pairs ≡ elements_in pairs s.pairs =
+      elements_stay pairs p s.pairs has_rule.pairs in
+      let parts_are : elements_in ((parts ++ q) ++ f) s.parts ≡ elements_in parts s.parts =
+      elements_stay (parts ++ q) f s.parts parts_range
+      ∙ elements_stay parts q s.parts has_rule.parts in
+      let formula_are : elements_in ((parts ++ q) ++ f) s.formula ≡ elements_in parts s.formula =
+      elements_stay (parts ++ q) f s.formula formula_range
+      ∙ elements_stay parts q s.formula has_rule.formula in
       record {
-        hypotheses = longer hypotheses a s.hypotheses has_rule.hypotheses;
-        pairs = longer pairs p s.pairs has_rule.pairs;
-        parts = longer (parts ++ q) f s.parts parts1;
-        formula = longer (parts ++ q) f s.formula formula1;
-        is_compiled = rw (e1, e2, e3, e4) has_rule.is_compiled;
+        hypotheses = is_range_of_longer hypotheses a s.hypotheses has_rule.hypotheses;
+        pairs = is_range_of_longer pairs p s.pairs has_rule.pairs;
+        parts = is_range_of_longer (parts ++ q) f s.parts parts_range;
+        formula = is_range_of_longer (parts ++ q) f s.formula formula_range;
+        is_compiled = rw (hypotheses_are, pairs_are, parts_are, formula_are) has_rule.is_compiled;
       }
 
-  all_stay : (new rest : List RuleRanges) → All
-      (HasRule db (rule_lists ranges hypotheses pairs parts)) rest
-      → All (HasRule db (rule_lists new (hypotheses ++ a) (pairs ++ p) ((parts ++ q) ++ f))) rest
-  all_stay new rest h = λ i d l. rule_stays new (get_or rest i d) (h i d l)
+  have_rules_still : (new some_ranges : List RuleRanges) → All
+      (HasRule db (rule_lists ranges hypotheses pairs parts)) some_ranges
+      → All (HasRule db (rule_lists new (hypotheses ++ a) (pairs ++ p) ((parts ++ q) ++ f)))
+      some_ranges
+  have_rules_still new some_ranges h = λ i d l. has_rule_still new (get_or some_ranges i d)
+      (h i d l)
 
   -- and one more
-  module _ (s : RuleRanges) (hypotheses_from : s.hypotheses.start ≡ length hypotheses)
-      (hypotheses_to : s.hypotheses.end ≡ length (hypotheses ++ a))
-      (pairs_from : s.pairs.start ≡ length pairs)
-      (pairs_to : s.pairs.end ≡ length (pairs ++ p)) (parts_from : s.parts.start ≡ length parts)
-      (parts_to : s.parts.end ≡ length (parts ++ q))
-      (formula_from : s.formula.start ≡ length (parts ++ q))
-      (formula_to : s.formula.end ≡ length ((parts ++ q) ++ f))
-      (is : IsCompiled db (compiled_rule s.assertion a p q f)) where
-    rule_is_new : (new : List RuleRanges)
+  module _ (s : RuleRanges) (hypotheses_start : s.hypotheses.start ≡ length hypotheses)
+      (hypotheses_end : s.hypotheses.end ≡ length (hypotheses ++ a))
+      (pairs_start : s.pairs.start ≡ length pairs)
+      (pairs_end : s.pairs.end ≡ length (pairs ++ p)) (parts_start : s.parts.start ≡ length parts)
+      (parts_end : s.parts.end ≡ length (parts ++ q))
+      (formula_start : s.formula.start ≡ length (parts ++ q))
+      (formula_end : s.formula.end ≡ length ((parts ++ q) ++ f))
+      (is_compiled : IsCompiled db (compiled_rule s.assertion a p q f)) where
+    has_new_rule : (new : List RuleRanges)
         → HasRule db (rule_lists new (hypotheses ++ a) (pairs ++ p) ((parts ++ q) ++ f)) s
-    rule_is_new new =
-        let inside = last_in parts q s.parts parts_from parts_to in
-        let e1 : elements_in (hypotheses ++ a) s.hypotheses ≡ a =
-        last_is hypotheses a s.hypotheses hypotheses_from hypotheses_to in
-        let e2 : elements_in (pairs ++ p) s.pairs ≡ p =
-        last_is pairs p s.pairs pairs_from pairs_to in
-        let e3 : elements_in ((parts ++ q) ++ f) s.parts ≡ q =
-        stays (parts ++ q) f s.parts inside ∙ last_is parts q s.parts parts_from parts_to in
-        let e4 : elements_in ((parts ++ q) ++ f) s.formula ≡ f =
-        last_is (parts ++ q) f s.formula formula_from formula_to in
+    has_new_rule new =
+        let parts_range = added_range_is_range parts q s.parts parts_start parts_end in
+        let hypotheses_are : elements_in (hypotheses ++ a) s.hypotheses ≡ a =
+        elements_are_added hypotheses a s.hypotheses hypotheses_start hypotheses_end in
+        let pairs_are : elements_in (pairs ++ p) s.pairs ≡ p =
+        elements_are_added pairs p s.pairs pairs_start pairs_end in
+        let parts_are : elements_in ((parts ++ q) ++ f) s.parts ≡ q =
+        elements_stay (parts ++ q) f s.parts parts_range
+        ∙ elements_are_added parts q s.parts parts_start parts_end in
+        let formula_are : elements_in ((parts ++ q) ++ f) s.formula ≡ f =
+        elements_are_added (parts ++ q) f s.formula formula_start formula_end in
         record {
-          hypotheses = last_in hypotheses a s.hypotheses hypotheses_from hypotheses_to;
-          pairs = last_in pairs p s.pairs pairs_from pairs_to;
-          parts = longer (parts ++ q) f s.parts inside;
-          formula = last_in (parts ++ q) f s.formula formula_from formula_to;
-          is_compiled = rw (e1, e2, e3, e4) is;
+          hypotheses = added_range_is_range hypotheses a s.hypotheses hypotheses_start
+              hypotheses_end;
+          pairs = added_range_is_range pairs p s.pairs pairs_start pairs_end;
+          parts = is_range_of_longer (parts ++ q) f s.parts parts_range;
+          formula = added_range_is_range (parts ++ q) f s.formula formula_start formula_end;
+          is_compiled = rw (hypotheses_are, pairs_are, parts_are, formula_are) is_compiled;
         }
 
-    pub added : AreRules db (rule_lists ranges hypotheses pairs parts)
+    pub are_rules_with_one_more : AreRules db (rule_lists ranges hypotheses pairs parts)
         → AreRules db (rule_lists (ranges ++ s ∷ []) (hypotheses ++ a) (pairs ++ p) ((parts ++ q) ++
         f))
-    added h =
+    are_rules_with_one_more h =
         All-push
         (HasRule db
         (rule_lists (ranges ++ s ∷ []) (hypotheses ++ a) (pairs ++ p) ((parts ++ q) ++ f)))
-        ranges s (all_stay (ranges ++ s ∷ []) ranges h) (rule_is_new (ranges ++ s ∷ []))
+        ranges s (have_rules_still (ranges ++ s ∷ []) ranges h) (has_new_rule (ranges ++ s ∷ []))
 
 -- the same by the values that the code has
-pub added_at : (db : List Statement) (ranges ranges' : List RuleRanges)
+pub are_rules_with_one_more_at : (db : List Statement) (ranges ranges' : List RuleRanges)
     (hypotheses a hypotheses' : List Hypothesis)
-    → (pairs p pairs' : List (ℕ × ℕ)) (parts q f mid parts' : List RuleSymbol) (s : RuleRanges)
-    → ranges' ≡ ranges ++ s ∷ [] → hypotheses' ≡ hypotheses ++ a → pairs' ≡ pairs ++ p → mid
+    → (pairs p pairs' : List (ℕ × ℕ)) (parts q f parts_and_q parts' : List RuleSymbol)
+    (s : RuleRanges)
+    → ranges' ≡ ranges ++ s ∷ [] → hypotheses' ≡ hypotheses ++ a → pairs' ≡ pairs ++ p → parts_and_q
     ≡ parts ++ q
-    → parts' ≡ mid ++ f → s.hypotheses.start ≡ length hypotheses → s.hypotheses.end ≡ length
+    → parts' ≡ parts_and_q ++ f → s.hypotheses.start ≡ length hypotheses → s.hypotheses.end ≡ length
     hypotheses'
     → s.pairs.start ≡ length pairs → s.pairs.end ≡ length pairs' → s.parts.start ≡ length parts
-    → s.parts.end ≡ length mid → s.formula.start ≡ length mid → s.formula.end ≡ length parts'
+    → s.parts.end ≡ length parts_and_q → s.formula.start ≡ length parts_and_q → s.formula.end
+    ≡ length parts'
     → IsCompiled db (compiled_rule s.assertion a p q f) → AreRules db
     (rule_lists ranges hypotheses pairs parts)
     → AreRules db (rule_lists ranges' hypotheses' pairs' parts')
-added_at db ranges ranges' hypotheses a hypotheses' pairs p pairs' parts q f mid parts' s e1
-    e2 e3 e4 e5 f1
-    t1 f2 t2 f3 t3 f4 t4 is are_rules =
-    let all : parts' ≡ (parts ++ q) ++ f = e5 ∙ ap (λ z. z ++ f) e4 in
-    rw (e1, e2, e3, all)
-    (added db ranges hypotheses a pairs p parts q f s f1 (t1 ∙ ap length e2) f2
-    (t2 ∙ ap length e3) f3 (t3 ∙ ap length e4) (f4 ∙ ap length e4) (t4 ∙ ap length all) is
+are_rules_with_one_more_at db ranges ranges' hypotheses a hypotheses' pairs p pairs' parts q f
+    parts_and_q parts' s
+    ranges_are hypotheses_are pairs_are parts_and_q_are parts_are hypotheses_start hypotheses_end
+    pairs_start pairs_end parts_start parts_end formula_start formula_end is_compiled are_rules =
+    let all_parts_are : parts' ≡ (parts ++ q) ++ f = parts_are ∙ ap (λ z. z ++ f) parts_and_q_are in
+    rw (ranges_are, hypotheses_are, pairs_are, all_parts_are)
+    (are_rules_with_one_more db ranges hypotheses a pairs p parts q f s hypotheses_start
+    (hypotheses_end ∙ ap length hypotheses_are) pairs_start (pairs_end ∙ ap length pairs_are)
+    parts_start (parts_end ∙ ap length parts_and_q_are)
+    (formula_start ∙ ap length parts_and_q_are) (formula_end ∙ ap length all_parts_are) is_compiled
     are_rules)

@@ -57,7 +57,7 @@ pub struct Rules<A: Allocator> {
     /// The symbols of hypotheses and of formulas.
     parts: Vec<PackedSymbol, A>,
     /// For each statement an index in `ranges` at which its rule may be; `find` verifies it.
-    numbers: Vec<u32, A>,
+    rule_indices: Vec<u32, A>,
 }
 
 /// Dropped in one call: docs/PROOFS.md, "What a check costs".
@@ -68,7 +68,7 @@ impl<A: Allocator> Drop for Rules<A> {
             hypotheses: _,
             pairs: _,
             parts: _,
-            numbers: _,
+            rule_indices: _,
         } = self;
     }
 }
@@ -162,15 +162,15 @@ fn elements<T>(list: &[T], range: IndexRange) -> &[T]
 /// Appends elements to a list and returns their range.
 fn append_range<T: Copy, A: Allocator>(
     list: &mut Vec<T, A>,
-    more: &[T],
+    elements: &[T],
 ) -> Result<IndexRange, AllocError>
-    requires { length list.old.items + length more.now < 2 ^ 32 }
-    ensures items { OnOk result (list.new.items ≡ list.old.items ++ more.now) }
+    requires { length list.old.items + length elements.now < 2 ^ 32 }
+    ensures items { OnOk result (list.new.items ≡ list.old.items ++ elements.now) }
     ensures start { IfOk result (λ s. s.start ≡ length list.old.items) }
     ensures end { IfOk result (λ s. s.end ≡ length list.new.items) }
 {
     let start = list.len();
-    list.extend_from_slice(more)?;
+    list.extend_from_slice(elements)?;
     Ok(IndexRange {
         start: start as u32,
         end: list.len() as u32,
@@ -189,7 +189,7 @@ impl<A: Allocator> Rules<A> {
             hypotheses: Vec::new(alloc),
             pairs: Vec::new(alloc),
             parts: Vec::new(alloc),
-            numbers: Vec::new(alloc),
+            rule_indices: Vec::new(alloc),
         }
     }
 
@@ -205,7 +205,7 @@ impl<A: Allocator> Rules<A> {
             hypotheses: Vec::with_capacity(alloc, lengths.hypotheses)?,
             pairs: Vec::with_capacity(alloc, lengths.pairs)?,
             parts: Vec::with_capacity(alloc, lengths.parts)?,
-            numbers: vec![in alloc; 0; database.len() as usize]?,
+            rule_indices: vec![in alloc; 0; database.len() as usize]?,
         })
     }
 
@@ -287,7 +287,7 @@ impl<A: Allocator> Rules<A> {
             parts,
             formula,
         })?;
-        put_number(&mut self.numbers, rule.assertion as usize, number);
+        put_number(&mut self.rule_indices, rule.assertion as usize, number);
         Ok(())
     }
 
@@ -297,10 +297,10 @@ impl<A: Allocator> Rules<A> {
         ensures { IfSome result (λ number. IsRuleNumber self.now number assertion) }
     {
         let index = assertion as usize;
-        if index >= self.numbers.len() {
+        if index >= self.rule_indices.len() {
             return None;
         }
-        let number = self.numbers[index] as usize;
+        let number = self.rule_indices[index] as usize;
         if number < self.ranges.len() && self.ranges[number].assertion == assertion {
             Some(number)
         } else {

@@ -6,11 +6,11 @@ use Rattle.mm_rules.proofs.compile.compile_formula.Goals as goal
 
 pub loop-symbol-preserved : goal.loop-symbol-preserved
 loop-symbol-preserved g c =
-    let part = numbered_part c.args.database.now.statements c.args.numbers.now in
-    map_more_after part c.args.formula.now c.loop-symbol.symbol-index c.symbol-item.result
+    let part_of_symbol = numbered_part c.args.database.now.statements c.args.numbers.now in
+    map_more_after part_of_symbol c.args.formula.now c.loop-symbol.symbol-index c.symbol-item.result
     c.args.parts.now.items c.loop-symbol.parts.items c.push.new.self.items c.compile_symbol.result
     c.loop-symbol-test.true c.loop-symbol.invariant c.in_ok-push.ensures.items
-    (c.compile_symbol.ensures ∙ ap part c.symbol-item.is)
+    (c.compile_symbol.ensures ∙ ap part_of_symbol c.symbol-item.is)
 
 pub returns : goal.returns
 returns g c =

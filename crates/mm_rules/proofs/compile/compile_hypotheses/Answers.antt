@@ -7,9 +7,11 @@ use Rattle.mm_rule.specs.declared.rule.RuleSymbol.TheVariants.{Constant, Variabl
 use Rattle.mm_rule.specs.declared.rule.Hypothesis.TheVariants.{Floating, Essential}
 use Rattle.mm_rule.specs.Rule.{part_of, parts_of, IsVariableBelow}
 use Rattle.mm_rules.specs.Rules.{AreCovered, numbered_parts}
-use Rattle.mm_rules.proofs.RuleLaw.{map_take_more, map_push, typed_more, typed_part_count}
-use Rattle.mm_rules.proofs.RuleLaw.{essential_more, essential_part_count, parts_below}
-use Rattle.mm_rules.proofs.RuleLaw.{numbered_same}
+use Rattle.mm_rules.proofs.RuleLaw.{map_take_more, map_push, all_parts_push_floating}
+use Rattle.mm_rules.proofs.RuleLaw.{part_count_push_floating}
+use Rattle.mm_rules.proofs.RuleLaw.{all_parts_push_essential, part_count_push_essential}
+use Rattle.mm_rules.proofs.RuleLaw.{parts_below}
+use Rattle.mm_rules.proofs.RuleLaw.{numbered_parts_are_parts}
 use Rattle.mm_rules.proofs.compile.compile_hypotheses.Goals.{then-is_first_floating+in_ok-push}
 use Rattle.mm_rules.proofs.compile.compile_hypotheses.Goals.{else-is_first_floating+in_ok-compile_formula+in_ok-push-2}
 use Rattle.mm_rules.proofs.compile.compile_hypotheses.Goals as goal
@@ -26,54 +28,55 @@ loop-index-preserved g c =
     let j_lt_length_hyps : j < length hyps = c.loop-index-test.true in
     let h = get_or hyps j 0 in
     let f = c.formula-formula.result.now in
-    let is : f ≡ formula_at db h = c.formula-formula.ensures.formula in
+    let formula_is : f ≡ formula_at db h = c.formula-formula.ensures.formula in
     let us = map (parts_of db hs) (map (formula_at db) (take j hyps)) in
-    let next : map (parts_of db hs) (map (formula_at db) (take (j + 1) hyps))
+    let parts_with_this_are : map (parts_of db hs) (map (formula_at db) (take (j + 1) hyps))
     ≡ us ++ parts_of db hs f ∷ [] =
     ap (map (parts_of db hs)) (map_take_more (formula_at db) hyps j 0 j_lt_length_hyps)
     ∙ map_push (parts_of db hs) (map (formula_at db) (take j hyps)) (formula_at db h)
-    ∙ ap (λ z. us ++ parts_of db hs z ∷ []) (sym is) in
+    ∙ ap (λ z. us ++ parts_of db hs z ∷ []) (sym formula_is) in
     let covered : AreCovered db hs f =
-    subst (AreCovered db hs) (sym is) (c.requires.bound j 0 j_lt_length_hyps) in
-    let same : numbered_parts db c.args.numbers.now f ≡ parts_of db hs f =
-    numbered_same db hs c.args.numbers.now c.requires.placed f covered in
+    subst (AreCovered db hs) (sym formula_is) (c.requires.bound j 0 j_lt_length_hyps) in
+    let parts_equal : numbered_parts db c.args.numbers.now f ≡ parts_of db hs f =
+    numbered_parts_are_parts db hs c.args.numbers.now c.requires.placed f covered in
     elim c.if-is_first_floating.branch [
       | then-is_first_floating+in_ok-push w ↦
           let t = w.index-formula-0.result in
-          let first = c.is_first_floating.ensures w.if-is_first_floating.true in
+          let is_first = c.is_first_floating.ensures w.if-is_first_floating.true in
           let typecode : get_or f 0 0 ≡ t =
-          get_or_default f 0 0 t first.0 ∙ sym w.index-formula-0.is in
-          let one : parts_of db hs f ≡ Constant t ∷ Variable j ∷ [] =
-          sym same ∙ first.1 ∙ ap (λ z. Constant z ∷ Variable j ∷ []) typecode in
+          get_or_default f 0 0 t is_first.0 ∙ sym w.index-formula-0.is in
+          let parts_are_two : parts_of db hs f ≡ Constant t ∷ Variable j ∷ [] =
+          sym parts_equal ∙ is_first.1 ∙ ap (λ z. Constant z ∷ Variable j ∷ []) typecode in
           rw (w.hypotheses-is, w.parts-is, w.in_ok-push.ensures.items) (record {
             parts_are =
-                typed_more parts hypotheses j t us v.count v.part_count_is v.parts_are
-                ∙ ap (λ z. us ++ z ∷ []) (sym one) ∙ sym next;
+                all_parts_push_floating parts hypotheses j t us v.count v.part_count_is v.parts_are
+                ∙ ap (λ z. us ++ z ∷ []) (sym parts_are_two) ∙ sym parts_with_this_are;
             count = omega (arith, v.count, length-append hypotheses (Floating t ∷ []));
-            part_count_is = typed_part_count parts hypotheses t v.part_count_is;
+            part_count_is = part_count_push_floating parts hypotheses t v.part_count_is;
             below = v.below;
           })
       | else-is_first_floating+in_ok-compile_formula+in_ok-push-2 w ↦
-          let more = parts_of db hs f in
+          let added = parts_of db hs f in
           let n = length f in
-          let grown = w.in_ok-compile_formula.ensures ∙ ap (λ z. parts ++ z) same in
-          let n_is_length_more : n ≡ length more =
+          let parts_grow = w.in_ok-compile_formula.ensures ∙ ap (λ z. parts ++ z) parts_equal in
+          let n_is_length : n ≡ length added =
           sym (length-map f (part_of db hs)) in
           rw (
             w.hypotheses-is,
             w.parts-is,
             w.in_ok-push-2.ensures.items,
-            grown,
+            parts_grow,
           ) (record {
-            parts_are = essential_more parts more hypotheses n n_is_length_more v.part_count_is us
+            parts_are = all_parts_push_essential parts added hypotheses n n_is_length
+                v.part_count_is us
                 v.parts_are
-                ∙ sym next;
+                ∙ sym parts_with_this_are;
             count = omega (arith, v.count, length-append hypotheses (Essential n ∷ []));
-            part_count_is = essential_part_count parts more hypotheses n n_is_length_more
+            part_count_is = part_count_push_essential parts added hypotheses n n_is_length
                 v.part_count_is;
             below =
-                All-append (IsVariableBelow (length hyps)) parts more v.below
-                (subst (λ n. All (IsVariableBelow n) more) (length-map hyps (formula_at db))
+                All-append (IsVariableBelow (length hyps)) parts added v.below
+                (subst (λ n. All (IsVariableBelow n) added) (length-map hyps (formula_at db))
                 (parts_below db hs f covered));
           })
     ]

@@ -8,14 +8,14 @@ pub loop-pair-preserved : goal.loop-pair-preserved
 loop-pair-preserved g c =
     let numbers = c.args.numbers.now in
     let p = c.pair-item.result in
-    let from = c.args.symbol_pairs.now in
+    let pairs_of_symbols = c.args.symbol_pairs.now in
     let i = c.loop-pair.pair-index in
-    let at : get_or from i p ≡ p = sym c.pair-item.is in
+    let item_is : get_or pairs_of_symbols i p ≡ p = sym c.pair-item.is in
     let f : ℕ × ℕ → ℕ × ℕ = λ (q : ℕ × ℕ). (get_or numbers q.0 0, get_or numbers q.1 0) in
     c.in_ok-push.ensures.items
     ∙ ap₂ (λ u x. u ++ x ∷ []) c.loop-pair.invariant
-    (ap₂ (λ a b. (a, b)) c.number_of-low.ensures c.number_of-high.ensures ∙ ap f (sym at))
-    ∙ sym (map_take_more f from i p c.loop-pair-test.true)
+    (ap₂ (λ a b. (a, b)) c.number_of-low.ensures c.number_of-high.ensures ∙ ap f (sym item_is))
+    ∙ sym (map_take_more f pairs_of_symbols i p c.loop-pair-test.true)
 
 pub returns : goal.returns
 returns g c =

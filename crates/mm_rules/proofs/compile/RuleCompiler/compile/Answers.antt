@@ -7,7 +7,7 @@ use Rattle.mm_spec.specs.Laws.Complete.{AreBound}
 use Rattle.mm_outline.proofs.StatementsLaw.{is_there}
 use Rattle.mm_rules.specs.Rules.{AreFirstNumbers, numbered_parts}
 use Rattle.mm_rules.proofs.RuleLaw.{covered, covered_all, is_compiled_rule, written_back}
-use Rattle.mm_rules.proofs.RuleLaw.{numbered_same}
+use Rattle.mm_rules.proofs.RuleLaw.{numbered_parts_are_parts}
 use Rattle.mm_rules.proofs.compile.RuleCompiler.compile.Goals as goal
 
 pub compile_hypotheses-requires-clause-bound : goal.compile_hypotheses-requires-clause-bound
@@ -27,32 +27,32 @@ returns-clause-compiled_rule g c =
     let hyps = c.hyps-hyps.result.now in
     let f = c.formula.result.now in
     let numbers = c.deref-2.result.now in
-    let placed : AreFirstNumbers db (map (formula_at db) hyps) numbers =
+    let are_first_numbers : AreFirstNumbers db (map (formula_at db) hyps) numbers =
     written_back db (map (formula_at db) hyps) c.number_variables.new.numbers
     c.self.inside.numbers.items c.self.inside.numbers.len numbers
     c.deref-2.ensures.value (omega arith) c.number_variables.ensures.first_numbers in
     let hs = map (formula_at db) hyps in
-    let bound =
+    let is_covered =
     covered db hs f
     (subst (λ h. AreBound (context_at db 0) (map (formula_at db) h) f) (sym c.hyps-hyps.ensures.are)
     (subst (AreBound (context_at db 0) (map (formula_at db)
     (mandatory_hypotheses db c.args.assertion)))
     (sym c.formula.ensures.formula) c.requires.complete.formula)) in
-    let last = c.deref-3.result.now in
-    let same =
-    numbered_same db hs last
+    let numbers_at_the_end = c.deref-3.result.now in
+    let parts_equal =
+    numbered_parts_are_parts db hs numbers_at_the_end
     (written_back db hs c.number_variables.new.numbers
-    c.self.inside.numbers.items c.self.inside.numbers.len last
-    c.deref-3.ensures.value (omega arith) c.number_variables.ensures.first_numbers) f bound in
+    c.self.inside.numbers.items c.self.inside.numbers.len numbers_at_the_end
+    c.deref-3.ensures.value (omega arith) c.number_variables.ensures.first_numbers) f is_covered in
     on_ok_weaker c.compile_formula.result
     (λ made. is_compiled_rule db c.args.assertion c.requires.assertion c.requires.complete hyps
     c.pairs.result.now
     f numbers c.compile_hypotheses.new.hypotheses.items c.compile_pairs.new.pairs.items
     c.compile_hypotheses.new.parts.items c.compile_formula.new.parts.items
     c.hyps-hyps.ensures.are c.pairs.ensures.are c.formula.ensures.formula
-    c.formula.ensures.known c.in_ok-compile_hypotheses.ensures placed
+    c.formula.ensures.known c.in_ok-compile_hypotheses.ensures are_first_numbers
     c.in_ok-compile_pairs.ensures
-    (made ∙ ap (λ z. z ++ numbered_parts db last f) c.empty.ensures ∙ same))
+    (made ∙ ap (λ z. z ++ numbered_parts db numbers_at_the_end f) c.empty.ensures ∙ parts_equal))
     c.compile_formula.ensures
 
 pub returns-clause-assertion : goal.returns-clause-assertion

@@ -1,7 +1,7 @@
 use Rattle.std.proofs.Common.{sym, subst}
 use Rattle.mm_rule.specs.Rule.{CompiledRule, IsCompiled}
 use Rattle.mm_rules.specs.Rules.{RuleLists, AreRules, rule_ranges}
-use Rattle.mm_rules.proofs.RulesLaw.{added_at}
+use Rattle.mm_rules.proofs.RulesLaw.{are_rules_with_one_more_at}
 use Rattle.mm_rules.proofs.rules.Rules.add.Goals as goal
 
 pub returns : goal.returns
@@ -12,7 +12,8 @@ returns g c =
     let p = c.in_ok-pairs in
     let q = c.in_ok-parts in
     let f = c.in_ok-formula in
-    λ db rules rule. added_at db i.ranges.items c.push.new.self.items i.hypotheses.items
+    λ db rules rule. are_rules_with_one_more_at db i.ranges.items c.push.new.self.items
+    i.hypotheses.items
     r.hypotheses.now c.append_range.new.list.items
     i.pairs.items r.pairs.now c.append_range-2.new.list.items i.parts.items r.parts.now
     r.formula.now

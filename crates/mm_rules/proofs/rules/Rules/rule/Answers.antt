@@ -7,23 +7,26 @@ use Rattle.mm_rules.proofs.rules.Rules.rule.Goals as goal
 pub returns-clause-rule : goal.returns-clause-rule
 returns-clause-rule g c =
     let db = c.args._database.now.statements in
-    let i = c.self.inside in
-    let l = rule_lists i.ranges.items i.hypotheses.items i.pairs.items i.parts.items in
+    let lists = c.self.inside in
+    let l = rule_lists lists.ranges.items lists.hypotheses.items lists.pairs.items lists.parts.items
+    in
     let are_rules : AreRules db l =
     subst (λ (z : RuleLists). AreRules db z) (sym c.self.view_is) c.requires.rules in
-    let s = c.index-ranges.result.now in
+    let ranges = c.index-ranges.result.now in
     let n = c.args.number in
-    let inside : n < length i.ranges.items =
+    let n_lt_length : n < length lists.ranges.items =
     subst (λ (z : RuleLists). n < length z.ranges) (sym c.self.view_is) c.requires.ranges in
-    let has_rule : HasRule db l s =
+    let has_rule : HasRule db l ranges =
     subst (HasRule db l) (sym c.index-ranges.ensures)
-    (All-get_or (HasRule db l) i.ranges.items n s inside are_rules) in
+    (All-get_or (HasRule db l) lists.ranges.items n ranges n_lt_length are_rules) in
     let hypotheses = c.elements.ensures
-    ∙ ap (λ z. elements_in z s.hypotheses) c.deref.ensures.value in
-    let pairs = c.elements-2.ensures ∙ ap (λ z. elements_in z s.pairs) c.deref-2.ensures.value in
-    let parts = c.elements-3.ensures ∙ ap (λ z. elements_in z s.parts) c.deref-3.ensures.value in
+    ∙ ap (λ z. elements_in z ranges.hypotheses) c.deref.ensures.value in
+    let pairs = c.elements-2.ensures ∙ ap (λ z. elements_in z ranges.pairs) c.deref-2.ensures.value
+    in
+    let parts = c.elements-3.ensures ∙ ap (λ z. elements_in z ranges.parts) c.deref-3.ensures.value
+    in
     let formula = c.elements-4.ensures
-    ∙ ap (λ z. elements_in z s.formula) c.deref-4.ensures.value in
+    ∙ ap (λ z. elements_in z ranges.formula) c.deref-4.ensures.value in
     rw (hypotheses, pairs, parts, formula) has_rule.is_compiled
 
 pub returns-clause-assertion : goal.returns-clause-assertion
