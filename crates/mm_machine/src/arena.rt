@@ -102,8 +102,8 @@ pub enum Reason {
 /// Whether the stretch of list `store` from index `from` to index `to` begins with the formula of
 /// an entry.
 fn begins_with(symbols: &Symbols, store: Store, from: usize, to: usize, span: Span) -> bool
-    requires order { from ≤ to }
-    requires within { to ≤ length (symbols_of symbols.now store) }
+    requires from_le_to { from ≤ to }
+    requires to_le_length { to ≤ length (symbols_of symbols.now store) }
     requires span { IsIn symbols.now span }
     ensures value { result
         ≡ starts_with nat_eq (slice_range (symbols_of symbols.now store) from to)
@@ -359,7 +359,7 @@ pub fn build<A: Allocator>(
 ) -> Result<bool, AllocError>
     requires premises { All (IsIn symbols.now) premises.now }
     requires formula { All (IsVariableBelow (length premises.now)) formula.now }
-    ensures short { IfOk result
+    ensures tells_length_le_limit { IfOk result
         (λ b. b ≡ nat_le (length (replaced symbols.now premises.now formula.now)) formula_limit) }
     ensures built { IfOk result
         (λ b. b ≡ true → list.new.items ≡ replaced symbols.now premises.now formula.now) }

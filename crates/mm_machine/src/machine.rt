@@ -97,10 +97,10 @@ impl<A: Allocator> Model for Machine<A> {
 /// The index of `number` among `numbers`, which are in ascending order: where the slots say, or
 /// otherwise by binary search.
 fn index_of_mark(numbers: &[usize], number: usize, slots: &[u32]) -> usize
-    requires rising { IsRising numbers.now }
-    requires present { Contains numbers.now number }
-    ensures below { result < length numbers.now }
-    ensures found { get_or numbers.now result 0 ≡ number }
+    requires numbers_rise { IsRising numbers.now }
+    requires has_number { Contains numbers.now number }
+    ensures index_lt_length { result < length numbers.now }
+    ensures finds_number { get_or numbers.now result 0 ≡ number }
 {
     let slot = number % MARK_SLOTS;
     if slot < slots.len() {
@@ -177,7 +177,7 @@ impl<A: Allocator> Machine<A> {
     /// Adds the top formula, with which this step ended, to those of the marked steps.
     pub fn mark(&mut self, step: usize) -> Result<(), AllocError>
         requires entry { 0 < length self.old.stack }
-        requires later { All (λ j. j < step) self.old.marks }
+        requires marks_lt_step { All (λ j. j < step) self.old.marks }
         ensures ok { OnOk result (self.new ≡ with_mark true step self.old) }
         ensures symbol_count { self.new.symbol_count ≡ self.old.symbol_count }
     {
@@ -279,8 +279,8 @@ impl<A: Allocator> Machine<A> {
 
     /// The formula of the only entry; `None` if there isn't exactly one.
     pub fn only(&self) -> Option<&[Sym]>
-        ensures some { IfSome result (λ f. self.now.stack ≡ f.now ∷ []) }
-        ensures none { IfNone result (length self.now.stack ≢ 1) }
+        ensures is_only_entry { IfSome result (λ f. self.now.stack ≡ f.now ∷ []) }
+        ensures not_one_entry { IfNone result (length self.now.stack ≢ 1) }
     {
         if self.stack.len() == 1 {
             let symbols = Symbols {

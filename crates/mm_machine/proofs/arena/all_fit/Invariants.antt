@@ -10,7 +10,7 @@ abbrev pub invariant-loop-j : goal.invariant-loop-j
 invariant-loop-j l = record {
   part_count_is : l.part_index + total_part_count (drop l.j l.rule.hypotheses)
       ≡ length l.rule.parts;
-  left : are_equal (map (span_formula l.symbols) l.premises)
+  test_is_rest_test : are_equal (map (span_formula l.symbols) l.premises)
       (map (replaced l.symbols l.premises) (all_parts l.rule.parts 0 l.rule.hypotheses))
       ≡ fit_from l.symbols l.premises l.rule.parts l.rule.hypotheses l.j l.part_index;
 }
