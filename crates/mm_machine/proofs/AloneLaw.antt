@@ -99,7 +99,7 @@ module _ (db : List Statement) (t : ℕ) (c : CompiledRule) (rule : IsCompiled d
   symbols_are_constants =
       recursion_from_All (IsVariableBelow 0) (parts_of db frame.hypotheses f)
       (subst (All (IsVariableBelow 0)) rule.formula_is
-      (subst (λ n. All (IsVariableBelow n) c.formula) none rule.formula_in))
+      (subst (λ n. All (IsVariableBelow n) c.formula) length_is_0 rule.formula_in))
 
   applied_pushes_formula : (es : List Formula) → applied db t c.assertion es
       ≡ unless_too_long (nat_le (length f) formula_limit) (es ++ f ∷ [])

@@ -146,7 +146,7 @@ all_stay_in_cut unmarked marked from (e ∷ es) n n_le_length_unmarked follows a
     by_store : (p : Store) (s t : ℕ) → s ≤ t → t ≤ length (symbols_of (arena unmarked marked) p)
         → ((f : ℕ) → Follow f es n
         → AllByRecursion (Stays (arena unmarked marked) (arena (take n unmarked) marked)) es)
-        → ((f : ℕ) → Follow f es n → f ≤ n) → One p (span p s t) from es n
+        → ((f : ℕ) → Follow f es n → f ≤ n) → FollowByStore p (span p s t) from es n
         → AllByRecursion (Stays (arena unmarked marked) (arena (take n unmarked) marked))
         (span p s t ∷ es)
     by_store Unmarked s t s_le_t t_le_length holds_for_rest rest_rises follows =

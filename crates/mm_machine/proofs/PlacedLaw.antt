@@ -130,7 +130,7 @@ module _ (db : List Statement) (t : ℕ) (c : CompiledRule) (unmarked marked mar
         ≡ Ok (span_formulas (arena unmarked' marked) stack'))
     step_ok_by_value entries_if_ok =
         map_ok r
-        (λ (e : entries_after (arena unmarked marked') stack below parts
+        (λ (entries_are : entries_after (arena unmarked marked') stack below parts
         ≡ Ok (span_formulas (arena unmarked' marked') stack')).
         applied_is ∙ entries_are ∙ ap (λ z. Ok (span_formulas (arena unmarked' z) stack'))
         marked_equal) entries_if_ok

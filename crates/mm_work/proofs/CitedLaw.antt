@@ -102,7 +102,7 @@ module _ (db : List Statement) (few : length db < 2 ^ 31) (complete : AreComplet
         each = are_cited_up_to.count;
         earlier =
             λ i k l m. cites_earlier db by_essential (get_or (theorems db) i 0) _
-            (((are_cited_up_to.each i l).checked.exact (get_or (get_or lists i []) k 0)).0
+            (((are_cited_up_to.each i l).checked.cites_are_exact (get_or (get_or lists i []) k 0)).0
             (member_at (get_or lists i []) k 0 m));
       }
 
@@ -115,7 +115,7 @@ module _ (db : List Statement) (few : length db < 2 ^ 31) (complete : AreComplet
               let b = get_or l has_citation.list_index 0 in
               subst (λ y. proof.Cites db by_essential t y) has_citation.cited
               (subst (λ y. proof.Cites db by_essential y b) has_citation.theorem
-              (((are_cited_up_to.each has_citation.row has_citation.within).checked.exact b).0
+              (((are_cited_up_to.each has_citation.row has_citation.within).checked.cites_are_exact b).0
               (member_at l has_citation.list_index 0 has_citation.listed)))
 
           from : (t a : ℕ) → proof.Cites db by_essential t a → HasCitation c t a
@@ -123,7 +123,7 @@ module _ (db : List Statement) (few : length db < 2 ^ 31) (complete : AreComplet
               let p = index_of_theorem db t (proof_theorem db t x.1 x.2) in
               let l = get_or lists p.0 [] in
               let m : is_member l a ≡ true =
-              ((are_cited_up_to.each p.0 p.1).checked.exact a).1
+              ((are_cited_up_to.each p.0 p.1).checked.cites_are_exact a).1
               (subst (λ y. proof.Cites db by_essential y a) (sym p.2) x) in
               let q = index_of_member l a m in
               record {

@@ -66,7 +66,7 @@ module _ (db : List Statement) (few : length db < 2 ^ 31) (complete : AreComplet
           theorems_are = refl;
           valid = all_valid db few complete by_essential lists are_cited_up_to;
           rising = λ i l. (are_cited_up_to.each i l).checked.rising;
-          exact = λ i l. (are_cited_up_to.each i l).checked.exact;
+          exact = λ i l. (are_cited_up_to.each i l).checked.cites_are_exact;
           shows = shows db few complete by_essential lists are_cited_up_to;
         },
       )
