@@ -17,12 +17,12 @@ use Rattle.mm_spec.specs.Output.{IsReportOf}
 use Rattle.mm_spec.proofs.FindsLaw.{member_filter, filter_member}
 use Rattle.mm_spec.proofs.ListLaw.{member_at}
 use Rattle.mm_work.specs.Citing.{Citing, theorem_at, list_at}
-use Rattle.mm_work.specs.Judged.{AllCited}
+use Rattle.mm_work.specs.Judged.{AllHaveCitations}
 use Rattle.mm_report.specs.Rows.{listed, citing_row, citing_rows, AreCitationsOf}
 use Rattle.mm_run.proofs.RowsLaw.{zip_of_each}
 
 module _ (db : List Statement) (request : Request) (c : Citing)
-    (cited : AllCited db request.essential c) where
+    (cited : AllHaveCitations db request.essential c) where
   -- the lists are those of the database's theorems, and all that they list are assertions
   pub citations_of : AreCitationsOf db c
   citations_of = record {

@@ -20,7 +20,7 @@ use Rattle.mm_rows.specs.Marks.{Marks, mark, IsMatrix}
 use Rattle.mm_report.specs.Rows.{row_of, rows_of, marks_of, open_theorems, report_of}
 use Rattle.mm_run.specs.Counted.{IsJudged}
 use Rattle.mm_run.proofs.CountedLaw.{is_output}
-use Rattle.mm_work.specs.Judged.{AllCited, CitesAsDatabase}
+use Rattle.mm_work.specs.Judged.{AllHaveCitations, CitesAsDatabase}
 
 -- two lists of one length whose elements are related at each index are related as lists
 pub zip_of_each : {A B : Type 0} (R : A → B → Type 0) (xs : List A) (ys : List B) (d : A) (e : B)
@@ -96,7 +96,7 @@ is_report_of_rows db opened request Citations rows other h = absurd (other refl)
 -- from the marks of the chains of citations, the report is that of the definitions
 pub is_report : (request : Request) (db : List Statement) (opened : Option ℕ) (c : Citing)
     → (axioms : List ℕ) (m : Marks)
-    → AllCited db request.essential c → axioms ≡ columns db request.only → IsMatrix c axioms m
+    → AllHaveCitations db request.essential c → axioms ≡ columns db request.only → IsMatrix c axioms m
     → (request.choice ≡ Citations → ⊥)
     → IsReportOf request.choice db opened request
     (report request opened (map (label_at db) axioms)

@@ -6,7 +6,7 @@ use Rattle.mm_spec.specs.Opened.{counted}
 use Rattle.mm_spec.specs.Output.{FirstFault, HasNoFault, IsRead}
 use Rattle.mm_work.specs.Citing.{Citing}
 use Rattle.mm_database.specs.Database.{Contents}
-use Rattle.mm_work.specs.Judged.{AllCited}
+use Rattle.mm_work.specs.Judged.{AllHaveCitations}
 use Rattle.mm_rows.specs.Marks.{Marks, IsMatrix}
 use Rattle.mm_run.specs.declared.judged.JudgedText.{JudgedText}
 use Rattle.mm_run.specs.declared.judged.JudgedText.TheVariants.{Faulty, Sound}
@@ -27,7 +27,7 @@ pub record IsReadFrom (text : List ℕ) (with_open : Bool) (d : Contents) : Type
 pub record IsJudged (essential with_open : Bool) (d : Contents) (c : Citing) : Type 0 where
   pub sound : HasNoFault (length d.text) (lexed_of d.text) with_open d.read
   pub counted : IsCounted with_open d
-  pub cited : AllCited d.statements essential c
+  pub cited : AllHaveCitations d.statements essential c
 
 -- the database was judged without a fault, and these marks are those of its theorems' citations in
 -- these columns

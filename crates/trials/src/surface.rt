@@ -5,7 +5,7 @@
 ghost use Rattle.std.specs.Prelude.{◌≡◌, IfOk, Option, false, length};
 ghost use Rattle.mm_spec.specs.Text.{Bytes};
 ghost use Rattle.mm_spec.specs.Output.{columns, theorems};
-ghost use Rattle.mm_work.specs.Judged.{AllCited};
+ghost use Rattle.mm_work.specs.Judged.{AllHaveCitations};
 ghost use Rattle.mm_report.specs.Rows.{AreCitationsOf};
 
 use crate::texts::{FIRST_REPORT, FIRST_TEXT};
@@ -180,7 +180,7 @@ fn citations_of<R: Threads + Wait + Sync>(
     alloc: Global,
     database: &Database<Global>,
 ) -> Result<Citations<Global>, AllocError>
-    ensures { IfOk result (λ citations. AllCited database.now.statements false citations) }
+    ensures { IfOk result (λ citations. AllHaveCitations database.now.statements false citations) }
 {
     match check_all(rt, alloc, database, 2, false, &Open)? {
         Judged::Valid(citations) => Ok(citations),

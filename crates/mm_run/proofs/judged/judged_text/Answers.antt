@@ -1,7 +1,7 @@
 use Rattle.std.proofs.Common.{◌∙◌, ℕ, List, length, None, sym, subst, inl, inr}
 use Rattle.mm_spec.specs.Lexed.{lexed_of}
 use Rattle.mm_spec.specs.Output.{AllAreValid, IsRead}
-use Rattle.mm_work.specs.Judged.{IsJudgement, AllCited, IsFirstFault}
+use Rattle.mm_work.specs.Judged.{IsJudgement, AllHaveCitations, IsFirstFault}
 use Rattle.mm_work.specs.declared.judged.Judged.{Judged}
 use Rattle.mm_run.proofs.judged.judged_text.Goals as goal
 
@@ -19,7 +19,7 @@ returns-in-Faulty g c = λ text essential with_open from judges.
 pub returns-in-Some : goal.returns-in-Some
 returns-in-Some g c = λ text essential with_open from judges.
     let d = c.args.database in
-    let cited : AllCited d.statements essential c.in-Valid.citations =
+    let cited : AllHaveCitations d.statements essential c.in-Valid.citations =
     subst (λ (j : Judged _). IsJudgement d.statements essential j) c.in-Valid.is judges in (
       d.read,
       d.fault,
@@ -34,7 +34,7 @@ returns-in-Some g c = λ text essential with_open from judges.
 pub returns : goal.returns
 returns g c = λ text essential with_open from judges.
     let d = c.args.database in
-    let cited : AllCited d.statements essential c.in-Valid.citations =
+    let cited : AllHaveCitations d.statements essential c.in-Valid.citations =
     subst (λ (j : Judged _). IsJudgement d.statements essential j) c.in-Valid.is judges in (
       from.text_is,
       record {
