@@ -36,10 +36,15 @@ module _ (counts : ℕ → ℕ → Bool) where
       → HasNode counts q ts a
   node_by_more_roots p q none a p_implies_q has_node = absurd has_node
   node_by_more_roots p q (more ts l f cs) a p_implies_q (inl has_node) =
-      inl (node_by_more_roots p q ts a (λ n n_lt_count p_n. p_implies_q n (omega (arith,
-      n_lt_count)) p_n) has_node)
-  node_by_more_roots p q (more ts l f cs) a p_implies_q (inr has_node) = inr (p_implies_q
-      (tree_count ts) (omega arith) has_node.0, has_node.1)
+      inl (node_by_more_roots p q ts a (λ n n_lt_count p_n. p_implies_q n (omega (
+        arith,
+        n_lt_count,
+      )) p_n) has_node)
+  node_by_more_roots p q (more ts l f cs) a p_implies_q (inr has_node) = inr (
+    p_implies_q
+        (tree_count ts) (omega arith) has_node.0,
+    has_node.1,
+  )
 
   node_of_left : (p : ℕ → Bool) (ts us : Trees) (a : ℕ) → HasNode counts p ts a
       → HasNode counts p (ts ⧺ us) a
@@ -51,8 +56,11 @@ module _ (counts : ℕ → ℕ → Bool) where
       → HasNode counts p (ts ⧺ us) a
   node_of_right p ts none a has_node = absurd has_node
   node_of_right p ts (more us l f cs) a (inl has_node) = inl (node_of_right p ts us a has_node)
-  node_of_right p ts (more us l f cs) a (inr has_node) = inr (ap p (tree_count_join ts us)
-      ∙ has_node.0, has_node.1)
+  node_of_right p ts (more us l f cs) a (inr has_node) = inr (
+    ap p (tree_count_join ts us)
+        ∙ has_node.0,
+    has_node.1,
+  )
 
   node_of_either : (p : ℕ → Bool) (ts us : Trees) (a : ℕ) → HasNode counts p (ts ⧺ us) a
       → HasNode counts p ts a ⊎ HasNode counts (λ n. p (tree_count ts + n)) us a
@@ -64,8 +72,11 @@ module _ (counts : ℕ → ℕ → Bool) where
           → HasNode counts p ts a ⊎ HasNode counts (λ n. p (tree_count ts + n)) (more us l f cs) a
       by_part (inl has_node) = inl has_node
       by_part (inr has_node) = inr (inl has_node)
-  node_of_either p ts (more us l f cs) a (inr has_node) = inr (inr (ap p (sym (tree_count_join ts
-      us)) ∙ has_node.0, has_node.1))
+  node_of_either p ts (more us l f cs) a (inr has_node) = inr (inr (
+    ap p (sym (tree_count_join ts
+        us)) ∙ has_node.0,
+    has_node.1,
+  ))
 
 -- ---- flags
 
@@ -104,8 +115,10 @@ step_flags_stay true (marked j) step_flags k flag_is_set = by_order (k == j) ref
         no_flag_past_the_end [] zero length_le = refl
         no_flag_past_the_end [] (suc k) length_le = refl
         no_flag_past_the_end (w ∷ ws) zero length_le = absurd (omega (arith, length_le))
-        no_flag_past_the_end (w ∷ ws) (suc k) length_le = no_flag_past_the_end ws k (omega (arith,
-            length_le))
+        no_flag_past_the_end (w ∷ ws) (suc k) length_le = no_flag_past_the_end ws k (omega (
+          arith,
+          length_le,
+        ))
     by_order false equality h =
         get_or-set_other step_flags j k true false (eqb-false k j equality) ∙ flag_is_set
 
@@ -184,8 +197,11 @@ module _ (counts : ℕ → ℕ → Bool) (forest_after : ℕ → Trees) where
             → IsToBeFound (suc i) (ws ++ flag ∷ []) step_flags a
         by_flag_kind (inl flag_is_set) =
             inl (subst (λ t. HasNode counts (flag_at (ws ++ flag ∷ [])) t a) (sym forest_is)
-            (inr (last_flag (tree_count earlier_trees) flag_count_is
-            ∙ flag_is_set, is_label_or_child)))
+            (inr (
+              last_flag (tree_count earlier_trees) flag_count_is
+                  ∙ flag_is_set,
+              is_label_or_child,
+            )))
         by_flag_kind (inr flag_is_set) =
             inr (
               i,
@@ -221,8 +237,12 @@ module _ (counts : ℕ → ℕ → Bool) (forest_after : ℕ → Trees) where
 
     repeated_earlier : IsNodeOfRepeatedStep i step_flags a → IsNodeOfRepeatedStep (suc i) step_flags
         a
-    repeated_earlier repeated = let j_lt_i = repeated.1 in (repeated.0, omega (arith, j_lt_i),
-        repeated.2, repeated.3)
+    repeated_earlier repeated = let j_lt_i = repeated.1 in (
+      repeated.0,
+      omega (arith, j_lt_i),
+      repeated.2,
+      repeated.3,
+    )
 
     -- the step of a label, whose entry gives way to those of its premises
     module _ (l : ℕ) (ts : Trees) (f : Formula) (cs : Trees) (forest_is : forest_after (suc i)
@@ -241,8 +261,11 @@ module _ (counts : ℕ → ℕ → Bool) (forest_after : ℕ → Trees) where
             → HasNode counts (flag_at (ws ++ xs)) ts a
         node_of_left_trees us xs has_node =
             node_by_more_roots counts (flag_at (ws ++ us)) (flag_at (ws ++ xs)) ts a
-            (λ n n_lt_count flag_is_set. sym (flag_of_front ws us xs n (omega (arith, n_lt_count,
-            flag_count_is))) ∙ flag_is_set) has_node
+            (λ n n_lt_count flag_is_set. sym (flag_of_front ws us xs n (omega (
+              arith,
+              n_lt_count,
+              flag_count_is,
+            ))) ∙ flag_is_set) has_node
 
         node_of_row : HasNode counts (flag_at (ws ++ vs)) (ts ⧺ cs) a
             → IsToBeFound i (ws ++ vs) step_flags a
@@ -323,8 +346,11 @@ module _ (counts : ℕ → ℕ → Bool) (forest_after : ℕ → Trees) where
           → HasNode counts (flag_at (ws ++ xs)) (forest_after i) a
       node_of_earlier_trees us xs has_node =
           node_by_more_roots counts (flag_at (ws ++ us)) (flag_at (ws ++ xs)) (forest_after i) a
-          (λ n n_lt_count flag_is_set. sym (flag_of_front ws us xs n (omega (arith, n_lt_count,
-          flag_count_is))) ∙ flag_is_set) has_node
+          (λ n n_lt_count flag_is_set. sym (flag_of_front ws us xs n (omega (
+            arith,
+            n_lt_count,
+            flag_count_is,
+          ))) ∙ flag_is_set) has_node
 
       repeated_is_found : b ≡ true → (a ≡ l) ⊎ HasNode counts (counts l) cs a
           → IsToBeFound i (ws ++ []) (step_flags_after b (marked j) step_flags) a
@@ -334,8 +360,10 @@ module _ (counts : ℕ → ℕ → Bool) (forest_after : ℕ → Trees) where
             j_lt_i,
             repeated_step_has_flag j step_flags (omega (arith, j_lt_i, i_lt_length)) b b_is_true,
             subst
-                (λ t. HasNode counts each_root t a) (sym last_tree_is) (inr (refl,
-                is_label_or_child)),
+                (λ t. HasNode counts each_root t a) (sym last_tree_is) (inr (
+                  refl,
+                  is_label_or_child,
+                )),
           )
 
       found_before_marked : IsToBeFound (suc i) (ws ++ flag ∷ []) step_flags a
@@ -357,8 +385,13 @@ module _ (counts : ℕ → ℕ → Bool) (forest_after : ℕ → Trees) where
               ⊎ IsNodeOfRepeatedStep i step_flags a
               → IsToBeFound i (ws ++ []) (step_flags_after b (marked j) step_flags) a
           by_step (inl essential) = repeated_is_found essential.0 essential.1
-          by_step (inr repeated) = inr (repeated.0, repeated.1, step_flags_stay b (marked j)
-              step_flags repeated.0 repeated.2, repeated.3)
+          by_step (inr repeated) = inr (
+            repeated.0,
+            repeated.1,
+            step_flags_stay b (marked j)
+                step_flags repeated.0 repeated.2,
+            repeated.3,
+          )
 
       found_after_marked : IsToBeFound i (ws ++ []) (step_flags_after b (marked j) step_flags) a
           → IsToBeFound (suc i) (ws ++ flag ∷ []) step_flags a
@@ -370,8 +403,12 @@ module _ (counts : ℕ → ℕ → Bool) (forest_after : ℕ → Trees) where
         where
           by_flag : (flag_at step_flags to_be_found.0 ≡ true) ⊎ ((to_be_found.0 ≡ j) × (b ≡ true))
               → IsToBeFound (suc i) (ws ++ flag ∷ []) step_flags a
-          by_flag (inl flag_is_set) = inr (repeated_earlier (to_be_found.0, to_be_found.1,
-              flag_is_set, to_be_found.3))
+          by_flag (inl flag_is_set) = inr (repeated_earlier (
+            to_be_found.0,
+            to_be_found.1,
+            flag_is_set,
+            to_be_found.3,
+          ))
           by_flag (inr is_repeated) =
               essential_tree_is_found (forest_after i) l f cs forest_is flag_count_is is_repeated.1
               (tree_node l f cs a

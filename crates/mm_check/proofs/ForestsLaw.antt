@@ -38,8 +38,11 @@ cut_two_ways (x ∷ xs) ys (u ∷ us) vs lists_equal =
         → ((k : List ℕ) × (x ∷ xs ≡ (u ∷ us) ++ k))
         ⊎ ((k : List ℕ) × (u ∷ us ≡ (x ∷ xs) ++ k) × (ys ≡ k ++ vs))
     by_cut heads_equal (inl cut) = let front_is = cut.1 in inl (cut.0, cc (heads_equal, front_is))
-    by_cut heads_equal (inr cut) = let front_is = cut.1 in inr (cut.0, cc (heads_equal, front_is),
-        cut.2)
+    by_cut heads_equal (inr cut) = let front_is = cut.1 in inr (
+      cut.0,
+      cc (heads_equal, front_is),
+      cut.2,
+    )
 
 -- ---- forests
 
@@ -80,8 +83,12 @@ module _ (c : Context) where
   joined_forest_derives : (ts us : Trees) → AreDerivations c ts → AreDerivations c us
       → AreDerivations c (ts ⧺ us)
   joined_forest_derives ts none ts_derive us_derive = ts_derive
-  joined_forest_derives ts (more us l f cs) ts_derive us_derive = (joined_forest_derives ts us
-      ts_derive us_derive.0, us_derive.1, us_derive.2)
+  joined_forest_derives ts (more us l f cs) ts_derive us_derive = (
+    joined_forest_derives ts us
+        ts_derive us_derive.0,
+    us_derive.1,
+    us_derive.2,
+  )
 
   abbrev RowOf : List ℕ → Type 0
   RowOf labels = (r : Trees) × AreDerivations c r × (postfix r ≡ labels)
@@ -115,8 +122,11 @@ module _ (c : Context) where
             ap (λ y. postfix ts ++ (postfix cs ++ y ∷ [])) l_is_x
                 ∙ ap (λ y. postfix ts ++ y) (sym rest_is) ∙ sym labels_are,
           )
-      row_of_whole_tree k (x ∷ y ∷ m) labels_are rest_is label_is = absurd (omega (arith, ap length
-          label_is))
+      row_of_whole_tree k (x ∷ y ∷ m) labels_are rest_is label_is = absurd (omega (
+        arith,
+        ap length
+            label_is,
+      ))
 
       row_in_children : (k : List ℕ) → labels ≡ postfix ts ++ k
           → ((m : List ℕ) × (postfix cs ≡ k ++ m))
@@ -152,9 +162,11 @@ module _ (c : Context) where
   plain_extends [] lists labels all_labels plain = ([], plain ∙ sym (append-nil labels))
   plain_extends (s ∷ steps) lists labels all_labels plain =
       let extended = adds_at_end lists labels s plain.0 plain.1 in
-      let extended_again = plain_extends steps (lists ++ plain.0 ∷ []) plain.0 all_labels plain.2 in
-      (extended.0 ++ extended_again.0, extended_again.1 ∙ ap (λ z. z ++ extended_again.0) extended.1
-      ∙ append_assoc labels extended.0 extended_again.0)
+      let extended_again = plain_extends steps (lists ++ plain.0 ∷ []) plain.0 all_labels plain.2 in (
+        extended.0 ++ extended_again.0,
+        extended_again.1 ∙ ap (λ z. z ++ extended_again.0) extended.1
+            ∙ append_assoc labels extended.0 extended_again.0,
+      )
 
   -- the lists after the steps so far are those of these forests
   abbrev AreListsOf : List (List ℕ) → List Trees → Type 0
@@ -166,8 +178,11 @@ module _ (c : Context) where
   lists_push [] [] x t are_lists derives postfix_is = ((derives, postfix_is), tt)
   lists_push [] (u ∷ us) x t are_lists derives postfix_is = absurd are_lists
   lists_push (y ∷ ys) [] x t are_lists derives postfix_is = absurd are_lists
-  lists_push (y ∷ ys) (u ∷ us) x t are_lists derives postfix_is = (are_lists.0, lists_push ys us x t
-      are_lists.1 derives postfix_is)
+  lists_push (y ∷ ys) (u ∷ us) x t are_lists derives postfix_is = (
+    are_lists.0,
+    lists_push ys us x t
+        are_lists.1 derives postfix_is,
+  )
 
   list_is_postfix : (lists : List (List ℕ)) (forests : List Trees) (j : ℕ) (list : List ℕ)
       → AreListsOf lists forests
@@ -232,8 +247,11 @@ module _ (c : Context) where
         copy none derives_r is_last forests_equal j_lt_length_forests = absurd is_last
         copy (more ts l f cs) derives_r list_is_last_tree forests_equal j_lt_length_forests =
             let next_is : next_forest ≡ more forest l f cs =
-            same_forest c are_complete next_forest (more forest l f cs) next_derives (derives,
-            derives_r.1, derives_r.2)
+            same_forest c are_complete next_forest (more forest l f cs) next_derives (
+              derives,
+              derives_r.1,
+              derives_r.2,
+            )
             (adds.4 ∙ ap (λ z. postfix forest ++ z) list_is_last_tree) in
             let forest_before_is : forest_at (forests ++ next_forest ∷ later) (length forests)
             ≡ forest =
@@ -288,20 +306,20 @@ module _ (c : Context) where
         → HasRest forests (s ∷ steps) d
     rest_after_step lists forests forest d s steps are_lists derives forest_is new_labels adds
         next_forest next_derives postfix_is has_rest_after = record {
-      later = next_forest ∷ later;
-      are_moves = (
-        move_at_end lists forests later forest next_forest s are_lists derives next_derives
-            (subst (Adds c lists (postfix forest) s) (sym postfix_is) adds) forest_is,
-        subst (λ n. AreMoves (forests ++ next_forest ∷ later) n steps) length_is_suc
-            (subst (λ z. AreMoves z (length (forests ++ next_forest ∷ [])) steps) lists_regroup
-            has_rest.are_moves),
-      );
-      ends_in_d =
-          ap (forest_at (forests ++ next_forest ∷ later)) length_splits
-          ∙ ap (λ z. forest_at z (length (forests ++ next_forest ∷ []) + length steps)) (sym
-          lists_regroup)
-          ∙ has_rest.ends_in_d;
-    }
+          later = next_forest ∷ later;
+          are_moves = (
+            move_at_end lists forests later forest next_forest s are_lists derives next_derives
+                (subst (Adds c lists (postfix forest) s) (sym postfix_is) adds) forest_is,
+            subst (λ n. AreMoves (forests ++ next_forest ∷ later) n steps) length_is_suc
+                (subst (λ z. AreMoves z (length (forests ++ next_forest ∷ [])) steps) lists_regroup
+                has_rest.are_moves),
+          );
+          ends_in_d =
+              ap (forest_at (forests ++ next_forest ∷ later)) length_splits
+              ∙ ap (λ z. forest_at z (length (forests ++ next_forest ∷ []) + length steps)) (sym
+              lists_regroup)
+              ∙ has_rest.ends_in_d;
+        }
       where
         length_is_suc : length (forests ++ next_forest ∷ []) ≡ suc (length forests)
         length_is_suc = omega (arith, length-append forests (next_forest ∷ []))
@@ -350,9 +368,12 @@ module _ (c : Context) where
         → (forests : List Trees) × AreMoves forests 0 steps × (forest_at forests (length steps) ≡ d)
     proof_has_forests steps f d derivation =
         let has_rest = has_rest_from steps [] [] none d tt tt refl derivation.3 derivation.4 in
-        let length_is : length steps ≡ 0 + length steps = omega arith in
-        (has_rest.later, has_rest.are_moves, ap (forest_at has_rest.later) length_is
-        ∙ has_rest.ends_in_d)
+        let length_is : length steps ≡ 0 + length steps = omega arith in (
+          has_rest.later,
+          has_rest.are_moves,
+          ap (forest_at has_rest.later) length_is
+              ∙ has_rest.ends_in_d,
+        )
 
   -- one of the steps
   pub move_at : (forests : List Trees) (n : ℕ) (steps : List Step) (i : ℕ) → i < length steps

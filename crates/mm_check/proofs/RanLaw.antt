@@ -52,9 +52,11 @@ end_formulas_append : (ends later : List Formula) (marks : List ℕ) (formulas :
 end_formulas_append ends later [] [] are_end_formulas = tt
 end_formulas_append ends later [] (f ∷ formulas) are_end_formulas = absurd are_end_formulas
 end_formulas_append ends later (j ∷ marks) [] are_end_formulas = absurd are_end_formulas
-end_formulas_append ends later (j ∷ marks) (f ∷ formulas) are_end_formulas =
-    (get_of_front ends later j f are_end_formulas.0, end_formulas_append ends later marks formulas
-    are_end_formulas.1)
+end_formulas_append ends later (j ∷ marks) (f ∷ formulas) are_end_formulas = (
+  get_of_front ends later j f are_end_formulas.0,
+  end_formulas_append ends later marks formulas
+      are_end_formulas.1,
+)
 
 end_formulas_push : (ends : List Formula) (marks : List ℕ) (formulas : List Formula) (i : ℕ) (f :
     Formula)

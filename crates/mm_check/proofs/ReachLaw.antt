@@ -56,11 +56,17 @@ list_is_within (l ∷ lists) labels list (suc j) are_within list_is a is_member_
 within_push : (lists : List (List ℕ)) (labels new_labels : List ℕ) → AreWithin lists labels
     → ((a : ℕ) → is_member labels a ≡ true → is_member new_labels a ≡ true)
     → AreWithin (lists ++ new_labels ∷ []) new_labels
-within_push [] labels new_labels are_within labels_within_new = ((λ a is_member_of_labels.
-    is_member_of_labels), tt)
-within_push (l ∷ lists) labels new_labels are_within labels_within_new = ((λ a is_member_of_labels.
-    labels_within_new a (are_within.0 a is_member_of_labels)), within_push lists labels new_labels
-    are_within.1 labels_within_new)
+within_push [] labels new_labels are_within labels_within_new = (
+  (λ a is_member_of_labels.
+      is_member_of_labels),
+  tt,
+)
+within_push (l ∷ lists) labels new_labels are_within labels_within_new = (
+  (λ a is_member_of_labels.
+      labels_within_new a (are_within.0 a is_member_of_labels)),
+  within_push lists labels new_labels
+      are_within.1 labels_within_new,
+)
 
 module _ (c : Context) where
   last_member : (forest : Trees) (x : List ℕ) (a : ℕ) → IsLastTree forest x → is_member x a ≡ true
@@ -118,8 +124,11 @@ reached_after_step db t steps_so_far stack ends noted s out noted' is_reached is
       plain_from_start =
           λ later_steps labels is_plain. subst (λ z. Plain c [] [] z labels)
           (sym (append_assoc steps_so_far (s ∷ []) later_steps))
-          (is_reached.plain_from_start (s ∷ later_steps) labels (postfix grown.0, grown.2,
-          is_plain));
+          (is_reached.plain_from_start (s ∷ later_steps) labels (
+            postfix grown.0,
+            grown.2,
+            is_plain,
+          ));
       lists_are_within =
           within_push is_reached.lists (postfix is_reached.forest) (postfix grown.0)
           is_reached.lists_are_within
@@ -185,16 +194,27 @@ module _ (db : List Statement) (t : ℕ) (steps : List PlacedStep) (stack ends :
           ≡ f ∷ [])
       two_entries_not_one xs h g stack_is =
           let lengths_equal = ap length stack_is in
-          omega (arith, lengths_equal, length-append (xs ++ h ∷ []) (g ∷ []), length-append xs (h ∷
-          []))
+          omega (
+            arith,
+            lengths_equal,
+            length-append (xs ++ h ∷ []) (g ∷ []),
+            length-append xs (h ∷
+                []),
+          )
 
       by_forest : (forest : Trees) → AreDerivations (context_at db t) forest → formulas forest
           ≡ f ∷ []
           → Plain (context_at db t) [] [] (steps_of steps) (postfix forest)
           → Derives (context_at db t) (steps_of steps) f forest
       by_forest none derives stack_is is_plain = cc
-      by_forest (more none l g cs) derives stack_is is_plain = (l, cs, ap (λ z. tree l z cs) (ap top
-          stack_is), derives, is_plain)
+      by_forest (more none l g cs) derives stack_is is_plain = (
+        l,
+        cs,
+        ap (λ z. tree l z cs) (ap top
+            stack_is),
+        derives,
+        is_plain,
+      )
       by_forest (more (more ts m h bs) l g cs) derives stack_is is_plain = absurd
           (two_entries_not_one (formulas ts) h g stack_is)
 

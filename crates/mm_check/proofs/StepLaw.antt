@@ -55,16 +55,16 @@ module _ (db : List Statement) (t : ℕ) where
         → Performs db t (label a) c (checker_state m c.rules noted cache)
     applied_step_performs m noted cache entries_are marks_stay formulas_stay has_entry noted_are =
         record {
-      entries_are =
-          λ ends agree. ap (λ r. step (context_at db t) r c.machine.stack)
-          (assertion_rule db t a is_assertion rule_is_complete)
-          ∙ entries_are;
-      marks_stay = marks_stay;
-      formulas_stay = formulas_stay;
-      has_entry = has_entry;
-      noted_are = λ x. noted_are x ∙ ap (λ b. is_member c.noted x || b) (by_equality x (x == a)
-          refl);
-    }
+          entries_are =
+              λ ends agree. ap (λ r. step (context_at db t) r c.machine.stack)
+              (assertion_rule db t a is_assertion rule_is_complete)
+              ∙ entries_are;
+          marks_stay = marks_stay;
+          formulas_stay = formulas_stay;
+          has_entry = has_entry;
+          noted_are = λ x. noted_are x ∙ ap (λ b. is_member c.noted x || b) (by_equality x (x == a)
+              refl);
+        }
       where
         by_equality : (x : ℕ) (b : Bool) → (x == a) ≡ b → b ≡ (b && is_assertion_at db x)
         by_equality x false equality = refl

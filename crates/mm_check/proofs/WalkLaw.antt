@@ -157,16 +157,23 @@ module _ (db : List Statement) (t : ℕ) (steps : List PlacedStep) (i : ℕ) (ws
           ap tree_count forest_before_is,
           tree_count_join ts cs,
         );
-    nodes_iff = λ a. (λ found. left_to_right a ((found_iff a).0 found), λ found. (found_iff a).1
-        (right_to_left a found));
+    nodes_iff = λ a. (
+      λ found. left_to_right a ((found_iff a).0 found),
+      λ found. (found_iff a).1
+          (right_to_left a found),
+    );
   }
     where
       are_flags : AreFlags db t b l cs f is_good follows (taken_flags db b (label l))
       taken_flags_are_flags = taken_flags_are_flags db t b l cs f is_good follows
 
       flag_count_is : length ws ≡ tree_count ts
-      flag_count_is = let entry_flags_fit = are_found.entry_flags_fit in omega (arith,
-          entry_flags_fit, length-append ws (flag ∷ []), ap tree_count forest_is)
+      flag_count_is = let entry_flags_fit = are_found.entry_flags_fit in omega (
+        arith,
+        entry_flags_fit,
+        length-append ws (flag ∷ []),
+        ap tree_count forest_is,
+      )
 
       found_iff : (a : ℕ)
           → IsToBeFound (child_counts db true) (forest_at are_found.forests) (suc i) (ws ++ flag ∷
@@ -190,13 +197,20 @@ module _ (db : List Statement) (t : ℕ) (steps : List PlacedStep) (i : ℕ) (ws
       right_to_left a (inr found) = inr found
   step_is_undone (marked j) (j_lt_i, l, f, cs, forest_is, last_tree_is) is_good = record {
     entry_flags_fit = ap length (append-nil ws) ∙ flag_count_is;
-    nodes_iff = λ a. (λ found. inr ((found_iff a).0 found), λ found. (found_iff a).1
-        (label_is_never_marked a found));
+    nodes_iff = λ a. (
+      λ found. inr ((found_iff a).0 found),
+      λ found. (found_iff a).1
+          (label_is_never_marked a found),
+    );
   }
     where
       flag_count_is : length ws ≡ tree_count (forest_at are_found.forests i)
-      flag_count_is = let entry_flags_fit = are_found.entry_flags_fit in omega (arith,
-          entry_flags_fit, length-append ws (flag ∷ []), ap tree_count forest_is)
+      flag_count_is = let entry_flags_fit = are_found.entry_flags_fit in omega (
+        arith,
+        entry_flags_fit,
+        length-append ws (flag ∷ []),
+        ap tree_count forest_is,
+      )
 
       found_iff : (a : ℕ)
           → IsToBeFound (child_counts db true) (forest_at are_found.forests) (suc i) (ws ++ flag ∷
@@ -207,8 +221,11 @@ module _ (db : List Statement) (t : ℕ) (steps : List PlacedStep) (i : ℕ) (ws
           marked_back (child_counts db true)
           (forest_at are_found.forests) i ws step_flags flag b b_is a j l f cs j_lt_i forest_is
           last_tree_is flag_count_is
-          (let step_flags_fit = are_found.step_flags_fit in omega (arith, step_flags_fit,
-          i_lt_length))
+          (let step_flags_fit = are_found.step_flags_fit in omega (
+            arith,
+            step_flags_fit,
+            i_lt_length,
+          ))
 
       label_is_never_marked : (a : ℕ) → ((b ≡ true) × (false ≡ true)) ⊎ IsFoundBefore (marked j) a
           → IsFoundBefore (marked j) a
@@ -316,8 +333,11 @@ module _ (db : List Statement) (t : ℕ) (steps : List PlacedStep) (i : ℕ) (ws
           by_membership (inr found) =
               let is_label = and_parts b (is_labelled_step s a && is_assertion_at db a) found in
               inr ((is_undone.nodes_iff a).1
-              (inl (is_label.0, (and_parts (is_labelled_step s a) (is_assertion_at db a)
-              is_label.1).0)))
+              (inl (
+                is_label.0,
+                (and_parts (is_labelled_step s a) (is_assertion_at db a)
+                    is_label.1).0,
+              )))
       right_to_left a a_is_assertion (inr found) = inr ((is_undone.nodes_iff a).1 (inr found))
 
 -- the forest after a step is not empty
@@ -377,98 +397,105 @@ good_step_is_earlier c i n (marked j) i_lt_n is_good = omega (arith, i_lt_n, is_
 -- ---- the first and the last
 
 module _ (db : List Statement) (t : ℕ) (steps : List PlacedStep) (is_complete : AreComplete db)
-    where
-  pub walked_at_start : (entry_flags step_flags : List Bool) (noted : List ℕ) → steps
-      ≡ steps_at db t
-      → ((d : Trees) × IsProof db t d) → entry_flags ≡ true ∷ []
-      → step_flags ≡ replicate (length steps) false → noted ≡ []
-      → AreFoundFrom db t steps (length steps) entry_flags step_flags noted
-  walked_at_start entry_flags step_flags noted steps_are (d, derives) entry_flags_are step_flags_are
-      noted_is_nil =
-      found_from_forests (proof_has_forests (context_at db t) (is_complete t) (steps_of steps)
-      (formula_at db t) d derives_formula)
-    where
-      derives_formula : Derives (context_at db t) (steps_of steps) (formula_at db t) d
-      derives_formula = subst (λ ss. Derives (context_at db t) (steps_of ss) (formula_at db t) d)
-          (sym steps_are) derives
+  where
+    pub walked_at_start : (entry_flags step_flags : List Bool) (noted : List ℕ) → steps
+        ≡ steps_at db t
+        → ((d : Trees) × IsProof db t d) → entry_flags ≡ true ∷ []
+        → step_flags ≡ replicate (length steps) false → noted ≡ []
+        → AreFoundFrom db t steps (length steps) entry_flags step_flags noted
+    walked_at_start entry_flags step_flags noted steps_are (d, derives) entry_flags_are step_flags_are
+        noted_is_nil =
+        found_from_forests (proof_has_forests (context_at db t) (is_complete t) (steps_of steps)
+        (formula_at db t) d derives_formula)
+      where
+        derives_formula : Derives (context_at db t) (steps_of steps) (formula_at db t) d
+        derives_formula = subst (λ ss. Derives (context_at db t) (steps_of ss) (formula_at db t) d)
+            (sym steps_are) derives
 
-      found_from_forests : ((forests : List Trees) × AreMoves (context_at db t) forests 0 (steps_of
-          steps)
-          × (forest_at forests (length (steps_of steps)) ≡ d))
-          → AreFoundFrom db t steps (length steps) entry_flags step_flags noted
-      found_from_forests (forests, are_moves, ends_in_d) = record {
-        derivation = d;
-        is_proof = derives;
-        forests = forests;
-        are_moves = are_moves;
-        step_flags_fit = ap length step_flags_are ∙ length_replicate_is (length steps);
-        entry_flags_fit = ap length entry_flags_are ∙ sym (ap tree_count (forest_is_d
-            ∙ derives_formula.2));
-        are_assertions = λ a is_noted. absurd (true≢false (sym is_noted
-            ∙ ap (λ l. is_member l a) noted_is_nil));
-        found_iff = λ a is_assertion. (λ found. inr (inl (left_to_right a found)), λ found.
-            right_to_left a found);
-      }
-        where
-          length_replicate_is : (n : ℕ) → length (replicate n false) ≡ n
-          length_replicate_is zero = refl
-          length_replicate_is (suc n) = ap suc (length_replicate_is n)
+        found_from_forests : ((forests : List Trees) × AreMoves (context_at db t) forests 0 (steps_of
+            steps)
+            × (forest_at forests (length (steps_of steps)) ≡ d))
+            → AreFoundFrom db t steps (length steps) entry_flags step_flags noted
+        found_from_forests (forests, are_moves, ends_in_d) = record {
+          derivation = d;
+          is_proof = derives;
+          forests = forests;
+          are_moves = are_moves;
+          step_flags_fit = ap length step_flags_are ∙ length_replicate_is (length steps);
+          entry_flags_fit = ap length entry_flags_are ∙ sym (ap tree_count (forest_is_d
+              ∙ derives_formula.2));
+          are_assertions = λ a is_noted. absurd (true≢false (sym is_noted
+              ∙ ap (λ l. is_member l a) noted_is_nil));
+          found_iff = λ a is_assertion. (
+            λ found. inr (inl (left_to_right a found)),
+            λ found.
+                right_to_left a found,
+          );
+        }
+          where
+            length_replicate_is : (n : ℕ) → length (replicate n false) ≡ n
+            length_replicate_is zero = refl
+            length_replicate_is (suc n) = ap suc (length_replicate_is n)
 
-          forest_is_d : forest_at forests (length steps) ≡ d
-          forest_is_d = ap (forest_at forests) (sym (length-map steps (λ s. s.step))) ∙ ends_in_d
+            forest_is_d : forest_at forests (length steps) ≡ d
+            forest_is_d = ap (forest_at forests) (sym (length-map steps (λ s. s.step))) ∙ ends_in_d
 
-          counts : ℕ → ℕ → Bool
-          counts = child_counts db true
+            counts : ℕ → ℕ → Bool
+            counts = child_counts db true
 
-          node_by_root_flag : (p q : ℕ → Bool) (a : ℕ) → q 0 ≡ true
-              → HasNode counts p (tree derives_formula.0 (formula_at db t) derives_formula.1) a
-              → HasNode counts q (tree derives_formula.0 (formula_at db t) derives_formula.1) a
-          node_by_root_flag p q a q_0 (inl has_node) = absurd has_node
-          node_by_root_flag p q a q_0 (inr has_node) = inr (q_0, has_node.1)
+            node_by_root_flag : (p q : ℕ → Bool) (a : ℕ) → q 0 ≡ true
+                → HasNode counts p (tree derives_formula.0 (formula_at db t) derives_formula.1) a
+                → HasNode counts q (tree derives_formula.0 (formula_at db t) derives_formula.1) a
+            node_by_root_flag p q a q_0 (inl has_node) = absurd has_node
+            node_by_root_flag p q a q_0 (inr has_node) = inr (q_0, has_node.1)
 
-          left_to_right : (a : ℕ) → HasNode counts each_root d a
-              → HasNode counts (flag_at entry_flags) (forest_at forests (length steps)) a
-          left_to_right a has_node =
-              subst (λ u. HasNode counts (flag_at entry_flags) u a) (sym (forest_is_d
-              ∙ derives_formula.2))
-              (node_by_root_flag each_root (flag_at entry_flags) a (ap (λ ws. flag_at ws 0)
-              entry_flags_are)
-              (subst (λ u. HasNode counts each_root u a) derives_formula.2 has_node))
+            left_to_right : (a : ℕ) → HasNode counts each_root d a
+                → HasNode counts (flag_at entry_flags) (forest_at forests (length steps)) a
+            left_to_right a has_node =
+                subst (λ u. HasNode counts (flag_at entry_flags) u a) (sym (forest_is_d
+                ∙ derives_formula.2))
+                (node_by_root_flag each_root (flag_at entry_flags) a (ap (λ ws. flag_at ws 0)
+                entry_flags_are)
+                (subst (λ u. HasNode counts each_root u a) derives_formula.2 has_node))
 
-          right_to_left : (a : ℕ)
-              → (is_member noted a ≡ true)
-              ⊎ IsToBeFound counts (forest_at forests) (length steps) entry_flags step_flags a
-              → HasNode counts each_root d a
-          right_to_left a (inl found) = absurd (true≢false (sym found
-              ∙ ap (λ l. is_member l a) noted_is_nil))
-          right_to_left a (inr (inl found)) =
-              subst (λ u. HasNode counts each_root u a) (sym derives_formula.2)
-              (node_by_root_flag (flag_at entry_flags) each_root a refl
-              (subst (λ u. HasNode counts (flag_at entry_flags) u a) (forest_is_d
-              ∙ derives_formula.2) found))
-          right_to_left a (inr (inr found)) =
-              absurd (true≢false
-              (sym found.2 ∙ ap (λ ws. flag_at ws found.0) step_flags_are
-              ∙ get_or-replicate (length steps) found.0 false false found.1))
+            right_to_left : (a : ℕ)
+                → (is_member noted a ≡ true)
+                ⊎ IsToBeFound counts (forest_at forests) (length steps) entry_flags step_flags a
+                → HasNode counts each_root d a
+            right_to_left a (inl found) = absurd (true≢false (sym found
+                ∙ ap (λ l. is_member l a) noted_is_nil))
+            right_to_left a (inr (inl found)) =
+                subst (λ u. HasNode counts each_root u a) (sym derives_formula.2)
+                (node_by_root_flag (flag_at entry_flags) each_root a refl
+                (subst (λ u. HasNode counts (flag_at entry_flags) u a) (forest_is_d
+                ∙ derives_formula.2) found))
+            right_to_left a (inr (inr found)) =
+                absurd (true≢false
+                (sym found.2 ∙ ap (λ ws. flag_at ws found.0) step_flags_are
+                ∙ get_or-replicate (length steps) found.0 false false found.1))
 
-  pub walked_to_start : (entry_flags step_flags : List Bool) (noted : List ℕ)
-      → AreFoundFrom db t steps 0 entry_flags step_flags noted → (a : ℕ)
-      → Decides (is_member noted a) (Cites db true t a)
-  walked_to_start entry_flags step_flags noted are_found a = (
-    λ is_noted. let is_assertion = are_found.are_assertions a is_noted in (is_assertion,
-        are_found.derivation, are_found.is_proof, (are_found.found_iff a is_assertion).1 (inl
-        is_noted)),
-    λ cites. by_membership ((are_found.found_iff a cites.0).0
-        (subst (λ d. HasNode (child_counts db true) each_root d a)
-        (proof_unique db is_complete t cites.1 are_found.derivation cites.2 are_found.proof)
-        cites.3)),
-  )
-    where
-      by_membership : (is_member noted a ≡ true)
-          ⊎ IsToBeFound (child_counts db true) (forest_at are_found.forests) 0 entry_flags
-          step_flags a
-          → is_member noted a ≡ true
-      by_membership (inl noted_or_found) = noted_or_found
-      by_membership (inr (inl noted_or_found)) = absurd noted_or_found
-      by_membership (inr (inr noted_or_found)) = let j_lt_0 = noted_or_found.1 in absurd (omega
-          (arith, j_lt_0))
+    pub walked_to_start : (entry_flags step_flags : List Bool) (noted : List ℕ)
+        → AreFoundFrom db t steps 0 entry_flags step_flags noted → (a : ℕ)
+        → Decides (is_member noted a) (Cites db true t a)
+    walked_to_start entry_flags step_flags noted are_found a = (
+      λ is_noted. let is_assertion = are_found.are_assertions a is_noted in (
+        is_assertion,
+        are_found.derivation,
+        are_found.is_proof,
+        (are_found.found_iff a is_assertion).1 (inl
+            is_noted),
+      ),
+      λ cites. by_membership ((are_found.found_iff a cites.0).0
+          (subst (λ d. HasNode (child_counts db true) each_root d a)
+          (proof_unique db is_complete t cites.1 are_found.derivation cites.2 are_found.proof)
+          cites.3)),
+    )
+      where
+        by_membership : (is_member noted a ≡ true)
+            ⊎ IsToBeFound (child_counts db true) (forest_at are_found.forests) 0 entry_flags
+            step_flags a
+            → is_member noted a ≡ true
+        by_membership (inl noted_or_found) = noted_or_found
+        by_membership (inr (inl noted_or_found)) = absurd noted_or_found
+        by_membership (inr (inr noted_or_found)) = let j_lt_0 = noted_or_found.1 in absurd (omega
+            (arith, j_lt_0))

@@ -83,7 +83,7 @@ module _ (c : Context) where
       (found_disjoint c a.hypotheses fails.0 a.pairs is_complete.pairs) in
       let formulas_equal =
       subst (λ (s : Substitution). substitute c s a.formula ≡ substitute c fails.0 a.formula)
-          substitutions_equal
+      substitutions_equal
       (found_formula c a.hypotheses fails.0 a.formula is_complete.formula) in
       ap₂ (λ b m. unless_failed b m
       (list_all (λ p. are_all_disjoint c (σ p.low) (σ p.high)) a.pairs)
@@ -108,8 +108,11 @@ module _ (c : Context) where
   pub run_succeeds_exactly_on_forests : (ls : List ℕ) → AreGood c ls
       → IsPostfixOfForest c ls ↔ ((out : List Formula) × (run c 0 ls [] ≡ Ok out))
   run_succeeds_exactly_on_forests ls are_good = (
-    λ is_postfix. (formulas is_postfix.0, run_of_forest ls are_good is_postfix.0 is_postfix.1
-    is_postfix.2),
+    λ is_postfix. (
+      formulas is_postfix.0,
+      run_of_forest ls are_good is_postfix.0 is_postfix.1
+          is_postfix.2,
+    ),
     λ runs. let outcome = subst (RunOutcome c none ls) runs.1
         (run_outcome c ls none 0 tt are_good) in
         (outcome.0, outcome.1, outcome.2),

@@ -103,9 +103,13 @@ module _ (c : Context) (all_complete : (l : ℕ) → HasCompleteFrame c (c.rule 
     where
       by_formula : (b : Bool) → bytes_eq g formula ≡ b → Verdict
       by_formula true formulas_equal =
-          valid (more none l g cs)
-          (l, cs, ap (λ z. tree l z cs) ((bytes_eq-Decides g formula).0 formulas_equal), derives,
-          is_plain)
+          valid (more none l g cs) (
+            l,
+            cs,
+            ap (λ z. tree l z cs) ((bytes_eq-Decides g formula).0 formulas_equal),
+            derives,
+            is_plain,
+          )
       by_formula false formulas_differ =
           end_fault (fault end OtherFormula)
           (record {
@@ -113,8 +117,11 @@ module _ (c : Context) (all_complete : (l : ℕ) → HasCompleteFrame c (c.rule 
             derivations = derives;
             plain = is_plain;
             code = OtherFormula;
-            fails = ((λ equal. true≢false (sym ((bytes_eq-Decides g formula).1 equal)
-                ∙ formulas_differ)), refl);
+            fails = (
+              (λ equal. true≢false (sym ((bytes_eq-Decides g formula).1 equal)
+                  ∙ formulas_differ)),
+              refl,
+            );
             is = refl;
           })
 

@@ -52,8 +52,13 @@ no_statement_is_invalid true j j_lt_0 is_theorem_j = absurd (omega arith)
 no_statement_is_invalid false j j_lt_0 is_theorem_j = absurd (omega arith)
 
 first_fault_is_too_long : (len : ℕ) (with_open : Bool) → FirstFault len unread with_open too_long
-first_fault_is_too_long len with_open = ([], Some too_long, nothing_is_read len, inr
-    (no_statement_is_invalid with_open, refl))
+first_fault_is_too_long len with_open = (
+  [],
+  Some too_long,
+  nothing_is_read len,
+  inr
+      (no_statement_is_invalid with_open, refl),
+)
 
 long_text_is_refused : (text : List ℕ) (request : Request) → text_limit < length text
     → IsOutput text request (refusal text too_long)
@@ -61,7 +66,7 @@ long_text_is_refused text request is_long =
     inl (
       too_long,
       subst (λ x. FirstFault (length text) x request.with_open too_long) (sym (long_text_is_unread
-      text is_long))
+          text is_long))
           (first_fault_is_too_long (length text) request.with_open),
       refl,
     )
@@ -77,7 +82,7 @@ long_texts_are_refused text request bytes is_long = (
       (long_text_is_refused text request is_long)
       ∙ refusal_is text,
   λ bytes_are. subst (IsOutput text request) (refusal_is text
-  ∙ sym bytes_are) (long_text_is_refused text request is_long),
+      ∙ sym bytes_are) (long_text_is_refused text request is_long),
 )
 
 pub front_decides_output : FrontsDecide
@@ -87,11 +92,16 @@ front_decides_output text request bytes n limit_lt_n = shorter_or_whole (cases_l
         → IsOutput (take n text) request bytes ↔ IsOutput text request bytes
     shorter_or_whole (inl n_lt_length) =
         let front_length_is : length (take n text) ≡ n = length-take-le n text (omega arith) in
-        let front_is_refused = long_texts_are_refused (take n text) request bytes (omega (arith,
-        limit_lt_n, front_length_is)) in
-        let text_is_refused = long_texts_are_refused text request bytes (omega arith) in
-        (λ is_output. text_is_refused.1 (front_is_refused.0 is_output), λ is_output.
-        front_is_refused.1 (text_is_refused.0 is_output))
+        let front_is_refused = long_texts_are_refused (take n text) request bytes (omega (
+          arith,
+          limit_lt_n,
+          front_length_is,
+        )) in
+        let text_is_refused = long_texts_are_refused text request bytes (omega arith) in (
+          λ is_output. text_is_refused.1 (front_is_refused.0 is_output),
+          λ is_output.
+              front_is_refused.1 (text_is_refused.0 is_output),
+        )
     shorter_or_whole (inr length_le_n) =
         let front_is_text : take n text ≡ text = take_all n text length_le_n in (
           (λ is_output. subst (λ t. IsOutput t request bytes) front_is_text is_output),

@@ -56,15 +56,28 @@ module _ (db : List Statement) (k : ℕ) where
   says_label_steps [] [] are_plain are_label_steps = tt
   says_label_steps [] (s ∷ ss) are_plain are_label_steps = absurd are_label_steps
   says_label_steps (t ∷ ts) [] are_plain are_label_steps = absurd are_label_steps
-  says_label_steps (t ∷ ts) (s ∷ ss) are_plain are_label_steps = ((are_plain.0.0,
-      are_label_steps.0), says_label_steps ts ss are_plain.1 are_label_steps.1)
+  says_label_steps (t ∷ ts) (s ∷ ss) are_plain are_label_steps = (
+    (
+      are_plain.0.0,
+      are_label_steps.0,
+    ),
+    says_label_steps ts ss are_plain.1 are_label_steps.1,
+  )
 
   words_are_plain : (ts : List Token) (ss : List Step) → SaysNormal db k ts ss
       → AllByRecursion IsPlainWord ts
   words_are_plain [] ss says_steps = tt
   words_are_plain (t ∷ ts) [] says_steps = absurd says_steps
-  words_are_plain (t ∷ ts) (s ∷ ss) says_steps = ((says_steps.0.0, (says_steps.0.1.0,
-      says_steps.0.1.2)), words_are_plain ts ss says_steps.1)
+  words_are_plain (t ∷ ts) (s ∷ ss) says_steps = (
+    (
+      says_steps.0.0,
+      (
+        says_steps.0.1.0,
+        says_steps.0.1.2,
+      ),
+    ),
+    words_are_plain ts ss says_steps.1,
+  )
 
   label_steps_are_unique : (ts : List Token) (ss other_steps : List Step) → SaysNormal db k ts ss
       → AllZip IsLabelStep ts other_steps → ss ≡ other_steps
@@ -105,9 +118,16 @@ module _ (db : List Statement) (k : ℕ) where
             well_spelled.items is_read.0 well_spelled.is_compressed well_spelled.items_are_spelled
             in (
               bare_steps db k (t ∷ ts),
-              inl
-                  (is_opening, record { is_well_spelled = well_spelled; js = named.0; labels_name_js
-                  = named.1; are_steps = named.2 }),
+              inl (
+                is_opening,
+                record {
+                  is_well_spelled = well_spelled;
+                  js = named.0;
+                  labels_name_js
+                      = named.1;
+                  are_steps = named.2;
+                },
+              ),
               is_read.1,
             )
 
@@ -161,8 +181,11 @@ module _ (db : List Statement) (k : ℕ) where
         said_is_read (ss, inr says, has_derivation) = steps_are_read ss says.1 has_derivation
 
     read_exactly_if_said : (end : ℕ) (ps : List Token) → IsReadAndDerived end ps ↔ SaysDerivation ps
-    read_exactly_if_said end [] = ((λ is_read. no_empty_proof is_read.0), λ is_read. absurd
-        is_read.1)
+    read_exactly_if_said end [] = (
+      (λ is_read. no_empty_proof is_read.0),
+      λ is_read. absurd
+          is_read.1,
+    )
       where
         no_empty_proof : reading_faults db k end [] ≡ [] → SaysDerivation []
         no_empty_proof no_faults = absurd (cc)
@@ -184,8 +207,11 @@ module _ (db : List Statement) (k : ℕ) where
 
     valid_if_proved_and_back : ValidOnTheMeaning db k
     valid_if_proved_and_back is_theorem_k =
-        let read_iff_said = by_statement (slice_get db k) is_theorem_k in (valid_is_proved
-        read_iff_said.0, proved_is_valid read_iff_said.1)
+        let read_iff_said = by_statement (slice_get db k) is_theorem_k in (
+          valid_is_proved
+              read_iff_said.0,
+          proved_is_valid read_iff_said.1,
+        )
       where
         words : Option Statement → List Token
         words o = elim o [ Some (provable l p xs e ps d) ↦ ps | _ ↦ [] ]
@@ -213,16 +239,27 @@ module _ (db : List Statement) (k : ℕ) where
             → IsProved db k
         valid_is_proved said_if_read is_valid =
             let said = said_if_read (is_valid.0, (is_valid.1, is_valid.2)) in
-            record { steps = said.0; says_steps = said.1; derivation = said.2.0; derives_formula =
-                said.2.1 }
+            record {
+              steps = said.0;
+              says_steps = said.1;
+              derivation = said.2.0;
+              derives_formula =
+                  said.2.1;
+            }
 
         proved_is_valid : (SaysDerivation (words (slice_get db k)) → IsValidProof (slice_get db k))
             → IsProved db k
             → IsValid db k
         proved_is_valid read_if_said is_proved =
-            let is_read = read_if_said (is_proved.steps, is_proved.says_steps,
-            (is_proved.derivation, is_proved.derives_formula)) in (is_read.0, is_read.1.0,
-            is_read.1.1)
+            let is_read = read_if_said (
+              is_proved.steps,
+              is_proved.says_steps,
+              (is_proved.derivation, is_proved.derives_formula),
+            ) in (
+              is_read.0,
+              is_read.1.0,
+              is_read.1.1,
+            )
 
 pub valid_on_the_meaning : WhereRead ValidOnTheMeaning
 valid_on_the_meaning len x db fault is_read with_open k =

@@ -19,14 +19,23 @@ horner_step_out n c p q r m d n_is q_is r_is = rw (n_is, q_is, r_is) (omega arit
 
 power_of_push : (es : List ℕ) (b : ℕ) → 5 ^ length (es ++ b ∷ []) ≡ 5 * 5 ^ length es
 power_of_push es b =
-    let length_is : length (es ++ b ∷ []) ≡ suc (length es) = omega (arith, length-append es (b ∷
-    [])) in
+    let length_is : length (es ++ b ∷ []) ≡ suc (length es) = omega (
+      arith,
+      length-append es (b ∷
+          []),
+    ) in
     ap (λ i. 5 ^ i) length_is ∙ pow-succ' 5 (length es)
 
 early_digits_push : (es : List ℕ) (b m d : ℕ) → AreEarlyDigits es m → IsEarlyDigit b d
     → AreEarlyDigits (es ++ b ∷ []) (5 * m + d)
-early_digits_push [] b m d are_early_digits is_early_digit = (d, 0, is_early_digit, refl, omega
-    arith)
+early_digits_push [] b m d are_early_digits is_early_digit = (
+  d,
+  0,
+  is_early_digit,
+  refl,
+  omega
+      arith,
+)
 early_digits_push (e ∷ es) b m d are_early_digits is_early_digit = (
   are_early_digits.0,
   5 * are_early_digits.1
@@ -56,8 +65,12 @@ early_digits_split (c ∷ es) b n are_early_digits =
 -- ---- a spelling
 
 early_digit_of_remainder : (k : ℕ) → IsEarlyDigit (84 + suc (k % 5)) (suc (k % 5))
-early_digit_of_remainder k = record { digit_ge_1 = omega arith; digit_le_5 = omega arith; letter_is
-    = refl }
+early_digit_of_remainder k = record {
+  digit_ge_1 = omega arith;
+  digit_le_5 = omega arith;
+  letter_is
+      = refl;
+}
 
 early_letters_exist : (fuel n : ℕ) → n < fuel → (es : List ℕ) × AreEarlyDigits es n
 early_letters_exist zero n n_lt_fuel = absurd (omega arith)
@@ -85,8 +98,12 @@ letters_exist (suc k) n_ge_1 =
         early_value = k / 20;
         last_digit = suc (k % 20);
         are_early_digits = quotient_letters.1;
-        is_last_digit = record { digit_ge_1 = omega arith; digit_le_20 = omega arith; letter_is =
-            refl };
+        is_last_digit = record {
+          digit_ge_1 = omega arith;
+          digit_le_20 = omega arith;
+          letter_is =
+              refl;
+        };
         value_is = omega arith;
       },
     )
@@ -100,21 +117,25 @@ empty_or_last (x ∷ xs) = by_rest (empty_or_last xs)
     by_rest : (xs ≡ []) ⊎ ((ys : List ℕ) × (y : ℕ) × (xs ≡ ys ++ y ∷ []))
         → (x ∷ xs ≡ []) ⊎ ((ys : List ℕ) × (y : ℕ) × (x ∷ xs ≡ ys ++ y ∷ []))
     by_rest (inl rest_is_nil) = inr ([], x, ap (λ zs. x ∷ zs) rest_is_nil)
-    by_rest (inr rest_splits) = inr (x ∷ rest_splits.0, rest_splits.1, ap (λ zs. x ∷ zs)
-        rest_splits.2)
+    by_rest (inr rest_splits) = inr (
+      x ∷ rest_splits.0,
+      rest_splits.1,
+      ap (λ zs. x ∷ zs)
+          rest_splits.2,
+    )
 
 early_letters_are_unique : (fuel n : ℕ) (es fs : List ℕ) → n < fuel → AreEarlyDigits es n
     → AreEarlyDigits fs n
     → es ≡ fs
 early_letters_are_unique zero n es fs n_lt_fuel es_are_digits fs_are_digits = absurd (omega arith)
 early_letters_are_unique (suc fuel) n es fs n_lt_fuel es_are_digits fs_are_digits =
-    by_last_letters (empty_or_last es) (empty_or_last fs) (λ m as bs m_lt_fuel.
-    early_letters_are_unique fuel m as bs m_lt_fuel)
+    by_last_letters (empty_or_last es) (empty_or_last fs) (λ m gs hs m_lt_fuel.
+    early_letters_are_unique fuel m gs hs m_lt_fuel)
   where
     by_last_letters : (es ≡ []) ⊎ ((ys : List ℕ) × (y : ℕ) × (es ≡ ys ++ y ∷ []))
         → (fs ≡ []) ⊎ ((ys : List ℕ) × (y : ℕ) × (fs ≡ ys ++ y ∷ []))
-        → ((m : ℕ) (as bs : List ℕ) → m < fuel → AreEarlyDigits as m → AreEarlyDigits bs m → as
-        ≡ bs)
+        → ((m : ℕ) (gs hs : List ℕ) → m < fuel → AreEarlyDigits gs m → AreEarlyDigits hs m
+        → gs ≡ hs)
         → es ≡ fs
     by_last_letters (inl es_is_nil) (inl fs_is_nil) unique_for_less = es_is_nil ∙ sym fs_is_nil
     by_last_letters (inl es_is_nil) (inr fs_splits) unique_for_less =
@@ -172,25 +193,53 @@ letters_are_unique n xs ys are_xs are_ys =
 
 pub numbers_have_one_spelling : NumbersHaveOneSpelling
 numbers_have_one_spelling n n_ge_1 =
-    let spelling = letters_exist n n_ge_1 in (spelling.0, spelling.1, λ other_letters are_letters.
-    letters_are_unique n other_letters spelling.0 are_letters spelling.1)
+    let spelling = letters_exist n n_ge_1 in (
+      spelling.0,
+      spelling.1,
+      λ other_letters are_letters.
+          letters_are_unique n other_letters spelling.0 are_letters spelling.1,
+    )
 
 -- the numbers that the book shows
 pub book_numbers : BookNumbers
 book_numbers = (
   group_spells_its_value (record { early = []; last = record { at = 0; byte = 65 } }) tt refl,
   group_spells_its_value (record { early = []; last = record { at = 0; byte = 84 } }) tt refl,
-  group_spells_its_value (record { early = letters_from 0 (codes "U"); last = record { at = 0; byte
-      = 65 } })
+  group_spells_its_value (record {
+    early = letters_from 0 (codes "U");
+    last = record {
+      at = 0;
+      byte
+          = 65;
+    };
+  })
       (refl, tt) refl,
-  group_spells_its_value (record { early = letters_from 0 (codes "Y"); last = record { at = 0; byte
-      = 84 } })
+  group_spells_its_value (record {
+    early = letters_from 0 (codes "Y");
+    last = record {
+      at = 0;
+      byte
+          = 84;
+    };
+  })
       (refl, tt) refl,
-  group_spells_its_value (record { early = letters_from 0 (codes "UU"); last = record { at = 0; byte
-      = 65 } })
+  group_spells_its_value (record {
+    early = letters_from 0 (codes "UU");
+    last = record {
+      at = 0;
+      byte
+          = 65;
+    };
+  })
       (refl, (refl, tt)) refl,
-  group_spells_its_value (record { early = letters_from 0 (codes "YY"); last = record { at = 0; byte
-      = 84 } })
+  group_spells_its_value (record {
+    early = letters_from 0 (codes "YY");
+    last = record {
+      at = 0;
+      byte
+          = 84;
+    };
+  })
       (refl, (refl, tt)) refl,
   group_spells_its_value
       (record { early = letters_from 0 (codes "UUU"); last = record { at = 0; byte = 65 } })

@@ -62,10 +62,16 @@ splits_of : {X : Type 0} (xs ys us vs : List X) (x y : X) → xs ++ x ∷ us ≡
     → Splits xs x ys y
 unfolding head_or tail_of
 splits_of [] [] us vs x y lists_equal = inl (refl, ap (head_or x) lists_equal)
-splits_of [] (b ∷ ys) us vs x y lists_equal = inr (inl (ys, ap (λ z. z ∷ ys) (sym (ap (head_or x)
-    lists_equal))))
-splits_of (a ∷ xs) [] us vs x y lists_equal = inr (inr (xs, ap (λ z. z ∷ xs) (ap (head_or y)
-    lists_equal)))
+splits_of [] (b ∷ ys) us vs x y lists_equal = inr (inl (
+  ys,
+  ap (λ z. z ∷ ys) (sym (ap (head_or x)
+      lists_equal)),
+))
+splits_of (a ∷ xs) [] us vs x y lists_equal = inr (inr (
+  xs,
+  ap (λ z. z ∷ xs) (ap (head_or y)
+      lists_equal),
+))
 splits_of (a ∷ xs) (b ∷ ys) us vs x y lists_equal = with_first (splits_of xs ys us vs x y (ap
     tail_of lists_equal))
   where
@@ -73,12 +79,20 @@ splits_of (a ∷ xs) (b ∷ ys) us vs x y lists_equal = with_first (splits_of xs
     heads_equal = ap (head_or a) lists_equal
 
     with_first : Splits xs x ys y → Splits (a ∷ xs) x (b ∷ ys) y
-    with_first (inl fronts_equal) = inl (ap₂ (λ p q. p ∷ q) heads_equal fronts_equal.0,
-        fronts_equal.1)
-    with_first (inr (inl is_longer)) = inr (inl (is_longer.0, ap₂ (λ p q. p ∷ q) (sym heads_equal)
-        is_longer.1))
-    with_first (inr (inr is_longer)) = inr (inr (is_longer.0, ap₂ (λ p q. p ∷ q) heads_equal
-        is_longer.1))
+    with_first (inl fronts_equal) = inl (
+      ap₂ (λ p q. p ∷ q) heads_equal fronts_equal.0,
+      fronts_equal.1,
+    )
+    with_first (inr (inl is_longer)) = inr (inl (
+      is_longer.0,
+      ap₂ (λ p q. p ∷ q) (sym heads_equal)
+          is_longer.1,
+    ))
+    with_first (inr (inr is_longer)) = inr (inr (
+      is_longer.0,
+      ap₂ (λ p q. p ∷ q) heads_equal
+          is_longer.1,
+    ))
 
 -- ---- faults of steps and of the end
 
@@ -123,8 +137,11 @@ module _ (c : Context) (all_complete : (l : ℕ) → HasCompleteFrame c (c.rule 
         is = step_fault.is;
       } in
       excludes c all_complete (map (λ p. p.step) steps_before) step_fault.reason (postfix forest)
-      (stopped_steps c all_complete steps_before [] 0 f fault_before) is_plain (forest, derives,
-      refl)
+      (stopped_steps c all_complete steps_before [] 0 f fault_before) is_plain (
+        forest,
+        derives,
+        refl,
+      )
 
   pub step_fault_is_unique : (ps : List PlacedStep) (f g : Fault) → StepFault c ps f
       → StepFault c ps g
@@ -266,7 +283,7 @@ row_is_unique : (db : List Statement) (request : Request) (t : ℕ) (r s : Row)
     → IsRowOf db request t s → r ≡ s
 row_is_unique db request t r s is_row_r is_row_s =
     ap₂ (λ (l : Bytes) (m : List Bool). record { label = l; marks = m }) (is_row_r.0
-        ∙ sym is_row_s.0)
+    ∙ sym is_row_s.0)
     (marks_are_unique db request.essential t (columns db request.only) r.marks s.marks is_row_r.1
     is_row_s.1)
 
@@ -395,12 +412,22 @@ fronts_of (a ∷ xs) (b ∷ ys) us vs lists_equal = with_first (fronts_of xs ys 
     heads_equal = ap (head_or a) lists_equal
 
     with_first : Fronts xs us ys vs → Fronts (a ∷ xs) us (b ∷ ys) vs
-    with_first (inl fronts_equal) = inl (ap₂ (λ p q. p ∷ q) heads_equal fronts_equal.0,
-        fronts_equal.1)
-    with_first (inr (inl is_longer)) = let lengths_lt = is_longer.3 in inr (inl (is_longer.0,
-        is_longer.1, is_longer.2, omega (arith, lengths_lt)))
-    with_first (inr (inr is_longer)) = let lengths_lt = is_longer.3 in inr (inr (is_longer.0,
-        is_longer.1, is_longer.2, omega (arith, lengths_lt)))
+    with_first (inl fronts_equal) = inl (
+      ap₂ (λ p q. p ∷ q) heads_equal fronts_equal.0,
+      fronts_equal.1,
+    )
+    with_first (inr (inl is_longer)) = let lengths_lt = is_longer.3 in inr (inl (
+      is_longer.0,
+      is_longer.1,
+      is_longer.2,
+      omega (arith, lengths_lt),
+    ))
+    with_first (inr (inr is_longer)) = let lengths_lt = is_longer.3 in inr (inr (
+      is_longer.0,
+      is_longer.1,
+      is_longer.2,
+      omega (arith, lengths_lt),
+    ))
 
 stopping_fault_is_unique : (len : ℕ) (x : LexedText) (statements db later : List Statement) (f g :
     Option Fault)
@@ -531,7 +558,7 @@ citing_row_is_unique : (db : List Statement) (request : Request) (t : ℕ) (r s 
     → IsCitingRowOf db request t r → IsCitingRowOf db request t s → r ≡ s
 citing_row_is_unique db request t r s is_row_r is_row_s =
     ap₂ (λ (l : Bytes) (m : List Bytes). record { label = l; cited = m }) (is_row_r.0
-        ∙ sym is_row_s.0)
+    ∙ sym is_row_s.0)
     (is_row_r.1.2 ∙ ap (map (label_at db)) (cited_list_is_unique db request t is_row_r.1.0
     is_row_s.1.0 is_row_r.1.1 is_row_s.1.1)
     ∙ sym is_row_s.1.2)

@@ -27,23 +27,37 @@ use Rattle.mm_spec.proofs.NodesLaw.{node_labels, node_labels_are}
 -- ---- what is decided
 
 and_is_decided : (P Q : Type 0) → IsDecided P → IsDecided Q → IsDecided (P × Q)
-and_is_decided P Q P_is_decided Q_is_decided = (P_is_decided.0 && Q_is_decided.0, Decides-and
-    P_is_decided.0 Q_is_decided.0 P_is_decided.1 Q_is_decided.1)
+and_is_decided P Q P_is_decided Q_is_decided = (
+  P_is_decided.0 && Q_is_decided.0,
+  Decides-and
+      P_is_decided.0 Q_is_decided.0 P_is_decided.1 Q_is_decided.1,
+)
 
 or_is_decided : (P Q : Type 0) → IsDecided P → IsDecided Q → IsDecided (P ⊎ Q)
-or_is_decided P Q P_is_decided Q_is_decided = (P_is_decided.0 || Q_is_decided.0, Decides-or
-    P_is_decided.0 Q_is_decided.0 P_is_decided.1 Q_is_decided.1)
+or_is_decided P Q P_is_decided Q_is_decided = (
+  P_is_decided.0 || Q_is_decided.0,
+  Decides-or
+      P_is_decided.0 Q_is_decided.0 P_is_decided.1 Q_is_decided.1,
+)
 
 equivalent_is_decided : (P Q : Type 0) → (P → Q) → (Q → P) → IsDecided P → IsDecided Q
-equivalent_is_decided P Q Q_if_P P_if_Q P_is_decided = (P_is_decided.0, Decides-like P_is_decided.0
-    Q_if_P P_if_Q P_is_decided.1)
+equivalent_is_decided P Q Q_if_P P_if_Q P_is_decided = (
+  P_is_decided.0,
+  Decides-like P_is_decided.0
+      Q_if_P P_if_Q P_is_decided.1,
+)
 
 -- whether a number below n has it
 exists_below_is_decided : (P : ℕ → Type 0) (n : ℕ) → ((b : ℕ) → b < n → IsDecided (P b))
     → IsDecided ((b : ℕ) × (b < n) × P b)
-exists_below_is_decided P zero each_is_decided =
-    (false, ((λ is_true. absurd (true≢false (sym is_true))), λ exists. let b_lt_0 = exists.1 in
-    absurd (omega (arith, b_lt_0))))
+exists_below_is_decided P zero each_is_decided = (
+  false,
+  (
+    (λ is_true. absurd (true≢false (sym is_true))),
+    λ exists. let b_lt_0 = exists.1 in
+        absurd (omega (arith, b_lt_0)),
+  ),
+)
 exists_below_is_decided P (suc n) each_is_decided =
     equivalent_is_decided (P n ⊎ ((b : ℕ) × (b < n) × P b)) ((b : ℕ) × (b < suc n) × P b) below_next
     (λ exists. last_or_below exists.0 exists.1 exists.2 (cases_eq exists.0 n))
@@ -68,12 +82,11 @@ module _ (db : List Statement) (by_essential : Bool) (all_complete : AreComplete
       if_valid is_valid =
           let is_listed = is_member (node_labels (child_counts db by_essential) each_root
           is_valid.1) a in
-          let labels_are = node_labels_are (child_counts db by_essential) each_root is_valid.1 a in
-          (
+          let labels_are = node_labels_are (child_counts db by_essential) each_root is_valid.1 a in (
             list_any is_assertion (statement_at db a) && is_listed,
             (
               (λ is_cited. let parts = and_parts (list_any is_assertion (statement_at db a))
-              is_listed is_cited in
+                  is_listed is_cited in
                   (parts.0, is_valid.1, is_valid.2, labels_are.1 parts.1)),
               λ cites_a. and_from (list_any is_assertion (statement_at db a)) is_listed cites_a.0
                   (labels_are.0 (subst (λ d. IsNodeLabel db by_essential d a)
@@ -123,8 +136,12 @@ module _ (db : List Statement) (by_essential : Bool) (all_complete : AreComplete
           → Cites db by_essential t a
           ⊎ ((b : ℕ) × (b < t) × (Cites db by_essential t b × RestsOn db by_essential b a))
       below_if_cited (inl cites_a) = inl cites_a
-      below_if_cited (inr cites_between) = inr (cites_between.0, cites_earlier db by_essential t
-          cites_between.0 cites_between.1, (cites_between.1, cites_between.2))
+      below_if_cited (inr cites_between) = inr (
+        cites_between.0,
+        cites_earlier db by_essential t
+            cites_between.0 cites_between.1,
+        (cites_between.1, cites_between.2),
+      )
 
   pub rests_on_is_decided : (t a : ℕ) → IsDecided (RestsOn db by_essential t a)
   rests_on_is_decided t a = rests_on_is_decided_below (suc t) t (omega arith) a
@@ -150,8 +167,14 @@ module _ (db : List Statement) (by_essential : Bool) (all_complete : AreComplete
   listed_is_decided typecode t a =
       and_is_decided (Cites db by_essential t a)
       (IsTrue (list_any (has_typecode typecode) (statement_at db a)))
-      (cites_is_decided t a) (list_any (has_typecode typecode) (statement_at db a), ((λ e. e), λ e.
-      e))
+      (cites_is_decided t a) (
+        list_any (has_typecode typecode) (statement_at db a),
+        (
+          (λ e. e),
+          λ e.
+              e,
+        ),
+      )
 
   list_of_cited : (typecode : Option Bytes) (t : ℕ)
       → (list : List ℕ) × IsStrictlyIncreasing list
@@ -162,9 +185,12 @@ module _ (db : List Statement) (by_essential : Bool) (all_complete : AreComplete
         list.1.0,
         λ a. (
           (λ is_member_a. ((list.1.1 a).0 is_member_a).2),
-          λ is_listed. (list.1.1 a).1
-              (omega arith, (let a_lt_t = cites_earlier db by_essential t a is_listed.0 in omega
-              (arith, a_lt_t)), is_listed),
+          λ is_listed. (list.1.1 a).1 (
+            omega arith,
+            (let a_lt_t = cites_earlier db by_essential t a is_listed.0 in omega
+                (arith, a_lt_t)),
+            is_listed,
+          ),
         ),
       )
 
@@ -186,6 +212,10 @@ rows_of db request all_complete are_valid [] = ([], tt)
 rows_of db request all_complete are_valid (t ∷ ts) =
     let marks = decided_marks db request.essential all_complete are_valid t (columns db
     request.only) in
-    let later_rows = rows_of db request all_complete are_valid ts in
-    (record { label = label_at db t; marks = marks.0 } ∷ later_rows.0, ((refl, marks.1),
-    later_rows.1))
+    let later_rows = rows_of db request all_complete are_valid ts in (
+      record { label = label_at db t; marks = marks.0 } ∷ later_rows.0,
+      (
+        (refl, marks.1),
+        later_rows.1,
+      ),
+    )

@@ -42,8 +42,11 @@ equal_if_same_members [] (y ∷ ys) xs_rise ys_rise same_members = absurd (true�
 equal_if_same_members (x ∷ xs) [] xs_rise ys_rise same_members = absurd (true≢false (sym
     (head_is_member x xs) ∙ same_members x))
 equal_if_same_members (x ∷ xs) (y ∷ ys) xs_rise ys_rise same_members =
-    cc (heads_equal, equal_if_same_members xs ys (rising_tail x xs xs_rise) (rising_tail y ys
-    ys_rise) tails_have_same_members)
+    cc (
+      heads_equal,
+      equal_if_same_members xs ys (rising_tail x xs xs_rise) (rising_tail y ys
+          ys_rise) tails_have_same_members,
+    )
   where
     first_le_member : (a b : ℕ) (bs : List ℕ) → IsStrictlyIncreasing (b ∷ bs)
         → is_member (b ∷ bs) a ≡ true
@@ -128,11 +131,13 @@ list_of P each_is_decided i (suc n) = by_decision (each_is_decided i) (list_of P
         later_list.1.0,
         λ a. (
           (λ is_member_a. let in_range = (later_list.1.1 a).0 is_member_a in let i_le_a = in_range.0
-          in let a_lt_end = in_range.1 in
+              in let a_lt_end = in_range.1 in
               (omega (arith, i_le_a), omega (arith, a_lt_end), in_range.2)),
-          λ in_range. (later_list.1.1 a).1
-              (i_lt_a a in_range, (let a_lt_end = in_range.1 in omega (arith, a_lt_end)),
-              in_range.2),
+          λ in_range. (later_list.1.1 a).1 (
+            i_lt_a a in_range,
+            (let a_lt_end = in_range.1 in omega (arith, a_lt_end)),
+            in_range.2,
+          ),
         ),
       ),
     )
@@ -168,9 +173,12 @@ list_of P each_is_decided i (suc n) = by_decision (each_is_decided i) (list_of P
             by_equality : ((a == i) ≡ true) ⊎ (is_member later_list.0 a ≡ true)
                 → (i ≤ a) × (a < i + suc n) × P a
             by_equality (inl a_is_i) =
-                let a_equals_i : a ≡ i = eqb-true a i a_is_i in
-                (omega (arith, a_equals_i), omega (arith, a_equals_i), subst P (sym a_equals_i)
-                (decides_P.0 refl))
+                let a_equals_i : a ≡ i = eqb-true a i a_is_i in (
+                  omega (arith, a_equals_i),
+                  omega (arith, a_equals_i),
+                  subst P (sym a_equals_i)
+                      (decides_P.0 refl),
+                )
             by_equality (inr in_later_list) =
                 let in_range = (later_list.1.1 a).0 in_later_list in let suc_i_le_a = in_range.0 in
                 let a_lt_end = in_range.1 in
@@ -188,5 +196,8 @@ list_of P each_is_decided i (suc n) = by_decision (each_is_decided i) (list_of P
                 let i_le_a = in_range.0 in
                 let a_lt_end = in_range.1 in
                 or_right (a == i) (is_member later_list.0 a)
-                ((later_list.1.1 a).1 (omega (arith, i_le_a, a_differs), omega (arith, a_lt_end),
-                in_range.2))
+                ((later_list.1.1 a).1 (
+                  omega (arith, i_le_a, a_differs),
+                  omega (arith, a_lt_end),
+                  in_range.2,
+                ))

@@ -41,8 +41,15 @@ module _ (db : List Statement) (all_complete : AreComplete db) where
           → AreValid db (suc n) ⊎ ((k : ℕ) × (f : Fault) × FirstProofFault db k f)
       by_verdict are_valid is_theorem_n (inl is_valid) = inl (valid_up_to_next n are_valid (λ
           is_theorem. is_valid))
-      by_verdict are_valid is_theorem_n (inr fault) = inr (n, fault.0, (is_theorem_n, are_valid,
-          fault.1))
+      by_verdict are_valid is_theorem_n (inr fault) = inr (
+        n,
+        fault.0,
+        (
+          is_theorem_n,
+          are_valid,
+          fault.1,
+        ),
+      )
 
       by_is_theorem : AreValid db n → (b : Bool) → is_theorem_at db n ≡ b
           → AreValid db (suc n) ⊎ ((k : ℕ) × (f : Fault) × FirstProofFault db k f)
@@ -71,8 +78,26 @@ is_sound_or_faulty len x with_open =
         → AllAreValid (counted with_open db)
         ⊎ ((k : ℕ) × (f : Fault) × FirstProofFault (counted with_open db) k f)
         → IsSoundOrFaulty len x with_open
-    by_reading db o is_read (inr first_fault) = inl (first_fault.1, (db, o, is_read, inl
-        (first_fault.0, first_fault.2)))
-    by_reading db (Some f) is_read (inl are_valid) = inl (f, (db, Some f, is_read, inr (are_valid,
-        refl)))
+    by_reading db o is_read (inr first_fault) = inl (
+      first_fault.1,
+      (
+        db,
+        o,
+        is_read,
+        inl
+            (first_fault.0, first_fault.2),
+      ),
+    )
+    by_reading db (Some f) is_read (inl are_valid) = inl (
+      f,
+      (
+        db,
+        Some f,
+        is_read,
+        inr (
+          are_valid,
+          refl,
+        ),
+      ),
+    )
     by_reading db None is_read (inl are_valid) = inr (db, (is_read, are_valid))

@@ -32,17 +32,41 @@ report_exists db opened request all_complete are_valid Citations =
     let rows = citing_rows_of db request all_complete are_valid (theorems db) in
     (_, (rows.0, rows.1, refl))
 report_exists db opened request all_complete are_valid All =
-    let rows = rows_of db request all_complete are_valid (theorems db) in (_, (rows.0, rows.1,
-    refl))
+    let rows = rows_of db request all_complete are_valid (theorems db) in (
+      _,
+      (
+        rows.0,
+        rows.1,
+        refl,
+      ),
+    )
 report_exists db opened request all_complete are_valid Matrix =
-    let rows = rows_of db request all_complete are_valid (theorems db) in (_, (rows.0, rows.1,
-    refl))
+    let rows = rows_of db request all_complete are_valid (theorems db) in (
+      _,
+      (
+        rows.0,
+        rows.1,
+        refl,
+      ),
+    )
 report_exists db opened request all_complete are_valid Counts =
-    let rows = rows_of db request all_complete are_valid (theorems db) in (_, (rows.0, rows.1,
-    refl))
+    let rows = rows_of db request all_complete are_valid (theorems db) in (
+      _,
+      (
+        rows.0,
+        rows.1,
+        refl,
+      ),
+    )
 report_exists db opened request all_complete are_valid Usage =
-    let rows = rows_of db request all_complete are_valid (theorems db) in (_, (rows.0, rows.1,
-    refl))
+    let rows = rows_of db request all_complete are_valid (theorems db) in (
+      _,
+      (
+        rows.0,
+        rows.1,
+        refl,
+      ),
+    )
 
 -- each text has an output
 pub output_exists_for_text : OutputExists
@@ -51,8 +75,14 @@ output_exists_for_text text request =
   where
     sound_or_faulty_text : IsSoundOrFaulty (length text) (lexed_of text) request.with_open
         → (bytes : List ℕ) × IsOutput text request bytes
-    sound_or_faulty_text (inl has_fault) = (refusal text has_fault.0, inl (has_fault.0, has_fault.1,
-        refl))
+    sound_or_faulty_text (inl has_fault) = (
+      refusal text has_fault.0,
+      inl (
+        has_fault.0,
+        has_fault.1,
+        refl,
+      ),
+    )
     sound_or_faulty_text (inr has_no_fault) =
         let all_complete =
         counted_complete request.with_open has_no_fault.0

@@ -103,8 +103,14 @@ marks_push items_before marks count count_gt_0 count_is mark_count_is are_marks 
         let j_is_0 = only_element.0 in
         let i_is_count = only_element.1 in
         let k_is = is_new.1 in
-        record { items_before = items_before; items_after = []; items_are = refl; mark_count_is =
-            omega arith; number_count_is = omega arith }
+        record {
+          items_before = items_before;
+          items_after = [];
+          items_are = refl;
+          mark_count_is =
+              omega arith;
+          number_count_is = omega arith;
+        }
 
 -- ---- the steps that items name, if other items come before them
 
@@ -118,8 +124,11 @@ module _ (hypotheses labels : List ℕ) where
 
   steps_from_nothing : (items_before : List Item) → AreStepsFrom items_before [] []
   steps_from_nothing items_before =
-      record { step_count_is = refl; each_is_named = λ b items_after n items_are. absurd
-          (nothing_has_no_number b items_after n items_are) }
+      record {
+        step_count_is = refl;
+        each_is_named = λ b items_after n items_are. absurd
+            (nothing_has_no_number b items_after n items_are);
+      }
     where
       nothing_has_no_number : (b items_after : List Item) (n : ℕ) → []
           ≡ b ++ number n ∷ items_after → ⊥
@@ -132,8 +141,11 @@ module _ (hypotheses labels : List ℕ) where
       → AreStepsFrom items_before (number n ∷ items) (s ∷ ss)
   steps_from_number items_before items ss n s is_named are_steps =
       record {
-        step_count_is = let count_is = are_steps.step_count_is in omega (arith, count_append
-            is_number (number n ∷ []) items);
+        step_count_is = let count_is = are_steps.step_count_is in omega (
+          arith,
+          count_append
+              is_number (number n ∷ []) items,
+        );
         each_is_named = each_is_named;
       }
     where
@@ -169,8 +181,11 @@ module _ (hypotheses labels : List ℕ) where
       → AreStepsFrom items_before (mark ∷ items) ss
   steps_from_mark items_before items ss are_steps =
       record {
-        step_count_is = let count_is = are_steps.step_count_is in omega (arith, count_append
-            is_number (mark ∷ []) items);
+        step_count_is = let count_is = are_steps.step_count_is in omega (
+          arith,
+          count_append
+              is_number (mark ∷ []) items,
+        );
         each_is_named = each_is_named;
       }
     where
@@ -214,8 +229,12 @@ module _ (hypotheses labels : List ℕ) where
           ⊎ ((i : ℕ) × (n ≡ length hypotheses + i) × (slice_get labels i ≡ Some j))
           → NamesStep hypotheses labels items_before (suc n) (label j)
       label_is_named j (inl in_hypotheses) = inl (n, omega arith, in_hypotheses)
-      label_is_named j (inr in_labels) = let index_is = in_labels.1 in inr (in_labels.0, omega
-          arith, in_labels.2)
+      label_is_named j (inr in_labels) = let index_is = in_labels.1 in inr (
+        in_labels.0,
+        omega
+            arith,
+        in_labels.2,
+      )
 
       by_label_or_mark : (a : Option ℕ) → slice_get (hypotheses ++ labels) n ≡ a → (b : Option ℕ)
           → slice_get marks (n - length (hypotheses ++ labels)) ≡ b
@@ -390,13 +409,21 @@ at_most_one_in_range passes passes_once (suc n) a = by_test (passes a) refl (at_
         (filter passes (range_with_len (a + 1) n))
         ≡ j ∷ [])
         × (passes j ≡ true) × (a ≤ j))
-    by_test true passes_a (inl none_in_rest) = inr (a, ap (λ xs. a ∷ xs) none_in_rest, passes_a,
-        omega arith)
+    by_test true passes_a (inl none_in_rest) = inr (
+      a,
+      ap (λ xs. a ∷ xs) none_in_rest,
+      passes_a,
+      omega arith,
+    )
     by_test true passes_a (inr one_in_rest) = let a_is_j = passes_once a one_in_rest.0 passes_a
         one_in_rest.2 in let a_lt_j = one_in_rest.3 in absurd (omega arith)
     by_test false not_a (inl none_in_rest) = inl none_in_rest
-    by_test false not_a (inr one_in_rest) = let a_lt_j = one_in_rest.3 in inr (one_in_rest.0,
-        one_in_rest.1, one_in_rest.2, omega arith)
+    by_test false not_a (inr one_in_rest) = let a_lt_j = one_in_rest.3 in inr (
+      one_in_rest.0,
+      one_in_rest.1,
+      one_in_rest.2,
+      omega arith,
+    )
 
 abbrev pub HasLabel : List Statement → Bytes → ℕ → Type 0
 HasLabel db w j = list_any (is_labelled w) (statement_at db j) ≡ true
@@ -502,9 +529,12 @@ module _ (db : List Statement) (labels_differ : LabelsDiffer db) where
         let rest_usable =
         labels_are_usable ts
         (append_none (proof_label_faults db k t) (flat_map (proof_label_faults db k) ts)
-        no_faults).1 in
-        (usable_statement.0 ∷ rest_usable.0, (usable_statement.2, rest_usable.1), ap₂ (λ xs ys. xs
-        ++ ys) usable_statement.1 rest_usable.2)
+        no_faults).1 in (
+          usable_statement.0 ∷ rest_usable.0,
+          (usable_statement.2, rest_usable.1),
+          ap₂ (λ xs ys. xs
+              ++ ys) usable_statement.1 rest_usable.2,
+        )
 
     -- ---- proofs
 
@@ -694,8 +724,12 @@ steps_are_labels_where_read len x db fault is_read with_open k =
 tail_counts_equal : (p : Item → Bool) (x : Item) (b c : List Item) → count_by p (x ∷ b)
     ≡ count_by p (x ∷ c)
     → count_by p b ≡ count_by p c
-tail_counts_equal p x b c counts_equal = omega (arith, counts_equal, count_append p (x ∷ []) b,
-    count_append p (x ∷ []) c)
+tail_counts_equal p x b c counts_equal = omega (
+  arith,
+  counts_equal,
+  count_append p (x ∷ []) b,
+  count_append p (x ∷ []) c,
+)
 
 fronts_equal : (b c d e : List Item) → b ++ mark ∷ d ≡ c ++ mark ∷ e
     → count_by is_mark_item b ≡ count_by is_mark_item c → b ≡ c
@@ -794,31 +828,52 @@ record IsNth (items : List Item) (i : ℕ) : Type 0 where
 number_at : (items : List Item) (i : ℕ) → i < count_by is_number items → IsNth items i
 number_at [] i i_lt_count = absurd (omega arith)
 number_at (number n ∷ items) zero i_lt_count =
-    record { items_before = []; items_after = items; n = n; items_are = refl; number_count_is = refl
-        }
+    record {
+      items_before = [];
+      items_after = items;
+      n = n;
+      items_are = refl;
+      number_count_is = refl;
+    }
 number_at (number n ∷ items) (suc i) i_lt_count =
-    let in_tail = number_at items i (omega (arith, i_lt_count, count_append is_number (number n ∷
-    []) items)) in
+    let in_tail = number_at items i (omega (
+      arith,
+      i_lt_count,
+      count_append is_number (number n ∷
+          []) items,
+    )) in
     let count_in_tail = in_tail.number_count_is in
     record {
       items_before = number n ∷ in_tail.items_before;
       items_after = in_tail.items_after;
       n = in_tail.n;
       items_are = ap (λ xs. number n ∷ xs) in_tail.items_are;
-      number_count_is = omega (arith, count_in_tail, count_append is_number (number n ∷ [])
-          in_tail.items_before);
+      number_count_is = omega (
+        arith,
+        count_in_tail,
+        count_append is_number (number n ∷ [])
+            in_tail.items_before,
+      );
     }
 number_at (mark ∷ items) i i_lt_count =
-    let in_tail = number_at items i (omega (arith, i_lt_count, count_append is_number (mark ∷ [])
-    items)) in
+    let in_tail = number_at items i (omega (
+      arith,
+      i_lt_count,
+      count_append is_number (mark ∷ [])
+          items,
+    )) in
     let count_in_tail = in_tail.number_count_is in
     record {
       items_before = mark ∷ in_tail.items_before;
       items_after = in_tail.items_after;
       n = in_tail.n;
       items_are = ap (λ xs. mark ∷ xs) in_tail.items_are;
-      number_count_is = omega (arith, count_in_tail, count_append is_number (mark ∷ [])
-          in_tail.items_before);
+      number_count_is = omega (
+        arith,
+        count_in_tail,
+        count_append is_number (mark ∷ [])
+            in_tail.items_before,
+      );
     }
 
 lists_equal : (a b : List Step) → length a ≡ length b

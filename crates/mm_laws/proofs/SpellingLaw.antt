@@ -74,8 +74,14 @@ item_letters (number n) letters is_spelled =
           is_spelled.is_last_digit.digit_le_20 in omega arith);
     }
 item_letters mark letters letters_are =
-    record { early_letters = []; last_letter = 90; letters_are = letters_are; early_value = 0;
-        are_early_digits = refl; ends_item = inr (omega arith) }
+    record {
+      early_letters = [];
+      last_letter = 90;
+      letters_are = letters_are;
+      early_value = 0;
+      are_early_digits = refl;
+      ends_item = inr (omega arith);
+    }
 
 -- two such fronts of the same letters are one
 fronts_equal : (early early' : List ℕ) (last_letter last_letter' m n : ℕ) (later later' : List ℕ)
@@ -117,7 +123,7 @@ item_letters_equal front front' later later' is_item is_item' letters_equal =
     is_item.are_early_digits is_item'.are_early_digits is_item.ends_item
     is_item'.ends_item (sym front_splits ∙ letters_equal ∙ front_splits') in (
       is_item.letters_are ∙ ap₂ (λ xs x. xs ++ x ∷ []) parts_equal.0 parts_equal.1
-      ∙ sym is_item'.letters_are,
+          ∙ sym is_item'.letters_are,
       parts_equal.2,
     )
 
@@ -292,7 +298,7 @@ bracket_parts_of (t ∷ ts) letters letters_are =
           closing_is = parts.closing_is;
           no_label_closes = (
             (λ is_bracket_word. true≢false (sym ((bytes_eq-Decides t.word (codes ")")).1
-            is_bracket_word) ∙ not_bracket)),
+                is_bracket_word) ∙ not_bracket)),
             parts.no_label_closes,
           );
         }
@@ -468,8 +474,11 @@ group_is_spelled g are_early (inr is_mark) =
 early_push : (early : List Letter) (x : Letter) → AreEarly early → is_early x.byte ≡ true
     → AreEarly (early ++ x ∷ [])
 early_push [] x are_early is_early_byte = (is_early_byte, tt)
-early_push (y ∷ early) x are_early is_early_byte = (are_early.0, early_push early x are_early.1
-    is_early_byte)
+early_push (y ∷ early) x are_early is_early_byte = (
+  are_early.0,
+  early_push early x are_early.1
+      is_early_byte,
+)
 
 bytes_of_push : (early : List Letter) (x : Letter) (bs : List ℕ)
     → bytes_of (early ++ x ∷ []) ++ bs ≡ bytes_of early ++ x.byte ∷ bs
@@ -526,8 +535,11 @@ groups_spell (x ∷ xs) early label_count marks count are_early are_faultless no
         item_and_later (group_is_spelled own_group are_early (inl group_is_faultless.0))
         (later_are_spelled marks (count + 1) group_is_faultless.2 none_left)
     at_last_letter (inr group_is_faultless) none_left later_are_spelled =
-        item_and_later (group_is_spelled own_group are_early (inr (group_is_faultless.0,
-        group_is_faultless.1, group_is_faultless.2)))
+        item_and_later (group_is_spelled own_group are_early (inr (
+          group_is_faultless.0,
+          group_is_faultless.1,
+          group_is_faultless.2,
+        )))
         (later_are_spelled (marks + 1) count group_is_faultless.4 none_left)
 
     by_is_early : (b : Bool) → is_early x.byte ≡ b

@@ -41,10 +41,21 @@ module _ (db : List Statement) (all_complete : AreComplete db) (k : ℕ) where
           → Verdict (context_at db k) (all_complete k) (steps_at db k) (formula_at db k) end
           → IsValid db k ⊎ ((f : Fault) × ProofFault db k end f)
       by_verdict no_reading_faults (valid d derives) = inl (no_reading_faults, d, derives)
-      by_verdict no_reading_faults (step_fault f is_step_fault) = inr (f, inr (no_reading_faults,
-          inl is_step_fault))
-      by_verdict no_reading_faults (end_fault f is_end_fault) = inr (f, inr (no_reading_faults, inr
-          is_end_fault))
+      by_verdict no_reading_faults (step_fault f is_step_fault) = inr (
+        f,
+        inr (
+          no_reading_faults,
+          inl is_step_fault,
+        ),
+      )
+      by_verdict no_reading_faults (end_fault f is_end_fault) = inr (
+        f,
+        inr (
+          no_reading_faults,
+          inr
+              is_end_fault,
+        ),
+      )
 
       by_reading_faults : (fs : List Fault) → reading_faults_at db k ≡ fs
           → IsValid db k ⊎ ((f : Fault) × ProofFault db k end f)

@@ -84,7 +84,7 @@ module _ (db : List Statement) (are_lawful : (k : ℕ) → k < length db → IsL
       (assertion_has_formula statement_k.0 statement_k.2) is_mandatory_x in (
         typing.0,
         is_mandatory_hypothesis typing.0 typing.1 (type_mandatory db are_lawful k typing.0 x
-        typing.2 is_mandatory_x),
+            typing.2 is_mandatory_x),
         is_typing typing.0 typing.2,
       )
     where
@@ -240,8 +240,11 @@ module _ (with_open : Bool) (db : List Statement) (k : ℕ) where
             (variable_counted x ∙ variable_in_frame.0, frame_counted x ∙ variable_in_frame.1),
         λ variable_in_frame.
             mandatory_counted x
-            ∙ mandatory_iff_in_frame.1 (sym (variable_counted x)
-            ∙ variable_in_frame.0, sym (frame_counted x) ∙ variable_in_frame.1),
+            ∙ mandatory_iff_in_frame.1 (
+              sym (variable_counted x)
+                  ∙ variable_in_frame.0,
+              sym (frame_counted x) ∙ variable_in_frame.1,
+            ),
       )
 
 pub variables_are_typed_where_read : WhereRead VariablesAreTyped
@@ -253,5 +256,8 @@ pub variables_are_mandatory_where_read : WhereRead VariablesAreMandatory
 variables_are_mandatory_where_read len x db fault is_read with_open k =
     let are_lawful = read_statements_are_lawful len x db fault is_read in
     framed_as_counted with_open db k
-    (λ is_assertion_k x. (mandatory_is_in_frame db are_lawful k x, λ variable_in_frame.
-    in_frame_is_mandatory db are_lawful k x variable_in_frame.0 variable_in_frame.1))
+    (λ is_assertion_k x. (
+      mandatory_is_in_frame db are_lawful k x,
+      λ variable_in_frame.
+          in_frame_is_mandatory db are_lawful k x variable_in_frame.0 variable_in_frame.1,
+    ))

@@ -35,8 +35,10 @@ module _ (db : List Statement) (by_essential : Bool) (all_complete : AreComplete
           → list_any is_theorem (statement_at db b) ≡ m → IsLink t b ⊎ (IsLink t b → ⊥)
       by_citation citation false not_theorem_b = inr (λ is_link. true≢false (sym is_link.1
           ∙ not_theorem_b))
-      by_citation (true, decides_citation) true is_theorem_b = inl (decides_citation.0 refl,
-          is_theorem_b)
+      by_citation (true, decides_citation) true is_theorem_b = inl (
+        decides_citation.0 refl,
+        is_theorem_b,
+      )
       by_citation (false, decides_citation) true is_theorem_b = inr (λ is_link. true≢false (sym
           (decides_citation.1 is_link.0)))
 
@@ -81,9 +83,12 @@ module _ (db : List Statement) (by_essential : Bool) (all_complete : AreComplete
       longest_with_link : IsLink t n → (wave : (wave : ℕ) × IsWave db by_essential n wave) (r :
           LongestBelow t n)
           → (wave.0 < r.0) ⊎ (r.0 ≤ wave.0) → LongestBelow t (suc n)
-      longest_with_link is_link wave longest (inl wave_lt_longest) =
-          (longest.0, longest.1, λ b b_lt_suc_n b_is_link k is_chain. next_is_longest wave longest
-          longest.0 wave_lt_longest (omega arith) b b_lt_suc_n b_is_link k is_chain (cases_eq b n))
+      longest_with_link is_link wave longest (inl wave_lt_longest) = (
+        longest.0,
+        longest.1,
+        λ b b_lt_suc_n b_is_link k is_chain. next_is_longest wave longest
+            longest.0 wave_lt_longest (omega arith) b b_lt_suc_n b_is_link k is_chain (cases_eq b n),
+      )
       longest_with_link is_link wave longest (inr longest_le_wave) = (
         suc wave.0,
         (n, is_link.0, is_link.1, wave.1.0),
@@ -96,9 +101,12 @@ module _ (db : List Statement) (by_essential : Bool) (all_complete : AreComplete
           → LongestBelow t (suc n)
       by_link (inl is_link) wave longest = longest_with_link is_link wave longest (cases_lt wave.0
           longest.0)
-      by_link (inr not_linked) wave longest =
-          (longest.0, longest.1, λ b b_lt_suc_n is_link k is_chain. longest_without_link not_linked
-          longest b b_lt_suc_n is_link k is_chain (cases_eq b n))
+      by_link (inr not_linked) wave longest = (
+        longest.0,
+        longest.1,
+        λ b b_lt_suc_n is_link k is_chain. longest_without_link not_linked
+            longest b b_lt_suc_n is_link k is_chain (cases_eq b n),
+      )
 
   -- a longest chain is the wave
   longest_is_wave : (t : ℕ) → LongestBelow t t → (w : ℕ) × IsWave db by_essential t w
@@ -130,5 +138,5 @@ have_waves len x with_open db has_no_fault by_essential t =
       wave.0,
       wave.1,
       λ m is_wave. wave_unique (Cites statements by_essential) (IsTheorem statements) t m wave.0
-      is_wave wave.1,
+          is_wave wave.1,
     )

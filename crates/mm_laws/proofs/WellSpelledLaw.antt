@@ -196,8 +196,11 @@ ending_byte_is_not_early b ends_item = by_is_early (is_early b) refl
 
 letters_are_early : (xs : List Letter) (n : ℕ) → AreEarlyDigits (bytes_of xs) n → AreEarly xs
 letters_are_early [] n are_early_digits = tt
-letters_are_early (x ∷ xs) n are_early_digits = (digit_is_early x.byte are_early_digits.0
-    are_early_digits.2, letters_are_early xs are_early_digits.1 are_early_digits.3)
+letters_are_early (x ∷ xs) n are_early_digits = (
+  digit_is_early x.byte are_early_digits.0
+      are_early_digits.2,
+  letters_are_early xs are_early_digits.1 are_early_digits.3,
+)
 
 group_of_run : (early front : List Letter) (x : Letter) (later : List Letter) → AreEarly front
     → is_early x.byte ≡ false
@@ -239,22 +242,30 @@ group_of_run early (y ∷ front) x later front_is_early not_early =
 
 -- letters by their bytes
 record IsSplit (xs : List Letter) (es : List ℕ) (last_byte : ℕ) (later_bytes : List ℕ) : Type 0
-    where
-  pub front : List Letter
-  pub x : Letter
-  pub later : List Letter
-  pub letters_are : xs ≡ front ++ x ∷ later
-  pub front_bytes_are : bytes_of front ≡ es
-  pub byte_is : x.byte ≡ last_byte
-  pub later_bytes_are : bytes_of later ≡ later_bytes
+  where
+    pub front : List Letter
+    pub x : Letter
+    pub later : List Letter
+    pub letters_are : xs ≡ front ++ x ∷ later
+    pub front_bytes_are : bytes_of front ≡ es
+    pub byte_is : x.byte ≡ last_byte
+    pub later_bytes_are : bytes_of later ≡ later_bytes
 
 split_by_bytes : (xs : List Letter) (es : List ℕ) (last_byte : ℕ) (later_bytes : List ℕ)
     → bytes_of xs ≡ es ++ last_byte ∷ later_bytes → IsSplit xs es last_byte later_bytes
 split_by_bytes [] [] last_byte later_bytes bytes_are = absurd (cc)
 split_by_bytes [] (b ∷ es) last_byte later_bytes bytes_are = absurd (cc)
 split_by_bytes (x ∷ xs) [] last_byte later_bytes bytes_are =
-    record { front = []; x = x; later = xs; letters_are = refl; front_bytes_are = refl; byte_is =
-        cc; later_bytes_are = cc }
+    record {
+      front = [];
+      x = x;
+      later = xs;
+      letters_are = refl;
+      front_bytes_are = refl;
+      byte_is =
+          cc;
+      later_bytes_are = cc;
+    }
 split_by_bytes (x ∷ xs) (b ∷ es) last_byte later_bytes bytes_are = with_first (cc) (split_by_bytes
     xs es last_byte later_bytes (cc))
   where
@@ -487,8 +498,11 @@ each_label_is_usable : (db : List Statement) (k : ℕ) (ts : List Token) (js : L
     → AllByRecursion (λ t. (j : ℕ) × IsUsable db k t.word j) ts
 each_label_is_usable db k [] js are_usable = tt
 each_label_is_usable db k (t ∷ ts) [] are_usable = absurd are_usable
-each_label_is_usable db k (t ∷ ts) (j ∷ js) are_usable = ((j, are_usable.0), each_label_is_usable db
-    k ts js are_usable.1)
+each_label_is_usable db k (t ∷ ts) (j ∷ js) are_usable = (
+  (j, are_usable.0),
+  each_label_is_usable db
+      k ts js are_usable.1,
+)
 
 -- ---- proofs
 
@@ -573,8 +587,11 @@ module _ (db : List Statement) (differ : LabelsDiffer db) (k end : ℕ) where
       tails_equal : {s t : Token} {xs ys : List Token} → s ∷ xs ≡ t ∷ ys → xs ≡ ys
       tails_equal lists_equal = cc
 
-      brackets_are : bracketed ts ≡ record { labels = is_well_spelled.labels; letters = Some
-          is_well_spelled.letters }
+      brackets_are : bracketed ts ≡ record {
+        labels = is_well_spelled.labels;
+        letters = Some
+            is_well_spelled.letters;
+      }
       brackets_are =
           ap bracketed (tails_equal is_well_spelled.is_compressed.words_are)
           ∙ bracketed_splits is_well_spelled.labels is_well_spelled.is_compressed.closing
@@ -627,9 +644,11 @@ module _ (db : List Statement) (differ : LabelsDiffer db) (k end : ℕ) where
           → IsPlainWord t
       by_question_mark true is_question_mark no_fault = absurd (cc)
       by_question_mark false not_question_mark no_fault =
-          let usable_statement = one_statement_is_usable db differ k t no_fault in
-          ((λ is_question_word. true≢false (sym ((bytes_eq-Decides t.word (codes "?")).1
-          is_question_word) ∙ not_question_mark)), (usable_statement.0, usable_statement.2))
+          let usable_statement = one_statement_is_usable db differ k t no_fault in (
+            (λ is_question_word. true≢false (sym ((bytes_eq-Decides t.word (codes "?")).1
+                is_question_word) ∙ not_question_mark)),
+            (usable_statement.0, usable_statement.2),
+          )
 
   plain_words_are_read : (ts : List Token) → AllByRecursion IsPlainWord ts
       → flat_map faults_of_word ts ≡ []
@@ -664,9 +683,9 @@ normal_is_exact len x db fault is_read with_open k end t ts no_bracket =
     let faults_are = normal_faults_are (counted with_open db) labels_are_distinct k end t ts
     no_bracket in (
       (λ no_faults. read_are_plain_words (counted with_open db) labels_are_distinct k end (t ∷ ts)
-      (sym faults_are ∙ no_faults)),
+          (sym faults_are ∙ no_faults)),
       λ are_plain_words. faults_are ∙ plain_words_are_read (counted with_open db)
-      labels_are_distinct k end (t ∷ ts) are_plain_words,
+          labels_are_distinct k end (t ∷ ts) are_plain_words,
     )
 
 pub compressed_is_exact : WhereRead CompressedIsExact

@@ -78,8 +78,13 @@ module _ (db : List Statement) (t : ℕ) (c : CompiledRule) (rule : IsCompiled d
       let counts_equal = ap length rule.hypotheses_are in
       let length_parts = length_all_parts c.parts 0 c.hypotheses in
       let length_map = length-map frame.hypotheses (parts_of db frame.hypotheses) in
-      empty_of_length_0 frame.hypotheses (omega (arith, length_is_0, counts_equal, length_parts,
-      length_map))
+      empty_of_length_0 frame.hypotheses (omega (
+        arith,
+        length_is_0,
+        counts_equal,
+        length_parts,
+        length_map,
+      ))
 
   pairs_are : frame.pairs ≡ []
   pairs_are =

@@ -12,14 +12,22 @@ pub put_twice : (l m n symbols first_symbols last_symbols : List ℕ) (index w s
 put_twice l m n symbols first_symbols last_symbols index w skipped skipped_plus_w skipped_le_w
     index_le_length_l first_symbols_are last_symbols_are length_first_is_w length_last_is_w
     first_written last_written =
-    let end_is : index + skipped + length last_symbols ≡ index + length symbols = omega (arith,
-    skipped_plus_w, length_last_is_w) in
+    let end_is : index + skipped + length last_symbols ≡ index + length symbols = omega (
+      arith,
+      skipped_plus_w,
+      length_last_is_w,
+    ) in
     let length_taken = length-take-le index l index_le_length_l in
-    let end_of_skipped_is : length (take index l) + skipped ≡ index + skipped = omega (arith,
-    length_taken) in
+    let end_of_skipped_is : length (take index l) + skipped ≡ index + skipped = omega (
+      arith,
+      length_taken,
+    ) in
     let skipped_written : take (index + skipped) m ≡ take index l ++ take skipped symbols =
-    sym (take-take (index + skipped) (index + length first_symbols) m (omega (arith,
-    length_first_is_w, skipped_le_w)))
+    sym (take-take (index + skipped) (index + length first_symbols) m (omega (
+      arith,
+      length_first_is_w,
+      skipped_le_w,
+    )))
     ∙ ap (take (index + skipped)) (first_written ∙ ap (λ z. take index l ++ z) first_symbols_are)
     ∙ ap (λ k. take k (take index l ++ take w symbols)) (sym end_of_skipped_is)
     ∙ take-append-add (take index l) (take w symbols) skipped

@@ -93,5 +93,9 @@ module _ (xs : Arena) (es : List Span) (parts : List RuleSymbol) (hs : List Hypo
           let part_count_splits : total_part_count (drop j hs)
           ≡ part_count h + total_part_count (drop (j + 1) hs) =
           ap total_part_count drop_hs_is in
-          let index_is_next = tested.next_part_index_is in omega (arith, part_count_splits,
-          part_count_is, index_is_next)
+          let index_is_next = tested.next_part_index_is in omega (
+            arith,
+            part_count_splits,
+            part_count_is,
+            index_is_next,
+          )

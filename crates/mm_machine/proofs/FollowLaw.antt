@@ -55,8 +55,12 @@ front_follows from (e ∷ xs) ys to follows = by_store e.store (λ f. front_foll
   where
     by_store : (p : Store) → ((f : ℕ) → Follow f (xs ++ ys) to → Follow f xs (first_unmarked ys to))
         → FollowByStore p e from (xs ++ ys) to → FollowByStore p e from xs (first_unmarked ys to)
-    by_store Unmarked holds_for_rest follows = (follows.0, follows.1, holds_for_rest e.end
-        follows.2)
+    by_store Unmarked holds_for_rest follows = (
+      follows.0,
+      follows.1,
+      holds_for_rest e.end
+          follows.2,
+    )
     by_store Marked holds_for_rest follows = holds_for_rest from follows
 
 rest_follows : (from : ℕ) (xs ys : List Span) (to : ℕ) → Follow from (xs ++ ys) to
@@ -94,8 +98,12 @@ unmarked_follows from (e ∷ es) to n to_le_n follows = by_store e.store
   where
     by_store : (p : Store) → ((f : ℕ) → Follow f es to → Follow f (es ++ span Unmarked to n ∷ []) n)
         → FollowByStore p e from es to → FollowByStore p e from (es ++ span Unmarked to n ∷ []) n
-    by_store Unmarked holds_for_rest follows = (follows.0, follows.1, holds_for_rest e.end
-        follows.2)
+    by_store Unmarked holds_for_rest follows = (
+      follows.0,
+      follows.1,
+      holds_for_rest e.end
+          follows.2,
+    )
     by_store Marked holds_for_rest follows = holds_for_rest from follows
 
 marked_follows_by_store : (p : Store) (e : Span) (from : ℕ) (es : List Span) (to : ℕ) → p ≡ Marked
@@ -113,8 +121,12 @@ marked_follows from (x ∷ es) to e e_is_marked follows = by_store x.store (λ f
     by_store : (p : Store) → ((f : ℕ) → Follow f es to → Follow f (es ++ e ∷ []) to)
         → FollowByStore p x from es to
         → FollowByStore p x from (es ++ e ∷ []) to
-    by_store Unmarked holds_for_rest follows = (follows.0, follows.1, holds_for_rest x.end
-        follows.2)
+    by_store Unmarked holds_for_rest follows = (
+      follows.0,
+      follows.1,
+      holds_for_rest x.end
+          follows.2,
+    )
     by_store Marked holds_for_rest follows = holds_for_rest from follows
 
 -- what the unmarked formulas of the entries don't reach can go
@@ -161,8 +173,11 @@ all_stay_in_cut unmarked marked from (e ∷ es) n n_le_length_unmarked follows a
           holds_for_rest
               t follows.2,
         )
-    by_store Marked s t s_le_t t_le_length holds_for_rest rest_rises follows = (span_stays Marked s
-        t s_le_t t_le_length, holds_for_rest from follows)
+    by_store Marked s t s_le_t t_le_length holds_for_rest rest_rises follows = (
+      span_stays Marked s
+          t s_le_t t_le_length,
+      holds_for_rest from follows,
+    )
 
 set_last : (xs : List Span) (n : ℕ) (e m : Span) → length xs ≡ n
     → slice_set (xs ++ e ∷ []) n m ≡ xs ++ m ∷ []
@@ -186,8 +201,12 @@ module _ (unmarked marked : List ℕ) (front back : List Span)
       (rest_follows 0 front back (length unmarked) is_stack.entries_follow)
 
   length_take_reach : length (take reach unmarked) ≡ reach
-  length_take_reach = let reach_le = reach_le_length in omega (arith, reach_le, length-take reach
-      unmarked)
+  length_take_reach = let reach_le = reach_le_length in omega (
+    arith,
+    reach_le,
+    length-take reach
+        unmarked,
+  )
 
   front_in_arena : All (IsIn (arena unmarked marked)) front
   front_in_arena = All-front front back is_stack.entries_in_arena
@@ -430,8 +449,10 @@ module _ (unmarked marked : List ℕ) (es : List Span) (last_index : ℕ) (e : S
     pub set_last_is : (m : Span) → slice_set es last_index m ≡ all_but_last ++ m ∷ []
     set_last_is m =
         ap (λ z. slice_set z last_index m) split_before_last
-        ∙ set_last all_but_last last_index e m (length-take-le last_index es (omega (arith,
-        is_last)))
+        ∙ set_last all_but_last last_index e m (length-take-le last_index es (omega (
+          arith,
+          is_last,
+        )))
 
     all_but_last_is_stack : IsStack cut_unmarked marked all_but_last
     all_but_last_is_stack =
@@ -539,8 +560,10 @@ module _ {T E : Type 0} where
         is_stack = pushed_is_stack unmarked marked es is_stack_of.is_stack f;
       })
   pushed_is_stack_of (Err e) w unmarked marked f unmarked' es es' is_stack_of f_in_range
-      unmarked_if_ok entries_if_ok unmarked_if_err entries_if_err = rw (unmarked_if_err,
-      entries_if_err)
+      unmarked_if_ok entries_if_ok unmarked_if_err entries_if_err = rw (
+        unmarked_if_err,
+        entries_if_err,
+      )
       is_stack_of
 
   pub pushed_formulas_if_ok : (r : Result T E) (unmarked marked f unmarked' : List ℕ) (es es' : List

@@ -58,12 +58,24 @@ stays_with_more_unmarked unmarked marked added e is_in = by_store e.store e.star
         → Stays (arena unmarked marked) (arena (unmarked ++ added) marked) (span p s t)
     by_store Unmarked s t start_le_end end_le_length =
         record {
-          is_in = record { start_le_end = start_le_end; end_le_length = omega (arith, end_le_length,
-              length-append unmarked added) };
+          is_in = record {
+            start_le_end = start_le_end;
+            end_le_length = omega (
+              arith,
+              end_le_length,
+              length-append unmarked added,
+            );
+          };
           formulas_equal = stretch_more unmarked added s t start_le_end end_le_length;
         }
-    by_store Marked s t start_le_end end_le_length = record { is_in = record { start_le_end =
-        start_le_end; end_le_length = end_le_length }; formulas_equal = refl }
+    by_store Marked s t start_le_end end_le_length = record {
+      is_in = record {
+        start_le_end =
+            start_le_end;
+        end_le_length = end_le_length;
+      };
+      formulas_equal = refl;
+    }
 
 -- added symbols of marked formulas
 pub stays_with_more_marked : (unmarked marked added : List ℕ) (e : Span)
@@ -74,12 +86,24 @@ stays_with_more_marked unmarked marked added e is_in = by_store e.store e.start 
   where
     by_store : (p : Store) (s t : ℕ) → s ≤ t → t ≤ length (symbols_of (arena unmarked marked) p)
         → Stays (arena unmarked marked) (arena unmarked (marked ++ added)) (span p s t)
-    by_store Unmarked s t start_le_end end_le_length = record { is_in = record { start_le_end =
-        start_le_end; end_le_length = end_le_length }; formulas_equal = refl }
+    by_store Unmarked s t start_le_end end_le_length = record {
+      is_in = record {
+        start_le_end =
+            start_le_end;
+        end_le_length = end_le_length;
+      };
+      formulas_equal = refl;
+    }
     by_store Marked s t start_le_end end_le_length =
         record {
-          is_in = record { start_le_end = start_le_end; end_le_length = omega (arith, end_le_length,
-              length-append marked added) };
+          is_in = record {
+            start_le_end = start_le_end;
+            end_le_length = omega (
+              arith,
+              end_le_length,
+              length-append marked added,
+            );
+          };
           formulas_equal = stretch_more marked added s t start_le_end end_le_length;
         }
 
@@ -90,8 +114,10 @@ marked_entry_is_in unmarked marked e is_marked_entry = by_store e.store is_marke
   where
     by_store : (p : Store) → p ≡ Marked → IsIn (arena unmarked marked) (span p e.start e.end)
     by_store Unmarked p_is_marked = absurd (cc)
-    by_store Marked p_is_marked = record { start_le_end = is_marked_entry.start_le_end;
-        end_le_length = is_marked_entry.end_le_length }
+    by_store Marked p_is_marked = record {
+      start_le_end = is_marked_entry.start_le_end;
+      end_le_length = is_marked_entry.end_le_length;
+    }
 
 pub marked_entry_formulas_equal : (unmarked unmarked' marked : List ℕ) (e : Span)
     → IsMarkedEntry marked e
@@ -199,8 +225,11 @@ pub replacement_is_in : (a : Arena) (es : List Span) (j : ℕ) (e : Span) → Al
 replacement_is_in a es j e entries_in j_lt_length e_is_without_first =
     let entry_is_in : IsIn a (get_or es j no_symbols) = All-get_or (IsIn a) es j no_symbols
     j_lt_length entries_in in
-    subst (IsIn a) (sym e_is_without_first) (record { start_le_end = omega arith; end_le_length =
-        entry_is_in.end_le_length })
+    subst (IsIn a) (sym e_is_without_first) (record {
+      start_le_end = omega arith;
+      end_le_length =
+          entry_is_in.end_le_length;
+    })
 
 pub variable_replacement_is_in : (a : Arena) (es : List Span) (parts : List RuleSymbol) (i : ℕ) (p :
     RuleSymbol)

@@ -17,9 +17,8 @@ pub moved_machine : (unmarked marked : List ℕ) (es : List Span) (marks : List 
     → IsMachine unmarked marked es marks marked_spans symbol_count
     → Moves unmarked marked unmarked' marked' → IsStack unmarked' marked' es'
     → IsMachine unmarked' marked' es' marks marked_spans symbol_count
-moved_machine unmarked marked es marks marked_spans symbol_count unmarked' marked' es' is_machine
-moves
-    is_stack' =
+moved_machine unmarked marked es marks marked_spans symbol_count unmarked' marked' es'
+    is_machine moves is_stack' =
     let in_range = moves.symbols_in_range symbol_count
     is_machine.stack.arena_in_range.unmarked_in_range in
     record {

@@ -47,8 +47,12 @@ rising_push xs n xs_rise xs_lt_n a b a_le_b b_lt_length = by_order (cases_lt b (
         let xs_at_b = get_or_append_left xs (n ∷ []) 0 b b_lt_length_xs in
         omega (arith, pair_rises, xs_at_a, xs_at_b)
     by_order (inr length_xs_le_b) =
-        let b_is_length_xs : b ≡ length xs = omega (arith, length_xs_le_b, b_lt_length,
-        length-append xs (n ∷ [])) in
+        let b_is_length_xs : b ≡ length xs = omega (
+          arith,
+          length_xs_le_b,
+          b_lt_length,
+          length-append xs (n ∷ []),
+        ) in
         let value_at_b : get_or (xs ++ n ∷ []) b 0 ≡ n =
         subst (λ i. get_or (xs ++ n ∷ []) i 0 ≡ n) (sym b_is_length_xs) n_is_last in
         by_order_of_a (cases_lt a (length xs)) value_at_b

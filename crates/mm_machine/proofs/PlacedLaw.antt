@@ -93,8 +93,12 @@ has_entry_after a es below parts out entries_are =
     by_length_test false ends_ok = absurd (cc)
     by_length_test true ends_ok =
         let out_is : entries_below ++ formula ∷ [] ≡ out = cc in
-        let length_out = ap length out_is in omega (arith, length_out, length-append entries_below
-        (formula ∷ []))
+        let length_out = ap length out_is in omega (
+          arith,
+          length_out,
+          length-append entries_below
+              (formula ∷ []),
+        )
 
 -- ---- the step
 
@@ -175,15 +179,24 @@ pub is_applied_if_kept : {T : Type 0} (db : List Statement) (t a : ℕ) (s s' : 
     → IsApplied db t a s s' r
 is_applied_if_kept db t a s s' (Ok x) entries_are has_entry refusal_is_right marks_stay
     formulas_stay symbol_count_stays = record {
-  applies_if_ok = record { entries_are = entries_are; has_entry = has_entry; marks_stay =
-      marks_stay; formulas_stay = formulas_stay };
-  refusal_is_right = refusal_is_right;
-  symbol_count_stays = symbol_count_stays;
-}
+      applies_if_ok = record {
+        entries_are = entries_are;
+        has_entry = has_entry;
+        marks_stay =
+            marks_stay;
+        formulas_stay = formulas_stay;
+      };
+      refusal_is_right = refusal_is_right;
+      symbol_count_stays = symbol_count_stays;
+    }
 is_applied_if_kept db t a s s' (Err e) entries_are has_entry refusal_is_right marks_stay
     formulas_stay symbol_count_stays =
-    record { applies_if_ok = entries_are; refusal_is_right = refusal_is_right; symbol_count_stays =
-        symbol_count_stays }
+    record {
+      applies_if_ok = entries_are;
+      refusal_is_right = refusal_is_right;
+      symbol_count_stays =
+          symbol_count_stays;
+    }
 
 -- ---- the machine
 
@@ -195,9 +208,12 @@ module _ (unmarked marked : List ℕ) (es : List Span) (marks : List ℕ) (marke
       → unmarked' ≡ unmarked
       → marked' ≡ marked → es' ≡ es → AreEntries n (arena unmarked' marked') es'
   entries_by_value n unmarked' marked' es' count_is unmarked_equal marked_equal entries_equal =
-      rw (sym count_is, unmarked_equal, marked_equal, entries_equal) (record { arena_in_range =
-          is_machine.stack.arena_in_range; entries_in_arena =
-          is_machine.stack.is_stack.entries_in_arena })
+      rw (sym count_is, unmarked_equal, marked_equal, entries_equal) (record {
+        arena_in_range =
+            is_machine.stack.arena_in_range;
+        entries_in_arena =
+            is_machine.stack.is_stack.entries_in_arena;
+      })
 
   pub stack_by_value : (marked' : List ℕ) → marked' ≡ marked → IsStack unmarked marked' es
   stack_by_value marked' marked_equal = rw marked_equal is_machine.stack.is_stack
@@ -212,12 +228,12 @@ module _ (unmarked marked : List ℕ) (es : List Span) (marks : List ℕ) (marke
       → IsMachine unmarked' marked es' marks marked_spans symbol_count
   machine_after_step parts unmarked' marked' es' marked_equal parts_in_range step_keeps_stack =
       record {
-    stack =
-        subst (λ z. IsStackOf symbol_count unmarked' z es') marked_equal
-        (step_keeps_stack symbol_count parts_in_range (subst (λ z. IsStackOf symbol_count unmarked z
-        es) (sym marked_equal)
-        is_machine.stack));
-    spans_are_marked = is_machine.spans_are_marked;
-    marks_rise = is_machine.marks_rise;
-    enough_spans = is_machine.enough_spans;
-  }
+        stack =
+            subst (λ z. IsStackOf symbol_count unmarked' z es') marked_equal
+            (step_keeps_stack symbol_count parts_in_range (subst (λ z. IsStackOf symbol_count unmarked z
+            es) (sym marked_equal)
+            is_machine.stack));
+        spans_are_marked = is_machine.spans_are_marked;
+        marks_rise = is_machine.marks_rise;
+        enough_spans = is_machine.enough_spans;
+      }

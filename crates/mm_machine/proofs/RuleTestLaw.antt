@@ -131,11 +131,18 @@ applied_is_tested db t c xs stack premises rule hypotheses_le_stack premises_are
     let hypothesis_counts_equal : length c.hypotheses ≡ length hs =
     sym (length_all_parts c.parts 0 c.hypotheses) ∙ ap length rule.hypotheses_are
     ∙ length-map hs (parts_of db hs) in
-    let below_is : length es - length hs ≡ m = omega (arith, length_es_is_length_stack,
-    hypothesis_counts_equal) in
+    let below_is : length es - length hs ≡ m = omega (
+      arith,
+      length_es_is_length_stack,
+      hypothesis_counts_equal,
+    ) in
     let has_enough_entries : nat_le (length hs) (length es) ≡ true =
-    le-leb _ _ (omega (arith, length_es_is_length_stack, hypothesis_counts_equal,
-    hypotheses_le_stack)) in
+    le-leb _ _ (omega (
+      arith,
+      length_es_is_length_stack,
+      hypothesis_counts_equal,
+      hypotheses_le_stack,
+    )) in
     let counts_equal : length premises ≡ length hs = premise_count_is ∙ hypothesis_counts_equal in
     let ps = span_formulas xs premises in
     let σ' : Substitution = σ db t hs xs premises premises_in counts_equal in
@@ -183,8 +190,11 @@ pub rule_test_by_stack : (db : List Statement) (t : ℕ) (c : CompiledRule) (xs 
     (take below (span_formulas xs stack) ++ replaced xs (drop below stack) c.formula ∷ [])
 rule_test_by_stack db t c xs stack premises n below rule n_is n_le_length below_is premises_are
     entries_in ps ps_are b1 b2 b1_is b2_is =
-    let below_is_difference : below ≡ length stack - length c.hypotheses = omega (arith, below_is,
-    n_is) in
+    let below_is_difference : below ≡ length stack - length c.hypotheses = omega (
+      arith,
+      below_is,
+      n_is,
+    ) in
     let premise_count_is : length (drop below stack) ≡ length c.hypotheses =
     omega (arith, below_is, n_is, n_le_length, length-drop below stack) in
     applied_is_tested db t c xs stack (drop below stack) rule (omega (arith, n_is, n_le_length))

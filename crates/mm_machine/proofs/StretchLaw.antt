@@ -61,8 +61,13 @@ drop_slice xs a e k =
 pub length_formula : (a : Arena) (p : Span) → IsIn a p → length (span_formula a p) ≡ p.end - p.start
 length_formula a p is_in =
     length-take-le (p.end - p.start) (drop p.start (symbols_of a p.store))
-    (omega (arith, is_in.start_le_end, is_in.end_le_length, length-drop p.start (symbols_of a
-    p.store)))
+    (omega (
+      arith,
+      is_in.start_le_end,
+      is_in.end_le_length,
+      length-drop p.start (symbols_of a
+          p.store),
+    ))
 
 module _ (symbols : Arena) (es : List Span) (xs : List ℕ) (w : List RuleSymbol) (i a e : ℕ)
     (i_lt_length : i < length w) where
@@ -105,8 +110,12 @@ empty_begins_with_none xs a e s e_le_a =
 pub begins_with_length : (xs : List ℕ) (a e : ℕ) (u : List ℕ) → a ≤ e
     → starts_with nat_eq (slice_range xs a e) u ≡ true → a + length u ≤ e
 begins_with_length xs a e u a_le_e begins_with_u =
-    let length_le = no_longer u (slice_range xs a e) begins_with_u in omega (arith, length-take (e -
-    a) (drop a xs), length_le)
+    let length_le = no_longer u (slice_range xs a e) begins_with_u in omega (
+      arith,
+      length-take (e -
+          a) (drop a xs),
+      length_le,
+    )
   where
     no_longer : (u ys : List ℕ) → starts_with nat_eq ys u ≡ true → length u ≤ length ys
     no_longer [] ys begins_with = omega arith

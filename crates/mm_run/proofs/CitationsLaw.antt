@@ -43,7 +43,7 @@ module _ (db : List Statement) (request : Request) (c : Citing)
       λ is_listed. let chosen = member_filter is_chosen (list_at c i) a is_listed in
           ((have_citations.lists_are_exact i i_lt_count a).0 chosen.1, chosen.0),
       λ cites_chosen. filter_member is_chosen (list_at c i) a cites_chosen.1
-      ((have_citations.lists_are_exact i i_lt_count a).1 cites_chosen.0),
+          ((have_citations.lists_are_exact i i_lt_count a).1 cites_chosen.0),
     );
   }
     where

@@ -13,13 +13,10 @@ pub ends_of_answers : (end : RunEnd) (text : List ℕ) (request : Request)
 ends_of_answers Accepted text request input_before input_after output_before output_after gave_text
     answers = (text, gave_text, answers)
 ends_of_answers (Refused f) text request input_before input_after output_before output_after
-gave_text
-    answers = (text, gave_text, answers)
+    gave_text answers = (text, gave_text, answers)
 ends_of_answers ReadFailed text request input_before input_after output_before output_after
-gave_text
-    answers = absurd answers
+    gave_text answers = absurd answers
 ends_of_answers WriteFailed text request input_before input_after output_before output_after
-gave_text
-    answers = (text, gave_text, answers)
+    gave_text answers = (text, gave_text, answers)
 ends_of_answers NoMemory text request input_before input_after output_before output_after
     gave_text answers = answers

@@ -29,14 +29,19 @@ pub zip_of_related : {A B : Type 0} (R : A → B → Type 0) (xs : List A) (ys :
 zip_of_related R [] [] d e lengths_equal each_related = tt
 zip_of_related R [] (y ∷ ys) d e lengths_equal each_related = absurd (omega (arith, lengths_equal))
 zip_of_related R (x ∷ xs) [] d e lengths_equal each_related = absurd (omega (arith, lengths_equal))
-zip_of_related R (x ∷ xs) (y ∷ ys) d e lengths_equal each_related =
-    (each_related 0 (omega arith), zip_of_related R xs ys d e (omega (arith, lengths_equal)) (λ i
-    i_lt_length. each_related (suc i) (omega arith)))
+zip_of_related R (x ∷ xs) (y ∷ ys) d e lengths_equal each_related = (
+  each_related 0 (omega arith),
+  zip_of_related R xs ys d e (omega (arith, lengths_equal)) (λ i
+      i_lt_length. each_related (suc i) (omega arith)),
+)
 
 -- a Boolean that decides a statement decides each equivalent one
 decides_through : {P Q : Type 0} (b : Bool) → Decides b P → P ↔ Q → Decides b Q
-decides_through b decides_P P_iff_Q = ((λ is_true. P_iff_Q.0 (decides_P.0 is_true)), (λ holds.
-    decides_P.1 (P_iff_Q.1 holds)))
+decides_through b decides_P P_iff_Q = (
+  (λ is_true. P_iff_Q.0 (decides_P.0 is_true)),
+  (λ holds.
+      decides_P.1 (P_iff_Q.1 holds)),
+)
 
 module _ (db : List Statement) (request : Request) (c : Citing) (m : Marks)
     (theorems_are : c.theorems ≡ theorems db) (cites_as_database : CitesAsDatabase db
@@ -51,8 +56,11 @@ module _ (db : List Statement) (request : Request) (c : Citing) (m : Marks)
       let column_count_is = is_matrix.columns_are in
       zip_of_related
       (λ a b. Decides b (proof.RestsOn db request.essential (get_or (theorems db) i 0) a))
-      (columns db request.only) (marks_of m i) 0 false (omega (arith, mark_count_is,
-      column_count_is))
+      (columns db request.only) (marks_of m i) 0 false (omega (
+        arith,
+        mark_count_is,
+        column_count_is,
+      ))
       (λ j j_lt_length.
       let i_lt_count : i < length c.theorems = subst (λ (ts : List ℕ). i < length ts)
       (sym theorems_are) i_lt_theorem_count in
@@ -64,8 +72,11 @@ module _ (db : List Statement) (request : Request) (c : Citing) (m : Marks)
       subst (λ b. Decides b
       (proof.RestsOn db request.essential (get_or (theorems db) i 0)
       (get_or (columns db request.only) j 0)))
-      (sym (get_or-map-range_with_len (mark m i) 0 m.columns j j false (omega (arith, j_lt_length,
-      column_count_is))
+      (sym (get_or-map-range_with_len (mark m i) 0 m.columns j j false (omega (
+        arith,
+        j_lt_length,
+        column_count_is,
+      ))
       (omega arith)))
       (subst (λ t. Decides (mark m i j)
       (proof.RestsOn db request.essential t (get_or (columns db request.only) j 0)))
@@ -83,8 +94,12 @@ module _ (db : List Statement) (request : Request) (c : Citing) (m : Marks)
       (omega (arith, rows_length_is, row_count_is, counts_equal))
       (λ i i_lt_length.
       subst (λ (x : Row). IsRowOf db request (get_or (theorems db) i 0) x)
-      (sym (get_or-map-range_with_len f 0 m.rows i i (f 0) (omega (arith, row_count_is,
-      counts_equal, i_lt_length))
+      (sym (get_or-map-range_with_len f 0 m.rows i i (f 0) (omega (
+        arith,
+        row_count_is,
+        counts_equal,
+        i_lt_length,
+      ))
       (omega arith)))
       (get_or-map (label_at db) (theorems db) i 0 [] i_lt_length, marks_decide i i_lt_length))
 

@@ -29,8 +29,11 @@ index_of_member (y ∷ xs) x x_is_member = by_head (or_cases (x == y) (is_member
         → (is_member xs x ≡ true → (i : ℕ) × (i < length xs) × (get_or xs i 0 ≡ x))
         → (i : ℕ) × (i < suc (length xs)) × (get_or (y ∷ xs) i 0 ≡ x)
     by_head (inl x_is_y) index_in_tail = (0, omega arith, sym (eqb-true x y x_is_y))
-    by_head (inr x_in_tail) index_in_tail = let in_tail = index_in_tail x_in_tail in (suc in_tail.0,
-        (let index_lt_length = in_tail.1 in omega (arith, index_lt_length)), in_tail.2)
+    by_head (inr x_in_tail) index_in_tail = let in_tail = index_in_tail x_in_tail in (
+      suc in_tail.0,
+      (let index_lt_length = in_tail.1 in omega (arith, index_lt_length)),
+      in_tail.2,
+    )
 
 member_of_range : (n a x : ℕ) → a ≤ x → x < a + n → is_member (range_with_len a n) x ≡ true
 member_of_range zero a x a_le_x x_lt_end = absurd (omega arith)
@@ -59,8 +62,11 @@ index_of_theorem db t t_is_theorem =
 -- a theorem with citations is valid
 pub valid_if_has_citations : (db : List Statement) (by_essential : Bool) (t : ℕ) (cites : List ℕ)
     → HasCitations db by_essential t cites → IsValid db t
-valid_if_has_citations db by_essential t cites has_citations = (has_citations.read,
-    has_citations.checked.derivation, has_citations.checked.proof)
+valid_if_has_citations db by_essential t cites has_citations = (
+  has_citations.read,
+  has_citations.checked.derivation,
+  has_citations.checked.proof,
+)
 
 module _ (db : List Statement) (length_lt_limit : length db < 2 ^ 31) (are_complete : AreComplete
     db) where
@@ -119,8 +125,12 @@ module _ (db : List Statement) (length_lt_limit : length db < 2 ^ 31) (are_compl
       }
 
       pub cites_as_database : CitesAsDatabase db by_essential c
-      cites_as_database = record { citations_agree = λ t a. ((cites_if_has_citation t a),
-          (has_citation_if_cites t a)) }
+      cites_as_database = record {
+        citations_agree = λ t a. (
+          (cites_if_has_citation t a),
+          (has_citation_if_cites t a),
+        );
+      }
         where
           cites_if_has_citation : (t a : ℕ) → HasCitation c t a → proof.Cites db by_essential t a
           cites_if_has_citation t a has_citation =

@@ -81,7 +81,7 @@ module _ (first_positions positions : List ListPosition) (worker : ℕ) (valid :
               (with_worker_before q q_lt_k)
           by_order (inr k_le_q) =
               absurd (index_is_not_x (ap (λ j. get_or valid j 0) (let q_is_k : q
-                  ≡ k = omega arith in q_is_k) ∙ x_is_at_k))
+              ≡ k = omega arith in q_is_k) ∙ x_is_at_k))
 
   pub others_stay_or_with_worker : ((i : ℕ) → IsWithWorker positions worker valid i
       ⊎ (slice_get positions i ≡ slice_get first_positions i))
@@ -127,8 +127,13 @@ module _ {A : Type 0} (fs : List (Findings A)) where
     where
       has_position_here : IsWithWorker positions' w findings.valid.items i
           → HasPosition positions' fs i
-      has_position_here with_this = record { worker = w; findings = findings; findings_are =
-          findings_are; is_with_worker = with_this }
+      has_position_here with_this = record {
+        worker = w;
+        findings = findings;
+        findings_are =
+            findings_are;
+        is_with_worker = with_this;
+      }
 
       by_worker : (v < w) ⊎ (w ≤ v) → HasPosition positions' fs i
       by_worker (inl v_lt_w) = by_earlier_position (has_position_before v f i v_lt_w f_is_at_v
@@ -207,13 +212,13 @@ module _ {A : Type 0} (db : List Statement) (by_essential : Bool) (fs : List (Fi
   has_findings : AreFindings db by_essential has_position.findings
   has_findings =
       subst (λ (f : Findings A). AreFindings db by_essential f) (findings_at_worker
-          has_position.findings)
+      has_position.findings)
       (each_are_findings position.worker has_position.findings worker_lt_length)
 
   list_lt_valid_length : position.list < length has_position.findings.valid.items
   list_lt_valid_length =
       subst (λ (q : ListPosition). q.list < length has_position.findings.valid.items) (sym
-          position_is)
+      position_is)
       has_position.is_with_worker.list_lt_length
 
   pub list_lt_cites_length : (f : Findings A) → f ≡ has_position.findings

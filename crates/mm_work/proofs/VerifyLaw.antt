@@ -54,9 +54,15 @@ module _ (db : List Statement) (length_lt_limit : length db < 2 ^ 31) (are_compl
   pub is_first_fault : (i : ℕ) (f : Fault) → ((n : ℕ) → n < i
       → IsValid db (get_or (theorems db) n 0))
       → i < length (theorems db) → HasFault db (get_or (theorems db) i 0) f → IsFirstFault db f
-  is_first_fault i f are_valid_before i_lt_count has_fault =
-      (get_or (theorems db) i 0, (theorems_are db i 0 i_lt_count, valid_before db length_lt_limit
-      are_complete i are_valid_before i_lt_count, has_fault))
+  is_first_fault i f are_valid_before i_lt_count has_fault = (
+    get_or (theorems db) i 0,
+    (
+      theorems_are db i 0 i_lt_count,
+      valid_before db length_lt_limit
+          are_complete i are_valid_before i_lt_count,
+      has_fault,
+    ),
+  )
 
   pub valid_if_cited : (by_essential : Bool) (i : ℕ) (lists : List (List ℕ))
       → HaveCitationsUpTo db by_essential (theorems db) i lists → (n : ℕ) → n < i

@@ -46,8 +46,11 @@ times_contains x (y ∷ l) x_is_counted = by_tail (cases_lt 0 (times_in x l)) (t
   where
     by_tail : (0 < times_in x l) ⊎ (times_in x l ≤ 0) → (0 < times_in x l → Contains l x)
         → Contains (y ∷ l) x
-    by_tail (inl x_in_tail) tail_contains = let in_tail = tail_contains x_in_tail in (suc in_tail.0,
-        (let index_lt_length = in_tail.1 in omega (arith, index_lt_length)), in_tail.2)
+    by_tail (inl x_in_tail) tail_contains = let in_tail = tail_contains x_in_tail in (
+      suc in_tail.0,
+      (let index_lt_length = in_tail.1 in omega (arith, index_lt_length)),
+      in_tail.2,
+    )
     by_tail (inr x_not_in_tail) tail_contains = (
       0,
       omega arith,
@@ -64,22 +67,22 @@ module _ {A : Type 0} (db : List Statement) (by_essential : Bool) where
       → g.faulty ≡ f.faulty → AreFindings db by_essential g
   findings_with_valid f g i cites are_findings i_lt_count has_citations valid_is cites_is faulty_is
       = record {
-    list_count_is =
-        ap length cites_is ∙ length-append f.cites (cites ∷ [])
-        ∙ ap (λ n. n + 1) are_findings.list_count_is
-        ∙ sym (length-append f.valid.items (i ∷ [])) ∙ sym (ap length valid_is);
-    indices_lt_count =
-        subst (λ (xs : List ℕ). All (λ j. j < length (theorems db)) xs) (sym valid_is)
-        (All-push (λ j. j < length (theorems db)) f.valid.items i are_findings.indices_lt_count
-        i_lt_count);
-    each_has_citations =
-        λ k k_lt_length. rw (valid_is, cites_is)
-        (by_index k (subst (λ n. k < n) (ap length valid_is ∙ length-append f.valid.items (i ∷ []))
-        k_lt_length)
-        (cases_lt k (length f.valid.items)));
-    fault_is_found = subst (λ (o : Option IndexedFault). IsFaultFound db o)
-        (sym faulty_is) are_findings.fault_is_found;
-  }
+        list_count_is =
+            ap length cites_is ∙ length-append f.cites (cites ∷ [])
+            ∙ ap (λ n. n + 1) are_findings.list_count_is
+            ∙ sym (length-append f.valid.items (i ∷ [])) ∙ sym (ap length valid_is);
+        indices_lt_count =
+            subst (λ (xs : List ℕ). All (λ j. j < length (theorems db)) xs) (sym valid_is)
+            (All-push (λ j. j < length (theorems db)) f.valid.items i are_findings.indices_lt_count
+            i_lt_count);
+        each_has_citations =
+            λ k k_lt_length. rw (valid_is, cites_is)
+            (by_index k (subst (λ n. k < n) (ap length valid_is ∙ length-append f.valid.items (i ∷ []))
+            k_lt_length)
+            (cases_lt k (length f.valid.items)));
+        fault_is_found = subst (λ (o : Option IndexedFault). IsFaultFound db o)
+            (sym faulty_is) are_findings.fault_is_found;
+      }
     where
       by_index : (k : ℕ) → k < length f.valid.items + 1
           → (k < length f.valid.items) ⊎ (length f.valid.items ≤ k)
@@ -89,14 +92,21 @@ module _ {A : Type 0} (db : List Statement) (by_essential : Bool) where
           rw (
             get_or_append_left f.valid.items (i ∷ []) 0 k k_is_before,
             get_or_append_left f.cites
-                (cites ∷ []) [] k (let list_count_is = are_findings.list_count_is in omega (arith,
-                list_count_is, k_is_before)),
+                (cites ∷ []) [] k (let list_count_is = are_findings.list_count_is in omega (
+                  arith,
+                  list_count_is,
+                  k_is_before,
+                )),
           ) (are_findings.each_has_citations k k_is_before)
       by_index k k_lt_suc (inr k_is_at_end) =
           let list_count_is = are_findings.list_count_is in
           let index_is_0 : k - length f.valid.items ≡ 0 = omega (arith, k_lt_suc, k_is_at_end) in
-          let list_index_is_0 : k - length f.cites ≡ 0 = omega (arith, k_lt_suc, k_is_at_end,
-          list_count_is) in
+          let list_index_is_0 : k - length f.cites ≡ 0 = omega (
+            arith,
+            k_lt_suc,
+            k_is_at_end,
+            list_count_is,
+          ) in
           let index_at_k : get_or (f.valid.items ++ i ∷ []) k 0 ≡ i =
           get_or-append_right f.valid.items (i ∷ []) k 0 k_is_at_end
           ∙ ap (λ j. get_or (i ∷ []) j 0) index_is_0 in
@@ -201,18 +211,18 @@ module _ {A : Type 0} (job : Job A) where
       → HasDrawn job i (record { seat = s; findings = w.findings })
   drawn_after_claim i w s is_of_database is_between_theorems i_lt_board_count is_seat view_is
       i_above_recorded = record {
-    index_lt_count = subst (λ n. i < n) is_of_database.count_is i_lt_board_count;
-    is_of_board = is_seat;
-    is_open = ap (λ (v : View). v.open_number) view_is;
-    index_above_reported =
-        λ x x_is_reported. i_above_recorded x
-        (x_is_recorded x
-        (subst (λ (l : List ℕ). 0 < times_in x l) (ap (λ (v : View). v.reported) view_is)
-        x_is_reported));
-    seat_tells =
-        λ not_short. tells_of_equal_record w s (ap (λ (v : View). v.settled) view_is)
-        (ap (λ (v : View). v.reported) view_is) (is_between_theorems.seat_tells not_short);
-  }
+        index_lt_count = subst (λ n. i < n) is_of_database.count_is i_lt_board_count;
+        is_of_board = is_seat;
+        is_open = ap (λ (v : View). v.open_number) view_is;
+        index_above_reported =
+            λ x x_is_reported. i_above_recorded x
+            (x_is_recorded x
+            (subst (λ (l : List ℕ). 0 < times_in x l) (ap (λ (v : View). v.reported) view_is)
+            x_is_reported));
+        seat_tells =
+            λ not_short. tells_of_equal_record w s (ap (λ (v : View). v.settled) view_is)
+            (ap (λ (v : View). v.reported) view_is) (is_between_theorems.seat_tells not_short);
+      }
     where
       x_is_recorded : (x : ℕ) → 0 < times_in x w.seat.view.reported
           → 0 < times_recorded x w.seat.view
@@ -269,7 +279,7 @@ module _ {A : Type 0} (job : Job A) where
         no_number_open = ap (λ (v : View). v.open_number) view_is;
         seat_tells =
             λ not_short. let seat_tells = has_drawn.seat_tells (memory_lasted not_short) in let
-                valid_found = finds_valid not_short in record {
+            valid_found = finds_valid not_short in record {
               are_findings = findings_after_valid w.findings g i seat_tells.are_findings
                   has_drawn.index_lt_count valid_found;
               settled_are_valid =
@@ -296,12 +306,12 @@ module _ {A : Type 0} (job : Job A) where
         no_number_open = ap (λ (v : View). v.open_number) view_is;
         seat_tells =
             λ not_short. let seat_tells = has_drawn.seat_tells (memory_lasted not_short) in let
-                fault_found = finds_fault not_short in record {
+            fault_found = finds_fault not_short in record {
               are_findings = findings_after_fault w.findings g i seat_tells.are_findings
                   has_drawn.index_lt_count fault_found;
               settled_are_valid =
                   ap (λ (v : View). v.settled) view_is ∙ settled_stays
-                      ∙ seat_tells.settled_are_valid ∙ sym fault_found.valid_are;
+                  ∙ seat_tells.settled_are_valid ∙ sym fault_found.valid_are;
               reported_is_faulty =
                   λ y y_is_reported. ap faulty_index fault_found.faulty_is
                   ∙ ap Some
@@ -320,10 +330,13 @@ module _ {A : Type 0} (job : Job A) where
               let floor_le_y = floor_le_reported y y_was_reported in
               let y_lt_i = has_drawn.index_above_reported y y_was_reported in
               let is_closed : s.view.open_number ≡ None =
-              open_number_is ∙ ap (λ b. cond b None (Some i)) (lt-ltb f i (omega (arith, floor_le_y,
-              y_lt_i))) in
+              open_number_is ∙ ap (λ b. cond b None (Some i)) (lt-ltb f i (omega (
+                arith,
+                floor_le_y,
+                y_lt_i,
+              ))) in
               absurd (let none_is_some : None ≡ Some i = sym is_closed
-                  ∙ number_stays_open is_open in cc)
+              ∙ number_stays_open is_open in cc)
           reported_is_i y (inr y_is_i) =
               counted_is_equal y i
               (let count_is : times_in y (i ∷ []) ≡ cond (i == y) 1 0 + times_in y [] = refl in
@@ -394,8 +407,11 @@ module _ {A : Type 0} (job : Job A) where
                   (subst (λ (l : List ℕ). 0 < times_in i l) seat_tells.settled_are_valid
                   i_is_settled),
             );
-        reported_are_faulty = λ i i_is_reported. (w.findings, (0, omega arith, refl),
-            seat_tells.reported_is_faulty i i_is_reported);
+        reported_are_faulty = λ i i_is_reported. (
+          w.findings,
+          (0, omega arith, refl),
+          seat_tells.reported_is_faulty i i_is_reported,
+        );
       })
 
   -- one more worker's seat
@@ -431,9 +447,11 @@ module _ {A : Type 0} (job : Job A) where
           w.seat.view.settled)
           → IsFoundValid (fs ++ w.findings ∷ []) i
       settled_is_valid i (inl i_is_settled) =
-          let found_valid = are_gathered.settled_are_valid i i_is_settled in
-          (found_valid.0, Contains-append_left fs (w.findings ∷ []) found_valid.0 found_valid.1,
-          found_valid.2)
+          let found_valid = are_gathered.settled_are_valid i i_is_settled in (
+            found_valid.0,
+            Contains-append_left fs (w.findings ∷ []) found_valid.0 found_valid.1,
+            found_valid.2,
+          )
       settled_is_valid i (inr i_is_settled) =
           let seat_tells = is_done.is_between.seat_tells not_short in (
             w.findings,
@@ -447,9 +465,11 @@ module _ {A : Type 0} (job : Job A) where
           w.seat.view.reported)
           → IsFoundFaulty (fs ++ w.findings ∷ []) i
       reported_is_faulty i (inl i_is_reported) =
-          let found_faulty = are_gathered.reported_are_faulty i i_is_reported in
-          (found_faulty.0, Contains-append_left fs (w.findings ∷ []) found_faulty.0 found_faulty.1,
-          found_faulty.2)
+          let found_faulty = are_gathered.reported_are_faulty i i_is_reported in (
+            found_faulty.0,
+            Contains-append_left fs (w.findings ∷ []) found_faulty.0 found_faulty.1,
+            found_faulty.2,
+          )
       reported_is_faulty i (inr i_is_reported) =
           let seat_tells = is_done.is_between.seat_tells not_short in
           (w.findings, Contains-push fs w.findings, seat_tells.reported_is_faulty i i_is_reported)
@@ -499,7 +519,7 @@ pub All_of_front : {X : Type 0} (P : X → Type 0) (l m : List X) (x : X) → l
 All_of_front {X} P l m x l_is all_of_l =
     let all_of_split = subst (λ (xs : List X). All P xs) l_is all_of_l in
     λ k d k_lt_length. let holds_at_k = all_of_split k d (let length_is = length-append m (x ∷ [])
-        in omega (arith, length_is, k_lt_length)) in
+    in omega (arith, length_is, k_lt_length)) in
     rw (sym (get_or_append_left m (x ∷ []) d k k_lt_length)) holds_at_k
 
 pub P_of_last : {X : Type 0} (P : X → Type 0) (l m : List X) (x : X) → l ≡ m ++ x ∷ [] → All P l

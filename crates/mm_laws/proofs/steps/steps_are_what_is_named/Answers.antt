@@ -3,5 +3,9 @@ use Rattle.mm_laws.proofs.SpelledStepsLaw.{steps_are_labels_where_read}
 use Rattle.mm_laws.proofs.steps.steps_are_what_is_named.Goals as goal
 
 pub returns : goal.returns
-returns c = record { compressed = steps_are_named; steps_are_unique = named_steps_are_unique; normal
-    = steps_are_labels_where_read }
+returns c = record {
+  compressed = steps_are_named;
+  steps_are_unique = named_steps_are_unique;
+  normal
+      = steps_are_labels_where_read;
+}

@@ -48,10 +48,13 @@ returns-clause-judged g c =
     let stack = c.args.stack.now in
     let n = length c.hypotheses-hypotheses.result.now in
     let hypotheses_le_stack = c.if-stack-hypotheses.false in (
-      (let hypothesis_count_is = ap length c.hypotheses-hypotheses.ensures in omega (arith,
-      hypotheses_le_stack, hypothesis_count_is)),
+      (let hypothesis_count_is = ap length c.hypotheses-hypotheses.ensures in omega (
+        arith,
+        hypotheses_le_stack,
+        hypothesis_count_is,
+      )),
       rule_test_by_stack c.args.database.now.statements c.args.theorem c.args.rule.now
-      c.args.symbols.now
+          c.args.symbols.now
           stack
           (slice_range stack (length stack - n) (length stack)) n (length stack - n) c.requires.rule
           (ap length c.hypotheses-hypotheses.ensures) (omega (arith, hypotheses_le_stack)) refl

@@ -17,6 +17,10 @@ returns-clause-written c =
     _
     (omega (arith, width_le_count)) (omega (arith, count_le_double_width)) (omega (arith, room))
     refl tail_is_dropped
-    (length-take-le w symbols width_le_count) (omega (arith, tail_length_is, length_dropped,
-    width_le_count)) c.put_width.ensures.written
+    (length-take-le w symbols width_le_count) (omega (
+      arith,
+      tail_length_is,
+      length_dropped,
+      width_le_count,
+    )) c.put_width.ensures.written
     c.put_width-2.ensures.written

@@ -30,7 +30,7 @@ returns-in-Marked-clause-entry_is g c =
     c.index-entry.ensures ∙ sym (get_or_default es last_index no_symbols e (omega (arith, is_last)))
     in (
       last_is_marked_entry unmarked marked es last_index e is_last e_is_last c.requires.stack
-      c.in-Marked.is,
+          c.in-Marked.is,
       marked_formula_is_top unmarked marked es
           last_index e is_last e_is_last c.requires.stack c.in-Marked.is,
     )

@@ -14,7 +14,7 @@ returns-in-Faulty g c = λ text essential with_open is_read_from is_judgement.
       d.fault,
       is_read_from.is_read,
       inl (subst (λ db. IsFirstFault db c.in-Faulty.fault) is_read_from.is_counted.statements_are
-      is_first_fault),
+          is_first_fault),
     )
 
 pub returns-in-Some : goal.returns-in-Some

@@ -40,7 +40,7 @@ returns g c =
       citation_report_of request d c.in-Ok.columns c.args.citations.now,
       is_prefix.0,
       is_output request d c.in-Ok.columns _ c.requires.judged.is_counted
-      c.requires.judged.has_no_fault axioms
+          c.requires.judged.has_no_fault axioms
           (is_citation_report d.statements request c.args.citations.now
           c.requires.judged.have_citations opened c.in-Ok.columns axioms c.requires.choice),
       is_prefix.1,

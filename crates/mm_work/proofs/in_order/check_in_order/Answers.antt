@@ -12,10 +12,12 @@ pub judged_valid-requires : goal.judged_valid-requires
 judged_valid-requires g c =
     let db = c.args.database.now.statements in
     let counts_equal = ap (λ (ts : List ℕ). length ts) c.theorems-theorems.ensures.theorems in
-    let index_is_count : c.loop-theorem.theorem-index ≡ length (theorems db) = omega (arith,
-    counts_equal) in
+    let index_is_count : c.loop-theorem.theorem-index ≡ length (theorems db) = omega (
+      arith,
+      counts_equal,
+    ) in
     subst (λ (n : ℕ). HaveCitationsUpTo db c.args.essential (theorems db) n c.loop-theorem.lists)
-        index_is_count
+    index_is_count
     c.loop-theorem.invariant.have_citations
 
 pub verify-requires-clause-theorem : goal.verify-requires-clause-theorem
@@ -37,8 +39,11 @@ returns-in-Err-Fault g c =
     (is_first_fault db c.theorems-theorems.ensures.few c.len.ensures.complete i
     c.in-Err-Fault.fault
     (valid_if_cited db c.theorems-theorems.ensures.few c.len.ensures.complete c.args.essential i
-    c.loop-theorem.lists c.loop-theorem.invariant.have_citations) (omega (arith, index_lt_length,
-    counts_equal))
+    c.loop-theorem.lists c.loop-theorem.invariant.have_citations) (omega (
+      arith,
+      index_lt_length,
+      counts_equal,
+    ))
     (subst (λ (ts : List ℕ). HasFault db (get_or ts i 0) c.in-Err-Fault.fault)
     c.theorems-theorems.ensures.theorems
     (subst (λ (e : VerifyRefused). IsRefusalOf db (get_or c.theorems-theorems.result.now i 0) e)

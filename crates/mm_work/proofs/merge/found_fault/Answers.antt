@@ -39,7 +39,7 @@ no_index_up_to_next fs n index f f_is n_lt_length f_has_other_index no_index_bef
         let element_is_f : get_or fs k d ≡ f =
         ap (λ i. get_or fs i d) k_is_n ∙ get_or_default fs n d f n_lt_length ∙ sym f_is in
         λ has_index. f_has_other_index (subst (λ (x : Findings _). faulty_index x.faulty
-            ≡ Some index) element_is_f has_index)
+        ≡ Some index) element_is_f has_index)
 
 no_index_if_other : (found_fault : Option IndexedFault) (fault : IndexedFault) (index : ℕ)
     → found_fault ≡ Some fault
@@ -66,7 +66,10 @@ unreachable-requires g c =
     let is_found_faulty = c.requires.is_found_faulty in
     let index_lt_length = is_found_faulty.1.1 in
     let length_le_index = c.loop-findings-test.false in
-    c.loop-findings.invariant is_found_faulty.1.0 is_found_faulty.0 (omega arith) (omega (arith,
-    index_lt_length, length_le_index))
+    c.loop-findings.invariant is_found_faulty.1.0 is_found_faulty.0 (omega arith) (omega (
+      arith,
+      index_lt_length,
+      length_le_index,
+    ))
     (subst (λ (f : Findings _). faulty_index f.faulty ≡ Some c.args.index) (sym is_found_faulty.1.2)
     is_found_faulty.2)

@@ -33,5 +33,9 @@ returns-clause-are_with_worker c = λ q d q_lt_length.
     let length_le_list = c.loop-list-test.false in
     subst (λ i. IsWithWorker c.loop-list.positions c.args.worker c.args.valid.now i)
     (get_or_default c.args.valid.now q 0 d q_lt_length)
-    (c.loop-list.invariant.are_with_worker q (omega (arith, q_lt_length, list_le_length,
-    length_le_list)))
+    (c.loop-list.invariant.are_with_worker q (omega (
+      arith,
+      q_lt_length,
+      list_le_length,
+      length_le_list,
+    )))

@@ -14,12 +14,19 @@ join_all-requires g c = record {
   others = λ k d k_lt_length.
       let length_is = c.in-Ok-join_promised.ensures.len in
       let handle_count_is = c.in-Ok-join_promised.others.ok.0 in
-      let k_lt_handle_count : k < vec_len c.loop-worker.handles = omega (arith, length_is,
-      handle_count_is, k_lt_length) in
+      let k_lt_handle_count : k < vec_len c.loop-worker.handles = omega (
+        arith,
+        length_is,
+        handle_count_is,
+        k_lt_length,
+      ) in
       let is_kept = (c.in-Ok-join_promised.ensures.each k d k_lt_handle_count).1 in
       let handle_length_is = c.loop-worker.handles.ok.0 in
-      let is_promised = c.loop-worker.invariant.are_promised k is_kept.handle (omega (arith,
-      k_lt_handle_count, handle_length_is)) in
+      let is_promised = c.loop-worker.invariant.are_promised k is_kept.handle (omega (
+        arith,
+        k_lt_handle_count,
+        handle_length_is,
+      )) in
       subst (λ (j : Job _). IsDone j (get_or c.in-Ok-join_promised.others.items k d))
       (ap (λ h. h.promise.now) is_kept.handle_is ∙ is_promised) is_kept.kept;
 }
