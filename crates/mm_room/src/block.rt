@@ -40,7 +40,7 @@ impl<A: Allocator> Block<A> {
     pub(crate) fn free(self, alloc: &A, units: usize)
         requires alloc { self.alloc ≡ alloc.now }
         requires units { self.units ≡ units }
-        requires fits { units * 16 < 2 ^ 63 }
+        requires size_lt_limit { units * 16 < 2 ^ 63 }
     {
         let Block { at, given_by: _ } = self;
         unsafe { alloc.deallocate(at, units * UNIT, UNIT) }

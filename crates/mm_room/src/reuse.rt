@@ -30,7 +30,7 @@ const MOST_UNITS: usize = isize::MAX as usize / UNIT;
 pub struct Reusing<A: Allocator> {
     alloc: A,
     lists: Vec<Counted<Option<FreeList<A>>>, A>,
-    ghost alike: { All (λ list. list ≡ alloc) lists.items },
+    ghost lists_have_alloc: { All (λ list. list ≡ alloc) lists.items },
 }
 
 /// The units of a block for `size` bytes.
