@@ -11,7 +11,7 @@ use Rattle.mm_spec.specs.Valid.{too_long}
 use Rattle.mm_spec.specs.Frame.{symbol_names}
 use Rattle.mm_spec.specs.Laws.Stack.{unless_too_long}
 use Rattle.mm_machine.specs.declared.arena.Span.{Span}
-use Rattle.mm_machine.specs.declared.arena.Reason.{Reason}
+use Rattle.mm_machine.specs.declared.reason.Reason.{Reason}
 use Rattle.mm_machine.specs.declared.machine.StepRefused.{StepRefused}
 use Rattle.mm_rule.specs.declared.rule.RuleSymbol.{RuleSymbol}
 use Rattle.mm_rule.specs.Rule.{CompiledRule, IsCompiled, IsVariableBelow, IsConstantBelow}

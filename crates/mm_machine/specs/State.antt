@@ -9,9 +9,9 @@ use Rattle.mm_spec.specs.Frame.{frame_at}
 use Rattle.mm_spec.specs.Citation.{context_at}
 use Rattle.mm_spec.specs.Laws.Stack.{step, unless_too_long, top}
 use Rattle.mm_machine.specs.declared.arena.Span.{Span}
-use Rattle.mm_machine.specs.declared.arena.Reason.{Reason}
-use Rattle.mm_machine.specs.declared.arena.Reason.TheVariants.{TooFew, Unmatched, NotDisjoint}
-use Rattle.mm_machine.specs.declared.arena.Reason.TheVariants.{TooLong}
+use Rattle.mm_machine.specs.declared.reason.Reason.{Reason}
+use Rattle.mm_machine.specs.declared.reason.Reason.TheVariants.{TooFew, Unmatched, NotDisjoint}
+use Rattle.mm_machine.specs.declared.reason.Reason.TheVariants.{TooLong}
 use Rattle.mm_machine.specs.declared.arena.Store.TheVariants.{Unmarked, Marked}
 use Rattle.mm_machine.specs.Arena.{Arena, arena, span, span_formula, IsIn, IsArena}
 use Rattle.mm_rule.specs.declared.rule.RuleSymbol.{RuleSymbol}

@@ -15,9 +15,11 @@ ghost use Rattle.mm_machine.specs.State.{entries_after};
 ghost use Rattle.mm_machine.specs.State.{IsStack, IsStackOf, IsRising, IsMarkedEntry, Moves};
 ghost use Rattle.mm_machine.specs.Applied.{IsRefusalOf, IsApplied};
 
-use crate::arena::{Reason, Span, Store, Symbols, build, test_rule};
+use crate::arena::{Span, Store, Symbols, build};
 use crate::disjoint_cache::DisjointCache;
 use crate::fill::fill;
+use crate::reason::Reason;
+use crate::rule_test::test_rule;
 use crate::symbol_list::SymbolList;
 use mm_database::{Database, Sym};
 use mm_rule::{Rule, RuleSymbol, empty, formula, put_number};

@@ -7,7 +7,7 @@ use Rattle.mm_spec.specs.Derivation.{are_disjoint, is_disjoint_from}
 use Rattle.mm_spec.specs.Statement.{Statement}
 use Rattle.mm_spec.specs.Frame.{is_variable_number}
 use Rattle.mm_spec.specs.Citation.{context_at}
-use Rattle.mm_machine.proofs.arena.is_disjoint_from.Goals as goal
+use Rattle.mm_machine.proofs.rule_test.is_disjoint_from.Goals as goal
 
 -- a constant is disjoint from all
 constant_is_disjoint : (db : List Statement) (t s : ℕ) → is_variable_number db s ≡ false

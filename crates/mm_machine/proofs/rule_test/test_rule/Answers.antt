@@ -2,7 +2,7 @@ use Rattle.std.proofs.Common.{◌-◌, true, false, length, slice_range, sym, ap
 use Rattle.std.proofs.lemmas.List.{take_rest}
 use Rattle.mm_machine.proofs.GrowLaw.{slice_entries_are_in}
 use Rattle.mm_machine.proofs.RuleTestLaw.{rule_test_by_stack, applied_is_too_few}
-use Rattle.mm_machine.proofs.arena.test_rule.Goals as goal
+use Rattle.mm_machine.proofs.rule_test.test_rule.Goals as goal
 
 pub returns-then-stack-hypotheses-clause-judged : goal.returns-then-stack-hypotheses-clause-judged
 returns-then-stack-hypotheses-clause-judged g c =

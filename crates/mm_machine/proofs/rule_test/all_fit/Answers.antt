@@ -8,8 +8,8 @@ use Rattle.mm_machine.specs.Replaced.{replaced}
 use Rattle.mm_machine.proofs.FitLaw.{fit_from, fit_from_end_is_true, fit_from_splits}
 use Rattle.mm_machine.proofs.FitLaw.{part_count_stays, IsTested}
 use Rattle.mm_machine.proofs.FitLaw.{typed_tested, essential_tested}
-use Rattle.mm_machine.proofs.arena.all_fit.Goals.{in-Floating, in-Essential}
-use Rattle.mm_machine.proofs.arena.all_fit.Goals as goal
+use Rattle.mm_machine.proofs.rule_test.all_fit.Goals.{in-Floating, in-Essential}
+use Rattle.mm_machine.proofs.rule_test.all_fit.Goals as goal
 
 pub offset_bounds-premises-j : goal.offset_bounds-premises-j
 offset_bounds-premises-j c =

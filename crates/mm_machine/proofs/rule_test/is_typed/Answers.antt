@@ -2,7 +2,7 @@ use Rattle.std.proofs.Common.{◌≡◌, get_or, nat_eq, sym, ap, ◌∙◌, ari
 use Rattle.std.proofs.lemmas.List.{get_or_default}
 use Rattle.mm_machine.specs.Arena.{symbols_of}
 use Rattle.mm_machine.proofs.StretchLaw.{typed_test_is}
-use Rattle.mm_machine.proofs.arena.is_typed.Goals as goal
+use Rattle.mm_machine.proofs.rule_test.is_typed.Goals as goal
 
 pub returns-then-premise : goal.returns-then-premise
 returns-then-premise c =

@@ -10,7 +10,7 @@ use Rattle.mm_spec.specs.Frame.{symbol_names}
 use Rattle.mm_machine.specs.Arena.{span_formula}
 use Rattle.mm_machine.specs.Replaced.{replacement}
 use Rattle.mm_machine.proofs.GrowLaw.{formula_in_range, replacement_is_in}
-use Rattle.mm_machine.proofs.arena.pairs_are_disjoint.Goals as goal
+use Rattle.mm_machine.proofs.rule_test.pairs_are_disjoint.Goals as goal
 
 -- a pair that fails
 list_all_fails : (is_disjoint : ℕ × ℕ → Bool) (ps : List (ℕ × ℕ)) (i : ℕ) → i < length ps
