@@ -44,7 +44,12 @@ fn begins_with(symbols: &Symbols, store: Store, from: usize, to: usize, span: Sp
 
 /// Whether an entry is the wanted formula with its variables replaced.
 #[inline(always)]
-fn fits(symbols: &Symbols, premises: &[Span], wanted: &[RuleSymbol], premise: Span) -> bool
+fn is_wanted_formula(
+    symbols: &Symbols,
+    premises: &[Span],
+    wanted: &[RuleSymbol],
+    premise: Span,
+) -> bool
     requires premises { All (IsIn symbols.now) premises.now }
     requires wanted { All (IsVariableBelow (length premises.now)) wanted.now }
     requires premise { IsIn symbols.now premise }
@@ -86,7 +91,7 @@ fn is_typed(symbols: &Symbols, typecode: Sym, premise: Span) -> bool
 
 /// Whether each entry is what its hypothesis requires, with the variables replaced.
 #[inline(always)]
-fn all_fit(symbols: &Symbols, rule: &Rule, premises: &[Span]) -> bool
+fn premises_match(symbols: &Symbols, rule: &Rule, premises: &[Span]) -> bool
     requires premises { All (IsIn symbols.now) premises.now }
     requires count { length premises.now ≡ length rule.now.hypotheses }
     requires part_count_is { total_part_count rule.now.hypotheses ≡ length rule.now.parts }
@@ -103,7 +108,7 @@ fn all_fit(symbols: &Symbols, rule: &Rule, premises: &[Span]) -> bool
                 let end = part_index + part_count as usize;
                 let wanted = &rule.parts[part_index..end];
                 part_index = end;
-                fits(symbols, premises, wanted, premises[j])
+                is_wanted_formula(symbols, premises, wanted, premises[j])
             }
         };
         if !is_fitting {
@@ -269,7 +274,7 @@ pub fn test_rule<A: Allocator>(
     }
     let below = stack.len() - hypotheses.len();
     let premises = &stack[below..];
-    if !all_fit(symbols, rule, premises) {
+    if !premises_match(symbols, rule, premises) {
         return Err(Reason::Unmatched);
     }
     let pairs = rule.pairs();

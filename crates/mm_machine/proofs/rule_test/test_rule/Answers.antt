@@ -13,8 +13,8 @@ returns-then-stack-hypotheses-clause-judged g c =
     c.hypotheses-hypotheses.ensures in
     omega (arith, stack_lt_hypotheses, hypothesis_count_is))
 
-pub returns-then-not-all_fit-clause-judged : goal.returns-then-not-all_fit-clause-judged
-returns-then-not-all_fit-clause-judged g c =
+pub returns-then-not-premises_match-clause-judged : goal.returns-then-not-premises_match-clause-judged
+returns-then-not-premises_match-clause-judged g c =
     let stack = c.args.stack.now in
     let n = length c.hypotheses-hypotheses.result.now in
     rule_test_by_stack c.args.database.now.statements c.args.theorem c.args.rule.now
@@ -25,7 +25,7 @@ returns-then-not-all_fit-clause-judged g c =
     c.if-stack-hypotheses.false in omega
     (arith, hypotheses_le_stack)) refl
     (take_rest stack (length stack - n)) c.requires.stack.entries_in_arena _ refl false _
-    (sym c.if-not-all_fit.true ∙ c.all_fit.ensures) refl
+    (sym c.if-not-premises_match.true ∙ c.premises_match.ensures) refl
 
 pub returns-then-not-pairs_are_disjoint-clause-judged :
     goal.returns-then-not-pairs_are_disjoint-clause-judged
@@ -40,7 +40,7 @@ returns-then-not-pairs_are_disjoint-clause-judged g c =
     c.if-stack-hypotheses.false in omega
     (arith, hypotheses_le_stack)) refl
     (take_rest stack (length stack - n)) c.requires.stack.entries_in_arena c.pairs-pairs.result.now
-    c.pairs-pairs.ensures true false (sym c.if-not-all_fit.false ∙ c.all_fit.ensures)
+    c.pairs-pairs.ensures true false (sym c.if-not-premises_match.false ∙ c.premises_match.ensures)
     (sym c.if-not-pairs_are_disjoint.true ∙ c.pairs_are_disjoint.ensures.value)
 
 pub returns-clause-judged : goal.returns-clause-judged
@@ -60,12 +60,12 @@ returns-clause-judged g c =
           (ap length c.hypotheses-hypotheses.ensures) (omega (arith, hypotheses_le_stack)) refl
           (take_rest stack (length stack - n)) c.requires.stack.entries_in_arena
           c.pairs-pairs.result.now
-          c.pairs-pairs.ensures true true (sym c.if-not-all_fit.false ∙ c.all_fit.ensures)
+          c.pairs-pairs.ensures true true (sym c.if-not-premises_match.false ∙ c.premises_match.ensures)
           (sym c.if-not-pairs_are_disjoint.false ∙ c.pairs_are_disjoint.ensures.value),
     )
 
-pub all_fit-requires-clause-premises : goal.all_fit-requires-clause-premises
-all_fit-requires-clause-premises g c = slice_entries_are_in _ _ _ _
+pub premises_match-requires-clause-premises : goal.premises_match-requires-clause-premises
+premises_match-requires-clause-premises g c = slice_entries_are_in _ _ _ _
     c.requires.stack.entries_in_arena
 
 pub pairs_are_disjoint-requires-clause-premises : goal.pairs_are_disjoint-requires-clause-premises

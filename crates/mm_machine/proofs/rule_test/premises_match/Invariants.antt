@@ -4,7 +4,7 @@ use Rattle.mm_rule.specs.Rule.{all_parts, total_part_count}
 use Rattle.mm_machine.specs.Arena.{span_formula}
 use Rattle.mm_machine.specs.Replaced.{replaced}
 use Rattle.mm_machine.proofs.FitLaw.{fit_from}
-use Rattle.mm_machine.proofs.rule_test.all_fit.Given as goal
+use Rattle.mm_machine.proofs.rule_test.premises_match.Given as goal
 
 abbrev pub invariant-loop-j : goal.invariant-loop-j
 invariant-loop-j l = record {

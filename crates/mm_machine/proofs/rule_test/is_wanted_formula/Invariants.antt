@@ -1,7 +1,7 @@
 use Rattle.std.proofs.Common.{◌≡◌, ◌≤◌, drop, slice_range, bytes_eq}
 use Rattle.mm_machine.specs.Arena.{symbols_of, span_formula}
 use Rattle.mm_machine.specs.Replaced.{replaced}
-use Rattle.mm_machine.proofs.rule_test.fits.Given as goal
+use Rattle.mm_machine.proofs.rule_test.is_wanted_formula.Given as goal
 
 abbrev pub invariant-loop-part : goal.invariant-loop-part
 invariant-loop-part l = record {

@@ -8,10 +8,10 @@ use Rattle.mm_machine.specs.Arena.{symbols_of, span_formula}
 use Rattle.mm_machine.specs.Replaced.{replaced_part}
 use Rattle.mm_machine.proofs.StretchLaw.{fit_splits, rest_is_wanted, begins_with_first}
 use Rattle.mm_machine.proofs.StretchLaw.{begins_with_length, length_formula}
-use Rattle.mm_machine.proofs.rule_test.fits.Goals.{in-Variable+else-not-begins_with}
-use Rattle.mm_machine.proofs.rule_test.fits.Goals.{in-Constant+else-at-premise+else-ne}
+use Rattle.mm_machine.proofs.rule_test.is_wanted_formula.Goals.{in-Variable+else-not-begins_with}
+use Rattle.mm_machine.proofs.rule_test.is_wanted_formula.Goals.{in-Constant+else-at-premise+else-ne}
 use Rattle.mm_machine.proofs.GrowLaw.{variable_replacement_is_in}
-use Rattle.mm_machine.proofs.rule_test.fits.Goals as goal
+use Rattle.mm_machine.proofs.rule_test.is_wanted_formula.Goals as goal
 
 pub returns-then-not-begins_with : goal.returns-then-not-begins_with
 returns-then-not-begins_with c =

@@ -8,8 +8,8 @@ use Rattle.mm_machine.specs.Replaced.{replaced}
 use Rattle.mm_machine.proofs.FitLaw.{fit_from, fit_from_end_is_true, fit_from_splits}
 use Rattle.mm_machine.proofs.FitLaw.{part_count_stays, IsTested}
 use Rattle.mm_machine.proofs.FitLaw.{typed_tested, essential_tested}
-use Rattle.mm_machine.proofs.rule_test.all_fit.Goals.{in-Floating, in-Essential}
-use Rattle.mm_machine.proofs.rule_test.all_fit.Goals as goal
+use Rattle.mm_machine.proofs.rule_test.premises_match.Goals.{in-Floating, in-Essential}
+use Rattle.mm_machine.proofs.rule_test.premises_match.Goals as goal
 
 pub offset_bounds-premises-j : goal.offset_bounds-premises-j
 offset_bounds-premises-j c =
@@ -23,8 +23,8 @@ offset_bounds-premises-j-in-Essential c =
     (ap (λ (r : CompiledRule). r.hypotheses) c.rule.view_is) c.loop-j-test.true in
     omega (arith, j_lt_length_hs, c.requires.count)
 
-pub fits-is_fitting-requires-clause-wanted : goal.fits-is_fitting-requires-clause-wanted
-fits-is_fitting-requires-clause-wanted c = grind (arith, common_steps)
+pub is_wanted_formula-is_fitting-requires-clause-wanted : goal.is_wanted_formula-is_fitting-requires-clause-wanted
+is_wanted_formula-is_fitting-requires-clause-wanted c = grind (arith, common_steps)
 
 pub returns-then-not-is_fitting : goal.returns-then-not-is_fitting
 returns-then-not-is_fitting c =
@@ -53,7 +53,7 @@ returns-then-not-is_fitting c =
       | in-Essential w ↦ let n = w.in-Essential.part_count in
           essential_tested xs es parts hs j part_index h is_fitting next_part_index n
           w.in-Essential.is
-          (w.is_fitting-is ∙ w.fits-is_fitting.ensures
+          (w.is_fitting-is ∙ w.is_wanted_formula-is_fitting.ensures
           ∙ ap (λ z. bytes_eq (span_formula xs (get_or es j no_symbols))
           (replaced xs es (take ((part_index + n) - part_index) (drop part_index z)))) parts_are)
           w.part_index-is
@@ -90,7 +90,7 @@ loop-j-preserved c =
       | in-Essential w ↦ let n = w.in-Essential.part_count in
           essential_tested xs es parts hs j part_index h is_fitting next_part_index n
           w.in-Essential.is
-          (w.is_fitting-is ∙ w.fits-is_fitting.ensures
+          (w.is_fitting-is ∙ w.is_wanted_formula-is_fitting.ensures
           ∙ ap (λ z. bytes_eq (span_formula xs (get_or es j no_symbols))
           (replaced xs es (take ((part_index + n) - part_index) (drop part_index z)))) parts_are)
           w.part_index-is
