@@ -16,6 +16,9 @@ const TEXT_WITH_COMMENTS: &[u8] = b"$c a $( $c b $) xy $. $( z $) $( $d";
 /// The text of the table of stretches.
 const STRETCHED_TEXT: &[u8] = b"ab $( c $) d";
 
+/// The most pieces into which a text is cut.
+const MOST_PIECES: u32 = 65_536;
+
 /// How many tokens the text with two theorems has.
 const THROUGH_TOKENS: usize = 120;
 
@@ -42,10 +45,10 @@ fn lex_in_pieces<R: Threads + Sync, A: Allocator + Copy + Send + Sync>(
     text: &[u8],
     count: u32,
 ) -> Result<Lexed<A>, AllocError>
-    requires some { 0 < count }
-    requires count { count ≤ 65536 }
+    requires count_is_positive { 0 < count }
+    requires count_le_limit { count ≤ MOST_PIECES }
 {
-    let cuts = Cuts::equal(alloc, text.len().min(2_147_483_648), count)?;
+    let cuts = Cuts::equal(alloc, text.len().min(TEXT_LIMIT + 1), count)?;
     lex(rt, alloc, text, &cuts)
 }
 
@@ -120,7 +123,7 @@ fn lexes_theorems_in_pieces(rt: HostRuntime) -> Result<(), AllocError> {
     assert_eq!(rt; whole.tokens.len(), THROUGH_TOKENS);
     assert_eq!(rt; whole.fault, None);
     assert_cuts_read_alike(&rt, rt.alloc(), &text, &whole)?;
-    let lexed = lex_in_pieces(&rt, rt.alloc(), &text, 65536)?;
+    let lexed = lex_in_pieces(&rt, rt.alloc(), &text, MOST_PIECES)?;
     assert_eq!(rt; lexed.tokens.as_slice(), whole.tokens.as_slice());
     assert_eq!(rt; lexed.fault, None);
     Ok(())
@@ -152,7 +155,7 @@ fn lexes_many_pieces(rt: HostRuntime) -> Result<(), AllocError> {
     let whole = lex_in_pieces(&rt, rt.alloc(), &text, 1)?;
     assert_eq!(rt; whole.tokens.len(), 4000);
     assert_eq!(rt; whole.fault, None);
-    for count in [2, 63, 64, 65, 1000, 65536] {
+    for count in [2, 63, 64, 65, 1000, MOST_PIECES] {
         let lexed = lex_in_pieces(&rt, rt.alloc(), &text, count)?;
         assert_eq!(rt; lexed.tokens.as_slice(), whole.tokens.as_slice());
         assert_eq!(rt; lexed.fault, whole.fault);
