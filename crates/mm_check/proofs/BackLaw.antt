@@ -119,7 +119,7 @@ step_flags_stay true (marked j) step_flags k flag_is_set = by_order (k == j) ref
           arith,
           length_le,
         ))
-    by_order false equality h =
+    by_order false equality k_in_or_out =
         get_or-set_other step_flags j k true false (eqb-false k j equality) ∙ flag_is_set
 
 -- a step that repeats a marked step sets the flag of that step, if its own entry is essential

@@ -71,7 +71,7 @@ within_push (l ∷ lists) labels new_labels are_within labels_within_new = (
 module _ (c : Context) where
   last_member : (forest : Trees) (x : List ℕ) (a : ℕ) → IsLastTree forest x → is_member x a ≡ true
       → is_member (postfix forest) a ≡ true
-  last_member none x a is_last m = absurd is_last
+  last_member none x a is_last is_member_of_x = absurd is_last
   last_member (more ts l f cs) x a is_last is_member_of_x =
       list_any-append (λ y. a == y) (postfix ts) (postfix cs ++ l ∷ [])
       ∙ or_right (is_member (postfix ts) a) _ (subst (λ z. is_member z a

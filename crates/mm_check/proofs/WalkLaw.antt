@@ -403,7 +403,8 @@ module _ (db : List Statement) (t : ℕ) (steps : List PlacedStep) (is_complete 
         → ((d : Trees) × IsProof db t d) → entry_flags ≡ true ∷ []
         → step_flags ≡ replicate (length steps) false → noted ≡ []
         → AreFoundFrom db t steps (length steps) entry_flags step_flags noted
-    walked_at_start entry_flags step_flags noted steps_are (d, derives) entry_flags_are step_flags_are
+    walked_at_start entry_flags step_flags noted steps_are (d, derives) entry_flags_are
+    step_flags_are
         noted_is_nil =
         found_from_forests (proof_has_forests (context_at db t) (is_complete t) (steps_of steps)
         (formula_at db t) d derives_formula)
@@ -412,7 +413,8 @@ module _ (db : List Statement) (t : ℕ) (steps : List PlacedStep) (is_complete 
         derives_formula = subst (λ ss. Derives (context_at db t) (steps_of ss) (formula_at db t) d)
             (sym steps_are) derives
 
-        found_from_forests : ((forests : List Trees) × AreMoves (context_at db t) forests 0 (steps_of
+        found_from_forests : ((forests : List Trees) × AreMoves (context_at db t) forests 0
+            (steps_of
             steps)
             × (forest_at forests (length (steps_of steps)) ≡ d))
             → AreFoundFrom db t steps (length steps) entry_flags step_flags noted

@@ -104,8 +104,8 @@ module _ (c : Context) (all_complete : (l : ℕ) → HasCompleteFrame c (c.rule 
     where
       none_never_fails : (a : Reason) → Fails c None es a → ⊥
       none_never_fails _ fails = fails
-  rule_is_complete (Some (hypothesis g)) es a frame_is_complete h = tt
-  rule_is_complete (Some (assertion g)) es a frame_is_complete h = frame_is_complete
+  rule_is_complete (Some (hypothesis g)) es a frame_is_complete fails = tt
+  rule_is_complete (Some (assertion g)) es a frame_is_complete fails = frame_is_complete
 
   reason_is_unique : (s : Step) (es : List Formula) (a b : Reason) → StepFails c s es a
       → StepFails c s es b → a ≡ b

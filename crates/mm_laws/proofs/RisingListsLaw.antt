@@ -10,9 +10,9 @@ use Rattle.mm_spec.specs.Derivation.{is_member}
 use Rattle.mm_laws.specs.Laws.Cells.{IsDecided}
 
 rising_tail : (x : ℕ) (xs : List ℕ) → IsStrictlyIncreasing (x ∷ xs) → IsStrictlyIncreasing xs
-rising_tail x xs h =
-    λ k l. let e : suc k + 1 ≡ suc (k + 1) = omega arith in
-    subst (λ n. get_or xs k 0 < get_or (x ∷ xs) n 0) e (h (suc k) (omega arith))
+rising_tail x xs rises =
+    λ k k_lt_length. let index_is : suc k + 1 ≡ suc (k + 1) = omega arith in
+    subst (λ n. get_or xs k 0 < get_or (x ∷ xs) n 0) index_is (rises (suc k) (omega arith))
 
 -- the first is below the others
 first_lt_member : (x : ℕ) (xs : List ℕ) → IsStrictlyIncreasing (x ∷ xs) → (a : ℕ)

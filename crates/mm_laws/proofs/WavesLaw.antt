@@ -87,7 +87,8 @@ module _ (db : List Statement) (by_essential : Bool) (all_complete : AreComplete
         longest.0,
         longest.1,
         λ b b_lt_suc_n b_is_link k is_chain. next_is_longest wave longest
-            longest.0 wave_lt_longest (omega arith) b b_lt_suc_n b_is_link k is_chain (cases_eq b n),
+            longest.0 wave_lt_longest (omega arith) b b_lt_suc_n b_is_link k is_chain (cases_eq b
+            n),
       )
       longest_with_link is_link wave longest (inr longest_le_wave) = (
         suc wave.0,

@@ -440,7 +440,7 @@ no_faults_of_faultless (g ∷ gs) label_count marks count are_faultless =
 no_letter_faults : (label_count end : ℕ) (xs : List Letter) → xs ≢ []
     → AreFaultlessGroups label_count 0 0 (groups [] xs)
     → letter_faults label_count end xs ≡ []
-no_letter_faults label_count end [] not_nil r = absurd (not_nil refl)
+no_letter_faults label_count end [] not_nil are_faultless_groups = absurd (not_nil refl)
 no_letter_faults label_count end (x ∷ xs) not_nil are_faultless_groups =
     ap₂ (λ fs (open_ : List Letter). fs ++ at end (when (nat_lt 0 (length open_)) OpenNumber))
     (no_faults_of_faultless (groups [] (x ∷ xs)).0 label_count 0 0 are_faultless_groups.0)

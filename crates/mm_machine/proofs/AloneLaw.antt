@@ -21,14 +21,15 @@ use Rattle.mm_machine.specs.State.{applied}
 use Rattle.mm_machine.proofs.RuleTestLaw.{length_all_parts}
 
 empty_of_length_0 : {X : Type 0} (xs : List X) → length xs ≡ 0 → xs ≡ []
-empty_of_length_0 [] h = refl
-empty_of_length_0 (x ∷ xs) h = absurd (omega (arith, h))
+empty_of_length_0 [] length_is_0 = refl
+empty_of_length_0 (x ∷ xs) length_is_0 = absurd (omega (arith, length_is_0))
 
 no_pairs : (ps : List (ℕ × ℕ)) → All (λ (p : ℕ × ℕ). (p.0 < 0) × (p.1 < 0)) ps → length ps ≡ 0
-no_pairs [] h = refl
-no_pairs (p ∷ ps) h =
-    absurd (let l = (recursion_from_All (λ (p : ℕ × ℕ). (p.0 < 0) × (p.1 < 0)) (p ∷ ps) h).0.0 in
-    omega (arith, l))
+no_pairs [] all_below_0 = refl
+no_pairs (p ∷ ps) all_below_0 =
+    absurd (let number_lt_0 = (recursion_from_All (λ (p : ℕ × ℕ). (p.0 < 0) × (p.1 < 0)) (p ∷ ps)
+    all_below_0).0.0 in
+    omega (arith, number_lt_0))
 
 -- a frame without hypotheses and pairs, whose formula has no variables
 module _ (c : Context) (a : Frame) (hypotheses_are_nil : a.hypotheses
@@ -55,15 +56,16 @@ module _ (c : Context) (a : Frame) (hypotheses_are_nil : a.hypotheses
 module _ (db : List Statement) (t : ℕ) (hs : List Formula) (σ : Substitution) where
   no_variables : (f : Formula) → AllByRecursion (IsVariableBelow 0) (parts_of db hs f)
       → substitute (context_at db t) σ f ≡ f
-  no_variables [] h = refl
-  no_variables (s ∷ f) h =
-      ap₂ (λ u v. u ++ v) (by_is_variable (is_variable_number db s) h.0) (no_variables f h.1)
+  no_variables [] variables_below_0 = refl
+  no_variables (s ∷ f) variables_below_0 =
+      ap₂ (λ u v. u ++ v) (by_is_variable (is_variable_number db s) variables_below_0.0)
+      (no_variables f variables_below_0.1)
     where
       by_is_variable : (v : Bool) → IsVariableBelow 0 (cond v (Variable (floating_index db hs s))
           (Constant s))
           → cond v (σ s) (s ∷ []) ≡ s ∷ []
-      by_is_variable true l = absurd (omega (arith, l))
-      by_is_variable false l = refl
+      by_is_variable true variable_below_0 = absurd (omega (arith, variable_below_0))
+      by_is_variable false variable_below_0 = refl
 
 module _ (db : List Statement) (t : ℕ) (c : CompiledRule) (rule : IsCompiled db c)
     (length_is_0 : length c.hypotheses ≡ 0) where

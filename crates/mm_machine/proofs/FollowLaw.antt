@@ -220,8 +220,12 @@ module _ (unmarked marked : List ℕ) (front back : List Span)
           each_is_inside : (xs : List Span) → AllByRecursion (IsIn (arena unmarked marked)) (xs
               ++ ys)
               → AllByRecursion (IsIn (arena unmarked marked)) xs
-          each_is_inside [] h = tt
-          each_is_inside (x ∷ xs) h = (h.0, each_is_inside xs h.1)
+          each_is_inside [] all_in_by_recursion = tt
+          each_is_inside (x ∷ xs) all_in_by_recursion = (
+            all_in_by_recursion.0,
+            each_is_inside xs
+                all_in_by_recursion.1,
+          )
 
   front_stays : AllByRecursion (Stays (arena unmarked marked) (arena (take reach unmarked) marked))
       front
@@ -530,16 +534,16 @@ nothing_moves unmarked marked =
 
 module _ {T E : Type 0} where
   pub map_ok : {P Q : Type 0} (r : Result T E) → (P → Q) → OnOk r P → OnOk r Q
-  map_ok (Ok x) f h = f h
-  map_ok (Err e) f h = tt
+  map_ok (Ok x) implied holds = implied holds
+  map_ok (Err e) implied holds = tt
 
   pub map_err : {P Q : E → Type 0} (r : Result T E) → ((e : E) → P e → Q e) → IfErr r P → IfErr r Q
-  map_err (Ok x) f h = h
-  map_err (Err e) f h = f e h
+  map_err (Ok x) implied holds = holds
+  map_err (Err e) implied holds = implied e holds
 
   pub map_ok₂ : {P Q S : Type 0} (r : Result T E) → (P → Q → S) → OnOk r P → OnOk r Q → OnOk r S
-  map_ok₂ (Ok x) f h k = f h k
-  map_ok₂ (Err e) f h k = tt
+  map_ok₂ (Ok x) implied first_holds second_holds = implied first_holds second_holds
+  map_ok₂ (Err e) implied first_holds second_holds = tt
 
   pub pushed_is_stack_of : (r : Result T E) (w : ℕ) (unmarked marked f unmarked' : List ℕ)
       (es es' : List Span)

@@ -29,22 +29,32 @@ pub all_stay : (a b : Arena) (es : List Span) → ((e : Span) → IsIn a e → S
 all_stay a b es each_stays_if_in all_in = each_stays es (recursion_from_All (IsIn a) es all_in)
   where
     each_stays : (es : List Span) → AllByRecursion (IsIn a) es → AllByRecursion (Stays a b) es
-    each_stays [] h = tt
-    each_stays (e ∷ es) h = (each_stays_if_in e h.0, each_stays es h.1)
+    each_stays [] all_in_by_recursion = tt
+    each_stays (e ∷ es) all_in_by_recursion = (
+      each_stays_if_in e all_in_by_recursion.0,
+      each_stays
+          es all_in_by_recursion.1,
+    )
 
 pub all_in_if_stay : (a b : Arena) (es : List Span) → AllByRecursion (Stays a b) es
     → All (IsIn b) es
-all_in_if_stay a b es h = All-from_recursion (IsIn b) es (each_is_inside es h)
+all_in_if_stay a b es all_stay_by_recursion = All-from_recursion (IsIn b) es (each_is_inside es
+    all_stay_by_recursion)
   where
     each_is_inside : (es : List Span) → AllByRecursion (Stays a b) es → AllByRecursion (IsIn b) es
-    each_is_inside [] h = tt
-    each_is_inside (e ∷ es) h = (h.0.is_in, each_is_inside es h.1)
+    each_is_inside [] all_stay_by_recursion = tt
+    each_is_inside (e ∷ es) all_stay_by_recursion = (
+      all_stay_by_recursion.0.is_in,
+      each_is_inside
+          es all_stay_by_recursion.1,
+    )
 
 pub formulas_equal_if_stay : (a b : Arena) (es : List Span) → AllByRecursion (Stays a b) es
     → span_formulas b es ≡ span_formulas a es
-formulas_equal_if_stay a b [] h = refl
-formulas_equal_if_stay a b (e ∷ es) h = ap₂ (λ u us. u ∷ us) h.0.formulas_equal
-    (formulas_equal_if_stay a b es h.1)
+formulas_equal_if_stay a b [] all_stay_by_recursion = refl
+formulas_equal_if_stay a b (e ∷ es) all_stay_by_recursion = ap₂ (λ u us. u ∷ us)
+    all_stay_by_recursion.0.formulas_equal
+    (formulas_equal_if_stay a b es all_stay_by_recursion.1)
 
 -- added symbols of unmarked formulas
 pub stays_with_more_unmarked : (unmarked marked added : List ℕ) (e : Span)
@@ -196,15 +206,18 @@ replaced_in_range n a es f unmarked_in_range marked_in_range parts_in_range = sy
     (recursion_from_All (IsConstantBelow n) f parts_in_range)
   where
     part_in_range : (p : RuleSymbol) → IsConstantBelow n p → All (λ s. s < n) (replaced_part a es p)
-    part_in_range (Variable j) h = formula_in_range n a (without_first (get_or es j no_symbols))
+    part_in_range (Variable j) part_is_below = formula_in_range n a (without_first (get_or es j
+        no_symbols))
         unmarked_in_range marked_in_range
-    part_in_range (Constant s) h = All-from_recursion (λ s. s < n) (s ∷ []) (h, tt)
+    part_in_range (Constant s) part_is_below = All-from_recursion (λ s. s < n) (s ∷ [])
+        (part_is_below, tt)
 
     symbol_by_symbol : (f : List RuleSymbol) → AllByRecursion (IsConstantBelow n) f
         → All (λ s. s < n) (replaced a es f)
-    symbol_by_symbol [] h = All-nil (λ s. s < n)
-    symbol_by_symbol (p ∷ f) h = All-append (λ s. s < n) _ _ (part_in_range p h.0) (symbol_by_symbol
-        f h.1)
+    symbol_by_symbol [] parts_are_below = All-nil (λ s. s < n)
+    symbol_by_symbol (p ∷ f) parts_are_below = All-append (λ s. s < n) _ _ (part_in_range p
+        parts_are_below.0) (symbol_by_symbol
+        f parts_are_below.1)
 
 -- a table written back
 pub take_written_back : {X : Type 0} (new_table old_table : List X) (n : ℕ) → length new_table ≡ n

@@ -230,7 +230,8 @@ module _ (unmarked marked : List ℕ) (es : List Span) (marks : List ℕ) (marke
       record {
         stack =
             subst (λ z. IsStackOf symbol_count unmarked' z es') marked_equal
-            (step_keeps_stack symbol_count parts_in_range (subst (λ z. IsStackOf symbol_count unmarked z
+            (step_keeps_stack symbol_count parts_in_range (subst (λ z. IsStackOf symbol_count
+            unmarked z
             es) (sym marked_equal)
             is_machine.stack));
         spans_are_marked = is_machine.spans_are_marked;

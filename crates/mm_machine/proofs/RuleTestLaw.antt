@@ -30,9 +30,9 @@ use Rattle.mm_machine.proofs.StretchLaw.{formula_tail}
 
 span_formula_is_at : (xs : Arena) (es : List Span) (j : ℕ) → j < length es
     → span_formula xs (get_or es j no_symbols) ≡ get_or (span_formulas xs es) j []
-span_formula_is_at xs [] j h = absurd (omega arith)
-span_formula_is_at xs (e ∷ es) zero h = refl
-span_formula_is_at xs (e ∷ es) (suc j) h = span_formula_is_at xs es j (omega arith)
+span_formula_is_at xs [] j j_lt_length = absurd (omega arith)
+span_formula_is_at xs (e ∷ es) zero j_lt_length = refl
+span_formula_is_at xs (e ∷ es) (suc j) j_lt_length = span_formula_is_at xs es j (omega arith)
 
 module _ (db : List Statement) (t : ℕ) (hs : List Formula) (xs : Arena) (es : List Span)
     (entries_in : All (IsIn xs) es) (counts_equal : length es ≡ length hs) where
@@ -64,8 +64,8 @@ module _ (db : List Statement) (t : ℕ) (hs : List Formula) (xs : Arena) (es : 
       by_is_variable : (v : Bool) → (IsTrue v → IsBound (context_at db t) hs s)
           → replaced_part xs es (cond v (Variable (floating_index db hs s)) (Constant s))
           ≡ cond v (σ s) (s ∷ [])
-      by_is_variable true h = replacement_is s (h refl)
-      by_is_variable false h = refl
+      by_is_variable true bound_if_variable = replacement_is s (bound_if_variable refl)
+      by_is_variable false bound_if_variable = refl
 
   pub all_replaced_are_substituted : (fs : List Formula)
       → AllByRecursion (AreBound (context_at db t) hs) fs

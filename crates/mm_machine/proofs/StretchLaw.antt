@@ -95,8 +95,8 @@ begins_with_first xs a e s a_lt_e e_le_length_xs = by_first_symbol (e - a) (drop
   where
     by_first_symbol : (n : ℕ) (ys : List ℕ) → ys ≡ get_or xs a 0 ∷ drop (a + 1) xs → 0 < n
         → starts_with nat_eq (take n ys) (s ∷ []) ≡ nat_eq s (get_or xs a 0)
-    by_first_symbol zero ys ys_is p = absurd (omega arith)
-    by_first_symbol (suc n) ys ys_is zero_lt_zero =
+    by_first_symbol zero ys ys_is n_is_positive = absurd (omega arith)
+    by_first_symbol (suc n) ys ys_is n_is_positive =
         ap (λ z. starts_with nat_eq (take (suc n) z) (s ∷ [])) ys_is
         ∙ and-true (nat_eq s (get_or xs a 0))
 

@@ -23,7 +23,8 @@ offset_bounds-premises-j-in-Essential c =
     (ap (λ (r : CompiledRule). r.hypotheses) c.rule.view_is) c.loop-j-test.true in
     omega (arith, j_lt_length_hs, c.requires.count)
 
-pub is_wanted_formula-is_fitting-requires-clause-wanted : goal.is_wanted_formula-is_fitting-requires-clause-wanted
+pub is_wanted_formula-is_fitting-requires-clause-wanted :
+    goal.is_wanted_formula-is_fitting-requires-clause-wanted
 is_wanted_formula-is_fitting-requires-clause-wanted c = grind (arith, common_steps)
 
 pub returns-then-not-is_fitting : goal.returns-then-not-is_fitting

@@ -13,7 +13,8 @@ returns-then-stack-hypotheses-clause-judged g c =
     c.hypotheses-hypotheses.ensures in
     omega (arith, stack_lt_hypotheses, hypothesis_count_is))
 
-pub returns-then-not-premises_match-clause-judged : goal.returns-then-not-premises_match-clause-judged
+pub returns-then-not-premises_match-clause-judged :
+    goal.returns-then-not-premises_match-clause-judged
 returns-then-not-premises_match-clause-judged g c =
     let stack = c.args.stack.now in
     let n = length c.hypotheses-hypotheses.result.now in
@@ -60,7 +61,8 @@ returns-clause-judged g c =
           (ap length c.hypotheses-hypotheses.ensures) (omega (arith, hypotheses_le_stack)) refl
           (take_rest stack (length stack - n)) c.requires.stack.entries_in_arena
           c.pairs-pairs.result.now
-          c.pairs-pairs.ensures true true (sym c.if-not-premises_match.false ∙ c.premises_match.ensures)
+          c.pairs-pairs.ensures true true (sym c.if-not-premises_match.false
+          ∙ c.premises_match.ensures)
           (sym c.if-not-pairs_are_disjoint.false ∙ c.pairs_are_disjoint.ensures.value),
     )
 
