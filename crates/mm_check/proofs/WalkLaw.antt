@@ -404,8 +404,7 @@ module _ (db : List Statement) (t : ℕ) (steps : List PlacedStep) (is_complete 
         → step_flags ≡ replicate (length steps) false → noted ≡ []
         → AreFoundFrom db t steps (length steps) entry_flags step_flags noted
     walked_at_start entry_flags step_flags noted steps_are (d, derives) entry_flags_are
-    step_flags_are
-        noted_is_nil =
+        step_flags_are noted_is_nil =
         found_from_forests (proof_has_forests (context_at db t) (is_complete t) (steps_of steps)
         (formula_at db t) d derives_formula)
       where

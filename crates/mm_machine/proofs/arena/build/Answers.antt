@@ -8,8 +8,6 @@ use Rattle.mm_machine.specs.Arena.{span_formula}
 use Rattle.mm_machine.specs.Replaced.{replaced_part, replaced}
 use Rattle.mm_machine.proofs.GrowLaw.{variable_replacement_is_in}
 use Rattle.mm_machine.proofs.LongerLaw.{front_and_part_le_replaced, replaced_take_suc}
-use Rattle.mm_machine.proofs.arena.build.Goals.{}
-use Rattle.mm_machine.proofs.arena.build.Goals.{}
 use Rattle.mm_machine.proofs.arena.build.Goals.{in-Variable+in_ok-append_symbols-in-Variable+else-len-gt-FORMULA_LIMIT}
 use Rattle.mm_machine.proofs.arena.build.Goals.{in-Constant+in_ok-push-in-Constant}
 use Rattle.mm_machine.proofs.arena.build.Goals as goal
