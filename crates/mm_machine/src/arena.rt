@@ -114,7 +114,7 @@ pub fn build<A: Allocator>(
     requires formula { All (IsVariableBelow (length premises.now)) formula.now }
     ensures tells_length_le_limit { IfOk result
         (λ b. b ≡ nat_le (length (replaced symbols.now premises.now formula.now)) formula_limit) }
-    ensures built { IfOk result
+    ensures list_is_formula { IfOk result
         (λ b. b ≡ true → list.new.items ≡ replaced symbols.now premises.now formula.now) }
 {
     list.clear();

@@ -205,7 +205,7 @@ impl<A: Allocator> Machine<A> {
             ≡ length (symbol_names database.now.statements) }
         requires cache { AreDisjointAt database.now.statements theorem cache.old }
         ensures cache { AreDisjointAt database.now.statements theorem cache.new }
-        ensures step { IsApplied database.now.statements theorem rule.now.assertion self.old
+        ensures is_applied { IsApplied database.now.statements theorem rule.now.assertion self.old
             self.new
             result }
     {
@@ -225,10 +225,10 @@ impl<A: Allocator> Machine<A> {
         rule: &Rule,
     ) -> Result<(), StepRefused>
         requires rule { IsCompiled database.now.statements rule.now }
-        requires alone { length rule.now.hypotheses ≡ 0 }
+        requires no_hypotheses { length rule.now.hypotheses ≡ 0 }
         requires symbol_count { self.old.symbol_count
             ≡ length (symbol_names database.now.statements) }
-        ensures step { IsApplied database.now.statements _theorem rule.now.assertion self.old
+        ensures is_applied { IsApplied database.now.statements _theorem rule.now.assertion self.old
             self.new
             result }
     {
@@ -257,7 +257,7 @@ impl<A: Allocator> Machine<A> {
             ≡ length (symbol_names database.now.statements) }
         requires cache { AreDisjointAt database.now.statements theorem cache.old }
         ensures cache { AreDisjointAt database.now.statements theorem cache.new }
-        ensures step { IsApplied database.now.statements theorem rule.now.assertion self.old
+        ensures is_applied { IsApplied database.now.statements theorem rule.now.assertion self.old
             self.new
             result }
     {
@@ -362,7 +362,7 @@ fn move_to_marked<A: Allocator>(
     ensures stack { IsStack unmarked.new marked.new stack.new.items }
     ensures formulas { span_formulas (arena unmarked.new marked.new) stack.new.items
         ≡ span_formulas (arena unmarked.old marked.old) stack.old.items }
-    ensures moved { Moves unmarked.old marked.old unmarked.new marked.new }
+    ensures moves_symbols { Moves unmarked.old marked.old unmarked.new marked.new }
     ensures entry_is { IfOk result
         (λ e. IsMarkedEntry marked.new e
         × (span_formula (arena [] marked.new) e

@@ -101,7 +101,7 @@ pub(crate) fn answer_by_one<'a, A: Allocator + Copy, W: Write>(
     database: Database<'a, A>,
     to: &mut W,
 ) -> RunEnd
-    requires read { IsReadFrom text.now request.now.with_open database }
+    requires is_read { IsReadFrom text.now request.now.with_open database }
     ensures { Answers result text.now request.now (W.contents to.old) (W.contents to.new) }
 {
     match check_alone(alloc, &database, request.essential) {

@@ -42,9 +42,9 @@ formula-requires g c =
     c.requires.formula
     c.loop-part-test.true c.part-item.is c.in-Variable.is c.replacement_of.ensures
 
-pub returns-then-len-gt-FORMULA_LIMIT-clause-built :
-    goal.returns-then-len-gt-FORMULA_LIMIT-clause-built
-returns-then-len-gt-FORMULA_LIMIT-clause-built g c = λ short_is_true. absurd (cc)
+pub returns-then-len-gt-FORMULA_LIMIT-clause-list_is_formula :
+    goal.returns-then-len-gt-FORMULA_LIMIT-clause-list_is_formula
+returns-then-len-gt-FORMULA_LIMIT-clause-list_is_formula g c = λ short_is_true. absurd (cc)
 
 pub loop-part-preserved : goal.loop-part-preserved
 loop-part-preserved g c =
@@ -79,8 +79,8 @@ returns-clause-tells_length_le_limit g c =
     ap (λ n. nat_le n formula_limit)
     (c.len-2.ensures ∙ c.loop-part.list.ok.0 ∙ ap length list_is)
 
-pub returns-clause-built : goal.returns-clause-built
-returns-clause-built g c = λ short.
+pub returns-clause-list_is_formula : goal.returns-clause-list_is_formula
+returns-clause-list_is_formula g c = λ short.
     c.loop-part.invariant ∙ ap (replaced c.args.symbols.now c.args.premises.now)
     (take_all c.loop-part.part-index c.args.formula.now c.loop-part-test.false)
 
@@ -89,7 +89,7 @@ pub returns-in_err-append_symbols-in-Variable-clause-tells_length_le_limit :
 returns-in_err-append_symbols-in-Variable-clause-tells_length_le_limit g c =
     IfOk-from_err c.from_residual.result _ c.from_residual.ensures.0
 
-pub returns-in_err-append_symbols-in-Variable-clause-built :
-    goal.returns-in_err-append_symbols-in-Variable-clause-built
-returns-in_err-append_symbols-in-Variable-clause-built g c =
+pub returns-in_err-append_symbols-in-Variable-clause-list_is_formula :
+    goal.returns-in_err-append_symbols-in-Variable-clause-list_is_formula
+returns-in_err-append_symbols-in-Variable-clause-list_is_formula g c =
     IfOk-from_err c.from_residual.result _ c.from_residual.ensures.0

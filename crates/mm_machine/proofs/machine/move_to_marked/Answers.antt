@@ -8,14 +8,14 @@ use Rattle.mm_machine.proofs.FollowLaw.{is_moved, nothing_moves}
 use Rattle.mm_machine.proofs.machine.move_to_marked.Given.{Over}
 use Rattle.mm_machine.proofs.machine.move_to_marked.Goals as goal
 
-pub returns-in_err-append-in-Unmarked-clause-moved :
-    goal.returns-in_err-append-in-Unmarked-clause-moved
-returns-in_err-append-in-Unmarked-clause-moved g c =
+pub returns-in_err-append-in-Unmarked-clause-moves_symbols :
+    goal.returns-in_err-append-in-Unmarked-clause-moves_symbols
+returns-in_err-append-in-Unmarked-clause-moves_symbols g c =
     rw c.in_err-append-in-Unmarked.ensures.unchanged_if_err
     (nothing_moves c.args.unmarked.now c.args.marked.now)
 
-pub returns-in-Marked-clause-moved : goal.returns-in-Marked-clause-moved
-returns-in-Marked-clause-moved g c = nothing_moves c.args.unmarked.now c.args.marked.now
+pub returns-in-Marked-clause-moves_symbols : goal.returns-in-Marked-clause-moves_symbols
+returns-in-Marked-clause-moves_symbols g c = nothing_moves c.args.unmarked.now c.args.marked.now
 
 pub returns-in-Marked-clause-entry_is : goal.returns-in-Marked-clause-entry_is
 returns-in-Marked-clause-entry_is g c =
@@ -75,9 +75,9 @@ pub returns-in_ok-append-in-Unmarked-clause-formulas :
     goal.returns-in_ok-append-in-Unmarked-clause-formulas
 returns-in_ok-append-in-Unmarked-clause-formulas g c = (top_is_moved g c).formulas_stay
 
-pub returns-in_ok-append-in-Unmarked-clause-moved :
-    goal.returns-in_ok-append-in-Unmarked-clause-moved
-returns-in_ok-append-in-Unmarked-clause-moved g c = (top_is_moved g c).moves_symbols
+pub returns-in_ok-append-in-Unmarked-clause-moves_symbols :
+    goal.returns-in_ok-append-in-Unmarked-clause-moves_symbols
+returns-in_ok-append-in-Unmarked-clause-moves_symbols g c = (top_is_moved g c).moves_symbols
 
 pub returns-in_ok-append-in-Unmarked-clause-entry_is :
     goal.returns-in_ok-append-in-Unmarked-clause-entry_is

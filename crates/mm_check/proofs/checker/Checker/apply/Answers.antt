@@ -20,7 +20,7 @@ returns-in_err-apply-clause-at_theorem g c =
     subst (λ (s : CheckerState). IsAtTheorem c.args.database.now.statements c.args.theorem s)
     (sym c.self.view_is) c.requires.at_theorem in
     record {
-      made_for = rw c.apply.ensures.step.symbol_count_stays is_at_theorem.made_for;
+      made_for = rw c.apply.ensures.is_applied.symbol_count_stays is_at_theorem.made_for;
       theorem_lt_length = is_at_theorem.theorem_lt_length;
       pairs_are_disjoint = c.apply.ensures.cache;
     }
@@ -37,7 +37,7 @@ returns-in_err-apply-clause-refused g c =
     c.requires.rule_is_complete
     c.requires.assertion e
     (subst (λ a. IsRefusalOf e (applied db t a i.machine.stack)) c.rule_of-rule.ensures.assertion_is
-    c.in_err-apply.ensures.step.refusal_is_right))
+    c.in_err-apply.ensures.is_applied.refusal_is_right))
 
 pub returns-clause-at_theorem : goal.returns-clause-at_theorem
 returns-clause-at_theorem g c =
@@ -45,7 +45,7 @@ returns-clause-at_theorem g c =
     subst (λ (s : CheckerState). IsAtTheorem c.args.database.now.statements c.args.theorem s)
     (sym c.self.view_is) c.requires.at_theorem in
     record {
-      made_for = rw c.apply.ensures.step.symbol_count_stays is_at_theorem.made_for;
+      made_for = rw c.apply.ensures.is_applied.symbol_count_stays is_at_theorem.made_for;
       theorem_lt_length = is_at_theorem.theorem_lt_length;
       pairs_are_disjoint = c.apply.ensures.cache;
     }
@@ -54,7 +54,7 @@ pub returns-clause-performs : goal.returns-clause-performs
 returns-clause-performs g c =
     let db = c.args.database.now.statements in
     let t = c.args.theorem in
-    let applied_step = c.in_ok-apply.ensures.step.applies_if_ok in
+    let applied_step = c.in_ok-apply.ensures.is_applied.applies_if_ok in
     elim c.match-add.branch [
       | in-Ok-add w ↦ rw (w.result-is, ← c.self.view_is)
           (applied_step_performs db t _ c.args.assertion c.requires.rule_is_complete

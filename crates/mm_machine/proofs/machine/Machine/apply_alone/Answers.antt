@@ -16,7 +16,7 @@ returns-then-symbols-gt-FORMULA_LIMIT g c =
         applies_if_ok = tt;
         refusal_is_right =
             applied_alone_is_too_long db c.args._theorem c.args.rule.now c.requires.rule
-            c.requires.alone
+            c.requires.no_hypotheses
             c.args.self.now.stack (omega (arith, length_is, c.if-symbols-gt-FORMULA_LIMIT.true));
         symbol_count_stays = refl;
       };
@@ -41,7 +41,7 @@ returns-in-Ok g c =
             (record {
               entries_are =
                   applied_alone_is_ok db c.args._theorem c.args.rule.now c.requires.rule
-                  c.requires.alone
+                  c.requires.no_hypotheses
                   es
                   (omega (arith, length_is, c.if-symbols-gt-FORMULA_LIMIT.false))
                   ∙ ap (λ f. Ok (es ++ f ∷ [])) (sym symbols_are);

@@ -42,8 +42,8 @@ invariant_of-self g c =
     symbol_count)
     c.replace_by_formula.ensures.stack
 
-pub returns-in-Err-clause-step : goal.returns-in-Err-clause-step
-returns-in-Err-clause-step g c =
+pub returns-in-Err-clause-is_applied : goal.returns-in-Err-clause-is_applied
+returns-in-Err-clause-is_applied g c =
     let i = c.self.inside in
     let db = c.args.database.now.statements in
     record {
@@ -57,14 +57,14 @@ returns-in-Err-clause-step g c =
       symbol_count_stays = refl;
     }
 
-pub returns-in-Ok-clause-step : goal.returns-in-Ok-clause-step
-returns-in-Ok-clause-step g c =
+pub returns-in-Ok-clause-is_applied : goal.returns-in-Ok-clause-is_applied
+returns-in-Ok-clause-is_applied g c =
     let i = c.self.inside in
     let db = c.args.database.now.statements in
     let t = c.args.theorem in
     let a = c.args.rule.now.assertion in
     let replacing = c.replace_by_formula in
-    let judged = rule_is_tested g (goal.at.returns-in-Ok-clause-step g c).In-Ok in
+    let judged = rule_is_tested g (goal.at.returns-in-Ok-clause-is_applied g c).In-Ok in
     let formulas = span_formulas (arena [] i.marked) i.marked_spans.items in
     let entries = span_formulas (arena i.unmarked i.marked) i.stack.items in
     let state_before = machine_state entries i.marks.items formulas i.symbol_count in

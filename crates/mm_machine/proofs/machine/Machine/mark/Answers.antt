@@ -14,7 +14,7 @@ invariant_of-self g c =
     moved_machine i.unmarked i.marked i.stack.items i.marks.items i.marked_spans.items
     i.symbol_count
     new_lists.unmarked new_lists.marked new_lists.stack.items c.self.invariant
-    c.move_to_marked.ensures.moved
+    c.move_to_marked.ensures.moves_symbols
     c.move_to_marked.ensures.stack
 
 pub invariant_of-self-in_err-push : goal.invariant_of-self-in_err-push
@@ -25,7 +25,7 @@ invariant_of-self-in_err-push g c =
     (moved_machine i.unmarked i.marked i.stack.items i.marks.items i.marked_spans.items
     i.symbol_count
     new_lists.unmarked new_lists.marked new_lists.stack.items c.self.invariant
-    c.move_to_marked.ensures.moved
+    c.move_to_marked.ensures.moves_symbols
     c.move_to_marked.ensures.stack)
 
 pub invariant_of-self-in_err-push-2 : goal.invariant_of-self-in_err-push-2
@@ -39,7 +39,7 @@ invariant_of-self-in_err-push-2 g c =
     (moved_machine i.unmarked i.marked i.stack.items i.marks.items i.marked_spans.items
     i.symbol_count
     new_lists.unmarked new_lists.marked new_lists.stack.items c.self.invariant
-    c.move_to_marked.ensures.moved
+    c.move_to_marked.ensures.moves_symbols
     c.move_to_marked.ensures.stack) c.in_ok-span.ensures.entry_is.0)
 
 pub invariant_of-self-2 : goal.invariant_of-self-2
@@ -57,7 +57,7 @@ invariant_of-self-2 g c =
     (moved_machine i.unmarked i.marked i.stack.items i.marks.items i.marked_spans.items
     i.symbol_count
     new_lists.unmarked new_lists.marked new_lists.stack.items c.self.invariant
-    c.move_to_marked.ensures.moved
+    c.move_to_marked.ensures.moves_symbols
     c.move_to_marked.ensures.stack) c.in_ok-span.ensures.entry_is.0 marks_lt_step)
 
 pub returns-clause-ok : goal.returns-clause-ok
@@ -71,7 +71,7 @@ returns-clause-ok g c =
     ∙ marked_spans_formulas i.unmarked i.marked new_lists.unmarked new_lists.marked
     i.marked_spans.items
     c.in_ok-span.span
-    (top old_entries) c.move_to_marked.ensures.moved c.self.invariant.spans_are_marked
+    (top old_entries) c.move_to_marked.ensures.moves_symbols c.self.invariant.spans_are_marked
     c.in_ok-span.ensures.entry_is.1 in
     ap (λ z. machine_state z c.push-2.new.self.items
     (span_formulas (arena [] new_lists.marked) c.push.new.self.items) i.symbol_count)
