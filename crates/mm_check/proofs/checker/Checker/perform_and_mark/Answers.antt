@@ -8,14 +8,14 @@ pub perform-requires-clause-step_is_ready : goal.perform-requires-clause-step_is
 perform-requires-clause-step_is_ready g c =
     step_is_ready c.args.database.now.statements c.args.theorem c.args.steps.now.steps c.args.i
     c.args.self.now
-    c.requires.performed c.requires.step (as_step c.step.result) c.step.ensures
+    c.requires.performed c.requires.i_lt_length (as_step c.step.result) c.step.ensures
 
 pub returns-in-Err-clause-fault : goal.returns-in-Err-clause-fault
 returns-in-Err-clause-fault g c =
     rw c.refusal.ensures
     (refused_step_refuses c.args.database.now.statements c.args.theorem c.args.steps.now.steps
     c.args.i
-    c.args.self.now c.requires.performed c.requires.step (as_step c.step.result) c.step.ensures
+    c.args.self.now c.requires.performed c.requires.i_lt_length (as_step c.step.result) c.step.ensures
     c.place.result c.in-Err.refused c.place.ensures c.in-Err.ensures.refused)
 
 pub returns-in_ok-mark-clause-performed : goal.returns-in_ok-mark-clause-performed
@@ -25,7 +25,7 @@ returns-in_ok-mark-clause-performed g c =
     let a = as_step c.step.result in
     has_performed_after_step db t c.args.steps.now.steps c.args.i c.args.self.now
     c.requires.performed
-    c.requires.step a c.step.ensures _ c.mark.new.self true
+    c.requires.i_lt_length a c.step.ensures _ c.mark.new.self true
     (sym c.is_marked.ensures ∙ c.if-is_marked.true)
     (subst (λ (s : CheckerState). Performs db t a c.args.self.now s) (sym c.self.view_is)
     c.in_default.ensures.performs)
@@ -37,7 +37,7 @@ pub returns-else-is_marked-clause-performed : goal.returns-else-is_marked-clause
 returns-else-is_marked-clause-performed g c =
     has_performed_after_step c.args.database.now.statements c.args.theorem c.args.steps.now.steps
     c.args.i
-    c.args.self.now c.requires.performed c.requires.step (as_step c.step.result) c.step.ensures
+    c.args.self.now c.requires.performed c.requires.i_lt_length (as_step c.step.result) c.step.ensures
     c.perform.new.self c.perform.new.self.machine false
     (sym c.is_marked.ensures ∙ c.if-is_marked.false) c.in_default.ensures.performs
     c.perform.ensures.at_theorem refl refl
