@@ -3,6 +3,7 @@
 ghost use Rattle.std.specs.Prelude.{◌<◌, ◌≤◌};
 
 use crate::examples::words;
+use crate::flags::{INSIDE_COMMENT, OUTSIDE_COMMENT};
 use crate::texts::through_a_theorem;
 use mm_lex::{Code, Cuts, Fault, Lexed, Piece, Word, join, lex, lex_piece};
 use mm_spec::TEXT_LIMIT;
@@ -172,10 +173,10 @@ fn assert_piece<R: Abort>(
     inside_fault: Option<Fault>,
 ) {
     assert_eq!(rt; [piece.head(), piece.tail()], ends);
-    assert_eq!(rt; piece.tokens(false), outside);
-    assert_eq!(rt; piece.fault(false), None);
-    assert!(rt; piece.tokens(true).is_empty());
-    assert_eq!(rt; piece.fault(true), inside_fault);
+    assert_eq!(rt; piece.tokens(OUTSIDE_COMMENT), outside);
+    assert_eq!(rt; piece.fault(OUTSIDE_COMMENT), None);
+    assert!(rt; piece.tokens(INSIDE_COMMENT).is_empty());
+    assert_eq!(rt; piece.fault(INSIDE_COMMENT), inside_fault);
 }
 
 #[test]
@@ -207,8 +208,8 @@ fn summarizes_stretches(rt: HostRuntime) -> Result<(), AllocError> {
 fn is_whole_summary<A: Allocator>(piece: &Piece<A>) -> bool {
     piece.from() == 0
         && piece.to() == 12
-        && piece.tokens(false) == [word(0, 2), word(11, 12)].as_slice()
-        && piece.fault(false).is_none()
+        && piece.tokens(OUTSIDE_COMMENT) == [word(0, 2), word(11, 12)].as_slice()
+        && piece.fault(OUTSIDE_COMMENT).is_none()
 }
 
 /// The stretches 0 to 1, 1 to 9 and 9 to 12, the first two read by threads; the first two are

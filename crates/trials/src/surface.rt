@@ -8,6 +8,7 @@ ghost use Rattle.mm_spec.specs.Output.{columns, theorems};
 ghost use Rattle.mm_work.specs.Judged.{AllHaveCitations};
 ghost use Rattle.mm_report.specs.Rows.{AreCitationsOf};
 
+use crate::flags::{BY_ALL_NODES, INSIDE_COMMENT, OUTSIDE_COMMENT, WITHOUT_OPEN};
 use crate::texts::{FIRST_REPORT, FIRST_TEXT};
 use mm_board::Board;
 use mm_bytes::{class_block, class_tail, count_lf, first_bad};
@@ -46,8 +47,8 @@ fn assert_whole<R: Abort>(rt: &R, piece: &Piece<Global>) {
     let head = piece.head();
     let tail = piece.tail();
     assert!(rt; head.start == 0 && head.end == 0 && tail.start == 170 && tail.end == 170);
-    assert!(rt; piece.tokens(false).len() == 62 && piece.fault(false) == None);
-    assert!(rt; piece.tokens(true).is_empty());
+    assert!(rt; piece.tokens(OUTSIDE_COMMENT).len() == 62 && piece.fault(OUTSIDE_COMMENT) == None);
+    assert!(rt; piece.tokens(INSIDE_COMMENT).is_empty());
 }
 
 #[test]
@@ -80,7 +81,7 @@ fn database_of<R: Threads + Sync>(
 ) -> Result<Database<'static, Global>, AllocError> {
     let cuts = Cuts::equal(alloc, FIRST_TEXT.len(), 1)?;
     let lexed = lex(rt, alloc, FIRST_TEXT, &cuts)?;
-    read(alloc, FIRST_TEXT, &lexed, false)
+    read(alloc, FIRST_TEXT, &lexed, WITHOUT_OPEN)
 }
 
 /// Asserts what is said of the statement with the first axiom.
@@ -134,7 +135,7 @@ fn proofs(rt: HostRuntime) -> Result<(), AllocError> {
     };
     assert!(&rt; steps.theorem() == 6 && steps.len() == 5);
     assert!(&rt; steps.step(0) == Step::Label(2) && steps.place(0) == 152);
-    match check(rt.alloc(), &database, theorem, &steps, false) {
+    match check(rt.alloc(), &database, theorem, &steps, BY_ALL_NODES) {
         Ok(checked) => {
             assert!(&rt; checked.theorem() == 6 && checked.cites() == [4u32].as_slice());
         }
@@ -182,7 +183,8 @@ fn citations_of<R: Threads + Wait + Sync>(
 ) -> Result<Citations<Global>, AllocError>
     ensures { IfOk result (λ citations. AllHaveCitations database.now.statements false citations) }
 {
-    match check_all(rt, alloc, database, 2, false, &Open)? {
+    let essential = false;
+    match check_all(rt, alloc, database, 2, essential, &Open)? {
         Judged::Valid(citations) => Ok(citations),
         Judged::Faulty(_) => Err(AllocError),
     }
@@ -233,7 +235,7 @@ fn is_report_written(
         database,
         chosen,
         matrix,
-        false,
+        WITHOUT_OPEN,
         Form::One,
         Choice::All,
     );
@@ -256,7 +258,7 @@ fn are_citations_written(
         chosen,
         citations,
         None,
-        false,
+        WITHOUT_OPEN,
         Form::Two,
     );
     written.is_ok()
