@@ -6,8 +6,8 @@ use Rattle.mm_laws.proofs.frames.lawful_statements_have_complete_frames.Goals as
 pub returns : goal.returns
 returns c =
     record {
-      complete = frames_are_complete;
-      typed = variables_are_typed_where_read;
+      frames_are_complete = frames_are_complete;
+      variables_are_typed = variables_are_typed_where_read;
       mandatory =
           variables_are_mandatory_where_read;
     }

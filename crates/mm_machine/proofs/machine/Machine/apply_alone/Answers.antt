@@ -12,7 +12,7 @@ returns-then-symbols-gt-FORMULA_LIMIT g c =
     let symbols_are = c.formula-symbols.ensures.are ∙ ap (formula_at db) c.assertion.ensures in
     let length_is = ap length symbols_are in
     record {
-      step = record {
+      is_applied = record {
         applies_if_ok = tt;
         refusal_is_right =
             applied_alone_is_too_long db c.args._theorem c.args.rule.now c.requires.rule
@@ -34,7 +34,7 @@ returns-in-Ok g c =
     state_before.symbol_count
     in
     record {
-      step = record {
+      is_applied = record {
         applies_if_ok =
             subst (Applies db c.args._theorem c.args.rule.now.assertion state_before)
             (sym c.in-Ok.ensures.ok)
