@@ -74,14 +74,14 @@ module _ (A : RattleType) (g : Ghosts A.Denot) {M : Type 1} {𝓤 : Ura M} {𝓛
       fpick t (λ us. fsplit t $
       feq_l t (λ value_is. fpick t (λ vss. fsplit t $ feq_l t (λ parts_are. fsplit t $
       move t (1 ∷ []) $ drop t $ fsplit t $
-      peeks t Fields (Is Fields) (shows 𝓛 Fields) (x.at, (tt, tt)) vss.0 (λ is_fields. drop t $
-      rewrite t 0 (λ (k : ℕ). ‵ (block_at (g.dealloc_token x.alloc) k x.at)) is_block.1 refl $
-      rewrite t 0 (λ (a : A.Denot). ‵ (block_at (g.dealloc_token a) (block_units s) x.at))
+      peeks t Fields (Is Fields) (shows 𝓛 Fields) (x.address, (tt, tt)) vss.0 (λ is_fields. drop t $
+      rewrite t 0 (λ (k : ℕ). ‵ (block_at (g.dealloc_token x.alloc) k x.address)) is_block.1 refl $
+      rewrite t 0 (λ (a : A.Denot). ‵ (block_at (g.dealloc_token a) (block_units s) x.address))
       is_block.0
       refl $
-      in_a_block t x.at (λ (p : Ptr). block_at (g.dealloc_token h) (block_units s) p)
-      (fst∗ 𝓤 (never 𝓤) (sem 𝓛 (g.dealloc_token h (units (block_units s)) null_ptr))) (λ b o at_is.
+      in_a_block t x.address (λ (p : Ptr). block_at (g.dealloc_token h) (block_units s) p)
+      (fst∗ 𝓤 (never 𝓤) (sem 𝓛 (g.dealloc_token h (units (block_units s)) null_ptr))) (λ b o address_is.
       if_block b o (subst (λ (k : ℕ). s ≤ k * 16) is_block.1 is_block.2) is_block.3
       (ap only value_is ∙ ap (λ (ws : List Val). live 1 (of_list ws)) (parts_are
-      ∙ ap (λ (ws : List Val). ws ++ []) (block_is x.at vss.0 is_fields))
-      ∙ ap (λ (p : Ptr). live 1 (vcons (block_val p) vnil)) at_is)))))))
+      ∙ ap (λ (ws : List Val). ws ++ []) (block_is x.address vss.0 is_fields))
+      ∙ ap (λ (p : Ptr). live 1 (vcons (block_val p) vnil)) address_is)))))))

@@ -71,14 +71,14 @@ module _ {M : Type 1} {𝓤 : Ura M} {𝓛 : Logic 𝓤} {K : Type 0} {Γ : List
         fpick t (λ us. fsplit t $
         feq_l t (λ value_is. fpick t (λ vss. fsplit t $ feq_l t (λ parts_are. fsplit t $
         move t (1 ∷ []) $ drop t $ fsplit t $
-        peeks t Fields (Is Fields) (fields_shown 𝓛) (m.at, tt) vss.0 (λ is_fields. drop t $
-        rewrite t 0 (λ (k : ℕ). ‵ (units_at m.at k)) is_memory.0 refl $
-        in_block t m.at n (subst (λ (k : ℕ). 0 < k) is_memory.0 is_memory.1) (λ b o at_is.
+        peeks t Fields (Is Fields) (fields_shown 𝓛) (m.address, tt) vss.0 (λ is_fields. drop t $
+        rewrite t 0 (λ (k : ℕ). ‵ (units_at m.address k)) is_memory.0 refl $
+        in_block t m.address n (subst (λ (k : ℕ). 0 < k) is_memory.0 is_memory.1) (λ b o address_is.
         if_memory b o (subst (λ (k : ℕ). 0 < k) is_memory.0 is_memory.1)
         (subst (λ (k : ℕ). s ≤ k * 16) is_memory.0 is_memory.2) is_memory.3
         (ap only value_is ∙ ap (λ (ws : List Val). live 1 (of_list ws)) (parts_are
-        ∙ ap (λ (ws : List Val). ws ++ []) (memory_is m.at vss.0 is_fields))
-        ∙ ap (λ (p : Ptr). live 1 (vcons (memory_val p) vnil)) at_is)))))))
+        ∙ ap (λ (ws : List Val). ws ++ []) (memory_is m.address vss.0 is_fields))
+        ∙ ap (λ (p : Ptr). live 1 (vcons (memory_val p) vnil)) address_is)))))))
 
 -- what comes after a statement b' of a body, where the rest is b
 abbrev pub rest_runs : {M : Type 1} {𝓤 : Ura M} (𝓛 : Logic 𝓤) → Calls 𝓤 𝓛.H → Loops 𝓤 𝓛.H

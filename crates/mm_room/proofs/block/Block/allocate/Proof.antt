@@ -93,7 +93,7 @@ allocate_spec 𝓤 𝓛 𝓜 𝓡 wired A L g d dd met md =
     answers Y ! 𝓜.mem 𝓡.returns h τ v
     (λ b o answer_is. let p = block_ptr b o in
     let x : (block.the_row A g).Denot = record
-    { at = p; given_by = record {}; alloc = h; units = u } in
+    { address = p; given_by = record {}; alloc = h; units = u } in
     fjoin ! $ move ! (1 ∷ 2 ∷ []) $ join ! $ move ! (1 ∷ []) $
     -- [the block with the way back; the tokens]
     lands_as ! answer_is refl (tt, (record { fits = lit< tt }, (tt, tt))) $

@@ -74,10 +74,10 @@ free_spec 𝓤 𝓛 𝓜 𝓡 wired A L g d dd met md =
     units_are_u. heard ! _ (λ units_lt_limit.
     let s : ℕ = u * 16 in
     split ! $ move ! (1 ∷ []) $ fsplit ! $ fsplit ! $ drop ! $
-    rewrite ! 0 (λ (n : ℕ). ‵ (block_at (g.dealloc_token x.alloc) n x.at)) units_are_u refl $
-    rewrite ! 0 (λ (b : A.Denot). ‵ (block_at (g.dealloc_token b) u x.at)) alloc_is_h refl $
-    in_a_block ! x.at (λ p. block_at (g.dealloc_token h) u p)
-    (fst∗ 𝓤 (never 𝓤) (sem 𝓛 (g.dealloc_token h τ null_ptr))) (λ b o at_is.
+    rewrite ! 0 (λ (n : ℕ). ‵ (block_at (g.dealloc_token x.alloc) n x.address)) units_are_u refl $
+    rewrite ! 0 (λ (b : A.Denot). ‵ (block_at (g.dealloc_token b) u x.address)) alloc_is_h refl $
+    in_a_block ! x.address (λ p. block_at (g.dealloc_token h) u p)
+    (fst∗ 𝓤 (never 𝓤) (sem 𝓛 (g.dealloc_token h τ null_ptr))) (λ b o address_is.
     move ! (1 ∷ []) $ fsplit ! $ fsplit ! $ drop ! $ move ! (1 ∷ []) $ drop ! $
     use1 𝓛 (‵ (seen Y κs.0 alloc_ptr h)) (id⊢ 𝓤 _) $
     move ! (2 ∷ []) $ use1 𝓛 (‵ (flft κs.0 qs.0) ⊛ ‵ (flft κs.1.0 qs.1.0) ⊛ ‵ ftrue) (id⊢ 𝓤 _) $
@@ -87,7 +87,7 @@ free_spec 𝓤 𝓛 𝓜 𝓡 wired A L g d dd met md =
     -- tokens]
     let z = at_gives Y 𝓛 𝓜.mem 𝓡.returns κs.0 qs.0 alloc_ptr h b o s 16 τ in
     regoal ! (λ (us : List Val). prop (WpFn 𝓤 𝓛.H 𝓣.C 𝓣.Λ fn us Post))
-    (λ i. (block_is x.at vss.0 are.0.0 ∙ ap (λ (r : Ptr). block_val r ∷ []) at_is) i
+    (λ i. (block_is x.address vss.0 are.0.0 ∙ ap (λ (r : Ptr). block_val r ∷ []) address_is) i
     ++ (are.1.0.0 i ++ (are.1.1.0.0 i ++ []))) refl $
     enter ! 𝓣.C 𝓣.Λ fn (block_val (block_ptr b o) ∷ vptr alloc_ptr.0 alloc_ptr.1 ∷ vint w64 u ∷ [])
     Post $

@@ -78,7 +78,7 @@ deallocate_spec 𝓤 𝓛 𝓜 𝓡 wired =
       τ,
     ) in
     let G = triple_of 𝓛 g.signature (g.spec 𝓛 𝓜.mem 𝓡.returns) in
-    let m : (memory.the_row).Denot = record { at = p; units = u } in
+    let m : (memory.the_row).Denot = record { address = p; units = u } in
     let z : G.Ghost = (
       (κs, qs, bounds, (a.0, (m, tt)), (shr_vals a.0, (memory_val p ∷ [], tt))),
       tt,

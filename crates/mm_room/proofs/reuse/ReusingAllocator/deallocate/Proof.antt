@@ -90,7 +90,7 @@ deallocate_spec 𝓤 𝓛 𝓜 𝓡 wired A L g d dd met md =
     ) in
     let G = triple_of 𝓛 (k.signature A g d dd) (k.spec A g d dd 𝓛 𝓜.mem 𝓡.returns) in
     let x : (block.the_row A g).Denot = record {
-      at = p;
+      address = p;
       given_by = record {};
       alloc = h;
       units = block_units n;
