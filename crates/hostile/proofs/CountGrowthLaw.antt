@@ -43,13 +43,13 @@ module _ {M : Type 1} {𝓤 : Ura M} (𝓛 : Logic 𝓤) (at_mem : Memory → SP
       nothing ! $ move ! (1 ∷ []) $ fjoin ! $ nothing ! $ move !
       (2 ∷ []) $ join ! $ join ! $ nothing ! $ move ! (1 ∷ []) $ done !
 
-  -- what it answered
-  abbrev pub Gave : Val → Bool → SProp 𝓤
-  Gave v b = guard 𝓤 (v ≡ vbool b) (A.lft κ q)
+  -- its answer, with the token of its loan
+  abbrev pub HasAnswer : Val → Bool → SProp 𝓤
+  HasAnswer v b = guard 𝓤 (v ≡ vbool b) (A.lft κ q)
 
   pub CountGrowth_gives : (v : Val)
       → ent 𝓤 ((CountGrowth 𝓛 at_mem run).post (at_count_growth 𝓛 at_mem run κ q c) v)
-      (H.⇛ (ex 𝓤 (Gave v)))
+      (H.⇛ (ex 𝓤 (HasAnswer v)))
   CountGrowth_gives v =
       qed 𝓛 (types.Kit.raw ((CountGrowth 𝓛 at_mem run).post (at_count_growth 𝓛 at_mem run κ q c) v)
       ∷ []) ∵
@@ -59,5 +59,6 @@ module _ {M : Type 1} {𝓤 : Ura M} (𝓛 : Logic 𝓤) (at_mem : Memory → SP
       (λ (ws : Unit {0} × Unit {0}). ‵ (fsep ftrue ftrue) ⊛ ‵ ftrue))))
       (id⊢ 𝓤 _) $ await ! tt $ pick ! (λ r.
       split ! $ split ! $ move ! (1 ∷ []) $ feq_l !
-      (λ e. split ! $ at_once ! $ show ! (Gave v) r $ check ! (ap only e) $ keep !
+      (λ value_is. split ! $ at_once ! $ show ! (HasAnswer v) r $ check ! (ap only value_is) $ keep
+      !
       (0 ∷ []) $ done !))

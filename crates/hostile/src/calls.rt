@@ -6,6 +6,7 @@ ghost use Rattle.mm_spec.specs.Output.{is_theorem_at};
 ghost use Rattle.mm_steps.specs.Read.{read};
 ghost use Rattle.mm_check.specs.Checker.{IsMadeFor};
 
+use crate::flags::BY_ALL_NODES;
 use mm_check::{CheckRefused, Checked, Checker, check};
 use mm_plan::{Cutting, Plan};
 use mm_proof::Steps;
@@ -52,7 +53,7 @@ pub(crate) fn checked<A: Allocator + Copy>(
     requires steps { steps.now ≡ read theorem (steps_at database.now.statements theorem) }
     requires sound { reading_faults_at database.now.statements theorem ≡ [] }
 {
-    check(alloc, database, theorem, steps, false)
+    check(alloc, database, theorem, steps, BY_ALL_NODES)
 }
 
 /// What a theorem cites, or why its proof wasn't found valid, by this checker.
@@ -69,7 +70,7 @@ pub(crate) fn checked_by<A: Allocator + Copy>(
     requires sound { reading_faults_at database.now.statements theorem ≡ [] }
     ensures made_for { IsMadeFor database.now.statements checker.new }
 {
-    checker.check(alloc, database, theorem, steps, false)
+    checker.check(alloc, database, theorem, steps, BY_ALL_NODES)
 }
 
 /// What all theorems cite, or the fault of the first proof that has one, by `workers` workers.
@@ -81,5 +82,5 @@ pub(crate) fn all_checked<R: Threads + Wait + Sync, A: Allocator + Copy + Send +
 ) -> Result<Judged<A>, AllocError>
     requires { (1 ≤ workers) × (workers ≤ 64) }
 {
-    check_all(rt, alloc, database, workers, false, &Open)
+    check_all(rt, alloc, database, workers, BY_ALL_NODES, &Open)
 }

@@ -11,6 +11,8 @@ mod ends;
 #[cfg(test)]
 mod failing;
 #[cfg(test)]
+mod flags;
+#[cfg(test)]
 mod growth;
 pub mod heap;
 #[cfg(test)]

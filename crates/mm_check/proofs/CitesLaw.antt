@@ -11,16 +11,17 @@ use Rattle.mm_spec.proofs.NodesLaw.{all_labels}
 use Rattle.mm_rule.specs.Assertions.{is_assertion_at}
 
 -- the assertions among the labels of the proof are what the theorem cites
-pub all_cited : (db : List Statement) (t : ℕ) (d : Trees) (cites : List ℕ) → AreComplete db
+pub labels_are_cited : (db : List Statement) (t : ℕ) (d : Trees) (cites : List ℕ) → AreComplete db
     → IsProof db t d
     → ((a : ℕ) → is_member cites a ≡ (is_member (postfix d) a && is_assertion_at db a)) → (a : ℕ)
     → Decides (is_member cites a) (Cites db false t a)
-all_cited db t d cites complete is_proof exact a = (
-  λ e. let both =
-      and_parts (is_member (postfix d) a) (is_assertion_at db a) (sym (exact a) ∙ e) in
-      (both.1, d, is_proof, (all_labels db d a).1 both.0),
-  λ c. exact a
+labels_are_cited db t d cites complete is_proof members_are a = (
+  λ is_cited. let is_label_and_assertion =
+      and_parts (is_member (postfix d) a) (is_assertion_at db a) (sym (members_are a) ∙ is_cited) in
+      (is_label_and_assertion.1, d, is_proof, (all_labels db d a).1 is_label_and_assertion.0),
+  λ cites_a. members_are a
       ∙ and_from (is_member (postfix d) a) (is_assertion_at db a)
-      (subst (λ e. is_member (postfix e) a ≡ true) (proof_unique db complete t c.1 d c.2 is_proof)
-      ((all_labels db c.1 a).0 c.3)) c.0,
+      (subst (λ d'. is_member (postfix d') a ≡ true) (proof_unique db complete t cites_a.1 d
+      cites_a.2 is_proof)
+      ((all_labels db cites_a.1 a).0 cites_a.3)) cites_a.0,
 )

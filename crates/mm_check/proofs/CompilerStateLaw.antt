@@ -16,69 +16,79 @@ use Rattle.mm_check.specs.Contract.{IsLabelBelow}
 
 module _ (db : List Statement) (t j : ℕ) where
   -- the statement of a good label, and what it stands for
-  record Stands : Type 0 where
+  record HasStatement : Type 0 where
     pub statement : Statement
-    pub stands : slice_get db j ≡ Some statement
-    pub rule : rule_at db t j ≡ rule_of db j statement
+    pub statement_is : slice_get db j ≡ Some statement
+    pub rule_is : rule_at db t j ≡ rule_of db j statement
 
-  good_label_stands : IsCompleteRule (context_at db t) (rule_at db t j) → Stands
-  good_label_stands good = by_activity (is_active db j t) refl (slice_get db j) refl good
+  good_label_has_statement : IsCompleteRule (context_at db t) (rule_at db t j) → HasStatement
+  good_label_has_statement is_complete = by_activity (is_active db j t) refl (slice_get db j) refl
+      is_complete
     where
       out : Bool → Option Statement → Option Rule
       out b o = elim b [ false ↦ None | true ↦ elim o [ None ↦ None | Some s ↦ rule_of db j s ] ]
 
       by_activity : (b : Bool) → is_active db j t ≡ b → (o : Option Statement) → slice_get db j ≡ o
-          → IsCompleteRule (context_at db t) (out b o) → Stands
-      by_activity false e o f is_good = absurd is_good
-      by_activity true active_at_t None f g = absurd g
-      by_activity true active_at_t (Some s) f g =
+          → IsCompleteRule (context_at db t) (out b o) → HasStatement
+      by_activity false not_active o statement_is is_good = absurd is_good
+      by_activity true active_at_t None statement_is is_complete = absurd is_complete
+      by_activity true active_at_t (Some s) statement_is is_complete =
           record {
             statement = s;
-            stands = f;
-            rule = ap (λ b. out b (slice_get db j)) active_at_t ∙ ap (λ o. out true o) f;
+            stands = statement_is;
+            rule_is = ap (λ b. out b (slice_get db j)) active_at_t
+                ∙ ap (λ o. out true o) statement_is;
           }
 
-  pub good_below : IsCompleteRule (context_at db t) (rule_at db t j) → j < length db
-  good_below good = let s = good_label_stands good in inside_of db j s.statement s.stands
+  pub good_label_is_below : IsCompleteRule (context_at db t) (rule_at db t j) → j < length db
+  good_label_is_below is_complete = let labelled = good_label_has_statement is_complete in inside_of
+      db j labelled.statement labelled.statement_is
 
-  at_is : (s : Statement) (b : Bool) → slice_get db j ≡ Some s → is_assertion_at db j ≡ b
+  assertion_flag_is : (s : Statement) (b : Bool) → slice_get db j ≡ Some s → is_assertion_at db j
+      ≡ b
       → list_any is_assertion (s ∷ []) ≡ b
-  at_is s b e h =
-      sym (ap (λ o. list_any is_assertion (elim o [ None ↦ [] | Some s ↦ s ∷ [] ])) e) ∙ h
+  assertion_flag_is s b statement_is flag_is =
+      sym (ap (λ o. list_any is_assertion (elim o [ None ↦ [] | Some s ↦ s ∷ [] ])) statement_is)
+      ∙ flag_is
 
   pub assertion_rule : is_assertion_at db j ≡ true
       → IsCompleteRule (context_at db t) (rule_at db t j)
       → rule_at db t j ≡ Some (assertion (frame_at db j))
-  assertion_rule is good =
-      let s = good_label_stands good in s.rule
-      ∙ by_statement s.statement (at_is s.statement true s.stands
-      is)
+  assertion_rule is_assertion is_complete =
+      let labelled = good_label_has_statement is_complete in labelled.rule_is
+      ∙ by_statement labelled.statement (assertion_flag_is labelled.statement true
+      labelled.statement_is
+      is_assertion)
     where
       by_statement : (s : Statement) → list_any is_assertion (s ∷ []) ≡ true
           → rule_of db j s ≡ Some (assertion (frame_at db j))
-      by_statement (axiomatic l p xs d) h = refl
-      by_statement (provable l p xs e ps d) h = refl
-      by_statement _ h = absurd (true≢false (sym h))
+      by_statement (axiomatic l p xs d) is_assertion = refl
+      by_statement (provable l p xs e ps d) is_assertion = refl
+      by_statement _ is_assertion = absurd (true≢false (sym is_assertion))
 
   pub hypothesis_rule : is_assertion_at db j ≡ false
       → IsCompleteRule (context_at db t) (rule_at db t j)
       → rule_at db t j ≡ Some (hypothesis (formula_at db j))
-  hypothesis_rule is good =
-      let s = good_label_stands good in
-      s.rule ∙ by_statement s.statement (at_is s.statement false s.stands is)
-      (subst (IsCompleteRule (context_at db t)) s.rule good)
+  hypothesis_rule not_assertion is_complete =
+      let labelled = good_label_has_statement is_complete in
+      labelled.rule_is ∙ by_statement labelled.statement (assertion_flag_is labelled.statement false
+      labelled.statement_is not_assertion)
+      (subst (IsCompleteRule (context_at db t)) labelled.rule_is is_complete)
     where
       by_statement : (s : Statement) → list_any is_assertion (s ∷ []) ≡ false
           → IsCompleteRule (context_at db t) (rule_of db j s)
           → rule_of db j s ≡ Some (hypothesis (formula_at db j))
-      by_statement (floating l p xs d) h g = refl
-      by_statement (essential l p xs d) h g = refl
-      by_statement (axiomatic l p xs d) h g = absurd (true≢false h)
-      by_statement (provable l p xs e ps d) h g = absurd (true≢false h)
-      by_statement _ h g = absurd g
+      by_statement (floating l p xs d) not_assertion is_complete = refl
+      by_statement (essential l p xs d) not_assertion is_complete = refl
+      by_statement (axiomatic l p xs d) not_assertion is_complete = absurd (true≢false
+          not_assertion)
+      by_statement (provable l p xs e ps d) not_assertion is_complete = absurd (true≢false
+          not_assertion)
+      by_statement _ not_assertion is_complete = absurd is_complete
 
 -- the label of a good step is that of a statement
-pub good_labels : (db : List Statement) (t n : ℕ) (s : Step) → IsGoodStep (context_at db t) n s
+pub good_step_label_is_below : (db : List Statement) (t n : ℕ) (s : Step)
+    → IsGoodStep (context_at db t) n s
     → IsLabelBelow s (length db)
-good_labels db t n (label l) good = good_below db t l good
-good_labels db t n (marked j) good = tt
+good_step_label_is_below db t n (label l) is_good = good_label_is_below db t l is_good
+good_step_label_is_below db t n (marked j) is_good = tt

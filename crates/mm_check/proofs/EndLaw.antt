@@ -24,9 +24,9 @@ use Rattle.mm_machine.specs.State.{MachineState, machine_state}
 use Rattle.mm_check.specs.Contract.{IsChecked}
 use Rattle.mm_check.specs.Reached.{IsReached, AreStepsOf, steps_of}
 use Rattle.mm_check.specs.Checker.{CheckerState, checker_state, AreOfDatabase, HasPerformed}
-use Rattle.mm_check.proofs.CitesLaw.{all_cited}
-use Rattle.mm_check.proofs.RanLaw.{none_ran}
-use Rattle.mm_check.proofs.ReachLaw.{end_derives, ends_with, end_is}
+use Rattle.mm_check.proofs.CitesLaw.{labels_are_cited}
+use Rattle.mm_check.proofs.RanLaw.{no_step_has_run}
+use Rattle.mm_check.proofs.ReachLaw.{end_derives, end_code_is_fault, proof_end_is_end_at}
 
 module _ (db : List Statement) (t : ℕ) (steps : List PlacedStep) where
   -- no step is performed yet
@@ -36,70 +36,76 @@ module _ (db : List Statement) (t : ℕ) (steps : List PlacedStep) where
       → AreOfDatabase db symbol_count rules → AreStepsOf db t steps → m
       ≡ machine_state [] [] [] symbol_count → noted ≡ []
       → AreDisjointAt db t cache → HasPerformed db t steps 0 (checker_state m rules noted cache)
-  no_step_performed m rules noted cache symbol_count of_database are fresh none are_disjoint_at =
+  no_step_performed m rules noted cache symbol_count of_database steps_are machine_is noted_is_nil
+      are_disjoint_at =
       record {
-        at = record {
-          made_for = rw fresh of_database;
-          theorem = by_statement (slice_get db t) refl are.theorem;
-          disjoint_are = are_disjoint_at;
+        is_at_theorem = record {
+          made_for = rw machine_is of_database;
+          theorem_lt_length = by_statement (slice_get db t) refl steps_are.theorem;
+          pairs_are_disjoint = are_disjoint_at;
         };
-        are_steps = are;
-        ran = none_ran db t steps m noted symbol_count fresh none;
+        are_steps = steps_are;
+        has_run = no_step_has_run db t steps m noted symbol_count machine_is noted_is_nil;
       }
     where
       by_statement : (o : Option Statement) → slice_get db t ≡ o
           → list_any is_theorem (elim o [ None ↦ [] | Some s ↦ s ∷ [] ]) ≡ true → t < length db
-      by_statement None e h = absurd (true≢false (sym h))
-      by_statement (Some s) e h = inside_of db t s e
+      by_statement None statement_is is_theorem = absurd (true≢false (sym is_theorem))
+      by_statement (Some s) statement_is is_theorem = inside_of db t s statement_is
 
   -- all steps are performed
-  module _ (c d : CheckerState) (view : c ≡ d) (p : HasPerformed db t steps (length steps) d) where
+  module _ (c d : CheckerState) (view : c ≡ d) (has_performed : HasPerformed db t steps (length
+      steps) d) where
     abbrev ends : List Formula
-    ends = p.ran.ends
+    ends = has_performed.has_run.ends
 
-    abbrev all : IsReached db t (steps_of steps) c.machine.stack ends c.noted
-    all =
+    abbrev all_reached : IsReached db t (steps_of steps) c.machine.stack ends c.noted
+    all_reached =
         rw view
         (subst (λ z. IsReached db t (steps_of z) d.machine.stack ends d.noted)
-        (take_all (length steps) steps (omega arith)) p.ran.reached)
+        (take_all (length steps) steps (omega arith)) has_performed.has_run.is_reached)
 
-    module _ (one : c.machine.stack ≡ formula_at db t ∷ []) where
+    module _ (formula_is_only_entry : c.machine.stack ≡ formula_at db t ∷ []) where
       -- the forest after them is the theorem's proof
-      abbrev pub proof_is : (d : Trees) × IsProof db t d
-      proof_is = (
-        all.forest,
-        subst (λ ps. Derives (context_at db t) (steps_of ps) (formula_at db t) all.forest)
-            p.are_steps.steps_are
-            (end_derives db t steps c.machine.stack ends c.noted all (formula_at db t) one),
+      abbrev pub is_proof : (d : Trees) × IsProof db t d
+      is_proof = (
+        all_reached.forest,
+        subst (λ ps. Derives (context_at db t) (steps_of ps) (formula_at db t) all_reached.forest)
+            has_performed.are_steps.steps_are
+            (end_derives db t steps c.machine.stack ends c.noted all_reached (formula_at db t)
+            formula_is_only_entry),
       )
 
-      pub cites_are : (a : ℕ) → Decides (is_member c.noted a) (Cites db false t a)
-      cites_are =
-          all_cited db t all.forest c.noted p.are_steps.complete proof_is.1 all.noted_are
+      pub noted_are_cited : (a : ℕ) → Decides (is_member c.noted a) (Cites db false t a)
+      noted_are_cited =
+          labels_are_cited db t all_reached.forest c.noted has_performed.are_steps.is_complete
+          is_proof.1 all_reached.noted_are
 
       pub is_checked : (essential : Bool) (noted cites : List ℕ)
           → ((a : ℕ) → Decides (is_member noted a) (Cites db essential t a))
           → IsStrictlyIncreasing cites → ((a : ℕ) → is_member cites a ≡ is_member noted a)
           → IsChecked db essential t cites
-      is_checked essential noted cites exact rising same = record {
-        derivation = all.forest;
-        proof = proof_is.1;
-        rising = rising;
-        exact = λ a. subst (λ b. Decides b (Cites db essential t a)) (sym (same a)) (exact a);
+      is_checked essential noted cites noted_are_exact cites_rise members_are = record {
+        derivation = all_reached.forest;
+        is_proof = is_proof.1;
+        cites_rise = cites_rise;
+        noted_are_cites_are_exact = λ a. subst (λ b. Decides b (Cites db essential t a)) (sym
+            (members_are a)) (noted_are_exact a);
       }
 
-    pub ends_here : (at : ℕ) (code : Code) → option_map end_at (slice_get db t) ≡ Some at
+    pub end_is_refused : (end : ℕ) (code : Code) → option_map end_at (slice_get db t) ≡ Some end
         → IsEndCode (context_at db t) c.machine.stack (formula_at db t) code
-        → ProofFault db t (proof_end (slice_get db t)) (fault at code)
-    ends_here at code last is_end_code =
+        → ProofFault db t (proof_end (slice_get db t)) (fault end code)
+    end_is_refused end code end_is is_end_code =
         let f = formula_at db t in
         inr (
-          p.are_steps.sound,
+          has_performed.are_steps.no_reading_faults,
           inr (subst
               (λ ps.
-              ProofEndFault (context_at db t) ps f (proof_end (slice_get db t)) (fault at code))
-              p.are_steps.steps_are
-              (subst (λ n. ProofEndFault (context_at db t) steps f n (fault at code))
-              (sym (end_is db t at p.are_steps.theorem last))
-              (ends_with db t steps c.machine.stack ends c.noted all at code f is_end_code))),
+              ProofEndFault (context_at db t) ps f (proof_end (slice_get db t)) (fault end code))
+              has_performed.are_steps.steps_are
+              (subst (λ n. ProofEndFault (context_at db t) steps f n (fault end code))
+              (sym (proof_end_is_end_at db t end has_performed.are_steps.is_theorem end_is))
+              (end_code_is_fault db t steps c.machine.stack ends c.noted all_reached end code f
+              is_end_code))),
         )

@@ -24,21 +24,25 @@ last_tree (more ts l f cs) = tree l f cs
 -- ---- lists
 
 -- two ways to cut one list
-two_cuts : (xs ys us vs : List ℕ) → xs ++ ys ≡ us ++ vs
+cut_two_ways : (xs ys us vs : List ℕ) → xs ++ ys ≡ us ++ vs
     → ((k : List ℕ) × (xs ≡ us ++ k)) ⊎ ((k : List ℕ) × (us ≡ xs ++ k) × (ys ≡ k ++ vs))
-two_cuts [] ys us vs e = inr (us, refl, e)
-two_cuts (x ∷ xs) ys [] vs e = inl (x ∷ xs, refl)
-two_cuts (x ∷ xs) ys (u ∷ us) vs e =
-    let h : x ≡ u = cc in
-    let t : xs ++ ys ≡ us ++ vs = cc in
-    by_cut h (two_cuts xs ys us vs t)
+cut_two_ways [] ys us vs lists_equal = inr (us, refl, lists_equal)
+cut_two_ways (x ∷ xs) ys [] vs lists_equal = inl (x ∷ xs, refl)
+cut_two_ways (x ∷ xs) ys (u ∷ us) vs lists_equal =
+    let heads_equal : x ≡ u = cc in
+    let tails_equal : xs ++ ys ≡ us ++ vs = cc in
+    by_cut heads_equal (cut_two_ways xs ys us vs tails_equal)
   where
     by_cut : x ≡ u → ((k : List ℕ) × (xs ≡ us ++ k))
         ⊎ ((k : List ℕ) × (us ≡ xs ++ k) × (ys ≡ k ++ vs))
         → ((k : List ℕ) × (x ∷ xs ≡ (u ∷ us) ++ k))
         ⊎ ((k : List ℕ) × (u ∷ us ≡ (x ∷ xs) ++ k) × (ys ≡ k ++ vs))
-    by_cut h (inl p) = let e = p.1 in inl (p.0, cc (h, e))
-    by_cut h (inr p) = let e = p.1 in inr (p.0, cc (h, e), p.2)
+    by_cut heads_equal (inl cut) = let front_is = cut.1 in inl (cut.0, cc (heads_equal, front_is))
+    by_cut heads_equal (inr cut) = let front_is = cut.1 in inr (
+      cut.0,
+      cc (heads_equal, front_is),
+      cut.2,
+    )
 
 -- ---- forests
 
@@ -49,15 +53,15 @@ postfix_join ts (more us l f cs) =
     ∙ append_assoc (postfix ts) (postfix us) (postfix cs ++ l ∷ [])
 
 -- forests that come later change no earlier one
-forest_front : (forests rest : List Trees) (n : ℕ) → n ≤ length forests
-    → forest_at (forests ++ rest) n ≡ forest_at forests n
-forest_front forests rest zero h = refl
-forest_front forests rest (suc n) h = get_or_append_left forests rest none n h
+forest_front : (forests later : List Trees) (n : ℕ) → n ≤ length forests
+    → forest_at (forests ++ later) n ≡ forest_at forests n
+forest_front forests later zero n_le_length = refl
+forest_front forests later (suc n) n_le_length = get_or_append_left forests later none n n_le_length
 
-forest_next : (forests rest : List Trees) (next : Trees)
-    → forest_at (forests ++ next ∷ rest) (suc (length forests)) ≡ next
-forest_next [] rest next = refl
-forest_next (r ∷ forests) rest next = forest_next forests rest next
+forest_next : (forests later : List Trees) (next_forest : Trees)
+    → forest_at (forests ++ next_forest ∷ later) (suc (length forests)) ≡ next_forest
+forest_next [] later next_forest = refl
+forest_next (r ∷ forests) later next_forest = forest_next forests later next_forest
 
 module _ (c : Context) where
   -- Step n makes a tree of the last ones of the forest before it, or adds a copy of the tree that
@@ -76,253 +80,308 @@ module _ (c : Context) where
   AreMoves forests n [] = Unit {0}
   AreMoves forests n (s ∷ steps) = IsMove forests n s × AreMoves forests (suc n) steps
 
-  derivations_join : (ts us : Trees) → AreDerivations c ts → AreDerivations c us
+  joined_forest_derives : (ts us : Trees) → AreDerivations c ts → AreDerivations c us
       → AreDerivations c (ts ⧺ us)
-  derivations_join ts none d e = d
-  derivations_join ts (more us l f cs) d e = (derivations_join ts us d e.0, e.1, e.2)
+  joined_forest_derives ts none ts_derive us_derive = ts_derive
+  joined_forest_derives ts (more us l f cs) ts_derive us_derive = (
+    joined_forest_derives ts us
+        ts_derive us_derive.0,
+    us_derive.1,
+    us_derive.2,
+  )
 
   abbrev RowOf : List ℕ → Type 0
   RowOf labels = (r : Trees) × AreDerivations c r × (postfix r ≡ labels)
 
   -- the first labels of a forest are those of a forest
-  front_row : (forest : Trees) (old rest : List ℕ) → AreDerivations c forest → postfix forest ≡ old
-      ++ rest
-      → RowOf old
-  front_row none [] rest are_derivations e = (none, tt, refl)
-  front_row none (x ∷ old) rest are_derivations e = absurd (cc)
-  front_row (more ts l f cs) old rest d e =
-      by_cut (two_cuts (postfix ts) (postfix cs ++ l ∷ []) old rest e)
-      (λ k q. front_row ts old k d.0 q)
-      (λ old' k q. front_row cs old' k d.1 q)
+  row_of_front : (forest : Trees) (labels rest_labels : List ℕ) → AreDerivations c forest
+      → postfix forest ≡ labels
+      ++ rest_labels
+      → RowOf labels
+  row_of_front none [] rest_labels derives postfix_is = (none, tt, refl)
+  row_of_front none (x ∷ labels) rest_labels are_derivations postfix_is = absurd (cc)
+  row_of_front (more ts l f cs) labels rest_labels derives postfix_is =
+      by_cut (cut_two_ways (postfix ts) (postfix cs ++ l ∷ []) labels rest_labels postfix_is)
+      (λ k front_is. row_of_front ts labels k derives.0 front_is)
+      (λ labels' k front_is. row_of_front cs labels' k derives.1 front_is)
     where
-      whole : (k m : List ℕ) → old ≡ postfix ts ++ k → k ≡ postfix cs ++ m → l ∷ [] ≡ m ++ rest
-          → RowOf old
-      whole k [] o q z = (
+      row_of_whole_tree : (k m : List ℕ) → labels ≡ postfix ts ++ k → k ≡ postfix cs ++ m → l ∷ []
+          ≡ m ++ rest_labels
+          → RowOf labels
+      row_of_whole_tree k [] labels_are rest_is label_is = (
         ts ⧺ cs,
-        derivations_join ts cs d.0 d.1,
+        joined_forest_derives ts cs derives.0 derives.1,
         postfix_join ts cs
-            ∙ ap (λ x. postfix ts ++ x) (sym (append-nil (postfix cs)) ∙ sym q) ∙ sym o,
+            ∙ ap (λ x. postfix ts ++ x) (sym (append-nil (postfix cs)) ∙ sym rest_is)
+            ∙ sym labels_are,
       )
-      whole k (x ∷ []) o q z =
+      row_of_whole_tree k (x ∷ []) labels_are rest_is label_is =
           let l_is_x : l ≡ x = cc in (
             more ts l f cs,
-            d,
+            derives,
             ap (λ y. postfix ts ++ (postfix cs ++ y ∷ [])) l_is_x
-                ∙ ap (λ y. postfix ts ++ y) (sym q) ∙ sym o,
+                ∙ ap (λ y. postfix ts ++ y) (sym rest_is) ∙ sym labels_are,
           )
-      whole k (x ∷ y ∷ m) o q z = absurd (omega (arith, ap length z))
+      row_of_whole_tree k (x ∷ y ∷ m) labels_are rest_is label_is = absurd (omega (
+        arith,
+        ap length
+            label_is,
+      ))
 
-      inner : (k : List ℕ) → old ≡ postfix ts ++ k
+      row_in_children : (k : List ℕ) → labels ≡ postfix ts ++ k
           → ((m : List ℕ) × (postfix cs ≡ k ++ m))
-          ⊎ ((m : List ℕ) × (k ≡ postfix cs ++ m) × (l ∷ [] ≡ m ++ rest))
-          → ((old' k : List ℕ) → postfix cs ≡ old' ++ k → RowOf old') → RowOf old
-      inner k o (inl p) on =
-          let r = on k p.0 p.1 in (
-            ts ⧺ r.0,
-            derivations_join ts r.0 d.0 r.1,
-            postfix_join ts r.0
-                ∙ ap (λ x. postfix ts ++ x) r.2 ∙ sym o,
+          ⊎ ((m : List ℕ) × (k ≡ postfix cs ++ m) × (l ∷ [] ≡ m ++ rest_labels))
+          → ((labels' k : List ℕ) → postfix cs ≡ labels' ++ k → RowOf labels') → RowOf labels
+      row_in_children k labels_are (inl cut) row_of_part =
+          let row = row_of_part k cut.0 cut.1 in (
+            ts ⧺ row.0,
+            joined_forest_derives ts row.0 derives.0 row.1,
+            postfix_join ts row.0
+                ∙ ap (λ x. postfix ts ++ x) row.2 ∙ sym labels_are,
           )
-      inner k o (inr p) on = whole k p.0 o p.1 p.2
+      row_in_children k labels_are (inr cut) row_of_part = row_of_whole_tree k cut.0 labels_are
+          cut.1 cut.2
 
-      by_cut : ((k : List ℕ) × (postfix ts ≡ old ++ k))
-          ⊎ ((k : List ℕ) × (old ≡ postfix ts ++ k) × (postfix cs ++ l ∷ [] ≡ k ++ rest))
-          → ((k : List ℕ) → postfix ts ≡ old ++ k → RowOf old)
-          → ((old' k : List ℕ) → postfix cs ≡ old' ++ k → RowOf old') → RowOf old
-      by_cut (inl p) on in_children = on p.0 p.1
-      by_cut (inr p) on in_children =
-          inner p.0 p.1 (two_cuts (postfix cs) (l ∷ []) p.0 rest p.2) in_children
+      by_cut : ((k : List ℕ) × (postfix ts ≡ labels ++ k))
+          ⊎ ((k : List ℕ) × (labels ≡ postfix ts ++ k) × (postfix cs ++ l ∷ [] ≡ k ++ rest_labels))
+          → ((k : List ℕ) → postfix ts ≡ labels ++ k → RowOf labels)
+          → ((labels' k : List ℕ) → postfix cs ≡ labels' ++ k → RowOf labels') → RowOf labels
+      by_cut (inl cut) row_of_part in_children = row_of_part cut.0 cut.1
+      by_cut (inr cut) row_of_part in_children =
+          row_in_children cut.0 cut.1 (cut_two_ways (postfix cs) (l ∷ []) cut.0 rest_labels cut.2)
+          in_children
 
   -- the plain list only grows
-  adds_more : (lists : List (List ℕ)) (old : List ℕ) (s : Step) (new : List ℕ)
-      → Adds c lists old s new → (rest : List ℕ) × (new ≡ old ++ rest)
-  adds_more lists old (label l) new h = (l ∷ [], h)
-  adds_more lists old (marked j) new h = (h.1, h.4)
+  adds_at_end : (lists : List (List ℕ)) (labels : List ℕ) (s : Step) (new_labels : List ℕ)
+      → Adds c lists labels s new_labels → (added : List ℕ) × (new_labels ≡ labels ++ added)
+  adds_at_end lists labels (label l) new_labels adds = (l ∷ [], adds)
+  adds_at_end lists labels (marked j) new_labels adds = (adds.1, adds.4)
 
-  plain_more : (steps : List Step) (lists : List (List ℕ)) (old all : List ℕ)
-      → Plain c lists old steps all → (rest : List ℕ) × (all ≡ old ++ rest)
-  plain_more [] lists old all h = ([], h ∙ sym (append-nil old))
-  plain_more (s ∷ steps) lists old all h =
-      let a = adds_more lists old s h.0 h.1 in
-      let b = plain_more steps (lists ++ h.0 ∷ []) h.0 all h.2 in
-      (a.0 ++ b.0, b.1 ∙ ap (λ z. z ++ b.0) a.1 ∙ append_assoc old a.0 b.0)
+  plain_extends : (steps : List Step) (lists : List (List ℕ)) (labels all_labels : List ℕ)
+      → Plain c lists labels steps all_labels → (added : List ℕ) × (all_labels ≡ labels ++ added)
+  plain_extends [] lists labels all_labels plain = ([], plain ∙ sym (append-nil labels))
+  plain_extends (s ∷ steps) lists labels all_labels plain =
+      let extended = adds_at_end lists labels s plain.0 plain.1 in
+      let extended_again = plain_extends steps (lists ++ plain.0 ∷ []) plain.0 all_labels plain.2 in (
+        extended.0 ++ extended_again.0,
+        extended_again.1 ∙ ap (λ z. z ++ extended_again.0) extended.1
+            ∙ append_assoc labels extended.0 extended_again.0,
+      )
 
   -- the lists after the steps so far are those of these forests
-  abbrev Are : List (List ℕ) → List Trees → Type 0
-  Are lists forests = AllZip (λ x t. AreDerivations c t × (postfix t ≡ x)) lists forests
+  abbrev AreListsOf : List (List ℕ) → List Trees → Type 0
+  AreListsOf lists forests = AllZip (λ x t. AreDerivations c t × (postfix t ≡ x)) lists forests
 
-  are_more : (lists : List (List ℕ)) (forests : List Trees) (x : List ℕ) (t : Trees)
-      → Are lists forests
-      → AreDerivations c t → postfix t ≡ x → Are (lists ++ x ∷ []) (forests ++ t ∷ [])
-  are_more [] [] x t a d e = ((d, e), tt)
-  are_more [] (u ∷ us) x t a d e = absurd a
-  are_more (y ∷ ys) [] x t a d e = absurd a
-  are_more (y ∷ ys) (u ∷ us) x t a d e = (a.0, are_more ys us x t a.1 d e)
+  lists_push : (lists : List (List ℕ)) (forests : List Trees) (x : List ℕ) (t : Trees)
+      → AreListsOf lists forests
+      → AreDerivations c t → postfix t ≡ x → AreListsOf (lists ++ x ∷ []) (forests ++ t ∷ [])
+  lists_push [] [] x t are_lists derives postfix_is = ((derives, postfix_is), tt)
+  lists_push [] (u ∷ us) x t are_lists derives postfix_is = absurd are_lists
+  lists_push (y ∷ ys) [] x t are_lists derives postfix_is = absurd are_lists
+  lists_push (y ∷ ys) (u ∷ us) x t are_lists derives postfix_is = (
+    are_lists.0,
+    lists_push ys us x t
+        are_lists.1 derives postfix_is,
+  )
 
-  are_at : (lists : List (List ℕ)) (forests : List Trees) (j : ℕ) (then : List ℕ)
-      → Are lists forests
-      → slice_get lists j ≡ Some then
+  list_is_postfix : (lists : List (List ℕ)) (forests : List Trees) (j : ℕ) (list : List ℕ)
+      → AreListsOf lists forests
+      → slice_get lists j ≡ Some list
       → (j < length forests) × AreDerivations c (get_or forests j none)
-      × (postfix (get_or forests j none) ≡ then)
-  are_at [] forests zero then a e = absurd (cc)
-  are_at [] forests (suc j) then a e = absurd (cc)
-  are_at (x ∷ xs) [] j then a e = absurd a
-  are_at (x ∷ xs) (t ∷ ts) zero then a e =
-      let x_is_then : x ≡ then = cc in (omega arith, a.0.0, a.0.1 ∙ x_is_then)
-  are_at (x ∷ xs) (t ∷ ts) (suc j) then a e =
-      let r = are_at xs ts j then a.1 e in let l = r.0 in (omega (arith, l), r.1, r.2)
+      × (postfix (get_or forests j none) ≡ list)
+  list_is_postfix [] forests zero list are_lists list_is = absurd (cc)
+  list_is_postfix [] forests (suc j) list are_lists list_is = absurd (cc)
+  list_is_postfix (x ∷ xs) [] j list are_lists list_is = absurd are_lists
+  list_is_postfix (x ∷ xs) (t ∷ ts) zero list are_lists list_is =
+      let x_is_list : x ≡ list = cc in (omega arith, are_lists.0.0, are_lists.0.1 ∙ x_is_list)
+  list_is_postfix (x ∷ xs) (t ∷ ts) (suc j) list are_lists list_is =
+      let tail_case = list_is_postfix xs ts j list are_lists.1 list_is in let j_lt_length =
+      tail_case.0 in (omega (arith, j_lt_length), tail_case.1, tail_case.2)
 
-  module _ (fine : (l : ℕ) → HasCompleteFrame c (c.rule l)) where
+  module _ (are_complete : (l : ℕ) → HasCompleteFrame c (c.rule l)) where
     -- one step
-    move_label : (forests : List Trees) (n : ℕ) (forest next : Trees) (l : ℕ)
+    move_label : (forests : List Trees) (n : ℕ) (forest next_forest : Trees) (l : ℕ)
         → AreDerivations c forest
-        → AreDerivations c next → postfix next ≡ postfix forest ++ l ∷ [] → forest_at forests n
+        → AreDerivations c next_forest → postfix next_forest ≡ postfix forest ++ l ∷ []
+        → forest_at forests n
         ≡ forest
-        → forest_at forests (suc n) ≡ next → IsMove forests n (label l)
-    move_label forests n forest none l are_derivations e p here then =
-        absurd (omega (arith, ap length p, length-append (postfix forest) (l ∷ [])))
-    move_label forests n forest (more ts k f cs) l are_derivations e p here then =
-        let q =
+        → forest_at forests (suc n) ≡ next_forest → IsMove forests n (label l)
+    move_label forests n forest none l derives next_derives postfix_is forest_is next_is =
+        absurd (omega (arith, ap length postfix_is, length-append (postfix forest) (l ∷ [])))
+    move_label forests n forest (more ts k f cs) l derives next_derives postfix_is forest_is next_is
+        =
+        let postfixes_equal =
         same_from_push (postfix ts ++ postfix cs) (postfix forest) k l
-        (append_assoc (postfix ts) (postfix cs) (k ∷ []) ∙ p) in
-        let is =
-        same_forest c fine forest (ts ⧺ cs) are_derivations (derivations_join ts cs e.0 e.1)
-        (sym q.0 ∙ sym (postfix_join ts cs)) in (
+        (append_assoc (postfix ts) (postfix cs) (k ∷ []) ∙ postfix_is) in
+        let forest_splits =
+        same_forest c are_complete forest (ts ⧺ cs) derives (joined_forest_derives ts cs
+        next_derives.0 next_derives.1)
+        (sym postfixes_equal.0 ∙ sym (postfix_join ts cs)) in (
           ts,
           f,
           cs,
-          then ∙ ap (λ x. more ts x f cs) q.1,
-          here
-              ∙ is,
-          subst (λ x. Follows c (c.rule x) (formulas cs) f) q.1 e.2,
+          next_is ∙ ap (λ x. more ts x f cs) postfixes_equal.1,
+          forest_is
+              ∙ forest_splits,
+          subst (λ x. Follows c (c.rule x) (formulas cs) f) postfixes_equal.1 next_derives.2,
         )
 
-    move_marked : (lists : List (List ℕ)) (forests rest : List Trees) (forest next : Trees) (j : ℕ)
-        → Are lists forests → AreDerivations c forest → AreDerivations c next
-        → Adds c lists (postfix forest) (marked j) (postfix next)
+    move_marked : (lists : List (List ℕ)) (forests later : List Trees) (forest next_forest : Trees)
+        (j : ℕ)
+        → AreListsOf lists forests → AreDerivations c forest → AreDerivations c next_forest
+        → Adds c lists (postfix forest) (marked j) (postfix next_forest)
         → forest_at forests (length forests) ≡ forest
-        → IsMove (forests ++ next ∷ rest) (length forests) (marked j)
-    move_marked lists forests rest forest next j a are_derivations e adds here =
-        let at = are_at lists forests j adds.0 a adds.2 in
-        let from = adds.3 in
-        let same = same_forest c fine (get_or forests j none) from.0 at.1 from.1 (at.2 ∙ sym from.2)
+        → IsMove (forests ++ next_forest ∷ later) (length forests) (marked j)
+    move_marked lists forests later forest next_forest j are_lists derives next_derives adds
+        forest_is =
+        let at_j = list_is_postfix lists forests j adds.0 are_lists adds.2 in
+        let repeated = adds.3 in
+        let forests_equal = same_forest c are_complete (get_or forests j none) repeated.0 at_j.1
+        repeated.1 (at_j.2 ∙ sym repeated.2)
         in
-        copy from.0 from.1 from.3 same at.0
+        copy repeated.0 repeated.1 repeated.3 forests_equal at_j.0
       where
         copy : (r : Trees) → AreDerivations c r → IsLastTree r adds.1 → get_or forests j none ≡ r
-            → j < length forests → IsMove (forests ++ next ∷ rest) (length forests) (marked j)
-        copy none dr is_last_tree same j_lt_length_forests = absurd is_last_tree
-        copy (more ts l f cs) dr x same j_lt_length_forests =
-            let is : next ≡ more forest l f cs =
-            same_forest c fine next (more forest l f cs) e (are_derivations, dr.1, dr.2)
-            (adds.4 ∙ ap (λ z. postfix forest ++ z) x) in
-            let before : forest_at (forests ++ next ∷ rest) (length forests) ≡ forest =
-            forest_front forests (next ∷ rest) (length forests) (omega arith) ∙ here in (
+            → j < length forests → IsMove (forests ++ next_forest ∷ later) (length forests) (marked
+            j)
+        copy none derives_r is_last forests_equal j_lt_length_forests = absurd is_last
+        copy (more ts l f cs) derives_r list_is_last_tree forests_equal j_lt_length_forests =
+            let next_is : next_forest ≡ more forest l f cs =
+            same_forest c are_complete next_forest (more forest l f cs) next_derives (
+              derives,
+              derives_r.1,
+              derives_r.2,
+            )
+            (adds.4 ∙ ap (λ z. postfix forest ++ z) list_is_last_tree) in
+            let forest_before_is : forest_at (forests ++ next_forest ∷ later) (length forests)
+            ≡ forest =
+            forest_front forests (next_forest ∷ later) (length forests) (omega arith)
+            ∙ forest_is in (
               j_lt_length_forests,
               l,
               f,
               cs,
-              forest_next forests rest next ∙ is
-                  ∙ ap (λ z. more z l f cs) (sym before),
+              forest_next forests later next_forest ∙ next_is
+                  ∙ ap (λ z. more z l f cs) (sym forest_before_is),
               ap last_tree
-                  (forest_front forests (next ∷ rest) (suc j) j_lt_length_forests ∙ same),
+                  (forest_front forests (next_forest ∷ later) (suc j) j_lt_length_forests
+                  ∙ forests_equal),
             )
 
-    move_here : (lists : List (List ℕ)) (forests rest : List Trees) (forest next : Trees) (s : Step)
-        → Are lists forests → AreDerivations c forest → AreDerivations c next
-        → Adds c lists (postfix forest) s (postfix next) → forest_at forests (length forests)
+    move_at_end : (lists : List (List ℕ)) (forests later : List Trees) (forest next_forest : Trees)
+        (s : Step)
+        → AreListsOf lists forests → AreDerivations c forest → AreDerivations c next_forest
+        → Adds c lists (postfix forest) s (postfix next_forest) → forest_at forests (length forests)
         ≡ forest
-        → IsMove (forests ++ next ∷ rest) (length forests) s
-    move_here lists forests rest forest next (label l) a are_derivations e adds here =
-        move_label (forests ++ next ∷ rest) (length forests) forest next l are_derivations e adds
-        (forest_front forests (next ∷ rest) (length forests) (omega arith) ∙ here)
-        (forest_next forests rest next)
-    move_here lists forests rest forest next (marked j) a are_derivations e adds here =
-        move_marked lists forests rest forest next j a are_derivations e adds here
+        → IsMove (forests ++ next_forest ∷ later) (length forests) s
+    move_at_end lists forests later forest next_forest (label l) are_lists derives next_derives adds
+        forest_is =
+        move_label (forests ++ next_forest ∷ later) (length forests) forest next_forest l derives
+        next_derives adds
+        (forest_front forests (next_forest ∷ later) (length forests) (omega arith) ∙ forest_is)
+        (forest_next forests later next_forest)
+    move_at_end lists forests later forest next_forest (marked j) are_lists derives next_derives
+        adds forest_is =
+        move_marked lists forests later forest next_forest j are_lists derives next_derives adds
+        forest_is
 
     -- the forests after the steps that are left
-    record Built (forests : List Trees) (steps : List Step) (d : Trees) : Type 0 where
-      pub rest : List Trees
-      pub moves : AreMoves (forests ++ rest) (length forests) steps
-      pub last : forest_at (forests ++ rest) (length forests + length steps) ≡ d
+    record HasRest (forests : List Trees) (steps : List Step) (d : Trees) : Type 0 where
+      pub later : List Trees
+      pub are_moves : AreMoves (forests ++ later) (length forests) steps
+      pub ends_in_d : forest_at (forests ++ later) (length forests + length steps) ≡ d
 
     -- one forest more
-    built_more : (lists : List (List ℕ)) (forests : List Trees) (forest d : Trees) (s : Step)
+    rest_after_step : (lists : List (List ℕ)) (forests : List Trees) (forest d : Trees) (s : Step)
         → (steps : List Step)
-        → Are lists forests → AreDerivations c forest → forest_at forests (length forests) ≡ forest
-        → (new : List ℕ)
-        → Adds c lists (postfix forest) s new → (next : Trees) → AreDerivations c next
-        → postfix next ≡ new
-        → (forest_at (forests ++ next ∷ []) (length (forests ++ next ∷ [])) ≡ next
-        → Built (forests ++ next ∷ []) steps d)
-        → Built forests (s ∷ steps) d
-    built_more lists forests forest d s steps a dr here new adds next dn is on = record {
-      rest = next ∷ rest;
-      moves = (
-        move_here lists forests rest forest next s a dr dn
-            (subst (Adds c lists (postfix forest) s) (sym is) adds) here,
-        subst (λ n. AreMoves (forests ++ next ∷ rest) n steps) many
-            (subst (λ z. AreMoves z (length (forests ++ next ∷ [])) steps) regroup q.moves),
-      );
-      last =
-          ap (forest_at (forests ++ next ∷ rest)) so_many
-          ∙ ap (λ z. forest_at z (length (forests ++ next ∷ []) + length steps)) (sym regroup)
-          ∙ q.last;
-    }
-      where
-        many : length (forests ++ next ∷ []) ≡ suc (length forests)
-        many = omega (arith, length-append forests (next ∷ []))
-
-        q : Built (forests ++ next ∷ []) steps d
-        q = on (ap (forest_at (forests ++ next ∷ [])) many ∙ forest_next forests [] next)
-
-        rest : List Trees
-        rest = q.rest
-
-        regroup : (forests ++ next ∷ []) ++ rest ≡ forests ++ next ∷ rest
-        regroup = append_assoc forests (next ∷ []) rest
-
-        so_many : length forests + suc (length steps) ≡ length (forests ++ next ∷ []) + length steps
-        so_many = omega (arith, many)
-
-    forests_built : (steps : List Step) (lists : List (List ℕ)) (forests : List Trees)
-        (forest d : Trees)
-        → Are lists forests → AreDerivations c forest → forest_at forests (length forests) ≡ forest
-        → AreDerivations c d → Plain c lists (postfix forest) steps (postfix d)
-        → Built forests steps d
-    forests_built [] lists forests forest d a dr here dd h =
-        let n : length forests + 0 ≡ length forests = omega arith in
-        record {
-          rest = [];
-          moves = tt;
-          last =
-              ap (forest_at (forests ++ [])) n
-              ∙ forest_front forests [] (length forests) (omega arith) ∙ here
-              ∙ sym (same_forest c fine d forest dd dr h);
+        → AreListsOf lists forests → AreDerivations c forest → forest_at forests (length forests)
+        ≡ forest
+        → (new_labels : List ℕ)
+        → Adds c lists (postfix forest) s new_labels → (next_forest : Trees)
+        → AreDerivations c next_forest
+        → postfix next_forest ≡ new_labels
+        → (forest_at (forests ++ next_forest ∷ []) (length (forests ++ next_forest ∷ []))
+        ≡ next_forest
+        → HasRest (forests ++ next_forest ∷ []) steps d)
+        → HasRest forests (s ∷ steps) d
+    rest_after_step lists forests forest d s steps are_lists derives forest_is new_labels adds
+        next_forest next_derives postfix_is has_rest_after = record {
+          later = next_forest ∷ later;
+          are_moves = (
+            move_at_end lists forests later forest next_forest s are_lists derives next_derives
+                (subst (Adds c lists (postfix forest) s) (sym postfix_is) adds) forest_is,
+            subst (λ n. AreMoves (forests ++ next_forest ∷ later) n steps) length_is_suc
+                (subst (λ z. AreMoves z (length (forests ++ next_forest ∷ [])) steps) lists_regroup
+                has_rest.are_moves),
+          );
+          ends_in_d =
+              ap (forest_at (forests ++ next_forest ∷ later)) length_splits
+              ∙ ap (λ z. forest_at z (length (forests ++ next_forest ∷ []) + length steps)) (sym
+              lists_regroup)
+              ∙ has_rest.ends_in_d;
         }
-    forests_built (s ∷ steps) lists forests forest d a dr here dd h =
-        let tail = plain_more steps (lists ++ h.0 ∷ []) h.0 (postfix d) h.2 in
-        let r = front_row d h.0 tail.0 dd tail.1 in
-        built_more lists forests forest d s steps a dr here h.0 h.1 r.0 r.1 r.2
-        (λ at_next. forests_built steps (lists ++ h.0 ∷ []) (forests ++ r.0 ∷ []) r.0 d
-        (are_more lists forests h.0 r.0 a r.1 r.2) r.1 at_next dd
-        (subst (λ z. Plain c (lists ++ h.0 ∷ []) z steps (postfix d)) (sym r.2) h.2))
+      where
+        length_is_suc : length (forests ++ next_forest ∷ []) ≡ suc (length forests)
+        length_is_suc = omega (arith, length-append forests (next_forest ∷ []))
+
+        has_rest : HasRest (forests ++ next_forest ∷ []) steps d
+        has_rest = has_rest_after (ap (forest_at (forests ++ next_forest ∷ [])) length_is_suc
+            ∙ forest_next forests [] next_forest)
+
+        later : List Trees
+        later = has_rest.later
+
+        lists_regroup : (forests ++ next_forest ∷ []) ++ later ≡ forests ++ next_forest ∷ later
+        lists_regroup = append_assoc forests (next_forest ∷ []) later
+
+        length_splits : length forests + suc (length steps) ≡ length (forests ++ next_forest ∷ []) +
+            length steps
+        length_splits = omega (arith, length_is_suc)
+
+    has_rest_from : (steps : List Step) (lists : List (List ℕ)) (forests : List Trees)
+        (forest d : Trees)
+        → AreListsOf lists forests → AreDerivations c forest → forest_at forests (length forests)
+        ≡ forest
+        → AreDerivations c d → Plain c lists (postfix forest) steps (postfix d)
+        → HasRest forests steps d
+    has_rest_from [] lists forests forest d are_lists derives forest_is d_derives plain =
+        let length_is : length forests + 0 ≡ length forests = omega arith in
+        record {
+          later = [];
+          are_moves = tt;
+          ends_in_d =
+              ap (forest_at (forests ++ [])) length_is
+              ∙ forest_front forests [] (length forests) (omega arith) ∙ forest_is
+              ∙ sym (same_forest c are_complete d forest d_derives derives plain);
+        }
+    has_rest_from (s ∷ steps) lists forests forest d are_lists derives forest_is d_derives plain =
+        let extension = plain_extends steps (lists ++ plain.0 ∷ []) plain.0 (postfix d) plain.2 in
+        let row = row_of_front d plain.0 extension.0 d_derives extension.1 in
+        rest_after_step lists forests forest d s steps are_lists derives forest_is plain.0 plain.1
+        row.0 row.1 row.2
+        (λ next_is. has_rest_from steps (lists ++ plain.0 ∷ []) (forests ++ row.0 ∷ []) row.0 d
+        (lists_push lists forests plain.0 row.0 are_lists row.1 row.2) row.1 next_is d_derives
+        (subst (λ z. Plain c (lists ++ plain.0 ∷ []) z steps (postfix d)) (sym row.2) plain.2))
 
     -- a proof's forests
-    pub proof_rows : (steps : List Step) (f : Formula) (d : Trees) → Derives c steps f d
+    pub proof_has_forests : (steps : List Step) (f : Formula) (d : Trees) → Derives c steps f d
         → (forests : List Trees) × AreMoves forests 0 steps × (forest_at forests (length steps) ≡ d)
-    proof_rows steps f d h =
-        let b = forests_built steps [] [] none d tt tt refl h.3 h.4 in
-        let count : length steps ≡ 0 + length steps = omega arith in
-        (b.rest, b.moves, ap (forest_at b.rest) count ∙ b.last)
+    proof_has_forests steps f d derivation =
+        let has_rest = has_rest_from steps [] [] none d tt tt refl derivation.3 derivation.4 in
+        let length_is : length steps ≡ 0 + length steps = omega arith in (
+          has_rest.later,
+          has_rest.are_moves,
+          ap (forest_at has_rest.later) length_is
+              ∙ has_rest.ends_in_d,
+        )
 
   -- one of the steps
   pub move_at : (forests : List Trees) (n : ℕ) (steps : List Step) (i : ℕ) → i < length steps
       → AreMoves forests n steps → IsMove forests (n + i) (get_or steps i (label 0))
-  move_at forests n [] i h m = absurd (omega arith)
-  move_at forests n (s ∷ steps) zero h m =
-      let e : n ≡ n + 0 = omega arith in subst (λ k. IsMove forests k s) e m.0
-  move_at forests n (s ∷ steps) (suc i) h m =
-      let e : suc n + i ≡ n + suc i = omega arith in
-      subst (λ k. IsMove forests k (get_or steps i (label 0))) e
-      (move_at forests (suc n) steps i (omega arith) m.1)
+  move_at forests n [] i i_lt_length are_moves = absurd (omega arith)
+  move_at forests n (s ∷ steps) zero i_lt_length are_moves =
+      let n_is : n ≡ n + 0 = omega arith in subst (λ k. IsMove forests k s) n_is are_moves.0
+  move_at forests n (s ∷ steps) (suc i) i_lt_length are_moves =
+      let index_is : suc n + i ≡ n + suc i = omega arith in
+      subst (λ k. IsMove forests k (get_or steps i (label 0))) index_is
+      (move_at forests (suc n) steps i (omega arith) are_moves.1)

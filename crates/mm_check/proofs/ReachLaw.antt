@@ -29,9 +29,9 @@ use Rattle.mm_check.specs.Contract.{is_labelled_step}
 use Rattle.mm_check.specs.Reached.{IsReached, steps_of}
 
 or_without_implied : (a b : Bool) → (b ≡ true → a ≡ true) → (a || b) ≡ (a || false)
-or_without_implied true b f = refl
-or_without_implied false true f = sym (f refl)
-or_without_implied false false f = refl
+or_without_implied true b b_implies_a = refl
+or_without_implied false true b_implies_a = sym (b_implies_a refl)
+or_without_implied false false b_implies_a = refl
 
 or_distributes : (a b c : Bool) → ((a && c) || (b && c)) ≡ ((a || b) && c)
 or_distributes true true true = refl
@@ -40,76 +40,101 @@ or_distributes true false true = refl
 or_distributes true false false = refl
 or_distributes false b c = refl
 
-abbrev Within : List (List ℕ) → List ℕ → Type 0
-Within lists all =
-    AllByRecursion (λ l. (a : ℕ) → is_member l a ≡ true → is_member all a ≡ true) lists
+abbrev AreWithin : List (List ℕ) → List ℕ → Type 0
+AreWithin lists labels =
+    AllByRecursion (λ l. (a : ℕ) → is_member l a ≡ true → is_member labels a ≡ true) lists
 
-within_at : (lists : List (List ℕ)) (all then : List ℕ) (j : ℕ) → Within lists all
-    → slice_get lists j ≡ Some then → (a : ℕ) → is_member then a ≡ true → is_member all a ≡ true
-within_at [] all then j w e a h = cc
-within_at (l ∷ lists) all then zero w e a h =
-    w.0 a (subst (λ x. is_member x a ≡ true) (sym (same_Some l then e)) h)
-within_at (l ∷ lists) all then (suc j) w e a h = within_at lists all then j w.1 e a h
+list_is_within : (lists : List (List ℕ)) (labels list : List ℕ) (j : ℕ) → AreWithin lists labels
+    → slice_get lists j ≡ Some list → (a : ℕ) → is_member list a ≡ true → is_member labels a ≡ true
+list_is_within [] labels list j are_within list_is a is_member_of_list = cc
+list_is_within (l ∷ lists) labels list zero are_within list_is a is_member_of_list =
+    are_within.0 a (subst (λ x. is_member x a ≡ true) (sym (same_Some l list list_is))
+    is_member_of_list)
+list_is_within (l ∷ lists) labels list (suc j) are_within list_is a is_member_of_list =
+    list_is_within lists labels list j are_within.1 list_is a is_member_of_list
 
-within_more : (lists : List (List ℕ)) (old new : List ℕ) → Within lists old
-    → ((a : ℕ) → is_member old a ≡ true → is_member new a ≡ true) → Within (lists ++ new ∷ []) new
-within_more [] old new w up = ((λ a h. h), tt)
-within_more (l ∷ lists) old new w up = ((λ a h. up a (w.0 a h)), within_more lists old new w.1 up)
+within_push : (lists : List (List ℕ)) (labels new_labels : List ℕ) → AreWithin lists labels
+    → ((a : ℕ) → is_member labels a ≡ true → is_member new_labels a ≡ true)
+    → AreWithin (lists ++ new_labels ∷ []) new_labels
+within_push [] labels new_labels are_within labels_within_new = (
+  (λ a is_member_of_labels.
+      is_member_of_labels),
+  tt,
+)
+within_push (l ∷ lists) labels new_labels are_within labels_within_new = (
+  (λ a is_member_of_labels.
+      labels_within_new a (are_within.0 a is_member_of_labels)),
+  within_push lists labels new_labels
+      are_within.1 labels_within_new,
+)
 
 module _ (c : Context) where
   last_member : (forest : Trees) (x : List ℕ) (a : ℕ) → IsLastTree forest x → is_member x a ≡ true
       → is_member (postfix forest) a ≡ true
-  last_member none x a h m = absurd h
-  last_member (more ts l f cs) x a h m =
+  last_member none x a is_last is_member_of_x = absurd is_last
+  last_member (more ts l f cs) x a is_last is_member_of_x =
       list_any-append (λ y. a == y) (postfix ts) (postfix cs ++ l ∷ [])
-      ∙ or_right (is_member (postfix ts) a) _ (subst (λ z. is_member z a ≡ true) h m)
+      ∙ or_right (is_member (postfix ts) a) _ (subst (λ z. is_member z a
+      ≡ true) is_last is_member_of_x)
 
-  adds_member : (lists : List (List ℕ)) (old new : List ℕ) (s : Step) → Adds c lists old s new
-      → Within lists old → (a : ℕ) → is_member new a ≡ (is_member old a || is_labelled_step s a)
-  adds_member lists old new (label l) h w a =
-      ap (λ z. is_member z a) h ∙ list_any-append (λ y. a == y) old (l ∷ [])
-      ∙ ap (λ b. is_member old a || b) (or-false (a == l))
-  adds_member lists old new (marked j) h w a =
-      ap (λ z. is_member z a) h.4 ∙ list_any-append (λ y. a == y) old h.1
-      ∙ or_without_implied (is_member old a) (is_member h.1 a)
-      (λ m. within_at lists old h.0 j w h.2 a
-      (subst (λ z. is_member z a ≡ true) h.3.2 (last_member h.3.0 h.1 a h.3.3 m)))
+  members_after_step : (lists : List (List ℕ)) (labels new_labels : List ℕ) (s : Step)
+      → Adds c lists labels s new_labels
+      → AreWithin lists labels → (a : ℕ) → is_member new_labels a
+      ≡ (is_member labels a || is_labelled_step s a)
+  members_after_step lists labels new_labels (label l) adds are_within a =
+      ap (λ z. is_member z a) adds ∙ list_any-append (λ y. a == y) labels (l ∷ [])
+      ∙ ap (λ b. is_member labels a || b) (or-false (a == l))
+  members_after_step lists labels new_labels (marked j) adds are_within a =
+      ap (λ z. is_member z a) adds.4 ∙ list_any-append (λ y. a == y) labels adds.1
+      ∙ or_without_implied (is_member labels a) (is_member adds.1 a)
+      (λ is_member_of_added. list_is_within lists labels adds.0 j are_within adds.2 a
+      (subst (λ z. is_member z a ≡ true) adds.3.2 (last_member adds.3.0 adds.1 a adds.3.3
+      is_member_of_added)))
 
 -- the forest that is reached after the steps and one good step more
 pub reached_after_step : (db : List Statement) (t : ℕ) (steps_so_far : List Step)
     (stack ends : List Formula)
-    → (noted : List ℕ) (s : Step) (out : List Formula) (then : List ℕ)
+    → (noted : List ℕ) (s : Step) (out : List Formula) (noted' : List ℕ)
     → IsReached db t steps_so_far stack ends noted → IsGoodStep (context_at db t) (length ends) s
     → step_entries (context_at db t) s ends stack ≡ Ok out
     → ((a : ℕ)
-    → is_member then a ≡ (is_member noted a || (is_labelled_step s a && is_assertion_at db a)))
-    → IsReached db t (steps_so_far ++ s ∷ []) out (ends ++ top out ∷ []) then
-reached_after_step db t steps_so_far stack ends noted s out then is_reached good entries_are notes =
+    → is_member noted' a ≡ (is_member noted a || (is_labelled_step s a && is_assertion_at db a)))
+    → IsReached db t (steps_so_far ++ s ∷ []) out (ends ++ top out ∷ []) noted'
+reached_after_step db t steps_so_far stack ends noted s out noted' is_reached is_good entries_are
+    members_are =
     let c = context_at db t in
-    let same : step_entries c s ends (formulas is_reached.forest) ≡ Ok out =
+    let entries_after_are : step_entries c s ends (formulas is_reached.forest) ≡ Ok out =
     ap (step_entries c s ends) is_reached.entries_are ∙ entries_are in
-    let g =
-    subst (GrownForest c is_reached.lists is_reached.forest s) same
-    (grows c is_reached.lists ends is_reached.forest s is_reached.derivations is_reached.after good)
+    let grown =
+    subst (GrownForest c is_reached.lists is_reached.forest s) entries_after_are
+    (grows c is_reached.lists ends is_reached.forest s is_reached.are_derivations
+    is_reached.lists_end_in_formulas is_good)
     in
-    let members = adds_member c is_reached.lists (postfix is_reached.forest) (postfix g.0) s g.2
-    is_reached.within in
+    let members = members_after_step c is_reached.lists (postfix is_reached.forest) (postfix
+    grown.0) s grown.2
+    is_reached.lists_are_within in
     record {
-      forest = g.0;
-      derivations = g.1;
-      entries_are = g.3;
-      lists = is_reached.lists ++ postfix g.0 ∷ [];
-      after = after_more c is_reached.lists ends (postfix g.0) (top out) is_reached.after
-          (g.0, g.1, refl, g.4);
-      plain =
-          λ rest all h. subst (λ z. Plain c [] [] z all)
-          (sym (append_assoc steps_so_far (s ∷ []) rest))
-          (is_reached.plain (s ∷ rest) all (postfix g.0, g.2, h));
-      within =
-          within_more is_reached.lists (postfix is_reached.forest) (postfix g.0) is_reached.within
-          (λ a m. members a ∙ or_left _ _ m);
+      forest = grown.0;
+      are_derivations = grown.1;
+      entries_are = grown.3;
+      lists = is_reached.lists ++ postfix grown.0 ∷ [];
+      lists_end_in_formulas = after_more c is_reached.lists ends (postfix grown.0) (top out)
+          is_reached.lists_end_in_formulas
+          (grown.0, grown.1, refl, grown.4);
+      plain_from_start =
+          λ later_steps labels is_plain. subst (λ z. Plain c [] [] z labels)
+          (sym (append_assoc steps_so_far (s ∷ []) later_steps))
+          (is_reached.plain_from_start (s ∷ later_steps) labels (
+            postfix grown.0,
+            grown.2,
+            is_plain,
+          ));
+      lists_are_within =
+          within_push is_reached.lists (postfix is_reached.forest) (postfix grown.0)
+          is_reached.lists_are_within
+          (λ a is_label. members a ∙ or_left _ _ is_label);
       noted_are =
-          λ a. notes a
+          λ a. members_are a
           ∙ ap (λ b. b || (is_labelled_step s a && is_assertion_at db a)) (is_reached.noted_are a)
           ∙ or_distributes (is_member (postfix is_reached.forest) a) (is_labelled_step s a)
           (is_assertion_at db a)
@@ -123,16 +148,17 @@ pub failing_step_refuses : (db : List Statement) (t : ℕ) (steps : List PlacedS
     → IsGoodStep (context_at db t) (length ends) (step_at steps i).step
     → step_entries (context_at db t) (step_at steps i).step ends stack ≡ Err reason
     → StepFault (context_at db t) steps (fault (step_at steps i).at (code_of reason))
-failing_step_refuses db t steps i stack ends noted reason i_lt_length_steps is_reached good
-    entries_are =
+failing_step_refuses db t steps i stack ends noted reason i_lt_length_steps is_reached is_good
+    step_fails =
     let c = context_at db t in
     let s = step_at steps i in
-    let same : step_entries c s.step ends (formulas is_reached.forest) ≡ Err reason =
-    ap (step_entries c s.step ends) is_reached.entries_are ∙ entries_are in
-    let g =
-    subst (GrownForest c is_reached.lists is_reached.forest s.step) same
-    (grows c is_reached.lists ends is_reached.forest s.step is_reached.derivations is_reached.after
-    good) in
+    let entries_fail : step_entries c s.step ends (formulas is_reached.forest) ≡ Err reason =
+    ap (step_entries c s.step ends) is_reached.entries_are ∙ step_fails in
+    let grown =
+    subst (GrownForest c is_reached.lists is_reached.forest s.step) entries_fail
+    (grows c is_reached.lists ends is_reached.forest s.step is_reached.are_derivations
+    is_reached.lists_end_in_formulas
+    is_good) in
     record {
       before = take i steps;
       first = s;
@@ -141,102 +167,120 @@ failing_step_refuses db t steps i stack ends noted reason i_lt_length_steps is_r
           sym (take-append-drop i steps)
           ∙ ap (λ z. take i steps ++ z) (drop_more steps i (placed 0 (label 0)) i_lt_length_steps);
       forest = is_reached.forest;
-      derivations = is_reached.derivations;
+      derivations = is_reached.are_derivations;
       plain =
           subst (λ z. Plain c [] [] z (postfix is_reached.forest))
           (append-nil (steps_of (take i steps)))
-          (is_reached.plain [] (postfix is_reached.forest) refl);
+          (is_reached.plain_from_start [] (postfix is_reached.forest) refl);
       reason = reason;
-      fails = g;
+      fails = grown;
       is = refl;
     }
 
 module _ (db : List Statement) (t : ℕ) (steps : List PlacedStep) (stack ends : List Formula)
-    (noted : List ℕ) (r : IsReached db t (steps_of steps) stack ends noted) where
-  plain_all : Plain (context_at db t) [] [] (steps_of steps) (postfix r.forest)
+    (noted : List ℕ) (is_reached : IsReached db t (steps_of steps) stack ends noted) where
+  plain_all : Plain (context_at db t) [] [] (steps_of steps) (postfix is_reached.forest)
   plain_all =
-      subst (λ z. Plain (context_at db t) [] [] z (postfix r.forest)) (append-nil (steps_of steps))
-      (r.plain [] (postfix r.forest) refl)
+      subst (λ z. Plain (context_at db t) [] [] z (postfix is_reached.forest)) (append-nil (steps_of
+      steps))
+      (is_reached.plain_from_start [] (postfix is_reached.forest) refl)
 
   pub end_derives : (f : Formula) → stack ≡ f ∷ []
-      → Derives (context_at db t) (steps_of steps) f r.forest
-  end_derives f e = by_forest r.forest r.derivations (r.entries_are ∙ e) plain_all
+      → Derives (context_at db t) (steps_of steps) f is_reached.forest
+  end_derives f stack_is = by_forest is_reached.forest is_reached.are_derivations
+      (is_reached.entries_are ∙ stack_is) plain_all
     where
-      two : (xs : List Formula) (h g : Formula) → ¬ ((xs ++ h ∷ []) ++ g ∷ [] ≡ f ∷ [])
-      two xs h g e =
-          let n = ap length e in
-          omega (arith, n, length-append (xs ++ h ∷ []) (g ∷ []), length-append xs (h ∷ []))
+      two_entries_not_one : (xs : List Formula) (h g : Formula) → ¬ ((xs ++ h ∷ []) ++ g ∷ []
+          ≡ f ∷ [])
+      two_entries_not_one xs h g stack_is =
+          let lengths_equal = ap length stack_is in
+          omega (
+            arith,
+            lengths_equal,
+            length-append (xs ++ h ∷ []) (g ∷ []),
+            length-append xs (h ∷
+                []),
+          )
 
       by_forest : (forest : Trees) → AreDerivations (context_at db t) forest → formulas forest
           ≡ f ∷ []
           → Plain (context_at db t) [] [] (steps_of steps) (postfix forest)
           → Derives (context_at db t) (steps_of steps) f forest
-      by_forest none d e p = cc
-      by_forest (more none l g cs) d e p = (l, cs, ap (λ z. tree l z cs) (ap top e), d, p)
-      by_forest (more (more ts m h bs) l g cs) d e p = absurd (two (formulas ts) h g e)
+      by_forest none derives stack_is is_plain = cc
+      by_forest (more none l g cs) derives stack_is is_plain = (
+        l,
+        cs,
+        ap (λ z. tree l z cs) (ap top
+            stack_is),
+        derives,
+        is_plain,
+      )
+      by_forest (more (more ts m h bs) l g cs) derives stack_is is_plain = absurd
+          (two_entries_not_one (formulas ts) h g stack_is)
 
-  pub ends_with : (end : ℕ) (code : Code) (formula : Formula)
+  pub end_code_is_fault : (end : ℕ) (code : Code) (formula : Formula)
       → IsEndCode (context_at db t) stack formula code
       → ProofEndFault (context_at db t) steps formula end (fault end code)
-  ends_with end code formula is_end_code = record {
-    forest = r.forest;
-    derivations = r.derivations;
+  end_code_is_fault end code formula is_end_code = record {
+    forest = is_reached.forest;
+    derivations = is_reached.are_derivations;
     plain = plain_all;
     code = code;
     fails = subst (λ z. IsEndCode (context_at db t) z formula code)
-        (sym r.entries_are) is_end_code;
+        (sym is_reached.entries_are) is_end_code;
     is = refl;
   }
 
 -- the step at a place is good
-pub good_at : (c : Context) (n : ℕ) (steps : List PlacedStep) (i : ℕ) → i < length steps
+pub step_is_good_from : (c : Context) (n : ℕ) (steps : List PlacedStep) (i : ℕ) → i < length steps
     → AreGoodSteps c n (steps_of steps) → IsGoodStep c (n + i) (step_at steps i).step
-good_at c n [] i h g = absurd (omega arith)
-good_at c n (s ∷ steps) zero h g =
-    let e : n ≡ n + 0 = omega arith in subst (λ m. IsGoodStep c m s.step) e g.0
-good_at c n (s ∷ steps) (suc i) h g =
-    let e : suc n + i ≡ n + suc i = omega arith in
-    subst (λ m. IsGoodStep c m (step_at steps i).step) e
-    (good_at c (suc n) steps i (omega arith) g.1)
+step_is_good_from c n [] i i_lt_length are_good = absurd (omega arith)
+step_is_good_from c n (s ∷ steps) zero i_lt_length are_good =
+    let n_is : n ≡ n + 0 = omega arith in subst (λ m. IsGoodStep c m s.step) n_is are_good.0
+step_is_good_from c n (s ∷ steps) (suc i) i_lt_length are_good =
+    let sum_is : suc n + i ≡ n + suc i = omega arith in
+    subst (λ m. IsGoodStep c m (step_at steps i).step) sum_is
+    (step_is_good_from c (suc n) steps i (omega arith) are_good.1)
 
 pub step_at_is_good : (c : Context) (steps : List PlacedStep) (i n : ℕ) (s : Step) → i
     < length steps
     → AreGoodSteps c 0 (steps_of steps) → n ≡ i → s ≡ (step_at steps i).step → IsGoodStep c n s
-step_at_is_good c steps i n s h g e is =
-    let f : 0 + i ≡ n = omega arith in
-    subst (λ z. IsGoodStep c n z) (sym is)
-    (subst (λ m. IsGoodStep c m (step_at steps i).step) f (good_at c 0 steps i h g))
+step_at_is_good c steps i n s i_lt_length are_good n_is_i s_is =
+    let sum_is_n : 0 + i ≡ n = omega arith in
+    subst (λ z. IsGoodStep c n z) (sym s_is)
+    (subst (λ m. IsGoodStep c m (step_at steps i).step) sum_is_n (step_is_good_from c 0 steps i
+    i_lt_length are_good))
 
 pub take_step : (steps : List PlacedStep) (i : ℕ) → i < length steps
     → steps_of (take (i + 1) steps) ≡ steps_of (take i steps) ++ (step_at steps i).step ∷ []
-take_step steps i h =
-    ap steps_of (take_more steps i (placed 0 (label 0)) h)
+take_step steps i i_lt_length =
+    ap steps_of (take_more steps i (placed 0 (label 0)) i_lt_length)
     ∙ map-append (λ s. s.step) (take i steps) (step_at steps i ∷ [])
 
 -- no step so far
 pub no_step_reached : (db : List Statement) (t : ℕ) (stack ends : List Formula) (noted : List ℕ)
     → stack ≡ [] → ends ≡ [] → noted ≡ [] → IsReached db t [] stack ends noted
-no_step_reached db t stack ends noted e f n =
-    rw (e, f, n)
+no_step_reached db t stack ends noted stack_is_nil ends_is_nil noted_is_nil =
+    rw (stack_is_nil, ends_is_nil, noted_is_nil)
     (record {
       forest = none;
-      derivations = tt;
+      are_derivations = tt;
       entries_are = refl;
       lists = [];
-      after = tt;
-      plain = λ rest all h. h;
-      within = tt;
+      lists_end_in_formulas = tt;
+      plain_from_start = λ later_steps labels is_plain. is_plain;
+      lists_are_within = tt;
       noted_are = λ a. refl;
     })
 
 -- the place of the end of a theorem's proof
-pub end_is : (db : List Statement) (t at : ℕ) → is_theorem_at db t ≡ true
-    → option_map end_at (slice_get db t) ≡ Some at → proof_end (slice_get db t) ≡ at
-end_is db t at h e = by_statement (slice_get db t) h e
+pub proof_end_is_end_at : (db : List Statement) (t end : ℕ) → is_theorem_at db t ≡ true
+    → option_map end_at (slice_get db t) ≡ Some end → proof_end (slice_get db t) ≡ end
+proof_end_is_end_at db t end is_theorem_t end_is = by_statement (slice_get db t) is_theorem_t end_is
   where
     by_statement : (o : Option Statement)
         → list_any is_theorem (elim o [ None ↦ [] | Some s ↦ s ∷ [] ]) ≡ true
-        → option_map end_at o ≡ Some at → proof_end o ≡ at
-    by_statement None h e = absurd (true≢false (sym h))
-    by_statement (Some (provable l p xs q ps d)) h e = cc
-    by_statement (Some s) h e = absurd (true≢false (sym h))
+        → option_map end_at o ≡ Some end → proof_end o ≡ end
+    by_statement None is_theorem_o end_is = absurd (true≢false (sym is_theorem_o))
+    by_statement (Some (provable l p xs q ps d)) is_theorem_o end_is = cc
+    by_statement (Some s) is_theorem_o end_is = absurd (true≢false (sym is_theorem_o))

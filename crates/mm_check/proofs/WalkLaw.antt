@@ -27,21 +27,22 @@ use Rattle.mm_check.specs.Flags.{child_flags, taken_flags, step_flags_after}
 use Rattle.mm_check.specs.Reached.{steps_of}
 use Rattle.mm_check.proofs.CompilerStateLaw.{assertion_rule, hypothesis_rule}
 use Rattle.mm_check.proofs.ReachLaw.{step_at_is_good}
-use Rattle.mm_check.proofs.ForestsLaw.{forest_at, IsMove, AreMoves, move_at, proof_rows}
-use Rattle.mm_check.proofs.BackLaw.{flag_at, size_join, step_flags_count, IsToBeFound, label_back}
+use Rattle.mm_check.proofs.ForestsLaw.{forest_at, IsMove, AreMoves, move_at, proof_has_forests}
+use Rattle.mm_check.proofs.BackLaw.{flag_at, tree_count_join, step_flags_count, IsToBeFound}
+use Rattle.mm_check.proofs.BackLaw.{label_back}
 use Rattle.mm_check.proofs.BackLaw.{marked_back}
 
 -- The nodes of the proof are noted or still to be found, when so many first steps are left.
-pub record Walked (db : List Statement) (t : ℕ) (steps : List PlacedStep) (i : ℕ)
+pub record AreFoundFrom (db : List Statement) (t : ℕ) (steps : List PlacedStep) (i : ℕ)
     (entry_flags step_flags : List Bool) (noted : List ℕ) : Type 0 where
   pub derivation : Trees
-  pub proof : IsProof db t derivation
+  pub is_proof : IsProof db t derivation
   pub forests : List Trees
-  pub moves : AreMoves (context_at db t) forests 0 (steps_of steps)
-  pub many : length step_flags ≡ length steps
-  pub fits : length entry_flags ≡ tree_count (forest_at forests i)
-  pub asserted : (a : ℕ) → is_member noted a ≡ true → is_assertion_at db a ≡ true
-  pub exact : (a : ℕ) → is_assertion_at db a ≡ true
+  pub are_moves : AreMoves (context_at db t) forests 0 (steps_of steps)
+  pub step_flags_fit : length step_flags ≡ length steps
+  pub entry_flags_fit : length entry_flags ≡ tree_count (forest_at forests i)
+  pub are_assertions : (a : ℕ) → is_member noted a ≡ true → is_assertion_at db a ≡ true
+  pub found_iff : (a : ℕ) → is_assertion_at db a ≡ true
       → HasNode (child_counts db true) each_root derivation a
       ↔ ((is_member noted a ≡ true) ⊎ IsToBeFound (child_counts db true) (forest_at forests) i
       entry_flags
@@ -49,40 +50,46 @@ pub record Walked (db : List Statement) (t : ℕ) (steps : List PlacedStep) (i :
 
 -- ---- the premises of a label
 
-size_formulas : (cs : Trees) → length (formulas cs) ≡ tree_count cs
-size_formulas none = refl
-size_formulas (more ts l f cs) =
-    omega (arith, length-append (formulas ts) (f ∷ []), size_formulas ts)
+formula_count_is : (cs : Trees) → length (formulas cs) ≡ tree_count cs
+formula_count_is none = refl
+formula_count_is (more ts l f cs) =
+    omega (arith, length-append (formulas ts) (f ∷ []), formula_count_is ts)
 
 -- the flag of a premise
-premise_flag : (b : Bool) (e : ℕ → Bool) (hs : List ℕ) (n : ℕ)
+flag_of_premise : (b : Bool) (e : ℕ → Bool) (hs : List ℕ) (n : ℕ)
     → flag_at (map (λ h. b && e h) hs) n
     ≡ (b && elim (slice_get hs n) [ None ↦ false | Some j ↦ e j ])
-premise_flag true e [] zero = refl
-premise_flag true e [] (suc n) = refl
-premise_flag false e [] zero = refl
-premise_flag false e [] (suc n) = refl
-premise_flag b e (h ∷ hs) zero = refl
-premise_flag b e (h ∷ hs) (suc n) = premise_flag b e hs n
+flag_of_premise true e [] zero = refl
+flag_of_premise true e [] (suc n) = refl
+flag_of_premise false e [] zero = refl
+flag_of_premise false e [] (suc n) = refl
+flag_of_premise b e (h ∷ hs) zero = refl
+flag_of_premise b e (h ∷ hs) (suc n) = flag_of_premise b e hs n
 
 module _ (db : List Statement) (t : ℕ) (b : Bool) (l : ℕ) (cs : Trees) (f : Formula)
-    (good : IsCompleteRule (context_at db t) (rule_at db t l))
+    (rule_is_complete : IsCompleteRule (context_at db t) (rule_at db t l))
     (follows : Follows (context_at db t) (rule_at db t l) (formulas cs) f) where
   -- there are as many flags as premises, and they are those of the premises for a `$e`
   record AreFlags (vs : List Bool) : Type 0 where
-    pub count : length vs ≡ tree_count cs
-    pub from : (n : ℕ) → flag_at vs n ≡ true → (b ≡ true) × (child_counts db true l n ≡ true)
-    pub to : (n : ℕ) → n < tree_count cs → b ≡ true → child_counts db true l n ≡ true
+    pub flag_count_is : length vs ≡ tree_count cs
+    pub flagged_is_counted : (n : ℕ) → flag_at vs n ≡ true → (b
+        ≡ true) × (child_counts db true l n ≡ true)
+    pub counted_is_flagged : (n : ℕ) → n < tree_count cs → b ≡ true → child_counts db true l n
+        ≡ true
         → flag_at vs n ≡ true
 
-  flags_if : (q : Bool) → is_assertion_at db l ≡ q → AreFlags (if q then child_flags db b l else [])
-  flags_if true e = record {
-    count =
+  flags_by_kind : (q : Bool) → is_assertion_at db l ≡ q → AreFlags (if q then child_flags db b l
+      else [])
+  flags_by_kind true is_assertion = record {
+    flag_count_is =
         length-map hs _ ∙ sym (length-map hs (formula_at db))
-        ∙ sym (length-map (map (formula_at db) hs) _) ∙ sym (ap length h.1) ∙ size_formulas cs;
-    from =
-        λ n e. and_parts b (is_essential_hypothesis db l n) (sym (premise_flag b needed hs n) ∙ e);
-    to = λ n k p q. premise_flag b needed hs n ∙ and_from b (is_essential_hypothesis db l n) p q;
+        ∙ sym (length-map (map (formula_at db) hs) _) ∙ sym (ap length rule_follows.1)
+        ∙ formula_count_is cs;
+    flagged_is_counted =
+        λ n flag_is_set. and_parts b (is_essential_hypothesis db l n) (sym (flag_of_premise b needed
+        hs n) ∙ flag_is_set);
+    counted_is_flagged = λ n n_lt_count b_is_true is_counted. flag_of_premise b needed hs n
+        ∙ and_from b (is_essential_hypothesis db l n) b_is_true is_counted;
   }
     where
       hs : List ℕ
@@ -91,330 +98,405 @@ module _ (db : List Statement) (t : ℕ) (b : Bool) (l : ℕ) (cs : Trees) (f : 
       needed : ℕ → Bool
       needed j = list_any is_essential (statement_at db j)
 
-      h : Follows (context_at db t) (Some (assertion (frame_at db l))) (formulas cs) f
-      h =
+      rule_follows : Follows (context_at db t) (Some (assertion (frame_at db l))) (formulas cs) f
+      rule_follows =
           subst (λ r. Follows (context_at db t) r (formulas cs) f)
-          (assertion_rule db t l e good) follows
-  flags_if false e = record {
-    count = sym (ap length h.0) ∙ size_formulas cs;
-    from = λ n e. absurd (no_flag n e);
-    to = λ n k p q. absurd (let c = sym (ap length h.0) ∙ size_formulas cs in omega (arith, c, k));
+          (assertion_rule db t l is_assertion rule_is_complete) follows
+  flags_by_kind false is_assertion = record {
+    flag_count_is = sym (ap length rule_follows.0) ∙ formula_count_is cs;
+    flagged_is_counted = λ n flag_is_set. absurd (no_flag n flag_is_set);
+    counted_is_flagged = λ n n_lt_count b_is_true is_counted. absurd (let flag_count_is = sym (ap
+        length rule_follows.0) ∙ formula_count_is cs in omega (arith, flag_count_is, n_lt_count));
   }
     where
-      h : Follows (context_at db t) (Some (hypothesis (formula_at db l))) (formulas cs) f
-      h =
+      rule_follows : Follows (context_at db t) (Some (hypothesis (formula_at db l))) (formulas cs) f
+      rule_follows =
           subst (λ r. Follows (context_at db t) r (formulas cs) f)
-          (hypothesis_rule db t l e good) follows
+          (hypothesis_rule db t l is_assertion rule_is_complete) follows
 
       no_flag : (n : ℕ) → flag_at [] n ≡ true → ⊥
-      no_flag zero e = true≢false (sym e)
-      no_flag (suc n) e = true≢false (sym e)
+      no_flag zero flag_is_set = true≢false (sym flag_is_set)
+      no_flag (suc n) flag_is_set = true≢false (sym flag_is_set)
 
-  are_flags : AreFlags (taken_flags db b (label l))
-  are_flags = flags_if (is_assertion_at db l) refl
+  taken_flags_are_flags : AreFlags (taken_flags db b (label l))
+  taken_flags_are_flags = flags_by_kind (is_assertion_at db l) refl
 
 -- ---- one step
 
 module _ (db : List Statement) (t : ℕ) (steps : List PlacedStep) (i : ℕ) (ws step_flags : List Bool)
-    (noted : List ℕ) (flag b : Bool) (r : Walked db t steps (suc i) (ws ++ flag ∷ []) step_flags
+    (noted : List ℕ) (flag b : Bool) (are_found : AreFoundFrom db t steps (suc i) (ws ++ flag ∷ [])
+    step_flags
     noted)
-    (inside : i < length steps) (is : b ≡ (flag || flag_at step_flags i)) where
-  abbrev Before : Step → ℕ → Type 0
-  Before s a =
-      IsToBeFound (child_counts db true) (forest_at r.forests) i (ws ++ taken_flags db b s)
+    (i_lt_length : i < length steps) (b_is : b ≡ (flag || flag_at step_flags i)) where
+  abbrev IsFoundBefore : Step → ℕ → Type 0
+  IsFoundBefore s a =
+      IsToBeFound (child_counts db true) (forest_at are_found.forests) i (ws ++ taken_flags db b s)
       (step_flags_after b s step_flags) a
 
   -- what the step does to the nodes that are still to be found
-  record Undone (s : Step) : Type 0 where
-    pub fits : length (ws ++ taken_flags db b s) ≡ tree_count (forest_at r.forests i)
-    pub nodes : (a : ℕ)
-        → IsToBeFound (child_counts db true) (forest_at r.forests) (suc i) (ws ++ flag ∷ [])
+  record IsUndone (s : Step) : Type 0 where
+    pub entry_flags_fit : length (ws ++ taken_flags db b s) ≡ tree_count (forest_at
+        are_found.forests i)
+    pub nodes_iff : (a : ℕ)
+        → IsToBeFound (child_counts db true) (forest_at are_found.forests) (suc i) (ws ++ flag ∷ [])
         step_flags a
-        ↔ (((b ≡ true) × (is_labelled_step s a ≡ true)) ⊎ Before s a)
+        ↔ (((b ≡ true) × (is_labelled_step s a ≡ true)) ⊎ IsFoundBefore s a)
 
-  undone_step : (s : Step) → IsMove (context_at db t) r.forests i s
+  step_is_undone : (s : Step) → IsMove (context_at db t) are_found.forests i s
       → IsGoodStep (context_at db t) i s
-      → Undone s
-  undone_step (label l) (ts, f, cs, here, before, follows) good = record {
-    fits =
-        let c = fl.count in
+      → IsUndone s
+  step_is_undone (label l) (ts, f, cs, forest_is, forest_before_is, follows) is_good = record {
+    entry_flags_fit =
+        let premise_count_is = are_flags.count in
         omega (
           arith,
-          count,
-          c,
+          flag_count_is,
+          premise_count_is,
           length-append ws
               (taken_flags db b (label l)),
-          ap tree_count before,
-          size_join ts cs,
+          ap tree_count forest_before_is,
+          tree_count_join ts cs,
         );
-    nodes = λ a. (λ h. left_to_right a ((both a).0 h), λ h. (both a).1 (right_to_left a h));
+    nodes_iff = λ a. (
+      λ found. left_to_right a ((found_iff a).0 found),
+      λ found. (found_iff a).1
+          (right_to_left a found),
+    );
   }
     where
-      fl : AreFlags db t b l cs f good follows (taken_flags db b (label l))
-      fl = are_flags db t b l cs f good follows
+      are_flags : AreFlags db t b l cs f is_good follows (taken_flags db b (label l))
+      taken_flags_are_flags = taken_flags_are_flags db t b l cs f is_good follows
 
-      count : length ws ≡ tree_count ts
-      count = let e = r.fits in omega (arith, e, length-append ws (flag ∷ []), ap tree_count here)
+      flag_count_is : length ws ≡ tree_count ts
+      flag_count_is = let entry_flags_fit = are_found.entry_flags_fit in omega (
+        arith,
+        entry_flags_fit,
+        length-append ws (flag ∷ []),
+        ap tree_count forest_is,
+      )
 
-      both : (a : ℕ)
-          → IsToBeFound (child_counts db true) (forest_at r.forests) (suc i) (ws ++ flag ∷ [])
+      found_iff : (a : ℕ)
+          → IsToBeFound (child_counts db true) (forest_at are_found.forests) (suc i) (ws ++ flag ∷
+          [])
           step_flags a
-          ↔ (((b ≡ true) × (a ≡ l)) ⊎ Before (label l) a)
-      both a =
+          ↔ (((b ≡ true) × (a ≡ l)) ⊎ IsFoundBefore (label l) a)
+      found_iff a =
           label_back (child_counts db true)
-          (forest_at r.forests) i ws step_flags flag b is a l ts f cs here before count
-          (taken_flags db b (label l)) fl.from fl.to
+          (forest_at are_found.forests) i ws step_flags flag b b_is a l ts f cs forest_is
+          forest_before_is flag_count_is
+          (taken_flags db b (label l)) are_flags.from are_flags.to
 
-      left_to_right : (a : ℕ) → ((b ≡ true) × (a ≡ l)) ⊎ Before (label l) a
-          → ((b ≡ true) × ((a == l) ≡ true)) ⊎ Before (label l) a
-      left_to_right a (inl h) = inl (h.0, eq-eqb a l h.1)
-      left_to_right a (inr h) = inr h
+      left_to_right : (a : ℕ) → ((b ≡ true) × (a ≡ l)) ⊎ IsFoundBefore (label l) a
+          → ((b ≡ true) × ((a == l) ≡ true)) ⊎ IsFoundBefore (label l) a
+      left_to_right a (inl found) = inl (found.0, eq-eqb a l found.1)
+      left_to_right a (inr found) = inr found
 
-      right_to_left : (a : ℕ) → ((b ≡ true) × ((a == l) ≡ true)) ⊎ Before (label l) a
-          → ((b ≡ true) × (a ≡ l)) ⊎ Before (label l) a
-      right_to_left a (inl h) = inl (h.0, eqb-true a l h.1)
-      right_to_left a (inr h) = inr h
-  undone_step (marked j) (earlier, l, f, cs, here, copy) good = record {
-    fits = ap length (append-nil ws) ∙ count;
-    nodes = λ a. (λ h. inr ((both a).0 h), λ h. (both a).1 (only a h));
+      right_to_left : (a : ℕ) → ((b ≡ true) × ((a == l) ≡ true)) ⊎ IsFoundBefore (label l) a
+          → ((b ≡ true) × (a ≡ l)) ⊎ IsFoundBefore (label l) a
+      right_to_left a (inl found) = inl (found.0, eqb-true a l found.1)
+      right_to_left a (inr found) = inr found
+  step_is_undone (marked j) (j_lt_i, l, f, cs, forest_is, last_tree_is) is_good = record {
+    entry_flags_fit = ap length (append-nil ws) ∙ flag_count_is;
+    nodes_iff = λ a. (
+      λ found. inr ((found_iff a).0 found),
+      λ found. (found_iff a).1
+          (label_is_never_marked a found),
+    );
   }
     where
-      count : length ws ≡ tree_count (forest_at r.forests i)
-      count = let e = r.fits in omega (arith, e, length-append ws (flag ∷ []), ap tree_count here)
+      flag_count_is : length ws ≡ tree_count (forest_at are_found.forests i)
+      flag_count_is = let entry_flags_fit = are_found.entry_flags_fit in omega (
+        arith,
+        entry_flags_fit,
+        length-append ws (flag ∷ []),
+        ap tree_count forest_is,
+      )
 
-      both : (a : ℕ)
-          → IsToBeFound (child_counts db true) (forest_at r.forests) (suc i) (ws ++ flag ∷ [])
+      found_iff : (a : ℕ)
+          → IsToBeFound (child_counts db true) (forest_at are_found.forests) (suc i) (ws ++ flag ∷
+          [])
           step_flags a
-          ↔ Before (marked j) a
-      both a =
+          ↔ IsFoundBefore (marked j) a
+      found_iff a =
           marked_back (child_counts db true)
-          (forest_at r.forests) i ws step_flags flag b is a j l f cs earlier here copy count
-          (let e = r.many in omega (arith, e, inside))
+          (forest_at are_found.forests) i ws step_flags flag b b_is a j l f cs j_lt_i forest_is
+          last_tree_is flag_count_is
+          (let step_flags_fit = are_found.step_flags_fit in omega (
+            arith,
+            step_flags_fit,
+            i_lt_length,
+          ))
 
-      only : (a : ℕ) → ((b ≡ true) × (false ≡ true)) ⊎ Before (marked j) a → Before (marked j) a
-      only a (inl h) = absurd (true≢false (sym h.1))
-      only a (inr h) = h
+      label_is_never_marked : (a : ℕ) → ((b ≡ true) × (false ≡ true)) ⊎ IsFoundBefore (marked j) a
+          → IsFoundBefore (marked j) a
+      label_is_never_marked a (inl found) = absurd (true≢false (sym found.1))
+      label_is_never_marked a (inr found) = found
 
-  pub walk_step : (s : Step) (out : List ℕ) → AreGoodSteps (context_at db t) 0 (steps_of steps)
+  pub walked_after_step : (s : Step) (out : List ℕ) → AreGoodSteps (context_at db t) 0 (steps_of
+      steps)
       → s ≡ (step_at steps i).step
       → ((a : ℕ)
       → is_member out a
       ≡ (is_member noted a || (b && (is_labelled_step s a && is_assertion_at db a))))
-      → Walked db t steps i (ws ++ taken_flags db b s) (step_flags_after b s step_flags) out
-  walk_step s out good at notes = record {
-    derivation = r.derivation;
-    proof = r.proof;
-    forests = r.forests;
-    moves = r.moves;
-    many = step_flags_count b s step_flags ∙ r.many;
-    fits = u.fits;
-    asserted =
-        λ a m. known a
+      → AreFoundFrom db t steps i (ws ++ taken_flags db b s) (step_flags_after b s step_flags) out
+  walked_after_step s out are_good s_is members_are = record {
+    derivation = are_found.derivation;
+    is_proof = are_found.is_proof;
+    forests = are_found.forests;
+    are_moves = are_found.are_moves;
+    step_flags_fit = step_flags_count b s step_flags ∙ are_found.step_flags_fit;
+    entry_flags_fit = is_undone.entry_flags_fit;
+    are_assertions =
+        λ a is_noted. noted_is_assertion a
         (or_cases (is_member noted a) (b && (is_labelled_step s a && is_assertion_at db a))
-        (sym (notes a) ∙ m));
-    exact = λ a k. (
-      λ h. left_to_right a k ((r.exact a k).0 h),
-      λ h. (r.exact a k).1
-          (right_to_left a k h),
+        (sym (members_are a) ∙ is_noted));
+    found_iff = λ a is_assertion. (
+      λ found. left_to_right a is_assertion ((are_found.found_iff a is_assertion).0 found),
+      λ found. (are_found.found_iff a is_assertion).1
+          (right_to_left a is_assertion found),
     );
   }
     where
-      move : IsMove (context_at db t) r.forests i s
-      move =
-          let m =
-          move_at (context_at db t) r.forests 0 (steps_of steps) i
-          (let e = length-map steps (λ s. s.step) in omega (arith, e, inside)) r.moves in
-          let here : get_or (steps_of steps) i (label 0) ≡ s =
-          get_or-map (λ s. s.step) steps i (placed 0 (label 0)) (label 0) inside ∙ sym at in
-          let same : 0 + i ≡ i = omega arith in
-          subst (IsMove (context_at db t) r.forests i) here
-          (subst (λ n. IsMove (context_at db t) r.forests n (get_or (steps_of steps) i (label 0)))
-          same m)
+      is_move : IsMove (context_at db t) are_found.forests i s
+      is_move =
+          let is_move_from_0 =
+          move_at (context_at db t) are_found.forests 0 (steps_of steps) i
+          (let count_is = length-map steps (λ s. s.step) in omega (arith, count_is, i_lt_length))
+          are_found.are_moves in
+          let step_is : get_or (steps_of steps) i (label 0) ≡ s =
+          get_or-map (λ s. s.step) steps i (placed 0 (label 0)) (label 0) i_lt_length ∙ sym s_is in
+          let sum_is_i : 0 + i ≡ i = omega arith in
+          subst (IsMove (context_at db t) are_found.forests i) step_is
+          (subst (λ n. IsMove (context_at db t) are_found.forests n (get_or (steps_of steps) i
+          (label 0)))
+          sum_is_i is_move_from_0)
 
-      u : Undone s
-      u = undone_step s move (step_at_is_good (context_at db t) steps i i s inside good refl at)
+      is_undone : IsUndone s
+      is_undone = step_is_undone s is_move (step_at_is_good (context_at db t) steps i i s
+          i_lt_length are_good refl s_is)
 
-      known : (a : ℕ)
+      noted_is_assertion : (a : ℕ)
           → (is_member noted a ≡ true)
           ⊎ ((b && (is_labelled_step s a && is_assertion_at db a)) ≡ true)
           → is_assertion_at db a ≡ true
-      known a (inl h) = r.asserted a h
-      known a (inr h) =
+      noted_is_assertion a (inl noted) = are_found.are_assertions a noted
+      noted_is_assertion a (inr noted) =
           (and_parts (is_labelled_step s a) (is_assertion_at db a)
-          (and_parts b (is_labelled_step s a && is_assertion_at db a) h).1).1
+          (and_parts b (is_labelled_step s a && is_assertion_at db a) noted).1).1
 
-      old_noted : (a : ℕ) → is_member noted a ≡ true → is_member out a ≡ true
-      old_noted a h =
-          notes a ∙ or_left (is_member noted a)
-          (b && (is_labelled_step s a && is_assertion_at db a)) h
+      noted_stays : (a : ℕ) → is_member noted a ≡ true → is_member out a ≡ true
+      noted_stays a noted =
+          members_are a ∙ or_left (is_member noted a)
+          (b && (is_labelled_step s a && is_assertion_at db a)) noted
 
-      new_noted : (a : ℕ) → is_assertion_at db a ≡ true → b ≡ true → is_labelled_step s a ≡ true
+      label_is_noted : (a : ℕ) → is_assertion_at db a ≡ true → b ≡ true → is_labelled_step s a
+          ≡ true
           → is_member out a ≡ true
-      new_noted a k e h =
-          notes a ∙ or_right (is_member noted a)
+      label_is_noted a is_assertion b_is_true is_labelled =
+          members_are a ∙ or_right (is_member noted a)
           (b && (is_labelled_step s a && is_assertion_at db a))
-          (and_from b (is_labelled_step s a && is_assertion_at db a) e
-          (and_from (is_labelled_step s a) (is_assertion_at db a) h k))
+          (and_from b (is_labelled_step s a && is_assertion_at db a) b_is_true
+          (and_from (is_labelled_step s a) (is_assertion_at db a) is_labelled is_assertion))
 
       left_to_right : (a : ℕ) → is_assertion_at db a ≡ true
           → (is_member noted a ≡ true)
-          ⊎ IsToBeFound (child_counts db true) (forest_at r.forests) (suc i) (ws ++ flag ∷ [])
+          ⊎ IsToBeFound (child_counts db true) (forest_at are_found.forests) (suc i) (ws ++ flag ∷
+          [])
           step_flags a
-          → (is_member out a ≡ true) ⊎ Before s a
-      left_to_right a a_is_assertion (inl h) = inl (old_noted a h)
-      left_to_right a a_is_assertion (inr h) = by_step ((u.nodes a).0 h)
+          → (is_member out a ≡ true) ⊎ IsFoundBefore s a
+      left_to_right a a_is_assertion (inl found) = inl (noted_stays a found)
+      left_to_right a a_is_assertion (inr found) = by_step ((is_undone.nodes_iff a).0 found)
         where
-          by_step : ((b ≡ true) × (is_labelled_step s a ≡ true)) ⊎ Before s a
-              → (is_member out a ≡ true) ⊎ Before s a
-          by_step (inl h) = inl (new_noted a a_is_assertion h.0 h.1)
-          by_step (inr h) = inr h
+          by_step : ((b ≡ true) × (is_labelled_step s a ≡ true)) ⊎ IsFoundBefore s a
+              → (is_member out a ≡ true) ⊎ IsFoundBefore s a
+          by_step (inl found) = inl (label_is_noted a a_is_assertion found.0 found.1)
+          by_step (inr found) = inr found
 
-      right_to_left : (a : ℕ) → is_assertion_at db a ≡ true → (is_member out a ≡ true) ⊎ Before s a
+      right_to_left : (a : ℕ) → is_assertion_at db a ≡ true → (is_member out a
+          ≡ true) ⊎ IsFoundBefore s a
           → (is_member noted a ≡ true)
-          ⊎ IsToBeFound (child_counts db true) (forest_at r.forests) (suc i) (ws ++ flag ∷ [])
+          ⊎ IsToBeFound (child_counts db true) (forest_at are_found.forests) (suc i) (ws ++ flag ∷
+          [])
           step_flags a
-      right_to_left a a_is_assertion (inl h) =
+      right_to_left a a_is_assertion (inl found) =
           by_membership (or_cases (is_member noted a)
           (b && (is_labelled_step s a && is_assertion_at db a))
-          (sym (notes a) ∙ h))
+          (sym (members_are a) ∙ found))
         where
           by_membership : (is_member noted a ≡ true)
               ⊎ ((b && (is_labelled_step s a && is_assertion_at db a)) ≡ true)
               → (is_member noted a ≡ true)
-              ⊎ IsToBeFound (child_counts db true) (forest_at r.forests) (suc i) (ws ++ flag ∷ [])
+              ⊎ IsToBeFound (child_counts db true) (forest_at are_found.forests) (suc i) (ws ++ flag
+              ∷ [])
               step_flags a
-          by_membership (inl h) = inl h
-          by_membership (inr h) =
-              let p = and_parts b (is_labelled_step s a && is_assertion_at db a) h in
-              inr ((u.nodes a).1
-              (inl (p.0, (and_parts (is_labelled_step s a) (is_assertion_at db a) p.1).0)))
-      right_to_left a a_is_assertion (inr h) = inr ((u.nodes a).1 (inr h))
+          by_membership (inl found) = inl found
+          by_membership (inr found) =
+              let is_label = and_parts b (is_labelled_step s a && is_assertion_at db a) found in
+              inr ((is_undone.nodes_iff a).1
+              (inl (
+                is_label.0,
+                (and_parts (is_labelled_step s a) (is_assertion_at db a)
+                    is_label.1).0,
+              )))
+      right_to_left a a_is_assertion (inr found) = inr ((is_undone.nodes_iff a).1 (inr found))
 
 -- the forest after a step is not empty
-some_row : (c : Context) (forests : List Trees) (i : ℕ) (s : Step) → IsMove c forests i s
+has_tree_after_step : (context : Context) (forests : List Trees) (i : ℕ) (s : Step)
+    → IsMove context forests i s
     → 0 < tree_count (forest_at forests (suc i))
-some_row c forests i (label l) (ts, f, cs, here, before, follows) =
-    let e = ap tree_count here in omega (arith, e)
-some_row c forests i (marked j) (earlier, l, f, cs, here, copy) =
-    let e = ap tree_count here in omega (arith, e)
+has_tree_after_step context forests i (label l) (ts, f, cs, forest_is, forest_before_is, follows) =
+    let tree_count_is = ap tree_count forest_is in omega (arith, tree_count_is)
+has_tree_after_step context forests i (marked j) (j_lt_i, l, f, cs, forest_is, last_tree_is) =
+    let tree_count_is = ap tree_count forest_is in omega (arith, tree_count_is)
 
 module _ (db : List Statement) (t : ℕ) (steps : List PlacedStep) (n i : ℕ)
     (entry_flags step_flags : List Bool) (noted : List ℕ)
-    (r : Walked db t steps n entry_flags step_flags noted)
-    (inside : i < length steps) (next : n ≡ suc i) where
-  pub walk_some : 0 < length entry_flags
-  walk_some =
-      let m =
-      move_at (context_at db t) r.forests 0 (steps_of steps) i
-      (let e = length-map steps (λ s. s.step) in omega (arith, e, inside)) r.moves in
-      let e = r.fits in
-      let k = some_row (context_at db t) r.forests (0 + i) (get_or (steps_of steps) i (label 0)) m
+    (are_found : AreFoundFrom db t steps n entry_flags step_flags noted)
+    (i_lt_length : i < length steps) (n_is : n ≡ suc i) where
+  pub has_entry_flag : 0 < length entry_flags
+  has_entry_flag =
+      let is_move =
+      move_at (context_at db t) are_found.forests 0 (steps_of steps) i
+      (let count_is = length-map steps (λ s. s.step) in omega (arith, count_is, i_lt_length))
+      are_found.are_moves in
+      let entry_flags_fit = are_found.entry_flags_fit in
+      let has_tree = has_tree_after_step (context_at db t) are_found.forests (0 + i) (get_or
+      (steps_of steps) i (label 0)) is_move
       in
-      let same : tree_count (forest_at r.forests n)
-      ≡ tree_count (forest_at r.forests (suc (0 + i))) =
-      ap (λ j. tree_count (forest_at r.forests j))
-      (let q : n ≡ suc (0 + i) = omega (arith, next) in q) in
-      omega (arith, e, k, same)
+      let tree_counts_equal : tree_count (forest_at are_found.forests n)
+      ≡ tree_count (forest_at are_found.forests (suc (0 + i))) =
+      ap (λ j. tree_count (forest_at are_found.forests j))
+      (let n_is_suc : n ≡ suc (0 + i) = omega (arith, n_is) in n_is_suc) in
+      omega (arith, entry_flags_fit, has_tree, tree_counts_equal)
 
   -- the same by the values that the code has
-  pub walk_here : (ws : List Bool) (flag b : Bool) (s : Step) (flags wants : List Bool)
+  pub walked_by_value : (ws : List Bool) (flag b : Bool) (s : Step) (flags step_flags' : List Bool)
       → (out : List ℕ)
       → entry_flags ≡ ws ++ flag ∷ [] → b ≡ (flag || flag_at step_flags i)
       → AreGoodSteps (context_at db t) 0 (steps_of steps) → s ≡ (step_at steps i).step
-      → flags ≡ ws ++ taken_flags db b s → wants ≡ step_flags_after b s step_flags
+      → flags ≡ ws ++ taken_flags db b s → step_flags' ≡ step_flags_after b s step_flags
       → ((a : ℕ)
       → is_member out a
       ≡ (is_member noted a || (b && (is_labelled_step s a && is_assertion_at db a))))
-      → Walked db t steps i flags wants out
-  walk_here ws flag b s flags wants out popped is good at put want notes =
-      let r' : Walked db t steps (suc i) (ws ++ flag ∷ []) step_flags noted =
-      subst (λ m. Walked db t steps m (ws ++ flag ∷ []) step_flags noted) next
-      (subst (λ z. Walked db t steps n z step_flags noted) popped r) in
-      rw (put, want)
-      (walk_step db t steps i ws step_flags noted flag b r' inside is s out good at notes)
+      → AreFoundFrom db t steps i flags step_flags' out
+  walked_by_value ws flag b s flags step_flags' out entry_flags_split b_is are_good s_is
+      entry_flags_are step_flags_are members_are =
+      let r' : AreFoundFrom db t steps (suc i) (ws ++ flag ∷ []) step_flags noted =
+      subst (λ m. AreFoundFrom db t steps m (ws ++ flag ∷ []) step_flags noted) n_is
+      (subst (λ z. AreFoundFrom db t steps n z step_flags noted) entry_flags_split are_found) in
+      rw (entry_flags_are, step_flags_are)
+      (walked_after_step db t steps i ws step_flags noted flag b r' i_lt_length b_is s out are_good
+      s_is members_are)
 
 -- a good step takes up an earlier one
-pub earlier_of : (c : Context) (i n : ℕ) (s : Step) → i < n → IsGoodStep c i s → IsEarlier s n
-earlier_of c i n (label l) h good = tt
-earlier_of c i n (marked j) h good = omega (arith, h, good)
+pub good_step_is_earlier : (c : Context) (i n : ℕ) (s : Step) → i < n → IsGoodStep c i s
+    → IsEarlier s n
+good_step_is_earlier c i n (label l) i_lt_n is_good = tt
+good_step_is_earlier c i n (marked j) i_lt_n is_good = omega (arith, i_lt_n, is_good)
 
 -- ---- the first and the last
 
-module _ (db : List Statement) (t : ℕ) (steps : List PlacedStep) (complete : AreComplete db) where
-  pub walk_start : (entry_flags step_flags : List Bool) (noted : List ℕ) → steps ≡ steps_at db t
-      → ((d : Trees) × IsProof db t d) → entry_flags ≡ true ∷ []
-      → step_flags ≡ replicate (length steps) false → noted ≡ []
-      → Walked db t steps (length steps) entry_flags step_flags noted
-  walk_start entry_flags step_flags noted are (d, p) one all bare =
-      start (proof_rows (context_at db t) (complete t) (steps_of steps) (formula_at db t) d here)
-    where
-      here : Derives (context_at db t) (steps_of steps) (formula_at db t) d
-      here = subst (λ ss. Derives (context_at db t) (steps_of ss) (formula_at db t) d) (sym are) p
+module _ (db : List Statement) (t : ℕ) (steps : List PlacedStep) (is_complete : AreComplete db)
+  where
+    pub walked_at_start : (entry_flags step_flags : List Bool) (noted : List ℕ) → steps
+        ≡ steps_at db t
+        → ((d : Trees) × IsProof db t d) → entry_flags ≡ true ∷ []
+        → step_flags ≡ replicate (length steps) false → noted ≡ []
+        → AreFoundFrom db t steps (length steps) entry_flags step_flags noted
+    walked_at_start entry_flags step_flags noted steps_are (d, derives) entry_flags_are
+        step_flags_are noted_is_nil =
+        found_from_forests (proof_has_forests (context_at db t) (is_complete t) (steps_of steps)
+        (formula_at db t) d derives_formula)
+      where
+        derives_formula : Derives (context_at db t) (steps_of steps) (formula_at db t) d
+        derives_formula = subst (λ ss. Derives (context_at db t) (steps_of ss) (formula_at db t) d)
+            (sym steps_are) derives
 
-      start : ((forests : List Trees) × AreMoves (context_at db t) forests 0 (steps_of steps)
-          × (forest_at forests (length (steps_of steps)) ≡ d))
-          → Walked db t steps (length steps) entry_flags step_flags noted
-      start (forests, moves, last) = record {
-        derivation = d;
-        proof = p;
-        forests = forests;
-        moves = moves;
-        many = ap length all ∙ count (length steps);
-        fits = ap length one ∙ sym (ap tree_count (at_end ∙ here.2));
-        asserted = λ a m. absurd (true≢false (sym m ∙ ap (λ l. is_member l a) bare));
-        exact = λ a k. (λ h. inr (inl (left_to_right a h)), λ h. right_to_left a h);
-      }
-        where
-          count : (n : ℕ) → length (replicate n false) ≡ n
-          count zero = refl
-          count (suc n) = ap suc (count n)
+        found_from_forests : ((forests : List Trees) × AreMoves (context_at db t) forests 0
+            (steps_of
+            steps)
+            × (forest_at forests (length (steps_of steps)) ≡ d))
+            → AreFoundFrom db t steps (length steps) entry_flags step_flags noted
+        found_from_forests (forests, are_moves, ends_in_d) = record {
+          derivation = d;
+          is_proof = derives;
+          forests = forests;
+          are_moves = are_moves;
+          step_flags_fit = ap length step_flags_are ∙ length_replicate_is (length steps);
+          entry_flags_fit = ap length entry_flags_are ∙ sym (ap tree_count (forest_is_d
+              ∙ derives_formula.2));
+          are_assertions = λ a is_noted. absurd (true≢false (sym is_noted
+              ∙ ap (λ l. is_member l a) noted_is_nil));
+          found_iff = λ a is_assertion. (
+            λ found. inr (inl (left_to_right a found)),
+            λ found.
+                right_to_left a found,
+          );
+        }
+          where
+            length_replicate_is : (n : ℕ) → length (replicate n false) ≡ n
+            length_replicate_is zero = refl
+            length_replicate_is (suc n) = ap suc (length_replicate_is n)
 
-          at_end : forest_at forests (length steps) ≡ d
-          at_end = ap (forest_at forests) (sym (length-map steps (λ s. s.step))) ∙ last
+            forest_is_d : forest_at forests (length steps) ≡ d
+            forest_is_d = ap (forest_at forests) (sym (length-map steps (λ s. s.step))) ∙ ends_in_d
 
-          counts : ℕ → ℕ → Bool
-          counts = child_counts db true
+            counts : ℕ → ℕ → Bool
+            counts = child_counts db true
 
-          root : (p q : ℕ → Bool) (a : ℕ) → q 0 ≡ true
-              → HasNode counts p (tree here.0 (formula_at db t) here.1) a
-              → HasNode counts q (tree here.0 (formula_at db t) here.1) a
-          root p q a e (inl h) = absurd h
-          root p q a e (inr h) = inr (e, h.1)
+            node_by_root_flag : (p q : ℕ → Bool) (a : ℕ) → q 0 ≡ true
+                → HasNode counts p (tree derives_formula.0 (formula_at db t) derives_formula.1) a
+                → HasNode counts q (tree derives_formula.0 (formula_at db t) derives_formula.1) a
+            node_by_root_flag p q a q_0 (inl has_node) = absurd has_node
+            node_by_root_flag p q a q_0 (inr has_node) = inr (q_0, has_node.1)
 
-          left_to_right : (a : ℕ) → HasNode counts each_root d a
-              → HasNode counts (flag_at entry_flags) (forest_at forests (length steps)) a
-          left_to_right a h =
-              subst (λ u. HasNode counts (flag_at entry_flags) u a) (sym (at_end ∙ here.2))
-              (root each_root (flag_at entry_flags) a (ap (λ ws. flag_at ws 0) one)
-              (subst (λ u. HasNode counts each_root u a) here.2 h))
+            left_to_right : (a : ℕ) → HasNode counts each_root d a
+                → HasNode counts (flag_at entry_flags) (forest_at forests (length steps)) a
+            left_to_right a has_node =
+                subst (λ u. HasNode counts (flag_at entry_flags) u a) (sym (forest_is_d
+                ∙ derives_formula.2))
+                (node_by_root_flag each_root (flag_at entry_flags) a (ap (λ ws. flag_at ws 0)
+                entry_flags_are)
+                (subst (λ u. HasNode counts each_root u a) derives_formula.2 has_node))
 
-          right_to_left : (a : ℕ)
-              → (is_member noted a ≡ true)
-              ⊎ IsToBeFound counts (forest_at forests) (length steps) entry_flags step_flags a
-              → HasNode counts each_root d a
-          right_to_left a (inl h) = absurd (true≢false (sym h ∙ ap (λ l. is_member l a) bare))
-          right_to_left a (inr (inl h)) =
-              subst (λ u. HasNode counts each_root u a) (sym here.2)
-              (root (flag_at entry_flags) each_root a refl
-              (subst (λ u. HasNode counts (flag_at entry_flags) u a) (at_end ∙ here.2) h))
-          right_to_left a (inr (inr h)) =
-              absurd (true≢false
-              (sym h.2 ∙ ap (λ ws. flag_at ws h.0) all
-              ∙ get_or-replicate (length steps) h.0 false false h.1))
+            right_to_left : (a : ℕ)
+                → (is_member noted a ≡ true)
+                ⊎ IsToBeFound counts (forest_at forests) (length steps) entry_flags step_flags a
+                → HasNode counts each_root d a
+            right_to_left a (inl found) = absurd (true≢false (sym found
+                ∙ ap (λ l. is_member l a) noted_is_nil))
+            right_to_left a (inr (inl found)) =
+                subst (λ u. HasNode counts each_root u a) (sym derives_formula.2)
+                (node_by_root_flag (flag_at entry_flags) each_root a refl
+                (subst (λ u. HasNode counts (flag_at entry_flags) u a) (forest_is_d
+                ∙ derives_formula.2) found))
+            right_to_left a (inr (inr found)) =
+                absurd (true≢false
+                (sym found.2 ∙ ap (λ ws. flag_at ws found.0) step_flags_are
+                ∙ get_or-replicate (length steps) found.0 false false found.1))
 
-  pub walk_end : (entry_flags step_flags : List Bool) (noted : List ℕ)
-      → Walked db t steps 0 entry_flags step_flags noted → (a : ℕ)
-      → Decides (is_member noted a) (Cites db true t a)
-  walk_end entry_flags step_flags noted r a = (
-    λ m. let k = r.asserted a m in (k, r.derivation, r.proof, (r.exact a k).1 (inl m)),
-    λ c. by_membership ((r.exact a c.0).0
-        (subst (λ d. HasNode (child_counts db true) each_root d a)
-        (proof_unique db complete t c.1 r.derivation c.2 r.proof) c.3)),
-  )
-    where
-      by_membership : (is_member noted a ≡ true)
-          ⊎ IsToBeFound (child_counts db true) (forest_at r.forests) 0 entry_flags step_flags a
-          → is_member noted a ≡ true
-      by_membership (inl h) = h
-      by_membership (inr (inl h)) = absurd h
-      by_membership (inr (inr h)) = let low = h.1 in absurd (omega (arith, low))
+    pub walked_to_start : (entry_flags step_flags : List Bool) (noted : List ℕ)
+        → AreFoundFrom db t steps 0 entry_flags step_flags noted → (a : ℕ)
+        → Decides (is_member noted a) (Cites db true t a)
+    walked_to_start entry_flags step_flags noted are_found a = (
+      λ is_noted. let is_assertion = are_found.are_assertions a is_noted in (
+        is_assertion,
+        are_found.derivation,
+        are_found.is_proof,
+        (are_found.found_iff a is_assertion).1 (inl
+            is_noted),
+      ),
+      λ cites. by_membership ((are_found.found_iff a cites.0).0
+          (subst (λ d. HasNode (child_counts db true) each_root d a)
+          (proof_unique db is_complete t cites.1 are_found.derivation cites.2 are_found.proof)
+          cites.3)),
+    )
+      where
+        by_membership : (is_member noted a ≡ true)
+            ⊎ IsToBeFound (child_counts db true) (forest_at are_found.forests) 0 entry_flags
+            step_flags a
+            → is_member noted a ≡ true
+        by_membership (inl noted_or_found) = noted_or_found
+        by_membership (inr (inl noted_or_found)) = absurd noted_or_found
+        by_membership (inr (inr noted_or_found)) = let j_lt_0 = noted_or_found.1 in absurd (omega
+            (arith, j_lt_0))

@@ -32,7 +32,7 @@ checker_state machine rules noted cache =
 pub record AreOfDatabase (db : List Statement) (symbol_count : ℕ) (rules : RuleLists) : Type 0 where
   pub symbol_count_is : symbol_count ≡ length (symbol_names db)
   pub rules_are : AreRules db rules
-  pub complete : AreComplete db
+  pub frames_are_complete : AreComplete db
 
 -- the checker is made for the theorems of the database
 abbrev pub IsMadeFor : List Statement → CheckerState → Type 0
@@ -43,8 +43,8 @@ pub record AreAtTheorem (db : List Statement) (t symbol_count : ℕ) (rules : Ru
     (cache : List (ℕ × ℕ)) :
     Type 0 where
   pub made_for : AreOfDatabase db symbol_count rules
-  pub theorem : t < length db
-  pub disjoint_are : AreDisjointAt db t cache
+  pub theorem_lt_length : t < length db
+  pub pairs_are_disjoint : AreDisjointAt db t cache
 
 -- the checker is made for the database, and its pairs of symbols are disjoint at the theorem
 abbrev pub IsAtTheorem : List Statement → ℕ → CheckerState → Type 0
@@ -53,9 +53,9 @@ IsAtTheorem db t c = AreAtTheorem db t c.machine.symbol_count c.rules c.cache
 -- the checker has performed the first `i` steps of the theorem's proof
 pub record HasPerformed (db : List Statement) (t : ℕ) (steps : List PlacedStep) (i : ℕ)
     (c : CheckerState) : Type 0 where
-  pub at : IsAtTheorem db t c
+  pub is_at_theorem : IsAtTheorem db t c
   pub are_steps : AreStepsOf db t steps
-  pub ran : HasRun db t steps i c.machine c.noted
+  pub has_run : HasRun db t steps i c.machine c.noted
 
 -- one step leads from the checker to the next: its entries are those after the step, and its
 -- assertion is noted
@@ -63,10 +63,10 @@ pub record Performs (db : List Statement) (t : ℕ) (a : Step) (old new : Checke
   pub entries_are : (ends : List Formula) → AreEndFormulas ends old.machine.marks
       old.machine.formulas
       → step_entries (context_at db t) a ends old.machine.stack ≡ Ok new.machine.stack
-  pub marks : new.machine.marks ≡ old.machine.marks
-  pub formulas : new.machine.formulas ≡ old.machine.formulas
-  pub entry : 0 < length new.machine.stack
-  pub noted : (x : ℕ)
+  pub marks_stay : new.machine.marks ≡ old.machine.marks
+  pub formulas_stay : new.machine.formulas ≡ old.machine.formulas
+  pub has_entry : 0 < length new.machine.stack
+  pub noted_are : (x : ℕ)
       → is_member new.noted x
       ≡ (is_member old.noted x || (is_labelled_step a x && is_assertion_at db x))
 

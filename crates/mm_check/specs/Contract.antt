@@ -30,9 +30,9 @@ theorem_citations t cites = record { theorem = t; cites = cites }
 pub record IsChecked (db : List Statement) (by_essential : Bool) (t : ℕ)
     (cites : List ℕ) : Type 0 where
   pub derivation : Trees
-  pub proof : IsProof db t derivation
-  pub rising : IsStrictlyIncreasing cites
-  pub exact : (a : ℕ) → Decides (is_member cites a) (Cites db by_essential t a)
+  pub is_proof : IsProof db t derivation
+  pub cites_rise : IsStrictlyIncreasing cites
+  pub cites_are_exact : (a : ℕ) → Decides (is_member cites a) (Cites db by_essential t a)
 
 -- if the refusal is a fault, it is the fault of the theorem's proof
 abbrev pub IsCheckRefusal : List Statement → ℕ → CheckRefused → Type 0
@@ -40,9 +40,9 @@ IsCheckRefusal db t (Faulty f) = ProofFault db t (proof_end (slice_get db t)) f
 IsCheckRefusal db t Memory = Unit {0}
 
 -- if the refusal is a fault, it is the fault of one of these steps
-abbrev pub StepRefuses : List Statement → ℕ → List PlacedStep → CheckRefused → Type 0
-StepRefuses db t steps (Faulty f) = StepFault (context_at db t) steps f
-StepRefuses db t steps Memory = Unit {0}
+abbrev pub IsRefusalOfSomeStep : List Statement → ℕ → List PlacedStep → CheckRefused → Type 0
+IsRefusalOfSomeStep db t steps (Faulty f) = StepFault (context_at db t) steps f
+IsRefusalOfSomeStep db t steps Memory = Unit {0}
 
 -- the refusal of a proof, a step of which was refused at the place
 abbrev pub refusal_at : ℕ → StepRefused → CheckRefused

@@ -21,14 +21,14 @@ pub record IsReached (db : List Statement) (t : ℕ) (steps_so_far : List Step)
     (stack ends : List Formula)
     (noted : List ℕ) : Type 0 where
   pub forest : Trees
-  pub derivations : AreDerivations (context_at db t) forest
+  pub are_derivations : AreDerivations (context_at db t) forest
   pub entries_are : formulas forest ≡ stack
   pub lists : List (List ℕ)
-  pub after : AllZip (EndsInFormula (context_at db t)) lists ends
-  pub plain : (rest : List Step) (all : List ℕ)
-      → Plain (context_at db t) lists (postfix forest) rest all
-      → Plain (context_at db t) [] [] (steps_so_far ++ rest) all
-  pub within : AllByRecursion
+  pub lists_end_in_formulas : AllZip (EndsInFormula (context_at db t)) lists ends
+  pub plain_from_start : (later_steps : List Step) (labels : List ℕ)
+      → Plain (context_at db t) lists (postfix forest) later_steps labels
+      → Plain (context_at db t) [] [] (steps_so_far ++ later_steps) labels
+  pub lists_are_within : AllByRecursion
       (λ l. (a : ℕ) → is_member l a ≡ true → is_member (postfix forest) a ≡ true) lists
   pub noted_are : (a : ℕ)
       → is_member noted a ≡ (is_member (postfix forest) a && is_assertion_at db a)
@@ -46,16 +46,16 @@ AreEndFormulas ends marks formulas = AllZip (λ j f. slice_get ends j ≡ Some f
 pub record HasRun (db : List Statement) (t : ℕ) (steps : List PlacedStep) (i : ℕ) (s : MachineState)
     (noted : List ℕ) : Type 0 where
   pub ends : List Formula
-  pub count : length ends ≡ i
-  pub reached : IsReached db t (steps_of (take i steps)) s.stack ends noted
-  pub agree : AreEndFormulas ends s.marks s.formulas
-  pub before : All (λ j. j < i) s.marks
-  pub present : (j : ℕ) → j < i → is_marked steps j ≡ true → Contains s.marks j
+  pub end_count_is : length ends ≡ i
+  pub is_reached : IsReached db t (steps_of (take i steps)) s.stack ends noted
+  pub marks_agree : AreEndFormulas ends s.marks s.formulas
+  pub marks_lt_i : All (λ j. j < i) s.marks
+  pub marked_are_kept : (j : ℕ) → j < i → is_marked steps j ≡ true → Contains s.marks j
 
 -- the steps are those of the theorem's proof, which was read without a fault
 pub record AreStepsOf (db : List Statement) (t : ℕ) (steps : List PlacedStep) : Type 0 where
-  pub complete : AreComplete db
-  pub theorem : IsTrue (is_theorem_at db t)
+  pub is_complete : AreComplete db
+  pub is_theorem : IsTrue (is_theorem_at db t)
   pub steps_are : steps ≡ steps_at db t
-  pub sound : reading_faults_at db t ≡ []
-  pub good : AreGoodSteps (context_at db t) 0 (steps_of steps)
+  pub no_reading_faults : reading_faults_at db t ≡ []
+  pub are_good : AreGoodSteps (context_at db t) 0 (steps_of steps)

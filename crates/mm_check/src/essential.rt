@@ -52,7 +52,7 @@ impl<A: Allocator> Flags<A> {
         noted: &mut NotedAssertions<A>,
     ) -> Result<(), AllocError>
         requires steps { AreStepsOf database.now.statements theorem steps.now.steps }
-        requires valid { (d : Trees) × IsProof database.now.statements theorem d }
+        requires has_proof { (d : Trees) × IsProof database.now.statements theorem d }
         requires noted { (a : ℕ)
             → Decides (is_member noted.old a) (Cites database.now.statements false theorem a) }
         ensures { OnOk result
@@ -141,8 +141,8 @@ fn undo_step<A: Allocator>(
     entry_flags: &mut Vec<bool, A>,
     step_flags: &mut [bool],
 ) -> Result<(), AllocError>
-    requires known { IsLabelBelow (as_step step) (length database.now.statements) }
-    requires earlier { IsEarlier (as_step step) (length step_flags.old) }
+    requires label_is_below { IsLabelBelow (as_step step) (length database.now.statements) }
+    requires repeats_earlier { IsEarlier (as_step step) (length step_flags.old) }
     ensures noted { OnOk result
         ((a : ℕ)
         → is_member noted.new a
@@ -186,7 +186,7 @@ fn note_essential<A: Allocator>(
     step_flags: &mut Vec<bool, A>,
 ) -> Result<(), AllocError>
     requires steps { AreStepsOf database.now.statements theorem steps.now.steps }
-    requires valid { (d : Trees) × IsProof database.now.statements theorem d }
+    requires has_proof { (d : Trees) × IsProof database.now.statements theorem d }
     ensures { OnOk result
         ((a : ℕ)
         → Decides (is_member noted.new a) (Cites database.now.statements true theorem a)) }

@@ -77,9 +77,9 @@ impl<A: Allocator> NotedAssertions<A> {
         Ok(())
     }
 
-    /// Adds the assertion that a step applies, if it applies one.
+    /// Adds the assertion that a step applied_step_performs, if it applied_step_performs one.
     pub fn add_applied(&mut self, database: &Database<A>, step: Step) -> Result<(), AllocError>
-        requires known { IsLabelBelow (as_step step) (length database.now.statements) }
+        requires label_is_below { IsLabelBelow (as_step step) (length database.now.statements) }
         ensures { OnOk result
             ((a : ℕ)
             → is_member self.new a
@@ -96,8 +96,8 @@ impl<A: Allocator> NotedAssertions<A> {
 
     /// The noted assertions in ascending order, each once.
     pub fn sorted(&mut self, alloc: A) -> Result<Vec<u32, A>, AllocError>
-        ensures rising { IfOk result (λ cites. IsStrictlyIncreasing cites.items) }
-        ensures same { IfOk result
+        ensures cites_rise { IfOk result (λ cites. IsStrictlyIncreasing cites.items) }
+        ensures members_stay { IfOk result
             (λ cites. (a : ℕ) → is_member cites.items a ≡ is_member self.old a) }
     {
         self.numbers.sort_unstable();

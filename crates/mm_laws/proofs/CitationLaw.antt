@@ -4,12 +4,22 @@ use Rattle.mm_laws.specs.Laws.Citations.{EssentialIsCited, EachLabelIsCited}
 use Rattle.mm_spec.proofs.NodesLaw.{label_member, all_labels}
 
 pub essential_is_cited : EssentialIsCited
-essential_is_cited db t a c =
-    (c.0, c.1, c.2, (all_labels db c.1 a).1 (label_member db true c.1 a c.3))
+essential_is_cited db t a cites_a = (
+  cites_a.0,
+  cites_a.1,
+  cites_a.2,
+  (all_labels db cites_a.1 a).1 (label_member db true cites_a.1
+      a cites_a.3),
+)
 
 pub each_label_is_cited : EachLabelIsCited
 each_label_is_cited db t a = (
-  λ c. (c.0, c.1, c.2, (all_labels db c.1 a).0 c.3),
-  λ c.
-      (c.0, c.1, c.2, (all_labels db c.1 a).1 c.3),
+  λ cites_a. (cites_a.0, cites_a.1, cites_a.2, (all_labels db cites_a.1 a).0 cites_a.3),
+  λ is_label_of_proof. (
+    is_label_of_proof.0,
+    is_label_of_proof.1,
+    is_label_of_proof.2,
+    (all_labels db
+        is_label_of_proof.1 a).1 is_label_of_proof.3,
+  ),
 )

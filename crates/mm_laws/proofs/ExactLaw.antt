@@ -22,116 +22,133 @@ IsPostfixOfForest c labels = (forest : Trees) × AreDerivations c forest × (pos
 
 module _ (c : Context) where
   -- a step that fails stops the run, for that reason
-  pub stops : (r : Option Rule) (es : List Formula) (reason : Reason) → IsCompleteRule c r
+  pub step_stops_if_fails : (r : Option Rule) (es : List Formula) (reason : Reason)
+      → IsCompleteRule c r
       → Fails c r es reason → step c r es ≡ Err reason
-  stops None es too_few good h = absurd h
-  stops None es unmatched good h = absurd h
-  stops None es not_disjoint good h = absurd h
-  stops None es too_long good h = absurd h
-  stops (Some (hypothesis g)) es too_few good h = absurd h
-  stops (Some (hypothesis g)) es unmatched good h = absurd h
-  stops (Some (hypothesis g)) es not_disjoint good h = absurd h
-  stops (Some (hypothesis g)) es too_long good h =
-      ap (λ b. unless_too_long b (es ++ g ∷ [])) (lt-leb (length g) formula_limit h)
-  stops (Some (assertion a)) es too_few good h =
+  step_stops_if_fails None es too_few is_complete fails = absurd fails
+  step_stops_if_fails None es unmatched is_complete fails = absurd fails
+  step_stops_if_fails None es not_disjoint is_complete fails = absurd fails
+  step_stops_if_fails None es too_long is_complete fails = absurd fails
+  step_stops_if_fails (Some (hypothesis g)) es too_few is_complete fails = absurd fails
+  step_stops_if_fails (Some (hypothesis g)) es unmatched is_complete fails = absurd fails
+  step_stops_if_fails (Some (hypothesis g)) es not_disjoint is_complete fails = absurd fails
+  step_stops_if_fails (Some (hypothesis g)) es too_long is_complete fails =
+      ap (λ b. unless_too_long b (es ++ g ∷ [])) (lt-leb (length g) formula_limit fails)
+  step_stops_if_fails (Some (assertion a)) es too_few is_complete fails =
       ap (λ b. apply c a b (take (length es - length a.hypotheses) es)
       (drop (length es - length a.hypotheses) es))
-      (lt-leb (length a.hypotheses) (length es) h)
-  stops (Some (assertion a)) es unmatched good h =
+      (lt-leb (length a.hypotheses) (length es) fails)
+  step_stops_if_fails (Some (assertion a)) es unmatched is_complete fails =
       let ps = drop (length es - length a.hypotheses) es in
       let σ = substitution_from c a.hypotheses ps in
-      let disjoint = list_all (λ p. are_all_disjoint c (σ p.low) (σ p.high)) a.pairs in
-      ap₂ (λ b m. unless_failed b m disjoint
+      let are_disjoint = list_all (λ p. are_all_disjoint c (σ p.low) (σ p.high)) a.pairs in
+      ap₂ (λ b m. unless_failed b m are_disjoint
       (nat_le (length (substitute c σ a.formula)) formula_limit)
       (take (length es - length a.hypotheses) es ++ substitute c σ a.formula ∷ []))
-      (le-leb (length a.hypotheses) (length es) h.0)
-      (false_from_ne_true _ (λ e. h.1 σ (same_equal _ _ e)))
-  stops (Some (assertion a)) es not_disjoint good h =
+      (le-leb (length a.hypotheses) (length es) fails.0)
+      (false_from_ne_true _ (λ test_is_true. fails.1 σ (same_equal _ _ test_is_true)))
+  step_stops_if_fails (Some (assertion a)) es not_disjoint is_complete fails =
       let n = length es - length a.hypotheses in
       let ps = drop n es in
       let σ = substitution_from c a.hypotheses ps in
-      let e : substitution_from c a.hypotheses (map (substitute c h.0) a.hypotheses) ≡ σ =
-      ap (substitution_from c a.hypotheses) (sym h.2) in
-      let same_test = found_disjoint c a.hypotheses h.0 a.pairs good.pairs in
-      let disjoint =
+      let substitutions_equal : substitution_from c a.hypotheses (map (substitute c fails.0)
+      a.hypotheses) ≡ σ =
+      ap (substitution_from c a.hypotheses) (sym fails.2) in
+      let pair_tests_equal = found_disjoint c a.hypotheses fails.0 a.pairs is_complete.pairs in
+      let disjoint_tests_equal =
       subst (λ (s : Substitution). list_all (λ p. are_all_disjoint c (s p.low) (s p.high)) a.pairs
-      ≡ list_all (λ p. are_all_disjoint c (h.0 p.low) (h.0 p.high)) a.pairs) e same_test in
+      ≡ list_all (λ p. are_all_disjoint c (fails.0 p.low) (fails.0 p.high)) a.pairs)
+      substitutions_equal pair_tests_equal in
       ap₂ (λ b m. unless_failed b m
       (list_all (λ p. are_all_disjoint c (σ p.low) (σ p.high)) a.pairs)
       (nat_le (length (substitute c σ a.formula)) formula_limit)
       (take n es ++ substitute c σ a.formula ∷ []))
-      (le-leb (length a.hypotheses) (length es) h.1) (no_other c a ps h.0 good h.2)
+      (le-leb (length a.hypotheses) (length es) fails.1) (no_other c a ps fails.0 is_complete
+      fails.2)
       ∙ ap (λ k. unless_failed true true k
       (nat_le (length (substitute c σ a.formula)) formula_limit)
-      (take n es ++ substitute c σ a.formula ∷ [])) (disjoint
-      ∙ false_from_ne_true _ h.3)
-  stops (Some (assertion a)) es too_long good h =
+      (take n es ++ substitute c σ a.formula ∷ [])) (disjoint_tests_equal
+      ∙ false_from_ne_true _ fails.3)
+  step_stops_if_fails (Some (assertion a)) es too_long is_complete fails =
       let n = length es - length a.hypotheses in
       let ps = drop n es in
       let σ = substitution_from c a.hypotheses ps in
-      let e : substitution_from c a.hypotheses (map (substitute c h.0) a.hypotheses) ≡ σ =
-      ap (substitution_from c a.hypotheses) (sym h.2) in
-      let disjoint =
+      let substitutions_equal : substitution_from c a.hypotheses (map (substitute c fails.0)
+      a.hypotheses) ≡ σ =
+      ap (substitution_from c a.hypotheses) (sym fails.2) in
+      let disjoint_tests_equal =
       subst (λ (s : Substitution). list_all (λ p. are_all_disjoint c (s p.low) (s p.high)) a.pairs
-      ≡ list_all (λ p. are_all_disjoint c (h.0 p.low) (h.0 p.high)) a.pairs) e
-      (found_disjoint c a.hypotheses h.0 a.pairs good.pairs) in
-      let formula =
-      subst (λ (s : Substitution). substitute c s a.formula ≡ substitute c h.0 a.formula) e
-      (found_formula c a.hypotheses h.0 a.formula good.formula) in
+      ≡ list_all (λ p. are_all_disjoint c (fails.0 p.low) (fails.0 p.high)) a.pairs)
+      substitutions_equal
+      (found_disjoint c a.hypotheses fails.0 a.pairs is_complete.pairs) in
+      let formulas_equal =
+      subst (λ (s : Substitution). substitute c s a.formula ≡ substitute c fails.0 a.formula)
+      substitutions_equal
+      (found_formula c a.hypotheses fails.0 a.formula is_complete.formula) in
       ap₂ (λ b m. unless_failed b m
       (list_all (λ p. are_all_disjoint c (σ p.low) (σ p.high)) a.pairs)
       (nat_le (length (substitute c σ a.formula)) formula_limit)
       (take n es ++ substitute c σ a.formula ∷ []))
-      (le-leb (length a.hypotheses) (length es) h.1) (no_other c a ps h.0 good h.2)
+      (le-leb (length a.hypotheses) (length es) fails.1) (no_other c a ps fails.0 is_complete
+      fails.2)
       ∙ ap₂ (λ k s. unless_failed true true k s (take n es ++ substitute c σ a.formula ∷ []))
-      (disjoint ∙ h.3)
-      (ap (λ f. nat_le (length f) formula_limit) formula ∙ lt-leb _ _ h.4)
+      (disjoint_tests_equal ∙ fails.3)
+      (ap (λ f. nat_le (length f) formula_limit) formulas_equal ∙ lt-leb _ _ fails.4)
 
   -- a run over the labels of a forest of derivations succeeds, with the formulas of the forest
-  pub forest_run : (ls : List ℕ) → AreGood c ls → (forest : Trees) → AreDerivations c forest
+  pub run_of_forest : (ls : List ℕ) → AreGood c ls → (forest : Trees) → AreDerivations c forest
       → postfix forest ≡ ls → run c 0 ls [] ≡ Ok (formulas forest)
-  forest_run ls good forest d e =
-      let g : AreGood c (postfix forest) = subst (AreGood c) (sym e) good in
-      ap (λ x. run c 0 x []) (sym e ∙ sym (append-nil (postfix forest)))
-      ∙ runs_forest c forest d g 0 [] []
+  run_of_forest ls are_good forest derives labels_are =
+      let postfix_is_good : AreGood c (postfix forest) = subst (AreGood c) (sym labels_are) are_good
+      in
+      ap (λ x. run c 0 x []) (sym labels_are ∙ sym (append-nil (postfix forest)))
+      ∙ runs_forest c forest derives postfix_is_good 0 [] []
 
   -- a run over the labels succeeds exactly if they are the postfix list of a forest of derivations
-  pub exact_ok : (ls : List ℕ) → AreGood c ls
+  pub run_succeeds_exactly_on_forests : (ls : List ℕ) → AreGood c ls
       → IsPostfixOfForest c ls ↔ ((out : List Formula) × (run c 0 ls [] ≡ Ok out))
-  exact_ok ls good = (
-    λ h. (formulas h.0, forest_run ls good h.0 h.1 h.2),
-    λ h. let m = subst (RunOutcome c none ls) h.1
-        (run_outcome c ls none 0 tt good) in
-        (m.0, m.1, m.2),
+  run_succeeds_exactly_on_forests ls are_good = (
+    λ is_postfix. (
+      formulas is_postfix.0,
+      run_of_forest ls are_good is_postfix.0 is_postfix.1
+          is_postfix.2,
+    ),
+    λ runs. let outcome = subst (RunOutcome c none ls) runs.1
+        (run_outcome c ls none 0 tt are_good) in
+        (outcome.0, outcome.1, outcome.2),
   )
 
   -- a run stops exactly where a label fails after a forest of derivations, and that tells the place
   -- and the reason
-  pub stopped_run : (ls : List ℕ) (reason : Reason) → AreGood c ls
+  pub run_stops : (ls : List ℕ) (reason : Reason) → AreGood c ls
       → (s : StoppedRun c none ls reason)
       → run c 0 ls [] ≡ Err (record { at = length s.before; reason = reason })
-  stopped_run ls reason good s =
-      let good_split : AreGood c (s.before ++ s.label ∷ s.after) = subst
-      (AreGood c) s.splits good in
-      let good_both = good_parts c s.before (s.label ∷ s.after) good_split in
-      let good_reached : AreGood c (postfix s.reached) = subst (AreGood c)
-      (sym s.labels) good_both.0 in
-      let split_labels : ls ≡ postfix s.reached ++ s.label ∷ s.after =
-      s.splits ∙ ap (λ x. x ++ s.label ∷ s.after) (sym s.labels) in
-      let same_index : 0 + length (postfix s.reached) ≡ length s.before =
-      let same_length = ap length s.labels in omega (arith, same_length) in
-      ap (λ x. run c 0 x []) split_labels
-      ∙ runs_forest c s.reached s.derivations good_reached 0 (s.label ∷ s.after) []
-      ∙ ap (λ r. proceed r (0 + length (postfix s.reached))
-      (run c (suc (0 + length (postfix s.reached))) s.after))
-      (stops (c.rule s.label) (formulas s.reached) reason good_both.1.0 s.fails)
-      ∙ ap (λ same_length. Err (record { at = same_length; reason = reason })) same_index
+  run_stops ls reason are_good stopped =
+      let split_labels_are_good : AreGood c (stopped.before ++ stopped.label ∷ stopped.after) =
+      subst
+      (AreGood c) stopped.splits are_good in
+      let parts_are_good = good_parts c stopped.before (stopped.label ∷ stopped.after)
+      split_labels_are_good in
+      let reached_are_good : AreGood c (postfix stopped.reached) = subst (AreGood c)
+      (sym stopped.labels) parts_are_good.0 in
+      let labels_are : ls ≡ postfix stopped.reached ++ stopped.label ∷ stopped.after =
+      stopped.splits ∙ ap (λ x. x ++ stopped.label ∷ stopped.after) (sym stopped.labels) in
+      let indices_equal : 0 + length (postfix stopped.reached) ≡ length stopped.before =
+      let lengths_equal = ap length stopped.labels in omega (arith, lengths_equal) in
+      ap (λ x. run c 0 x []) labels_are
+      ∙ runs_forest c stopped.reached stopped.derivations reached_are_good 0 (stopped.label ∷
+      stopped.after) []
+      ∙ ap (λ r. proceed r (0 + length (postfix stopped.reached))
+      (run c (suc (0 + length (postfix stopped.reached))) stopped.after))
+      (step_stops_if_fails (c.rule stopped.label) (formulas stopped.reached) reason
+      parts_are_good.1.0 stopped.fails)
+      ∙ ap (λ index. Err (record { at = index; reason = reason })) indices_equal
 
   -- if the step of a label fails, the labels are the postfix list of no forest of derivations
   pub stopped_no_forest : (ls : List ℕ) (reason : Reason) → AreGood c ls
       → StoppedRun c none ls reason
       → ¬ IsPostfixOfForest c ls
-  stopped_no_forest ls reason good s h =
-      let succeeds = forest_run ls good h.0 h.1 h.2 in
-      let fails = stopped_run ls reason good s in
+  stopped_no_forest ls reason are_good stopped is_postfix =
+      let run_succeeds = run_of_forest ls are_good is_postfix.0 is_postfix.1 is_postfix.2 in
+      let run_fails = run_stops ls reason are_good stopped in
       cc

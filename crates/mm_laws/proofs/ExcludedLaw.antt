@@ -12,60 +12,70 @@ use Rattle.mm_laws.proofs.ExactLaw.{IsPostfixOfForest, stopped_no_forest}
 
 module _ (c : Context) (all_complete : (l : ℕ) → HasCompleteFrame c (c.rule l)) where
   -- the plain list only grows
-  adds_more : (lists : List (List ℕ)) (old : List ℕ) (s : Step) (new : List ℕ)
-      → Adds c lists old s new → (rest : List ℕ) × (new ≡ old ++ rest)
-  adds_more lists old (label l) new h = (l ∷ [], h)
-  adds_more lists old (marked j) new h = (h.1, h.4)
+  adds_at_end : (lists : List (List ℕ)) (labels : List ℕ) (s : Step) (new_labels : List ℕ)
+      → Adds c lists labels s new_labels → (added : List ℕ) × (new_labels ≡ labels ++ added)
+  adds_at_end lists labels (label l) new_labels adds = (l ∷ [], adds)
+  adds_at_end lists labels (marked j) new_labels adds = (adds.1, adds.4)
 
-  plain_more : (steps : List Step) (lists : List (List ℕ)) (old all : List ℕ)
-      → Plain c lists old steps all → (rest : List ℕ) × (all ≡ old ++ rest)
-  plain_more [] lists old all h = ([], h ∙ sym (append-nil old))
-  plain_more (s ∷ steps) lists old all h =
-      let a = adds_more lists old s h.0 h.1 in
-      let b = plain_more steps (lists ++ h.0 ∷ []) h.0 all h.2 in
-      (a.0 ++ b.0, b.1 ∙ ap (λ z. z ++ b.0) a.1 ∙ append_assoc old a.0 b.0)
+  plain_extends : (steps : List Step) (lists : List (List ℕ)) (labels all_labels : List ℕ)
+      → Plain c lists labels steps all_labels → (added : List ℕ) × (all_labels ≡ labels ++ added)
+  plain_extends [] lists labels all_labels plain = ([], plain ∙ sym (append-nil labels))
+  plain_extends (s ∷ steps) lists labels all_labels plain =
+      let extended = adds_at_end lists labels s plain.0 plain.1 in
+      let extended_again = plain_extends steps (lists ++ plain.0 ∷ []) plain.0 all_labels plain.2 in (
+        extended.0 ++ extended_again.0,
+        extended_again.1 ∙ ap (λ z. z ++ extended_again.0) extended.1
+            ∙ append_assoc labels extended.0 extended_again.0,
+      )
 
   -- the plain list of a front
-  plain_front : (front steps : List Step) (lists : List (List ℕ)) (old all : List ℕ)
-      → Plain c lists old (front ++ steps) all
-      → (mid : List ℕ) × (seen : List (List ℕ)) × Plain c lists old front mid
-      × Plain c seen mid steps all
-  plain_front [] steps lists old all h = (old, lists, refl, h)
-  plain_front (s ∷ front) steps lists old all h =
-      let p = plain_front front steps (lists ++ h.0 ∷ []) h.0 all h.2 in
-      (p.0, p.1, (h.0, h.1, p.2), p.3)
+  plain_splits : (front steps : List Step) (lists : List (List ℕ)) (labels all_labels : List ℕ)
+      → Plain c lists labels (front ++ steps) all_labels
+      → (mid : List ℕ) × (later_lists : List (List ℕ)) × Plain c lists labels front mid
+      × Plain c later_lists mid steps all_labels
+  plain_splits [] steps lists labels all_labels plain = (labels, lists, refl, plain)
+  plain_splits (s ∷ front) steps lists labels all_labels plain =
+      let rest_splits = plain_splits front steps (lists ++ plain.0 ∷ []) plain.0 all_labels plain.2
+      in
+      (rest_splits.0, rest_splits.1, (plain.0, plain.1, rest_splits.2), rest_splits.3)
 
   -- a step that fails leaves no forest for the whole
-  pub excludes : (steps : List Step) (reason : Reason) (all : List ℕ)
-      → StoppedSteps c [] [] steps reason → Plain c [] [] steps all → ¬ IsPostfixOfForest c all
-  excludes steps reason all s h forest = by_step s.first s.fails plain_parts.3
+  pub excludes : (steps : List Step) (reason : Reason) (all_labels : List ℕ)
+      → StoppedSteps c [] [] steps reason → Plain c [] [] steps all_labels
+      → ¬ IsPostfixOfForest c all_labels
+  excludes steps reason all_labels stopped plain forest = by_step stopped.first stopped.fails
+      plain_parts.3
     where
-      plain_parts : (mid : List ℕ) × (seen : List (List ℕ)) × Plain c [] [] s.before mid
-          × Plain c seen mid (s.first ∷ s.after) all
+      plain_parts : (mid : List ℕ) × (later_lists : List (List ℕ)) × Plain c [] [] stopped.before
+          mid
+          × Plain c later_lists mid (stopped.first ∷ stopped.after) all_labels
       plain_parts =
-          plain_front s.before (s.first ∷ s.after) [] [] all
-          (subst (λ x. Plain c [] [] x all) s.splits h)
+          plain_splits stopped.before (stopped.first ∷ stopped.after) [] [] all_labels
+          (subst (λ x. Plain c [] [] x all_labels) stopped.splits plain)
 
-      by_step : (first : Step) → StepFails c first (formulas s.forest) reason
-          → Plain c plain_parts.1 plain_parts.0 (first ∷ s.after) all → ⊥
-      by_step (marked j) fails q = fails
-      by_step (label l) fails q =
-          let rest = plain_more s.after (plain_parts.1 ++ q.0 ∷ []) q.0 all q.2 in
-          let whole : all ≡ plain_parts.0 ++ l ∷ rest.0 =
-          rest.1 ∙ ap (λ z. z ++ rest.0) q.1 ∙ append_assoc plain_parts.0 (l ∷ []) rest.0 in
-          let labels : postfix s.forest ≡ plain_parts.0 =
-          s.is
-          ∙ plain_unique c all_complete s.before [] [] s.labels plain_parts.0 s.plain
+      by_step : (first_step : Step) → StepFails c first_step (formulas stopped.forest) reason
+          → Plain c plain_parts.1 plain_parts.0 (first_step ∷ stopped.after) all_labels → ⊥
+      by_step (marked j) fails plain_of_rest = fails
+      by_step (label l) fails plain_of_rest =
+          let extension = plain_extends stopped.after (plain_parts.1 ++ plain_of_rest.0 ∷ [])
+          plain_of_rest.0 all_labels plain_of_rest.2 in
+          let all_labels_are : all_labels ≡ plain_parts.0 ++ l ∷ extension.0 =
+          extension.1 ∙ ap (λ z. z ++ extension.0) plain_of_rest.1
+          ∙ append_assoc plain_parts.0 (l ∷ []) extension.0 in
+          let labels_are : postfix stopped.forest ≡ plain_parts.0 =
+          stopped.is
+          ∙ plain_unique c all_complete stopped.before [] [] stopped.labels plain_parts.0
+          stopped.plain
           plain_parts.2 in
-          stopped_no_forest c all reason
+          stopped_no_forest c all_labels reason
           (subst (AreGood c) forest.2 (forest_good c all_complete forest.0 forest.1))
           (record {
             before = plain_parts.0;
             label = l;
-            after = rest.0;
-            splits = whole;
-            reached = s.forest;
-            derivations = s.derivations;
-            labels = labels;
+            after = extension.0;
+            splits = all_labels_are;
+            reached = stopped.forest;
+            derivations = stopped.derivations;
+            labels = labels_are;
             fails = fails;
           }) forest

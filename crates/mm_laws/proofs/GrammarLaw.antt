@@ -28,52 +28,55 @@ use Rattle.mm_spec.proofs.ReadingsLaw.{reading_faulty, reading_end, reading_one,
 two_bytes_are : (word : List ℕ) (b : ℕ) → length word ≡ 2 → get_or word 0 0 ≡ 0x24
     → get_or word 1 0 ≡ b
     → word ≡ 0x24 ∷ b ∷ []
-two_bytes_are [] b long x y = absurd (omega arith)
-two_bytes_are (a ∷ []) b long x y = absurd (omega arith)
-two_bytes_are (a ∷ c ∷ []) b long x y = cc
-two_bytes_are (a ∷ c ∷ d ∷ word) b long x y = absurd (omega arith)
+two_bytes_are [] b length_is_2 first_is_dollar second_is_b = absurd (omega arith)
+two_bytes_are (a ∷ []) b length_is_2 first_is_dollar second_is_b = absurd (omega arith)
+two_bytes_are (a ∷ c ∷ []) b length_is_2 first_is_dollar second_is_b = cc
+two_bytes_are (a ∷ c ∷ d ∷ word) b length_is_2 first_is_dollar second_is_b = absurd (omega arith)
 
 dollar_and_byte : (b : ℕ) (word : List ℕ) → is_dollar_and b word ≡ true → word ≡ 0x24 ∷ b ∷ []
 unfolding is_dollar_and
-dollar_and_byte b word h =
-    let p = and_parts (length word == 2 && get_or word 0 0 == 0x24) (get_or word 1 0 == b) h in
-    let q = and_parts (length word == 2) (get_or word 0 0 == 0x24) p.0 in
-    two_bytes_are word b (eqb-true (length word) 2 q.0) (eqb-true (get_or word 0 0) 0x24 q.1)
-    (eqb-true (get_or word 1 0) b p.1)
+dollar_and_byte b word is_dollar_and_b =
+    let parts = and_parts (length word == 2 && get_or word 0 0 == 0x24) (get_or word 1 0 == b)
+    is_dollar_and_b in
+    let front_parts = and_parts (length word == 2) (get_or word 0 0 == 0x24) parts.0 in
+    two_bytes_are word b (eqb-true (length word) 2 front_parts.0) (eqb-true (get_or word 0 0) 0x24
+    front_parts.1)
+    (eqb-true (get_or word 1 0) b parts.1)
 
 opening_is_no_token : (word : List ℕ) → opens_comment word ≡ true → is_token word ≡ false
 unfolding is_token is_clean is_keyword is_printable is_dollar_and
-opening_is_no_token word h = rw (dollar_and_byte 0x28 word h) refl
+opening_is_no_token word opens = rw (dollar_and_byte 0x28 word opens) refl
 
 closing_is_no_comment_word : (word : List ℕ) → closes_comment word ≡ true
     → is_comment_word word ≡ false
 unfolding is_comment_word is_clean has_comment_mark is_comment_mark is_printable
-closing_is_no_comment_word word h = rw (dollar_and_byte 0x29 word h) refl
+closing_is_no_comment_word word closes = rw (dollar_and_byte 0x29 word closes) refl
 
 comment_word_is_no_closing : (word : List ℕ) → is_comment_word word ≡ true
     → closes_comment word ≡ false
-comment_word_is_no_closing word h = by_closes (closes_comment word) refl
+comment_word_is_no_closing word is_comment = by_closes (closes_comment word) refl
   where
     by_closes : (b : Bool) → closes_comment word ≡ b → closes_comment word ≡ false
-    by_closes true e = absurd (true≢false (sym h ∙ closing_is_no_comment_word word e))
-    by_closes false e = e
+    by_closes true closes = absurd (true≢false (sym is_comment
+        ∙ closing_is_no_comment_word word closes))
+    by_closes false no_closing = no_closing
 
 -- the role that a word of each class has
-role_token : (word : List ℕ) → is_token word ≡ true → role_of false word ≡ roles.Token
+role_is_token : (word : List ℕ) → is_token word ≡ true → role_of false word ≡ roles.Token
 unfolding role_of
-role_token word h = rw h refl
+role_is_token word is_token_word = rw is_token_word refl
 
-role_opening : (word : List ℕ) → opens_comment word ≡ true → role_of false word ≡ roles.Opening
+role_is_opening : (word : List ℕ) → opens_comment word ≡ true → role_of false word ≡ roles.Opening
 unfolding role_of
-role_opening word h = rw (opening_is_no_token word h, h) refl
+role_is_opening word opens = rw (opening_is_no_token word opens, opens) refl
 
-role_closing : (word : List ℕ) → closes_comment word ≡ true → role_of true word ≡ roles.Closing
+role_is_closing : (word : List ℕ) → closes_comment word ≡ true → role_of true word ≡ roles.Closing
 unfolding role_of
-role_closing word h = rw h refl
+role_is_closing word closes = rw closes refl
 
-role_comment : (word : List ℕ) → is_comment_word word ≡ true → role_of true word ≡ roles.Comment
+role_is_comment : (word : List ℕ) → is_comment_word word ≡ true → role_of true word ≡ roles.Comment
 unfolding role_of
-role_comment word h = rw (comment_word_is_no_closing word h, h) refl
+role_is_comment word is_comment = rw (comment_word_is_no_closing word is_comment, is_comment) refl
 
 -- the roles outside a comment, and those inside
 data RoleOutside (word : List ℕ) : Type 0 where
@@ -91,87 +94,91 @@ unfolding role_of
 role_outside word = by_tests (is_token word) (opens_comment word) refl refl
   where
     by_tests : (a b : Bool) → is_token word ≡ a → opens_comment word ≡ b → RoleOutside word
-    by_tests true b e h = token e (rw e refl)
-    by_tests false true e h = opening h (rw (e, h) refl)
-    by_tests false false e h = RoleOutside.neither (rw (e, h) refl)
+    by_tests true b is_token_word opens = token is_token_word (rw is_token_word refl)
+    by_tests false true not_token opens = opening opens (rw (not_token, opens) refl)
+    by_tests false false not_token no_opening = RoleOutside.neither (rw (not_token, no_opening)
+        refl)
 
 role_inside : (word : List ℕ) → RoleInside word
 unfolding role_of
 role_inside word = by_tests (closes_comment word) (is_comment_word word) refl refl
   where
     by_tests : (a b : Bool) → closes_comment word ≡ a → is_comment_word word ≡ b → RoleInside word
-    by_tests true b e h = closing e (rw e refl)
-    by_tests false true e h = comment h (rw (e, h) refl)
-    by_tests false false e h = RoleInside.neither (rw (e, h) refl)
+    by_tests true b closes is_comment = closing closes (rw closes refl)
+    by_tests false true no_closing is_comment = comment is_comment (rw (no_closing, is_comment)
+        refl)
+    by_tests false false no_closing not_comment = RoleInside.neither (rw (no_closing, not_comment)
+        refl)
 
 -- ---- a well-begun row is read as its tokens and its open comment
 
 reading_comment_words : (text : List ℕ) (p : ℕ) (ws us : List Word) → AreCommentWords text ws
     → reading text (Some p) (ws ++ us) ≡ reading text (Some p) us
-reading_comment_words text p [] us all = refl
-reading_comment_words text p (w ∷ ws) us (h, all) =
-    reading_comment text (Some p) w (ws ++ us) (role_comment _ h)
-    ∙ reading_comment_words text p ws us all
+reading_comment_words text p [] us are_comment_words = refl
+reading_comment_words text p (w ∷ ws) us (is_comment, are_comment_words) =
+    reading_comment text (Some p) w (ws ++ us) (role_is_comment _ is_comment)
+    ∙ reading_comment_words text p ws us are_comment_words
 
 reading_lexemes : (text : List ℕ) (lexemes : List Lexeme) → AllByRecursion (IsLexeme text) lexemes →
     reading text None (flat_map words_in lexemes)
     ≡ record { tokens = flat_map tokens_in lexemes; fault = None; open_comment = None }
-reading_lexemes text [] all = reading_end text None
-reading_lexemes text (Single w ∷ lexemes) (h, all) =
-    reading_one text None w _ (role_token _ h)
-    ∙ ap (with_tokens (w ∷ [])) (reading_lexemes text lexemes all)
-reading_lexemes text (Comment o ws c ∷ lexemes) (h, all) =
-    reading_opening text None o _ (role_opening _ h.0)
+reading_lexemes text [] are_lexemes = reading_end text None
+reading_lexemes text (Single w ∷ lexemes) (is_lexeme, are_lexemes) =
+    reading_one text None w _ (role_is_token _ is_lexeme)
+    ∙ ap (with_tokens (w ∷ [])) (reading_lexemes text lexemes are_lexemes)
+reading_lexemes text (Comment o ws c ∷ lexemes) (is_lexeme, are_lexemes) =
+    reading_opening text None o _ (role_is_opening _ is_lexeme.0)
     ∙ ap (reading text (Some o.start)) (append_assoc ws (c ∷ []) (flat_map words_in lexemes))
-    ∙ reading_comment_words text o.start ws (c ∷ flat_map words_in lexemes) h.1
-    ∙ reading_closing text (Some o.start) c _ (role_closing _ h.2)
-    ∙ reading_lexemes text lexemes all
+    ∙ reading_comment_words text o.start ws (c ∷ flat_map words_in lexemes) is_lexeme.1
+    ∙ reading_closing text (Some o.start) c _ (role_is_closing _ is_lexeme.2)
+    ∙ reading_lexemes text lexemes are_lexemes
 
 reading_last_comment : (text : List ℕ) (last_comment : LastComment)
     → IsLastComment text last_comment
     → reading text None (words_in_last_comment last_comment)
     ≡ record { tokens = []; fault = None; open_comment = option_map (λ p. p.0.start) last_comment }
-reading_last_comment text None all = reading_end text None
-reading_last_comment text (Some (o, ws)) all =
-    reading_opening text None o ws (role_opening _ all.0)
+reading_last_comment text None is_last_comment = reading_end text None
+reading_last_comment text (Some (o, ws)) is_last_comment =
+    reading_opening text None o ws (role_is_opening _ is_last_comment.0)
     ∙ ap (reading text (Some o.start)) (sym (append-nil ws))
-    ∙ reading_comment_words text o.start ws [] all.1
+    ∙ reading_comment_words text o.start ws [] is_last_comment.1
     ∙ reading_end text (Some o.start)
 
 pub IsWellBegun_reading : (text : List ℕ) (ws ts : List Word) (c : Option ℕ)
     → IsWellBegun text ws ts c
     → reading text None ws ≡ record { tokens = ts; fault = None; open_comment = c }
-IsWellBegun_reading text ws ts c begun =
-    ap (reading text None) begun.words
-    ∙ reading_append text None (flat_map words_in begun.lexemes)
-    (words_in_last_comment begun.last_comment)
-    ∙ ap (λ (r : Reading). append_reading text r (words_in_last_comment begun.last_comment))
-    (reading_lexemes text begun.lexemes begun.are_lexemes)
-    ∙ ap (with_tokens (flat_map tokens_in begun.lexemes))
-    (reading_last_comment text begun.last_comment begun.is_last_comment)
-    ∙ rw (append-nil, begun.same_tokens, begun.same_comment) refl
+IsWellBegun_reading text ws ts c is_well_begun =
+    ap (reading text None) is_well_begun.words_are
+    ∙ reading_append text None (flat_map words_in is_well_begun.lexemes)
+    (words_in_last_comment is_well_begun.last_comment)
+    ∙ ap (λ (r : Reading). append_reading text r (words_in_last_comment is_well_begun.last_comment))
+    (reading_lexemes text is_well_begun.lexemes is_well_begun.are_lexemes)
+    ∙ ap (with_tokens (flat_map tokens_in is_well_begun.lexemes))
+    (reading_last_comment text is_well_begun.last_comment is_well_begun.is_last_comment)
+    ∙ rw (append-nil, is_well_begun.tokens_are, is_well_begun.comment_start_is) refl
 
 -- ---- a reading without a fault is of a well-begun row
 
 AreCommentWords_push : (text : List ℕ) (ws : List Word) (w : Word) → AreCommentWords text ws
     → is_comment_word (bytes_of text w) ≡ true → AreCommentWords text (ws ++ w ∷ [])
-AreCommentWords_push text [] w all h = (h, tt)
-AreCommentWords_push text (v ∷ ws) w (first, all) h = (first, AreCommentWords_push text ws w all h)
+AreCommentWords_push text [] w are_comment_words is_comment = (is_comment, tt)
+AreCommentWords_push text (v ∷ ws) w (first_is_comment, are_comment_words) is_comment =
+    (first_is_comment, AreCommentWords_push text ws w are_comment_words is_comment)
 
 IsWellBegun_cons : (text : List ℕ) (lexeme : Lexeme) (ws ts : List Word) (c : Option ℕ)
     → IsLexeme text lexeme → IsWellBegun text ws ts c
     → IsWellBegun text (words_in lexeme ++ ws) (tokens_in lexeme ++ ts) c
-IsWellBegun_cons text lexeme ws ts c is begun = record {
-  lexemes = lexeme ∷ begun.lexemes;
-  last_comment = begun.last_comment;
-  are_lexemes = (is, begun.are_lexemes);
-  is_last_comment = begun.is_last_comment;
-  words =
-      ap (λ (us : List Word). words_in lexeme ++ us) begun.words
-      ∙ sym (append_assoc (words_in lexeme) (flat_map words_in begun.lexemes)
-      (words_in_last_comment begun.last_comment));
-  same_tokens = ap (λ (us : List Word). tokens_in lexeme ++ us) begun.same_tokens;
-  same_comment = begun.same_comment;
+IsWellBegun_cons text lexeme ws ts c is_lexeme is_well_begun = record {
+  lexemes = lexeme ∷ is_well_begun.lexemes;
+  last_comment = is_well_begun.last_comment;
+  are_lexemes = (is_lexeme, is_well_begun.are_lexemes);
+  is_last_comment = is_well_begun.is_last_comment;
+  words_are =
+      ap (λ (us : List Word). words_in lexeme ++ us) is_well_begun.words_are
+      ∙ sym (append_assoc (words_in lexeme) (flat_map words_in is_well_begun.lexemes)
+      (words_in_last_comment is_well_begun.last_comment));
+  tokens_are = ap (λ (us : List Word). tokens_in lexeme ++ us) is_well_begun.tokens_are;
+  comment_start_is = is_well_begun.comment_start_is;
 }
 
 abbrev IsBegunIfFaultless : List ℕ → List Word → Reading → Type 0
@@ -192,169 +199,183 @@ both_are_begun text [] = record {
         last_comment = None;
         are_lexemes = tt;
         is_last_comment = tt;
-        words = refl;
-        same_tokens = refl;
-        same_comment = refl;
+        words_are = refl;
+        tokens_are = refl;
+        comment_start_is = refl;
       });
   inside_comment =
-      λ o us h all. subst (IsBegunIfFaultless text (o ∷ (us ++ [])))
+      λ o us opens are_comment_words. subst (IsBegunIfFaultless text (o ∷ (us ++ [])))
       (sym (reading_end text (Some o.start)))
       (λ _. record {
         lexemes = [];
         last_comment = Some (o, us);
         are_lexemes = tt;
-        is_last_comment = (h, all);
-        words = ap (λ (vs : List Word). o ∷ vs) (append-nil us);
-        same_tokens = refl;
-        same_comment = refl;
+        is_last_comment = (opens, are_comment_words);
+        words_are = ap (λ (vs : List Word). o ∷ vs) (append-nil us);
+        tokens_are = refl;
+        comment_start_is = refl;
       });
 }
 both_are_begun text (w ∷ ws) = record {
   outside_comment = by_role_outside (role_outside (bytes_of text w)) (both_are_begun text ws);
   inside_comment =
-      λ o us h all. by_role_inside o us h all (role_inside (bytes_of text w))
+      λ o us opens are_comment_words. by_role_inside o us opens are_comment_words (role_inside
+      (bytes_of text w))
       (both_are_begun text ws);
 }
   where
     by_role_outside : RoleOutside (bytes_of text w) → BothAreBegun text ws
         → IsBegunIfFaultless text (w ∷ ws) (reading text None (w ∷ ws))
-    by_role_outside (token h role) ih =
+    by_role_outside (token is_token_word role) later_are_begun =
         subst (IsBegunIfFaultless text (w ∷ ws)) (sym (reading_one text None w ws role))
-        (λ e. IsWellBegun_cons text (Single w) ws _ _ h (ih.outside_comment e))
-    by_role_outside (opening h role) ih =
+        (λ no_fault. IsWellBegun_cons text (Single w) ws _ _ is_token_word
+        (later_are_begun.outside_comment no_fault))
+    by_role_outside (opening opens role) later_are_begun =
         subst (IsBegunIfFaultless text (w ∷ ws)) (sym (reading_opening text None w ws role))
-        (ih.inside_comment w [] h tt)
-    by_role_outside (RoleOutside.neither role) ih =
+        (later_are_begun.inside_comment w [] opens tt)
+    by_role_outside (RoleOutside.neither role) later_are_begun =
         subst (IsBegunIfFaultless text (w ∷ ws)) (sym (reading_faulty text None w ws role))
-        (λ e. absurd cc)
+        (λ no_fault. absurd cc)
 
     by_role_inside : (o : Word) (us : List Word) → opens_comment (bytes_of text o) ≡ true
         → AreCommentWords text us → RoleInside (bytes_of text w) → BothAreBegun text ws →
         IsBegunIfFaultless text (o ∷ (us ++ w ∷ ws)) (reading text (Some o.start) (w ∷ ws))
-    by_role_inside o us h all (closing end role) ih =
+    by_role_inside o us opens are_comment_words (closing closes role) later_are_begun =
         subst (IsBegunIfFaultless text (o ∷ (us ++ w ∷ ws)))
         (sym (reading_closing text (Some o.start) w ws role))
-        (λ e. subst
+        (λ no_fault. subst
         (λ (vs : List Word). IsWellBegun text (o ∷ vs) (reading text None ws).tokens
         (reading text None ws).open_comment) (append_assoc us (w ∷ []) ws)
-        (IsWellBegun_cons text (Comment o us w) ws _ _ (h, all, end) (ih.outside_comment e)))
-    by_role_inside o us h all (comment in_it role) ih =
+        (IsWellBegun_cons text (Comment o us w) ws _ _ (opens, are_comment_words, closes)
+        (later_are_begun.outside_comment no_fault)))
+    by_role_inside o us opens are_comment_words (comment is_comment role) later_are_begun =
         subst (IsBegunIfFaultless text (o ∷ (us ++ w ∷ ws)))
         (sym (reading_comment text (Some o.start) w ws role))
         (subst (λ (vs : List Word). IsBegunIfFaultless text (o ∷ vs)
         (reading text (Some o.start) ws))
         (append_assoc us (w ∷ []) ws)
-        (ih.inside_comment o (us ++ w ∷ []) h (AreCommentWords_push text us w all in_it)))
-    by_role_inside o us h all (RoleInside.neither role) ih =
+        (later_are_begun.inside_comment o (us ++ w ∷ []) opens (AreCommentWords_push text us w
+        are_comment_words is_comment)))
+    by_role_inside o us opens are_comment_words (RoleInside.neither role) later_are_begun =
         subst (IsBegunIfFaultless text (o ∷ (us ++ w ∷ ws)))
         (sym (reading_faulty text (Some o.start) w ws role))
-        (λ e. absurd cc)
+        (λ no_fault. absurd cc)
 
 -- ---- a fault is that of the first faulty word
 
-record Split (text : List ℕ) (c : Option ℕ) (ws : List Word) (f : Fault)
+record IsSplit (text : List ℕ) (c : Option ℕ) (ws : List Word) (f : Fault)
     (r : Reading) : Type 0 where
-  before : List Word
+  words_before : List Word
   w : Word
-  after : List Word
-  split : ws ≡ before ++ w ∷ after
-  begun : reading text c before
+  words_after : List Word
+  words_split : ws ≡ words_before ++ w ∷ words_after
+  front_is_read : reading text c words_before
       ≡ record { tokens = r.tokens; fault = None; open_comment = r.open_comment }
-  role : role_of (is_some r.open_comment) (bytes_of text w) ≡ roles.Faulty
-  same_fault : f ≡ fault_of (is_some r.open_comment) w.start (bytes_of text w)
+  role_is_faulty : role_of (is_some r.open_comment) (bytes_of text w) ≡ roles.Faulty
+  fault_is : f ≡ fault_of (is_some r.open_comment) w.start (bytes_of text w)
 
-abbrev SplitIf : List ℕ → Option ℕ → List Word → Fault → Reading → Type 0
-SplitIf text c ws f r = r.fault ≡ Some f → Split text c ws f r
+abbrev IsSplitIfFault : List ℕ → Option ℕ → List Word → Fault → Reading → Type 0
+IsSplitIfFault text c ws f r = r.fault ≡ Some f → IsSplit text c ws f r
 
 -- one word further in front, which leads from the comment c to d
 split_cons : (text : List ℕ) (c d : Option ℕ) (x : Word) (xs : List Word) (f : Fault) (r : Reading)
     →
-    ((us : List Word) → reading text c (x ∷ us) ≡ reading text d us) → Split text d xs f r
-    → Split text c (x ∷ xs) f r
-split_cons text c d x xs f r step s = record {
-  before = x ∷ s.before;
-  w = s.w;
-  after = s.after;
-  split = ap (λ (us : List Word). x ∷ us) s.split;
-  begun = step s.before ∙ s.begun;
-  role = s.role;
-  same_fault = s.same_fault;
+    ((us : List Word) → reading text c (x ∷ us) ≡ reading text d us) → IsSplit text d xs f r
+    → IsSplit text c (x ∷ xs) f r
+split_cons text c d x xs f r step_is split = record {
+  words_before = x ∷ split.words_before;
+  w = split.w;
+  words_after = split.words_after;
+  words_split = ap (λ (us : List Word). x ∷ us) split.words_split;
+  front_is_read = step_is split.words_before ∙ split.front_is_read;
+  role_is_faulty = split.role_is_faulty;
+  fault_is = split.fault_is;
 }
 
-split_at : (text : List ℕ) (c : Option ℕ) (ws : List Word) (f : Fault)
-    → SplitIf text c ws f (reading text c ws)
-split_at text c [] f = subst (SplitIf text c [] f) (sym (reading_end text c)) (λ e. absurd cc)
-split_at text c (x ∷ xs) f =
-    by_role (role_of (is_some c) (bytes_of text x)) refl (λ d. split_at text d xs f)
+reading_is_split : (text : List ℕ) (c : Option ℕ) (ws : List Word) (f : Fault)
+    → IsSplitIfFault text c ws f (reading text c ws)
+reading_is_split text c [] f = subst (IsSplitIfFault text c [] f) (sym (reading_end text c)) (λ
+    no_fault. absurd cc)
+reading_is_split text c (x ∷ xs) f =
+    by_role (role_of (is_some c) (bytes_of text x)) refl (λ d. reading_is_split text d xs f)
   where
     by_role : (r : Role) → role_of (is_some c) (bytes_of text x) ≡ r
-        → ((d : Option ℕ) → SplitIf text d xs f (reading text d xs))
-        → SplitIf text c (x ∷ xs) f (reading text c (x ∷ xs))
-    by_role roles.Token h ih =
-        subst (SplitIf text c (x ∷ xs) f) (sym (reading_one text c x xs h)) (λ e.
-        let s = ih c e in record {
-          before = x ∷ s.before;
-          w = s.w;
-          after = s.after;
-          split = ap (λ (us : List Word). x ∷ us) s.split;
-          begun = reading_one text c x s.before h ∙ ap (with_tokens (x ∷ [])) s.begun;
-          role = s.role;
-          same_fault = s.same_fault;
+        → ((d : Option ℕ) → IsSplitIfFault text d xs f (reading text d xs))
+        → IsSplitIfFault text c (x ∷ xs) f (reading text c (x ∷ xs))
+    by_role roles.Token role_is later_is_split =
+        subst (IsSplitIfFault text c (x ∷ xs) f) (sym (reading_one text c x xs role_is)) (λ
+        has_fault.
+        let split = later_is_split c has_fault in record {
+          words_before = x ∷ split.words_before;
+          w = split.w;
+          words_after = split.words_after;
+          words_split = ap (λ (us : List Word). x ∷ us) split.words_split;
+          front_is_read = reading_one text c x split.words_before role_is
+              ∙ ap (with_tokens (x ∷ [])) split.front_is_read;
+          role_is_faulty = split.role_is_faulty;
+          fault_is = split.fault_is;
         })
-    by_role roles.Opening h ih =
-        subst (SplitIf text c (x ∷ xs) f) (sym (reading_opening text c x xs h))
-        (λ e. split_cons text c (Some x.start) x xs f _ (λ us. reading_opening text c x us h)
-        (ih (Some x.start) e))
-    by_role roles.Closing h ih =
-        subst (SplitIf text c (x ∷ xs) f) (sym (reading_closing text c x xs h))
-        (λ e. split_cons text c None x xs f _ (λ us. reading_closing text c x us h) (ih None e))
-    by_role roles.Comment h ih =
-        subst (SplitIf text c (x ∷ xs) f) (sym (reading_comment text c x xs h))
-        (λ e. split_cons text c c x xs f _ (λ us. reading_comment text c x us h) (ih c e))
-    by_role roles.Faulty h ih =
-        subst (SplitIf text c (x ∷ xs) f) (sym (reading_faulty text c x xs h)) (λ e.
+    by_role roles.Opening role_is later_is_split =
+        subst (IsSplitIfFault text c (x ∷ xs) f) (sym (reading_opening text c x xs role_is))
+        (λ has_fault. split_cons text c (Some x.start) x xs f _ (λ us. reading_opening text c x us
+        role_is)
+        (later_is_split (Some x.start) has_fault))
+    by_role roles.Closing role_is later_is_split =
+        subst (IsSplitIfFault text c (x ∷ xs) f) (sym (reading_closing text c x xs role_is))
+        (λ has_fault. split_cons text c None x xs f _ (λ us. reading_closing text c x us role_is)
+        (later_is_split None has_fault))
+    by_role roles.Comment role_is later_is_split =
+        subst (IsSplitIfFault text c (x ∷ xs) f) (sym (reading_comment text c x xs role_is))
+        (λ has_fault. split_cons text c c x xs f _ (λ us. reading_comment text c x us role_is)
+        (later_is_split c has_fault))
+    by_role roles.Faulty role_is later_is_split =
+        subst (IsSplitIfFault text c (x ∷ xs) f) (sym (reading_faulty text c x xs role_is)) (λ
+        has_fault.
         record {
-          before = [];
+          words_before = [];
           w = x;
-          after = xs;
-          split = refl;
-          begun = reading_end text c;
-          role = h;
-          same_fault = cc;
+          words_after = xs;
+          words_split = refl;
+          front_is_read = reading_end text c;
+          role_is_faulty = role_is;
+          fault_is = cc;
         })
 
-faulty_word : (text : List ℕ) (ws : List Word) (f : Fault) (r : Reading) → Split text None ws f r →
+faulty_word : (text : List ℕ) (ws : List Word) (f : Fault) (r : Reading)
+    → IsSplit text None ws f r →
     (w : Word) × IsFaulty text ws w r.tokens r.open_comment
     × (f ≡ fault_of (is_some r.open_comment) w.start (bytes_of text w))
-faulty_word text ws f r s = (
-  s.w,
+faulty_word text ws f r split = (
+  split.w,
   record {
-    before = s.before;
-    after = s.after;
-    split = s.split;
-    begun =
-        subst (IsBegunIfFaultless text s.before) s.begun
-        ((both_are_begun text s.before).outside_comment) refl;
-    faulty = λ ts c begun.
-        let whole : reading text None (s.before ++ s.w ∷ [])
+    words_before = split.words_before;
+    words_after = split.words_after;
+    words_split = split.words_split;
+    is_well_begun =
+        subst (IsBegunIfFaultless text split.words_before) split.front_is_read
+        ((both_are_begun text split.words_before).outside_comment) refl;
+    not_well_begun = λ ts c is_well_begun.
+        let read_without_fault : reading text None (split.words_before ++ split.w ∷ [])
         ≡ record { tokens = ts; fault = None; open_comment = c } = IsWellBegun_reading text _ ts c
-        begun in
-        let read_on : reading text None (s.before ++ s.w ∷ [])
-        ≡ with_tokens r.tokens (reading text r.open_comment (s.w ∷ [])) =
-        reading_append text None s.before (s.w ∷ [])
-        ∙ ap (λ (q : Reading). append_reading text q (s.w ∷ [])) s.begun in
-        let fault =
+        is_well_begun in
+        let read_on : reading text None (split.words_before ++ split.w ∷ [])
+        ≡ with_tokens r.tokens (reading text r.open_comment (split.w ∷ [])) =
+        reading_append text None split.words_before (split.w ∷ [])
+        ∙ ap (λ (q : Reading). append_reading text q (split.w ∷ [])) split.front_is_read in
+        let fault_is_none =
         ap (λ (q : Reading). q.fault)
-        (sym whole ∙ read_on
-        ∙ ap (with_tokens r.tokens) (reading_faulty text r.open_comment s.w [] s.role)) in
-        cc fault;
+        (sym read_without_fault ∙ read_on
+        ∙ ap (with_tokens r.tokens) (reading_faulty text r.open_comment split.w []
+        split.role_is_faulty)) in
+        cc fault_is_none;
   },
-  s.same_fault,
+  split.fault_is,
 )
 
 pub reading_IsReading : (text : List ℕ) (ws : List Word) → IsReading text ws (reading text None ws)
 reading_IsReading text ws = record {
-  whole = (both_are_begun text ws).outside_comment;
-  only = λ ts c begun. IsWellBegun_reading text ws ts c begun;
-  faulty = λ f e. faulty_word text ws f _ (split_at text None ws f e);
+  well_begun_without_fault = (both_are_begun text ws).outside_comment;
+  is_only_reading = λ ts c is_well_begun. IsWellBegun_reading text ws ts c is_well_begun;
+  fault_is_first = λ f has_fault. faulty_word text ws f _ (reading_is_split text None ws f
+      has_fault);
 }

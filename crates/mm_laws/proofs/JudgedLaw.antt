@@ -22,42 +22,42 @@ abbrev steps_of : List PlacedStep → List Step
 steps_of ps = map (λ p. p.step) ps
 
 -- a split of the steps is one of the placed steps
-record PlacedSplit (ps : List PlacedStep) (before : List Step) (first : Step) : Type 0 where
+record PlacedSplit (ps : List PlacedStep) (steps_before : List Step) (step : Step) : Type 0 where
   front : List PlacedStep
-  at : ℕ
+  place : ℕ
   back : List PlacedStep
-  is : ps ≡ front ++ record { at = at; step = first } ∷ back
-  same : steps_of front ≡ before
+  steps_are : ps ≡ front ++ record { at = place; step = step } ∷ back
+  front_is : steps_of front ≡ steps_before
 
-rest_of : List Step → List Step
-rest_of [] = []
-rest_of (s ∷ ss) = ss
+tail_of_steps : List Step → List Step
+tail_of_steps [] = []
+tail_of_steps (s ∷ ss) = ss
 
-first_of : Step → List Step → Step
-first_of d [] = d
-first_of d (s ∷ ss) = s
+head_of_steps : Step → List Step → Step
+head_of_steps d [] = d
+head_of_steps d (s ∷ ss) = s
 
-placed_split : (before after : List Step) (first : Step) (ps : List PlacedStep)
-    → steps_of ps ≡ before ++ first ∷ after → PlacedSplit ps before first
-unfolding rest_of first_of
-placed_split [] after first [] e = cc
-placed_split [] after first (p ∷ ps) e =
+placed_split : (steps_before steps_after : List Step) (step : Step) (ps : List PlacedStep)
+    → steps_of ps ≡ steps_before ++ step ∷ steps_after → PlacedSplit ps steps_before step
+unfolding tail_of_steps head_of_steps
+placed_split [] steps_after step [] steps_are = cc
+placed_split [] steps_after step (p ∷ ps) steps_are =
     record {
       front = [];
-      at = p.at;
+      place = p.at;
       back = ps;
-      is = ap (λ s. record { at = p.at; step = s } ∷ ps) (ap (first_of first) e);
-      same = refl;
+      steps_are = ap (λ s. record { at = p.at; step = s } ∷ ps) (ap (head_of_steps step) steps_are);
+      front_is = refl;
     }
-placed_split (s ∷ before) after first [] e = cc
-placed_split (s ∷ before) after first (p ∷ ps) e =
-    let r = placed_split before after first ps (ap rest_of e) in
+placed_split (s ∷ steps_before) steps_after step [] steps_are = cc
+placed_split (s ∷ steps_before) steps_after step (p ∷ ps) steps_are =
+    let split = placed_split steps_before steps_after step ps (ap tail_of_steps steps_are) in
     record {
-      front = p ∷ r.front;
-      at = r.at;
-      back = r.back;
-      is = ap (λ x. p ∷ x) r.is;
-      same = ap₂ (λ x y. x ∷ y) (ap (first_of s) e) r.same;
+      front = p ∷ split.front;
+      place = split.place;
+      back = split.back;
+      steps_are = ap (λ x. p ∷ x) split.steps_are;
+      front_is = ap₂ (λ x y. x ∷ y) (ap (head_of_steps s) steps_are) split.front_is;
     }
 
 module _ (c : Context) (all_complete : (l : ℕ) → HasCompleteFrame c (c.rule l))
@@ -70,24 +70,25 @@ module _ (c : Context) (all_complete : (l : ℕ) → HasCompleteFrame c (c.rule 
     end_fault : (f : Fault) → ProofEndFault c ps formula end f → Verdict
 
   -- if no step fails: the one entry is the formula, or the end has a fault
-  at_end : (forest : Trees) → AreDerivations c forest → IsPlain c (steps_of ps) (postfix forest)
+  verdict_at_end : (forest : Trees) → AreDerivations c forest
+      → IsPlain c (steps_of ps) (postfix forest)
       → Verdict
-  at_end none d p =
+  verdict_at_end none derives is_plain =
       end_fault (fault end NotOneEntry)
       (record {
         forest = none;
-        derivations = d;
-        plain = p;
+        derivations = derives;
+        plain = is_plain;
         code = NotOneEntry;
         fails = refl;
         is = refl;
       })
-  at_end (more (more ts k h bs) l g cs) d p =
+  verdict_at_end (more (more ts k h bs) l g cs) derives is_plain =
       end_fault (fault end NotOneEntry)
       (record {
         forest = more (more ts k h bs) l g cs;
-        derivations = d;
-        plain = p;
+        derivations = derives;
+        plain = is_plain;
         code = NotOneEntry;
         fails = not_one_entry (formulas ts) h g;
         is = refl;
@@ -98,64 +99,75 @@ module _ (c : Context) (all_complete : (l : ℕ) → HasCompleteFrame c (c.rule 
       not_one_entry [] h g = refl
       not_one_entry (x ∷ []) h g = refl
       not_one_entry (x ∷ y ∷ xs) h g = refl
-  at_end (more none l g cs) d p = by_formula (bytes_eq g formula) refl
+  verdict_at_end (more none l g cs) derives is_plain = by_formula (bytes_eq g formula) refl
     where
       by_formula : (b : Bool) → bytes_eq g formula ≡ b → Verdict
-      by_formula true e =
-          valid (more none l g cs)
-          (l, cs, ap (λ z. tree l z cs) ((bytes_eq-Decides g formula).0 e), d, p)
-      by_formula false e =
+      by_formula true formulas_equal =
+          valid (more none l g cs) (
+            l,
+            cs,
+            ap (λ z. tree l z cs) ((bytes_eq-Decides g formula).0 formulas_equal),
+            derives,
+            is_plain,
+          )
+      by_formula false formulas_differ =
           end_fault (fault end OtherFormula)
           (record {
             forest = more none l g cs;
-            derivations = d;
-            plain = p;
+            derivations = derives;
+            plain = is_plain;
             code = OtherFormula;
-            fails = ((λ h. true≢false (sym ((bytes_eq-Decides g formula).1 h) ∙ e)), refl);
+            fails = (
+              (λ equal. true≢false (sym ((bytes_eq-Decides g formula).1 equal)
+                  ∙ formulas_differ)),
+              refl,
+            );
             is = refl;
           })
 
   -- steps that are good have one of the three
   pub verdict : AreGoodSteps c 0 (steps_of ps) → Verdict
-  verdict good =
+  verdict are_good =
       by_result (run_steps c [] (steps_of ps) [])
-      (steps_outcome c (steps_of ps) [] [] none tt tt good)
+      (steps_outcome c (steps_of ps) [] [] none tt tt are_good)
     where
       by_result : (r : Result (List Formula) RunFailure) → StepsOutcome c [] [] (steps_of ps) r
           → Verdict
-      by_result (Ok out) m =
-          at_end m.2 m.3 (subst (λ x. Plain c [] [] (steps_of ps) x) (sym m.4) m.1)
-      by_result (Err e) m =
-          let s = placed_split m.before m.after m.first ps m.splits in
-          step_fault (fault s.at (code_of e.reason))
+      by_result (Ok out) outcome =
+          verdict_at_end outcome.2 outcome.3 (subst (λ x. Plain c [] [] (steps_of ps) x) (sym
+          outcome.4) outcome.1)
+      by_result (Err e) outcome =
+          let split = placed_split outcome.before outcome.after outcome.first ps outcome.splits in
+          step_fault (fault split.place (code_of e.reason))
           (record {
-            before = s.front;
-            first = record { at = s.at; step = m.first };
-            after = s.back;
-            splits = s.is;
-            forest = m.forest;
-            derivations = m.derivations;
+            before = split.front;
+            first = record { at = split.place; step = outcome.first };
+            after = split.back;
+            splits = split.steps_are;
+            forest = outcome.forest;
+            derivations = outcome.derivations;
             plain =
-                subst (λ x. Plain c [] [] x (postfix m.forest)) (sym s.same)
-                (subst (λ x. Plain c [] [] m.before x) (sym m.is) m.plain);
+                subst (λ x. Plain c [] [] x (postfix outcome.forest)) (sym split.front_is)
+                (subst (λ x. Plain c [] [] outcome.before x) (sym outcome.is) outcome.plain);
             reason = e.reason;
-            fails = m.fails;
+            fails = outcome.fails;
             is = refl;
           })
 
-  pub stopped_steps : (f : Fault) → (s : StepFault c ps f)
-      → StoppedSteps c [] [] (steps_of ps) s.reason
-  stopped_steps f s = record {
-    before = steps_of s.before;
-    first = s.first.step;
-    after = steps_of s.after;
-    splits = ap steps_of s.splits ∙ map_append s.before s.first s.after;
-    labels = postfix s.forest;
-    plain = s.plain;
-    forest = s.forest;
-    derivations = s.derivations;
+  pub stopped_steps : (f : Fault) → (step_fault_of_ps : StepFault c ps f)
+      → StoppedSteps c [] [] (steps_of ps) step_fault_of_ps.reason
+  stopped_steps f step_fault_of_ps = record {
+    before = steps_of step_fault_of_ps.before;
+    first = step_fault_of_ps.first.step;
+    after = steps_of step_fault_of_ps.after;
+    splits = ap steps_of step_fault_of_ps.splits ∙ map_append step_fault_of_ps.before
+        step_fault_of_ps.first step_fault_of_ps.after;
+    labels = postfix step_fault_of_ps.forest;
+    plain = step_fault_of_ps.plain;
+    forest = step_fault_of_ps.forest;
+    derivations = step_fault_of_ps.derivations;
     is = refl;
-    fails = s.fails;
+    fails = step_fault_of_ps.fails;
   }
     where
       map_append : (xs : List PlacedStep) (x : PlacedStep) (ys : List PlacedStep)
@@ -166,21 +178,25 @@ module _ (c : Context) (all_complete : (l : ℕ) → HasCompleteFrame c (c.rule 
   -- steps from which a derivation of the formula follows have no step fault
   pub no_step_fault : (d : Trees) → Derives c (steps_of ps) formula d → (f : Fault)
       → ¬ StepFault c ps f
-  no_step_fault d h f s =
-      excludes c all_complete (steps_of ps) s.reason (postfix d) (stopped_steps f s) h.4
-      (d, h.3, refl)
+  no_step_fault d derives f step_fault_of_ps =
+      excludes c all_complete (steps_of ps) step_fault_of_ps.reason (postfix d) (stopped_steps f
+      step_fault_of_ps) derives.4
+      (d, derives.3, refl)
 
   pub no_both_faults : (f g : Fault) → StepFault c ps f → ¬ ProofEndFault c ps formula end g
-  no_both_faults f g s h =
-      excludes c all_complete (steps_of ps) s.reason (postfix h.forest) (stopped_steps f s) h.plain
-      (h.forest, h.derivations, refl)
+  no_both_faults f g step_fault_of_ps end_fault_of_ps =
+      excludes c all_complete (steps_of ps) step_fault_of_ps.reason (postfix end_fault_of_ps.forest)
+      (stopped_steps f step_fault_of_ps) end_fault_of_ps.plain
+      (end_fault_of_ps.forest, end_fault_of_ps.derivations, refl)
 
   pub no_end_fault : (d : Trees) → Derives c (steps_of ps) formula d → (f : Fault)
       → ¬ ProofEndFault c ps formula end f
-  no_end_fault d h f e =
-      let forest : e.forest ≡ d =
-      same_forest c all_complete e.forest d e.derivations h.3
-      (plain_unique c all_complete (steps_of ps) [] [] (postfix e.forest)
-      (postfix d) e.plain h.4) in
-      let one : formulas e.forest ≡ formula ∷ [] = ap formulas forest ∙ ap formulas h.2 in
-      (subst (λ x. IsEndCode c x formula e.code) one e.fails).0 refl
+  no_end_fault d derives f end_fault_of_ps =
+      let forests_equal : end_fault_of_ps.forest ≡ d =
+      same_forest c all_complete end_fault_of_ps.forest d end_fault_of_ps.derivations derives.3
+      (plain_unique c all_complete (steps_of ps) [] [] (postfix end_fault_of_ps.forest)
+      (postfix d) end_fault_of_ps.plain derives.4) in
+      let formula_is_only_entry : formulas end_fault_of_ps.forest
+      ≡ formula ∷ [] = ap formulas forests_equal ∙ ap formulas derives.2 in
+      (subst (λ x. IsEndCode c x formula end_fault_of_ps.code) formula_is_only_entry
+      end_fault_of_ps.fails).0 refl

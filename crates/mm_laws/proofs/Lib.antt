@@ -1,15 +1,16 @@
 -- All bodies are empty, so the answer of each clause is a lemma. Existence goes from `verdict`
--- (`JudgedLaw.antt`: a derivation, a step fault or an end fault exists) to `valid_or_faulty`
--- (`TheoremLaw.antt`), `sound_or_faulty` (`SomeFaultLaw.antt`) and `output_exists`
+-- (`JudgedLaw.antt`: a derivation, a step fault or an end fault exists) to `is_valid_or_faulty`
+-- (`TheoremLaw.antt`), `is_sound_or_faulty` (`SomeFaultLaw.antt`) and `output_exists_for_text`
 -- (`SomeOutputLaw.antt`). Uniqueness goes from `stopped_no_forest` (`ExactLaw.antt`) to `excludes`
--- (`ExcludedLaw.antt`), `no_both_faults`, `proof_fault_unique` and `output_unique`
--- (`OneOutputLaw.antt`). Letters have `spelling_unique` (`SpellingLaw.antt`). `variables_typed` and
--- `variables_mandatory` (`TypedLaw.antt`) are about frames. `valid_on_the_meaning`
+-- (`ExcludedLaw.antt`), `no_both_faults`, `proof_fault_is_unique` and `output_is_unique_for_text`
+-- (`OneOutputLaw.antt`). Letters have `spelled_items_are_unique` (`SpellingLaw.antt`).
+-- `variables_are_typed_where_read` and
+-- `variables_are_mandatory_where_read` (`TypedLaw.antt`) are about frames. `valid_on_the_meaning`
 -- (`MeaningLaw.antt`) combines the laws on well formed proofs and on what steps are. What is said
 -- of each place of what was read (`WhereRead`) is proved of the statements as they count, with open
--- theorems as axioms and without: by `frames_complete` (`ReadLaw.antt`), by `labels_differ`
+-- theorems as axioms and without: by `frames_are_complete` (`ReadLaw.antt`), by `labels_differ`
 -- (`SpelledStepsLaw.antt`), or by what `OpenedLaw` of `mm_spec` says of each selection.
--- `long_texts_refused` (`LongTextLaw.antt`) gives the one output of a text above the limit.
+-- `long_texts_are_refused` (`LongTextLaw.antt`) gives the one output of a text above the limit.
 -- `ExamplesLaw.antt`, `VectorsLaw.antt` and `OutputsLaw.antt` work out small texts. Of `mm_spec` it
 -- cites `AreWords_only`, `longest_unique`, `reads_complete`, `mandatory_typed` and
 -- `counted_complete`.

@@ -19,7 +19,7 @@ use Rattle.mm_laws.specs.Laws.LongTexts.{LongTextsAreRefused, FrontsDecide}
 use Rattle.mm_spec.proofs.LexedLaw.{tokens_of_long, lexical_fault_long}
 use Rattle.mm_spec.proofs.LongestLaw.{is_longest}
 use Rattle.mm_spec.proofs.StopsLaw.{text_fault_is}
-use Rattle.mm_laws.proofs.OneOutputLaw.{output_unique}
+use Rattle.mm_laws.proofs.OneOutputLaw.{output_is_unique_for_text}
 
 abbrev too_long : Fault
 too_long = record { at = 0; code = TextTooLong }
@@ -32,61 +32,78 @@ lexed_as text ws f =
 abbrev unread : LexedText
 unread = record { tokens = []; fault = Some too_long }
 
-lexed_long : (text : List ℕ) → text_limit < length text → lexed_of text ≡ unread
-lexed_long text h = ap₂ (lexed_as text) (tokens_of_long text h) (lexical_fault_long text h)
+long_text_is_unread : (text : List ℕ) → text_limit < length text → lexed_of text ≡ unread
+long_text_is_unread text is_long = ap₂ (lexed_as text) (tokens_of_long text is_long)
+    (lexical_fault_long text is_long)
 
-nothing_read : (len : ℕ) → IsRead len unread [] (Some too_long)
-nothing_read len =
+nothing_is_read : (len : ℕ) → IsRead len unread [] (Some too_long)
+nothing_is_read len =
     record {
       statements = [];
       are_statements = is_longest [];
       rest = [];
       splits = refl;
-      lawful = λ k l. absurd (omega arith);
+      lawful = λ k k_lt_0. absurd (omega arith);
       stops = text_fault_is len unread too_long refl;
     }
 
-none_valid : (w : Bool) → AllAreValid (counted w [])
-none_valid true j l t = absurd (omega arith)
-none_valid false j l t = absurd (omega arith)
+no_statement_is_invalid : (with_open : Bool) → AllAreValid (counted with_open [])
+no_statement_is_invalid true j j_lt_0 is_theorem_j = absurd (omega arith)
+no_statement_is_invalid false j j_lt_0 is_theorem_j = absurd (omega arith)
 
-first_fault : (len : ℕ) (w : Bool) → FirstFault len unread w too_long
-first_fault len w = ([], Some too_long, nothing_read len, inr (none_valid w, refl))
+first_fault_is_too_long : (len : ℕ) (with_open : Bool) → FirstFault len unread with_open too_long
+first_fault_is_too_long len with_open = (
+  [],
+  Some too_long,
+  nothing_is_read len,
+  inr
+      (no_statement_is_invalid with_open, refl),
+)
 
-refused : (text : List ℕ) (request : Request) → text_limit < length text
+long_text_is_refused : (text : List ℕ) (request : Request) → text_limit < length text
     → IsOutput text request (refusal text too_long)
-refused text request h =
+long_text_is_refused text request is_long =
     inl (
       too_long,
-      subst (λ x. FirstFault (length text) x request.with_open too_long) (sym (lexed_long text h))
-          (first_fault (length text) request.with_open),
+      subst (λ x. FirstFault (length text) x request.with_open too_long) (sym (long_text_is_unread
+          text is_long))
+          (first_fault_is_too_long (length text) request.with_open),
       refl,
     )
 
-first_byte : (text : List ℕ) → refusal text too_long ≡ line (codes "refused 1:1 E00")
+refusal_is : (text : List ℕ) → refusal text too_long ≡ line (codes "long_text_is_refused 1:1 E00")
 unfolding digits
-first_byte text = refl
+refusal_is text = refl
 
-pub long_texts_refused : LongTextsAreRefused
-long_texts_refused text request bytes h = (
-  λ o.
-      output_unique text request bytes (refusal text too_long) o (refused text request h)
-      ∙ first_byte text,
-  λ e. subst (IsOutput text request) (first_byte text ∙ sym e) (refused text request h),
+pub long_texts_are_refused : LongTextsAreRefused
+long_texts_are_refused text request bytes is_long = (
+  λ is_output.
+      output_is_unique_for_text text request bytes (refusal text too_long) is_output
+      (long_text_is_refused text request is_long)
+      ∙ refusal_is text,
+  λ bytes_are. subst (IsOutput text request) (refusal_is text
+      ∙ sym bytes_are) (long_text_is_refused text request is_long),
 )
 
-pub fronts_decide : FrontsDecide
-fronts_decide text request bytes n h = shorter_or_whole (cases_lt n (length text))
+pub front_decides_output : FrontsDecide
+front_decides_output text request bytes n limit_lt_n = shorter_or_whole (cases_lt n (length text))
   where
     shorter_or_whole : (n < length text) ⊎ (length text ≤ n)
         → IsOutput (take n text) request bytes ↔ IsOutput text request bytes
-    shorter_or_whole (inl l) =
-        let count : length (take n text) ≡ n = length-take-le n text (omega arith) in
-        let front = long_texts_refused (take n text) request bytes (omega (arith, h, count)) in
-        let whole = long_texts_refused text request bytes (omega arith) in
-        (λ o. whole.1 (front.0 o), λ o. front.1 (whole.0 o))
-    shorter_or_whole (inr l) =
-        let same : take n text ≡ text = take_all n text l in (
-          (λ o. subst (λ t. IsOutput t request bytes) same o),
-          λ o. subst (λ t. IsOutput t request bytes) (sym same) o,
+    shorter_or_whole (inl n_lt_length) =
+        let front_length_is : length (take n text) ≡ n = length-take-le n text (omega arith) in
+        let front_is_refused = long_texts_are_refused (take n text) request bytes (omega (
+          arith,
+          limit_lt_n,
+          front_length_is,
+        )) in
+        let text_is_refused = long_texts_are_refused text request bytes (omega arith) in (
+          λ is_output. text_is_refused.1 (front_is_refused.0 is_output),
+          λ is_output.
+              front_is_refused.1 (text_is_refused.0 is_output),
+        )
+    shorter_or_whole (inr length_le_n) =
+        let front_is_text : take n text ≡ text = take_all n text length_le_n in (
+          (λ is_output. subst (λ t. IsOutput t request bytes) front_is_text is_output),
+          λ is_output. subst (λ t. IsOutput t request bytes) (sym front_is_text) is_output,
         )

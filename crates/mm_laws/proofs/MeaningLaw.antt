@@ -23,23 +23,27 @@ use Rattle.mm_laws.specs.Laws.WellFormed.{CompressedIsExact, NormalIsExact}
 use Rattle.mm_laws.specs.Laws.Meaning.{SaysCompressed, SaysNormal, Says}
 use Rattle.mm_laws.specs.Laws.Meaning.{IsProved, ValidOnTheMeaning}
 use Rattle.mm_spec.proofs.FindsLaw.{same_word}
-use Rattle.mm_laws.proofs.SpelledStepsLaw.{steps_named, steps_labels, steps_unique}
-use Rattle.mm_laws.proofs.WellSpelledLaw.{compressed_exact, normal_exact}
+use Rattle.mm_laws.proofs.SpelledStepsLaw.{steps_are_named, steps_are_labels_where_read}
+use Rattle.mm_laws.proofs.SpelledStepsLaw.{named_steps_are_unique}
+use Rattle.mm_laws.proofs.WellSpelledLaw.{compressed_is_exact, normal_is_exact}
 
 module _ (db : List Statement) (k : ℕ) where
   abbrev IsLabelOf : Token → ℕ → Type 0
   IsLabelOf t j = IsUsable db k t.word j
 
   -- a word is the label of one statement
-  same_usable : (ts : List Token) (is js : List ℕ) → AllZip IsLabelOf ts is → AllZip IsLabelOf ts js
-      → is ≡ js
-  same_usable [] [] [] g h = refl
-  same_usable [] [] (j ∷ js) g h = absurd h
-  same_usable [] (i ∷ is) js g h = absurd g
-  same_usable (t ∷ ts) [] js g h = absurd g
-  same_usable (t ∷ ts) (i ∷ is) [] g h = absurd h
-  same_usable (t ∷ ts) (i ∷ is) (j ∷ js) g h =
-      ap₂ (λ x xs. x ∷ xs) (h.0.only i g.0.active g.0.labelled) (same_usable ts is js g.1 h.1)
+  usable_statements_are_unique : (ts : List Token) (is_js js : List ℕ) → AllZip IsLabelOf ts is_js
+      → AllZip IsLabelOf ts js
+      → is_js ≡ js
+  usable_statements_are_unique [] [] [] usable_is usable_js = refl
+  usable_statements_are_unique [] [] (j ∷ js) usable_is usable_js = absurd usable_js
+  usable_statements_are_unique [] (i ∷ is_js) js usable_is usable_js = absurd usable_is
+  usable_statements_are_unique (t ∷ ts) [] js usable_is usable_js = absurd usable_is
+  usable_statements_are_unique (t ∷ ts) (i ∷ is_js) [] usable_is usable_js = absurd usable_js
+  usable_statements_are_unique (t ∷ ts) (i ∷ is_js) (j ∷ js) usable_is usable_js =
+      ap₂ (λ x xs. x ∷ xs) (usable_js.0.no_other_is_usable i usable_is.0.statement_is_active
+      usable_is.0.statement_has_label) (usable_statements_are_unique ts is_js js usable_is.1
+      usable_js.1)
 
   abbrev IsLabelStep : Token → Step → Type 0
   IsLabelStep u s = (j : ℕ) × (s ≡ label j) × IsUsable db k u.word j
@@ -47,31 +51,49 @@ module _ (db : List Statement) (k : ℕ) where
   abbrev IsPlainWord : Token → Type 0
   IsPlainWord u = (u.word ≢ codes "?") × ((j : ℕ) × IsUsable db k u.word j)
 
-  says_normal : (ts : List Token) (ss : List Step) → AllByRecursion IsPlainWord ts
+  says_label_steps : (ts : List Token) (ss : List Step) → AllByRecursion IsPlainWord ts
       → AllZip IsLabelStep ts ss → SaysNormal db k ts ss
-  says_normal [] [] w h = tt
-  says_normal [] (s ∷ ss) w h = absurd h
-  says_normal (t ∷ ts) [] w h = absurd h
-  says_normal (t ∷ ts) (s ∷ ss) w h = ((w.0.0, h.0), says_normal ts ss w.1 h.1)
+  says_label_steps [] [] are_plain are_label_steps = tt
+  says_label_steps [] (s ∷ ss) are_plain are_label_steps = absurd are_label_steps
+  says_label_steps (t ∷ ts) [] are_plain are_label_steps = absurd are_label_steps
+  says_label_steps (t ∷ ts) (s ∷ ss) are_plain are_label_steps = (
+    (
+      are_plain.0.0,
+      are_label_steps.0,
+    ),
+    says_label_steps ts ss are_plain.1 are_label_steps.1,
+  )
 
-  plain_words : (ts : List Token) (ss : List Step) → SaysNormal db k ts ss
+  words_are_plain : (ts : List Token) (ss : List Step) → SaysNormal db k ts ss
       → AllByRecursion IsPlainWord ts
-  plain_words [] ss h = tt
-  plain_words (t ∷ ts) [] h = absurd h
-  plain_words (t ∷ ts) (s ∷ ss) h = ((h.0.0, (h.0.1.0, h.0.1.2)), plain_words ts ss h.1)
+  words_are_plain [] ss says_steps = tt
+  words_are_plain (t ∷ ts) [] says_steps = absurd says_steps
+  words_are_plain (t ∷ ts) (s ∷ ss) says_steps = (
+    (
+      says_steps.0.0,
+      (
+        says_steps.0.1.0,
+        says_steps.0.1.2,
+      ),
+    ),
+    words_are_plain ts ss says_steps.1,
+  )
 
-  same_labels : (ts : List Token) (ss others : List Step) → SaysNormal db k ts ss
-      → AllZip IsLabelStep ts others → ss ≡ others
-  same_labels [] [] [] g h = refl
-  same_labels [] [] (s ∷ others) g h = absurd h
-  same_labels [] (s ∷ ss) others g h = absurd g
-  same_labels (t ∷ ts) [] others g h = absurd g
-  same_labels (t ∷ ts) (s ∷ ss) [] g h = absurd h
-  same_labels (t ∷ ts) (s ∷ ss) (r ∷ others) g h =
-      let one = g.0.1 in
-      let two = h.0 in
-      let same : one.0 ≡ two.0 = two.2.only one.0 one.2.active one.2.labelled in
-      ap₂ (λ x xs. x ∷ xs) (one.1 ∙ ap label same ∙ sym two.1) (same_labels ts ss others g.1 h.1)
+  label_steps_are_unique : (ts : List Token) (ss other_steps : List Step) → SaysNormal db k ts ss
+      → AllZip IsLabelStep ts other_steps → ss ≡ other_steps
+  label_steps_are_unique [] [] [] says_steps are_label_steps = refl
+  label_steps_are_unique [] [] (s ∷ other_steps) says_steps are_label_steps = absurd are_label_steps
+  label_steps_are_unique [] (s ∷ ss) other_steps says_steps are_label_steps = absurd says_steps
+  label_steps_are_unique (t ∷ ts) [] other_steps says_steps are_label_steps = absurd says_steps
+  label_steps_are_unique (t ∷ ts) (s ∷ ss) [] says_steps are_label_steps = absurd are_label_steps
+  label_steps_are_unique (t ∷ ts) (s ∷ ss) (r ∷ other_steps) says_steps are_label_steps =
+      let is_label = says_steps.0.1 in
+      let is_other_label = are_label_steps.0 in
+      let labels_equal : is_label.0 ≡ is_other_label.0 = is_other_label.2.no_other_is_usable
+      is_label.0 is_label.2.statement_is_active is_label.2.statement_has_label in
+      ap₂ (λ x xs. x ∷ xs) (is_label.1 ∙ ap label labels_equal
+      ∙ sym is_other_label.1) (label_steps_are_unique ts ss other_steps says_steps.1
+      are_label_steps.1)
 
   -- a derivation of the formula from steps
   abbrev HasDerivation : List Step → Type 0
@@ -83,68 +105,90 @@ module _ (db : List Statement) (k : ℕ) where
   abbrev SaysDerivation : List Token → Type 0
   SaysDerivation ps = (ss : List Step) × Says db k ps ss × HasDerivation ss
 
-  module _ (named : StepsAreNamed db k) (labelled : StepsAreLabels db k)
-      (compressed : CompressedIsExact db k) (normal : NormalIsExact db k) where
+  module _ (are_named : StepsAreNamed db k) (are_labels : StepsAreLabels db k)
+      (compressed_exact : CompressedIsExact db k) (normal_exact : NormalIsExact db k) where
     compressed_read_if_said : (end : ℕ) (t : Token) (ts : List Token)
         → t.word ≡ codes "(" → IsReadAndDerived end (t ∷ ts) ↔ SaysDerivation (t ∷ ts)
-    compressed_read_if_said end t ts opens = (read_is_said, said_is_read)
+    compressed_read_if_said end t ts is_opening = (read_is_said, said_is_read)
       where
         read_is_said : IsReadAndDerived end (t ∷ ts) → SaysDerivation (t ∷ ts)
-        read_is_said h =
-            let w = (compressed end t ts opens).0 h.0 in
-            let n = named end (t ∷ ts) w.labels w.letters w.items h.0 w.parts w.spelled in (
+        read_is_said is_read =
+            let well_spelled = (compressed_exact end t ts is_opening).0 is_read.0 in
+            let named = are_named end (t ∷ ts) well_spelled.labels well_spelled.letters
+            well_spelled.items is_read.0 well_spelled.is_compressed well_spelled.items_are_spelled
+            in (
               bare_steps db k (t ∷ ts),
-              inl
-                  (opens, record { well_spelled = w; js = n.0; labels = n.1; steps = n.2 }),
-              h.1,
+              inl (
+                is_opening,
+                record {
+                  is_well_spelled = well_spelled;
+                  js = named.0;
+                  labels_name_js
+                      = named.1;
+                  are_steps = named.2;
+                },
+              ),
+              is_read.1,
             )
 
         steps_are_read : (ss : List Step) → SaysCompressed db k (t ∷ ts) ss → HasDerivation ss
             → IsReadAndDerived end (t ∷ ts)
-        steps_are_read ss s h =
-            let w = s.well_spelled in
-            let f = (compressed end t ts opens).1 w in
-            let n = named end (t ∷ ts) w.labels w.letters w.items f w.parts w.spelled in
-            let js : s.js ≡ n.0 = same_usable w.labels s.js n.0 s.labels n.1 in
+        steps_are_read ss says_steps has_derivation =
+            let well_spelled = says_steps.is_well_spelled in
+            let no_faults = (compressed_exact end t ts is_opening).1 well_spelled in
+            let named = are_named end (t ∷ ts) well_spelled.labels well_spelled.letters
+            well_spelled.items no_faults well_spelled.is_compressed well_spelled.items_are_spelled
+            in
+            let statements_equal : says_steps.js ≡ named.0 = usable_statements_are_unique
+            well_spelled.labels_name_js says_steps.js named.0 says_steps.labels_name_js named.1 in
             let hypotheses = mandatory_hypotheses db k in
-            let says_steps : AreSteps hypotheses n.0 w.items ss =
-            subst (λ is. AreSteps hypotheses is w.items ss) js s.steps in
-            let same : ss ≡ bare_steps db k (t ∷ ts) =
-            steps_unique hypotheses n.0 w.items ss (bare_steps db k (t ∷ ts)) says_steps n.2 in
-            (f, subst HasDerivation same h)
+            let are_steps : AreSteps hypotheses named.0 well_spelled.items ss =
+            subst (λ is. AreSteps hypotheses is well_spelled.items ss) statements_equal
+            says_steps.are_steps in
+            let steps_equal : ss ≡ bare_steps db k (t ∷ ts) =
+            named_steps_are_unique hypotheses named.0 well_spelled.items ss (bare_steps db k (t ∷
+            ts)) are_steps named.2 in
+            (no_faults, subst HasDerivation steps_equal has_derivation)
 
         said_is_read : SaysDerivation (t ∷ ts) → IsReadAndDerived end (t ∷ ts)
-        said_is_read (ss, inl s, h) = steps_are_read ss s.1 h
-        said_is_read (ss, inr s, h) = absurd (s.0 opens)
+        said_is_read (ss, inl says, has_derivation) = steps_are_read ss says.1 has_derivation
+        said_is_read (ss, inr says, has_derivation) = absurd (says.0 is_opening)
 
     normal_read_if_said : (end : ℕ) (t : Token) (ts : List Token)
         → t.word ≢ codes "(" → IsReadAndDerived end (t ∷ ts) ↔ SaysDerivation (t ∷ ts)
-    normal_read_if_said end t ts apart = (read_is_said, said_is_read)
+    normal_read_if_said end t ts no_bracket = (read_is_said, said_is_read)
       where
         read_is_said : IsReadAndDerived end (t ∷ ts) → SaysDerivation (t ∷ ts)
-        read_is_said h =
+        read_is_said is_read =
             let says_steps =
-            says_normal (t ∷ ts) (bare_steps db k (t ∷ ts)) ((normal end t ts apart).0 h.0)
-            (labelled end t ts h.0 apart) in
-            (bare_steps db k (t ∷ ts), inr (apart, says_steps), h.1)
+            says_label_steps (t ∷ ts) (bare_steps db k (t ∷ ts)) ((normal_exact end t ts
+            no_bracket).0 is_read.0)
+            (are_labels end t ts is_read.0 no_bracket) in
+            (bare_steps db k (t ∷ ts), inr (no_bracket, says_steps), is_read.1)
 
         steps_are_read : (ss : List Step) → SaysNormal db k (t ∷ ts) ss → HasDerivation ss
             → IsReadAndDerived end (t ∷ ts)
-        steps_are_read ss s h =
-            let f = (normal end t ts apart).1 (plain_words (t ∷ ts) ss s) in
-            let same =
-            same_labels (t ∷ ts) ss (bare_steps db k (t ∷ ts)) s (labelled end t ts f apart) in
-            (f, subst HasDerivation same h)
+        steps_are_read ss says_steps has_derivation =
+            let no_faults = (normal_exact end t ts no_bracket).1 (words_are_plain (t ∷ ts) ss
+            says_steps) in
+            let steps_equal =
+            label_steps_are_unique (t ∷ ts) ss (bare_steps db k (t ∷ ts)) says_steps (are_labels end
+            t ts no_faults no_bracket) in
+            (no_faults, subst HasDerivation steps_equal has_derivation)
 
         said_is_read : SaysDerivation (t ∷ ts) → IsReadAndDerived end (t ∷ ts)
-        said_is_read (ss, inl s, h) = absurd (apart s.0)
-        said_is_read (ss, inr s, h) = steps_are_read ss s.1 h
+        said_is_read (ss, inl says, has_derivation) = absurd (no_bracket says.0)
+        said_is_read (ss, inr says, has_derivation) = steps_are_read ss says.1 has_derivation
 
     read_exactly_if_said : (end : ℕ) (ps : List Token) → IsReadAndDerived end ps ↔ SaysDerivation ps
-    read_exactly_if_said end [] = ((λ h. no_empty_proof h.0), λ h. absurd h.1)
+    read_exactly_if_said end [] = (
+      (λ is_read. no_empty_proof is_read.0),
+      λ is_read. absurd
+          is_read.1,
+    )
       where
         no_empty_proof : reading_faults db k end [] ≡ [] → SaysDerivation []
-        no_empty_proof e = absurd (cc)
+        no_empty_proof no_faults = absurd (cc)
     read_exactly_if_said end (t ∷ ts) =
         by_bracket (bytes_eq t.word (codes "(")) refl (compressed_read_if_said end t ts)
         (normal_read_if_said end t ts)
@@ -155,13 +199,19 @@ module _ (db : List Statement) (k : ℕ) where
         by_bracket : (b : Bool)
             → bytes_eq t.word (codes "(") ≡ b → (t.word ≡ codes "(" → Goal)
             → (t.word ≢ codes "(" → Goal) → Goal
-        by_bracket true e c n = c (same_word t.word (codes "(") e)
-        by_bracket false e c n =
-            n (λ w. true≢false (sym ((bytes_eq-Decides t.word (codes "(")).1 w) ∙ e))
+        by_bracket true is_bracket compressed_case normal_case = compressed_case (same_word t.word
+            (codes "(") is_bracket)
+        by_bracket false not_bracket compressed_case normal_case =
+            normal_case (λ is_bracket_word. true≢false (sym ((bytes_eq-Decides t.word (codes "(")).1
+            is_bracket_word) ∙ not_bracket))
 
-    valid_means : ValidOnTheMeaning db k
-    valid_means theorem =
-        let m = by_statement (slice_get db k) theorem in (valid_is_proved m.0, proved_is_valid m.1)
+    valid_if_proved_and_back : ValidOnTheMeaning db k
+    valid_if_proved_and_back is_theorem_k =
+        let read_iff_said = by_statement (slice_get db k) is_theorem_k in (
+          valid_is_proved
+              read_iff_said.0,
+          proved_is_valid read_iff_said.1,
+        )
       where
         words : Option Statement → List Token
         words o = elim o [ Some (provable l p xs e ps d) ↦ ps | _ ↦ [] ]
@@ -180,26 +230,41 @@ module _ (db : List Statement) (k : ℕ) where
 
         by_statement : (o : Option Statement) → list_any is_theorem (statement_if_any o) ≡ true
             → IsValidProof o ↔ SaysDerivation (words o)
-        by_statement None t = absurd (true≢false (sym t))
-        by_statement (Some (provable l p xs e ps d)) t = read_exactly_if_said d ps
-        by_statement (Some _) t = absurd (true≢false (sym t))
+        by_statement None is_theorem_o = absurd (true≢false (sym is_theorem_o))
+        by_statement (Some (provable l p xs e ps d)) is_theorem_o = read_exactly_if_said d ps
+        by_statement (Some _) is_theorem_o = absurd (true≢false (sym is_theorem_o))
 
         valid_is_proved : (IsValidProof (slice_get db k) → SaysDerivation (words (slice_get db k)))
             → IsValid db k
             → IsProved db k
-        valid_is_proved m h =
-            let s = m (h.0, (h.1, h.2)) in
-            record { steps = s.0; said = s.1; derivation = s.2.0; derives = s.2.1 }
+        valid_is_proved said_if_read is_valid =
+            let said = said_if_read (is_valid.0, (is_valid.1, is_valid.2)) in
+            record {
+              steps = said.0;
+              says_steps = said.1;
+              derivation = said.2.0;
+              derives_formula =
+                  said.2.1;
+            }
 
         proved_is_valid : (SaysDerivation (words (slice_get db k)) → IsValidProof (slice_get db k))
             → IsProved db k
             → IsValid db k
-        proved_is_valid m p =
-            let v = m (p.steps, p.said, (p.derivation, p.derives)) in (v.0, v.1.0, v.1.1)
+        proved_is_valid read_if_said is_proved =
+            let is_read = read_if_said (
+              is_proved.steps,
+              is_proved.says_steps,
+              (is_proved.derivation, is_proved.derives_formula),
+            ) in (
+              is_read.0,
+              is_read.1.0,
+              is_read.1.1,
+            )
 
 pub valid_on_the_meaning : WhereRead ValidOnTheMeaning
-valid_on_the_meaning len x db fault r w k =
-    let named = steps_named len x db fault r w k in
-    let labelled = steps_labels len x db fault r w k in
-    valid_means (counted w db) k named labelled (compressed_exact len x db fault r w k)
-    (normal_exact len x db fault r w k)
+valid_on_the_meaning len x db fault is_read with_open k =
+    let are_named = steps_are_named len x db fault is_read with_open k in
+    let are_labels = steps_are_labels_where_read len x db fault is_read with_open k in
+    valid_if_proved_and_back (counted with_open db) k are_named are_labels (compressed_is_exact len
+    x db fault is_read with_open k)
+    (normal_is_exact len x db fault is_read with_open k)

@@ -23,7 +23,7 @@ use Rattle.mm_spec.specs.Frame.{formula_at}
 use Rattle.mm_spec.specs.Report.{Row, CitingRow, report, citation_report, refusal}
 use Rattle.mm_spec.specs.declared.Choice.{Choice}
 use Rattle.mm_spec.specs.declared.Choice.TheVariants.{All, Matrix, Counts, Usage, Citations}
-use Rattle.mm_laws.proofs.RisingListsLaw.{same_list}
+use Rattle.mm_laws.proofs.RisingListsLaw.{equal_if_same_members}
 use Rattle.mm_spec.specs.Request.{Request}
 use Rattle.mm_spec.specs.declared.Code.{Code}
 use Rattle.mm_spec.specs.Lexed.{LexedText, lexed_of}
@@ -32,7 +32,7 @@ use Rattle.mm_spec.specs.Output.{is_theorem_at, AllAreValid, FirstProofFault, Fi
 use Rattle.mm_spec.specs.Output.{HasNoFault, theorems, columns, open_columns, label_at, IsRowOf}
 use Rattle.mm_spec.specs.Output.{AreCited, IsCitingRowOf, IsReportOf, IsOutput}
 use Rattle.mm_spec.specs.Laws.Stack.{IsCompleteRule}
-use Rattle.mm_laws.proofs.ExactLaw.{stops}
+use Rattle.mm_laws.proofs.ExactLaw.{step_stops_if_fails}
 use Rattle.mm_spec.specs.Laws.Complete.{HasCompleteFrame, AreComplete}
 use Rattle.mm_spec.specs.Opened.{counted}
 use Rattle.mm_spec.proofs.CompleteLaw.{reads_complete}
@@ -61,18 +61,38 @@ tail_of (x ∷ xs) = xs
 splits_of : {X : Type 0} (xs ys us vs : List X) (x y : X) → xs ++ x ∷ us ≡ ys ++ y ∷ vs
     → Splits xs x ys y
 unfolding head_or tail_of
-splits_of [] [] us vs x y e = inl (refl, ap (head_or x) e)
-splits_of [] (b ∷ ys) us vs x y e = inr (inl (ys, ap (λ z. z ∷ ys) (sym (ap (head_or x) e))))
-splits_of (a ∷ xs) [] us vs x y e = inr (inr (xs, ap (λ z. z ∷ xs) (ap (head_or y) e)))
-splits_of (a ∷ xs) (b ∷ ys) us vs x y e = with_first (splits_of xs ys us vs x y (ap tail_of e))
+splits_of [] [] us vs x y lists_equal = inl (refl, ap (head_or x) lists_equal)
+splits_of [] (b ∷ ys) us vs x y lists_equal = inr (inl (
+  ys,
+  ap (λ z. z ∷ ys) (sym (ap (head_or x)
+      lists_equal)),
+))
+splits_of (a ∷ xs) [] us vs x y lists_equal = inr (inr (
+  xs,
+  ap (λ z. z ∷ xs) (ap (head_or y)
+      lists_equal),
+))
+splits_of (a ∷ xs) (b ∷ ys) us vs x y lists_equal = with_first (splits_of xs ys us vs x y (ap
+    tail_of lists_equal))
   where
-    same_first : a ≡ b
-    same_first = ap (head_or a) e
+    heads_equal : a ≡ b
+    heads_equal = ap (head_or a) lists_equal
 
     with_first : Splits xs x ys y → Splits (a ∷ xs) x (b ∷ ys) y
-    with_first (inl h) = inl (ap₂ (λ p q. p ∷ q) same_first h.0, h.1)
-    with_first (inr (inl h)) = inr (inl (h.0, ap₂ (λ p q. p ∷ q) (sym same_first) h.1))
-    with_first (inr (inr h)) = inr (inr (h.0, ap₂ (λ p q. p ∷ q) same_first h.1))
+    with_first (inl fronts_equal) = inl (
+      ap₂ (λ p q. p ∷ q) heads_equal fronts_equal.0,
+      fronts_equal.1,
+    )
+    with_first (inr (inl is_longer)) = inr (inl (
+      is_longer.0,
+      ap₂ (λ p q. p ∷ q) (sym heads_equal)
+          is_longer.1,
+    ))
+    with_first (inr (inr is_longer)) = inr (inr (
+      is_longer.0,
+      ap₂ (λ p q. p ∷ q) heads_equal
+          is_longer.1,
+    ))
 
 -- ---- faults of steps and of the end
 
@@ -80,249 +100,297 @@ module _ (c : Context) (all_complete : (l : ℕ) → HasCompleteFrame c (c.rule 
   rule_is_complete : (r : Option Rule) (es : List Formula) (a : Reason) → HasCompleteFrame c r
       → Fails c r es a
       → IsCompleteRule c r
-  rule_is_complete None es a f h = none_never_fails a h
+  rule_is_complete None es a frame_is_complete fails = none_never_fails a fails
     where
       none_never_fails : (a : Reason) → Fails c None es a → ⊥
-      none_never_fails _ h = h
-  rule_is_complete (Some (hypothesis g)) es a f h = tt
-  rule_is_complete (Some (assertion g)) es a f h = f
+      none_never_fails _ fails = fails
+  rule_is_complete (Some (hypothesis g)) es a frame_is_complete fails = tt
+  rule_is_complete (Some (assertion g)) es a frame_is_complete fails = frame_is_complete
 
-  reason_unique : (s : Step) (es : List Formula) (a b : Reason) → StepFails c s es a
+  reason_is_unique : (s : Step) (es : List Formula) (a b : Reason) → StepFails c s es a
       → StepFails c s es b → a ≡ b
-  reason_unique (label l) es a b h k =
-      let g = rule_is_complete (c.rule l) es a (all_complete l) h in
-      let e : Err a ≡ Err b = sym (stops c (c.rule l) es a g h) ∙ stops c (c.rule l) es b g k in
+  reason_is_unique (label l) es a b fails_by_a fails_by_b =
+      let is_complete = rule_is_complete (c.rule l) es a (all_complete l) fails_by_a in
+      let errors_equal : Err a ≡ Err b = sym (step_stops_if_fails c (c.rule l) es a is_complete
+      fails_by_a) ∙ step_stops_if_fails c (c.rule l) es b is_complete fails_by_b in
       cc
-  reason_unique (marked j) es a b h k = absurd h
+  reason_is_unique (marked j) es a b fails_by_a fails_by_b = absurd fails_by_a
 
   -- no later step fails too
-  no_later_fault : (ps : List PlacedStep) (f : Fault) (s : StepFault c ps f) (forest : Trees)
-      → (before zs : List PlacedStep)
-      → AreDerivations c forest → IsPlain c (map (λ p. p.step) before) (postfix forest)
-      → before ≡ s.before ++ s.first ∷ zs → ⊥
-  no_later_fault ps f s forest before zs d p is =
-      let t : StepFault c before f =
+  no_later_fault : (ps : List PlacedStep) (f : Fault) (step_fault : StepFault c ps f) (forest :
+      Trees)
+      → (steps_before zs : List PlacedStep)
+      → AreDerivations c forest → IsPlain c (map (λ p. p.step) steps_before) (postfix forest)
+      → steps_before ≡ step_fault.before ++ step_fault.first ∷ zs → ⊥
+  no_later_fault ps f step_fault forest steps_before zs derives is_plain steps_are =
+      let fault_before : StepFault c steps_before f =
       record {
-        before = s.before;
-        first = s.first;
+        before = step_fault.before;
+        first = step_fault.first;
         after = zs;
-        splits = is;
-        forest = s.forest;
-        derivations = s.derivations;
-        plain = s.plain;
-        reason = s.reason;
-        fails = s.fails;
-        is = s.is;
+        splits = steps_are;
+        forest = step_fault.forest;
+        derivations = step_fault.derivations;
+        plain = step_fault.plain;
+        reason = step_fault.reason;
+        fails = step_fault.fails;
+        is = step_fault.is;
       } in
-      excludes c all_complete (map (λ p. p.step) before) s.reason (postfix forest)
-      (stopped_steps c all_complete before [] 0 f t) p (forest, d, refl)
+      excludes c all_complete (map (λ p. p.step) steps_before) step_fault.reason (postfix forest)
+      (stopped_steps c all_complete steps_before [] 0 f fault_before) is_plain (
+        forest,
+        derives,
+        refl,
+      )
 
-  pub step_fault_unique : (ps : List PlacedStep) (f g : Fault) → StepFault c ps f → StepFault c ps g
+  pub step_fault_is_unique : (ps : List PlacedStep) (f g : Fault) → StepFault c ps f
+      → StepFault c ps g
       → f ≡ g
-  step_fault_unique ps f g s t =
-      by_split (splits_of s.before t.before s.after t.after s.first t.first
-      (sym s.splits ∙ t.splits))
+  step_fault_is_unique ps f g faults_f faults_g =
+      by_split (splits_of faults_f.before faults_g.before faults_f.after faults_g.after
+      faults_f.first faults_g.first
+      (sym faults_f.splits ∙ faults_g.splits))
     where
-      by_split : Splits s.before s.first t.before t.first → f ≡ g
-      by_split (inl e) =
-          let plain = subst (λ x. IsPlain c (map (λ p. p.step) x) (postfix s.forest)) e.0 s.plain in
-          let forest : s.forest ≡ t.forest =
-          same_forest c all_complete s.forest t.forest s.derivations t.derivations
-          (plain_unique c all_complete (map (λ p. p.step) t.before) [] [] (postfix s.forest)
-          (postfix t.forest) plain t.plain) in
-          let fails =
-          subst (λ x. StepFails c x.step (formulas t.forest) s.reason) e.1
-          (subst (λ r. StepFails c s.first.step (formulas r) s.reason) forest s.fails) in
-          s.is ∙ ap₂ (λ p r. fault p.at (code_of r)) e.1
-          (reason_unique t.first.step (formulas t.forest) s.reason t.reason fails t.fails)
-          ∙ sym t.is
-      by_split (inr (inl h)) =
-          absurd (no_later_fault ps f s t.forest t.before h.0 t.derivations t.plain h.1)
-      by_split (inr (inr h)) =
-          absurd (no_later_fault ps g t s.forest s.before h.0 s.derivations s.plain h.1)
+      by_split : Splits faults_f.before faults_f.first faults_g.before faults_g.first → f ≡ g
+      by_split (inl splits_equal) =
+          let is_plain = subst (λ x. IsPlain c (map (λ p. p.step) x) (postfix faults_f.forest))
+          splits_equal.0 faults_f.plain in
+          let forests_equal : faults_f.forest ≡ faults_g.forest =
+          same_forest c all_complete faults_f.forest faults_g.forest faults_f.derivations
+          faults_g.derivations
+          (plain_unique c all_complete (map (λ p. p.step) faults_g.before) [] [] (postfix
+          faults_f.forest)
+          (postfix faults_g.forest) is_plain faults_g.plain) in
+          let fails_by_reason =
+          subst (λ x. StepFails c x.step (formulas faults_g.forest) faults_f.reason) splits_equal.1
+          (subst (λ r. StepFails c faults_f.first.step (formulas r) faults_f.reason) forests_equal
+          faults_f.fails) in
+          faults_f.is ∙ ap₂ (λ p r. fault p.at (code_of r)) splits_equal.1
+          (reason_is_unique faults_g.first.step (formulas faults_g.forest) faults_f.reason
+          faults_g.reason fails_by_reason faults_g.fails)
+          ∙ sym faults_g.is
+      by_split (inr (inl is_longer)) =
+          absurd (no_later_fault ps f faults_f faults_g.forest faults_g.before is_longer.0
+          faults_g.derivations faults_g.plain is_longer.1)
+      by_split (inr (inr is_longer)) =
+          absurd (no_later_fault ps g faults_g faults_f.forest faults_f.before is_longer.0
+          faults_f.derivations faults_f.plain is_longer.1)
 
-  code_unique : (xs : List Formula) (formula : Formula) (a b : Code) → IsEndCode c xs formula a
+  code_is_unique : (xs : List Formula) (formula : Formula) (a b : Code) → IsEndCode c xs formula a
       → IsEndCode c xs formula b → a ≡ b
-  code_unique [] formula a b h k = h ∙ sym k
-  code_unique (g ∷ []) formula a b h k = h.1 ∙ sym k.1
-  code_unique (g ∷ e ∷ xs) formula a b h k = h ∙ sym k
+  code_is_unique [] formula a b is_code_a is_code_b = is_code_a ∙ sym is_code_b
+  code_is_unique (g ∷ []) formula a b is_code_a is_code_b = is_code_a.1 ∙ sym is_code_b.1
+  code_is_unique (g ∷ e ∷ xs) formula a b is_code_a is_code_b = is_code_a ∙ sym is_code_b
 
-  pub end_fault_unique : (ps : List PlacedStep) (formula : Formula) (end : ℕ) (f g : Fault)
+  pub end_fault_is_unique : (ps : List PlacedStep) (formula : Formula) (end : ℕ) (f g : Fault)
       → proof.ProofEndFault c ps formula end f → proof.ProofEndFault c ps formula end g → f ≡ g
-  end_fault_unique ps formula end f g s t =
-      let forest : s.forest ≡ t.forest =
-      same_forest c all_complete s.forest t.forest s.derivations t.derivations
-      (plain_unique c all_complete (map (λ p. p.step) ps) [] [] (postfix s.forest)
-      (postfix t.forest) s.plain t.plain) in
-      s.is ∙ ap (fault end)
-      (code_unique (formulas t.forest) formula s.code t.code
-      (subst (λ r. IsEndCode c (formulas r) formula s.code) forest s.fails) t.fails)
-      ∙ sym t.is
+  end_fault_is_unique ps formula end f g faults_f faults_g =
+      let forests_equal : faults_f.forest ≡ faults_g.forest =
+      same_forest c all_complete faults_f.forest faults_g.forest faults_f.derivations
+      faults_g.derivations
+      (plain_unique c all_complete (map (λ p. p.step) ps) [] [] (postfix faults_f.forest)
+      (postfix faults_g.forest) faults_f.plain faults_g.plain) in
+      faults_f.is ∙ ap (fault end)
+      (code_is_unique (formulas faults_g.forest) formula faults_f.code faults_g.code
+      (subst (λ r. IsEndCode c (formulas r) formula faults_f.code) forests_equal faults_f.fails)
+      faults_g.fails)
+      ∙ sym faults_g.is
 
-no_least : (fs : List Fault) (f : Fault) → fs ≡ [] → least fs ≡ Some f → ⊥
-no_least fs f e h = let no : None ≡ Some f = sym (ap least e) ∙ h in cc
+nil_has_no_least : (fs : List Fault) (f : Fault) → fs ≡ [] → least fs ≡ Some f → ⊥
+nil_has_no_least fs f fs_is_nil least_is_f = let none_is_some : None
+    ≡ Some f = sym (ap least fs_is_nil) ∙ least_is_f in cc
 
 module _ (db : List Statement) (all_complete : AreComplete db) where
-  pub proof_fault_unique : (k end : ℕ) (f g : Fault) → ProofFault db k end f → ProofFault db k end g
+  pub proof_fault_is_unique : (k end : ℕ) (f g : Fault) → ProofFault db k end f
+      → ProofFault db k end g
       → f ≡ g
-  proof_fault_unique k end f g (inl h) (inl i) = let e : Some f ≡ Some g = sym h ∙ i in cc
-  proof_fault_unique k end f g (inl h) (inr i) = absurd (no_least (reading_faults_at db k) f i.0 h)
-  proof_fault_unique k end f g (inr h) (inl i) = absurd (no_least (reading_faults_at db k) g h.0 i)
-  proof_fault_unique k end f g (inr h) (inr i) = by_kinds h.1 i.1
+  proof_fault_is_unique k end f g (inl faults_f) (inl faults_g) = let options_equal : Some f
+      ≡ Some g = sym faults_f ∙ faults_g in cc
+  proof_fault_is_unique k end f g (inl faults_f) (inr faults_g) = absurd (nil_has_no_least
+      (reading_faults_at db k) f faults_g.0 faults_f)
+  proof_fault_is_unique k end f g (inr faults_f) (inl faults_g) = absurd (nil_has_no_least
+      (reading_faults_at db k) g faults_f.0 faults_g)
+  proof_fault_is_unique k end f g (inr faults_f) (inr faults_g) = by_kinds faults_f.1 faults_g.1
     where
       by_kinds : StepFault (context_at db k) (steps_at db k) f
           ⊎ proof.ProofEndFault (context_at db k) (steps_at db k) (formula_at db k) end f
           → StepFault (context_at db k) (steps_at db k) g
           ⊎ proof.ProofEndFault (context_at db k) (steps_at db k) (formula_at db k) end g → f ≡ g
-      by_kinds (inl s) (inl t) =
-          step_fault_unique (context_at db k) (all_complete k) (steps_at db k) f g s t
-      by_kinds (inl s) (inr t) =
+      by_kinds (inl of_f) (inl of_g) =
+          step_fault_is_unique (context_at db k) (all_complete k) (steps_at db k) f g of_f of_g
+      by_kinds (inl of_f) (inr of_g) =
           absurd (no_both_faults (context_at db k) (all_complete k) (steps_at db k)
-          (formula_at db k) end f g s t)
-      by_kinds (inr s) (inl t) =
+          (formula_at db k) end f g of_f of_g)
+      by_kinds (inr of_f) (inl of_g) =
           absurd (no_both_faults (context_at db k) (all_complete k) (steps_at db k)
-          (formula_at db k) end g f t s)
-      by_kinds (inr s) (inr t) =
-          end_fault_unique (context_at db k) (all_complete k) (steps_at db k)
-          (formula_at db k) end f g s t
+          (formula_at db k) end g f of_g of_f)
+      by_kinds (inr of_f) (inr of_g) =
+          end_fault_is_unique (context_at db k) (all_complete k) (steps_at db k)
+          (formula_at db k) end f g of_f of_g
 
-  pub valid_no_fault : (k end : ℕ) (f : Fault) → IsValid db k → ProofFault db k end f → ⊥
-  valid_no_fault k end f v (inl h) = no_least (reading_faults_at db k) f v.0 h
-  valid_no_fault k end f v (inr h) = by_kind h.1
+  pub valid_has_no_fault : (k end : ℕ) (f : Fault) → IsValid db k → ProofFault db k end f → ⊥
+  valid_has_no_fault k end f is_valid (inl has_fault) = nil_has_no_least (reading_faults_at db k) f
+      is_valid.0 has_fault
+  valid_has_no_fault k end f is_valid (inr has_fault) = by_kind has_fault.1
     where
       by_kind : StepFault (context_at db k) (steps_at db k) f
           ⊎ proof.ProofEndFault (context_at db k) (steps_at db k) (formula_at db k) end f → ⊥
-      by_kind (inl s) =
+      by_kind (inl of_step) =
           no_step_fault (context_at db k) (all_complete k) (steps_at db k)
-          (formula_at db k) end v.1 v.2 f s
-      by_kind (inr t) =
+          (formula_at db k) end is_valid.1 is_valid.2 f of_step
+      by_kind (inr of_end) =
           no_end_fault (context_at db k) (all_complete k) (steps_at db k)
-          (formula_at db k) end v.1 v.2 f t
+          (formula_at db k) end is_valid.1 is_valid.2 f of_end
 
-  not_earlier : (j k : ℕ) (f g : Fault) → j < k → FirstProofFault db j f → FirstProofFault db k g
+  no_first_fault_is_earlier : (j k : ℕ) (f g : Fault) → j < k → FirstProofFault db j f
+      → FirstProofFault db k g
       → ⊥
-  not_earlier j k f g lt h i = valid_no_fault j (proof_end (slice_get db j)) f (i.1 j lt h.0) h.2
+  no_first_fault_is_earlier j k f g j_lt_k is_first_f is_first_g = valid_has_no_fault j (proof_end
+      (slice_get db j)) f (is_first_g.1 j j_lt_k is_first_f.0) is_first_f.2
 
-  first_proof_unique : (j k : ℕ) (f g : Fault) → FirstProofFault db j f → FirstProofFault db k g
+  first_proof_fault_is_unique : (j k : ℕ) (f g : Fault) → FirstProofFault db j f
+      → FirstProofFault db k g
       → f ≡ g
-  first_proof_unique j k f g h i = by_order (cases_order j k)
+  first_proof_fault_is_unique j k f g is_first_f is_first_g = by_order (cases_order j k)
     where
       by_order : (j ≡ k) ⊎ ((j < k) ⊎ (k < j)) → f ≡ g
-      by_order (inl e) =
-          proof_fault_unique k (proof_end (slice_get db k)) f g
-          (subst (λ n. ProofFault db n (proof_end (slice_get db n)) f) e h.2) i.2
-      by_order (inr (inl l)) = absurd (not_earlier j k f g l h i)
-      by_order (inr (inr l)) = absurd (not_earlier k j g f l i h)
+      by_order (inl j_is_k) =
+          proof_fault_is_unique k (proof_end (slice_get db k)) f g
+          (subst (λ n. ProofFault db n (proof_end (slice_get db n)) f) j_is_k is_first_f.2)
+          is_first_g.2
+      by_order (inr (inl j_lt_k)) = absurd (no_first_fault_is_earlier j k f g j_lt_k is_first_f
+          is_first_g)
+      by_order (inr (inr k_lt_j)) = absurd (no_first_fault_is_earlier k j g f k_lt_j is_first_g
+          is_first_f)
 
 -- ---- rows of marks
 
-marks_unique : (db : List Statement) (by_essential : Bool) (t : ℕ) (axioms : List ℕ)
+marks_are_unique : (db : List Statement) (by_essential : Bool) (t : ℕ) (axioms : List ℕ)
     → (a b : List Bool)
     → AllZip (λ x mark. Decides mark (RestsOn db by_essential t x)) axioms a
     → AllZip (λ x mark. Decides mark (RestsOn db by_essential t x)) axioms b → a ≡ b
-marks_unique db by_essential t [] [] [] h k = refl
-marks_unique db by_essential t [] [] (y ∷ b) h k = absurd k
-marks_unique db by_essential t [] (x ∷ a) b h k = absurd h
-marks_unique db by_essential t (n ∷ axioms) [] b h k = absurd h
-marks_unique db by_essential t (n ∷ axioms) (x ∷ a) [] h k = absurd k
-marks_unique db by_essential t (n ∷ axioms) (x ∷ a) (y ∷ b) h k =
-    ap₂ (λ p q. p ∷ q) (same_from_decides x y h.0 k.0)
-    (marks_unique db by_essential t axioms a b h.1 k.1)
+marks_are_unique db by_essential t [] [] [] decides_a decides_b = refl
+marks_are_unique db by_essential t [] [] (y ∷ b) decides_a decides_b = absurd decides_b
+marks_are_unique db by_essential t [] (x ∷ a) b decides_a decides_b = absurd decides_a
+marks_are_unique db by_essential t (n ∷ axioms) [] b decides_a decides_b = absurd decides_a
+marks_are_unique db by_essential t (n ∷ axioms) (x ∷ a) [] decides_a decides_b = absurd decides_b
+marks_are_unique db by_essential t (n ∷ axioms) (x ∷ a) (y ∷ b) decides_a decides_b =
+    ap₂ (λ p q. p ∷ q) (same_from_decides x y decides_a.0 decides_b.0)
+    (marks_are_unique db by_essential t axioms a b decides_a.1 decides_b.1)
 
-row_unique : (db : List Statement) (request : Request) (t : ℕ) (r s : Row) → IsRowOf db request t r
+row_is_unique : (db : List Statement) (request : Request) (t : ℕ) (r s : Row)
+    → IsRowOf db request t r
     → IsRowOf db request t s → r ≡ s
-row_unique db request t r s h k =
-    ap₂ (λ (l : Bytes) (m : List Bool). record { label = l; marks = m }) (h.0 ∙ sym k.0)
-    (marks_unique db request.essential t (columns db request.only) r.marks s.marks h.1 k.1)
+row_is_unique db request t r s is_row_r is_row_s =
+    ap₂ (λ (l : Bytes) (m : List Bool). record { label = l; marks = m }) (is_row_r.0
+    ∙ sym is_row_s.0)
+    (marks_are_unique db request.essential t (columns db request.only) r.marks s.marks is_row_r.1
+    is_row_s.1)
 
-rows_unique : (db : List Statement) (request : Request) (ts : List ℕ) (a b : List Row)
+rows_are_unique : (db : List Statement) (request : Request) (ts : List ℕ) (a b : List Row)
     → AllZip (IsRowOf db request) ts a → AllZip (IsRowOf db request) ts b → a ≡ b
-rows_unique db request [] [] [] h k = refl
-rows_unique db request [] [] (y ∷ b) h k = absurd k
-rows_unique db request [] (x ∷ a) b h k = absurd h
-rows_unique db request (n ∷ ts) [] b h k = absurd h
-rows_unique db request (n ∷ ts) (x ∷ a) [] h k = absurd k
-rows_unique db request (n ∷ ts) (x ∷ a) (y ∷ b) h k =
-    ap₂ (λ p q. p ∷ q) (row_unique db request n x y h.0 k.0) (rows_unique db request ts a b h.1 k.1)
+rows_are_unique db request [] [] [] are_rows_a are_rows_b = refl
+rows_are_unique db request [] [] (y ∷ b) are_rows_a are_rows_b = absurd are_rows_b
+rows_are_unique db request [] (x ∷ a) b are_rows_a are_rows_b = absurd are_rows_a
+rows_are_unique db request (n ∷ ts) [] b are_rows_a are_rows_b = absurd are_rows_a
+rows_are_unique db request (n ∷ ts) (x ∷ a) [] are_rows_a are_rows_b = absurd are_rows_b
+rows_are_unique db request (n ∷ ts) (x ∷ a) (y ∷ b) are_rows_a are_rows_b =
+    ap₂ (λ p q. p ∷ q) (row_is_unique db request n x y are_rows_a.0 are_rows_b.0) (rows_are_unique
+    db request ts a b are_rows_a.1 are_rows_b.1)
 
 -- ---- faults of the text
 
-begins_front : (before zs : List Token) (x : Token) → BeginStatements (before ++ x ∷ zs)
-    → BeginStatements (before ++ x ∷ [])
-begins_front before zs x b = (
-  b.0,
-  b.1,
-  zs ++ b.2,
-  b.3 ∙ append_assoc before (x ∷ zs) b.2
-      ∙ sym (append_assoc before (x ∷ []) (zs ++ b.2)),
+front_begins : (tokens_before zs : List Token) (x : Token) → BeginStatements (tokens_before ++ x ∷
+    zs)
+    → BeginStatements (tokens_before ++ x ∷ [])
+front_begins tokens_before zs x begins = (
+  begins.0,
+  begins.1,
+  zs ++ begins.2,
+  begins.3 ∙ append_assoc tokens_before (x ∷ zs) begins.2
+      ∙ sym (append_assoc tokens_before (x ∷ []) (zs ++ begins.2)),
 )
 
-shape_unique : (ts : List Token) (f g : Fault) → ShapeFault ts f → ShapeFault ts g → f ≡ g
-shape_unique ts f g s t =
-    by_split (splits_of s.before t.before s.after t.after s.first t.first (sym s.splits ∙ t.splits))
+shape_fault_is_unique : (ts : List Token) (f g : Fault) → ShapeFault ts f → ShapeFault ts g → f ≡ g
+shape_fault_is_unique ts f g faults_f faults_g =
+    by_split (splits_of faults_f.before faults_g.before faults_f.after faults_g.after faults_f.first
+    faults_g.first (sym faults_f.splits ∙ faults_g.splits))
   where
     HasShapeCode : List Token → Token → Fault → Type 0
-    HasShapeCode before first f =
-        (IsBetween before × (f ≡ fault first.at (shape_code true first.word)))
-        ⊎ ((¬ IsBetween before) × (f ≡ fault first.at (shape_code false first.word)))
+    HasShapeCode tokens_before first_token f =
+        (IsBetween tokens_before × (f ≡ fault first_token.at (shape_code true first_token.word)))
+        ⊎ ((¬ IsBetween tokens_before) × (f ≡ fault first_token.at (shape_code false
+        first_token.word)))
 
-    same_code : (before : List Token) (first : Token) → HasShapeCode before first f
-        → HasShapeCode before first g
+    faults_equal : (tokens_before : List Token) (first_token : Token)
+        → HasShapeCode tokens_before first_token f
+        → HasShapeCode tokens_before first_token g
         → f ≡ g
-    same_code before first (inl h) (inl k) = h.1 ∙ sym k.1
-    same_code before first (inl h) (inr k) = absurd (k.0 h.0)
-    same_code before first (inr h) (inl k) = absurd (h.0 k.0)
-    same_code before first (inr h) (inr k) = h.1 ∙ sym k.1
+    faults_equal tokens_before first_token (inl code_of_f) (inl code_of_g) = code_of_f.1
+        ∙ sym code_of_g.1
+    faults_equal tokens_before first_token (inl code_of_f) (inr code_of_g) = absurd (code_of_g.0
+        code_of_f.0)
+    faults_equal tokens_before first_token (inr code_of_f) (inl code_of_g) = absurd (code_of_f.0
+        code_of_g.0)
+    faults_equal tokens_before first_token (inr code_of_f) (inr code_of_g) = code_of_f.1
+        ∙ sym code_of_g.1
 
-    by_split : Splits s.before s.first t.before t.first → f ≡ g
-    by_split (inl e) =
-        same_code t.before t.first
-        (subst (λ x. HasShapeCode t.before x f) e.1
-        (subst (λ b. HasShapeCode b s.first f) e.0 s.code)) t.code
-    by_split (inr (inl h)) =
-        absurd (s.no_more (begins_front s.before h.0 s.first (subst BeginStatements h.1 t.begins)))
-    by_split (inr (inr h)) =
-        absurd (t.no_more (begins_front t.before h.0 t.first (subst BeginStatements h.1 s.begins)))
+    by_split : Splits faults_f.before faults_f.first faults_g.before faults_g.first → f ≡ g
+    by_split (inl splits_equal) =
+        faults_equal faults_g.before faults_g.first
+        (subst (λ x. HasShapeCode faults_g.before x f) splits_equal.1
+        (subst (λ b. HasShapeCode b faults_f.first f) splits_equal.0 faults_f.code)) faults_g.code
+    by_split (inr (inl is_longer)) =
+        absurd (faults_f.no_more (front_begins faults_f.before is_longer.0 faults_f.first (subst
+        BeginStatements is_longer.1 faults_g.begins)))
+    by_split (inr (inr is_longer)) =
+        absurd (faults_g.no_more (front_begins faults_g.before is_longer.0 faults_g.first (subst
+        BeginStatements is_longer.1 faults_f.begins)))
 
-same_statements : (ts : List Token) (a b : List Statement) → AreLongestStatements ts a
+longest_statements_equal : (ts : List Token) (a b : List Statement) → AreLongestStatements ts a
     → AreLongestStatements ts b → a ≡ b
-same_statements ts a b h k = sym (longest_unique ts a h) ∙ longest_unique ts b k
+longest_statements_equal ts a b is_longest_a is_longest_b = sym (longest_unique ts a is_longest_a)
+    ∙ longest_unique ts b is_longest_b
 
-end_unique : (len : ℕ) (ts : List Token) (f g : Fault) → FileEndFault len ts f
+file_end_fault_is_unique : (len : ℕ) (ts : List Token) (f g : Fault) → FileEndFault len ts f
     → FileEndFault len ts g → f ≡ g
-end_unique len ts f g s t = by_kinds s.code t.code
+file_end_fault_is_unique len ts f g faults_f faults_g = by_kinds faults_f.code faults_g.code
   where
-    same_rest : s.are_statements.rest ≡ t.are_statements.rest
-    same_rest =
+    rests_equal : faults_f.are_statements.rest ≡ faults_g.are_statements.rest
+    rests_equal =
         append_cancel_left
-        (flat_map spelling_of t.statements) s.are_statements.rest t.are_statements.rest
-        (sym (subst (λ r. ts ≡ flat_map spelling_of r ++ s.are_statements.rest)
-        (same_statements ts s.statements t.statements s.are_statements t.are_statements)
-        s.are_statements.splits)
-        ∙ t.are_statements.splits)
+        (flat_map spelling_of faults_g.statements) faults_f.are_statements.rest
+        faults_g.are_statements.rest
+        (sym (subst (λ r. ts ≡ flat_map spelling_of r ++ faults_f.are_statements.rest)
+        (longest_statements_equal ts faults_f.statements faults_g.statements faults_f.are_statements
+        faults_g.are_statements)
+        faults_f.are_statements.splits)
+        ∙ faults_g.are_statements.splits)
 
-    by_kinds : ((s.are_statements.rest ≢ []) × (f ≡ fault len OpenStatement))
-        ⊎ ((s.are_statements.rest ≡ [])
-        × (count_by is_closing s.statements < count_by is_opening s.statements)
+    by_kinds : ((faults_f.are_statements.rest ≢ []) × (f ≡ fault len OpenStatement))
+        ⊎ ((faults_f.are_statements.rest ≡ [])
+        × (count_by is_closing faults_f.statements < count_by is_opening faults_f.statements)
         × (f ≡ fault len OpenBlock))
-        → ((t.are_statements.rest ≢ []) × (g ≡ fault len OpenStatement))
-        ⊎ ((t.are_statements.rest ≡ [])
-        × (count_by is_closing t.statements < count_by is_opening t.statements)
+        → ((faults_g.are_statements.rest ≢ []) × (g ≡ fault len OpenStatement))
+        ⊎ ((faults_g.are_statements.rest ≡ [])
+        × (count_by is_closing faults_g.statements < count_by is_opening faults_g.statements)
         × (g ≡ fault len OpenBlock))
         → f ≡ g
-    by_kinds (inl h) (inl k) = h.1 ∙ sym k.1
-    by_kinds (inl h) (inr k) = absurd (h.0 (same_rest ∙ k.0))
-    by_kinds (inr h) (inl k) = absurd (k.0 (sym same_rest ∙ h.0))
-    by_kinds (inr h) (inr k) = h.2 ∙ sym k.2
+    by_kinds (inl code_of_f) (inl code_of_g) = code_of_f.1 ∙ sym code_of_g.1
+    by_kinds (inl code_of_f) (inr code_of_g) = absurd (code_of_f.0 (rests_equal ∙ code_of_g.0))
+    by_kinds (inr code_of_f) (inl code_of_g) = absurd (code_of_g.0 (sym rests_equal ∙ code_of_f.0))
+    by_kinds (inr code_of_f) (inr code_of_g) = code_of_f.2 ∙ sym code_of_g.2
 
-text_fault_unique : (len : ℕ) (ts : List Token) (o : Option Fault) (f g : Fault)
+text_fault_is_unique : (len : ℕ) (ts : List Token) (o : Option Fault) (f g : Fault)
     → TextFault len (record { tokens = ts; fault = o }) f
     → TextFault len (record { tokens = ts; fault = o }) g → f ≡ g
-text_fault_unique len ts o f g (inl h) (inl k) = shape_unique ts f g h k
-text_fault_unique len ts o f g (inl h) (inr k) = absurd (k.0 (f, h))
-text_fault_unique len ts o f g (inr h) (inl k) = absurd (h.0 (g, k))
-text_fault_unique len ts (Some e) f g (inr h) (inr k) = h.1 ∙ sym k.1
-text_fault_unique len ts None f g (inr h) (inr k) = end_unique len ts f g h.1 k.1
+text_fault_is_unique len ts o f g (inl faults_f) (inl faults_g) = shape_fault_is_unique ts f g
+    faults_f faults_g
+text_fault_is_unique len ts o f g (inl faults_f) (inr faults_g) = absurd (faults_g.0 (f, faults_f))
+text_fault_is_unique len ts o f g (inr faults_f) (inl faults_g) = absurd (faults_f.0 (g, faults_g))
+text_fault_is_unique len ts (Some e) f g (inr faults_f) (inr faults_g) = faults_f.1 ∙ sym faults_g.1
+text_fault_is_unique len ts None f g (inr faults_f) (inr faults_g) = file_end_fault_is_unique len ts
+    f g faults_f.1 faults_g.1
 
 -- ---- what is read
 
@@ -334,64 +402,92 @@ Fronts {X} xs us ys vs =
 
 fronts_of : {X : Type 0} (xs ys us vs : List X) → xs ++ us ≡ ys ++ vs → Fronts xs us ys vs
 unfolding head_or tail_of
-fronts_of [] [] us vs e = inl (refl, e)
-fronts_of [] (b ∷ ys) us vs e = inr (inl (b, ys ++ vs, e, omega arith))
-fronts_of (a ∷ xs) [] us vs e = inr (inr (a, xs ++ us, sym e, omega arith))
-fronts_of (a ∷ xs) (b ∷ ys) us vs e = with_first (fronts_of xs ys us vs (ap tail_of e))
+fronts_of [] [] us vs lists_equal = inl (refl, lists_equal)
+fronts_of [] (b ∷ ys) us vs lists_equal = inr (inl (b, ys ++ vs, lists_equal, omega arith))
+fronts_of (a ∷ xs) [] us vs lists_equal = inr (inr (a, xs ++ us, sym lists_equal, omega arith))
+fronts_of (a ∷ xs) (b ∷ ys) us vs lists_equal = with_first (fronts_of xs ys us vs (ap tail_of
+    lists_equal))
   where
-    same_first : a ≡ b
-    same_first = ap (head_or a) e
+    heads_equal : a ≡ b
+    heads_equal = ap (head_or a) lists_equal
 
     with_first : Fronts xs us ys vs → Fronts (a ∷ xs) us (b ∷ ys) vs
-    with_first (inl h) = inl (ap₂ (λ p q. p ∷ q) same_first h.0, h.1)
-    with_first (inr (inl h)) = let l = h.3 in inr (inl (h.0, h.1, h.2, omega (arith, l)))
-    with_first (inr (inr h)) = let l = h.3 in inr (inr (h.0, h.1, h.2, omega (arith, l)))
-
-stops_unique : (len : ℕ) (x : LexedText) (statements db rest : List Statement) (f g : Option Fault)
-    → StopsReading len x statements db rest f → StopsReading len x statements db rest g → f ≡ g
-stops_unique len x statements db (s ∷ rest) f g h k = sym h.1 ∙ k.1
-stops_unique len x statements db [] None None h k = refl
-stops_unique len x statements db [] None (Some g) h k = absurd (h g k)
-stops_unique len x statements db [] (Some f) None h k = absurd (k f h)
-stops_unique len x statements db [] (Some f) (Some g) h k =
-    ap Some (text_fault_unique len x.tokens x.fault f g h k)
-
-not_shorter : (len : ℕ) (x : LexedText) (a b : List Statement) (f g : Option Fault)
-    → (h : IsRead len x a f) (k : IsRead len x b g) (s : Statement) (zs : List Statement)
-    → h.rest ≡ s ∷ zs → length a < length b → ⊥
-not_shorter len x a b f g h k s zs is lt =
-    let stop = subst (λ r. StopsReading len x h.statements a r f) is h.stops in
-    let statements = same_statements x.tokens h.statements k.statements h.are_statements
-    k.are_statements in
-    stop.0 (sym stop.1 ∙ ap (λ r. scope_fault r (length a)) statements ∙ k.lawful (length a) lt)
-
-read_unique : (len : ℕ) (x : LexedText) (a b : List Statement) (f g : Option Fault)
-    → IsRead len x a f → IsRead len x b g → (a ≡ b) × (f ≡ g)
-read_unique len x a b f g h k =
-    by_front (fronts_of a b h.rest k.rest
-    (sym h.splits ∙ same_statements x.tokens h.statements k.statements h.are_statements
-    k.are_statements ∙ k.splits))
-  where
-    by_front : Fronts a h.rest b k.rest → (a ≡ b) × (f ≡ g)
-    by_front (inl e) = (
-      e.0,
-      stops_unique len x k.statements b k.rest f g
-          (subst (λ r. StopsReading len x r b k.rest f)
-          (same_statements x.tokens h.statements k.statements h.are_statements k.are_statements)
-          (subst (λ r. StopsReading len x h.statements b r f) e.1
-          (subst (λ d. StopsReading len x h.statements d h.rest f) e.0 h.stops)))
-          k.stops,
+    with_first (inl fronts_equal) = inl (
+      ap₂ (λ p q. p ∷ q) heads_equal fronts_equal.0,
+      fronts_equal.1,
     )
-    by_front (inr (inl l)) = absurd (not_shorter len x a b f g h k l.0 l.1 l.2 l.3)
-    by_front (inr (inr l)) = absurd (not_shorter len x b a g f k h l.0 l.1 l.2 l.3)
+    with_first (inr (inl is_longer)) = let lengths_lt = is_longer.3 in inr (inl (
+      is_longer.0,
+      is_longer.1,
+      is_longer.2,
+      omega (arith, lengths_lt),
+    ))
+    with_first (inr (inr is_longer)) = let lengths_lt = is_longer.3 in inr (inr (
+      is_longer.0,
+      is_longer.1,
+      is_longer.2,
+      omega (arith, lengths_lt),
+    ))
+
+stopping_fault_is_unique : (len : ℕ) (x : LexedText) (statements db later : List Statement) (f g :
+    Option Fault)
+    → StopsReading len x statements db later f → StopsReading len x statements db later g → f ≡ g
+stopping_fault_is_unique len x statements db (s ∷ later) f g stops_with_f stops_with_g = sym
+    stops_with_f.1 ∙ stops_with_g.1
+stopping_fault_is_unique len x statements db [] None None stops_with_f stops_with_g = refl
+stopping_fault_is_unique len x statements db [] None (Some g) stops_with_f stops_with_g = absurd
+    (stops_with_f g stops_with_g)
+stopping_fault_is_unique len x statements db [] (Some f) None stops_with_f stops_with_g = absurd
+    (stops_with_g f stops_with_f)
+stopping_fault_is_unique len x statements db [] (Some f) (Some g) stops_with_f stops_with_g =
+    ap Some (text_fault_is_unique len x.tokens x.fault f g stops_with_f stops_with_g)
+
+no_reading_is_shorter : (len : ℕ) (x : LexedText) (a b : List Statement) (f g : Option Fault)
+    → (reads_a : IsRead len x a f) (reads_b : IsRead len x b g) (s : Statement) (zs : List
+    Statement)
+    → reads_a.rest ≡ s ∷ zs → length a < length b → ⊥
+no_reading_is_shorter len x a b f g reads_a reads_b s zs rest_is a_lt_b =
+    let stops_at_s = subst (λ r. StopsReading len x reads_a.statements a r f) rest_is reads_a.stops
+    in
+    let statements_equal = longest_statements_equal x.tokens reads_a.statements reads_b.statements
+    reads_a.are_statements
+    reads_b.are_statements in
+    stops_at_s.0 (sym stops_at_s.1 ∙ ap (λ r. scope_fault r (length a)) statements_equal
+    ∙ reads_b.lawful (length a) a_lt_b)
+
+reading_is_unique : (len : ℕ) (x : LexedText) (a b : List Statement) (f g : Option Fault)
+    → IsRead len x a f → IsRead len x b g → (a ≡ b) × (f ≡ g)
+reading_is_unique len x a b f g reads_a reads_b =
+    by_front (fronts_of a b reads_a.rest reads_b.rest
+    (sym reads_a.splits ∙ longest_statements_equal x.tokens reads_a.statements reads_b.statements
+    reads_a.are_statements
+    reads_b.are_statements ∙ reads_b.splits))
+  where
+    by_front : Fronts a reads_a.rest b reads_b.rest → (a ≡ b) × (f ≡ g)
+    by_front (inl fronts_equal) = (
+      fronts_equal.0,
+      stopping_fault_is_unique len x reads_b.statements b reads_b.rest f g
+          (subst (λ r. StopsReading len x r b reads_b.rest f)
+          (longest_statements_equal x.tokens reads_a.statements reads_b.statements
+          reads_a.are_statements reads_b.are_statements)
+          (subst (λ r. StopsReading len x reads_a.statements b r f) fronts_equal.1
+          (subst (λ d. StopsReading len x reads_a.statements d reads_a.rest f) fronts_equal.0
+          reads_a.stops)))
+          reads_b.stops,
+    )
+    by_front (inr (inl is_shorter)) = absurd (no_reading_is_shorter len x a b f g reads_a reads_b
+        is_shorter.0 is_shorter.1 is_shorter.2 is_shorter.3)
+    by_front (inr (inr is_shorter)) = absurd (no_reading_is_shorter len x b a g f reads_b reads_a
+        is_shorter.0 is_shorter.1 is_shorter.2 is_shorter.3)
 
 -- ---- the output
 
-theorem_is_within : (db : List Statement) (k : ℕ) → IsTrue (is_theorem_at db k) → k < length db
-theorem_is_within [] zero h = let no : false ≡ true = h in cc
-theorem_is_within [] (suc k) h = let no : false ≡ true = h in cc
-theorem_is_within (s ∷ db) zero h = omega arith
-theorem_is_within (s ∷ db) (suc k) h = let l = theorem_is_within db k h in omega (arith, l)
+theorem_lt_length : (db : List Statement) (k : ℕ) → IsTrue (is_theorem_at db k) → k < length db
+theorem_lt_length [] zero is_theorem_k = let false_is_true : false ≡ true = is_theorem_k in cc
+theorem_lt_length [] (suc k) is_theorem_k = let false_is_true : false ≡ true = is_theorem_k in cc
+theorem_lt_length (s ∷ db) zero is_theorem_k = omega arith
+theorem_lt_length (s ∷ db) (suc k) is_theorem_k = let k_lt_length = theorem_lt_length db k
+    is_theorem_k in omega (arith, k_lt_length)
 
 module _ (len : ℕ) (x : LexedText) (with_open : Bool) where
   IsCauseOf : List Statement → Option Fault → Fault → Type 0
@@ -399,70 +495,85 @@ module _ (len : ℕ) (x : LexedText) (with_open : Bool) where
       ((k : ℕ) × FirstProofFault (counted with_open db) k f)
       ⊎ (AllAreValid (counted with_open db) × (o ≡ Some f))
 
-  complete : (db : List Statement) (o : Option Fault) → IsRead len x db o
+  are_complete : (db : List Statement) (o : Option Fault) → IsRead len x db o
       → AreComplete (counted with_open db)
-  complete db o r = counted_complete with_open db (reads_complete len x db o r)
+  are_complete db o is_read = counted_complete with_open db (reads_complete len x db o is_read)
 
   -- a proof with a fault is not valid
   fault_or_all_valid : (db : List Statement) (o : Option Fault) → IsRead len x db o
       → (k : ℕ) (f : Fault)
       → FirstProofFault (counted with_open db) k f → AllAreValid (counted with_open db) → ⊥
-  fault_or_all_valid db o r k f a v =
+  fault_or_all_valid db o is_read k f is_first are_valid =
       let statements = counted with_open db in
-      valid_no_fault statements (complete db o r) k (proof_end (slice_get statements k)) f
-      (v k (theorem_is_within statements k a.0) a.0) a.2
+      valid_has_no_fault statements (are_complete db o is_read) k (proof_end (slice_get statements
+      k)) f
+      (are_valid k (theorem_lt_length statements k is_first.0) is_first.0) is_first.2
 
-  first_fault_unique : (f g : Fault) → FirstFault len x with_open f → FirstFault len x with_open g
+  first_fault_is_unique : (f g : Fault) → FirstFault len x with_open f
+      → FirstFault len x with_open g
       → f ≡ g
   unfolding IsCauseOf
-  first_fault_unique f g h k =
-      let same = read_unique len x h.0 k.0 h.1 k.1 h.2 k.2 in
+  first_fault_is_unique f g faults_f faults_g =
+      let readings_equal = reading_is_unique len x faults_f.0 faults_g.0 faults_f.1 faults_g.1
+      faults_f.2 faults_g.2 in
       by_causes
-      (subst (λ d. IsCauseOf d k.1 f) same.0 (subst (λ o. IsCauseOf h.0 o f) same.1 h.3)) k.3
+      (subst (λ d. IsCauseOf d faults_g.1 f) readings_equal.0 (subst (λ o. IsCauseOf faults_f.0 o f)
+      readings_equal.1 faults_f.3)) faults_g.3
     where
-      by_causes : IsCauseOf k.0 k.1 f → IsCauseOf k.0 k.1 g → f ≡ g
-      by_causes (inl a) (inl b) =
-          first_proof_unique (counted with_open k.0) (complete k.0 k.1 k.2) a.0 b.0 f g a.1 b.1
-      by_causes (inl a) (inr b) = absurd (fault_or_all_valid k.0 k.1 k.2 a.0 f a.1 b.0)
-      by_causes (inr a) (inl b) = absurd (fault_or_all_valid k.0 k.1 k.2 b.0 g b.1 a.0)
-      by_causes (inr a) (inr b) = let e : Some f ≡ Some g = sym a.1 ∙ b.1 in cc
+      by_causes : IsCauseOf faults_g.0 faults_g.1 f → IsCauseOf faults_g.0 faults_g.1 g → f ≡ g
+      by_causes (inl causes_f) (inl causes_g) =
+          first_proof_fault_is_unique (counted with_open faults_g.0) (are_complete faults_g.0
+          faults_g.1 faults_g.2) causes_f.0 causes_g.0 f g causes_f.1 causes_g.1
+      by_causes (inl causes_f) (inr causes_g) = absurd (fault_or_all_valid faults_g.0 faults_g.1
+          faults_g.2 causes_f.0 f causes_f.1 causes_g.0)
+      by_causes (inr causes_f) (inl causes_g) = absurd (fault_or_all_valid faults_g.0 faults_g.1
+          faults_g.2 causes_g.0 g causes_g.1 causes_f.0)
+      by_causes (inr causes_f) (inr causes_g) = let options_equal : Some f
+          ≡ Some g = sym causes_f.1 ∙ causes_g.1 in cc
 
   fault_or_none : (f : Fault) (db : List Statement) → FirstFault len x with_open f
       → HasNoFault len x with_open db → ⊥
   unfolding IsCauseOf
-  fault_or_none f db h k =
-      let same = read_unique len x h.0 db h.1 None h.2 k.0 in
-      by_cause (subst (λ d. IsCauseOf d None f) same.0 (subst (λ o. IsCauseOf h.0 o f) same.1 h.3))
+  fault_or_none f db has_fault has_none =
+      let readings_equal = reading_is_unique len x has_fault.0 db has_fault.1 None has_fault.2
+      has_none.0 in
+      by_cause (subst (λ d. IsCauseOf d None f) readings_equal.0 (subst (λ o. IsCauseOf has_fault.0
+      o f) readings_equal.1 has_fault.3))
     where
       by_cause : IsCauseOf db None f → ⊥
-      by_cause (inl a) = fault_or_all_valid db None k.0 a.0 f a.1 k.1
-      by_cause (inr a) = let e : None ≡ Some f = a.1 in cc
+      by_cause (inl is_cause) = fault_or_all_valid db None has_none.0 is_cause.0 f is_cause.1
+          has_none.1
+      by_cause (inr is_cause) = let none_is_some : None ≡ Some f = is_cause.1 in cc
 
 -- ---- rows of citations
 
-cited_unique : (db : List Statement) (request : Request) (t : ℕ) (a b : List ℕ)
+cited_list_is_unique : (db : List Statement) (request : Request) (t : ℕ) (a b : List ℕ)
     → AreCited db request t a → AreCited db request t b → a ≡ b
-cited_unique db request t a b h k =
-    same_list a b h.rising k.rising
-    (λ x. same_from_decides (is_member a x) (is_member b x) (h.cited x) (k.cited x))
+cited_list_is_unique db request t a b are_cited_a are_cited_b =
+    equal_if_same_members a b are_cited_a.rising are_cited_b.rising
+    (λ x. same_from_decides (is_member a x) (is_member b x) (are_cited_a.cited x) (are_cited_b.cited
+    x))
 
-citing_unique : (db : List Statement) (request : Request) (t : ℕ) (r s : CitingRow)
+citing_row_is_unique : (db : List Statement) (request : Request) (t : ℕ) (r s : CitingRow)
     → IsCitingRowOf db request t r → IsCitingRowOf db request t s → r ≡ s
-citing_unique db request t r s h k =
-    ap₂ (λ (l : Bytes) (m : List Bytes). record { label = l; cited = m }) (h.0 ∙ sym k.0)
-    (h.1.2 ∙ ap (map (label_at db)) (cited_unique db request t h.1.0 k.1.0 h.1.1 k.1.1)
-    ∙ sym k.1.2)
+citing_row_is_unique db request t r s is_row_r is_row_s =
+    ap₂ (λ (l : Bytes) (m : List Bytes). record { label = l; cited = m }) (is_row_r.0
+    ∙ sym is_row_s.0)
+    (is_row_r.1.2 ∙ ap (map (label_at db)) (cited_list_is_unique db request t is_row_r.1.0
+    is_row_s.1.0 is_row_r.1.1 is_row_s.1.1)
+    ∙ sym is_row_s.1.2)
 
-all_citing_unique : (db : List Statement) (request : Request) (ts : List ℕ) (a b : List CitingRow)
+citing_rows_are_unique : (db : List Statement) (request : Request) (ts : List ℕ) (a b : List
+    CitingRow)
     → AllZip (IsCitingRowOf db request) ts a → AllZip (IsCitingRowOf db request) ts b → a ≡ b
-all_citing_unique db request [] [] [] h k = refl
-all_citing_unique db request [] [] (y ∷ b) h k = absurd k
-all_citing_unique db request [] (x ∷ a) b h k = absurd h
-all_citing_unique db request (n ∷ ts) [] b h k = absurd h
-all_citing_unique db request (n ∷ ts) (x ∷ a) [] h k = absurd k
-all_citing_unique db request (n ∷ ts) (x ∷ a) (y ∷ b) h k =
-    ap₂ (λ p q. p ∷ q) (citing_unique db request n x y h.0 k.0)
-    (all_citing_unique db request ts a b h.1 k.1)
+citing_rows_are_unique db request [] [] [] are_rows_a are_rows_b = refl
+citing_rows_are_unique db request [] [] (y ∷ b) are_rows_a are_rows_b = absurd are_rows_b
+citing_rows_are_unique db request [] (x ∷ a) b are_rows_a are_rows_b = absurd are_rows_a
+citing_rows_are_unique db request (n ∷ ts) [] b are_rows_a are_rows_b = absurd are_rows_a
+citing_rows_are_unique db request (n ∷ ts) (x ∷ a) [] are_rows_a are_rows_b = absurd are_rows_b
+citing_rows_are_unique db request (n ∷ ts) (x ∷ a) (y ∷ b) are_rows_a are_rows_b =
+    ap₂ (λ p q. p ∷ q) (citing_row_is_unique db request n x y are_rows_a.0 are_rows_b.0)
+    (citing_rows_are_unique db request ts a b are_rows_a.1 are_rows_b.1)
 
 -- the report requested with these rows
 abbrev report_of_rows : List Statement → Option ℕ → Request → List Row → List ℕ
@@ -470,45 +581,55 @@ report_of_rows db opened request rows =
     report request opened (map (label_at db) (columns db request.only)) rows
 
 -- a database has one report
-report_unique : (db : List Statement) (opened : Option ℕ) (request : Request) (choice : Choice)
+report_is_unique : (db : List Statement) (opened : Option ℕ) (request : Request) (choice : Choice)
     → (a b : List ℕ)
     → IsReportOf choice db opened request a → IsReportOf choice db opened request b → a ≡ b
-report_unique db opened request Citations a b h k =
-    h.2 ∙ ap (citation_report request opened (length (columns db request.only)))
-    (all_citing_unique db request (theorems db) h.0 k.0 h.1 k.1)
-    ∙ sym k.2
-report_unique db opened request All a b h k =
-    h.2 ∙ ap (report_of_rows db opened request)
-    (rows_unique db request (theorems db) h.0 k.0 h.1 k.1)
-    ∙ sym k.2
-report_unique db opened request Matrix a b h k =
-    h.2 ∙ ap (report_of_rows db opened request)
-    (rows_unique db request (theorems db) h.0 k.0 h.1 k.1)
-    ∙ sym k.2
-report_unique db opened request Counts a b h k =
-    h.2 ∙ ap (report_of_rows db opened request)
-    (rows_unique db request (theorems db) h.0 k.0 h.1 k.1)
-    ∙ sym k.2
-report_unique db opened request Usage a b h k =
-    h.2 ∙ ap (report_of_rows db opened request)
-    (rows_unique db request (theorems db) h.0 k.0 h.1 k.1)
-    ∙ sym k.2
+report_is_unique db opened request Citations a b is_report_a is_report_b =
+    is_report_a.2 ∙ ap (citation_report request opened (length (columns db request.only)))
+    (citing_rows_are_unique db request (theorems db) is_report_a.0 is_report_b.0 is_report_a.1
+    is_report_b.1)
+    ∙ sym is_report_b.2
+report_is_unique db opened request All a b is_report_a is_report_b =
+    is_report_a.2 ∙ ap (report_of_rows db opened request)
+    (rows_are_unique db request (theorems db) is_report_a.0 is_report_b.0 is_report_a.1
+    is_report_b.1)
+    ∙ sym is_report_b.2
+report_is_unique db opened request Matrix a b is_report_a is_report_b =
+    is_report_a.2 ∙ ap (report_of_rows db opened request)
+    (rows_are_unique db request (theorems db) is_report_a.0 is_report_b.0 is_report_a.1
+    is_report_b.1)
+    ∙ sym is_report_b.2
+report_is_unique db opened request Counts a b is_report_a is_report_b =
+    is_report_a.2 ∙ ap (report_of_rows db opened request)
+    (rows_are_unique db request (theorems db) is_report_a.0 is_report_b.0 is_report_a.1
+    is_report_b.1)
+    ∙ sym is_report_b.2
+report_is_unique db opened request Usage a b is_report_a is_report_b =
+    is_report_a.2 ∙ ap (report_of_rows db opened request)
+    (rows_are_unique db request (theorems db) is_report_a.0 is_report_b.0 is_report_a.1
+    is_report_b.1)
+    ∙ sym is_report_b.2
 
 -- there is one output
-pub output_unique : (text : List ℕ) (request : Request) (a b : List ℕ) → IsOutput text request a
+pub output_is_unique_for_text : (text : List ℕ) (request : Request) (a b : List ℕ)
+    → IsOutput text request a
     → IsOutput text request b → a ≡ b
-output_unique text request a b (inl h) (inl k) =
-    h.2 ∙ ap (refusal text)
-    (first_fault_unique (length text) (lexed_of text) request.with_open h.0 k.0 h.1 k.1)
-    ∙ sym k.2
-output_unique text request a b (inl h) (inr k) =
-    absurd (fault_or_none (length text) (lexed_of text) request.with_open h.0 k.0 h.1 k.1)
-output_unique text request a b (inr h) (inl k) =
-    absurd (fault_or_none (length text) (lexed_of text) request.with_open k.0 h.0 k.1 h.1)
-output_unique text request a b (inr h) (inr k) =
-    let db : h.0 ≡ k.0 =
-    (read_unique (length text) (lexed_of text) h.0 k.0 None None h.1.0 k.1.0).0 in
-    report_unique (counted request.with_open k.0)
-    (open_columns k.0 request) request request.choice a b
+output_is_unique_for_text text request a b (inl is_output_a) (inl is_output_b) =
+    is_output_a.2 ∙ ap (refusal text)
+    (first_fault_is_unique (length text) (lexed_of text) request.with_open is_output_a.0
+    is_output_b.0 is_output_a.1 is_output_b.1)
+    ∙ sym is_output_b.2
+output_is_unique_for_text text request a b (inl is_output_a) (inr is_output_b) =
+    absurd (fault_or_none (length text) (lexed_of text) request.with_open is_output_a.0
+    is_output_b.0 is_output_a.1 is_output_b.1)
+output_is_unique_for_text text request a b (inr is_output_a) (inl is_output_b) =
+    absurd (fault_or_none (length text) (lexed_of text) request.with_open is_output_b.0
+    is_output_a.0 is_output_b.1 is_output_a.1)
+output_is_unique_for_text text request a b (inr is_output_a) (inr is_output_b) =
+    let databases_equal : is_output_a.0 ≡ is_output_b.0 =
+    (reading_is_unique (length text) (lexed_of text) is_output_a.0 is_output_b.0 None None
+    is_output_a.1.0 is_output_b.1.0).0 in
+    report_is_unique (counted request.with_open is_output_b.0)
+    (open_columns is_output_b.0 request) request request.choice a b
     (subst (λ d. IsReportOf request.choice (counted request.with_open d)
-    (open_columns d request) request a) db h.2) k.2
+    (open_columns d request) request a) databases_equal is_output_a.2) is_output_b.2

@@ -24,14 +24,14 @@ before_fault = constants 0 (token 3 (codes "a") ∷ []) 5 ∷ opening 8 ∷ []
 
 before_fault_lawful : (k : ℕ) → k < 2 → scope_fault (statements faulty) k ≡ None
 unfolding statements
-before_fault_lawful zero h = refl
-before_fault_lawful (suc zero) h = refl
-before_fault_lawful (suc (suc k)) h = absurd (omega arith)
+before_fault_lawful zero k_lt_2 = refl
+before_fault_lawful (suc zero) k_lt_2 = refl
+before_fault_lawful (suc (suc k)) k_lt_2 = absurd (omega arith)
 
 front_valid : AreValid before_fault 2
-front_valid zero h t = absurd (true≢false (sym t))
-front_valid (suc zero) h t = absurd (true≢false (sym t))
-front_valid (suc (suc k)) h t = absurd (omega arith)
+front_valid zero k_lt_2 is_theorem = absurd (true≢false (sym is_theorem))
+front_valid (suc zero) k_lt_2 is_theorem = absurd (true≢false (sym is_theorem))
+front_valid (suc (suc k)) k_lt_2 is_theorem = absurd (omega arith)
 
 front_read : IsRead 21 (lexed_of faulty) before_fault (Some (fault 11 ConstantInBlock))
 unfolding statements
@@ -64,14 +64,14 @@ db =
     ∷ axiomatic (token 8 (codes "ax")) 11 (token 14 (codes "a") ∷ []) 16 ∷ []
 
 db_lawful : (k : ℕ) → k < 2 → scope_fault db k ≡ None
-db_lawful zero h = refl
-db_lawful (suc zero) h = refl
-db_lawful (suc (suc k)) h = absurd (omega arith)
+db_lawful zero k_lt_2 = refl
+db_lawful (suc zero) k_lt_2 = refl
+db_lawful (suc (suc k)) k_lt_2 = absurd (omega arith)
 
 db_valid : AreValid db 2
-db_valid zero h t = absurd (true≢false (sym t))
-db_valid (suc zero) h t = absurd (true≢false (sym t))
-db_valid (suc (suc k)) h t = absurd (omega arith)
+db_valid zero k_lt_2 is_theorem = absurd (true≢false (sym is_theorem))
+db_valid (suc zero) k_lt_2 is_theorem = absurd (true≢false (sym is_theorem))
+db_valid (suc (suc k)) k_lt_2 is_theorem = absurd (omega arith)
 
 db_read : IsRead 18 (lexed_of sound) db None
 unfolding statements

@@ -12,17 +12,21 @@ use Rattle.mm_spec.proofs.LocalLaw.{scope_fault_front}
 use Rattle.mm_spec.proofs.OpenedLaw.{counted_complete}
 
 -- a law of the statements as they count is one of the statements as they were read
-pub as_read : (P : List Statement → ℕ → Type 0) → WhereRead P → (len : ℕ) (x : LexedText)
+pub law_as_read : (P : List Statement → ℕ → Type 0) → WhereRead P → (len : ℕ) (x : LexedText)
     → (db : List Statement) (fault : Option Fault) → IsRead len x db fault → (k : ℕ) → P db k
-as_read P h len x db fault r = h len x db fault r false
+law_as_read P holds_where_read len x db fault is_read = holds_where_read len x db fault is_read
+    false
 
 -- each statement that was read is lawful
-pub lawful_read : (len : ℕ) (x : LexedText) (db : List Statement) (fault : Option Fault)
+pub read_statements_are_lawful : (len : ℕ) (x : LexedText) (db : List Statement) (fault : Option
+    Fault)
     → IsRead len x db fault → (k : ℕ) → k < length db → IsLawful db k
-lawful_read len x db fault r k h =
-    sym (scope_fault_front db r.rest k h) ∙ ap (λ list. scope_fault list k) (sym r.splits)
-    ∙ r.lawful k h
+read_statements_are_lawful len x db fault is_read k k_lt_length =
+    sym (scope_fault_front db is_read.rest k k_lt_length) ∙ ap (λ list. scope_fault list k) (sym
+    is_read.splits)
+    ∙ is_read.lawful k k_lt_length
 
 -- frames are complete
-pub frames_complete : WhereRead FramesAreComplete
-frames_complete len x db fault r w = counted_complete w db (reads_complete len x db fault r)
+pub frames_are_complete : WhereRead FramesAreComplete
+frames_are_complete len x db fault is_read with_open = counted_complete with_open db (reads_complete
+    len x db fault is_read)

@@ -26,152 +26,196 @@ use Rattle.mm_spec.proofs.NodesLaw.{node_labels, node_labels_are}
 
 -- ---- what is decided
 
-and_decided : (P Q : Type 0) → IsDecided P → IsDecided Q → IsDecided (P × Q)
-and_decided P Q h k = (h.0 && k.0, Decides-and h.0 k.0 h.1 k.1)
+and_is_decided : (P Q : Type 0) → IsDecided P → IsDecided Q → IsDecided (P × Q)
+and_is_decided P Q P_is_decided Q_is_decided = (
+  P_is_decided.0 && Q_is_decided.0,
+  Decides-and
+      P_is_decided.0 Q_is_decided.0 P_is_decided.1 Q_is_decided.1,
+)
 
-or_decided : (P Q : Type 0) → IsDecided P → IsDecided Q → IsDecided (P ⊎ Q)
-or_decided P Q h k = (h.0 || k.0, Decides-or h.0 k.0 h.1 k.1)
+or_is_decided : (P Q : Type 0) → IsDecided P → IsDecided Q → IsDecided (P ⊎ Q)
+or_is_decided P Q P_is_decided Q_is_decided = (
+  P_is_decided.0 || Q_is_decided.0,
+  Decides-or
+      P_is_decided.0 Q_is_decided.0 P_is_decided.1 Q_is_decided.1,
+)
 
-alike_decided : (P Q : Type 0) → (P → Q) → (Q → P) → IsDecided P → IsDecided Q
-alike_decided P Q f g h = (h.0, Decides-like h.0 f g h.1)
+equivalent_is_decided : (P Q : Type 0) → (P → Q) → (Q → P) → IsDecided P → IsDecided Q
+equivalent_is_decided P Q Q_if_P P_if_Q P_is_decided = (
+  P_is_decided.0,
+  Decides-like P_is_decided.0
+      Q_if_P P_if_Q P_is_decided.1,
+)
 
 -- whether a number below n has it
-some_below : (P : ℕ → Type 0) (n : ℕ) → ((b : ℕ) → b < n → IsDecided (P b))
+exists_below_is_decided : (P : ℕ → Type 0) (n : ℕ) → ((b : ℕ) → b < n → IsDecided (P b))
     → IsDecided ((b : ℕ) × (b < n) × P b)
-some_below P zero each =
-    (false, ((λ e. absurd (true≢false (sym e))), λ h. let l = h.1 in absurd (omega (arith, l))))
-some_below P (suc n) each =
-    alike_decided (P n ⊎ ((b : ℕ) × (b < n) × P b)) ((b : ℕ) × (b < suc n) × P b) below_next
-    (λ h. last_or_below h.0 h.1 h.2 (cases_eq h.0 n))
-    (or_decided (P n) ((b : ℕ) × (b < n) × P b) (each n (omega arith))
-    (some_below P n (λ b l. each b (omega arith))))
+exists_below_is_decided P zero each_is_decided = (
+  false,
+  (
+    (λ is_true. absurd (true≢false (sym is_true))),
+    λ exists. let b_lt_0 = exists.1 in
+        absurd (omega (arith, b_lt_0)),
+  ),
+)
+exists_below_is_decided P (suc n) each_is_decided =
+    equivalent_is_decided (P n ⊎ ((b : ℕ) × (b < n) × P b)) ((b : ℕ) × (b < suc n) × P b) below_next
+    (λ exists. last_or_below exists.0 exists.1 exists.2 (cases_eq exists.0 n))
+    (or_is_decided (P n) ((b : ℕ) × (b < n) × P b) (each_is_decided n (omega arith))
+    (exists_below_is_decided P n (λ b b_lt_n. each_is_decided b (omega arith))))
   where
     below_next : P n ⊎ ((b : ℕ) × (b < n) × P b) → (b : ℕ) × (b < suc n) × P b
-    below_next (inl h) = (n, omega arith, h)
-    below_next (inr h) = let l = h.1 in (h.0, omega (arith, l), h.2)
+    below_next (inl holds_at_n) = (n, omega arith, holds_at_n)
+    below_next (inr exists) = let b_lt_n = exists.1 in (exists.0, omega (arith, b_lt_n), exists.2)
 
     last_or_below : (b : ℕ) → b < suc n → P b → (b ≡ n) ⊎ (b ≡ n → ⊥)
         → P n ⊎ ((b : ℕ) × (b < n) × P b)
-    last_or_below b l h (inl e) = inl (subst P e h)
-    last_or_below b l h (inr ne) = inr (b, omega arith, h)
+    last_or_below b b_lt_suc_n holds_at_b (inl b_is_n) = inl (subst P b_is_n holds_at_b)
+    last_or_below b b_lt_suc_n holds_at_b (inr b_is_not_n) = inr (b, omega arith, holds_at_b)
 
 module _ (db : List Statement) (by_essential : Bool) (all_complete : AreComplete db)
-    (valid : AreValid db (length db)) where
-  pub cites_decided : (t a : ℕ) → IsDecided (Cites db by_essential t a)
-  cites_decided t a = by_is_theorem (is_theorem_at db t) refl
+    (are_valid : AreValid db (length db)) where
+  pub cites_is_decided : (t a : ℕ) → IsDecided (Cites db by_essential t a)
+  cites_is_decided t a = by_is_theorem (is_theorem_at db t) refl
     where
       if_valid : IsValid db t → IsDecided (Cites db by_essential t a)
-      if_valid v =
-          let listed = is_member (node_labels (child_counts db by_essential) each_root v.1) a in
-          let are = node_labels_are (child_counts db by_essential) each_root v.1 a in (
-            list_any is_assertion (statement_at db a) && listed,
+      if_valid is_valid =
+          let is_listed = is_member (node_labels (child_counts db by_essential) each_root
+          is_valid.1) a in
+          let labels_are = node_labels_are (child_counts db by_essential) each_root is_valid.1 a in (
+            list_any is_assertion (statement_at db a) && is_listed,
             (
-              (λ e. let p = and_parts (list_any is_assertion (statement_at db a)) listed e in
-                  (p.0, v.1, v.2, are.1 p.1)),
-              λ c. and_from (list_any is_assertion (statement_at db a)) listed c.0
-                  (are.0 (subst (λ e. IsNodeLabel db by_essential e a)
-                  (proof_unique db all_complete t c.1 v.1 c.2 v.2) c.3)),
+              (λ is_cited. let parts = and_parts (list_any is_assertion (statement_at db a))
+                  is_listed is_cited in
+                  (parts.0, is_valid.1, is_valid.2, labels_are.1 parts.1)),
+              λ cites_a. and_from (list_any is_assertion (statement_at db a)) is_listed cites_a.0
+                  (labels_are.0 (subst (λ d. IsNodeLabel db by_essential d a)
+                  (proof_unique db all_complete t cites_a.1 is_valid.1 cites_a.2 is_valid.2)
+                  cites_a.3)),
             ),
           )
 
       by_is_theorem : (b : Bool) → is_theorem_at db t ≡ b → IsDecided (Cites db by_essential t a)
-      by_is_theorem true e =
-          let f = passing_statement db is_theorem t e in
-          if_valid (valid t (inside_of db t f.0 f.1) e)
-      by_is_theorem false e = (
+      by_is_theorem true is_theorem_t =
+          let found = passing_statement db is_theorem t is_theorem_t in
+          if_valid (are_valid t (inside_of db t found.0 found.1) is_theorem_t)
+      by_is_theorem false not_theorem_t = (
         false,
         (
-          (λ h. absurd (true≢false (sym h))),
-          λ c. absurd
-              (true≢false (sym (proof_theorem db t c.1 c.2) ∙ e)),
+          (λ is_true. absurd (true≢false (sym is_true))),
+          λ cites_a. absurd
+              (true≢false (sym (proof_theorem db t cites_a.1 cites_a.2) ∙ not_theorem_t)),
         ),
       )
 
   -- citations go to what is earlier, so chains are decided from the first theorem on
-  rests_below : (n t : ℕ) → t < n → (a : ℕ) → IsDecided (RestsOn db by_essential t a)
-  rests_below zero t l a = absurd (omega arith)
-  rests_below (suc n) t l a =
-      alike_decided (Cites db by_essential t a
+  rests_on_is_decided_below : (n t : ℕ) → t < n → (a : ℕ) → IsDecided (RestsOn db by_essential t a)
+  rests_on_is_decided_below zero t t_lt_0 a = absurd (omega arith)
+  rests_on_is_decided_below (suc n) t t_lt_suc_n a =
+      equivalent_is_decided (Cites db by_essential t a
       ⊎ ((b : ℕ) × (b < t) × (Cites db by_essential t b × RestsOn db by_essential b a)))
       (RestsOn db by_essential t a) rests_if_below
-      (λ r. below_if_cited ((rests_step (Cites db by_essential) t a).0 r))
-      (or_decided (Cites db by_essential t a)
+      (λ rests_on. below_if_cited ((rests_step (Cites db by_essential) t a).0 rests_on))
+      (or_is_decided (Cites db by_essential t a)
       ((b : ℕ) × (b < t) × (Cites db by_essential t b × RestsOn db by_essential b a))
-      (cites_decided t a)
-      (some_below (λ b. Cites db by_essential t b × RestsOn db by_essential b a) t
-      (λ b m. and_decided (Cites db by_essential t b) (RestsOn db by_essential b a)
-      (cites_decided t b)
-      (rests_below n b (omega arith) a))))
+      (cites_is_decided t a)
+      (exists_below_is_decided (λ b. Cites db by_essential t b × RestsOn db by_essential b a) t
+      (λ b b_lt_t. and_is_decided (Cites db by_essential t b) (RestsOn db by_essential b a)
+      (cites_is_decided t b)
+      (rests_on_is_decided_below n b (omega arith) a))))
     where
       rests_if_below : Cites db by_essential t a
           ⊎ ((b : ℕ) × (b < t) × (Cites db by_essential t b × RestsOn db by_essential b a))
           → RestsOn db by_essential t a
-      rests_if_below (inl c) = (rests_step (Cites db by_essential) t a).1 (inl c)
-      rests_if_below (inr h) = (rests_step (Cites db by_essential) t a).1 (inr (h.0, h.2.0, h.2.1))
+      rests_if_below (inl cites_a) = (rests_step (Cites db by_essential) t a).1 (inl cites_a)
+      rests_if_below (inr cites_between) = (rests_step (Cites db by_essential) t a).1 (inr
+          (cites_between.0, cites_between.2.0, cites_between.2.1))
 
       below_if_cited : Cites db by_essential t a
           ⊎ ((b : ℕ) × Cites db by_essential t b × RestsOn db by_essential b a)
           → Cites db by_essential t a
           ⊎ ((b : ℕ) × (b < t) × (Cites db by_essential t b × RestsOn db by_essential b a))
-      below_if_cited (inl c) = inl c
-      below_if_cited (inr h) = inr (h.0, cites_earlier db by_essential t h.0 h.1, (h.1, h.2))
+      below_if_cited (inl cites_a) = inl cites_a
+      below_if_cited (inr cites_between) = inr (
+        cites_between.0,
+        cites_earlier db by_essential t
+            cites_between.0 cites_between.1,
+        (cites_between.1, cites_between.2),
+      )
 
-  pub rests_decided : (t a : ℕ) → IsDecided (RestsOn db by_essential t a)
-  rests_decided t a = rests_below (suc t) t (omega arith) a
+  pub rests_on_is_decided : (t a : ℕ) → IsDecided (RestsOn db by_essential t a)
+  rests_on_is_decided t a = rests_on_is_decided_below (suc t) t (omega arith) a
 
   -- ---- rows of marks
 
-  marks_of : (t : ℕ) (axioms : List ℕ)
+  decided_marks : (t : ℕ) (axioms : List ℕ)
       → (marks : List Bool)
       × AllZip (λ a mark. Decides mark (RestsOn db by_essential t a)) axioms marks
-  marks_of t [] = ([], tt)
-  marks_of t (a ∷ axioms) =
-      let first = rests_decided t a in
-      let rest = marks_of t axioms in
-      (first.0 ∷ rest.0, (first.1, rest.1))
+  decided_marks t [] = ([], tt)
+  decided_marks t (a ∷ axioms) =
+      let first_mark = rests_on_is_decided t a in
+      let later_marks = decided_marks t axioms in
+      (first_mark.0 ∷ later_marks.0, (first_mark.1, later_marks.1))
 
   -- ---- rows of citations
 
   abbrev IsListed : Option Bytes → ℕ → ℕ → Type 0
-  IsListed only t a =
-      Cites db by_essential t a × IsTrue (list_any (has_typecode only) (statement_at db a))
+  IsListed typecode t a =
+      Cites db by_essential t a × IsTrue (list_any (has_typecode typecode) (statement_at db a))
 
-  listed_decided : (only : Option Bytes) (t a : ℕ) → IsDecided (IsListed only t a)
-  listed_decided only t a =
-      and_decided (Cites db by_essential t a)
-      (IsTrue (list_any (has_typecode only) (statement_at db a)))
-      (cites_decided t a) (list_any (has_typecode only) (statement_at db a), ((λ e. e), λ e. e))
+  listed_is_decided : (typecode : Option Bytes) (t a : ℕ) → IsDecided (IsListed typecode t a)
+  listed_is_decided typecode t a =
+      and_is_decided (Cites db by_essential t a)
+      (IsTrue (list_any (has_typecode typecode) (statement_at db a)))
+      (cites_is_decided t a) (
+        list_any (has_typecode typecode) (statement_at db a),
+        (
+          (λ e. e),
+          λ e.
+              e,
+        ),
+      )
 
-  cited_list : (only : Option Bytes) (t : ℕ)
+  list_of_cited : (typecode : Option Bytes) (t : ℕ)
       → (list : List ℕ) × IsStrictlyIncreasing list
-      × ((a : ℕ) → Decides (is_member list a) (IsListed only t a))
-  cited_list only t =
-      let r = list_of (IsListed only t) (listed_decided only t) 0 t in (
-        r.0,
-        r.1.0,
+      × ((a : ℕ) → Decides (is_member list a) (IsListed typecode t a))
+  list_of_cited typecode t =
+      let list = list_of (IsListed typecode t) (listed_is_decided typecode t) 0 t in (
+        list.0,
+        list.1.0,
         λ a. (
-          (λ e. ((r.1.1 a).0 e).2),
-          λ h. (r.1.1 a).1
-              (omega arith, (let l = cites_earlier db by_essential t a h.0 in omega (arith, l)), h),
+          (λ is_member_a. ((list.1.1 a).0 is_member_a).2),
+          λ is_listed. (list.1.1 a).1 (
+            omega arith,
+            (let a_lt_t = cites_earlier db by_essential t a is_listed.0 in omega
+                (arith, a_lt_t)),
+            is_listed,
+          ),
         ),
       )
 
 pub citing_rows_of : (db : List Statement) (request : Request) → AreComplete db
     → AreValid db (length db) → (ts : List ℕ)
     → (rows : List CitingRow) × AllZip (IsCitingRowOf db request) ts rows
-citing_rows_of db request all_complete valid [] = ([], tt)
-citing_rows_of db request all_complete valid (t ∷ ts) =
-    let list = cited_list db request.essential all_complete valid request.only t in
-    let rest = citing_rows_of db request all_complete valid ts in (
+citing_rows_of db request all_complete are_valid [] = ([], tt)
+citing_rows_of db request all_complete are_valid (t ∷ ts) =
+    let list = list_of_cited db request.essential all_complete are_valid request.only t in
+    let later_rows = citing_rows_of db request all_complete are_valid ts in (
       record { label = label_at db t; cited = map (label_at db) list.0 }
-          ∷ rest.0,
-      ((refl, (list.0, record { rising = list.1; cited = list.2 }, refl)), rest.1),
+          ∷ later_rows.0,
+      ((refl, (list.0, record { rising = list.1; cited = list.2 }, refl)), later_rows.1),
     )
 
 pub rows_of : (db : List Statement) (request : Request) → AreComplete db → AreValid db (length db)
     → (ts : List ℕ) → (rows : List Row) × AllZip (IsRowOf db request) ts rows
-rows_of db request all_complete valid [] = ([], tt)
-rows_of db request all_complete valid (t ∷ ts) =
-    let marks = marks_of db request.essential all_complete valid t (columns db request.only) in
-    let rest = rows_of db request all_complete valid ts in
-    (record { label = label_at db t; marks = marks.0 } ∷ rest.0, ((refl, marks.1), rest.1))
+rows_of db request all_complete are_valid [] = ([], tt)
+rows_of db request all_complete are_valid (t ∷ ts) =
+    let marks = decided_marks db request.essential all_complete are_valid t (columns db
+    request.only) in
+    let later_rows = rows_of db request all_complete are_valid ts in (
+      record { label = label_at db t; marks = marks.0 } ∷ later_rows.0,
+      (
+        (refl, marks.1),
+        later_rows.1,
+      ),
+    )

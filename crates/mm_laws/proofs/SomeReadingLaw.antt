@@ -19,66 +19,69 @@ AreLawful list n = (k : ℕ) → k < n → scope_fault list k ≡ None
 lawful_up_to_next : (list : List Statement) (n : ℕ) → AreLawful list n → scope_fault list n ≡ None
     → (m : ℕ)
     → m ≡ n + 1 → AreLawful list m
-lawful_up_to_next list n h e m is k l = at_last_or_before (cases_lt k n)
+lawful_up_to_next list n are_lawful n_is_lawful m m_is k k_lt_m = at_last_or_before (cases_lt k n)
   where
     at_last_or_before : (k < n) ⊎ (n ≤ k) → scope_fault list k ≡ None
-    at_last_or_before (inl b) = h k b
-    at_last_or_before (inr b) =
-        let same : k ≡ n = omega (arith, is, l, b) in ap (scope_fault list) same ∙ e
+    at_last_or_before (inl k_lt_n) = are_lawful k k_lt_n
+    at_last_or_before (inr n_le_k) =
+        let k_is_n : k ≡ n = omega (arith, m_is, k_lt_m, n_le_k) in ap (scope_fault list) k_is_n
+        ∙ n_is_lawful
 
 module _ (len : ℕ) (x : LexedText) where
   -- if the first statements of a text are lawful, the text has a reading
-  read_from : (rest db : List Statement) → statements_of x.tokens ≡ db ++ rest
+  read_from : (later db : List Statement) → statements_of x.tokens ≡ db ++ later
       → AreLawful (statements_of x.tokens) (length db) → IsReadable len x
-  read_from [] db is lawful = by_text_fault (text_fault len x) refl
+  read_from [] db statements_are are_lawful = by_text_fault (text_fault len x) refl
     where
       by_text_fault : (o : Option Fault) → text_fault len x ≡ o → IsReadable len x
-      by_text_fault None e = (
+      by_text_fault None no_text_fault_found = (
         db,
         None,
         record {
           statements = statements_of x.tokens;
           are_statements = is_longest x.tokens;
           rest = [];
-          splits = is;
-          lawful = lawful;
-          stops = no_text_fault len x e;
+          splits = statements_are;
+          lawful = are_lawful;
+          stops = no_text_fault len x no_text_fault_found;
         },
       )
-      by_text_fault (Some f) e = (
+      by_text_fault (Some f) text_fault_found = (
         db,
         Some f,
         record {
           statements = statements_of x.tokens;
           are_statements = is_longest x.tokens;
           rest = [];
-          splits = is;
-          lawful = lawful;
-          stops = text_fault_is len x f e;
+          splits = statements_are;
+          lawful = are_lawful;
+          stops = text_fault_is len x f text_fault_found;
         },
       )
-  read_from (s ∷ rest) db is lawful =
+  read_from (s ∷ later) db statements_are are_lawful =
       by_scope_fault (scope_fault (statements_of x.tokens) (length db)) refl
-      (λ e. read_from rest (db ++ s ∷ []) (is ∙ sym (append_assoc db (s ∷ []) rest))
-      (lawful_up_to_next (statements_of x.tokens) (length db) lawful e (length (db ++ s ∷ []))
+      (λ is_lawful. read_from later (db ++ s ∷ []) (statements_are
+      ∙ sym (append_assoc db (s ∷ []) later))
+      (lawful_up_to_next (statements_of x.tokens) (length db) are_lawful is_lawful (length (db ++ s
+      ∷ []))
       (length-append db (s ∷ []))))
     where
       by_scope_fault : (o : Option Fault) → scope_fault (statements_of x.tokens) (length db) ≡ o
           → (scope_fault (statements_of x.tokens) (length db) ≡ None → IsReadable len x)
           → IsReadable len x
-      by_scope_fault None e of_the_rest = of_the_rest e
-      by_scope_fault (Some f) e of_the_rest = (
+      by_scope_fault None no_scope_fault later_is_read = later_is_read no_scope_fault
+      by_scope_fault (Some f) scope_fault_found of_the_rest = (
         db,
         Some f,
         record {
           statements = statements_of x.tokens;
           are_statements = is_longest x.tokens;
-          rest = s ∷ rest;
-          splits = is;
-          lawful = lawful;
-          stops = ((λ n. cc), e);
+          rest = s ∷ later;
+          splits = statements_are;
+          lawful = are_lawful;
+          stops = ((λ is_nil. cc), scope_fault_found);
         },
       )
 
   pub is_readable : IsReadable len x
-  is_readable = read_from (statements_of x.tokens) [] refl (λ k l. absurd (omega arith))
+  is_readable = read_from (statements_of x.tokens) [] refl (λ k k_lt_0. absurd (omega arith))

@@ -39,30 +39,31 @@ use Rattle.mm_spec.proofs.FindsLaw.{same_word, passing_statement, inside_of, dec
 use Rattle.mm_spec.proofs.FaultlessLaw.{least_none, append_none, label_new}
 use Rattle.mm_spec.proofs.OpenedLaw.{counted_any}
 use Rattle.mm_spec.proofs.ListLaw.{get_none}
-use Rattle.mm_laws.proofs.ReadLaw.{lawful_read}
-use Rattle.mm_laws.proofs.SpellingLaw.{bracketed_is, AreFaultless, faultless_letters, item_of}
+use Rattle.mm_laws.proofs.ReadLaw.{read_statements_are_lawful}
+use Rattle.mm_laws.proofs.SpellingLaw.{bracketed_splits, AreFaultless, letters_are_faultless}
+use Rattle.mm_laws.proofs.SpellingLaw.{item_of}
 use Rattle.mm_laws.proofs.SpellingLaw.{groups_spell}
-use Rattle.mm_laws.proofs.SpellingLaw.{letters_bytes, spelling_unique}
+use Rattle.mm_laws.proofs.SpellingLaw.{bytes_of_letters, spelled_items_are_unique}
 
 -- ---- lists
 
 get_append : {X : Type 0} (xs ys : List X) (n : ℕ) (x : X) → slice_get (xs ++ ys) n ≡ Some x
     → (slice_get xs n ≡ Some x) ⊎ ((i : ℕ) × (n ≡ length xs + i) × (slice_get ys i ≡ Some x))
-get_append [] ys n x e = inr (n, omega arith, e)
-get_append (y ∷ xs) ys zero x e = inl e
-get_append (y ∷ xs) ys (suc n) x e = in_front_or_back (get_append xs ys n x e)
+get_append [] ys n x x_is_at_n = inr (n, omega arith, x_is_at_n)
+get_append (y ∷ xs) ys zero x x_is_at_n = inl x_is_at_n
+get_append (y ∷ xs) ys (suc n) x x_is_at_n = by_list (get_append xs ys n x x_is_at_n)
   where
-    in_front_or_back : (slice_get xs n ≡ Some x)
+    by_list : (slice_get xs n ≡ Some x)
         ⊎ ((i : ℕ) × (n ≡ length xs + i) × (slice_get ys i ≡ Some x))
         → (slice_get xs n ≡ Some x)
         ⊎ ((i : ℕ) × (suc n ≡ suc (length xs) + i) × (slice_get ys i ≡ Some x))
-    in_front_or_back (inl h) = inl h
-    in_front_or_back (inr h) = let e = h.1 in inr (h.0, omega arith, h.2)
+    by_list (inl in_xs) = inl in_xs
+    by_list (inr in_ys) = let n_is = in_ys.1 in inr (in_ys.0, omega arith, in_ys.2)
 
 get_only : {X : Type 0} (y x : X) (i : ℕ) → slice_get (y ∷ []) i ≡ Some x → (i ≡ 0) × (y ≡ x)
-get_only y x zero e = (refl, cc)
-get_only y x (suc zero) e = absurd (cc)
-get_only y x (suc (suc i)) e = absurd (cc)
+get_only y x zero x_is_at_i = (refl, cc)
+get_only y x (suc zero) x_is_at_i = absurd (cc)
+get_only y x (suc (suc i)) x_is_at_i = absurd (cc)
 
 pub count_append : (p : Item → Bool) (xs ys : List Item)
     → count_by p (xs ++ ys) ≡ count_by p xs + count_by p ys
@@ -70,126 +71,152 @@ count_append p xs ys = sum_by-append _ xs ys
 
 -- ---- marks
 
-still_mark : (items more : List Item) (k i : ℕ) → IsMark items k i → IsMark (items ++ more) k i
-still_mark items more k i h =
+mark_stays_in_longer : (items added : List Item) (k i : ℕ) → IsMark items k i
+    → IsMark (items ++ added) k i
+mark_stays_in_longer items added k i is_mark =
     record {
-      before = h.before;
-      after = h.after ++ more;
-      are = ap (λ x. x ++ more) h.are ∙ append_assoc h.before (mark ∷ h.after) more;
-      marks = h.marks;
-      steps = h.steps;
+      items_before = is_mark.items_before;
+      items_after = is_mark.items_after ++ added;
+      items_are = ap (λ x. x ++ added) is_mark.items_are ∙ append_assoc is_mark.items_before (mark ∷
+          is_mark.items_after) added;
+      mark_count_is = is_mark.mark_count_is;
+      number_count_is = is_mark.number_count_is;
     }
 
 abbrev AreMarks : List Item → List ℕ → Type 0
-AreMarks before marks = (k i : ℕ) → slice_get marks k ≡ Some i → IsMark before k i
+AreMarks items_before marks = (k i : ℕ) → slice_get marks k ≡ Some i → IsMark items_before k i
 
 -- the marks are those of the items with one mark more
-one_mark_more : (before : List Item) (marks : List ℕ) (count : ℕ) → 0 < count
-    → count ≡ count_by is_number before → length marks ≡ count_by is_mark_item before
-    → AreMarks before marks → AreMarks (before ++ mark ∷ []) (marks ++ (count - 1) ∷ [])
-one_mark_more before marks count h c m are k i e =
-    earlier_or_new_mark (get_append marks ((count - 1) ∷ []) k i e)
+marks_push : (items_before : List Item) (marks : List ℕ) (count : ℕ) → 0 < count
+    → count ≡ count_by is_number items_before → length marks ≡ count_by is_mark_item items_before
+    → AreMarks items_before marks → AreMarks (items_before ++ mark ∷ []) (marks ++ (count - 1) ∷ [])
+marks_push items_before marks count count_gt_0 count_is mark_count_is are_marks k i i_is_at_k =
+    earlier_or_new_mark (get_append marks ((count - 1) ∷ []) k i i_is_at_k)
   where
     earlier_or_new_mark : (slice_get marks k ≡ Some i)
         ⊎ ((j : ℕ) × (k ≡ length marks + j) × (slice_get ((count - 1) ∷ []) j ≡ Some i))
-        → IsMark (before ++ mark ∷ []) k i
-    earlier_or_new_mark (inl f) = still_mark before (mark ∷ []) k i (are k i f)
-    earlier_or_new_mark (inr f) =
-        let r = get_only (count - 1) i f.0 f.2 in
-        let zero_j = r.0 in
-        let is = r.1 in
-        let place = f.1 in
-        record { before = before; after = []; are = refl; marks = omega arith; steps = omega arith }
+        → IsMark (items_before ++ mark ∷ []) k i
+    earlier_or_new_mark (inl is_earlier) = mark_stays_in_longer items_before (mark ∷ []) k i
+        (are_marks k i is_earlier)
+    earlier_or_new_mark (inr is_new) =
+        let only_element = get_only (count - 1) i is_new.0 is_new.2 in
+        let j_is_0 = only_element.0 in
+        let i_is_count = only_element.1 in
+        let k_is = is_new.1 in
+        record {
+          items_before = items_before;
+          items_after = [];
+          items_are = refl;
+          mark_count_is =
+              omega arith;
+          number_count_is = omega arith;
+        }
 
 -- ---- the steps that items name, if other items come before them
 
 module _ (hypotheses labels : List ℕ) where
-  -- the steps are those that the items name, if the items `before` come before them
-  record AreStepsFrom (before items : List Item) (ss : List Step) : Type 0 where
-    pub count : length ss ≡ count_by is_number items
-    pub each : (b after : List Item) (n : ℕ) → items ≡ b ++ number n ∷ after
+  -- the steps are those that the items name, if the items `items_before` come before them
+  record AreStepsFrom (items_before items : List Item) (ss : List Step) : Type 0 where
+    pub step_count_is : length ss ≡ count_by is_number items
+    pub each_is_named : (b items_after : List Item) (n : ℕ) → items ≡ b ++ number n ∷ items_after
         → (s : Step) × (slice_get ss (count_by is_number b) ≡ Some s)
-        × NamesStep hypotheses labels (before ++ b) n s
+        × NamesStep hypotheses labels (items_before ++ b) n s
 
-  steps_from_nothing : (before : List Item) → AreStepsFrom before [] []
-  steps_from_nothing before =
-      record { count = refl; each = λ b after n e. absurd (nothing_has_no_number b after n e) }
-    where
-      nothing_has_no_number : (b after : List Item) (n : ℕ) → [] ≡ b ++ number n ∷ after → ⊥
-      nothing_has_no_number [] after n e = cc
-      nothing_has_no_number (x ∷ b) after n e = cc
-
-  steps_from_number : (before items : List Item) (ss : List Step) (n : ℕ) (s : Step)
-      → NamesStep hypotheses labels before n s → AreStepsFrom (before ++ number n ∷ []) items ss
-      → AreStepsFrom before (number n ∷ items) (s ∷ ss)
-  steps_from_number before items ss n s named h =
+  steps_from_nothing : (items_before : List Item) → AreStepsFrom items_before [] []
+  steps_from_nothing items_before =
       record {
-        count = let c = h.count in omega (arith, count_append is_number (number n ∷ []) items);
-        each = each;
+        step_count_is = refl;
+        each_is_named = λ b items_after n items_are. absurd
+            (nothing_has_no_number b items_after n items_are);
       }
     where
-      each : (b after : List Item) (m : ℕ) → number n ∷ items ≡ b ++ number m ∷ after
+      nothing_has_no_number : (b items_after : List Item) (n : ℕ) → []
+          ≡ b ++ number n ∷ items_after → ⊥
+      nothing_has_no_number [] items_after n items_are = cc
+      nothing_has_no_number (x ∷ b) items_after n items_are = cc
+
+  steps_from_number : (items_before items : List Item) (ss : List Step) (n : ℕ) (s : Step)
+      → NamesStep hypotheses labels items_before n s → AreStepsFrom (items_before ++ number n ∷ [])
+      items ss
+      → AreStepsFrom items_before (number n ∷ items) (s ∷ ss)
+  steps_from_number items_before items ss n s is_named are_steps =
+      record {
+        step_count_is = let count_is = are_steps.step_count_is in omega (
+          arith,
+          count_append
+              is_number (number n ∷ []) items,
+        );
+        each_is_named = each_is_named;
+      }
+    where
+      each_is_named : (b items_after : List Item) (m : ℕ) → number n ∷ items
+          ≡ b ++ number m ∷ items_after
           → (t : Step) × (slice_get (s ∷ ss) (count_by is_number b) ≡ Some t)
-          × NamesStep hypotheses labels (before ++ b) m t
-      each [] after m e =
-          let same : n ≡ m = cc in (
+          × NamesStep hypotheses labels (items_before ++ b) m t
+      each_is_named [] items_after m items_are =
+          let n_is_m : n ≡ m = cc in (
             s,
             refl,
-            subst (λ xs. NamesStep hypotheses labels xs m s) (sym (append-nil before))
-                (subst (λ i. NamesStep hypotheses labels before i s) same named),
+            subst (λ xs. NamesStep hypotheses labels xs m s) (sym (append-nil items_before))
+                (subst (λ i. NamesStep hypotheses labels items_before i s) n_is_m is_named),
           )
-      each (x ∷ b) after m e =
-          let head : number n ≡ x = cc in
-          let tail : items ≡ b ++ number m ∷ after = cc in
-          let r = h.each b after m tail in
-          let one : suc (count_by is_number b) ≡ count_by is_number (number n ∷ b) =
+      each_is_named (x ∷ b) items_after m items_are =
+          let head_is : number n ≡ x = cc in
+          let tail_is : items ≡ b ++ number m ∷ items_after = cc in
+          let named_in_tail = are_steps.each_is_named b items_after m tail_is in
+          let count_is_suc : suc (count_by is_number b) ≡ count_by is_number (number n ∷ b) =
           omega (arith, count_append is_number (number n ∷ []) b) in
-          let place : suc (count_by is_number b) ≡ count_by is_number (x ∷ b) =
-          one ∙ ap (λ y. count_by is_number (y ∷ b)) head in
-          let items_are : (before ++ number n ∷ []) ++ b ≡ before ++ x ∷ b =
-          append_assoc before (number n ∷ []) b ∙ ap (λ y. before ++ y ∷ b) head in (
-            r.0,
-            ap (slice_get (s ∷ ss)) (sym place)
-                ∙ r.1,
-            subst (λ xs. NamesStep hypotheses labels xs m r.0) items_are r.2,
+          let index_is : suc (count_by is_number b) ≡ count_by is_number (x ∷ b) =
+          count_is_suc ∙ ap (λ y. count_by is_number (y ∷ b)) head_is in
+          let front_is : (items_before ++ number n ∷ []) ++ b ≡ items_before ++ x ∷ b =
+          append_assoc items_before (number n ∷ []) b ∙ ap (λ y. items_before ++ y ∷ b) head_is in (
+            named_in_tail.0,
+            ap (slice_get (s ∷ ss)) (sym index_is)
+                ∙ named_in_tail.1,
+            subst (λ xs. NamesStep hypotheses labels xs m named_in_tail.0) front_is named_in_tail.2,
           )
 
-  steps_from_mark : (before items : List Item) (ss : List Step)
-      → AreStepsFrom (before ++ mark ∷ []) items ss
-      → AreStepsFrom before (mark ∷ items) ss
-  steps_from_mark before items ss h =
+  steps_from_mark : (items_before items : List Item) (ss : List Step)
+      → AreStepsFrom (items_before ++ mark ∷ []) items ss
+      → AreStepsFrom items_before (mark ∷ items) ss
+  steps_from_mark items_before items ss are_steps =
       record {
-        count = let c = h.count in omega (arith, count_append is_number (mark ∷ []) items);
-        each = each;
+        step_count_is = let count_is = are_steps.step_count_is in omega (
+          arith,
+          count_append
+              is_number (mark ∷ []) items,
+        );
+        each_is_named = each_is_named;
       }
     where
-      each : (b after : List Item) (m : ℕ) → mark ∷ items ≡ b ++ number m ∷ after
+      each_is_named : (b items_after : List Item) (m : ℕ) → mark ∷ items
+          ≡ b ++ number m ∷ items_after
           → (t : Step) × (slice_get ss (count_by is_number b) ≡ Some t)
-          × NamesStep hypotheses labels (before ++ b) m t
-      each [] after m e = absurd (cc)
-      each (x ∷ b) after m e =
-          let head : mark ≡ x = cc in
-          let tail : items ≡ b ++ number m ∷ after = cc in
-          let r = h.each b after m tail in
-          let one : count_by is_number b ≡ count_by is_number (mark ∷ b) =
+          × NamesStep hypotheses labels (items_before ++ b) m t
+      each_is_named [] items_after m items_are = absurd (cc)
+      each_is_named (x ∷ b) items_after m items_are =
+          let head_is : mark ≡ x = cc in
+          let tail_is : items ≡ b ++ number m ∷ items_after = cc in
+          let named_in_tail = are_steps.each_is_named b items_after m tail_is in
+          let counts_equal : count_by is_number b ≡ count_by is_number (mark ∷ b) =
           omega (arith, count_append is_number (mark ∷ []) b) in
-          let place : count_by is_number b ≡ count_by is_number (x ∷ b) =
-          one ∙ ap (λ y. count_by is_number (y ∷ b)) head in
-          let items_are : (before ++ mark ∷ []) ++ b ≡ before ++ x ∷ b =
-          append_assoc before (mark ∷ []) b ∙ ap (λ y. before ++ y ∷ b) head in (
-            r.0,
-            ap (slice_get ss) (sym place)
-                ∙ r.1,
-            subst (λ xs. NamesStep hypotheses labels xs m r.0) items_are r.2,
+          let index_is : count_by is_number b ≡ count_by is_number (x ∷ b) =
+          counts_equal ∙ ap (λ y. count_by is_number (y ∷ b)) head_is in
+          let front_is : (items_before ++ mark ∷ []) ++ b ≡ items_before ++ x ∷ b =
+          append_assoc items_before (mark ∷ []) b ∙ ap (λ y. items_before ++ y ∷ b) head_is in (
+            named_in_tail.0,
+            ap (slice_get ss) (sym index_is)
+                ∙ named_in_tail.1,
+            subst (λ xs. NamesStep hypotheses labels xs m named_in_tail.0) front_is named_in_tail.2,
           )
 
   -- a number that isn't too large names a step
-  number_named : (before : List Item) (marks : List ℕ) (n : ℕ) → 0 < n
-      → n ≤ length hypotheses + length labels + length marks → AreMarks before marks
+  number_names_step : (items_before : List Item) (marks : List ℕ) (n : ℕ) → 0 < n
+      → n ≤ length hypotheses + length labels + length marks → AreMarks items_before marks
       → (s : Step) × (step_of (hypotheses ++ labels) marks n ≡ s ∷ [])
-      × NamesStep hypotheses labels before n s
-  number_named before marks zero h l are = absurd (omega arith)
-  number_named before marks (suc n) h l are =
+      × NamesStep hypotheses labels items_before n s
+  number_names_step items_before marks zero n_gt_0 n_le_count are_marks = absurd (omega arith)
+  number_names_step items_before marks (suc n) n_gt_0 n_le_count are_marks =
       by_label_or_mark (slice_get (hypotheses ++ labels) n) refl
       (slice_get marks (n - length (hypotheses ++ labels))) refl
     where
@@ -197,68 +224,77 @@ module _ (hypotheses labels : List ℕ) where
       step_by_meaning a b =
           elim a [ Some j ↦ label j ∷ [] | None ↦ elim b [ Some i ↦ marked i ∷ [] | None ↦ [] ] ]
 
-      of_label : (j : ℕ)
+      label_is_named : (j : ℕ)
           → (slice_get hypotheses n ≡ Some j)
           ⊎ ((i : ℕ) × (n ≡ length hypotheses + i) × (slice_get labels i ≡ Some j))
-          → NamesStep hypotheses labels before (suc n) (label j)
-      of_label j (inl e) = inl (n, omega arith, e)
-      of_label j (inr e) = let is = e.1 in inr (e.0, omega arith, e.2)
+          → NamesStep hypotheses labels items_before (suc n) (label j)
+      label_is_named j (inl in_hypotheses) = inl (n, omega arith, in_hypotheses)
+      label_is_named j (inr in_labels) = let index_is = in_labels.1 in inr (
+        in_labels.0,
+        omega
+            arith,
+        in_labels.2,
+      )
 
       by_label_or_mark : (a : Option ℕ) → slice_get (hypotheses ++ labels) n ≡ a → (b : Option ℕ)
           → slice_get marks (n - length (hypotheses ++ labels)) ≡ b
           → (s : Step) × (step_by_meaning a b ≡ s ∷ [])
-          × NamesStep hypotheses labels before (suc n) s
-      by_label_or_mark (Some j) e b f =
-          (label j, refl, of_label j (get_append hypotheses labels n j e))
-      by_label_or_mark None e (Some i) f =
-          let x = get_none (hypotheses ++ labels) n e in
-          let all = length-append hypotheses labels in (
+          × NamesStep hypotheses labels items_before (suc n) s
+      by_label_or_mark (Some j) is_label b at_mark =
+          (label j, refl, label_is_named j (get_append hypotheses labels n j is_label))
+      by_label_or_mark None not_label (Some i) is_mark =
+          let count_le_n = get_none (hypotheses ++ labels) n not_label in
+          let counts_add = length-append hypotheses labels in (
             marked i,
             refl,
             (
               n - length (hypotheses ++ labels),
               omega arith,
-              are
-                  (n - length (hypotheses ++ labels)) i f,
+              are_marks
+                  (n - length (hypotheses ++ labels)) i is_mark,
             ),
           )
-      by_label_or_mark None e None f =
-          let x = get_none (hypotheses ++ labels) n e in
-          let y = get_none marks (n - length (hypotheses ++ labels)) f in
-          let all = length-append hypotheses labels in
+      by_label_or_mark None not_label None not_mark =
+          let count_le_n = get_none (hypotheses ++ labels) n not_label in
+          let marks_le_n = get_none marks (n - length (hypotheses ++ labels)) not_mark in
+          let counts_add = length-append hypotheses labels in
           absurd (omega arith)
 
   abbrev steps_of : List PlacedStep → List Step
   steps_of ps = map (λ p. p.step) ps
 
-  positive : (n b : ℕ) → 65 ≤ b → 0 < n * 20 + (b - 64)
-  positive n b h = omega arith
+  value_gt_0 : (n b : ℕ) → 65 ≤ b → 0 < n * 20 + (b - 64)
+  value_gt_0 n b last_digit_ge = omega arith
 
   -- the steps of groups are what their items name
-  steps_from_groups : (gs : List Group) (before : List Item) (marks : List ℕ) (count : ℕ)
-      → count ≡ count_by is_number before → length marks ≡ count_by is_mark_item before
-      → AreMarks before marks
+  steps_from_groups : (gs : List Group) (items_before : List Item) (marks : List ℕ) (count : ℕ)
+      → count ≡ count_by is_number items_before → length marks ≡ count_by is_mark_item items_before
+      → AreMarks items_before marks
       → AreFaultless (length hypotheses + length labels) (length marks) count gs
-      → AreStepsFrom before (map item_of gs)
+      → AreStepsFrom items_before (map item_of gs)
       (steps_of (group_steps (hypotheses ++ labels) marks count gs))
-  steps_from_groups [] before marks count c m are f = steps_from_nothing before
-  steps_from_groups (g ∷ gs) before marks count c m are f =
-      number_or_mark f
-      (λ n k. steps_from_groups gs (before ++ number n ∷ []) marks (count + 1)
-      (omega (arith, count_append is_number before (number n ∷ [])))
-      (omega (arith, count_append is_mark_item before (number n ∷ [])))
-      (λ j i e. still_mark before (number n ∷ []) j i (are j i e)) k)
-      (λ h k. steps_from_groups gs (before ++ mark ∷ []) (marks ++ (count - 1) ∷ []) count
-      (omega (arith, count_append is_number before (mark ∷ [])))
+  steps_from_groups [] items_before marks count number_count_is mark_count_is are_marks
+      are_faultless = steps_from_nothing items_before
+  steps_from_groups (g ∷ gs) items_before marks count number_count_is mark_count_is are_marks
+      are_faultless =
+      number_or_mark are_faultless
+      (λ n rest_is_faultless. steps_from_groups gs (items_before ++ number n ∷ []) marks (count + 1)
+      (omega (arith, count_append is_number items_before (number n ∷ [])))
+      (omega (arith, count_append is_mark_item items_before (number n ∷ [])))
+      (λ j i i_is_at_j. mark_stays_in_longer items_before (number n ∷ []) j i (are_marks j i
+      i_is_at_j)) rest_is_faultless)
+      (λ count_gt_0 rest_is_faultless. steps_from_groups gs (items_before ++ mark ∷ []) (marks ++
+      (count - 1) ∷ []) count
+      (omega (arith, count_append is_number items_before (mark ∷ [])))
       (omega (
         arith,
-        count_append is_mark_item before (mark ∷ []),
+        count_append is_mark_item items_before (mark ∷ []),
         length-append marks
             ((count - 1) ∷ []),
-      )) (one_mark_more before marks count h c m are)
+      )) (marks_push items_before marks count count_gt_0 number_count_is mark_count_is are_marks)
       (subst (λ z. AreFaultless (length hypotheses + length labels) z count gs)
-      (let len = length-append marks ((count - 1) ∷ []) in
-      omega arith) k))
+      (let length_is = length-append marks ((count - 1) ∷ []) in
+      omega arith) rest_is_faultless))
     where
       item_by_letter : Bool → Item
       item_by_letter b = elim b [ true ↦ number (value g) | false ↦ mark ]
@@ -274,100 +310,120 @@ module _ (hypotheses labels : List ℕ) where
           (g ∷ gs)
           → ((n : ℕ)
           → AreFaultless (length hypotheses + length labels) (length marks) (count + 1) gs
-          → AreStepsFrom (before ++ number n ∷ []) (map item_of gs)
+          → AreStepsFrom (items_before ++ number n ∷ []) (map item_of gs)
           (steps_of (group_steps (hypotheses ++ labels) marks (count + 1) gs)))
           → (0 < count
           → AreFaultless (length hypotheses + length labels) (length marks + 1) count gs
-          → AreStepsFrom (before ++ mark ∷ []) (map item_of gs)
+          → AreStepsFrom (items_before ++ mark ∷ []) (map item_of gs)
           (steps_of (group_steps (hypotheses ++ labels) (marks ++ (count - 1) ∷ []) count gs)))
-          → AreStepsFrom before (item_by_letter (is_last g.last.byte) ∷ map item_of gs)
+          → AreStepsFrom items_before (item_by_letter (is_last g.last.byte) ∷ map item_of gs)
           (steps_of (steps_from_group (is_last g.last.byte)))
-      number_or_mark (inl k) after_number after_mark =
-          let low =
+      number_or_mark (inl is_number_group) after_number after_mark =
+          let byte_ge_65 =
           leb-true 65 g.last.byte
-          (and_parts (nat_le 65 g.last.byte) (nat_le g.last.byte 84) k.0).0 in
-          let s = number_named before marks (value g) (positive _ g.last.byte low) k.1 are in
-          let whole =
-          steps_from_number before (map item_of gs)
-          (steps_of (group_steps (hypotheses ++ labels) marks (count + 1) gs)) (value g) s.0 s.2
-          (after_number (value g) k.2) in
-          subst (λ b. AreStepsFrom before (item_by_letter b ∷ map item_of gs)
-          (steps_of (steps_from_group b))) (sym k.0)
-          (subst (λ ss. AreStepsFrom before (number (value g) ∷ map item_of gs)
+          (and_parts (nat_le 65 g.last.byte) (nat_le g.last.byte 84) is_number_group.0).0 in
+          let named = number_names_step items_before marks (value g) (value_gt_0 _ g.last.byte
+          byte_ge_65) is_number_group.1 are_marks in
+          let are_steps =
+          steps_from_number items_before (map item_of gs)
+          (steps_of (group_steps (hypotheses ++ labels) marks (count + 1) gs)) (value g) named.0
+          named.2
+          (after_number (value g) is_number_group.2) in
+          subst (λ b. AreStepsFrom items_before (item_by_letter b ∷ map item_of gs)
+          (steps_of (steps_from_group b))) (sym is_number_group.0)
+          (subst (λ ss. AreStepsFrom items_before (number (value g) ∷ map item_of gs)
           (steps_of (map (placed (starts_at g)) ss
-          ++ group_steps (hypotheses ++ labels) marks (count + 1) gs))) (sym s.1) whole)
-      number_or_mark (inr k) after_number after_mark =
-          subst (λ b. AreStepsFrom before (item_by_letter b ∷ map item_of gs)
-          (steps_of (steps_from_group b))) (sym k.0)
-          (steps_from_mark before (map item_of gs)
+          ++ group_steps (hypotheses ++ labels) marks (count + 1) gs))) (sym named.1) are_steps)
+      number_or_mark (inr is_mark_group) after_number after_mark =
+          subst (λ b. AreStepsFrom items_before (item_by_letter b ∷ map item_of gs)
+          (steps_of (steps_from_group b))) (sym is_mark_group.0)
+          (steps_from_mark items_before (map item_of gs)
           (steps_of (group_steps (hypotheses ++ labels) (marks ++ (count - 1) ∷ []) count gs))
-          (after_mark k.3 k.4))
+          (after_mark is_mark_group.3 is_mark_group.4))
 
   pub groups_name_steps : (gs : List Group)
       → AreFaultless (length hypotheses + length labels) 0 0 gs
       → AreSteps hypotheses labels (map item_of gs)
       (steps_of (group_steps (hypotheses ++ labels) [] 0 gs))
-  groups_name_steps gs f =
-      let h = steps_from_groups gs [] [] 0 refl refl
-      (λ k i e. absurd (nothing_has_no_mark k i e)) f in
-      record { count = h.count; each = h.each }
+  groups_name_steps gs are_faultless =
+      let are_steps = steps_from_groups gs [] [] 0 refl refl
+      (λ k i i_is_at_k. absurd (nothing_has_no_mark k i i_is_at_k)) are_faultless in
+      record { step_count_is = are_steps.step_count_is; each_is_named = are_steps.each_is_named }
     where
       nothing_has_no_mark : (k i : ℕ) → slice_get {X = ℕ} [] k ≡ Some i → ⊥
-      nothing_has_no_mark zero i e = cc
-      nothing_has_no_mark (suc k) i e = cc
+      nothing_has_no_mark zero i i_is_at_k = cc
+      nothing_has_no_mark (suc k) i i_is_at_k = cc
 
 -- ---- labels
 
-new_word : (n : KnownNames) (l : Token) (w : Bytes) → bytes_eq l.word w ≡ true
+word_is_new : (n : KnownNames) (l : Token) (w : Bytes) → bytes_eq l.word w ≡ true
     → lawful.label_faults n l ≡ [] → is_in w n.labels ≡ false
-new_word n l w e h = ap (λ v. is_in v n.labels) (sym (same_word l.word w e)) ∙ label_new n l h
+word_is_new n l w is_word no_fault = ap (λ v. is_in v n.labels) (sym (same_word l.word w is_word))
+    ∙ label_new n l no_fault
 
-label_fresh : (n : KnownNames) (d : ℕ) (s : Statement) (w : Bytes) → scope_faults n d s ≡ []
+label_is_new : (n : KnownNames) (d : ℕ) (s : Statement) (w : Bytes) → scope_faults n d s ≡ []
     → is_labelled w s ≡ true → is_in w n.labels ≡ false
-label_fresh n d (floating l k xs e) w h m =
-    new_word n l w m (append_none (lawful.label_faults n l) (floating_faults n k xs) h).0
-label_fresh n d (essential l k xs e) w h m =
-    new_word n l w m (append_none (lawful.label_faults n l) (formula_faults n xs e) h).0
-label_fresh n d (axiomatic l k xs e) w h m =
-    new_word n l w m (append_none (lawful.label_faults n l) (formula_faults n xs e) h).0
-label_fresh n d (provable l k xs p ps e) w h m =
-    new_word n l w m (append_none (lawful.label_faults n l) (formula_faults n xs p) h).0
-label_fresh n d _ w h m = absurd (true≢false (sym m))
+label_is_new n d (floating l k xs e) w no_fault has_label =
+    word_is_new n l w has_label (append_none (lawful.label_faults n l) (floating_faults n k xs)
+    no_fault).0
+label_is_new n d (essential l k xs e) w no_fault has_label =
+    word_is_new n l w has_label (append_none (lawful.label_faults n l) (formula_faults n xs e)
+    no_fault).0
+label_is_new n d (axiomatic l k xs e) w no_fault has_label =
+    word_is_new n l w has_label (append_none (lawful.label_faults n l) (formula_faults n xs e)
+    no_fault).0
+label_is_new n d (provable l k xs p ps e) w no_fault has_label =
+    word_is_new n l w has_label (append_none (lawful.label_faults n l) (formula_faults n xs p)
+    no_fault).0
+label_is_new n d _ w no_fault has_label = absurd (true≢false (sym has_label))
 
-labelled_word : (s : Statement) (w : Bytes) → is_labelled w s ≡ true
+label_is_word : (s : Statement) (w : Bytes) → is_labelled w s ≡ true
     → is_in w (label_words s) ≡ true
-labelled_word s w e = by_label (label_of s) e
+label_is_word s w has_label = by_label (label_of s) has_label
   where
     by_label : (o : Option Token) → elim o [ None ↦ false | Some l ↦ bytes_eq l.word w ] ≡ true
         → is_in w (elim o [ None ↦ [] | Some l ↦ l.word ∷ [] ]) ≡ true
-    by_label None h = absurd (true≢false (sym h))
-    by_label (Some l) h =
+    by_label None has_label = absurd (true≢false (sym has_label))
+    by_label (Some l) has_label =
         or_left (bytes_eq w l.word) false
-        ((bytes_eq-Decides w l.word).1 (sym (same_word l.word w h)))
+        ((bytes_eq-Decides w l.word).1 (sym (same_word l.word w has_label)))
 
 -- the test finds nothing in a range, or one place
-one_in_range : (test : ℕ → Bool) → ((i j : ℕ) → test i ≡ true → test j ≡ true → i ≡ j) → (n a : ℕ)
-    → (filter test (range_with_len a n) ≡ [])
-    ⊎ ((j : ℕ) × (filter test (range_with_len a n) ≡ j ∷ []) × (test j ≡ true) × (a ≤ j))
-one_in_range test one zero a = inl refl
-one_in_range test one (suc n) a = by_test (test a) refl (one_in_range test one n (a + 1))
+at_most_one_in_range : (passes : ℕ → Bool) → ((i j : ℕ) → passes i ≡ true → passes j ≡ true → i
+    ≡ j) → (n a : ℕ)
+    → (filter passes (range_with_len a n) ≡ [])
+    ⊎ ((j : ℕ) × (filter passes (range_with_len a n) ≡ j ∷ []) × (passes j ≡ true) × (a ≤ j))
+at_most_one_in_range passes passes_once zero a = inl refl
+at_most_one_in_range passes passes_once (suc n) a = by_test (passes a) refl (at_most_one_in_range
+    passes passes_once n (a + 1))
   where
-    by_test : (b : Bool) → test a ≡ b
-        → (filter test (range_with_len (a + 1) n) ≡ [])
-        ⊎ ((j : ℕ) × (filter test (range_with_len (a + 1) n) ≡ j ∷ []) × (test j ≡ true)
+    by_test : (b : Bool) → passes a ≡ b
+        → (filter passes (range_with_len (a + 1) n) ≡ [])
+        ⊎ ((j : ℕ) × (filter passes (range_with_len (a + 1) n) ≡ j ∷ []) × (passes j ≡ true)
         × (a + 1 ≤ j))
-        → (cond b (a ∷ filter test (range_with_len (a + 1) n))
-        (filter test (range_with_len (a + 1) n))
+        → (cond b (a ∷ filter passes (range_with_len (a + 1) n))
+        (filter passes (range_with_len (a + 1) n))
         ≡ [])
         ⊎ ((j : ℕ)
-        × (cond b (a ∷ filter test (range_with_len (a + 1) n))
-        (filter test (range_with_len (a + 1) n))
+        × (cond b (a ∷ filter passes (range_with_len (a + 1) n))
+        (filter passes (range_with_len (a + 1) n))
         ≡ j ∷ [])
-        × (test j ≡ true) × (a ≤ j))
-    by_test true e (inl h) = inr (a, ap (λ xs. a ∷ xs) h, e, omega arith)
-    by_test true e (inr h) = let same = one a h.0 e h.2 in let l = h.3 in absurd (omega arith)
-    by_test false e (inl h) = inl h
-    by_test false e (inr h) = let l = h.3 in inr (h.0, h.1, h.2, omega arith)
+        × (passes j ≡ true) × (a ≤ j))
+    by_test true passes_a (inl none_in_rest) = inr (
+      a,
+      ap (λ xs. a ∷ xs) none_in_rest,
+      passes_a,
+      omega arith,
+    )
+    by_test true passes_a (inr one_in_rest) = let a_is_j = passes_once a one_in_rest.0 passes_a
+        one_in_rest.2 in let a_lt_j = one_in_rest.3 in absurd (omega arith)
+    by_test false not_a (inl none_in_rest) = inl none_in_rest
+    by_test false not_a (inr one_in_rest) = let a_lt_j = one_in_rest.3 in inr (
+      one_in_rest.0,
+      one_in_rest.1,
+      one_in_rest.2,
+      omega arith,
+    )
 
 abbrev pub HasLabel : List Statement → Bytes → ℕ → Type 0
 HasLabel db w j = list_any (is_labelled w) (statement_at db j) ≡ true
@@ -376,95 +432,109 @@ HasLabel db w j = list_any (is_labelled w) (statement_at db j) ≡ true
 abbrev pub LabelsDiffer : List Statement → Type 0
 LabelsDiffer db = (w : Bytes) (i j : ℕ) → HasLabel db w i → HasLabel db w j → i ≡ j
 
-module _ (db : List Statement) (law : (k : ℕ) → k < length db → IsLawful db k) where
-  faultless : (k : ℕ) (s : Statement) → slice_get db k ≡ Some s
+module _ (db : List Statement) (are_lawful : (k : ℕ) → k < length db → IsLawful db k) where
+  statement_is_faultless : (k : ℕ) (s : Statement) → slice_get db k ≡ Some s
       → scope_faults (names_before db k) (depth db k) s ≡ []
-  faultless k s e =
+  statement_is_faultless k s statement_is =
       least_none (scope_faults (names_before db k) (depth db k) s)
-      (sym (ap judged e) ∙ law k (inside_of db k s e))
+      (sym (ap first_fault statement_is) ∙ are_lawful k (inside_of db k s statement_is))
     where
-      judged : Option Statement → Option Fault
-      judged o =
+      first_fault : Option Statement → Option Fault
+      first_fault o =
           elim o [ None ↦ None | Some s ↦ least (scope_faults (names_before db k) (depth db k) s) ]
 
-  not_twice : (w : Bytes) (i j : ℕ) → i < j → HasLabel db w i → HasLabel db w j → ⊥
-  not_twice w i j l h k =
-      let s = passing_statement db (is_labelled w) i h in
-      let t = passing_statement db (is_labelled w) j k in
-      let fresh : is_in w (names_before db j).labels ≡ false =
-      label_fresh (names_before db j) (depth db j) t.0 w (faultless j t.0 t.1) t.2 in
-      true≢false (sym (declares label_words db j i s.0 w s.1 l (labelled_word s.0 w s.2)) ∙ fresh)
+  label_not_twice : (w : Bytes) (i j : ℕ) → i < j → HasLabel db w i → HasLabel db w j → ⊥
+  label_not_twice w i j i_lt_j labels_i labels_j =
+      let labelled_i = passing_statement db (is_labelled w) i labels_i in
+      let labelled_j = passing_statement db (is_labelled w) j labels_j in
+      let is_new : is_in w (names_before db j).labels ≡ false =
+      label_is_new (names_before db j) (depth db j) labelled_j.0 w (statement_is_faultless j
+      labelled_j.0 labelled_j.1) labelled_j.2 in
+      true≢false (sym (declares label_words db j i labelled_i.0 w labelled_i.1 i_lt_j (label_is_word
+      labelled_i.0 w labelled_i.2)) ∙ is_new)
 
   labels_are_distinct : LabelsDiffer db
-  labels_are_distinct w i j h k = by_order (cases_order i j)
+  labels_are_distinct w i j labels_i labels_j = by_order (cases_order i j)
     where
       by_order : (i ≡ j) ⊎ ((i < j) ⊎ (j < i)) → i ≡ j
-      by_order (inl e) = e
-      by_order (inr (inl l)) = absurd (not_twice w i j l h k)
-      by_order (inr (inr l)) = absurd (not_twice w j i l k h)
+      by_order (inl i_is_j) = i_is_j
+      by_order (inr (inl i_lt_j)) = absurd (label_not_twice w i j i_lt_j labels_i labels_j)
+      by_order (inr (inr j_lt_i)) = absurd (label_not_twice w j i j_lt_i labels_j labels_i)
 
 -- the labels of what is read differ, as it counts
 pub labels_differ : (len : ℕ) (x : LexedText) (db : List Statement) (fault : Option Fault)
     → IsRead len x db fault → (with_open : Bool) → LabelsDiffer (counted with_open db)
-labels_differ len x db fault r with_open w i j h u =
-    labels_are_distinct db (lawful_read len x db fault r) w i j (sym (same i) ∙ h)
-    (sym (same j) ∙ u)
+labels_differ len x db fault is_read with_open w i j labels_i labels_j =
+    labels_are_distinct db (read_statements_are_lawful len x db fault is_read) w i j (sym
+    (label_test_counted i) ∙ labels_i)
+    (sym (label_test_counted j) ∙ labels_j)
   where
-    same : (j : ℕ)
+    label_test_counted : (j : ℕ)
         → list_any (is_labelled w) (statement_at (counted with_open db) j)
         ≡ list_any (is_labelled w) (statement_at db j)
-    same = counted_any with_open db (is_labelled w) (λ l k xs e ps d. refl)
+    label_test_counted = counted_any with_open db (is_labelled w) (λ l k xs e ps d. refl)
 
-module _ (db : List Statement) (differ : LabelsDiffer db) where
+module _ (db : List Statement) (labels_differ : LabelsDiffer db) where
   module _ (k : ℕ) where
-    pub usable_one : (t : Token) → proof_label_faults db k t ≡ []
+    pub one_statement_is_usable : (t : Token) → proof_label_faults db k t ≡ []
         → (j : ℕ) × (usable db k t.word ≡ j ∷ []) × IsUsable db k t.word j
-    usable_one t e = none_or_one (one_in_range is_usable_at at_most_once k 0)
+    one_statement_is_usable t no_fault_of_t = none_or_one (at_most_one_in_range is_usable_at
+        at_most_once k 0)
       where
         is_usable_at : ℕ → Bool
         is_usable_at j = is_active db j k && list_any (is_labelled t.word) (statement_at db j)
 
         at_most_once : (i j : ℕ) → is_usable_at i ≡ true → is_usable_at j ≡ true → i ≡ j
-        at_most_once i j h u =
-            differ t.word i j
-            (and_parts (is_active db i k) (list_any (is_labelled t.word) (statement_at db i)) h).1
-            (and_parts (is_active db j k) (list_any (is_labelled t.word) (statement_at db j)) u).1
+        at_most_once i j is_usable_i is_usable_j =
+            labels_differ t.word i j
+            (and_parts (is_active db i k) (list_any (is_labelled t.word) (statement_at db i))
+            is_usable_i).1
+            (and_parts (is_active db j k) (list_any (is_labelled t.word) (statement_at db j))
+            is_usable_j).1
 
         fault_of : List ℕ → List Fault
         fault_of xs = elim xs [ [] ↦ fault t.at UnusableLabel ∷ [] | j ∷ js ↦ [] ]
 
-        no_fault : usable db k t.word ≡ [] → ⊥
-        no_fault n = let f : fault_of [] ≡ [] = ap fault_of (sym n) ∙ e in cc
+        not_none : usable db k t.word ≡ [] → ⊥
+        not_none none_is_usable = let no_fault_of_none : fault_of []
+            ≡ [] = ap fault_of (sym none_is_usable) ∙ no_fault_of_t in cc
 
         none_or_one : (usable db k t.word ≡ [])
             ⊎ ((j : ℕ) × (usable db k t.word ≡ j ∷ []) × (is_usable_at j ≡ true) × (0 ≤ j))
             → (j : ℕ) × (usable db k t.word ≡ j ∷ []) × IsUsable db k t.word j
-        none_or_one (inl n) = absurd (no_fault n)
-        none_or_one (inr h) =
-            let p =
-            and_parts (is_active db h.0 k)
-            (list_any (is_labelled t.word) (statement_at db h.0)) h.2 in (
-              h.0,
-              h.1,
+        none_or_one (inl none_is_usable) = absurd (not_none none_is_usable)
+        none_or_one (inr one_is_usable) =
+            let is_active_and_labelled =
+            and_parts (is_active db one_is_usable.0 k)
+            (list_any (is_labelled t.word) (statement_at db one_is_usable.0)) one_is_usable.2 in (
+              one_is_usable.0,
+              one_is_usable.1,
               record {
-                active = p.0;
-                labelled = p.1;
-                only = λ i a b. differ t.word i h.0 b p.1;
+                statement_is_active = is_active_and_labelled.0;
+                statement_has_label = is_active_and_labelled.1;
+                no_other_is_usable = λ i a b. labels_differ t.word i one_is_usable.0 b
+                    is_active_and_labelled.1;
               },
             )
 
-    pub all_usable : (ts : List Token) → flat_map (proof_label_faults db k) ts ≡ []
+    pub labels_are_usable : (ts : List Token) → flat_map (proof_label_faults db k) ts ≡ []
         → (js : List ℕ) × AllZip (λ t j. IsUsable db k t.word j) ts js
         × (flat_map (λ t. usable db k t.word) ts ≡ js)
-    all_usable [] e = ([], tt, refl)
-    all_usable (t ∷ ts) e =
-        let one =
-        usable_one t
-        (append_none (proof_label_faults db k t) (flat_map (proof_label_faults db k) ts) e).0 in
-        let rest =
-        all_usable ts
-        (append_none (proof_label_faults db k t) (flat_map (proof_label_faults db k) ts) e).1 in
-        (one.0 ∷ rest.0, (one.2, rest.1), ap₂ (λ xs ys. xs ++ ys) one.1 rest.2)
+    labels_are_usable [] no_faults = ([], tt, refl)
+    labels_are_usable (t ∷ ts) no_faults =
+        let usable_statement =
+        one_statement_is_usable t
+        (append_none (proof_label_faults db k t) (flat_map (proof_label_faults db k) ts)
+        no_faults).0 in
+        let rest_usable =
+        labels_are_usable ts
+        (append_none (proof_label_faults db k t) (flat_map (proof_label_faults db k) ts)
+        no_faults).1 in (
+          usable_statement.0 ∷ rest_usable.0,
+          (usable_statement.2, rest_usable.1),
+          ap₂ (λ xs ys. xs
+              ++ ys) usable_statement.1 rest_usable.2,
+        )
 
     -- ---- proofs
 
@@ -472,42 +542,48 @@ module _ (db : List Statement) (differ : LabelsDiffer db) where
     own_faults u b =
         elim b [ true ↦ fault u.at IncompleteProof ∷ [] | false ↦ proof_label_faults db k u ]
 
-    normal_labels : (ts : List Token)
+    labels_are_faultless : (ts : List Token)
         → flat_map (λ u. own_faults u (bytes_eq u.word (codes "?"))) ts ≡ []
         → flat_map (proof_label_faults db k) ts ≡ []
-    normal_labels [] e = refl
-    normal_labels (t ∷ ts) e =
-        let own : List Fault = own_faults t (bytes_eq t.word (codes "?")) in
-        let more : List Fault = flat_map (λ u. own_faults u (bytes_eq u.word (codes "?"))) ts in
+    labels_are_faultless [] no_faults = refl
+    labels_are_faultless (t ∷ ts) no_faults =
+        let faults_of_t : List Fault = own_faults t (bytes_eq t.word (codes "?")) in
+        let faults_of_ts : List Fault = flat_map (λ u. own_faults u (bytes_eq u.word (codes "?")))
+        ts in
         ap₂ (λ xs ys. xs ++ ys)
-        (by_question_mark (bytes_eq t.word (codes "?")) (append_none own more e).0)
-        (normal_labels ts (append_none own more e).1)
+        (by_question_mark (bytes_eq t.word (codes "?")) (append_none faults_of_t faults_of_ts
+        no_faults).0)
+        (labels_are_faultless ts (append_none faults_of_t faults_of_ts no_faults).1)
       where
         by_question_mark : (b : Bool) → own_faults t b ≡ [] → proof_label_faults db k t ≡ []
-        by_question_mark true h = absurd (cc)
-        by_question_mark false h = h
+        by_question_mark true no_fault = absurd (cc)
+        by_question_mark false no_fault = no_fault
 
-    labels_are : (ts : List Token) → flat_map (proof_label_faults db k) ts ≡ []
+    steps_are_labels : (ts : List Token) → flat_map (proof_label_faults db k) ts ≡ []
         → AllZip (λ u s. (j : ℕ) × (s ≡ label j) × IsUsable db k u.word j) ts
         (map (λ p. p.step) (normal_steps db k ts))
-    labels_are [] e = tt
-    labels_are (t ∷ ts) e =
-        let one =
-        usable_one t
-        (append_none (proof_label_faults db k t) (flat_map (proof_label_faults db k) ts) e).0 in
+    steps_are_labels [] no_faults = tt
+    steps_are_labels (t ∷ ts) no_faults =
+        let usable_statement =
+        one_statement_is_usable t
+        (append_none (proof_label_faults db k t) (flat_map (proof_label_faults db k) ts)
+        no_faults).0 in
         subst (λ js. AllZip (λ u s. (j : ℕ) × (s ≡ label j) × IsUsable db k u.word j) (t ∷ ts)
         (map (λ p. p.step) (map (λ j. placed t.at (label j)) js ++ normal_steps db k ts)))
-        (sym one.1) (
-          (one.0, refl, one.2),
-          labels_are ts
-              (append_none (proof_label_faults db k t) (flat_map (proof_label_faults db k) ts) e).1,
+        (sym usable_statement.1) (
+          (usable_statement.0, refl, usable_statement.2),
+          steps_are_labels ts
+              (append_none (proof_label_faults db k t) (flat_map (proof_label_faults db k) ts)
+              no_faults).1,
         )
 
-    normal_are : (end : ℕ) (t : Token) (ts : List Token) → reading_faults db k end (t ∷ ts) ≡ []
+    normal_steps_are_labels : (end : ℕ) (t : Token) (ts : List Token)
+        → reading_faults db k end (t ∷ ts) ≡ []
         → t.word ≢ codes "("
         → AllZip (λ u s. (j : ℕ) × (s ≡ label j) × IsUsable db k u.word j) (t ∷ ts)
         (bare_steps db k (t ∷ ts))
-    normal_are end t ts f ne = by_bracket (bytes_eq t.word (codes "(")) refl f
+    normal_steps_are_labels end t ts no_faults no_bracket = by_bracket (bytes_eq t.word (codes "("))
+        refl no_faults
       where
         faults : Bool → List Fault
         faults b =
@@ -526,39 +602,41 @@ module _ (db : List Statement) (differ : LabelsDiffer db) where
         by_bracket : (b : Bool) → bytes_eq t.word (codes "(") ≡ b → faults b ≡ []
             → AllZip (λ u s. (j : ℕ) × (s ≡ label j) × IsUsable db k u.word j) (t ∷ ts)
             (map (λ p. p.step) (out b))
-        by_bracket true e g = absurd (ne (same_word t.word (codes "(") e))
-        by_bracket false e g = labels_are (t ∷ ts) (normal_labels (t ∷ ts) g)
+        by_bracket true is_bracket no_faults = absurd (no_bracket (same_word t.word (codes "(")
+            is_bracket))
+        by_bracket false not_bracket no_faults = steps_are_labels (t ∷ ts) (labels_are_faultless (t
+            ∷ ts) no_faults)
 
-    named : (end : ℕ) (labels letters : List Token) (items : List Item)
+    letters_name_steps : (end : ℕ) (labels letters : List Token) (items : List Item)
         → compressed_faults db k end (record { labels = labels; letters = Some letters }) ≡ []
         → Spells (letters_in letters) items
         → (js : List ℕ) × AllZip (λ t j. IsUsable db k t.word j) labels js
         × AreSteps (mandatory_hypotheses db k) js items
         (map (λ p. p.step)
         (compressed_steps db k (record { labels = labels; letters = Some letters })))
-    named end labels letters items f letters_spell =
+    letters_name_steps end labels letters items no_faults letters_spell =
         let label_count = length (mandatory_hypotheses db k) + length labels in
         let js =
-        all_usable labels
+        labels_are_usable labels
         (append_none (flat_map (proof_label_faults db k) labels)
-        (letter_faults label_count end (letters_of letters)) f).0 in
+        (letter_faults label_count end (letters_of letters)) no_faults).0 in
         let letters_faultless =
-        faultless_letters label_count end (letters_of letters)
+        letters_are_faultless label_count end (letters_of letters)
         (append_none (flat_map (proof_label_faults db k) labels)
-        (letter_faults label_count end (letters_of letters)) f).1 in
+        (letter_faults label_count end (letters_of letters)) no_faults).1 in
         let gs = (groups [] (letters_of letters)).0 in
         let groups_spell_letters : Spells (letters_in letters) (map item_of gs) =
-        subst (λ bs. Spells bs (map item_of gs)) (letters_bytes letters)
+        subst (λ bs. Spells bs (map item_of gs)) (bytes_of_letters letters)
         (groups_spell
-        (letters_of letters) [] label_count 0 0 tt letters_faultless.faultless
-        letters_faultless.whole) in
-        let same : map item_of gs ≡ items =
-        spelling_unique (letters_in letters)
+        (letters_of letters) [] label_count 0 0 tt letters_faultless.has_faultless_groups
+        letters_faultless.no_open_group) in
+        let items_equal : map item_of gs ≡ items =
+        spelled_items_are_unique (letters_in letters)
         (map item_of gs) items groups_spell_letters letters_spell in
         let groups_faultless : AreFaultless
         (length (mandatory_hypotheses db k) + length js.0) 0 0 gs =
         subst (λ n. AreFaultless (length (mandatory_hypotheses db k) + n) 0 0 gs)
-        (same_length labels js.0 js.1) letters_faultless.faultless in
+        (lengths_equal labels js.0 js.1) letters_faultless.has_faultless_groups in
         let group_steps_are : AreSteps (mandatory_hypotheses db k) js.0 (map item_of gs)
         (map (λ p. p.step)
         (group_steps (mandatory_hypotheses db k ++ js.0) [] 0 gs)) = groups_name_steps
@@ -570,202 +648,262 @@ module _ (db : List Statement) (differ : LabelsDiffer db) where
               (sym js.2)
               (subst (λ is. AreSteps (mandatory_hypotheses db k) js.0 is
               (map (λ p. p.step) (group_steps (mandatory_hypotheses db k ++ js.0) [] 0 gs)))
-              same group_steps_are),
+              items_equal group_steps_are),
         )
       where
-        same_length : (ts : List Token) (js : List ℕ) → AllZip (λ t j. IsUsable db k t.word j) ts js
+        lengths_equal : (ts : List Token) (js : List ℕ) → AllZip (λ t j. IsUsable db k t.word j) ts
+            js
             → length ts ≡ length js
-        same_length [] [] h = refl
-        same_length [] (j ∷ js) h = absurd h
-        same_length (t ∷ ts) [] h = absurd h
-        same_length (t ∷ ts) (j ∷ js) h = ap suc (same_length ts js h.1)
+        lengths_equal [] [] are_usable = refl
+        lengths_equal [] (j ∷ js) are_usable = absurd are_usable
+        lengths_equal (t ∷ ts) [] are_usable = absurd are_usable
+        lengths_equal (t ∷ ts) (j ∷ js) are_usable = ap suc (lengths_equal ts js are_usable.1)
 
-    compressed_are : (end : ℕ) (ts labels letters : List Token) (items : List Item)
+    compressed_steps_are_named : (end : ℕ) (ts labels letters : List Token) (items : List Item)
         → reading_faults db k end ts ≡ [] → IsCompressed ts labels letters
         → Spells (letters_in letters) items
         → (js : List ℕ) × AllZip (λ t j. IsUsable db k t.word j) labels js
         × AreSteps (mandatory_hypotheses db k) js items (bare_steps db k ts)
-    compressed_are end ts labels letters items f c letters_spell =
-        subst (λ xs. Goal (bare_steps db k xs)) (sym c.are)
+    compressed_steps_are_named end ts labels letters items no_faults is_compressed letters_spell =
+        subst (λ xs. Goal (bare_steps db k xs)) (sym is_compressed.words_are)
         (subst (λ ps. Goal (map (λ p. p.step) ps)) (sym steps_are)
-        (named end labels letters items
-        (sym faults_are ∙ (ap (reading_faults db k end) (sym c.are) ∙ f)) letters_spell))
+        (letters_name_steps end labels letters items
+        (sym faults_are ∙ (ap (reading_faults db k end) (sym is_compressed.words_are)
+        ∙ no_faults)) letters_spell))
       where
-        rest : List Token
-        rest = labels ++ c.closing ∷ letters
+        later_words : List Token
+        later_words = labels ++ is_compressed.closing ∷ letters
 
         Goal : List Step → Type 0
         Goal ss =
             (js : List ℕ) × AllZip (λ t j. IsUsable db k t.word j) labels js
             × AreSteps (mandatory_hypotheses db k) js items ss
 
-        parts : bracketed rest ≡ record { labels = labels; letters = Some letters }
-        parts = bracketed_is labels c.closing letters c.closes c.first
+        parts_are : bracketed later_words ≡ record { labels = labels; letters = Some letters }
+        parts_are = bracketed_splits labels is_compressed.closing letters is_compressed.closing_is
+            is_compressed.no_label_closes
 
-        begins : bytes_eq c.opening.word (codes "(") ≡ true
-        begins = (bytes_eq-Decides c.opening.word (codes "(")).1 c.opens
+        is_bracket : bytes_eq is_compressed.opening.word (codes "(") ≡ true
+        is_bracket = (bytes_eq-Decides is_compressed.opening.word (codes "(")).1
+            is_compressed.opening_is
 
         faults : Bool → List Fault
         faults b =
             elim b [
-              | true ↦ compressed_faults db k end (bracketed rest)
-              | false ↦ normal_faults db k end (c.opening ∷ rest)
+              | true ↦ compressed_faults db k end (bracketed later_words)
+              | false ↦ normal_faults db k end (is_compressed.opening ∷ later_words)
             ]
 
         out : Bool → List PlacedStep
         out b =
             elim b [
-              | true ↦ compressed_steps db k (bracketed rest)
-              | false ↦ normal_steps db k (c.opening ∷ rest)
+              | true ↦ compressed_steps db k (bracketed later_words)
+              | false ↦ normal_steps db k (is_compressed.opening ∷ later_words)
             ]
 
-        faults_are : reading_faults db k end (c.opening ∷ rest)
+        faults_are : reading_faults db k end (is_compressed.opening ∷ later_words)
             ≡ compressed_faults db k end (record { labels = labels; letters = Some letters })
-        faults_are = ap faults begins ∙ ap (compressed_faults db k end) parts
+        faults_are = ap faults is_bracket ∙ ap (compressed_faults db k end) parts_are
 
-        steps_are : steps db k (c.opening ∷ rest)
+        steps_are : steps db k (is_compressed.opening ∷ later_words)
             ≡ compressed_steps db k (record { labels = labels; letters = Some letters })
-        steps_are = ap out begins ∙ ap (compressed_steps db k) parts
+        steps_are = ap out is_bracket ∙ ap (compressed_steps db k) parts_are
 
-pub steps_named : WhereRead StepsAreNamed
-steps_named len x db fault r w k =
-    compressed_are (counted w db) (labels_differ len x db fault r w) k
+pub steps_are_named : WhereRead StepsAreNamed
+steps_are_named len x db fault is_read with_open k =
+    compressed_steps_are_named (counted with_open db) (labels_differ len x db fault is_read
+    with_open) k
 
-pub steps_labels : WhereRead StepsAreLabels
-steps_labels len x db fault r w k =
-    normal_are (counted w db) (labels_differ len x db fault r w) k
+pub steps_are_labels_where_read : WhereRead StepsAreLabels
+steps_are_labels_where_read len x db fault is_read with_open k =
+    normal_steps_are_labels (counted with_open db) (labels_differ len x db fault is_read with_open)
+    k
 
 -- ---- no other steps
 
-count_one : (p : Item → Bool) (x : Item) (b c : List Item) → count_by p (x ∷ b) ≡ count_by p (x ∷ c)
+tail_counts_equal : (p : Item → Bool) (x : Item) (b c : List Item) → count_by p (x ∷ b)
+    ≡ count_by p (x ∷ c)
     → count_by p b ≡ count_by p c
-count_one p x b c e = omega (arith, e, count_append p (x ∷ []) b, count_append p (x ∷ []) c)
+tail_counts_equal p x b c counts_equal = omega (
+  arith,
+  counts_equal,
+  count_append p (x ∷ []) b,
+  count_append p (x ∷ []) c,
+)
 
-same_split : (b c d e : List Item) → b ++ mark ∷ d ≡ c ++ mark ∷ e
+fronts_equal : (b c d e : List Item) → b ++ mark ∷ d ≡ c ++ mark ∷ e
     → count_by is_mark_item b ≡ count_by is_mark_item c → b ≡ c
-same_split [] [] d e h m = refl
-same_split [] (x ∷ c) d e h m =
-    let head : x ≡ mark = cc in
-    let n : 0 ≡ count_by is_mark_item (mark ∷ c) =
-    m ∙ ap (λ y. count_by is_mark_item (y ∷ c)) head in
-    absurd (omega (arith, n, count_append is_mark_item (mark ∷ []) c))
-same_split (x ∷ b) [] d e h m =
-    let head : x ≡ mark = cc in
-    let n : 0 ≡ count_by is_mark_item (mark ∷ b) =
-    sym m ∙ ap (λ y. count_by is_mark_item (y ∷ b)) head in
-    absurd (omega (arith, n, count_append is_mark_item (mark ∷ []) b))
-same_split (x ∷ b) (y ∷ c) d e h m =
-    let head : x ≡ y = cc in
-    let tail : b ++ mark ∷ d ≡ c ++ mark ∷ e = cc in
-    ap₂ (λ z zs. z ∷ zs) head
-    (same_split b c d e tail
-    (count_one is_mark_item y b c (ap (λ z. count_by is_mark_item (z ∷ b)) (sym head) ∙ m)))
+fronts_equal [] [] d e lists_equal mark_counts_equal = refl
+fronts_equal [] (x ∷ c) d e lists_equal mark_counts_equal =
+    let x_is_mark : x ≡ mark = cc in
+    let mark_count_is_0 : 0 ≡ count_by is_mark_item (mark ∷ c) =
+    mark_counts_equal ∙ ap (λ y. count_by is_mark_item (y ∷ c)) x_is_mark in
+    absurd (omega (arith, mark_count_is_0, count_append is_mark_item (mark ∷ []) c))
+fronts_equal (x ∷ b) [] d e lists_equal mark_counts_equal =
+    let x_is_mark : x ≡ mark = cc in
+    let mark_count_is_0 : 0 ≡ count_by is_mark_item (mark ∷ b) =
+    sym mark_counts_equal ∙ ap (λ y. count_by is_mark_item (y ∷ b)) x_is_mark in
+    absurd (omega (arith, mark_count_is_0, count_append is_mark_item (mark ∷ []) b))
+fronts_equal (x ∷ b) (y ∷ c) d e lists_equal mark_counts_equal =
+    let heads_equal : x ≡ y = cc in
+    let tails_equal : b ++ mark ∷ d ≡ c ++ mark ∷ e = cc in
+    ap₂ (λ z zs. z ∷ zs) heads_equal
+    (fronts_equal b c d e tails_equal
+    (tail_counts_equal is_mark_item y b c (ap (λ z. count_by is_mark_item (z ∷ b)) (sym heads_equal)
+    ∙ mark_counts_equal)))
 
 -- mark k stands after one step
-mark_unique : (items : List Item) (k i j : ℕ) → IsMark items k i → IsMark items k j → i ≡ j
-mark_unique items k i j g h =
-    let same : g.before ≡ h.before =
-    same_split g.before h.before g.after h.after (sym g.are ∙ h.are) (g.marks ∙ sym h.marks) in
-    let count : count_by is_number g.before ≡ count_by is_number h.before =
-    ap (count_by is_number) same in
-    let x = g.steps in
-    let y = h.steps in
+marked_step_is_unique : (items : List Item) (k i j : ℕ) → IsMark items k i → IsMark items k j → i
+    ≡ j
+marked_step_is_unique items k i j marks_i marks_j =
+    let fronts_are_equal : marks_i.items_before ≡ marks_j.items_before =
+    fronts_equal marks_i.items_before marks_j.items_before marks_i.items_after marks_j.items_after
+    (sym marks_i.items_are ∙ marks_j.items_are) (marks_i.mark_count_is
+    ∙ sym marks_j.mark_count_is) in
+    let number_counts_equal : count_by is_number marks_i.items_before
+    ≡ count_by is_number marks_j.items_before =
+    ap (count_by is_number) fronts_are_equal in
+    let number_count_is_i = marks_i.number_count_is in
+    let number_count_is_j = marks_j.number_count_is in
     omega arith
 
-get_within : (xs : List ℕ) (i x : ℕ) → slice_get xs i ≡ Some x → i < length xs
-get_within [] zero x e = absurd (cc)
-get_within [] (suc i) x e = absurd (cc)
-get_within (y ∷ xs) zero x e = omega arith
-get_within (y ∷ xs) (suc i) x e = let h = get_within xs i x e in omega arith
+index_lt_length : (xs : List ℕ) (i x : ℕ) → slice_get xs i ≡ Some x → i < length xs
+index_lt_length [] zero x x_is_at_i = absurd (cc)
+index_lt_length [] (suc i) x x_is_at_i = absurd (cc)
+index_lt_length (y ∷ xs) zero x x_is_at_i = omega arith
+index_lt_length (y ∷ xs) (suc i) x x_is_at_i = let index_lt_tail_length = index_lt_length xs i x
+    x_is_at_i in omega arith
 
-same_get : (xs : List ℕ) (i j x y : ℕ) → i ≡ j → slice_get xs i ≡ Some x → slice_get xs j ≡ Some y
+elements_equal : (xs : List ℕ) (i j x y : ℕ) → i ≡ j → slice_get xs i ≡ Some x → slice_get xs j
+    ≡ Some y
     → x ≡ y
-same_get xs i j x y s e f = some_is (sym e ∙ ap (slice_get xs) s ∙ f)
+elements_equal xs i j x y i_is_j x_is_at_i y_is_at_j = equal_if_some_equal (sym x_is_at_i
+    ∙ ap (slice_get xs) i_is_j ∙ y_is_at_j)
   where
-    some_is : {a b : ℕ} → Some a ≡ Some b → a ≡ b
-    some_is e = cc
+    equal_if_some_equal : {a b : ℕ} → Some a ≡ Some b → a ≡ b
+    equal_if_some_equal options_equal = cc
 
 -- a number names one step
-names_unique : (hypotheses labels : List ℕ) (before : List Item) (n : ℕ) (s t : Step)
+named_step_is_unique : (hypotheses labels : List ℕ) (before : List Item) (n : ℕ) (s t : Step)
     → NamesStep hypotheses labels before n s → NamesStep hypotheses labels before n t → s ≡ t
-names_unique hs ls before n (label i) (label j) (inl g) (inl h) =
-    let x = g.1 in let y = h.1 in ap label (same_get hs g.0 h.0 i j (omega arith) g.2 h.2)
-names_unique hs ls before n (label i) (label j) (inr g) (inr h) =
-    let x = g.1 in let y = h.1 in ap label (same_get ls g.0 h.0 i j (omega arith) g.2 h.2)
-names_unique hs ls before n (label i) (label j) (inl g) (inr h) =
-    let x = g.1 in let y = h.1 in let l = get_within hs g.0 i g.2 in absurd (omega arith)
-names_unique hs ls before n (label i) (label j) (inr g) (inl h) =
-    let x = g.1 in let y = h.1 in let l = get_within hs h.0 j h.2 in absurd (omega arith)
-names_unique hs ls before n (label i) (marked j) (inl g) h =
-    let x = g.1 in let y = h.1 in let l = get_within hs g.0 i g.2 in absurd (omega arith)
-names_unique hs ls before n (label i) (marked j) (inr g) h =
-    let x = g.1 in let y = h.1 in let l = get_within ls g.0 i g.2 in absurd (omega arith)
-names_unique hs ls before n (marked i) (label j) g (inl h) =
-    let x = g.1 in let y = h.1 in let l = get_within hs h.0 j h.2 in absurd (omega arith)
-names_unique hs ls before n (marked i) (label j) g (inr h) =
-    let x = g.1 in let y = h.1 in let l = get_within ls h.0 j h.2 in absurd (omega arith)
-names_unique hs ls before n (marked i) (marked j) g h =
-    let x = g.1 in
-    let y = h.1 in
-    let same : g.0 ≡ h.0 = omega arith in
-    ap marked (mark_unique before h.0 i j (subst (λ k. IsMark before k i) same g.2) h.2)
+named_step_is_unique hs ls items_before n (label i) (label j) (inl names_s) (inl names_t) =
+    let n_is_for_s = names_s.1 in let n_is_for_t = names_t.1 in ap label (elements_equal hs
+    names_s.0 names_t.0 i j (omega arith) names_s.2 names_t.2)
+named_step_is_unique hs ls items_before n (label i) (label j) (inr names_s) (inr names_t) =
+    let n_is_for_s = names_s.1 in let n_is_for_t = names_t.1 in ap label (elements_equal ls
+    names_s.0 names_t.0 i j (omega arith) names_s.2 names_t.2)
+named_step_is_unique hs ls items_before n (label i) (label j) (inl names_s) (inr names_t) =
+    let n_is_for_s = names_s.1 in let n_is_for_t = names_t.1 in let index_lt = index_lt_length hs
+    names_s.0 i names_s.2 in absurd (omega arith)
+named_step_is_unique hs ls items_before n (label i) (label j) (inr names_s) (inl names_t) =
+    let n_is_for_s = names_s.1 in let n_is_for_t = names_t.1 in let index_lt = index_lt_length hs
+    names_t.0 j names_t.2 in absurd (omega arith)
+named_step_is_unique hs ls items_before n (label i) (marked j) (inl names_s) names_t =
+    let n_is_for_s = names_s.1 in let n_is_for_t = names_t.1 in let index_lt = index_lt_length hs
+    names_s.0 i names_s.2 in absurd (omega arith)
+named_step_is_unique hs ls items_before n (label i) (marked j) (inr names_s) names_t =
+    let n_is_for_s = names_s.1 in let n_is_for_t = names_t.1 in let index_lt = index_lt_length ls
+    names_s.0 i names_s.2 in absurd (omega arith)
+named_step_is_unique hs ls items_before n (marked i) (label j) names_s (inl names_t) =
+    let n_is_for_s = names_s.1 in let n_is_for_t = names_t.1 in let index_lt = index_lt_length hs
+    names_t.0 j names_t.2 in absurd (omega arith)
+named_step_is_unique hs ls items_before n (marked i) (label j) names_s (inr names_t) =
+    let n_is_for_s = names_s.1 in let n_is_for_t = names_t.1 in let index_lt = index_lt_length ls
+    names_t.0 j names_t.2 in absurd (omega arith)
+named_step_is_unique hs ls items_before n (marked i) (marked j) names_s names_t =
+    let n_is_for_s = names_s.1 in
+    let n_is_for_t = names_t.1 in
+    let mark_indices_equal : names_s.0 ≡ names_t.0 = omega arith in
+    ap marked (marked_step_is_unique items_before names_t.0 i j (subst (λ k. IsMark items_before k
+    i) mark_indices_equal names_s.2) names_t.2)
 
 -- a number of the items, with so many before it
 record IsNth (items : List Item) (i : ℕ) : Type 0 where
-  pub before : List Item
-  pub after : List Item
+  pub items_before : List Item
+  pub items_after : List Item
   pub n : ℕ
-  pub are : items ≡ before ++ number n ∷ after
-  pub count : count_by is_number before ≡ i
+  pub items_are : items ≡ items_before ++ number n ∷ items_after
+  pub number_count_is : count_by is_number items_before ≡ i
 
-nth_number : (items : List Item) (i : ℕ) → i < count_by is_number items → IsNth items i
-nth_number [] i h = absurd (omega arith)
-nth_number (number n ∷ items) zero h =
-    record { before = []; after = items; n = n; are = refl; count = refl }
-nth_number (number n ∷ items) (suc i) h =
-    let r = nth_number items i (omega (arith, h, count_append is_number (number n ∷ []) items)) in
-    let c = r.count in
+number_at : (items : List Item) (i : ℕ) → i < count_by is_number items → IsNth items i
+number_at [] i i_lt_count = absurd (omega arith)
+number_at (number n ∷ items) zero i_lt_count =
     record {
-      before = number n ∷ r.before;
-      after = r.after;
-      n = r.n;
-      are = ap (λ xs. number n ∷ xs) r.are;
-      count = omega (arith, c, count_append is_number (number n ∷ []) r.before);
+      items_before = [];
+      items_after = items;
+      n = n;
+      items_are = refl;
+      number_count_is = refl;
     }
-nth_number (mark ∷ items) i h =
-    let r = nth_number items i (omega (arith, h, count_append is_number (mark ∷ []) items)) in
-    let c = r.count in
+number_at (number n ∷ items) (suc i) i_lt_count =
+    let in_tail = number_at items i (omega (
+      arith,
+      i_lt_count,
+      count_append is_number (number n ∷
+          []) items,
+    )) in
+    let count_in_tail = in_tail.number_count_is in
     record {
-      before = mark ∷ r.before;
-      after = r.after;
-      n = r.n;
-      are = ap (λ xs. mark ∷ xs) r.are;
-      count = omega (arith, c, count_append is_number (mark ∷ []) r.before);
+      items_before = number n ∷ in_tail.items_before;
+      items_after = in_tail.items_after;
+      n = in_tail.n;
+      items_are = ap (λ xs. number n ∷ xs) in_tail.items_are;
+      number_count_is = omega (
+        arith,
+        count_in_tail,
+        count_append is_number (number n ∷ [])
+            in_tail.items_before,
+      );
+    }
+number_at (mark ∷ items) i i_lt_count =
+    let in_tail = number_at items i (omega (
+      arith,
+      i_lt_count,
+      count_append is_number (mark ∷ [])
+          items,
+    )) in
+    let count_in_tail = in_tail.number_count_is in
+    record {
+      items_before = mark ∷ in_tail.items_before;
+      items_after = in_tail.items_after;
+      n = in_tail.n;
+      items_are = ap (λ xs. mark ∷ xs) in_tail.items_are;
+      number_count_is = omega (
+        arith,
+        count_in_tail,
+        count_append is_number (mark ∷ [])
+            in_tail.items_before,
+      );
     }
 
-same_steps : (a b : List Step) → length a ≡ length b
+lists_equal : (a b : List Step) → length a ≡ length b
     → ((i : ℕ) → i < length a → slice_get a i ≡ slice_get b i) → a ≡ b
-same_steps [] [] l h = refl
-same_steps [] (t ∷ b) l h = absurd (omega arith)
-same_steps (s ∷ a) [] l h = absurd (omega arith)
-same_steps (s ∷ a) (t ∷ b) l h =
-    ap₂ (λ x xs. x ∷ xs) (some_is (h 0 (omega arith)))
-    (same_steps a b (omega arith) (λ i m. h (suc i) (omega arith)))
+lists_equal [] [] lengths_equal equal_at_each = refl
+lists_equal [] (t ∷ b) lengths_equal equal_at_each = absurd (omega arith)
+lists_equal (s ∷ a) [] lengths_equal equal_at_each = absurd (omega arith)
+lists_equal (s ∷ a) (t ∷ b) lengths_equal equal_at_each =
+    ap₂ (λ x xs. x ∷ xs) (equal_if_some_equal (equal_at_each 0 (omega arith)))
+    (lists_equal a b (omega arith) (λ i i_lt_length. equal_at_each (suc i) (omega arith)))
   where
-    some_is : {x y : Step} → Some x ≡ Some y → x ≡ y
-    some_is e = cc
+    equal_if_some_equal : {x y : Step} → Some x ≡ Some y → x ≡ y
+    equal_if_some_equal options_equal = cc
 
-pub steps_unique : NamedStepsAreUnique
-steps_unique hypotheses labels items ss others g h =
-    same_steps ss others (g.count ∙ sym h.count) each
+pub named_steps_are_unique : NamedStepsAreUnique
+named_steps_are_unique hypotheses labels items ss other_steps are_steps are_other_steps =
+    lists_equal ss other_steps (are_steps.step_count_is ∙ sym are_other_steps.step_count_is)
+    equal_at
   where
-    each : (i : ℕ) → i < length ss → slice_get ss i ≡ slice_get others i
-    each i l =
-        let c = g.count in
-        let n = nth_number items i (omega arith) in
-        let one = g.each n.before n.after n.n n.are in
-        let two = h.each n.before n.after n.n n.are in
-        let same : one.0 ≡ two.0 =
-        names_unique hypotheses labels n.before n.n one.0 two.0 one.2 two.2 in
-        ap (slice_get ss) (sym n.count) ∙ one.1 ∙ ap Some same ∙ sym two.1
-        ∙ ap (slice_get others) n.count
+    equal_at : (i : ℕ) → i < length ss → slice_get ss i ≡ slice_get other_steps i
+    equal_at i i_lt_length =
+        let step_count = are_steps.step_count_is in
+        let number_i = number_at items i (omega arith) in
+        let named = are_steps.each_is_named number_i.items_before number_i.items_after number_i.n
+        number_i.items_are in
+        let other_named = are_other_steps.each_is_named number_i.items_before number_i.items_after
+        number_i.n number_i.items_are in
+        let steps_are_equal : named.0 ≡ other_named.0 =
+        named_step_is_unique hypotheses labels number_i.items_before number_i.n named.0
+        other_named.0 named.2 other_named.2 in
+        ap (slice_get ss) (sym number_i.number_count_is) ∙ named.1 ∙ ap Some steps_are_equal
+        ∙ sym other_named.1
+        ∙ ap (slice_get other_steps) number_i.number_count_is

@@ -29,134 +29,189 @@ use Rattle.mm_spec.proofs.FaultlessLaw.{append_none, at_none, when_none}
 -- ---- one spelling
 
 digit_unique : (b c d : ℕ) → IsEarlyDigit b c → IsEarlyDigit b d → c ≡ d
-digit_unique b c d h k = let x = h.code in let y = k.code in omega arith
+digit_unique b c d is_c is_d = let letter_is_of_c = is_c.letter_is in let letter_is_of_d =
+    is_d.letter_is in omega arith
 
 last_unique : (b c d : ℕ) → IsLastDigit b c → IsLastDigit b d → c ≡ d
-last_unique b c d h k = let x = h.code in let y = k.code in omega arith
+last_unique b c d is_c is_d = let letter_is_of_c = is_c.letter_is in let letter_is_of_d =
+    is_d.letter_is in omega arith
 
 early_unique : (bs : List ℕ) (m n : ℕ) → AreEarlyDigits bs m → AreEarlyDigits bs n → m ≡ n
-early_unique [] m n h k = h ∙ sym k
-early_unique (b ∷ bs) m n h k =
-    let digit : h.0 ≡ k.0 = digit_unique b h.0 k.0 h.2 k.2 in
-    let rest : h.1 ≡ k.1 = early_unique bs h.1 k.1 h.3 k.3 in
-    h.4 ∙ ap₂ (λ d r. d * 5 ^ length bs + r) digit rest ∙ sym k.4
+early_unique [] m n are_m are_n = are_m ∙ sym are_n
+early_unique (b ∷ bs) m n are_m are_n =
+    let digits_equal : are_m.0 ≡ are_n.0 = digit_unique b are_m.0 are_n.0 are_m.2 are_n.2 in
+    let rests_equal : are_m.1 ≡ are_n.1 = early_unique bs are_m.1 are_n.1 are_m.3 are_n.3 in
+    are_m.4 ∙ ap₂ (λ d r. d * 5 ^ length bs + r) digits_equal rests_equal ∙ sym are_n.4
 
 -- what ends an item is no earlier digit
 abbrev pub EndsItem : ℕ → Type 0
 EndsItem b = (b < 85) ⊎ (89 < b)
 
 pub no_early : (b d : ℕ) → EndsItem b → IsEarlyDigit b d → ⊥
-no_early b d (inl h) e = let x = e.code in let l = e.least in omega arith
-no_early b d (inr h) e = let x = e.code in let l = e.most in omega arith
+no_early b d (inl b_lt_85) is_early_digit = let letter_is = is_early_digit.letter_is in let
+    digit_ge_1 = is_early_digit.digit_ge_1 in omega arith
+no_early b d (inr b_gt_89) is_early_digit = let letter_is = is_early_digit.letter_is in let
+    digit_le_5 = is_early_digit.digit_le_5 in omega arith
 
 -- the letters of an item: earlier digits and what ends it
 record IsItemLetters (letters : List ℕ) : Type 0 where
-  pub early : List ℕ
-  pub last : ℕ
-  pub are : letters ≡ early ++ last ∷ []
-  pub high : ℕ
-  pub earlier : AreEarlyDigits early high
-  pub ends : EndsItem last
+  pub early_letters : List ℕ
+  pub last_letter : ℕ
+  pub letters_are : letters ≡ early_letters ++ last_letter ∷ []
+  pub early_value : ℕ
+  pub are_early_digits : AreEarlyDigits early_letters early_value
+  pub ends_item : EndsItem last_letter
 
 item_letters : (item : Item) (letters : List ℕ) → IsSpelled letters item → IsItemLetters letters
-item_letters (number n) letters h =
+item_letters (number n) letters is_spelled =
     record {
-      early = h.early;
-      last = h.last;
-      are = h.are;
-      high = h.high;
-      earlier = h.earlier;
-      ends = inl (let c = h.ends.code in let m = h.ends.most in omega arith);
+      early_letters = is_spelled.early_letters;
+      last_letter = is_spelled.last_letter;
+      letters_are = is_spelled.letters_are;
+      early_value = is_spelled.early_value;
+      are_early_digits = is_spelled.are_early_digits;
+      ends_item = inl (let letter_is = is_spelled.is_last_digit.letter_is in let digit_le_20 =
+          is_spelled.is_last_digit.digit_le_20 in omega arith);
     }
-item_letters mark letters h =
-    record { early = []; last = 90; are = h; high = 0; earlier = refl; ends = inr (omega arith) }
+item_letters mark letters letters_are =
+    record {
+      early_letters = [];
+      last_letter = 90;
+      letters_are = letters_are;
+      early_value = 0;
+      are_early_digits = refl;
+      ends_item = inr (omega arith);
+    }
 
 -- two such fronts of the same letters are one
-same_fronts : (early other : List ℕ) (last end m n : ℕ) (rest more : List ℕ)
-    → AreEarlyDigits early m → AreEarlyDigits other n → EndsItem last → EndsItem end
-    → early ++ last ∷ rest ≡ other ++ end ∷ more → (early ≡ other) × (last ≡ end) × (rest ≡ more)
-same_fronts [] [] last end m n rest more h k a b e = (refl, cc, cc)
-same_fronts [] (c ∷ other) last end m n rest more h k a b e =
-    let same : last ≡ c = cc in absurd (no_early c k.0 (subst EndsItem same a) k.2)
-same_fronts (c ∷ early) [] last end m n rest more h k a b e =
-    let same : end ≡ c = cc in absurd (no_early c h.0 (subst EndsItem same b) h.2)
-same_fronts (c ∷ early) (d ∷ other) last end m n rest more h k a b e =
-    let heads : c ≡ d = cc in
-    let tails : early ++ last ∷ rest ≡ other ++ end ∷ more = cc in
-    let r = same_fronts early other last end h.1 k.1 rest more h.3 k.3 a b tails in
-    (ap₂ (λ x xs. x ∷ xs) heads r.0, r.1, r.2)
+fronts_equal : (early early' : List ℕ) (last_letter last_letter' m n : ℕ) (later later' : List ℕ)
+    → AreEarlyDigits early m → AreEarlyDigits early' n → EndsItem last_letter
+    → EndsItem last_letter'
+    → early ++ last_letter ∷ later ≡ early' ++ last_letter' ∷ later' → (early
+    ≡ early') × (last_letter ≡ last_letter') × (later ≡ later')
+fronts_equal [] [] last_letter last_letter' m n later later' early_is_m early_is_n last_ends
+    last_ends' letters_equal = (refl, cc, cc)
+fronts_equal [] (c ∷ early') last_letter last_letter' m n later later' early_is_m early_is_n
+    last_ends last_ends' letters_equal =
+    let last_is_c : last_letter ≡ c = cc in absurd (no_early c early_is_n.0 (subst EndsItem
+    last_is_c last_ends) early_is_n.2)
+fronts_equal (c ∷ early) [] last_letter last_letter' m n later later' early_is_m early_is_n
+    last_ends last_ends' letters_equal =
+    let last_is_c : last_letter' ≡ c = cc in absurd (no_early c early_is_m.0 (subst EndsItem
+    last_is_c last_ends') early_is_m.2)
+fronts_equal (c ∷ early) (d ∷ early') last_letter last_letter' m n later later' early_is_m
+    early_is_n last_ends last_ends' letters_equal =
+    let heads_equal : c ≡ d = cc in
+    let tails_equal : early ++ last_letter ∷ later ≡ early' ++ last_letter' ∷ later' = cc in
+    let rest_equal = fronts_equal early early' last_letter last_letter' early_is_m.1 early_is_n.1
+    later later' early_is_m.3 early_is_n.3 last_ends last_ends' tails_equal in
+    (ap₂ (λ x xs. x ∷ xs) heads_equal rest_equal.0, rest_equal.1, rest_equal.2)
 
-same_front : (first other rest more : List ℕ) → IsItemLetters first → IsItemLetters other
-    → first ++ rest ≡ other ++ more → (first ≡ other) × (rest ≡ more)
-same_front first other rest more h k e =
-    let first_split : first ++ rest ≡ h.early ++ h.last ∷ rest =
-    ap (λ x. x ++ rest) h.are ∙ append_assoc h.early (h.last ∷ []) rest in
-    let other_split : other ++ more ≡ k.early ++ k.last ∷ more =
-    ap (λ x. x ++ more) k.are ∙ append_assoc k.early (k.last ∷ []) more in
-    let fronts_are_same =
-    same_fronts h.early k.early h.last k.last h.high k.high rest more h.earlier k.earlier h.ends
-    k.ends (sym first_split ∙ e ∙ other_split) in (
-      h.are ∙ ap₂ (λ xs x. xs ++ x ∷ []) fronts_are_same.0 fronts_are_same.1 ∙ sym k.are,
-      fronts_are_same.2,
+item_letters_equal : (front front' later later' : List ℕ) → IsItemLetters front
+    → IsItemLetters front'
+    → front ++ later ≡ front' ++ later' → (front ≡ front') × (later ≡ later')
+item_letters_equal front front' later later' is_item is_item' letters_equal =
+    let front_splits : front ++ later ≡ is_item.early_letters ++ is_item.last_letter ∷ later =
+    ap (λ x. x ++ later) is_item.letters_are ∙ append_assoc is_item.early_letters
+    (is_item.last_letter ∷ []) later in
+    let front_splits' : front' ++ later' ≡ is_item'.early_letters ++ is_item'.last_letter ∷ later' =
+    ap (λ x. x ++ later') is_item'.letters_are ∙ append_assoc is_item'.early_letters
+    (is_item'.last_letter ∷ []) later' in
+    let parts_equal =
+    fronts_equal is_item.early_letters is_item'.early_letters is_item.last_letter
+    is_item'.last_letter is_item.early_value is_item'.early_value later later'
+    is_item.are_early_digits is_item'.are_early_digits is_item.ends_item
+    is_item'.ends_item (sym front_splits ∙ letters_equal ∙ front_splits') in (
+      is_item.letters_are ∙ ap₂ (λ xs x. xs ++ x ∷ []) parts_equal.0 parts_equal.1
+          ∙ sym is_item'.letters_are,
+      parts_equal.2,
     )
 
-last_of_two : (early other : List ℕ) (last end m n : ℕ) → AreEarlyDigits early m
-    → AreEarlyDigits other n → EndsItem last → EndsItem end → early ++ last ∷ [] ≡ other ++ end ∷ []
-    → (early ≡ other) × (last ≡ end)
-last_of_two early other last end m n h k a b e =
-    let r = same_fronts early other last end m n [] [] h k a b e in (r.0, r.1)
+early_and_last_equal : (early early' : List ℕ) (last_letter last_letter' m n : ℕ)
+    → AreEarlyDigits early m
+    → AreEarlyDigits early' n → EndsItem last_letter → EndsItem last_letter'
+    → early ++ last_letter ∷ [] ≡ early' ++ last_letter' ∷ []
+    → (early ≡ early') × (last_letter ≡ last_letter')
+early_and_last_equal early early' last_letter last_letter' m n early_is_m early_is_n last_ends
+    last_ends' letters_equal =
+    let parts_equal = fronts_equal early early' last_letter last_letter' m n [] [] early_is_m
+    early_is_n last_ends last_ends' letters_equal in (parts_equal.0, parts_equal.1)
 
 last_digit_ends : (b d : ℕ) → IsLastDigit b d → EndsItem b
-last_digit_ends b d h = inl (let c = h.code in let m = h.most in omega arith)
+last_digit_ends b d is_last_digit = inl (let letter_is = is_last_digit.letter_is in let digit_le_20
+    = is_last_digit.digit_le_20 in omega arith)
 
 -- the letters of one item are those of no other
-pub item_unique : (a b : Item) (letters : List ℕ) → IsSpelled letters a → IsSpelled letters b
+pub spelled_item_is_unique : (a b : Item) (letters : List ℕ) → IsSpelled letters a
+    → IsSpelled letters b
     → a ≡ b
-item_unique mark mark letters h k = refl
-item_unique (number m) (number n) letters h k =
-    let r =
-    last_of_two h.early k.early h.last k.last h.high k.high h.earlier k.earlier
-    (last_digit_ends h.last h.low h.ends) (last_digit_ends k.last k.low k.ends)
-    (sym h.are ∙ k.are) in
-    let high : h.high ≡ k.high =
-    early_unique k.early h.high k.high
-    (subst (λ xs. AreEarlyDigits xs h.high) r.0 h.earlier) k.earlier in
-    let low : h.low ≡ k.low =
-    last_unique k.last h.low k.low (subst (λ x. IsLastDigit x h.low) r.1 h.ends) k.ends in
-    ap number (h.value ∙ ap₂ (λ x y. x * 20 + y) high low ∙ sym k.value)
-item_unique (number m) mark letters h k =
-    let r =
-    last_of_two h.early [] h.last 90 h.high 0 h.earlier refl (last_digit_ends h.last h.low h.ends)
-    (inr (omega arith)) (sym h.are ∙ k) in
-    let e = r.1 in let c = h.ends.code in let m = h.ends.most in absurd (omega arith)
-item_unique mark (number n) letters h k =
-    let r =
-    last_of_two k.early [] k.last 90 k.high 0 k.earlier refl (last_digit_ends k.last k.low k.ends)
-    (inr (omega arith)) (sym k.are ∙ h) in
-    let e = r.1 in let c = k.ends.code in let m = k.ends.most in absurd (omega arith)
+spelled_item_is_unique mark mark letters spells_a spells_b = refl
+spelled_item_is_unique (number m) (number n) letters spells_a spells_b =
+    let parts_equal =
+    early_and_last_equal spells_a.early_letters spells_b.early_letters spells_a.last_letter
+    spells_b.last_letter spells_a.early_value spells_b.early_value spells_a.are_early_digits
+    spells_b.are_early_digits
+    (last_digit_ends spells_a.last_letter spells_a.last_digit spells_a.is_last_digit)
+    (last_digit_ends spells_b.last_letter spells_b.last_digit spells_b.is_last_digit)
+    (sym spells_a.letters_are ∙ spells_b.letters_are) in
+    let early_values_equal : spells_a.early_value ≡ spells_b.early_value =
+    early_unique spells_b.early_letters spells_a.early_value spells_b.early_value
+    (subst (λ xs. AreEarlyDigits xs spells_a.early_value) parts_equal.0 spells_a.are_early_digits)
+    spells_b.are_early_digits in
+    let last_digits_equal : spells_a.last_digit ≡ spells_b.last_digit =
+    last_unique spells_b.last_letter spells_a.last_digit spells_b.last_digit (subst (λ x.
+    IsLastDigit x spells_a.last_digit) parts_equal.1 spells_a.is_last_digit) spells_b.is_last_digit
+    in
+    ap number (spells_a.value_is ∙ ap₂ (λ x y. x * 20 + y) early_values_equal last_digits_equal
+    ∙ sym spells_b.value_is)
+spelled_item_is_unique (number m) mark letters spells_a spells_b =
+    let parts_equal =
+    early_and_last_equal spells_a.early_letters [] spells_a.last_letter 90 spells_a.early_value 0
+    spells_a.are_early_digits refl (last_digit_ends spells_a.last_letter spells_a.last_digit
+    spells_a.is_last_digit)
+    (inr (omega arith)) (sym spells_a.letters_are ∙ spells_b) in
+    let last_is_90 = parts_equal.1 in let letter_is = spells_a.is_last_digit.letter_is in let
+    digit_le_20 = spells_a.is_last_digit.digit_le_20 in absurd (omega arith)
+spelled_item_is_unique mark (number n) letters spells_a spells_b =
+    let parts_equal =
+    early_and_last_equal spells_b.early_letters [] spells_b.last_letter 90 spells_b.early_value 0
+    spells_b.are_early_digits refl (last_digit_ends spells_b.last_letter spells_b.last_digit
+    spells_b.is_last_digit)
+    (inr (omega arith)) (sym spells_b.letters_are ∙ spells_a) in
+    let last_is_90 = parts_equal.1 in let letter_is = spells_b.is_last_digit.letter_is in let
+    digit_le_20 = spells_b.is_last_digit.digit_le_20 in absurd (omega arith)
 
-pub nonempty : (early : List ℕ) (last : ℕ) (rest : List ℕ) → [] ≡ (early ++ last ∷ []) ++ rest → ⊥
-nonempty [] last rest e = cc
-nonempty (b ∷ early) last rest e = cc
+pub front_with_last_is_not_nil : (early_letters : List ℕ) (last_letter : ℕ) (later : List ℕ) → []
+    ≡ (early_letters ++ last_letter ∷ []) ++ later → ⊥
+front_with_last_is_not_nil [] last_letter later nil_is_front = cc
+front_with_last_is_not_nil (b ∷ early_letters) last_letter later nil_is_front = cc
 
-pub spelling_unique : SpellingIsUnique
-spelling_unique letters [] [] h k = refl
-spelling_unique letters [] (b ∷ others) h k =
-    let letters_of_one =
-    item_letters b k.0 k.3 in
-    absurd (nonempty letters_of_one.early letters_of_one.last k.1
-    (sym h ∙ k.2 ∙ ap (λ x. x ++ k.1) letters_of_one.are))
-spelling_unique letters (a ∷ items) [] h k =
-    let letters_of_one =
-    item_letters a h.0 h.3 in
-    absurd (nonempty letters_of_one.early letters_of_one.last h.1
-    (sym k ∙ h.2 ∙ ap (λ x. x ++ h.1) letters_of_one.are))
-spelling_unique letters (a ∷ items) (b ∷ others) h k =
-    let r = same_front h.0 k.0 h.1 k.1 (item_letters a h.0 h.3) (item_letters b k.0 k.3)
-    (sym h.2 ∙ k.2) in
-    let item : a ≡ b = item_unique a b k.0 (subst (λ x. IsSpelled x a) r.0 h.3) k.3 in
-    ap₂ (λ x xs. x ∷ xs) item
-    (spelling_unique k.1 items others (subst (λ x. Spells x items) r.1 h.4) k.4)
+pub spelled_items_are_unique : SpellingIsUnique
+spelled_items_are_unique letters [] [] spells_items spells_others = refl
+spelled_items_are_unique letters [] (b ∷ other_items) spells_items spells_others =
+    let item_letters_are =
+    item_letters b spells_others.0 spells_others.3 in
+    absurd (front_with_last_is_not_nil item_letters_are.early_letters item_letters_are.last_letter
+    spells_others.1
+    (sym spells_items ∙ spells_others.2 ∙ ap (λ x. x ++ spells_others.1)
+    item_letters_are.letters_are))
+spelled_items_are_unique letters (a ∷ items) [] spells_items spells_others =
+    let item_letters_are =
+    item_letters a spells_items.0 spells_items.3 in
+    absurd (front_with_last_is_not_nil item_letters_are.early_letters item_letters_are.last_letter
+    spells_items.1
+    (sym spells_others ∙ spells_items.2 ∙ ap (λ x. x ++ spells_items.1)
+    item_letters_are.letters_are))
+spelled_items_are_unique letters (a ∷ items) (b ∷ other_items) spells_items spells_others =
+    let parts_equal = item_letters_equal spells_items.0 spells_others.0 spells_items.1
+    spells_others.1 (item_letters a spells_items.0 spells_items.3) (item_letters b spells_others.0
+    spells_others.3)
+    (sym spells_items.2 ∙ spells_others.2) in
+    let items_equal : a ≡ b = spelled_item_is_unique a b spells_others.0 (subst (λ x. IsSpelled x a)
+    parts_equal.0 spells_items.3) spells_others.3 in
+    ap₂ (λ x xs. x ∷ xs) items_equal
+    (spelled_items_are_unique spells_others.1 items other_items (subst (λ x. Spells x items)
+    parts_equal.1 spells_items.4) spells_others.4)
 
 -- ---- brackets
 
@@ -170,74 +225,81 @@ bracketed_by t ts b =
     ]
 
 -- the labels stand in the brackets, and the letters after them
-pub bracketed_is : (labels : List Token) (closing : Token) (letters : List Token)
+pub bracketed_splits : (labels : List Token) (closing : Token) (letters : List Token)
     → closing.word ≡ codes ")" → AllByRecursion (λ t. t.word ≢ codes ")") labels
     → bracketed (labels ++ closing ∷ letters) ≡ record { labels = labels; letters = Some letters }
-bracketed_is [] closing letters e h =
-    ap (bracketed_by closing letters) ((bytes_eq-Decides closing.word (codes ")")).1 e)
-bracketed_is (t ∷ labels) closing letters e h =
-    by_bracket (bytes_eq t.word (codes ")")) refl (bracketed_is labels closing letters e h.1)
+bracketed_splits [] closing letters is_closing no_label_closes =
+    ap (bracketed_by closing letters) ((bytes_eq-Decides closing.word (codes ")")).1 is_closing)
+bracketed_splits (t ∷ labels) closing letters is_closing no_label_closes =
+    by_bracket (bytes_eq t.word (codes ")")) refl (bracketed_splits labels closing letters
+    is_closing no_label_closes.1)
   where
     by_bracket : (b : Bool) → bytes_eq t.word (codes ")") ≡ b
         → bracketed (labels ++ closing ∷ letters)
         ≡ record { labels = labels; letters = Some letters }
         → bracketed_by t (labels ++ closing ∷ letters) b
         ≡ record { labels = t ∷ labels; letters = Some letters }
-    by_bracket true q r = absurd (h.0 (same_word t.word (codes ")") q))
-    by_bracket false q r = ap (with_label t) r
+    by_bracket true is_bracket rest_splits = absurd (no_label_closes.0 (same_word t.word (codes ")")
+        is_bracket))
+    by_bracket false not_bracket rest_splits = ap (with_label t) rest_splits
 
-pub parts_unique : PartsAreUnique
-parts_unique ts labels letters others more h k =
-    let first_bracketed = bracketed_is labels h.closing letters h.closes h.first in
-    let other_bracketed = bracketed_is others k.closing more k.closes k.first in
-    let same_tails : labels ++ h.closing ∷ letters ≡ others ++ k.closing ∷ more =
-    tail_is (sym h.are ∙ k.are) in
-    let same_bracketed = sym first_bracketed ∙ ap bracketed same_tails ∙ other_bracketed in
-    (ap (λ p. p.labels) same_bracketed, some_is (ap (λ p. p.letters) same_bracketed))
+pub parts_are_unique : PartsAreUnique
+parts_are_unique ts labels letters other_labels other_letters is_compressed is_other_compressed =
+    let first_bracketed = bracketed_splits labels is_compressed.closing letters
+    is_compressed.closing_is is_compressed.no_label_closes in
+    let other_bracketed = bracketed_splits other_labels is_other_compressed.closing other_letters
+    is_other_compressed.closing_is is_other_compressed.no_label_closes in
+    let tails_equal : labels ++ is_compressed.closing ∷ letters
+    ≡ other_labels ++ is_other_compressed.closing ∷ other_letters =
+    equal_tails (sym is_compressed.words_are ∙ is_other_compressed.words_are) in
+    let brackets_equal = sym first_bracketed ∙ ap bracketed tails_equal ∙ other_bracketed in
+    (ap (λ p. p.labels) brackets_equal, equal_if_some_equal (ap (λ p. p.letters) brackets_equal))
   where
-    tail_is : {s t : Token} {xs ys : List Token} → s ∷ xs ≡ t ∷ ys → xs ≡ ys
-    tail_is e = cc
+    equal_tails : {s t : Token} {xs ys : List Token} → s ∷ xs ≡ t ∷ ys → xs ≡ ys
+    equal_tails lists_equal = cc
 
-    some_is : {xs ys : List Token} → Some xs ≡ Some ys → xs ≡ ys
-    some_is e = cc
+    equal_if_some_equal : {xs ys : List Token} → Some xs ≡ Some ys → xs ≡ ys
+    equal_if_some_equal options_equal = cc
 
 -- the parts of words with brackets
 pub record BracketParts (ts letters : List Token) : Type 0 where
   pub labels : List Token
   pub closing : Token
-  pub are : ts ≡ labels ++ closing ∷ letters
-  pub closes : closing.word ≡ codes ")"
-  pub first : AllByRecursion (λ t. t.word ≢ codes ")") labels
+  pub words_are : ts ≡ labels ++ closing ∷ letters
+  pub closing_is : closing.word ≡ codes ")"
+  pub no_label_closes : AllByRecursion (λ t. t.word ≢ codes ")") labels
 
-pub parts_of : (ts letters : List Token) → (bracketed ts).letters ≡ Some letters
+pub bracket_parts_of : (ts letters : List Token) → (bracketed ts).letters ≡ Some letters
     → BracketParts ts letters
-parts_of [] letters e = absurd (cc)
-parts_of (t ∷ ts) letters e =
-    by_bracket (bytes_eq t.word (codes ")")) refl e (λ h. parts_of ts letters h)
+bracket_parts_of [] letters letters_are = absurd (cc)
+bracket_parts_of (t ∷ ts) letters letters_are =
+    by_bracket (bytes_eq t.word (codes ")")) refl letters_are (λ rest_letters_are. bracket_parts_of
+    ts letters rest_letters_are)
   where
     by_bracket : (b : Bool) → bytes_eq t.word (codes ")") ≡ b
         → (bracketed_by t ts b).letters ≡ Some letters
         → ((bracketed ts).letters ≡ Some letters → BracketParts ts letters)
         → BracketParts (t ∷ ts) letters
-    by_bracket true q h of_the_rest =
-        let same : ts ≡ letters = cc in
+    by_bracket true is_bracket letters_are parts_of_rest =
+        let ts_is_letters : ts ≡ letters = cc in
         record {
           labels = [];
           closing = t;
-          are = ap (λ xs. t ∷ xs) same;
-          closes = same_word t.word (codes ")") q;
-          first = tt;
+          words_are = ap (λ xs. t ∷ xs) ts_is_letters;
+          closing_is = same_word t.word (codes ")") is_bracket;
+          no_label_closes = tt;
         }
-    by_bracket false q h of_the_rest =
-        let r = of_the_rest h in
+    by_bracket false not_bracket letters_are parts_of_rest =
+        let parts = parts_of_rest letters_are in
         record {
-          labels = t ∷ r.labels;
-          closing = r.closing;
-          are = ap (λ xs. t ∷ xs) r.are;
-          closes = r.closes;
-          first = (
-            (λ w. true≢false (sym ((bytes_eq-Decides t.word (codes ")")).1 w) ∙ q)),
-            r.first,
+          labels = t ∷ parts.labels;
+          closing = parts.closing;
+          words_are = ap (λ xs. t ∷ xs) parts.words_are;
+          closing_is = parts.closing_is;
+          no_label_closes = (
+            (λ is_bracket_word. true≢false (sym ((bytes_eq-Decides t.word (codes ")")).1
+                is_bracket_word) ∙ not_bracket)),
+            parts.no_label_closes,
           );
         }
 
@@ -261,18 +323,19 @@ AreFaultless label_count marks count (g ∷ gs) =
     ⊎ ((is_last g.last.byte ≡ false) × (g.last.byte ≡ 90) × (g.early ≡ []) × (0 < count)
     × AreFaultless label_count (marks + 1) count gs)
 
-no_length : (xs : List Letter) → nat_lt 0 (length xs) ≡ false → xs ≡ []
-no_length [] e = refl
-no_length (x ∷ xs) e = absurd (let h = ltb-false 0 (length (x ∷ xs)) e in omega arith)
+nil_if_not_positive : (xs : List Letter) → nat_lt 0 (length xs) ≡ false → xs ≡ []
+nil_if_not_positive [] not_positive = refl
+nil_if_not_positive (x ∷ xs) not_positive = absurd (let length_le_0 = ltb-false 0 (length (x ∷ xs))
+    not_positive in omega arith)
 
-pub faultless_groups : (gs : List Group) (label_count marks count : ℕ)
+pub groups_are_faultless : (gs : List Group) (label_count marks count : ℕ)
     → group_faults label_count marks count gs ≡ []
     → AreFaultless label_count marks count gs
-faultless_groups [] label_count marks count f = tt
-faultless_groups (g ∷ gs) label_count marks count f =
-    by_letter (is_last g.last.byte) refl (g.last.byte == 90) refl f
-    (λ e. faultless_groups gs label_count marks (count + 1) e)
-    (λ e. faultless_groups gs label_count (marks + 1) count e)
+groups_are_faultless [] label_count marks count no_faults = tt
+groups_are_faultless (g ∷ gs) label_count marks count no_faults =
+    by_letter (is_last g.last.byte) refl (g.last.byte == 90) refl no_faults
+    (λ rest_no_faults. groups_are_faultless gs label_count marks (count + 1) rest_no_faults)
+    (λ rest_no_faults. groups_are_faultless gs label_count (marks + 1) count rest_no_faults)
   where
     faults_of_group : Bool → Bool → List Fault
     faults_of_group a b = elim a [
@@ -294,8 +357,8 @@ faultless_groups (g ∷ gs) label_count marks count f =
 
     other_byte_is_fault : (b : Bool)
         → ¬ (at g.last.at (elim b [ true ↦ IncompleteProof ∷ [] | false ↦ BadLetter ∷ [] ]) ≡ [])
-    other_byte_is_fault true e = cc
-    other_byte_is_fault false e = cc
+    other_byte_is_fault true is_nil = cc
+    other_byte_is_fault false is_nil = cc
 
     by_letter : (a : Bool) → is_last g.last.byte ≡ a → (b : Bool) → (g.last.byte == 90) ≡ b
         → faults_of_group a b ++ faults_of_later_groups b ≡ []
@@ -304,128 +367,139 @@ faultless_groups (g ∷ gs) label_count marks count f =
         → (group_faults label_count (marks + 1) count gs ≡ []
         → AreFaultless label_count (marks + 1) count gs)
         → AreFaultless label_count marks count (g ∷ gs)
-    by_letter true p true q f after_number after_mark =
-        let u =
-        leb-true g.last.byte 84 (and_parts (nat_le 65 g.last.byte) (nat_le g.last.byte 84) p).1 in
-        let v = eqb-true g.last.byte 90 q in
+    by_letter true is_last_letter true is_mark no_faults after_number after_mark =
+        let byte_le_84 =
+        leb-true g.last.byte 84 (and_parts (nat_le 65 g.last.byte) (nat_le g.last.byte 84)
+        is_last_letter).1 in
+        let byte_is_90 = eqb-true g.last.byte 90 is_mark in
         absurd (omega arith)
-    by_letter true p false q f after_number after_mark =
-        let none =
+    by_letter true is_last_letter false not_mark no_faults after_number after_mark =
+        let not_too_large =
         when_none (nat_lt (label_count + marks) (value g)) NumberTooLarge
         (at_none (starts_at g) (when (nat_lt (label_count + marks) (value g)) NumberTooLarge)
-        (append_none (faults_of_group true false) (faults_of_later_groups false) f).0) in
+        (append_none (faults_of_group true false) (faults_of_later_groups false) no_faults).0) in
         inl (
-          p,
-          ltb-false (label_count + marks) (value g) none,
+          is_last_letter,
+          ltb-false (label_count + marks) (value g) not_too_large,
           after_number
-              (append_none (faults_of_group true false) (faults_of_later_groups false) f).1,
+              (append_none (faults_of_group true false) (faults_of_later_groups false) no_faults).1,
         )
-    by_letter false p true q f after_number after_mark =
-        let codes =
+    by_letter false not_last_letter true is_mark no_faults after_number after_mark =
+        let no_faults_of_letter =
         at_none g.last.at
         (when (nat_lt 0 (length g.early)) OpenNumber ++ when (count == 0) MarkBeforeStep)
-        (append_none (faults_of_group false true) (faults_of_later_groups true) f).0 in
-        let open_none =
+        (append_none (faults_of_group false true) (faults_of_later_groups true) no_faults).0 in
+        let no_open_number =
         when_none (nat_lt 0 (length g.early)) OpenNumber
         (append_none (when (nat_lt 0 (length g.early)) OpenNumber)
-        (when (count == 0) MarkBeforeStep) codes).0 in
-        let none =
+        (when (count == 0) MarkBeforeStep) no_faults_of_letter).0 in
+        let count_is_not_0 =
         eqb-false count 0
         (when_none (count == 0) MarkBeforeStep
         (append_none (when (nat_lt 0 (length g.early)) OpenNumber)
-        (when (count == 0) MarkBeforeStep) codes).1) in
+        (when (count == 0) MarkBeforeStep) no_faults_of_letter).1) in
         inr (
-          p,
-          eqb-true g.last.byte 90 q,
-          no_length g.early open_none,
+          not_last_letter,
+          eqb-true g.last.byte 90 is_mark,
+          nil_if_not_positive g.early no_open_number,
           omega arith,
           after_mark
-              (append_none (faults_of_group false true) (faults_of_later_groups true) f).1,
+              (append_none (faults_of_group false true) (faults_of_later_groups true) no_faults).1,
         )
-    by_letter false p false q f after_number after_mark =
+    by_letter false not_last_letter false not_mark no_faults after_number after_mark =
         absurd (other_byte_is_fault (g.last.byte == 63)
-        (append_none (faults_of_group false false) (faults_of_later_groups false) f).0)
+        (append_none (faults_of_group false false) (faults_of_later_groups false) no_faults).0)
 
-pub early_digit : (b : ℕ) → is_early b ≡ true → IsEarlyDigit b (b - 84)
-early_digit b e =
-    let p = and_parts (nat_le 85 b) (nat_le b 89) e in
-    let l = leb-true 85 b p.0 in
-    let u = leb-true b 89 p.1 in
-    record { least = omega arith; most = omega arith; code = omega arith }
+pub early_byte_is_digit : (b : ℕ) → is_early b ≡ true → IsEarlyDigit b (b - 84)
+early_byte_is_digit b is_early_byte =
+    let bounds = and_parts (nat_le 85 b) (nat_le b 89) is_early_byte in
+    let b_ge_85 = leb-true 85 b bounds.0 in
+    let b_le_89 = leb-true b 89 bounds.1 in
+    record { digit_ge_1 = omega arith; digit_le_5 = omega arith; letter_is = omega arith }
 
-last_digit : (b : ℕ) → is_last b ≡ true → IsLastDigit b (b - 64)
-last_digit b e =
-    let p = and_parts (nat_le 65 b) (nat_le b 84) e in
-    let l = leb-true 65 b p.0 in
-    let u = leb-true b 84 p.1 in
-    record { least = omega arith; most = omega arith; code = omega arith }
+last_byte_is_digit : (b : ℕ) → is_last b ≡ true → IsLastDigit b (b - 64)
+last_byte_is_digit b is_last_byte =
+    let bounds = and_parts (nat_le 65 b) (nat_le b 84) is_last_byte in
+    let b_ge_65 = leb-true 65 b bounds.0 in
+    let b_le_84 = leb-true b 84 bounds.1 in
+    record { digit_ge_1 = omega arith; digit_le_20 = omega arith; letter_is = omega arith }
 
-shift_digit : (n d p q r : ℕ) → q ≡ 5 * p → (5 * n + d) * p + r ≡ n * q + (d * p + r)
-shift_digit n d p q r e = rw e (omega arith)
+horner_step : (n d p q r : ℕ) → q ≡ 5 * p → (5 * n + d) * p + r ≡ n * q + (d * p + r)
+horner_step n d p q r q_is = rw q_is (omega arith)
 
 -- the value of earlier digits, after others
-early_value : (xs : List Letter) (n : ℕ) → AreEarly xs
-    → (high : ℕ) × AreEarlyDigits (bytes_of xs) high
-    × (fold (λ n x. 5 * n + (x.byte - 84)) n xs ≡ n * 5 ^ length (bytes_of xs) + high)
-early_value [] n h = (0, refl, omega arith)
-early_value (x ∷ xs) n h =
-    let r = early_value xs (5 * n + (x.byte - 84)) h.1 in (
-      (x.byte - 84) * 5 ^ length (bytes_of xs) + r.0,
-      (x.byte - 84, r.0, early_digit x.byte h.0, r.1, refl),
-      r.2 ∙ shift_digit n (x.byte - 84) (5 ^ length (bytes_of xs))
-          (5 ^ suc (length (bytes_of xs))) r.0
+early_value_exists : (xs : List Letter) (n : ℕ) → AreEarly xs
+    → (early_value : ℕ) × AreEarlyDigits (bytes_of xs) early_value
+    × (fold (λ n x. 5 * n + (x.byte - 84)) n xs ≡ n * 5 ^ length (bytes_of xs) + early_value)
+early_value_exists [] n are_early = (0, refl, omega arith)
+early_value_exists (x ∷ xs) n are_early =
+    let rest_value = early_value_exists xs (5 * n + (x.byte - 84)) are_early.1 in (
+      (x.byte - 84) * 5 ^ length (bytes_of xs) + rest_value.0,
+      (x.byte - 84, rest_value.0, early_byte_is_digit x.byte are_early.0, rest_value.1, refl),
+      rest_value.2 ∙ horner_step n (x.byte - 84) (5 ^ length (bytes_of xs))
+          (5 ^ suc (length (bytes_of xs))) rest_value.0
           (pow-succ' 5 (length (bytes_of xs))),
     )
 
-pub group_number : (g : Group) → AreEarly g.early → is_last g.last.byte ≡ true
+pub group_spells_its_value : (g : Group) → AreEarly g.early → is_last g.last.byte ≡ true
     → AreLettersOf (bytes_of g.early ++ g.last.byte ∷ []) (value g)
-group_number g h e =
-    let r = early_value g.early 0 h in
-    let same : 0 * 5 ^ length (bytes_of g.early) + r.0 ≡ r.0 = omega arith in
+group_spells_its_value g are_early is_last_byte =
+    let early_value = early_value_exists g.early 0 are_early in
+    let sum_is_early_value : 0 * 5 ^ length (bytes_of g.early) + early_value.0
+    ≡ early_value.0 = omega arith in
     record {
-      early = bytes_of g.early;
-      last = g.last.byte;
-      are = refl;
-      high = r.0;
-      low = g.last.byte - 64;
-      earlier = r.1;
-      ends = last_digit g.last.byte e;
-      value = ap (λ n. n * 20 + (g.last.byte - 64)) (r.2 ∙ same);
+      early_letters = bytes_of g.early;
+      last_letter = g.last.byte;
+      letters_are = refl;
+      early_value = early_value.0;
+      last_digit = g.last.byte - 64;
+      are_early_digits = early_value.1;
+      is_last_digit = last_byte_is_digit g.last.byte is_last_byte;
+      value_is = ap (λ n. n * 20 + (g.last.byte - 64)) (early_value.2 ∙ sum_is_early_value);
     }
 
-group_spelled : (g : Group) → AreEarly g.early
+group_is_spelled : (g : Group) → AreEarly g.early
     → (is_last g.last.byte ≡ true)
     ⊎ ((is_last g.last.byte ≡ false) × (g.last.byte ≡ 90) × (g.early ≡ []))
     → IsSpelled (bytes_of g.early ++ g.last.byte ∷ []) (item_of g)
-group_spelled g h (inl e) =
+group_is_spelled g are_early (inl is_number) =
     subst (λ b. IsSpelled (bytes_of g.early ++ g.last.byte ∷ [])
-    (elim b [ true ↦ number (value g) | false ↦ mark ])) (sym e) (group_number g h e)
-group_spelled g h (inr e) =
+    (elim b [ true ↦ number (value g) | false ↦ mark ])) (sym is_number) (group_spells_its_value g
+    are_early is_number)
+group_is_spelled g are_early (inr is_mark) =
     subst (λ b. IsSpelled (bytes_of g.early ++ g.last.byte ∷ [])
-    (elim b [ true ↦ number (value g) | false ↦ mark ])) (sym e.0)
-    (ap₂ (λ xs b. bytes_of xs ++ b ∷ []) e.2 e.1)
+    (elim b [ true ↦ number (value g) | false ↦ mark ])) (sym is_mark.0)
+    (ap₂ (λ xs b. bytes_of xs ++ b ∷ []) is_mark.2 is_mark.1)
 
-early_more : (early : List Letter) (x : Letter) → AreEarly early → is_early x.byte ≡ true
+early_push : (early : List Letter) (x : Letter) → AreEarly early → is_early x.byte ≡ true
     → AreEarly (early ++ x ∷ [])
-early_more [] x h e = (e, tt)
-early_more (y ∷ early) x h e = (h.0, early_more early x h.1 e)
+early_push [] x are_early is_early_byte = (is_early_byte, tt)
+early_push (y ∷ early) x are_early is_early_byte = (
+  are_early.0,
+  early_push early x are_early.1
+      is_early_byte,
+)
 
-bytes_more : (early : List Letter) (x : Letter) (bs : List ℕ)
+bytes_of_push : (early : List Letter) (x : Letter) (bs : List ℕ)
     → bytes_of (early ++ x ∷ []) ++ bs ≡ bytes_of early ++ x.byte ∷ bs
-bytes_more [] x bs = refl
-bytes_more (y ∷ early) x bs = ap (λ xs. y.byte ∷ xs) (bytes_more early x bs)
+bytes_of_push [] x bs = refl
+bytes_of_push (y ∷ early) x bs = ap (λ xs. y.byte ∷ xs) (bytes_of_push early x bs)
 
 -- letters without a fault spell the items of their groups
 pub groups_spell : (xs early : List Letter) (label_count marks count : ℕ) → AreEarly early
     → AreFaultless label_count marks count (groups early xs).0 → (groups early xs).1 ≡ []
     → Spells (bytes_of early ++ bytes_of xs) (map item_of (groups early xs).0)
-groups_spell [] early label_count marks count h f e = append-nil (bytes_of early) ∙ ap bytes_of e
-groups_spell (x ∷ xs) early label_count marks count h f e =
-    by_is_early (is_early x.byte) refl f e
-    (λ p k n. subst (λ bs. Spells bs (map item_of (groups (early ++ x ∷ []) xs).0))
-    (bytes_more early x (bytes_of xs))
-    (groups_spell xs (early ++ x ∷ []) label_count marks count (early_more early x h p) k n))
-    (λ m c k n. groups_spell xs [] label_count m c tt k n)
+groups_spell [] early label_count marks count are_early are_faultless none_left = append-nil
+    (bytes_of early) ∙ ap bytes_of none_left
+groups_spell (x ∷ xs) early label_count marks count are_early are_faultless none_left =
+    by_is_early (is_early x.byte) refl are_faultless none_left
+    (λ is_early_byte rest_is_faultless rest_none_left. subst (λ bs. Spells bs (map item_of (groups
+    (early ++ x ∷ []) xs).0))
+    (bytes_of_push early x (bytes_of xs))
+    (groups_spell xs (early ++ x ∷ []) label_count marks count (early_push early x are_early
+    is_early_byte) rest_is_faultless rest_none_left))
+    (λ m c rest_is_faultless rest_none_left. groups_spell xs [] label_count m c tt rest_is_faultless
+    rest_none_left)
   where
     groups_by_early : Bool → List Group × List Letter
     groups_by_early b =
@@ -441,14 +515,14 @@ groups_spell (x ∷ xs) early label_count marks count h f e =
         → Spells (bytes_of xs) (map item_of (groups [] xs).0)
         → Spells (bytes_of early ++ x.byte ∷ bytes_of xs)
         (item_of own_group ∷ map item_of (groups [] xs).0)
-    item_and_later s r = (
+    item_and_later item_is_spelled later_are_spelled = (
       bytes_of early
           ++ x.byte
           ∷ [],
       bytes_of xs,
       sym (append_assoc (bytes_of early) (x.byte ∷ []) (bytes_of xs)),
-      s,
-      r,
+      item_is_spelled,
+      later_are_spelled,
     )
 
     at_last_letter : AreFaultless label_count marks count (own_group ∷ (groups [] xs).0)
@@ -457,11 +531,16 @@ groups_spell (x ∷ xs) early label_count marks count h f e =
         → Spells (bytes_of xs) (map item_of (groups [] xs).0))
         → Spells (bytes_of early ++ x.byte ∷ bytes_of xs)
         (item_of own_group ∷ map item_of (groups [] xs).0)
-    at_last_letter (inl k) n in_the_run =
-        item_and_later (group_spelled own_group h (inl k.0)) (in_the_run marks (count + 1) k.2 n)
-    at_last_letter (inr k) n in_the_run =
-        item_and_later (group_spelled own_group h (inr (k.0, k.1, k.2)))
-        (in_the_run (marks + 1) count k.4 n)
+    at_last_letter (inl group_is_faultless) none_left later_are_spelled =
+        item_and_later (group_is_spelled own_group are_early (inl group_is_faultless.0))
+        (later_are_spelled marks (count + 1) group_is_faultless.2 none_left)
+    at_last_letter (inr group_is_faultless) none_left later_are_spelled =
+        item_and_later (group_is_spelled own_group are_early (inr (
+          group_is_faultless.0,
+          group_is_faultless.1,
+          group_is_faultless.2,
+        )))
+        (later_are_spelled (marks + 1) count group_is_faultless.4 none_left)
 
     by_is_early : (b : Bool) → is_early x.byte ≡ b
         → AreFaultless label_count marks count (groups_by_early b).0 → (groups_by_early b).1 ≡ []
@@ -473,60 +552,63 @@ groups_spell (x ∷ xs) early label_count marks count h f e =
         → ((m c : ℕ) → AreFaultless label_count m c (groups [] xs).0 → (groups [] xs).1 ≡ []
         → Spells (bytes_of xs) (map item_of (groups [] xs).0))
         → Spells (bytes_of early ++ x.byte ∷ bytes_of xs) (map item_of (groups_by_early b).0)
-    by_is_early true p k n in_the_run after_group = in_the_run p k n
-    by_is_early false p k n in_the_run after_group = at_last_letter k n after_group
+    by_is_early true is_early_byte are_faultless none_left run_is_spelled later_are_spelled =
+        run_is_spelled is_early_byte are_faultless none_left
+    by_is_early false not_early_byte are_faultless none_left run_is_spelled later_are_spelled =
+        at_last_letter are_faultless none_left later_are_spelled
 
 -- ---- the letters of a proof
 
-bytes_from : (p : ℕ) (w : Bytes) → bytes_of (letters_from p w) ≡ w
-bytes_from p [] = refl
-bytes_from p (b ∷ w) = ap (λ xs. b ∷ xs) (bytes_from (p + 1) w)
+bytes_of_letters_from : (p : ℕ) (w : Bytes) → bytes_of (letters_from p w) ≡ w
+bytes_of_letters_from p [] = refl
+bytes_of_letters_from p (b ∷ w) = ap (λ xs. b ∷ xs) (bytes_of_letters_from (p + 1) w)
 
-bytes_append : (xs ys : List Letter) → bytes_of (xs ++ ys) ≡ bytes_of xs ++ bytes_of ys
-bytes_append [] ys = refl
-bytes_append (x ∷ xs) ys = ap (λ bs. x.byte ∷ bs) (bytes_append xs ys)
+bytes_of_append : (xs ys : List Letter) → bytes_of (xs ++ ys) ≡ bytes_of xs ++ bytes_of ys
+bytes_of_append [] ys = refl
+bytes_of_append (x ∷ xs) ys = ap (λ bs. x.byte ∷ bs) (bytes_of_append xs ys)
 
-pub letters_bytes : (ts : List Token) → bytes_of (letters_of ts) ≡ letters_in ts
-letters_bytes [] = refl
-letters_bytes (t ∷ ts) =
-    bytes_append (letters_from t.at t.word) (letters_of ts)
-    ∙ ap₂ (λ xs ys. xs ++ ys) (bytes_from t.at t.word) (letters_bytes ts)
+pub bytes_of_letters : (ts : List Token) → bytes_of (letters_of ts) ≡ letters_in ts
+bytes_of_letters [] = refl
+bytes_of_letters (t ∷ ts) =
+    bytes_of_append (letters_from t.at t.word) (letters_of ts)
+    ∙ ap₂ (λ xs ys. xs ++ ys) (bytes_of_letters_from t.at t.word) (bytes_of_letters ts)
 
 -- letters of which nothing is wrong
 pub record AreFaultlessLetters (label_count : ℕ) (xs : List Letter) : Type 0 where
-  pub faultless : AreFaultless label_count 0 0 (groups [] xs).0
-  pub whole : (groups [] xs).1 ≡ []
-  pub some : xs ≢ []
+  pub has_faultless_groups : AreFaultless label_count 0 0 (groups [] xs).0
+  pub no_open_group : (groups [] xs).1 ≡ []
+  pub has_letters : xs ≢ []
 
-pub faultless_letters : (label_count end : ℕ) (xs : List Letter)
+pub letters_are_faultless : (label_count end : ℕ) (xs : List Letter)
     → letter_faults label_count end xs ≡ []
     → AreFaultlessLetters label_count xs
-faultless_letters label_count end [] e = absurd (cc)
-faultless_letters label_count end (x ∷ xs) e = record {
-  faultless =
-      faultless_groups (groups [] (x ∷ xs)).0 label_count 0 0
+letters_are_faultless label_count end [] no_faults = absurd (cc)
+letters_are_faultless label_count end (x ∷ xs) no_faults = record {
+  has_faultless_groups =
+      groups_are_faultless (groups [] (x ∷ xs)).0 label_count 0 0
       (append_none (group_faults label_count 0 0 (groups [] (x ∷ xs)).0)
-      (at end (when (nat_lt 0 (length (groups [] (x ∷ xs)).1)) OpenNumber)) e).0;
-  whole =
-      no_length (groups [] (x ∷ xs)).1
+      (at end (when (nat_lt 0 (length (groups [] (x ∷ xs)).1)) OpenNumber)) no_faults).0;
+  no_open_group =
+      nil_if_not_positive (groups [] (x ∷ xs)).1
       (when_none (nat_lt 0 (length (groups [] (x ∷ xs)).1)) OpenNumber
       (at_none end (when (nat_lt 0 (length (groups [] (x ∷ xs)).1)) OpenNumber)
       (append_none (group_faults label_count 0 0 (groups [] (x ∷ xs)).0)
-      (at end (when (nat_lt 0 (length (groups [] (x ∷ xs)).1)) OpenNumber)) e).1));
-  some = λ n. cc;
+      (at end (when (nat_lt 0 (length (groups [] (x ∷ xs)).1)) OpenNumber)) no_faults).1));
+  has_letters = λ is_nil. cc;
 }
 
 -- what a compressed proof without faults has
 pub record IsFaultlessProof (db : List Statement) (k : ℕ) (ts : List Token) : Type 0 where
   pub letters : List Token
-  pub is : (bracketed ts).letters ≡ Some letters
-  pub usable : flat_map (proof_label_faults db k) (bracketed ts).labels ≡ []
-  pub good : AreFaultlessLetters (length (mandatory_hypotheses db k) + length (bracketed ts).labels)
+  pub letters_are : (bracketed ts).letters ≡ Some letters
+  pub labels_are_usable : flat_map (proof_label_faults db k) (bracketed ts).labels ≡ []
+  pub has_faultless_letters : AreFaultlessLetters (length (mandatory_hypotheses db k) + length
+      (bracketed ts).labels)
       (letters_of letters)
 
-pub faultless_proof : (db : List Statement) (k end : ℕ) (t : Token) (ts : List Token)
+pub proof_is_faultless : (db : List Statement) (k end : ℕ) (t : Token) (ts : List Token)
     → t.word ≡ codes "(" → reading_faults db k end (t ∷ ts) ≡ [] → IsFaultlessProof db k ts
-faultless_proof db k end t ts opens f =
+proof_is_faultless db k end t ts is_opening no_faults =
     by_letters (bracketed ts).letters refl
     (append_none (flat_map (proof_label_faults db k) (bracketed ts).labels)
     (faults_of_letters (bracketed ts).letters) compressed_faultless).1
@@ -550,52 +632,56 @@ faultless_proof db k end t ts opens f =
 
     compressed_faultless : compressed_faults db k end (bracketed ts) ≡ []
     compressed_faultless =
-        ap faults_by_bracket (sym ((bytes_eq-Decides t.word (codes "(")).1 opens)) ∙ f
+        ap faults_by_bracket (sym ((bytes_eq-Decides t.word (codes "(")).1 is_opening)) ∙ no_faults
 
     by_letters : (o : Option (List Token)) → (bracketed ts).letters ≡ o → faults_of_letters o ≡ []
         → IsFaultlessProof db k ts
-    by_letters None e g = absurd (cc)
-    by_letters (Some letters) e g =
+    by_letters None letters_are no_letter_faults = absurd (cc)
+    by_letters (Some letters) letters_are no_letter_faults =
         record {
           letters = letters;
-          is = e;
-          usable = (append_none (flat_map (proof_label_faults db k) (bracketed ts).labels)
+          letters_are = letters_are;
+          labels_are_usable = (append_none (flat_map (proof_label_faults db k) (bracketed
+              ts).labels)
               (faults_of_letters (bracketed ts).letters) compressed_faultless).0;
-          good = faultless_letters label_count end (letters_of letters) g;
+          has_faultless_letters = letters_are_faultless label_count end (letters_of letters)
+              no_letter_faults;
         }
 
-pub spelled_out : ProofsAreSpelled
-spelled_out db k end t ts opens f =
-    let p = faultless_proof db k end t ts opens f in
-    let brackets = parts_of ts p.letters p.is in
+pub proofs_are_spelled : ProofsAreSpelled
+proofs_are_spelled db k end t ts is_opening no_faults =
+    let faultless = proof_is_faultless db k end t ts is_opening no_faults in
+    let brackets = bracket_parts_of ts faultless.letters faultless.letters_are in
     let bytes_spell =
-    groups_spell (letters_of p.letters) []
-    (length (mandatory_hypotheses db k) + length (bracketed ts).labels) 0 0 tt p.good.faultless
-    p.good.whole in
-    let letters_spell : Spells (letters_in p.letters)
-    (map item_of (groups [] (letters_of p.letters)).0) =
-    subst (λ bs. Spells bs (map item_of (groups [] (letters_of p.letters)).0))
-    (letters_bytes p.letters) bytes_spell in
+    groups_spell (letters_of faultless.letters) []
+    (length (mandatory_hypotheses db k) + length (bracketed ts).labels) 0 0 tt
+    faultless.has_faultless_letters.has_faultless_groups
+    faultless.has_faultless_letters.no_open_group in
+    let letters_spell : Spells (letters_in faultless.letters)
+    (map item_of (groups [] (letters_of faultless.letters)).0) =
+    subst (λ bs. Spells bs (map item_of (groups [] (letters_of faultless.letters)).0))
+    (bytes_of_letters faultless.letters) bytes_spell in
     record {
       labels = brackets.labels;
-      letters = p.letters;
-      parts =
+      letters = faultless.letters;
+      is_compressed =
           record {
             opening = t;
             closing = brackets.closing;
-            are = ap (λ xs. t ∷ xs) brackets.are;
-            opens = opens;
-            closes = brackets.closes;
-            first = brackets.first;
+            words_are = ap (λ xs. t ∷ xs) brackets.words_are;
+            opening_is = is_opening;
+            closing_is = brackets.closing_is;
+            no_label_closes = brackets.no_label_closes;
           };
-      items = map item_of (groups [] (letters_of p.letters)).0;
-      spelled = letters_spell;
-      some =
-          λ n. no_letters (letters_of p.letters)
-          (letters_bytes p.letters
-          ∙ subst (Spells (letters_in p.letters)) n letters_spell) p.good.some;
+      items = map item_of (groups [] (letters_of faultless.letters)).0;
+      items_are_spelled = letters_spell;
+      has_items =
+          λ items_are_nil. not_nil_if_letters (letters_of faultless.letters)
+          (bytes_of_letters faultless.letters
+          ∙ subst (Spells (letters_in faultless.letters)) items_are_nil letters_spell)
+          faultless.has_faultless_letters.has_letters;
     }
   where
-    no_letters : (xs : List Letter) → bytes_of xs ≡ [] → xs ≢ [] → ⊥
-    no_letters [] e h = h refl
-    no_letters (x ∷ xs) e h = cc
+    not_nil_if_letters : (xs : List Letter) → bytes_of xs ≡ [] → xs ≢ [] → ⊥
+    not_nil_if_letters [] bytes_are_nil has_letters = has_letters refl
+    not_nil_if_letters (x ∷ xs) bytes_are_nil has_letters = cc

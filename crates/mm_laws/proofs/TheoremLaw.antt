@@ -16,13 +16,13 @@ use Rattle.mm_laws.specs.Laws.Faults.{IsNeverBoth, FaultIsUnique}
 use Rattle.mm_spec.proofs.CheckedLaw.{same_forest}
 use Rattle.mm_spec.proofs.CitedLaw.{proof_unique}
 use Rattle.mm_spec.proofs.GoodStepsLaw.{good_steps}
-use Rattle.mm_laws.proofs.ReadLaw.{frames_complete}
+use Rattle.mm_laws.proofs.ReadLaw.{frames_are_complete}
 use Rattle.mm_laws.proofs.JudgedLaw.{Verdict, verdict, valid, step_fault, end_fault}
-use Rattle.mm_laws.proofs.OneOutputLaw.{proof_fault_unique, valid_no_fault}
+use Rattle.mm_laws.proofs.OneOutputLaw.{proof_fault_is_unique, valid_has_no_fault}
 
 -- some fault is the least
-least_some : (f : Fault) (fs : List Fault) → (g : Fault) × (least (f ∷ fs) ≡ Some g)
-least_some f fs = by_least (least fs)
+some_fault_is_least : (f : Fault) (fs : List Fault) → (g : Fault) × (least (f ∷ fs) ≡ Some g)
+some_fault_is_least f fs = by_least (least fs)
   where
     by_is_before : (g : Fault) (b : Bool)
         → (h : Fault) × ◌≡◌ {A = Option Fault} (elim b [ true ↦ Some f | false ↦ Some g ]) (Some h)
@@ -34,39 +34,58 @@ least_some f fs = by_least (least fs)
     by_least (Some g) = by_is_before g (is_before f g)
 
 module _ (db : List Statement) (all_complete : AreComplete db) (k : ℕ) where
-  pub valid_or_faulty : (end : ℕ) → IsValid db k ⊎ ((f : Fault) × ProofFault db k end f)
-  valid_or_faulty end = by_reading_faults (reading_faults_at db k) refl
+  pub is_valid_or_faulty : (end : ℕ) → IsValid db k ⊎ ((f : Fault) × ProofFault db k end f)
+  is_valid_or_faulty end = by_reading_faults (reading_faults_at db k) refl
     where
       by_verdict : reading_faults_at db k ≡ []
           → Verdict (context_at db k) (all_complete k) (steps_at db k) (formula_at db k) end
           → IsValid db k ⊎ ((f : Fault) × ProofFault db k end f)
-      by_verdict e (valid d h) = inl (e, d, h)
-      by_verdict e (step_fault f h) = inr (f, inr (e, inl h))
-      by_verdict e (end_fault f h) = inr (f, inr (e, inr h))
+      by_verdict no_reading_faults (valid d derives) = inl (no_reading_faults, d, derives)
+      by_verdict no_reading_faults (step_fault f is_step_fault) = inr (
+        f,
+        inr (
+          no_reading_faults,
+          inl is_step_fault,
+        ),
+      )
+      by_verdict no_reading_faults (end_fault f is_end_fault) = inr (
+        f,
+        inr (
+          no_reading_faults,
+          inr
+              is_end_fault,
+        ),
+      )
 
       by_reading_faults : (fs : List Fault) → reading_faults_at db k ≡ fs
           → IsValid db k ⊎ ((f : Fault) × ProofFault db k end f)
-      by_reading_faults [] e =
-          by_verdict e
+      by_reading_faults [] no_reading_faults =
+          by_verdict no_reading_faults
           (verdict (context_at db k) (all_complete k) (steps_at db k) (formula_at db k) end
-          (good_steps db k (all_complete k) e))
-      by_reading_faults (f ∷ fs) e = let g = least_some f fs in inr (g.0, inl (ap least e ∙ g.1))
+          (good_steps db k (all_complete k) no_reading_faults))
+      by_reading_faults (f ∷ fs) reading_faults_are = let least_fault = some_fault_is_least f fs in
+          inr (least_fault.0, inl (ap least reading_faults_are ∙ least_fault.1))
 
-pub labels_determine : WhereRead LabelsDetermine
-labels_determine len x db fault r w k =
-    same_forest (context_at (counted w db) k) (frames_complete len x db fault r w k)
+pub labels_determine_derivations : WhereRead LabelsDetermine
+labels_determine_derivations len x db fault is_read with_open k =
+    same_forest (context_at (counted with_open db) k) (frames_are_complete len x db fault is_read
+    with_open k)
 
-pub one_proof : WhereRead ProofIsUnique
-one_proof len x db fault r w k = proof_unique (counted w db) (frames_complete len x db fault r w) k
+pub proof_is_unique : WhereRead ProofIsUnique
+proof_is_unique len x db fault is_read with_open k = proof_unique (counted with_open db)
+    (frames_are_complete len x db fault is_read with_open) k
 
-pub one_holds : WhereRead IsValidOrFaulty
-one_holds len x db fault r w k t =
-    valid_or_faulty (counted w db) (frames_complete len x db fault r w) k _
+pub theorem_is_valid_or_faulty : WhereRead IsValidOrFaulty
+theorem_is_valid_or_faulty len x db fault is_read with_open k is_theorem_k =
+    is_valid_or_faulty (counted with_open db) (frames_are_complete len x db fault is_read with_open)
+    k _
 
-pub never_both : WhereRead IsNeverBoth
-never_both len x db fault r w k f =
-    valid_no_fault (counted w db) (frames_complete len x db fault r w) k _ f
+pub theorem_is_never_both : WhereRead IsNeverBoth
+theorem_is_never_both len x db fault is_read with_open k f =
+    valid_has_no_fault (counted with_open db) (frames_are_complete len x db fault is_read with_open)
+    k _ f
 
-pub one_fault : WhereRead FaultIsUnique
-one_fault len x db fault r w k =
-    proof_fault_unique (counted w db) (frames_complete len x db fault r w) k _
+pub fault_is_unique : WhereRead FaultIsUnique
+fault_is_unique len x db fault is_read with_open k =
+    proof_fault_is_unique (counted with_open db) (frames_are_complete len x db fault is_read
+    with_open) k _

@@ -26,28 +26,28 @@ use Rattle.mm_spec.proofs.CompleteLaw.{Types, is_mandatory, is_mandatory_pair, m
 use Rattle.mm_spec.proofs.CompleteLaw.{type_mandatory, of_formula, of_hypothesis, of_pair}
 use Rattle.mm_spec.proofs.OpenedLaw.{counted_any, counted_variable, counted_formula}
 use Rattle.mm_spec.proofs.OpenedLaw.{counted_mandatory, counted_hypotheses, counted_pairs}
-use Rattle.mm_laws.proofs.ReadLaw.{lawful_read}
+use Rattle.mm_laws.proofs.ReadLaw.{read_statements_are_lawful}
 
 -- an assertion has a formula
 assertion_has_formula : (s : Statement) → is_assertion s ≡ true → has_formula s ≡ true
-assertion_has_formula (axiomatic l k xs d) e = refl
-assertion_has_formula (provable l k xs q ps d) e = refl
-assertion_has_formula _ e = absurd (true≢false (sym e))
+assertion_has_formula (axiomatic l k xs d) is_assertion_s = refl
+assertion_has_formula (provable l k xs q ps d) is_assertion_s = refl
+assertion_has_formula _ is_assertion_s = absurd (true≢false (sym is_assertion_s))
 
 -- some item passes
-some_passes : {X : Type 0} (p : X → Bool) (xs : List X) → list_any p xs ≡ true
+one_passes : {X : Type 0} (p : X → Bool) (xs : List X) → list_any p xs ≡ true
     → (x : X) × (p x ≡ true)
-some_passes p [] e = absurd (true≢false (sym e))
-some_passes {X} p (x ∷ xs) e =
-    at_first_or_later (or_cases (p x) (list_any p xs) e) (some_passes p xs)
+one_passes p [] some_pass = absurd (true≢false (sym some_pass))
+one_passes {X} p (x ∷ xs) some_pass =
+    at_first_or_later (or_cases (p x) (list_any p xs) some_pass) (one_passes p xs)
   where
     at_first_or_later : (p x ≡ true) ⊎ (list_any p xs ≡ true)
         → (list_any p xs ≡ true → (y : X) × (p y ≡ true))
         → (y : X) × (p y ≡ true)
-    at_first_or_later (inl h) of_the_rest = (x, h)
-    at_first_or_later (inr h) of_the_rest = of_the_rest h
+    at_first_or_later (inl passes_x) one_of_rest = (x, passes_x)
+    at_first_or_later (inr some_pass) one_of_rest = one_of_rest some_pass
 
-module _ (db : List Statement) (lawful : (k : ℕ) → k < length db → IsLawful db k) (k : ℕ) where
+module _ (db : List Statement) (are_lawful : (k : ℕ) → k < length db → IsLawful db k) (k : ℕ) where
   abbrev IsMandatory : ℕ → Type 0
   IsMandatory x = is_member (mandatory_variables db k) x ≡ true
 
@@ -73,164 +73,191 @@ module _ (db : List Statement) (lawful : (k : ℕ) → k < length db → IsLawfu
 
   is_mandatory_hypothesis : (j : ℕ) → is_active db j k ≡ true → is_mandatory db k j ≡ true
       → is_member (mandatory_hypotheses db k) j ≡ true
-  is_mandatory_hypothesis j a m =
-      filter_member (is_mandatory db k) (active db k) j m
-      (some_active_passes db k (λ i. j == i) j a (eq-eqb j j refl))
+  is_mandatory_hypothesis j is_active_j is_mandatory_j =
+      filter_member (is_mandatory db k) (active db k) j is_mandatory_j
+      (some_active_passes db k (λ i. j == i) j is_active_j (eq-eqb j j refl))
 
-  typed : VariablesAreTyped db k
-  typed assertion x h =
-      let s = passing_statement db is_assertion k assertion in
-      let t = mandatory_typed db lawful k x s.0 s.1 (assertion_has_formula s.0 s.2) h in (
-        t.0,
-        is_mandatory_hypothesis t.0 t.1 (type_mandatory db lawful k t.0 x t.2 h),
-        is_typing t.0 t.2,
+  variables_are_typed : VariablesAreTyped db k
+  variables_are_typed is_assertion_k x is_mandatory_x =
+      let statement_k = passing_statement db is_assertion k is_assertion_k in
+      let typing = mandatory_typed db are_lawful k x statement_k.0 statement_k.1
+      (assertion_has_formula statement_k.0 statement_k.2) is_mandatory_x in (
+        typing.0,
+        is_mandatory_hypothesis typing.0 typing.1 (type_mandatory db are_lawful k typing.0 x
+            typing.2 is_mandatory_x),
+        is_typing typing.0 typing.2,
       )
     where
-      is_typing : (i : ℕ) → Types db lawful i x → IsTyping db i x
-      is_typing i t = record {
-        floats = statement_passes db is_floating i t.statement t.stands t.floats;
-        typecode = t.typecode;
-        is = t.is;
-        constant = t.constant;
+      is_typing : (i : ℕ) → Types db are_lawful i x → IsTyping db i x
+      is_typing i types = record {
+        is_floating_statement = statement_passes db is_floating i types.statement types.stands
+            types.floats;
+        typecode = types.typecode;
+        formula_is = types.is;
+        typecode_is_constant = types.constant;
       }
 
   -- a symbol of the formula of a mandatory hypothesis is one of the hypotheses' symbols
-  in_hypothesis : (x j : ℕ) → is_active db j k ≡ true → is_mandatory db k j ≡ true
+  symbol_is_in_hypotheses : (x j : ℕ) → is_active db j k ≡ true → is_mandatory db k j ≡ true
       → in_formula x j ≡ true → in_hypotheses x ≡ true
-  in_hypothesis x j a m h =
+  symbol_is_in_hypotheses x j is_active_j is_mandatory_j x_is_in_formula =
       any_filter (is_mandatory db k) (in_formula x) (active db k)
-      ∙ some_active_passes db k (λ j. is_mandatory db k j && in_formula x j) j a
-      (and_from (is_mandatory db k j) (in_formula x j) m h)
+      ∙ some_active_passes db k (λ j. is_mandatory db k j && in_formula x j) j is_active_j
+      (and_from (is_mandatory db k j) (in_formula x j) is_mandatory_j x_is_in_formula)
 
-  to_frame : (x : ℕ) → IsMandatory x
+  mandatory_is_in_frame : (x : ℕ) → IsMandatory x
       → IsTrue (is_variable_number db x) × IsTrue (is_in_frame db k x)
-  to_frame x h =
-      let p = member_filter (is_variable_number db) (formula_at db k ++ essential_symbols) x h in (
-        p.0,
+  mandatory_is_in_frame x is_mandatory_x =
+      let variable_in_symbols = member_filter (is_variable_number db) (formula_at db k ++
+      essential_symbols) x is_mandatory_x in (
+        variable_in_symbols.0,
         in_formula_or_essential
             (or_cases (in_formula x k) (is_member essential_symbols x)
-            (sym (list_any-append (λ y. x == y) (formula_at db k) essential_symbols) ∙ p.1)),
+            (sym (list_any-append (λ y. x == y) (formula_at db k) essential_symbols)
+            ∙ variable_in_symbols.1)),
       )
     where
       essential_symbols : List ℕ
       essential_symbols = flat_map (formula_at db) essentials
 
-      of_essential : (j : ℕ) → is_active db j k ≡ true
+      symbol_of_essential_is_in_hypotheses : (j : ℕ) → is_active db j k ≡ true
           → (is_essential_at j && in_formula x j) ≡ true → in_hypotheses x ≡ true
-      of_essential j a e =
-          let p = and_parts (is_essential_at j) (in_formula x j) e in
+      symbol_of_essential_is_in_hypotheses j is_active_j is_essential_with_x =
+          let parts = and_parts (is_essential_at j) (in_formula x j) is_essential_with_x in
           let floating_and_mandatory =
           list_any is_floating (statement_at db j)
           && list_any (is_member (mandatory_variables db k)) (formula_at db j) in
-          in_hypothesis x j a (or_left (is_essential_at j) floating_and_mandatory p.0) p.1
+          symbol_is_in_hypotheses x j is_active_j (or_left (is_essential_at j)
+          floating_and_mandatory parts.0) parts.1
 
       in_formula_or_essential : (in_formula x k ≡ true) ⊎ (is_member essential_symbols x ≡ true)
           → is_in_frame db k x ≡ true
-      in_formula_or_essential (inl g) = or_left (in_formula x k) (in_hypotheses x || in_pairs x) g
-      in_formula_or_essential (inr g) =
-          let has =
+      in_formula_or_essential (inl x_is_in_formula) = or_left (in_formula x k) (in_hypotheses x ||
+          in_pairs x) x_is_in_formula
+      in_formula_or_essential (inr x_is_essential) =
+          let some_active =
           sym (any_flat_map (λ y. x == y) (formula_at db) essentials
           ∙ any_filter is_essential_at (in_formula x) (active db k))
-          ∙ g in
-          let a = passing_active db k (λ j. is_essential_at j && in_formula x j) has in
+          ∙ x_is_essential in
+          let found = passing_active db k (λ j. is_essential_at j && in_formula x j) some_active in
           or_right (in_formula x k) (in_hypotheses x || in_pairs x)
-          (or_left (in_hypotheses x) (in_pairs x) (of_essential a.0 a.1 a.2))
+          (or_left (in_hypotheses x) (in_pairs x) (symbol_of_essential_is_in_hypotheses found.0
+          found.1 found.2))
 
-  from_frame : (x : ℕ) → is_variable_number db x ≡ true → is_in_frame db k x ≡ true → IsMandatory x
-  from_frame x v h =
-      in_formula_or_rest (or_cases (in_formula x k) (in_hypotheses x || in_pairs x) h)
+  in_frame_is_mandatory : (x : ℕ) → is_variable_number db x ≡ true → is_in_frame db k x ≡ true
+      → IsMandatory x
+  in_frame_is_mandatory x is_variable_x is_in_frame_x =
+      in_formula_or_rest (or_cases (in_formula x k) (in_hypotheses x || in_pairs x) is_in_frame_x)
     where
       all_pairs : List Pair
       all_pairs = pairs_of (length (symbol_names db))
 
-      by_side : (p : Pair) → is_mandatory_pair db k p ≡ true
+      pair_symbol_is_mandatory : (p : Pair) → is_mandatory_pair db k p ≡ true
           → ((x == p.low) ≡ true) ⊎ ((x == p.high) ≡ true) → IsMandatory x
-      by_side p m (inl e) =
-          ap (is_member (mandatory_variables db k)) (eqb-true x p.low e)
-          ∙ (of_pair db lawful k p m).0
-      by_side p m (inr e) =
-          ap (is_member (mandatory_variables db k)) (eqb-true x p.high e)
-          ∙ (of_pair db lawful k p m).1
+      pair_symbol_is_mandatory p is_mandatory_p (inl x_is_low) =
+          ap (is_member (mandatory_variables db k)) (eqb-true x p.low x_is_low)
+          ∙ (of_pair db are_lawful k p is_mandatory_p).0
+      pair_symbol_is_mandatory p is_mandatory_p (inr x_is_high) =
+          ap (is_member (mandatory_variables db k)) (eqb-true x p.high x_is_high)
+          ∙ (of_pair db are_lawful k p is_mandatory_p).1
 
       in_hypotheses_or_pairs : (in_hypotheses x ≡ true) ⊎ (in_pairs x ≡ true) → IsMandatory x
-      in_hypotheses_or_pairs (inl g) =
-          let has = sym (any_filter (is_mandatory db k) (in_formula x) (active db k)) ∙ g in
-          let a = passing_active db k (λ j. is_mandatory db k j && in_formula x j) has in
-          let p = and_parts (is_mandatory db k a.0) (in_formula x a.0) a.2 in
-          of_hypothesis db lawful k a.0 x a.1 p.0 p.1 v
-      in_hypotheses_or_pairs (inr g) =
-          let a =
-          some_passes (λ p. is_mandatory_pair db k p && in_pair x p) all_pairs
-          (sym (any_filter (is_mandatory_pair db k) (in_pair x) all_pairs) ∙ g) in
-          let p = and_parts (is_mandatory_pair db k a.0) (in_pair x a.0) a.1 in
-          by_side a.0 p.0 (or_cases (x == a.0.low) (x == a.0.high) p.1)
+      in_hypotheses_or_pairs (inl x_is_in_hypotheses) =
+          let some_active = sym (any_filter (is_mandatory db k) (in_formula x) (active db k))
+          ∙ x_is_in_hypotheses in
+          let found = passing_active db k (λ j. is_mandatory db k j && in_formula x j) some_active
+          in
+          let parts = and_parts (is_mandatory db k found.0) (in_formula x found.0) found.2 in
+          of_hypothesis db are_lawful k found.0 x found.1 parts.0 parts.1 is_variable_x
+      in_hypotheses_or_pairs (inr x_is_in_pairs) =
+          let found =
+          one_passes (λ p. is_mandatory_pair db k p && in_pair x p) all_pairs
+          (sym (any_filter (is_mandatory_pair db k) (in_pair x) all_pairs) ∙ x_is_in_pairs) in
+          let parts = and_parts (is_mandatory_pair db k found.0) (in_pair x found.0) found.1 in
+          pair_symbol_is_mandatory found.0 parts.0 (or_cases (x == found.0.low) (x == found.0.high)
+          parts.1)
 
       in_formula_or_rest : (in_formula x k ≡ true) ⊎ ((in_hypotheses x || in_pairs x) ≡ true)
           → IsMandatory x
-      in_formula_or_rest (inl g) = of_formula db lawful k x g v
-      in_formula_or_rest (inr g) =
-          in_hypotheses_or_pairs (or_cases (in_hypotheses x) (in_pairs x) g)
+      in_formula_or_rest (inl x_is_in_formula) = of_formula db are_lawful k x x_is_in_formula
+          is_variable_x
+      in_formula_or_rest (inr x_is_in_rest) =
+          in_hypotheses_or_pairs (or_cases (in_hypotheses x) (in_pairs x) x_is_in_rest)
 
 -- ---- the statements as they count
 
-module _ (w : Bool) (db : List Statement) (k : ℕ) where
-  assertion_counted : list_any is_assertion (statement_at (counted w db) k)
+module _ (with_open : Bool) (db : List Statement) (k : ℕ) where
+  assertion_counted : list_any is_assertion (statement_at (counted with_open db) k)
       ≡ list_any is_assertion (statement_at db k)
-  assertion_counted = counted_any w db is_assertion (λ l k xs e ps d. refl) k
+  assertion_counted = counted_any with_open db is_assertion (λ l k xs e ps d. refl) k
 
   mandatory_counted : (x : ℕ)
-      → is_member (mandatory_variables (counted w db) k) x
+      → is_member (mandatory_variables (counted with_open db) k) x
       ≡ is_member (mandatory_variables db k) x
-  mandatory_counted x = ap (λ (f : ℕ → List ℕ). is_member (f k) x) (counted_mandatory w db)
+  mandatory_counted x = ap (λ (f : ℕ → List ℕ). is_member (f k) x) (counted_mandatory with_open db)
 
   hypothesis_counted : (j : ℕ)
-      → is_member (mandatory_hypotheses (counted w db) k) j
+      → is_member (mandatory_hypotheses (counted with_open db) k) j
       ≡ is_member (mandatory_hypotheses db k) j
-  hypothesis_counted j = ap (λ (f : ℕ → List ℕ). is_member (f k) j) (counted_hypotheses w db)
+  hypothesis_counted j = ap (λ (f : ℕ → List ℕ). is_member (f k) j) (counted_hypotheses with_open
+      db)
 
-  variable_counted : (x : ℕ) → is_variable_number (counted w db) x ≡ is_variable_number db x
-  variable_counted x = ap (λ (f : ℕ → Bool). f x) (counted_variable w db)
+  variable_counted : (x : ℕ) → is_variable_number (counted with_open db) x ≡ is_variable_number db x
+  variable_counted x = ap (λ (f : ℕ → Bool). f x) (counted_variable with_open db)
 
-  frame_counted : (x : ℕ) → is_in_frame (counted w db) k x ≡ is_in_frame db k x
+  frame_counted : (x : ℕ) → is_in_frame (counted with_open db) k x ≡ is_in_frame db k x
   frame_counted x =
       ap₂ (λ (f : ℕ → Formula) (h : ℕ → List ℕ). is_member (f k) x
       || (list_any (λ j. is_member (f j) x) (h k)
-      || list_any (λ p. (x == p.low) || (x == p.high)) (mandatory_pairs (counted w db) k)))
-      (counted_formula w db) (counted_hypotheses w db)
+      || list_any (λ p. (x == p.low) || (x == p.high)) (mandatory_pairs (counted with_open db) k)))
+      (counted_formula with_open db) (counted_hypotheses with_open db)
       ∙ ap (λ (p : ℕ → List Pair). is_member (formula_at db k) x
       || (list_any (λ j. is_member (formula_at db j) x) (mandatory_hypotheses db k)
-      || list_any (λ p. (x == p.low) || (x == p.high)) (p k))) (counted_pairs w db)
+      || list_any (λ p. (x == p.low) || (x == p.high)) (p k))) (counted_pairs with_open db)
 
-  typing_counted : (j x : ℕ) → IsTyping db j x → IsTyping (counted w db) j x
-  typing_counted j x t = record {
-    floats = counted_any w db is_floating (λ l k xs e ps d. refl) j ∙ t.floats;
-    typecode = t.typecode;
-    is = ap (λ (f : ℕ → Formula). f j) (counted_formula w db) ∙ t.is;
-    constant = variable_counted t.typecode ∙ t.constant;
+  typing_counted : (j x : ℕ) → IsTyping db j x → IsTyping (counted with_open db) j x
+  typing_counted j x is_typing = record {
+    is_floating_statement = counted_any with_open db is_floating (λ l k xs e ps d. refl) j
+        ∙ is_typing.is_floating_statement;
+    typecode = is_typing.typecode;
+    formula_is = ap (λ (f : ℕ → Formula). f j) (counted_formula with_open db)
+        ∙ is_typing.formula_is;
+    typecode_is_constant = variable_counted is_typing.typecode ∙ is_typing.typecode_is_constant;
   }
 
-  typed_counted : VariablesAreTyped db k → VariablesAreTyped (counted w db) k
-  typed_counted h a x m =
-      let t = h (sym assertion_counted ∙ a) x (sym (mandatory_counted x) ∙ m) in
-      (t.0, hypothesis_counted t.0 ∙ t.1, typing_counted t.0 x t.2)
+  typed_as_counted : VariablesAreTyped db k → VariablesAreTyped (counted with_open db) k
+  typed_as_counted are_typed is_assertion_k x is_mandatory_x =
+      let typing = are_typed (sym assertion_counted ∙ is_assertion_k) x (sym (mandatory_counted x)
+      ∙ is_mandatory_x) in
+      (typing.0, hypothesis_counted typing.0 ∙ typing.1, typing_counted typing.0 x typing.2)
 
-  framed_counted : VariablesAreMandatory db k → VariablesAreMandatory (counted w db) k
-  framed_counted h a x =
-      let same = h (sym assertion_counted ∙ a) x in (
-        λ m.
-            let p = same.0 (sym (mandatory_counted x) ∙ m) in
-            (variable_counted x ∙ p.0, frame_counted x ∙ p.1),
-        λ p.
+  framed_as_counted : VariablesAreMandatory db k → VariablesAreMandatory (counted with_open db) k
+  framed_as_counted are_in_frame is_assertion_k x =
+      let mandatory_iff_in_frame = are_in_frame (sym assertion_counted ∙ is_assertion_k) x in (
+        λ is_mandatory_x.
+            let variable_in_frame = mandatory_iff_in_frame.0 (sym (mandatory_counted x)
+            ∙ is_mandatory_x) in
+            (variable_counted x ∙ variable_in_frame.0, frame_counted x ∙ variable_in_frame.1),
+        λ variable_in_frame.
             mandatory_counted x
-            ∙ same.1 (sym (variable_counted x) ∙ p.0, sym (frame_counted x) ∙ p.1),
+            ∙ mandatory_iff_in_frame.1 (
+              sym (variable_counted x)
+                  ∙ variable_in_frame.0,
+              sym (frame_counted x) ∙ variable_in_frame.1,
+            ),
       )
 
-pub variables_typed : WhereRead VariablesAreTyped
-variables_typed len x db fault r w k =
-    typed_counted w db k (typed db (lawful_read len x db fault r) k)
+pub variables_are_typed_where_read : WhereRead VariablesAreTyped
+variables_are_typed_where_read len x db fault is_read with_open k =
+    typed_as_counted with_open db k (variables_are_typed db (read_statements_are_lawful len x db
+    fault is_read) k)
 
-pub variables_mandatory : WhereRead VariablesAreMandatory
-variables_mandatory len x db fault r w k =
-    let law = lawful_read len x db fault r in
-    framed_counted w db k
-    (λ assertion v. (to_frame db law k v, λ p. from_frame db law k v p.0 p.1))
+pub variables_are_mandatory_where_read : WhereRead VariablesAreMandatory
+variables_are_mandatory_where_read len x db fault is_read with_open k =
+    let are_lawful = read_statements_are_lawful len x db fault is_read in
+    framed_as_counted with_open db k
+    (λ is_assertion_k x. (
+      mandatory_is_in_frame db are_lawful k x,
+      λ variable_in_frame.
+          in_frame_is_mandatory db are_lawful k x variable_in_frame.0 variable_in_frame.1,
+    ))

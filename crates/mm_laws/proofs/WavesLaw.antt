@@ -19,23 +19,28 @@ use Rattle.mm_spec.specs.Opened.{counted}
 use Rattle.mm_spec.proofs.CompleteLaw.{reads_complete}
 use Rattle.mm_spec.proofs.OpenedLaw.{counted_complete}
 use Rattle.mm_spec.proofs.CitedLaw.{cites_earlier}
-use Rattle.mm_laws.proofs.RestsLaw.{cites_decided}
+use Rattle.mm_laws.proofs.RestsLaw.{cites_is_decided}
 
 module _ (db : List Statement) (by_essential : Bool) (all_complete : AreComplete db)
-    (valid : AreValid db (length db)) where
+    (are_valid : AreValid db (length db)) where
   abbrev IsLink : ℕ → ℕ → Type 0
   IsLink t b = Cites db by_essential t b × IsTrue (list_any is_theorem (statement_at db b))
 
   link_or_none : (t b : ℕ) → IsLink t b ⊎ (IsLink t b → ⊥)
   link_or_none t b =
-      by_citation (cites_decided db by_essential all_complete valid t b)
+      by_citation (cites_is_decided db by_essential all_complete are_valid t b)
       (list_any is_theorem (statement_at db b)) refl
     where
       by_citation : IsDecided (Cites db by_essential t b) → (m : Bool)
           → list_any is_theorem (statement_at db b) ≡ m → IsLink t b ⊎ (IsLink t b → ⊥)
-      by_citation c false e = inr (λ l. true≢false (sym l.1 ∙ e))
-      by_citation (true, d) true e = inl (d.0 refl, e)
-      by_citation (false, d) true e = inr (λ l. true≢false (sym (d.1 l.0)))
+      by_citation citation false not_theorem_b = inr (λ is_link. true≢false (sym is_link.1
+          ∙ not_theorem_b))
+      by_citation (true, decides_citation) true is_theorem_b = inl (
+        decides_citation.0 refl,
+        is_theorem_b,
+      )
+      by_citation (false, decides_citation) true is_theorem_b = inr (λ is_link. true≢false (sym
+          (decides_citation.1 is_link.0)))
 
   -- a longest chain from t whose first link is below n
   abbrev LongestBelow : ℕ → ℕ → Type 0
@@ -46,71 +51,93 @@ module _ (db : List Statement) (by_essential : Bool) (all_complete : AreComplete
 
   longest_below : (t n : ℕ) → ((b : ℕ) → b < n → (w : ℕ) × IsWave db by_essential b w)
       → LongestBelow t n
-  longest_below t zero waves = (0, tt, λ b l. absurd (omega arith))
-  longest_below t (suc n) waves =
-      by_link (link_or_none t n) (waves n (omega arith))
-      (longest_below t n (λ b l. waves b (omega arith)))
+  longest_below t zero have_waves_below = (0, tt, λ b b_lt_0. absurd (omega arith))
+  longest_below t (suc n) have_waves_below =
+      by_link (link_or_none t n) (have_waves_below n (omega arith))
+      (longest_below t n (λ b b_lt_n. have_waves_below b (omega arith)))
     where
-      no_link : (IsLink t n → ⊥) → (r : LongestBelow t n) → (b : ℕ) → b < suc n → IsLink t b
+      longest_without_link : (IsLink t n → ⊥) → (r : LongestBelow t n) → (b : ℕ) → b < suc n
+          → IsLink t b
           → (k : ℕ)
           → TheoremChain (Cites db by_essential) (IsTheorem db) b k → (b ≡ n) ⊎ (b ≡ n → ⊥)
           → k < r.0
-      no_link not_linked r b l h k c (inl e) = absurd (not_linked (subst (IsLink t) e h))
-      no_link not_linked r b l h k c (inr ne) = r.2 b (omega arith) h k c
+      longest_without_link not_linked longest b b_lt_suc_n is_link k is_chain (inl b_is_n) = absurd
+          (not_linked (subst (IsLink t) b_is_n is_link))
+      longest_without_link not_linked longest b b_lt_suc_n is_link k is_chain (inr b_is_not_n) =
+          longest.2 b (omega arith) is_link k is_chain
 
-      with_next : (w : (w : ℕ) × IsWave db by_essential n w) (r : LongestBelow t n) (m : ℕ)
-          → w.0 < m → r.0 ≤ m
+      next_is_longest : (wave : (wave : ℕ) × IsWave db by_essential n wave) (r : LongestBelow t n)
+          (m : ℕ)
+          → wave.0 < m → r.0 ≤ m
           → (b : ℕ) → b < suc n → IsLink t b → (k : ℕ)
           → TheoremChain (Cites db by_essential) (IsTheorem db) b k → (b ≡ n) ⊎ (b ≡ n → ⊥) → k < m
-      with_next w r m u v b l h k c (inl e) =
-          let x = w.1.1 k
-          (subst (λ i. TheoremChain (Cites db by_essential) (IsTheorem db) i k) e c) in
+      next_is_longest wave longest m wave_lt_m longest_le_m b b_lt_suc_n is_link k is_chain (inl
+          b_is_n) =
+          let k_le_wave = wave.1.1 k
+          (subst (λ i. TheoremChain (Cites db by_essential) (IsTheorem db) i k) b_is_n is_chain) in
           omega arith
-      with_next w r m u v b l h k c (inr ne) = let x = r.2 b (omega arith) h k c in omega arith
+      next_is_longest wave longest m wave_lt_m longest_le_m b b_lt_suc_n is_link k is_chain (inr
+          b_is_not_n) = let k_lt_longest = longest.2 b (omega arith) is_link k is_chain in omega
+          arith
 
-      with_link : IsLink t n → (w : (w : ℕ) × IsWave db by_essential n w) (r : LongestBelow t n)
-          → (w.0 < r.0) ⊎ (r.0 ≤ w.0) → LongestBelow t (suc n)
-      with_link h w r (inl l) =
-          (r.0, r.1, λ b u g k c. with_next w r r.0 l (omega arith) b u g k c (cases_eq b n))
-      with_link h w r (inr l) = (
-        suc w.0,
-        (n, h.0, h.1, w.1.0),
-        λ b u g k c. with_next w r (suc w.0) (omega arith)
-            (omega arith) b u g k c (cases_eq b n),
+      longest_with_link : IsLink t n → (wave : (wave : ℕ) × IsWave db by_essential n wave) (r :
+          LongestBelow t n)
+          → (wave.0 < r.0) ⊎ (r.0 ≤ wave.0) → LongestBelow t (suc n)
+      longest_with_link is_link wave longest (inl wave_lt_longest) = (
+        longest.0,
+        longest.1,
+        λ b b_lt_suc_n b_is_link k is_chain. next_is_longest wave longest
+            longest.0 wave_lt_longest (omega arith) b b_lt_suc_n b_is_link k is_chain (cases_eq b
+            n),
+      )
+      longest_with_link is_link wave longest (inr longest_le_wave) = (
+        suc wave.0,
+        (n, is_link.0, is_link.1, wave.1.0),
+        λ b b_lt_suc_n b_is_link k is_chain. next_is_longest wave longest (suc wave.0) (omega arith)
+            (omega arith) b b_lt_suc_n b_is_link k is_chain (cases_eq b n),
       )
 
       by_link : IsLink t n ⊎ (IsLink t n → ⊥) → (w : ℕ) × IsWave db by_essential n w
           → LongestBelow t n
           → LongestBelow t (suc n)
-      by_link (inl h) w r = with_link h w r (cases_lt w.0 r.0)
-      by_link (inr not_linked) w r =
-          (r.0, r.1, λ b l h k c. no_link not_linked r b l h k c (cases_eq b n))
+      by_link (inl is_link) wave longest = longest_with_link is_link wave longest (cases_lt wave.0
+          longest.0)
+      by_link (inr not_linked) wave longest = (
+        longest.0,
+        longest.1,
+        λ b b_lt_suc_n is_link k is_chain. longest_without_link not_linked
+            longest b b_lt_suc_n is_link k is_chain (cases_eq b n),
+      )
 
   -- a longest chain is the wave
-  wave_of_longest : (t : ℕ) → LongestBelow t t → (w : ℕ) × IsWave db by_essential t w
-  wave_of_longest t r = (r.0, (r.1, longest))
+  longest_is_wave : (t : ℕ) → LongestBelow t t → (w : ℕ) × IsWave db by_essential t w
+  longest_is_wave t longest_below_t = (longest_below_t.0, (longest_below_t.1, no_chain_is_longer))
     where
-      longest : (m : ℕ) → TheoremChain (Cites db by_essential) (IsTheorem db) t m → m ≤ r.0
-      longest zero c = omega arith
-      longest (suc m) c =
-          let x = r.2 c.0 (cites_earlier db by_essential t c.0 c.1) (c.1, c.2) m c.3 in omega arith
+      no_chain_is_longer : (m : ℕ) → TheoremChain (Cites db by_essential) (IsTheorem db) t m
+          → m ≤ longest_below_t.0
+      no_chain_is_longer zero is_chain = omega arith
+      no_chain_is_longer (suc m) is_chain =
+          let m_lt_longest = longest_below_t.2 is_chain.0 (cites_earlier db by_essential t
+          is_chain.0 is_chain.1) (is_chain.1, is_chain.2) m is_chain.3 in omega arith
 
-  wave_below : (n t : ℕ) → t < n → (w : ℕ) × IsWave db by_essential t w
-  wave_below zero t l = absurd (omega arith)
-  wave_below (suc n) t l =
-      wave_of_longest t (longest_below t t (λ b m. wave_below n b (omega arith)))
+  wave_below_exists : (n t : ℕ) → t < n → (w : ℕ) × IsWave db by_essential t w
+  wave_below_exists zero t t_lt_0 = absurd (omega arith)
+  wave_below_exists (suc n) t t_lt_suc_n =
+      longest_is_wave t (longest_below t t (λ b b_lt_t. wave_below_exists n b (omega arith)))
 
-  pub wave_of : (t : ℕ) → (w : ℕ) × IsWave db by_essential t w
-  wave_of t = wave_below (suc t) t (omega arith)
+  pub wave_exists : (t : ℕ) → (w : ℕ) × IsWave db by_essential t w
+  wave_exists t = wave_below_exists (suc t) t (omega arith)
 
 -- in a sound text each theorem has one wave
 pub have_waves : (len : ℕ) (x : LexedText) (with_open : Bool) → HaveWaves len x with_open
-have_waves len x with_open db h by_essential t =
+have_waves len x with_open db has_no_fault by_essential t =
     let statements = counted with_open db in
-    let w =
-    wave_of statements by_essential
-    (counted_complete with_open db (reads_complete len x db None h.0)) h.1 t in (
-      w.0,
-      w.1,
-      λ m k. wave_unique (Cites statements by_essential) (IsTheorem statements) t m w.0 k w.1,
+    let wave =
+    wave_exists statements by_essential
+    (counted_complete with_open db (reads_complete len x db None has_no_fault.0)) has_no_fault.1 t
+    in (
+      wave.0,
+      wave.1,
+      λ m is_wave. wave_unique (Cites statements by_essential) (IsTheorem statements) t m wave.0
+          is_wave wave.1,
     )

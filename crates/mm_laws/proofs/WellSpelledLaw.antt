@@ -28,12 +28,15 @@ use Rattle.mm_spec.specs.declared.Code.TheVariants.{OpenNumber, MarkBeforeStep, 
 use Rattle.mm_spec.specs.declared.Code.TheVariants.{UnusableLabel, IncompleteProof, BadLetter}
 use Rattle.mm_spec.proofs.FindsLaw.{same_word, is_before}
 use Rattle.mm_spec.proofs.FaultlessLaw.{append_none}
-use Rattle.mm_laws.proofs.SpellingLaw.{EndsItem, no_early, item_unique, group_number, early_digit}
-use Rattle.mm_laws.proofs.SpellingLaw.{nonempty, parts_of, bracketed_is, bytes_of, AreEarly}
+use Rattle.mm_laws.proofs.SpellingLaw.{EndsItem, no_early, spelled_item_is_unique}
+use Rattle.mm_laws.proofs.SpellingLaw.{group_spells_its_value, early_byte_is_digit}
+use Rattle.mm_laws.proofs.SpellingLaw.{front_with_last_is_not_nil, bracket_parts_of}
+use Rattle.mm_laws.proofs.SpellingLaw.{bracketed_splits, bytes_of, AreEarly}
 use Rattle.mm_laws.proofs.SpellingLaw.{item_of}
-use Rattle.mm_laws.proofs.SpellingLaw.{AreFaultless, groups_spell, letters_bytes, faultless_proof}
+use Rattle.mm_laws.proofs.SpellingLaw.{AreFaultless, groups_spell, bytes_of_letters}
+use Rattle.mm_laws.proofs.SpellingLaw.{proof_is_faultless}
 use Rattle.mm_laws.proofs.SpelledStepsLaw.{count_append, LabelsDiffer, labels_differ}
-use Rattle.mm_laws.proofs.SpelledStepsLaw.{usable_one, all_usable, own_faults}
+use Rattle.mm_laws.proofs.SpelledStepsLaw.{one_statement_is_usable, labels_are_usable, own_faults}
 
 -- ---- items each of which has a meaning after those before it
 
@@ -45,13 +48,15 @@ AreMeaningful label_count marks count (number n ∷ items) =
 AreMeaningful label_count marks count (mark ∷ items) =
     (0 < count) × AreMeaningful label_count (marks + 1) count items
 
-meaningful_of_faultless : (gs : List Group) (label_count marks count : ℕ)
+faultless_are_meaningful : (gs : List Group) (label_count marks count : ℕ)
     → AreFaultless label_count marks count gs
     → AreMeaningful label_count marks count (map item_of gs)
-meaningful_of_faultless [] label_count marks count f = tt
-meaningful_of_faultless (g ∷ gs) label_count marks count f =
-    number_or_mark f (λ k. meaningful_of_faultless gs label_count marks (count + 1) k)
-    (λ k. meaningful_of_faultless gs label_count (marks + 1) count k)
+faultless_are_meaningful [] label_count marks count are_faultless = tt
+faultless_are_meaningful (g ∷ gs) label_count marks count are_faultless =
+    number_or_mark are_faultless (λ rest_is_faultless. faultless_are_meaningful gs label_count marks
+    (count + 1) rest_is_faultless)
+    (λ rest_is_faultless. faultless_are_meaningful gs label_count (marks + 1) count
+    rest_is_faultless)
   where
     item_by_letter : Bool → Item
     item_by_letter b = elim b [ true ↦ number (value g) | false ↦ mark ]
@@ -63,267 +68,323 @@ meaningful_of_faultless (g ∷ gs) label_count marks count f =
         → AreMeaningful label_count (marks + 1) count (map item_of gs))
         → AreMeaningful label_count marks count
         (item_by_letter (is_last g.last.byte) ∷ map item_of gs)
-    number_or_mark (inl k) after_number after_mark =
+    number_or_mark (inl group_is_faultless) after_number after_mark =
         subst (λ b. AreMeaningful label_count marks count (item_by_letter b ∷ map item_of gs))
-        (sym k.0) (k.1, after_number k.2)
-    number_or_mark (inr k) after_number after_mark =
+        (sym group_is_faultless.0) (group_is_faultless.1, after_number group_is_faultless.2)
+    number_or_mark (inr group_is_faultless) after_number after_mark =
         subst (λ b. AreMeaningful label_count marks count (item_by_letter b ∷ map item_of gs))
-        (sym k.0)
-        (k.3, after_mark k.4)
+        (sym group_is_faultless.0)
+        (group_is_faultless.3, after_mark group_is_faultless.4)
 
 numbers_are_meaningful : (items : List Item) (label_count marks count : ℕ)
     → AreMeaningful label_count marks count items
-    → (before after : List Item) (n : ℕ) → items ≡ before ++ number n ∷ after
-    → n ≤ label_count + (marks + count_by is_mark_item before)
-numbers_are_meaningful [] label_count marks count r [] after n e = absurd (cc)
-numbers_are_meaningful [] label_count marks count r (x ∷ b) after n e = absurd (cc)
-numbers_are_meaningful (number m ∷ items) label_count marks count r [] after n e =
-    let same : m ≡ n = cc in let h = r.0 in omega arith
-numbers_are_meaningful (mark ∷ items) label_count marks count r [] after n e = absurd (cc)
-numbers_are_meaningful (number m ∷ items) label_count marks count r (x ∷ b) after n e =
-    let head : x ≡ number m = cc in
-    let tail : items ≡ b ++ number n ∷ after = cc in
-    let h = numbers_are_meaningful items label_count marks (count + 1) r.1 b after n tail in
-    let c : count_by is_mark_item (x ∷ b) ≡ count_by is_mark_item (number m ∷ b) =
-    ap (λ y. count_by is_mark_item (y ∷ b)) head in
+    → (items_before items_after : List Item) (n : ℕ) → items ≡ items_before ++ number n ∷
+    items_after
+    → n ≤ label_count + (marks + count_by is_mark_item items_before)
+numbers_are_meaningful [] label_count marks count are_meaningful [] items_after n items_are = absurd
+    (cc)
+numbers_are_meaningful [] label_count marks count are_meaningful (x ∷ b) items_after n items_are =
+    absurd (cc)
+numbers_are_meaningful (number m ∷ items) label_count marks count are_meaningful [] items_after n
+    items_are =
+    let m_is_n : m ≡ n = cc in let m_le_count = are_meaningful.0 in omega arith
+numbers_are_meaningful (mark ∷ items) label_count marks count are_meaningful [] items_after n
+    items_are = absurd (cc)
+numbers_are_meaningful (number m ∷ items) label_count marks count are_meaningful (x ∷ b) items_after
+    n items_are =
+    let x_is_number : x ≡ number m = cc in
+    let tail_is : items ≡ b ++ number n ∷ items_after = cc in
+    let n_le_count = numbers_are_meaningful items label_count marks (count + 1) are_meaningful.1 b
+    items_after n tail_is in
+    let counts_equal : count_by is_mark_item (x ∷ b) ≡ count_by is_mark_item (number m ∷ b) =
+    ap (λ y. count_by is_mark_item (y ∷ b)) x_is_number in
     omega (arith, count_append is_mark_item (number m ∷ []) b)
-numbers_are_meaningful (mark ∷ items) label_count marks count r (x ∷ b) after n e =
-    let head : x ≡ mark = cc in
-    let tail : items ≡ b ++ number n ∷ after = cc in
-    let h = numbers_are_meaningful items label_count (marks + 1) count r.1 b after n tail in
-    let c : count_by is_mark_item (x ∷ b) ≡ count_by is_mark_item (mark ∷ b) =
-    ap (λ y. count_by is_mark_item (y ∷ b)) head in
+numbers_are_meaningful (mark ∷ items) label_count marks count are_meaningful (x ∷ b) items_after n
+    items_are =
+    let x_is_mark : x ≡ mark = cc in
+    let tail_is : items ≡ b ++ number n ∷ items_after = cc in
+    let n_le_count = numbers_are_meaningful items label_count (marks + 1) count are_meaningful.1 b
+    items_after n tail_is in
+    let counts_equal : count_by is_mark_item (x ∷ b) ≡ count_by is_mark_item (mark ∷ b) =
+    ap (λ y. count_by is_mark_item (y ∷ b)) x_is_mark in
     omega (arith, count_append is_mark_item (mark ∷ []) b)
 
 marks_are_meaningful : (items : List Item) (label_count marks count : ℕ)
     → AreMeaningful label_count marks count items
-    → (before after : List Item) → items ≡ before ++ mark ∷ after
-    → 0 < count + count_by is_number before
-marks_are_meaningful [] label_count marks count r [] after e = absurd (cc)
-marks_are_meaningful [] label_count marks count r (x ∷ b) after e = absurd (cc)
-marks_are_meaningful (number m ∷ items) label_count marks count r [] after e = absurd (cc)
-marks_are_meaningful (mark ∷ items) label_count marks count r [] after e =
-    let h = r.0 in omega arith
-marks_are_meaningful (number m ∷ items) label_count marks count r (x ∷ b) after e =
-    let head : x ≡ number m = cc in
-    let tail : items ≡ b ++ mark ∷ after = cc in
-    let h = marks_are_meaningful items label_count marks (count + 1) r.1 b after tail in
-    let c : count_by is_number (x ∷ b) ≡ count_by is_number (number m ∷ b) =
-    ap (λ y. count_by is_number (y ∷ b)) head in
+    → (items_before items_after : List Item) → items ≡ items_before ++ mark ∷ items_after
+    → 0 < count + count_by is_number items_before
+marks_are_meaningful [] label_count marks count are_meaningful [] items_after items_are = absurd
+    (cc)
+marks_are_meaningful [] label_count marks count are_meaningful (x ∷ b) items_after items_are =
+    absurd (cc)
+marks_are_meaningful (number m ∷ items) label_count marks count are_meaningful [] items_after
+    items_are = absurd (cc)
+marks_are_meaningful (mark ∷ items) label_count marks count are_meaningful [] items_after items_are
+    =
+    let count_gt_0 = are_meaningful.0 in omega arith
+marks_are_meaningful (number m ∷ items) label_count marks count are_meaningful (x ∷ b) items_after
+    items_are =
+    let x_is_number : x ≡ number m = cc in
+    let tail_is : items ≡ b ++ mark ∷ items_after = cc in
+    let count_gt_0 = marks_are_meaningful items label_count marks (count + 1) are_meaningful.1 b
+    items_after tail_is in
+    let counts_equal : count_by is_number (x ∷ b) ≡ count_by is_number (number m ∷ b) =
+    ap (λ y. count_by is_number (y ∷ b)) x_is_number in
     omega (arith, count_append is_number (number m ∷ []) b)
-marks_are_meaningful (mark ∷ items) label_count marks count r (x ∷ b) after e =
-    let head : x ≡ mark = cc in
-    let tail : items ≡ b ++ mark ∷ after = cc in
-    let h = marks_are_meaningful items label_count (marks + 1) count r.1 b after tail in
-    let c : count_by is_number (x ∷ b) ≡ count_by is_number (mark ∷ b) =
-    ap (λ y. count_by is_number (y ∷ b)) head in
+marks_are_meaningful (mark ∷ items) label_count marks count are_meaningful (x ∷ b) items_after
+    items_are =
+    let x_is_mark : x ≡ mark = cc in
+    let tail_is : items ≡ b ++ mark ∷ items_after = cc in
+    let count_gt_0 = marks_are_meaningful items label_count (marks + 1) count are_meaningful.1 b
+    items_after tail_is in
+    let counts_equal : count_by is_number (x ∷ b) ≡ count_by is_number (mark ∷ b) =
+    ap (λ y. count_by is_number (y ∷ b)) x_is_mark in
     omega (arith, count_append is_number (mark ∷ []) b)
 
-meaningful_from : (items : List Item) (label_count marks count : ℕ)
-    → ((before after : List Item) (n : ℕ) → items ≡ before ++ number n ∷ after
-    → n ≤ label_count + (marks + count_by is_mark_item before))
-    → ((before after : List Item) → items ≡ before ++ mark ∷ after
-    → 0 < count + count_by is_number before)
+meaningful_if_each_is : (items : List Item) (label_count marks count : ℕ)
+    → ((items_before items_after : List Item) (n : ℕ) → items
+    ≡ items_before ++ number n ∷ items_after
+    → n ≤ label_count + (marks + count_by is_mark_item items_before))
+    → ((items_before items_after : List Item) → items ≡ items_before ++ mark ∷ items_after
+    → 0 < count + count_by is_number items_before)
     → AreMeaningful label_count marks count items
-meaningful_from [] label_count marks count h k = tt
-meaningful_from (number n ∷ items) label_count marks count h k = (
-  (let first = h [] items n refl in omega arith),
-  meaningful_from items label_count marks (count + 1)
-      (λ b a m e. let x = h (number n ∷ b) a m (ap (λ xs. number n ∷ xs) e) in
-      omega (arith, x, count_append is_mark_item (number n ∷ []) b))
-      (λ b a e. let x = k (number n ∷ b) a (ap (λ xs. number n ∷ xs) e) in
-      omega (arith, x, count_append is_number (number n ∷ []) b)),
+meaningful_if_each_is [] label_count marks count numbers_in_range marks_follow = tt
+meaningful_if_each_is (number n ∷ items) label_count marks count numbers_in_range marks_follow = (
+  (let first_in_range = numbers_in_range [] items n refl in omega arith),
+  meaningful_if_each_is items label_count marks (count + 1)
+      (λ b a m items_are. let m_le_count = numbers_in_range (number n ∷ b) a m (ap (λ xs. number n ∷
+      xs) items_are) in
+      omega (arith, m_le_count, count_append is_mark_item (number n ∷ []) b))
+      (λ b a items_are. let count_gt_0 = marks_follow (number n ∷ b) a (ap (λ xs. number n ∷ xs)
+      items_are) in
+      omega (arith, count_gt_0, count_append is_number (number n ∷ []) b)),
 )
-meaningful_from (mark ∷ items) label_count marks count h k = (
-  (let first = k [] items refl in omega arith),
-  meaningful_from items label_count (marks + 1) count
-      (λ b a m e. let x = h (mark ∷ b) a m (ap (λ xs. mark ∷ xs) e) in
-      omega (arith, x, count_append is_mark_item (mark ∷ []) b))
-      (λ b a e. let x = k (mark ∷ b) a (ap (λ xs. mark ∷ xs) e) in
-      omega (arith, x, count_append is_number (mark ∷ []) b)),
+meaningful_if_each_is (mark ∷ items) label_count marks count numbers_in_range marks_follow = (
+  (let first_follows = marks_follow [] items refl in omega arith),
+  meaningful_if_each_is items label_count (marks + 1) count
+      (λ b a m items_are. let m_le_count = numbers_in_range (mark ∷ b) a m (ap (λ xs. mark ∷ xs)
+      items_are) in
+      omega (arith, m_le_count, count_append is_mark_item (mark ∷ []) b))
+      (λ b a items_are. let count_gt_0 = marks_follow (mark ∷ b) a (ap (λ xs. mark ∷ xs) items_are)
+      in
+      omega (arith, count_gt_0, count_append is_number (mark ∷ []) b)),
 )
 
 -- ---- groups of letters that spell items
 
 digit_is_early : (b d : ℕ) → IsEarlyDigit b d → is_early b ≡ true
-digit_is_early b d h =
-    let l = h.least in
-    let m = h.most in
-    let c = h.code in
+digit_is_early b d is_early_digit =
+    let digit_ge_1 = is_early_digit.digit_ge_1 in
+    let digit_le_5 = is_early_digit.digit_le_5 in
+    let letter_is = is_early_digit.letter_is in
     and_from (nat_le 85 b) (nat_le b 89) (le-leb 85 b (omega arith)) (le-leb b 89 (omega arith))
 
 digit_is_last : (b d : ℕ) → IsLastDigit b d → is_last b ≡ true
-digit_is_last b d h =
-    let l = h.least in
-    let m = h.most in
-    let c = h.code in
+digit_is_last b d is_last_digit =
+    let digit_ge_1 = is_last_digit.digit_ge_1 in
+    let digit_le_20 = is_last_digit.digit_le_20 in
+    let letter_is = is_last_digit.letter_is in
     and_from (nat_le 65 b) (nat_le b 84) (le-leb 65 b (omega arith)) (le-leb b 84 (omega arith))
 
-ends_not_early : (b : ℕ) → EndsItem b → is_early b ≡ false
-ends_not_early b h = by_is_early (is_early b) refl
+ending_byte_is_not_early : (b : ℕ) → EndsItem b → is_early b ≡ false
+ending_byte_is_not_early b ends_item = by_is_early (is_early b) refl
   where
     by_is_early : (x : Bool) → is_early b ≡ x → is_early b ≡ false
-    by_is_early true e = absurd (no_early b (b - 84) h (early_digit b e))
-    by_is_early false e = e
+    by_is_early true is_early_byte = absurd (no_early b (b - 84) ends_item (early_byte_is_digit b
+        is_early_byte))
+    by_is_early false not_early = not_early
 
-are_early : (xs : List Letter) (n : ℕ) → AreEarlyDigits (bytes_of xs) n → AreEarly xs
-are_early [] n h = tt
-are_early (x ∷ xs) n h = (digit_is_early x.byte h.0 h.2, are_early xs h.1 h.3)
+letters_are_early : (xs : List Letter) (n : ℕ) → AreEarlyDigits (bytes_of xs) n → AreEarly xs
+letters_are_early [] n are_early_digits = tt
+letters_are_early (x ∷ xs) n are_early_digits = (
+  digit_is_early x.byte are_early_digits.0
+      are_early_digits.2,
+  letters_are_early xs are_early_digits.1 are_early_digits.3,
+)
 
-groups_run : (early front : List Letter) (x : Letter) (back : List Letter) → AreEarly front
+group_of_run : (early front : List Letter) (x : Letter) (later : List Letter) → AreEarly front
     → is_early x.byte ≡ false
-    → groups early (front ++ x ∷ back)
-    ≡ (record { early = early ++ front; last = x } ∷ (groups [] back).0, (groups [] back).1)
-groups_run early [] x back h e =
+    → groups early (front ++ x ∷ later)
+    ≡ (record { early = early ++ front; last = x } ∷ (groups [] later).0, (groups [] later).1)
+group_of_run early [] x later front_is_early not_early =
     let out : Bool → List Group × List Letter =
     λ b. elim b [
-      | true ↦ groups (early ++ x ∷ []) back
-      | false ↦ (record { early = early; last = x } ∷ (groups [] back).0, (groups [] back).1)
+      | true ↦ groups (early ++ x ∷ []) later
+      | false ↦ (record { early = early; last = x } ∷ (groups [] later).0, (groups [] later).1)
     ] in
-    ap out e
+    ap out not_early
     ∙ ap (λ (ys : List Letter). let r : List Group
     × List Letter = (
       record { early = ys; last = x }
-          ∷ (groups [] back).0,
-      (groups [] back).1,
+          ∷ (groups [] later).0,
+      (groups [] later).1,
     ) in
     r) (sym (append-nil early))
-groups_run early (y ∷ front) x back h e =
+group_of_run early (y ∷ front) x later front_is_early not_early =
     let out : Bool → List Group × List Letter =
     λ b. elim b [
-      | true ↦ groups (early ++ y ∷ []) (front ++ x ∷ back)
+      | true ↦ groups (early ++ y ∷ []) (front ++ x ∷ later)
       | false ↦ (
         record { early = early; last = y }
-            ∷ (groups [] (front ++ x ∷ back)).0,
-        (groups [] (front ++ x ∷ back)).1,
+            ∷ (groups [] (front ++ x ∷ later)).0,
+        (groups [] (front ++ x ∷ later)).1,
       )
     ] in
-    ap out h.0 ∙ groups_run (early ++ y ∷ []) front x back h.1 e
+    ap out front_is_early.0 ∙ group_of_run (early ++ y ∷ []) front x later front_is_early.1
+    not_early
     ∙ ap (λ (ys : List Letter). let r : List Group
     × List Letter = (
       record { early = ys; last = x }
-          ∷ (groups [] back).0,
-      (groups [] back).1,
+          ∷ (groups [] later).0,
+      (groups [] later).1,
     ) in
     r) (append_assoc early (y ∷ []) front)
 
 -- letters by their bytes
-record IsSplit (xs : List Letter) (es : List ℕ) (last : ℕ) (rest : List ℕ) : Type 0 where
-  pub front : List Letter
-  pub x : Letter
-  pub back : List Letter
-  pub are : xs ≡ front ++ x ∷ back
-  pub fronts : bytes_of front ≡ es
-  pub middle : x.byte ≡ last
-  pub backs : bytes_of back ≡ rest
-
-split_bytes : (xs : List Letter) (es : List ℕ) (last : ℕ) (rest : List ℕ)
-    → bytes_of xs ≡ es ++ last ∷ rest → IsSplit xs es last rest
-split_bytes [] [] last rest e = absurd (cc)
-split_bytes [] (b ∷ es) last rest e = absurd (cc)
-split_bytes (x ∷ xs) [] last rest e =
-    record { front = []; x = x; back = xs; are = refl; fronts = refl; middle = cc; backs = cc }
-split_bytes (x ∷ xs) (b ∷ es) last rest e = more (cc) (split_bytes xs es last rest (cc))
+record IsSplit (xs : List Letter) (es : List ℕ) (last_byte : ℕ) (later_bytes : List ℕ) : Type 0
   where
-    more : x.byte ≡ b → IsSplit xs es last rest → IsSplit (x ∷ xs) (b ∷ es) last rest
-    more head r =
+    pub front : List Letter
+    pub x : Letter
+    pub later : List Letter
+    pub letters_are : xs ≡ front ++ x ∷ later
+    pub front_bytes_are : bytes_of front ≡ es
+    pub byte_is : x.byte ≡ last_byte
+    pub later_bytes_are : bytes_of later ≡ later_bytes
+
+split_by_bytes : (xs : List Letter) (es : List ℕ) (last_byte : ℕ) (later_bytes : List ℕ)
+    → bytes_of xs ≡ es ++ last_byte ∷ later_bytes → IsSplit xs es last_byte later_bytes
+split_by_bytes [] [] last_byte later_bytes bytes_are = absurd (cc)
+split_by_bytes [] (b ∷ es) last_byte later_bytes bytes_are = absurd (cc)
+split_by_bytes (x ∷ xs) [] last_byte later_bytes bytes_are =
+    record {
+      front = [];
+      x = x;
+      later = xs;
+      letters_are = refl;
+      front_bytes_are = refl;
+      byte_is =
+          cc;
+      later_bytes_are = cc;
+    }
+split_by_bytes (x ∷ xs) (b ∷ es) last_byte later_bytes bytes_are = with_first (cc) (split_by_bytes
+    xs es last_byte later_bytes (cc))
+  where
+    with_first : x.byte ≡ b → IsSplit xs es last_byte later_bytes
+        → IsSplit (x ∷ xs) (b ∷ es) last_byte later_bytes
+    with_first heads_equal split =
         record {
-          front = x ∷ r.front;
-          x = r.x;
-          back = r.back;
-          are = ap (λ ys. x ∷ ys) r.are;
-          fronts = ap₂ (λ c cs. c ∷ cs) head r.fronts;
-          middle = r.middle;
-          backs = r.backs;
+          front = x ∷ split.front;
+          x = split.x;
+          later = split.later;
+          letters_are = ap (λ ys. x ∷ ys) split.letters_are;
+          front_bytes_are = ap₂ (λ c cs. c ∷ cs) heads_equal split.front_bytes_are;
+          byte_is = split.byte_is;
+          later_bytes_are = split.later_bytes_are;
         }
 
-no_bytes : (xs : List Letter) → bytes_of xs ≡ [] → xs ≡ []
-no_bytes [] e = refl
-no_bytes (x ∷ xs) e = absurd (cc)
+nil_if_no_bytes : (xs : List Letter) → bytes_of xs ≡ [] → xs ≡ []
+nil_if_no_bytes [] no_bytes = refl
+nil_if_no_bytes (x ∷ xs) no_bytes = absurd (cc)
 
-number_is : (m n : ℕ) → number m ≡ number n → m ≡ n
-number_is m n e = cc
+equal_if_numbers_equal : (m n : ℕ) → number m ≡ number n → m ≡ n
+equal_if_numbers_equal m n numbers_equal = cc
 
 abbrev AreFaultlessGroups : ℕ → ℕ → ℕ → List Group × List Letter → Type 0
-AreFaultlessGroups label_count marks count r = AreFaultless label_count marks count r.0 × (r.1 ≡ [])
+AreFaultlessGroups label_count marks count gs = AreFaultless label_count marks count gs.0 × (gs.1
+    ≡ [])
 
 -- letters that spell right items are groups without faults
-faultless_of_meaningful : (items : List Item) (xs : List Letter) (label_count marks count : ℕ)
+spelled_are_faultless : (items : List Item) (xs : List Letter) (label_count marks count : ℕ)
     → Spells (bytes_of xs) items → AreMeaningful label_count marks count items
     → AreFaultlessGroups label_count marks count (groups [] xs)
-faultless_of_meaningful [] xs label_count marks count s r =
-    subst (λ ys. AreFaultlessGroups label_count marks count (groups [] ys)) (sym (no_bytes xs s))
+spelled_are_faultless [] xs label_count marks count are_spelled are_meaningful =
+    subst (λ ys. AreFaultlessGroups label_count marks count (groups [] ys)) (sym (nil_if_no_bytes xs
+    are_spelled))
     (tt, refl)
-faultless_of_meaningful (number n ∷ items) xs label_count marks count s r =
-    let w : AreLettersOf s.0 n = s.3 in
-    let p =
-    split_bytes xs w.early w.last s.1
-    (s.2 ∙ ap (λ bs. bs ++ s.1) w.are ∙ append_assoc w.early (w.last ∷ []) s.1) in
-    let early : AreEarly p.front =
-    are_early p.front w.high (subst (λ bs. AreEarlyDigits bs w.high) (sym p.fronts) w.earlier) in
-    let ends : IsLastDigit p.x.byte w.low =
-    subst (λ b. IsLastDigit b w.low) (sym p.middle) w.ends in
-    let most = ends.most in
-    let code = ends.code in
-    let not_early : is_early p.x.byte ≡ false = ends_not_early p.x.byte (inl (omega arith)) in
-    let last : is_last p.x.byte ≡ true = digit_is_last p.x.byte w.low ends in
-    let g : Group = record { early = p.front; last = p.x } in
-    let value_spelled : AreLettersOf s.0 (value g) =
+spelled_are_faultless (number n ∷ items) xs label_count marks count are_spelled are_meaningful =
+    let letters_of_n : AreLettersOf are_spelled.0 n = are_spelled.3 in
+    let split =
+    split_by_bytes xs letters_of_n.early_letters letters_of_n.last_letter are_spelled.1
+    (are_spelled.2 ∙ ap (λ bs. bs ++ are_spelled.1) letters_of_n.letters_are
+    ∙ append_assoc letters_of_n.early_letters (letters_of_n.last_letter ∷ []) are_spelled.1) in
+    let front_is_early : AreEarly split.front =
+    letters_are_early split.front letters_of_n.early_value (subst (λ bs. AreEarlyDigits bs
+    letters_of_n.early_value) (sym split.front_bytes_are) letters_of_n.are_early_digits) in
+    let is_last_digit : IsLastDigit split.x.byte letters_of_n.last_digit =
+    subst (λ b. IsLastDigit b letters_of_n.last_digit) (sym split.byte_is)
+    letters_of_n.is_last_digit in
+    let digit_le_20 = is_last_digit.digit_le_20 in
+    let letter_is = is_last_digit.letter_is in
+    let not_early : is_early split.x.byte ≡ false = ending_byte_is_not_early split.x.byte (inl
+    (omega arith)) in
+    let is_last_byte : is_last split.x.byte ≡ true = digit_is_last split.x.byte
+    letters_of_n.last_digit is_last_digit in
+    let g : Group = record { early = split.front; last = split.x } in
+    let value_spelled : AreLettersOf are_spelled.0 (value g) =
     subst (λ bs. AreLettersOf bs (value g))
-    (ap₂ (λ bs b. bs ++ b ∷ []) p.fronts p.middle ∙ sym w.are)
-    (group_number g early last) in
-    let same : value g ≡ n =
-    number_is (value g) n (item_unique (number (value g)) (number n) s.0 value_spelled w) in
+    (ap₂ (λ bs b. bs ++ b ∷ []) split.front_bytes_are split.byte_is ∙ sym letters_of_n.letters_are)
+    (group_spells_its_value g front_is_early is_last_byte) in
+    let value_is_n : value g ≡ n =
+    equal_if_numbers_equal (value g) n (spelled_item_is_unique (number (value g)) (number n)
+    are_spelled.0 value_spelled letters_of_n) in
     let later_groups =
-    faultless_of_meaningful items p.back label_count marks (count + 1)
-    (subst (λ bs. Spells bs items) (sym p.backs) s.4) r.1 in
+    spelled_are_faultless items split.later label_count marks (count + 1)
+    (subst (λ bs. Spells bs items) (sym split.later_bytes_are) are_spelled.4) are_meaningful.1 in
     let value_fits : value g ≤ label_count + marks = subst (λ i. i ≤ label_count + marks)
-    (sym same) r.0 in
-    let whole : AreFaultlessGroups label_count marks count (groups [] (p.front ++ p.x ∷ p.back)) =
+    (sym value_is_n) are_meaningful.0 in
+    let are_faultless_groups : AreFaultlessGroups label_count marks count (groups [] (split.front ++
+    split.x ∷ split.later)) =
     subst (AreFaultlessGroups label_count marks count)
-    (sym (groups_run [] p.front p.x p.back early not_early))
-    (inl (last, value_fits, later_groups.0), later_groups.1) in
-    subst (λ ys. AreFaultlessGroups label_count marks count (groups [] ys)) (sym p.are) whole
-faultless_of_meaningful (mark ∷ items) xs label_count marks count s r =
-    let p = split_bytes xs [] 90 s.1 (s.2 ∙ ap (λ bs. bs ++ s.1) s.3) in
-    let none : p.front ≡ [] = no_bytes p.front p.fronts in
-    let middle = p.middle in
-    let early : AreEarly p.front =
-    are_early p.front 0 (subst (λ bs. AreEarlyDigits bs 0) (sym p.fronts) refl) in
-    let not_early : is_early p.x.byte ≡ false = ends_not_early p.x.byte (inr (omega arith)) in
-    let not_last : is_last p.x.byte ≡ false = ap is_last middle in
+    (sym (group_of_run [] split.front split.x split.later front_is_early not_early))
+    (inl (is_last_byte, value_fits, later_groups.0), later_groups.1) in
+    subst (λ ys. AreFaultlessGroups label_count marks count (groups [] ys)) (sym split.letters_are)
+    are_faultless_groups
+spelled_are_faultless (mark ∷ items) xs label_count marks count are_spelled are_meaningful =
+    let split = split_by_bytes xs [] 90 are_spelled.1 (are_spelled.2
+    ∙ ap (λ bs. bs ++ are_spelled.1) are_spelled.3) in
+    let front_is_nil : split.front ≡ [] = nil_if_no_bytes split.front split.front_bytes_are in
+    let byte_is = split.byte_is in
+    let front_is_early : AreEarly split.front =
+    letters_are_early split.front 0 (subst (λ bs. AreEarlyDigits bs 0) (sym split.front_bytes_are)
+    refl) in
+    let not_early : is_early split.x.byte ≡ false = ending_byte_is_not_early split.x.byte (inr
+    (omega arith)) in
+    let not_last : is_last split.x.byte ≡ false = ap is_last byte_is in
     let later_groups =
-    faultless_of_meaningful items p.back label_count (marks + 1) count
-    (subst (λ bs. Spells bs items) (sym p.backs) s.4) r.1 in
-    let whole : AreFaultlessGroups label_count marks count (groups [] (p.front ++ p.x ∷ p.back)) =
+    spelled_are_faultless items split.later label_count (marks + 1) count
+    (subst (λ bs. Spells bs items) (sym split.later_bytes_are) are_spelled.4) are_meaningful.1 in
+    let are_faultless_groups : AreFaultlessGroups label_count marks count (groups [] (split.front ++
+    split.x ∷ split.later)) =
     subst (AreFaultlessGroups label_count marks count)
-    (sym (groups_run [] p.front p.x p.back early not_early))
-    (inr (not_last, middle, none, r.0, later_groups.0), later_groups.1) in
-    subst (λ ys. AreFaultlessGroups label_count marks count (groups [] ys)) (sym p.are) whole
+    (sym (group_of_run [] split.front split.x split.later front_is_early not_early))
+    (inr (not_last, byte_is, front_is_nil, are_meaningful.0, later_groups.0), later_groups.1) in
+    subst (λ ys. AreFaultlessGroups label_count marks count (groups [] ys)) (sym split.letters_are)
+    are_faultless_groups
 
 -- ---- groups without faults
 
-not_less : (n m : ℕ) → n ≤ m → nat_lt m n ≡ false
-not_less n m h = by_less (nat_lt m n) refl
+less_is_false : (n m : ℕ) → n ≤ m → nat_lt m n ≡ false
+less_is_false n m n_le_m = by_less (nat_lt m n) refl
   where
     by_less : (b : Bool) → nat_lt m n ≡ b → nat_lt m n ≡ false
-    by_less true e = absurd (let l = ltb-true m n e in omega arith)
-    by_less false e = e
+    by_less true m_lt_n = absurd (let m_lt_n_holds = ltb-true m n m_lt_n in omega arith)
+    by_less false not_less = not_less
 
-not_equal : (m n : ℕ) → (m ≡ n → ⊥) → (m == n) ≡ false
-not_equal m n h = by_equality (m == n) refl
+equal_is_false : (m n : ℕ) → (m ≡ n → ⊥) → (m == n) ≡ false
+equal_is_false m n differ = by_equality (m == n) refl
   where
     by_equality : (b : Bool) → (m == n) ≡ b → (m == n) ≡ false
-    by_equality true e = absurd (h (eqb-true m n e))
-    by_equality false e = e
+    by_equality true are_equal = absurd (differ (eqb-true m n are_equal))
+    by_equality false not_equal = not_equal
 
 no_faults_of_faultless : (gs : List Group) (label_count marks count : ℕ)
     → AreFaultless label_count marks count gs
     → group_faults label_count marks count gs ≡ []
-no_faults_of_faultless [] label_count marks count f = refl
-no_faults_of_faultless (g ∷ gs) label_count marks count f =
-    number_or_mark f (λ k. no_faults_of_faultless gs label_count marks (count + 1) k)
-    (λ k. no_faults_of_faultless gs label_count (marks + 1) count k)
+no_faults_of_faultless [] label_count marks count are_faultless = refl
+no_faults_of_faultless (g ∷ gs) label_count marks count are_faultless =
+    number_or_mark are_faultless (λ rest_is_faultless. no_faults_of_faultless gs label_count marks
+    (count + 1) rest_is_faultless)
+    (λ rest_is_faultless. no_faults_of_faultless gs label_count (marks + 1) count rest_is_faultless)
   where
     faults_without_number : Bool → List Fault
     faults_without_number b = elim b [
@@ -354,143 +415,167 @@ no_faults_of_faultless (g ∷ gs) label_count marks count f =
         → group_faults label_count (marks + 1) count gs ≡ [])
         → faults_of_group (is_last g.last.byte) (g.last.byte == 90)
         ++ faults_of_later_groups (g.last.byte == 90) ≡ []
-    number_or_mark (inl k) after_number after_mark =
-        let u =
-        leb-true g.last.byte 84 (and_parts (nat_le 65 g.last.byte) (nat_le g.last.byte 84) k.0).1 in
+    number_or_mark (inl group_is_faultless) after_number after_mark =
+        let byte_le_84 =
+        leb-true g.last.byte 84 (and_parts (nat_le 65 g.last.byte) (nat_le g.last.byte 84)
+        group_is_faultless.0).1 in
         let not_mark : (g.last.byte == 90) ≡ false =
-        not_equal g.last.byte 90 (λ e. omega arith) in
-        ap₂ (λ a b. faults_of_group a b ++ faults_of_later_groups b) k.0 not_mark
+        equal_is_false g.last.byte 90 (λ byte_is_90. omega arith) in
+        ap₂ (λ a b. faults_of_group a b ++ faults_of_later_groups b) group_is_faultless.0 not_mark
         ∙ ap₂ (λ b ys. at (starts_at g) (when b NumberTooLarge) ++ ys)
-        (not_less (value g) (label_count + marks) k.1) (after_number k.2)
-    number_or_mark (inr k) after_number after_mark =
-        let is_mark_letter : (g.last.byte == 90) ≡ true = eq-eqb g.last.byte 90 k.1 in
-        let l = k.3 in
-        ap₂ (λ a b. faults_of_group a b ++ faults_of_later_groups b) k.0 is_mark_letter
+        (less_is_false (value g) (label_count + marks) group_is_faultless.1) (after_number
+        group_is_faultless.2)
+    number_or_mark (inr group_is_faultless) after_number after_mark =
+        let is_mark_letter : (g.last.byte == 90) ≡ true = eq-eqb g.last.byte 90 group_is_faultless.1
+        in
+        let count_gt_0 = group_is_faultless.3 in
+        ap₂ (λ a b. faults_of_group a b ++ faults_of_later_groups b) group_is_faultless.0
+        is_mark_letter
         ∙ ap₂ (λ (e : List Letter) (b : Bool). at g.last.at
         (when (nat_lt 0 (length e)) OpenNumber ++ when b MarkBeforeStep)
-        ++ group_faults label_count (marks + 1) count gs) k.2 (not_equal count 0 (λ e. omega arith))
-        ∙ after_mark k.4
+        ++ group_faults label_count (marks + 1) count gs) group_is_faultless.2 (equal_is_false count
+        0 (λ count_is_0. omega arith))
+        ∙ after_mark group_is_faultless.4
 
-letters_faultless : (label_count end : ℕ) (xs : List Letter) → xs ≢ []
+no_letter_faults : (label_count end : ℕ) (xs : List Letter) → xs ≢ []
     → AreFaultlessGroups label_count 0 0 (groups [] xs)
     → letter_faults label_count end xs ≡ []
-letters_faultless label_count end [] n r = absurd (n refl)
-letters_faultless label_count end (x ∷ xs) n r =
+no_letter_faults label_count end [] not_nil are_faultless_groups = absurd (not_nil refl)
+no_letter_faults label_count end (x ∷ xs) not_nil are_faultless_groups =
     ap₂ (λ fs (open_ : List Letter). fs ++ at end (when (nat_lt 0 (length open_)) OpenNumber))
-    (no_faults_of_faultless (groups [] (x ∷ xs)).0 label_count 0 0 r.0) r.1
+    (no_faults_of_faultless (groups [] (x ∷ xs)).0 label_count 0 0 are_faultless_groups.0)
+    are_faultless_groups.1
 
 -- ---- labels
 
-filter_not_empty : (test : ℕ → Bool) (n a j : ℕ) → a ≤ j → j < a + n → test j ≡ true
-    → filter test (range_with_len a n) ≡ [] → ⊥
-filter_not_empty test zero a j l h e n = omega arith
-filter_not_empty test (suc m) a j l h e n =
-    by_test (test a) refl n (λ b k. filter_not_empty test m (a + 1) j b (omega arith) e k)
+filter_is_not_nil : (passes : ℕ → Bool) (n a j : ℕ) → a ≤ j → j < a + n → passes j ≡ true
+    → filter passes (range_with_len a n) ≡ [] → ⊥
+filter_is_not_nil passes zero a j a_le_j j_lt_end passes_j is_nil = omega arith
+filter_is_not_nil passes (suc m) a j a_le_j j_lt_end passes_j is_nil =
+    by_test (passes a) refl is_nil (λ a_lt_j rest_is_nil. filter_is_not_nil passes m (a + 1) j
+    a_lt_j (omega arith) passes_j rest_is_nil)
     (cases_eq a j)
   where
-    by_test : (b : Bool) → test a ≡ b
+    by_test : (b : Bool) → passes a ≡ b
         → ◌≡◌ {A = List ℕ}
-        (cond b (a ∷ filter test (range_with_len (a + 1) m))
-        (filter test (range_with_len (a + 1) m))) []
-        → (a + 1 ≤ j → filter test (range_with_len (a + 1) m) ≡ [] → ⊥) → (a ≡ j) ⊎ (a ≡ j → ⊥) → ⊥
-    by_test true f k of_the_rest c = cc
-    by_test false f k of_the_rest (inl s) = true≢false (sym e ∙ sym (ap test s) ∙ f)
-    by_test false f k of_the_rest (inr ne) = of_the_rest (omega arith) k
+        (cond b (a ∷ filter passes (range_with_len (a + 1) m))
+        (filter passes (range_with_len (a + 1) m))) []
+        → (a + 1 ≤ j → filter passes (range_with_len (a + 1) m) ≡ [] → ⊥) → (a ≡ j) ⊎ (a ≡ j → ⊥)
+        → ⊥
+    by_test true passes_a is_nil rest_is_not_nil order = cc
+    by_test false not_a is_nil rest_is_not_nil (inl a_is_j) = true≢false (sym passes_j
+        ∙ sym (ap passes a_is_j) ∙ not_a)
+    by_test false not_a is_nil rest_is_not_nil (inr a_is_not_j) = rest_is_not_nil (omega arith)
+        is_nil
 
-usable_faultless : (db : List Statement) (k : ℕ) (t : Token) (j : ℕ) → IsUsable db k t.word j
+usable_label_has_no_fault : (db : List Statement) (k : ℕ) (t : Token) (j : ℕ)
+    → IsUsable db k t.word j
     → proof_label_faults db k t ≡ []
-usable_faultless db k t j h =
+usable_label_has_no_fault db k t j is_usable =
     by_usable (usable db k t.word)
-    (λ n. filter_not_empty
+    (λ is_nil. filter_is_not_nil
     (λ i. is_active db i k && list_any (is_labelled t.word) (statement_at db i)) k 0 j (omega arith)
-    (let b = is_before db j k h.active in omega arith)
+    (let j_lt_k = is_before db j k is_usable.statement_is_active in omega arith)
     (and_from (is_active db j k)
-    (list_any (is_labelled t.word) (statement_at db j)) h.active h.labelled) n)
+    (list_any (is_labelled t.word) (statement_at db j)) is_usable.statement_is_active
+    is_usable.statement_has_label) is_nil)
   where
     by_usable : (js : List ℕ) → (js ≡ [] → ⊥)
         → ◌≡◌ {A = List Fault} (elim js [ [] ↦ fault t.at UnusableLabel ∷ [] | j ∷ js ↦ [] ]) []
-    by_usable [] n = absurd (n refl)
-    by_usable (j ∷ js) n = refl
+    by_usable [] not_nil = absurd (not_nil refl)
+    by_usable (j ∷ js) not_nil = refl
 
-labels_faultless : (db : List Statement) (k : ℕ) (ts : List Token)
+usable_labels_have_no_fault : (db : List Statement) (k : ℕ) (ts : List Token)
     → AllByRecursion (λ t. (j : ℕ) × IsUsable db k t.word j) ts
     → flat_map (proof_label_faults db k) ts ≡ []
-labels_faultless db k [] h = refl
-labels_faultless db k (t ∷ ts) h =
-    ap₂ (λ xs ys. xs ++ ys) (usable_faultless db k t h.0.0 h.0.1) (labels_faultless db k ts h.1)
+usable_labels_have_no_fault db k [] are_usable = refl
+usable_labels_have_no_fault db k (t ∷ ts) are_usable =
+    ap₂ (λ xs ys. xs ++ ys) (usable_label_has_no_fault db k t are_usable.0.0 are_usable.0.1)
+    (usable_labels_have_no_fault db k ts are_usable.1)
 
-each_usable : (db : List Statement) (k : ℕ) (ts : List Token) (js : List ℕ)
+each_label_is_usable : (db : List Statement) (k : ℕ) (ts : List Token) (js : List ℕ)
     → AllZip (λ t j. IsUsable db k t.word j) ts js
     → AllByRecursion (λ t. (j : ℕ) × IsUsable db k t.word j) ts
-each_usable db k [] js h = tt
-each_usable db k (t ∷ ts) [] h = absurd h
-each_usable db k (t ∷ ts) (j ∷ js) h = ((j, h.0), each_usable db k ts js h.1)
+each_label_is_usable db k [] js are_usable = tt
+each_label_is_usable db k (t ∷ ts) [] are_usable = absurd are_usable
+each_label_is_usable db k (t ∷ ts) (j ∷ js) are_usable = (
+  (j, are_usable.0),
+  each_label_is_usable db
+      k ts js are_usable.1,
+)
 
 -- ---- proofs
 
 module _ (db : List Statement) (differ : LabelsDiffer db) (k end : ℕ) where
   read_is_well_spelled : (t : Token) (ts : List Token) → t.word ≡ codes "("
       → reading_faults db k end (t ∷ ts) ≡ [] → IsWellSpelled db k (t ∷ ts)
-  read_is_well_spelled t ts opens f =
-      let p = faultless_proof db k end t ts opens f in
-      let brackets = parts_of ts p.letters p.is in
+  read_is_well_spelled t ts is_opening no_faults =
+      let faultless = proof_is_faultless db k end t ts is_opening no_faults in
+      let brackets = bracket_parts_of ts faultless.letters faultless.letters_are in
       let label_count = length (mandatory_hypotheses db k) + length (bracketed ts).labels in
-      let items = map item_of (groups [] (letters_of p.letters)).0 in
-      let letters_spell : Spells (letters_in p.letters) items =
-      subst (λ bs. Spells bs items) (letters_bytes p.letters)
-      (groups_spell (letters_of p.letters) [] label_count 0 0 tt p.good.faultless p.good.whole) in
-      let are_meaningful = meaningful_of_faultless
-      (groups [] (letters_of p.letters)).0 label_count 0 0 p.good.faultless in
-      let js = all_usable db differ k (bracketed ts).labels p.usable in
-      let same : (bracketed ts).labels ≡ brackets.labels =
+      let items = map item_of (groups [] (letters_of faultless.letters)).0 in
+      let letters_spell : Spells (letters_in faultless.letters) items =
+      subst (λ bs. Spells bs items) (bytes_of_letters faultless.letters)
+      (groups_spell (letters_of faultless.letters) [] label_count 0 0 tt
+      faultless.has_faultless_letters.has_faultless_groups
+      faultless.has_faultless_letters.no_open_group) in
+      let are_meaningful = faultless_are_meaningful
+      (groups [] (letters_of faultless.letters)).0 label_count 0 0
+      faultless.has_faultless_letters.has_faultless_groups in
+      let js = labels_are_usable db differ k (bracketed ts).labels faultless.labels_are_usable in
+      let labels_equal : (bracketed ts).labels ≡ brackets.labels =
       ap (λ b. b.labels)
-      (ap bracketed brackets.are
-      ∙ bracketed_is brackets.labels brackets.closing p.letters brackets.closes brackets.first) in
+      (ap bracketed brackets.words_are
+      ∙ bracketed_splits brackets.labels brackets.closing faultless.letters brackets.closing_is
+      brackets.no_label_closes) in
       record {
         labels = brackets.labels;
-        letters = p.letters;
-        parts =
+        letters = faultless.letters;
+        is_compressed =
             record {
               opening = t;
               closing = brackets.closing;
-              are = ap (λ xs. t ∷ xs) brackets.are;
-              opens = opens;
-              closes = brackets.closes;
-              first = brackets.first;
+              words_are = ap (λ xs. t ∷ xs) brackets.words_are;
+              opening_is = is_opening;
+              closing_is = brackets.closing_is;
+              no_label_closes = brackets.no_label_closes;
             };
-        usable =
-            subst (AllByRecursion (λ u. (j : ℕ) × IsUsable db k u.word j)) same
-            (each_usable db k (bracketed ts).labels js.0 js.1);
+        labels_are_usable =
+            subst (AllByRecursion (λ u. (j : ℕ) × IsUsable db k u.word j)) labels_equal
+            (each_label_is_usable db k (bracketed ts).labels js.0 js.1);
         items = items;
-        spelled = letters_spell;
-        some =
-            λ n. p.good.some
-            (no_bytes (letters_of p.letters)
-            (letters_bytes p.letters ∙ subst (Spells (letters_in p.letters)) n letters_spell));
-        numbers =
-            λ b a n e.
-            let h = numbers_are_meaningful items label_count 0 0 are_meaningful b a n e in
+        items_are_spelled = letters_spell;
+        has_items =
+            λ is_nil. faultless.has_faultless_letters.has_letters
+            (nil_if_no_bytes (letters_of faultless.letters)
+            (bytes_of_letters faultless.letters ∙ subst (Spells (letters_in faultless.letters))
+            is_nil letters_spell));
+        numbers_name_steps =
+            λ b a n items_are.
+            let n_le_count = numbers_are_meaningful items label_count 0 0 are_meaningful b a n
+            items_are in
             subst
             (λ ls. n ≤ length (mandatory_hypotheses db k) + length ls + count_by is_mark_item b)
-            same (omega arith);
-        marks =
-            λ b a e. let h =
-            marks_are_meaningful items label_count 0 0 are_meaningful b a e in omega arith;
+            labels_equal (omega arith);
+        marks_follow_numbers =
+            λ b a items_are. let count_gt_0 =
+            marks_are_meaningful items label_count 0 0 are_meaningful b a items_are in omega arith;
       }
 
   well_spelled_is_read : (t : Token) (ts : List Token) → t.word ≡ codes "("
       → IsWellSpelled db k (t ∷ ts)
       → reading_faults db k end (t ∷ ts) ≡ []
-  well_spelled_is_read t ts opens w =
-      ap faults_by_bracket ((bytes_eq-Decides t.word (codes "(")).1 opens)
+  well_spelled_is_read t ts is_opening is_well_spelled =
+      ap faults_by_bracket ((bytes_eq-Decides t.word (codes "(")).1 is_opening)
       ∙ ap (compressed_faults db k end) brackets_are
-      ∙ ap₂ (λ xs ys. xs ++ ys) (labels_faultless db k w.labels w.usable)
-      (letters_faultless label_count end (letters_of w.letters) some_letters
-      (faultless_of_meaningful w.items
-      (letters_of w.letters) label_count 0 0 letters_spell are_meaningful))
+      ∙ ap₂ (λ xs ys. xs ++ ys) (usable_labels_have_no_fault db k is_well_spelled.labels
+      is_well_spelled.labels_are_usable)
+      (no_letter_faults label_count end (letters_of is_well_spelled.letters) has_letters
+      (spelled_are_faultless is_well_spelled.items
+      (letters_of is_well_spelled.letters) label_count 0 0 letters_spell are_meaningful))
     where
       label_count : ℕ
-      label_count = length (mandatory_hypotheses db k) + length w.labels
+      label_count = length (mandatory_hypotheses db k) + length is_well_spelled.labels
 
       faults_by_bracket : Bool → List Fault
       faults_by_bracket b =
@@ -499,32 +584,44 @@ module _ (db : List Statement) (differ : LabelsDiffer db) (k end : ℕ) where
             | false ↦ normal_faults db k end (t ∷ ts)
           ]
 
-      tail_is : {s t : Token} {xs ys : List Token} → s ∷ xs ≡ t ∷ ys → xs ≡ ys
-      tail_is e = cc
+      tails_equal : {s t : Token} {xs ys : List Token} → s ∷ xs ≡ t ∷ ys → xs ≡ ys
+      tails_equal lists_equal = cc
 
-      brackets_are : bracketed ts ≡ record { labels = w.labels; letters = Some w.letters }
+      brackets_are : bracketed ts ≡ record {
+        labels = is_well_spelled.labels;
+        letters = Some
+            is_well_spelled.letters;
+      }
       brackets_are =
-          ap bracketed (tail_is w.parts.are)
-          ∙ bracketed_is w.labels w.parts.closing w.letters w.parts.closes w.parts.first
+          ap bracketed (tails_equal is_well_spelled.is_compressed.words_are)
+          ∙ bracketed_splits is_well_spelled.labels is_well_spelled.is_compressed.closing
+          is_well_spelled.letters is_well_spelled.is_compressed.closing_is
+          is_well_spelled.is_compressed.no_label_closes
 
-      letters_spell : Spells (bytes_of (letters_of w.letters)) w.items
-      letters_spell = subst (λ bs. Spells bs w.items) (sym (letters_bytes w.letters)) w.spelled
+      letters_spell : Spells (bytes_of (letters_of is_well_spelled.letters)) is_well_spelled.items
+      letters_spell = subst (λ bs. Spells bs is_well_spelled.items) (sym (bytes_of_letters
+          is_well_spelled.letters)) is_well_spelled.items_are_spelled
 
-      are_meaningful : AreMeaningful label_count 0 0 w.items
+      are_meaningful : AreMeaningful label_count 0 0 is_well_spelled.items
       are_meaningful =
-          meaningful_from w.items label_count 0 0
-          (λ b a n e. let h = w.numbers b a n e in omega arith)
-          (λ b a e. let h = w.marks b a e in omega arith)
+          meaningful_if_each_is is_well_spelled.items label_count 0 0
+          (λ b a n items_are. let n_le_count = is_well_spelled.numbers_name_steps b a n items_are in
+          omega arith)
+          (λ b a items_are. let count_gt_0 = is_well_spelled.marks_follow_numbers b a items_are in
+          omega arith)
 
-      no_items : (items : List Item) → Spells [] items → items ≡ []
-      no_items [] s = refl
-      no_items (number n ∷ items) s =
-          absurd (nonempty s.3.early s.3.last s.1 (s.2 ∙ ap (λ bs. bs ++ s.1) s.3.are))
-      no_items (mark ∷ items) s = absurd (nonempty [] 90 s.1 (s.2 ∙ ap (λ bs. bs ++ s.1) s.3))
+      no_letters_no_items : (items : List Item) → Spells [] items → items ≡ []
+      no_letters_no_items [] are_spelled = refl
+      no_letters_no_items (number n ∷ items) are_spelled =
+          absurd (front_with_last_is_not_nil are_spelled.3.early_letters are_spelled.3.last_letter
+          are_spelled.1 (are_spelled.2 ∙ ap (λ bs. bs ++ are_spelled.1) are_spelled.3.letters_are))
+      no_letters_no_items (mark ∷ items) are_spelled = absurd (front_with_last_is_not_nil [] 90
+          are_spelled.1 (are_spelled.2 ∙ ap (λ bs. bs ++ are_spelled.1) are_spelled.3))
 
-      some_letters : letters_of w.letters ≢ []
-      some_letters n =
-          w.some (no_items w.items (subst (λ xs. Spells (bytes_of xs) w.items) n letters_spell))
+      has_letters : letters_of is_well_spelled.letters ≢ []
+      has_letters is_nil =
+          is_well_spelled.has_items (no_letters_no_items is_well_spelled.items (subst (λ xs. Spells
+          (bytes_of xs) is_well_spelled.items) is_nil letters_spell))
 
   abbrev IsPlainWord : Token → Type 0
   IsPlainWord u = (u.word ≢ codes "?") × ((j : ℕ) × IsUsable db k u.word j)
@@ -534,37 +631,42 @@ module _ (db : List Statement) (differ : LabelsDiffer db) (k end : ℕ) where
 
   read_are_plain_words : (ts : List Token) → flat_map faults_of_word ts ≡ []
       → AllByRecursion IsPlainWord ts
-  read_are_plain_words [] f = tt
-  read_are_plain_words (t ∷ ts) f = (
+  read_are_plain_words [] no_faults = tt
+  read_are_plain_words (t ∷ ts) no_faults = (
     by_question_mark (bytes_eq t.word (codes "?")) refl
-        (append_none (faults_of_word t) (flat_map faults_of_word ts) f).0,
+        (append_none (faults_of_word t) (flat_map faults_of_word ts) no_faults).0,
     read_are_plain_words ts
-        (append_none (faults_of_word t) (flat_map faults_of_word ts) f).1,
+        (append_none (faults_of_word t) (flat_map faults_of_word ts) no_faults).1,
   )
     where
       by_question_mark : (b : Bool) → bytes_eq t.word (codes "?") ≡ b
           → own_faults db differ k t b ≡ []
           → IsPlainWord t
-      by_question_mark true e h = absurd (cc)
-      by_question_mark false e h =
-          let one = usable_one db differ k t h in
-          ((λ w. true≢false (sym ((bytes_eq-Decides t.word (codes "?")).1 w) ∙ e)), (one.0, one.2))
+      by_question_mark true is_question_mark no_fault = absurd (cc)
+      by_question_mark false not_question_mark no_fault =
+          let usable_statement = one_statement_is_usable db differ k t no_fault in (
+            (λ is_question_word. true≢false (sym ((bytes_eq-Decides t.word (codes "?")).1
+                is_question_word) ∙ not_question_mark)),
+            (usable_statement.0, usable_statement.2),
+          )
 
   plain_words_are_read : (ts : List Token) → AllByRecursion IsPlainWord ts
       → flat_map faults_of_word ts ≡ []
-  plain_words_are_read [] h = refl
-  plain_words_are_read (t ∷ ts) h =
+  plain_words_are_read [] are_plain_words = refl
+  plain_words_are_read (t ∷ ts) are_plain_words =
       ap₂ (λ xs ys. xs ++ ys) (by_question_mark (bytes_eq t.word (codes "?")) refl)
-      (plain_words_are_read ts h.1)
+      (plain_words_are_read ts are_plain_words.1)
     where
       by_question_mark : (b : Bool) → bytes_eq t.word (codes "?") ≡ b
           → own_faults db differ k t b ≡ []
-      by_question_mark true e = absurd (h.0.0 (same_word t.word (codes "?") e))
-      by_question_mark false e = usable_faultless db k t h.0.1.0 h.0.1.1
+      by_question_mark true is_question_mark = absurd (are_plain_words.0.0 (same_word t.word (codes
+          "?") is_question_mark))
+      by_question_mark false not_question_mark = usable_label_has_no_fault db k t
+          are_plain_words.0.1.0 are_plain_words.0.1.1
 
-  normal_read : (t : Token) (ts : List Token) → t.word ≢ codes "("
+  normal_faults_are : (t : Token) (ts : List Token) → t.word ≢ codes "("
       → reading_faults db k end (t ∷ ts) ≡ flat_map faults_of_word (t ∷ ts)
-  normal_read t ts ne = by_bracket (bytes_eq t.word (codes "(")) refl
+  normal_faults_are t ts no_bracket = by_bracket (bytes_eq t.word (codes "(")) refl
     where
       by_bracket : (b : Bool) → bytes_eq t.word (codes "(") ≡ b
           → ◌≡◌ {A = List Fault}
@@ -572,20 +674,23 @@ module _ (db : List Statement) (differ : LabelsDiffer db) (k end : ℕ) where
             | true ↦ compressed_faults db k end (bracketed ts)
             | false ↦ normal_faults db k end (t ∷ ts)
           ]) (flat_map faults_of_word (t ∷ ts))
-      by_bracket true e = absurd (ne (same_word t.word (codes "(") e))
-      by_bracket false e = refl
+      by_bracket true is_bracket = absurd (no_bracket (same_word t.word (codes "(") is_bracket))
+      by_bracket false not_bracket = refl
 
-pub normal_exact : WhereRead NormalIsExact
-normal_exact len x db fault r w k end t ts ne =
-    let differ = labels_differ len x db fault r w in
-    let faults = normal_read (counted w db) differ k end t ts ne in (
-      (λ f. read_are_plain_words (counted w db) differ k end (t ∷ ts) (sym faults ∙ f)),
-      λ h. faults ∙ plain_words_are_read (counted w db) differ k end (t ∷ ts) h,
+pub normal_is_exact : WhereRead NormalIsExact
+normal_is_exact len x db fault is_read with_open k end t ts no_bracket =
+    let labels_are_distinct = labels_differ len x db fault is_read with_open in
+    let faults_are = normal_faults_are (counted with_open db) labels_are_distinct k end t ts
+    no_bracket in (
+      (λ no_faults. read_are_plain_words (counted with_open db) labels_are_distinct k end (t ∷ ts)
+          (sym faults_are ∙ no_faults)),
+      λ are_plain_words. faults_are ∙ plain_words_are_read (counted with_open db)
+          labels_are_distinct k end (t ∷ ts) are_plain_words,
     )
 
-pub compressed_exact : WhereRead CompressedIsExact
-compressed_exact len x db fault r w k end t ts opens =
-    let differ = labels_differ len x db fault r w in (
-      read_is_well_spelled (counted w db) differ k end t ts opens,
-      well_spelled_is_read (counted w db) differ k end t ts opens,
+pub compressed_is_exact : WhereRead CompressedIsExact
+compressed_is_exact len x db fault is_read with_open k end t ts is_opening =
+    let labels_are_distinct = labels_differ len x db fault is_read with_open in (
+      read_is_well_spelled (counted with_open db) labels_are_distinct k end t ts is_opening,
+      well_spelled_is_read (counted with_open db) labels_are_distinct k end t ts is_opening,
     )

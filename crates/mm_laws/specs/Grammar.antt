@@ -53,27 +53,28 @@ pub record IsWellBegun (text : List ℕ) (ws : List Word) (tokens : List Word)
   pub last_comment : LastComment
   pub are_lexemes : AllByRecursion (IsLexeme text) lexemes
   pub is_last_comment : IsLastComment text last_comment
-  pub words : ws ≡ flat_map words_in lexemes ++ words_in_last_comment last_comment
-  pub same_tokens : tokens ≡ flat_map tokens_in lexemes
-  pub same_comment : open_comment ≡ option_map (λ p. p.0.start) last_comment
+  pub words_are : ws ≡ flat_map words_in lexemes ++ words_in_last_comment last_comment
+  pub tokens_are : tokens ≡ flat_map tokens_in lexemes
+  pub comment_start_is : open_comment ≡ option_map (λ p. p.0.start) last_comment
 
 -- w is the first word such that the words up to and including it aren't well begun: those before it
 -- are, with these tokens and this open comment, and with it they aren't.
 pub record IsFaulty (text : List ℕ) (ws : List Word) (w : Word) (tokens : List Word)
     (open_comment : Option ℕ) : Type 0 where
-  pub before : List Word
-  pub after : List Word
-  pub split : ws ≡ before ++ w ∷ after
-  pub begun : IsWellBegun text before tokens open_comment
-  pub faulty : (ts : List Word) (c : Option ℕ) → IsWellBegun text (before ++ w ∷ []) ts c → ⊥
+  pub words_before : List Word
+  pub words_after : List Word
+  pub words_split : ws ≡ words_before ++ w ∷ words_after
+  pub is_well_begun : IsWellBegun text words_before tokens open_comment
+  pub not_well_begun : (ts : List Word) (c : Option ℕ) → IsWellBegun text (words_before ++ w ∷ [])
+      ts c → ⊥
 
 -- what a reading of the words stands for
 pub record IsReading (text : List ℕ) (ws : List Word) (r : Reading) : Type 0 where
   -- without a fault the words are well begun, and in one way
-  pub whole : r.fault ≡ None → IsWellBegun text ws r.tokens r.open_comment
-  pub only : (ts : List Word) (c : Option ℕ) → IsWellBegun text ws ts c
+  pub well_begun_without_fault : r.fault ≡ None → IsWellBegun text ws r.tokens r.open_comment
+  pub is_only_reading : (ts : List Word) (c : Option ℕ) → IsWellBegun text ws ts c
       → r ≡ record { tokens = ts; fault = None; open_comment = c }
   -- a fault is that of the first faulty word, and the tokens are those before it
-  pub faulty : (f : Fault) → r.fault ≡ Some f
+  pub fault_is_first : (f : Fault) → r.fault ≡ Some f
       → (w : Word) × IsFaulty text ws w r.tokens r.open_comment
       × (f ≡ fault_of (is_some r.open_comment) w.start (bytes_of text w))

@@ -12,8 +12,8 @@ use Rattle.mm_laws.specs.Grammar.{IsReading}
 
 -- What the tokens and the fault of a text are, in terms of its words and the grammar alone.
 pub record IsLexed (text : List ℕ) (tokens : List Word) (fault : Option Fault) : Type 0 where
-  pub too_long : text_limit < length text
+  pub long_text_is_refused : text_limit < length text
       → (tokens ≡ []) × (fault ≡ Some (record { at = 0; code = TextTooLong }))
-  pub read : length text ≤ text_limit → (ws : List Word) → AreWords text ws →
+  pub short_text_is_read : length text ≤ text_limit → (ws : List Word) → AreWords text ws →
       (r : Reading) × IsReading text ws r × (tokens ≡ r.tokens)
       × (fault ≡ fault_in r.fault r.open_comment)

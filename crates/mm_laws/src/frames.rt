@@ -10,7 +10,7 @@ ghost use Rattle.mm_laws.specs.Laws.Frames.{VariablesAreMandatory};
 /// the second says it of statements. The third says that the mandatory variables are the variables
 /// of the frame: those of the formula, of the mandatory hypotheses and of the mandatory pairs.
 pub fn lawful_statements_have_complete_frames()
-    ensures complete { WhereRead FramesAreComplete }
-    ensures typed { WhereRead VariablesAreTyped }
+    ensures frames_are_complete { WhereRead FramesAreComplete }
+    ensures variables_are_typed { WhereRead VariablesAreTyped }
     ensures mandatory { WhereRead VariablesAreMandatory }
 {}

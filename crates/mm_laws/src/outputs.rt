@@ -18,6 +18,6 @@ pub fn output_exists()
 /// bytes are. So the output of a text is that of its first bytes, however many more there are, if
 /// these first ones are more than the limit.
 pub fn long_texts_have_one_output()
-    ensures refused { LongTextsAreRefused }
+    ensures long_texts_are_refused { LongTextsAreRefused }
     ensures front { FrontsDecide }
 {}

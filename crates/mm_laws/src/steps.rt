@@ -7,6 +7,6 @@ ghost use Rattle.mm_laws.specs.Laws.NamedSteps.{StepsAreNamed, NamedStepsAreUniq
 /// marked steps. Those of a normal proof are its labels.
 pub fn steps_are_what_is_named()
     ensures compressed { WhereRead StepsAreNamed }
-    ensures one { NamedStepsAreUnique }
+    ensures steps_are_unique { NamedStepsAreUnique }
     ensures normal { WhereRead StepsAreLabels }
 {}

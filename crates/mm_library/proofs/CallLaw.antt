@@ -19,23 +19,29 @@ pub writing_ends : (verdict : Status) (with_open : Bool) (requests : List Reques
     → HasOutputs text requests lengths out → sum lengths ≡ len
     → WritingEnds (if nat_lt (length out) len then OutTooShort else verdict) with_open requests text
     lengths out
-writing_ends verdict with_open requests text lengths out len judged wrote total =
+writing_ends verdict with_open requests text lengths out len has_verdict has_outputs lengths_sum_is
+    =
     by_length (nat_lt (length out) len) refl
   where
     by_verdict : (v : Status) → HasVerdict v text with_open → sum lengths ≤ length out
         → WritingEnds v with_open requests text lengths out
-    by_verdict Accepted judged fit = (judged, wrote, fit)
-    by_verdict Refused judged fit = (judged, wrote, fit)
-    by_verdict TypecodeNotUtf8 judged fit = absurd judged
-    by_verdict OutTooShort judged fit = absurd judged
-    by_verdict RoomTooSmall judged fit = absurd judged
-    by_verdict NoSuchRequest judged fit = absurd judged
+    by_verdict Accepted has_verdict sum_le_length = (has_verdict, has_outputs, sum_le_length)
+    by_verdict Refused has_verdict sum_le_length = (has_verdict, has_outputs, sum_le_length)
+    by_verdict TypecodeNotUtf8 has_verdict sum_le_length = absurd has_verdict
+    by_verdict OutTooShort has_verdict sum_le_length = absurd has_verdict
+    by_verdict RoomTooSmall has_verdict sum_le_length = absurd has_verdict
+    by_verdict NoSuchRequest has_verdict sum_le_length = absurd has_verdict
 
     by_length : (b : Bool) → nat_lt (length out) len ≡ b
         → WritingEnds (if b then OutTooShort else verdict) with_open requests text lengths out
-    by_length true e = (wrote, (let l = ltb-true (length out) len e in omega (arith, l, total)))
-    by_length false e =
-        by_verdict verdict judged (let l = ltb-false (length out) len e in omega (arith, l, total))
+    by_length true out_is_shorter = (
+      has_outputs,
+      (let length_lt_len = ltb-true (length out) len
+          out_is_shorter in omega (arith, length_lt_len, lengths_sum_is)),
+    )
+    by_length false out_is_not_shorter =
+        by_verdict verdict has_verdict (let len_le_length = ltb-false (length out) len
+        out_is_not_shorter in omega (arith, len_le_length, lengths_sum_is))
 
 -- where no output was written, the lengths add up to 0
 pub no_lengths : (with_citations : Bool) → sum (lengths_of with_citations 0 0) ≡ 0
@@ -43,75 +49,94 @@ no_lengths true = refl
 no_lengths false = refl
 
 -- one output, which is all that was written
-pub one_output : (request : Request) (text out bytes seen : List ℕ) (len : ℕ)
-    → IsOutput text request bytes → seen ≡ bytes → len ≡ length seen
-    → take len out ≡ take (length out) seen → HasOutputs text (request ∷ []) (len ∷ []) out
-one_output request text out bytes seen len is_output seen_is len_is front =
-    let whole : bytes ++ [] ≡ seen = append-nil bytes ∙ sym seen_is in
+pub one_output : (request : Request) (text out bytes written : List ℕ) (len : ℕ)
+    → IsOutput text request bytes → written ≡ bytes → len ≡ length written
+    → take len out ≡ take (length out) written → HasOutputs text (request ∷ []) (len ∷ []) out
+one_output request text out bytes written len is_output written_is len_is is_at_front =
+    let flat_bytes_are : bytes ++ [] ≡ written = append-nil bytes ∙ sym written_is in
     record {
       outputs = bytes ∷ [];
       are_outputs = (is_output, tt);
-      are_lengths = ap (λ (n : ℕ). n ∷ []) (len_is ∙ ap length seen_is);
-      at_front =
-          ap (λ (bs : List ℕ). take (length bs) out) whole
-          ∙ ap (λ (n : ℕ). take n out) (sym len_is) ∙ front
-          ∙ ap (take (length out)) (sym whole);
+      are_lengths = ap (λ (n : ℕ). n ∷ []) (len_is ∙ ap length written_is);
+      is_at_front =
+          ap (λ (bs : List ℕ). take (length bs) out) flat_bytes_are
+          ∙ ap (λ (n : ℕ). take n out) (sym len_is) ∙ is_at_front
+          ∙ ap (take (length out)) (sym flat_bytes_are);
     }
 
 -- two outputs, the second behind the first
-pub two_outputs : (request other : Request) (text out bytes more first both : List ℕ) (k len : ℕ)
-    → IsOutput text request bytes → IsOutput text other more → first ≡ bytes
-    → both ≡ first ++ more → k ≡ length first → len ≡ length both
-    → take len out ≡ take (length out) both
-    → HasOutputs text (request ∷ other ∷ []) (k ∷ (len - k) ∷ []) out
-two_outputs request other text out bytes more first both k len is_output other_is_output first_is
-    both_is k_is len_is front =
-    let whole : bytes ++ (more ++ []) ≡ both =
-    ap (λ (bs : List ℕ). bytes ++ bs) (append-nil more)
-    ∙ ap (λ (bs : List ℕ). bs ++ more) (sym first_is)
-    ∙ sym both_is in
-    let sizes : length both ≡ length first + length more = ap length both_is
-    ∙ length-append first more in
+pub two_outputs : (request other_request : Request) (text out bytes other_bytes first_written
+    written : List ℕ) (k len : ℕ)
+    → IsOutput text request bytes → IsOutput text other_request other_bytes → first_written ≡ bytes
+    → written ≡ first_written ++ other_bytes → k ≡ length first_written → len ≡ length written
+    → take len out ≡ take (length out) written
+    → HasOutputs text (request ∷ other_request ∷ []) (k ∷ (len - k) ∷ []) out
+two_outputs request other_request text out bytes other_bytes first_written written k len is_output
+    other_is_output first_written_is written_is k_is len_is is_at_front =
+    let flat_bytes_are : bytes ++ (other_bytes ++ []) ≡ written =
+    ap (λ (bs : List ℕ). bytes ++ bs) (append-nil other_bytes)
+    ∙ ap (λ (bs : List ℕ). bs ++ other_bytes) (sym first_written_is)
+    ∙ sym written_is in
+    let lengths_add : length written ≡ length first_written + length other_bytes = ap length
+    written_is
+    ∙ length-append first_written other_bytes in
     record {
-      outputs = bytes ∷ more ∷ [];
+      outputs = bytes ∷ other_bytes ∷ [];
       are_outputs = (is_output, (other_is_output, tt));
-      are_lengths = λ i. (k_is ∙ ap length first_is) i ∷ second_length sizes i ∷ [];
-      at_front =
-          ap (λ (bs : List ℕ). take (length bs) out) whole
-          ∙ ap (λ (n : ℕ). take n out) (sym len_is) ∙ front
-          ∙ ap (take (length out)) (sym whole);
+      are_lengths = λ i. (k_is ∙ ap length first_written_is) i ∷ second_length lengths_add i ∷ [];
+      is_at_front =
+          ap (λ (bs : List ℕ). take (length bs) out) flat_bytes_are
+          ∙ ap (λ (n : ℕ). take n out) (sym len_is) ∙ is_at_front
+          ∙ ap (take (length out)) (sym flat_bytes_are);
     }
   where
-    second_length : length both ≡ length first + length more → len - k ≡ length more
-    second_length sizes = omega (arith, sizes, len_is, k_is)
+    second_length : length written ≡ length first_written + length other_bytes → len - k
+        ≡ length other_bytes
+    second_length lengths_add = omega (arith, lengths_add, len_is, k_is)
 
 -- a call that asks for a request ends as it ended to write the outputs of that request
-pub ends_if_asked : (status : Status) (call : Call) (of : Request
+pub ends_if_asked : (status : Status) (call : Call) (requests_for : Request
     → List Request) (request : Request)
     (text lengths out : List ℕ) → Asks call request
-    → WritingEnds status request.with_open (of request) text lengths out
-    → CallEnds status call of text lengths out
-ends_if_asked Accepted call of request text lengths out asks wrote = (request, asks, wrote)
-ends_if_asked Refused call of request text lengths out asks wrote = (request, asks, wrote)
-ends_if_asked TypecodeNotUtf8 call of request text lengths out asks wrote = absurd wrote
-ends_if_asked OutTooShort call of request text lengths out asks wrote = (request, asks, wrote)
-ends_if_asked RoomTooSmall call of request text lengths out asks wrote = (request, asks, wrote)
-ends_if_asked NoSuchRequest call of request text lengths out asks wrote = absurd wrote
+    → WritingEnds status request.with_open (requests_for request) text lengths out
+    → CallEnds status call requests_for text lengths out
+ends_if_asked Accepted call requests_for request text lengths out asks_for_request outputs_written =
+    (request, asks_for_request, outputs_written)
+ends_if_asked Refused call requests_for request text lengths out asks_for_request outputs_written =
+    (request, asks_for_request, outputs_written)
+ends_if_asked TypecodeNotUtf8 call requests_for request text lengths out asks_for_request
+    outputs_written = absurd outputs_written
+ends_if_asked OutTooShort call requests_for request text lengths out asks_for_request
+    outputs_written = (request, asks_for_request, outputs_written)
+ends_if_asked RoomTooSmall call requests_for request text lengths out asks_for_request
+    outputs_written = (request, asks_for_request, outputs_written)
+ends_if_asked NoSuchRequest call requests_for request text lengths out asks_for_request
+    outputs_written = absurd outputs_written
 
 -- a call that asks for no request ends with the status that says why, and writes nothing
-pub ends_if_refused : (status : Status) (call : Call) (of : Request → List Request)
+pub ends_if_refused : (status : Status) (call : Call) (requests_for : Request → List Request)
     (text lengths out : List ℕ) → Refuses status call → sum lengths ≡ 0
-    → CallEnds status call of text lengths out
-ends_if_refused Accepted call of text lengths out none zero = absurd none
-ends_if_refused Refused call of text lengths out none zero = absurd none
-ends_if_refused TypecodeNotUtf8 call of text lengths out none zero = (none, zero)
-ends_if_refused OutTooShort call of text lengths out none zero = absurd none
-ends_if_refused RoomTooSmall call of text lengths out none zero = absurd none
-ends_if_refused NoSuchRequest call of text lengths out none zero = (none, zero)
+    → CallEnds status call requests_for text lengths out
+ends_if_refused Accepted call requests_for text lengths out refuses lengths_sum_is_0 = absurd
+    refuses
+ends_if_refused Refused call requests_for text lengths out refuses lengths_sum_is_0 = absurd refuses
+ends_if_refused TypecodeNotUtf8 call requests_for text lengths out refuses lengths_sum_is_0 =
+    (refuses, lengths_sum_is_0)
+ends_if_refused OutTooShort call requests_for text lengths out refuses lengths_sum_is_0 = absurd
+    refuses
+ends_if_refused RoomTooSmall call requests_for text lengths out refuses lengths_sum_is_0 = absurd
+    refuses
+ends_if_refused NoSuchRequest call requests_for text lengths out refuses lengths_sum_is_0 =
+    (refuses, lengths_sum_is_0)
 
 -- a call that ends so returns the status's number
-pub told : (status : Status) (number : ℕ) (call : Call) (of : Request → List Request)
+pub number_is_told : (status : Status) (number : ℕ) (call : Call) (requests_for : Request
+    → List Request)
     (text lengths out : List ℕ) → number ≡ status_number status
-    → CallEnds status call of text lengths out
-    → (s : Status) × (number ≡ status_number s) × CallEnds s call of text lengths out
-told status number call of text lengths out is ends = (status, is, ends)
+    → CallEnds status call requests_for text lengths out
+    → (s : Status) × (number ≡ status_number s) × CallEnds s call requests_for text lengths out
+number_is_told status number call requests_for text lengths out number_is call_ends = (
+  status,
+  number_is,
+  call_ends,
+)

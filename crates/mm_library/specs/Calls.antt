@@ -64,12 +64,12 @@ IsText (Some bytes) = IsUtf8 bytes
 
 -- the call asks for this request
 pub record Asks (call : Call) (request : Request) : Type 0 where
-  pub choice : choice_of call.choice ≡ Some request.choice
-  pub form : form_of call.form ≡ Some request.form
-  pub only : request.only ≡ call.only
+  pub choice_is : choice_of call.choice ≡ Some request.choice
+  pub form_is : form_of call.form ≡ Some request.form
+  pub only_is : request.only ≡ call.only
   pub is_text : IsText call.only
-  pub essential : request.essential ≡ call.essential
-  pub with_open : request.with_open ≡ call.with_open
+  pub essential_is : request.essential ≡ call.essential
+  pub with_open_is : request.with_open ≡ call.with_open
 
 -- the call asks for none, and the status says why
 abbrev pub Refuses : Status → Call → Type 0
@@ -97,7 +97,7 @@ pub record HasOutputs (text : List ℕ) (requests : List Request)
   pub outputs : List (List ℕ)
   pub are_outputs : AllZip (IsOutput text) requests outputs
   pub are_lengths : lengths ≡ map length outputs
-  pub at_front : IsAtFront (flat_map (λ bytes. bytes) outputs) out
+  pub is_at_front : IsAtFront (flat_map (λ bytes. bytes) outputs) out
 
 -- how it ends to write these outputs
 abbrev pub WritingEnds : Status → (with_open : Bool) → List Request → (text lengths out : List ℕ)
@@ -111,15 +111,17 @@ WritingEnds verdict with_open requests text lengths out =
     HasVerdict verdict text with_open × HasOutputs text requests lengths out
     × (sum lengths ≤ length out)
 
--- how a call ends that writes the outputs `of` its request
-abbrev pub CallEnds : Status → Call → (of : Request → List Request) → (text lengths out : List ℕ)
+-- how a call ends that writes the outputs for its request
+abbrev pub CallEnds : Status → Call → (requests_for : Request → List Request)
+    → (text lengths out : List ℕ)
     → Type 0
-CallEnds TypecodeNotUtf8 call of text lengths out = Refuses TypecodeNotUtf8 call × (sum lengths ≡ 0)
-CallEnds NoSuchRequest call of text lengths out =
+CallEnds TypecodeNotUtf8 call requests_for text lengths out = Refuses TypecodeNotUtf8 call × (sum
+    lengths ≡ 0)
+CallEnds NoSuchRequest call requests_for text lengths out =
     Refuses NoSuchRequest call × (sum lengths ≡ 0)
-CallEnds status call of text lengths out =
+CallEnds status call requests_for text lengths out =
     (request : Request) × Asks call request
-    × WritingEnds status request.with_open (of request) text lengths out
+    × WritingEnds status request.with_open (requests_for request) text lengths out
 
 -- a request turned into the one for the citations
 abbrev pub citing : Request → Request

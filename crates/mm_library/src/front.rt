@@ -17,16 +17,16 @@ pub(crate) struct Front<'a> {
     pub(crate) len: usize,
     /// What was written.
     pub(crate) written: GhostBytes,
-    ghost counted: { len ≡ length written.bytes },
-    ghost placed: { take len out.now ≡ take (length out.now) written.bytes },
+    ghost len_is: { len ≡ length written.bytes },
+    ghost is_at_front: { take len out.now ≡ take (length out.now) written.bytes },
 }
 
 impl<'a> Front<'a> {
     /// A writer that has written nothing yet.
     pub(crate) fn new(out: &'a mut [u8]) -> Front<'a>
-        ensures name { result.out.ghost_name ≡ out.entry.ghost_name }
-        ensures bytes { result.written.bytes ≡ [] }
-        ensures long { length result.out.now ≡ length out.old }
+        ensures name_stays { result.out.ghost_name ≡ out.entry.ghost_name }
+        ensures nothing_written { result.written.bytes ≡ [] }
+        ensures length_stays { length result.out.now ≡ length out.old }
     {
         Front {
             out,
@@ -50,9 +50,9 @@ impl<'a> Front<'a> {
 
 /// Copies bytes behind the first `len` bytes of `out`, as many of them as fit.
 pub(crate) fn copy_behind(out: &mut [u8], len: usize, bytes: &[u8])
-    ensures old { take len out.new ≡ take len out.old }
-    ensures long { length out.new ≡ length out.old }
-    ensures new { take (len + length bytes.now) out.new
+    ensures front_stays { take len out.new ≡ take len out.old }
+    ensures length_stays { length out.new ≡ length out.old }
+    ensures bytes_follow_front { take (len + length bytes.now) out.new
         ≡ take (length out.old) (take len out.old ++ bytes.now) }
 {
     if len < out.len() {

@@ -15,7 +15,7 @@ use std::mem::replace;
 /// The part of a text that is read: its beginning, up to one byte more than a text may have.
 fn read_part(text: &[u8]) -> &[u8]
     ensures value { result.now ≡ take reading_limit text.now }
-    ensures few { length result.now ≤ reading_limit }
+    ensures length_le_limit { length result.now ≤ reading_limit }
 {
     &text[..(TEXT_LIMIT + 1).min(text.len())]
 }
@@ -28,7 +28,7 @@ fn outputs_in_arena<A: Allocator + Copy>(
     with_citations: bool,
     out: &mut [u8],
 ) -> (Status, usize, usize)
-    requires few { length text.now ≤ reading_limit }
+    requires length_le_limit { length text.now ≤ reading_limit }
     ensures { WritingEnds result.0 request.now.with_open
         (requests_of with_citations request.now) text.now
         (lengths_of with_citations result.1 result.2) out.new }

@@ -67,7 +67,8 @@ pub extern "C" fn mmdepend_report(
         (λ request. request ∷ []) (take reading_limit text.now) (written.new ∷ []) out.new }
 {
     let request = request(only, has_only, choice, form, essential, with_open);
-    let (status, len, _) = outputs_if_asked(room, text, request, false, out);
+    let with_citations = false;
+    let (status, len, _) = outputs_if_asked(room, text, request, with_citations, out);
     *written = len;
     status.number()
 }
@@ -97,7 +98,14 @@ pub extern "C" fn mmdepend_report_and_citations(
         (report_len.new ∷ citations_len.new ∷ []) out.new }
 {
     let request = request(only, has_only, choice, form, essential, with_open);
-    let (status, first_len, second_len) = outputs_if_asked(room, text, request, true, out);
+    let with_citations = true;
+    let (status, first_len, second_len) = outputs_if_asked(
+        room,
+        text,
+        request,
+        with_citations,
+        out,
+    );
     *report_len = first_len;
     *citations_len = second_len;
     status.number()

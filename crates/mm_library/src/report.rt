@@ -40,8 +40,8 @@ fn write_output<'a, A: Allocator + Copy>(
 ) -> Result<Status, NotWritten>
     requires judged { IsJudgedText text.now request.now.essential request.now.with_open
         judged.now }
-    ensures same_out { to.new.out.ghost_name ≡ to.old.out.ghost_name }
-    ensures wrote { IfOk result (λ status. HasVerdict status text.now request.now.with_open
+    ensures name_stays { to.new.out.ghost_name ≡ to.old.out.ghost_name }
+    ensures appends_output { IfOk result (λ status. HasVerdict status text.now request.now.with_open
         × ((bytes : List ℕ) × IsOutput text.now request.now bytes
         × (to.new.written.bytes ≡ to.old.written.bytes ++ bytes))) }
 {
@@ -94,7 +94,7 @@ pub(crate) fn outputs<A: Allocator + Copy>(
     with_citations: bool,
     out: &mut [u8],
 ) -> (Status, usize, usize)
-    requires few { length text.now ≤ reading_limit }
+    requires length_le_limit { length text.now ≤ reading_limit }
     ensures { WritingEnds result.0 request.now.with_open
         (requests_of with_citations request.now) text.now
         (lengths_of with_citations result.1 result.2) out.new }

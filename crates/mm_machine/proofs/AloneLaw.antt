@@ -21,51 +21,54 @@ use Rattle.mm_machine.specs.State.{applied}
 use Rattle.mm_machine.proofs.RuleTestLaw.{length_all_parts}
 
 empty_of_length_0 : {X : Type 0} (xs : List X) → length xs ≡ 0 → xs ≡ []
-empty_of_length_0 [] h = refl
-empty_of_length_0 (x ∷ xs) h = absurd (omega (arith, h))
+empty_of_length_0 [] length_is_0 = refl
+empty_of_length_0 (x ∷ xs) length_is_0 = absurd (omega (arith, length_is_0))
 
 no_pairs : (ps : List (ℕ × ℕ)) → All (λ (p : ℕ × ℕ). (p.0 < 0) × (p.1 < 0)) ps → length ps ≡ 0
-no_pairs [] h = refl
-no_pairs (p ∷ ps) h =
-    absurd (let l = (recursion_from_All (λ (p : ℕ × ℕ). (p.0 < 0) × (p.1 < 0)) (p ∷ ps) h).0.0 in
-    omega (arith, l))
+no_pairs [] all_below_0 = refl
+no_pairs (p ∷ ps) all_below_0 =
+    absurd (let number_lt_0 = (recursion_from_All (λ (p : ℕ × ℕ). (p.0 < 0) × (p.1 < 0)) (p ∷ ps)
+    all_below_0).0.0 in
+    omega (arith, number_lt_0))
 
 -- a frame without hypotheses and pairs, whose formula has no variables
-module _ (c : Context) (a : Frame) (hypotheses : a.hypotheses ≡ []) (pairs : a.pairs ≡ [])
-    (stays : (σ : Substitution) → substitute c σ a.formula ≡ a.formula) where
+module _ (c : Context) (a : Frame) (hypotheses_are_nil : a.hypotheses
+    ≡ []) (pairs_are_nil : a.pairs ≡ [])
+    (formula_stays : (σ : Substitution) → substitute c σ a.formula ≡ a.formula) where
   step_alone : (es : List Formula) → step c (Some (assertion a)) es
       ≡ unless_too_long (nat_le (length a.formula) formula_limit) (es ++ a.formula ∷ [])
   step_alone es =
-      let length_hypotheses_is_0 : length a.hypotheses ≡ 0 = ap length hypotheses in
+      let length_hypotheses_is_0 : length a.hypotheses ≡ 0 = ap length hypotheses_are_nil in
       let n = length es - length a.hypotheses in
-      let all : length es ≤ n = omega (arith, length_hypotheses_is_0) in
+      let length_es_le_n : length es ≤ n = omega (arith, length_hypotheses_is_0) in
       let σ = substitution_from c a.hypotheses [] in
       ap (λ b. apply c a b (take n es) (drop n es))
       (le-leb _ _ (omega (arith, length_hypotheses_is_0)))
-      ∙ ap₂ (λ below premises. apply c a true below premises) (take_all n es all)
-      (drop_all n es all)
-      ∙ ap₂ (λ matched apart. unless_failed true matched apart
+      ∙ ap₂ (λ below premises. apply c a true below premises) (take_all n es length_es_le_n)
+      (drop_all n es length_es_le_n)
+      ∙ ap₂ (λ matched disjoint. unless_failed true matched disjoint
       (nat_le (length (substitute c σ a.formula)) formula_limit)
       (es ++ substitute c σ a.formula ∷ []))
-      (ap (λ hs. are_equal [] (map (substitute c σ) hs)) hypotheses)
-      (ap (list_all (λ (p : Pair). are_all_disjoint c (σ p.low) (σ p.high))) pairs)
-      ∙ ap (λ f. unless_too_long (nat_le (length f) formula_limit) (es ++ f ∷ [])) (stays σ)
+      (ap (λ hs. are_equal [] (map (substitute c σ) hs)) hypotheses_are_nil)
+      (ap (list_all (λ (p : Pair). are_all_disjoint c (σ p.low) (σ p.high))) pairs_are_nil)
+      ∙ ap (λ f. unless_too_long (nat_le (length f) formula_limit) (es ++ f ∷ [])) (formula_stays σ)
 
 module _ (db : List Statement) (t : ℕ) (hs : List Formula) (σ : Substitution) where
   no_variables : (f : Formula) → AllByRecursion (IsVariableBelow 0) (parts_of db hs f)
       → substitute (context_at db t) σ f ≡ f
-  no_variables [] h = refl
-  no_variables (s ∷ f) h =
-      ap₂ (λ u v. u ++ v) (by_is_variable (is_variable_number db s) h.0) (no_variables f h.1)
+  no_variables [] variables_below_0 = refl
+  no_variables (s ∷ f) variables_below_0 =
+      ap₂ (λ u v. u ++ v) (by_is_variable (is_variable_number db s) variables_below_0.0)
+      (no_variables f variables_below_0.1)
     where
       by_is_variable : (v : Bool) → IsVariableBelow 0 (cond v (Variable (floating_index db hs s))
           (Constant s))
           → cond v (σ s) (s ∷ []) ≡ s ∷ []
-      by_is_variable true l = absurd (omega (arith, l))
-      by_is_variable false l = refl
+      by_is_variable true variable_below_0 = absurd (omega (arith, variable_below_0))
+      by_is_variable false variable_below_0 = refl
 
 module _ (db : List Statement) (t : ℕ) (c : CompiledRule) (rule : IsCompiled db c)
-    (none : length c.hypotheses ≡ 0) where
+    (length_is_0 : length c.hypotheses ≡ 0) where
   abbrev frame : Frame
   frame = frame_at db c.assertion
 
@@ -74,43 +77,51 @@ module _ (db : List Statement) (t : ℕ) (c : CompiledRule) (rule : IsCompiled d
 
   hypotheses_are : frame.hypotheses ≡ []
   hypotheses_are =
-      let parts = ap length rule.hypotheses_are in
-      let left = length_all_parts c.parts 0 c.hypotheses in
-      let right = length-map frame.hypotheses (parts_of db frame.hypotheses) in
-      empty_of_length_0 frame.hypotheses (omega (arith, none, parts, left, right))
+      let counts_equal = ap length rule.hypotheses_are in
+      let length_parts = length_all_parts c.parts 0 c.hypotheses in
+      let length_map = length-map frame.hypotheses (parts_of db frame.hypotheses) in
+      empty_of_length_0 frame.hypotheses (omega (
+        arith,
+        length_is_0,
+        counts_equal,
+        length_parts,
+        length_map,
+      ))
 
   pairs_are : frame.pairs ≡ []
   pairs_are =
-      let few =
+      let length_pairs_is_0 =
       no_pairs c.pairs
-      (subst (λ n. All (λ (p : ℕ × ℕ). (p.0 < n) × (p.1 < n)) c.pairs) none rule.pairs_in) in
-      let same : length c.pairs ≡ length frame.pairs =
+      (subst (λ n. All (λ (p : ℕ × ℕ). (p.0 < n) × (p.1 < n)) c.pairs) length_is_0 rule.pairs_in) in
+      let pair_counts_equal : length c.pairs ≡ length frame.pairs =
       ap length rule.pairs_are
       ∙ length-map {B = ℕ × ℕ} frame.pairs
       (λ (p : Pair). (
         floating_index db frame.hypotheses p.low,
         floating_index db frame.hypotheses p.high,
       )) in
-      empty_of_length_0 frame.pairs (omega (arith, few, same))
+      empty_of_length_0 frame.pairs (omega (arith, length_pairs_is_0, pair_counts_equal))
 
-  below : AllByRecursion (IsVariableBelow 0) (parts_of db frame.hypotheses f)
-  below =
+  symbols_are_constants : AllByRecursion (IsVariableBelow 0) (parts_of db frame.hypotheses f)
+  symbols_are_constants =
       recursion_from_All (IsVariableBelow 0) (parts_of db frame.hypotheses f)
       (subst (All (IsVariableBelow 0)) rule.formula_is
-      (subst (λ n. All (IsVariableBelow n) c.formula) none rule.formula_in))
+      (subst (λ n. All (IsVariableBelow n) c.formula) length_is_0 rule.formula_in))
 
-  pushed : (es : List Formula) → applied db t c.assertion es
+  applied_pushes_formula : (es : List Formula) → applied db t c.assertion es
       ≡ unless_too_long (nat_le (length f) formula_limit) (es ++ f ∷ [])
-  pushed es =
+  applied_pushes_formula es =
       step_alone (context_at db t) frame hypotheses_are pairs_are
-      (λ σ. no_variables db t frame.hypotheses σ f below) es
+      (λ σ. no_variables db t frame.hypotheses σ f symbols_are_constants) es
 
-  pub alone_entries : (es : List Formula) → length f ≤ formula_limit
+  pub applied_alone_is_ok : (es : List Formula) → length f ≤ formula_limit
       → applied db t c.assertion es ≡ Ok (es ++ f ∷ [])
-  alone_entries es short =
-      pushed es ∙ ap (λ b. unless_too_long b (es ++ f ∷ [])) (le-leb _ _ short)
+  applied_alone_is_ok es length_le_limit =
+      applied_pushes_formula es ∙ ap (λ b. unless_too_long b (es ++ f ∷ [])) (le-leb _ _
+      length_le_limit)
 
-  pub alone_long : (es : List Formula) → formula_limit < length f
+  pub applied_alone_is_too_long : (es : List Formula) → formula_limit < length f
       → applied db t c.assertion es ≡ Err too_long
-  alone_long es long =
-      pushed es ∙ ap (λ b. unless_too_long b (es ++ f ∷ [])) (lt-leb _ _ long)
+  applied_alone_is_too_long es limit_lt_length =
+      applied_pushes_formula es ∙ ap (λ b. unless_too_long b (es ++ f ∷ [])) (lt-leb _ _
+      limit_lt_length)

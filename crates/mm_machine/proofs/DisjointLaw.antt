@@ -7,27 +7,33 @@ use Rattle.mm_spec.specs.Citation.{context_at}
 use Rattle.mm_rule.proofs.DisjointLaw.{either_order}
 use Rattle.mm_machine.specs.DisjointCache.{AreDisjointAt, HasPair, InsertsPair}
 
-module _ (db : List Statement) (t : ℕ) (ps : List (ℕ × ℕ)) (h : AreDisjointAt db t ps) where
+module _ (db : List Statement) (t : ℕ) (ps : List (ℕ × ℕ)) (pairs_are_disjoint : AreDisjointAt db t
+    ps) where
   abbrev Disjoint : ℕ → ℕ → Type 0
   Disjoint a b = are_disjoint (context_at db t) a b ≡ true
 
-  has_disjoint : (a b : ℕ) → HasPair ps a b → Disjoint a b
-  has_disjoint a b p =
-      subst (λ x. Disjoint x b) p.2 (subst (Disjoint _) p.3 (h p.0 (a, b) p.1))
+  pair_of_cache_is_disjoint : (a b : ℕ) → HasPair ps a b → Disjoint a b
+  pair_of_cache_is_disjoint a b pair_is_there =
+      subst (λ x. Disjoint x b) pair_is_there.2 (subst (Disjoint _) pair_is_there.3
+      (pairs_are_disjoint pair_is_there.0 (a, b) pair_is_there.1))
 
   pub either_disjoint : (a b : ℕ) → HasPair ps a b ⊎ HasPair ps b a → Disjoint a b
-  either_disjoint a b (inl p) = has_disjoint a b p
-  either_disjoint a b (inr p) = either_order db t b a (has_disjoint b a p)
+  either_disjoint a b (inl pair_is_there) = pair_of_cache_is_disjoint a b pair_is_there
+  either_disjoint a b (inr pair_is_there) = either_order db t b a (pair_of_cache_is_disjoint b a
+      pair_is_there)
 
   pub insert_keeps_disjoint : (a b : ℕ) (qs : List (ℕ × ℕ)) → Disjoint a b → InsertsPair ps a b qs
       → AreDisjointAt db t qs
-  insert_keeps_disjoint a b qs d (inl e) = subst (AreDisjointAt db t) (sym e) h
-  insert_keeps_disjoint a b qs d (inr e) =
-      subst (AreDisjointAt db t) (sym e)
-      (All-push (λ (p : ℕ × ℕ). are_disjoint (context_at db t) p.0 p.1 ≡ true) ps (a, b) h d)
+  insert_keeps_disjoint a b qs is_disjoint (inl qs_are) = subst (AreDisjointAt db t) (sym qs_are)
+      pairs_are_disjoint
+  insert_keeps_disjoint a b qs is_disjoint (inr qs_are) =
+      subst (AreDisjointAt db t) (sym qs_are)
+      (All-push (λ (p : ℕ × ℕ). are_disjoint (context_at db t) p.0 p.1
+      ≡ true) ps (a, b) pairs_are_disjoint is_disjoint)
 
   pub either_insert_keeps_disjoint : (a b : ℕ) (qs : List (ℕ × ℕ)) → Disjoint a b
       → InsertsPair ps a b qs ⊎ InsertsPair ps b a qs → AreDisjointAt db t qs
-  either_insert_keeps_disjoint a b qs d (inl e) = insert_keeps_disjoint a b qs d e
-  either_insert_keeps_disjoint a b qs d (inr e) =
-      insert_keeps_disjoint b a qs (either_order db t a b d) e
+  either_insert_keeps_disjoint a b qs is_disjoint (inl inserted) = insert_keeps_disjoint a b qs
+      is_disjoint inserted
+  either_insert_keeps_disjoint a b qs is_disjoint (inr inserted) =
+      insert_keeps_disjoint b a qs (either_order db t a b is_disjoint) inserted

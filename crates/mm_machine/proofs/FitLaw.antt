@@ -14,78 +14,88 @@ use Rattle.mm_machine.specs.Replaced.{replaced}
 
 module _ (xs : Arena) (es : List Span) (parts : List RuleSymbol) (hs : List Hypothesis) where
   -- whether the entries from index `j` on are what the hypotheses require; the parts that are kept
-  -- for these begin at place `at`
+  -- for these begin at `part_index`
   abbrev pub fit_from : ℕ → ℕ → Bool
-  fit_from j at =
+  fit_from j part_index =
       are_equal (map (span_formula xs) (drop j es))
-      (map (replaced xs es) (all_parts (drop at parts) j (drop j hs)))
+      (map (replaced xs es) (all_parts (drop part_index parts) j (drop j hs)))
 
-  pub fit_end : (j at : ℕ) → length hs ≤ j → length es ≤ j → fit_from j at ≡ true
-  fit_end j at all none =
+  pub fit_from_end_is_true : (j part_index : ℕ) → length hs ≤ j → length es ≤ j
+      → fit_from j part_index ≡ true
+  fit_from_end_is_true j part_index length_hs_le_j length_es_le_j =
       ap₂ (λ u v. are_equal (map (span_formula xs) u)
-      (map (replaced xs es) (all_parts (drop at parts) j v))) (drop_all j es none)
-      (drop_all j hs all)
+      (map (replaced xs es) (all_parts (drop part_index parts) j v))) (drop_all j es length_es_le_j)
+      (drop_all j hs length_hs_le_j)
 
-  -- `one` says whether entry `j` is what hypothesis `h` requires; the next parts begin at `next`
-  pub record IsTested (j at : ℕ) (h : Hypothesis) (one : Bool) (next : ℕ) : Type 0 where
-    pub next_is : next ≡ at + part_count h
-    pub one_is : one
+  -- `is_fitting` says whether entry `j` is what hypothesis `h` requires; the next parts begin at
+  -- `next_part_index`
+  pub record IsTested (j part_index : ℕ) (h : Hypothesis) (is_fitting : Bool) (next_part_index : ℕ)
+      : Type 0 where
+    pub next_part_index_is : next_part_index ≡ part_index + part_count h
+    pub is_fitting_is : is_fitting
         ≡ bytes_eq (span_formula xs (get_or es j no_symbols))
-        (replaced xs es (hypothesis_parts (drop at parts) j h))
+        (replaced xs es (hypothesis_parts (drop part_index parts) j h))
 
-  module _ (j at : ℕ) (h : Hypothesis) (one : Bool) (next : ℕ) where
+  module _ (j part_index : ℕ) (h : Hypothesis) (is_fitting : Bool) (next_part_index : ℕ) where
     pub typed_tested : (t : ℕ) → h ≡ Floating t
-        → one
+        → is_fitting
         ≡ bytes_eq (span_formula xs (get_or es j no_symbols))
         (t ∷ span_formula xs (without_first (get_or es j no_symbols)))
-        → next ≡ at → IsTested j at h one next
-    typed_tested t is e next_is_at =
-        rw is
+        → next_part_index ≡ part_index → IsTested j part_index h is_fitting next_part_index
+    typed_tested t h_is_floating is_fitting_is next_part_index_is_part_index =
+        rw h_is_floating
         (record {
-          next_is = omega (arith, next_is_at);
-          one_is = e
+          next_part_index_is = omega (arith, next_part_index_is_part_index);
+          is_fitting_is = is_fitting_is
               ∙ ap (λ z. bytes_eq (span_formula xs (get_or es j no_symbols)) (t ∷ z))
               (sym (append-nil (span_formula xs (without_first (get_or es j no_symbols)))));
         })
 
     pub essential_tested : (n : ℕ) → h ≡ Essential n
-        → one
+        → is_fitting
         ≡ bytes_eq (span_formula xs (get_or es j no_symbols))
-        (replaced xs es (take ((at + n) - at) (drop at parts)))
-        → next ≡ at + n → IsTested j at h one next
-    essential_tested n is e m =
-        let long : (at + n) - at ≡ n = omega arith in
-        rw is
+        (replaced xs es (take ((part_index + n) - part_index) (drop part_index parts)))
+        → next_part_index ≡ part_index + n → IsTested j part_index h is_fitting next_part_index
+    essential_tested n h_is_essential is_fitting_is next_part_index_is =
+        let length_is_n : (part_index + n) - part_index ≡ n = omega arith in
+        rw h_is_essential
         (record {
-          next_is = m;
-          one_is = e
+          next_part_index_is = next_part_index_is;
+          is_fitting_is = is_fitting_is
               ∙ ap (λ l. bytes_eq (span_formula xs (get_or es j no_symbols))
-              (replaced xs es (take l (drop at parts)))) long;
+              (replaced xs es (take l (drop part_index parts)))) length_is_n;
         })
 
-    module _ (tested : IsTested j at h one next) (inside : j < length hs) (many : j < length es)
+    module _ (tested : IsTested j part_index h is_fitting next_part_index) (j_lt_length_hs : j <
+        length hs) (j_lt_length_es : j < length es)
         (h_is : h ≡ get_or hs j h) where
-      hs_here : drop j hs ≡ h ∷ drop (j + 1) hs
-      hs_here = drop_more hs j h inside ∙ ap (λ z. z ∷ drop (j + 1) hs) (sym h_is)
+      drop_hs_is : drop j hs ≡ h ∷ drop (j + 1) hs
+      drop_hs_is = drop_more hs j h j_lt_length_hs ∙ ap (λ z. z ∷ drop (j + 1) hs) (sym h_is)
 
-      pub fit_next : fit_from j at ≡ (one && fit_from (j + 1) next)
-      fit_next =
+      pub fit_from_splits : fit_from j part_index ≡ (is_fitting && fit_from (j + 1) next_part_index)
+      fit_from_splits =
           let next_j_is_next_j : suc j ≡ j + 1 = omega arith in
           ap₂ (λ u v. are_equal (map (span_formula xs) u)
-          (map (replaced xs es) (all_parts (drop at parts) j v)))
-          (drop_more es j no_symbols many) hs_here
+          (map (replaced xs es) (all_parts (drop part_index parts) j v)))
+          (drop_more es j no_symbols j_lt_length_es) drop_hs_is
           ∙ ap₂ (λ u n. bytes_eq (span_formula xs (get_or es j no_symbols))
-          (replaced xs es (hypothesis_parts (drop at parts) j h))
+          (replaced xs es (hypothesis_parts (drop part_index parts) j h))
           && are_equal (map (span_formula xs) (drop (j + 1) es))
           (map (replaced xs es) (all_parts u n (drop (j + 1) hs))))
-          (drop-drop (part_count h) at parts ∙ ap (λ n. drop n parts) (sym tested.next_is))
+          (drop-drop (part_count h) part_index parts ∙ ap (λ n. drop n parts) (sym
+          tested.next_part_index_is))
           next_j_is_next_j
-          ∙ ap (λ b. b && fit_from (j + 1) next) (sym tested.one_is)
+          ∙ ap (λ b. b && fit_from (j + 1) next_part_index) (sym tested.is_fitting_is)
 
-      pub part_count_next : at + total_part_count (drop j hs) ≡ length parts
-          → next + total_part_count (drop (j + 1) hs) ≡ length parts
-      part_count_next part_count_is =
-          let here : total_part_count (drop j hs)
+      pub part_count_stays : part_index + total_part_count (drop j hs) ≡ length parts
+          → next_part_index + total_part_count (drop (j + 1) hs) ≡ length parts
+      part_count_stays part_count_is =
+          let part_count_splits : total_part_count (drop j hs)
           ≡ part_count h + total_part_count (drop (j + 1) hs) =
-          ap total_part_count hs_here in
-          let n = tested.next_is in omega (arith, here, part_count_is, n)
+          ap total_part_count drop_hs_is in
+          let index_is_next = tested.next_part_index_is in omega (
+            arith,
+            part_count_splits,
+            part_count_is,
+            index_is_next,
+          )

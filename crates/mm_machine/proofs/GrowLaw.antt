@@ -21,167 +21,236 @@ use Rattle.mm_machine.specs.State.{span_formulas, appended_span, IsMarkedEntry}
 
 -- an entry of the one arena that is one of the other, of the same formula
 pub record Stays (a b : Arena) (e : Span) : Type 0 where
-  pub inside : IsIn b e
-  pub same : span_formula b e ≡ span_formula a e
+  pub is_in : IsIn b e
+  pub formulas_equal : span_formula b e ≡ span_formula a e
 
 pub all_stay : (a b : Arena) (es : List Span) → ((e : Span) → IsIn a e → Stays a b e)
     → All (IsIn a) es → AllByRecursion (Stays a b) es
-all_stay a b es each h = each_stays es (recursion_from_All (IsIn a) es h)
+all_stay a b es each_stays_if_in all_in = each_stays es (recursion_from_All (IsIn a) es all_in)
   where
     each_stays : (es : List Span) → AllByRecursion (IsIn a) es → AllByRecursion (Stays a b) es
-    each_stays [] h = tt
-    each_stays (e ∷ es) h = (each e h.0, each_stays es h.1)
+    each_stays [] all_in_by_recursion = tt
+    each_stays (e ∷ es) all_in_by_recursion = (
+      each_stays_if_in e all_in_by_recursion.0,
+      each_stays
+          es all_in_by_recursion.1,
+    )
 
-pub stay_inside : (a b : Arena) (es : List Span) → AllByRecursion (Stays a b) es → All (IsIn b) es
-stay_inside a b es h = All-from_recursion (IsIn b) es (each_is_inside es h)
+pub all_in_if_stay : (a b : Arena) (es : List Span) → AllByRecursion (Stays a b) es
+    → All (IsIn b) es
+all_in_if_stay a b es all_stay_by_recursion = All-from_recursion (IsIn b) es (each_is_inside es
+    all_stay_by_recursion)
   where
     each_is_inside : (es : List Span) → AllByRecursion (Stays a b) es → AllByRecursion (IsIn b) es
-    each_is_inside [] h = tt
-    each_is_inside (e ∷ es) h = (h.0.inside, each_is_inside es h.1)
+    each_is_inside [] all_stay_by_recursion = tt
+    each_is_inside (e ∷ es) all_stay_by_recursion = (
+      all_stay_by_recursion.0.is_in,
+      each_is_inside
+          es all_stay_by_recursion.1,
+    )
 
-pub stay_formulas : (a b : Arena) (es : List Span) → AllByRecursion (Stays a b) es
+pub formulas_equal_if_stay : (a b : Arena) (es : List Span) → AllByRecursion (Stays a b) es
     → span_formulas b es ≡ span_formulas a es
-stay_formulas a b [] h = refl
-stay_formulas a b (e ∷ es) h = ap₂ (λ u us. u ∷ us) h.0.same (stay_formulas a b es h.1)
+formulas_equal_if_stay a b [] all_stay_by_recursion = refl
+formulas_equal_if_stay a b (e ∷ es) all_stay_by_recursion = ap₂ (λ u us. u ∷ us)
+    all_stay_by_recursion.0.formulas_equal
+    (formulas_equal_if_stay a b es all_stay_by_recursion.1)
 
--- more symbols of unmarked formulas
-pub unmarked_more : (unmarked marked more : List ℕ) (e : Span) → IsIn (arena unmarked marked) e
-    → Stays (arena unmarked marked) (arena (unmarked ++ more) marked) e
-unmarked_more unmarked marked more e is_in = by_store e.store e.start e.end is_in.rising
-    is_in.within
+-- added symbols of unmarked formulas
+pub stays_with_more_unmarked : (unmarked marked added : List ℕ) (e : Span)
+    → IsIn (arena unmarked marked) e
+    → Stays (arena unmarked marked) (arena (unmarked ++ added) marked) e
+stays_with_more_unmarked unmarked marked added e is_in = by_store e.store e.start e.end
+    is_in.start_le_end
+    is_in.end_le_length
   where
     by_store : (p : Store) (s t : ℕ) → s ≤ t → t ≤ length (symbols_of (arena unmarked marked) p)
-        → Stays (arena unmarked marked) (arena (unmarked ++ more) marked) (span p s t)
-    by_store Unmarked s t r w =
+        → Stays (arena unmarked marked) (arena (unmarked ++ added) marked) (span p s t)
+    by_store Unmarked s t start_le_end end_le_length =
         record {
-          inside = record { rising = r; within = omega (arith, w, length-append unmarked more) };
-          same = stretch_more unmarked more s t r w;
+          is_in = record {
+            start_le_end = start_le_end;
+            end_le_length = omega (
+              arith,
+              end_le_length,
+              length-append unmarked added,
+            );
+          };
+          formulas_equal = stretch_more unmarked added s t start_le_end end_le_length;
         }
-    by_store Marked s t r w = record { inside = record { rising = r; within = w }; same = refl }
+    by_store Marked s t start_le_end end_le_length = record {
+      is_in = record {
+        start_le_end =
+            start_le_end;
+        end_le_length = end_le_length;
+      };
+      formulas_equal = refl;
+    }
 
--- more symbols of marked formulas
-pub marked_more : (unmarked marked more : List ℕ) (e : Span) → IsIn (arena unmarked marked) e
-    → Stays (arena unmarked marked) (arena unmarked (marked ++ more)) e
-marked_more unmarked marked more e is_in = by_store e.store e.start e.end is_in.rising is_in.within
+-- added symbols of marked formulas
+pub stays_with_more_marked : (unmarked marked added : List ℕ) (e : Span)
+    → IsIn (arena unmarked marked) e
+    → Stays (arena unmarked marked) (arena unmarked (marked ++ added)) e
+stays_with_more_marked unmarked marked added e is_in = by_store e.store e.start e.end
+    is_in.start_le_end is_in.end_le_length
   where
     by_store : (p : Store) (s t : ℕ) → s ≤ t → t ≤ length (symbols_of (arena unmarked marked) p)
-        → Stays (arena unmarked marked) (arena unmarked (marked ++ more)) (span p s t)
-    by_store Unmarked s t r w = record { inside = record { rising = r; within = w }; same = refl }
-    by_store Marked s t r w =
+        → Stays (arena unmarked marked) (arena unmarked (marked ++ added)) (span p s t)
+    by_store Unmarked s t start_le_end end_le_length = record {
+      is_in = record {
+        start_le_end =
+            start_le_end;
+        end_le_length = end_le_length;
+      };
+      formulas_equal = refl;
+    }
+    by_store Marked s t start_le_end end_le_length =
         record {
-          inside = record { rising = r; within = omega (arith, w, length-append marked more) };
-          same = stretch_more marked more s t r w;
+          is_in = record {
+            start_le_end = start_le_end;
+            end_le_length = omega (
+              arith,
+              end_le_length,
+              length-append marked added,
+            );
+          };
+          formulas_equal = stretch_more marked added s t start_le_end end_le_length;
         }
 
 -- an entry of a marked formula, whatever the unmarked ones are
-pub marked_in : (unmarked marked : List ℕ) (e : Span) → IsMarkedEntry marked e
+pub marked_entry_is_in : (unmarked marked : List ℕ) (e : Span) → IsMarkedEntry marked e
     → IsIn (arena unmarked marked) e
-marked_in unmarked marked e h = by_store e.store h.store
+marked_entry_is_in unmarked marked e is_marked_entry = by_store e.store is_marked_entry.is_in_marked
   where
     by_store : (p : Store) → p ≡ Marked → IsIn (arena unmarked marked) (span p e.start e.end)
-    by_store Unmarked q = absurd (cc)
-    by_store Marked q = record { rising = h.rising; within = h.within }
+    by_store Unmarked p_is_marked = absurd (cc)
+    by_store Marked p_is_marked = record {
+      start_le_end = is_marked_entry.start_le_end;
+      end_le_length = is_marked_entry.end_le_length;
+    }
 
-pub marked_formula : (unmarked other marked : List ℕ) (e : Span) → IsMarkedEntry marked e
-    → span_formula (arena unmarked marked) e ≡ span_formula (arena other marked) e
-marked_formula unmarked other marked e h = by_store e.store h.store
+pub marked_entry_formulas_equal : (unmarked unmarked' marked : List ℕ) (e : Span)
+    → IsMarkedEntry marked e
+    → span_formula (arena unmarked marked) e ≡ span_formula (arena unmarked' marked) e
+marked_entry_formulas_equal unmarked unmarked' marked e is_marked_entry = by_store e.store
+    is_marked_entry.is_in_marked
   where
     by_store : (p : Store) → p ≡ Marked
         → span_formula (arena unmarked marked) (span p e.start e.end)
-        ≡ span_formula (arena other marked) (span p e.start e.end)
-    by_store Unmarked q = absurd (cc)
-    by_store Marked q = refl
+        ≡ span_formula (arena unmarked' marked) (span p e.start e.end)
+    by_store Unmarked p_is_marked = absurd (cc)
+    by_store Marked p_is_marked = refl
 
-pub marked_all_in : (unmarked marked : List ℕ) (es : List Span) → All (IsMarkedEntry marked) es
+pub marked_entries_are_in : (unmarked marked : List ℕ) (es : List Span)
+    → All (IsMarkedEntry marked) es
     → All (IsIn (arena unmarked marked)) es
-marked_all_in unmarked marked es h =
-    All-weaker (IsMarkedEntry marked) (IsIn (arena unmarked marked)) (marked_in unmarked marked) es
-    h
+marked_entries_are_in unmarked marked es are_marked =
+    All-weaker (IsMarkedEntry marked) (IsIn (arena unmarked marked)) (marked_entry_is_in unmarked
+    marked) es
+    are_marked
 
-pub marked_all_more : (marked more : List ℕ) (es : List Span) → All (IsMarkedEntry marked) es
-    → All (IsMarkedEntry (marked ++ more)) es
-marked_all_more marked more es h =
-    All-weaker (IsMarkedEntry marked) (IsMarkedEntry (marked ++ more))
-    (λ e i. record {
-      store = i.store;
-      rising = i.rising;
-      within = omega (arith, i.within, length-append marked more);
-    }) es h
+pub marked_entries_stay_marked : (marked added : List ℕ) (es : List Span)
+    → All (IsMarkedEntry marked) es
+    → All (IsMarkedEntry (marked ++ added)) es
+marked_entries_stay_marked marked added es are_marked =
+    All-weaker (IsMarkedEntry marked) (IsMarkedEntry (marked ++ added))
+    (λ e e_is_marked. record {
+      is_in_marked = e_is_marked.is_in_marked;
+      start_le_end = e_is_marked.start_le_end;
+      end_le_length = omega (arith, e_is_marked.end_le_length, length-append marked added);
+    }) es are_marked
 
-pub formula_new : (unmarked marked f : List ℕ)
+pub formula_of_appended : (unmarked marked f : List ℕ)
     → span_formula (arena (unmarked ++ f) marked) (appended_span unmarked f) ≡ f
-formula_new unmarked marked f =
+formula_of_appended unmarked marked f =
     ap (take (length (unmarked ++ f) - length unmarked)) (drop_at unmarked f (length unmarked) refl)
     ∙ take_all (length (unmarked ++ f) - length unmarked) f
     (omega (arith, length-append unmarked f))
 
-pub new_in : (unmarked marked f : List ℕ) → IsIn (arena (unmarked ++ f) marked) (appended_span
+pub appended_is_in : (unmarked marked f : List ℕ) → IsIn (arena (unmarked ++ f) marked)
+    (appended_span
     unmarked f)
-new_in unmarked marked f = record {
-  rising = omega (arith, length-append unmarked f);
-  within = omega
+appended_is_in unmarked marked f = record {
+  start_le_end = omega (arith, length-append unmarked f);
+  end_le_length = omega
       arith;
 }
 
-pub formulas_push : (a : Arena) (es : List Span) (e : Span)
+pub span_formulas_push : (a : Arena) (es : List Span) (e : Span)
     → span_formulas a (es ++ e ∷ []) ≡ span_formulas a es ++ span_formula a e ∷ []
-formulas_push a [] e = refl
-formulas_push a (x ∷ es) e = ap (λ z. span_formula a x ∷ z) (formulas_push a es e)
+span_formulas_push a [] e = refl
+span_formulas_push a (x ∷ es) e = ap (λ z. span_formula a x ∷ z) (span_formulas_push a es e)
 
-pub formulas_take : (a : Arena) (n : ℕ) (es : List Span)
+pub span_formulas_take : (a : Arena) (n : ℕ) (es : List Span)
     → span_formulas a (take n es) ≡ take n (span_formulas a es)
-formulas_take a zero es = refl
-formulas_take a (suc n) [] = refl
-formulas_take a (suc n) (e ∷ es) = ap (λ z. span_formula a e ∷ z) (formulas_take a n es)
+span_formulas_take a zero es = refl
+span_formulas_take a (suc n) [] = refl
+span_formulas_take a (suc n) (e ∷ es) = ap (λ z. span_formula a e ∷ z) (span_formulas_take a n es)
 
 -- an entry's formula is of symbols of the database
-pub symbols_known : (n : ℕ) (a : Arena) (e : Span) → All (λ s. s < n) a.unmarked
+pub formula_in_range : (n : ℕ) (a : Arena) (e : Span) → All (λ s. s < n) a.unmarked
     → All (λ s. s < n) a.marked → All (λ s. s < n) (span_formula a e)
-symbols_known n a e ho hk =
+formula_in_range n a e unmarked_in_range marked_in_range =
     All-take (λ s. s < n) (e.end - e.start) (drop e.start (symbols_of a e.store))
-    (All-drop (λ s. s < n) e.start (symbols_of a e.store) (list e.store))
+    (All-drop (λ s. s < n) e.start (symbols_of a e.store) (list_in_range e.store))
   where
-    list : (p : Store) → All (λ s. s < n) (symbols_of a p)
-    list Unmarked = ho
-    list Marked = hk
+    list_in_range : (p : Store) → All (λ s. s < n) (symbols_of a p)
+    list_in_range Unmarked = unmarked_in_range
+    list_in_range Marked = marked_in_range
 
 -- what parts say is of symbols of the database
-pub replaced_known : (n : ℕ) (a : Arena) (es : List Span) (f : List RuleSymbol)
+pub replaced_in_range : (n : ℕ) (a : Arena) (es : List Span) (f : List RuleSymbol)
     → All (λ s. s < n) a.unmarked
     → All (λ s. s < n) a.marked → All (IsConstantBelow n) f → All (λ s. s < n) (replaced a es f)
-replaced_known n a es f ho hk hf = symbol_by_symbol f (recursion_from_All (IsConstantBelow n) f hf)
+replaced_in_range n a es f unmarked_in_range marked_in_range parts_in_range = symbol_by_symbol f
+    (recursion_from_All (IsConstantBelow n) f parts_in_range)
   where
-    span : (p : RuleSymbol) → IsConstantBelow n p → All (λ s. s < n) (replaced_part a es p)
-    span (Variable j) h = symbols_known n a (without_first (get_or es j no_symbols)) ho hk
-    span (Constant s) h = All-from_recursion (λ s. s < n) (s ∷ []) (h, tt)
+    part_in_range : (p : RuleSymbol) → IsConstantBelow n p → All (λ s. s < n) (replaced_part a es p)
+    part_in_range (Variable j) part_is_below = formula_in_range n a (without_first (get_or es j
+        no_symbols))
+        unmarked_in_range marked_in_range
+    part_in_range (Constant s) part_is_below = All-from_recursion (λ s. s < n) (s ∷ [])
+        (part_is_below, tt)
 
     symbol_by_symbol : (f : List RuleSymbol) → AllByRecursion (IsConstantBelow n) f
         → All (λ s. s < n) (replaced a es f)
-    symbol_by_symbol [] h = All-nil (λ s. s < n)
-    symbol_by_symbol (p ∷ f) h = All-append (λ s. s < n) _ _ (span p h.0) (symbol_by_symbol f h.1)
+    symbol_by_symbol [] parts_are_below = All-nil (λ s. s < n)
+    symbol_by_symbol (p ∷ f) parts_are_below = All-append (λ s. s < n) _ _ (part_in_range p
+        parts_are_below.0) (symbol_by_symbol
+        f parts_are_below.1)
 
 -- a table written back
-pub written : {X : Type 0} (new old : List X) (n : ℕ) → length new ≡ n
-    → take n (new ++ drop (length new) old) ≡ new
-written new old n h = take_at new (drop (length new) old) n h
+pub take_written_back : {X : Type 0} (new_table old_table : List X) (n : ℕ) → length new_table ≡ n
+    → take n (new_table ++ drop (length new_table) old_table) ≡ new_table
+take_written_back new_table old_table n length_is_n = take_at new_table (drop (length new_table)
+    old_table) n length_is_n
 
 -- a stretch of entries that are in the arena
-pub stretch_in : (a : Arena) (es : List Span) (from to : ℕ) → All (IsIn a) es
-    → All (IsIn a) (slice_range es from to)
-stretch_in a es from to h =
-    All-take (IsIn a) (to - from) (drop from es) (All-drop (IsIn a) from es h)
+pub slice_entries_are_in : (a : Arena) (es : List Span) (start end : ℕ) → All (IsIn a) es
+    → All (IsIn a) (slice_range es start end)
+slice_entries_are_in a es start end entries_in =
+    All-take (IsIn a) (end - start) (drop start es) (All-drop (IsIn a) start es entries_in)
 
 -- what replaces a variable is in the arena
-pub premise_in : (a : Arena) (es : List Span) (j : ℕ) (e : Span) → All (IsIn a) es → j < length es
+pub replacement_is_in : (a : Arena) (es : List Span) (j : ℕ) (e : Span) → All (IsIn a) es
+    → j < length es
     → e ≡ without_first (get_or es j no_symbols) → IsIn a e
-premise_in a es j e h l is =
-    let p : IsIn a (get_or es j no_symbols) = All-get_or (IsIn a) es j no_symbols l h in
-    subst (IsIn a) (sym is) (record { rising = omega arith; within = p.within })
+replacement_is_in a es j e entries_in j_lt_length e_is_without_first =
+    let entry_is_in : IsIn a (get_or es j no_symbols) = All-get_or (IsIn a) es j no_symbols
+    j_lt_length entries_in in
+    subst (IsIn a) (sym e_is_without_first) (record {
+      start_le_end = omega arith;
+      end_le_length =
+          entry_is_in.end_le_length;
+    })
 
-pub variable_in : (a : Arena) (es : List Span) (parts : List RuleSymbol) (i : ℕ) (p : RuleSymbol)
+pub variable_replacement_is_in : (a : Arena) (es : List Span) (parts : List RuleSymbol) (i : ℕ) (p :
+    RuleSymbol)
     (j : ℕ)
     → (e : Span) → All (IsIn a) es → All (IsVariableBelow (length es)) parts → i < length parts
     → p ≡ get_or parts i p → p ≡ Variable j → e ≡ without_first (get_or es j no_symbols) → IsIn a e
-variable_in a es parts i p j e h below l here is replacement_is =
-    premise_in a es j e h (subst (IsVariableBelow (length es)) (sym here ∙ is) (below i p l))
-    replacement_is
+variable_replacement_is_in a es parts i p j e entries_in variables_below i_lt_length p_is_part
+    p_is_variable e_is_without_first =
+    replacement_is_in a es j e entries_in (subst (IsVariableBelow (length es)) (sym p_is_part
+    ∙ p_is_variable) (variables_below i p i_lt_length))
+    e_is_without_first

@@ -1,4 +1,5 @@
--- `rule_test_at` (`RuleTestLaw.antt`) says that the test of a rule is the step of the definitions.
+-- `rule_test_by_stack` (`RuleTestLaw.antt`) says that the test of a rule is the step of the
+-- definitions.
 -- The entries follow one another in the list of the unmarked formulas (`Follow`, `FollowLaw.antt`),
 -- so that cutting the list takes away exactly the last ones.
 pub mod AloneLaw

@@ -9,29 +9,31 @@ use Rattle.mm_machine.specs.Arena.{Arena}
 use Rattle.mm_machine.specs.Replaced.{replaced_part, replaced}
 
 module _ (a : Arena) (es : List Span) where
-  pub longer : (f : List RuleSymbol) (i : ℕ) (p : RuleSymbol) (u : List ℕ) → i < length f
+  pub front_and_part_le_replaced : (f : List RuleSymbol) (i : ℕ) (p : RuleSymbol) (u : List ℕ)
+      → i < length f
       → get_or f i p ≡ p
       → replaced_part a es p ≡ u
       → length (replaced a es (take i f)) + length u ≤ length (replaced a es f)
-  longer [] i p u h e is = absurd (omega arith)
-  longer (q ∷ f) zero p u h e is =
-      let here : length (replaced_part a es q) ≡ length u =
-      ap (λ z. length (replaced_part a es z)) e ∙ ap length is in
-      omega (arith, here, length-append (replaced_part a es q) (replaced a es f))
-  longer (q ∷ f) (suc i) p u h e is =
-      let r = longer f i p u (omega arith) e is in
+  front_and_part_le_replaced [] i p u i_lt_length p_is_part u_replaces_p = absurd (omega arith)
+  front_and_part_le_replaced (q ∷ f) zero p u i_lt_length p_is_part u_replaces_p =
+      let lengths_equal : length (replaced_part a es q) ≡ length u =
+      ap (λ z. length (replaced_part a es z)) p_is_part ∙ ap length u_replaces_p in
+      omega (arith, lengths_equal, length-append (replaced_part a es q) (replaced a es f))
+  front_and_part_le_replaced (q ∷ f) (suc i) p u i_lt_length p_is_part u_replaces_p =
+      let rest_is_longer = front_and_part_le_replaced f i p u (omega arith) p_is_part u_replaces_p
+      in
       omega (
         arith,
-        r,
+        rest_is_longer,
         length-append (replaced_part a es q) (replaced a es f),
         length-append (replaced_part a es q)
             (replaced a es (take i f)),
       )
 
-  pub replaced_more : (f : List RuleSymbol) (i : ℕ) (d : RuleSymbol) → i < length f
+  pub replaced_take_suc : (f : List RuleSymbol) (i : ℕ) (d : RuleSymbol) → i < length f
       → replaced a es (take (i + 1) f)
       ≡ replaced a es (take i f) ++ replaced_part a es (get_or f i d)
-  replaced_more f i d h =
-      ap (replaced a es) (take_more f i d h)
+  replaced_take_suc f i d i_lt_length =
+      ap (replaced a es) (take_more f i d i_lt_length)
       ∙ flat_map-append (replaced_part a es) (take i f) (get_or f i d ∷ [])
       ∙ ap (λ z. replaced a es (take i f) ++ z) (append-nil (replaced_part a es (get_or f i d)))

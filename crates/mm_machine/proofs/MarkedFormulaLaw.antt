@@ -5,10 +5,11 @@ use Rattle.mm_spec.specs.Derivation.{Formula}
 use Rattle.mm_machine.specs.declared.arena.Span.{Span}
 use Rattle.mm_machine.specs.Arena.{arena, span_formula}
 use Rattle.mm_machine.specs.State.{span_formulas, IsStack, IsMarkedEntry, IsMachine, Moves}
-use Rattle.mm_machine.proofs.GrowLaw.{all_stay, stay_formulas, marked_more, marked_all_in}
-use Rattle.mm_machine.proofs.GrowLaw.{marked_all_more}
-use Rattle.mm_machine.proofs.GrowLaw.{formulas_push}
-use Rattle.mm_machine.proofs.MarksLaw.{rising_more}
+use Rattle.mm_machine.proofs.GrowLaw.{all_stay, formulas_equal_if_stay, stays_with_more_marked}
+use Rattle.mm_machine.proofs.GrowLaw.{marked_entries_are_in}
+use Rattle.mm_machine.proofs.GrowLaw.{marked_entries_stay_marked}
+use Rattle.mm_machine.proofs.GrowLaw.{span_formulas_push}
+use Rattle.mm_machine.proofs.MarksLaw.{rising_push}
 
 pub moved_machine : (unmarked marked : List ℕ) (es : List Span) (marks : List ℕ)
     (marked_spans : List Span)
@@ -16,57 +17,59 @@ pub moved_machine : (unmarked marked : List ℕ) (es : List Span) (marks : List 
     → IsMachine unmarked marked es marks marked_spans symbol_count
     → Moves unmarked marked unmarked' marked' → IsStack unmarked' marked' es'
     → IsMachine unmarked' marked' es' marks marked_spans symbol_count
-moved_machine unmarked marked es marks marked_spans symbol_count unmarked' marked' es' is_machine v
-    s =
-    let k = v.known symbol_count is_machine.stack.known.unmarked in
+moved_machine unmarked marked es marks marked_spans symbol_count unmarked' marked' es'
+    is_machine moves is_stack' =
+    let in_range = moves.symbols_in_range symbol_count
+    is_machine.stack.arena_in_range.unmarked_in_range in
     record {
       stack =
           record {
-            known =
+            arena_in_range =
                 record {
-                  unmarked = k.1;
-                  marked =
-                      rw v.marked_is
-                      (All-append (λ s. s < symbol_count) marked v.more
-                      is_machine.stack.known.marked k.0);
+                  unmarked_in_range = in_range.1;
+                  marked_in_range =
+                      rw moves.marked_is
+                      (All-append (λ is_stack'. is_stack' < symbol_count) marked moves.moved_symbols
+                      is_machine.stack.arena_in_range.marked_in_range in_range.0);
                 };
-            is_stack = s;
+            is_stack = is_stack';
           };
-      spans_are_marked = rw v.marked_is (marked_all_more marked v.more marked_spans
+      spans_are_marked = rw moves.marked_is (marked_entries_stay_marked marked moves.moved_symbols
+          marked_spans
           is_machine.spans_are_marked);
-      rising = is_machine.rising;
-      count = is_machine.count;
+      marks_rise = is_machine.marks_rise;
+      enough_spans = is_machine.enough_spans;
     }
 
-pub marked_spans_more : (unmarked marked : List ℕ) (es : List Span) (marks : List ℕ)
+pub machine_with_span : (unmarked marked : List ℕ) (es : List Span) (marks : List ℕ)
     (marked_spans : List Span)
     → (symbol_count : ℕ) (e : Span)
     → IsMachine unmarked marked es marks marked_spans symbol_count → IsMarkedEntry marked e
     → IsMachine unmarked marked es marks (marked_spans ++ e ∷ []) symbol_count
-marked_spans_more unmarked marked es marks marked_spans symbol_count e is_machine is_marked_entry =
+machine_with_span unmarked marked es marks marked_spans symbol_count e is_machine is_marked_entry =
     record {
       stack = is_machine.stack;
       spans_are_marked = All-push (IsMarkedEntry marked) marked_spans e is_machine.spans_are_marked
           is_marked_entry;
-      rising = is_machine.rising;
-      count = omega (arith, is_machine.count, length-append marked_spans (e ∷ []));
+      marks_rise = is_machine.marks_rise;
+      enough_spans = omega (arith, is_machine.enough_spans, length-append marked_spans (e ∷ []));
     }
 
-pub mark_and_span_more : (unmarked marked : List ℕ) (es : List Span) (marks : List ℕ)
+pub machine_with_mark : (unmarked marked : List ℕ) (es : List Span) (marks : List ℕ)
     (marked_spans : List Span)
     → (symbol_count : ℕ) (e : Span) (step : ℕ)
     → IsMachine unmarked marked es marks marked_spans symbol_count → IsMarkedEntry marked e
     → All (λ j. j < step) marks
     → IsMachine unmarked marked es (marks ++ step ∷ []) (marked_spans ++ e ∷ []) symbol_count
-mark_and_span_more unmarked marked es marks marked_spans symbol_count e step is_machine
+machine_with_mark unmarked marked es marks marked_spans symbol_count e step is_machine
     is_marked_entry later = record {
       stack = is_machine.stack;
       spans_are_marked = All-push (IsMarkedEntry marked) marked_spans e is_machine.spans_are_marked
           is_marked_entry;
-      rising = rising_more marks step is_machine.rising later;
-      count = omega (
+      marks_rise = rising_push marks step is_machine.marks_rise later;
+      enough_spans = omega (
         arith,
-        is_machine.count,
+        is_machine.enough_spans,
         length-append marked_spans (e ∷ []),
         length-append marks
             (step ∷ []),
@@ -80,12 +83,15 @@ pub marked_spans_formulas : (unmarked marked unmarked' marked' : List ℕ) (mark
     → span_formula (arena [] marked') e ≡ f
     → span_formulas (arena [] marked') (marked_spans ++ e ∷ [])
     ≡ span_formulas (arena [] marked) marked_spans ++ f ∷ []
-marked_spans_formulas unmarked marked unmarked' marked' marked_spans e f v h t =
-    let old : span_formulas (arena [] marked') marked_spans
+marked_spans_formulas unmarked marked unmarked' marked' marked_spans e f moves are_marked formula_is
+    =
+    let formulas_stay : span_formulas (arena [] marked') marked_spans
     ≡ span_formulas (arena [] marked) marked_spans =
-    rw v.marked_is
-    (stay_formulas (arena [] marked) (arena [] (marked ++ v.more)) marked_spans
-    (all_stay (arena [] marked) (arena [] (marked ++ v.more)) marked_spans
-    (marked_more [] marked v.more)
-    (marked_all_in [] marked marked_spans h))) in
-    formulas_push (arena [] marked') marked_spans e ∙ ap₂ (λ us u. us ++ u ∷ []) old t
+    rw moves.marked_is
+    (formulas_equal_if_stay (arena [] marked) (arena [] (marked ++ moves.moved_symbols))
+    marked_spans
+    (all_stay (arena [] marked) (arena [] (marked ++ moves.moved_symbols)) marked_spans
+    (stays_with_more_marked [] marked moves.moved_symbols)
+    (marked_entries_are_in [] marked marked_spans are_marked))) in
+    span_formulas_push (arena [] marked') marked_spans e ∙ ap₂ (λ us u. us ++ u ∷ []) formulas_stay
+    formula_is

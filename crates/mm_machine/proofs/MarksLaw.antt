@@ -9,28 +9,31 @@ use Rattle.std.proofs.lemmas.List.Sorted.{searched}
 use Rattle.std.proofs.lemmas.Bool.{cases_lt}
 use Rattle.mm_machine.specs.State.{IsRising}
 
-pub not_absent : (xs : List ℕ) (x n : ℕ) → IsBinarySearchResult (λ y. nat_cmp y x) xs (Err n)
+pub present_is_found : (xs : List ℕ) (x n : ℕ) → IsBinarySearchResult (λ y. nat_cmp y x) xs (Err n)
     → IsRising xs → Contains xs x → ⊥
-not_absent xs x n is_binary_search_result up there = by_order (cases_lt there.0 n)
+present_is_found xs x n is_binary_search_result xs_rise contained = by_order (cases_lt contained.0
+    n)
   where
-    x_is_there : get_or xs there.0 0 ≡ x
-    x_is_there = get_or_default xs there.0 0 x there.1 ∙ there.2
+    x_is_at : get_or xs contained.0 0 ≡ x
+    x_is_at = get_or_default xs contained.0 0 x contained.1 ∙ contained.2
 
-    by_order : (there.0 < n) ⊎ (n ≤ there.0) → ⊥
-    by_order (inl l) =
-        let s = searched xs x (Err n) is_binary_search_result up in let b = s.1 there.0 l in omega
-        (arith, b, x_is_there)
-    by_order (inr l) =
-        let s = searched xs x (Err n) is_binary_search_result up in let b = s.2 there.0 l there.1 in
-        omega (arith, b, x_is_there)
+    by_order : (contained.0 < n) ⊎ (n ≤ contained.0) → ⊥
+    by_order (inl index_lt_n) =
+        let are_bounds = searched xs x (Err n) is_binary_search_result xs_rise in let compared =
+        are_bounds.1 contained.0 index_lt_n in omega
+        (arith, compared, x_is_at)
+    by_order (inr n_le_index) =
+        let are_bounds = searched xs x (Err n) is_binary_search_result xs_rise in let compared =
+        are_bounds.2 contained.0 n_le_index contained.1 in
+        omega (arith, compared, x_is_at)
 
 -- an ascending list with a greater number more at its end ascends
-pub rising_more : (xs : List ℕ) (n : ℕ) → IsRising xs → All (λ j. j < n) xs
+pub rising_push : (xs : List ℕ) (n : ℕ) → IsRising xs → All (λ j. j < n) xs
     → IsRising (xs ++ n ∷ [])
-rising_more xs n up below a b h l = by_order (cases_lt b (length xs))
+rising_push xs n xs_rise xs_lt_n a b a_le_b b_lt_length = by_order (cases_lt b (length xs))
   where
-    at_end : get_or (xs ++ n ∷ []) (length xs) 0 ≡ n
-    at_end = get_behind_front xs
+    n_is_last : get_or (xs ++ n ∷ []) (length xs) 0 ≡ n
+    n_is_last = get_behind_front xs
       where
         get_behind_front : (ys : List ℕ) → get_or (ys ++ n ∷ []) (length ys) 0 ≡ n
         get_behind_front [] = refl
@@ -38,32 +41,37 @@ rising_more xs n up below a b h l = by_order (cases_lt b (length xs))
 
     by_order : (b < length xs) ⊎ (length xs ≤ b) → get_or (xs ++ n ∷ []) a 0
         ≤ get_or (xs ++ n ∷ []) b 0
-    by_order (inl k) =
-        let u = up a b h k in
-        let x = get_or_append_left xs (n ∷ []) 0 a (omega arith) in
-        let y = get_or_append_left xs (n ∷ []) 0 b k in
-        omega (arith, u, x, y)
-    by_order (inr k) =
-        let b_is_length_xs : b ≡ length xs = omega (arith, k, l, length-append xs (n ∷ [])) in
-        let y : get_or (xs ++ n ∷ []) b 0 ≡ n =
-        subst (λ i. get_or (xs ++ n ∷ []) i 0 ≡ n) (sym b_is_length_xs) at_end in
-        by_order_of_a (cases_lt a (length xs)) y
+    by_order (inl b_lt_length_xs) =
+        let pair_rises = xs_rise a b a_le_b b_lt_length_xs in
+        let xs_at_a = get_or_append_left xs (n ∷ []) 0 a (omega arith) in
+        let xs_at_b = get_or_append_left xs (n ∷ []) 0 b b_lt_length_xs in
+        omega (arith, pair_rises, xs_at_a, xs_at_b)
+    by_order (inr length_xs_le_b) =
+        let b_is_length_xs : b ≡ length xs = omega (
+          arith,
+          length_xs_le_b,
+          b_lt_length,
+          length-append xs (n ∷ []),
+        ) in
+        let value_at_b : get_or (xs ++ n ∷ []) b 0 ≡ n =
+        subst (λ i. get_or (xs ++ n ∷ []) i 0 ≡ n) (sym b_is_length_xs) n_is_last in
+        by_order_of_a (cases_lt a (length xs)) value_at_b
       where
         by_order_of_a : (a < length xs) ⊎ (length xs ≤ a) → get_or (xs ++ n ∷ []) b 0 ≡ n
             → get_or (xs ++ n ∷ []) a 0 ≤ get_or (xs ++ n ∷ []) b 0
-        by_order_of_a (inl m) y =
-            let x = get_or_append_left xs (n ∷ []) 0 a m in
-            let z = All-get_or (λ j. j < n) xs a 0 m below in
-            omega (arith, x, y, z)
-        by_order_of_a (inr m) y =
+        by_order_of_a (inl a_lt_length_xs) value_at_b =
+            let value_at_a = get_or_append_left xs (n ∷ []) 0 a a_lt_length_xs in
+            let value_lt_n = All-get_or (λ j. j < n) xs a 0 a_lt_length_xs xs_lt_n in
+            omega (arith, value_at_a, value_at_b, value_lt_n)
+        by_order_of_a (inr length_xs_le_a) value_at_b =
             let a_is_length_xs : a ≡ length xs = omega (
               arith,
-              m,
-              h,
-              l,
+              length_xs_le_a,
+              a_le_b,
+              b_lt_length,
               length-append xs
                   (n ∷ []),
             ) in
-            let x : get_or (xs ++ n ∷ []) a 0 ≡ n =
-            subst (λ i. get_or (xs ++ n ∷ []) i 0 ≡ n) (sym a_is_length_xs) at_end in
-            omega (arith, x, y)
+            let value_at_a : get_or (xs ++ n ∷ []) a 0 ≡ n =
+            subst (λ i. get_or (xs ++ n ∷ []) i 0 ≡ n) (sym a_is_length_xs) n_is_last in
+            omega (arith, value_at_a, value_at_b)

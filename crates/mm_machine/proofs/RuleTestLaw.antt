@@ -28,14 +28,14 @@ use Rattle.mm_machine.specs.State.{span_formulas, applied}
 use Rattle.mm_rule.proofs.FirstLaw.{first_below, found_first}
 use Rattle.mm_machine.proofs.StretchLaw.{formula_tail}
 
-span_formula_at : (xs : Arena) (es : List Span) (j : ℕ) → j < length es
+span_formula_is_at : (xs : Arena) (es : List Span) (j : ℕ) → j < length es
     → span_formula xs (get_or es j no_symbols) ≡ get_or (span_formulas xs es) j []
-span_formula_at xs [] j h = absurd (omega arith)
-span_formula_at xs (e ∷ es) zero h = refl
-span_formula_at xs (e ∷ es) (suc j) h = span_formula_at xs es j (omega arith)
+span_formula_is_at xs [] j j_lt_length = absurd (omega arith)
+span_formula_is_at xs (e ∷ es) zero j_lt_length = refl
+span_formula_is_at xs (e ∷ es) (suc j) j_lt_length = span_formula_is_at xs es j (omega arith)
 
 module _ (db : List Statement) (t : ℕ) (hs : List Formula) (xs : Arena) (es : List Span)
-    (inside : All (IsIn xs) es) (count : length es ≡ length hs) where
+    (entries_in : All (IsIn xs) es) (counts_equal : length es ≡ length hs) where
   abbrev pub σ : Substitution
   σ = substitution_from (context_at db t) hs (span_formulas xs es)
 
@@ -45,55 +45,57 @@ module _ (db : List Statement) (t : ℕ) (hs : List Formula) (xs : Arena) (es : 
       let j = floating_index db hs x in
       let j_lt_length_hs : j < length hs = first_below db hs x is_bound in
       let is_in : IsIn xs (get_or es j no_symbols) =
-      All-get_or (IsIn xs) es j no_symbols (omega (arith, j_lt_length_hs, count)) inside in
-      let many : length (span_formulas xs es) ≡ length hs =
-      length-map es (span_formula xs) ∙ count in
+      All-get_or (IsIn xs) es j no_symbols (omega (arith, j_lt_length_hs, counts_equal)) entries_in
+      in
+      let formula_counts_equal : length (span_formulas xs es) ≡ length hs =
+      length-map es (span_formula xs) ∙ counts_equal in
       formula_tail (symbols_of xs (get_or es j no_symbols).store) (get_or es j no_symbols).start
-      (get_or es j no_symbols).end is_in.rising
-      ∙ ap tail (span_formula_at xs es j (omega (arith, j_lt_length_hs, count)))
-      ∙ sym (found_first db t hs (span_formulas xs es) x many is_bound)
+      (get_or es j no_symbols).end is_in.start_le_end
+      ∙ ap tail (span_formula_is_at xs es j (omega (arith, j_lt_length_hs, counts_equal)))
+      ∙ sym (found_first db t hs (span_formulas xs es) x formula_counts_equal is_bound)
 
   pub replaced_is_substituted : (f : Formula) → AreBound (context_at db t) hs f
       → replaced xs es (parts_of db hs f) ≡ substitute (context_at db t) σ f
-  replaced_is_substituted [] b = refl
-  replaced_is_substituted (s ∷ f) b = ap₂ (λ u v. u ++ v)
-      (by_is_variable (is_variable_number db s) b.0)
-      (replaced_is_substituted f b.1)
+  replaced_is_substituted [] are_bound = refl
+  replaced_is_substituted (s ∷ f) are_bound = ap₂ (λ u v. u ++ v)
+      (by_is_variable (is_variable_number db s) are_bound.0)
+      (replaced_is_substituted f are_bound.1)
     where
       by_is_variable : (v : Bool) → (IsTrue v → IsBound (context_at db t) hs s)
           → replaced_part xs es (cond v (Variable (floating_index db hs s)) (Constant s))
           ≡ cond v (σ s) (s ∷ [])
-      by_is_variable true h = replacement_is s (h refl)
-      by_is_variable false h = refl
+      by_is_variable true bound_if_variable = replacement_is s (bound_if_variable refl)
+      by_is_variable false bound_if_variable = refl
 
   pub all_replaced_are_substituted : (fs : List Formula)
       → AllByRecursion (AreBound (context_at db t) hs) fs
       → map (replaced xs es) (map (parts_of db hs) fs) ≡ map (substitute (context_at db t) σ) fs
-  all_replaced_are_substituted [] b = refl
-  all_replaced_are_substituted (f ∷ fs) b = ap₂ (λ u us. u ∷ us) (replaced_is_substituted f b.0)
-      (all_replaced_are_substituted fs b.1)
+  all_replaced_are_substituted [] all_bound = refl
+  all_replaced_are_substituted (f ∷ fs) all_bound = ap₂ (λ u us. u ∷ us) (replaced_is_substituted f
+      all_bound.0)
+      (all_replaced_are_substituted fs all_bound.1)
 
   abbrev pub cache : ℕ × ℕ → Bool
   cache p = are_all_disjoint (context_at db t) (replacement xs es p.0) (replacement xs es p.1)
 
-  pub disjoint_same : (pairs : List Pair)
+  pub pair_tests_equal : (pairs : List Pair)
       → AllByRecursion
       (λ p. IsBound (context_at db t) hs p.low × IsBound (context_at db t) hs p.high) pairs
       → list_all cache
       (map (λ (p : Pair). (floating_index db hs p.low, floating_index db hs p.high)) pairs)
       ≡ list_all (λ p. are_all_disjoint (context_at db t) (σ p.low) (σ p.high)) pairs
-  disjoint_same [] b = refl
-  disjoint_same (p ∷ pairs) b =
+  pair_tests_equal [] all_bound = refl
+  pair_tests_equal (p ∷ pairs) all_bound =
       ap₂ (λ u v. u && v)
-      (ap₂ (are_all_disjoint (context_at db t)) (replacement_is p.low b.0.0)
-      (replacement_is p.high b.0.1))
-      (disjoint_same pairs b.1)
+      (ap₂ (are_all_disjoint (context_at db t)) (replacement_is p.low all_bound.0.0)
+      (replacement_is p.high all_bound.0.1))
+      (pair_tests_equal pairs all_bound.1)
 
-pub length_all_parts : (parts : List RuleSymbol) (j : ℕ) (more : List Hypothesis)
-    → length (all_parts parts j more) ≡ length more
+pub length_all_parts : (parts : List RuleSymbol) (j : ℕ) (hypotheses : List Hypothesis)
+    → length (all_parts parts j hypotheses) ≡ length hypotheses
 length_all_parts parts j [] = refl
-length_all_parts parts j (a ∷ more) =
-    ap suc (length_all_parts (drop (part_count a) parts) (suc j) more)
+length_all_parts parts j (a ∷ hypotheses) =
+    ap suc (length_all_parts (drop (part_count a) parts) (suc j) hypotheses)
 
 map_drop : (xs : Arena) (n : ℕ) (es : List Span)
     → drop n (span_formulas xs es) ≡ span_formulas xs (drop n es)
@@ -102,7 +104,7 @@ map_drop xs (suc n) [] = refl
 map_drop xs (suc n) (e ∷ es) = map_drop xs n es
 
 -- the step of an assertion, by the tests that the code makes
-pub judged : (db : List Statement) (t : ℕ) (c : CompiledRule) (xs : Arena)
+pub applied_is_tested : (db : List Statement) (t : ℕ) (c : CompiledRule) (xs : Arena)
     (stack premises : List Span)
     → IsCompiled db c → length c.hypotheses ≤ length stack
     → premises ≡ drop (length stack - length c.hypotheses) stack → All (IsIn xs) premises
@@ -119,42 +121,59 @@ pub judged : (db : List Statement) (t : ℕ) (c : CompiledRule) (xs : Arena)
     (take (length stack - length c.hypotheses) (span_formulas xs stack)
     ++ replaced xs premises c.formula ∷
     [])
-judged db t c xs stack premises rule fits top inside many b1 b2 e1 e2 =
+applied_is_tested db t c xs stack premises rule hypotheses_le_stack premises_are premises_in
+    premise_count_is b1 b2 b1_is b2_is =
     let a = frame_at db c.assertion in
     let hs = a.hypotheses in
     let es = span_formulas xs stack in
     let m = length stack - length c.hypotheses in
     let length_es_is_length_stack : length es ≡ length stack = length-map stack (span_formula xs) in
-    let hypotheses : length c.hypotheses ≡ length hs =
+    let hypothesis_counts_equal : length c.hypotheses ≡ length hs =
     sym (length_all_parts c.parts 0 c.hypotheses) ∙ ap length rule.hypotheses_are
     ∙ length-map hs (parts_of db hs) in
-    let n : length es - length hs ≡ m = omega (arith, length_es_is_length_stack, hypotheses) in
-    let enough : nat_le (length hs) (length es) ≡ true =
-    le-leb _ _ (omega (arith, length_es_is_length_stack, hypotheses, fits)) in
-    let count : length premises ≡ length hs = many ∙ hypotheses in
+    let below_is : length es - length hs ≡ m = omega (
+      arith,
+      length_es_is_length_stack,
+      hypothesis_counts_equal,
+    ) in
+    let has_enough_entries : nat_le (length hs) (length es) ≡ true =
+    le-leb _ _ (omega (
+      arith,
+      length_es_is_length_stack,
+      hypothesis_counts_equal,
+      hypotheses_le_stack,
+    )) in
+    let counts_equal : length premises ≡ length hs = premise_count_is ∙ hypothesis_counts_equal in
     let ps = span_formulas xs premises in
-    let σ' : Substitution = σ db t hs xs premises inside count in
-    let h : map (substitute (context_at db t) σ') hs
+    let σ' : Substitution = σ db t hs xs premises premises_in counts_equal in
+    let hypotheses_substituted : map (substitute (context_at db t) σ') hs
     ≡ map (replaced xs premises) (all_parts c.parts 0 c.hypotheses) = sym
-    (all_replaced_are_substituted db t hs xs premises inside count hs rule.complete.hypotheses)
+    (all_replaced_are_substituted db t hs xs premises premises_in counts_equal hs
+    rule.complete.hypotheses)
     ∙ ap (map (replaced xs premises)) (sym rule.hypotheses_are) in
-    let p : list_all (λ p. are_all_disjoint (context_at db t) (σ' p.low) (σ' p.high)) a.pairs ≡ b2 =
-    sym (disjoint_same db t hs xs premises inside count a.pairs rule.complete.pairs)
-    ∙ ap (list_all (cache db t hs xs premises inside count)) (sym rule.pairs_are) ∙ sym e2 in
-    let f : substitute (context_at db t) σ' a.formula ≡ replaced xs premises c.formula =
-    sym (replaced_is_substituted db t hs xs premises inside count a.formula rule.complete.formula)
+    let b2_is_list_all : list_all (λ p. are_all_disjoint (context_at db t) (σ' p.low) (σ' p.high))
+    a.pairs ≡ b2 =
+    sym (pair_tests_equal db t hs xs premises premises_in counts_equal a.pairs rule.complete.pairs)
+    ∙ ap (list_all (cache db t hs xs premises premises_in counts_equal)) (sym rule.pairs_are)
+    ∙ sym b2_is in
+    let formula_substituted : substitute (context_at db t) σ' a.formula
+    ≡ replaced xs premises c.formula =
+    sym (replaced_is_substituted db t hs xs premises premises_in counts_equal a.formula
+    rule.complete.formula)
     ∙ ap (replaced xs premises) (sym rule.formula_is) in
-    ap₂ (λ b i. apply (context_at db t) a b (take i es) (drop i es)) enough n
+    ap₂ (λ b i. apply (context_at db t) a b (take i es) (drop i es)) has_enough_entries below_is
     ∙ ap (λ z. apply (context_at db t) a true (take m es) z)
-    (map_drop xs m stack ∙ ap (span_formulas xs) (sym top))
+    (map_drop xs m stack ∙ ap (span_formulas xs) (sym premises_are))
     ∙ ap₂ (λ x y. unless_failed true x y
     (nat_le (length (substitute (context_at db t) σ' a.formula)) formula_limit)
-    (take m es ++ substitute (context_at db t) σ' a.formula ∷ [])) (ap (are_equal ps) h
-    ∙ sym e1) p
-    ∙ ap (λ z. unless_failed true b1 b2 (nat_le (length z) formula_limit) (take m es ++ z ∷ [])) f
+    (take m es ++ substitute (context_at db t) σ' a.formula ∷ [])) (ap (are_equal ps)
+    hypotheses_substituted
+    ∙ sym b1_is) b2_is_list_all
+    ∙ ap (λ z. unless_failed true b1 b2 (nat_le (length z) formula_limit) (take m es ++ z ∷ []))
+    formula_substituted
 
 -- the same by the values that the code has
-pub rule_test_at : (db : List Statement) (t : ℕ) (c : CompiledRule) (xs : Arena)
+pub rule_test_by_stack : (db : List Statement) (t : ℕ) (c : CompiledRule) (xs : Arena)
     → (stack premises : List Span) (n below : ℕ)
     → IsCompiled db c → n ≡ length c.hypotheses → n ≤ length stack → below ≡ length stack - n
     → premises ≡ drop below stack → All (IsIn xs) stack → (ps : List (ℕ × ℕ)) → ps ≡ c.pairs
@@ -169,38 +188,46 @@ pub rule_test_at : (db : List Statement) (t : ℕ) (c : CompiledRule) (xs : Aren
     ≡ unless_failed true b1 b2
     (nat_le (length (replaced xs (drop below stack) c.formula)) formula_limit)
     (take below (span_formulas xs stack) ++ replaced xs (drop below stack) c.formula ∷ [])
-rule_test_at db t c xs stack premises n below rule count fits at top all ps ps_are b1 b2 e1 e2 =
-    let here : below ≡ length stack - length c.hypotheses = omega (arith, at, count) in
-    let many : length (drop below stack) ≡ length c.hypotheses =
-    omega (arith, at, count, fits, length-drop below stack) in
-    judged db t c xs stack (drop below stack) rule (omega (arith, count, fits))
-    (ap (λ b. drop b stack) here) (All-drop (IsIn xs) below stack all) many b1 b2
-    (e1
+rule_test_by_stack db t c xs stack premises n below rule n_is n_le_length below_is premises_are
+    entries_in ps ps_are b1 b2 b1_is b2_is =
+    let below_is_difference : below ≡ length stack - length c.hypotheses = omega (
+      arith,
+      below_is,
+      n_is,
+    ) in
+    let premise_count_is : length (drop below stack) ≡ length c.hypotheses =
+    omega (arith, below_is, n_is, n_le_length, length-drop below stack) in
+    applied_is_tested db t c xs stack (drop below stack) rule (omega (arith, n_is, n_le_length))
+    (ap (λ b. drop b stack) below_is_difference) (All-drop (IsIn xs) below stack entries_in)
+    premise_count_is b1 b2
+    (b1_is
     ∙ ap (λ z. are_equal (span_formulas xs z)
-    (map (replaced xs z) (all_parts c.parts 0 c.hypotheses))) top)
-    (e2 ∙ ap
+    (map (replaced xs z) (all_parts c.parts 0 c.hypotheses))) premises_are)
+    (b2_is ∙ ap
     (λ z. list_all
     (λ (p : ℕ × ℕ). are_all_disjoint (context_at db t) (replacement xs z p.0)
-    (replacement xs z p.1)) ps) top
+    (replacement xs z p.1)) ps) premises_are
     ∙ ap (λ z. list_all
     (λ (p : ℕ × ℕ). are_all_disjoint (context_at db t) (replacement xs (drop below stack) p.0)
     (replacement xs (drop below stack) p.1)) z) ps_are)
     ∙ ap (λ b. unless_failed true b1 b2
     (nat_le (length (replaced xs (drop below stack) c.formula)) formula_limit)
-    (take b (span_formulas xs stack) ++ replaced xs (drop below stack) c.formula ∷ [])) (sym here)
+    (take b (span_formulas xs stack) ++ replaced xs (drop below stack) c.formula ∷ [])) (sym
+    below_is_difference)
 
 -- too few entries
-pub too_few_at : (db : List Statement) (t : ℕ) (c : CompiledRule) (xs : Arena) (stack : List Span)
+pub applied_is_too_few : (db : List Statement) (t : ℕ) (c : CompiledRule) (xs : Arena) (stack : List
+    Span)
     → IsCompiled db c → length stack < length c.hypotheses
     → applied db t c.assertion (span_formulas xs stack) ≡ Err too_few
-too_few_at db t c xs stack rule few =
+applied_is_too_few db t c xs stack rule stack_lt_hypotheses =
     let a = frame_at db c.assertion in
     let es = span_formulas xs stack in
     let length_es_is_length_stack : length es ≡ length stack = length-map stack (span_formula xs) in
-    let hypotheses : length c.hypotheses ≡ length a.hypotheses =
+    let counts_equal : length c.hypotheses ≡ length a.hypotheses =
     sym (length_all_parts c.parts 0 c.hypotheses) ∙ ap length rule.hypotheses_are
     ∙ length-map a.hypotheses (parts_of db a.hypotheses) in
     let n = length es - length a.hypotheses in
     ap (λ b. apply (context_at db t) a b (take n es) (drop n es))
     (lt-leb (length a.hypotheses) (length es) (omega
-    (arith, length_es_is_length_stack, hypotheses, few)))
+    (arith, length_es_is_length_stack, counts_equal, stack_lt_hypotheses)))

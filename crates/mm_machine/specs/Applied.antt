@@ -16,13 +16,13 @@ IsRefusalOf Memory r = Unit {0}
 -- the entries alone, and there is at least the one that it pushes.
 pub record Applies (db : List Statement) (t a : ℕ) (s s' : MachineState) : Type 0 where
   pub entries_are : applied db t a s.stack ≡ Ok s'.stack
-  pub entry : 0 < length s'.stack
-  pub marks : s'.marks ≡ s.marks
-  pub formulas : s'.formulas ≡ s.formulas
+  pub has_entry : 0 < length s'.stack
+  pub marks_stay : s'.marks ≡ s.marks
+  pub formulas_stay : s'.formulas ≡ s.formulas
 
 -- what the machine says of that step, and the state that it leaves
 pub record IsApplied {T : Type 0} (db : List Statement) (t a : ℕ) (s s' : MachineState)
     (answer : Result T StepRefused) : Type 0 where
-  pub applies : OnOk answer (Applies db t a s s')
-  pub refused : IfErr answer (λ e. IsRefusalOf e (applied db t a s.stack))
-  pub symbol_count : s'.symbol_count ≡ s.symbol_count
+  pub applies_if_ok : OnOk answer (Applies db t a s s')
+  pub refusal_is_right : IfErr answer (λ e. IsRefusalOf e (applied db t a s.stack))
+  pub symbol_count_stays : s'.symbol_count ≡ s.symbol_count

@@ -28,18 +28,18 @@ span_formula a e = slice_range (symbols_of a e.store) e.start e.end
 
 -- the entry is a stretch of its list
 pub record IsIn (a : Arena) (e : Span) : Type 0 where
-  pub rising : e.start ≤ e.end
-  pub within : e.end ≤ length (symbols_of a e.store)
+  pub start_le_end : e.start ≤ e.end
+  pub end_le_length : e.end ≤ length (symbols_of a e.store)
 
 -- an arena for `symbol_count` symbols: each of its symbols is less than that
 pub record IsArena (symbol_count : ℕ) (a : Arena) : Type 0 where
-  pub unmarked : All (λ s. s < symbol_count) a.unmarked
-  pub marked : All (λ s. s < symbol_count) a.marked
+  pub unmarked_in_range : All (λ s. s < symbol_count) a.unmarked
+  pub marked_in_range : All (λ s. s < symbol_count) a.marked
 
 -- entries of an arena for `symbol_count` symbols: each is a stretch of one of its lists
 pub record AreEntries (symbol_count : ℕ) (a : Arena) (es : List Span) : Type 0 where
-  pub known : IsArena symbol_count a
-  pub inside : All (IsIn a) es
+  pub arena_in_range : IsArena symbol_count a
+  pub entries_in_arena : All (IsIn a) es
 
 -- the entry without its first symbol
 abbrev pub without_first : Span → Span

@@ -9,9 +9,9 @@ use Rattle.mm_spec.specs.Frame.{frame_at}
 use Rattle.mm_spec.specs.Citation.{context_at}
 use Rattle.mm_spec.specs.Laws.Stack.{step, unless_too_long, top}
 use Rattle.mm_machine.specs.declared.arena.Span.{Span}
-use Rattle.mm_machine.specs.declared.arena.Reason.{Reason}
-use Rattle.mm_machine.specs.declared.arena.Reason.TheVariants.{TooFew, Unmatched, NotDisjoint}
-use Rattle.mm_machine.specs.declared.arena.Reason.TheVariants.{TooLong}
+use Rattle.mm_machine.specs.declared.reason.Reason.{Reason}
+use Rattle.mm_machine.specs.declared.reason.Reason.TheVariants.{TooFew, Unmatched, NotDisjoint}
+use Rattle.mm_machine.specs.declared.reason.Reason.TheVariants.{TooLong}
 use Rattle.mm_machine.specs.declared.arena.Store.TheVariants.{Unmarked, Marked}
 use Rattle.mm_machine.specs.Arena.{Arena, arena, span, span_formula, IsIn, IsArena}
 use Rattle.mm_rule.specs.declared.rule.RuleSymbol.{RuleSymbol}
@@ -64,13 +64,13 @@ first_unmarked (e ∷ es) end = elim e.store [ Unmarked ↦ e.start | Marked ↦
 
 -- the entries are stretches of the symbols
 pub record IsStack (unmarked marked : List ℕ) (es : List Span) : Type 0 where
-  pub inside : All (IsIn (arena unmarked marked)) es
-  pub follow : Follow 0 es (length unmarked)
+  pub entries_in_arena : All (IsIn (arena unmarked marked)) es
+  pub entries_follow : Follow 0 es (length unmarked)
 
 -- the stack of a machine for `symbol_count` symbols: entries as above, over symbols that are each
 -- less than that
 pub record IsStackOf (symbol_count : ℕ) (unmarked marked : List ℕ) (es : List Span) : Type 0 where
-  pub known : IsArena symbol_count (arena unmarked marked)
+  pub arena_in_range : IsArena symbol_count (arena unmarked marked)
   pub is_stack : IsStack unmarked marked es
 
 -- the entry of a formula that was appended to the unmarked ones
@@ -79,16 +79,16 @@ appended_span unmarked f = span Unmarked (length unmarked) (length (unmarked ++ 
 
 -- unmarked formulas were moved to the marked ones, and some were removed
 pub record Moves (unmarked marked unmarked' marked' : List ℕ) : Type 0 where
-  pub more : List ℕ
-  pub marked_is : marked' ≡ marked ++ more
-  pub known : (w : ℕ) → All (λ s. s < w) unmarked → All (λ s. s < w) more
+  pub moved_symbols : List ℕ
+  pub marked_is : marked' ≡ marked ++ moved_symbols
+  pub symbols_in_range : (w : ℕ) → All (λ s. s < w) unmarked → All (λ s. s < w) moved_symbols
       × All (λ s. s < w) unmarked'
 
 -- the entry is a stretch of the marked formulas
 pub record IsMarkedEntry (marked : List ℕ) (e : Span) : Type 0 where
-  pub store : e.store ≡ Marked
-  pub rising : e.start ≤ e.end
-  pub within : e.end ≤ length marked
+  pub is_in_marked : e.store ≡ Marked
+  pub start_le_end : e.start ≤ e.end
+  pub end_le_length : e.end ≤ length marked
 
 abbrev pub IsRising : List ℕ → Type 0
 IsRising ns = (a b : ℕ) → a ≤ b → b < length ns → get_or ns a 0 ≤ get_or ns b 0
@@ -99,8 +99,8 @@ pub record IsMachine (unmarked marked : List ℕ) (es : List Span) (marks : List
     (symbol_count : ℕ) : Type 0 where
   pub stack : IsStackOf symbol_count unmarked marked es
   pub spans_are_marked : All (IsMarkedEntry marked) marked_spans
-  pub rising : IsRising marks
-  pub count : length marks ≤ length marked_spans
+  pub marks_rise : IsRising marks
+  pub enough_spans : length marks ≤ length marked_spans
 
 abbrev pub reason_of : Reason → SpecReason
 reason_of TooFew = too_few

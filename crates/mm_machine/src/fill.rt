@@ -25,7 +25,7 @@ fn put_symbol(symbol: Sym, list: &mut [Sym], index: usize)
 /// Writes two symbols from `index` on.
 #[inline(always)]
 fn put_two(symbols: &[Sym], list: &mut [Sym], index: usize)
-    requires two { length symbols.now ≡ 2 }
+    requires two_symbols { length symbols.now ≡ 2 }
     requires room { index + 2 ≤ length list.old }
     ensures same_length { length list.new ≡ length list.old }
     ensures written { take (index + 2) list.new ≡ take index list.old ++ symbols.now }
@@ -38,7 +38,7 @@ fn put_two(symbols: &[Sym], list: &mut [Sym], index: usize)
 /// compiler needs no test whether the lists overlap, and copies them at once.
 #[inline(always)]
 fn put_four(symbols: &[Sym], list: &mut [Sym], index: usize)
-    requires four { length symbols.now ≡ 4 }
+    requires four_symbols { length symbols.now ≡ 4 }
     requires room { index + 4 ≤ length list.old }
     ensures same_length { length list.new ≡ length list.old }
     ensures written { take (index + 4) list.new ≡ take index list.old ++ symbols.now }
@@ -88,8 +88,8 @@ fn put_width(symbols: &[Sym], list: &mut [Sym], index: usize)
 /// is a few instructions and no call.
 #[inline(always)]
 fn put_ends(symbols: &[Sym], list: &mut [Sym], index: usize, width: usize)
-    requires many { width ≤ length symbols.now }
-    requires few { length symbols.now ≤ 2 * width }
+    requires width_le_count { width ≤ length symbols.now }
+    requires count_le_double_width { length symbols.now ≤ 2 * width }
     requires room { index + length symbols.now ≤ length list.old }
     ensures same_length { length list.new ≡ length list.old }
     ensures written { take (index + length symbols.now) list.new
@@ -135,8 +135,8 @@ pub fn fill(
 ) -> Option<usize>
     requires premises { All (IsIn symbols.now) premises.now }
     requires formula { All (IsVariableBelow (length premises.now)) formula.now }
-    ensures within { IfSome result (λ n. n ≤ length list.new) }
-    ensures short { IfSome result (λ n. n ≤ formula_limit) }
+    ensures count_le_length { IfSome result (λ n. n ≤ length list.new) }
+    ensures count_le_limit { IfSome result (λ n. n ≤ formula_limit) }
     ensures written { IfSome result
         (λ n. take n list.new ≡ replaced symbols.now premises.now formula.now) }
 {

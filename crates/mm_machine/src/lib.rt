@@ -13,8 +13,10 @@ mod arena;
 mod disjoint_cache;
 mod fill;
 mod machine;
+mod reason;
+mod rule_test;
 mod symbol_list;
 
-pub use arena::Reason;
 pub use disjoint_cache::DisjointCache;
 pub use machine::{Machine, StepRefused};
+pub use reason::Reason;

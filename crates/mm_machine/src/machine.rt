@@ -15,9 +15,11 @@ ghost use Rattle.mm_machine.specs.State.{entries_after};
 ghost use Rattle.mm_machine.specs.State.{IsStack, IsStackOf, IsRising, IsMarkedEntry, Moves};
 ghost use Rattle.mm_machine.specs.Applied.{IsRefusalOf, IsApplied};
 
-use crate::arena::{Reason, Span, Store, Symbols, build, test_rule};
+use crate::arena::{Span, Store, Symbols, build};
 use crate::disjoint_cache::DisjointCache;
 use crate::fill::fill;
+use crate::reason::Reason;
+use crate::rule_test::test_rule;
 use crate::symbol_list::SymbolList;
 use mm_database::{Database, Sym};
 use mm_rule::{PackedSymbol, Rule, empty, formula, put_number};
@@ -97,10 +99,10 @@ impl<A: Allocator> Model for Machine<A> {
 /// The index of `number` among `numbers`, which are in ascending order: where the slots say, or
 /// otherwise by binary search.
 fn index_of_mark(numbers: &[usize], number: usize, slots: &[u32]) -> usize
-    requires rising { IsRising numbers.now }
-    requires present { Contains numbers.now number }
-    ensures below { result < length numbers.now }
-    ensures found { get_or numbers.now result 0 ≡ number }
+    requires numbers_rise { IsRising numbers.now }
+    requires has_number { Contains numbers.now number }
+    ensures index_lt_length { result < length numbers.now }
+    ensures finds_number { get_or numbers.now result 0 ≡ number }
 {
     let slot = number % MARK_SLOTS;
     if slot < slots.len() {
@@ -177,7 +179,7 @@ impl<A: Allocator> Machine<A> {
     /// Adds the top formula, with which this step ended, to those of the marked steps.
     pub fn mark(&mut self, step: usize) -> Result<(), AllocError>
         requires entry { 0 < length self.old.stack }
-        requires later { All (λ j. j < step) self.old.marks }
+        requires marks_lt_step { All (λ j. j < step) self.old.marks }
         ensures ok { OnOk result (self.new ≡ with_mark true step self.old) }
         ensures symbol_count { self.new.symbol_count ≡ self.old.symbol_count }
     {
@@ -203,7 +205,7 @@ impl<A: Allocator> Machine<A> {
             ≡ length (symbol_names database.now.statements) }
         requires cache { AreDisjointAt database.now.statements theorem cache.old }
         ensures cache { AreDisjointAt database.now.statements theorem cache.new }
-        ensures step { IsApplied database.now.statements theorem rule.now.assertion self.old
+        ensures is_applied { IsApplied database.now.statements theorem rule.now.assertion self.old
             self.new
             result }
     {
@@ -223,10 +225,10 @@ impl<A: Allocator> Machine<A> {
         rule: &Rule,
     ) -> Result<(), StepRefused>
         requires rule { IsCompiled database.now.statements rule.now }
-        requires alone { length rule.now.hypotheses ≡ 0 }
+        requires no_hypotheses { length rule.now.hypotheses ≡ 0 }
         requires symbol_count { self.old.symbol_count
             ≡ length (symbol_names database.now.statements) }
-        ensures step { IsApplied database.now.statements _theorem rule.now.assertion self.old
+        ensures is_applied { IsApplied database.now.statements _theorem rule.now.assertion self.old
             self.new
             result }
     {
@@ -255,7 +257,7 @@ impl<A: Allocator> Machine<A> {
             ≡ length (symbol_names database.now.statements) }
         requires cache { AreDisjointAt database.now.statements theorem cache.old }
         ensures cache { AreDisjointAt database.now.statements theorem cache.new }
-        ensures step { IsApplied database.now.statements theorem rule.now.assertion self.old
+        ensures is_applied { IsApplied database.now.statements theorem rule.now.assertion self.old
             self.new
             result }
     {
@@ -279,8 +281,8 @@ impl<A: Allocator> Machine<A> {
 
     /// The formula of the only entry; `None` if there isn't exactly one.
     pub fn only(&self) -> Option<&[Sym]>
-        ensures some { IfSome result (λ f. self.now.stack ≡ f.now ∷ []) }
-        ensures none { IfNone result (length self.now.stack ≢ 1) }
+        ensures is_only_entry { IfSome result (λ f. self.now.stack ≡ f.now ∷ []) }
+        ensures not_one_entry { IfNone result (length self.now.stack ≢ 1) }
     {
         if self.stack.len() == 1 {
             let symbols = Symbols {
@@ -360,7 +362,7 @@ fn move_to_marked<A: Allocator>(
     ensures stack { IsStack unmarked.new marked.new stack.new.items }
     ensures formulas { span_formulas (arena unmarked.new marked.new) stack.new.items
         ≡ span_formulas (arena unmarked.old marked.old) stack.old.items }
-    ensures moved { Moves unmarked.old marked.old unmarked.new marked.new }
+    ensures moves_symbols { Moves unmarked.old marked.old unmarked.new marked.new }
     ensures entry_is { IfOk result
         (λ e. IsMarkedEntry marked.new e
         × (span_formula (arena [] marked.new) e

@@ -43,7 +43,7 @@ fn make_room<A: Allocator>(
 ) -> Result<(), AllocError>
     requires { count ≤ vec_len buffer.old }
     ensures room { OnOk result (count + more ≤ vec_len buffer.new) }
-    ensures longer { vec_len buffer.old ≤ vec_len buffer.new }
+    ensures length_grows { vec_len buffer.old ≤ vec_len buffer.new }
     ensures same_symbols { take count buffer.new.items ≡ take count buffer.old.items }
 {
     match count.checked_add(more) {
@@ -85,8 +85,8 @@ impl<A: Allocator> SymbolList<A> {
     /// Appends the symbols of a formula.
     #[inline(always)]
     pub fn append(&mut self, formula: &[Sym]) -> Result<(), AllocError>
-        ensures all { OnOk result (self.new ≡ self.old ++ formula.now) }
-        ensures none { OnErr result (self.new ≡ self.old) }
+        ensures appends_formula { OnOk result (self.new ≡ self.old ++ formula.now) }
+        ensures unchanged_if_err { OnErr result (self.new ≡ self.old) }
     {
         if formula.len() > self.buffer.len() - self.count {
             make_room(&mut self.buffer, self.count, formula.len())?;

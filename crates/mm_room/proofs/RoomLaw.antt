@@ -23,12 +23,13 @@ use Rattle.mm_room.specs.Units.{units, units_at, way_back}
 use Rattle.mm_room.specs.contracts.memory.Memory as memory
 use Rattle.mm_room.proofs.MemoryLaw.{Fields, memory_val, fields_shown, memory_is}
 
-abbrev pub Taken : RattleType
-Taken = option.the_row memory.the_row
+abbrev pub MaybeMemory : RattleType
+MaybeMemory = option.the_row memory.the_row
 
 -- what `take_memory` says of the n units that it gives for s bytes
-abbrev pub Told : (n s : ℕ) → Taken.Denot → Type 0
-Told n s x = IfSome x (λ m. (m.units ≡ n) × (0 < m.units) × (s ≤ m.units * 16) × (s < 2 ^ 63))
+abbrev pub IsMemoryFor : (n s : ℕ) → MaybeMemory.Denot → Type 0
+IsMemoryFor n s x = IfSome x (λ m. (m.units ≡ n) × (0 < m.units) × (s ≤ m.units * 16) × (s < 2 ^
+    63))
 
 -- the units are room for a type that they hold, with the way back
 pub cut_from_units : {M : Type 1} {𝓤 : Ura M} (𝓛 : Logic 𝓤) (τ : Ty) (b o n s : ℕ)
@@ -36,11 +37,14 @@ pub cut_from_units : {M : Type 1} {𝓤 : Ura M} (𝓛 : Logic 𝓤) (τ : Ty) (
     → 0 < n → s ≤ n * 16 → s < 2 ^ 63
     → ent 𝓤 (sem 𝓛 (units_at (block_ptr b o) n))
     (sep 𝓤 (𝓛.H.room τ b o) (sem 𝓛 (way_back n τ (block_ptr b o))))
-cut_from_units 𝓛 τ b o zero s sized some fits short = absurd (omega (arith, some))
-cut_from_units 𝓛 τ b o (suc n) s sized some fits short =
-    let small : size τ < 2 ^ 63 = capped_small (size τ) (omega (arith, sized, short)) in
-    let same : size τ ≡ s = sym (capped_is (size τ) (omega (arith, small))) ∙ sized in
-    carve 𝓛 (units (suc n)) τ (suc n) b o refl refl (omega (arith, same, fits))
+cut_from_units 𝓛 τ b o zero s capped_is_s n_is_positive s_le_units s_lt_limit =
+    absurd (omega (arith, n_is_positive))
+cut_from_units 𝓛 τ b o (suc n) s capped_is_s n_is_positive s_le_units s_lt_limit =
+    let size_lt_limit : size τ < 2 ^ 63 =
+    capped_small (size τ) (omega (arith, capped_is_s, s_lt_limit)) in
+    let size_is_s : size τ ≡ s =
+    sym (capped_is (size τ) (omega (arith, size_lt_limit))) ∙ capped_is_s in
+    carve 𝓛 (units (suc n)) τ (suc n) b o refl refl (omega (arith, size_is_s, s_le_units))
 
 module _ {M : Type 1} {𝓤 : Ura M} {𝓛 : Logic 𝓤} {K : Type 0} {Γ : List (Item 𝓤)} {G : Goal 𝓤 𝓛.H}
   where
@@ -48,32 +52,33 @@ module _ {M : Type 1} {𝓤 : Ura M} {𝓛 : Logic 𝓤} {K : Type 0} {Γ : List
     in_block : K → (p : Ptr) (n : ℕ) → 0 < n
         → ((b o : ℕ) → p ≡ block_ptr b o → Seq K 𝓛 (‵ (units_at (block_ptr b o) n) ∷ Γ) G)
         → Seq K 𝓛 (‵ (units_at p n) ∷ Γ) G
-    in_block t p zero some k = absurd (omega (arith, some))
-    in_block t p (suc n) some k = in_a_block t p (λ (q : Ptr). units_at q (suc n)) (id⊢ 𝓤 _) k
+    in_block t p zero n_is_positive if_in_block = absurd (omega (arith, n_is_positive))
+    in_block t p (suc n) n_is_positive if_in_block =
+        in_a_block t p (λ (q : Ptr). units_at q (suc n)) (id⊢ 𝓤 _) if_in_block
 
-    -- what `take_memory` gave is the units in a block, or nothing
-    pub taken : K → (n s : ℕ) (x : Taken.Denot) (v : Val) → Told n s x
+    -- what `take_memory` gave is the units in a block, or nothing: a proof by the two cases
+    pub by_taken_memory : K → (n s : ℕ) (x : MaybeMemory.Denot) (v : Val) → IsMemoryFor n s x
         → ((b o : ℕ) → 0 < n → s ≤ n * 16 → s < 2 ^ 63
         → v ≡ live 1 (vcons (memory_val (block_ptr b o)) vnil)
         → Seq K 𝓛 (‵ (units_at (block_ptr b o) n) ∷ Γ) G)
         → (v ≡ live 0 vnil → Seq K 𝓛 Γ G)
-        → Seq K 𝓛 (‵ (Taken.own_val x (v ∷ [])) ∷ Γ) G
-    taken t n s None v told some none =
+        → Seq K 𝓛 (‵ (MaybeMemory.own_val x (v ∷ [])) ∷ Γ) G
+    by_taken_memory t n s None v is_memory if_memory if_none =
         fpick t (λ us. fsplit t $
-        feq_l t (λ is. fpick t (λ vss. fsplit t $ feq_l t (λ same. drop t $
-        none (ap only is ∙ ap (λ (ws : List Val). live 0 (of_list ws)) same)))))
-    taken t n s (Some m) v told some none =
+        feq_l t (λ value_is. fpick t (λ vss. fsplit t $ feq_l t (λ parts_are. drop t $
+        if_none (ap only value_is ∙ ap (λ (ws : List Val). live 0 (of_list ws)) parts_are)))))
+    by_taken_memory t n s (Some m) v is_memory if_memory if_none =
         fpick t (λ us. fsplit t $
-        feq_l t (λ is. fpick t (λ vss. fsplit t $ feq_l t (λ same. fsplit t $
+        feq_l t (λ value_is. fpick t (λ vss. fsplit t $ feq_l t (λ parts_are. fsplit t $
         move t (1 ∷ []) $ drop t $ fsplit t $
-        peeks t Fields (Is Fields) (fields_shown 𝓛) (m.at, tt) vss.0 (λ are. drop t $
-        rewrite t 0 (λ (k : ℕ). ‵ (units_at m.at k)) told.0 refl $
-        in_block t m.at n (subst (λ (k : ℕ). 0 < k) told.0 told.1) (λ b o lies.
-        some b o (subst (λ (k : ℕ). 0 < k) told.0 told.1)
-        (subst (λ (k : ℕ). s ≤ k * 16) told.0 told.2) told.3
-        (ap only is ∙ ap (λ (ws : List Val). live 1 (of_list ws)) (same
-        ∙ ap (λ (ws : List Val). ws ++ []) (memory_is m.at vss.0 are))
-        ∙ ap (λ (p : Ptr). live 1 (vcons (memory_val p) vnil)) lies)))))))
+        peeks t Fields (Is Fields) (fields_shown 𝓛) (m.address, tt) vss.0 (λ is_fields. drop t $
+        rewrite t 0 (λ (k : ℕ). ‵ (units_at m.address k)) is_memory.0 refl $
+        in_block t m.address n (subst (λ (k : ℕ). 0 < k) is_memory.0 is_memory.1) (λ b o address_is.
+        if_memory b o (subst (λ (k : ℕ). 0 < k) is_memory.0 is_memory.1)
+        (subst (λ (k : ℕ). s ≤ k * 16) is_memory.0 is_memory.2) is_memory.3
+        (ap only value_is ∙ ap (λ (ws : List Val). live 1 (of_list ws)) (parts_are
+        ∙ ap (λ (ws : List Val). ws ++ []) (memory_is m.address vss.0 is_fields))
+        ∙ ap (λ (p : Ptr). live 1 (vcons (memory_val p) vnil)) address_is)))))))
 
 -- what comes after a statement b' of a body, where the rest is b
 abbrev pub rest_runs : {M : Type 1} {𝓤 : Ura M} (𝓛 : Logic 𝓤) → Calls 𝓤 𝓛.H → Loops 𝓤 𝓛.H

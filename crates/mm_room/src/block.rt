@@ -11,14 +11,14 @@ use std::marker::{Model, PhantomData};
 /// value owns the block, and nothing lies in it. It leaks if the value is let go.
 #[derive(Drop)]
 pub(crate) struct Block<A: Allocator> {
-    pub(crate) at: *mut u8,
+    pub(crate) address: *mut u8,
     pub(crate) given_by: PhantomData<A>,
     ghost alloc: { A },
     ghost units: { ℕ },
 }
 
 impl<A: Allocator> Model for Block<A> {
-    ghost also_owns = { λ b. block_at (A.dealloc_token b.alloc) b.units b.at };
+    ghost also_owns = { λ b. block_at (A.dealloc_token b.alloc) b.units b.address };
 }
 
 impl<A: Allocator> Block<A> {
@@ -28,8 +28,8 @@ impl<A: Allocator> Block<A> {
         ensures { IfSome result (λ b. (b.alloc ≡ alloc.now) × (b.units ≡ units)) }
     {
         match alloc.allocate(units * UNIT, UNIT) {
-            Ok(at) => Some(Block {
-                at,
+            Ok(address) => Some(Block {
+                address,
                 given_by: PhantomData,
             }),
             Err(_) => None,
@@ -40,9 +40,12 @@ impl<A: Allocator> Block<A> {
     pub(crate) fn free(self, alloc: &A, units: usize)
         requires alloc { self.alloc ≡ alloc.now }
         requires units { self.units ≡ units }
-        requires fits { units * 16 < 2 ^ 63 }
+        requires size_lt_limit { units * 16 < 2 ^ 63 }
     {
-        let Block { at, given_by: _ } = self;
-        unsafe { alloc.deallocate(at, units * UNIT, UNIT) }
+        let Block {
+            address,
+            given_by: _,
+        } = self;
+        unsafe { alloc.deallocate(address, units * UNIT, UNIT) }
     }
 }

@@ -12,8 +12,8 @@ pub(crate) struct FreeList<A: Allocator> {
     pub(crate) alloc: A,
     pub(crate) units: usize,
     blocks: Vec<Block<A>, A>,
-    ghost fits: { units * 16 < 2 ^ 63 },
-    ghost alike: { All (λ b. (b.alloc ≡ alloc) × (b.units ≡ units)) blocks.items },
+    ghost size_lt_limit: { units * 16 < 2 ^ 63 },
+    ghost blocks_match: { All (λ b. (b.alloc ≡ alloc) × (b.units ≡ units)) blocks.items },
 }
 
 /// A slot's tag is an allocator. A list fits into the slot if its blocks are from that allocator.
@@ -54,7 +54,7 @@ impl<A: Allocator> FreeList<A> {
     pub(crate) fn put_block(&mut self, block: Block<A>, units: usize) -> Result<(), Block<A>>
         requires alloc { block.alloc ≡ self.old.alloc }
         requires units { block.units ≡ units }
-        requires fits { units * 16 < 2 ^ 63 }
+        requires size_lt_limit { units * 16 < 2 ^ 63 }
         ensures alloc { self.new.alloc ≡ self.old.alloc }
         ensures block { IfErr result (λ b. (b.alloc ≡ block.alloc) × (b.units ≡ block.units)) }
     {

@@ -85,12 +85,12 @@ unsafe impl Allocator for Lender {
     // No type has a greater alignment than a unit.
     fn allocate(&self, size: usize, _align: usize) -> Result<*mut u8, AllocError> {
         match self.take_memory(size) {
-            Some(Memory { at }) => Ok(at),
+            Some(Memory { address }) => Ok(address),
             None => Err(AllocError),
         }
     }
 
     unsafe fn deallocate(&self, ptr: *mut u8, _size: usize, _align: usize) {
-        self.put_back(Memory { at: ptr });
+        self.put_back(Memory { address: ptr });
     }
 }

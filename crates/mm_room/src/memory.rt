@@ -11,12 +11,12 @@ use std::ptr::null_mut;
 #[repr(C)]
 #[derive(Drop)]
 pub(crate) struct Memory {
-    pub(crate) at: *mut u8,
+    pub(crate) address: *mut u8,
     ghost units: { ℕ },
 }
 
 impl Model for Memory {
-    ghost also_owns = { λ m. units_at m.at m.units };
+    ghost also_owns = { λ m. units_at m.address m.units };
 }
 
 impl Memory {
@@ -24,6 +24,8 @@ impl Memory {
     pub(crate) fn none() -> Memory
         ensures { result.units ≡ 0 }
     {
-        Memory { at: null_mut() }
+        Memory {
+            address: null_mut(),
+        }
     }
 }

@@ -30,7 +30,7 @@ const MOST_UNITS: usize = isize::MAX as usize / UNIT;
 pub struct Reusing<A: Allocator> {
     alloc: A,
     lists: Vec<Counted<Option<FreeList<A>>>, A>,
-    ghost alike: { All (λ list. list ≡ alloc) lists.items },
+    ghost lists_have_alloc: { All (λ list. list ≡ alloc) lists.items },
 }
 
 /// The units of a block for `size` bytes.
@@ -158,13 +158,24 @@ unsafe impl<A: Allocator> Allocator for Reusing<A> {
     // No type has a greater alignment than a unit.
     fn allocate(&self, size: usize, _align: usize) -> Result<*mut u8, AllocError> {
         match self.take_block(size) {
-            Some(Block { at, given_by: _ }) => Ok(at),
+            Some(
+                Block {
+                    address,
+                    given_by: _,
+                },
+            ) => Ok(address),
             None => Err(AllocError),
         }
     }
 
     unsafe fn deallocate(&self, ptr: *mut u8, size: usize, _align: usize) {
         let given_by = PhantomData;
-        self.give_back(Block { at: ptr, given_by }, size);
+        self.give_back(
+            Block {
+                address: ptr,
+                given_by,
+            },
+            size,
+        );
     }
 }

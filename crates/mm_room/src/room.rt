@@ -15,7 +15,7 @@ pub(crate) const UNIT: usize = 16;
 pub struct Room {
     pub(crate) memory: Memory,
     pub(crate) units: usize,
-    ghost counted: { memory.units ≡ units },
+    ghost memory_has_units: { memory.units ≡ units },
 }
 
 impl Room {

@@ -17,30 +17,33 @@ use Rattle.mm_spec.specs.Output.{IsReportOf}
 use Rattle.mm_spec.proofs.FindsLaw.{member_filter, filter_member}
 use Rattle.mm_spec.proofs.ListLaw.{member_at}
 use Rattle.mm_work.specs.Citing.{Citing, theorem_at, list_at}
-use Rattle.mm_work.specs.Judged.{AllCited}
+use Rattle.mm_work.specs.Judged.{AllHaveCitations}
 use Rattle.mm_report.specs.Rows.{listed, citing_row, citing_rows, AreCitationsOf}
-use Rattle.mm_run.proofs.RowsLaw.{zip_of_each}
+use Rattle.mm_run.proofs.RowsLaw.{zip_of_related}
 
 module _ (db : List Statement) (request : Request) (c : Citing)
-    (cited : AllCited db request.essential c) where
+    (have_citations : AllHaveCitations db request.essential c) where
   -- the lists are those of the database's theorems, and all that they list are assertions
-  pub citations_of : AreCitationsOf db c
-  citations_of = record {
-    theorems_are = cited.theorems_are;
+  pub are_citations_of : AreCitationsOf db c
+  are_citations_of = record {
+    theorems_are = have_citations.theorems_are;
     assertions =
-        λ i l k d m.
-        ((cited.exact i l (get_or (list_at c i) k d)).0 (member_at (list_at c i) k d m)).0;
+        λ i i_lt_count k d k_lt_length.
+        ((have_citations.lists_are_exact i i_lt_count (get_or (list_at c i) k d)).0 (member_at
+        (list_at c i) k d k_lt_length)).0;
   }
 
   -- what is listed of a theorem is what it cites
   are_cited : (i : ℕ) → i < length c.theorems
       → AreCited db request (theorem_at c i) (listed db request.only (list_at c i))
-  are_cited i i_inside = record {
-    rising = IsStrictlyIncreasing-filter is_chosen (list_at c i) (cited.rising i i_inside);
+  are_cited i i_lt_count = record {
+    rising = IsStrictlyIncreasing-filter is_chosen (list_at c i) (have_citations.lists_rise i
+        i_lt_count);
     cited = λ a. (
-      λ e. let p = member_filter is_chosen (list_at c i) a e in
-          ((cited.exact i i_inside a).0 p.1, p.0),
-      λ h. filter_member is_chosen (list_at c i) a h.1 ((cited.exact i i_inside a).1 h.0),
+      λ is_listed. let chosen = member_filter is_chosen (list_at c i) a is_listed in
+          ((have_citations.lists_are_exact i i_lt_count a).0 chosen.1, chosen.0),
+      λ cites_chosen. filter_member is_chosen (list_at c i) a cites_chosen.1
+          ((have_citations.lists_are_exact i i_lt_count a).1 cites_chosen.0),
     );
   }
     where
@@ -52,21 +55,22 @@ module _ (db : List Statement) (request : Request) (c : Citing)
   citing_rows_are =
       let names = map (label_at db) (theorems db) in
       let f = λ (i : ℕ). citing_row db request.only c (get_or names i []) i in
-      let s = ap (λ (ts : List ℕ). length ts) cited.theorems_are in
-      let n = length-map-range_with_len f 0 (length c.theorems) in
-      zip_of_each (IsCitingRowOf db request) (theorems db) (citing_rows db request.only c names) 0
+      let counts_equal = ap (λ (ts : List ℕ). length ts) have_citations.theorems_are in
+      let row_count_is = length-map-range_with_len f 0 (length c.theorems) in
+      zip_of_related (IsCitingRowOf db request) (theorems db) (citing_rows db request.only c names)
+      0
       (f 0)
-      (omega (arith, n, s))
-      (λ i l.
-      let inside : i < length c.theorems = omega (arith, s, l) in
+      (omega (arith, row_count_is, counts_equal))
+      (λ i i_lt_theorem_count.
+      let i_lt_count : i < length c.theorems = omega (arith, counts_equal, i_lt_theorem_count) in
       subst (λ (x : CitingRow). IsCitingRowOf db request (get_or (theorems db) i 0) x)
-      (sym (get_or-map-range_with_len f 0 (length c.theorems) i i (f 0) inside (omega arith))) (
-        get_or-map (label_at db) (theorems db) i 0 [] l,
+      (sym (get_or-map-range_with_len f 0 (length c.theorems) i i (f 0) i_lt_count (omega arith))) (
+        get_or-map (label_at db) (theorems db) i 0 [] i_lt_theorem_count,
         (
           listed db request.only (list_at c i),
           subst
               (λ t. AreCited db request t (listed db request.only (list_at c i)))
-              (ap (λ ts. get_or ts i 0) cited.theorems_are) (are_cited i inside),
+              (ap (λ ts. get_or ts i 0) have_citations.theorems_are) (are_cited i i_lt_count),
           refl,
         ),
       ))
@@ -77,10 +81,10 @@ module _ (db : List Statement) (request : Request) (c : Citing)
       → IsReportOf request.choice db opened request
       (citation_report request opened (length axioms)
       (citing_rows db request.only c (map (label_at db) (theorems db))))
-  is_citation_report opened axioms axioms_is choice =
+  is_citation_report opened axioms axioms_is choice_is =
       subst (λ (o : Choice). IsReportOf o db opened request
       (citation_report request opened (length axioms)
-      (citing_rows db request.only c (map (label_at db) (theorems db))))) (sym choice) (
+      (citing_rows db request.only c (map (label_at db) (theorems db))))) (sym choice_is) (
         citing_rows db request.only c (map (label_at db) (theorems db)),
         citing_rows_are,
         ap

@@ -20,11 +20,12 @@ open_theorems_are : (d : Contents) (w : Bool) (only : Option Bytes) (axioms : Li
     ≡ (if w then Some
     (count_by (λ a. list_any is_open_theorem (statement_at d.read a))
     (columns (counted true d.read) only)) else None)
-open_theorems_are d true only axioms h is =
+open_theorems_are d true only axioms is_counted axioms_are =
     ap₂ (λ (b : Bool) (xs : List ℕ). Some
-    (count_by (λ a. b && list_any is_open_theorem (statement_at d.read a)) xs)) h.flag (is
-    ∙ ap (λ db. columns db only) h.statements)
-open_theorems_are d false only axioms h is = refl
+    (count_by (λ a. b && list_any is_open_theorem (statement_at d.read a)) xs)) is_counted.flag_is
+    (axioms_are
+    ∙ ap (λ db. columns db only) is_counted.statements_are)
+open_theorems_are d false only axioms is_counted axioms_are = refl
 
 pub is_output : (request : Request) (d : Contents) (axioms bytes : List ℕ)
     → IsCounted request.with_open d
@@ -33,12 +34,13 @@ pub is_output : (request : Request) (d : Contents) (axioms bytes : List ℕ)
     → IsReportOf request.choice d.statements
     (open_theorems request.with_open d axioms) request bytes
     → IsOutput d.text request bytes
-is_output request d axioms bytes is_counted sound is report =
+is_output request d axioms bytes is_counted has_no_fault axioms_are is_report =
     inr (
       d.read,
-      sound,
+      has_no_fault,
       subst (λ o. IsReportOf request.choice (counted request.with_open d.read) o request bytes)
-          (open_theorems_are d request.with_open request.only axioms is_counted is)
+          (open_theorems_are d request.with_open request.only axioms is_counted axioms_are)
           (subst (λ db. IsReportOf request.choice db
-          (open_theorems request.with_open d axioms) request bytes) is_counted.statements report),
+          (open_theorems request.with_open d axioms) request bytes) is_counted.statements_are
+          is_report),
     )

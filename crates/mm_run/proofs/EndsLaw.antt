@@ -10,13 +10,13 @@ pub ends_of_answers : (end : RunEnd) (text : List ℕ) (request : Request)
     → (input_before input_after output_before output_after : Option (List ℕ))
     → Gave input_before input_after text → Answers end text request output_before output_after
     → Ends end request input_before input_after output_before output_after
-ends_of_answers Accepted text request input_before input_after output_before output_after gave
-    answers = (text, gave, answers)
-ends_of_answers (Refused f) text request input_before input_after output_before output_after gave
-    answers = (text, gave, answers)
-ends_of_answers ReadFailed text request input_before input_after output_before output_after gave
-    answers = absurd answers
-ends_of_answers WriteFailed text request input_before input_after output_before output_after gave
-    answers = (text, gave, answers)
+ends_of_answers Accepted text request input_before input_after output_before output_after gave_text
+    answers = (text, gave_text, answers)
+ends_of_answers (Refused f) text request input_before input_after output_before output_after
+    gave_text answers = (text, gave_text, answers)
+ends_of_answers ReadFailed text request input_before input_after output_before output_after
+    gave_text answers = absurd answers
+ends_of_answers WriteFailed text request input_before input_after output_before output_after
+    gave_text answers = (text, gave_text, answers)
 ends_of_answers NoMemory text request input_before input_after output_before output_after
-    gave answers = answers
+    gave_text answers = answers

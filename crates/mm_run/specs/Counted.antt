@@ -6,36 +6,36 @@ use Rattle.mm_spec.specs.Opened.{counted}
 use Rattle.mm_spec.specs.Output.{FirstFault, HasNoFault, IsRead}
 use Rattle.mm_work.specs.Citing.{Citing}
 use Rattle.mm_database.specs.Database.{Contents}
-use Rattle.mm_work.specs.Judged.{AllCited}
+use Rattle.mm_work.specs.Judged.{AllHaveCitations}
 use Rattle.mm_rows.specs.Marks.{Marks, IsMatrix}
-use Rattle.mm_run.specs.declared.judged.JudgedText.{JudgedText}
-use Rattle.mm_run.specs.declared.judged.JudgedText.TheVariants.{Faulty, Sound}
+use Rattle.mm_run.specs.declared.judged_text.JudgedText.{JudgedText}
+use Rattle.mm_run.specs.declared.judged_text.JudgedText.TheVariants.{Faulty, Sound}
 
 -- the database has this flag, and its statements are those that were read, as they count with it
 pub record IsCounted (with_open : Bool) (d : Contents) : Type 0 where
-  pub flag : d.with_open ≡ with_open
-  pub statements : d.statements ≡ counted with_open d.read
+  pub flag_is : d.with_open ≡ with_open
+  pub statements_are : d.statements ≡ counted with_open d.read
 
 -- the database is what was read of the text
 pub record IsReadFrom (text : List ℕ) (with_open : Bool) (d : Contents) : Type 0 where
   pub text_is : d.text ≡ text
-  pub counted : IsCounted with_open d
-  pub read : IsRead (length text) (lexed_of text) d.read d.fault
+  pub is_counted : IsCounted with_open d
+  pub is_read : IsRead (length text) (lexed_of text) d.read d.fault
 
 -- the database was judged without a fault, by all nodes of a proof or the essential ones, and this
 -- is what its theorems cite
 pub record IsJudged (essential with_open : Bool) (d : Contents) (c : Citing) : Type 0 where
-  pub sound : HasNoFault (length d.text) (lexed_of d.text) with_open d.read
-  pub counted : IsCounted with_open d
-  pub cited : AllCited d.statements essential c
+  pub has_no_fault : HasNoFault (length d.text) (lexed_of d.text) with_open d.read
+  pub is_counted : IsCounted with_open d
+  pub have_citations : AllHaveCitations d.statements essential c
 
 -- the database was judged without a fault, and these marks are those of its theorems' citations in
 -- these columns
 pub record IsMatrixOf (essential with_open : Bool) (d : Contents) (columns : List ℕ) (m : Marks)
     : Type 0 where
   pub citations : Citing
-  pub judged : IsJudged essential with_open d citations
-  pub marked : IsMatrix citations columns m
+  pub is_judged : IsJudged essential with_open d citations
+  pub is_matrix : IsMatrix citations columns m
 
 -- the text has this first fault, or none, and then this database and these citations
 module _ {A : Type 0} where

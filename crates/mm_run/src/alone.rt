@@ -7,7 +7,7 @@ ghost use Rattle.mm_spec.specs.Ends.{Answers, reading_limit};
 ghost use Rattle.mm_run.specs.Counted.{IsJudged, IsJudgedText, IsReadFrom};
 
 use crate::RunEnd;
-use crate::judged::{JudgedText, judged_text};
+use crate::judged_text::{JudgedText, judged_text};
 use crate::output::{refuse, report_citations, report_rows, report_usage};
 use mm_database::Database;
 use mm_lex::lex_alone;
@@ -27,7 +27,7 @@ pub fn judge_alone<'a, A: Allocator + Copy>(
     essential: bool,
     with_open: bool,
 ) -> Result<JudgedText<'a, A>, AllocError>
-    requires few { length text.now ≤ reading_limit }
+    requires length_le_limit { length text.now ≤ reading_limit }
     ensures { IfOk result (IsJudgedText text.now essential with_open) }
 {
     let lexed = lex_alone(alloc, text)?;
@@ -101,7 +101,7 @@ pub(crate) fn answer_by_one<'a, A: Allocator + Copy, W: Write>(
     database: Database<'a, A>,
     to: &mut W,
 ) -> RunEnd
-    requires read { IsReadFrom text.now request.now.with_open database }
+    requires is_read { IsReadFrom text.now request.now.with_open database }
     ensures { Answers result text.now request.now (W.contents to.old) (W.contents to.new) }
 {
     match check_alone(alloc, &database, request.essential) {
@@ -121,7 +121,7 @@ pub fn answer_alone<A: Allocator + Copy, W: Write>(
     request: &Request<'_>,
     to: &mut W,
 ) -> RunEnd
-    requires few { length text.now ≤ reading_limit }
+    requires length_le_limit { length text.now ≤ reading_limit }
     ensures { Answers result text.now request.now (W.contents to.old) (W.contents to.new) }
 {
     match judge_alone(alloc, text, request.essential, request.with_open) {

@@ -9,8 +9,8 @@ use std::alloc::{AllocError, Allocator};
 
 /// How many places are within the length, up to the first that isn't.
 fn count_within(places: &[u32], len: usize) -> usize
-    ensures few { result ≤ length places.now }
-    ensures within { (i : ℕ) → i < result → slice_index places.now i ≤ len }
+    ensures count_le_length { result ≤ length places.now }
+    ensures places_le_len { (i : ℕ) → i < result → slice_index places.now i ≤ len }
 {
     for (i, place) in places.iter().enumerate() {
         if *place as usize > len {
@@ -27,7 +27,7 @@ pub fn cuts_of<A: Allocator + Copy>(
     alloc: A,
     len: usize,
 ) -> Result<Cuts<A>, AllocError>
-    requires lawful { IsLawfulCutting cutting.now }
+    requires is_lawful { IsLawfulCutting cutting.now }
     requires len { len ≤ 2 ^ 31 }
     ensures { IfOk result (λ cuts. cuts.len ≡ len) }
 {

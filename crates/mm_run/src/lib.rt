@@ -8,7 +8,7 @@
 mod alone;
 mod cuts;
 mod input;
-mod judged;
+mod judged_text;
 mod output;
 
 ghost use Rattle.mm_plan.specs.Plans.{IsLawfulPlan, request_of};
@@ -16,7 +16,7 @@ ghost use Rattle.mm_spec.specs.Ends.{Ends};
 
 pub use crate::alone::{answer_alone, judge_alone, write_judged};
 use crate::input::{ReadRefused, read_all};
-pub use crate::judged::JudgedText;
+pub use crate::judged_text::JudgedText;
 use crate::output::answer;
 use mm_plan::Plan;
 pub use mm_spec::RunEnd;

@@ -13,7 +13,7 @@ ghost use Rattle.mm_plan.specs.Plans.{IsLawfulPlan, request_of};
 use crate::RunEnd;
 use crate::alone::answer_by_one;
 use crate::cuts::cuts_of;
-use crate::judged::{JudgedText, judged_text};
+use crate::judged_text::{JudgedText, judged_text};
 use mm_database::Database;
 use mm_lex::lex;
 use mm_plan::Plan;
@@ -168,8 +168,8 @@ fn database_of<'a, R: Threads + Sync, A: Allocator + Copy + Send + Sync>(
     text: &'a [u8],
     plan: &Plan<A>,
 ) -> Result<Database<'a, A>, AllocError>
-    requires few { length text.now ≤ reading_limit }
-    requires lawful { IsLawfulPlan plan.now }
+    requires length_le_limit { length text.now ≤ reading_limit }
+    requires is_lawful { IsLawfulPlan plan.now }
     ensures { IfOk result (IsReadFrom text.now plan.now.with_open) }
 {
     let cuts = cuts_of(&plan.cuts, alloc, text.len())?;
@@ -186,8 +186,8 @@ pub fn answer<R: Threads + Wait + Sync, A: Allocator + Copy + Send + Sync, W: Wr
     plan: &Plan<A>,
     to: &mut W,
 ) -> RunEnd
-    requires few { length text.now ≤ reading_limit }
-    requires lawful { IsLawfulPlan plan.now }
+    requires length_le_limit { length text.now ≤ reading_limit }
+    requires is_lawful { IsLawfulPlan plan.now }
     ensures { Answers result text.now (request_of plan.now) (W.contents to.old)
         (W.contents to.new) }
 {

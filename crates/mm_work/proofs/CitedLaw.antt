@@ -16,121 +16,146 @@ use Rattle.mm_spec.proofs.CitedLaw.{cites_earlier, proof_theorem}
 use Rattle.mm_spec.proofs.ListLaw.{member_at}
 use Rattle.mm_cites.specs.Citing.{Citing, citing, HasCitation, IsStatementList, IsFileOrder}
 use Rattle.mm_cites.proofs.RisingLaw.{filter_rising}
-use Rattle.mm_work.specs.Judged.{IsCited, AreCitedUpTo, CitesAsDatabase}
+use Rattle.mm_work.specs.Judged.{HasCitations, HaveCitationsUpTo, CitesAsDatabase}
 
 -- a member of a list is its element at some index
 index_of_member : (xs : List ℕ) (x : ℕ) → is_member xs x ≡ true
     → (i : ℕ) × (i < length xs) × (get_or xs i 0 ≡ x)
-index_of_member [] x m = absurd (true≢false (sym m))
-index_of_member (y ∷ xs) x m = by_head (or_cases (x == y) (is_member xs x) m) (index_of_member xs x)
+index_of_member [] x x_is_member = absurd (true≢false (sym x_is_member))
+index_of_member (y ∷ xs) x x_is_member = by_head (or_cases (x == y) (is_member xs x) x_is_member)
+    (index_of_member xs x)
   where
     by_head : ((x == y) ≡ true) ⊎ (is_member xs x ≡ true)
         → (is_member xs x ≡ true → (i : ℕ) × (i < length xs) × (get_or xs i 0 ≡ x))
         → (i : ℕ) × (i < suc (length xs)) × (get_or (y ∷ xs) i 0 ≡ x)
-    by_head (inl e) r = (0, omega arith, sym (eqb-true x y e))
-    by_head (inr h) r = let k = r h in (suc k.0, (let l = k.1 in omega (arith, l)), k.2)
+    by_head (inl x_is_y) index_in_tail = (0, omega arith, sym (eqb-true x y x_is_y))
+    by_head (inr x_in_tail) index_in_tail = let in_tail = index_in_tail x_in_tail in (
+      suc in_tail.0,
+      (let index_lt_length = in_tail.1 in omega (arith, index_lt_length)),
+      in_tail.2,
+    )
 
-in_range : (n a x : ℕ) → a ≤ x → x < a + n → is_member (range_with_len a n) x ≡ true
-in_range zero a x l h = absurd (omega arith)
-in_range (suc n) a x l h =
-    by_start (cases_lt a x) (λ k. in_range n (a + 1) x (omega (arith, k)) (omega arith))
+member_of_range : (n a x : ℕ) → a ≤ x → x < a + n → is_member (range_with_len a n) x ≡ true
+member_of_range zero a x a_le_x x_lt_end = absurd (omega arith)
+member_of_range (suc n) a x a_le_x x_lt_end =
+    by_start (cases_lt a x) (λ a_lt_x. member_of_range n (a + 1) x (omega (arith, a_lt_x)) (omega
+    arith))
   where
     by_start : (a < x) ⊎ (x ≤ a) → (a < x → is_member (range_with_len (a + 1) n) x ≡ true)
         → is_member (range_with_len a (suc n)) x ≡ true
-    by_start (inl k) r = or_right (x == a) (is_member (range_with_len (a + 1) n) x) (r k)
-    by_start (inr k) r =
+    by_start (inl a_lt_x) in_rest = or_right (x == a) (is_member (range_with_len (a + 1) n) x)
+        (in_rest a_lt_x)
+    by_start (inr x_le_a) in_rest =
         or_left (x == a) (is_member (range_with_len (a + 1) n) x) (eq-eqb x a (omega arith))
 
 -- a theorem has an index in the list of theorems
 index_of_theorem : (db : List Statement) (t : ℕ) → is_theorem_at db t ≡ true
     → (i : ℕ) × (i < length (theorems db)) × (get_or (theorems db) i 0 ≡ t)
-index_of_theorem db t h =
-    let f = passing_statement db is_theorem t h in
+index_of_theorem db t t_is_theorem =
+    let passing = passing_statement db is_theorem t t_is_theorem in
     index_of_member (theorems db) t
     (filter_member (λ j. list_any is_theorem (statement_at db j))
-    (range_with_len 0 (length db)) t h
-    (in_range (length db) 0 t (omega arith)
-    (let l = inside_of db t f.0 f.1 in omega (arith, l))))
+    (range_with_len 0 (length db)) t t_is_theorem
+    (member_of_range (length db) 0 t (omega arith)
+    (let t_lt_length = inside_of db t passing.0 passing.1 in omega (arith, t_lt_length))))
 
 -- a theorem with citations is valid
-pub cited_valid : (db : List Statement) (by_essential : Bool) (t : ℕ) (cites : List ℕ)
-    → IsCited db by_essential t cites → IsValid db t
-cited_valid db by_essential t cites c = (c.read, c.checked.derivation, c.checked.proof)
+pub valid_if_has_citations : (db : List Statement) (by_essential : Bool) (t : ℕ) (cites : List ℕ)
+    → HasCitations db by_essential t cites → IsValid db t
+valid_if_has_citations db by_essential t cites has_citations = (
+  has_citations.read,
+  has_citations.checked.derivation,
+  has_citations.checked.proof,
+)
 
-module _ (db : List Statement) (few : length db < 2 ^ 31) (complete : AreComplete db) where
+module _ (db : List Statement) (length_lt_limit : length db < 2 ^ 31) (are_complete : AreComplete
+    db) where
   pub theorems_rise : IsStatementList (theorems db)
-  theorems_rise = filter_rising (λ j. list_any is_theorem (statement_at db j)) (length db) few
+  theorems_rise = filter_rising (λ j. list_any is_theorem (statement_at db j)) (length db)
+      length_lt_limit
 
   -- the theorems before theorem i are valid
   pub valid_before : (i : ℕ) → ((n : ℕ) → n < i → IsValid db (get_or (theorems db) n 0))
       → i < length (theorems db) → AreValid db (get_or (theorems db) i 0)
-  valid_before i h i_inside j k th =
-      let p = index_of_theorem db j th in
-      by_index p.0 p.1 p.2 (cases_lt p.0 i)
+  valid_before i valid_before_i i_lt_count j j_lt_theorem_i j_is_theorem =
+      let indexed = index_of_theorem db j j_is_theorem in
+      by_index indexed.0 indexed.1 indexed.2 (cases_lt indexed.0 i)
     where
       by_index : (n : ℕ) → n < length (theorems db) → get_or (theorems db) n 0 ≡ j
           → (n < i) ⊎ (i ≤ n)
           → IsValid db j
-      by_index n m e (inl s) = subst (λ t. IsValid db t) e (h n s)
-      by_index n m e (inr s) = absurd (not_later (cases_lt i n))
+      by_index n n_lt_count n_is_index_of_j (inl n_lt_i) = subst (λ t. IsValid db t) n_is_index_of_j
+          (valid_before_i n n_lt_i)
+      by_index n n_lt_count n_is_index_of_j (inr i_le_n) = absurd (not_later (cases_lt i n))
         where
           not_later : (i < n) ⊎ (n ≤ i) → ⊥
-          not_later (inl q) = let r = theorems_rise.rises i n q m in omega (arith, r, e, k)
-          not_later (inr q) =
-              let same : get_or (theorems db) n 0
+          not_later (inl i_lt_n) = let theorem_rises = theorems_rise.rises i n i_lt_n n_lt_count in
+              omega (arith, theorem_rises, n_is_index_of_j, j_lt_theorem_i)
+          not_later (inr n_le_i) =
+              let theorems_equal : get_or (theorems db) n 0
               ≡ get_or (theorems db) i 0 = ap (λ x. get_or (theorems db) x 0)
-              (let o : n ≡ i = omega (arith, s, q) in o) in
-              omega (arith, same, e, k)
+              (let n_is_i : n ≡ i = omega (arith, i_le_n, n_le_i) in n_is_i) in
+              omega (arith, theorems_equal, n_is_index_of_j, j_lt_theorem_i)
 
   -- all theorems are valid
   pub all_valid : (by_essential : Bool) (lists : List (List ℕ))
-      → AreCitedUpTo db by_essential (theorems db) (length (theorems db)) lists
+      → HaveCitationsUpTo db by_essential (theorems db) (length (theorems db)) lists
       → AreValid db (length db)
-  all_valid by_essential lists h j k th =
-      let p = index_of_theorem db j th in
-      subst (λ t. IsValid db t) p.2 (cited_valid db by_essential _ _ (h.each p.0 p.1))
+  all_valid by_essential lists have_citations j j_lt_length j_is_theorem =
+      let indexed = index_of_theorem db j j_is_theorem in
+      subst (λ t. IsValid db t) indexed.2 (valid_if_has_citations db by_essential _ _
+      (have_citations.each indexed.0 indexed.1))
 
   module _ (by_essential : Bool) (lists : List (List ℕ))
-      (are_cited_up_to : AreCitedUpTo db by_essential (theorems db) (length (theorems db)) lists)
+      (have_citations : HaveCitationsUpTo db by_essential (theorems db) (length (theorems db))
+      lists)
     where
       abbrev c : Citing
       c = citing (theorems db) lists
 
-      pub file_order : IsFileOrder c
-      file_order = record {
+      pub is_file_order : IsFileOrder c
+      is_file_order = record {
         rising = theorems_rise;
-        each = are_cited_up_to.count;
+        each = have_citations.list_count_is;
         earlier =
-            λ i k l m. cites_earlier db by_essential (get_or (theorems db) i 0) _
-            (((are_cited_up_to.each i l).checked.exact (get_or (get_or lists i []) k 0)).0
-            (member_at (get_or lists i []) k 0 m));
+            λ i k i_lt_count k_lt_length. cites_earlier db by_essential (get_or (theorems db) i 0) _
+            (((have_citations.each_has_citations i i_lt_count).is_checked.cites_are_exact (get_or
+            (get_or lists i []) k 0)).0
+            (member_at (get_or lists i []) k 0 k_lt_length));
       }
 
-      pub shows : CitesAsDatabase db by_essential c
-      shows = record { same = λ t a. ((to t a), (from t a)) }
+      pub cites_as_database : CitesAsDatabase db by_essential c
+      cites_as_database = record {
+        citations_agree = λ t a. (
+          (cites_if_has_citation t a),
+          (has_citation_if_cites t a),
+        );
+      }
         where
-          to : (t a : ℕ) → HasCitation c t a → proof.Cites db by_essential t a
-          to t a has_citation =
+          cites_if_has_citation : (t a : ℕ) → HasCitation c t a → proof.Cites db by_essential t a
+          cites_if_has_citation t a has_citation =
               let l = get_or lists has_citation.row [] in
               let b = get_or l has_citation.list_index 0 in
               subst (λ y. proof.Cites db by_essential t y) has_citation.cited
               (subst (λ y. proof.Cites db by_essential y b) has_citation.theorem
-              (((are_cited_up_to.each has_citation.row has_citation.within).checked.exact b).0
+              (((have_citations.each_has_citations has_citation.row
+              has_citation.within).is_checked.cites_are_exact b).0
               (member_at l has_citation.list_index 0 has_citation.listed)))
 
-          from : (t a : ℕ) → proof.Cites db by_essential t a → HasCitation c t a
-          from t a x =
-              let p = index_of_theorem db t (proof_theorem db t x.1 x.2) in
-              let l = get_or lists p.0 [] in
-              let m : is_member l a ≡ true =
-              ((are_cited_up_to.each p.0 p.1).checked.exact a).1
-              (subst (λ y. proof.Cites db by_essential y a) (sym p.2) x) in
-              let q = index_of_member l a m in
+          has_citation_if_cites : (t a : ℕ) → proof.Cites db by_essential t a → HasCitation c t a
+          has_citation_if_cites t a cites_a =
+              let indexed = index_of_theorem db t (proof_theorem db t cites_a.1 cites_a.2) in
+              let l = get_or lists indexed.0 [] in
+              let a_is_member : is_member l a ≡ true =
+              ((have_citations.each_has_citations indexed.0 indexed.1).is_checked.cites_are_exact
+              a).1
+              (subst (λ y. proof.Cites db by_essential y a) (sym indexed.2) cites_a) in
+              let member_index = index_of_member l a a_is_member in
               record {
-                row = p.0;
-                list_index = q.0;
-                within = p.1;
-                listed = q.1;
-                theorem = p.2;
-                cited = q.2;
+                row = indexed.0;
+                list_index = member_index.0;
+                within = indexed.1;
+                listed = member_index.1;
+                theorem = indexed.2;
+                cited = member_index.2;
               }

@@ -10,200 +10,236 @@ use Rattle.mm_spec.specs.Statement.{Statement}
 use Rattle.mm_work.specs.declared.merge.ListPosition.{ListPosition}
 use Rattle.mm_work.specs.declared.worker.Findings.{Findings}
 use Rattle.mm_work.specs.Positions.{IsWithWorker, HasPosition}
-use Rattle.mm_work.specs.Judged.{IsCited}
+use Rattle.mm_work.specs.Judged.{HasCitations}
 use Rattle.mm_work.specs.Workers.{IsFoundValid, AreFindings, theorem_of}
 
 -- the element at an index that was set is the new one
 set_at_index : {X : Type 0} (xs : List X) (i : ℕ) (x : X) → i < length xs
     → slice_get (slice_set xs i x) i ≡ Some x
-set_at_index [] i x l = absurd (omega arith)
-set_at_index (y ∷ xs) zero x l = refl
-set_at_index (y ∷ xs) (suc i) x l = set_at_index xs i x (omega arith)
+set_at_index [] i x i_lt_length = absurd (omega arith)
+set_at_index (y ∷ xs) zero x i_lt_length = refl
+set_at_index (y ∷ xs) (suc i) x i_lt_length = set_at_index xs i x (omega arith)
 
 -- the elements at other indices are as they were
 others_unchanged : {X : Type 0} (xs : List X) (i j : ℕ) (x : X) → j ≢ i
     → slice_get (slice_set xs i x) j ≡ slice_get xs j
-others_unchanged [] i j x n = refl
-others_unchanged (y ∷ xs) zero zero x n = absurd (n refl)
-others_unchanged (y ∷ xs) zero (suc j) x n = refl
-others_unchanged (y ∷ xs) (suc i) zero x n = refl
-others_unchanged (y ∷ xs) (suc i) (suc j) x n = others_unchanged xs i j x (λ e. n (ap suc e))
+others_unchanged [] i j x indices_differ = refl
+others_unchanged (y ∷ xs) zero zero x indices_differ = absurd (indices_differ refl)
+others_unchanged (y ∷ xs) zero (suc j) x indices_differ = refl
+others_unchanged (y ∷ xs) (suc i) zero x indices_differ = refl
+others_unchanged (y ∷ xs) (suc i) (suc j) x indices_differ = others_unchanged xs i j x (λ
+    indices_equal. indices_differ (ap suc indices_equal))
 
 -- if a theorem's position is as it was, its citations are with the same worker
-pub same_worker : (old new : List ListPosition) (worker : ℕ) (valid : List ℕ) (i : ℕ)
-    → slice_get new i ≡ slice_get old i → IsWithWorker old worker valid i
-    → IsWithWorker new worker valid i
-same_worker old new worker valid i e with_worker =
+pub still_with_worker : (positions positions' : List ListPosition) (worker : ℕ) (valid : List ℕ) (i
+    : ℕ)
+    → slice_get positions' i ≡ slice_get positions i → IsWithWorker positions worker valid i
+    → IsWithWorker positions' worker valid i
+still_with_worker positions positions' worker valid i position_stays is_with_worker =
     record {
-      position = with_worker.position;
-      position_is = e ∙ with_worker.position_is;
-      worker_is = with_worker.worker_is;
-      within = with_worker.within;
-      index_is = with_worker.index_is;
+      position = is_with_worker.position;
+      position_is = position_stays ∙ is_with_worker.position_is;
+      worker_is = is_with_worker.worker_is;
+      list_lt_length = is_with_worker.list_lt_length;
+      index_is = is_with_worker.index_is;
     }
 
-module _ (first old : List ListPosition) (worker : ℕ) (valid : List ℕ) (k x : ℕ)
+module _ (first_positions positions : List ListPosition) (worker : ℕ) (valid : List ℕ) (k x : ℕ)
     (position : ListPosition)
-    (index : get_or valid k 0 ≡ x) (inside : x < length old) (within : k < length valid)
+    (x_is_at_k : get_or valid k 0 ≡ x) (x_lt_length : x < length positions) (k_lt_length : k <
+    length valid)
     (worker_is : position.worker ≡ worker) (list_is : position.list ≡ k) where
-  abbrev new : List ListPosition
-  new = slice_set old x position
+  abbrev positions' : List ListPosition
+  positions' = slice_set positions x position
 
-  with_worker_at_index : IsWithWorker new worker valid x
-  with_worker_at_index =
+  is_with_worker_at_index : IsWithWorker positions' worker valid x
+  is_with_worker_at_index =
       record {
         position = position;
-        position_is = set_at_index old x position inside;
+        position_is = set_at_index positions x position x_lt_length;
         worker_is = worker_is;
-        within = subst (λ n. n < length valid) (sym list_is) within;
-        index_is = ap (λ n. get_or valid n 0) list_is ∙ index;
+        list_lt_length = subst (λ n. n < length valid) (sym list_is) k_lt_length;
+        index_is = ap (λ n. get_or valid n 0) list_is ∙ x_is_at_k;
       }
 
-  pub with_worker_more : ((q : ℕ) → q < k → IsWithWorker old worker valid (get_or valid q 0))
+  pub with_worker_before_next : ((q : ℕ) → q < k → IsWithWorker positions worker valid (get_or valid
+      q 0))
       → (q : ℕ)
-      → q < k + 1 → IsWithWorker new worker valid (get_or valid q 0)
-  with_worker_more h q l = by_index (cases_eq (get_or valid q 0) x)
+      → q < k + 1 → IsWithWorker positions' worker valid (get_or valid q 0)
+  with_worker_before_next with_worker_before q q_lt_suc_k = by_index (cases_eq (get_or valid q 0) x)
     where
       by_index : (get_or valid q 0 ≡ x) ⊎ (get_or valid q 0 ≡ x → ⊥)
-          → IsWithWorker new worker valid (get_or valid q 0)
-      by_index (inl e) = subst (λ i. IsWithWorker new worker valid i) (sym e) with_worker_at_index
-      by_index (inr n) = by_order (cases_lt q k)
+          → IsWithWorker positions' worker valid (get_or valid q 0)
+      by_index (inl index_is_x) = subst (λ i. IsWithWorker positions' worker valid i) (sym
+          index_is_x) is_with_worker_at_index
+      by_index (inr index_is_not_x) = by_order (cases_lt q k)
         where
-          by_order : (q < k) ⊎ (k ≤ q) → IsWithWorker new worker valid (get_or valid q 0)
-          by_order (inl b) =
-              same_worker old new worker valid (get_or valid q 0)
-              (others_unchanged old x (get_or valid q 0) position n) (h q b)
-          by_order (inr b) =
-              absurd (n (ap (λ j. get_or valid j 0) (let e : q ≡ k = omega arith in e) ∙ index))
+          by_order : (q < k) ⊎ (k ≤ q) → IsWithWorker positions' worker valid (get_or valid q 0)
+          by_order (inl q_lt_k) =
+              still_with_worker positions positions' worker valid (get_or valid q 0)
+              (others_unchanged positions x (get_or valid q 0) position index_is_not_x)
+              (with_worker_before q q_lt_k)
+          by_order (inr k_le_q) =
+              absurd (index_is_not_x (ap (λ j. get_or valid j 0) (let q_is_k : q
+              ≡ k = omega arith in q_is_k) ∙ x_is_at_k))
 
-  pub others_more : ((i : ℕ) → IsWithWorker old worker valid i
-      ⊎ (slice_get old i ≡ slice_get first i))
-      → (i : ℕ) → IsWithWorker new worker valid i ⊎ (slice_get new i ≡ slice_get first i)
-  others_more h i = by_index (cases_eq i x)
+  pub others_stay_or_with_worker : ((i : ℕ) → IsWithWorker positions worker valid i
+      ⊎ (slice_get positions i ≡ slice_get first_positions i))
+      → (i : ℕ) → IsWithWorker positions' worker valid i ⊎ (slice_get positions' i
+      ≡ slice_get first_positions i)
+  others_stay_or_with_worker others_stay i = by_index (cases_eq i x)
     where
       by_index : (i ≡ x) ⊎ (i ≡ x → ⊥)
-          → IsWithWorker new worker valid i ⊎ (slice_get new i ≡ slice_get first i)
-      by_index (inl e) =
-          inl (subst (λ j. IsWithWorker new worker valid j) (sym e) with_worker_at_index)
-      by_index (inr n) = by_old (h i)
+          → IsWithWorker positions' worker valid i ⊎ (slice_get positions' i
+          ≡ slice_get first_positions i)
+      by_index (inl i_is_x) =
+          inl (subst (λ j. IsWithWorker positions' worker valid j) (sym i_is_x)
+          is_with_worker_at_index)
+      by_index (inr i_is_not_x) = by_position (others_stay i)
         where
-          by_old : IsWithWorker old worker valid i ⊎ (slice_get old i ≡ slice_get first i)
-              → IsWithWorker new worker valid i ⊎ (slice_get new i ≡ slice_get first i)
-          by_old (inl o) =
-              inl (same_worker old new worker valid i (others_unchanged old x i position n) o)
-          by_old (inr e) = inr (others_unchanged old x i position n ∙ e)
+          by_position : IsWithWorker positions worker valid i ⊎ (slice_get positions i
+              ≡ slice_get first_positions i)
+              → IsWithWorker positions' worker valid i ⊎ (slice_get positions' i
+              ≡ slice_get first_positions i)
+          by_position (inl was_with_worker) =
+              inl (still_with_worker positions positions' worker valid i (others_unchanged positions
+              x i position i_is_not_x) was_with_worker)
+          by_position (inr position_stays) = inr (others_unchanged positions x i position i_is_not_x
+              ∙ position_stays)
 
 module _ {A : Type 0} (fs : List (Findings A)) where
   -- after the positions of worker w were set, everything that the workers up to w found
   -- valid has a position
-  pub has_position_more : (old new : List ListPosition) (w : ℕ) (one : Findings A)
-      → slice_get fs w ≡ Some one
-      → ((i : ℕ) → Contains one.valid.items i → IsWithWorker new w one.valid.items i)
-      → ((i : ℕ) → IsWithWorker new w one.valid.items i ⊎ (slice_get new i ≡ slice_get old i))
+  pub has_position_up_to_next : (positions positions' : List ListPosition) (w : ℕ) (findings :
+      Findings A)
+      → slice_get fs w ≡ Some findings
+      → ((i : ℕ) → Contains findings.valid.items i → IsWithWorker positions' w findings.valid.items
+      i)
+      → ((i : ℕ) → IsWithWorker positions' w findings.valid.items i ⊎ (slice_get positions' i
+      ≡ slice_get positions i))
       → ((v : ℕ) (f : Findings A) (i : ℕ) → v < w → slice_get fs v ≡ Some f → Contains
       f.valid.items i
-      → HasPosition old fs i)
+      → HasPosition positions fs i)
       → (v : ℕ) (f : Findings A) (i : ℕ) → v < w + 1 → slice_get fs v ≡ Some f
-      → Contains f.valid.items i → HasPosition new fs i
-  has_position_more old new w one is with_worker others h v f i l e m = by_worker (cases_lt v w)
+      → Contains f.valid.items i → HasPosition positions' fs i
+  has_position_up_to_next positions positions' w findings findings_are is_with_worker others_stay
+      has_position_before v f i v_lt_suc_w f_is_at_v is_in_f = by_worker (cases_lt v w)
     where
-      of_this_worker : IsWithWorker new w one.valid.items i → HasPosition new fs i
-      of_this_worker n = record { worker = w; found = one; found_is = is; with_worker = n }
+      has_position_here : IsWithWorker positions' w findings.valid.items i
+          → HasPosition positions' fs i
+      has_position_here with_this = record {
+        worker = w;
+        findings = findings;
+        findings_are =
+            findings_are;
+        is_with_worker = with_this;
+      }
 
-      by_worker : (v < w) ⊎ (w ≤ v) → HasPosition new fs i
-      by_worker (inl b) = by_old_position (h v f i b e m) (others i)
+      by_worker : (v < w) ⊎ (w ≤ v) → HasPosition positions' fs i
+      by_worker (inl v_lt_w) = by_earlier_position (has_position_before v f i v_lt_w f_is_at_v
+          is_in_f) (others_stay i)
         where
-          by_old_position : HasPosition old fs i
-              → IsWithWorker new w one.valid.items i ⊎ (slice_get new i ≡ slice_get old i)
-              → HasPosition new fs i
-          by_old_position o (inl n) = of_this_worker n
-          by_old_position has_position (inr s) =
+          by_earlier_position : HasPosition positions fs i
+              → IsWithWorker positions' w findings.valid.items i ⊎ (slice_get positions' i
+              ≡ slice_get positions i)
+              → HasPosition positions' fs i
+          by_earlier_position has_position (inl with_this) = has_position_here with_this
+          by_earlier_position has_position (inr position_stays) =
               record {
                 worker = has_position.worker;
-                found = has_position.found;
-                found_is = has_position.found_is;
-                with_worker =
-                    same_worker old new has_position.worker has_position.found.valid.items i s
-                    has_position.with_worker;
+                findings = has_position.findings;
+                findings_are = has_position.findings_are;
+                is_with_worker =
+                    still_with_worker positions positions' has_position.worker
+                    has_position.findings.valid.items i position_stays
+                    has_position.is_with_worker;
               }
-      by_worker (inr b) =
-          let same : v ≡ w = omega arith in
-          let found : f ≡ one =
-          sym (get_or_from_slice_get fs v f one e) ∙ ap (λ n. get_or fs n one) same
-          ∙ get_or_from_slice_get fs w one one is in
-          of_this_worker (with_worker i (subst
-          (λ (g : Findings A). Contains g.valid.items i) found m))
+      by_worker (inr w_le_v) =
+          let v_is_w : v ≡ w = omega arith in
+          let f_is : f ≡ findings =
+          sym (get_or_from_slice_get fs v f findings f_is_at_v)
+          ∙ ap (λ n. get_or fs n findings) v_is_w
+          ∙ get_or_from_slice_get fs w findings findings findings_are in
+          has_position_here (is_with_worker i (subst
+          (λ (g : Findings A). Contains g.valid.items i) f_is is_in_f))
 
   -- what was found valid has a position
-  pub has_position_all : (positions : List ListPosition)
+  pub every_valid_has_position : (positions : List ListPosition)
       → ((v : ℕ) (f : Findings A) (i : ℕ) → v < length fs → slice_get fs v ≡ Some f
       → Contains f.valid.items i → HasPosition positions fs i)
       → (i : ℕ) → IsFoundValid fs i → HasPosition positions fs i
-  has_position_all positions h i r =
-      h r.1.0 r.0 i r.1.1 (slice_get-get_or fs r.1.0 r.0 r.1.1 ∙ ap Some r.1.2) r.2
+  every_valid_has_position positions has_position i is_found_valid =
+      has_position is_found_valid.1.0 is_found_valid.0 i is_found_valid.1.1 (slice_get-get_or fs
+      is_found_valid.1.0 is_found_valid.0 is_found_valid.1.1 ∙ ap Some is_found_valid.1.2)
+      is_found_valid.2
 
 -- a list written back whole
-pub written_back : {X : Type 0} (len : ℕ) (new old : List X) → length new ≡ len
-    → take len (new ++ drop (length new) old) ≡ new
-written_back len new old e =
-    subst (λ n. take n (new ++ drop (length new) old) ≡ new) e
-    (take-append_seam new (drop (length new) old))
+pub written_back : {X : Type 0} (len : ℕ) (new_list old_list : List X) → length new_list ≡ len
+    → take len (new_list ++ drop (length new_list) old_list) ≡ new_list
+written_back len new_list old_list length_is =
+    subst (λ n. take n (new_list ++ drop (length new_list) old_list) ≡ new_list) length_is
+    (take-append_seam new_list (drop (length new_list) old_list))
 
 module _ {A : Type 0} (db : List Statement) (by_essential : Bool) (fs : List (Findings A))
-    (found : All (AreFindings db by_essential) fs) (ps qs : List ListPosition) (k : ℕ)
+    (each_are_findings : All (AreFindings db by_essential) fs) (ps qs : List ListPosition) (k : ℕ)
     (d : ListPosition)
-    (same : qs ≡ ps) (has_position : HasPosition ps fs k) where
+    (lists_equal : qs ≡ ps) (has_position : HasPosition ps fs k) where
   -- the place that is read
-  abbrev p : ListPosition
-  p = get_or qs k d
+  abbrev position : ListPosition
+  position = get_or qs k d
 
-  is : p ≡ has_position.with_worker.position
-  is =
-      ap (λ (l : List ListPosition). get_or l k d) same
-      ∙ get_or_from_slice_get ps k has_position.with_worker.position d
-      has_position.with_worker.position_is
+  position_is : position ≡ has_position.is_with_worker.position
+  position_is =
+      ap (λ (l : List ListPosition). get_or l k d) lists_equal
+      ∙ get_or_from_slice_get ps k has_position.is_with_worker.position d
+      has_position.is_with_worker.position_is
 
-  worker : p.worker ≡ has_position.worker
-  worker = ap (λ (q : ListPosition). q.worker) is ∙ has_position.with_worker.worker_is
+  worker_is : position.worker ≡ has_position.worker
+  worker_is = ap (λ (q : ListPosition). q.worker) position_is
+      ∙ has_position.is_with_worker.worker_is
 
-  pub worker_within : p.worker < length fs
-  worker_within =
-      subst (λ n. n < length fs) (sym worker)
-      (slice_get_within fs has_position.worker has_position.found has_position.found_is)
+  pub worker_lt_length : position.worker < length fs
+  worker_lt_length =
+      subst (λ n. n < length fs) (sym worker_is)
+      (slice_get_within fs has_position.worker has_position.findings has_position.findings_are)
 
-  pub found_there : (e : Findings A) → get_or fs p.worker e ≡ has_position.found
-  found_there e =
-      ap (λ n. get_or fs n e) worker
-      ∙ get_or_from_slice_get fs has_position.worker has_position.found e has_position.found_is
+  pub findings_at_worker : (e : Findings A) → get_or fs position.worker e ≡ has_position.findings
+  findings_at_worker e =
+      ap (λ n. get_or fs n e) worker_is
+      ∙ get_or_from_slice_get fs has_position.worker has_position.findings e
+      has_position.findings_are
 
-  are_found : AreFindings db by_essential has_position.found
-  are_found =
-      subst (λ (f : Findings A). AreFindings db by_essential f) (found_there has_position.found)
-      (found p.worker has_position.found worker_within)
+  has_findings : AreFindings db by_essential has_position.findings
+  has_findings =
+      subst (λ (f : Findings A). AreFindings db by_essential f) (findings_at_worker
+      has_position.findings)
+      (each_are_findings position.worker has_position.findings worker_lt_length)
 
-  list_index_within : p.list < length has_position.found.valid.items
-  list_index_within =
-      subst (λ (q : ListPosition). q.list < length has_position.found.valid.items) (sym is)
-      has_position.with_worker.within
+  list_lt_valid_length : position.list < length has_position.findings.valid.items
+  list_lt_valid_length =
+      subst (λ (q : ListPosition). q.list < length has_position.findings.valid.items) (sym
+      position_is)
+      has_position.is_with_worker.list_lt_length
 
-  pub list_within : (f : Findings A) → f ≡ has_position.found → p.list < length f.cites
-  list_within f e =
-      subst (λ (g : Findings A). p.list < length g.cites) (sym e)
-      (subst (λ n. p.list < n) (sym are_found.count) list_index_within)
+  pub list_lt_cites_length : (f : Findings A) → f ≡ has_position.findings
+      → position.list < length f.cites
+  list_lt_cites_length f f_is =
+      subst (λ (g : Findings A). position.list < length g.cites) (sym f_is)
+      (subst (λ n. position.list < n) (sym has_findings.list_count_is) list_lt_valid_length)
 
-  pub list_cited : (f : Findings A) (list : List ℕ) → f ≡ has_position.found → list
-      ≡ get_or f.cites p.list []
-      → IsCited db by_essential (theorem_of db k) list
-  list_cited f list f_is list_is =
-      let index : get_or has_position.found.valid.items p.list 0 ≡ k =
-      ap (λ (q : ListPosition). get_or has_position.found.valid.items q.list 0) is
-      ∙ has_position.with_worker.index_is in
-      let one =
-      subst (λ i. IsCited db by_essential (theorem_of db i)
-      (get_or has_position.found.cites p.list [])) index
-      (are_found.each p.list list_index_within) in
-      subst (λ (xs : List ℕ). IsCited db by_essential (theorem_of db k) xs)
-      (sym (list_is ∙ ap (λ (g : Findings A). get_or g.cites p.list []) f_is)) one
+  pub list_has_citations : (f : Findings A) (list : List ℕ) → f ≡ has_position.findings → list
+      ≡ get_or f.cites position.list []
+      → HasCitations db by_essential (theorem_of db k) list
+  list_has_citations f list f_is list_is =
+      let index_is : get_or has_position.findings.valid.items position.list 0 ≡ k =
+      ap (λ (q : ListPosition). get_or has_position.findings.valid.items q.list 0) position_is
+      ∙ has_position.is_with_worker.index_is in
+      let has_citations =
+      subst (λ i. HasCitations db by_essential (theorem_of db i)
+      (get_or has_position.findings.cites position.list [])) index_is
+      (has_findings.each_has_citations position.list list_lt_valid_length) in
+      subst (λ (xs : List ℕ). HasCitations db by_essential (theorem_of db k) xs)
+      (sym (list_is ∙ ap (λ (g : Findings A). get_or g.cites position.list []) f_is)) has_citations
 
-pub at_most_of_less : {m n : ℕ} → m < n → m ≤ n
-at_most_of_less l = omega (arith, l)
+pub le_of_lt : {m n : ℕ} → m < n → m ≤ n
+le_of_lt m_lt_n = omega (arith, m_lt_n)

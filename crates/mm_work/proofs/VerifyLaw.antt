@@ -10,63 +10,82 @@ use Rattle.mm_spec.specs.Output.{theorems}
 use Rattle.mm_spec.specs.declared.Fault.{Fault}
 use Rattle.mm_proof.proofs.TheoremsLaw.{theorems_are}
 use Rattle.mm_cites.specs.Citing.{citing, IsFileOrder}
-use Rattle.mm_work.specs.Judged.{IsCited, AreCitedUpTo, AllCited, IsFirstFault, HasFault}
-use Rattle.mm_work.proofs.CitedLaw.{cited_valid, valid_before, all_valid, file_order, shows}
+use Rattle.mm_work.specs.Judged.{HasCitations, HaveCitationsUpTo, AllHaveCitations, IsFirstFault}
+use Rattle.mm_work.specs.Judged.{HasFault}
+use Rattle.mm_work.proofs.CitedLaw.{valid_if_has_citations, valid_before, all_valid, is_file_order}
+use Rattle.mm_work.proofs.CitedLaw.{cites_as_database}
 
 -- the citations of one more theorem, appended
-pub cited_more : (db : List Statement) (by_essential : Bool) (ts : List ℕ) (n : ℕ)
+pub citations_push : (db : List Statement) (by_essential : Bool) (ts : List ℕ) (n : ℕ)
     → (lists : List (List ℕ)) (cites : List ℕ)
-    → AreCitedUpTo db by_essential ts n lists → IsCited db by_essential (get_or ts n 0) cites
-    → AreCitedUpTo db by_essential ts (n + 1) (lists ++ cites ∷ [])
-cited_more db by_essential ts n lists cites are_cited_up_to is_cited = record {
-  count = (let l = length-append lists (cites ∷ []) in let c = are_cited_up_to.count in
-      omega (arith, l, c));
-  each = λ i l. by_index i (cases_lt i n) l;
+    → HaveCitationsUpTo db by_essential ts n lists → HasCitations db by_essential (get_or ts n 0)
+    cites
+    → HaveCitationsUpTo db by_essential ts (n + 1) (lists ++ cites ∷ [])
+citations_push db by_essential ts n lists cites have_citations has_citations = record {
+  list_count_is = (let length_is = length-append lists (cites ∷ []) in let count_is =
+      have_citations.list_count_is in
+      omega (arith, length_is, count_is));
+  each_has_citations = λ i i_lt_suc_n. by_index i (cases_lt i n) i_lt_suc_n;
 }
   where
     by_index : (i : ℕ) → (i < n) ⊎ (n ≤ i) → i < n + 1
-        → IsCited db by_essential (get_or ts i 0) (get_or (lists ++ cites ∷ []) i [])
-    by_index i (inl l) m =
-        let c = are_cited_up_to.count in
-        subst (λ ys. IsCited db by_essential (get_or ts i 0) ys)
-        (sym (get_or_append_left lists (cites ∷ []) [] i (omega (arith, l, c))))
-        (are_cited_up_to.each i l)
-    by_index i (inr l) m =
-        let i_is_n : i ≡ n = omega (arith, l, m) in
+        → HasCitations db by_essential (get_or ts i 0) (get_or (lists ++ cites ∷ []) i [])
+    by_index i (inl i_lt_n) i_lt_suc_n =
+        let list_count_is = have_citations.list_count_is in
+        subst (λ ys. HasCitations db by_essential (get_or ts i 0) ys)
+        (sym (get_or_append_left lists (cites ∷ []) [] i (omega (arith, i_lt_n, list_count_is))))
+        (have_citations.each_has_citations i i_lt_n)
+    by_index i (inr n_le_i) i_lt_suc_n =
+        let i_is_n : i ≡ n = omega (arith, n_le_i, i_lt_suc_n) in
         let cites_at_n : get_or (lists ++ cites ∷ []) n [] ≡ cites =
-        get_or-append_right lists (cites ∷ []) n n [] are_cited_up_to.count (omega arith)
-        ∙ ap (λ j. get_or (cites ∷ []) j []) (zero-of n) in
-        subst (λ j. IsCited db by_essential (get_or ts j 0) (get_or (lists ++ cites ∷ []) j []))
-        (sym i_is_n) (subst (λ ys. IsCited db by_essential (get_or ts n 0) ys)
-        (sym cites_at_n) is_cited)
+        get_or-append_right lists (cites ∷ []) n n [] have_citations.list_count_is (omega arith)
+        ∙ ap (λ j. get_or (cites ∷ []) j []) (difference_is_0 n) in
+        subst (λ j. HasCitations db by_essential (get_or ts j 0) (get_or (lists ++ cites ∷ []) j
+        []))
+        (sym i_is_n) (subst (λ ys. HasCitations db by_essential (get_or ts n 0) ys)
+        (sym cites_at_n) has_citations)
       where
-        zero-of : (k : ℕ) → k - k ≡ 0
-        zero-of k = omega arith
+        difference_is_0 : (k : ℕ) → k - k ≡ 0
+        difference_is_0 k = omega arith
 
-module _ (db : List Statement) (few : length db < 2 ^ 31) (complete : AreComplete db) where
+module _ (db : List Statement) (length_lt_limit : length db < 2 ^ 31) (are_complete : AreComplete
+    db) where
   -- a fault after valid proofs alone is the first fault
-  pub first_fault : (i : ℕ) (f : Fault) → ((n : ℕ) → n < i → IsValid db (get_or (theorems db) n 0))
+  pub is_first_fault : (i : ℕ) (f : Fault) → ((n : ℕ) → n < i
+      → IsValid db (get_or (theorems db) n 0))
       → i < length (theorems db) → HasFault db (get_or (theorems db) i 0) f → IsFirstFault db f
-  first_fault i f h l p =
-      (get_or (theorems db) i 0, (theorems_are db i 0 l, valid_before db few complete i h l, p))
+  is_first_fault i f are_valid_before i_lt_count has_fault = (
+    get_or (theorems db) i 0,
+    (
+      theorems_are db i 0 i_lt_count,
+      valid_before db length_lt_limit
+          are_complete i are_valid_before i_lt_count,
+      has_fault,
+    ),
+  )
 
-  pub cited_before : (by_essential : Bool) (i : ℕ) (lists : List (List ℕ))
-      → AreCitedUpTo db by_essential (theorems db) i lists → (n : ℕ) → n < i
+  pub valid_if_cited : (by_essential : Bool) (i : ℕ) (lists : List (List ℕ))
+      → HaveCitationsUpTo db by_essential (theorems db) i lists → (n : ℕ) → n < i
       → IsValid db (get_or (theorems db) n 0)
-  cited_before by_essential i lists h n l = cited_valid db by_essential _ _ (h.each n l)
+  valid_if_cited by_essential i lists have_citations n n_lt_i = valid_if_has_citations db
+      by_essential _ _ (have_citations.each_has_citations n n_lt_i)
 
-  pub all_cited : (by_essential : Bool) (ts : List ℕ) (lists : List (List ℕ)) → ts ≡ theorems db
-      → AreCitedUpTo db by_essential (theorems db) (length (theorems db)) lists
-      → IsFileOrder (citing ts lists) × AllCited db by_essential (citing ts lists)
-  all_cited by_essential ts lists ts_is are_cited_up_to =
+  pub all_have_citations : (by_essential : Bool) (ts : List ℕ) (lists : List (List ℕ)) → ts
+      ≡ theorems db
+      → HaveCitationsUpTo db by_essential (theorems db) (length (theorems db)) lists
+      → IsFileOrder (citing ts lists) × AllHaveCitations db by_essential (citing ts lists)
+  all_have_citations by_essential ts lists ts_is have_citations =
       subst (λ (us : List ℕ). IsFileOrder (citing us lists)
-      × AllCited db by_essential (citing us lists)) (sym ts_is) (
-        file_order db few complete by_essential lists are_cited_up_to,
+      × AllHaveCitations db by_essential (citing us lists)) (sym ts_is) (
+        is_file_order db length_lt_limit are_complete by_essential lists have_citations,
         record {
           theorems_are = refl;
-          valid = all_valid db few complete by_essential lists are_cited_up_to;
-          rising = λ i l. (are_cited_up_to.each i l).checked.rising;
-          exact = λ i l. (are_cited_up_to.each i l).checked.exact;
-          shows = shows db few complete by_essential lists are_cited_up_to;
+          are_valid = all_valid db length_lt_limit are_complete by_essential lists have_citations;
+          lists_rise = λ i i_lt_count. (have_citations.each_has_citations i
+              i_lt_count).is_checked.cites_rise;
+          lists_are_exact = λ i i_lt_count. (have_citations.each_has_citations i
+              i_lt_count).is_checked.cites_are_exact;
+          cites_as_database = cites_as_database db length_lt_limit are_complete by_essential lists
+              have_citations;
         },
       )

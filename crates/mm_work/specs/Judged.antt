@@ -16,31 +16,31 @@ use Rattle.mm_work.specs.declared.judged.Judged.{Judged}
 use Rattle.mm_work.specs.declared.judged.Judged.TheVariants.{Valid, Faulty}
 
 -- these are the citations of a valid theorem
-pub record IsCited (db : List Statement) (by_essential : Bool) (t : ℕ)
+pub record HasCitations (db : List Statement) (by_essential : Bool) (t : ℕ)
     (cites : List ℕ) : Type 0 where
-  pub read : reading_faults_at db t ≡ []
-  pub checked : IsChecked db by_essential t cites
+  pub no_reading_faults : reading_faults_at db t ≡ []
+  pub is_checked : IsChecked db by_essential t cites
 
 -- the first `n` theorems are valid, with these citations
-pub record AreCitedUpTo (db : List Statement) (by_essential : Bool) (ts : List ℕ) (n : ℕ)
+pub record HaveCitationsUpTo (db : List Statement) (by_essential : Bool) (ts : List ℕ) (n : ℕ)
     (lists : List (List ℕ)) : Type 0 where
-  pub count : length lists ≡ n
-  pub each : (i : ℕ) → i < n
-      → IsCited db by_essential (slice_index ts i) (slice_index_or lists i [])
+  pub list_count_is : length lists ≡ n
+  pub each_has_citations : (i : ℕ) → i < n
+      → HasCitations db by_essential (slice_index ts i) (slice_index_or lists i [])
 
 -- the lists are what the theorems of a database cite
 pub record CitesAsDatabase (db : List Statement) (by_essential : Bool) (c : Citing) : Type 0 where
-  pub same : (t a : ℕ) → HasCitation c t a ↔ proof.Cites db by_essential t a
+  pub citations_agree : (t a : ℕ) → HasCitation c t a ↔ proof.Cites db by_essential t a
 
 -- all theorems are valid, and these are their citations, each list in ascending order, with each
 -- assertion once
-pub record AllCited (db : List Statement) (by_essential : Bool) (c : Citing) : Type 0 where
+pub record AllHaveCitations (db : List Statement) (by_essential : Bool) (c : Citing) : Type 0 where
   pub theorems_are : c.theorems ≡ theorems db
-  pub valid : AreValid db (length db)
-  pub rising : (i : ℕ) → i < length c.theorems → IsStrictlyIncreasing (list_at c i)
-  pub exact : (i : ℕ) → i < length c.theorems → (a : ℕ)
+  pub are_valid : AreValid db (length db)
+  pub lists_rise : (i : ℕ) → i < length c.theorems → IsStrictlyIncreasing (list_at c i)
+  pub lists_are_exact : (i : ℕ) → i < length c.theorems → (a : ℕ)
       → Decides (is_member (list_at c i) a) (proof.Cites db by_essential (theorem_at c i) a)
-  pub shows : CitesAsDatabase db by_essential c
+  pub cites_as_database : CitesAsDatabase db by_essential c
 
 -- the proof of some theorem has this fault, and those of the earlier ones have none
 abbrev pub IsFirstFault : List Statement → Fault → Type 0
@@ -58,5 +58,5 @@ IsRefusalOf db t Memory = Unit {0}
 -- what was found: the citations of all theorems, or the first fault of a proof
 module _ {A : Type 0} where
   abbrev pub IsJudgement : List Statement → Bool → Judged A → Type 0
-  IsJudgement db by_essential (Valid citations) = AllCited db by_essential citations
+  IsJudgement db by_essential (Valid citations) = AllHaveCitations db by_essential citations
   IsJudgement db by_essential (Faulty f) = IsFirstFault db f

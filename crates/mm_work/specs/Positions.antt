@@ -10,7 +10,7 @@ pub record IsWithWorker (positions : List ListPosition) (worker : ℕ) (valid : 
   pub position : ListPosition
   pub position_is : slice_get positions i ≡ Some position
   pub worker_is : position.worker ≡ worker
-  pub within : position.list < length valid
+  pub list_lt_length : position.list < length valid
   pub index_is : slice_index valid position.list ≡ i
 
 -- by these positions, the citations of the theorem with index i are with one of the workers
@@ -18,6 +18,6 @@ module _ {A : Type 0} where
   pub record HasPosition (positions : List ListPosition) (fs : List (Findings A))
       (i : ℕ) : Type 0 where
     pub worker : ℕ
-    pub found : Findings A
-    pub found_is : slice_get fs worker ≡ Some found
-    pub with_worker : IsWithWorker positions worker found.valid.items i
+    pub findings : Findings A
+    pub findings_are : slice_get fs worker ≡ Some findings
+    pub is_with_worker : IsWithWorker positions worker findings.valid.items i

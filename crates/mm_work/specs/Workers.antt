@@ -9,7 +9,7 @@ use Rattle.mm_spec.specs.declared.Fault.{Fault}
 use Rattle.mm_rules.specs.Rules.{AreRules}
 use Rattle.mm_board.specs.Records.{times_in}
 use Rattle.mm_board.specs.Models.{BoardValue, SeatValue, IsSeatOf}
-use Rattle.mm_work.specs.Judged.{IsCited, HasFault}
+use Rattle.mm_work.specs.Judged.{HasCitations, HasFault}
 use Rattle.mm_work.specs.declared.job.Job.{Job}
 use Rattle.mm_work.specs.declared.worker.IndexedFault.{IndexedFault}
 use Rattle.mm_work.specs.declared.worker.Findings.{Findings}
@@ -31,9 +31,9 @@ faulty_index g = option_map (λ f. f.index) g
 
 -- a seat that can begin to work: one of the board, which has drawn nothing yet
 pub record IsFreshSeat (home : BoardValue) (seat : SeatValue) : Type 0 where
-  pub of_board : IsSeatOf home seat
+  pub is_of_board : IsSeatOf home seat
   pub not_over : seat.view.over ≡ false
-  pub closed : seat.view.open_number ≡ None
+  pub no_number_open : seat.view.open_number ≡ None
   pub none_settled : seat.view.settled ≡ []
   pub none_reported : seat.view.reported ≡ []
 
@@ -41,24 +41,24 @@ module _ {A : Type 0} where
   -- the rules of the job are those of its database, and the numbers of its board are the indices of
   -- the database's theorems
   pub record IsOfDatabase (job : Job A) : Type 0 where
-    pub rules : AreRules job.database.now.statements job.rules.now
-    pub count : job.board.now.count ≡ length (theorems job.database.now.statements)
+    pub are_rules : AreRules job.database.now.statements job.rules.now
+    pub count_is : job.board.now.count ≡ length (theorems job.database.now.statements)
 
   -- what a worker found is right: the proofs that it found valid are valid, with these citations,
   -- and the fault is that of its theorem
   pub record AreFindings (db : List Statement) (by_essential : Bool) (f : Findings A) : Type 0 where
-    pub count : length f.cites ≡ length f.valid.items
-    pub known : All (λ i. i < length (theorems db)) f.valid.items
-    pub each : (k : ℕ) → k < length f.valid.items
-        → IsCited db by_essential (theorem_of db (slice_index f.valid.items k))
+    pub list_count_is : length f.cites ≡ length f.valid.items
+    pub indices_lt_count : All (λ i. i < length (theorems db)) f.valid.items
+    pub each_has_citations : (k : ℕ) → k < length f.valid.items
+        → HasCitations db by_essential (theorem_of db (slice_index f.valid.items k))
         (slice_index_or f.cites k [])
-    pub faulty : IsFaultFound db f.faulty
+    pub fault_is_found : IsFaultFound db f.faulty
 
   -- `after` is `before` with one theorem more whose proof is valid: that with index i, and what it
   -- cites
   pub record FindsValid (job : Job A) (i : ℕ) (before after : Findings A) : Type 0 where
     pub cites : List ℕ
-    pub cited : IsCited job.database.now.statements job.essential
+    pub has_citations : HasCitations job.database.now.statements job.essential
         (theorem_of job.database.now.statements i) cites
     pub valid_are : after.valid.items ≡ before.valid.items ++ i ∷ []
     pub cites_are : after.cites ≡ before.cites ++ cites ∷ []
@@ -75,36 +75,36 @@ module _ {A : Type 0} where
 
   -- what the worker found is right, the numbers that its seat has settled are the indices of the
   -- proofs that it found valid, and what the seat has reported is the index of the fault
-  pub record Tells (job : Job A) (w : WorkerState A) : Type 0 where
-    pub found : AreFindings job.database.now.statements job.essential w.findings
-    pub settled : w.seat.view.settled ≡ w.findings.valid.items
-    pub reported : (i : ℕ) → 0 < times_in i w.seat.view.reported
+  pub record SeatTellsFindings (job : Job A) (w : WorkerState A) : Type 0 where
+    pub are_findings : AreFindings job.database.now.statements job.essential w.findings
+    pub settled_are_valid : w.seat.view.settled ≡ w.findings.valid.items
+    pub reported_is_faulty : (i : ℕ) → 0 < times_in i w.seat.view.reported
         → faulty_index w.findings.faulty ≡ Some i
 
   -- the same if the worker didn't run out of memory
-  abbrev pub TellsUnlessShort : Job A → WorkerState A → Type 0
-  TellsUnlessShort job w = w.findings.short_of_memory ≡ false → Tells job w
+  abbrev pub SeatTellsUnlessShort : Job A → WorkerState A → Type 0
+  SeatTellsUnlessShort job w = w.findings.short_of_memory ≡ false → SeatTellsFindings job w
 
   -- A worker between two theorems: its seat is one of the job's board and has no number open. What
   -- it found is right, and is what the seat has settled and reported, unless memory ran out.
   pub record IsBetweenTheorems (job : Job A) (w : WorkerState A) : Type 0 where
-    pub of_board : IsSeatOf job.board.now w.seat
-    pub closed : w.seat.view.open_number ≡ None
-    pub tells : TellsUnlessShort job w
+    pub is_of_board : IsSeatOf job.board.now w.seat
+    pub no_number_open : w.seat.view.open_number ≡ None
+    pub seat_tells : SeatTellsUnlessShort job w
 
   -- A worker that has drawn the theorem with index i: as between two theorems, but that this number
   -- is open. It is above all that the seat has reported.
   pub record HasDrawn (job : Job A) (i : ℕ) (w : WorkerState A) : Type 0 where
-    pub theorem : i < length (theorems job.database.now.statements)
-    pub of_board : IsSeatOf job.board.now w.seat
+    pub index_lt_count : i < length (theorems job.database.now.statements)
+    pub is_of_board : IsSeatOf job.board.now w.seat
     pub is_open : w.seat.view.open_number ≡ Some i
-    pub above_reported : (x : ℕ) → 0 < times_in x w.seat.view.reported → x < i
-    pub tells : TellsUnlessShort job w
+    pub index_above_reported : (x : ℕ) → 0 < times_in x w.seat.view.reported → x < i
+    pub seat_tells : SeatTellsUnlessShort job w
 
   -- a worker that drew until no number was left, or that ran out of memory
   pub record IsDone (job : Job A) (w : WorkerState A) : Type 0 where
-    pub between : IsBetweenTheorems job w
-    pub over : w.findings.short_of_memory ≡ false → w.seat.view.over ≡ true
+    pub is_between : IsBetweenTheorems job w
+    pub is_over : w.findings.short_of_memory ≡ false → w.seat.view.over ≡ true
 
   -- one of the workers found the proof of the theorem with this index valid
   abbrev pub IsFoundValid : List (Findings A) → ℕ → Type 0
@@ -117,9 +117,9 @@ module _ {A : Type 0} where
   -- the workers' seats were joined to this one, none of them ran out of memory, and this is what
   -- they found
   pub record AreGathered (job : Job A) (seat : SeatValue) (fs : List (Findings A)) : Type 0 where
-    pub of_board : IsSeatOf job.board.now seat
-    pub closed : seat.view.open_number ≡ None
-    pub over : seat.view.over ≡ true
-    pub found : All (AreFindings job.database.now.statements job.essential) fs
-    pub settled : (i : ℕ) → 0 < times_in i seat.view.settled → IsFoundValid fs i
-    pub reported : (i : ℕ) → 0 < times_in i seat.view.reported → IsFoundFaulty fs i
+    pub is_of_board : IsSeatOf job.board.now seat
+    pub no_number_open : seat.view.open_number ≡ None
+    pub is_over : seat.view.over ≡ true
+    pub are_findings : All (AreFindings job.database.now.statements job.essential) fs
+    pub settled_are_valid : (i : ℕ) → 0 < times_in i seat.view.settled → IsFoundValid fs i
+    pub reported_are_faulty : (i : ℕ) → 0 < times_in i seat.view.reported → IsFoundFaulty fs i

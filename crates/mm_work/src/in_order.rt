@@ -2,7 +2,7 @@
 
 ghost use Rattle.std.specs.Prelude.{◌≡◌, IfOk, length};
 ghost use Rattle.mm_rules.specs.Rules.{AreRules};
-ghost use Rattle.mm_work.specs.Judged.{IsJudgement, AreCitedUpTo};
+ghost use Rattle.mm_work.specs.Judged.{IsJudgement, HaveCitationsUpTo};
 ghost use Rattle.mm_spec.specs.Output.{theorems};
 
 use crate::judged::Judged;
@@ -22,7 +22,7 @@ pub(crate) fn judged_valid<'a, A: Allocator + Copy>(
     essential: bool,
     lists: Lists<u32, A>,
 ) -> Result<Judged<A>, AllocError>
-    requires { AreCitedUpTo database.now.statements essential (theorems database.now.statements)
+    requires { HaveCitationsUpTo database.now.statements essential (theorems database.now.statements)
         (length (theorems database.now.statements)) lists }
     ensures { IfOk result (λ judged. IsJudgement database.now.statements essential judged) }
 {

@@ -2,7 +2,7 @@
 
 ghost use Rattle.std.specs.Prelude.{◌≡◌, ◌<◌, ◌≤◌, ◌⊎◌, ℕ, All, IfOk, length, slice_get};
 ghost use Rattle.mm_spec.specs.Output.{theorems};
-ghost use Rattle.mm_work.specs.Judged.{AreCitedUpTo, HasFault};
+ghost use Rattle.mm_work.specs.Judged.{HaveCitationsUpTo, HasFault};
 ghost use Rattle.mm_work.specs.Workers.{AreFindings, IsFoundValid, IsFoundFaulty, theorem_of};
 ghost use Rattle.mm_work.specs.Positions.{IsWithWorker, HasPosition};
 
@@ -26,8 +26,8 @@ pub(crate) struct ListPosition {
 fn set_positions(positions: &mut [ListPosition], worker: usize, valid: &[u32])
     requires { All (λ i. i < length positions.old) valid.now }
     ensures count { length positions.new ≡ length positions.old }
-    ensures with_worker { All (λ i. IsWithWorker positions.new worker valid.now i) valid.now }
-    ensures others { (i : ℕ)
+    ensures are_with_worker { All (λ i. IsWithWorker positions.new worker valid.now i) valid.now }
+    ensures others_stay { (i : ℕ)
         → IsWithWorker positions.new worker valid.now i
         ⊎ (slice_get positions.new i ≡ slice_get positions.old i) }
 {
@@ -72,11 +72,11 @@ pub(crate) fn merge<'d, A: Allocator + Copy>(
     essential: bool,
     all_findings: &[Findings<A>],
 ) -> Result<Lists<u32, A>, AllocError>
-    requires found { All (AreFindings database.now.statements essential) all_findings.now }
-    requires valid { (i : ℕ) → i < length (theorems database.now.statements)
+    requires are_findings { All (AreFindings database.now.statements essential) all_findings.now }
+    requires each_is_found_valid { (i : ℕ) → i < length (theorems database.now.statements)
         → IsFoundValid all_findings.now i }
     ensures { IfOk result
-        (λ lists. AreCitedUpTo database.now.statements essential (theorems database.now.statements)
+        (λ lists. HaveCitationsUpTo database.now.statements essential (theorems database.now.statements)
         (length (theorems database.now.statements)) lists) }
 {
     // Only the contract uses `essential`: it says by which nodes the citations were found.
@@ -96,8 +96,8 @@ pub(crate) fn found_fault<'d, A: Allocator>(
     all_findings: &[Findings<A>],
     index: u32,
 ) -> Fault
-    requires found { All (AreFindings database.now.statements essential) all_findings.now }
-    requires faulty { IsFoundFaulty all_findings.now index }
+    requires are_findings { All (AreFindings database.now.statements essential) all_findings.now }
+    requires is_found_faulty { IsFoundFaulty all_findings.now index }
     ensures { HasFault database.now.statements (theorem_of database.now.statements index) result }
 {
     // Only the contract uses these two: they say what the findings are about.

@@ -3,7 +3,7 @@
 ghost use Rattle.std.specs.Prelude.{◌≡◌, IfOk, IfErr, IsTrue};
 ghost use Rattle.mm_check.specs.Checker.{IsMadeFor};
 ghost use Rattle.mm_spec.specs.Output.{is_theorem_at};
-ghost use Rattle.mm_work.specs.Judged.{IsCited, IsRefusalOf};
+ghost use Rattle.mm_work.specs.Judged.{HasCitations, IsRefusalOf};
 
 use mm_check::{CheckRefused, Checked, Checker};
 use mm_database::Database;
@@ -33,7 +33,7 @@ pub(crate) fn verify<'a, A: Allocator + Copy>(
     requires theorem { IsTrue (is_theorem_at database.now.statements theorem) }
     ensures made_for { IsMadeFor database.now.statements checker.new }
     ensures valid { IfOk result
-        (λ checked. IsCited database.now.statements essential theorem checked.cites) }
+        (λ checked. HasCitations database.now.statements essential theorem checked.cites) }
     ensures refused { IfErr result (λ e. IsRefusalOf database.now.statements theorem e) }
 {
     let steps = match read_proof(alloc, database, theorem) {

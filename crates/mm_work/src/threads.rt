@@ -42,8 +42,8 @@ fn add_findings<A: Allocator>(
     all_findings: &mut Vec<Findings<A>, A>,
     findings: Findings<A>,
 ) -> Result<(), AllocError>
-    ensures added { OnOk result (all_findings.new.items ≡ all_findings.old.items ++ findings ∷ []) }
-    ensures short { OnOk result (findings.short_of_memory ≡ false) }
+    ensures adds_findings { OnOk result (all_findings.new.items ≡ all_findings.old.items ++ findings ∷ []) }
+    ensures has_memory { OnOk result (findings.short_of_memory ≡ false) }
 {
     if findings.short_of_memory {
         return Err(AllocError);
@@ -90,7 +90,7 @@ pub(crate) fn work_all<R: Threads + Wait + Sync, A: Allocator + Copy + Send + Sy
     workers: u32,
 ) -> Result<Gathered<A>, AllocError>
     requires job { IsOfDatabase job.now }
-    requires ready { IsFreshSeat job.now.board.now seat }
+    requires seat_is_fresh { IsFreshSeat job.now.board.now seat }
     ensures { IfOk result (λ g. AreGathered job.now g.seat g.all_findings.items) }
 {
     thread::scope(
@@ -98,7 +98,7 @@ pub(crate) fn work_all<R: Threads + Wait + Sync, A: Allocator + Copy + Send + Sy
         rt,
         move |scope| -> Result<Gathered<A>, AllocError>
             requires job { IsOfDatabase job.now }
-            requires ready { IsFreshSeat job.now.board.now seat }
+            requires seat_is_fresh { IsFreshSeat job.now.board.now seat }
             ensures { IfOk result (λ g. AreGathered job.entry.now g.seat g.all_findings.items) }
         {
             let mut own_seat = seat;
@@ -109,7 +109,7 @@ pub(crate) fn work_all<R: Threads + Wait + Sync, A: Allocator + Copy + Send + Sy
                         job,
                         move || -> WorkerState<A>
                             requires job { IsOfDatabase job.now }
-                            requires ready { IsFreshSeat job.now.board.now new_seat }
+                            requires seat_is_fresh { IsFreshSeat job.now.board.now new_seat }
                             ensures { IsDone job.entry.now result }
                         { work(alloc, job, gate, new_seat, worker) },
                     ) {

@@ -54,9 +54,9 @@ impl<A: Allocator> Findings<A> {
     fn new(alloc: A, theorems: usize, room: usize) -> Findings<A>
     where
         A: Copy,
-        ensures valid { result.valid.items ≡ [] }
-        ensures cites { result.cites ≡ [] }
-        ensures faulty { result.faulty ≡ None }
+        ensures none_valid { result.valid.items ≡ [] }
+        ensures no_cites { result.cites ≡ [] }
+        ensures no_fault { result.faulty ≡ None }
     {
         Findings {
             valid: Vec::new(alloc),
@@ -68,10 +68,10 @@ impl<A: Allocator> Findings<A> {
 
     /// Adds a theorem whose proof is valid, and what it cites.
     fn add_valid(&mut self, index: u32, cites: &[u32]) -> Result<(), AllocError>
-        ensures valid { OnOk result (self.new.valid.items ≡ self.old.valid.items ++ index ∷ []) }
-        ensures cites { OnOk result (self.new.cites ≡ self.old.cites ++ cites.now ∷ []) }
-        ensures faulty { self.new.faulty ≡ self.old.faulty }
-        ensures short { self.new.short_of_memory ≡ self.old.short_of_memory }
+        ensures adds_index { OnOk result (self.new.valid.items ≡ self.old.valid.items ++ index ∷ []) }
+        ensures adds_cites { OnOk result (self.new.cites ≡ self.old.cites ++ cites.now ∷ []) }
+        ensures fault_stays { self.new.faulty ≡ self.old.faulty }
+        ensures memory_flag_stays { self.new.short_of_memory ≡ self.old.short_of_memory }
     {
         self.cites.push(cites)?;
         self.valid.push(index)?;
@@ -98,10 +98,10 @@ fn check_theorem<A: Allocator + Copy>(
     requires index { index < length (theorems job.now.database.now.statements) }
     requires made_for { IsMadeFor job.now.database.now.statements checker.old }
     ensures made_for { IsMadeFor job.now.database.now.statements checker.new }
-    ensures short { findings.new.short_of_memory ≡ false → findings.old.short_of_memory ≡ false }
-    ensures valid { findings.new.short_of_memory ≡ false → result ≡ true
+    ensures memory_lasted { findings.new.short_of_memory ≡ false → findings.old.short_of_memory ≡ false }
+    ensures finds_valid { findings.new.short_of_memory ≡ false → result ≡ true
         → FindsValid job.now index findings.old findings.new }
-    ensures faulty { findings.new.short_of_memory ≡ false → result ≡ false
+    ensures finds_fault { findings.new.short_of_memory ≡ false → result ≡ false
         → FindsFault job.now index findings.old findings.new }
 {
     let database = job.database;
@@ -127,11 +127,11 @@ fn settle_drawn<A: Allocator + Copy>(
     index: u32,
 )
     requires made_for { IsMadeFor job.now.database.now.statements checker.old }
-    requires drawn { HasDrawn job.now index state.old }
+    requires has_drawn { HasDrawn job.now index state.old }
     ensures made_for { IsMadeFor job.now.database.now.statements checker.new }
-    ensures between { IsBetweenTheorems job.now state.new }
-    ensures over { state.new.seat.view.over ≡ state.old.seat.view.over }
-    ensures same_record { (i : ℕ)
+    ensures is_between { IsBetweenTheorems job.now state.new }
+    ensures over_stays { state.new.seat.view.over ≡ state.old.seat.view.over }
+    ensures record_stays { (i : ℕ)
         → times_recorded i state.new.seat.view ≡ times_recorded i state.old.seat.view }
 {
     let board = job.board;
@@ -155,7 +155,7 @@ pub(crate) fn work<A: Allocator + Copy, G: Gate>(
     worker: u32,
 ) -> WorkerState<A>
     requires job { IsOfDatabase job.now }
-    requires ready { IsFreshSeat job.now.board.now seat }
+    requires seat_is_fresh { IsFreshSeat job.now.board.now seat }
     ensures { IsDone job.now result }
 {
     let mut state = WorkerState {

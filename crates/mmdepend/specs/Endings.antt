@@ -19,8 +19,9 @@ use Rattle.mmdepend.specs.declared.ending.Ending.TheVariants.{Ran, Helped, HelpF
 use Rattle.mmdepend.specs.declared.ending.Ending.TheVariants.{NotOpened, NoMemory}
 
 -- a prefix of the text was written, or the whole text
-abbrev pub IsPrefixWritten : (before after : Option (List ℕ)) → List ℕ → Type 0
-IsPrefixWritten before after text = (k : ℕ) × Appends before after (take k text)
+abbrev pub IsPrefixWritten : (bytes_before bytes_after : Option (List ℕ)) → List ℕ → Type 0
+IsPrefixWritten bytes_before bytes_after text = (k : ℕ) × Appends bytes_before bytes_after (take k
+    text)
 
 -- the file that is opened: `None` if no file is named, or if it is `-`
 abbrev pub opened_name : Option (List ℕ) → Option (List ℕ)
@@ -41,9 +42,9 @@ module _ {File : Type 0} (remaining : File → Option (List ℕ)) where
       Ends end (request_of line.plan) input_before input_after output_before output_after
   Runs (Some name) end line input_before input_after output_before output_after =
       Keeps input_before input_after
-      × ((opened read : File)
-      × Ends end (request_of line.plan) (remaining opened)
-      (remaining read) output_before output_after)
+      × ((opened_file read_file : File)
+      × Ends end (request_of line.plan) (remaining opened_file)
+      (remaining read_file) output_before output_after)
 
   -- what the words say, according to the ending, and what is read from standard input and written
   -- to the output

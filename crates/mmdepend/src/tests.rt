@@ -24,9 +24,9 @@ const WRITE_FAILED: u8 = 3;
 
 /// A reader that fails at its first read.
 #[derive(Drop)]
-struct Failing {}
+struct FailingReader {}
 
-impl Read for Failing {
+impl Read for FailingReader {
     fn read(&mut self, _: &mut [u8]) -> io::Result<usize> {
         Err(io::Error::from(ErrorKind::Other))
     }
@@ -152,10 +152,19 @@ fn words_that_are_no_line(rt: HostRuntime) {
 fn files_that_cannot_be_opened_or_read(rt: HostRuntime) {
     let unopened = b"mmdepend: cannot open the file\n".as_slice();
     let missing = ["mmdepend", "no/such/file.mm"];
-    assert!(&rt; is_run_of(&rt, &missing, Failing {}, READ_FAILED, b"", unopened));
+    assert!(&rt; is_run_of(&rt, &missing, FailingReader {}, READ_FAILED, b"", unopened));
     let unread = b"mmdepend: reading failed\n".as_slice();
     assert!(&rt; is_run_of(&rt, &["mmdepend", "/"], FIRST, READ_FAILED, b"", unread));
-    assert!(&rt; is_run_of(&rt, &["mmdepend"], Failing {}, READ_FAILED, b"", unread));
+    assert!(&rt;
+        is_run_of(
+            &rt,
+            &["mmdepend"],
+            FailingReader {},
+            READ_FAILED,
+            b"",
+            unread
+        )
+    );
 }
 
 #[test]
@@ -165,7 +174,7 @@ fn a_file_is_read_in_place_of_the_input(rt: HostRuntime) -> Result<(), Fail> {
     let name = path.as_str();
     fs::write(&rt, name, FIRST)?;
     let words = ["mmdepend", name];
-    let is_read = is_run_of(&rt, &words, Failing {}, 0, FIRST_REPORT, b"");
+    let is_read = is_run_of(&rt, &words, FailingReader {}, 0, FIRST_REPORT, b"");
     fs::remove_file(&rt, name)?;
     assert!(&rt; is_read);
     Ok(())

@@ -4,9 +4,10 @@ use Rattle.mm_spec.specs.Statement.{Statement}
 use Rattle.mm_spec.specs.Output.{theorems, is_theorem_at}
 use Rattle.mm_proof.proofs.TheoremsLaw.{theorems_are}
 
-pub last_theorem : (db : List Statement) (ts : List ℕ) → ts ≡ theorems db → 0 < length ts
+pub last_theorem_is_theorem : (db : List Statement) (ts : List ℕ) → ts ≡ theorems db → 0 < length ts
     → IsTrue (is_theorem_at db (get_or ts (length ts - 1) 0))
-last_theorem db ts e some =
-    let same = ap length e in
-    subst (λ (us : List ℕ). IsTrue (is_theorem_at db (get_or us (length ts - 1) 0))) (sym e)
-    (theorems_are db (length ts - 1) 0 (omega (arith, same, some)))
+last_theorem_is_theorem db ts theorems_equal length_is_positive =
+    let lengths_equal = ap length theorems_equal in
+    subst (λ (us : List ℕ). IsTrue (is_theorem_at db (get_or us (length ts - 1) 0))) (sym
+    theorems_equal)
+    (theorems_are db (length ts - 1) 0 (omega (arith, lengths_equal, length_is_positive)))

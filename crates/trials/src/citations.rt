@@ -1,6 +1,7 @@
 //! What a proof cites: the assertions of all its nodes, or those of its essential nodes alone.
 
 use crate::databases::database_of;
+use crate::flags::{BY_ALL_NODES, BY_ESSENTIAL_NODES, WITHOUT_OPEN};
 use crate::texts::{
     A1I_UP_TO_PROOF, AFTER_PROOF, BASE, DETACHMENT, FIRST_TEXT, joined, through_a_theorem,
 };
@@ -35,7 +36,7 @@ fn is_cited<R: Threads + Sync>(
     essential: bool,
     labels: &[&[u8]],
 ) -> Result<bool, AllocError> {
-    let database = database_of(rt, alloc, text, false)?;
+    let database = database_of(rt, alloc, text, WITHOUT_OPEN)?;
     let theorems = database.theorems();
     if theorems.is_empty() {
         return Ok(false);
@@ -63,8 +64,8 @@ fn formulas_are_not_essential(rt: HostRuntime) -> Result<(), AllocError> {
             alloc,
             &[BASE, DETACHMENT, A1I_UP_TO_PROOF, proof, AFTER_PROOF],
         )?;
-        assert!(&rt; is_cited(&rt, alloc, &text, false, &[b"wi", b"ax-1", b"ax-mp"])?);
-        assert!(&rt; is_cited(&rt, alloc, &text, true, &[b"ax-1", b"ax-mp"])?);
+        assert!(&rt; is_cited(&rt, alloc, &text, BY_ALL_NODES, &[b"wi", b"ax-1", b"ax-mp"])?);
+        assert!(&rt; is_cited(&rt, alloc, &text, BY_ESSENTIAL_NODES, &[b"ax-1", b"ax-mp"])?);
     }
     Ok(())
 }
@@ -73,10 +74,10 @@ fn formulas_are_not_essential(rt: HostRuntime) -> Result<(), AllocError> {
 fn theorems_and_roots_are_essential(rt: HostRuntime) -> Result<(), AllocError> {
     let alloc = rt.alloc();
     let two = through_a_theorem(alloc)?;
-    assert!(&rt; is_cited(&rt, alloc, &two, false, &[b"wi", b"a1i"])?);
-    assert!(&rt; is_cited(&rt, alloc, &two, true, &[b"a1i"])?);
-    assert!(&rt; is_cited(&rt, alloc, FIRST_TEXT, false, &[b"wi"])?);
-    assert!(&rt; is_cited(&rt, alloc, FIRST_TEXT, true, &[b"wi"])?);
+    assert!(&rt; is_cited(&rt, alloc, &two, BY_ALL_NODES, &[b"wi", b"a1i"])?);
+    assert!(&rt; is_cited(&rt, alloc, &two, BY_ESSENTIAL_NODES, &[b"a1i"])?);
+    assert!(&rt; is_cited(&rt, alloc, FIRST_TEXT, BY_ALL_NODES, &[b"wi"])?);
+    assert!(&rt; is_cited(&rt, alloc, FIRST_TEXT, BY_ESSENTIAL_NODES, &[b"wi"])?);
     Ok(())
 }
 
@@ -94,7 +95,7 @@ fn marked_steps_are_essential_by_any_use(rt: HostRuntime) -> Result<(), AllocErr
             alloc,
             &[BASE, WEAK, b"s $p wff ( p -> q ) $= ", proof, b" $.\n"],
         )?;
-        assert!(&rt; is_cited(&rt, alloc, &text, true, &[b"wi", b"ax-w"])?);
+        assert!(&rt; is_cited(&rt, alloc, &text, BY_ESSENTIAL_NODES, &[b"wi", b"ax-w"])?);
     }
     Ok(())
 }

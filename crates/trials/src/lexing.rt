@@ -3,6 +3,7 @@
 ghost use Rattle.std.specs.Prelude.{◌<◌, ◌≤◌};
 
 use crate::examples::words;
+use crate::flags::{INSIDE_COMMENT, OUTSIDE_COMMENT};
 use crate::texts::through_a_theorem;
 use mm_lex::{Code, Cuts, Fault, Lexed, Piece, Word, join, lex, lex_piece};
 use mm_spec::TEXT_LIMIT;
@@ -15,6 +16,9 @@ const TEXT_WITH_COMMENTS: &[u8] = b"$c a $( $c b $) xy $. $( z $) $( $d";
 
 /// The text of the table of stretches.
 const STRETCHED_TEXT: &[u8] = b"ab $( c $) d";
+
+/// The most pieces into which a text is cut.
+const MOST_PIECES: u32 = 65_536;
 
 /// How many tokens the text with two theorems has.
 const THROUGH_TOKENS: usize = 120;
@@ -42,10 +46,10 @@ fn lex_in_pieces<R: Threads + Sync, A: Allocator + Copy + Send + Sync>(
     text: &[u8],
     count: u32,
 ) -> Result<Lexed<A>, AllocError>
-    requires some { 0 < count }
-    requires count { count ≤ 65536 }
+    requires count_is_positive { 0 < count }
+    requires count_le_limit { count ≤ MOST_PIECES }
 {
-    let cuts = Cuts::equal(alloc, text.len().min(2_147_483_648), count)?;
+    let cuts = Cuts::equal(alloc, text.len().min(TEXT_LIMIT + 1), count)?;
     lex(rt, alloc, text, &cuts)
 }
 
@@ -120,7 +124,7 @@ fn lexes_theorems_in_pieces(rt: HostRuntime) -> Result<(), AllocError> {
     assert_eq!(rt; whole.tokens.len(), THROUGH_TOKENS);
     assert_eq!(rt; whole.fault, None);
     assert_cuts_read_alike(&rt, rt.alloc(), &text, &whole)?;
-    let lexed = lex_in_pieces(&rt, rt.alloc(), &text, 65536)?;
+    let lexed = lex_in_pieces(&rt, rt.alloc(), &text, MOST_PIECES)?;
     assert_eq!(rt; lexed.tokens.as_slice(), whole.tokens.as_slice());
     assert_eq!(rt; lexed.fault, None);
     Ok(())
@@ -152,7 +156,7 @@ fn lexes_many_pieces(rt: HostRuntime) -> Result<(), AllocError> {
     let whole = lex_in_pieces(&rt, rt.alloc(), &text, 1)?;
     assert_eq!(rt; whole.tokens.len(), 4000);
     assert_eq!(rt; whole.fault, None);
-    for count in [2, 63, 64, 65, 1000, 65536] {
+    for count in [2, 63, 64, 65, 1000, MOST_PIECES] {
         let lexed = lex_in_pieces(&rt, rt.alloc(), &text, count)?;
         assert_eq!(rt; lexed.tokens.as_slice(), whole.tokens.as_slice());
         assert_eq!(rt; lexed.fault, whole.fault);
@@ -169,10 +173,10 @@ fn assert_piece<R: Abort>(
     inside_fault: Option<Fault>,
 ) {
     assert_eq!(rt; [piece.head(), piece.tail()], ends);
-    assert_eq!(rt; piece.tokens(false), outside);
-    assert_eq!(rt; piece.fault(false), None);
-    assert!(rt; piece.tokens(true).is_empty());
-    assert_eq!(rt; piece.fault(true), inside_fault);
+    assert_eq!(rt; piece.tokens(OUTSIDE_COMMENT), outside);
+    assert_eq!(rt; piece.fault(OUTSIDE_COMMENT), None);
+    assert!(rt; piece.tokens(INSIDE_COMMENT).is_empty());
+    assert_eq!(rt; piece.fault(INSIDE_COMMENT), inside_fault);
 }
 
 #[test]
@@ -204,8 +208,8 @@ fn summarizes_stretches(rt: HostRuntime) -> Result<(), AllocError> {
 fn is_whole_summary<A: Allocator>(piece: &Piece<A>) -> bool {
     piece.from() == 0
         && piece.to() == 12
-        && piece.tokens(false) == [word(0, 2), word(11, 12)].as_slice()
-        && piece.fault(false).is_none()
+        && piece.tokens(OUTSIDE_COMMENT) == [word(0, 2), word(11, 12)].as_slice()
+        && piece.fault(OUTSIDE_COMMENT).is_none()
 }
 
 /// The stretches 0 to 1, 1 to 9 and 9 to 12, the first two read by threads; the first two are

@@ -12,6 +12,8 @@ mod databases;
 #[cfg(test)]
 mod examples;
 #[cfg(test)]
+mod flags;
+#[cfg(test)]
 mod lexing;
 #[cfg(test)]
 mod lines;

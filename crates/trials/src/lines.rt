@@ -1,5 +1,6 @@
 //! Tests of command lines: what the words say, and the texts of help and of faults.
 
+use crate::flags::{BY_ALL_NODES, BY_ESSENTIAL_NODES, WITH_OPEN, WITHOUT_OPEN};
 use mm_line::{Line, LineRefused, line};
 use mm_plan::Cutting;
 use mm_spec::{Choice, Form};
@@ -114,15 +115,25 @@ fn options_stand_before_and_after_the_file(rt: HostRuntime) {
 
 /// Words, and the form, the nodes and the open theorems that they ask for.
 const REPORT_OPTIONS: [(&[&str], Form, bool, bool); 5] = [
-    (&["mmdepend"], Form::One, false, false),
-    (&["mmdepend", "--essential"], Form::One, true, false),
-    (&["mmdepend", "--form", "2"], Form::Two, false, false),
-    (&["mmdepend", "--open"], Form::One, false, true),
+    (&["mmdepend"], Form::One, BY_ALL_NODES, WITHOUT_OPEN),
+    (
+        &["mmdepend", "--essential"],
+        Form::One,
+        BY_ESSENTIAL_NODES,
+        WITHOUT_OPEN,
+    ),
+    (
+        &["mmdepend", "--form", "2"],
+        Form::Two,
+        BY_ALL_NODES,
+        WITHOUT_OPEN,
+    ),
+    (&["mmdepend", "--open"], Form::One, BY_ALL_NODES, WITH_OPEN),
     (
         &["mmdepend", "--form=1", "--essential", "-"],
         Form::One,
-        true,
-        false,
+        BY_ESSENTIAL_NODES,
+        WITHOUT_OPEN,
     ),
 ];
 

@@ -1,6 +1,7 @@
 //! Rows of bits, waves, and tables of marks as digits.
 
 use crate::databases::database_of;
+use crate::flags::{BY_ALL_NODES, WITHOUT_OPEN};
 use crate::texts::{chain, seventy, through_a_theorem};
 use mm_rows::{Columns, Matrix, matrix, ones, or_row, waves};
 use mm_work::{Judged, Open, check_all};
@@ -52,9 +53,9 @@ fn matrix_of<R: Threads + Wait + Sync>(
     alloc: Global,
     text: &[u8],
 ) -> Result<Matrix<Global>, AllocError> {
-    let database = database_of(rt, alloc, text, false)?;
+    let database = database_of(rt, alloc, text, WITHOUT_OPEN)?;
     let columns = Columns::new(alloc, &database, None)?;
-    match check_all(rt, alloc, &database, 1, false, &Open)? {
+    match check_all(rt, alloc, &database, 1, BY_ALL_NODES, &Open)? {
         Judged::Valid(citations) => matrix(rt, alloc, &citations, &columns),
         Judged::Faulty(_) => Err(AllocError),
     }
@@ -102,8 +103,8 @@ fn waves_of<R: Threads + Wait + Sync>(
     alloc: Global,
     text: &[u8],
 ) -> Result<Vec<u32>, AllocError> {
-    let database = database_of(rt, alloc, text, false)?;
-    match check_all(rt, alloc, &database, 1, false, &Open)? {
+    let database = database_of(rt, alloc, text, WITHOUT_OPEN)?;
+    match check_all(rt, alloc, &database, 1, BY_ALL_NODES, &Open)? {
         Judged::Valid(citations) => waves(alloc, &citations),
         Judged::Faulty(_) => Err(AllocError),
     }

@@ -2,6 +2,7 @@
 
 use crate::databases::database_of;
 use crate::examples::{scopes, shapes};
+use crate::flags::WITHOUT_OPEN;
 use mm_rule::is_assertion;
 use mm_stmt::{Database, Kind, Sym, Word};
 use std::alloc::{AllocError, Global};
@@ -15,7 +16,7 @@ fn fault_and_count<R: Threads + Sync>(
     alloc: Global,
     text: &[u8],
 ) -> Result<(Option<(u32, u8)>, u32), AllocError> {
-    let database = database_of(rt, alloc, text, false)?;
+    let database = database_of(rt, alloc, text, WITHOUT_OPEN)?;
     let fault = match database.fault() {
         Some(fault) => Some((fault.at, fault.code.number())),
         None => None,
@@ -51,7 +52,7 @@ fn labels_between<'d>(database: &'d Database<Global>, from: u32, to: u32) -> &'d
 #[test]
 fn lends_labels_of_neighbours_as_one(rt: HostRuntime) -> Result<(), AllocError> {
     let text: &[u8] = b"$c a $. x $p a $= ? $. y $a a $. zz $p a $= ? $. t $p a $= ? $.";
-    let database = database_of(&rt, rt.alloc(), text, false)?;
+    let database = database_of(&rt, rt.alloc(), text, WITHOUT_OPEN)?;
     let rows: [(u32, u32, &[u8]); 5] = [
         (0, 3, b" x zz t"),
         (0, 1, b" x"),
@@ -66,7 +67,7 @@ fn lends_labels_of_neighbours_as_one(rt: HostRuntime) -> Result<(), AllocError> 
 }
 
 /// An open theorem `o` in a block with a `$d` and a `$e`, and a theorem `t` with a proof.
-const WITH_OPEN: &[u8] =
+const TEXT_WITH_OPEN: &[u8] =
     b"$c wff $. $v p q $. wp $f wff p $. wq $f wff q $. a $a wff p $.\n${ $d p q $. h $e wff q $. o $p wff p $= ? $. $} t $p wff p $= wp a $.\n";
 
 /// The statement number of the open theorem.
@@ -123,7 +124,7 @@ fn assert_counted_as<R: Abort>(rt: &R, database: &Database<Global>, with_open: b
 
 /// Asserts what is said of the open theorem's statement, with the flag and without.
 fn assert_open_statement<R: Abort>(rt: &R, database: &Database<Global>) {
-    assert!(rt; database.text() == WITH_OPEN);
+    assert!(rt; database.text() == TEXT_WITH_OPEN);
     assert!(rt; database.fault().is_none());
     assert_eq!(rt; database.len(), STATEMENTS);
     assert_eq!(rt; database.end_at(OPEN), QUESTION_MARK_AT + 2);
@@ -166,7 +167,7 @@ fn assert_open_frame<R: Abort>(rt: &R, database: &Database<Global>) {
 #[test]
 fn what_the_calls_answer_of_an_open_theorem(rt: HostRuntime) -> Result<(), AllocError> {
     for with_open in [false, true] {
-        let database = database_of(&rt, rt.alloc(), WITH_OPEN, with_open)?;
+        let database = database_of(&rt, rt.alloc(), TEXT_WITH_OPEN, with_open)?;
         assert_counted_as(&rt, &database, with_open);
         assert_open_statement(&rt, &database);
         assert_symbols(&rt, &database);

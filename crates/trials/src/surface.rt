@@ -5,9 +5,10 @@
 ghost use Rattle.std.specs.Prelude.{◌≡◌, IfOk, Option, false, length};
 ghost use Rattle.mm_spec.specs.Text.{Bytes};
 ghost use Rattle.mm_spec.specs.Output.{columns, theorems};
-ghost use Rattle.mm_work.specs.Judged.{AllCited};
+ghost use Rattle.mm_work.specs.Judged.{AllHaveCitations};
 ghost use Rattle.mm_report.specs.Rows.{AreCitationsOf};
 
+use crate::flags::{BY_ALL_NODES, INSIDE_COMMENT, OUTSIDE_COMMENT, WITHOUT_OPEN};
 use crate::texts::{FIRST_REPORT, FIRST_TEXT};
 use mm_board::Board;
 use mm_bytes::{class_block, class_tail, count_lf, first_bad};
@@ -28,6 +29,45 @@ use std::process::Abort;
 use std::sync::Wait;
 use std::thread::Threads;
 
+/// How many tokens, statements and symbols the text has.
+const TOKEN_COUNT: usize = 62;
+
+const STATEMENT_COUNT: u32 = 7;
+
+const SYMBOL_COUNT: u32 = 7;
+
+/// The numbers of the statements with these labels; `wi2` is the theorem.
+const WP: u32 = 2;
+
+const WQ: u32 = 3;
+
+const WI: u32 = 4;
+
+const AX_1: u32 = 5;
+
+const WI2: u32 = 6;
+
+/// The numbers of the symbols `wff`, `->`, `p` and `q`.
+const WFF: u32 = 0;
+
+const ARROW: u32 = 3;
+
+const P: u32 = 5;
+
+const Q: u32 = 6;
+
+/// Places in the text: the end of the statement `wi`, the first step of the proof, and the end.
+const WI_END: u32 = 81;
+
+const FIRST_STEP_AT: u32 = 152;
+
+const TEXT_END: u32 = 170;
+
+/// How many symbols the formula of `wi` has, and how many words and steps the theorem's proof has.
+const WI_LEN: usize = 6;
+
+const PROOF_LEN: usize = 5;
+
 #[test]
 fn bytes(rt: HostRuntime) {
     let block = class_block(&[b' '; 64]);
@@ -45,9 +85,11 @@ fn assert_whole<R: Abort>(rt: &R, piece: &Piece<Global>) {
     );
     let head = piece.head();
     let tail = piece.tail();
-    assert!(rt; head.start == 0 && head.end == 0 && tail.start == 170 && tail.end == 170);
-    assert!(rt; piece.tokens(false).len() == 62 && piece.fault(false) == None);
-    assert!(rt; piece.tokens(true).is_empty());
+    assert!(rt; head.start == 0 && head.end == 0 && tail.start == TEXT_END && tail.end == TEXT_END);
+    assert!(rt;
+        piece.tokens(OUTSIDE_COMMENT).len() == TOKEN_COUNT && piece.fault(OUTSIDE_COMMENT) == None
+    );
+    assert!(rt; piece.tokens(INSIDE_COMMENT).is_empty());
 }
 
 #[test]
@@ -63,7 +105,7 @@ fn pieces(rt: HostRuntime) -> Result<(), AllocError> {
 fn cuts(rt: HostRuntime) -> Result<(), AllocError> {
     let equal = Cuts::equal(rt.alloc(), FIRST_TEXT.len(), 2)?;
     let lexed = lex(&rt, rt.alloc(), FIRST_TEXT, &equal)?;
-    assert!(&rt; lexed.tokens.len() == 62 && lexed.fault == None);
+    assert!(&rt; lexed.tokens.len() == TOKEN_COUNT && lexed.fault == None);
     let half = FIRST_TEXT.len() as u32 / 2;
     let places = [half].as_slice().to_vec(rt.alloc())?;
     match Cuts::from_places(places, FIRST_TEXT.len()) {
@@ -80,33 +122,39 @@ fn database_of<R: Threads + Sync>(
 ) -> Result<Database<'static, Global>, AllocError> {
     let cuts = Cuts::equal(alloc, FIRST_TEXT.len(), 1)?;
     let lexed = lex(rt, alloc, FIRST_TEXT, &cuts)?;
-    read(alloc, FIRST_TEXT, &lexed, false)
+    read(alloc, FIRST_TEXT, &lexed, WITHOUT_OPEN)
 }
 
 /// Asserts what is said of the statement with the first axiom.
 fn assert_axiom<R: Abort>(rt: &R, database: &Database<Global>) {
-    assert!(rt; database.len() == 7 && database.kind(4) == Kind::Axiom && !database.is_open(4));
-    assert!(rt; database.end_at(4) == 81 && database.find(b"wi") == Some(4));
-    assert!(rt; database.label(4) == Some(b"wi".as_slice()));
-    assert!(rt; database.formula(4).len() == 6 && database.typecode(4) == Some(Sym::new(0)));
-    assert!(rt; database.active_at(4, 5) && !database.active_at(4, 4));
-    assert!(rt; is_assertion(database, 4));
-    let frame = database.frame(4);
-    assert!(rt; frame.hyps.as_slice() == [2u32, 3].as_slice() && frame.pairs.is_empty());
+    assert!(rt;
+        database.len() == STATEMENT_COUNT
+            && database.kind(WI) == Kind::Axiom
+            && !database.is_open(WI)
+    );
+    assert!(rt; database.end_at(WI) == WI_END && database.find(b"wi") == Some(WI));
+    assert!(rt; database.label(WI) == Some(b"wi".as_slice()));
+    assert!(rt;
+        database.formula(WI).len() == WI_LEN && database.typecode(WI) == Some(Sym::new(WFF))
+    );
+    assert!(rt; database.active_at(WI, AX_1) && !database.active_at(WI, WI));
+    assert!(rt; is_assertion(database, WI));
+    let frame = database.frame(WI);
+    assert!(rt; frame.hyps.as_slice() == [WP, WQ].as_slice() && frame.pairs.is_empty());
 }
 
 /// Asserts what is said of the symbols.
 fn assert_symbols<R: Abort>(rt: &R, database: &Database<Global>) {
-    assert!(rt; database.symbol_count() == 7);
-    assert!(rt; database.name(Sym::new(3)) == b"->".as_slice());
-    assert!(rt; !database.is_variable(Sym::new(3)));
+    assert!(rt; database.symbol_count() == SYMBOL_COUNT);
+    assert!(rt; database.name(Sym::new(ARROW)) == b"->".as_slice());
+    assert!(rt; !database.is_variable(Sym::new(ARROW)));
 }
 
 /// Asserts what is said of the statement with the theorem.
 fn assert_theorem<R: Abort>(rt: &R, database: &Database<Global>) {
-    assert!(rt; database.len() == 7);
-    assert!(rt; !database.disjoint_at(6, Sym::new(5), Sym::new(6)));
-    assert!(rt; database.proof_words(6).len() == 5);
+    assert!(rt; database.len() == STATEMENT_COUNT);
+    assert!(rt; !database.disjoint_at(WI2, Sym::new(P), Sym::new(Q)));
+    assert!(rt; database.proof_words(WI2).len() == PROOF_LEN);
 }
 
 #[test]
@@ -116,8 +164,8 @@ fn statements(rt: HostRuntime) -> Result<(), AllocError> {
     assert_axiom(&rt, &database);
     assert_symbols(&rt, &database);
     assert_theorem(&rt, &database);
-    assert!(&rt; database.theorems() == [6u32].as_slice());
-    assert!(&rt; database.axioms() == [4u32, 5].as_slice());
+    assert!(&rt; database.theorems() == [WI2].as_slice());
+    assert!(&rt; database.axioms() == [WI, AX_1].as_slice());
     Ok(())
 }
 
@@ -132,11 +180,11 @@ fn proofs(rt: HostRuntime) -> Result<(), AllocError> {
     let Ok(steps) = read_proof(rt.alloc(), &database, theorem) else {
         return Err(AllocError);
     };
-    assert!(&rt; steps.theorem() == 6 && steps.len() == 5);
-    assert!(&rt; steps.step(0) == Step::Label(2) && steps.place(0) == 152);
-    match check(rt.alloc(), &database, theorem, &steps, false) {
+    assert!(&rt; steps.theorem() == WI2 && steps.len() == PROOF_LEN);
+    assert!(&rt; steps.step(0) == Step::Label(WP) && steps.place(0) == FIRST_STEP_AT);
+    match check(rt.alloc(), &database, theorem, &steps, BY_ALL_NODES) {
         Ok(checked) => {
-            assert!(&rt; checked.theorem() == 6 && checked.cites() == [4u32].as_slice());
+            assert!(&rt; checked.theorem() == WI2 && checked.cites() == [WI].as_slice());
         }
         Err(_) => assert!(&rt; false),
     }
@@ -180,9 +228,10 @@ fn citations_of<R: Threads + Wait + Sync>(
     alloc: Global,
     database: &Database<Global>,
 ) -> Result<Citations<Global>, AllocError>
-    ensures { IfOk result (λ citations. AllCited database.now.statements false citations) }
+    ensures { IfOk result (λ citations. AllHaveCitations database.now.statements false citations) }
 {
-    match check_all(rt, alloc, database, 2, false, &Open)? {
+    let essential = false;
+    match check_all(rt, alloc, database, 2, essential, &Open)? {
         Judged::Valid(citations) => Ok(citations),
         Judged::Faulty(_) => Err(AllocError),
     }
@@ -193,8 +242,8 @@ fn citations(rt: HostRuntime) -> Result<(), AllocError> {
     enter(&Open);
     let database = database_of(&rt, rt.alloc())?;
     let citations = citations_of(&rt, rt.alloc(), &database)?;
-    assert!(&rt; citations.rows() == 1 && citations.theorem(0) == 6);
-    assert!(&rt; citations.of(0) == [4u32].as_slice());
+    assert!(&rt; citations.rows() == 1 && citations.theorem(0) == WI2);
+    assert!(&rt; citations.of(0) == [WI].as_slice());
     let waves = waves(rt.alloc(), &citations)?;
     assert!(&rt; waves.as_slice() == [0u32].as_slice());
     Ok(())
@@ -208,7 +257,7 @@ fn rows(rt: HostRuntime) -> Result<(), AllocError> {
     let database = database_of(&rt, rt.alloc())?;
     let citations = citations_of(&rt, rt.alloc(), &database)?;
     let columns = Columns::new(rt.alloc(), &database, Some(b"wff"))?;
-    assert!(&rt; columns.len() == 1 && columns.statement(0) == 4);
+    assert!(&rt; columns.len() == 1 && columns.statement(0) == WI);
     let matrix = matrix(&rt, rt.alloc(), &citations, &columns)?;
     assert!(&rt; matrix.rows() == 1 && matrix.columns() == 1 && matrix.cell(0, 0));
     assert!(&rt; matrix.row_count(0) == 1 && matrix.column_count(0) == 1);
@@ -233,7 +282,7 @@ fn is_report_written(
         database,
         chosen,
         matrix,
-        false,
+        WITHOUT_OPEN,
         Form::One,
         Choice::All,
     );
@@ -256,7 +305,7 @@ fn are_citations_written(
         chosen,
         citations,
         None,
-        false,
+        WITHOUT_OPEN,
         Form::Two,
     );
     written.is_ok()

@@ -4,6 +4,7 @@
 ghost use Rattle.std.specs.Prelude.{◌≤◌};
 
 use crate::databases::database_of;
+use crate::flags::{BY_ALL_NODES, WITHOUT_OPEN};
 use crate::texts::{
     ANOTHER_FAULTY, BASE, FIRST_FAULTY, LONG, MANY, MANY_FAULT_AT, SHORT, joined, many,
     through_a_theorem,
@@ -31,7 +32,7 @@ fn check_proofs<R: Threads + Wait + Sync, G: Gate>(
 ) -> Result<Judged<Global>, AllocError>
     requires { (1 ≤ workers) × (workers ≤ 64) }
 {
-    let database = database_of(rt, alloc, text, false)?;
+    let database = database_of(rt, alloc, text, WITHOUT_OPEN)?;
     check_all(rt, alloc, &database, workers, essential, gate)
 }
 
@@ -67,11 +68,11 @@ fn two_theorems_by_any_workers(rt: HostRuntime) -> Result<(), AllocError> {
     let valid = through_a_theorem(rt.alloc())?;
     let faulty = joined(rt.alloc(), &[BASE, LONG, SHORT])?;
     for workers in [1, 2, 64] {
-        match check_proofs(&rt, rt.alloc(), &valid, workers, false, &Open)? {
+        match check_proofs(&rt, rt.alloc(), &valid, workers, BY_ALL_NODES, &Open)? {
             Judged::Valid(citations) => assert_cites_through_a_theorem(&rt, &citations),
             Judged::Faulty(fault) => panic!(&rt; "a fault at {}", fault.at),
         }
-        let judged_faulty = check_proofs(&rt, rt.alloc(), &faulty, workers, false, &Open)?;
+        let judged_faulty = check_proofs(&rt, rt.alloc(), &faulty, workers, BY_ALL_NODES, &Open)?;
         assert!(&rt; is_faulty_at(&judged_faulty, BASE.len() as u32 + 47, Code::NotOneEntry));
     }
     Ok(())
@@ -82,11 +83,11 @@ fn many_theorems_by_any_workers(rt: HostRuntime) -> Result<(), AllocError> {
     let valid = many(rt.alloc(), &[])?;
     let faulty = many(rt.alloc(), &[FIRST_FAULTY, ANOTHER_FAULTY])?;
     for workers in [1, 2, 64] {
-        match check_proofs(&rt, rt.alloc(), &valid, workers, false, &Open)? {
+        match check_proofs(&rt, rt.alloc(), &valid, workers, BY_ALL_NODES, &Open)? {
             Judged::Valid(citations) => assert_many_cite_one(&rt, &citations),
             Judged::Faulty(fault) => panic!(&rt; "a fault at {}", fault.at),
         }
-        let judged_faulty = check_proofs(&rt, rt.alloc(), &faulty, workers, false, &Open)?;
+        let judged_faulty = check_proofs(&rt, rt.alloc(), &faulty, workers, BY_ALL_NODES, &Open)?;
         assert!(&rt; is_faulty_at(&judged_faulty, MANY_FAULT_AT, Code::NotOneEntry));
     }
     Ok(())
@@ -149,7 +150,7 @@ impl Gate for Meeting {
 fn two_at_the_gate(rt: HostRuntime) -> Result<(), AllocError> {
     let text = through_a_theorem(rt.alloc())?;
     let gate = Meeting::of(0b11);
-    match check_proofs(&rt, rt.alloc(), &text, 2, false, &gate)? {
+    match check_proofs(&rt, rt.alloc(), &text, 2, BY_ALL_NODES, &gate)? {
         Judged::Valid(citations) => assert_cites_through_a_theorem(&rt, &citations),
         Judged::Faulty(fault) => panic!(&rt; "a fault at {}", fault.at),
     }
@@ -161,7 +162,7 @@ fn two_at_the_gate(rt: HostRuntime) -> Result<(), AllocError> {
 fn four_at_the_gate(rt: HostRuntime) -> Result<(), AllocError> {
     let text = many(rt.alloc(), &[])?;
     let gate = Meeting::of(0b1111);
-    match check_proofs(&rt, rt.alloc(), &text, 4, false, &gate)? {
+    match check_proofs(&rt, rt.alloc(), &text, 4, BY_ALL_NODES, &gate)? {
         Judged::Valid(citations) => assert_many_cite_one(&rt, &citations),
         Judged::Faulty(fault) => panic!(&rt; "a fault at {}", fault.at),
     }

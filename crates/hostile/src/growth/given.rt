@@ -7,6 +7,7 @@ ghost use Rattle.mm_spec.specs.Lexed.{tokens_of, lexical_fault};
 
 use super::words::{CUT_AT, is_summary};
 use super::{MOST_GROWTHS, was_refused};
+use crate::flags::WITHOUT_OPEN;
 use crate::heap::Refusing;
 use crate::texts::{DISJOINT, FIRST_TEXT};
 use linked_list_allocator::LocalHeap;
@@ -68,7 +69,7 @@ fn tokens_are_given_back_and_the_text_is_as_it_was(rt: HostRuntime) -> Result<()
         let refused = was_refused(
             &rt,
             &heap,
-            has_disjoint_variables(read_owned(&heap, &text, lexed, false)),
+            has_disjoint_variables(read_owned(&heap, &text, lexed, WITHOUT_OPEN)),
         );
         assert_eq!(rt; local.used(), unused);
         assert_eq!(rt; text.as_slice(), DISJOINT);

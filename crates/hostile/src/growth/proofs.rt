@@ -7,6 +7,7 @@ ghost use Rattle.mm_steps.specs.Read.{read};
 
 use super::{MOST_GROWTHS, was_refused};
 use crate::calls::{all_checked, checked, checked_by};
+use crate::flags::WITHOUT_OPEN;
 use crate::heap::Refusing;
 use crate::texts::THROUGH;
 use mm_board::{Board, BoardFault, Seat};
@@ -27,7 +28,7 @@ pub(crate) fn database_of<R: Threads + Sync, A: Allocator + Copy + Send + Sync>(
 ) -> Result<Database<'static, A>, AllocError> {
     let cuts = Cuts::equal(alloc, THROUGH.len(), 1)?;
     let lexed = lex(rt, alloc, THROUGH, &cuts)?;
-    read_statements(alloc, THROUGH, &lexed, false)
+    read_statements(alloc, THROUGH, &lexed, WITHOUT_OPEN)
 }
 
 /// The first theorem, if there is one.

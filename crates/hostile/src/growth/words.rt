@@ -1,6 +1,7 @@
 //! The calls that turn a text into statements.
 
 use super::{MOST_GROWTHS, was_refused};
+use crate::flags::{OUTSIDE_COMMENT, WITHOUT_OPEN};
 use crate::heap::Refusing;
 use crate::texts::{FIRST_TEXT, THROUGH};
 use mm_lex::{Cuts, Lexed, Piece, Word, join, lex, lex_piece};
@@ -54,8 +55,8 @@ fn is_beginning<A: Allocator>(answer: Result<Piece<A>, AllocError>) -> Option<bo
                 && piece.to() == CUT_AT as u32
                 && piece.head() == word(0, 0)
                 && piece.tail() == word(57, 58)
-                && piece.tokens(false).len() == 20
-                && piece.fault(false).is_none(),
+                && piece.tokens(OUTSIDE_COMMENT).len() == 20
+                && piece.fault(OUTSIDE_COMMENT).is_none(),
         ),
         Err(_) => None,
     }
@@ -88,8 +89,8 @@ pub(crate) fn is_summary<A: Allocator>(answer: Result<Piece<A>, AllocError>) -> 
                 && piece.to() as usize == FIRST_TEXT.len()
                 && piece.head() == word(0, 0)
                 && piece.tail() == word(170, 170)
-                && piece.tokens(false).len() == TOKENS
-                && piece.fault(false).is_none(),
+                && piece.tokens(OUTSIDE_COMMENT).len() == TOKENS
+                && piece.fault(OUTSIDE_COMMENT).is_none(),
         ),
         Err(_) => None,
     }
@@ -174,10 +175,14 @@ fn statements_without_memory(rt: HostRuntime) -> Result<(), AllocError> {
     let tokens = lexed.tokens.to_vec(&heap)?;
     for number in 1..MOST_GROWTHS {
         heap.refuse(number);
-        let refused = was_refused(&rt, &heap, is_read(read(&heap, THROUGH, &lexed, false)));
+        let refused = was_refused(
+            &rt,
+            &heap,
+            is_read(read(&heap, THROUGH, &lexed, WITHOUT_OPEN)),
+        );
         assert!(&rt; lexed.tokens.as_slice() == tokens.as_slice());
         assert!(&rt; lexed.fault.is_none());
-        assert!(&rt; is_read(read(&heap, THROUGH, &lexed, false)) == Some(true));
+        assert!(&rt; is_read(read(&heap, THROUGH, &lexed, WITHOUT_OPEN)) == Some(true));
         if !refused {
             assert!(&rt; number > 10);
             return Ok(());

@@ -16,10 +16,10 @@ FramesAreComplete db k =
 
 -- statement j is the `$f` of x: its formula is a typecode, which is no variable, and x
 pub record IsTyping (db : List Statement) (j x : ℕ) : Type 0 where
-  pub floats : IsTrue (list_any is_floating (statement_at db j))
+  pub is_floating_statement : IsTrue (list_any is_floating (statement_at db j))
   pub typecode : ℕ
-  pub is : formula_at db j ≡ typecode ∷ x ∷ []
-  pub constant : is_variable_number db typecode ≡ false
+  pub formula_is : formula_at db j ≡ typecode ∷ x ∷ []
+  pub typecode_is_constant : is_variable_number db typecode ≡ false
 
 -- each mandatory variable of an assertion has a `$f` among its mandatory hypotheses
 abbrev pub VariablesAreTyped : List Statement → ℕ → Type 0

@@ -16,10 +16,10 @@ use Rattle.mm_spec.specs.Output.{is_theorem_at}
 -- these statements and the mandatory hypotheses.
 pub record SaysCompressed (db : List Statement) (k : ℕ) (ts : List Token)
     (ss : List Step) : Type 0 where
-  pub well_spelled : IsWellSpelled db k ts
+  pub is_well_spelled : IsWellSpelled db k ts
   pub js : List ℕ
-  pub labels : AllZip (λ t j. IsUsable db k t.word j) well_spelled.labels js
-  pub steps : AreSteps (mandatory_hypotheses db k) js well_spelled.items ss
+  pub labels_name_js : AllZip (λ t j. IsUsable db k t.word j) is_well_spelled.labels js
+  pub are_steps : AreSteps (mandatory_hypotheses db k) js is_well_spelled.items ss
 
 -- each word of a normal proof is a usable label and none is `?`, and the steps are the statements
 -- with these labels
@@ -40,9 +40,9 @@ proof_words db k = elim (slice_get db k) [ Some (provable l p xs e ps d) ↦ ps 
 -- the words of its proof say steps that stand for a derivation of its formula
 pub record IsProved (db : List Statement) (k : ℕ) : Type 0 where
   pub steps : List Step
-  pub said : Says db k (proof_words db k) steps
+  pub says_steps : Says db k (proof_words db k) steps
   pub derivation : Trees
-  pub derives : Derives (context_at db k) steps (formula_at db k) derivation
+  pub derives_formula : Derives (context_at db k) steps (formula_at db k) derivation
 
 -- a theorem is valid exactly if this holds for it
 abbrev pub ValidOnTheMeaning : List Statement → ℕ → Type 0

@@ -20,8 +20,9 @@ StepsAreNamed db k =
 -- hypotheses, labels and items name at most one row of steps
 abbrev pub NamedStepsAreUnique : Type 0
 NamedStepsAreUnique =
-    (hypotheses labels : List ℕ) (items : List Item) (ss others : List Step)
-    → AreSteps hypotheses labels items ss → AreSteps hypotheses labels items others → ss ≡ others
+    (hypotheses labels : List ℕ) (items : List Item) (ss other_steps : List Step)
+    → AreSteps hypotheses labels items ss → AreSteps hypotheses labels items other_steps
+    → ss ≡ other_steps
 
 -- the steps of a normal proof are its labels
 abbrev pub StepsAreLabels : List Statement → ℕ → Type 0

@@ -7,7 +7,7 @@ abbrev pub NumbersHaveOneSpelling : Type 0
 NumbersHaveOneSpelling =
     (n : ℕ) → 1 ≤ n
     → (letters : List ℕ) × AreLettersOf letters n
-    × ((others : List ℕ) → AreLettersOf others n → others ≡ letters)
+    × ((other_letters : List ℕ) → AreLettersOf other_letters n → other_letters ≡ letters)
 
 -- the first and the last numbers of one letter, two and three, and the first of four
 abbrev pub BookNumbers : Type 0

@@ -247,18 +247,18 @@ const OPEN_REPORT: &[u8] =
 const OPEN_REPORT_IN_THE_SECOND_FORM: &[u8] =
     b"mmdepend 2\naxioms 4\nopen 1\ntheorems 1\nmatrix\nu:1\ncounts\nu:1\nusage\nwi:0:\nax-1:0:\nax-mp:0:\no:1:u\nend\n";
 
-const WITH_OPEN: &[&str] = &["mmdepend", "--open"];
+const WORDS_WITH_OPEN: &[&str] = &["mmdepend", "--open"];
 
 /// Runs with open theorems. The citation by which `u` rests on `o` is essential, so the flag for
 /// these changes nothing.
 const OPEN_CASES: [Case<'static>; 8] = [
     Case {
-        words: WITH_OPEN,
+        words: WORDS_WITH_OPEN,
         parts: OPEN,
         output: OPEN_REPORT,
     },
     Case {
-        words: WITH_OPEN,
+        words: WORDS_WITH_OPEN,
         parts: OPEN_IN_BRACKETS,
         output: OPEN_REPORT,
     },
@@ -273,7 +273,7 @@ const OPEN_CASES: [Case<'static>; 8] = [
         output: b"mmdepend 1\naxioms 3\nopen 1\ntheorems 1\ncounts\nu:1\nend\n",
     },
     Case {
-        words: WITH_OPEN,
+        words: WORDS_WITH_OPEN,
         parts: &[],
         output: b"mmdepend 1\naxioms 0\nopen 0\ntheorems 0\nmatrix\ncounts\nusage\nend\n",
     },
@@ -307,12 +307,12 @@ const INCOMPLETE_CASES: [Case<'static>; 3] = [
         output: b"refused 8:23 E32\n",
     },
     Case {
-        words: WITH_OPEN,
+        words: WORDS_WITH_OPEN,
         parts: &[BASE, DETACHMENT, b"v $p |- ( p -> p ) $= wp ? $.\n"],
         output: b"refused 8:26 E32\n",
     },
     Case {
-        words: WITH_OPEN,
+        words: WORDS_WITH_OPEN,
         parts: &[BASE, DETACHMENT, b"v $p |- ( p -> p ) $= ? ? $.\n"],
         output: b"refused 8:23 E32\n",
     },

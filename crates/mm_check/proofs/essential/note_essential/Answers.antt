@@ -5,57 +5,60 @@ use Rattle.std.proofs.lemmas.List.{get_or_default}
 use Rattle.mm_spec.specs.Citation.{context_at}
 use Rattle.mm_steps.specs.Read.{as_step}
 use Rattle.mm_check.specs.Flags.{step_flags_after}
-use Rattle.mm_check.proofs.CompilerStateLaw.{good_labels}
+use Rattle.mm_check.proofs.CompilerStateLaw.{good_step_label_is_below}
 use Rattle.mm_check.proofs.ReachLaw.{step_at_is_good}
 use Rattle.mm_check.proofs.BackLaw.{flag_at, step_flags_count}
-use Rattle.mm_check.proofs.WalkLaw.{Walked, walk_start, walk_some, walk_here, walk_end, earlier_of}
+use Rattle.mm_check.proofs.WalkLaw.{AreFoundFrom, walked_at_start, has_entry_flag, walked_by_value}
+use Rattle.mm_check.proofs.WalkLaw.{walked_to_start, good_step_is_earlier}
 use Rattle.mm_check.proofs.essential.note_essential.Goals.{then-flag, else-flag}
 use Rattle.mm_check.proofs.essential.note_essential.Goals as goal
 
 pub loop-i-init : goal.loop-i-init
 loop-i-init g c =
     let steps = c.args.steps.now.steps in
-    let step_flags = c.in_ok-reset_flags.ensures.step_flags
+    let step_flags_are = c.in_ok-reset_flags.ensures.step_flags
     ∙ ap (λ n. replicate n false) c.len.ensures in
     rw c.len-i.ensures
-    (walk_start c.args.database.now.statements c.args.theorem steps c.requires.steps.complete
+    (walked_at_start c.args.database.now.statements c.args.theorem steps
+    c.requires.steps.is_complete
     c.reset_flags.new.entry_flags.items c.reset_flags.new.step_flags.items c.clear.new.self
-    c.requires.steps.steps_are c.requires.valid c.in_ok-reset_flags.ensures.entry_flags step_flags
+    c.requires.steps.steps_are c.requires.has_proof c.in_ok-reset_flags.ensures.entry_flags
+    step_flags_are
     c.clear.ensures)
 
 pub pop_flag-flag-requires : goal.pop_flag-flag-requires
 pop_flag-flag-requires g c =
     let steps = c.args.steps.now.steps in
-    let inside : c.loop-i.i - 1 < length steps =
+    let i_lt_length : c.loop-i.i - 1 < length steps =
     omega (arith, c.loop-i-test.true, c.loop-i.auto.i, c.len-i.ensures) in
-    let next : c.loop-i.i ≡ suc (c.loop-i.i - 1) = omega (arith, c.loop-i-test.true) in
-    walk_some c.args.database.now.statements c.args.theorem steps c.loop-i.i
+    let i_is_suc : c.loop-i.i ≡ suc (c.loop-i.i - 1) = omega (arith, c.loop-i-test.true) in
+    has_entry_flag c.args.database.now.statements c.args.theorem steps c.loop-i.i
     (c.loop-i.i - 1) c.loop-i.entry_flags.items c.loop-i.step_flags.items c.loop-i.noted
-    c.loop-i.invariant inside next
+    c.loop-i.invariant i_lt_length i_is_suc
 
-pub undo_step-requires-clause-known : goal.undo_step-requires-clause-known
-undo_step-requires-clause-known g c =
+pub undo_step-requires-clause-label_is_below : goal.undo_step-requires-clause-label_is_below
+undo_step-requires-clause-label_is_below g c =
     let db = c.args.database.now.statements in
     let steps = c.args.steps.now.steps in
     let i = c.loop-i.i - 1 in
     let i_lt_length_steps : i < length steps =
     omega (arith, c.loop-i-test.true, c.loop-i.auto.i, c.len-i.ensures) in
-    good_labels db c.args.theorem i (as_step c.step.result)
+    good_step_label_is_below db c.args.theorem i (as_step c.step.result)
     (step_at_is_good (context_at db c.args.theorem) steps i i
-    (as_step c.step.result) i_lt_length_steps c.requires.steps.good refl c.step.ensures)
+    (as_step c.step.result) i_lt_length_steps c.requires.steps.are_good refl c.step.ensures)
 
-pub undo_step-requires-clause-earlier : goal.undo_step-requires-clause-earlier
-undo_step-requires-clause-earlier g c =
+pub undo_step-requires-clause-repeats_earlier : goal.undo_step-requires-clause-repeats_earlier
+undo_step-requires-clause-repeats_earlier g c =
     let db = c.args.database.now.statements in
     let steps = c.args.steps.now.steps in
     let i = c.loop-i.i - 1 in
     let i_lt_length_steps : i < length steps =
     omega (arith, c.loop-i-test.true, c.loop-i.auto.i, c.len-i.ensures) in
-    let many = ap length c.deref_mut.ensures.value ∙ c.loop-i.invariant.many in
-    earlier_of (context_at db c.args.theorem) i (length c.deref_mut.result.now)
-    (as_step c.step.result) (omega (arith, i_lt_length_steps, many))
+    let step_flags_fit = ap length c.deref_mut.ensures.value ∙ c.loop-i.invariant.step_flags_fit in
+    good_step_is_earlier (context_at db c.args.theorem) i (length c.deref_mut.result.now)
+    (as_step c.step.result) (omega (arith, i_lt_length_steps, step_flags_fit))
     (step_at_is_good (context_at db c.args.theorem) steps i i
-    (as_step c.step.result) i_lt_length_steps c.requires.steps.good refl c.step.ensures)
+    (as_step c.step.result) i_lt_length_steps c.requires.steps.are_good refl c.step.ensures)
 
 pub loop-i-preserved : goal.loop-i-preserved
 loop-i-preserved g c =
@@ -65,41 +68,44 @@ loop-i-preserved g c =
     let step_flags = c.loop-i.step_flags.items in
     let i_lt_length_steps : i < length steps =
     omega (arith, c.loop-i-test.true, c.loop-i.auto.i, c.len-i.ensures) in
-    let next : c.loop-i.i ≡ suc i = omega (arith, c.loop-i-test.true) in
-    let needed : c.if-flag.is_essential ≡ (c.pop_flag-flag.result || flag_at step_flags i) =
+    let i_is_suc : c.loop-i.i ≡ suc i = omega (arith, c.loop-i-test.true) in
+    let is_essential_is : c.if-flag.is_essential ≡ (c.pop_flag-flag.result || flag_at step_flags i)
+    =
     elim c.if-flag.branch [
       | then-flag w ↦ w.is_essential-is ∙ w.if-flag.true
           ∙ sym (or_left c.pop_flag-flag.result (flag_at step_flags i) w.if-flag.true)
       | else-flag w ↦ w.is_essential-is ∙ w.index.ensures
           ∙ sym (get_or_default step_flags i false w.index.result.now
-          (omega (arith, i_lt_length_steps, c.loop-i.invariant.many)))
+          (omega (arith, i_lt_length_steps, c.loop-i.invariant.step_flags_fit)))
           ∙ sym (ap (λ f. f || flag_at step_flags i) w.if-flag.false)
     ] in
-    let want : c.undo_step.new.step_flags
+    let step_flags_are : c.undo_step.new.step_flags
     ≡ step_flags_after c.if-flag.is_essential
     (as_step c.step.result) step_flags = c.in_ok-undo_step.ensures.step_flags
     ∙ ap (step_flags_after c.if-flag.is_essential (as_step c.step.result))
     c.deref_mut.ensures.value in
-    let long : length step_flags ≡ c.loop-i.step_flags.len = search rules in
-    let whole : take c.loop-i.step_flags.len
+    let length_is : length step_flags ≡ c.loop-i.step_flags.len = search rules in
+    let step_flags_written_back : take c.loop-i.step_flags.len
     (c.undo_step.new.step_flags ++ drop (length c.undo_step.new.step_flags) step_flags)
     ≡ c.undo_step.new.step_flags = take_at c.undo_step.new.step_flags
     (drop (length c.undo_step.new.step_flags) step_flags) c.loop-i.step_flags.len
-    (ap length want ∙ step_flags_count c.if-flag.is_essential (as_step c.step.result) step_flags
-    ∙ long) in
-    walk_here db c.args.theorem steps c.loop-i.i i c.loop-i.entry_flags.items step_flags
-    c.loop-i.noted c.loop-i.invariant i_lt_length_steps next c.pop_flag-flag.new.entry_flags.items
+    (ap length step_flags_are ∙ step_flags_count c.if-flag.is_essential (as_step c.step.result)
+    step_flags
+    ∙ length_is) in
+    walked_by_value db c.args.theorem steps c.loop-i.i i c.loop-i.entry_flags.items step_flags
+    c.loop-i.noted c.loop-i.invariant i_lt_length_steps i_is_suc
+    c.pop_flag-flag.new.entry_flags.items
     c.pop_flag-flag.result c.if-flag.is_essential
     (as_step c.step.result) c.undo_step.new.entry_flags.items _ c.undo_step.new.noted
-    c.pop_flag-flag.ensures needed c.requires.steps.good c.step.ensures
+    c.pop_flag-flag.ensures is_essential_is c.requires.steps.are_good c.step.ensures
     c.in_ok-undo_step.ensures.entry_flags
-    (whole ∙ want) c.in_ok-undo_step.ensures.noted
+    (step_flags_written_back ∙ step_flags_are) c.in_ok-undo_step.ensures.noted
 
 pub returns : goal.returns
 returns g c =
-    let none : c.loop-i.i ≡ 0 = omega (arith, c.loop-i-test.false) in
-    walk_end c.args.database.now.statements c.args.theorem c.args.steps.now.steps
-    c.requires.steps.complete
+    let i_is_0 : c.loop-i.i ≡ 0 = omega (arith, c.loop-i-test.false) in
+    walked_to_start c.args.database.now.statements c.args.theorem c.args.steps.now.steps
+    c.requires.steps.is_complete
     c.loop-i.entry_flags.items c.loop-i.step_flags.items c.loop-i.noted
-    (subst (λ n. Walked c.args.database.now.statements c.args.theorem c.args.steps.now.steps n
-    c.loop-i.entry_flags.items c.loop-i.step_flags.items c.loop-i.noted) none c.loop-i.invariant)
+    (subst (λ n. AreFoundFrom c.args.database.now.statements c.args.theorem c.args.steps.now.steps n
+    c.loop-i.entry_flags.items c.loop-i.step_flags.items c.loop-i.noted) i_is_0 c.loop-i.invariant)

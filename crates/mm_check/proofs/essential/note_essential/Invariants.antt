@@ -1,7 +1,8 @@
-use Rattle.mm_check.proofs.WalkLaw.{Walked}
+use Rattle.mm_check.proofs.WalkLaw.{AreFoundFrom}
 use Rattle.mm_check.proofs.essential.note_essential.Given as goal
 
 abbrev pub invariant-loop-i : goal.invariant-loop-i
 invariant-loop-i g l =
-    Walked l.database.statements l.theorem l.steps.steps l.i l.entry_flags.items l.step_flags.items
+    AreFoundFrom l.database.statements l.theorem l.steps.steps l.i l.entry_flags.items
+    l.step_flags.items
     l.noted

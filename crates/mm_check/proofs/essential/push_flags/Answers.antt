@@ -8,11 +8,11 @@ use Rattle.mm_check.proofs.essential.push_flags.Goals as goal
 pub returns : goal.returns
 returns g c =
     let hs = c.hyps-hypothesis-items.result.now in
-    let all : length hs ≤ c.loop-hypothesis.hypothesis-index = omega
+    let length_hs_le : length hs ≤ c.loop-hypothesis.hypothesis-index = omega
     (arith, c.loop-hypothesis-test.false) in
     c.loop-hypothesis.invariant
     ∙ ap (λ (ks : List ℕ). c.args.entry_flags.now.items
     ++ map (λ h. c.args.is_essential
     && list_any is_essential (statement_at c.args.database.now.statements h)) ks)
-    (take_all c.loop-hypothesis.hypothesis-index hs all
+    (take_all c.loop-hypothesis.hypothesis-index hs length_hs_le
     ∙ c.hyps-hypothesis-items.ensures.are)

@@ -1,5 +1,5 @@
-use Rattle.mm_laws.proofs.SomeOutputLaw.{cells_decided}
+use Rattle.mm_laws.proofs.SomeOutputLaw.{cells_are_decided}
 use Rattle.mm_laws.proofs.cells.cells_are_decided.Goals as goal
 
 pub returns : goal.returns
-returns c = cells_decided
+returns c = cells_are_decided

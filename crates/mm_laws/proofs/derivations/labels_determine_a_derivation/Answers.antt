@@ -1,5 +1,5 @@
-use Rattle.mm_laws.proofs.TheoremLaw.{labels_determine, one_proof}
+use Rattle.mm_laws.proofs.TheoremLaw.{labels_determine_derivations, proof_is_unique}
 use Rattle.mm_laws.proofs.derivations.labels_determine_a_derivation.Goals as goal
 
 pub returns : goal.returns
-returns c = record { labels = labels_determine; proof = one_proof }
+returns c = record { labels = labels_determine_derivations; proof = proof_is_unique }

@@ -1,7 +1,13 @@
-use Rattle.mm_laws.proofs.ReadLaw.{frames_complete}
-use Rattle.mm_laws.proofs.TypedLaw.{variables_typed, variables_mandatory}
+use Rattle.mm_laws.proofs.ReadLaw.{frames_are_complete}
+use Rattle.mm_laws.proofs.TypedLaw.{variables_are_typed_where_read}
+use Rattle.mm_laws.proofs.TypedLaw.{variables_are_mandatory_where_read}
 use Rattle.mm_laws.proofs.frames.lawful_statements_have_complete_frames.Goals as goal
 
 pub returns : goal.returns
 returns c =
-    record { complete = frames_complete; typed = variables_typed; mandatory = variables_mandatory }
+    record {
+      frames_are_complete = frames_are_complete;
+      variables_are_typed = variables_are_typed_where_read;
+      mandatory =
+          variables_are_mandatory_where_read;
+    }

@@ -1,5 +1,11 @@
-use Rattle.mm_laws.proofs.SpelledStepsLaw.{steps_named, steps_unique, steps_labels}
+use Rattle.mm_laws.proofs.SpelledStepsLaw.{steps_are_named, named_steps_are_unique}
+use Rattle.mm_laws.proofs.SpelledStepsLaw.{steps_are_labels_where_read}
 use Rattle.mm_laws.proofs.steps.steps_are_what_is_named.Goals as goal
 
 pub returns : goal.returns
-returns c = record { compressed = steps_named; one = steps_unique; normal = steps_labels }
+returns c = record {
+  compressed = steps_are_named;
+  steps_are_unique = named_steps_are_unique;
+  normal
+      = steps_are_labels_where_read;
+}

@@ -9,14 +9,14 @@ use Rattle.mm_laws.proofs.words.tokens_are_those_of_the_grammar.Goals as goal
 
 pub returns : goal.returns
 returns c text = record {
-  too_long = λ h. (tokens_of_long text h, lexical_fault_long text h);
-  read = λ h ws words.
-      let same : reading text None (words_of text) ≡ reading text None ws =
-      ap (reading text None) (sym (AreWords_only text ws words)) in (
+  long_text_is_refused = λ is_long. (tokens_of_long text is_long, lexical_fault_long text is_long);
+  short_text_is_read = λ is_short ws are_words.
+      let readings_equal : reading text None (words_of text) ≡ reading text None ws =
+      ap (reading text None) (sym (AreWords_only text ws are_words)) in (
         reading text None ws,
         reading_IsReading text ws,
         tokens_of_read text
-            (reading text None ws) h same,
-        lexical_fault_read text (reading text None ws) h same,
+            (reading text None ws) is_short readings_equal,
+        lexical_fault_read text (reading text None ws) is_short readings_equal,
       );
 }

@@ -22,38 +22,47 @@ pub returns : goal.returns
 returns g c =
     let request = c.args.request.now in
     let text = c.args.text.now in
-    let to = c.write_output.new.to in
-    let wrote = c.in-Ok.ensures.wrote in
-    let ends : Status → List ℕ → Type 0 =
-    λ s out. WritingEnds s request.with_open (request ∷ []) text (to.len ∷ []) out in
+    let front = c.write_output.new.to in
+    let written = c.in-Ok.ensures.appends_output in
+    let ends_with : Status → List ℕ → Type 0 =
+    λ s out. WritingEnds s request.with_open (request ∷ []) text (front.len ∷ []) out in
     rw c.if-with_citations.false
-    (subst (λ (out : List ℕ). ends c.status-2.result out) {x = to.out.now} (search rules)
-    (subst (λ (s : Status). ends s to.out.now) (sym c.status-2.ensures)
-    (writing_ends c.in-Ok.verdict request.with_open (request ∷ []) text (to.len ∷ []) to.out.now
-    to.len wrote.0
-    (one_output request text to.out.now wrote.1.0 to.written.bytes to.len wrote.1.1
-    (search rules) to.counted to.placed) (omega arith))))
+    (subst (λ (out : List ℕ). ends_with c.status-2.result out) {x = front.out.now} (search rules)
+    (subst (λ (s : Status). ends_with s front.out.now) (sym c.status-2.ensures)
+    (writing_ends c.in-Ok.verdict request.with_open (request ∷ []) text (front.len ∷ [])
+    front.out.now
+    front.len written.0
+    (one_output request text front.out.now written.1.0 front.written.bytes front.len written.1.1
+    (search rules) front.len_is front.is_at_front) (omega arith))))
 
 pub returns-in-Ok-write_output : goal.returns-in-Ok-write_output
 returns-in-Ok-write_output g c =
     let request = c.args.request.now in
     let text = c.args.text.now in
-    let first = c.write_output.new.to in
-    let to = c.write_output-then-with_citations.new.to in
+    let front_before = c.write_output.new.to in
+    let front = c.write_output-then-with_citations.new.to in
     let requests : List Request = request ∷ citing request ∷ [] in
-    let lengths : List ℕ = first.len ∷ (to.len - first.len) ∷ [] in
-    let wrote = c.in-Ok.ensures.wrote in
-    let more = c.in-Ok-write_output.ensures.wrote.1 in
-    let long : length to.written.bytes ≡ length first.written.bytes + length more.0 =
-    ap length more.2 ∙ length-append first.written.bytes more.0 in
-    let ends : Status → List ℕ → Type 0 =
+    let lengths : List ℕ = front_before.len ∷ (front.len - front_before.len) ∷ [] in
+    let written = c.in-Ok.ensures.appends_output in
+    let other_written = c.in-Ok-write_output.ensures.appends_output.1 in
+    let lengths_add : length front.written.bytes ≡ length front_before.written.bytes + length
+    other_written.0 =
+    ap length other_written.2 ∙ length-append front_before.written.bytes other_written.0 in
+    let ends_with : Status → List ℕ → Type 0 =
     λ s out. WritingEnds s request.with_open requests text lengths out in
     rw c.if-with_citations.true
-    (subst (λ (out : List ℕ). ends c.status.result out) {x = to.out.now} (search rules)
-    (subst (λ (s : Status). ends s to.out.now) (sym c.status.ensures)
-    (writing_ends c.in-Ok.verdict request.with_open requests text lengths to.out.now to.len wrote.0
-    (two_outputs request (citing request) text to.out.now wrote.1.0 more.0 first.written.bytes
-    to.written.bytes first.len to.len wrote.1.1
-    (subst (λ (r : Request). IsOutput text r more.0) c.citing.ensures more.1)
-    (search rules) more.2 first.counted to.counted to.placed)
-    (let a = first.counted in let b = to.counted in omega (arith, long, a, b)))))
+    (subst (λ (out : List ℕ). ends_with c.status.result out) {x = front.out.now} (search rules)
+    (subst (λ (s : Status). ends_with s front.out.now) (sym c.status.ensures)
+    (writing_ends c.in-Ok.verdict request.with_open requests text lengths front.out.now front.len
+    written.0
+    (two_outputs request (citing request) text front.out.now written.1.0 other_written.0
+    front_before.written.bytes
+    front.written.bytes front_before.len front.len written.1.1
+    (subst (λ (r : Request). IsOutput text r other_written.0) c.citing.ensures other_written.1)
+    (search rules) other_written.2 front_before.len_is front.len_is front.is_at_front)
+    (let first_length_is = front_before.len_is in let length_is = front.len_is in omega (
+      arith,
+      lengths_add,
+      first_length_is,
+      length_is,
+    )))))

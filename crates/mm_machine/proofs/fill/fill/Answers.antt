@@ -1,11 +1,12 @@
 use Rattle.std.proofs.Common.{sym, ◌∙◌, arith}
 use Rattle.std.proofs.lemmas.Grind.{common_steps}
-use Rattle.mm_machine.proofs.GrowLaw.{variable_in}
+use Rattle.mm_machine.proofs.GrowLaw.{variable_replacement_is_in}
 use Rattle.mm_machine.proofs.fill.fill.Goals as goal
 
 pub formula-replacement-requires : goal.formula-replacement-requires
 formula-replacement-requires c =
-    variable_in c.args.symbols.now c.args.premises.now c.args.formula.now c.loop-part.part-index
+    variable_replacement_is_in c.args.symbols.now c.args.premises.now c.args.formula.now
+    c.loop-part.part-index
     c.part-item.result c.in-Variable.number c.replacement_of.result c.requires.premises
     c.requires.formula
     c.loop-part-test.true c.part-item.is (sym c.symbol.ensures ∙ c.in-Variable.is)
@@ -14,13 +15,13 @@ formula-replacement-requires c =
 pub loop-part-preserved : goal.loop-part-preserved
 loop-part-preserved c = grind (arith, common_steps)
 
-pub returns-then-written_count-gt-FORMULA_LIMIT-clause-within :
-    goal.returns-then-written_count-gt-FORMULA_LIMIT-clause-within
-returns-then-written_count-gt-FORMULA_LIMIT-clause-within c = tt
+pub returns-then-written_count-gt-FORMULA_LIMIT-clause-count_le_length :
+    goal.returns-then-written_count-gt-FORMULA_LIMIT-clause-count_le_length
+returns-then-written_count-gt-FORMULA_LIMIT-clause-count_le_length c = tt
 
-pub returns-then-written_count-gt-FORMULA_LIMIT-clause-short :
-    goal.returns-then-written_count-gt-FORMULA_LIMIT-clause-short
-returns-then-written_count-gt-FORMULA_LIMIT-clause-short c = tt
+pub returns-then-written_count-gt-FORMULA_LIMIT-clause-count_le_limit :
+    goal.returns-then-written_count-gt-FORMULA_LIMIT-clause-count_le_limit
+returns-then-written_count-gt-FORMULA_LIMIT-clause-count_le_limit c = tt
 
 pub returns-clause-written : goal.returns-clause-written
 returns-clause-written c = grind (arith, common_steps)

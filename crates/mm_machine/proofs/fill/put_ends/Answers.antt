@@ -7,14 +7,20 @@ pub returns-clause-written : goal.returns-clause-written
 returns-clause-written c =
     let symbols = c.args.symbols.now in
     let w = c.args.width in
-    let many = c.requires.many in
-    let few = c.requires.few in
+    let width_le_count = c.requires.width_le_count in
+    let count_le_double_width = c.requires.count_le_double_width in
     let room = c.requires.room in
-    let end = take_rest symbols (length symbols - w) in
-    let long = ap length end in
-    let dropped = length-drop (length symbols - w) symbols in
+    let tail_is_dropped = take_rest symbols (length symbols - w) in
+    let tail_length_is = ap length tail_is_dropped in
+    let length_dropped = length-drop (length symbols - w) symbols in
     put_twice c.args.list.now c.put_width.new.list c.put_width-2.new.list symbols _ _ c.args.index w
     _
-    (omega (arith, many)) (omega (arith, few)) (omega (arith, room)) refl end
-    (length-take-le w symbols many) (omega (arith, long, dropped, many)) c.put_width.ensures.written
+    (omega (arith, width_le_count)) (omega (arith, count_le_double_width)) (omega (arith, room))
+    refl tail_is_dropped
+    (length-take-le w symbols width_le_count) (omega (
+      arith,
+      tail_length_is,
+      length_dropped,
+      width_le_count,
+    )) c.put_width.ensures.written
     c.put_width-2.ensures.written

@@ -1,10 +1,10 @@
 use Rattle.std.proofs.Common.{◌≡◌, Ok, length, nat_le, drop, sym, ap, ◌∙◌}
 use Rattle.mm_spec.specs.Limits.{formula_limit}
-use Rattle.mm_machine.proofs.GrowLaw.{stretch_in}
+use Rattle.mm_machine.proofs.GrowLaw.{slice_entries_are_in}
 use Rattle.mm_machine.specs.Arena.{arena}
 use Rattle.mm_machine.specs.Replaced.{replaced}
-use Rattle.mm_machine.proofs.PlacedLaw.{entries_if_short, formula_known, too_long_here}
-use Rattle.mm_machine.proofs.PlacedLaw.{same_formula, same_count}
+use Rattle.mm_machine.proofs.PlacedLaw.{entries_if_short, formula_known, entries_too_long}
+use Rattle.mm_machine.proofs.PlacedLaw.{replaced_by_value, variables_below_by_value}
 use Rattle.mm_machine.proofs.machine.replace_by_long_formula.Given.{Over}
 use Rattle.mm_machine.proofs.machine.replace_by_long_formula.Goals.{After-replace_from}
 use Rattle.mm_machine.proofs.machine.replace_by_long_formula.Goals as goal
@@ -16,62 +16,67 @@ formula_is : (g : Over) (c : After-replace_from g)
     (drop c.args.below c.args.stack.now.items)
     c.args.formula.now
 formula_is g c =
-    c.deref-in-Ok-true.ensures.value ∙ c.in-Ok-true.ensures.built c.in-Ok-true.field-0-test
-    ∙ same_formula c.args.unmarked.now c.args.marked.now c.args.stack.now.items c.args.below
+    c.deref-in-Ok-true.ensures.value ∙ c.in-Ok-true.ensures.list_is_formula c.in-Ok-true.field-0-test
+    ∙ replaced_by_value c.args.unmarked.now c.args.marked.now c.args.stack.now.items c.args.below
     c.args.formula.now c.as_slice.result.now c.deref.result.now c.as_slice.ensures
     c.deref.ensures.value
 
 pub returns-in-Err-replace_from-clause-stack : goal.returns-in-Err-replace_from-clause-stack
-returns-in-Err-replace_from-clause-stack g c = λ w known is.
+returns-in-Err-replace_from-clause-stack g c = λ w parts_in_range is_stack_of.
     c.replace_from.ensures.stack w c.args.marked.now
     (formula_known c.args.unmarked.now c.args.marked.now c.args.stack.now.items c.args.below
     c.args.formula.now c.deref-in-Ok-true.result.now
-    (formula_is g (goal.at.returns-in-Err-replace_from-clause-stack g c).After-replace_from) w is
-    known) is
+    (formula_is g (goal.at.returns-in-Err-replace_from-clause-stack g c).After-replace_from) w
+    is_stack_of
+    parts_in_range) is_stack_of
 
 pub returns-in-Ok-clause-stack : goal.returns-in-Ok-clause-stack
-returns-in-Ok-clause-stack g c = λ w known is.
+returns-in-Ok-clause-stack g c = λ w parts_in_range is_stack_of.
     c.replace_from.ensures.stack w c.args.marked.now
     (formula_known c.args.unmarked.now c.args.marked.now c.args.stack.now.items c.args.below
     c.args.formula.now c.deref-in-Ok-true.result.now
-    (formula_is g (goal.at.returns-in-Ok-clause-stack g c).After-replace_from) w is known) is
+    (formula_is g (goal.at.returns-in-Ok-clause-stack g c).After-replace_from) w is_stack_of
+    parts_in_range) is_stack_of
 
 pub returns-in-Ok-clause-entries : goal.returns-in-Ok-clause-entries
 returns-in-Ok-clause-entries g c =
-    let first =
-    c.deref-in-Ok-true.ensures.value ∙ c.in-Ok-true.ensures.built c.in-Ok-true.field-0-test in
+    let formula_is_built =
+    c.deref-in-Ok-true.ensures.value ∙ c.in-Ok-true.ensures.list_is_formula c.in-Ok-true.field-0-test in
     entries_if_short c.args.unmarked.now c.args.marked.now c.args.stack.now.items c.args.below
     c.args.formula.now
     c.deref-in-Ok-true.result.now
     (formula_is g (goal.at.returns-in-Ok-clause-entries g c).After-replace_from)
-    (ap (λ z. nat_le (length z) formula_limit) first ∙ sym c.in-Ok-true.ensures.short
+    (ap (λ z. nat_le (length z) formula_limit) formula_is_built
+    ∙ sym c.in-Ok-true.ensures.tells_length_le_limit
     ∙ c.in-Ok-true.field-0-test)
     ∙ ap Ok (sym (c.in-Ok.ensures.formulas c.args.marked.now c.requires.stack))
 
 pub returns-in-Ok-false-clause-refused : goal.returns-in-Ok-false-clause-refused
 returns-in-Ok-false-clause-refused g c =
-    let same =
-    same_formula c.args.unmarked.now c.args.marked.now c.args.stack.now.items c.args.below
+    let replaced_is =
+    replaced_by_value c.args.unmarked.now c.args.marked.now c.args.stack.now.items c.args.below
     c.args.formula.now c.as_slice.result.now c.deref.result.now c.as_slice.ensures
     c.deref.ensures.value in
-    too_long_here c.args.unmarked.now c.args.marked.now c.args.stack.now.items c.args.below
+    entries_too_long c.args.unmarked.now c.args.marked.now c.args.stack.now.items c.args.below
     c.args.formula.now
-    (ap (λ z. nat_le (length z) formula_limit) (sym same) ∙ sym c.in-Ok-false.ensures.short
+    (ap (λ z. nat_le (length z) formula_limit) (sym replaced_is)
+    ∙ sym c.in-Ok-false.ensures.tells_length_le_limit
     ∙ c.in-Ok-false.field-0-test)
 
 pub build-requires-clause-premises : goal.build-requires-clause-premises
 build-requires-clause-premises g c =
-    stretch_in (arena c.as_slice.result.now c.args.marked.now) c.deref.result.now
+    slice_entries_are_in (arena c.as_slice.result.now c.args.marked.now) c.deref.result.now
     c.args.below (length c.deref.result.now)
-    (rw (c.as_slice.ensures, c.deref.ensures.value) c.requires.stack.inside)
+    (rw (c.as_slice.ensures, c.deref.ensures.value) c.requires.stack.entries_in_arena)
 
 pub build-requires-clause-formula : goal.build-requires-clause-formula
 build-requires-clause-formula g c =
-    same_count c.args.unmarked.now c.args.marked.now c.args.stack.now.items c.args.below
+    variables_below_by_value c.args.unmarked.now c.args.marked.now c.args.stack.now.items
+    c.args.below
     c.args.formula.now c.deref.result.now c.deref.ensures.value c.requires.formula
 
 pub returns-in-Err-clause-stack : goal.returns-in-Err-clause-stack
-returns-in-Err-clause-stack g c = λ w known is. is
+returns-in-Err-clause-stack g c = λ w parts_in_range is_stack_of. is_stack_of
 
 pub returns-in-Ok-false-clause-stack : goal.returns-in-Ok-false-clause-stack
-returns-in-Ok-false-clause-stack g c = λ w known is. is
+returns-in-Ok-false-clause-stack g c = λ w parts_in_range is_stack_of. is_stack_of

@@ -8,7 +8,7 @@ write_judged-requires g c =
     record {
       judged =
           c.judged_text-judged.ensures c.args.text.now c.args.request.now.essential
-          c.args.request.now.with_open c.requires.read
+          c.args.request.now.with_open c.requires.is_read
           (subst
           (λ (r : Request). IsJudgement c.args.database.statements r.essential c.in-Ok.judged)
           c.request.view_is c.in-Ok.ensures);

@@ -2,12 +2,12 @@ use Rattle.mm_run.proofs.alone.judge_alone.Goals as goal
 
 pub returns : goal.returns
 returns g c =
-    let from = c.in_ok-database.ensures in
+    let is_read_from = c.in_ok-database.ensures in
     c.judged_text.ensures c.args.text.now c.args.essential c.args.with_open (record {
-      text_is = from.text;
-      counted = record {
-        flag = from.flag;
-        statements = from.counted;
+      text_is = is_read_from.text;
+      is_counted = record {
+        flag_is = is_read_from.flag;
+        statements_are = is_read_from.counted;
       };
-      read = from.read;
+      is_read = is_read_from.read;
     }) c.in_ok-judged.ensures

@@ -6,8 +6,9 @@ use Rattle.mm_run.proofs.input.read_all.Given as goal
 abbrev pub invariant-loop-piece : goal.invariant-loop-piece
 invariant-loop-piece g l =
     record {
-      within : vec_len l.text ≤ reading_limit;
-      took : Consumes (g.R.Read.remaining l.fn.from) (g.R.Read.remaining l.from) l.text.items;
+      length_le_limit : vec_len l.text ≤ reading_limit;
+      consumes_text : Consumes (g.R.Read.remaining l.fn.from) (g.R.Read.remaining l.from)
+          l.text.items;
     }
 
 abbrev pub decreases-loop-piece : goal.decreases-loop-piece

@@ -3,11 +3,11 @@ use Rattle.mm_spec.specs.Ends.{Answers}
 use Rattle.mm_spec.specs.Request.{Request}
 use Rattle.mm_plan.specs.Plans.{request_of}
 use Rattle.mm_run.specs.Counted.{IsJudgedText}
-use Rattle.mm_run.specs.declared.judged.JudgedText.{JudgedText}
+use Rattle.mm_run.specs.declared.judged_text.JudgedText.{JudgedText}
 use Rattle.mm_run.proofs.output.answer.Goals as goal
 
 pub report-requires-clause-judged : goal.report-requires-clause-judged
-report-requires-clause-judged g c κs within =
+report-requires-clause-judged g c κs has_kind =
     let plan = c.args.plan.now in
     rw c.request-in-Sound.ensures
     (subst

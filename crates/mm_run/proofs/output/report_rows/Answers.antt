@@ -6,12 +6,12 @@ pub returns-in-Ok : goal.returns-in-Ok
 returns-in-Ok g c =
     let d = c.args.database.now in
     let request = c.args.request.now in (
-      (d.read, c.requires.marked.judged.sound),
+      (d.read, c.requires.marked.is_judged.has_no_fault),
       (
         report_of request d c.args.chosen.now c.args.marked.now,
         table_is_output request d c.requires.marked.citations c.args.chosen.now c.args.marked.now
-            c.requires.marked.judged
-            c.requires.chosen c.requires.marked.marked c.requires.choice,
+            c.requires.marked.is_judged
+            c.requires.chosen c.requires.marked.is_matrix c.requires.choice,
         c.in-Ok.ensures.ok,
       ),
     )
@@ -20,11 +20,11 @@ pub returns-in-Err : goal.returns-in-Err
 returns-in-Err g c =
     let d = c.args.database.now in
     let request = c.args.request.now in
-    let cut = c.in-Err.ensures.err in (
+    let is_prefix = c.in-Err.ensures.err in (
       report_of request d c.args.chosen.now c.args.marked.now,
-      cut.0,
+      is_prefix.0,
       table_is_output request d c.requires.marked.citations c.args.chosen.now
-          c.args.marked.now c.requires.marked.judged
-          c.requires.chosen c.requires.marked.marked c.requires.choice,
-      cut.1,
+          c.args.marked.now c.requires.marked.is_judged
+          c.requires.chosen c.requires.marked.is_matrix c.requires.choice,
+      is_prefix.1,
     )

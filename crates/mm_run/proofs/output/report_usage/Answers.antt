@@ -6,12 +6,12 @@ pub returns-in-Ok : goal.returns-in-Ok
 returns-in-Ok g c =
     let d = c.args.database.now in
     let request = c.args.request.now in (
-      (d.read, c.requires.matrix.judged.sound),
+      (d.read, c.requires.matrix.is_judged.has_no_fault),
       (
         report_of request d c.args.chosen.now c.args.matrix.now,
         table_is_output request d c.requires.matrix.citations c.args.chosen.now c.args.matrix.now
-            c.requires.matrix.judged
-            c.requires.chosen c.requires.matrix.marked c.requires.choice,
+            c.requires.matrix.is_judged
+            c.requires.chosen c.requires.matrix.is_matrix c.requires.choice,
         c.in-Ok.ensures.ok,
       ),
     )
@@ -20,11 +20,11 @@ pub returns-in-Err : goal.returns-in-Err
 returns-in-Err g c =
     let d = c.args.database.now in
     let request = c.args.request.now in
-    let cut = c.in-Err.ensures.err in (
+    let is_prefix = c.in-Err.ensures.err in (
       report_of request d c.args.chosen.now c.args.matrix.now,
-      cut.0,
+      is_prefix.0,
       table_is_output request d c.requires.matrix.citations c.args.chosen.now
-          c.args.matrix.now c.requires.matrix.judged
-          c.requires.chosen c.requires.matrix.marked c.requires.choice,
-      cut.1,
+          c.args.matrix.now c.requires.matrix.is_judged
+          c.requires.chosen c.requires.matrix.is_matrix c.requires.choice,
+      is_prefix.1,
     )

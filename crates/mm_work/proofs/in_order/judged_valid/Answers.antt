@@ -1,18 +1,22 @@
 use Rattle.std.proofs.Common.{◌∙◌}
-use Rattle.mm_work.proofs.VerifyLaw.{all_cited}
+use Rattle.mm_work.proofs.VerifyLaw.{all_have_citations}
 use Rattle.mm_work.proofs.in_order.judged_valid.Goals as goal
 
 pub new-requires : goal.new-requires
 new-requires g c =
     let db = c.args.database.now.statements in
-    (all_cited db c.theorems.ensures.few c.len.ensures.complete c.args.essential _ c.args.lists
-    (c.in_ok-theorems.ensures.items_if_clones_equal (λ x y e. e) ∙ c.theorems.ensures.theorems)
+    (all_have_citations db c.theorems.ensures.few c.len.ensures.complete c.args.essential _
+    c.args.lists
+    (c.in_ok-theorems.ensures.items_if_clones_equal (λ x y equal. equal)
+    ∙ c.theorems.ensures.theorems)
     c.requires).0
 
 pub returns : goal.returns
 returns g c =
     let db = c.args.database.now.statements in
     rw c.new.ensures
-    (all_cited db c.theorems.ensures.few c.len.ensures.complete c.args.essential _ c.args.lists
-    (c.in_ok-theorems.ensures.items_if_clones_equal (λ x y e. e) ∙ c.theorems.ensures.theorems)
+    (all_have_citations db c.theorems.ensures.few c.len.ensures.complete c.args.essential _
+    c.args.lists
+    (c.in_ok-theorems.ensures.items_if_clones_equal (λ x y equal. equal)
+    ∙ c.theorems.ensures.theorems)
     c.requires).1

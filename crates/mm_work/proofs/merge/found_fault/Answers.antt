@@ -13,53 +13,63 @@ use Rattle.mm_work.proofs.merge.found_fault.Goals as goal
 pub returns-in-loop-findings : goal.returns-in-loop-findings
 returns-in-loop-findings g c =
     let db = c.args.database.now.statements in
-    let known =
+    let are_findings =
     subst (λ (f : Findings _). AreFindings db c.args.essential f) (sym c.findings-item.is)
-    (c.requires.found c.loop-findings.findings-index c.findings-item.result
+    (c.requires.are_findings c.loop-findings.findings-index c.findings-item.result
     c.loop-findings-test.true) in
-    let fault = subst (λ (o : Option IndexedFault). IsFaultFound db o) c.in-Some.is known.faulty in
+    let has_fault = subst (λ (o : Option IndexedFault). IsFaultFound db o) c.in-Some.is
+    are_findings.fault_is_found in
     subst (λ (i : ℕ). HasFault db (theorem_of db i) c.in-Some.faulty.fault) c.if-faulty-index.true
-    fault.1
+    has_fault.1
 
 -- none of the first elements has the index, and neither has the next one
-none_more : {A : Type 0} (fs : List (Findings A)) (n index : ℕ) (f : Findings A)
+no_index_up_to_next : {A : Type 0} (fs : List (Findings A)) (n index : ℕ) (f : Findings A)
     → f ≡ get_or fs n f → n < length fs → (faulty_index f.faulty ≡ Some index → ⊥)
     → ((k : ℕ) (d : Findings A) → 0 ≤ k → k < n
     → faulty_index (get_or fs k d).faulty ≡ Some index → ⊥)
     → (k : ℕ) (d : Findings A) → 0 ≤ k → k < n + 1
     → faulty_index (get_or fs k d).faulty ≡ Some index → ⊥
-none_more fs n index f is within other before k d low less = by_index (cases_lt k n)
+no_index_up_to_next fs n index f f_is n_lt_length f_has_other_index no_index_before k d zero_le_k
+    k_lt_suc_n = by_index (cases_lt k n)
   where
     by_index : (k < n) ⊎ (n ≤ k) → faulty_index (get_or fs k d).faulty ≡ Some index → ⊥
-    by_index (inl l) = before k d low l
-    by_index (inr l) =
-        let same : k ≡ n = omega (arith, l, less) in
-        let one : get_or fs k d ≡ f =
-        ap (λ i. get_or fs i d) same ∙ get_or_default fs n d f within ∙ sym is in
-        λ e. other (subst (λ (x : Findings _). faulty_index x.faulty ≡ Some index) one e)
+    by_index (inl k_lt_n) = no_index_before k d zero_le_k k_lt_n
+    by_index (inr n_le_k) =
+        let k_is_n : k ≡ n = omega (arith, n_le_k, k_lt_suc_n) in
+        let element_is_f : get_or fs k d ≡ f =
+        ap (λ i. get_or fs i d) k_is_n ∙ get_or_default fs n d f n_lt_length ∙ sym f_is in
+        λ has_index. f_has_other_index (subst (λ (x : Findings _). faulty_index x.faulty
+        ≡ Some index) element_is_f has_index)
 
-other_index : (found : Option IndexedFault) (fault : IndexedFault) (index : ℕ) → found ≡ Some fault
-    → (fault.index ≡ index → ⊥) → faulty_index found ≡ Some index → ⊥
-other_index found fault index is other e =
-    let same : Some fault.index ≡ Some index = sym (ap faulty_index is) ∙ e in
-    let one : fault.index ≡ index = cc in other one
+no_index_if_other : (found_fault : Option IndexedFault) (fault : IndexedFault) (index : ℕ)
+    → found_fault ≡ Some fault
+    → (fault.index ≡ index → ⊥) → faulty_index found_fault ≡ Some index → ⊥
+no_index_if_other found_fault fault index found_is indices_differ has_index =
+    let options_equal : Some fault.index ≡ Some index = sym (ap faulty_index found_is)
+    ∙ has_index in
+    let indices_equal : fault.index ≡ index = cc in indices_differ indices_equal
 
 pub loop-findings-preserved : goal.loop-findings-preserved
 loop-findings-preserved g c =
-    none_more c.args.all_findings.now c.loop-findings.findings-index c.args.index
+    no_index_up_to_next c.args.all_findings.now c.loop-findings.findings-index c.args.index
     c.findings-item.result c.findings-item.is
     c.loop-findings-test.true
     (elim c.in_default.branch [
       | in_default-via-in-None-1 w ↦ grind arith
       | in_default-via-in-Some+else-faulty-index w ↦
-          other_index _ _ _ w.in-Some.is w.if-faulty-index.false
+          no_index_if_other _ _ _ w.in-Some.is w.if-faulty-index.false
     ])
     c.loop-findings.invariant
 
 pub unreachable-requires : goal.unreachable-requires
 unreachable-requires g c =
-    let h = c.requires.faulty in
-    let within = h.1.1 in
-    let past = c.loop-findings-test.false in
-    c.loop-findings.invariant h.1.0 h.0 (omega arith) (omega (arith, within, past))
-    (subst (λ (f : Findings _). faulty_index f.faulty ≡ Some c.args.index) (sym h.1.2) h.2)
+    let is_found_faulty = c.requires.is_found_faulty in
+    let index_lt_length = is_found_faulty.1.1 in
+    let length_le_index = c.loop-findings-test.false in
+    c.loop-findings.invariant is_found_faulty.1.0 is_found_faulty.0 (omega arith) (omega (
+      arith,
+      index_lt_length,
+      length_le_index,
+    ))
+    (subst (λ (f : Findings _). faulty_index f.faulty ≡ Some c.args.index) (sym is_found_faulty.1.2)
+    is_found_faulty.2)

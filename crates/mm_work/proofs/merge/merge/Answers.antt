@@ -1,100 +1,118 @@
 use Rattle.std.proofs.Common.{◌≡◌, ◌<◌, ℕ, All, List, length, get_or, sym, ap, subst, arith}
 use Rattle.mm_spec.specs.Output.{theorems}
-use Rattle.mm_work.specs.Judged.{AreCitedUpTo}
+use Rattle.mm_work.specs.Judged.{HaveCitationsUpTo}
 use Rattle.mm_work.specs.declared.merge.ListPosition.{ListPosition}
-use Rattle.mm_work.proofs.PositionsLaw.{at_most_of_less, worker_within, found_there, list_within}
-use Rattle.mm_work.proofs.PositionsLaw.{list_cited}
-use Rattle.mm_work.proofs.VerifyLaw.{cited_more}
+use Rattle.mm_work.proofs.PositionsLaw.{le_of_lt, worker_lt_length, findings_at_worker}
+use Rattle.mm_work.proofs.PositionsLaw.{list_lt_cites_length}
+use Rattle.mm_work.proofs.PositionsLaw.{list_has_citations}
+use Rattle.mm_work.proofs.VerifyLaw.{citations_push}
 use Rattle.mm_work.proofs.merge.merge.Goals as goal
 
 pub offset_bounds-all_findings-position : goal.offset_bounds-all_findings-position
 offset_bounds-all_findings-position g c =
     let db = c.args.database.now.statements in
     let k = c.loop-position.position-index in
-    let same = c.deref-position-items.ensures.value in
-    let within : k < length (theorems db) =
-    let l = c.loop-position-test.true in let e = ap (λ (ps : List ListPosition). length ps) same in
-    let n = c.in_ok-positions.ensures.count in
-    let t = ap (λ (ts : List ℕ). length ts) c.theorems.ensures.theorems in
-    omega (arith, l, e, n, t) in
-    at_most_of_less (worker_within db c.args.essential c.args.all_findings.now c.requires.found
-    c.in_ok-positions.positions.items c.deref-position-items.result.now k _ same
-    (c.in_ok-positions.ensures.positions k (c.requires.valid k within)))
+    let positions_are = c.deref-position-items.ensures.value in
+    let k_lt_count : k < length (theorems db) =
+    let k_lt_length = c.loop-position-test.true in let lengths_equal = ap (λ (ps : List
+    ListPosition). length ps) positions_are in
+    let position_count_is = c.in_ok-positions.ensures.count in
+    let theorem_counts_equal = ap (λ (ts : List ℕ). length ts) c.theorems.ensures.theorems in
+    omega (arith, k_lt_length, lengths_equal, position_count_is, theorem_counts_equal) in
+    le_of_lt (worker_lt_length db c.args.essential c.args.all_findings.now c.requires.are_findings
+    c.in_ok-positions.positions.items c.deref-position-items.result.now k _ positions_are
+    (c.in_ok-positions.ensures.positions k (c.requires.each_is_found_valid k k_lt_count)))
 
 pub bounds-all_findings-position : goal.bounds-all_findings-position
 bounds-all_findings-position g c =
     let db = c.args.database.now.statements in
     let k = c.loop-position.position-index in
-    let same = c.deref-position-items.ensures.value in
-    let within : k < length (theorems db) =
-    let l = c.loop-position-test.true in let e = ap (λ (ps : List ListPosition). length ps) same in
-    let n = c.in_ok-positions.ensures.count in
-    let t = ap (λ (ts : List ℕ). length ts) c.theorems.ensures.theorems in
-    omega (arith, l, e, n, t) in
-    worker_within db c.args.essential c.args.all_findings.now c.requires.found
+    let positions_are = c.deref-position-items.ensures.value in
+    let k_lt_count : k < length (theorems db) =
+    let k_lt_length = c.loop-position-test.true in let lengths_equal = ap (λ (ps : List
+    ListPosition). length ps) positions_are in
+    let position_count_is = c.in_ok-positions.ensures.count in
+    let theorem_counts_equal = ap (λ (ts : List ℕ). length ts) c.theorems.ensures.theorems in
+    omega (arith, k_lt_length, lengths_equal, position_count_is, theorem_counts_equal) in
+    worker_lt_length db c.args.essential c.args.all_findings.now c.requires.are_findings
     c.in_ok-positions.positions.items
-    c.deref-position-items.result.now k _ same
-    (c.in_ok-positions.ensures.positions k (c.requires.valid k within))
+    c.deref-position-items.result.now k _ positions_are
+    (c.in_ok-positions.ensures.positions k (c.requires.each_is_found_valid k k_lt_count))
 
 pub get-requires : goal.get-requires
 get-requires g c =
     let db = c.args.database.now.statements in
     let fs = c.args.all_findings.now in
     let k = c.loop-position.position-index in
-    let same = c.deref-position-items.ensures.value in
-    let within : k < length (theorems db) =
-    let l = c.loop-position-test.true in let e = ap (λ (ps : List ListPosition). length ps) same in
-    let n = c.in_ok-positions.ensures.count in
-    let t = ap (λ (ts : List ℕ). length ts) c.theorems.ensures.theorems in
-    omega (arith, l, e, n, t) in
-    let h = c.in_ok-positions.ensures.positions k (c.requires.valid k within) in
-    list_within db c.args.essential fs c.requires.found c.in_ok-positions.positions.items
-    c.deref-position-items.result.now k _ same h _
-    (found_there db c.args.essential fs c.requires.found c.in_ok-positions.positions.items
-    c.deref-position-items.result.now k _ same h c.index-all_findings-position.result)
+    let positions_are = c.deref-position-items.ensures.value in
+    let k_lt_count : k < length (theorems db) =
+    let k_lt_length = c.loop-position-test.true in let lengths_equal = ap (λ (ps : List
+    ListPosition). length ps) positions_are in
+    let position_count_is = c.in_ok-positions.ensures.count in
+    let theorem_counts_equal = ap (λ (ts : List ℕ). length ts) c.theorems.ensures.theorems in
+    omega (arith, k_lt_length, lengths_equal, position_count_is, theorem_counts_equal) in
+    let has_position = c.in_ok-positions.ensures.positions k (c.requires.each_is_found_valid k
+    k_lt_count) in
+    list_lt_cites_length db c.args.essential fs c.requires.are_findings
+    c.in_ok-positions.positions.items
+    c.deref-position-items.result.now k _ positions_are has_position _
+    (findings_at_worker db c.args.essential fs c.requires.are_findings
+    c.in_ok-positions.positions.items
+    c.deref-position-items.result.now k _ positions_are has_position
+    c.index-all_findings-position.result)
 
 pub loop-position-preserved : goal.loop-position-preserved
 loop-position-preserved g c =
     let db = c.args.database.now.statements in
     let fs = c.args.all_findings.now in
     let k = c.loop-position.position-index in
-    let same = c.deref-position-items.ensures.value in
-    let within : k < length (theorems db) =
-    let l = c.loop-position-test.true in let e = ap (λ (ps : List ListPosition). length ps) same in
-    let n = c.in_ok-positions.ensures.count in
-    let t = ap (λ (ts : List ℕ). length ts) c.theorems.ensures.theorems in
-    omega (arith, l, e, n, t) in
-    let h = c.in_ok-positions.ensures.positions k (c.requires.valid k within) in
-    let there =
-    found_there db c.args.essential fs c.requires.found c.in_ok-positions.positions.items
-    c.deref-position-items.result.now k _ same h c.index-all_findings-position.result in
+    let positions_are = c.deref-position-items.ensures.value in
+    let k_lt_count : k < length (theorems db) =
+    let k_lt_length = c.loop-position-test.true in let lengths_equal = ap (λ (ps : List
+    ListPosition). length ps) positions_are in
+    let position_count_is = c.in_ok-positions.ensures.count in
+    let theorem_counts_equal = ap (λ (ts : List ℕ). length ts) c.theorems.ensures.theorems in
+    omega (arith, k_lt_length, lengths_equal, position_count_is, theorem_counts_equal) in
+    let has_position = c.in_ok-positions.ensures.positions k (c.requires.each_is_found_valid k
+    k_lt_count) in
+    let findings_are =
+    findings_at_worker db c.args.essential fs c.requires.are_findings
+    c.in_ok-positions.positions.items
+    c.deref-position-items.result.now k _ positions_are has_position
+    c.index-all_findings-position.result in
     rw c.in_ok-push.ensures.ok
-    (cited_more db c.args.essential
+    (citations_push db c.args.essential
     (theorems db) k c.loop-position.lists c.get.result.now c.loop-position.invariant
-    (list_cited db c.args.essential fs c.requires.found c.in_ok-positions.positions.items
-    c.deref-position-items.result.now k _ same h _ c.get.result.now there c.get.ensures.is))
+    (list_has_citations db c.args.essential fs c.requires.are_findings
+    c.in_ok-positions.positions.items
+    c.deref-position-items.result.now k _ positions_are has_position _ c.get.result.now findings_are
+    c.get.ensures.is))
 
 pub returns : goal.returns
 returns g c =
     let db = c.args.database.now.statements in
     let k = c.loop-position.position-index in
-    let all : k ≡ length (theorems db) =
-    let end = c.loop-position.auto.position-index-end in let past = c.loop-position-test.false in
-    let e = ap (λ (ps : List ListPosition). length ps) c.deref-position-items.ensures.value in
-    let n = c.in_ok-positions.ensures.count in
-    let t = ap (λ (ts : List ℕ). length ts) c.theorems.ensures.theorems in
-    omega (arith, end, past, e, n, t) in
-    subst (λ n. AreCitedUpTo db c.args.essential (theorems db) n c.loop-position.lists) all
+    let k_is_count : k ≡ length (theorems db) =
+    let k_le_length = c.loop-position.auto.position-index-end in let length_le_k =
+    c.loop-position-test.false in
+    let lengths_equal = ap (λ (ps : List ListPosition). length ps)
+    c.deref-position-items.ensures.value in
+    let position_count_is = c.in_ok-positions.ensures.count in
+    let theorem_counts_equal = ap (λ (ts : List ℕ). length ts) c.theorems.ensures.theorems in
+    omega (arith, k_le_length, length_le_k, lengths_equal, position_count_is, theorem_counts_equal)
+    in
+    subst (λ n. HaveCitationsUpTo db c.args.essential (theorems db) n c.loop-position.lists)
+    k_is_count
     c.loop-position.invariant
 
 pub positions_of-requires : goal.positions_of-requires
-positions_of-requires g c = λ k d l.
+positions_of-requires g c = λ k d k_lt_length.
     subst (λ (ts : List ℕ). All (λ i. i < length ts)
     (get_or c.args.all_findings.now k d).valid.items)
-    (sym c.theorems.ensures.theorems) (c.requires.found k d l).known
+    (sym c.theorems.ensures.theorems) (c.requires.are_findings k d k_lt_length).indices_lt_count
 
 pub loop-position-init : goal.loop-position-init
 loop-position-init g c = record {
-  count = ap length c.with_room-lists.ensures;
-  each = λ i l. absurd (omega arith);
+  list_count_is = ap length c.with_room-lists.ensures;
+  each_has_citations = λ i i_lt_0. absurd (omega arith);
 }

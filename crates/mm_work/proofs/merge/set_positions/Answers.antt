@@ -2,32 +2,40 @@ use Rattle.std.proofs.Common.{◌∙◌, ◌<◌, length, get_or, refl, subst, a
 use Rattle.std.proofs.lemmas.List.{length-set, get_or_default}
 use Rattle.mm_work.specs.Positions.{IsWithWorker}
 use Rattle.mm_work.specs.declared.merge.ListPosition.{ListPosition}
-use Rattle.mm_work.proofs.PositionsLaw.{with_worker_more, others_more}
+use Rattle.mm_work.proofs.PositionsLaw.{with_worker_before_next, others_stay_or_with_worker}
 use Rattle.mm_work.proofs.merge.set_positions.Goals as goal
 
 pub loop-list-preserved : goal.loop-list-preserved
 loop-list-preserved c =
-    let old = c.loop-list.positions in
+    let positions = c.loop-list.positions in
     let k = c.loop-list.list in
     let x = get_or c.args.valid.now k 0 in
     let p : ListPosition = record { worker = c.args.worker; list = k } in
-    let inside : x < length old =
-    let l = c.requires k 0 c.loop-list-test.true in let e = c.loop-list.invariant.count in
-    omega (arith, l, e) in
+    let x_lt_length : x < length positions =
+    let x_lt_old_length = c.requires k 0 c.loop-list-test.true in let length_stays =
+    c.loop-list.invariant.count_is in
+    omega (arith, x_lt_old_length, length_stays) in
     record {
-      count = length-set old x p ∙ c.loop-list.invariant.count;
-      with_worker =
-          with_worker_more c.args.positions.now old c.args.worker c.args.valid.now k x p refl inside
-          c.loop-list-test.true refl refl c.loop-list.invariant.with_worker;
-      others =
-          others_more c.args.positions.now old c.args.worker c.args.valid.now k x p refl inside
-          c.loop-list-test.true refl refl c.loop-list.invariant.others;
+      count_is = length-set positions x p ∙ c.loop-list.invariant.count_is;
+      are_with_worker =
+          with_worker_before_next c.args.positions.now positions c.args.worker c.args.valid.now k x
+          p refl x_lt_length
+          c.loop-list-test.true refl refl c.loop-list.invariant.are_with_worker;
+      others_stay =
+          others_stay_or_with_worker c.args.positions.now positions c.args.worker c.args.valid.now k
+          x p refl x_lt_length
+          c.loop-list-test.true refl refl c.loop-list.invariant.others_stay;
     }
 
-pub returns-clause-with_worker : goal.returns-clause-with_worker
-returns-clause-with_worker c = λ q d l.
-    let end = c.loop-list.auto.list-end in
-    let past = c.loop-list-test.false in
+pub returns-clause-are_with_worker : goal.returns-clause-are_with_worker
+returns-clause-are_with_worker c = λ q d q_lt_length.
+    let list_le_length = c.loop-list.auto.list-end in
+    let length_le_list = c.loop-list-test.false in
     subst (λ i. IsWithWorker c.loop-list.positions c.args.worker c.args.valid.now i)
-    (get_or_default c.args.valid.now q 0 d l)
-    (c.loop-list.invariant.with_worker q (omega (arith, l, end, past)))
+    (get_or_default c.args.valid.now q 0 d q_lt_length)
+    (c.loop-list.invariant.are_with_worker q (omega (
+      arith,
+      q_lt_length,
+      list_le_length,
+      length_le_list,
+    )))

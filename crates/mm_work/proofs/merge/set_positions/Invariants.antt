@@ -4,10 +4,10 @@ use Rattle.mm_work.proofs.merge.set_positions.Given as goal
 
 abbrev pub invariant-loop-list : goal.invariant-loop-list
 invariant-loop-list l = record {
-  count : length l.positions ≡ length l.fn.positions;
-  with_worker : (q : ℕ) → q < l.list
+  count_is : length l.positions ≡ length l.fn.positions;
+  are_with_worker : (q : ℕ) → q < l.list
       → IsWithWorker l.positions l.worker l.valid (slice_index l.valid q);
-  others : (i : ℕ)
+  others_stay : (i : ℕ)
       → IsWithWorker l.positions l.worker l.valid i
       ⊎ (slice_get l.positions i ≡ slice_get l.fn.positions i);
 }

@@ -1,41 +1,45 @@
 use Rattle.std.proofs.Common.{◌∙◌, ◌++◌, ◌∷◌, [], List, ap}
 use Rattle.mm_work.specs.Workers.{IsDone}
 use Rattle.mm_work.specs.declared.worker.Findings.{Findings}
-use Rattle.mm_work.proofs.WorkersLaw.{gathered_of_first, gathered_more, All_before_last, All_last}
+use Rattle.mm_work.proofs.WorkersLaw.{gathered_of_first, gathered_with_next, All_of_front}
+use Rattle.mm_work.proofs.WorkersLaw.{P_of_last}
 use Rattle.mm_work.proofs.threads.join_all.Goals as goal
 
 pub loop-other-init : goal.loop-other-init
 loop-other-init g c = record {
-  gathered =
+  are_gathered =
       gathered_of_first c.args.job.now c.args.first c.add_findings.new.all_findings.items
-      (c.in_ok-add_findings.ensures.added
+      (c.in_ok-add_findings.ensures.adds_findings
       ∙ ap (λ (fs : List (Findings _)). fs ++ c.args.first.findings
       ∷ []) c.new-all_findings.ensures.items)
-      c.requires.first c.in_ok-add_findings.ensures.short;
-  others = c.requires.others;
+      c.requires.first c.in_ok-add_findings.ensures.has_memory;
+  others_are_done = c.requires.others;
 }
 
 pub join-requires-clause-other_home : goal.join-requires-clause-other_home
 join-requires-clause-other_home g c =
-    (All_last (IsDone c.args.job.now) c.loop-other.others.items c.pop.new.self.items
-    c.in-Some.other c.in-Some.ensures.items c.loop-other.invariant.others).between.of_board
+    (P_of_last (IsDone c.args.job.now) c.loop-other.others.items c.pop.new.self.items
+    c.in-Some.other c.in-Some.ensures.items
+    c.loop-other.invariant.others_are_done).is_between.is_of_board
 
 pub join-requires-clause-closed : goal.join-requires-clause-closed
 join-requires-clause-closed g c =
-    (All_last (IsDone c.args.job.now) c.loop-other.others.items c.pop.new.self.items
-    c.in-Some.other c.in-Some.ensures.items c.loop-other.invariant.others).between.closed
+    (P_of_last (IsDone c.args.job.now) c.loop-other.others.items c.pop.new.self.items
+    c.in-Some.other c.in-Some.ensures.items
+    c.loop-other.invariant.others_are_done).is_between.no_number_open
 
 pub loop-other-preserved : goal.loop-other-preserved
 loop-other-preserved g c = record {
-  gathered =
-      gathered_more c.args.job.now c.loop-other.seat c.join.new.seat c.loop-other.all_findings.items
+  are_gathered =
+      gathered_with_next c.args.job.now c.loop-other.seat c.join.new.seat
+      c.loop-other.all_findings.items
       c.add_findings-in-Some.new.all_findings.items c.in-Some.other
-      c.in_ok-add_findings-2.ensures.added
-      c.loop-other.invariant.gathered
-      (All_last (IsDone c.args.job.now) c.loop-other.others.items c.pop.new.self.items
-      c.in-Some.other c.in-Some.ensures.items c.loop-other.invariant.others)
-      c.in_ok-add_findings-2.ensures.short c.join.ensures.home c.join.ensures.joined;
-  others =
-      All_before_last (IsDone c.args.job.now) c.loop-other.others.items c.pop.new.self.items
-      c.in-Some.other c.in-Some.ensures.items c.loop-other.invariant.others;
+      c.in_ok-add_findings-2.ensures.adds_findings
+      c.loop-other.invariant.are_gathered
+      (P_of_last (IsDone c.args.job.now) c.loop-other.others.items c.pop.new.self.items
+      c.in-Some.other c.in-Some.ensures.items c.loop-other.invariant.others_are_done)
+      c.in_ok-add_findings-2.ensures.has_memory c.join.ensures.home c.join.ensures.joined;
+  others_are_done =
+      All_of_front (IsDone c.args.job.now) c.loop-other.others.items c.pop.new.self.items
+      c.in-Some.other c.in-Some.ensures.items c.loop-other.invariant.others_are_done;
 }

@@ -2,7 +2,7 @@ use Rattle.std.proofs.Common.{ℕ, ◌++◌, ◌∷◌, [], List, Option, get_or
 use Rattle.std.proofs.Common.{IsTrue, ◌<◌, length, true≢false}
 use Rattle.mm_spec.specs.Output.{is_theorem_at}
 use Rattle.mm_proof.proofs.TheoremsLaw.{theorems_are}
-use Rattle.mm_work.specs.Judged.{IsRefusalOf, HasFault, IsCited}
+use Rattle.mm_work.specs.Judged.{IsRefusalOf, HasFault, HasCitations}
 use Rattle.mm_work.specs.declared.proof.VerifyRefused.{VerifyRefused}
 use Rattle.mm_work.specs.declared.worker.IndexedFault.{IndexedFault}
 use Rattle.mm_work.proofs.worker.check_theorem.Goals as goal
@@ -18,43 +18,46 @@ bounds-theorems-index g c =
     subst (λ (ts : List ℕ). c.args.index < length ts) (sym c.theorems.ensures.theorems)
     c.requires.index
 
-pub returns-in-Ok-add_valid-clause-short : goal.returns-in-Ok-add_valid-clause-short
-returns-in-Ok-add_valid-clause-short g c = λ short. sym c.in-Ok-add_valid.ensures.short ∙ short
+pub returns-in-Ok-add_valid-clause-memory_lasted : goal.returns-in-Ok-add_valid-clause-memory_lasted
+returns-in-Ok-add_valid-clause-memory_lasted g c = λ not_short. sym
+    c.in-Ok-add_valid.ensures.memory_flag_stays ∙ not_short
 
-pub returns-in-Ok-add_valid-clause-valid : goal.returns-in-Ok-add_valid-clause-valid
-returns-in-Ok-add_valid-clause-valid g c = λ short valid. record {
+pub returns-in-Ok-add_valid-clause-finds_valid : goal.returns-in-Ok-add_valid-clause-finds_valid
+returns-in-Ok-add_valid-clause-finds_valid g c = λ not_short is_valid. record {
   cites = c.in-Ok.checked.cites;
-  cited =
-      subst (λ (ts : List ℕ). IsCited c.args.job.now.database.now.statements
+  has_citations =
+      subst (λ (ts : List ℕ). HasCitations c.args.job.now.database.now.statements
       c.args.job.now.essential (get_or ts c.args.index 0) c.in-Ok.checked.cites)
       c.theorems.ensures.theorems c.in-Ok.ensures.valid;
-  valid_are = c.in-Ok-add_valid.ensures.valid;
+  valid_are = c.in-Ok-add_valid.ensures.adds_index;
   cites_are =
-      c.in-Ok-add_valid.ensures.cites
+      c.in-Ok-add_valid.ensures.adds_cites
       ∙ ap (λ (l : List ℕ). c.args.findings.now.cites ++ l ∷ []) c.cites.ensures;
-  faulty_is = c.in-Ok-add_valid.ensures.faulty;
+  faulty_is = c.in-Ok-add_valid.ensures.fault_stays;
 }
 
-pub returns-in-Ok-add_valid-clause-faulty : goal.returns-in-Ok-add_valid-clause-faulty
-returns-in-Ok-add_valid-clause-faulty g c = λ short faulty. absurd (true≢false faulty)
+pub returns-in-Ok-add_valid-clause-finds_fault : goal.returns-in-Ok-add_valid-clause-finds_fault
+returns-in-Ok-add_valid-clause-finds_fault g c = λ not_short not_valid. absurd (true≢false
+    not_valid)
 
-pub returns-in-Err-clause-short : goal.returns-in-Err-clause-short
-returns-in-Err-clause-short g c = λ short. absurd (true≢false short)
+pub returns-in-Err-clause-memory_lasted : goal.returns-in-Err-clause-memory_lasted
+returns-in-Err-clause-memory_lasted g c = λ not_short. absurd (true≢false not_short)
 
-pub returns-in-Err-clause-valid : goal.returns-in-Err-clause-valid
-returns-in-Err-clause-valid g c = λ short. absurd (true≢false short)
+pub returns-in-Err-clause-finds_valid : goal.returns-in-Err-clause-finds_valid
+returns-in-Err-clause-finds_valid g c = λ not_short. absurd (true≢false not_short)
 
-pub returns-in-Err-clause-faulty : goal.returns-in-Err-clause-faulty
-returns-in-Err-clause-faulty g c = λ short. absurd (true≢false short)
+pub returns-in-Err-clause-finds_fault : goal.returns-in-Err-clause-finds_fault
+returns-in-Err-clause-finds_fault g c = λ not_short. absurd (true≢false not_short)
 
-pub returns-in-Err-Fault-clause-short : goal.returns-in-Err-Fault-clause-short
-returns-in-Err-Fault-clause-short g c = λ short. short
+pub returns-in-Err-Fault-clause-memory_lasted : goal.returns-in-Err-Fault-clause-memory_lasted
+returns-in-Err-Fault-clause-memory_lasted g c = λ not_short. not_short
 
-pub returns-in-Err-Fault-clause-valid : goal.returns-in-Err-Fault-clause-valid
-returns-in-Err-Fault-clause-valid g c = λ short valid. absurd (true≢false (sym valid))
+pub returns-in-Err-Fault-clause-finds_valid : goal.returns-in-Err-Fault-clause-finds_valid
+returns-in-Err-Fault-clause-finds_valid g c = λ not_short is_valid. absurd (true≢false (sym
+    is_valid))
 
-pub returns-in-Err-Fault-clause-faulty : goal.returns-in-Err-Fault-clause-faulty
-returns-in-Err-Fault-clause-faulty g c = λ short faulty.
+pub returns-in-Err-Fault-clause-finds_fault : goal.returns-in-Err-Fault-clause-finds_fault
+returns-in-Err-Fault-clause-finds_fault g c = λ not_short not_valid.
     let db = c.args.job.now.database.now.statements in
     record {
       fault = c.in-Err-Fault.fault;
@@ -69,11 +72,11 @@ returns-in-Err-Fault-clause-faulty g c = λ short faulty.
       faulty_is = refl {A = Option IndexedFault};
     }
 
-pub returns-in-Err-Memory-clause-short : goal.returns-in-Err-Memory-clause-short
-returns-in-Err-Memory-clause-short g c = λ short. absurd (true≢false short)
+pub returns-in-Err-Memory-clause-memory_lasted : goal.returns-in-Err-Memory-clause-memory_lasted
+returns-in-Err-Memory-clause-memory_lasted g c = λ not_short. absurd (true≢false not_short)
 
-pub returns-in-Err-Memory-clause-valid : goal.returns-in-Err-Memory-clause-valid
-returns-in-Err-Memory-clause-valid g c = λ short. absurd (true≢false short)
+pub returns-in-Err-Memory-clause-finds_valid : goal.returns-in-Err-Memory-clause-finds_valid
+returns-in-Err-Memory-clause-finds_valid g c = λ not_short. absurd (true≢false not_short)
 
-pub returns-in-Err-Memory-clause-faulty : goal.returns-in-Err-Memory-clause-faulty
-returns-in-Err-Memory-clause-faulty g c = λ short. absurd (true≢false short)
+pub returns-in-Err-Memory-clause-finds_fault : goal.returns-in-Err-Memory-clause-finds_fault
+returns-in-Err-Memory-clause-finds_fault g c = λ not_short. absurd (true≢false not_short)

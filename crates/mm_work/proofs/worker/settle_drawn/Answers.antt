@@ -1,70 +1,73 @@
 use Rattle.std.proofs.Common.{◌∙◌, Bool, Option, ℕ, ap, sym}
 use Rattle.std.specs.Prelude.{is_some, not}
 use Rattle.mm_board.specs.declared.views.View.{View}
-use Rattle.mm_work.proofs.WorkersLaw.{between_after_skip, still_open, settled, reported}
+use Rattle.mm_work.proofs.WorkersLaw.{between_after_skip, number_stays_open, settled, reported}
 use Rattle.mm_work.proofs.worker.settle_drawn.Goals as goal
 
 pub settle-requires-clause-is_open : goal.settle-requires-clause-is_open
 settle-requires-clause-is_open g c =
-    still_open c.args.job.now c.args.index c.args.state.now c.requires.drawn c.look.new.seat
+    number_stays_open c.args.job.now c.args.index c.args.state.now c.requires.has_drawn
+    c.look.new.seat
     c.look.result c.look.ensures.event.1
     (ap (λ (o : Option ℕ). is_some o) (sym c.held.ensures) ∙ c.is_none.ensures
     ∙ ap (λ (b : Bool). not b) c.if-is_none.false)
 
 pub report-requires-clause-is_open : goal.report-requires-clause-is_open
 report-requires-clause-is_open g c =
-    still_open c.args.job.now c.args.index c.args.state.now c.requires.drawn c.look.new.seat
+    number_stays_open c.args.job.now c.args.index c.args.state.now c.requires.has_drawn
+    c.look.new.seat
     c.look.result c.look.ensures.event.1
     (ap (λ (o : Option ℕ). is_some o) (sym c.held.ensures) ∙ c.is_none.ensures
     ∙ ap (λ (b : Bool). not b) c.if-is_none.false)
 
-pub returns-then-is_none-clause-between : goal.returns-then-is_none-clause-between
-returns-then-is_none-clause-between g c =
-    between_after_skip c.args.job.now c.args.index c.args.state.now c.requires.drawn c.look.new.seat
+pub returns-then-is_none-clause-is_between : goal.returns-then-is_none-clause-is_between
+returns-then-is_none-clause-is_between g c =
+    between_after_skip c.args.job.now c.args.index c.args.state.now c.requires.has_drawn
+    c.look.new.seat
     c.look.result c.look.ensures.event.1 c.look.ensures.home
     (ap (λ (o : Option ℕ). is_some o) (sym c.held.ensures) ∙ c.is_none.ensures
     ∙ ap (λ (b : Bool). not b) c.if-is_none.true)
 
-pub returns-then-is_none-clause-over : goal.returns-then-is_none-clause-over
-returns-then-is_none-clause-over g c = ap (λ (v : View). v.over) c.look.ensures.event.1
+pub returns-then-is_none-clause-over_stays : goal.returns-then-is_none-clause-over_stays
+returns-then-is_none-clause-over_stays g c = ap (λ (v : View). v.over) c.look.ensures.event.1
 
-pub returns-then-check_theorem-clause-between : goal.returns-then-check_theorem-clause-between
-returns-then-check_theorem-clause-between g c =
-    settled c.args.job.now c.args.index c.args.state.now c.requires.drawn c.look.new.seat
+pub returns-then-check_theorem-clause-is_between : goal.returns-then-check_theorem-clause-is_between
+returns-then-check_theorem-clause-is_between g c =
+    settled c.args.job.now c.args.index c.args.state.now c.requires.has_drawn c.look.new.seat
     c.look.result c.look.ensures.event.1 c.settle.new.seat c.settle.ensures.event.0
     c.check_theorem.new.findings
     (ap (λ (o : Option ℕ). is_some o) (sym c.held.ensures) ∙ c.is_none.ensures
     ∙ ap (λ (b : Bool). not b) c.if-is_none.false)
-    c.settle.ensures.home c.check_theorem.ensures.short c.settle.ensures.event.2
-    (λ short. c.check_theorem.ensures.valid short c.if-check_theorem.true)
+    c.settle.ensures.home c.check_theorem.ensures.memory_lasted c.settle.ensures.event.2
+    (λ not_short. c.check_theorem.ensures.finds_valid not_short c.if-check_theorem.true)
 
-pub returns-then-check_theorem-clause-over : goal.returns-then-check_theorem-clause-over
-returns-then-check_theorem-clause-over g c =
+pub returns-then-check_theorem-clause-over_stays : goal.returns-then-check_theorem-clause-over_stays
+returns-then-check_theorem-clause-over_stays g c =
     ap (λ (v : View). v.over) c.settle.ensures.event.2
     ∙ ap (λ (v : View). v.over) c.look.ensures.event.1
 
-pub returns-then-check_theorem-clause-same_record :
-    goal.returns-then-check_theorem-clause-same_record
-returns-then-check_theorem-clause-same_record g c = λ i. c.settle.ensures.same_record i
+pub returns-then-check_theorem-clause-record_stays :
+    goal.returns-then-check_theorem-clause-record_stays
+returns-then-check_theorem-clause-record_stays g c = λ i. c.settle.ensures.same_record i
     ∙ c.look.ensures.same_record i
 
-pub returns-else-check_theorem-clause-between : goal.returns-else-check_theorem-clause-between
-returns-else-check_theorem-clause-between g c =
-    reported c.args.job.now c.args.index c.args.state.now c.requires.drawn c.look.new.seat
+pub returns-else-check_theorem-clause-is_between : goal.returns-else-check_theorem-clause-is_between
+returns-else-check_theorem-clause-is_between g c =
+    reported c.args.job.now c.args.index c.args.state.now c.requires.has_drawn c.look.new.seat
     c.look.result c.look.ensures.event.1 c.report.new.seat c.report.ensures.event.0
     c.check_theorem.new.findings
     (ap (λ (o : Option ℕ). is_some o) (sym c.held.ensures) ∙ c.is_none.ensures
     ∙ ap (λ (b : Bool). not b) c.if-is_none.false)
-    c.report.ensures.home c.check_theorem.ensures.short c.report.ensures.event.2
+    c.report.ensures.home c.check_theorem.ensures.memory_lasted c.report.ensures.event.2
     c.look.ensures.at_most_reported
-    (λ short. c.check_theorem.ensures.faulty short c.if-check_theorem.false)
+    (λ not_short. c.check_theorem.ensures.finds_fault not_short c.if-check_theorem.false)
 
-pub returns-else-check_theorem-clause-over : goal.returns-else-check_theorem-clause-over
-returns-else-check_theorem-clause-over g c =
+pub returns-else-check_theorem-clause-over_stays : goal.returns-else-check_theorem-clause-over_stays
+returns-else-check_theorem-clause-over_stays g c =
     ap (λ (v : View). v.over) c.report.ensures.event.2
     ∙ ap (λ (v : View). v.over) c.look.ensures.event.1
 
-pub returns-else-check_theorem-clause-same_record :
-    goal.returns-else-check_theorem-clause-same_record
-returns-else-check_theorem-clause-same_record g c = λ i. c.report.ensures.same_record i
+pub returns-else-check_theorem-clause-record_stays :
+    goal.returns-else-check_theorem-clause-record_stays
+returns-else-check_theorem-clause-record_stays g c = λ i. c.report.ensures.same_record i
     ∙ c.look.ensures.same_record i

@@ -7,7 +7,7 @@ use Rattle.mm_work.proofs.worker.work.Given as goal
 abbrev pub invariant-loop-index : goal.invariant-loop-index
 invariant-loop-index g l = record {
   made_for : IsMadeFor l.job.database.now.statements l.checker;
-  between : IsBetweenTheorems l.job l.state;
+  is_between : IsBetweenTheorems l.job l.state;
   not_over : l.state.seat.view.over ≡ false;
 }
 

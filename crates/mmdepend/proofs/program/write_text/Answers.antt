@@ -5,9 +5,9 @@ use Rattle.mmdepend.proofs.program.write_text.Goals as goal
 
 pub returns-in-Ok-clause-beginning : goal.returns-in-Ok-clause-beginning
 returns-in-Ok-clause-beginning g c =
-    let p = c.args.text.now in (
-      length p,
+    let bytes = c.args.text.now in (
+      length bytes,
       subst
           (Appends (g.W.Write.contents c.args.to.now) (g.W.Write.contents c.write_whole.new.to))
-          (sym (take-length p)) c.in-Ok.ensures.whole,
+          (sym (take-length bytes)) c.in-Ok.ensures.whole,
     )

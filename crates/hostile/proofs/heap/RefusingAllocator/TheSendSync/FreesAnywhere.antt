@@ -6,4 +6,4 @@ use Rattle.hostile.specs.contracts.heap.RefusingAllocator.TheImpl.{ghosts}
 
 pub frees : (A : RattleType) (g : Ghosts A.Denot) (d e : Dict) → Frees g g.dealloc_token
     → Frees (ghosts A g d e) (ghosts A g d e).dealloc_token
-frees A g d e f = record { frees = λ r. f.frees r.inner }
+frees A g d e inner_frees = record { frees = λ r. inner_frees.frees r.inner }

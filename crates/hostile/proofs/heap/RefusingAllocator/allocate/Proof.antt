@@ -79,14 +79,15 @@ module _ (Z : Al) {M : Type 1} {𝓤 : Ura M} (𝓛 : Logic 𝓤) (at_mem : Memo
   abbrev held : Clauses 𝓤 (ended Z)
   held = F.clauses Z.row Z.g Z.d Z.drops 𝓛 at_mem run
 
-  module _ (κ₁ κ₂ : Lft) (q₁ q₂ : Share) (inn : κ₁ ⊑ κ₂) (r : Bor (wrapper.the_row Z.row).Denot)
+  module _ (κ₁ κ₂ : Lft) (q₁ q₂ : Share) (loan_lives_within : κ₁ ⊑ κ₂) (r : Bor (wrapper.the_row
+      Z.row).Denot)
       (n a : ℕ) (τ : Ty) where
     abbrev bound : (walk_of 𝓛 (ended Z) (stayed Z) held).Ghost
     bound = (
       (
         (κ₁, (κ₂, tt)),
         (q₁, (q₂, tt)),
-        (inn, tt),
+        (loan_lives_within, tt),
         (r, (n, (a, tt))),
         (shr_vals r, (vint w64 n ∷ [], (vint w64 a ∷ [], tt))),
       ),
@@ -99,22 +100,23 @@ module _ (Z : Al) {M : Type 1} {𝓤 : Ura M} (𝓛 : Logic 𝓤) (at_mem : Memo
     walk : n < 2 ^ 64 → a < 2 ^ 64
         → ent 𝓤 ((walk_of 𝓛 (ended Z) (stayed Z) held).pre bound)
         (WpFn 𝓤 H 𝓣.C 𝓣.Λ (here Z) vs ((walk_of 𝓛 (ended Z) (stayed Z) held).post bound))
-    walk fn fa =
+    walk n_lt_limit a_lt_limit =
         let h : Z.row.Denot = r.now.inner in
         let p : ℕ × ℕ = (r.ref_ptr.0, r.ref_ptr.1 + up (align (α Z)) 0) in
         let c : ℕ × ℕ = (r.ref_ptr.0, r.ref_ptr.1 + up 8 (up (align (α Z)) 0 + size (α Z))) in
         let y : (Takes Z 𝓛 at_mem run).Ghost = at_takes Z 𝓛 at_mem run κ₁ q₁ p h n a τ in
-        let Said : Type 0 = (capped (size τ) ≡ n) × (capped (align τ) ≡ a) in
+        let LayoutIs : Type 0 = (capped (size τ) ≡ n) × (capped (align τ) ≡ a) in
         qed 𝓛 (((‵ (flft κ₁ q₁) ⊛ ‵ (flft κ₂ q₂) ⊛ ‵ ftrue) ⊛ ‵
         (owns (types_at (ended Z).signature.params bound.0.0) bound.0.3 bound.0.4))
-        ∷ (raw (fact 𝓤 (κ₂ ⊑ Z.row.lives)) ⊛ raw (fact 𝓤 Said)) ∷ []) ∵
-        move ! (1 ∷ []) $ split ! $ heard ! (κ₂ ⊑ Z.row.lives) (λ le. heard ! Said (λ said.
+        ∷ (raw (fact 𝓤 (κ₂ ⊑ Z.row.lives)) ⊛ raw (fact 𝓤 LayoutIs)) ∷ []) ∵
+        move ! (1 ∷ []) $ split ! $ heard ! (κ₂ ⊑ Z.row.lives) (λ lives_within. heard ! LayoutIs (λ
+        layout_is.
         split ! $ split ! $ move ! (2 ∷ []) $ fsplit ! $ fsplit ! $ move !
         (1 ∷ []) $ unhide ! $ fsplit ! $ fsplit ! $ use1 𝓛 (‵ (seen Z κ₁ p h))
         (id⊢ 𝓤 _) $ move ! (1 ∷ []) $ fsplit ! $ keep ! (0 ∷ 6 ∷ 2 ∷ 7 ∷ []) $
         enter ! 𝓣.C 𝓣.Λ (here Z) vs _ $ alloc_all !
         (λ l. pass_all ! refl
-        ((tt, tt), ((tt, record { fits = fn }), ((tt, record { fits = fa }), tt))) $
+        ((tt, tt), ((tt, record { fits = n_lt_limit }), ((tt, record { fits = a_lt_limit }), tt))) $
         sets ! (addr ! (through ! refl (fld ! refl (stop !)))) refl (tt, tt) $
         use2 𝓛 (raw ((CountGrowth 𝓛 at_mem run).pre (at_count_growth 𝓛 at_mem run κ₁ q₁ c)))
         (CountGrowth_goes 𝓛 at_mem run κ₁ q₁ c) $
@@ -123,7 +125,7 @@ module _ (Z : Al) {M : Type 1} {𝓤 : Ura M} (𝓛 : Logic 𝓤) (at_mem : Memo
         (and_then ! (get ! refl) (no_more !)) (λ u.
         use1 𝓛 (later (some (λ (x : Bool). given (u ≡ vbool x) (‵ (flft κ₁ q₁)))))
         (CountGrowth_gives 𝓛 at_mem run κ₁ q₁ c u) $ await ! tt $ pick !
-        (λ x. learn ! (λ eu. lands_as ! eu refl (tt, tt) $
+        (λ x. learn ! (λ growth_is. lands_as ! growth_is refl (tt, tt) $
         first ! $ branches ! (get ! refl)
         (λ t. sets ! (agg ! (no_more !)) refl (tt, tt) $ sets !
         (agg ! (and_then ! (lit ! tt) (and_then ! (get ! refl) (no_more !)))) refl
@@ -143,14 +145,15 @@ module _ (Z : Al) {M : Type 1} {𝓤 : Ura M} (𝓛 : Logic 𝓤) (at_mem : Memo
         sets ! (addr ! (through ! refl (fld ! refl (stop !)))) refl (tt, tt) $
         use2 𝓛 (raw ((Takes Z 𝓛 at_mem run).pre y))
         (Takes-goes Z 𝓛 at_mem run κ₁ q₁ p h
-        (⊑_trans κ₁ κ₂ Z.row.lives inn le) n a τ said.0 said.1 fn fa) $
+        (⊑_trans κ₁ κ₂ Z.row.lives loan_lives_within lives_within) n a τ layout_is.0 layout_is.1
+        n_lt_limit a_lt_limit) $
         calls_at ! (fm_of 𝓤 H 𝓛.laws 𝓣) (Takes Z 𝓛 at_mem run) tk y
         (and_then ! (get ! refl)
         (and_then ! (get ! refl) (and_then ! (get ! refl) (no_more !)))) (λ v.
         use1 𝓛 (later (raw (Answered Z 𝓛 at_mem run h τ v) ⊛ ‵ (flft κ₁ q₁)))
         (Takes-gives Z 𝓛 at_mem run κ₁ q₁ p h n a τ v) $ await ! tt $ split ! $
         answers Z ! at_mem run h τ v
-        (λ b o e. fjoin ! $ lands_as ! e refl (Answer-typed true b o) $ returns !
+        (λ b o answer_is. fjoin ! $ lands_as ! answer_is refl (Answer-typed true b o) $ returns !
         (look_at ! 0 refl) $ free_all ! refl $
         suffices ! _
         (ends_at 𝓛 (ended Z) (stayed Z) held bound (answer_val true b o) (Ok (block_ptr b o))
@@ -159,7 +162,7 @@ module _ (Z : Al) {M : Type 1} {𝓤 : Ura M} (𝓛 : Logic 𝓤) (at_mem : Memo
         (Answer-Ok 𝓛 b o) $ nothing ! $ nothing ! $ fjoin ! $ nothing ! $ fjoin ! $ nothing ! $
         fjoin ! $ join ! $
         move ! (2 ∷ 3 ∷ []) $ join ! $ join ! $ done !)
-        (λ e. nothing ! $ lands_as ! e refl (Answer-typed false 0 0) $ returns !
+        (λ answer_is. nothing ! $ lands_as ! answer_is refl (Answer-typed false 0 0) $ returns !
         (look_at ! 0 refl) $ free_all ! refl $
         suffices ! _
         (ends_at 𝓛 (ended Z) (stayed Z) held bound (answer_val false 0 0) (Err (record {}))

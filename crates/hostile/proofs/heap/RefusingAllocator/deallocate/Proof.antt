@@ -76,14 +76,15 @@ module _ (Z : Al) {M : Type 1} {𝓤 : Ura M} (𝓛 : Logic 𝓤) (at_mem : Memo
   abbrev held : Clauses 𝓤 (ended Z)
   held = F.clauses Z.row Z.g Z.d Z.drops 𝓛 at_mem run
 
-  module _ (κ₁ κ₂ : Lft) (q₁ q₂ : Share) (inn : κ₁ ⊑ κ₂) (r : Bor (wrapper.the_row Z.row).Denot)
+  module _ (κ₁ κ₂ : Lft) (q₁ q₂ : Share) (loan_lives_within : κ₁ ⊑ κ₂) (r : Bor (wrapper.the_row
+      Z.row).Denot)
       (n a : ℕ) (τ : Ty) where
     abbrev bound : Ptr → (walk_of 𝓛 (ended Z) (stayed Z) held).Ghost
     bound x = (
       (
         (κ₁, (κ₂, tt)),
         (q₁, (q₂, tt)),
-        (inn, tt),
+        (loan_lives_within, tt),
         (r, (x, (n, (a, tt)))),
         (shr_vals r, (rawptr_vals x, (vint w64 n ∷ [], (vint w64 a ∷ [], tt)))),
       ),
@@ -101,49 +102,67 @@ module _ (Z : Al) {M : Type 1} {𝓤 : Ura M} (𝓛 : Logic 𝓤) (at_mem : Memo
         (‵ (flft κ₁ q₁) ⊛ ‵ (flft κ₂ q₂) ⊛ ‵ ftrue) ⊛ ‵
         (owns (types_at (ended Z).signature.params (bound x).0.0) (bound x).0.3 (bound x).0.4)
 
-    abbrev Said : Type 0
-    Said = (capped (size τ) ≡ n) × (capped (align τ) ≡ a)
+    abbrev LayoutIs : Type 0
+    LayoutIs = (capped (size τ) ≡ n) × (capped (align τ) ≡ a)
 
     walk : n < 2 ^ 64 → a < 2 ^ 64 → (x : Ptr)
         → ent 𝓤 ((walk_of 𝓛 (ended Z) (stayed Z) held).pre (bound x))
         (WpFn 𝓤 H 𝓣.C 𝓣.Λ (here Z) (vs x) (Post x))
-    walk fn fa null_ptr =
+    walk n_lt_limit a_lt_limit null_ptr =
         qed 𝓛 (entry null_ptr
-        ∷ (raw (fact 𝓤 (κ₂ ⊑ Z.row.lives)) ⊛ raw (fact 𝓤 Said) ⊛ ‵
+        ∷ (raw (fact 𝓤 (κ₂ ⊑ Z.row.lives)) ⊛ raw (fact 𝓤 LayoutIs) ⊛ ‵
         (fsep ffalse (token Z r.now.inner τ null_ptr)))
         ∷ []) ∵
         move ! (1 ∷ []) $ split3 ! $ move ! (2 ∷ []) $ fsplit ! $ keep ! (0 ∷ []) $ by !
         (never_e 𝓤 _)
-    walk fn fa (block_ptr b o) =
+    walk n_lt_limit a_lt_limit (block_ptr b o) =
         let h : Z.row.Denot = r.now.inner in
         let p : ℕ × ℕ = (r.ref_ptr.0, r.ref_ptr.1 + up (align (α Z)) 0) in
         let x : Ptr = block_ptr b o in
         let y : (Gives Z 𝓛 at_mem run).Ghost = at_gives Z 𝓛 at_mem run κ₁ q₁ p h b o n a τ in
         qed 𝓛 (entry x
-        ∷ (raw (fact 𝓤 (κ₂ ⊑ Z.row.lives)) ⊛ raw (fact 𝓤 Said) ⊛ ‵
+        ∷ (raw (fact 𝓤 (κ₂ ⊑ Z.row.lives)) ⊛ raw (fact 𝓤 LayoutIs) ⊛ ‵
         (fsep (froom τ b o) (token Z h τ x)))
         ∷ []) ∵
         move ! (1 ∷ []) $ split3 ! $ heard ! (κ₂ ⊑ Z.row.lives)
-        (λ le. heard ! Said (λ said. move ! (1 ∷ []) $
+        (λ lives_within. heard ! LayoutIs (λ layout_is. move ! (1 ∷ []) $
         split ! $ split ! $ move ! (2 ∷ []) $ fsplit ! $ fsplit ! $ move !
         (1 ∷ []) $ unhide ! $ fsplit ! $ fsplit ! $ use1 𝓛 (‵ (seen Z κ₁ p h))
         (id⊢ 𝓤 _) $ keep ! (0 ∷ 5 ∷ 6 ∷ 7 ∷ []) $
         enter ! 𝓣.C 𝓣.Λ (here Z) (vs x) _ $ alloc_all !
-        (λ l. pass_all ! refl
-        ((tt, tt), ((tt, tt), ((tt, record { fits = fn }), ((tt, record { fits = fa }), tt)))) $
+        (λ l. pass_all ! refl (
+          (tt, tt),
+          (
+            (tt, tt),
+            (
+              (tt, record { fits = n_lt_limit }),
+              (
+                (
+                  tt,
+                  record {
+                    fits = a_lt_limit;
+                  },
+                ),
+                tt,
+              ),
+            ),
+          ),
+        ) $
         sets ! (addr ! (through ! refl (fld ! refl (stop !)))) refl (tt, tt) $
         join ! $ move ! (2 ∷ []) $ fsplit ! $ move ! (1 ∷ 2 ∷ []) $ join ! $ move !
         (1 ∷ 0 ∷ []) $ join ! $
         use1 𝓛 (raw ((Gives Z 𝓛 at_mem run).pre y))
         (Gives-goes Z 𝓛 at_mem run κ₁ q₁ p h
-        (⊑_trans κ₁ κ₂ Z.row.lives inn le) b o n a τ said.0 said.1 fn fa) $
+        (⊑_trans κ₁ κ₂ Z.row.lives loan_lives_within lives_within) b o n a τ layout_is.0 layout_is.1
+        n_lt_limit a_lt_limit) $
         calls_at ! (fm_of 𝓤 H 𝓛.laws 𝓣) (Gives Z 𝓛 at_mem run) de y
         (and_then ! (get ! refl)
         (and_then ! (get ! refl)
         (and_then ! (get ! refl) (and_then ! (get ! refl) (no_more !))))) (λ v.
         use1 𝓛 (later (given (v ≡ vunit) (‵ (flft κ₁ q₁))))
-        (Gives-Gives Z 𝓛 at_mem run κ₁ q₁ p h b o n a τ v) $ await ! tt $ learn ! (λ e.
-        lands_as ! e refl (tt, tt) $ sets ! (of_opd ! (unit_lit !)) refl (tt, tt) $ returns !
+        (Gives-Gives Z 𝓛 at_mem run κ₁ q₁ p h b o n a τ v) $ await ! tt $ learn ! (λ result_is_unit.
+        lands_as ! result_is_unit refl (tt, tt) $ sets ! (of_opd ! (unit_lit !)) refl (tt, tt) $
+        returns !
         (look_at ! 0 refl) $ free_all ! refl $
         suffices ! _
         (ends_at 𝓛 (ended Z) (stayed Z) held (bound x) vunit tt (tt, (tt, (tt, (tt, tt))))

@@ -3,26 +3,26 @@ use Rattle.std.proofs.lemmas.Result.{err_from_is_err_and}
 use Rattle.mm_machine.specs.State.{applied}
 use Rattle.mm_machine.specs.Applied.{IsRefusalOf}
 use Rattle.mm_check.specs.Checker.{CheckerState, checker_state, IsAtTheorem}
-use Rattle.mm_check.proofs.StepLaw.{applies, stops}
+use Rattle.mm_check.proofs.StepLaw.{applied_step_performs, refusal_is_of_step}
 use Rattle.mm_check.proofs.checker.Checker.apply.Goals.{in-Ok-add, in-Err-add}
 use Rattle.mm_check.proofs.checker.Checker.apply.Goals as goal
 
 pub rule_of-rule-requires-clause-rules : goal.rule_of-rule-requires-clause-rules
 rule_of-rule-requires-clause-rules g c =
-    let at =
+    let is_at_theorem =
     subst (λ (s : CheckerState). IsAtTheorem c.args.database.now.statements c.args.theorem s)
-    (sym c.self.view_is) c.requires.at in
-    at.made_for.rules_are
+    (sym c.self.view_is) c.requires.at_theorem in
+    is_at_theorem.made_for.rules_are
 
-pub returns-in_err-apply-clause-at : goal.returns-in_err-apply-clause-at
-returns-in_err-apply-clause-at g c =
-    let at =
+pub returns-in_err-apply-clause-at_theorem : goal.returns-in_err-apply-clause-at_theorem
+returns-in_err-apply-clause-at_theorem g c =
+    let is_at_theorem =
     subst (λ (s : CheckerState). IsAtTheorem c.args.database.now.statements c.args.theorem s)
-    (sym c.self.view_is) c.requires.at in
+    (sym c.self.view_is) c.requires.at_theorem in
     record {
-      made_for = rw c.apply.ensures.step.symbol_count at.made_for;
-      theorem = at.theorem;
-      disjoint_are = c.apply.ensures.cache;
+      made_for = rw c.apply.ensures.is_applied.symbol_count_stays is_at_theorem.made_for;
+      theorem_lt_length = is_at_theorem.theorem_lt_length;
+      pairs_are_disjoint = c.apply.ensures.cache;
     }
 
 pub returns-in_err-apply-clause-refused : goal.returns-in_err-apply-clause-refused
@@ -31,36 +31,38 @@ returns-in_err-apply-clause-refused g c =
     let t = c.args.theorem in
     let i = c.self.inside in
     let e = c.in_err-apply.field-0.0 in
-    let p = err_from_is_err_and c.from_residual.result c.from_residual.ensures.1 in
-    rw (p.1, p.2, ← c.self.view_is)
-    (stops db t (checker_state i.machine i.rules.now i.noted i.cache) c.args.assertion
-    c.requires.good
+    let refusal_is = err_from_is_err_and c.from_residual.result c.from_residual.ensures.1 in
+    rw (refusal_is.1, refusal_is.2, ← c.self.view_is)
+    (refusal_is_of_step db t (checker_state i.machine i.rules.now i.noted i.cache) c.args.assertion
+    c.requires.rule_is_complete
     c.requires.assertion e
     (subst (λ a. IsRefusalOf e (applied db t a i.machine.stack)) c.rule_of-rule.ensures.assertion_is
-    c.in_err-apply.ensures.step.refused))
+    c.in_err-apply.ensures.is_applied.refusal_is_right))
 
-pub returns-clause-at : goal.returns-clause-at
-returns-clause-at g c =
-    let at =
+pub returns-clause-at_theorem : goal.returns-clause-at_theorem
+returns-clause-at_theorem g c =
+    let is_at_theorem =
     subst (λ (s : CheckerState). IsAtTheorem c.args.database.now.statements c.args.theorem s)
-    (sym c.self.view_is) c.requires.at in
+    (sym c.self.view_is) c.requires.at_theorem in
     record {
-      made_for = rw c.apply.ensures.step.symbol_count at.made_for;
-      theorem = at.theorem;
-      disjoint_are = c.apply.ensures.cache;
+      made_for = rw c.apply.ensures.is_applied.symbol_count_stays is_at_theorem.made_for;
+      theorem_lt_length = is_at_theorem.theorem_lt_length;
+      pairs_are_disjoint = c.apply.ensures.cache;
     }
 
 pub returns-clause-performs : goal.returns-clause-performs
 returns-clause-performs g c =
     let db = c.args.database.now.statements in
     let t = c.args.theorem in
-    let ok = c.in_ok-apply.ensures.step.applies in
+    let applied_step = c.in_ok-apply.ensures.is_applied.applies_if_ok in
     elim c.match-add.branch [
       | in-Ok-add w ↦ rw (w.result-is, ← c.self.view_is)
-          (applies db t _ c.args.assertion c.requires.good c.requires.assertion c.apply.new.self
+          (applied_step_performs db t _ c.args.assertion c.requires.rule_is_complete
+          c.requires.assertion c.apply.new.self
           c.add.new.self c.apply.new.cache
           (subst (λ a. applied db t a c.self.inside.machine.stack ≡ Ok c.apply.new.self.stack)
-          c.rule_of-rule.ensures.assertion_is ok.entries_are) ok.marks ok.formulas ok.entry
+          c.rule_of-rule.ensures.assertion_is applied_step.entries_are) applied_step.marks_stay
+          applied_step.formulas_stay applied_step.has_entry
           w.in-Ok-add.ensures)
       | in-Err-add w ↦ rw w.result-is tt
     ]

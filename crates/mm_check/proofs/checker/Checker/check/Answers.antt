@@ -11,11 +11,12 @@ run-requires-clause-steps g c =
     let t = c.args.theorem in
     let steps_are = ap (λ r. r.steps) c.requires.steps in
     record {
-      complete = c.requires.made_for.complete;
-      theorem = c.requires.theorem;
+      is_complete = c.requires.made_for.frames_are_complete;
+      is_theorem = c.requires.theorem;
       steps_are = steps_are;
-      sound = c.requires.sound;
-      good =
+      no_reading_faults = c.requires.no_reading_faults;
+      are_good =
           subst (λ ps. AreGoodSteps (context_at db t) 0 (steps_of ps)) (sym steps_are)
-          (good_steps db t (c.requires.made_for.complete t) c.requires.sound);
+          (good_steps db t (c.requires.made_for.frames_are_complete t)
+          c.requires.no_reading_faults);
     }

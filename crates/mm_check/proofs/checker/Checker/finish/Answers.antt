@@ -1,31 +1,32 @@
 use Rattle.std.proofs.Common.{refl}
-use Rattle.mm_check.proofs.EndLaw.{proof_is, cites_are, is_checked, ends_here}
+use Rattle.mm_check.proofs.EndLaw.{is_proof, noted_are_cited, is_checked, end_is_refused}
 use Rattle.mm_check.proofs.checker.Checker.finish.Goals as goal
 
 pub returns-in-Err-clause-refused : goal.returns-in-Err-clause-refused
 returns-in-Err-clause-refused g c =
-    ends_here c.args.database.now.statements c.args.theorem c.args.steps.now.steps _ _
+    end_is_refused c.args.database.now.statements c.args.theorem c.args.steps.now.steps _ _
     c.self.view_is
-    c.requires c.end_at.result c.in-Err.code c.end_at.ensures c.in-Err.ensures.other
+    c.requires c.end_at.result c.in-Err.code c.end_at.ensures c.in-Err.ensures.has_end_code
 
-pub retain_cited-requires-clause-valid : goal.retain_cited-requires-clause-valid
-retain_cited-requires-clause-valid g c =
-    proof_is c.args.database.now.statements c.args.theorem c.args.steps.now.steps _ _ c.self.view_is
-    c.requires c.in_default.ensures.one
+pub retain_cited-requires-clause-has_proof : goal.retain_cited-requires-clause-has_proof
+retain_cited-requires-clause-has_proof g c =
+    is_proof c.args.database.now.statements c.args.theorem c.args.steps.now.steps _ _ c.self.view_is
+    c.requires c.in_default.ensures.is_only_entry
 
 pub retain_cited-requires-clause-noted : goal.retain_cited-requires-clause-noted
 retain_cited-requires-clause-noted g c =
-    cites_are c.args.database.now.statements c.args.theorem c.args.steps.now.steps _ _
+    noted_are_cited c.args.database.now.statements c.args.theorem c.args.steps.now.steps _ _
     c.self.view_is
-    c.requires c.in_default.ensures.one
+    c.requires c.in_default.ensures.is_only_entry
 
 pub returns-clause-valid : goal.returns-clause-valid
 returns-clause-valid g c =
-    let ok = c.in_ok-cites.ensures in (
+    let cites_are = c.in_ok-cites.ensures in (
       refl,
       is_checked c.args.database.now.statements c.args.theorem c.args.steps.now.steps _ _
           c.self.view_is
-          c.requires c.in_default.ensures.one c.args.essential _ _ c.in_ok-retain_cited.ensures
-          ok.rising
-          ok.same,
+          c.requires c.in_default.ensures.is_only_entry c.args.essential _ _
+          c.in_ok-retain_cited.ensures
+          cites_are.cites_rise
+          cites_are.members_stay,
     )

@@ -6,15 +6,16 @@ use Rattle.mm_spec.specs.Derivation.{is_member}
 use Rattle.mm_spec.proofs.ListLaw.{sort_and_dedup_same}
 use Rattle.mm_check.proofs.noted.NotedAssertions.sorted.Goals as goal
 
-pub returns-clause-rising : goal.returns-clause-rising
-returns-clause-rising g c =
-    let e : c.dedup.new.self.items ≡ dedup nat_eq c.sort_unstable.new.self.items =
+pub returns-clause-cites_rise : goal.returns-clause-cites_rise
+returns-clause-cites_rise g c =
+    let deduped : c.dedup.new.self.items ≡ dedup nat_eq c.sort_unstable.new.self.items =
     dedup_is nat_eq _ _ c.dedup.ensures.filtered in
-    rw (c.in_ok-cites.ensures.items_if_clones_equal (λ x y is. is) ∙ c.deref.ensures.value ∙ e)
+    rw (c.in_ok-cites.ensures.items_if_clones_equal (λ x y is. is) ∙ c.deref.ensures.value
+    ∙ deduped)
     (IsStrictlyIncreasing-dedup c.sort_unstable.new.self.items c.sort_unstable.ensures.sorted)
 
-pub returns-clause-same : goal.returns-clause-same
-returns-clause-same g c a =
+pub returns-clause-members_stay : goal.returns-clause-members_stay
+returns-clause-members_stay g c a =
     ap (λ l. is_member l a)
     (c.in_ok-cites.ensures.items_if_clones_equal (λ x y is. is) ∙ c.deref.ensures.value)
     ∙ sort_and_dedup_same c.self.inside.numbers.items c.sort_unstable.new.self.items

@@ -3,50 +3,53 @@ use Rattle.std.proofs.Common.{length-append}
 use Rattle.mm_spec.specs.Frame.{formula_at}
 use Rattle.mm_machine.specs.State.{machine_state}
 use Rattle.mm_machine.specs.Applied.{Applies}
-use Rattle.mm_machine.proofs.AloneLaw.{alone_entries, alone_long}
+use Rattle.mm_machine.proofs.AloneLaw.{applied_alone_is_ok, applied_alone_is_too_long}
 use Rattle.mm_machine.proofs.machine.Machine.apply_alone.Goals as goal
 
 pub returns-then-symbols-gt-FORMULA_LIMIT : goal.returns-then-symbols-gt-FORMULA_LIMIT
 returns-then-symbols-gt-FORMULA_LIMIT g c =
     let db = c.args.database.now.statements in
-    let is = c.formula-symbols.ensures.are ∙ ap (formula_at db) c.assertion.ensures in
-    let n = ap length is in
+    let symbols_are = c.formula-symbols.ensures.are ∙ ap (formula_at db) c.assertion.ensures in
+    let length_is = ap length symbols_are in
     record {
-      step = record {
-        applies = tt;
-        refused =
-            alone_long db c.args._theorem c.args.rule.now c.requires.rule c.requires.alone
-            c.args.self.now.stack (omega (arith, n, c.if-symbols-gt-FORMULA_LIMIT.true));
-        symbol_count = refl;
+      is_applied = record {
+        applies_if_ok = tt;
+        refusal_is_right =
+            applied_alone_is_too_long db c.args._theorem c.args.rule.now c.requires.rule
+            c.requires.no_hypotheses
+            c.args.self.now.stack (omega (arith, length_is, c.if-symbols-gt-FORMULA_LIMIT.true));
+        symbol_count_stays = refl;
       };
     }
 
 pub returns-in-Ok : goal.returns-in-Ok
 returns-in-Ok g c =
     let db = c.args.database.now.statements in
-    let before = c.args.self.now in
-    let es = before.stack in
+    let state_before = c.args.self.now in
+    let es = state_before.stack in
     let symbols = c.formula-symbols.result.now in
-    let is = c.formula-symbols.ensures.are ∙ ap (formula_at db) c.assertion.ensures in
-    let n = ap length is in
-    let after = machine_state (es ++ symbols ∷ []) before.marks before.formulas before.symbol_count
+    let symbols_are = c.formula-symbols.ensures.are ∙ ap (formula_at db) c.assertion.ensures in
+    let length_is = ap length symbols_are in
+    let state_after = machine_state (es ++ symbols ∷ []) state_before.marks state_before.formulas
+    state_before.symbol_count
     in
     record {
-      step = record {
-        applies =
-            subst (Applies db c.args._theorem c.args.rule.now.assertion before)
+      is_applied = record {
+        applies_if_ok =
+            subst (Applies db c.args._theorem c.args.rule.now.assertion state_before)
             (sym c.in-Ok.ensures.ok)
             (record {
               entries_are =
-                  alone_entries db c.args._theorem c.args.rule.now c.requires.rule c.requires.alone
+                  applied_alone_is_ok db c.args._theorem c.args.rule.now c.requires.rule
+                  c.requires.no_hypotheses
                   es
-                  (omega (arith, n, c.if-symbols-gt-FORMULA_LIMIT.false))
-                  ∙ ap (λ f. Ok (es ++ f ∷ [])) (sym is);
-              entry = omega (arith, length-append es (symbols ∷ []));
-              marks = refl;
-              formulas = refl;
+                  (omega (arith, length_is, c.if-symbols-gt-FORMULA_LIMIT.false))
+                  ∙ ap (λ f. Ok (es ++ f ∷ [])) (sym symbols_are);
+              has_entry = omega (arith, length-append es (symbols ∷ []));
+              marks_stay = refl;
+              formulas_stay = refl;
             });
-        refused = tt;
-        symbol_count = c.in-Ok.ensures.symbol_count;
+        refusal_is_right = tt;
+        symbol_count_stays = c.in-Ok.ensures.symbol_count;
       };
     }

@@ -4,19 +4,20 @@ use Rattle.mm_machine.specs.Arena.{arena}
 use Rattle.mm_machine.specs.State.{MachineState, machine_state, TestsRule, span_formulas, applied}
 use Rattle.mm_machine.specs.State.{reason_of}
 use Rattle.mm_machine.specs.Applied.{IsApplied}
-use Rattle.mm_machine.proofs.PlacedLaw.{rule_test_by_values, step_made, step_entry, step_refused}
-use Rattle.mm_machine.proofs.PlacedLaw.{applied_of}
-use Rattle.mm_machine.proofs.PlacedLaw.{parts_below, parts_known, entries_here}
-use Rattle.mm_machine.proofs.PlacedLaw.{stack_here, next_machine}
+use Rattle.mm_machine.proofs.PlacedLaw.{rule_test_by_values, step_ok_by_value, step_has_entry}
+use Rattle.mm_machine.proofs.PlacedLaw.{step_refusal_is_right}
+use Rattle.mm_machine.proofs.PlacedLaw.{is_applied_if_kept}
+use Rattle.mm_machine.proofs.PlacedLaw.{parts_below, rule_parts_in_range, entries_by_value}
+use Rattle.mm_machine.proofs.PlacedLaw.{stack_by_value, machine_after_step}
 use Rattle.mm_machine.proofs.machine.Machine.apply_to_premises.Given.{Over}
 use Rattle.mm_machine.proofs.machine.Machine.apply_to_premises.Goals.{In-Ok}
 use Rattle.mm_machine.proofs.machine.Machine.apply_to_premises.Goals as goal
 
 -- the test of the rule, on the lists of the machine
-tested : (g : Over) (c : In-Ok g)
+rule_is_tested : (g : Over) (c : In-Ok g)
     → TestsRule c.args.database.now.statements c.args.theorem c.args.rule.now
     (arena c.self.inside.unmarked c.self.inside.marked) c.self.inside.stack.items (Ok c.in-Ok.below)
-tested g c =
+rule_is_tested g c =
     let i = c.self.inside in
     rule_test_by_values c.args.database.now.statements c.args.theorem c.args.rule.now
     i.unmarked c.as_slice.result.now i.marked c.as_slice-2.result.now
@@ -29,54 +30,58 @@ invariant_of-self g c =
     let db = c.args.database.now.statements in
     let symbol_count : i.symbol_count ≡ length (symbol_names db) =
     ap (λ s. s.symbol_count) c.self.view_is ∙ c.requires.symbol_count in
-    next_machine i.unmarked i.marked i.stack.items i.marks.items i.marked_spans.items i.symbol_count
+    machine_after_step i.unmarked i.marked i.stack.items i.marks.items i.marked_spans.items
+    i.symbol_count
     c.self.invariant
     c.formula.result.now c.replace_by_formula.new.unmarked c.as_slice-in-Ok.result.now
     c.replace_by_formula.new.stack.items c.as_slice-in-Ok.ensures
-    (parts_known db c.args.theorem c.args.rule.now i.unmarked i.marked c.as_slice-in-Ok.result.now
+    (rule_parts_in_range db c.args.theorem c.args.rule.now i.unmarked i.marked
+    c.as_slice-in-Ok.result.now
     i.stack.items c.in-Ok.below c.formula.result.now c.as_slice-in-Ok.ensures c.formula.ensures
-    (tested g (goal.at.invariant_of-self g c).In-Ok) c.requires.rule i.symbol_count symbol_count)
+    (rule_is_tested g (goal.at.invariant_of-self g c).In-Ok) c.requires.rule i.symbol_count
+    symbol_count)
     c.replace_by_formula.ensures.stack
 
-pub returns-in-Err-clause-step : goal.returns-in-Err-clause-step
-returns-in-Err-clause-step g c =
+pub returns-in-Err-clause-is_applied : goal.returns-in-Err-clause-is_applied
+returns-in-Err-clause-is_applied g c =
     let i = c.self.inside in
     let db = c.args.database.now.statements in
     record {
-      applies = tt;
-      refused =
+      applies_if_ok = tt;
+      refusal_is_right =
           subst (λ (s : MachineState). applied db c.args.theorem c.args.rule.now.assertion s.stack
           ≡ Err (reason_of c.in-Err.reason)) c.self.view_is
           (rule_test_by_values db c.args.theorem c.args.rule.now i.unmarked c.as_slice.result.now
           i.marked c.as_slice-2.result.now i.stack.items c.deref.result.now (Err c.in-Err.reason)
           c.as_slice.ensures c.as_slice-2.ensures c.deref.ensures.value c.in-Err.ensures.judged);
-      symbol_count = refl;
+      symbol_count_stays = refl;
     }
 
-pub returns-in-Ok-clause-step : goal.returns-in-Ok-clause-step
-returns-in-Ok-clause-step g c =
+pub returns-in-Ok-clause-is_applied : goal.returns-in-Ok-clause-is_applied
+returns-in-Ok-clause-is_applied g c =
     let i = c.self.inside in
     let db = c.args.database.now.statements in
     let t = c.args.theorem in
     let a = c.args.rule.now.assertion in
     let replacing = c.replace_by_formula in
-    let judged = tested g (goal.at.returns-in-Ok-clause-step g c).In-Ok in
+    let judged = rule_is_tested g (goal.at.returns-in-Ok-clause-is_applied g c).In-Ok in
     let formulas = span_formulas (arena [] i.marked) i.marked_spans.items in
     let entries = span_formulas (arena i.unmarked i.marked) i.stack.items in
-    let before = machine_state entries i.marks.items formulas i.symbol_count in
-    let left = span_formulas (arena replacing.new.unmarked i.marked) replacing.new.stack.items in
-    let after = machine_state left i.marks.items formulas i.symbol_count in
-    subst (λ (s : MachineState). IsApplied db t a s after replacing.result) c.self.view_is
-    (applied_of db t a before after replacing.result
-    (step_made db t c.args.rule.now i.unmarked i.marked c.as_slice-in-Ok.result.now
+    let state_before = machine_state entries i.marks.items formulas i.symbol_count in
+    let new_entries = span_formulas (arena replacing.new.unmarked i.marked)
+    replacing.new.stack.items in
+    let state_after = machine_state new_entries i.marks.items formulas i.symbol_count in
+    subst (λ (s : MachineState). IsApplied db t a s state_after replacing.result) c.self.view_is
+    (is_applied_if_kept db t a state_before state_after replacing.result
+    (step_ok_by_value db t c.args.rule.now i.unmarked i.marked c.as_slice-in-Ok.result.now
     i.stack.items c.in-Ok.below c.formula.result.now c.as_slice-in-Ok.ensures c.formula.ensures
     judged replacing.result replacing.new.unmarked replacing.new.stack.items
     replacing.ensures.entries)
-    (step_entry db t c.args.rule.now i.unmarked i.marked c.as_slice-in-Ok.result.now
+    (step_has_entry db t c.args.rule.now i.unmarked i.marked c.as_slice-in-Ok.result.now
     i.stack.items c.in-Ok.below c.formula.result.now c.as_slice-in-Ok.ensures c.formula.ensures
     judged replacing.result replacing.new.unmarked replacing.new.stack.items
     replacing.ensures.entries)
-    (step_refused db t c.args.rule.now i.unmarked i.marked c.as_slice-in-Ok.result.now
+    (step_refusal_is_right db t c.args.rule.now i.unmarked i.marked c.as_slice-in-Ok.result.now
     i.stack.items c.in-Ok.below c.formula.result.now c.as_slice-in-Ok.ensures c.formula.ensures
     judged replacing.result replacing.new.unmarked replacing.new.stack.items
     replacing.ensures.refused)
@@ -85,7 +90,8 @@ returns-in-Ok-clause-step g c =
 pub test_rule-requires-clause-stack : goal.test_rule-requires-clause-stack
 test_rule-requires-clause-stack g c =
     let i = c.self.inside in
-    entries_here i.unmarked i.marked i.stack.items i.marks.items i.marked_spans.items i.symbol_count
+    entries_by_value i.unmarked i.marked i.stack.items i.marks.items i.marked_spans.items
+    i.symbol_count
     c.self.invariant
     (length (symbol_names c.args.database.now.statements)) c.as_slice.result.now
     c.as_slice-2.result.now c.deref.result.now
@@ -94,8 +100,9 @@ test_rule-requires-clause-stack g c =
 
 pub replace_by_formula-requires-clause-below : goal.replace_by_formula-requires-clause-below
 replace_by_formula-requires-clause-below g c =
-    let n = (tested g (goal.at.replace_by_formula-requires-clause-below g c).In-Ok).0 in
-    omega (arith, n, c.self.inside.stack.ok.0)
+    let stack_length_is = (rule_is_tested g (goal.at.replace_by_formula-requires-clause-below g
+    c).In-Ok).0 in
+    omega (arith, stack_length_is, c.self.inside.stack.ok.0)
 
 pub replace_by_formula-requires-clause-formula : goal.replace_by_formula-requires-clause-formula
 replace_by_formula-requires-clause-formula g c =
@@ -103,11 +110,13 @@ replace_by_formula-requires-clause-formula g c =
     parts_below c.args.database.now.statements c.args.theorem c.args.rule.now i.unmarked i.marked
     c.as_slice-in-Ok.result.now i.stack.items c.in-Ok.below c.formula.result.now
     c.as_slice-in-Ok.ensures c.formula.ensures
-    (tested g (goal.at.replace_by_formula-requires-clause-formula g c).In-Ok) c.requires.rule
+    (rule_is_tested g (goal.at.replace_by_formula-requires-clause-formula g c).In-Ok)
+    c.requires.rule
 
 pub replace_by_formula-requires-clause-stack : goal.replace_by_formula-requires-clause-stack
 replace_by_formula-requires-clause-stack g c =
     let i = c.self.inside in
-    stack_here i.unmarked i.marked i.stack.items i.marks.items i.marked_spans.items i.symbol_count
+    stack_by_value i.unmarked i.marked i.stack.items i.marks.items i.marked_spans.items
+    i.symbol_count
     c.self.invariant
     c.as_slice-in-Ok.result.now c.as_slice-in-Ok.ensures

@@ -14,6 +14,6 @@ invariant_of-result g c =
     (record {
       stack = search rules;
       spans_are_marked = search rules;
-      rising = search rules;
-      count = omega arith;
+      marks_rise = search rules;
+      enough_spans = omega arith;
     })

@@ -51,14 +51,14 @@ allocate_spec 𝓤 𝓛 𝓜 𝓡 wired A L g d dd met md =
     let args : Args = bounded (a_type ∷ []) (A, tt) (dcons d (dcons dd dnil)) in
     let fn : Fn = inst_fn args code.function in
     let 𝓣 = tables 𝓤 𝓛.H 𝓜 𝓡 𝓡.env in
-    let lent : Slot 2 = RefOf (0 ∷ []) tt (plain (λ _. param 0 A)) (λ _. tt) in
+    let alloc_slot : Slot 2 = RefOf (0 ∷ []) tt (plain (λ _. param 0 A)) (λ _. tt) in
     let stayed : Stays T.signature.params T.kept = (
-      stay_dropped lent T.kept.0,
+      stay_dropped alloc_slot T.kept.0,
       (stay_dropped (plain (λ _. usize)) T.kept.1.0, tt),
     ) in
     let W = walk_of 𝓛 T stayed c in
     proved 𝓛 T stayed c 𝓜 𝓡 (
-      Goes-dropped 𝓛 2 lent T.kept.0 (λ κs x w. refl),
+      Goes-dropped 𝓛 2 alloc_slot T.kept.0 (λ κs x w. refl),
       (Goes-dropped 𝓛 2 (plain (λ _. usize)) T.kept.1.0 (λ κs x w. refl), tt),
     )
     (f.Key.name args) fn (code.unfolded 𝓤 𝓛.H 𝓜 𝓡 wired (A, tt) d dd)
@@ -66,36 +66,37 @@ allocate_spec 𝓤 𝓛 𝓜 𝓡 wired A L g d dd met md =
     (λ κs. (shr_Tells (named 0) κs.0 (param 0 A), (uint_Tells w64, tt)))
     (λ κs qs bounds a _ are.
     let Y : Al = record { row = A; laws = L; g = g; d = d; drops = dd } in
-    let h = a.0.now in let at = a.0.ref_ptr in let u = a.1.0 in let τ : Ty = units u in
+    let h = a.0.now in let alloc_ptr = a.0.ref_ptr in let u = a.1.0 in let τ : Ty = units u in
     let y : W.Ghost = ((κs, qs, bounds, a, (shr_vals a.0, (uint_vals w64 u, tt))), tt) in
     qed 𝓛 ((raw (alive 𝓛 T.signature κs qs) ⊛ ‵ (owns (types_at T.signature.params κs) a y.0.4))
     ∷ (raw (fact 𝓤 (κs.1.0 ⊑ A.lives)) ⊛ raw (fact 𝓤 (u * 16 < 2 ^ 63))) ∷ []) ∵
-    move ! (1 ∷ []) $ split ! $ heard ! _ (λ le. heard ! _ (λ fits.
-    let s : ℕ = u * 16 in let z = at_takes Y 𝓛 𝓜.mem 𝓡.returns κs.0 qs.0 at h s 16 τ in
+    move ! (1 ∷ []) $ split ! $ heard ! _ (λ lives_within. heard ! _ (λ units_lt_limit.
+    let s : ℕ = u * 16 in let z = at_takes Y 𝓛 𝓜.mem 𝓡.returns κs.0 qs.0 alloc_ptr h s 16 τ in
     split ! $ move ! (1 ∷ []) $ fsplit ! $ fsplit ! $ drop ! $ move ! (1 ∷ []) $ drop ! $
-    use1 𝓛 (‵ (seen Y κs.0 at h)) (id⊢ 𝓤 _) $
+    use1 𝓛 (‵ (seen Y κs.0 alloc_ptr h)) (id⊢ 𝓤 _) $
     move ! (1 ∷ []) $ use1 𝓛 (‵ (flft κs.0 qs.0) ⊛ ‵ (flft κs.1.0 qs.1.0) ⊛ ‵ ftrue) (id⊢ 𝓤 _) $
     split ! $ move ! (2 ∷ 0 ∷ []) $
     -- [the allocator; the token of its loan; the other tokens]
     enter ! _ _ _ _ _ $
     alloc_all ! (λ l. pass_all ! refl ((tt, tt), ((tt, record { fits = are.1.0.1 }), tt)) $
     let En : Env 𝓤 𝓛.H = env fn.locals l in let Ends = at_ret En (W.post y) in
-    sets ! (bin ! (get ! refl) (lit ! tt) (record { fits = omega (arith, fits) })) refl
-    (tt, record { fits = omega (arith, fits) }) $
+    sets ! (bin ! (get ! refl) (lit ! tt) (record { fits = omega (arith, units_lt_limit) })) refl
+    (tt, record { fits = omega (arith, units_lt_limit) }) $
     use2 𝓛 (raw ((Takes Y 𝓛 𝓜.mem 𝓡.returns).pre z))
-    (Takes-goes Y 𝓛 𝓜.mem 𝓡.returns κs.0 qs.0 at h (⊑_trans κs.0 κs.1.0 A.lives bounds.0 le) s 16 τ
-    (capped_is s (omega (arith, fits))) refl (omega (arith, fits)) (lit< tt)) $
+    (Takes-goes Y 𝓛 𝓜.mem 𝓡.returns κs.0 qs.0 alloc_ptr h (⊑_trans κs.0 κs.1.0 A.lives bounds.0
+    lives_within) s 16 τ
+    (capped_is s (omega (arith, units_lt_limit))) refl (omega (arith, units_lt_limit)) (lit< tt)) $
     calls_at ! (framed 𝓤 𝓛.H 𝓜 𝓣) (Takes Y 𝓛 𝓜.mem 𝓡.returns) (met.allocate dd) z
     (and_then ! (get ! refl) (and_then ! (get ! refl) (and_then ! (lit ! tt) (no_more !)))) (λ v.
     use1 𝓛 (later (raw (Answered Y 𝓛 𝓜.mem 𝓡.returns h τ v) ⊛ ‵ (flft κs.0 qs.0)))
-    (Takes-gives Y 𝓛 𝓜.mem 𝓡.returns κs.0 qs.0 at h s 16 τ v) $ await ! tt $ split ! $
+    (Takes-gives Y 𝓛 𝓜.mem 𝓡.returns κs.0 qs.0 alloc_ptr h s 16 τ v) $ await ! tt $ split ! $
     answers Y ! 𝓜.mem 𝓡.returns h τ v
-    (λ b o is. let p = block_ptr b o in
+    (λ b o answer_is. let p = block_ptr b o in
     let x : (block.the_row A g).Denot = record
-    { at = p; given_by = record {}; alloc = h; units = u } in
+    { address = p; given_by = record {}; alloc = h; units = u } in
     fjoin ! $ move ! (1 ∷ 2 ∷ []) $ join ! $ move ! (1 ∷ []) $
     -- [the block with the way back; the tokens]
-    lands_as ! is refl (tt, (record { fits = lit< tt }, (tt, tt))) $
+    lands_as ! answer_is refl (tt, (record { fits = lit< tt }, (tt, tt))) $
     first ! $ switches_on ! (get_tag ! (vrt ! refl (fld ! refl (stop !))) (whole !)) $
     exec ! 𝓣.C 𝓣.Λ En (arm_body 0 (head (after 2 fn.body)))
     (rest_runs 𝓛 𝓣.C 𝓣.Λ En (after 3 fn.body) Ends) $
@@ -116,8 +117,8 @@ allocate_spec 𝓤 𝓛 𝓜 𝓡 wired A L g d dd met md =
     use1 𝓛 (‵ ((option.the_row (block.the_row A g)).own_val (Some x)
     (live 1 (vcons (block_val p) vnil) ∷ []))) (Some-of 𝓛 (block.the_row A g) x (block_val p)) $
     nothing ! $ nothing ! $ join ! $ nothing ! $ join ! $ move ! (2 ∷ 0 ∷ 1 ∷ []) $ done !)
-    (λ is. join ! $
-    lands_as ! is refl (tt, (record { fits = lit< tt }, (tt, tt))) $
+    (λ answer_is. join ! $
+    lands_as ! answer_is refl (tt, (record { fits = lit< tt }, (tt, tt))) $
     first ! $ switches_on ! (get_tag ! (vrt ! refl (fld ! refl (stop !))) (whole !)) $
     exec ! 𝓣.C 𝓣.Λ En (arm_body 1 (head (after 2 fn.body)))
     (rest_runs 𝓛 𝓣.C 𝓣.Λ En (after 3 fn.body) Ends) $

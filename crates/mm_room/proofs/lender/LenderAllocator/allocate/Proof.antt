@@ -33,7 +33,8 @@ use Rattle.core.proofs.alloc.Calls.{Answer, answer_val, Answer-Ok, Answer-err}
 use Rattle.core.proofs.alloc.Shapes.{arm_body}
 use Rattle.mm_room.specs.Units.{way_back}
 use Rattle.mm_room.specs.contracts.lender.Lender as lender
-use Rattle.mm_room.proofs.RoomLaw.{Taken, Told, taken, cut_from_units, rest_runs}
+use Rattle.mm_room.proofs.RoomLaw.{MaybeMemory, IsMemoryFor, by_taken_memory, cut_from_units}
+use Rattle.mm_room.proofs.RoomLaw.{rest_runs}
 use Rattle.mm_room.specs.contracts.lender.LenderAllocator.allocate as f
 use Rattle.mm_room.proofs.lender.LenderAllocator.allocate.Statement.{statement}
 use Rattle.mm_room.proofs.lender.LenderAllocator.allocate.Code as code
@@ -41,8 +42,8 @@ use Rattle.mm_room.specs.contracts.lender.Lender.take_memory as g
 use Rattle.mm_room.proofs.lender.Lender.take_memory.Met.{met}
 
 -- the slot of the lender
-abbrev lent : Slot 1
-lent = RefOf (0 ∷ []) tt (plain (λ _. lender.the_row)) (λ _. tt)
+abbrev lender_slot : Slot 1
+lender_slot = RefOf (0 ∷ []) tt (plain (λ _. lender.the_row)) (λ _. tt)
 
 abbrev stayed : Stays f.ended.signature.params f.ended.kept
 stayed = (stay_dropped _ _, (stay_dropped _ _, (stay_dropped _ _, tt)))
@@ -52,7 +53,7 @@ allocate_spec 𝓤 𝓛 𝓜 𝓡 wired =
     let c = f.clauses 𝓛 𝓜.mem 𝓡.returns in let W = walk_of 𝓛 f.ended stayed c in
     let 𝓣 = tables 𝓤 𝓛.H 𝓜 𝓡 𝓡.env in
     proved 𝓛 f.ended stayed c 𝓜 𝓡 (
-      Goes-dropped 𝓛 1 lent f.ended.kept.0 (λ κs x w. refl),
+      Goes-dropped 𝓛 1 lender_slot f.ended.kept.0 (λ κs x w. refl),
       (
         Goes-dropped 𝓛 1 (plain (λ _. usize)) f.ended.kept.1.0 (λ κs x w. refl),
         (Goes-dropped 𝓛 1 (plain (λ _. usize)) f.ended.kept.1.1.0 (λ κs x w. refl), tt),
@@ -72,7 +73,7 @@ allocate_spec 𝓤 𝓛 𝓜 𝓡 wired =
     ) in
     qed 𝓛 ((raw (alive 𝓛 f.signature κs qs) ⊛ ‵ (owns (types_at f.signature.params κs) a y.0.4))
     ∷ raw (fact 𝓤 ((capped (size τ) ≡ s) × (capped (align τ) ≡ a.1.1.0))) ∷ []) ∵
-    move ! (1 ∷ []) $ heard ! _ (λ asked.
+    move ! (1 ∷ []) $ heard ! _ (λ layout_is.
     split ! $ move ! (1 ∷ []) $ fsplit ! $ move ! (1 ∷ []) $ fsplit ! $ move ! (1 ∷ []) $ drop ! $
     nothing ! $ move ! (1 ∷ 0 ∷ []) $ fjoin ! $ move ! (1 ∷ 0 ∷ []) $ fjoin ! $
     move ! (1 ∷ 0 ∷ []) $ join ! $
@@ -86,17 +87,18 @@ allocate_spec 𝓤 𝓛 𝓜 𝓡 wired =
     (met 𝓤 𝓛 𝓜 𝓡 (code.calls-mm_room::lender::Lender::take_memory 𝓡.env wired)) z
     (and_then ! (get ! refl) (and_then ! (get ! refl) (no_more !))) (λ v.
     use1 𝓛 (later
-    (some (λ (x : Taken.Denot). (raw (alive 𝓛 f.signature κs qs) ⊛ ‵ (Taken.own_val x (v ∷ []))) ⊛
+    (some (λ (x : MaybeMemory.Denot). (raw (alive 𝓛 f.signature κs qs) ⊛ ‵ (MaybeMemory.own_val x (v
+    ∷ []))) ⊛
     some (λ (ws : Lasts g.ended z.0.0 z.0.3). ‵ (lasts g.ended z.0.0 z.0.3 ws) ⊛ raw
-    (fact 𝓤 (Told n s x)))))) (id⊢ 𝓤 _) $
+    (fact 𝓤 (IsMemoryFor n s x)))))) (id⊢ 𝓤 _) $
     await ! tt $ pick ! (λ x. split ! $ move ! (1 ∷ []) $
-    pick ! (λ ws. split ! $ drop ! $ heard ! _ (λ told. split ! $ move ! (1 ∷ []) $
+    pick ! (λ ws. split ! $ drop ! $ heard ! _ (λ is_memory. split ! $ move ! (1 ∷ []) $
     -- [what `take_memory` gave; the tokens]
-    taken ! n s x v told
-    (λ b o units fits short is.
+    by_taken_memory ! n s x v is_memory
+    (λ b o n_is_positive s_le_units s_lt_limit value_is.
     use1 𝓛 (‵ (froom τ b o) ⊛ ‵ (way_back n τ (block_ptr b o)))
-    (cut_from_units 𝓛 τ b o n s asked.0 units fits short) $
-    lands_as ! is refl (tt, (record { fits = lit< tt }, ((tt, tt), tt))) $
+    (cut_from_units 𝓛 τ b o n s layout_is.0 n_is_positive s_le_units s_lt_limit) $
+    lands_as ! value_is refl (tt, (record { fits = lit< tt }, ((tt, tt), tt))) $
     first ! $ switches_on ! (get_tag ! (vrt ! refl (fld ! refl (stop !))) (whole !)) $
     exec ! 𝓣.C 𝓣.Λ En (arm_body 0 code.Mir.s-2) (rest_runs 𝓛 𝓣.C 𝓣.Λ En code.Mir.t-3 Ends) $
     sets ! (of_opd ! (get_in ! (vrt ! refl (fld ! refl (fld ! refl (stop !))))
@@ -112,8 +114,8 @@ allocate_spec 𝓤 𝓛 𝓜 𝓡 wired =
     use0 𝓛 (‵ (Answer.own_val (Ok (block_ptr b o)) (answer_val true b o ∷ []))) (Answer-Ok 𝓛 b o) $
     nothing ! $ nothing ! $ join ! $ nothing ! $ join ! $ nothing ! $ join ! $
     move ! (3 ∷ 0 ∷ 1 ∷ 2 ∷ []) $ group ! 3 $ done !)
-    (λ is.
-    lands_as ! is refl (tt, (record { fits = lit< tt }, tt)) $
+    (λ value_is.
+    lands_as ! value_is refl (tt, (record { fits = lit< tt }, tt)) $
     first ! $ switches_on ! (get_tag ! (vrt ! refl (fld ! refl (stop !))) (whole !)) $
     exec ! 𝓣.C 𝓣.Λ En (arm_body 1 code.Mir.s-2) (rest_runs 𝓛 𝓣.C 𝓣.Λ En code.Mir.t-3 Ends) $
     sets ! (agg ! (no_more !)) refl (tt, tt) $

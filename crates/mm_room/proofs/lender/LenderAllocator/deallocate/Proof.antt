@@ -40,8 +40,8 @@ use Rattle.mm_room.specs.contracts.lender.Lender.put_back as g
 use Rattle.mm_room.proofs.lender.Lender.put_back.Met.{met}
 
 -- the slot of the lender
-abbrev lent : Slot 1
-lent = RefOf (0 ∷ []) tt (plain (λ _. lender.the_row)) (λ _. tt)
+abbrev lender_slot : Slot 1
+lender_slot = RefOf (0 ∷ []) tt (plain (λ _. lender.the_row)) (λ _. tt)
 
 abbrev stayed : Stays f.ended.signature.params f.ended.kept
 stayed = (stay_dropped _ _, (stay_dropped _ _, (stay_dropped _ _, (stay_dropped _ _, tt))))
@@ -50,7 +50,7 @@ pub deallocate_spec : {M : Type 1} → statement M
 deallocate_spec 𝓤 𝓛 𝓜 𝓡 wired =
     let c = f.clauses 𝓛 𝓜.mem 𝓡.returns in let W = walk_of 𝓛 f.ended stayed c in
     proved 𝓛 f.ended stayed c 𝓜 𝓡 (
-      Goes-dropped 𝓛 1 lent f.ended.kept.0 (λ κs x w. refl),
+      Goes-dropped 𝓛 1 lender_slot f.ended.kept.0 (λ κs x w. refl),
       (
         Goes-dropped 𝓛 1 (plain (λ _. RawPtr)) f.ended.kept.1.0 (λ κs x w. refl),
         (
@@ -78,7 +78,7 @@ deallocate_spec 𝓤 𝓛 𝓜 𝓡 wired =
       τ,
     ) in
     let G = triple_of 𝓛 g.signature (g.spec 𝓛 𝓜.mem 𝓡.returns) in
-    let m : (memory.the_row).Denot = record { at = p; units = u } in
+    let m : (memory.the_row).Denot = record { address = p; units = u } in
     let z : G.Ghost = (
       (κs, qs, bounds, (a.0, (m, tt)), (shr_vals a.0, (memory_val p ∷ [], tt))),
       tt,

@@ -27,7 +27,7 @@ none_spec 𝓤 𝓛 𝓜 𝓡 wired =
     sets ! (agg ! (and_then ! (lit ! tt) (no_more !))) refl (tt, (record { fits = lit< tt }, tt)) $
     returns ! (look_at ! 0 refl) $ free_all ! refl $
     suffices ! _ (ends_at 𝓛 f.ended tt c y (memory_val null_ptr) (record {
-      at = null_ptr;
+      address = null_ptr;
       units =
           0;
     }) tt tt) $ says ! refl $

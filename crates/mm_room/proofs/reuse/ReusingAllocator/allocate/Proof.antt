@@ -37,7 +37,7 @@ use Rattle.core.proofs.alloc.Shapes.{after, head, arm_body}
 use Rattle.mm_room.specs.Units.{block_back}
 use Rattle.mm_room.specs.contracts.reuse.Reusing as lists
 use Rattle.mm_room.proofs.RoomLaw.{rest_runs}
-use Rattle.mm_room.proofs.ReuseLaw.{Taken, Told, taken, reuse}
+use Rattle.mm_room.proofs.ReuseLaw.{MaybeBlock, IsBlockFor, by_taken_block, reuse}
 use Rattle.mm_room.specs.contracts.reuse.ReusingAllocator.allocate as f
 use Rattle.mm_room.proofs.reuse.ReusingAllocator.allocate.Statement.{statement}
 use Rattle.mm_room.proofs.reuse.ReusingAllocator.allocate.Code as code
@@ -51,9 +51,9 @@ allocate_spec 𝓤 𝓛 𝓜 𝓡 wired A L g d dd met md =
     let fn : Fn = inst_fn args code.function in
     let 𝓣 = tables 𝓤 𝓛.H 𝓜 𝓡 𝓡.env in
     let row : RattleType = lists.the_row (param 0 A) g in
-    let lent : Slot 2 = RefOf (0 ∷ []) tt (plain (λ _. row)) (λ _. tt) in
+    let lists_slot : Slot 2 = RefOf (0 ∷ []) tt (plain (λ _. row)) (λ _. tt) in
     let stayed : Stays T.signature.params T.kept = (
-      stay_dropped lent T.kept.0,
+      stay_dropped lists_slot T.kept.0,
       (
         stay_dropped (plain (λ _. usize)) T.kept.1.0,
         (stay_dropped (plain (λ _. usize)) T.kept.1.1.0, tt),
@@ -61,7 +61,7 @@ allocate_spec 𝓤 𝓛 𝓜 𝓡 wired A L g d dd met md =
     ) in
     let W = walk_of 𝓛 T stayed c in
     proved 𝓛 T stayed c 𝓜 𝓡 (
-      Goes-dropped 𝓛 2 lent T.kept.0 (λ κs x w. refl),
+      Goes-dropped 𝓛 2 lists_slot T.kept.0 (λ κs x w. refl),
       (
         Goes-dropped 𝓛 2 (plain (λ _. usize)) T.kept.1.0 (λ κs x w. refl),
         (Goes-dropped 𝓛 2 (plain (λ _. usize)) T.kept.1.1.0 (λ κs x w. refl), tt),
@@ -82,7 +82,7 @@ allocate_spec 𝓤 𝓛 𝓜 𝓡 wired A L g d dd met md =
     qed 𝓛 ((raw (alive 𝓛 T.signature κs qs) ⊛ ‵ (owns (types_at T.signature.params κs) a y.0.4))
     ∷ (raw (fact 𝓤 (κs.1.0 ⊑ A.lives)) ⊛ raw
     (fact 𝓤 ((capped (size τ) ≡ s) × (capped (align τ) ≡ a.1.1.0)))) ∷ []) ∵
-    move ! (1 ∷ []) $ split ! $ move ! (1 ∷ []) $ heard ! _ (λ asked.
+    move ! (1 ∷ []) $ split ! $ move ! (1 ∷ []) $ heard ! _ (λ layout_is.
     move ! (1 ∷ []) $ split ! $ move ! (1 ∷ []) $ fsplit ! $ move ! (1 ∷ []) $ fsplit ! $
     move ! (1 ∷ []) $ drop ! $
     nothing ! $ move ! (1 ∷ 0 ∷ []) $ fjoin ! $ move ! (1 ∷ 0 ∷ []) $ fjoin ! $
@@ -98,18 +98,18 @@ allocate_spec 𝓤 𝓛 𝓜 𝓡 wired A L g d dd met md =
     (met' 𝓤 𝓛 𝓜 𝓡 (code.calls-mm_room::reuse::Reusing::take_block 𝓡.env wired) A L g d dd met md) z
     (and_then ! (get ! refl) (and_then ! (get ! refl) (no_more !))) (λ v.
     use1 𝓛 (later
-    (some (λ (x : (Taken A g).Denot). (raw (alive 𝓛 T.signature κs qs) ⊛ ‵
-    ((Taken A g).own_val x (v ∷ []))) ⊛
+    (some (λ (x : (MaybeBlock A g).Denot). (raw (alive 𝓛 T.signature κs qs) ⊛ ‵
+    ((MaybeBlock A g).own_val x (v ∷ []))) ⊛
     some (λ (ws : Lasts (k.ended A g d dd) z.0.0 z.0.3). ‵ (lasts (k.ended A g d dd) z.0.0 z.0.3 ws)
-    ⊛ raw (fact 𝓤 (Told A g h s x)))))) (id⊢ 𝓤 _) $
+    ⊛ raw (fact 𝓤 (IsBlockFor A g h s x)))))) (id⊢ 𝓤 _) $
     await ! tt $ pick ! (λ x. split ! $ move ! (1 ∷ []) $
-    pick ! (λ ws. split ! $ drop ! $ heard ! _ (λ told. split ! $ move ! (1 ∷ []) $
+    pick ! (λ ws. split ! $ drop ! $ heard ! _ (λ is_block. split ! $ move ! (1 ∷ []) $
     -- [what `take_block` gave; the tokens]
-    taken A g ! h s x v told
-    (λ b o fits short is.
+    by_taken_block A g ! h s x v is_block
+    (λ b o s_le_block s_lt_limit value_is.
     use1 𝓛 (‵ (froom τ b o) ⊛ ‵ (block_back (g.dealloc_token h) τ (block_ptr b o)))
-    (reuse 𝓛 (g.dealloc_token h) τ b o s asked.0 fits short) $
-    lands_as ! is refl (tt, (record { fits = lit< tt }, ((tt, (tt, tt)), tt))) $
+    (reuse 𝓛 (g.dealloc_token h) τ b o s layout_is.0 s_le_block s_lt_limit) $
+    lands_as ! value_is refl (tt, (record { fits = lit< tt }, ((tt, (tt, tt)), tt))) $
     first ! $ switches_on ! (get_tag ! (vrt ! refl (fld ! refl (stop !))) (whole !)) $
     exec ! 𝓣.C 𝓣.Λ En (arm_body 0 (head (after 1 fn.body)))
     (rest_runs 𝓛 𝓣.C 𝓣.Λ En (after 2 fn.body) Ends) $
@@ -126,8 +126,8 @@ allocate_spec 𝓤 𝓛 𝓜 𝓡 wired A L g d dd met md =
     use0 𝓛 (‵ (Answer.own_val (Ok (block_ptr b o)) (answer_val true b o ∷ []))) (Answer-Ok 𝓛 b o) $
     nothing ! $ nothing ! $ join ! $ nothing ! $ join ! $ nothing ! $ join ! $
     move ! (3 ∷ 0 ∷ 1 ∷ 2 ∷ []) $ group ! 3 $ done !)
-    (λ is.
-    lands_as ! is refl (tt, (record { fits = lit< tt }, tt)) $
+    (λ value_is.
+    lands_as ! value_is refl (tt, (record { fits = lit< tt }, tt)) $
     first ! $ switches_on ! (get_tag ! (vrt ! refl (fld ! refl (stop !))) (whole !)) $
     exec ! 𝓣.C 𝓣.Λ En (arm_body 1 (head (after 1 fn.body)))
     (rest_runs 𝓛 𝓣.C 𝓣.Λ En (after 2 fn.body) Ends) $

@@ -51,9 +51,9 @@ deallocate_spec 𝓤 𝓛 𝓜 𝓡 wired A L g d dd met md =
     let fn : Fn = inst_fn args code.function in
     let 𝓣 = tables 𝓤 𝓛.H 𝓜 𝓡 𝓡.env in
     let row : RattleType = lists.the_row (param 0 A) g in
-    let lent : Slot 2 = RefOf (0 ∷ []) tt (plain (λ _. row)) (λ _. tt) in
+    let lists_slot : Slot 2 = RefOf (0 ∷ []) tt (plain (λ _. row)) (λ _. tt) in
     let stayed : Stays T.signature.params T.kept = (
-      stay_dropped lent T.kept.0,
+      stay_dropped lists_slot T.kept.0,
       (
         stay_dropped (plain (λ _. RawPtr)) T.kept.1.0,
         (
@@ -64,7 +64,7 @@ deallocate_spec 𝓤 𝓛 𝓜 𝓡 wired A L g d dd met md =
     ) in
     let W = walk_of 𝓛 T stayed c in
     proved 𝓛 T stayed c 𝓜 𝓡 (
-      Goes-dropped 𝓛 2 lent T.kept.0 (λ κs x w. refl),
+      Goes-dropped 𝓛 2 lists_slot T.kept.0 (λ κs x w. refl),
       (
         Goes-dropped 𝓛 2 (plain (λ _. RawPtr)) T.kept.1.0 (λ κs x w. refl),
         (
@@ -90,7 +90,7 @@ deallocate_spec 𝓤 𝓛 𝓜 𝓡 wired A L g d dd met md =
     ) in
     let G = triple_of 𝓛 (k.signature A g d dd) (k.spec A g d dd 𝓛 𝓜.mem 𝓡.returns) in
     let x : (block.the_row A g).Denot = record {
-      at = p;
+      address = p;
       given_by = record {};
       alloc = h;
       units = block_units n;
@@ -109,10 +109,10 @@ deallocate_spec 𝓤 𝓛 𝓜 𝓡 wired A L g d dd met md =
     ∷ (raw (fact 𝓤 (κs.1.0 ⊑ A.lives)) ⊛ raw
     (fact 𝓤 ((capped (size τ) ≡ n) × (capped (align τ) ≡ a.1.1.1.0))) ⊛ ‵ (room_for τ p) ⊛ ‵
     (block_back holds τ p)) ∷ []) ∵
-    move ! (1 ∷ []) $ split ! $ move ! (1 ∷ []) $ split3 ! $ heard ! _ (λ asked.
+    move ! (1 ∷ []) $ split ! $ move ! (1 ∷ []) $ split3 ! $ heard ! _ (λ layout_is.
     use2 𝓛 (‵ (block_at holds (block_units (capped (size τ))) p))
     (apply∗ 𝓤 (sem 𝓛 (room_for τ p)) (sem 𝓛 (block_at holds (block_units (capped (size τ))) p))) $
-    rewrite ! 0 (λ (j : ℕ). ‵ (block_at holds (block_units j) p)) asked.0 refl $
+    rewrite ! 0 (λ (j : ℕ). ‵ (block_at holds (block_units j) p)) layout_is.0 refl $
     move ! (2 ∷ []) $ split ! $ move ! (1 ∷ []) $ fsplit ! $ keep ! (0 ∷ 2 ∷ 3 ∷ 4 ∷ []) $
     -- [the lists; the tokens; the block; the bound of the allocator's lifetime]
     enter ! _ _ _ _ _ $

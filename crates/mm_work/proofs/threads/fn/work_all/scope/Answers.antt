@@ -11,26 +11,36 @@ use Rattle.mm_work.proofs.threads.fn.work_all.scope.Goals as goal
 pub join_all-requires : goal.join_all-requires
 join_all-requires g c = record {
   first = c.work-first.ensures;
-  others = λ k d l.
-      let len = c.in-Ok-join_promised.ensures.len in
-      let ok = c.in-Ok-join_promised.others.ok.0 in
-      let lt : k < vec_len c.loop-worker.handles = omega (arith, len, ok, l) in
-      let kept = (c.in-Ok-join_promised.ensures.each k d lt).1 in
-      let long = c.loop-worker.handles.ok.0 in
-      let promised = c.loop-worker.invariant.promised k kept.handle (omega (arith, lt, long)) in
+  others = λ k d k_lt_length.
+      let length_is = c.in-Ok-join_promised.ensures.len in
+      let handle_count_is = c.in-Ok-join_promised.others.ok.0 in
+      let k_lt_handle_count : k < vec_len c.loop-worker.handles = omega (
+        arith,
+        length_is,
+        handle_count_is,
+        k_lt_length,
+      ) in
+      let is_kept = (c.in-Ok-join_promised.ensures.each k d k_lt_handle_count).1 in
+      let handle_length_is = c.loop-worker.handles.ok.0 in
+      let is_promised = c.loop-worker.invariant.are_promised k is_kept.handle (omega (
+        arith,
+        k_lt_handle_count,
+        handle_length_is,
+      )) in
       subst (λ (j : Job _). IsDone j (get_or c.in-Ok-join_promised.others.items k d))
-      (ap (λ h. h.promise.now) kept.handle_is ∙ promised) kept.kept;
+      (ap (λ h. h.promise.now) is_kept.handle_is ∙ is_promised) is_kept.kept;
 }
 
 pub loop-worker-preserved : goal.loop-worker-preserved
 loop-worker-preserved g c = record {
-  ready = c.split_off.ensures.old_seat;
-  promised = elim c.match-split_off.branch [
+  seat_is_fresh = c.split_off.ensures.old_seat;
+  are_promised = elim c.match-split_off.branch [
     | in-Some+in-Ok+in_ok-push w ↦ rw (w.handles-is, w.in_ok-push.ensures.items)
         (All-push (λ h. h.promise.now ≡ c.captures.job.now) c.loop-worker.handles.items
-        w.in-Ok.handle c.loop-worker.invariant.promised (ap (λ p. p.now) w.in-Ok.ensures.ok))
-    | in-Some+in_default-spawn_with+in-Err-1 w ↦ rw w.handles-is c.loop-worker.invariant.promised
-    | in-Some+in_default-spawn_with+in-Ok-1 w ↦ rw w.handles-is c.loop-worker.invariant.promised
-    | in_default w ↦ rw w.handles-is c.loop-worker.invariant.promised
+        w.in-Ok.handle c.loop-worker.invariant.are_promised (ap (λ p. p.now) w.in-Ok.ensures.ok))
+    | in-Some+in_default-spawn_with+in-Err-1 w ↦ rw w.handles-is
+        c.loop-worker.invariant.are_promised
+    | in-Some+in_default-spawn_with+in-Ok-1 w ↦ rw w.handles-is c.loop-worker.invariant.are_promised
+    | in_default w ↦ rw w.handles-is c.loop-worker.invariant.are_promised
   ];
 }

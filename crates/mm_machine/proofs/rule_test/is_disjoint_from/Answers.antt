@@ -7,20 +7,21 @@ use Rattle.mm_spec.specs.Derivation.{are_disjoint, is_disjoint_from}
 use Rattle.mm_spec.specs.Statement.{Statement}
 use Rattle.mm_spec.specs.Frame.{is_variable_number}
 use Rattle.mm_spec.specs.Citation.{context_at}
-use Rattle.mm_machine.proofs.arena.is_disjoint_from.Goals as goal
+use Rattle.mm_machine.proofs.rule_test.is_disjoint_from.Goals as goal
 
 -- a constant is disjoint from all
-constant_apart : (db : List Statement) (t s : ℕ) → is_variable_number db s ≡ false → (v : List ℕ)
+constant_is_disjoint : (db : List Statement) (t s : ℕ) → is_variable_number db s ≡ false
+    → (v : List ℕ)
     → is_disjoint_from (context_at db t) s v ≡ true
-constant_apart db t s e [] = refl
-constant_apart db t s e (x ∷ v) =
+constant_is_disjoint db t s not_variable [] = refl
+constant_is_disjoint db t s not_variable (x ∷ v) =
     ap₂ (λ a b.
     (not (a && is_variable_number db x) || (not (s == x) && (context_at db t).is_disjoint s x))
-    && b) e (constant_apart db t s e v)
+    && b) not_variable (constant_is_disjoint db t s not_variable v)
 
 pub returns-then-not-is_variable-clause-value : goal.returns-then-not-is_variable-clause-value
 returns-then-not-is_variable-clause-value g c =
-    sym (constant_apart c.args.database.now.statements c.args.theorem c.args.symbol
+    sym (constant_is_disjoint c.args.database.now.statements c.args.theorem c.args.symbol
     (sym c.is_variable.ensures ∙ c.if-not-is_variable.true) c.args.others.now)
 
 pub returns-then-not-are_disjoint-clause-value : goal.returns-then-not-are_disjoint-clause-value

@@ -3,7 +3,7 @@ use Rattle.std.proofs.lemmas.List.Folds.{list_all_at, list_all_more}
 use Rattle.std.proofs.lemmas.List.{take_all}
 use Rattle.mm_spec.specs.Derivation.{is_disjoint_from, are_all_disjoint}
 use Rattle.mm_spec.specs.Citation.{context_at}
-use Rattle.mm_machine.proofs.arena.are_all_disjoint.Goals as goal
+use Rattle.mm_machine.proofs.rule_test.are_all_disjoint.Goals as goal
 
 pub returns-then-not-is_disjoint_from-clause-value :
     goal.returns-then-not-is_disjoint_from-clause-value

@@ -2,7 +2,7 @@ use Rattle.std.proofs.Common.{◌≡◌, take, true}
 use Rattle.mm_spec.specs.Derivation.{is_disjoint_from}
 use Rattle.mm_spec.specs.Citation.{context_at}
 use Rattle.mm_machine.specs.DisjointCache.{AreDisjointAt}
-use Rattle.mm_machine.proofs.arena.is_disjoint_from.Given as goal
+use Rattle.mm_machine.proofs.rule_test.is_disjoint_from.Given as goal
 
 abbrev pub invariant-loop-other : goal.invariant-loop-other
 invariant-loop-other g l = record {

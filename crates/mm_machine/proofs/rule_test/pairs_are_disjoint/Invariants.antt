@@ -4,7 +4,7 @@ use Rattle.mm_spec.specs.Derivation.{are_all_disjoint}
 use Rattle.mm_spec.specs.Citation.{context_at}
 use Rattle.mm_machine.specs.DisjointCache.{AreDisjointAt}
 use Rattle.mm_machine.specs.Replaced.{replacement}
-use Rattle.mm_machine.proofs.arena.pairs_are_disjoint.Given as goal
+use Rattle.mm_machine.proofs.rule_test.pairs_are_disjoint.Given as goal
 
 abbrev pub invariant-loop-pair : goal.invariant-loop-pair
 invariant-loop-pair g l = record {

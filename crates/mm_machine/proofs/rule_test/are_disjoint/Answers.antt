@@ -1,6 +1,6 @@
 use Rattle.std.proofs.Common.{sym, ◌∙◌}
 use Rattle.mm_machine.proofs.DisjointLaw.{either_disjoint, either_insert_keeps_disjoint}
-use Rattle.mm_machine.proofs.arena.are_disjoint.Goals as goal
+use Rattle.mm_machine.proofs.rule_test.are_disjoint.Goals as goal
 
 pub returns-then-has-clause-value : goal.returns-then-has-clause-value
 returns-then-has-clause-value g c =

@@ -9,16 +9,18 @@ use Rattle.mm_spec.specs.Citation.{context_at}
 use Rattle.mm_spec.specs.Frame.{symbol_names}
 use Rattle.mm_machine.specs.Arena.{span_formula}
 use Rattle.mm_machine.specs.Replaced.{replacement}
-use Rattle.mm_machine.proofs.GrowLaw.{symbols_known, premise_in}
-use Rattle.mm_machine.proofs.arena.pairs_are_disjoint.Goals as goal
+use Rattle.mm_machine.proofs.GrowLaw.{formula_in_range, replacement_is_in}
+use Rattle.mm_machine.proofs.rule_test.pairs_are_disjoint.Goals as goal
 
 -- a pair that fails
-fails_at : (test : ℕ × ℕ → Bool) (ps : List (ℕ × ℕ)) (i : ℕ) → i < length ps
-    → test (get_or ps i (0, 0)) ≡ false → list_all test ps ≡ false
-fails_at test [] i h e = absurd (omega arith)
-fails_at test (q ∷ ps) zero h e = ap (λ b. b && list_all test ps) e
-fails_at test (q ∷ ps) (suc i) h e =
-    ap (λ b. test q && b) (fails_at test ps i (omega arith) e) ∙ and-false (test q)
+list_all_fails : (is_disjoint : ℕ × ℕ → Bool) (ps : List (ℕ × ℕ)) (i : ℕ) → i < length ps
+    → is_disjoint (get_or ps i (0, 0)) ≡ false → list_all is_disjoint ps ≡ false
+list_all_fails is_disjoint [] i i_lt_length pair_fails = absurd (omega arith)
+list_all_fails is_disjoint (q ∷ ps) zero i_lt_length pair_fails = ap (λ b. b && list_all is_disjoint
+    ps) pair_fails
+list_all_fails is_disjoint (q ∷ ps) (suc i) i_lt_length pair_fails =
+    ap (λ b. is_disjoint q && b) (list_all_fails is_disjoint ps i (omega arith) pair_fails)
+    ∙ and-false (is_disjoint q)
 
 pub returns-then-not-are_all_disjoint-clause-value :
     goal.returns-then-not-are_all_disjoint-clause-value
@@ -27,35 +29,36 @@ returns-then-not-are_all_disjoint-clause-value g c =
     let xs = c.args.symbols.now in
     let es = c.args.premises.now in
     let p = get_or c.args.pairs.now c.loop-pair.pair-index (0, 0) in
-    let fails : are_all_disjoint context (replacement xs es p.0) (replacement xs es p.1) ≡ false =
+    let pair_fails : are_all_disjoint context (replacement xs es p.0) (replacement xs es p.1)
+    ≡ false =
     ap₂ (are_all_disjoint context)
     (sym (c.formula-first.ensures ∙ ap (span_formula xs) c.replacement_of.ensures))
     (sym (c.formula-second.ensures ∙ ap (span_formula xs) c.replacement_of-in-loop-pair.ensures))
     ∙ sym c.are_all_disjoint.ensures.value ∙ c.if-not-are_all_disjoint.true in
-    sym (fails_at
+    sym (list_all_fails
     (λ (q : ℕ × ℕ). are_all_disjoint context (replacement xs es q.0) (replacement xs es q.1))
     c.args.pairs.now
-    c.loop-pair.pair-index c.loop-pair-test.true fails)
+    c.loop-pair.pair-index c.loop-pair-test.true pair_fails)
 
 pub are_all_disjoint-requires-clause-second : goal.are_all_disjoint-requires-clause-second
 are_all_disjoint-requires-clause-second g c =
     let n = length (symbol_names c.args.database.now.statements) in
     subst (All (λ s. s < n)) (sym c.formula-second.ensures)
-    (symbols_known n c.args.symbols.now c.replacement_of-in-loop-pair.result
-    c.requires.premises.known.unmarked
-    c.requires.premises.known.marked)
+    (formula_in_range n c.args.symbols.now c.replacement_of-in-loop-pair.result
+    c.requires.premises.arena_in_range.unmarked_in_range
+    c.requires.premises.arena_in_range.marked_in_range)
 
 pub formula-first-requires : goal.formula-first-requires
 formula-first-requires g c =
-    premise_in c.args.symbols.now c.args.premises.now _ c.replacement_of.result
-    c.requires.premises.inside
+    replacement_is_in c.args.symbols.now c.args.premises.now _ c.replacement_of.result
+    c.requires.premises.entries_in_arena
     (c.requires.pairs c.loop-pair.pair-index (0, 0) c.loop-pair-test.true).0
     c.replacement_of.ensures
 
 pub formula-second-requires : goal.formula-second-requires
 formula-second-requires g c =
-    premise_in c.args.symbols.now c.args.premises.now _ c.replacement_of-in-loop-pair.result
-    c.requires.premises.inside
+    replacement_is_in c.args.symbols.now c.args.premises.now _ c.replacement_of-in-loop-pair.result
+    c.requires.premises.entries_in_arena
     (c.requires.pairs c.loop-pair.pair-index (0, 0) c.loop-pair-test.true).1
     c.replacement_of-in-loop-pair.ensures
 
@@ -64,8 +67,9 @@ are_all_disjoint-requires-clause-first g c = let n = length
     (symbol_names c.args.database.now.statements)
     in
     subst (All (λ s. s < n)) (sym c.formula-first.ensures)
-    (symbols_known n c.args.symbols.now c.replacement_of.result c.requires.premises.known.unmarked
-    c.requires.premises.known.marked)
+    (formula_in_range n c.args.symbols.now c.replacement_of.result
+    c.requires.premises.arena_in_range.unmarked_in_range
+    c.requires.premises.arena_in_range.marked_in_range)
 
 pub loop-pair-preserved : goal.loop-pair-preserved
 loop-pair-preserved g c = grind (arith, common_steps)
