@@ -20,25 +20,27 @@ use Rattle.mm_outline.proofs.StatementsLaw.{get_mapped}
 
 -- ---- symbols are declared
 
-in_get : (ws : List Bytes) (i : ℕ) (d : Bytes) → i < length ws → is_in (get_or ws i d) ws ≡ true
-in_get [] i d h = absurd (omega arith)
-in_get (w ∷ ws) zero d h = ap (λ b. b || is_in w ws) (itself w)
-in_get (w ∷ ws) (suc i) d h =
-    ap (λ b. bytes_eq (get_or ws i d) w || b) (in_get ws i d (omega arith))
+element_is_in : (ws : List Bytes) (i : ℕ) (d : Bytes) → i < length ws
+    → is_in (get_or ws i d) ws ≡ true
+element_is_in [] i d h = absurd (omega arith)
+element_is_in (w ∷ ws) zero d h = ap (λ b. b || is_in w ws) (itself w)
+element_is_in (w ∷ ws) (suc i) d h =
+    ap (λ b. bytes_eq (get_or ws i d) w || b) (element_is_in ws i d (omega arith))
     ∙ or-true (bytes_eq (get_or ws i d) w)
 
 -- each symbol of a lawful statement has a name
-pub symbol_known : (db : List Statement) → ((k : ℕ) → k < length db → IsLawful db k) → (k : ℕ)
+pub symbol_is_declared_name : (db : List Statement) → ((k : ℕ) → k < length db → IsLawful db k)
+    → (k : ℕ)
     → k < length db → (s : Statement) → slice_get db k ≡ Some s → (w : Bytes)
     → is_in w (words (symbols_of s)) ≡ true → is_in w (symbol_names db) ≡ true
-symbol_known db law k l s e w h =
+symbol_is_declared_name db law k l s e w h =
     in_first (flat_map (λ s. constants_of s ++ variables_of s) db) [] w refl
     ∙ declared_here db k s e (law k l) w h
 
-pub symbols_known : (db : List Statement) → ((k : ℕ) → k < length db → IsLawful db k) → (k : ℕ)
+pub symbols_have_names : (db : List Statement) → ((k : ℕ) → k < length db → IsLawful db k) → (k : ℕ)
     → k < length db → (s : Statement) → slice_get db k ≡ Some s
     → All (λ x. x < length (symbol_names db)) (formula_at db k)
-symbols_known db law k l s e =
+symbols_have_names db law k l s e =
     subst (λ (xs : List ℕ). All (λ x. x < length (symbol_names db)) xs)
     (sym (formula_at_is db k s e))
     (λ i d h.
@@ -47,7 +49,7 @@ symbols_known db law k l s e =
     omega (arith, h, length-map ws (λ w. index_of w (symbol_names db))) in
     let w = get_or ws i [] in
     let known : is_in w (symbol_names db) ≡ true =
-    symbol_known db law k l s e w (in_get ws i [] inside) in
+    symbol_is_declared_name db law k l s e w (element_is_in ws i [] inside) in
     let place =
     slice_get_within (symbol_names db) (index_of w (symbol_names db)) w
     (index_in (symbol_names db) w known) in
@@ -59,8 +61,9 @@ symbols_known db law k l s e =
 within : (t u : Token) (xs : List Token) → length xs ≤ length (t ∷ (xs ++ u ∷ []))
 within t u xs = omega (arith, length-append xs (u ∷ []))
 
-labelled_within : (l t u : Token) (xs : List Token) → length xs ≤ length (l ∷ t ∷ (xs ++ u ∷ []))
-labelled_within l t u xs = omega (arith, length-append xs (u ∷ []))
+length_le_with_three : (l t u : Token) (xs : List Token)
+    → length xs ≤ length (l ∷ t ∷ (xs ++ u ∷ []))
+length_le_with_three l t u xs = omega (arith, length-append xs (u ∷ []))
 
 -- a statement's symbols are among its tokens
 symbols_spelled : (s : Statement) → length (symbols_of s) ≤ length (spelling_of s)
@@ -68,11 +71,11 @@ symbols_spelled (constants k xs d) = within (token k (codes "$c")) (token d (cod
 symbols_spelled (variables k xs d) = within (token k (codes "$v")) (token d (codes "$.")) xs
 symbols_spelled (disjoint k xs d) = within (token k (codes "$d")) (token d (codes "$.")) xs
 symbols_spelled (floating l k xs d) =
-    labelled_within l (token k (codes "$f")) (token d (codes "$.")) xs
+    length_le_with_three l (token k (codes "$f")) (token d (codes "$.")) xs
 symbols_spelled (essential l k xs d) =
-    labelled_within l (token k (codes "$e")) (token d (codes "$.")) xs
+    length_le_with_three l (token k (codes "$e")) (token d (codes "$.")) xs
 symbols_spelled (axiomatic l k xs d) =
-    labelled_within l (token k (codes "$a")) (token d (codes "$.")) xs
+    length_le_with_three l (token k (codes "$a")) (token d (codes "$.")) xs
 symbols_spelled (provable l k xs e ps d) =
     after l (token k (codes "$p")) (token e (codes "$=")) xs (ps ++ token d (codes "$.") ∷ [])
   where
@@ -105,15 +108,16 @@ shorter f g h (x ∷ xs) =
     let a = length-append (f x) (flat_map f xs) in let b = length-append (g x) (flat_map g xs) in
     let p = h x in let r = shorter f g h xs in omega (arith, a, b, p, r)
 
-front_is_shorter : {X : Type 0} (f : Statement → List X) (xs ys : List Statement)
+front_flat_map_no_longer : {X : Type 0} (f : Statement → List X) (xs ys : List Statement)
     → length (flat_map f xs) ≤ length (flat_map f (xs ++ ys))
-front_is_shorter f xs ys =
+front_flat_map_no_longer f xs ys =
     let a = ap length (flat_map-append f xs ys) in
     let b = length-append (flat_map f xs) (flat_map f ys) in omega (arith, a, b)
 
-first_shorter : (e ws : List Bytes) → length (first_occurrences e ws) ≤ length ws
-first_shorter e [] = omega arith
-first_shorter e (w ∷ ws) = by_is_in (is_in w e) (first_shorter e ws) (first_shorter (w ∷ e) ws)
+first_occurrences_no_longer : (e ws : List Bytes) → length (first_occurrences e ws) ≤ length ws
+first_occurrences_no_longer e [] = omega arith
+first_occurrences_no_longer e (w ∷ ws) =
+    by_is_in (is_in w e) (first_occurrences_no_longer e ws) (first_occurrences_no_longer (w ∷ e) ws)
   where
     by_is_in : (b : Bool) → length (first_occurrences e ws) ≤ length ws
         → length (first_occurrences (w ∷ e) ws) ≤ length ws
@@ -127,19 +131,20 @@ first_shorter e (w ∷ ws) = by_is_in (is_in w e) (first_shorter e ws) (first_sh
 module _ (ts rest : List Token) (list : List Statement)
     (splits : ts ≡ flat_map spelling_of list ++ rest)
     (db more : List Statement) (is : list ≡ db ++ more) where
-  spelled-few : length (flat_map spelling_of db) ≤ length ts
-  spelled-few =
+  spelled_le_tokens : length (flat_map spelling_of db) ≤ length ts
+  spelled_le_tokens =
       let a = ap length splits in
       let b = length-append (flat_map spelling_of list) rest in
-      let c = front_is_shorter spelling_of db more in
+      let c = front_flat_map_no_longer spelling_of db more in
       let d : length (flat_map spelling_of (db ++ more)) ≡ length (flat_map spelling_of list) =
       ap (λ l. length (flat_map spelling_of l)) (sym is) in
       omega (arith, a, b, c, d)
 
   -- the symbols are no more than the tokens
-  pub few_symbols : length (symbol_names db) ≤ length ts
-  few_symbols =
-      let a = first_shorter [] (flat_map (λ s. constants_of s ++ variables_of s) db) in
+  pub symbols_le_tokens : length (symbol_names db) ≤ length ts
+  symbols_le_tokens =
+      let a = first_occurrences_no_longer []
+      (flat_map (λ s. constants_of s ++ variables_of s) db) in
       let b = shorter (λ s. constants_of s ++ variables_of s) spelling_of declared_spelled db in
-      let c = spelled-few in
+      let c = spelled_le_tokens in
       omega (arith, a, b, c)

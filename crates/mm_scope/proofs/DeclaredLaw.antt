@@ -8,7 +8,7 @@ use Rattle.mm_spec.specs.declared.Word.{Word}
 use Rattle.mm_database.specs.declared.names.Symbol.{Symbol}
 use Rattle.mm_outline.specs.Parts.{between, token_at}
 use Rattle.mm_scope.specs.WordEntry.{WordEntry, entry_of, declared_entry}
-use Rattle.mm_scope.proofs.JudgeLaw.{in_more}
+use Rattle.mm_scope.proofs.JudgeLaw.{in_between_push}
 
 twice : (v : Bool) (n : ℕ) (w : List ℕ) (e : Option WordEntry)
     → declared_entry v n w (declared_entry v n w e) ≡ declared_entry v n w e
@@ -23,7 +23,8 @@ module _ (text : List ℕ) (ws : List Word) (from i : ℕ) (later : from ≤ i)
   abbrev next_word : List ℕ
   next_word = (token_at text ws i).word
 
-  pub declared_step : (v : Bool) (n : ℕ) (s : Symbol) (old cur new : List ℕ → Option Symbol)
+  pub declared_with_next_word : (v : Bool) (n : ℕ) (s : Symbol) (old cur new : List ℕ
+      → Option Symbol)
       → ((w : List ℕ) → new w ≡ (if bytes_eq next_word w then Some s else cur w))
       → entry_of (Some s) ≡ declared_entry v n next_word (entry_of (cur next_word))
       → ((w : List ℕ)
@@ -34,10 +35,10 @@ module _ (text : List ℕ) (ws : List Word) (from i : ℕ) (later : from ≤ i)
       → entry_of (new w)
       ≡ (if is_in w (words (between text ws from (i + 1))) then declared_entry v n w
       (entry_of (old w)) else entry_of (old w))
-  declared_step v n s old cur new u e k w =
+  declared_with_next_word v n s old cur new u e k w =
       ap entry_of (u w) ∙ by_equality (bytes_eq next_word w) refl
       ∙ ap (λ b. if b then declared_entry v n w (entry_of (old w)) else entry_of (old w))
-      (sym (in_more text ws from i later inside w))
+      (sym (in_between_push text ws from i later inside w))
     where
       again : (b : Bool) (o : Option WordEntry)
           → declared_entry v n w (if b then declared_entry v n w o else o) ≡ declared_entry v n w o

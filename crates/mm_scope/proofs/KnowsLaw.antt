@@ -22,104 +22,109 @@ use Rattle.mm_outline.specs.Typed.{has_word, typed_words}
 use Rattle.mm_scope.specs.ReadSoFar.{KnowsStatements}
 use Rattle.mm_database.specs.Names.{is_constant_in, is_variable_in}
 use Rattle.mm_database.specs.declared.names.Symbol.{Symbol}
-use Rattle.mm_scope.proofs.LatestLaw.{latest_is}
+use Rattle.mm_scope.proofs.LatestLaw.{in_active_iff_latest_active}
 use Rattle.mm_outline.proofs.AmongLaw.{among_active, any_false, typed_in}
-use Rattle.mm_scope.proofs.OpenLaw.{latest_open, declares_local, types_local}
+use Rattle.mm_scope.proofs.OpenLaw.{latest_active_is_open, declarations_are_local}
+use Rattle.mm_scope.proofs.OpenLaw.{typings_are_local}
 
 -- a word that no statement has
-has_none : (db : List Statement) (f : Statement → List Bytes) (w : Bytes)
+no_statement_has_word : (db : List Statement) (f : Statement → List Bytes) (w : Bytes)
     → is_in w (flat_map f db) ≡ false → (j : ℕ) → has_word db f w j ≡ false
-has_none [] f w e j = refl
-has_none (s ∷ db) f w e zero =
+no_statement_has_word [] f w e j = refl
+no_statement_has_word (s ∷ db) f w e zero =
     let h = sym (list_any-append (bytes_eq w) (f s) (flat_map f db)) ∙ e in
     list_any-append (bytes_eq w) (f s) []
     ∙ ap (λ b. b || false) (or_parts (is_in w (f s)) (is_in w (flat_map f db)) h).0
-has_none (s ∷ db) f w e (suc j) =
+no_statement_has_word (s ∷ db) f w e (suc j) =
     let h = sym (list_any-append (bytes_eq w) (f s) (flat_map f db)) ∙ e in
-    has_none db f w (or_parts (is_in w (f s)) (is_in w (flat_map f db)) h).1 j
+    no_statement_has_word db f w (or_parts (is_in w (f s)) (is_in w (flat_map f db)) h).1 j
 
 -- no active statement has it either
-pub none_active : (db : List Statement) (f : Statement → List Bytes) (w : Bytes)
+pub no_active_statement_has_word : (db : List Statement) (f : Statement → List Bytes) (w : Bytes)
     → is_in w (flat_map f db) ≡ false
     → is_in w (flat_map f (active_statements db (length db))) ≡ false
-none_active db f w e =
+no_active_statement_has_word db f w e =
     among_active db f w (λ j. is_active db j (length db)) (length db) 0
     ∙ any_false (λ j. is_active db j (length db) && has_word db f w j) (length db) 0
-    (λ j l. ap (λ b. is_active db j (length db) && b) (has_none db f w e j)
+    (λ j l. ap (λ b. is_active db j (length db) && b) (no_statement_has_word db f w e j)
     ∙ and-false (is_active db j (length db)))
 
-never_open : (b : BlockLists) → length b.of ≤ never → is_open_in b never ≡ false
-never_open b h = ap (λ o. is_never (end_in b.ends o)) (slice_get_past b.of never h)
+never_is_not_open : (b : BlockLists) → length b.of ≤ never → is_open_in b never ≡ false
+never_is_not_open b h = ap (λ o. is_never (end_in b.ends o)) (slice_get_past b.of never h)
 
 module _ (db : List Statement) (b : BlockLists) (x : IsBlocks db b) (few : length db < never)
     (w : Bytes) where
-  variable_active : (o : Option Symbol) → IsEntryOf db w (entry_of o)
+  in_active_is_active_variable : (o : Option Symbol) → IsEntryOf db w (entry_of o)
       → is_in w (flat_map variables_of (active_statements db (length db)))
       ≡ judge.is_active_variable (is_open_in b) o
-  variable_active None k = none_active db variables_of w k.variable
-  variable_active (Some s) k = by_test s.is_variable refl
+  in_active_is_active_variable None k = no_active_statement_has_word db variables_of w k.variable
+  in_active_is_active_variable (Some s) k = by_test s.is_variable refl
     where
       by_test : (v : Bool) → s.is_variable ≡ v
           → is_in w (flat_map variables_of (active_statements db (length db)))
           ≡ (v && is_open_in b s.declared)
       by_test true e =
           let l = k.declared e in
-          latest_is db variables_of w s.declared l
-          ∙ latest_open db b x few variables_of w (declares_local w) s.declared l
-      by_test false e = none_active db variables_of w (k.variable ∙ e)
+          in_active_iff_latest_active db variables_of w s.declared l
+          ∙ latest_active_is_open db b x few variables_of w (declarations_are_local w) s.declared l
+      by_test false e = no_active_statement_has_word db variables_of w (k.variable ∙ e)
 
-  typed_active : (o : Option Symbol) → IsEntryOf db w (entry_of o)
+  in_active_is_typed_here : (o : Option Symbol) → IsEntryOf db w (entry_of o)
       → is_in w (flat_map typed_words (active_statements db (length db)))
       ≡ is_typed_here (is_open_in b) o
-  typed_active None k = none_active db typed_words w (k.untyped refl)
-  typed_active (Some s) k = by_case (cases_eq s.typed never)
+  in_active_is_typed_here None k = no_active_statement_has_word db typed_words w (k.untyped refl)
+  in_active_is_typed_here (Some s) k = by_case (cases_eq s.typed never)
     where
       by_case : (s.typed ≡ never) ⊎ (s.typed ≢ never)
           → is_in w (flat_map typed_words (active_statements db (length db)))
           ≡ is_open_in b s.typed
       by_case (inl e) =
-          none_active db typed_words w (k.untyped e)
+          no_active_statement_has_word db typed_words w (k.untyped e)
           ∙ sym (ap (is_open_in b) e
-          ∙ never_open b (let c = x.count in omega (arith, c, few)))
+          ∙ never_is_not_open b (let c = x.count in omega (arith, c, few)))
       by_case (inr n) =
           let l = k.typed n in
-          latest_is db typed_words w s.typed l
-          ∙ latest_open db b x few typed_words w (types_local w) s.typed l
+          in_active_iff_latest_active db typed_words w s.typed l
+          ∙ latest_active_is_open db b x few typed_words w (typings_are_local w) s.typed l
 
-constant_is : (o : Option Symbol) → is_constant_entry (entry_of o) ≡ is_constant_in o
-constant_is None = refl
-constant_is (Some s) = refl
+constant_entry_is_constant_in : (o : Option Symbol)
+    → is_constant_entry (entry_of o) ≡ is_constant_in o
+constant_entry_is_constant_in None = refl
+constant_entry_is_constant_in (Some s) = refl
 
-variable_is : (o : Option Symbol) → is_variable_entry (entry_of o) ≡ is_variable_in o
-variable_is None = refl
-variable_is (Some s) = refl
+variable_entry_is_variable_in : (o : Option Symbol)
+    → is_variable_entry (entry_of o) ≡ is_variable_in o
+variable_entry_is_variable_in None = refl
+variable_entry_is_variable_in (Some s) = refl
 
-other_is : (c : Bytes) (o : Option Symbol)
+other_entry_is_other_typecode : (c : Bytes) (o : Option Symbol)
     → (not (nat_eq (typed_by (entry_of o)) never) && not (bytes_eq c (typecode_by (entry_of o))))
     ≡ has_other_typecode c o
-other_is c None = refl
-other_is c (Some s) = refl
+other_entry_is_other_typecode c None = refl
+other_entry_is_other_typecode c (Some s) = refl
 
 -- the names before the next statement are those that are known
-pub knows_is : (db : List Statement) (look : List ℕ → Option Symbol) (labels : List ℕ → Option ℕ)
+pub scope_knows_names : (db : List Statement) (look : List ℕ → Option Symbol) (labels : List ℕ
+    → Option ℕ)
     → (b : BlockLists)
     → KnowsStatements db look labels b → length db < never
     → Knows (names_before db (length db)) look labels (is_open_in b)
-knows_is db look labels b k few =
+scope_knows_names db look labels b k few =
     let all = take_all (length db) db (le_refl (length db)) in
     record {
       constants =
           λ w. ap (λ xs. is_in w (flat_map constants_of xs)) all ∙ (k.symbols w).constant
-          ∙ constant_is (look w);
+          ∙ constant_entry_is_constant_in (look w);
       all_variables =
           λ w. ap (λ xs. is_in w (flat_map variables_of xs)) all ∙ (k.symbols w).variable
-          ∙ variable_is (look w);
-      active_variables = λ w. variable_active db b k.blocks few w (look w) (k.symbols w);
+          ∙ variable_entry_is_variable_in (look w);
+      active_variables =
+          λ w. in_active_is_active_variable db b k.blocks few w (look w) (k.symbols w);
       labels_known = λ w. ap (λ xs. is_in w (flat_map label_words xs)) all ∙ k.labels_known w;
       typed =
           λ w h. typed_in w (active_statements db (length db))
-          ∙ typed_active db b k.blocks few w (look w) (k.symbols w);
-      otherwise =
+          ∙ in_active_is_typed_here db b k.blocks few w (look w) (k.symbols w);
+      other_typecode =
           λ c w h. ap (λ xs. list_any (gives_other_typecode c w) (flat_map typings_of xs)) all
-          ∙ (k.symbols w).otherwise c ∙ other_is c (look w);
+          ∙ (k.symbols w).other_typecode c ∙ other_entry_is_other_typecode c (look w);
     }

@@ -20,41 +20,41 @@ use Rattle.mm_scope.specs.WordEntry.{label_after}
 use Rattle.mm_database.specs.Labels.{AreLabels}
 use Rattle.mm_outline.proofs.StatementsLaw.{is_there}
 
-pub label_fresh : (n : Names) (d : ℕ) (s : Statement) → scope_faults n d s ≡ [] → (l : Token)
+pub label_is_new : (n : Names) (d : ℕ) (s : Statement) → scope_faults n d s ≡ [] → (l : Token)
     → label_of s ≡ Some l → is_in l.word n.labels ≡ false
-label_fresh n d (floating m k xs e) h l q =
+label_is_new n d (floating m k xs e) h l q =
     subst (λ (t : Token). is_in t.word n.labels ≡ false) (same_Some m l q)
     (label_new n m (append_none (label_faults n m) (floating_faults n k xs) h).0)
-label_fresh n d (essential m k xs e) h l q =
+label_is_new n d (essential m k xs e) h l q =
     subst (λ (t : Token). is_in t.word n.labels ≡ false) (same_Some m l q)
     (label_new n m (append_none (label_faults n m) (formula_faults n xs e) h).0)
-label_fresh n d (axiomatic m k xs e) h l q =
+label_is_new n d (axiomatic m k xs e) h l q =
     subst (λ (t : Token). is_in t.word n.labels ≡ false) (same_Some m l q)
     (label_new n m (append_none (label_faults n m) (formula_faults n xs e) h).0)
-label_fresh n d (provable m k xs p ps e) h l q =
+label_is_new n d (provable m k xs p ps e) h l q =
     subst (λ (t : Token). is_in t.word n.labels ≡ false) (same_Some m l q)
     (label_new n m (append_none (label_faults n m) (formula_faults n xs p) h).0)
-label_fresh n d (constants k xs e) h l q = absurd (cc)
-label_fresh n d (variables k xs e) h l q = absurd (cc)
-label_fresh n d (disjoint k xs e) h l q = absurd (cc)
-label_fresh n d (opening k) h l q = absurd (cc)
-label_fresh n d (closing k) h l q = absurd (cc)
+label_is_new n d (constants k xs e) h l q = absurd (cc)
+label_is_new n d (variables k xs e) h l q = absurd (cc)
+label_is_new n d (disjoint k xs e) h l q = absurd (cc)
+label_is_new n d (opening k) h l q = absurd (cc)
+label_is_new n d (closing k) h l q = absurd (cc)
 
 module _ (db : List Statement) (s : Statement) (find new : List ℕ → Option ℕ)
     (x : AreLabels db find) where
   abbrev at_label : ℕ → Option Token → Bytes → Bool
   at_label k o w = elim o [ None ↦ false | Some l ↦ bytes_eq l.word w ]
 
-  label_before : (w : Bytes) (k : ℕ) → k < length db
+  labelled_before_is_unchanged : (w : Bytes) (k : ℕ) → k < length db
       → list_any (is_labelled w) (statement_at (db ++ s ∷ []) k)
       ≡ list_any (is_labelled w) (statement_at db k)
-  label_before w k h =
+  labelled_before_is_unchanged w k h =
       ap (λ o. list_any (is_labelled w) (elim o [ None ↦ [] | Some t ↦ t ∷ [] ]))
       (get_front db (s ∷ []) k h)
 
-  label_at_last : (w : Bytes)
+  labelled_at_last_is_labelled : (w : Bytes)
       → list_any (is_labelled w) (statement_at (db ++ s ∷ []) (length db)) ≡ is_labelled w s
-  label_at_last w =
+  labelled_at_last_is_labelled w =
       ap (λ o. list_any (is_labelled w) (elim o [ None ↦ [] | Some t ↦ t ∷ [] ])) (get_seam db s [])
       ∙ or-false (is_labelled w s)
 
@@ -76,9 +76,10 @@ module _ (db : List Statement) (s : Statement) (find new : List ℕ → Option �
       by_equality true p q = inl (p, q)
       by_equality false p q = inr (p, q)
 
-  pub labels_after : ((w : Bytes) → new w ≡ label_after (length db) (label_of s) w (find w))
+  pub labels_after_statement : ((w : Bytes)
+      → new w ≡ label_after (length db) (label_of s) w (find w))
       → ((w : Bytes) → is_labelled w s ≡ true → find w ≡ None) → AreLabels (db ++ s ∷ []) new
-  labels_after is fresh = record {
+  labels_after_statement is fresh = record {
     found = λ w k e. found w k e (labelled_or_unchanged w (label_of s) refl (is w));
     missing =
         λ w e k. missing w k e (labelled_or_unchanged w (label_of s) refl (is w))
@@ -95,11 +96,12 @@ module _ (db : List Statement) (s : Statement) (find new : List ℕ → Option �
           let same = same_Some (length db) k (sym q ∙ e) in (
             omega (arith, same, length-append db (s ∷ [])),
             (ap (λ i. list_any (is_labelled w) (statement_at (db ++ s ∷ []) i)) (sym same)
-                ∙ label_at_last w ∙ p),
+                ∙ labelled_at_last_is_labelled w ∙ p),
           )
       found w k e (inr (p, q)) =
           let f = x.found w k (sym q ∙ e) in
-          ((let l = f.0 in omega (arith, l, length-append db (s ∷ []))), label_before w k f.0 ∙ f.1)
+          ((let l = f.0 in
+          omega (arith, l, length-append db (s ∷ []))), labelled_before_is_unchanged w k f.0 ∙ f.1)
 
       missing : (w : Bytes) (k : ℕ) → new w ≡ None
           → ((is_labelled w s ≡ true) × (new w ≡ Some (length db)))
@@ -108,8 +110,10 @@ module _ (db : List Statement) (s : Statement) (find new : List ℕ → Option �
           → list_any (is_labelled w) (statement_at (db ++ s ∷ []) k) ≡ false
       missing w k e (inl (p, q)) c = absurd (let z = sym q ∙ e in cc)
       missing w k e (inr (p, q)) (inl m) =
-          ap (λ i. list_any (is_labelled w) (statement_at (db ++ s ∷ []) i)) m ∙ label_at_last w ∙ p
-      missing w k e (inr (p, q)) (inr (inl m)) = label_before w k m ∙ x.missing w (sym q ∙ e) k
+          ap (λ i. list_any (is_labelled w) (statement_at (db ++ s ∷ []) i)) m
+          ∙ labelled_at_last_is_labelled w ∙ p
+      missing w k e (inr (p, q)) (inr (inl m)) =
+          labelled_before_is_unchanged w k m ∙ x.missing w (sym q ∙ e) k
       missing w k e (inr (p, q)) (inr (inr m)) =
           ap (λ o. list_any (is_labelled w) (elim o [ None ↦ [] | Some t ↦ t ∷ [] ]))
           (slice_get_past (db ++ s ∷ []) k (omega (arith, m, length-append db (s ∷ []))))
@@ -123,15 +127,16 @@ module _ (db : List Statement) (s : Statement) (find new : List ℕ → Option �
           let b = is_there (is_labelled w) (db ++ s ∷ []) k f in
           let same : k ≡ length db = omega (arith, b, m, length-append db (s ∷ [])) in
           let new : is_labelled w s ≡ true =
-          sym (label_at_last w)
+          sym (labelled_at_last_is_labelled w)
           ∙ sym (ap (λ i. list_any (is_labelled w) (statement_at (db ++ s ∷ []) i)) same) ∙ f in
-          true≢false (sym e ∙ label_before w j l ∙ x.missing w (fresh w new) j)
+          true≢false (sym e ∙ labelled_before_is_unchanged w j l ∙ x.missing w (fresh w new) j)
 
       only : (w : Bytes) (j k : ℕ) → list_any (is_labelled w) (statement_at (db ++ s ∷ []) j) ≡ true
           → list_any (is_labelled w) (statement_at (db ++ s ∷ []) k) ≡ true
           → (j < length db) ⊎ (length db ≤ j) → (k < length db) ⊎ (length db ≤ k) → j ≡ k
       only w j k e f (inl l) (inl m) =
-          x.only w j k (sym (label_before w j l) ∙ e) (sym (label_before w k m) ∙ f)
+          x.only w j k (sym (labelled_before_is_unchanged w j l)
+          ∙ e) (sym (labelled_before_is_unchanged w k m) ∙ f)
       only w j k e f (inl l) (inr m) = absurd (no_earlier_label w j k e f l m)
       only w j k e f (inr l) (inl m) = absurd (no_earlier_label w k j f e m l)
       only w j k e f (inr l) (inr m) =
@@ -140,11 +145,11 @@ module _ (db : List Statement) (s : Statement) (find new : List ℕ → Option �
           omega (arith, a, b, l, m, length-append db (s ∷ []))
 
 -- a label of a lawful statement stands for nothing yet
-pub label_unused : (db : List Statement) (find : List ℕ → Option ℕ)
+pub label_stands_for_nothing : (db : List Statement) (find : List ℕ → Option ℕ)
     → ((w : Bytes) → is_in w (flat_map label_words db) ≡ is_some (find w)) → (d : ℕ) (s : Statement)
     → scope_faults (names_before db (length db)) d s ≡ [] → (w : Bytes) → is_labelled w s ≡ true
     → find w ≡ None
-label_unused db find known d s law w e = by_token (label_of s) refl e
+label_stands_for_nothing db find known d s law w e = by_token (label_of s) refl e
   where
     none_of : (o : Option ℕ) → is_some o ≡ false → o ≡ None
     none_of None q = refl
@@ -160,4 +165,4 @@ label_unused db find known d s law w e = by_token (label_of s) refl e
         ∙ sym (ap (λ xs. is_in w (flat_map label_words xs))
         (take_all (length db) db (le_refl (length db))))
         ∙ subst (λ (u : Bytes). is_in u (flat_map label_words (take (length db) db)) ≡ false)
-        same (label_fresh (names_before db (length db)) d s law l q))
+        same (label_is_new (names_before db (length db)) d s law l q))

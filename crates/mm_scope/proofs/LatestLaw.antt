@@ -18,9 +18,9 @@ use Rattle.mm_scope.specs.WordEntry.{Latest}
 use Rattle.mm_outline.specs.Typed.{has_word}
 
 module _ (db : List Statement) (f : Statement → List Bytes) (w : Bytes) where
-  pub latest_is : (last : ℕ) → Latest db f w last
+  pub in_active_iff_latest_active : (last : ℕ) → Latest db f w last
       → is_in w (flat_map f (active_statements db (length db))) ≡ is_active db last (length db)
-  latest_is last x =
+  in_active_iff_latest_active last x =
       among_active db f w (λ j. is_active db j (length db)) (length db) 0
       ∙ by_active (is_active db last (length db)) refl
     where
@@ -30,7 +30,7 @@ module _ (db : List Statement) (f : Statement → List Bytes) (w : Bytes) where
       none : is_active db last (length db) ≡ false → (j : ℕ) → j < length db → (a b : Bool)
           → is_active db j (length db) ≡ a → has_word db f w j ≡ b → (a && b) ≡ false
       none e j l true true h k =
-          absurd (true≢false (sym h ∙ ap (λ i. is_active db i (length db)) (x.alone j l k h) ∙ e))
+          absurd (true≢false (sym h ∙ ap (λ i. is_active db i (length db)) (x.active_is_last j l k h) ∙ e))
       none e j l true false h k = refl
       none e j l false b h k = refl
 
@@ -40,7 +40,7 @@ module _ (db : List Statement) (f : Statement → List Bytes) (w : Bytes) where
           ≡ b
       by_active true e =
           range_any (λ j. is_active db j (length db) && has_word db f w j) (length db) 0 last
-          (omega arith) (let l = x.before in omega (arith, l)) (ap₂ (λ a b. a && b) e x.there)
+          (omega arith) (let l = x.last_lt_length in omega (arith, l)) (ap₂ (λ a b. a && b) e x.last_has_word)
       by_active false e =
           any_false (λ j. is_active db j (length db) && has_word db f w j) (length db) 0
           (λ j l. let m : j < length db = omega arith in
@@ -48,16 +48,17 @@ module _ (db : List Statement) (f : Statement → List Bytes) (w : Bytes) where
 
 -- ---- one statement more
 
-kind_mono : (g l a b : Bool) → (g || (l && (a && b))) ≡ true → (g || (l && a)) ≡ true
-kind_mono true l a b e = refl
-kind_mono false true true b e = refl
-kind_mono false true false b e = e
-kind_mono false false a b e = e
+weaken_conjunct : (g l a b : Bool) → (g || (l && (a && b))) ≡ true → (g || (l && a)) ≡ true
+weaken_conjunct true l a b e = refl
+weaken_conjunct false true true b e = refl
+weaken_conjunct false true false b e = e
+weaken_conjunct false false a b e = e
 
 module _ (db : List Statement) (s : Statement) where
-  active_mono : (j : ℕ) → j < length db → is_active (db ++ s ∷ []) j (length db + 1) ≡ true
+  active_before_if_active_after : (j : ℕ) → j < length db
+      → is_active (db ++ s ∷ []) j (length db + 1) ≡ true
       → is_active db j (length db) ≡ true
-  active_mono j h e =
+  active_before_if_active_after j h e =
       ap₂ (λ x y. x && y) (lt-ltb j (length db) h)
       (by_statement (slice_get db j) (is_block_open db j (length db))
       (nat_le (depth db j) (depth (db ++ s ∷ []) (length db + 1)))
@@ -73,25 +74,25 @@ module _ (db : List Statement) (s : Statement) where
       by_statement : (o : Option Statement) (a b : Bool) → is_some_still_active o (a && b) ≡ true
           → is_some_still_active o a ≡ true
       by_statement None a b e = e
-      by_statement (Some t) a b e = kind_mono (is_global t) (is_local t) a b e
+      by_statement (Some t) a b e = weaken_conjunct (is_global t) (is_local t) a b e
 
   module _ (f : Statement → List Bytes) (w : Bytes) where
-    has-front : (j : ℕ) → j < length db → has_word (db ++ s ∷ []) f w j ≡ has_word db f w j
-    has-front j h =
+    has_word_in_front : (j : ℕ) → j < length db → has_word (db ++ s ∷ []) f w j ≡ has_word db f w j
+    has_word_in_front j h =
         ap (λ o. is_in w (flat_map f (elim o [ None ↦ [] | Some t ↦ t ∷ [] ])))
         (get_front db (s ∷ []) j h)
 
-    has-new : has_word (db ++ s ∷ []) f w (length db) ≡ is_in w (f s ++ [])
-    has-new =
+    has_word_at_end : has_word (db ++ s ∷ []) f w (length db) ≡ is_in w (f s ++ [])
+    has_word_at_end =
         ap (λ o. is_in w (flat_map f (elim o [ None ↦ [] | Some t ↦ t ∷ [] ]))) (get_seam db s [])
 
     -- the statement has not the word
-    pub latest_stays : (last : ℕ) → Latest db f w last → is_in w (f s ++ []) ≡ false
+    pub latest_unchanged : (last : ℕ) → Latest db f w last → is_in w (f s ++ []) ≡ false
         → Latest (db ++ s ∷ []) f w last
-    latest_stays last x n = record {
-      before = let l = x.before in omega (arith, l, length-append db (s ∷ []));
-      there = has-front last x.before ∙ x.there;
-      alone =
+    latest_unchanged last x n = record {
+      last_lt_length = let l = x.last_lt_length in omega (arith, l, length-append db (s ∷ []));
+      last_has_word = has_word_in_front last x.last_lt_length ∙ x.last_has_word;
+      active_is_last =
           λ j h k e. by_order j h k
           (ap (is_active (db ++ s ∷ []) j) (sym (length-append db (s ∷ []))) ∙ e)
           (cases_lt j (length db));
@@ -100,19 +101,20 @@ module _ (db : List Statement) (s : Statement) where
         by_order : (j : ℕ) → j < length (db ++ s ∷ []) → has_word (db ++ s ∷ []) f w j ≡ true
             → is_active (db ++ s ∷ []) j (length db + 1) ≡ true → (j < length db) ⊎ (length db ≤ j)
             → j ≡ last
-        by_order j h k e (inl l) = x.alone j l (sym (has-front j l) ∙ k) (active_mono j l e)
+        by_order j h k e (inl l) =
+            x.active_is_last j l (sym (has_word_in_front j l) ∙ k) (active_before_if_active_after j l e)
         by_order j h k e (inr l) =
             absurd (let same : j ≡ length db = omega (arith, h, l, length-append db (s ∷ [])) in
-            true≢false (sym k ∙ ap (has_word (db ++ s ∷ []) f w) same ∙ has-new ∙ n))
+            true≢false (sym k ∙ ap (has_word (db ++ s ∷ []) f w) same ∙ has_word_at_end ∙ n))
 
     -- the statement has the word, which no active one had
-    pub latest_new : is_in w (f s ++ []) ≡ true
+    pub latest_is_new : is_in w (f s ++ []) ≡ true
         → is_in w (flat_map f (active_statements db (length db))) ≡ false
         → Latest (db ++ s ∷ []) f w (length db)
-    latest_new t n = record {
-      before = omega (arith, length-append db (s ∷ []));
-      there = has-new ∙ t;
-      alone =
+    latest_is_new t n = record {
+      last_lt_length = omega (arith, length-append db (s ∷ []));
+      last_has_word = has_word_at_end ∙ t;
+      active_is_last =
           λ j h k e. by_order j h k
           (ap (is_active (db ++ s ∷ []) j) (sym (length-append db (s ∷ []))) ∙ e)
           (cases_lt j (length db));
@@ -125,6 +127,7 @@ module _ (db : List Statement) (s : Statement) where
             absurd (true≢false
             (sym (range_any (λ i. is_active db i (length db) && has_word db f w i) (length db) 0 j
             (omega arith) (omega arith)
-            (ap₂ (λ a b. a && b) (active_mono j l e) (sym (has-front j l) ∙ k)))
+            (ap₂ (λ a b. a && b) (active_before_if_active_after j l e) (sym (has_word_in_front j l)
+            ∙ k)))
             ∙ sym (among_active db f w (λ i. is_active db i (length db)) (length db) 0) ∙ n))
         by_order j h k e (inr l) = omega (arith, h, l, length-append db (s ∷ []))

@@ -15,9 +15,10 @@ use Rattle.mm_outline.specs.Blocks.{is_open_in}
 use Rattle.mm_scope.specs.WordEntry.{Latest}
 use Rattle.mm_outline.specs.Typed.{typed_words}
 
-pub open_is : (db : List Statement) (b : BlockLists) → IsBlocks db b → length db < never → (j : ℕ)
+pub block_open_is_open_in : (db : List Statement) (b : BlockLists) → IsBlocks db b
+    → length db < never → (j : ℕ)
     → j < length db → is_block_open db j (length db) ≡ is_open_in b j
-open_is db b x few j h =
+block_open_is_open_in db b x few j h =
     let of : slice_get b.of j ≡ Some (get_or b.of j 0) =
     slice_get-get_or b.of j 0 (let c = x.count in omega (arith, c, h)) in
     let end : slice_get b.ends (get_or b.of j 0) ≡ Some (end_of b j) =
@@ -37,43 +38,44 @@ open_is db b x few j h =
 abbrev pub IsLocal : (Statement → List Bytes) → List ℕ → Type 0
 IsLocal f w = (s : Statement) (b : Bool) → is_in w (f s ++ []) ≡ true → is_still_active s b ≡ b
 
-pub declares_local : (w : List ℕ) → IsLocal variables_of w
-declares_local w (variables k xs d) b h = refl
-declares_local w (constants k xs d) b h = absurd (true≢false (sym h))
-declares_local w (disjoint k xs d) b h = absurd (true≢false (sym h))
-declares_local w (floating l k xs d) b h = absurd (true≢false (sym h))
-declares_local w (essential l k xs d) b h = absurd (true≢false (sym h))
-declares_local w (axiomatic l k xs d) b h = absurd (true≢false (sym h))
-declares_local w (provable l k xs e ps d) b h = absurd (true≢false (sym h))
-declares_local w (opening k) b h = absurd (true≢false (sym h))
-declares_local w (closing k) b h = absurd (true≢false (sym h))
+pub declarations_are_local : (w : List ℕ) → IsLocal variables_of w
+declarations_are_local w (variables k xs d) b h = refl
+declarations_are_local w (constants k xs d) b h = absurd (true≢false (sym h))
+declarations_are_local w (disjoint k xs d) b h = absurd (true≢false (sym h))
+declarations_are_local w (floating l k xs d) b h = absurd (true≢false (sym h))
+declarations_are_local w (essential l k xs d) b h = absurd (true≢false (sym h))
+declarations_are_local w (axiomatic l k xs d) b h = absurd (true≢false (sym h))
+declarations_are_local w (provable l k xs e ps d) b h = absurd (true≢false (sym h))
+declarations_are_local w (opening k) b h = absurd (true≢false (sym h))
+declarations_are_local w (closing k) b h = absurd (true≢false (sym h))
 
-pub types_local : (w : List ℕ) → IsLocal typed_words w
-types_local w (floating l k xs d) b h = refl
-types_local w (constants k xs d) b h = absurd (true≢false (sym h))
-types_local w (variables k xs d) b h = absurd (true≢false (sym h))
-types_local w (disjoint k xs d) b h = absurd (true≢false (sym h))
-types_local w (essential l k xs d) b h = absurd (true≢false (sym h))
-types_local w (axiomatic l k xs d) b h = absurd (true≢false (sym h))
-types_local w (provable l k xs e ps d) b h = absurd (true≢false (sym h))
-types_local w (opening k) b h = absurd (true≢false (sym h))
-types_local w (closing k) b h = absurd (true≢false (sym h))
+pub typings_are_local : (w : List ℕ) → IsLocal typed_words w
+typings_are_local w (floating l k xs d) b h = refl
+typings_are_local w (constants k xs d) b h = absurd (true≢false (sym h))
+typings_are_local w (variables k xs d) b h = absurd (true≢false (sym h))
+typings_are_local w (disjoint k xs d) b h = absurd (true≢false (sym h))
+typings_are_local w (essential l k xs d) b h = absurd (true≢false (sym h))
+typings_are_local w (axiomatic l k xs d) b h = absurd (true≢false (sym h))
+typings_are_local w (provable l k xs e ps d) b h = absurd (true≢false (sym h))
+typings_are_local w (opening k) b h = absurd (true≢false (sym h))
+typings_are_local w (closing k) b h = absurd (true≢false (sym h))
 
 -- the last statement that has a word is active exactly where its block is open
-pub latest_open : (db : List Statement) (b : BlockLists) → IsBlocks db b → length db < never
+pub latest_active_is_open : (db : List Statement) (b : BlockLists) → IsBlocks db b
+    → length db < never
     → (f : Statement → List Bytes) (w : List ℕ) → IsLocal f w → (last : ℕ) → Latest db f w last
     → is_active db last (length db) ≡ is_open_in b last
-latest_open db b x few f w local last l = by_statement (slice_get db last) refl
+latest_active_is_open db b x few f w local last l = by_statement (slice_get db last) refl
   where
     by_statement : (o : Option Statement) → slice_get db last ≡ o
         → is_active db last (length db) ≡ is_open_in b last
     by_statement None e =
         absurd (true≢false
-        (sym l.there ∙ ap (λ o. is_in w (flat_map f (elim o [ None ↦ [] | Some t ↦ t ∷ [] ]))) e))
+        (sym l.last_has_word ∙ ap (λ o. is_in w (flat_map f (elim o [ None ↦ [] | Some t ↦ t ∷ [] ]))) e))
     by_statement (Some s) e =
         ap₂ (λ t o. t && is_some_still_active o (is_block_open db last (length db)))
-        (lt-ltb last (length db) l.before) e
+        (lt-ltb last (length db) l.last_lt_length) e
         ∙ local s (is_block_open db last (length db))
         (ap (λ o. is_in w (flat_map f (elim o [ None ↦ [] | Some t ↦ t ∷ [] ]))) (sym e)
-        ∙ l.there)
-        ∙ open_is db b x few last l.before
+        ∙ l.last_has_word)
+        ∙ block_open_is_open_in db b x few last l.last_lt_length

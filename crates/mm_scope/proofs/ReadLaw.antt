@@ -32,24 +32,24 @@ use Rattle.mm_outline.proofs.LeadsLaw.{leads_then}
 use Rattle.mm_spec.proofs.ShapeLaw.{count_end}
 
 pub record IsReadTo (text : List ℕ) (ws : List Word) (db : List Statement)
-    (deep at : ℕ) : Type 0 where
-  pub leads : Leads (start 0) (as_tokens text ws) db (start deep) (tokens_from text ws at)
-  pub within : at ≤ length ws
-  pub few : length db ≤ at
-  pub shallow : deep ≤ at
-  pub deep_is : deep ≡ depth db (length db)
+    (open_blocks at : ℕ) : Type 0 where
+  pub leads : Leads (start 0) (as_tokens text ws) db (start open_blocks) (tokens_from text ws at)
+  pub at_le_length : at ≤ length ws
+  pub length_db_le_at : length db ≤ at
+  pub open_blocks_le_at : open_blocks ≤ at
+  pub open_blocks_is_depth : open_blocks ≡ depth db (length db)
   pub lawful : (k : ℕ) → k < length db → scope_fault db k ≡ None
 
 module _ (text : List ℕ) (ws : List Word) (len : ℕ) (lexical : Option Fault) (db : List Statement)
-    (deep at : ℕ) (r : IsReadTo text ws db deep at) where
+    (open_blocks at : ℕ) (r : IsReadTo text ws db open_blocks at) where
   abbrev x : LexedText
   x = lexed text ws lexical
 
   -- an unlawful statement
   pub read_unlawful : (s : Statement) (d : ℕ) (us : List _)
-      → Leads (start deep) (tokens_from text ws at) (s ∷ []) (start d) us → (f : Option Fault) → f
+      → Leads (start open_blocks) (tokens_from text ws at) (s ∷ []) (start d) us → (f : Option Fault) → f
       ≢ None
-      → f ≡ least (scope_faults (names_before db (length db)) deep s)
+      → f ≡ least (scope_faults (names_before db (length db)) open_blocks s)
       → IsRead len (lexed text ws lexical) db f
   read_unlawful s d us l f ne e =
       let more = statements_from (start d) us in
@@ -66,7 +66,7 @@ module _ (text : List ℕ) (ws : List Word) (len : ℕ) (lexical : Option Fault)
         stops = (
           ne,
           ap (λ y. scope_fault y (length db)) list ∙ scope_fault_next db s more
-              ∙ ap (λ d. least (scope_faults (names_before db (length db)) d s)) (sym r.deep_is)
+              ∙ ap (λ d. least (scope_faults (names_before db (length db)) d s)) (sym r.open_blocks_is_depth)
               ∙ sym e,
         );
       }
@@ -77,9 +77,10 @@ module _ (text : List ℕ) (ws : List Word) (len : ℕ) (lexical : Option Fault)
   stops_with None e = no_text_fault len (lexed text ws lexical) e
   stops_with (Some f) e = text_fault_is len (lexed text ws lexical) f e
 
-  pub read_end : statements_from (start deep) (tokens_from text ws at) ≡ [] → (f : Option Fault)
+  pub is_read_at_end : statements_from (start open_blocks) (tokens_from text ws at) ≡ []
+      → (f : Option Fault)
       → text_fault len (lexed text ws lexical) ≡ f → IsRead len (lexed text ws lexical) db f
-  read_end n f e =
+  is_read_at_end n f e =
       let list : statements_of (as_tokens text ws) ≡ db ++ [] =
       r.leads.statements ∙ ap (λ y. db ++ y) n in
       record {
@@ -91,48 +92,48 @@ module _ (text : List ℕ) (ws : List Word) (len : ℕ) (lexical : Option Fault)
         stops = stops_with f e;
       }
 
-  pub read_stopped : (f : Fault) → statements_from (start deep) (tokens_from text ws at) ≡ []
-      → shape_fault_from (start deep) (tokens_from text ws at) ≡ Some f
+  pub read_stopped : (f : Fault) → statements_from (start open_blocks) (tokens_from text ws at) ≡ []
+      → shape_fault_from (start open_blocks) (tokens_from text ws at) ≡ Some f
       → IsRead len (lexed text ws lexical) db (Some f)
   read_stopped f n e =
-      read_end n (Some f)
+      is_read_at_end n (Some f)
       (ap (λ o. first_fault_of o
       (first_fault_of lexical (fault_at_end len (progress_from (start 0) (as_tokens text ws)))))
       (r.leads.stop
       ∙ e))
 
-  end_is : (part : Part) (i : ℕ) (o : Option Fault)
-      → first_fault_of o (fault_at_end len (progress text ws deep part i))
-      ≡ end_fault_of o len part deep
-  end_is part i (Some f) = refl
-  end_is Start i None = by_number deep
+  fault_at_end_is_end_fault_of : (part : Part) (i : ℕ) (o : Option Fault)
+      → first_fault_of o (fault_at_end len (progress text ws open_blocks part i))
+      ≡ end_fault_of o len part open_blocks
+  fault_at_end_is_end_fault_of part i (Some f) = refl
+  fault_at_end_is_end_fault_of Start i None = by_number open_blocks
     where
       by_number : (d : ℕ) → fault_at_end len (start d) ≡ end_fault_of None len Start d
       by_number zero = refl
       by_number (suc d) = refl
-  end_is (Labelled l) i None = refl
-  end_is (Words k w) i None = refl
-  end_is (Formula w) i None = refl
-  end_is (Proof w e) i None = refl
+  fault_at_end_is_end_fault_of (Labelled l) i None = refl
+  fault_at_end_is_end_fault_of (Words k w) i None = refl
+  fault_at_end_is_end_fault_of (Formula w) i None = refl
+  fault_at_end_is_end_fault_of (Proof w e) i None = refl
 
-  pub read_ended : (part : Part) → statements_from (start deep) (tokens_from text ws at) ≡ []
-      → shape_fault_from (start deep) (tokens_from text ws at) ≡ None
-      → progress_from (start deep) (tokens_from text ws at) ≡ progress text ws deep part (length ws)
-      → (f : Option Fault) → f ≡ end_fault_of lexical len part deep
+  pub read_ended : (part : Part) → statements_from (start open_blocks) (tokens_from text ws at) ≡ []
+      → shape_fault_from (start open_blocks) (tokens_from text ws at) ≡ None
+      → progress_from (start open_blocks) (tokens_from text ws at) ≡ progress text ws open_blocks part (length ws)
+      → (f : Option Fault) → f ≡ end_fault_of lexical len part open_blocks
       → IsRead len (lexed text ws lexical) db f
   read_ended part n s e f is =
-      read_end n f
+      is_read_at_end n f
       (ap₂ (λ o q. first_fault_of o (first_fault_of lexical (fault_at_end len q)))
       (r.leads.stop ∙ s)
       (r.leads.rest ∙ e)
-      ∙ end_is part (length ws) lexical ∙ sym is)
+      ∙ fault_at_end_is_end_fault_of part (length ws) lexical ∙ sym is)
 
 -- a statement that closes a block stands in one
-pub inside_block : (text : List ℕ) (ws : List Word) (db : List Statement) (deep at : ℕ)
-    → IsReadTo text ws db deep at → (s : Statement) (d : ℕ) (us : List _)
-    → Leads (start deep) (tokens_from text ws at) (s ∷ []) (start d) us → is_closing s ≡ true
+pub closing_is_inside_block : (text : List ℕ) (ws : List Word) (db : List Statement) (open_blocks at : ℕ)
+    → IsReadTo text ws db open_blocks at → (s : Statement) (d : ℕ) (us : List _)
+    → Leads (start open_blocks) (tokens_from text ws at) (s ∷ []) (start d) us → is_closing s ≡ true
     → 0 < depth db (length db)
-inside_block text ws db deep at r s d us l e =
+closing_is_inside_block text ws db open_blocks at r s d us l e =
     let more = statements_from (start d) us in
     let list : statements_of (as_tokens text ws) ≡ db ++ s ∷ more =
     r.leads.statements ∙ ap (λ y. db ++ y) l.statements in
@@ -166,15 +167,15 @@ inside_block text ws db deep at r s d us l e =
     not_both (axiomatic l k xs d) e = refl
     not_both (provable l k xs q ps d) e = refl
 
-less_one_is : (d : ℕ) → d - 1 ≡ one_less d
-less_one_is zero = omega arith
-less_one_is (suc d) = omega arith
+minus_one_is_one_less : (d : ℕ) → d - 1 ≡ one_less d
+minus_one_is_one_less zero = omega arith
+minus_one_is_one_less (suc d) = omega arith
 
-after_le : (k : Kind) (d at end : ℕ) → d ≤ at → at ≤ end → depth_after k d ≤ end + 1
-after_le kind.Open d at end h l = omega arith
-after_le kind.Close zero at end h l = omega arith
-after_le kind.Close (suc d) at end h l = omega arith
-after_le _ d at end h l = omega arith
+depth_after_le : (k : Kind) (d at end : ℕ) → d ≤ at → at ≤ end → depth_after k d ≤ end + 1
+depth_after_le kind.Open d at end h l = omega arith
+depth_after_le kind.Close zero at end h l = omega arith
+depth_after_le kind.Close (suc d) at end h l = omega arith
+depth_after_le _ d at end h l = omega arith
 
 depth_is : (text : List ℕ) (ws : List Word) (db : List Statement) (b : BlockLists) → IsBlocks db b
     → length db < never → (k : Kind) (w m e : ℕ)
@@ -185,7 +186,7 @@ depth_is text ws db b x few kind.Open w m e =
     (arith, y))
 depth_is text ws db b x few kind.Close w m e =
     sym (depth_closing db (statement_between text ws kind.Close w m e) b x few refl refl
-    ∙ less_one_is (depth db (length db)))
+    ∙ minus_one_is_one_less (depth db (length db)))
 depth_is text ws db b x few kind.Constants w m e =
     sym (depth_plain db (statement_between text ws kind.Constants w m e) b x few refl refl)
 depth_is text ws db b x few kind.Variables w m e =
@@ -201,23 +202,23 @@ depth_is text ws db b x few kind.Axiom w m e =
 depth_is text ws db b x few kind.Theorem w m e =
     sym (depth_plain db (statement_between text ws kind.Theorem w m e) b x few refl refl)
 
-pub reading_more : (text : List ℕ) (ws : List Word) (db : List Statement) (deep at : ℕ)
-    → IsReadTo text ws db deep at → length ws < 2 ^ 31 → (b : BlockLists) → IsBlocks db b
+pub is_read_to_with_statement : (text : List ℕ) (ws : List Word) (db : List Statement) (open_blocks at : ℕ)
+    → IsReadTo text ws db open_blocks at → length ws < 2 ^ 31 → (b : BlockLists) → IsBlocks db b
     → (k : Kind) (w m e : ℕ) → at ≤ e → e < length ws
-    → Leads (start deep) (tokens_from text ws at) (statement_between text ws k w m e ∷ [])
-    (start (depth_after k deep)) (tokens_from text ws (e + 1))
-    → None ≡ least (scope_faults (names_before db (length db)) deep
+    → Leads (start open_blocks) (tokens_from text ws at) (statement_between text ws k w m e ∷ [])
+    (start (depth_after k open_blocks)) (tokens_from text ws (e + 1))
+    → None ≡ least (scope_faults (names_before db (length db)) open_blocks
     (statement_between text ws k w m e))
-    → IsReadTo text ws (db ++ statement_between text ws k w m e ∷ []) (depth_after k deep) (e + 1)
-reading_more text ws db deep at r small b x k w m e later within l f = record {
+    → IsReadTo text ws (db ++ statement_between text ws k w m e ∷ []) (depth_after k open_blocks) (e + 1)
+is_read_to_with_statement text ws db open_blocks at r small b x k w m e later within l f = record {
   leads = leads_then r.leads l;
-  within = omega (arith, within);
-  few = let n = r.few in omega (arith, n, long, later);
-  shallow = after_le k deep at e r.shallow later;
-  deep_is =
-      ap (depth_after k) r.deep_is
+  at_le_length = omega (arith, within);
+  length_db_le_at = let n = r.length_db_le_at in omega (arith, n, long, later);
+  open_blocks_le_at = depth_after_le k open_blocks at e r.open_blocks_le_at later;
+  open_blocks_is_depth =
+      ap (depth_after k) r.open_blocks_is_depth
       ∙ depth_is text ws db b x
-      (let n = r.few in let i = r.within in omega (arith, n, i, small)) k w m e
+      (let n = r.length_db_le_at in let i = r.at_le_length in omega (arith, n, i, small)) k w m e
       ∙ ap (depth (db ++ s ∷ [])) (sym long);
   lawful = lawful;
 }
@@ -242,13 +243,13 @@ reading_more text ws db deep at r small b x k w m e later within l f = record {
             (scope_fault_next db (statement_between text ws k w m e) []
             ∙ ap (λ d. least
             (scope_faults (names_before db (length db)) d (statement_between text ws k w m e)))
-            (sym r.deep_is)
+            (sym r.open_blocks_is_depth)
             ∙ sym f)
 
-pub some_not : (f : Option Fault) → is_some f ≡ true → f ≢ None
-some_not None h e = absurd (true≢false (sym h))
-some_not (Some f) h e = cc
+pub not_none_if_some : (f : Option Fault) → is_some f ≡ true → f ≢ None
+not_none_if_some None h e = absurd (true≢false (sym h))
+not_none_if_some (Some f) h e = cc
 
-pub none_is : (f : Option Fault) → is_some f ≡ false → None ≡ f
-none_is None h = refl
-none_is (Some f) h = absurd (true≢false h)
+pub none_if_not_some : (f : Option Fault) → is_some f ≡ false → None ≡ f
+none_if_not_some None h = refl
+none_if_not_some (Some f) h = absurd (true≢false h)

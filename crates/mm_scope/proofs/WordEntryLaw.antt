@@ -17,12 +17,14 @@ use Rattle.mm_scope.specs.WordEntry.{IsEntryOf, Latest, typed_by, typecode_by, d
 use Rattle.mm_scope.specs.WordEntry.{gives_other_typecode}
 use Rattle.mm_scope.specs.WordEntry.{is_constant_entry, is_variable_entry}
 use Rattle.mm_outline.specs.Typed.{typed_words}
-use Rattle.mm_scope.proofs.LatestLaw.{latest_stays, latest_new}
+use Rattle.mm_scope.proofs.LatestLaw.{latest_unchanged, latest_is_new}
 
-none_other : (c w : Bytes) (ts : List Typing) → is_in w (map (λ t. t.variable) ts ++ []) ≡ false
+no_typing_no_other_typecode : (c w : Bytes) (ts : List Typing)
+    → is_in w (map (λ t. t.variable) ts ++ []) ≡ false
     → list_any (gives_other_typecode c w) (ts ++ []) ≡ false
-none_other c w [] e = refl
-none_other c w (t ∷ ts) e = by_equality (bytes_eq w t.variable) e (none_other c w ts)
+no_typing_no_other_typecode c w [] e = refl
+no_typing_no_other_typecode c w (t ∷ ts) e =
+    by_equality (bytes_eq w t.variable) e (no_typing_no_other_typecode c w ts)
   where
     by_equality : (b : Bool) → (b || is_in w (map (λ t. t.variable) ts ++ [])) ≡ false
         → (is_in w (map (λ t. t.variable) ts ++ []) ≡ false
@@ -33,69 +35,70 @@ none_other c w (t ∷ ts) e = by_equality (bytes_eq w t.variable) e (none_other 
     by_equality false e r = r e
 
 module _ (db : List Statement) (s : Statement) (w : Bytes) where
-  pub in_more : (f : Statement → List Bytes)
+  pub in_flat_map_push : (f : Statement → List Bytes)
       → is_in w (flat_map f (db ++ s ∷ [])) ≡ (is_in w (flat_map f db) || is_in w (f s ++ []))
-  in_more f =
+  in_flat_map_push f =
       ap (is_in w) (flat_map-append f db (s ∷ []))
       ∙ list_any-append (bytes_eq w) (flat_map f db) (f s ++ [])
 
-  other_more : (c : Bytes)
+  other_typecode_push : (c : Bytes)
       → list_any (gives_other_typecode c w) (flat_map typings_of (db ++ s ∷ []))
       ≡ (list_any (gives_other_typecode c w) (flat_map typings_of db)
       || list_any (gives_other_typecode c w) (typings_of s ++ []))
-  other_more c =
+  other_typecode_push c =
       ap (list_any (gives_other_typecode c w)) (flat_map-append typings_of db (s ∷ []))
       ∙ list_any-append (gives_other_typecode c w) (flat_map typings_of db) (typings_of s ++ [])
 
   -- the statement has not the word among these
-  pub in_same : (f : Statement → List Bytes) → is_in w (f s ++ []) ≡ false
+  pub in_flat_map_unchanged : (f : Statement → List Bytes) → is_in w (f s ++ []) ≡ false
       → is_in w (flat_map f (db ++ s ∷ [])) ≡ is_in w (flat_map f db)
-  in_same f n =
-      in_more f ∙ ap (λ b. is_in w (flat_map f db) || b) n ∙ or-false (is_in w (flat_map f db))
+  in_flat_map_unchanged f n =
+      in_flat_map_push f ∙ ap (λ b. is_in w (flat_map f db) || b) n ∙ or-false (is_in w (flat_map f db))
 
-  in_now : (f : Statement → List Bytes) → is_in w (f s ++ []) ≡ true
+  in_flat_map_of_last : (f : Statement → List Bytes) → is_in w (f s ++ []) ≡ true
       → is_in w (flat_map f (db ++ s ∷ [])) ≡ true
-  in_now f n =
-      in_more f ∙ ap (λ b. is_in w (flat_map f db) || b) n ∙ or-true (is_in w (flat_map f db))
+  in_flat_map_of_last f n =
+      in_flat_map_push f ∙ ap (λ b. is_in w (flat_map f db) || b) n ∙ or-true (is_in w (flat_map f db))
 
-  other_same : (c : Bytes) → is_in w (typed_words s ++ []) ≡ false
+  other_typecode_unchanged : (c : Bytes) → is_in w (typed_words s ++ []) ≡ false
       → list_any (gives_other_typecode c w) (flat_map typings_of (db ++ s ∷ []))
       ≡ list_any (gives_other_typecode c w) (flat_map typings_of db)
-  other_same c n =
-      other_more c
+  other_typecode_unchanged c n =
+      other_typecode_push c
       ∙ ap (λ b. list_any (gives_other_typecode c w) (flat_map typings_of db) || b)
-      (none_other c w (typings_of s) n)
+      (no_typing_no_other_typecode c w (typings_of s) n)
       ∙ or-false (list_any (gives_other_typecode c w) (flat_map typings_of db))
 
   -- the statement says nothing of the word
-  pub known_same : (x : Option WordEntry) → IsEntryOf db w x
+  pub entry_is_unchanged : (x : Option WordEntry) → IsEntryOf db w x
       → is_in w (constants_of s ++ []) ≡ false → is_in w (variables_of s ++ []) ≡ false
       → is_in w (typed_words s ++ []) ≡ false → IsEntryOf (db ++ s ∷ []) w x
-  known_same x k nc nv nt = record {
-    constant = in_same constants_of nc ∙ k.constant;
-    variable = in_same variables_of nv ∙ k.variable;
-    declared = λ e. latest_stays db s variables_of w (declared_by x) (k.declared e) nv;
-    typed = λ n. latest_stays db s typed_words w (typed_by x) (k.typed n) nt;
-    untyped = λ e. in_same typed_words nt ∙ k.untyped e;
-    otherwise = λ c. other_same c nt ∙ k.otherwise c;
+  entry_is_unchanged x k nc nv nt = record {
+    constant = in_flat_map_unchanged constants_of nc ∙ k.constant;
+    variable = in_flat_map_unchanged variables_of nv ∙ k.variable;
+    declared = λ e. latest_unchanged db s variables_of w (declared_by x) (k.declared e) nv;
+    typed = λ n. latest_unchanged db s typed_words w (typed_by x) (k.typed n) nt;
+    untyped = λ e. in_flat_map_unchanged typed_words nt ∙ k.untyped e;
+    other_typecode = λ c. other_typecode_unchanged c nt ∙ k.other_typecode c;
   }
 
   -- what is known of a word after a statement that declares it as a constant
-  pub known_constant : IsEntryOf db w None → is_in w (constants_of s ++ []) ≡ true
+  pub entry_of_new_constant : IsEntryOf db w None → is_in w (constants_of s ++ []) ≡ true
       → is_in w (variables_of s ++ []) ≡ false → is_in w (typed_words s ++ []) ≡ false → (n : ℕ)
       → IsEntryOf (db ++ s ∷ []) w (Some (entry false n never w))
-  known_constant k yc nv nt n = record {
-    constant = in_now constants_of yc;
-    variable = in_same variables_of nv ∙ k.variable;
+  entry_of_new_constant k yc nv nt n = record {
+    constant = in_flat_map_of_last constants_of yc;
+    variable = in_flat_map_unchanged variables_of nv ∙ k.variable;
     declared = λ e. absurd (true≢false (sym e));
     typed = λ ne. absurd (ne refl);
-    untyped = λ e. in_same typed_words nt ∙ k.untyped refl;
-    otherwise = λ c. other_same c nt ∙ k.otherwise c;
+    untyped = λ e. in_flat_map_unchanged typed_words nt ∙ k.untyped refl;
+    other_typecode = λ c. other_typecode_unchanged c nt ∙ k.other_typecode c;
   }
 
-  typed_same : (x : Option WordEntry) → typed_by (declared_entry true (length db) w x) ≡ typed_by x
-  typed_same None = refl
-  typed_same (Some e) = refl
+  declaring_keeps_typed_by : (x : Option WordEntry) → typed_by (declared_entry true (length db) w x)
+      ≡ typed_by x
+  declaring_keeps_typed_by None = refl
+  declaring_keeps_typed_by (Some e) = refl
 
   other_declared : (c : Bytes) (x : Option WordEntry)
       → (not (nat_eq (typed_by x) never) && not (bytes_eq c (typecode_by x)))
@@ -112,40 +115,44 @@ module _ (db : List Statement) (s : Statement) (w : Bytes) where
   is_declared (Some e) = (refl, refl, refl)
 
   -- what is known of a word after a statement that declares it as a variable
-  pub known_variable : (x : Option WordEntry) → IsEntryOf db w x → is_constant_entry x ≡ false
+  pub entry_of_new_variable : (x : Option WordEntry) → IsEntryOf db w x
+      → is_constant_entry x ≡ false
       → is_in w (flat_map variables_of (active_statements db (length db))) ≡ false
       → is_in w (constants_of s ++ []) ≡ false → is_in w (variables_of s ++ []) ≡ true
       → is_in w (typed_words s ++ []) ≡ false
       → IsEntryOf (db ++ s ∷ []) w (declared_entry true (length db) w x)
-  known_variable x k none idle nc yv nt =
+  entry_of_new_variable x k none idle nc yv nt =
       let is = is_declared x in
       record {
-        constant = in_same constants_of nc ∙ k.constant ∙ none ∙ sym is.0;
-        variable = in_now variables_of yv ∙ sym is.1;
+        constant = in_flat_map_unchanged constants_of nc ∙ k.constant ∙ none ∙ sym is.0;
+        variable = in_flat_map_of_last variables_of yv ∙ sym is.1;
         declared =
             λ e. subst (Latest (db ++ s ∷ []) variables_of w) (sym is.2)
-            (latest_new db s variables_of w yv idle);
+            (latest_is_new db s variables_of w yv idle);
         typed =
-            λ n. subst (Latest (db ++ s ∷ []) typed_words w) (sym (typed_same x))
-            (latest_stays db s typed_words w (typed_by x) (k.typed (λ e. n (typed_same x ∙ e))) nt);
-        untyped = λ e. in_same typed_words nt ∙ k.untyped (sym (typed_same x) ∙ e);
-        otherwise = λ c. other_same c nt ∙ k.otherwise c ∙ other_declared c x;
+            λ n. subst (Latest (db ++ s ∷ []) typed_words w) (sym (declaring_keeps_typed_by x))
+            (latest_unchanged db s typed_words w (typed_by x)
+            (k.typed (λ e. n (declaring_keeps_typed_by x ∙ e))) nt);
+        untyped = λ e. in_flat_map_unchanged typed_words nt
+            ∙ k.untyped (sym (declaring_keeps_typed_by x) ∙ e);
+        other_typecode = λ c. other_typecode_unchanged c nt ∙ k.other_typecode c ∙ other_declared c x;
       }
 
   -- what is known of a word after a `$f` that types it
-  pub known_typed : (e : WordEntry) → IsEntryOf db w (Some e) → length db < never → (c : Bytes)
+  pub entry_of_typed_variable : (e : WordEntry) → IsEntryOf db w (Some e) → length db < never
+      → (c : Bytes)
       → is_in w (flat_map typed_words (active_statements db (length db))) ≡ false
       → list_any (gives_other_typecode c w) (flat_map typings_of db) ≡ false
       → is_in w (constants_of s ++ []) ≡ false → is_in w (variables_of s ++ []) ≡ false
       → typings_of s ≡ record { typecode = c; variable = w } ∷ []
       → IsEntryOf (db ++ s ∷ []) w (typed_entry (length db) c (Some e))
-  known_typed e k few c idle same nc nv is = record {
-    constant = in_same constants_of nc ∙ k.constant;
-    variable = in_same variables_of nv ∙ k.variable;
-    declared = λ v. latest_stays db s variables_of w e.declared (k.declared v) nv;
-    typed = λ n. latest_new db s typed_words w typed idle;
+  entry_of_typed_variable e k few c idle same nc nv is = record {
+    constant = in_flat_map_unchanged constants_of nc ∙ k.constant;
+    variable = in_flat_map_unchanged variables_of nv ∙ k.variable;
+    declared = λ v. latest_unchanged db s variables_of w e.declared (k.declared v) nv;
+    typed = λ n. latest_is_new db s typed_words w typed idle;
     untyped = λ n. absurd (omega (arith, n, few));
-    otherwise = other;
+    other_typecode = other;
   }
     where
       self : bytes_eq w w ≡ true
@@ -190,6 +197,6 @@ module _ (db : List Statement) (s : Statement) (w : Bytes) where
       other d =
           let new : nat_eq (length db) never ≡ false =
           ne_eqb (length db) never (λ z. omega (arith, z, few)) in
-          other_more d ∙ ap₂ (λ a b. a || b) (k.otherwise d) (now d)
-          ∙ old d (nat_eq e.typed never) refl (sym (k.otherwise c) ∙ same)
+          other_typecode_push d ∙ ap₂ (λ a b. a || b) (k.other_typecode d) (now d)
+          ∙ old d (nat_eq e.typed never) refl (sym (k.other_typecode c) ∙ same)
           ∙ sym (ap (λ b. not b && not (bytes_eq d c)) new)

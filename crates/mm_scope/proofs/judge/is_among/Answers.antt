@@ -1,7 +1,7 @@
 use Rattle.std.proofs.Common.{◌∙◌, ◌||◌, ap, ap₂, bytes_eq, sym, arith}
 use Rattle.mm_spec.specs.Text.{is_in, words}
 use Rattle.mm_outline.specs.Parts.{between, token_at}
-use Rattle.mm_scope.proofs.JudgeLaw.{among_more}
+use Rattle.mm_scope.proofs.JudgeLaw.{among_between_push}
 use Rattle.mm_scope.proofs.judge.is_among.Goals.{then-eq, else-eq}
 use Rattle.mm_scope.proofs.judge.is_among.Goals as goal
 
@@ -13,7 +13,8 @@ loop-earlier-preserved c =
     let i = c.loop-earlier.earlier in
     let test = c.loop-earlier-test.true in
     let within = c.requires.within in
-    let more = among_more text ws c.args.from i (omega arith) (omega (arith, test, within)) word in
+    let more = among_between_push text ws c.args.from i (omega arith)
+    (omega (arith, test, within)) word in
     let before = words (between text ws c.args.from i) in
     let same = c.eq.ensures ∙ ap₂ bytes_eq c.bytes-word.ensures c.bytes.ensures in
     elim c.if-eq.branch [

@@ -11,9 +11,10 @@ use Rattle.mm_outline.specs.declared.parts.Outline.{Outline}
 use Rattle.mm_outline.specs.NextStatement.{tokens_from}
 use Rattle.mm_outline.specs.Statements.{statements}
 use Rattle.mm_scope.specs.ReadSoFar.{IsReadSoFar, read_so_far}
-use Rattle.mm_scope.proofs.ReadLaw.{reading_more, read_unlawful, read_stopped, read_ended, some_not}
-use Rattle.mm_scope.proofs.ReadLaw.{none_is, inside_block}
-use Rattle.mm_scope.proofs.BoundsLaw.{few_symbols}
+use Rattle.mm_scope.proofs.ReadLaw.{is_read_to_with_statement, read_unlawful, read_stopped}
+use Rattle.mm_scope.proofs.ReadLaw.{read_ended, not_none_if_some}
+use Rattle.mm_scope.proofs.ReadLaw.{none_if_not_some, closing_is_inside_block}
+use Rattle.mm_scope.proofs.BoundsLaw.{symbols_le_tokens}
 use Rattle.mm_scope.proofs.reading.outline_statements.Goals as goal
 
 pub add_if_lawful-requires-clause-next : goal.add_if_lawful-requires-clause-next
@@ -32,19 +33,19 @@ add_if_lawful-requires-clause-next g c =
     r.leads.statements ∙ ap (λ y. db ++ y) c.in-Whole.ensures.1.leads.statements
     ∙ sym (append_assoc db (one ∷ []) more) in
     let longest = is_longest ts in
-    let count = r.few in
-    let inside = r.within in
+    let count = r.length_db_le_at in
+    let inside = r.at_le_length in
     let short = c.requires.few in
     let long = length-map ws (token_of text) in
     record {
       lawful = r.lawful;
-      few = omega (arith, count, inside, short);
-      depth_is = r.deep_is;
-      inside =
-          inside_block text ws db s.depth s.at r one (depth_after o.kind s.depth)
+      few_statements = omega (arith, count, inside, short);
+      open_blocks_is_depth = r.open_blocks_is_depth;
+      closes_open_block =
+          closing_is_inside_block text ws db s.depth s.at r one (depth_after o.kind s.depth)
           (tokens_from text ws (o.end + 1)) c.in-Whole.ensures.1.leads;
       few_names =
-          (let n = few_symbols ts longest.rest (statements_of ts) longest.splits
+          (let n = symbols_le_tokens ts longest.rest (statements_of ts) longest.splits
           (db ++ one ∷ []) more row in
           omega (arith, n, long, short));
     }
@@ -52,29 +53,31 @@ add_if_lawful-requires-clause-next g c =
 pub returns-then-is_some-clause-few : goal.returns-then-is_some-clause-few
 returns-then-is_some-clause-few g c =
     let s = c.statements in
-    let count = s.invariant.reading.few in
-    let inside = s.invariant.reading.within in
+    let count = s.invariant.reading.length_db_le_at in
+    let inside = s.invariant.reading.at_le_length in
     let short = c.requires.few in
     let same = length-map s.read.outlines.items (statement_of c.args.text.now c.args.tokens.now) in
     let stays =
     ap length
-    (c.in_ok-add_if_lawful-in-Whole.ensures.stays
-    (some_not c.add_if_lawful.new.self.fault (sym c.is_some.ensures ∙ c.if-is_some.true))).0 in
+    (c.in_ok-add_if_lawful-in-Whole.ensures.if_unlawful
+    (not_none_if_some c.add_if_lawful.new.self.fault (sym c.is_some.ensures
+    ∙ c.if-is_some.true))).0 in
     omega (arith, count, inside, short, same, stays)
 
 pub returns-then-is_some-clause-outlines : goal.returns-then-is_some-clause-outlines
 returns-then-is_some-clause-outlines g c =
     let stays =
-    (c.in_ok-add_if_lawful-in-Whole.ensures.stays
-    (some_not c.add_if_lawful.new.self.fault (sym c.is_some.ensures ∙ c.if-is_some.true))).0 in
+    (c.in_ok-add_if_lawful-in-Whole.ensures.if_unlawful
+    (not_none_if_some c.add_if_lawful.new.self.fault (sym c.is_some.ensures
+    ∙ c.if-is_some.true))).0 in
     subst (λ (xs : List Outline). All (λ o. IsOutline o × (o.end < length c.args.tokens.now)) xs)
     (sym stays) c.statements.invariant.outlines
 
 pub returns-then-is_some-clause-is_read_so_far : goal.returns-then-is_some-clause-is_read_so_far
 returns-then-is_some-clause-is_read_so_far g c =
     let stays =
-    c.in_ok-add_if_lawful-in-Whole.ensures.stays
-    (some_not c.add_if_lawful.new.self.fault (sym c.is_some.ensures ∙ c.if-is_some.true)) in
+    c.in_ok-add_if_lawful-in-Whole.ensures.if_unlawful
+    (not_none_if_some c.add_if_lawful.new.self.fault (sym c.is_some.ensures ∙ c.if-is_some.true)) in
     subst (λ (xs : List Outline). IsReadSoFar (statements c.args.text.now c.args.tokens.now xs)
     (read_so_far c.add_if_lawful.new.self)) (sym stays.0) stays.1
 
@@ -87,7 +90,7 @@ returns-then-is_some-clause-read g c =
     let db = statements text ws s.read.outlines.items in
     let f = c.add_if_lawful.new.self.fault in
     let is : is_some f ≡ true = sym c.is_some.ensures ∙ c.if-is_some.true in
-    let stays = (c.in_ok-add_if_lawful-in-Whole.ensures.stays (some_not f is)).0 in
+    let stays = (c.in_ok-add_if_lawful-in-Whole.ensures.if_unlawful (not_none_if_some f is)).0 in
     let fault =
     c.in_ok-add_if_lawful-in-Whole.ensures.fault
     ∙ ap (λ n. least (scope_faults (names_before db n) s.depth (statement_of text ws o)))
@@ -95,7 +98,7 @@ returns-then-is_some-clause-read g c =
     rw (ap (statements text ws) stays)
     (read_unlawful text ws (length text) c.args.lexical db s.depth s.at s.invariant.reading
     (statement_of text ws o) (depth_after o.kind s.depth)
-    (tokens_from text ws (o.end + 1)) c.in-Whole.ensures.1.leads f (some_not f is) fault)
+    (tokens_from text ws (o.end + 1)) c.in-Whole.ensures.1.leads f (not_none_if_some f is) fault)
 
 pub statements-preserved : goal.statements-preserved
 statements-preserved g c =
@@ -107,17 +110,17 @@ statements-preserved g c =
     let one = statement_of text ws o in
     let b = s.read.scope.blocks in
     let f = c.add_if_lawful.new.self.fault in
-    let none : None ≡ f = none_is f (sym c.is_some.ensures ∙ c.if-is_some.false) in
+    let none : None ≡ f = none_if_not_some f (sym c.is_some.ensures ∙ c.if-is_some.false) in
     let lawful =
     none ∙ c.in_ok-add_if_lawful-in-Whole.ensures.fault
     ∙ ap (λ n. least (scope_faults (names_before db n) s.depth one))
     (sym (length-map s.read.outlines.items (statement_of text ws))) in
-    let taken = c.in_ok-add_if_lawful-in-Whole.ensures.taken (sym none) in
+    let taken = c.in_ok-add_if_lawful-in-Whole.ensures.if_lawful (sym none) in
     let more : statements text ws c.add_if_lawful.new.self.outlines.items ≡ db ++ one ∷ [] =
     ap (statements text ws) taken.0
     ∙ map-append (statement_of text ws) s.read.outlines.items (o ∷ []) in
     let next =
-    reading_more text ws db s.depth s.at s.invariant.reading c.requires.few b
+    is_read_to_with_statement text ws db s.depth s.at s.invariant.reading c.requires.few b
     s.invariant.is_read_so_far.keeps.blocks o.kind o.keyword o.middle o.end
     c.in-Whole.ensures.1.later
     c.in-Whole.ensures.1.within c.in-Whole.ensures.1.leads lawful in
@@ -136,8 +139,8 @@ statements-preserved g c =
 pub returns-in-Stopped-clause-few : goal.returns-in-Stopped-clause-few
 returns-in-Stopped-clause-few g c =
     let s = c.statements in
-    let count = s.invariant.reading.few in
-    let inside = s.invariant.reading.within in
+    let count = s.invariant.reading.length_db_le_at in
+    let inside = s.invariant.reading.at_le_length in
     let short = c.requires.few in
     let same = length-map s.read.outlines.items (statement_of c.args.text.now c.args.tokens.now) in
     omega (arith, count, inside, short, same)
@@ -154,8 +157,8 @@ returns-in-Stopped-clause-read g c =
 pub returns-in-Ended-clause-few : goal.returns-in-Ended-clause-few
 returns-in-Ended-clause-few g c =
     let s = c.statements in
-    let count = s.invariant.reading.few in
-    let inside = s.invariant.reading.within in
+    let count = s.invariant.reading.length_db_le_at in
+    let inside = s.invariant.reading.at_le_length in
     let short = c.requires.few in
     let same = length-map s.read.outlines.items (statement_of c.args.text.now c.args.tokens.now) in
     omega (arith, count, inside, short, same)

@@ -9,9 +9,10 @@ use Rattle.mm_outline.specs.Statements.{statements}
 use Rattle.mm_scope.specs.Formulas.{AreFormulas, judged}
 use Rattle.mm_scope.specs.Scopes.{names_in}
 use Rattle.mm_database.specs.Names.{find, names_of}
-use Rattle.mm_scope.proofs.KnowsLaw.{knows_is}
-use Rattle.mm_scope.proofs.NumberedLaw.{declared, names_shorter, names_next, taken_numbers}
-use Rattle.mm_scope.proofs.NumberedLaw.{formulas_more}
+use Rattle.mm_scope.proofs.KnowsLaw.{scope_knows_names}
+use Rattle.mm_scope.proofs.NumberedLaw.{declared, symbol_names_no_shorter}
+use Rattle.mm_scope.proofs.NumberedLaw.{declared_names_are_symbol_names, taken_numbers}
+use Rattle.mm_scope.proofs.NumberedLaw.{formulas_with_statement}
 use Rattle.mm_scope.proofs.reading.Outlined.add_if_lawful.Goals as goal
 
 pub fault-requires-clause-few : goal.fault-requires-clause-few
@@ -19,7 +20,7 @@ fault-requires-clause-few g c =
     let db = statements c.args.text.now c.args.tokens.now c.args.self.now.outlines.items in
     let s = statement_of c.args.text.now c.args.tokens.now c.args.outline in
     let e = ap length c.requires.is_read_so_far.names_are in
-    let l = names_shorter db s in
+    let l = symbol_names_no_shorter db s in
     let f = c.requires.next.few_names in
     omega (arith, e, l, f)
 
@@ -33,16 +34,16 @@ returns-then-is_some g c =
     let k = c.requires.is_read_so_far in
     let next = c.requires.next in
     let b = c.args.self.now.scope.blocks in
-    let few = next.few in
+    let few = next.few_statements in
     let few_blocks : length db < never = omega (arith, few) in
     let fault =
     c.in_ok-self.ensures.fault (names_before db (length db))
-    (knows_is db (find c.args.self.now.scope.names.symbols)
+    (scope_knows_names db (find c.args.self.now.scope.names.symbols)
     (find c.args.self.now.scope.names.labels) b k.keeps few_blocks) in
-    let begun = c.args.self.now.numbers.items in
+    let begun = c.args.self.now.symbols.items in
     let untouched : c.truncate.new.self.items ≡ begun =
     c.truncate.ensures.items
-    ∙ ap₂ take (c.len-number_count.ensures ∙ c.args.self.now.numbers.ok.0)
+    ∙ ap₂ take (c.len-number_count.ensures ∙ c.args.self.now.symbols.ok.0)
     c.in_ok-self.ensures.numbers
     ∙ take-append-le (length begun) begun (judged (names_in c.args.self.now.scope) s)
     (le_refl (length begun))
@@ -51,15 +52,15 @@ returns-then-is_some g c =
       fault =
           fault ∙ ap (λ n. least (scope_faults (names_before db n) c.args.depth s))
           (length-map os (statement_of text ws));
-      taken = search rules;
-      stays = λ some. (
+      if_lawful = search rules;
+      if_unlawful = λ some. (
         refl,
         record {
           keeps = k.keeps;
           names_are = k.names_are;
           formulas =
               subst
-              (λ (ns : List ℕ). AreFormulas db ns c.args.self.now.places.items)
+              (λ (ns : List ℕ). AreFormulas db ns c.args.self.now.ends.items)
               (sym untouched) k.formulas;
         },
       );
@@ -75,35 +76,35 @@ returns g c =
     let k = c.requires.is_read_so_far in
     let next = c.requires.next in
     let b = c.args.self.now.scope.blocks in
-    let few = next.few in
+    let few = next.few_statements in
     let few_blocks : length db < never = omega (arith, few) in
     let fault =
     c.in_ok-self.ensures.fault (names_before db (length db))
-    (knows_is db (find c.args.self.now.scope.names.symbols)
+    (scope_knows_names db (find c.args.self.now.scope.names.symbols)
     (find c.args.self.now.scope.names.labels) b k.keeps few_blocks) in
     let names =
-    names_next db s (names_of c.add.new.self.names.symbols)
+    declared_names_are_symbol_names db s (names_of c.add.new.self.names.symbols)
     (c.in_ok-add.ensures.names (declared db) k.names_are) in
     let more =
-    taken_numbers db s c.args.self.now.numbers.items c.fault.new.numbers.items
+    taken_numbers db s c.args.self.now.symbols.items c.fault.new.numbers.items
     c.number_others.new.numbers.items (names_of c.args.self.now.scope.names.symbols)
     (names_of c.add.new.self.names.symbols) k.names_are names c.in_ok-self.ensures.numbers
     c.in_ok-number_others.ensures in
     let formulas =
-    formulas_more db next.lawful s c.args.self.now.numbers.items
-    c.args.self.now.places.items k.formulas c.number_others.new.numbers.items more in
+    formulas_with_statement db next.lawful s c.args.self.now.symbols.items
+    c.args.self.now.ends.items k.formulas c.number_others.new.numbers.items more in
     record {
       fault =
           fault ∙ ap (λ n. least (scope_faults (names_before db n) c.args.depth s))
           (length-map os (statement_of text ws));
-      taken = λ none. (
+      if_lawful = λ none. (
         c.in_ok-push.ensures.items,
         record {
           keeps =
               c.in_ok-add.ensures.keeps db k.keeps (
                 ap (λ d. least (scope_faults (names_before db (length db)) d s))
-                    (sym next.depth_is) ∙ sym fault ∙ none,
-                next.inside,
+                    (sym next.open_blocks_is_depth) ∙ sym fault ∙ none,
+                next.closes_open_block,
               );
           names_are = names;
           formulas =
@@ -112,5 +113,5 @@ returns g c =
               (sym c.in_ok-end_list.ensures.ok) formulas;
         },
       );
-      stays = search rules;
+      if_unlawful = search rules;
     }

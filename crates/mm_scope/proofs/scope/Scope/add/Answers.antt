@@ -1,7 +1,7 @@
 use Rattle.std.proofs.Common.{◌<◌, ◌∙◌, arith, length}
 use Rattle.mm_database.specs.Names.{find}
 use Rattle.mm_outline.specs.Blocks.{never}
-use Rattle.mm_scope.proofs.AddLaw.{keeps_after, on_both}
+use Rattle.mm_scope.proofs.AddLaw.{knows_after_statement, on_ok_both}
 use Rattle.mm_scope.proofs.scope.Scope.add.Goals as goal
 
 pub push-requires-clause-few_blocks : goal.push-requires-clause-few_blocks
@@ -12,7 +12,7 @@ push-requires-clause-few_blocks g c =
 
 pub returns-clause-keeps : goal.returns-clause-keeps
 returns-clause-keeps g c =
-    on_both c.add_names.result c.add_names.ensures.symbols c.add_names.ensures.labels
+    on_ok_both c.add_names.result c.add_names.ensures.symbols c.add_names.ensures.labels
     (λ symbols labels db keeps follows.
     let text = c.args.text.now in
     let ws = c.args.tokens.now in
@@ -24,7 +24,7 @@ returns-clause-keeps g c =
     let small = c.requires.keeps.2 in
     let few : length db < never = omega (arith, count, had, small) in
     let same = c.add_names.ensures.blocks ∙ c.in_ok-push.ensures in
-    keeps_after text ws db (find s.names.symbols)
+    knows_after_statement text ws db (find s.names.symbols)
     (find s.names.labels) b keeps few o.kind o.keyword o.middle o.end follows.0 follows.1
     c.add_names.new.self.blocks same c.len-number.result c.len-number.ensures
     (find c.add_names.new.self.names.symbols) symbols

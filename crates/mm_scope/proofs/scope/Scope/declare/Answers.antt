@@ -3,17 +3,17 @@ use Rattle.std.proofs.Common.{Some, bytes_eq, if◌then◌else◌}
 use Rattle.mm_spec.specs.Text.{words}
 use Rattle.mm_spec.specs.Frame.{first_occurrences}
 use Rattle.mm_outline.specs.Parts.{between}
-use Rattle.mm_scope.proofs.NumberedLaw.{names_more}
+use Rattle.mm_scope.proofs.NumberedLaw.{names_with_word}
 use Rattle.mm_database.specs.Names.{find, with_name}
 use Rattle.mm_scope.specs.WordEntry.{declared_entry, entry_of}
-use Rattle.mm_scope.proofs.DeclaredLaw.{declared_step}
+use Rattle.mm_scope.proofs.DeclaredLaw.{declared_with_next_word}
 use Rattle.mm_scope.proofs.scope.Scope.declare.Goals as goal
 
 pub loop-token_index-preserved : goal.loop-token_index-preserved
 loop-token_index-preserved g c =
     let from = c.args.outline.keyword + 1 in
     let test = c.loop-token_index-test.true in
-    let within = c.requires.among.within in
+    let within = c.requires.among.end_lt_length in
     let inside : c.loop-token_index.token_index
     < length c.args.tokens.now = omega (arith, test, within) in
     let later : from ≤ c.loop-token_index.token_index = omega arith in
@@ -21,7 +21,8 @@ loop-token_index-preserved g c =
     record {
       labels = λ w. c.in_ok-set_symbol.ensures.labels w ∙ i.labels w;
       symbols =
-          declared_step c.args.text.now c.args.tokens.now from c.loop-token_index.token_index later
+          declared_with_next_word c.args.text.now c.args.tokens.now from
+          c.loop-token_index.token_index later
           inside
           c.args.is_variable c.args.number c.declared-symbol.result
           (find c.args.self.now.names.symbols) (find c.loop-token_index.self.names.symbols)
@@ -37,7 +38,8 @@ loop-token_index-preserved g c =
       names =
           λ d h. c.in_ok-set_symbol.ensures.names
           ∙ ap₂ with_name c.bytes-word.ensures (i.names d h)
-          ∙ names_more c.args.text.now c.args.tokens.now from c.loop-token_index.token_index later
+          ∙ names_with_word c.args.text.now c.args.tokens.now from c.loop-token_index.token_index
+          later
           inside d;
     }
 

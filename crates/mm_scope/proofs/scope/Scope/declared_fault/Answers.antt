@@ -3,7 +3,7 @@ use Rattle.mm_spec.specs.Text.{is_in}
 use Rattle.mm_spec.specs.Lawful.{at, at_each, least}
 use Rattle.mm_outline.specs.Parts.{between, token_at}
 use Rattle.mm_scope.specs.Knows.{listed_codes}
-use Rattle.mm_scope.proofs.JudgeLaw.{earlier, each_more, in_earlier}
+use Rattle.mm_scope.proofs.JudgeLaw.{earlier, at_each_between_push, in_between_is_in_earlier}
 use Rattle.mm_scope.proofs.scope.Scope.declared_fault.Goals as goal
 
 pub loop-token_index-preserved : goal.loop-token_index-preserved
@@ -27,7 +27,7 @@ loop-token_index-preserved g c =
           (at t.at (codes e t.word)) (c.loop-token_index.invariant.least n k)
           (c.fault_with_code.ensures
           ∙ c.declared_code-code.ensures e (c.in_ok-repeated.ensures.repeated
-          ∙ in_earlier text ws from i t.word ∙ ap (λ w. is_in w e) (sym is)) t.at n k
+          ∙ in_between_is_in_earlier text ws from i t.word ∙ ap (λ w. is_in w e) (sym is)) t.at n k
           ∙ ap (λ w. least (at t.at (codes e w))) is)
-          ∙ ap least (sym (each_more text ws from i later inside codes));
+          ∙ ap least (sym (at_each_between_push text ws from i later inside codes));
     }

@@ -3,7 +3,7 @@ use Rattle.mm_spec.specs.Text.{token}
 use Rattle.mm_spec.specs.Lawful.{least, floating_faults}
 use Rattle.mm_outline.specs.Parts.{token_at, nth_word}
 use Rattle.mm_scope.specs.Knows.{typing_fault}
-use Rattle.mm_scope.proofs.JudgeLaw.{no_two_between, two_between}
+use Rattle.mm_scope.proofs.JudgeLaw.{not_two_between_is_faulty, between_is_two_tokens}
 use Rattle.mm_scope.proofs.scope.Scope.floating_fault.Goals as goal
 
 pub returns-then-to-keyword-ne3 : goal.returns-then-to-keyword-ne3
@@ -11,7 +11,7 @@ returns-then-to-keyword-ne3 g c = λ n k.
     let order = c.requires.order in
     let within = c.requires.within in
     c.fault_with_code.ensures
-    ∙ no_two_between n
+    ∙ not_two_between_is_faulty n
     (nth_word c.args.tokens.now c.args.keyword).start c.args.text.now c.args.tokens.now
     c.args.keyword c.args.to order (omega (arith, within)) c.if-to-keyword-ne3.true
 
@@ -29,7 +29,7 @@ returns-in-Some g c = λ n k.
     ∙ ap₂ (λ c v. least (floating_faults n at (token a.at c ∷ token b.at v ∷ [])))
     c.bytes-typecode.ensures c.bytes-variable.ensures
     ∙ ap (λ xs. least (floating_faults n at xs))
-    (sym (two_between text ws c.args.keyword c.args.to
+    (sym (between_is_two_tokens text ws c.args.keyword c.args.to
     (omega (arith, within)) c.if-to-keyword-ne3.false))
 
 pub returns-in-None : goal.returns-in-None
@@ -46,5 +46,5 @@ returns-in-None g c = λ n k.
     ∙ ap₂ (λ c v. least (floating_faults n at (token a.at c ∷ token b.at v ∷ [])))
     c.bytes-typecode.ensures c.bytes-variable.ensures
     ∙ ap (λ xs. least (floating_faults n at xs))
-    (sym (two_between text ws c.args.keyword c.args.to
+    (sym (between_is_two_tokens text ws c.args.keyword c.args.to
     (omega (arith, within)) c.if-to-keyword-ne3.false))

@@ -5,8 +5,8 @@ use Rattle.mm_scope.specs.Formulas.{numbers_in}
 use Rattle.mm_outline.specs.Parts.{token_at, between}
 use Rattle.mm_spec.specs.Lawful.{at, at_each, least, symbol_codes}
 use Rattle.mm_database.specs.Names.{find, names_of}
-use Rattle.mm_scope.proofs.JudgeLaw.{each_more}
-use Rattle.mm_scope.proofs.NumberedLaw.{numbers_more}
+use Rattle.mm_scope.proofs.JudgeLaw.{at_each_between_push}
+use Rattle.mm_scope.proofs.NumberedLaw.{numbers_between_push}
 use Rattle.mm_scope.proofs.scope.Scope.symbols_fault.Goals as goal
 use Rattle.mm_database.proofs.NamesLaw.{index_le}
 
@@ -38,7 +38,7 @@ loop-token_index-preserved g c =
           (sym (c.numbered-number.ensures.symbol ∙ ap (find s.names.symbols) c.bytes.ensures))
           t.at n k)
           ∙ ap least
-          (sym (each_more text ws c.args.from c.loop-token_index.token_index later inside
+          (sym (at_each_between_push text ws c.args.from c.loop-token_index.token_index later inside
           (symbol_codes n)));
       numbered = (
           let ns = names_of s.names.symbols in
@@ -50,5 +50,6 @@ loop-token_index-preserved g c =
           ∙ append_assoc c.args.numbers.now.items xs
           (index_of (token_at text ws c.loop-token_index.token_index).word ns ∷ [])
           ∙ ap (λ l. c.args.numbers.now.items ++ l)
-          (sym (numbers_more text ws ns c.args.from c.loop-token_index.token_index later inside)));
+          (sym (numbers_between_push text ws ns c.args.from c.loop-token_index.token_index
+          later inside)));
     }
