@@ -15,8 +15,8 @@ twice : (v : Bool) (n : ℕ) (w : List ℕ) (e : Option WordEntry)
 twice v n w None = refl
 twice v n w (Some e) = refl
 
-module _ (text : List ℕ) (ws : List Word) (from i : ℕ) (later : from ≤ i)
-    (inside : i < length ws) where
+module _ (text : List ℕ) (ws : List Word) (from i : ℕ) (from_le_i : from ≤ i)
+    (i_lt_length : i < length ws) where
   abbrev so_far : List (List ℕ)
   so_far = words (between text ws from i)
 
@@ -35,15 +35,15 @@ module _ (text : List ℕ) (ws : List Word) (from i : ℕ) (later : from ≤ i)
       → entry_of (new w)
       ≡ (if is_in w (words (between text ws from (i + 1))) then declared_entry v n w
       (entry_of (old w)) else entry_of (old w))
-  declared_with_next_word v n s old cur new u e k w =
-      ap entry_of (u w) ∙ by_equality (bytes_eq next_word w) refl
+  declared_with_next_word v n s old cur new new_adds_word s_is_declared cur_is_declared w =
+      ap entry_of (new_adds_word w) ∙ by_equality (bytes_eq next_word w) refl
       ∙ ap (λ b. if b then declared_entry v n w (entry_of (old w)) else entry_of (old w))
-      (sym (in_between_push text ws from i later inside w))
+      (sym (in_between_push text ws from i from_le_i i_lt_length w))
     where
-      again : (b : Bool) (o : Option WordEntry)
+      declaring_after_choice_is_once : (b : Bool) (o : Option WordEntry)
           → declared_entry v n w (if b then declared_entry v n w o else o) ≡ declared_entry v n w o
-      again true o = twice v n w o
-      again false o = refl
+      declaring_after_choice_is_once true o = twice v n w o
+      declaring_after_choice_is_once false o = refl
 
       by_equality : (b : Bool) → bytes_eq next_word w ≡ b
           → entry_of (if b then Some s else cur w)
@@ -51,12 +51,15 @@ module _ (text : List ℕ) (ws : List Word) (from i : ℕ) (later : from ≤ i)
           || (bytes_eq next_word w || false) then declared_entry v n w
           (entry_of (old w)) else entry_of
           (old w))
-      by_equality true h =
-          let same : next_word ≡ w = (bytes_eq-Decides next_word w).0 h in
-          e ∙ ap (λ x. declared_entry v n x (entry_of (cur x))) same
-          ∙ ap (declared_entry v n w) (k w) ∙ again (is_in w so_far) (entry_of (old w))
+      by_equality true next_word_eq_w =
+          let next_word_is_w : next_word ≡ w = (bytes_eq-Decides next_word w).0 next_word_eq_w in
+          s_is_declared ∙ ap (λ x. declared_entry v n x (entry_of (cur x))) next_word_is_w
+          ∙ ap (declared_entry v n w) (cur_is_declared w)
+          ∙ declaring_after_choice_is_once (is_in w so_far) (entry_of (old w))
           ∙ ap (λ b. if b then declared_entry v n w (entry_of (old w)) else entry_of (old w))
-          (sym (ap (λ b. is_in w so_far || (b || false)) h ∙ or-true (is_in w so_far)))
-      by_equality false h =
-          k w ∙ ap (λ b. if b then declared_entry v n w (entry_of (old w)) else entry_of (old w))
-          (sym (ap (λ b. is_in w so_far || (b || false)) h ∙ or-false (is_in w so_far)))
+          (sym (ap (λ b. is_in w so_far || (b || false)) next_word_eq_w ∙ or-true (is_in w so_far)))
+      by_equality false next_word_eq_w =
+          cur_is_declared w
+          ∙ ap (λ b. if b then declared_entry v n w (entry_of (old w)) else entry_of (old w))
+          (sym (ap (λ b. is_in w so_far || (b || false)) next_word_eq_w
+          ∙ or-false (is_in w so_far)))

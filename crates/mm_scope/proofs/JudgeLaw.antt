@@ -42,7 +42,8 @@ pub lesser_of_least_is_least : (xs ys : List Fault) (a b r : Option Fault) → a
     → b ≡ least ys
     → r ≡ lesser_fault a b
     → r ≡ least (xs ++ ys)
-lesser_of_least_is_least xs ys a b r e f is = is ∙ ap₂ lesser_fault e f ∙ sym (least_append xs ys)
+lesser_of_least_is_least xs ys a b r a_is_least b_is_least r_is_lesser =
+    r_is_lesser ∙ ap₂ lesser_fault a_is_least b_is_least ∙ sym (least_append xs ys)
 
 -- the words before the next one: those of the tokens, the last one first, then those before them
 abbrev pub before_next : List Bytes → List Token → List Bytes
@@ -81,14 +82,15 @@ module _ (text : List ℕ) (ws : List spec.Word) (from i : ℕ) where
       → at_each codes [] (between text ws from (i + 1))
       ≡ at_each codes [] (between text ws from i)
       ++ at (token_at text ws i).at (codes earlier next_word)
-  at_each_between_push h l codes = rw (between_more text ws from i h l, at_each_snoc) refl
+  at_each_between_push from_le_i i_lt_length codes =
+      rw (between_more text ws from i from_le_i i_lt_length, at_each_snoc) refl
 
   -- a word is among the words with one more exactly if it is among the earlier ones or is that one
   pub in_between_push : from ≤ i → i < length ws → (w : Bytes)
       → is_in w (words (between text ws from (i + 1)))
       ≡ (is_in w (words (between text ws from i)) || (bytes_eq next_word w || false))
-  in_between_push h l w =
-      ap (λ ts. is_in w (words ts)) (between_more text ws from i h l)
+  in_between_push from_le_i i_lt_length w =
+      ap (λ ts. is_in w (words ts)) (between_more text ws from i from_le_i i_lt_length)
       ∙ ap (is_in w) (map-append (λ t. t.word) (between text ws from i) (token_at text ws i ∷ []))
       ∙ list_any-append (bytes_eq w) (words (between text ws from i)) (next_word ∷ [])
       ∙ ap (λ b. is_in w (words (between text ws from i)) || (b || false))
@@ -97,31 +99,34 @@ module _ (text : List ℕ) (ws : List spec.Word) (from i : ℕ) where
   pub among_between_push : from ≤ i → i < length ws → (w : Bytes)
       → (bytes_eq w next_word || is_in w (words (between text ws from i)))
       ≡ is_in w (words (between text ws from (i + 1)))
-  among_between_push h l w = rw (in_between_push h l w, bytes_eq_sym w next_word) (grind arith)
+  among_between_push from_le_i i_lt_length w =
+      rw (in_between_push from_le_i i_lt_length w, bytes_eq_sym w next_word) (grind arith)
 
   pub seen_between_push : from ≤ i → i < length ws → (old new : Bytes → Option ℕ)
       → ((w : Bytes) → new w ≡ (if bytes_eq next_word w then Some 0 else old w))
       → ((w : Bytes) → is_some (old w) ≡ is_in w (words (between text ws from i)))
       → (w : Bytes) → is_some (new w) ≡ is_in w (words (between text ws from (i + 1)))
-  seen_between_push h l old new u e w = rw (u w, in_between_push h l w, sym (e w)) (grind arith)
+  seen_between_push from_le_i i_lt_length old new new_adds_word old_is_seen w =
+      rw (new_adds_word w, in_between_push from_le_i i_lt_length w, sym (old_is_seen w))
+      (grind arith)
 
 pub between_first : (text : List ℕ) (ws : List spec.Word) (i j : ℕ) → i < j → j ≤ length ws
     → between text ws i j ≡ token_at text ws i ∷ between text ws (i + 1) j
-between_first text ws i j h l =
-    let within : i < length ws = omega arith in
-    let e : drop i ws ≡ nth_word ws i ∷ drop (i + 1) ws =
+between_first text ws i j i_lt_j j_le_length =
+    let i_lt_length : i < length ws = omega arith in
+    let drop_begins_at_i : drop i ws ≡ nth_word ws i ∷ drop (i + 1) ws =
     rw (add-one, drop-cons ws i (record { start = 0; end = 0 })) refl in
-    let n : j - i ≡ suc (j - (i + 1)) = omega arith in
-    ap₂ (λ m ys. map (token_of text) (take m ys)) n e
+    let width_is_suc : j - i ≡ suc (j - (i + 1)) = omega arith in
+    ap₂ (λ m ys. map (token_of text) (take m ys)) width_is_suc drop_begins_at_i
 
 -- a `$f` that has not two words between its keyword and its end has a fault at its keyword
 pub not_two_is_faulty : (n : Names) (keyword : ℕ) (xs : List Token) → length xs ≢ 2
     → Some (fault keyword BadFloating) ≡ least (floating_faults n keyword xs)
-not_two_is_faulty n keyword xs h = grind (arith, common_steps)
+not_two_is_faulty n keyword xs length_ne_2 = grind (arith, common_steps)
 
 pub length_between : (text : List ℕ) (ws : List spec.Word) (i j : ℕ) → i ≤ j → j ≤ length ws
     → length (between text ws i j) ≡ j - i
-length_between text ws i j h l =
+length_between text ws i j i_le_j j_le_length =
     length-map (take (j - i) (drop i ws)) (token_of text)
     ∙ length-take-le (j - i) (drop i ws) (omega (arith, length-drop i ws))
 
@@ -130,14 +135,16 @@ pub not_two_between_is_faulty : (n : Names) (keyword : ℕ) (text : List ℕ) (w
     → k < j → j ≤ length ws → j - k ≢ 3
     → Some (fault keyword BadFloating)
     ≡ least (floating_faults n keyword (between text ws (k + 1) j))
-not_two_between_is_faulty n keyword text ws k j h l ne =
+not_two_between_is_faulty n keyword text ws k j k_lt_j j_le_length width_ne_3 =
     not_two_is_faulty n keyword (between text ws (k + 1) j)
-    (λ e. ne (let m = length_between text ws (k + 1) j (omega arith) l in omega (arith, m, e, h)))
+    (λ length_is_2. width_ne_3 (let between_length =
+    length_between text ws (k + 1) j (omega arith) j_le_length in
+    omega (arith, between_length, length_is_2, k_lt_j)))
 
 pub between_is_two_tokens : (text : List ℕ) (ws : List spec.Word) (k j : ℕ) → j ≤ length ws
     → j - k ≡ 3
     → between text ws (k + 1) j ≡ token_at text ws (k + 1) ∷ token_at text ws (k + 2) ∷ []
-between_is_two_tokens text ws k j l e =
+between_is_two_tokens text ws k j j_le_length width_is_3 =
     grind (
       arith,
       between_first text ws (k + 1) j,
@@ -153,7 +160,8 @@ no_length_is_empty n (x ∷ xs) = grind arith
 pub nothing_between_is_empty : (n : Names) (text : List ℕ) (ws : List spec.Word) (k j : ℕ) → k < j
     → j ≤ length ws
     → nat_eq (j - k - 1) 0 ≡ is_empty n (between text ws (k + 1) j)
-nothing_between_is_empty n text ws k j h l =
-    let m = length_between text ws (k + 1) j (omega arith) l in
-    let c : j - k - 1 ≡ length (between text ws (k + 1) j) = omega (arith, m) in
-    rw c (no_length_is_empty n (between text ws (k + 1) j))
+nothing_between_is_empty n text ws k j k_lt_j j_le_length =
+    let between_length = length_between text ws (k + 1) j (omega arith) j_le_length in
+    let count_is_length : j - k - 1 ≡ length (between text ws (k + 1) j) =
+    omega (arith, between_length) in
+    rw count_is_length (no_length_is_empty n (between text ws (k + 1) j))

@@ -42,30 +42,32 @@ names_declared d w = by_is_in (is_in w (first_occurrences [] d)) ∙ sym (first_
 
 -- ---- more names after
 
-pub index_of_in_front : (w : Bytes) (ns more : List Bytes) → is_in w ns ≡ true
-    → index_of w (ns ++ more) ≡ index_of w ns
-index_of_in_front w [] more h = absurd (true≢false (sym h))
-index_of_in_front w (n ∷ ns) more h = by_equality (bytes_eq w n) refl (index_of_in_front w ns more)
+pub index_of_in_front : (w : Bytes) (ns added : List Bytes) → is_in w ns ≡ true
+    → index_of w (ns ++ added) ≡ index_of w ns
+index_of_in_front w [] added w_in_ns = absurd (true≢false (sym w_in_ns))
+index_of_in_front w (n ∷ ns) added w_in_ns =
+    by_equality (bytes_eq w n) refl (index_of_in_front w ns added)
   where
     by_equality : (b : Bool) → bytes_eq w n ≡ b
-        → (is_in w ns ≡ true → index_of w (ns ++ more) ≡ index_of w ns)
-        → ◌≡◌ {A = ℕ} (elim b [ true ↦ 0 | false ↦ suc (index_of w (ns ++ more)) ])
+        → (is_in w ns ≡ true → index_of w (ns ++ added) ≡ index_of w ns)
+        → ◌≡◌ {A = ℕ} (elim b [ true ↦ 0 | false ↦ suc (index_of w (ns ++ added)) ])
         (elim b [ true ↦ 0 | false ↦ suc (index_of w ns) ])
-    by_equality true e r = refl
-    by_equality false e r = ap suc (r (sym (ap (λ b. b || is_in w ns) e) ∙ h))
+    by_equality true w_eq_n index_in_rest_unchanged = refl
+    by_equality false w_eq_n index_in_rest_unchanged =
+        ap suc (index_in_rest_unchanged (sym (ap (λ b. b || is_in w ns) w_eq_n) ∙ w_in_ns))
 
 -- further words add names after those that there are, and change none of them
 first_occurrences_grow : (d ws : List Bytes)
-    → (more : List Bytes) × (first_occurrences [] (d ++ ws) ≡ first_occurrences [] d ++ more)
+    → (added : List Bytes) × (first_occurrences [] (d ++ ws) ≡ first_occurrences [] d ++ added)
 first_occurrences_grow d [] =
     ([], ap (first_occurrences []) (append-nil d) ∙ sym (append-nil (first_occurrences [] d)))
 first_occurrences_grow d (w ∷ ws) =
-    let r = first_occurrences_grow (d ++ w ∷ []) ws in
-    let b = is_in w (first_occurrences [] d) in (
-      if_new b w ++ r.0,
-      ap (first_occurrences []) (sym (append_assoc d (w ∷ []) ws)) ∙ r.1
-          ∙ ap (λ l. l ++ r.0) (first_added d w)
-          ∙ append_assoc (first_occurrences [] d) (if_new b w) r.0,
+    let grown = first_occurrences_grow (d ++ w ∷ []) ws in
+    let w_is_in_names = is_in w (first_occurrences [] d) in (
+      if_new w_is_in_names w ++ grown.0,
+      ap (first_occurrences []) (sym (append_assoc d (w ∷ []) ws)) ∙ grown.1
+          ∙ ap (λ l. l ++ grown.0) (first_added d w)
+          ∙ append_assoc (first_occurrences [] d) (if_new w_is_in_names w) grown.0,
     )
 
 abbrev pub declared : List Statement → List Bytes
@@ -81,36 +83,39 @@ declared_push db s =
 pub declared_names_are_symbol_names : (db : List Statement) (s : Statement) (ns : List Bytes)
     → ns ≡ first_occurrences [] (declared db ++ (constants_of s ++ variables_of s))
     → ns ≡ symbol_names (db ++ s ∷ [])
-declared_names_are_symbol_names db s ns h = h ∙ ap (first_occurrences []) (sym (declared_push db s))
+declared_names_are_symbol_names db s ns ns_are_declared =
+    ns_are_declared ∙ ap (first_occurrences []) (sym (declared_push db s))
 
 symbol_names_grow : (db : List Statement) (s : Statement)
-    → (more : List Bytes) × (symbol_names (db ++ s ∷ []) ≡ symbol_names db ++ more)
+    → (added : List Bytes) × (symbol_names (db ++ s ∷ []) ≡ symbol_names db ++ added)
 symbol_names_grow db s =
-    let r = first_occurrences_grow (declared db) (constants_of s ++ variables_of s) in
-    (r.0, ap (first_occurrences []) (declared_push db s) ∙ r.1)
+    let grown = first_occurrences_grow (declared db) (constants_of s ++ variables_of s) in
+    (grown.0, ap (first_occurrences []) (declared_push db s) ∙ grown.1)
 
 pub symbol_names_unchanged : (db : List Statement) (s : Statement)
     → constants_of s ++ variables_of s ≡ []
     → symbol_names (db ++ s ∷ []) ≡ symbol_names db
-symbol_names_unchanged db s h =
+symbol_names_unchanged db s declares_nothing =
     ap (first_occurrences [])
-    (declared_push db s ∙ ap (λ l. declared db ++ l) h ∙ append-nil (declared db))
+    (declared_push db s ∙ ap (λ l. declared db ++ l) declares_nothing ∙ append-nil (declared db))
 
 -- ---- formulas keep their numbers
 
 indices_equal : (ns ms : List Bytes) (ws : List Bytes)
     → ((w : Bytes) → is_in w ws ≡ true → index_of w ns ≡ index_of w ms)
     → map (λ w. index_of w ns) ws ≡ map (λ w. index_of w ms) ws
-indices_equal ns ms [] h = refl
-indices_equal ns ms (w ∷ ws) h =
-    ap₂ (λ n l. n ∷ l) (h w (ap (λ b. b || is_in w ws) (itself w)))
-    (indices_equal ns ms ws (λ v e. h v (ap (λ b. bytes_eq v w || b) e ∙ or-true (bytes_eq v w))))
+indices_equal ns ms [] index_equal = refl
+indices_equal ns ms (w ∷ ws) index_equal =
+    ap₂ (λ n l. n ∷ l) (index_equal w (ap (λ b. b || is_in w ws) (itself w)))
+    (indices_equal ns ms ws (λ v v_in_ws. index_equal v (ap (λ b. bytes_eq v w || b) v_in_ws
+    ∙ or-true (bytes_eq v w))))
 
 maps_equal : (f g : Statement → List ℕ) (xs : List Statement)
     → ((k : ℕ) (t : Statement) → slice_get xs k ≡ Some t → f t ≡ g t) → map f xs ≡ map g xs
-maps_equal f g [] h = refl
-maps_equal f g (x ∷ xs) h =
-    ap₂ (λ a b. a ∷ b) (h 0 x refl) (maps_equal f g xs (λ k t e. h (suc k) t e))
+maps_equal f g [] values_equal = refl
+maps_equal f g (x ∷ xs) values_equal =
+    ap₂ (λ a b. a ∷ b) (values_equal 0 x refl)
+    (maps_equal f g xs (λ k t t_is_element_k. values_equal (suc k) t t_is_element_k))
 
 module _ (db : List Statement) (lawful : (k : ℕ) → k < length db → scope_fault db k ≡ None)
     (s : Statement) where
@@ -119,12 +124,13 @@ module _ (db : List Statement) (lawful : (k : ℕ) → k < length db → scope_f
 
   formula_is_unchanged : (k : ℕ) (t : Statement) → slice_get db k ≡ Some t
       → formula_of all t ≡ formula_of db t
-  formula_is_unchanged k t e =
-      let g = symbol_names_grow db s in
+  formula_is_unchanged k t t_is_statement_k =
+      let names_grow = symbol_names_grow db s in
       indices_equal (symbol_names all) (symbol_names db) (words (symbols_of t))
-      (λ w h. ap (index_of w) g.1
-      ∙ index_of_in_front w (symbol_names db) g.0
-      (symbol_is_declared_name db lawful k (slice_get_within db k t e) t e w h))
+      (λ w w_in_symbols. ap (index_of w) names_grow.1
+      ∙ index_of_in_front w (symbol_names db) names_grow.0
+      (symbol_is_declared_name db lawful k (slice_get_within db k t t_is_statement_k) t
+      t_is_statement_k w w_in_symbols))
 
   formulas_push : map (formula_of db) db ++ formula_of all s ∷ [] ≡ map (formula_of all) all
   formulas_push =
@@ -134,23 +140,23 @@ module _ (db : List Statement) (lawful : (k : ℕ) → k < length db → scope_f
 
   -- formulas of statements stay such with that of one statement more
   pub formulas_with_statement : (numbers places : List ℕ) → AreFormulas db numbers places
-      → (more : List ℕ)
-      → more ≡ numbers ++ formula_of all s → AreFormulas all more (with_end places (length more))
-  formulas_with_statement numbers places f more e =
-      rw e
+      → (added : List ℕ)
+      → added ≡ numbers ++ formula_of all s → AreFormulas all added (with_end places (length added))
+  formulas_with_statement numbers places are_formulas added symbols_are_appended =
+      rw symbols_are_appended
       (subst (λ fs. AreJoined fs (numbers ++ formula_of all s)
       (with_end places (length (numbers ++ formula_of all s)))) formulas_push
-      (more_joined (map (formula_of db) db) (formula_of all s) numbers places f))
+      (more_joined (map (formula_of db) db) (formula_of all s) numbers places are_formulas))
 
 -- ---- the formulas one by one
 
 pub formulas_numbered : (db : List Statement) → AreNumbered db (map (formula_of db) db)
 formulas_numbered db = record {
   count = length-map db (formula_of db);
-  formula = λ k l.
-      get_mapped (formula_of db) db k (opening 0) [] l
+  formula = λ k k_lt_length.
+      get_mapped (formula_of db) db k (opening 0) [] k_lt_length
       ∙ sym (ap (λ o. flat_map (formula_of db) (elim o [ None ↦ [] | Some s ↦ s ∷ [] ]))
-      (slice_get-get_or db k (opening 0) l)
+      (slice_get-get_or db k (opening 0) k_lt_length)
       ∙ append-nil (formula_of db (get_or db k (opening 0))));
 }
 
@@ -161,8 +167,8 @@ pub numbers_between_push : (text : List ℕ) (ws : List spec.Word) (ns : List By
     → i < length ws
     → numbers_in ns (between text ws from (i + 1))
     ≡ numbers_in ns (between text ws from i) ++ index_of (token_at text ws i).word ns ∷ []
-numbers_between_push text ws ns from i l h =
-    ap (numbers_in ns) (between_more text ws from i l h)
+numbers_between_push text ws ns from i from_le_i i_lt_length =
+    ap (numbers_in ns) (between_more text ws from i from_le_i i_lt_length)
     ∙ ap (map (λ w. index_of w ns))
     (map-append (λ (t : Token). t.word) (between text ws from i) (token_at text ws i ∷ []))
     ∙ map-append (λ (w : Bytes). index_of w ns) (words (between text ws from i))
@@ -176,8 +182,8 @@ pub words_between_push : (text : List ℕ) (ws : List spec.Word) (from i : ℕ) 
     → i < length ws
     → words (between text ws from i) ++ (token_at text ws i).word ∷ []
     ≡ words (between text ws from (i + 1))
-words_between_push text ws from i l h =
-    sym (ap words (between_more text ws from i l h)
+words_between_push text ws from i from_le_i i_lt_length =
+    sym (ap words (between_more text ws from i from_le_i i_lt_length)
     ∙ map-append (λ (t : Token). t.word) (between text ws from i) (token_at text ws i ∷ []))
 
 pub names_with_word : (text : List ℕ) (ws : List spec.Word) (from i : ℕ) → from ≤ i → i < length ws
@@ -185,12 +191,13 @@ pub names_with_word : (text : List ℕ) (ws : List spec.Word) (from i : ℕ) →
     → with_name (token_at text ws i).word
     (first_occurrences [] (d ++ words (between text ws from i)))
     ≡ first_occurrences [] (d ++ words (between text ws from (i + 1)))
-names_with_word text ws from i l h d =
+names_with_word text ws from i from_le_i i_lt_length d =
     let xs = words (between text ws from i) in
     let w = (token_at text ws i).word in
     names_declared (d ++ xs) w
     ∙ ap (first_occurrences [])
-    (append_assoc d xs (w ∷ []) ∙ ap (λ l. d ++ l) (words_between_push text ws from i l h))
+    (append_assoc d xs (w ∷ [])
+    ∙ ap (λ l. d ++ l) (words_between_push text ws from i from_le_i i_lt_length))
 
 -- ---- a statement's symbols: those of a formula as they are judged, the others once declared
 
@@ -216,15 +223,17 @@ formula_split db (closing k) = refl
 pub symbol_names_no_shorter : (db : List Statement) (s : Statement)
     → length (symbol_names db) ≤ length (symbol_names (db ++ s ∷ []))
 symbol_names_no_shorter db s =
-    let g = symbol_names_grow db s in let n = ap length g.1 in
-    let m = length-append (symbol_names db) g.0 in omega (arith, n, m)
+    let names_grow = symbol_names_grow db s in let grown_length = ap length names_grow.1 in
+    let append_length = length-append (symbol_names db) names_grow.0 in
+    omega (arith, grown_length, append_length)
 
-pub taken_numbers : (db : List Statement) (s : Statement) (numbers mid more : List ℕ)
+pub taken_numbers : (db : List Statement) (s : Statement) (numbers mid added : List ℕ)
     → (before after : List Bytes)
     → before ≡ symbol_names db → after ≡ symbol_names (db ++ s ∷ [])
-    → mid ≡ numbers ++ judged before s → more ≡ mid ++ unjudged after s
-    → more ≡ numbers ++ formula_of (db ++ s ∷ []) s
-taken_numbers db s numbers mid more before after b a m n =
-    n ∙ ap (λ l. l ++ unjudged after s) m
+    → mid ≡ numbers ++ judged before s → added ≡ mid ++ unjudged after s
+    → added ≡ numbers ++ formula_of (db ++ s ∷ []) s
+taken_numbers db s numbers mid added before after before_is after_is mid_is more_is =
+    more_is ∙ ap (λ l. l ++ unjudged after s) mid_is
     ∙ append_assoc numbers (judged before s) (unjudged after s)
-    ∙ ap (λ l. numbers ++ l) (ap₂ (λ x y. judged x s ++ unjudged y s) b a ∙ formula_split db s)
+    ∙ ap (λ l. numbers ++ l) (ap₂ (λ x y. judged x s ++ unjudged y s) before_is after_is
+    ∙ formula_split db s)

@@ -22,17 +22,18 @@ use Rattle.mm_scope.proofs.LatestLaw.{latest_unchanged, latest_is_new}
 no_typing_no_other_typecode : (c w : Bytes) (ts : List Typing)
     → is_in w (map (λ t. t.variable) ts ++ []) ≡ false
     → list_any (gives_other_typecode c w) (ts ++ []) ≡ false
-no_typing_no_other_typecode c w [] e = refl
-no_typing_no_other_typecode c w (t ∷ ts) e =
-    by_equality (bytes_eq w t.variable) e (no_typing_no_other_typecode c w ts)
+no_typing_no_other_typecode c w [] w_not_typed = refl
+no_typing_no_other_typecode c w (t ∷ ts) w_not_typed =
+    by_equality (bytes_eq w t.variable) w_not_typed (no_typing_no_other_typecode c w ts)
   where
     by_equality : (b : Bool) → (b || is_in w (map (λ t. t.variable) ts ++ [])) ≡ false
         → (is_in w (map (λ t. t.variable) ts ++ []) ≡ false
         → list_any (gives_other_typecode c w) (ts ++ []) ≡ false)
         → ((b && not (bytes_eq c t.typecode)) || list_any (gives_other_typecode c w) (ts ++ []))
         ≡ false
-    by_equality true e r = absurd (true≢false e)
-    by_equality false e r = r e
+    by_equality true w_not_typed rest_has_no_other_typecode = absurd (true≢false w_not_typed)
+    by_equality false w_not_typed rest_has_no_other_typecode =
+        rest_has_no_other_typecode w_not_typed
 
 module _ (db : List Statement) (s : Statement) (w : Bytes) where
   pub in_flat_map_push : (f : Statement → List Bytes)
@@ -52,47 +53,54 @@ module _ (db : List Statement) (s : Statement) (w : Bytes) where
   -- the statement has not the word among these
   pub in_flat_map_unchanged : (f : Statement → List Bytes) → is_in w (f s ++ []) ≡ false
       → is_in w (flat_map f (db ++ s ∷ [])) ≡ is_in w (flat_map f db)
-  in_flat_map_unchanged f n =
-      in_flat_map_push f ∙ ap (λ b. is_in w (flat_map f db) || b) n ∙ or-false (is_in w (flat_map f db))
+  in_flat_map_unchanged f s_has_not_w =
+      in_flat_map_push f ∙ ap (λ b. is_in w (flat_map f db) || b) s_has_not_w
+      ∙ or-false (is_in w (flat_map f db))
 
   in_flat_map_of_last : (f : Statement → List Bytes) → is_in w (f s ++ []) ≡ true
       → is_in w (flat_map f (db ++ s ∷ [])) ≡ true
-  in_flat_map_of_last f n =
-      in_flat_map_push f ∙ ap (λ b. is_in w (flat_map f db) || b) n ∙ or-true (is_in w (flat_map f db))
+  in_flat_map_of_last f s_has_w =
+      in_flat_map_push f ∙ ap (λ b. is_in w (flat_map f db) || b) s_has_w
+      ∙ or-true (is_in w (flat_map f db))
 
   other_typecode_unchanged : (c : Bytes) → is_in w (typed_words s ++ []) ≡ false
       → list_any (gives_other_typecode c w) (flat_map typings_of (db ++ s ∷ []))
       ≡ list_any (gives_other_typecode c w) (flat_map typings_of db)
-  other_typecode_unchanged c n =
+  other_typecode_unchanged c s_types_not_w =
       other_typecode_push c
       ∙ ap (λ b. list_any (gives_other_typecode c w) (flat_map typings_of db) || b)
-      (no_typing_no_other_typecode c w (typings_of s) n)
+      (no_typing_no_other_typecode c w (typings_of s) s_types_not_w)
       ∙ or-false (list_any (gives_other_typecode c w) (flat_map typings_of db))
 
   -- the statement says nothing of the word
   pub entry_is_unchanged : (x : Option WordEntry) → IsEntryOf db w x
       → is_in w (constants_of s ++ []) ≡ false → is_in w (variables_of s ++ []) ≡ false
       → is_in w (typed_words s ++ []) ≡ false → IsEntryOf (db ++ s ∷ []) w x
-  entry_is_unchanged x k nc nv nt = record {
-    constant = in_flat_map_unchanged constants_of nc ∙ k.constant;
-    variable = in_flat_map_unchanged variables_of nv ∙ k.variable;
-    declared = λ e. latest_unchanged db s variables_of w (declared_by x) (k.declared e) nv;
-    typed = λ n. latest_unchanged db s typed_words w (typed_by x) (k.typed n) nt;
-    untyped = λ e. in_flat_map_unchanged typed_words nt ∙ k.untyped e;
-    other_typecode = λ c. other_typecode_unchanged c nt ∙ k.other_typecode c;
+  entry_is_unchanged x x_is_entry s_is_no_constant s_is_no_variable s_types_not_w = record {
+    constant = in_flat_map_unchanged constants_of s_is_no_constant ∙ x_is_entry.constant;
+    variable = in_flat_map_unchanged variables_of s_is_no_variable ∙ x_is_entry.variable;
+    declared = λ is_variable. latest_unchanged db s variables_of w (declared_by x)
+        (x_is_entry.declared is_variable) s_is_no_variable;
+    typed = λ is_typed. latest_unchanged db s typed_words w (typed_by x)
+        (x_is_entry.typed is_typed) s_types_not_w;
+    untyped = λ is_variable. in_flat_map_unchanged typed_words s_types_not_w
+        ∙ x_is_entry.untyped is_variable;
+    other_typecode = λ c. other_typecode_unchanged c s_types_not_w ∙ x_is_entry.other_typecode c;
   }
 
   -- what is known of a word after a statement that declares it as a constant
   pub entry_of_new_constant : IsEntryOf db w None → is_in w (constants_of s ++ []) ≡ true
       → is_in w (variables_of s ++ []) ≡ false → is_in w (typed_words s ++ []) ≡ false → (n : ℕ)
       → IsEntryOf (db ++ s ∷ []) w (Some (entry false n never w))
-  entry_of_new_constant k yc nv nt n = record {
-    constant = in_flat_map_of_last constants_of yc;
-    variable = in_flat_map_unchanged variables_of nv ∙ k.variable;
-    declared = λ e. absurd (true≢false (sym e));
-    typed = λ ne. absurd (ne refl);
-    untyped = λ e. in_flat_map_unchanged typed_words nt ∙ k.untyped refl;
-    other_typecode = λ c. other_typecode_unchanged c nt ∙ k.other_typecode c;
+  entry_of_new_constant w_has_no_entry s_is_constant s_is_no_variable s_types_not_w n = record {
+    constant = in_flat_map_of_last constants_of s_is_constant;
+    variable = in_flat_map_unchanged variables_of s_is_no_variable ∙ w_has_no_entry.variable;
+    declared = λ is_variable. absurd (true≢false (sym is_variable));
+    typed = λ is_typed. absurd (is_typed refl);
+    untyped = λ is_variable. in_flat_map_unchanged typed_words s_types_not_w
+        ∙ w_has_no_entry.untyped refl;
+    other_typecode = λ c. other_typecode_unchanged c s_types_not_w
+        ∙ w_has_no_entry.other_typecode c;
   }
 
   declaring_keeps_typed_by : (x : Option WordEntry) → typed_by (declared_entry true (length db) w x)
@@ -121,21 +129,24 @@ module _ (db : List Statement) (s : Statement) (w : Bytes) where
       → is_in w (constants_of s ++ []) ≡ false → is_in w (variables_of s ++ []) ≡ true
       → is_in w (typed_words s ++ []) ≡ false
       → IsEntryOf (db ++ s ∷ []) w (declared_entry true (length db) w x)
-  entry_of_new_variable x k none idle nc yv nt =
-      let is = is_declared x in
+  entry_of_new_variable x x_is_entry x_is_no_constant w_is_inactive s_is_no_constant s_is_variable
+      s_types_not_w =
+      let declared_is_variable = is_declared x in
       record {
-        constant = in_flat_map_unchanged constants_of nc ∙ k.constant ∙ none ∙ sym is.0;
-        variable = in_flat_map_of_last variables_of yv ∙ sym is.1;
+        constant = in_flat_map_unchanged constants_of s_is_no_constant ∙ x_is_entry.constant
+            ∙ x_is_no_constant ∙ sym declared_is_variable.0;
+        variable = in_flat_map_of_last variables_of s_is_variable ∙ sym declared_is_variable.1;
         declared =
-            λ e. subst (Latest (db ++ s ∷ []) variables_of w) (sym is.2)
-            (latest_is_new db s variables_of w yv idle);
+            λ e. subst (Latest (db ++ s ∷ []) variables_of w) (sym declared_is_variable.2)
+            (latest_is_new db s variables_of w s_is_variable w_is_inactive);
         typed =
             λ n. subst (Latest (db ++ s ∷ []) typed_words w) (sym (declaring_keeps_typed_by x))
             (latest_unchanged db s typed_words w (typed_by x)
-            (k.typed (λ e. n (declaring_keeps_typed_by x ∙ e))) nt);
-        untyped = λ e. in_flat_map_unchanged typed_words nt
-            ∙ k.untyped (sym (declaring_keeps_typed_by x) ∙ e);
-        other_typecode = λ c. other_typecode_unchanged c nt ∙ k.other_typecode c ∙ other_declared c x;
+            (x_is_entry.typed (λ e. n (declaring_keeps_typed_by x ∙ e))) s_types_not_w);
+        untyped = λ e. in_flat_map_unchanged typed_words s_types_not_w
+            ∙ x_is_entry.untyped (sym (declaring_keeps_typed_by x) ∙ e);
+        other_typecode = λ c. other_typecode_unchanged c s_types_not_w ∙ x_is_entry.other_typecode c
+            ∙ other_declared c x;
       }
 
   -- what is known of a word after a `$f` that types it
@@ -146,38 +157,41 @@ module _ (db : List Statement) (s : Statement) (w : Bytes) where
       → is_in w (constants_of s ++ []) ≡ false → is_in w (variables_of s ++ []) ≡ false
       → typings_of s ≡ record { typecode = c; variable = w } ∷ []
       → IsEntryOf (db ++ s ∷ []) w (typed_entry (length db) c (Some e))
-  entry_of_typed_variable e k few c idle same nc nv is = record {
-    constant = in_flat_map_unchanged constants_of nc ∙ k.constant;
-    variable = in_flat_map_unchanged variables_of nv ∙ k.variable;
-    declared = λ v. latest_unchanged db s variables_of w e.declared (k.declared v) nv;
-    typed = λ n. latest_is_new db s typed_words w typed idle;
-    untyped = λ n. absurd (omega (arith, n, few));
-    other_typecode = other;
-  }
+  entry_of_typed_variable e e_is_entry db_lt_never c w_has_no_active_type no_other_typecode_before
+      s_is_no_constant s_is_no_variable s_types_w = record {
+        constant = in_flat_map_unchanged constants_of s_is_no_constant ∙ e_is_entry.constant;
+        variable = in_flat_map_unchanged variables_of s_is_no_variable ∙ e_is_entry.variable;
+        declared = λ is_variable. latest_unchanged db s variables_of w e.declared
+            (e_is_entry.declared is_variable) s_is_no_variable;
+        typed = λ is_typed. latest_is_new db s typed_words w s_has_typing w_has_no_active_type;
+        untyped = λ number_is_never. absurd (omega (arith, number_is_never, db_lt_never));
+        other_typecode = other_typecode_after;
+      }
     where
       self : bytes_eq w w ≡ true
       self = (bytes_eq-Decides w w).1 refl
 
-      typed : is_in w (typed_words s ++ []) ≡ true
-      typed = ap (λ ts. is_in w (map (λ t. t.variable) ts ++ [])) is ∙ ap (λ b. b || false) self
+      s_has_typing : is_in w (typed_words s ++ []) ≡ true
+      s_has_typing = ap (λ ts. is_in w (map (λ t. t.variable) ts ++ [])) s_types_w
+          ∙ ap (λ b. b || false) self
 
-      now : (d : Bytes) → list_any (gives_other_typecode d w) (typings_of s ++ [])
+      other_in_s : (d : Bytes) → list_any (gives_other_typecode d w) (typings_of s ++ [])
           ≡ not (bytes_eq d c)
-      now d =
-          ap (λ ts. list_any (gives_other_typecode d w) (ts ++ [])) is
+      other_in_s d =
+          ap (λ ts. list_any (gives_other_typecode d w) (ts ++ [])) s_types_w
           ∙ ap (λ b. (b && not (bytes_eq d c)) || false) self ∙ or-false (not (bytes_eq d c))
 
-      again : (a b y : Bool) → (a && b) ≡ false → ((a && y) || y) ≡ y
-      again true b true h = refl
-      again true b false h = refl
-      again false b y h = refl
+      absorbs : (a b y : Bool) → (a && b) ≡ false → ((a && y) || y) ≡ y
+      absorbs true b true a_and_b_is_false = refl
+      absorbs true b false a_and_b_is_false = refl
+      absorbs false b y a_and_b_is_false = refl
 
       -- the typecode that an earlier `$f` gave is this one
-      old : (d : Bytes) → (t : Bool) → nat_eq e.typed never ≡ t
+      earlier_typecode_is_c : (d : Bytes) → (t : Bool) → nat_eq e.typed never ≡ t
           → (not t && not (bytes_eq c e.typecode)) ≡ false
           → ((not t && not (bytes_eq d e.typecode)) || not (bytes_eq d c)) ≡ not (bytes_eq d c)
-      old d true h q = refl
-      old d false h q = by_equality (bytes_eq c e.typecode) refl q
+      earlier_typecode_is_c d true h q = refl
+      earlier_typecode_is_c d false h q = by_equality (bytes_eq c e.typecode) refl q
         where
           by_equality : (b : Bool) → bytes_eq c e.typecode ≡ b → not b ≡ false
               → (not (bytes_eq d e.typecode) || not (bytes_eq d c)) ≡ not (bytes_eq d c)
@@ -191,12 +205,14 @@ module _ (db : List Statement) (s : Statement) (w : Bytes) where
               twice false = refl
           by_equality false z q = absurd (true≢false q)
 
-      other : (d : Bytes)
+      other_typecode_after : (d : Bytes)
           → list_any (gives_other_typecode d w) (flat_map typings_of (db ++ s ∷ []))
           ≡ (not (nat_eq (length db) never) && not (bytes_eq d c))
-      other d =
-          let new : nat_eq (length db) never ≡ false =
-          ne_eqb (length db) never (λ z. omega (arith, z, few)) in
-          other_typecode_push d ∙ ap₂ (λ a b. a || b) (k.other_typecode d) (now d)
-          ∙ old d (nat_eq e.typed never) refl (sym (k.other_typecode c) ∙ same)
-          ∙ sym (ap (λ b. not b && not (bytes_eq d c)) new)
+      other_typecode_after d =
+          let length_ne_never : nat_eq (length db) never ≡ false =
+          ne_eqb (length db) never
+          (λ length_is_never. omega (arith, length_is_never, db_lt_never)) in
+          other_typecode_push d ∙ ap₂ (λ a b. a || b) (e_is_entry.other_typecode d) (other_in_s d)
+          ∙ earlier_typecode_is_c d (nat_eq e.typed never) refl (sym (e_is_entry.other_typecode c)
+          ∙ no_other_typecode_before)
+          ∙ sym (ap (λ b. not b && not (bytes_eq d c)) length_ne_never)

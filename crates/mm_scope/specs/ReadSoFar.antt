@@ -61,7 +61,8 @@ module _ {A : Type 0} where
   pub record HasTaken (text : List ℕ) (tokens : List Word) (before : List Outline) (open_blocks : ℕ)
       (o : Outline) (r : Outlined A) : Type 0 where
     pub fault : r.fault
-        ≡ least (scope_faults (names_before (statements text tokens before) (length before)) open_blocks
+        ≡ least (scope_faults (names_before (statements text tokens before) (length before))
+        open_blocks
         (statement_of text tokens o))
     pub if_lawful : r.fault ≡ None
         → (r.outlines.items ≡ before ++ o ∷ [])

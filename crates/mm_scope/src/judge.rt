@@ -48,11 +48,11 @@ impl<'a, A: Allocator + Copy> Scope<'a, A> {
         let mut least_found = None;
         for token_index in from..to {
             let token = tokens[token_index as usize];
-            let (number, known) = self.names.numbered(token.bytes(text));
+            let (number, symbol) = self.names.numbered(token.bytes(text));
             numbers.push(Sym::new(number as u32))?;
             least_found = lesser(
                 least_found,
-                fault_with_code(token.start, self.symbol_code(known)),
+                fault_with_code(token.start, self.symbol_code(symbol)),
             );
         }
         Ok(least_found)
@@ -115,11 +115,11 @@ impl<'a, A: Allocator + Copy> Scope<'a, A> {
             return Ok(fault_with_code(tokens[to as usize].start, Some(Code::BadTypecode)));
         }
         let token = tokens[from as usize];
-        let (number, known) = self.names.numbered(token.bytes(text));
+        let (number, symbol) = self.names.numbered(token.bytes(text));
         numbers.push(Sym::new(number as u32))?;
-        let typecode = fault_with_code(token.start, Self::typecode_fault_code(known));
-        let rest = self.symbols_fault(text, tokens, from + 1, to, numbers)?;
-        Ok(lesser(typecode, rest))
+        let fault_of_typecode = fault_with_code(token.start, Self::typecode_fault_code(symbol));
+        let fault_of_symbols = self.symbols_fault(text, tokens, from + 1, to, numbers)?;
+        Ok(lesser(fault_of_typecode, fault_of_symbols))
     }
 
     /// Returns the fault of the label at the token `token_index`.
@@ -228,8 +228,11 @@ impl<'a, A: Allocator + Copy> Scope<'a, A> {
             Kind::Variables => self.declared(alloc, text, tokens, depth, outline),
             Kind::Disjoint => self.declared(alloc, text, tokens, depth, outline),
             Kind::Floating => {
-                let label = self.label_fault(text, tokens, keyword - 1);
-                Ok(lesser(label, self.floating_fault(text, tokens, keyword, middle)))
+                let fault_of_label = self.label_fault(text, tokens, keyword - 1);
+                Ok(lesser(
+                    fault_of_label,
+                    self.floating_fault(text, tokens, keyword, middle),
+                ))
             }
             Kind::Essential => self.labelled(text, tokens, outline, numbers),
             Kind::Axiom => self.labelled(text, tokens, outline, numbers),
@@ -262,10 +265,10 @@ impl<'a, A: Allocator + Copy> Scope<'a, A> {
             ++ numbers_in (names_in self.now)
             (between text.now tokens.now (outline.keyword + 1) outline.middle)) }
     {
-        let label = self.label_fault(text, tokens, outline.keyword - 1);
+        let fault_of_label = self.label_fault(text, tokens, outline.keyword - 1);
         let from = outline.keyword + 1;
-        let formula = self.formula_fault(text, tokens, from, outline.middle, numbers)?;
-        Ok(lesser(label, formula))
+        let fault_of_formula = self.formula_fault(text, tokens, from, outline.middle, numbers)?;
+        Ok(lesser(fault_of_label, fault_of_formula))
     }
 
     /// Returns the least fault of a `$c`, `$v` or `$d`.
@@ -285,9 +288,16 @@ impl<'a, A: Allocator + Copy> Scope<'a, A> {
             (λ n. scope_faults n depth (statement_of text.now tokens.now outline))) }
     {
         let from = outline.keyword + 1;
-        let rest = self.declared_fault(alloc, text, tokens, outline.kind, from, outline.middle)?;
-        let whole = Self::whole_statement_fault(text, tokens, depth, outline);
-        Ok(lesser(whole, rest))
+        let fault_of_symbols = self.declared_fault(
+            alloc,
+            text,
+            tokens,
+            outline.kind,
+            from,
+            outline.middle,
+        )?;
+        let fault_of_statement = Self::whole_statement_fault(text, tokens, depth, outline);
+        Ok(lesser(fault_of_statement, fault_of_symbols))
     }
 }
 
@@ -318,12 +328,15 @@ fn lesser(first: Option<Fault>, second: Option<Fault>) -> Option<Fault>
         → second ≡ least later
         → result ≡ least (earlier ++ later) }
 {
-    let Some(new) = second else {
+    let Some(second_fault) = second else {
         return first;
     };
     match first {
-        Some(old) => {
-            if old.at < new.at || (old.at == new.at && old.code.number() <= new.code.number()) {
+        Some(first_fault) => {
+            if first_fault.at < second_fault.at
+                || (first_fault.at == second_fault.at
+                    && first_fault.code.number() <= second_fault.code.number())
+            {
                 first
             } else {
                 second

@@ -197,16 +197,16 @@ pub fn outline_statements<'a, A: Allocator + Copy>(
 {
     let mut read = nothing_read(alloc)?;
     let mut depth = 0;
-    let mut at = 0;
+    let mut token_index = 0;
     'statements: loop {
-        match next_statement(text, tokens, depth, at) {
+        match next_statement(text, tokens, depth, token_index) {
             NextStatement::Whole(outline) => {
                 read.add_if_lawful(alloc, text, tokens, depth, outline)?;
                 if read.fault.is_some() {
                     return Ok(read);
                 }
                 depth = depth_after(outline.kind, depth);
-                at = outline.end + 1;
+                token_index = outline.end + 1;
             }
             NextStatement::Stopped(fault) => {
                 read.fault = Some(fault);

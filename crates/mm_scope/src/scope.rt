@@ -45,14 +45,14 @@ impl<'a, A: Allocator + Copy> Scope<'a, A> {
         self.blocks.is_open(symbol.typed)
     }
 
-    /// Returns what is wrong with a word as a symbol of a formula after the typecode. `known` is
-    /// what is known of the word.
-    pub(crate) fn symbol_code(&self, known: Option<Symbol<'a>>) -> Option<Code>
+    /// Returns what is wrong with a word as a symbol of a formula after the typecode. `word_symbol`
+    /// is what is known of the word.
+    pub(crate) fn symbol_code(&self, word_symbol: Option<Symbol<'a>>) -> Option<Code>
         ensures { (word : List ℕ)
-            → symbol_in self.now word ≡ known.entry
+            → symbol_in self.now word ≡ word_symbol.entry
             → IsLeastCode self.now (λ n. symbol_codes n [] word) result }
     {
-        match known {
+        match word_symbol {
             Some(symbol) => {
                 if !symbol.is_variable {
                     None
@@ -83,13 +83,14 @@ impl<'a, A: Allocator + Copy> Scope<'a, A> {
         }
     }
 
-    /// Returns what is wrong with a word as a typecode. `known` is what is known of the word.
-    pub(crate) fn typecode_fault_code(known: Option<Symbol<'a>>) -> Option<Code>
+    /// Returns what is wrong with a word as a typecode. `word_symbol` is what is
+    /// known of the word.
+    pub(crate) fn typecode_fault_code(word_symbol: Option<Symbol<'a>>) -> Option<Code>
         ensures { (place : ℕ)
             → fault_at place result
-            ≡ least (at place (when (not (is_constant_in known.entry)) BadTypecode)) }
+            ≡ least (at place (when (not (is_constant_in word_symbol.entry)) BadTypecode)) }
     {
-        match known {
+        match word_symbol {
             Some(symbol) if !symbol.is_variable => None,
             _ => Some(Code::BadTypecode),
         }

@@ -10,10 +10,10 @@ use Rattle.mm_database.proofs.NamesLaw.{index_le}
 pub overflow_cast-number : goal.overflow_cast-number
 overflow_cast-number g c =
     let ns = names_of c.args.names.now.symbols in
-    let few = c.requires.few in
-    let le = index_le c.bytes.result.now ns in
-    let is = c.numbered-number.ensures.number in
-    omega (arith, le, is, few)
+    let names_lt_2_31 = c.requires.few in
+    let index_le_length = index_le c.bytes.result.now ns in
+    let number_is_index = c.numbered-number.ensures.number in
+    omega (arith, index_le_length, number_is_index, names_lt_2_31)
 
 pub loop-token_index-init : goal.loop-token_index-init
 loop-token_index-init g c =

@@ -8,5 +8,5 @@ returns-in-Some-clause-names g c =
     let w = c.bytes-word.result.now in
     let m = c.args.self.now.names.symbols in
     on_then c.set_symbol.result c.set_symbol.ensures.names
-    (λ h. h ∙ with_known w (names_of m)
+    (λ names_are_inserted. names_are_inserted ∙ with_known w (names_of m)
     (found_known w m c.symbol.result (sym c.symbol.ensures) (ap is_some c.in-Some.is)))
