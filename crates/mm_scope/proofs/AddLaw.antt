@@ -41,6 +41,7 @@ module _ (db : List Statement) (db_lt_never : length db < never) (w : Bytes) whe
   abbrev n : Names
   n = names_before db (length db)
 
+  -- all statements are taken
   take_length_is_db : take (length db) db ≡ db
   take_length_is_db = take_all (length db) db (le_refl (length db))
 
@@ -57,9 +58,11 @@ module _ (db : List Statement) (db_lt_never : length db < never) (w : Bytes) whe
       sym x_is_entry.variable
       ∙ sym (ap (λ xs. is_in w (flat_map variables_of xs)) take_length_is_db) ∙ w_is_no_variable
 
+  -- nothing is in the empty list behind a list
   in_append_nil : (xs : List Bytes) (b : Bool) → is_in w xs ≡ b → is_in w (xs ++ []) ≡ b
   in_append_nil xs b in_xs_is_b = ap (is_in w) (append-nil xs) ∙ in_xs_is_b
 
+  -- the entry of a word after a `$c`
   entry_after_constants : (k : ℕ) (xs : List Token) (e : ℕ) (x : Option WordEntry)
       → IsEntryOf db w x
       → at_each (constant_codes n) [] xs ≡ []
@@ -87,6 +90,7 @@ module _ (db : List Statement) (db_lt_never : length db < never) (w : Bytes) whe
           fresh x x_is_entry (no_constant_entry x x_is_entry undeclared.0)
           (no_variable_entry x x_is_entry undeclared.1) w_in_xs
 
+  -- the entry of a word after a `$v`
   entry_after_variables : (k : ℕ) (xs : List Token) (e : ℕ) (x : Option WordEntry)
       → IsEntryOf db w x
       → at_each (variable_codes n) [] xs ≡ []
@@ -105,6 +109,7 @@ module _ (db : List Statement) (db_lt_never : length db < never) (w : Bytes) whe
           (no_constant_entry x x_is_entry undeclared.0) undeclared.1 refl
           (in_append_nil (words xs) true w_in_xs) refl
 
+  -- the entry of a word after a `$f`
   entry_after_floating : (l : Token) (k : ℕ) (c v : Token) (e : ℕ) (x : Option WordEntry)
       → IsEntryOf db w x → floating_faults n k (c ∷ v ∷ []) ≡ []
       → IsEntryOf (db ++ floating l k (c ∷ v ∷ []) e ∷ []) w

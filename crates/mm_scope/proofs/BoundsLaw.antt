@@ -20,6 +20,7 @@ use Rattle.mm_outline.proofs.StatementsLaw.{get_mapped}
 
 -- ---- symbols are declared
 
+-- an element of a list is in it
 element_is_in : (ws : List Bytes) (i : ℕ) (d : Bytes) → i < length ws
     → is_in (get_or ws i d) ws ≡ true
 element_is_in [] i d i_lt_length = absurd (omega arith)
@@ -37,6 +38,7 @@ symbol_is_declared_name db all_lawful k k_lt_length s s_is_statement_k w w_in_sy
     in_first (flat_map (λ s. constants_of s ++ variables_of s) db) [] w refl
     ∙ declared_here db k s s_is_statement_k (all_lawful k k_lt_length) w w_in_symbols
 
+-- the symbols of a lawful statement are numbers of names
 pub symbols_have_names : (db : List Statement) → ((k : ℕ) → k < length db → IsLawful db k) → (k : ℕ)
     → k < length db → (s : Statement) → slice_get db k ≡ Some s
     → All (λ x. x < length (symbol_names db)) (formula_at db k)
@@ -86,6 +88,7 @@ symbols_spelled (provable l k xs e ps d) =
 symbols_spelled (opening k) = omega arith
 symbols_spelled (closing k) = omega arith
 
+-- a statement declares no more words than it has tokens
 declared_spelled : (s : Statement)
     → length (constants_of s ++ variables_of s) ≤ length (spelling_of s)
 declared_spelled (constants k xs d) =
@@ -105,6 +108,7 @@ declared_spelled (provable l k xs e ps d) = omega arith
 declared_spelled (opening k) = omega arith
 declared_spelled (closing k) = omega arith
 
+-- if f gives no more of each statement than g, then no more of all of them
 shorter : {X Y : Type 0} (f : Statement → List X) (g : Statement → List Y)
     → ((s : Statement) → length (f s) ≤ length (g s)) → (xs : List Statement)
     → length (flat_map f xs) ≤ length (flat_map g xs)
@@ -115,6 +119,7 @@ shorter f g f_le_g (x ∷ xs) =
     let fx_le_gx = f_le_g x in let rest_le = shorter f g f_le_g xs in
     omega (arith, f_append_length, g_append_length, fx_le_gx, rest_le)
 
+-- what f gives of the first statements is no more than what it gives of all
 front_flat_map_no_longer : {X : Type 0} (f : Statement → List X) (xs ys : List Statement)
     → length (flat_map f xs) ≤ length (flat_map f (xs ++ ys))
 front_flat_map_no_longer f xs ys =
@@ -122,6 +127,7 @@ front_flat_map_no_longer f xs ys =
     let append_length = length-append (flat_map f xs) (flat_map f ys) in
     omega (arith, flat_map_append_length, append_length)
 
+-- words have no more first occurrences than there are words
 first_occurrences_no_longer : (e ws : List Bytes) → length (first_occurrences e ws) ≤ length ws
 first_occurrences_no_longer e [] = omega arith
 first_occurrences_no_longer e (w ∷ ws) =
@@ -140,6 +146,7 @@ module _ (ts later_tokens : List Token) (list : List Statement)
     (splits : ts ≡ flat_map spelling_of list ++ later_tokens)
     (db later_statements : List Statement) (list_is_db_and_more : list
     ≡ db ++ later_statements) where
+  -- the tokens of the first statements are no more than all tokens
   spelled_le_tokens : length (flat_map spelling_of db) ≤ length ts
   spelled_le_tokens =
       let tokens_length = ap length splits in

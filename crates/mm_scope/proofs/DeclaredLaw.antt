@@ -23,6 +23,8 @@ module _ (text : List ℕ) (ws : List Word) (from i : ℕ) (from_le_i : from ≤
   abbrev next_word : List ℕ
   next_word = (token_at text ws i).word
 
+  -- if the entries are those after the words up to i, and the next one is declared, they are those
+  -- after the words up to i + 1
   pub declared_with_next_word : (v : Bool) (n : ℕ) (s : Symbol) (old cur new : List ℕ
       → Option Symbol)
       → ((w : List ℕ) → new w ≡ (if bytes_eq next_word w then Some s else cur w))

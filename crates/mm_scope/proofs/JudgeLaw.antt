@@ -20,6 +20,7 @@ use Rattle.mm_outline.proofs.TurnsLaw.{between_more, between_none}
 use Rattle.mm_spec.specs.declared.Code.{Code}
 use Rattle.mm_spec.specs.declared.Code.TheVariants.{BadFloating}
 
+-- whether two words are equal doesn't depend on their order
 pub bytes_eq_sym : (a b : Bytes) → bytes_eq a b ≡ bytes_eq b a
 bytes_eq_sym a b = grind (arith, bytes_eq-Decides)
 
@@ -67,6 +68,7 @@ module _ (text : List ℕ) (ws : List spec.Word) (from i : ℕ) where
   abbrev pub earlier : List Bytes
   earlier = before_next [] (between text ws from i)
 
+  -- the words before the one at i, in both forms
   pub in_between_is_in_earlier : (w : Bytes) → is_in w (words (between text ws from i))
       ≡ is_in w earlier
   in_between_is_in_earlier w =
@@ -96,12 +98,14 @@ module _ (text : List ℕ) (ws : List spec.Word) (from i : ℕ) where
       ∙ ap (λ b. is_in w (words (between text ws from i)) || (b || false))
       (bytes_eq_sym w next_word)
 
+  -- the same, with the test in front
   pub among_between_push : from ≤ i → i < length ws → (w : Bytes)
       → (bytes_eq w next_word || is_in w (words (between text ws from i)))
       ≡ is_in w (words (between text ws from (i + 1)))
   among_between_push from_le_i i_lt_length w =
       rw (in_between_push from_le_i i_lt_length w, bytes_eq_sym w next_word) (grind arith)
 
+  -- a map that has the words up to i has those up to i + 1 once the next is added
   pub seen_between_push : from ≤ i → i < length ws → (old new : Bytes → Option ℕ)
       → ((w : Bytes) → new w ≡ (if bytes_eq next_word w then Some 0 else old w))
       → ((w : Bytes) → is_some (old w) ≡ is_in w (words (between text ws from i)))
@@ -110,6 +114,7 @@ module _ (text : List ℕ) (ws : List spec.Word) (from i : ℕ) where
       rw (new_adds_word w, in_between_push from_le_i i_lt_length w, sym (old_is_seen w))
       (grind arith)
 
+-- the tokens from i on begin with the one at i
 pub between_first : (text : List ℕ) (ws : List spec.Word) (i j : ℕ) → i < j → j ≤ length ws
     → between text ws i j ≡ token_at text ws i ∷ between text ws (i + 1) j
 between_first text ws i j i_lt_j j_le_length =
@@ -124,12 +129,14 @@ pub not_two_is_faulty : (n : Names) (keyword : ℕ) (xs : List Token) → length
     → Some (fault keyword BadFloating) ≡ least (floating_faults n keyword xs)
 not_two_is_faulty n keyword xs length_ne_2 = grind (arith, common_steps)
 
+-- there are as many tokens between two places as these are apart
 pub length_between : (text : List ℕ) (ws : List spec.Word) (i j : ℕ) → i ≤ j → j ≤ length ws
     → length (between text ws i j) ≡ j - i
 length_between text ws i j i_le_j j_le_length =
     length-map (take (j - i) (drop i ws)) (token_of text)
     ∙ length-take-le (j - i) (drop i ws) (omega (arith, length-drop i ws))
 
+-- the same for the tokens between a keyword and the end of a statement
 pub not_two_between_is_faulty : (n : Names) (keyword : ℕ) (text : List ℕ) (ws : List spec.Word)
     (k j : ℕ)
     → k < j → j ≤ length ws → j - k ≢ 3
@@ -141,6 +148,7 @@ not_two_between_is_faulty n keyword text ws k j k_lt_j j_le_length width_ne_3 =
     length_between text ws (k + 1) j (omega arith) j_le_length in
     omega (arith, between_length, length_is_2, k_lt_j)))
 
+-- where the end is three tokens after the keyword, there are two between
 pub between_is_two_tokens : (text : List ℕ) (ws : List spec.Word) (k j : ℕ) → j ≤ length ws
     → j - k ≡ 3
     → between text ws (k + 1) j ≡ token_at text ws (k + 1) ∷ token_at text ws (k + 2) ∷ []

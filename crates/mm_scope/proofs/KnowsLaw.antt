@@ -51,6 +51,7 @@ no_active_statement_has_word db f w w_not_in_db =
     (no_statement_has_word db f w w_not_in_db j)
     ∙ and-false (is_active db j (length db)))
 
+-- no block is open by the number that stands for no statement
 never_is_not_open : (b : BlockLists) → length b.of ≤ never → is_open_in b never ≡ false
 never_is_not_open b length_le_never =
     ap (λ o. is_never (end_in b.ends o)) (slice_get_past b.of never length_le_never)
@@ -58,6 +59,7 @@ never_is_not_open b length_le_never =
 module _ (db : List Statement) (b : BlockLists) (x : IsBlocks db b)
     (db_lt_never : length db < never)
     (w : Bytes) where
+  -- a word is an active variable exactly if its entry says so
   in_active_is_active_variable : (o : Option Symbol) → IsEntryOf db w (entry_of o)
       → is_in w (flat_map variables_of (active_statements db (length db)))
       ≡ judge.is_active_variable (is_open_in b) o
@@ -76,6 +78,7 @@ module _ (db : List Statement) (b : BlockLists) (x : IsBlocks db b)
       by_test false is_variable_is_v =
           no_active_statement_has_word db variables_of w (is_entry.variable ∙ is_variable_is_v)
 
+  -- a word has an active `$f` exactly if its entry says so
   in_active_is_typed_here : (o : Option Symbol) → IsEntryOf db w (entry_of o)
       → is_in w (flat_map typed_words (active_statements db (length db)))
       ≡ is_typed_here (is_open_in b) o

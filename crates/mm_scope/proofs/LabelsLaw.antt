@@ -20,6 +20,7 @@ use Rattle.mm_scope.specs.WordEntry.{label_after}
 use Rattle.mm_database.specs.Labels.{AreLabels}
 use Rattle.mm_outline.proofs.StatementsLaw.{is_there}
 
+-- a lawful statement's label is none of the earlier labels
 pub label_is_new : (n : Names) (d : ℕ) (s : Statement) → scope_faults n d s ≡ [] → (l : Token)
     → label_of s ≡ Some l → is_in l.word n.labels ≡ false
 label_is_new n d (floating m k xs e) no_fault l label_is_l =
@@ -79,6 +80,7 @@ module _ (db : List Statement) (s : Statement) (find new : List ℕ → Option �
       by_equality true labelled_is_b new_is_choice = inl (labelled_is_b, new_is_choice)
       by_equality false labelled_is_b new_is_choice = inr (labelled_is_b, new_is_choice)
 
+  -- the map with the label of one statement more is that of the statements with this one
   pub labels_after_statement : ((w : Bytes)
       → new w ≡ label_after (length db) (label_of s) w (find w))
       → ((w : Bytes) → is_labelled w s ≡ true → find w ≡ None) → AreLabels (db ++ s ∷ []) new

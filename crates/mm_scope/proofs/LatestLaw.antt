@@ -18,6 +18,7 @@ use Rattle.mm_scope.specs.WordEntry.{Latest}
 use Rattle.mm_outline.specs.Typed.{has_word}
 
 module _ (db : List Statement) (f : Statement → List Bytes) (w : Bytes) where
+  -- a word is in an active statement exactly if the last that has it is active
   pub in_active_iff_latest_active : (last : ℕ) → Latest db f w last
       → is_in w (flat_map f (active_statements db (length db))) ≡ is_active db last (length db)
   in_active_iff_latest_active last latest =
@@ -53,6 +54,7 @@ module _ (db : List Statement) (f : Statement → List Bytes) (w : Bytes) where
 
 -- ---- one statement more
 
+-- a test with one condition less holds too
 weaken_conjunct : (g l a b : Bool) → (g || (l && (a && b))) ≡ true → (g || (l && a)) ≡ true
 weaken_conjunct true l a b holds = refl
 weaken_conjunct false true true b holds = refl
@@ -60,6 +62,7 @@ weaken_conjunct false true false b holds = holds
 weaken_conjunct false false a b holds = holds
 
 module _ (db : List Statement) (s : Statement) where
+  -- what is active after one statement more was active before it
   active_before_if_active_after : (j : ℕ) → j < length db
       → is_active (db ++ s ∷ []) j (length db + 1) ≡ true
       → is_active db j (length db) ≡ true
@@ -83,11 +86,13 @@ module _ (db : List Statement) (s : Statement) where
           weaken_conjunct (is_global t) (is_local t) a b j_is_active_after
 
   module _ (f : Statement → List Bytes) (w : Bytes) where
+    -- an earlier statement has the same words with one statement more
     has_word_in_front : (j : ℕ) → j < length db → has_word (db ++ s ∷ []) f w j ≡ has_word db f w j
     has_word_in_front j j_lt_length =
         ap (λ o. is_in w (flat_map f (elim o [ None ↦ [] | Some t ↦ t ∷ [] ])))
         (get_front db (s ∷ []) j j_lt_length)
 
+    -- the last statement has its own words
     has_word_at_end : has_word (db ++ s ∷ []) f w (length db) ≡ is_in w (f s ++ [])
     has_word_at_end =
         ap (λ o. is_in w (flat_map f (elim o [ None ↦ [] | Some t ↦ t ∷ [] ]))) (get_seam db s [])

@@ -42,6 +42,7 @@ names_declared d w = by_is_in (is_in w (first_occurrences [] d)) ∙ sym (first_
 
 -- ---- more names after
 
+-- a name keeps its number when names are added after it
 pub index_of_in_front : (w : Bytes) (ns added : List Bytes) → is_in w ns ≡ true
     → index_of w (ns ++ added) ≡ index_of w ns
 index_of_in_front w [] added w_in_ns = absurd (true≢false (sym w_in_ns))
@@ -73,6 +74,7 @@ first_occurrences_grow d (w ∷ ws) =
 abbrev pub declared : List Statement → List Bytes
 declared db = flat_map (λ s. constants_of s ++ variables_of s) db
 
+-- what statements declare is followed by what one statement more declares
 declared_push : (db : List Statement) (s : Statement)
     → declared (db ++ s ∷ []) ≡ declared db ++ (constants_of s ++ variables_of s)
 declared_push db s =
@@ -86,12 +88,14 @@ pub declared_names_are_symbol_names : (db : List Statement) (s : Statement) (ns 
 declared_names_are_symbol_names db s ns ns_are_declared =
     ns_are_declared ∙ ap (first_occurrences []) (sym (declared_push db s))
 
+-- a statement adds names after those that there are
 symbol_names_grow : (db : List Statement) (s : Statement)
     → (added : List Bytes) × (symbol_names (db ++ s ∷ []) ≡ symbol_names db ++ added)
 symbol_names_grow db s =
     let grown = first_occurrences_grow (declared db) (constants_of s ++ variables_of s) in
     (grown.0, ap (first_occurrences []) (declared_push db s) ∙ grown.1)
 
+-- a statement that declares nothing leaves the names as they are
 pub symbol_names_unchanged : (db : List Statement) (s : Statement)
     → constants_of s ++ variables_of s ≡ []
     → symbol_names (db ++ s ∷ []) ≡ symbol_names db
@@ -101,6 +105,7 @@ symbol_names_unchanged db s declares_nothing =
 
 -- ---- formulas keep their numbers
 
+-- words that have equal numbers by two lists of names have equal lists of numbers
 indices_equal : (ns ms : List Bytes) (ws : List Bytes)
     → ((w : Bytes) → is_in w ws ≡ true → index_of w ns ≡ index_of w ms)
     → map (λ w. index_of w ns) ws ≡ map (λ w. index_of w ms) ws
@@ -110,6 +115,7 @@ indices_equal ns ms (w ∷ ws) index_equal =
     (indices_equal ns ms ws (λ v v_in_ws. index_equal v (ap (λ b. bytes_eq v w || b) v_in_ws
     ∙ or-true (bytes_eq v w))))
 
+-- functions that are equal at each statement give equal lists
 maps_equal : (f g : Statement → List ℕ) (xs : List Statement)
     → ((k : ℕ) (t : Statement) → slice_get xs k ≡ Some t → f t ≡ g t) → map f xs ≡ map g xs
 maps_equal f g [] values_equal = refl
@@ -122,6 +128,7 @@ module _ (db : List Statement) (lawful : (k : ℕ) → k < length db → scope_f
   abbrev all : List Statement
   all = db ++ s ∷ []
 
+  -- a statement's formula is the same with one statement more
   formula_is_unchanged : (k : ℕ) (t : Statement) → slice_get db k ≡ Some t
       → formula_of all t ≡ formula_of db t
   formula_is_unchanged k t t_is_statement_k =
@@ -150,6 +157,7 @@ module _ (db : List Statement) (lawful : (k : ℕ) → k < length db → scope_f
 
 -- ---- the formulas one by one
 
+-- the formulas of all statements are those of each statement
 pub formulas_numbered : (db : List Statement) → AreNumbered db (map (formula_of db) db)
 formulas_numbered db = record {
   count = length-map db (formula_of db);
@@ -162,6 +170,7 @@ formulas_numbered db = record {
 
 -- ---- words numbered one by one
 
+-- the numbers of the words up to i + 1 are those up to i and that of the next word
 pub numbers_between_push : (text : List ℕ) (ws : List spec.Word) (ns : List Bytes) (from i : ℕ)
     → from ≤ i
     → i < length ws
@@ -174,10 +183,12 @@ numbers_between_push text ws ns from i from_le_i i_lt_length =
     ∙ map-append (λ (w : Bytes). index_of w ns) (words (between text ws from i))
     ((token_at text ws i).word ∷ [])
 
+-- there are no numbers of no words
 pub numbers_between_nothing : (text : List ℕ) (ws : List spec.Word) (ns : List Bytes) (from : ℕ)
     → [] ≡ numbers_in ns (between text ws from from)
 numbers_between_nothing text ws ns from = ap (numbers_in ns) (between_none text ws from)
 
+-- the words up to i + 1 are those up to i and the next word
 pub words_between_push : (text : List ℕ) (ws : List spec.Word) (from i : ℕ) → from ≤ i
     → i < length ws
     → words (between text ws from i) ++ (token_at text ws i).word ∷ []
@@ -186,6 +197,7 @@ words_between_push text ws from i from_le_i i_lt_length =
     sym (ap words (between_more text ws from i from_le_i i_lt_length)
     ∙ map-append (λ (t : Token). t.word) (between text ws from i) (token_at text ws i ∷ []))
 
+-- the names after the words up to i + 1 are those up to i with the next word
 pub names_with_word : (text : List ℕ) (ws : List spec.Word) (from i : ℕ) → from ≤ i → i < length ws
     → (d : List Bytes)
     → with_name (token_at text ws i).word
@@ -201,6 +213,7 @@ names_with_word text ws from i from_le_i i_lt_length d =
 
 -- ---- a statement's symbols: those of a formula as they are judged, the others once declared
 
+-- the numbers that are added in these two steps are those of the statement's formula
 pub formula_split : (db : List Statement) (s : Statement)
     → judged (symbol_names db) s ++ unjudged (symbol_names (db ++ s ∷ [])) s
     ≡ formula_of (db ++ s ∷ []) s
@@ -220,6 +233,7 @@ formula_split db (provable l k xs e ps d) =
 formula_split db (opening k) = refl
 formula_split db (closing k) = refl
 
+-- a statement leaves no fewer names
 pub symbol_names_no_shorter : (db : List Statement) (s : Statement)
     → length (symbol_names db) ≤ length (symbol_names (db ++ s ∷ []))
 symbol_names_no_shorter db s =
@@ -227,6 +241,7 @@ symbol_names_no_shorter db s =
     let append_length = length-append (symbol_names db) names_grow.0 in
     omega (arith, grown_length, append_length)
 
+-- numbers to which a statement's are added in the two steps are followed by its formula
 pub taken_numbers : (db : List Statement) (s : Statement) (numbers mid added : List ℕ)
     → (before after : List Bytes)
     → before ≡ symbol_names db → after ≡ symbol_names (db ++ s ∷ [])

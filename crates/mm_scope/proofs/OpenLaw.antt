@@ -15,6 +15,7 @@ use Rattle.mm_outline.specs.Blocks.{is_open_in}
 use Rattle.mm_scope.specs.WordEntry.{Latest}
 use Rattle.mm_outline.specs.Typed.{typed_words}
 
+-- a statement's block is open at the end exactly if the lists say so
 pub block_open_is_open_in : (db : List Statement) (b : BlockLists) → IsBlocks db b
     → length db < never → (j : ℕ)
     → j < length db → is_block_open db j (length db) ≡ is_open_in b j
@@ -42,6 +43,7 @@ block_open_is_open_in db b are_blocks db_lt_never j j_lt_length =
 abbrev pub IsLocal : (Statement → List Bytes) → List ℕ → Type 0
 IsLocal f w = (s : Statement) (b : Bool) → is_in w (f s ++ []) ≡ true → is_still_active s b ≡ b
 
+-- a declaration of a variable is active where its block is open
 pub declarations_are_local : (w : List ℕ) → IsLocal variables_of w
 declarations_are_local w (variables k xs d) b declares_w = refl
 declarations_are_local w (constants k xs d) b declares_w = absurd (true≢false (sym declares_w))
@@ -54,6 +56,7 @@ declarations_are_local w (provable l k xs e ps d) b declares_w =
 declarations_are_local w (opening k) b declares_w = absurd (true≢false (sym declares_w))
 declarations_are_local w (closing k) b declares_w = absurd (true≢false (sym declares_w))
 
+-- a `$f` is active where its block is open
 pub typings_are_local : (w : List ℕ) → IsLocal typed_words w
 typings_are_local w (floating l k xs d) b types_w = refl
 typings_are_local w (constants k xs d) b types_w = absurd (true≢false (sym types_w))

@@ -83,6 +83,7 @@ module _ (text : List ℕ) (ws : List Word) (len : ℕ) (lexical : Option Fault)
   stops_with None text_fault_is_f = no_text_fault len (lexed text ws lexical) text_fault_is_f
   stops_with (Some f) text_fault_is_f = text_fault_is len (lexed text ws lexical) f text_fault_is_f
 
+  -- if no statement follows, the statements so far are what is read, with the fault of the text
   pub is_read_at_end : statements_from (start open_blocks) (tokens_from text ws token_index) ≡ []
       → (f : Option Fault)
       → text_fault len (lexed text ws lexical) ≡ f → IsRead len (lexed text ws lexical) db f
@@ -99,6 +100,7 @@ module _ (text : List ℕ) (ws : List Word) (len : ℕ) (lexical : Option Fault)
         stops = stops_with f text_fault_is_f;
       }
 
+  -- a malformed statement
   pub read_stopped : (f : Fault)
       → statements_from (start open_blocks) (tokens_from text ws token_index) ≡ []
       → shape_fault_from (start open_blocks) (tokens_from text ws token_index) ≡ Some f
@@ -124,6 +126,7 @@ module _ (text : List ℕ) (ws : List Word) (len : ℕ) (lexical : Option Fault)
   fault_at_end_is_end_fault_of (Formula w) i None = refl
   fault_at_end_is_end_fault_of (Proof w e) i None = refl
 
+  -- the end of the tokens
   pub read_ended : (part : Part)
       → statements_from (start open_blocks) (tokens_from text ws token_index) ≡ []
       → shape_fault_from (start open_blocks) (tokens_from text ws token_index) ≡ None
@@ -189,6 +192,7 @@ minus_one_is_one_less : (d : ℕ) → d - 1 ≡ one_less d
 minus_one_is_one_less zero = omega arith
 minus_one_is_one_less (suc d) = omega arith
 
+-- the depth after a statement is at most the number of tokens up to its end
 depth_after_le : (k : Kind) (d token_index end : ℕ) → d ≤ token_index → token_index ≤ end
     → depth_after k d ≤ end + 1
 depth_after_le kind.Open d token_index end d_le_index index_le_end = omega arith
@@ -196,6 +200,7 @@ depth_after_le kind.Close zero token_index end d_le_index index_le_end = omega a
 depth_after_le kind.Close (suc d) token_index end d_le_index index_le_end = omega arith
 depth_after_le _ d token_index end d_le_index index_le_end = omega arith
 
+-- the depth that the code counts after a statement is the depth after it
 depth_after_is_depth : (text : List ℕ) (ws : List Word) (db : List Statement) (b : BlockLists)
     → IsBlocks db b
     → length db < never → (k : Kind) (w m e : ℕ)
@@ -223,6 +228,7 @@ depth_after_is_depth text ws db b x db_lt_never kind.Axiom w m e =
 depth_after_is_depth text ws db b x db_lt_never kind.Theorem w m e =
     sym (depth_plain db (statement_between text ws kind.Theorem w m e) b x db_lt_never refl refl)
 
+-- one lawful statement more is read
 pub is_read_to_with_statement : (text : List ℕ) (ws : List Word) (db : List Statement)
     (open_blocks token_index : ℕ)
     → IsReadTo text ws db open_blocks token_index → length ws < 2 ^ 31 → (b : BlockLists)
@@ -278,10 +284,12 @@ is_read_to_with_statement text ws db open_blocks token_index is_read_to length_l
             (sym is_read_to.open_blocks_is_depth)
             ∙ sym no_fault)
 
+-- what is some fault isn't `None`
 pub not_none_if_some : (f : Option Fault) → is_some f ≡ true → f ≢ None
 not_none_if_some None is_some_is_true f_is_none = absurd (true≢false (sym is_some_is_true))
 not_none_if_some (Some f) is_some_is_true f_is_none = cc
 
+-- what is no fault is `None`
 pub none_if_not_some : (f : Option Fault) → is_some f ≡ false → None ≡ f
 none_if_not_some None is_some_is_false = refl
 none_if_not_some (Some f) is_some_is_false = absurd (true≢false is_some_is_false)

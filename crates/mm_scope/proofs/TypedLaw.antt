@@ -10,6 +10,7 @@ use Rattle.mm_scope.specs.WordEntry.{WordEntry, entry_of, typed_entry}
 use Rattle.mm_scope.specs.WordEntry.{typed_after}
 use Rattle.mm_scope.proofs.JudgeLaw.{between_is_two_tokens, length_between}
 
+-- a `$f` that has not two symbols types nothing
 typed_after_other_length : (n : ℕ) (xs : List Token) (w : List ℕ) (x : Option WordEntry)
     → length xs ≢ 2
     → typed_after n xs w x ≡ x

@@ -19,6 +19,7 @@ use Rattle.mm_scope.specs.WordEntry.{is_constant_entry, is_variable_entry}
 use Rattle.mm_outline.specs.Typed.{typed_words}
 use Rattle.mm_scope.proofs.LatestLaw.{latest_unchanged, latest_is_new}
 
+-- a word that the typings don't have gets no other typecode from them
 no_typing_no_other_typecode : (c w : Bytes) (ts : List Typing)
     → is_in w (map (λ t. t.variable) ts ++ []) ≡ false
     → list_any (gives_other_typecode c w) (ts ++ []) ≡ false
@@ -36,12 +37,14 @@ no_typing_no_other_typecode c w (t ∷ ts) w_not_typed =
         rest_has_no_other_typecode w_not_typed
 
 module _ (db : List Statement) (s : Statement) (w : Bytes) where
+  -- a word is in a list of all statements if it is in that of the earlier ones or of the last
   pub in_flat_map_push : (f : Statement → List Bytes)
       → is_in w (flat_map f (db ++ s ∷ [])) ≡ (is_in w (flat_map f db) || is_in w (f s ++ []))
   in_flat_map_push f =
       ap (is_in w) (flat_map-append f db (s ∷ []))
       ∙ list_any-append (bytes_eq w) (flat_map f db) (f s ++ [])
 
+  -- another typecode is given by an earlier statement or by the last
   other_typecode_push : (c : Bytes)
       → list_any (gives_other_typecode c w) (flat_map typings_of (db ++ s ∷ []))
       ≡ (list_any (gives_other_typecode c w) (flat_map typings_of db)
@@ -57,12 +60,14 @@ module _ (db : List Statement) (s : Statement) (w : Bytes) where
       in_flat_map_push f ∙ ap (λ b. is_in w (flat_map f db) || b) s_has_not_w
       ∙ or-false (is_in w (flat_map f db))
 
+  -- the statement has the word among these
   in_flat_map_of_last : (f : Statement → List Bytes) → is_in w (f s ++ []) ≡ true
       → is_in w (flat_map f (db ++ s ∷ [])) ≡ true
   in_flat_map_of_last f s_has_w =
       in_flat_map_push f ∙ ap (λ b. is_in w (flat_map f db) || b) s_has_w
       ∙ or-true (is_in w (flat_map f db))
 
+  -- the statement doesn't type the word
   other_typecode_unchanged : (c : Bytes) → is_in w (typed_words s ++ []) ≡ false
       → list_any (gives_other_typecode c w) (flat_map typings_of (db ++ s ∷ []))
       ≡ list_any (gives_other_typecode c w) (flat_map typings_of db)
@@ -103,11 +108,13 @@ module _ (db : List Statement) (s : Statement) (w : Bytes) where
         ∙ w_has_no_entry.other_typecode c;
   }
 
+  -- a declaration leaves the `$f` of a word as it was
   declaring_keeps_typed_by : (x : Option WordEntry) → typed_by (declared_entry true (length db) w x)
       ≡ typed_by x
   declaring_keeps_typed_by None = refl
   declaring_keeps_typed_by (Some e) = refl
 
+  -- a declaration leaves the typecode of a word as it was
   other_declared : (c : Bytes) (x : Option WordEntry)
       → (not (nat_eq (typed_by x) never) && not (bytes_eq c (typecode_by x)))
       ≡ (not (nat_eq (typed_by (declared_entry true (length db) w x)) never)
@@ -115,6 +122,7 @@ module _ (db : List Statement) (s : Statement) (w : Bytes) where
   other_declared c None = refl
   other_declared c (Some e) = refl
 
+  -- the entry after a declaration is that of a variable, with this statement
   is_declared : (x : Option WordEntry)
       → (is_constant_entry (declared_entry true (length db) w x) ≡ false)
       × (is_variable_entry (declared_entry true (length db) w x) ≡ true)
