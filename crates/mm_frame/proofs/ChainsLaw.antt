@@ -433,14 +433,14 @@ rising_append (p ∷ ps) qs r are_rising h = (
       (or_right (nat_eq a p.0 && nat_eq b p.1) (has_pair ps a b) e) f),
 )
   where
-    itself : has_pair (p ∷ ps) p.0 p.1 ≡ true
-    itself =
+    first_pair_is_in : has_pair (p ∷ ps) p.0 p.1 ≡ true
+    first_pair_is_in =
         ap₂ (λ a b. (a && b) || has_pair ps p.0 p.1) (eq-eqb p.0 p.0 refl) (eq-eqb p.1 p.1 refl)
 
     by_membership : (x y : ℕ) → (has_pair ps x y ≡ true) ⊎ (has_pair qs x y ≡ true)
         → IsBefore p.0 p.1 x y
     by_membership x y (inl e) = r.0 x y e
-    by_membership x y (inr e) = h p.0 p.1 x y itself e
+    by_membership x y (inr e) = h p.0 p.1 x y first_pair_is_in e
 
 has_row : (x : ℕ) (js : List ℕ) (y j : ℕ)
     → has_pair (map (λ i. (x, i)) js) y j ≡ (nat_eq y x && is_member js j)

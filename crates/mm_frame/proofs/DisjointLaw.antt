@@ -18,8 +18,8 @@ use Rattle.mm_spec.proofs.MemberLaw.{any_witness, any_of, member_range}
 use Rattle.mm_outline.specs.Blocks.{BlockLists, IsBlocks}
 use Rattle.mm_database.specs.DisjointIndex.{has_symbol, is_active_local}
 use Rattle.mm_database.specs.Pairs.{has_pair, IsBefore, AreRising}
-use Rattle.mm_database.proofs.TogetherLaw.{active_local_is, kind_of_active}
-use Rattle.mm_database.proofs.DisjointIndexLaw.{has_at, at_has, rising_at}
+use Rattle.mm_database.proofs.TogetherLaw.{active_local_is_active, active_is_disjoint}
+use Rattle.mm_database.proofs.DisjointIndexLaw.{place_of_pair, has_pair_at_place, earlier_is_before}
 use Rattle.mm_frame.specs.Together.{has_later}
 use Rattle.mm_frame.proofs.HypothesesLaw.{mandatory_named}
 use Rattle.mm_frame.proofs.PairsLaw.{has_map, sorted_map, unique, has_filter, has_rows}
@@ -152,7 +152,7 @@ module _ (by_statement : List (ℕ × ℕ)) (rising : AreRising by_statement) (p
     where
       later_is_higher : (p : ℕ) → place < p → p < at → low < (get_or by_statement p (0, 0)).1
       later_is_higher p h m =
-          variable_lt (rising_at by_statement rising place p (0, 0) h
+          variable_lt (earlier_is_before by_statement rising place p (0, 0) h
           (let w = b.within in omega (arith, m, w)))
         where
           variable_lt : IsBefore j low (get_or by_statement p (0, 0)).0
@@ -169,7 +169,7 @@ module _ (by_statement : List (ℕ × ℕ)) (rising : AreRising by_statement) (p
       left_to_right (inr (e, p, h, m, s)) =
           let there =
           ap₂ (has_pair by_statement) (sym (b.same p h m)) (sym s)
-          ∙ at_has by_statement p (0, 0) (let w = b.within in omega (arith, m, w)) in
+          ∙ has_pair_at_place by_statement p (0, 0) (let w = b.within in omega (arith, m, w)) in
           let l = later_is_higher p h m in
           ap (λ c. has_pair old x y || c)
           (ap₂ (λ u v. u && v) (eq-eqb x low e)
@@ -190,7 +190,7 @@ module _ (by_statement : List (ℕ × ℕ)) (rising : AreRising by_statement) (p
           first (inl e) =
               absurd (let t = ap (λ i. (get_or by_statement i (0, 0)).1) e in omega (arith, t, m))
           first (inr (inl u)) = u
-          first (inr (inr u)) = absurd (down (rising_at by_statement rising p place (0, 0) u
+          first (inr (inr u)) = absurd (down (earlier_is_before by_statement rising p place (0, 0) u
               inside))
 
           up : at < length by_statement → at ≤ p
@@ -208,7 +208,7 @@ module _ (by_statement : List (ℕ × ℕ)) (rising : AreRising by_statement) (p
               again : (at ≡ p) ⊎ (at ≢ p) → ⊥
               again (inl e) = let t = ap (λ i. (get_or by_statement i (0, 0)).0) e in omega
                   (arith, t, w, s)
-              again (inr n) = over (rising_at by_statement rising at p (0, 0)
+              again (inr n) = over (earlier_is_before by_statement rising at p (0, 0)
                   (omega (arith, at_le_p, n))
                   p_lt_length_by_statement)
 
@@ -216,7 +216,7 @@ module _ (by_statement : List (ℕ × ℕ)) (rising : AreRising by_statement) (p
           by_order (inl u) = u
           by_order (inr u) =
               absurd (up (omega (arith, u, p_lt_length_by_statement)) u
-              (rising_at by_statement rising place at (0, 0) b.further
+              (earlier_is_before by_statement rising place at (0, 0) b.further
               (omega (arith, u, p_lt_length_by_statement))))
 
       right_to_left : (c : Bool) → has_pair old x y ≡ c
@@ -227,7 +227,8 @@ module _ (by_statement : List (ℕ × ℕ)) (rising : AreRising by_statement) (p
           let s = eqb-true x low (and_parts (nat_eq x low) (has_pair by_statement j y && nat_lt x y)
           h).0 in
           let r = (and_parts (nat_eq x low) (has_pair by_statement j y && nat_lt x y) h).1 in
-          let w = has_at by_statement j y (and_parts (has_pair by_statement j y) (nat_lt x y) r).0
+          let w = place_of_pair by_statement j y
+          (and_parts (has_pair by_statement j y) (nat_lt x y) r).0
           in
           let l = ltb-true x y (and_parts (has_pair by_statement j y) (nat_lt x y) r).1 in
           let t = w.3 in
@@ -301,7 +302,7 @@ module _ (db : List Statement) (b : BlockLists) (blocks : IsBlocks db b) (k : �
               ∙ (and_parts (is_member variables y) (has_pair ps y j && is_active_local b j k) f).0,
           (and_parts (list_any is_disjoint_statement (statement_at db j))
               (is_member (formula_at db j) y) s).1,
-          sym (active_local_is db b blocks k h j d)
+          sym (active_local_is_active db b blocks k h j d)
               ∙ (and_parts (has_pair ps y j) (is_active_local b j k) r).1,
         )
 
@@ -309,11 +310,11 @@ module _ (db : List Statement) (b : BlockLists) (blocks : IsBlocks db b) (k : �
         → is_member (active_of is_disjoint_statement db k) j ≡ true → has_pair by_statement j y
         ≡ true
     had_if j y m f a =
-        let d = kind_of_active db b blocks k h j a in
+        let d = active_is_disjoint db b blocks k h j a in
         had_is j y
         ∙ ap₂ (λ p q. p && q) (variables_are y ∙ m)
         (ap₂ (λ p q. p && q) (are y j ∙ ap₂ (λ p q. p && q) d f)
-        (active_local_is db b blocks k h j d ∙ a))
+        (active_local_is_active db b blocks k h j d ∙ a))
 
     left_to_right : (x y : ℕ) → together x y ≡ true
         → (wanted (pair x y)
@@ -331,7 +332,8 @@ module _ (db : List Statement) (b : BlockLists) (blocks : IsBlocks db b) (k : �
         (has_pair by_statement j y && nat_lt x y) w.2).1 in
         let less = (and_parts (has_pair by_statement j y) (nat_lt x y) r).1 in
         let l = ltb-true x y less in
-        let one = had_then j x (ap (has_pair by_statement j) s ∙ at_has by_statement w.0 (0, 0) w.1)
+        let one = had_then j x (ap (has_pair by_statement j) s
+        ∙ has_pair_at_place by_statement w.0 (0, 0) w.1)
         in
         let other = had_then j y (and_parts (has_pair by_statement j y) (nat_lt x y) r).0 in
         let apart =
@@ -374,7 +376,7 @@ module _ (db : List Statement) (b : BlockLists) (blocks : IsBlocks db b) (k : �
         let hy =
         had_if j y my
         (and_parts (is_member (formula_at db j) x) (is_member (formula_at db j) y) w.2).1 w.1 in
-        let v = has_at by_statement j x hx in
+        let v = place_of_pair by_statement j x hx in
         list_any_at (λ p. has_later by_statement p x y) by_statement v.0 (0, 0) v.1
         (ap₂ (λ a b. a && b) (eq-eqb x (get_or by_statement v.0 (0, 0)).1 (sym v.3))
         (ap₂ (λ a b. a && b) (ap (λ i. has_pair by_statement i y) v.2 ∙ hy) less))

@@ -167,7 +167,8 @@ module _ (db : List Statement) (k : ℕ) where
           (ap₂ (λ p q. p && q) (eq-eqb j (get_or ts v 0) (sym same))
           (ap₂ (λ p q. not p && q)
           (ne_eqb (get_or ts v 0) never
-          (λ e. let few = sound.few in absurd (omega (arith, e, same, j_lt_length_db, few))))
+          (λ e. let few = sound.few_statements in
+          absurd (omega (arith, e, same, j_lt_length_db, few))))
           (ap (λ i. is_block_open db i k) same
           ∙ on)))
 

@@ -193,12 +193,14 @@ module _ (test : Statement → Bool) (db : List Statement) where
               → (next ≢ never) × (i ≤ next)
           by_presence i_lt_last (inl n) b =
               absurd (true≢false
-              (sym (on_earlier i last k (omega arith) (let l = last_is_staying.0 in omega (arith, l))
+              (sym (on_earlier i last k (omega arith) (let l = last_is_staying.0 in
+              omega (arith, l))
               staying_at_k)
               ∙ is_latest.after i i_lt_last (inr n)))
           by_presence i_lt_last (inr n) (inl l) =
               absurd (true≢false
-              (sym (on_earlier i last k (omega arith) (let l = last_is_staying.0 in omega (arith, l))
+              (sym (on_earlier i last k (omega arith) (let l = last_is_staying.0 in
+              omega (arith, l))
               staying_at_k)
               ∙ is_latest.after i i_lt_last (inl l)))
           by_presence i_lt_last (inr n) (inr l) = (n, l)

@@ -15,7 +15,7 @@ use Rattle.mm_spec.specs.Lawful.{IsLawful}
 use Rattle.mm_spec.specs.Frame.{symbol_names, index_of, first_occurrences, formula_at}
 use Rattle.mm_spec.proofs.FindsLaw.{formula_at_is}
 use Rattle.mm_spec.proofs.SymbolLaw.{declared_here}
-use Rattle.mm_database.proofs.SymbolsLaw.{itself, in_first, index_in}
+use Rattle.mm_database.proofs.SymbolsLaw.{bytes_eq_itself, in_first_occurrences, name_at_index_of}
 use Rattle.mm_outline.proofs.StatementsLaw.{get_mapped}
 
 -- ---- symbols are declared
@@ -24,7 +24,7 @@ use Rattle.mm_outline.proofs.StatementsLaw.{get_mapped}
 element_is_in : (ws : List Bytes) (i : ℕ) (d : Bytes) → i < length ws
     → is_in (get_or ws i d) ws ≡ true
 element_is_in [] i d i_lt_length = absurd (omega arith)
-element_is_in (w ∷ ws) zero d i_lt_length = ap (λ b. b || is_in w ws) (itself w)
+element_is_in (w ∷ ws) zero d i_lt_length = ap (λ b. b || is_in w ws) (bytes_eq_itself w)
 element_is_in (w ∷ ws) (suc i) d i_lt_length =
     ap (λ b. bytes_eq (get_or ws i d) w || b) (element_is_in ws i d (omega arith))
     ∙ or-true (bytes_eq (get_or ws i d) w)
@@ -35,7 +35,7 @@ pub symbol_is_declared_name : (db : List Statement) → ((k : ℕ) → k < lengt
     → k < length db → (s : Statement) → slice_get db k ≡ Some s → (w : Bytes)
     → is_in w (words (symbols_of s)) ≡ true → is_in w (symbol_names db) ≡ true
 symbol_is_declared_name db all_lawful k k_lt_length s s_is_statement_k w w_in_symbols =
-    in_first (flat_map (λ s. constants_of s ++ variables_of s) db) [] w refl
+    in_first_occurrences (flat_map (λ s. constants_of s ++ variables_of s) db) [] w refl
     ∙ declared_here db k s s_is_statement_k (all_lawful k k_lt_length) w w_in_symbols
 
 -- the symbols of a lawful statement are numbers of names
@@ -55,7 +55,7 @@ symbols_have_names db all_lawful k k_lt_length s s_is_statement_k =
     (element_is_in ws i [] i_lt_symbol_count) in
     let index_lt_length =
     slice_get_within (symbol_names db) (index_of w (symbol_names db)) w
-    (index_in (symbol_names db) w w_in_names) in
+    (name_at_index_of (symbol_names db) w w_in_names) in
     subst (λ x. x < length (symbol_names db))
     (sym (get_mapped (λ w. index_of w (symbol_names db)) ws i [] d
     i_lt_symbol_count)) index_lt_length)

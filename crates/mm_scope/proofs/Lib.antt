@@ -1,5 +1,5 @@
 -- The loop of `outline_statements` keeps two things: `IsReadTo` (the lawful statements lead to
--- `at`) and `IsReadSoFar` (names, blocks and numbers are theirs). `scope_knows_names`
+-- `token_index`) and `IsReadSoFar` (names, blocks and numbers are theirs). `scope_knows_names`
 -- (`KnowsLaw.antt`) says that what has been read is what the judge needs.
 -- `lesser_of_least_is_least` and `at_each_between_push` (`JudgeLaw.antt`) show that the code's
 -- fault is the least one, rule by rule and symbol by symbol. `knows_after_statement`

@@ -24,7 +24,7 @@ use Rattle.mm_lists.proofs.ListsLaw.{more_joined}
 use Rattle.mm_outline.proofs.StatementsLaw.{get_mapped}
 use Rattle.std.proofs.lemmas.List.{length-map}
 use Rattle.mm_scope.specs.Formulas.{AreFormulas, numbers_in, judged, unjudged}
-use Rattle.mm_database.proofs.SymbolsLaw.{first_added, if_new, itself}
+use Rattle.mm_database.proofs.SymbolsLaw.{first_occurrences_push, if_new, bytes_eq_itself}
 use Rattle.mm_scope.proofs.BoundsLaw.{symbol_is_declared_name}
 
 -- ---- one name more
@@ -32,7 +32,7 @@ use Rattle.mm_scope.proofs.BoundsLaw.{symbol_is_declared_name}
 -- the names of what is declared, with one word more
 pub names_declared : (d : List Bytes) (w : Bytes)
     → with_name w (first_occurrences [] d) ≡ first_occurrences [] (d ++ w ∷ [])
-names_declared d w = by_is_in (is_in w (first_occurrences [] d)) ∙ sym (first_added d w)
+names_declared d w = by_is_in (is_in w (first_occurrences [] d)) ∙ sym (first_occurrences_push d w)
   where
     by_is_in : (b : Bool)
         → (if b then first_occurrences [] d else (first_occurrences [] d ++ w ∷ []))
@@ -67,7 +67,7 @@ first_occurrences_grow d (w ∷ ws) =
     let w_is_in_names = is_in w (first_occurrences [] d) in (
       if_new w_is_in_names w ++ grown.0,
       ap (first_occurrences []) (sym (append_assoc d (w ∷ []) ws)) ∙ grown.1
-          ∙ ap (λ l. l ++ grown.0) (first_added d w)
+          ∙ ap (λ l. l ++ grown.0) (first_occurrences_push d w)
           ∙ append_assoc (first_occurrences [] d) (if_new w_is_in_names w) grown.0,
     )
 
@@ -111,7 +111,7 @@ indices_equal : (ns ms : List Bytes) (ws : List Bytes)
     → map (λ w. index_of w ns) ws ≡ map (λ w. index_of w ms) ws
 indices_equal ns ms [] index_equal = refl
 indices_equal ns ms (w ∷ ws) index_equal =
-    ap₂ (λ n l. n ∷ l) (index_equal w (ap (λ b. b || is_in w ws) (itself w)))
+    ap₂ (λ n l. n ∷ l) (index_equal w (ap (λ b. b || is_in w ws) (bytes_eq_itself w)))
     (indices_equal ns ms ws (λ v v_in_ws. index_equal v (ap (λ b. bytes_eq v w || b) v_in_ws
     ∙ or-true (bytes_eq v w))))
 

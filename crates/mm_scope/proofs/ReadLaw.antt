@@ -31,6 +31,8 @@ use Rattle.mm_outline.specs.declared.parts.Part.TheVariants.{Start, Labelled, Wo
 use Rattle.mm_outline.proofs.LeadsLaw.{leads_then}
 use Rattle.mm_spec.proofs.ShapeLaw.{count_end}
 
+-- the tokens before `token_index` are those of lawful statements, after which so many blocks are
+-- open
 pub record IsReadTo (text : List ℕ) (ws : List Word) (db : List Statement)
     (open_blocks token_index : ℕ) : Type 0 where
   pub leads : Leads (start 0) (as_tokens text ws) db (start open_blocks)

@@ -36,7 +36,7 @@ pub sound_is : (db : List Statement) (look : List ℕ → Option Symbol) (labels
     → ((k : ℕ) → k < length db → All (λ s. s < length (symbol_names db)) (formula_at db k))
     → IsSound db
 sound_is db look labels b x few lawful below = record {
-  few = few;
+  few_statements = few;
   lawful = lawful;
   no_constant_is_variable =
       λ w e. let k = x.symbols w in k.variable ∙ one_kind (entry_of (look w)) (sym k.constant ∙ e);

@@ -1,7 +1,7 @@
 use Rattle.std.proofs.Common.{length, Some, ap, sym, ◌∙◌, arith}
 use Rattle.std.proofs.lemmas.List.FromFn.{length-map-range_with_len}
 use Rattle.mm_database.specs.Frames.{frame_or_none}
-use Rattle.mm_database.proofs.NamesLaw.{on_then}
+use Rattle.mm_database.proofs.NamesLaw.{on_ok_then}
 use Rattle.mm_frame.proofs.FramesLaw.{frames_more, own_frame}
 use Rattle.mm_frame.proofs.frames.add_frame.Goals as goal
 
@@ -11,7 +11,7 @@ add-requires g c =
     let n =
     ap length c.requires.frames
     ∙ length-map-range_with_len (frame_or_none db) 0 c.args.statement in
-    let small = c.requires.sources.sound.few in
+    let small = c.requires.sources.sound.few_statements in
     let k = c.requires.statement in
     omega (arith, n, small, k)
 
@@ -20,7 +20,7 @@ returns-in_ok-frame-clause-frames g c =
     let db = c.args.sources.now.statements.now.list in
     let k = c.args.statement in
     let is = sym c.is_assertion.ensures ∙ c.if-is_assertion.true in
-    on_then c.add.result c.add.ensures
+    on_ok_then c.add.result c.add.ensures
     (λ e. frames_more db k _ _ _ c.requires.frames e
     (ap Some c.in_ok-frame.ensures.frame ∙ own_frame db k _ is))
 
@@ -29,5 +29,5 @@ returns-else-is_assertion-clause-frames g c =
     let db = c.args.sources.now.statements.now.list in
     let k = c.args.statement in
     let is = sym c.is_assertion.ensures ∙ c.if-is_assertion.false in
-    on_then c.add_none.result c.add_none.ensures
+    on_ok_then c.add_none.result c.add_none.ensures
     (λ e. frames_more db k _ _ _ c.requires.frames e (own_frame db k _ is))

@@ -5,13 +5,13 @@ use Rattle.mm_scope.specs.Formulas.{numbers_in}
 use Rattle.mm_database.specs.Names.{names_of}
 use Rattle.mm_scope.proofs.NumberedLaw.{numbers_between_push, numbers_between_nothing}
 use Rattle.mm_scope.proofs.formulas.number_all.Goals as goal
-use Rattle.mm_database.proofs.NamesLaw.{index_le}
+use Rattle.mm_database.proofs.NamesLaw.{index_of_le_length}
 
 pub overflow_cast-number : goal.overflow_cast-number
 overflow_cast-number g c =
     let ns = names_of c.args.names.now.symbols in
     let names_lt_2_31 = c.requires.few in
-    let index_le_length = index_le c.bytes.result.now ns in
+    let index_le_length = index_of_le_length c.bytes.result.now ns in
     let number_is_index = c.numbered-number.ensures.number in
     omega (arith, index_le_length, number_is_index, names_lt_2_31)
 

@@ -11,7 +11,7 @@ use Rattle.mm_database.specs.Names.{names_of}
 use Rattle.mm_database.specs.FrameTables.{AreFrameTables}
 use Rattle.mm_database.specs.Database.{Contents, IsDatabase, AreStatementLists}
 use Rattle.mm_database.specs.declared.reading.Reading.{Reading}
-use Rattle.mm_database.proofs.RetainedWordsLaw.{retained_are}
+use Rattle.mm_database.proofs.RetainedWordsLaw.{retained_words_are_of_statements}
 use Rattle.mm_scope.specs.ReadSoFar.{IsReadSoFar, read_so_far}
 use Rattle.mm_database.specs.ParsedStatements.{IsSound}
 use Rattle.mm_spec.specs.Opened.{counted}
@@ -98,7 +98,7 @@ new-requires g c =
       retained_words = c.in_ok-retained_words.retained_words;
     })) (sym same)
     (record {
-      few = let n = length-map os (statement_of text words) in
+      few_statements = let n = length-map os (statement_of text words) in
           let few = outlined.few in omega (arith, n, few);
       read = is_read text ws words os _ _ lent refl c.requires.fault outlined.read;
       labels = is_read_so_far.keeps.labels_are;
@@ -109,7 +109,8 @@ new-requires g c =
       lists_are = statement_lists;
       retained_are =
           rw (c.in_ok-retained_words.ensures, c.deref-2.ensures.value, lent)
-          (retained_are text words (tokens_stand text) os (rw (sym lent) outlined.outlines));
+          (retained_words_are_of_statements text words (tokens_stand text) os
+          (rw (sym lent) outlined.outlines));
     })
 
 pub returns : goal.returns

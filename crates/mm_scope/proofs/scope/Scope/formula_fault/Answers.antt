@@ -9,13 +9,13 @@ use Rattle.mm_spec.specs.declared.Code.TheVariants.{BadTypecode}
 use Rattle.mm_database.specs.Names.{find, is_constant_in, names_of}
 use Rattle.mm_scope.proofs.JudgeLaw.{between_first}
 use Rattle.mm_scope.proofs.scope.Scope.formula_fault.Goals as goal
-use Rattle.mm_database.proofs.NamesLaw.{index_le}
+use Rattle.mm_database.proofs.NamesLaw.{index_of_le_length}
 
 pub overflow_cast-number : goal.overflow_cast-number
 overflow_cast-number g c =
     let ns = names_of c.args.self.now.names.symbols in
     let names_lt_2_31 = c.requires.few in
-    let index_le_length = index_le c.bytes.result.now ns in
+    let index_le_length = index_of_le_length c.bytes.result.now ns in
     let number_is_index = c.numbered-number.ensures.number in
     omega (arith, index_le_length, number_is_index, names_lt_2_31)
 
