@@ -21,6 +21,7 @@ use Rattle.mm_outline.proofs.StatementsLaw.{is_there}
 
 -- ---- pairs by their places
 
+-- a pair of the list stands somewhere in it
 pub place_of_pair : (ps : List (ℕ × ℕ)) (x y : ℕ) → has_pair ps x y ≡ true
     → (p : ℕ) × (p < length ps) × ((get_or ps p (0, 0)).0 ≡ x) × ((get_or ps p (0, 0)).1 ≡ y)
 place_of_pair [] x y has_pair_x_y = absurd (true≢false (sym has_pair_x_y))
@@ -44,6 +45,7 @@ place_of_pair (q ∷ qs) x y has_pair_x_y =
         let place_lt_length = place.1 in
         (suc place.0, omega (arith, place_lt_length), place.2, place.3)
 
+-- the list has each pair that stands in it
 pub has_pair_at_place : (ps : List (ℕ × ℕ)) (p : ℕ) (d : ℕ × ℕ) → p < length ps
     → has_pair ps (get_or ps p d).0 (get_or ps p d).1 ≡ true
 has_pair_at_place [] p d p_lt_length = absurd (omega arith)
@@ -55,6 +57,7 @@ has_pair_at_place (q ∷ qs) (suc p) d p_lt_length =
     (has_pair_at_place qs p d (omega arith))
     ∙ or-true (nat_eq (get_or qs p d).0 q.0 && nat_eq (get_or qs p d).1 q.1)
 
+-- of two pairs in a list in ascending order, the earlier is before the later
 pub earlier_is_before : (ps : List (ℕ × ℕ)) → AreRising ps → (i j : ℕ) (d : ℕ × ℕ) → i < j
     → j < length ps
     → IsBefore (get_or ps i d).0 (get_or ps i d).1 (get_or ps j d).0 (get_or ps j d).1
@@ -68,6 +71,7 @@ earlier_is_before (p ∷ ps) are_rising (suc i) (suc j) d i_lt_j j_lt_length =
 
 -- ---- before
 
+-- what the test of pairs says, and its converse
 pub is_before_from_test : (p : ℕ × ℕ) (x y : ℕ) → is_pair_before p x y ≡ true → IsBefore p.0 p.1 x y
 is_before_from_test p x y test_is_true = by_symbol (nat_lt p.0 x) refl test_is_true
   where
@@ -88,6 +92,7 @@ is_pair_before_if p x y (inr (p0_is_x, lower)) =
     ap (λ b. nat_lt p.0 x || b) (ap₂ (λ a b. a && b) (eq-eqb p.0 x p0_is_x) (lt-ltb p.1 y lower))
     ∙ or-true (nat_lt p.0 x)
 
+-- a pair before one that is before a third is before the third
 before_is_transitive : (a b c d e f : ℕ) → IsBefore a b c d → IsBefore c d e f → IsBefore a b e f
 before_is_transitive a b c d e f (inl first_lower) (inl second_lower) = inl (omega arith)
 before_is_transitive a b c d e f (inl first_lower) (inr (first_equal, second_lower)) =
@@ -97,6 +102,7 @@ before_is_transitive a b c d e f (inr (first_equal, first_lower)) (inl second_lo
 before_is_transitive a b c d e f (inr (first_equal, first_lower))
     (inr (second_equal, second_lower)) = inr (omega arith, omega arith)
 
+-- in a list in ascending order, the pairs before a pair stand first
 pub is_partitioned_by_before : (ps : List (ℕ × ℕ)) → AreRising ps → (x y : ℕ)
     → IsPartitionedBy (λ p. is_pair_before p x y) ps
 is_partitioned_by_before ps are_rising x y i j d i_lt_j j_lt_length j_is_before =
@@ -113,6 +119,7 @@ is_partitioned_by_before ps are_rising x y i j d i_lt_j j_lt_length j_is_before 
 
 -- ---- the blocks of the pairs
 
+-- the statements that have symbols have blocks
 pub have_blocks : (db : List Statement) (b : BlockLists) → IsBlocks db b → (ps : List (ℕ × ℕ))
     → ((x j : ℕ) → has_pair ps x j ≡ has_symbol db x j) → HaveBlocks b ps
 have_blocks db b blocks ps pairs_are_members p p_lt_length =
@@ -139,6 +146,7 @@ pub record IsPartedAt (ps : List (ℕ × ℕ)) (x at start : ℕ) : Type 0 where
 
 -- the same for a list and a symbol that are equal to these
 module _ (qs ps : List (ℕ × ℕ)) (y x : ℕ) (qs_is_ps : qs ≡ ps) (y_is_x : y ≡ x) where
+  -- what is said of the equal list is said of this one
   pub parted_by_values : (at start : ℕ) → start ≤ length qs
       → ((p : ℕ) → p < start → is_pair_before (get_or qs p (0, 0)) y at ≡ true)
       → ((p : ℕ) → start ≤ p → p < length qs → is_pair_before (get_or qs p (0, 0)) y at ≡ false)
@@ -161,15 +169,16 @@ module _ (qs ps : List (ℕ × ℕ)) (y x : ℕ) (qs_is_ps : qs ≡ ps) (y_is_x 
 
 -- the pairs from index `end` up to `start` have been looked at
 pub record AddsFromEnd (b : BlockLists) (ps : List (ℕ × ℕ)) (x at start end : ℕ)
-    (old now : List (ℕ × ℕ)) : Type 0 where
+    (earlier_pairs pairs_so_far : List (ℕ × ℕ)) : Type 0 where
   pub end_le_start : end ≤ start
-  pub old_pairs_stay : (j y : ℕ) → has_pair old j y ≡ true → has_pair now j y ≡ true
-  pub new_pairs_are_active : (j y : ℕ) → has_pair now j y ≡ true
-      → (has_pair old j y ≡ true)
+  pub old_pairs_stay : (j y : ℕ) → has_pair earlier_pairs j y ≡ true
+      → has_pair pairs_so_far j y ≡ true
+  pub new_pairs_are_active : (j y : ℕ) → has_pair pairs_so_far j y ≡ true
+      → (has_pair earlier_pairs j y ≡ true)
       ⊎ ((y ≡ x) × (has_pair ps x j ≡ true) × (is_active_local b j at ≡ true))
   pub active_pairs_are_added : (p : ℕ) → end ≤ p → p < start → (get_or ps p (0, 0)).0 ≡ x
       → nat_le at (end_of b (get_or ps p (0, 0)).1) ≡ true
-      → has_pair now (get_or ps p (0, 0)).1 x ≡ true
+      → has_pair pairs_so_far (get_or ps p (0, 0)).1 x ≡ true
 
 module _ (b : BlockLists) (ps : List (ℕ × ℕ)) (rising : AreRising ps) (x at start : ℕ)
     (parted : IsPartedAt ps x at start)
@@ -186,25 +195,29 @@ module _ (b : BlockLists) (ps : List (ℕ × ℕ)) (rising : AreRising ps) (x at
         by_symbol (inr (symbol_is_x, lower)) = lower
 
     -- a `$d` whose block is open is added
-    pub added_open : (end next : ℕ) (old now : List (ℕ × ℕ))
-        → AddsFromEnd b ps x at start end old now
+    pub added_open : (end next_end : ℕ) (earlier_pairs pairs_so_far : List (ℕ × ℕ))
+        → AddsFromEnd b ps x at start end earlier_pairs pairs_so_far
         → 0 < end → (get_or ps (end - 1) (0, 0)).0 ≡ x
         → nat_le at (end_of b (get_or ps (end - 1) (0, 0)).1) ≡ true
-        → next < end
-        → ((p : ℕ) → next ≤ p → p + 1 < end
+        → next_end < end
+        → ((p : ℕ) → next_end ≤ p → p + 1 < end
         → nat_le at (end_of b (get_or ps p (0, 0)).1) ≡ false)
-        → AddsFromEnd b ps x at start next old (now ++ ((get_or ps (end - 1) (0, 0)).1, x) ∷ [])
-    added_open end next old now adds end_gt_0 last_symbol_is_x last_is_open next_lt_end
+        → AddsFromEnd b ps x at start next_end earlier_pairs
+        (pairs_so_far ++ ((get_or ps (end - 1) (0, 0)).1, x) ∷ [])
+    added_open end next_end earlier_pairs pairs_so_far adds end_gt_0 last_symbol_is_x last_is_open
+    next_lt_end
         skipped_are_closed = record {
           end_le_start = let end_le_start = adds.end_le_start in
               omega (arith, end_le_start, next_lt_end);
           old_pairs_stay = λ j y had_pair. has_pair_still j y (adds.old_pairs_stay j y had_pair);
           new_pairs_are_active =
-              λ j y had_pair. new_pair_is_active j y (has_pair now j y) refl
-              (sym (list_any-append (λ p. nat_eq j p.0 && nat_eq y p.1) now ((last_statement, x) ∷ []))
+              λ j y had_pair. new_pair_is_active j y (has_pair pairs_so_far j y) refl
+              (sym (list_any-append (λ p. nat_eq j p.0 && nat_eq y p.1) pairs_so_far
+              ((last_statement, x) ∷ []))
               ∙ had_pair);
           active_pairs_are_added =
-              λ p next_le_p p_lt_start had_pair p_is_open. active_pair_is_added p next_le_p p_lt_start
+              λ p next_le_p p_lt_start had_pair p_is_open. active_pair_is_added p next_le_p
+              p_lt_start
               had_pair p_is_open (cases_order (p + 1) end);
         }
       where
@@ -215,15 +228,16 @@ module _ (b : BlockLists) (ps : List (ℕ × ℕ)) (rising : AreRising ps) (x at
         last_lt_start = let end_le_start = adds.end_le_start in
             omega (arith, end_le_start, end_gt_0)
 
-        has_pair_still : (j y : ℕ) → has_pair now j y ≡ true
-            → has_pair (now ++ (last_statement, x) ∷ []) j y ≡ true
+        has_pair_still : (j y : ℕ) → has_pair pairs_so_far j y ≡ true
+            → has_pair (pairs_so_far ++ (last_statement, x) ∷ []) j y ≡ true
         has_pair_still j y had_pair =
-            list_any-append (λ p. nat_eq j p.0 && nat_eq y p.1) now ((last_statement, x) ∷ [])
+            list_any-append (λ p. nat_eq j p.0 && nat_eq y p.1) pairs_so_far
+            ((last_statement, x) ∷ [])
             ∙ ap (λ c. c || has_pair ((last_statement, x) ∷ []) j y) had_pair
 
-        new_pair_is_active : (j y : ℕ) (c : Bool) → has_pair now j y ≡ c
+        new_pair_is_active : (j y : ℕ) (c : Bool) → has_pair pairs_so_far j y ≡ c
             → (c || ((nat_eq j last_statement && nat_eq y x) || false)) ≡ true
-            → (has_pair old j y ≡ true)
+            → (has_pair earlier_pairs j y ≡ true)
             ⊎ ((y ≡ x) × (has_pair ps x j ≡ true) × (is_active_local b j at ≡ true))
         new_pair_is_active j y true has_pair_x_y has_pair_after =
             adds.new_pairs_are_active j y has_pair_x_y
@@ -246,20 +260,20 @@ module _ (b : BlockLists) (ps : List (ℕ × ℕ)) (rising : AreRising ps) (x at
                   (ap (λ j. nat_le at (end_of b j)) j_is_last_statement ∙ last_is_open),
             )
 
-        active_pair_is_added : (p : ℕ) → next ≤ p → p < start → (get_or ps p (0, 0)).0 ≡ x
+        active_pair_is_added : (p : ℕ) → next_end ≤ p → p < start → (get_or ps p (0, 0)).0 ≡ x
             → nat_le at (end_of b (get_or ps p (0, 0)).1) ≡ true
             → (p + 1 ≡ end) ⊎ ((p + 1 < end) ⊎ (end < p + 1))
-            → has_pair (now ++ (last_statement, x) ∷ []) (get_or ps p (0, 0)).1 x ≡ true
+            → has_pair (pairs_so_far ++ (last_statement, x) ∷ []) (get_or ps p (0, 0)).1 x ≡ true
         active_pair_is_added p next_le_p p_lt_start p_has_x p_is_open (inl p_order) =
             let p_is_last : p ≡ end - 1 = omega (arith, p_order) in
-            list_any-append (λ r. nat_eq (get_or ps p (0, 0)).1 r.0 && nat_eq x r.1) now
+            list_any-append (λ r. nat_eq (get_or ps p (0, 0)).1 r.0 && nat_eq x r.1) pairs_so_far
             ((last_statement, x) ∷ [])
-            ∙ ap (λ c. has_pair now (get_or ps p (0, 0)).1 x || (c || false))
+            ∙ ap (λ c. has_pair pairs_so_far (get_or ps p (0, 0)).1 x || (c || false))
             (ap₂ (λ u v. u && v)
             (eq-eqb (get_or ps p (0, 0)).1 last_statement
             (ap (λ i. (get_or ps i (0, 0)).1) p_is_last))
             (eq-eqb x x refl))
-            ∙ or-true (has_pair now (get_or ps p (0, 0)).1 x)
+            ∙ or-true (has_pair pairs_so_far (get_or ps p (0, 0)).1 x)
         active_pair_is_added p next_le_p p_lt_start p_has_x p_is_open (inr (inl p_order)) = absurd
             (true≢false (sym p_is_open ∙ skipped_are_closed p next_le_p p_order))
         active_pair_is_added p next_le_p p_lt_start p_has_x p_is_open (inr (inr p_order)) =
@@ -267,28 +281,30 @@ module _ (b : BlockLists) (ps : List (ℕ × ℕ)) (rising : AreRising ps) (x at
             (adds.active_pairs_are_added p (omega (arith, p_order)) p_lt_start p_has_x p_is_open)
 
     -- a `$d` whose block is closed is passed over
-    pub added_closed : (end next : ℕ) (old now : List (ℕ × ℕ))
-        → AddsFromEnd b ps x at start end old now
+    pub added_closed : (end next_end : ℕ) (earlier_pairs pairs_so_far : List (ℕ × ℕ))
+        → AddsFromEnd b ps x at start end earlier_pairs pairs_so_far
         → 0 < end → nat_le at (end_of b (get_or ps (end - 1) (0, 0)).1) ≡ false
-        → next < end
-        → ((p : ℕ) → next ≤ p → p + 1 < end
+        → next_end < end
+        → ((p : ℕ) → next_end ≤ p → p + 1 < end
         → nat_le at (end_of b (get_or ps p (0, 0)).1) ≡ false)
-        → AddsFromEnd b ps x at start next old now
-    added_closed end next old now adds end_gt_0 last_is_closed next_lt_end skipped_are_closed =
+        → AddsFromEnd b ps x at start next_end earlier_pairs pairs_so_far
+    added_closed end next_end earlier_pairs pairs_so_far adds end_gt_0 last_is_closed next_lt_end
+        skipped_are_closed =
         record {
           end_le_start = let end_le_start = adds.end_le_start in
               omega (arith, end_le_start, next_lt_end);
           old_pairs_stay = adds.old_pairs_stay;
           new_pairs_are_active = adds.new_pairs_are_active;
           active_pairs_are_added =
-              λ p next_le_p p_lt_start p_has_x p_is_open. active_pair_is_added p next_le_p p_lt_start
+              λ p next_le_p p_lt_start p_has_x p_is_open. active_pair_is_added p next_le_p
+              p_lt_start
               p_has_x p_is_open (cases_order (p + 1) end);
         }
       where
-        active_pair_is_added : (p : ℕ) → next ≤ p → p < start → (get_or ps p (0, 0)).0 ≡ x
+        active_pair_is_added : (p : ℕ) → next_end ≤ p → p < start → (get_or ps p (0, 0)).0 ≡ x
             → nat_le at (end_of b (get_or ps p (0, 0)).1) ≡ true
             → (p + 1 ≡ end) ⊎ ((p + 1 < end) ⊎ (end < p + 1))
-            → has_pair now (get_or ps p (0, 0)).1 x ≡ true
+            → has_pair pairs_so_far (get_or ps p (0, 0)).1 x ≡ true
         active_pair_is_added p next_le_p p_lt_start p_has_x p_is_open (inl p_order) =
             let p_is_last : p ≡ end - 1 = omega (arith, p_order) in
             absurd (true≢false
@@ -348,30 +364,34 @@ module _ (b : BlockLists) (ps : List (ℕ × ℕ)) (rising : AreRising ps) (x at
             (sym (is_pair_before_if (get_or ps p (0, 0)) x at (inr (symbol_is_x, statement_lt_at)))
             ∙ parted.later_are_not_before p p_order p_lt_length_ps))
 
-    pub all_are_added : (end : ℕ) (old now : List (ℕ × ℕ)) → AddsFromEnd b ps x at start end old now
+    -- at the end exactly the active `$d` with the symbol have been added
+    pub all_are_added : (end : ℕ) (earlier_pairs pairs_so_far : List (ℕ × ℕ))
+        → AddsFromEnd b ps x at start end earlier_pairs pairs_so_far
         → (0 < end → (get_or ps (end - 1) (0, 0)).0 ≢ x)
         → (j y : ℕ)
-        → has_pair now j y
-        ≡ (has_pair old j y || (nat_eq y x && (has_pair ps x j && is_active_local b j at)))
-    all_are_added end old now adds last_symbol_ne_x j y =
-        same_tests (has_pair now j y)
-        (has_pair old j y || (nat_eq y x && (has_pair ps x j && is_active_local b j at)))
+        → has_pair pairs_so_far j y
+        ≡ (has_pair earlier_pairs j y ||
+        (nat_eq y x && (has_pair ps x j && is_active_local b j at)))
+    all_are_added end earlier_pairs pairs_so_far adds last_symbol_ne_x j y =
+        same_tests (has_pair pairs_so_far j y)
+        (has_pair earlier_pairs j y || (nat_eq y x && (has_pair ps x j && is_active_local b j at)))
         (λ test. left_to_right (adds.new_pairs_are_active j y test))
-        (λ test. right_to_left (has_pair old j y) refl test)
+        (λ test. right_to_left (has_pair earlier_pairs j y) refl test)
       where
-        left_to_right : (has_pair old j y ≡ true)
+        left_to_right : (has_pair earlier_pairs j y ≡ true)
             ⊎ ((y ≡ x) × (has_pair ps x j ≡ true) × (is_active_local b j at ≡ true))
-            → (has_pair old j y || (nat_eq y x && (has_pair ps x j && is_active_local b j at)))
+            → (has_pair earlier_pairs j y ||
+            (nat_eq y x && (has_pair ps x j && is_active_local b j at)))
             ≡ true
         left_to_right (inl had_pair) = ap (λ c. c || (nat_eq y x
             && (has_pair ps x j && is_active_local b j at))) had_pair
         left_to_right (inr (y_is_x, has_pair_x_j, j_is_active)) =
-            ap (λ c. has_pair old j y || c)
+            ap (λ c. has_pair earlier_pairs j y || c)
             (ap₂ (λ u v. u && v) (eq-eqb y x y_is_x) (ap₂ (λ u v. u && v) has_pair_x_j j_is_active))
-            ∙ or-true (has_pair old j y)
+            ∙ or-true (has_pair earlier_pairs j y)
 
         active_pair_is_found : has_pair ps x j ≡ true → is_active_local b j at ≡ true
-            → has_pair now j x ≡ true
+            → has_pair pairs_so_far j x ≡ true
         active_pair_is_found has_pair_x_j j_is_active =
             let place = place_of_pair ps x j has_pair_x_j in
             let p = place.0 in
@@ -383,17 +403,18 @@ module _ (b : BlockLists) (ps : List (ℕ × ℕ)) (rising : AreRising ps) (x at
             by_order p place_lt_start place.2 place.3 j_is_open (cases_lt p end)
           where
             by_order : (p : ℕ) → p < start → (get_or ps p (0, 0)).0 ≡ x → (get_or ps p (0, 0)).1 ≡ j
-                → nat_le at (end_of b j) ≡ true → (p < end) ⊎ (end ≤ p) → has_pair now j x ≡ true
+                → nat_le at (end_of b j) ≡ true → (p < end) ⊎ (end ≤ p)
+                → has_pair pairs_so_far j x ≡ true
             by_order p p_lt_start p_has_x statement_is_j j_is_open (inl p_order) =
                 absurd (none_before_end end adds.end_le_start last_symbol_ne_x p p_order p_has_x)
             by_order p p_lt_start p_has_x statement_is_j j_is_open (inr p_order) =
-                ap (λ i. has_pair now i x) (sym statement_is_j)
+                ap (λ i. has_pair pairs_so_far i x) (sym statement_is_j)
                 ∙ adds.active_pairs_are_added p p_order p_lt_start p_has_x
                 (ap (λ i. nat_le at (end_of b i)) statement_is_j ∙ j_is_open)
 
-        right_to_left : (c : Bool) → has_pair old j y ≡ c
+        right_to_left : (c : Bool) → has_pair earlier_pairs j y ≡ c
             → (c || (nat_eq y x && (has_pair ps x j && is_active_local b j at))) ≡ true
-            → has_pair now j y ≡ true
+            → has_pair pairs_so_far j y ≡ true
         right_to_left true has_pair_x_y is_added = adds.old_pairs_stay j y has_pair_x_y
         right_to_left false not_had is_added =
             let y_is_x =
@@ -401,7 +422,7 @@ module _ (b : BlockLists) (ps : List (ℕ × ℕ)) (rising : AreRising ps) (x at
             is_added).0 in
             let j_is_active_member =
             (and_parts (nat_eq y x) (has_pair ps x j && is_active_local b j at) is_added).1 in
-            ap (has_pair now j) y_is_x
+            ap (has_pair pairs_so_far j) y_is_x
             ∙ active_pair_is_found
             (and_parts (has_pair ps x j) (is_active_local b j at) j_is_active_member).0
             (and_parts (has_pair ps x j) (is_active_local b j at) j_is_active_member).1
@@ -416,6 +437,7 @@ pub record NoneInCommon (b : BlockLists) (ps : List (ℕ × ℕ)) (x y at x_end 
       → is_active_local b (get_or ps p (0, 0)).1 at ≡ true → (p < x_end) × (q < y_end)
 
 module _ (b : BlockLists) (ps : List (ℕ × ℕ)) (rising : AreRising ps) (x y at : ℕ) where
+  -- before any pair is looked at, all common ones are before the ends
   pub none_at_start : (x_end y_end : ℕ) → x_end ≤ length ps → y_end ≤ length ps
       → ((p : ℕ) → p < x_end → is_pair_before (get_or ps p (0, 0)) x at ≡ true)
       → ((p : ℕ) → x_end ≤ p → p < length ps → is_pair_before (get_or ps p (0, 0)) x at ≡ false)
@@ -468,6 +490,7 @@ module _ (b : BlockLists) (ps : List (ℕ × ℕ)) (rising : AreRising ps) (x y 
           statement_le (inl lower) = absurd (omega (arith, lower, symbols_equal))
           statement_le (inr (symbols_equal, lower)) = omega (arith, lower)
 
+  -- a `$d` whose block is closed is not active
   closed_is_inactive : (p : ℕ) → nat_le at (end_of b (get_or ps p (0, 0)).1) ≡ false
       → is_active_local b (get_or ps p (0, 0)).1 at ≡ true → ⊥
   closed_is_inactive p is_closed is_active =
@@ -478,13 +501,15 @@ module _ (b : BlockLists) (ps : List (ℕ × ℕ)) (rising : AreRising ps) (x y 
 
   -- the last of the one is of a later statement than the last of the other, or of the same, whose
   -- block is closed
-  pub none_before_x_end : (x_end y_end next : ℕ) → NoneInCommon b ps x y at x_end y_end → 0 < x_end
+  pub none_before_x_end : (x_end y_end next_end : ℕ) → NoneInCommon b ps x y at x_end y_end
+      → 0 < x_end
       → x_end ≤ length ps → 0 < y_end → y_end ≤ length ps → (get_or ps (y_end - 1) (0, 0)).0 ≡ y
       → ((get_or ps (y_end - 1) (0, 0)).1 < (get_or ps (x_end - 1) (0, 0)).1)
       ⊎ (nat_le at (end_of b (get_or ps (x_end - 1) (0, 0)).1) ≡ false)
-      → ((p : ℕ) → next ≤ p → p + 1 < x_end → nat_le at (end_of b (get_or ps p (0, 0)).1) ≡ false)
-      → NoneInCommon b ps x y at next y_end
-  none_before_x_end x_end y_end next none_in_common x_end_gt_0 x_end_le_length y_end_gt_0
+      → ((p : ℕ) → next_end ≤ p → p + 1 < x_end → nat_le at (end_of b (get_or ps p (0, 0)).1)
+      ≡ false)
+      → NoneInCommon b ps x y at next_end y_end
+  none_before_x_end x_end y_end next_end none_in_common x_end_gt_0 x_end_le_length y_end_gt_0
       y_end_le_length last_has_y later_or_closed skipped_are_closed =
       record {
         common_pairs_are_before_ends =
@@ -493,16 +518,16 @@ module _ (b : BlockLists) (ps : List (ℕ × ℕ)) (rising : AreRising ps) (x y 
             none_in_common.common_pairs_are_before_ends p q p_lt_length q_lt_length p_has_x q_has_y
             statements_equal is_active in (
               is_before_next p q before_ends.0 before_ends.1 q_has_y statements_equal is_active
-                  (cases_lt p next) later_or_closed,
+                  (cases_lt p next_end) later_or_closed,
               before_ends.1,
             );
       }
     where
       is_before_next : (p q : ℕ) → p < x_end → q < y_end → (get_or ps q (0, 0)).0 ≡ y
           → (get_or ps p (0, 0)).1 ≡ (get_or ps q (0, 0)).1
-          → is_active_local b (get_or ps p (0, 0)).1 at ≡ true → (p < next) ⊎ (next ≤ p)
+          → is_active_local b (get_or ps p (0, 0)).1 at ≡ true → (p < next_end) ⊎ (next_end ≤ p)
           → ((get_or ps (y_end - 1) (0, 0)).1 < (get_or ps (x_end - 1) (0, 0)).1)
-          ⊎ (nat_le at (end_of b (get_or ps (x_end - 1) (0, 0)).1) ≡ false) → p < next
+          ⊎ (nat_le at (end_of b (get_or ps (x_end - 1) (0, 0)).1) ≡ false) → p < next_end
       is_before_next p q p_lt_x_end q_lt_y_end q_has_y statements_equal j_is_active
           (inl p_lt_next) reason = p_lt_next
       is_before_next p q p_lt_x_end q_lt_y_end q_has_y statements_equal j_is_active
@@ -528,12 +553,15 @@ module _ (b : BlockLists) (ps : List (ℕ × ℕ)) (rising : AreRising ps) (x y 
               (q_has_y ∙ sym last_has_y) in
               omega (arith, statements_of_p_equal, statement_le, statements_equal, reason)
 
-  pub none_before_y_end : (x_end y_end next : ℕ) → NoneInCommon b ps x y at x_end y_end → 0 < x_end
+  -- the same with the two symbols exchanged
+  pub none_before_y_end : (x_end y_end next_end : ℕ) → NoneInCommon b ps x y at x_end y_end
+      → 0 < x_end
       → x_end ≤ length ps → 0 < y_end → y_end ≤ length ps → (get_or ps (x_end - 1) (0, 0)).0 ≡ x
       → (get_or ps (x_end - 1) (0, 0)).1 < (get_or ps (y_end - 1) (0, 0)).1
-      → ((p : ℕ) → next ≤ p → p + 1 < y_end → nat_le at (end_of b (get_or ps p (0, 0)).1) ≡ false)
-      → NoneInCommon b ps x y at x_end next
-  none_before_y_end x_end y_end next none_in_common x_end_gt_0 x_end_le_length y_end_gt_0
+      → ((p : ℕ) → next_end ≤ p → p + 1 < y_end → nat_le at (end_of b (get_or ps p (0, 0)).1)
+      ≡ false)
+      → NoneInCommon b ps x y at x_end next_end
+  none_before_y_end x_end y_end next_end none_in_common x_end_gt_0 x_end_le_length y_end_gt_0
       y_end_le_length last_has_x x_statement_lt_y_statement skipped_are_closed =
       record {
         common_pairs_are_before_ends =
@@ -543,13 +571,14 @@ module _ (b : BlockLists) (ps : List (ℕ × ℕ)) (rising : AreRising ps) (x y 
             statements_equal is_active in (
               before_ends.0,
               is_before_next p q before_ends.0 before_ends.1 p_has_x statements_equal
-                  is_active (cases_lt q next),
+                  is_active (cases_lt q next_end),
             );
       }
     where
       is_before_next : (p q : ℕ) → p < x_end → q < y_end → (get_or ps p (0, 0)).0 ≡ x
           → (get_or ps p (0, 0)).1 ≡ (get_or ps q (0, 0)).1
-          → is_active_local b (get_or ps p (0, 0)).1 at ≡ true → (q < next) ⊎ (next ≤ q) → q < next
+          → is_active_local b (get_or ps p (0, 0)).1 at ≡ true → (q < next_end) ⊎ (next_end ≤ q)
+          → q < next_end
       is_before_next p q p_lt_x_end q_lt_y_end p_has_x statements_equal j_is_active
           (inl q_lt_next) =
           q_lt_next

@@ -29,6 +29,7 @@ frame_of_assertion db k k_is_assertion =
     ∙ ap (λ b. if b then Some (mandatory_at db k) else None) k_is_assertion
 
 module _ {A : Type 0} (fs : List (Frame A)) where
+  -- an index keeps its frame when a frame is added
   frame_at_unchanged : (f : Frame A) (p : ℕ) → length fs < never → (p < length fs) ⊎ (p ≡ never)
       → option_map mandatory_in (slice_get (fs ++ f ∷ []) p)
       ≡ option_map mandatory_in (slice_get fs p)
@@ -44,6 +45,7 @@ module _ {A : Type 0} (fs : List (Frame A)) where
       (slice_get_past (fs ++ f ∷ []) p (omega (arith, p_is_never, frames_lt_never, pushed_length))
       ∙ sym (slice_get_past fs p (omega (arith, p_is_never, frames_lt_never))))
 
+  -- the indices keep their frames when a frame is added
   frames_at_unchanged : (f : Frame A) (ps : List ℕ) → length fs < never
       → ((i : ℕ) → i < length ps → (slice_index ps i < length fs) ⊎ (slice_index ps i ≡ never))
       → frames_at (fs ++ f ∷ []) ps ≡ frames_at fs ps
@@ -68,6 +70,7 @@ module _ {A : Type 0} (fs : List (Frame A)) where
       (slice_get-get_or (fs ++ f ∷ []) (length fs) f (omega (arith, pushed_length))
       ∙ ap Some (get_or_push fs f f (length fs) refl)))
 
+  -- each statement has an index
   pub as_many_indices : (ps : List ℕ) → length (frames_at fs ps) ≡ length ps
   as_many_indices ps = length-map ps (λ p. option_map mandatory_in (slice_get fs p))
 

@@ -29,6 +29,7 @@ use Rattle.mm_database.specs.Kinds.{is_disjoint_kind}
 
 -- ---- the numbers that pass a test
 
+-- the numbers up to k + 1 that pass are those up to k, and k if it passes
 filter_range_push : (p : ℕ → Bool) (k : ℕ) (b : Bool) → p k ≡ b
     → filter p (range_with_len 0 (k + 1)) ≡ filter p (range_with_len 0 k) ++ (cond b (k ∷ []) [])
 filter_range_push p k b p_k_is_b =
@@ -39,6 +40,7 @@ filter_range_push p k b p_k_is_b =
     ∙ filter-append p (range_with_len 0 k) (k ∷ [])
     ∙ ap (λ c. filter p (range_with_len 0 k) ++ cond c (k ∷ []) []) p_k_is_b
 
+-- the list with k, which passes
 pub filter_range_passes : (p : ℕ → Bool) (k : ℕ) (xs ys : List ℕ)
     → xs ≡ filter p (range_with_len 0 k)
     → p k ≡ true → ys ≡ xs ++ k ∷ [] → ys ≡ filter p (range_with_len 0 (k + 1))
@@ -46,6 +48,7 @@ filter_range_passes p k xs ys xs_are_filtered k_passes ys_are_xs_and_k =
     ys_are_xs_and_k ∙ ap (λ zs. zs ++ k ∷ []) xs_are_filtered
     ∙ sym (filter_range_push p k true k_passes)
 
+-- the list without k, which doesn't pass
 pub filter_range_skips : (p : ℕ → Bool) (k : ℕ) (xs : List ℕ) → xs ≡ filter p (range_with_len 0 k)
     → p k ≡ false → xs ≡ filter p (range_with_len 0 (k + 1))
 filter_range_skips p k xs xs_are_filtered k_fails =
@@ -54,6 +57,7 @@ filter_range_skips p k xs xs_are_filtered k_fails =
 
 -- ---- the theorems and the axioms by the kinds
 
+-- the kind of a statement by its number
 kind_at_index : (db : List Statement) (j : ℕ)
     → slice_get (map kind_of db) j ≡ option_map kind_of (slice_get db j)
 kind_at_index [] zero = refl
@@ -61,6 +65,7 @@ kind_at_index [] (suc j) = refl
 kind_at_index (s ∷ db) zero = refl
 kind_at_index (s ∷ db) (suc j) = kind_at_index db j
 
+-- the test of a kind for theorems and axioms is the test of the statement
 theorem_kind : (s : Statement) → is_theorem_kind (kind_of s) ≡ list_any is_theorem (s ∷ [])
 theorem_kind (constants k xs d) = refl
 theorem_kind (variables k xs d) = refl
@@ -83,6 +88,7 @@ axiom_kind (provable l k xs e ps d) = refl
 axiom_kind (opening k) = refl
 axiom_kind (closing k) = refl
 
+-- the numbers whose kinds pass are those whose statements pass
 numbers_by_kind : (test : Kind → Bool) (p : Statement → Bool)
     → ((s : Statement) → test (kind_of s) ≡ list_any p (s ∷ [])) → (db : List Statement)
     → numbers_of test (map kind_of db)
@@ -102,12 +108,14 @@ numbers_by_kind test p test_decides db =
     by_statement None = refl
     by_statement (Some s) = test_decides s
 
+-- the theorems are the statements with the kind of one
 pub theorems_by_kind : (db : List Statement) (kinds : List Kind) → kinds ≡ map kind_of db
     → numbers_of is_theorem_kind kinds ≡ theorems db
 theorems_by_kind db kinds kinds_are =
     ap (numbers_of is_theorem_kind) kinds_are
     ∙ numbers_by_kind is_theorem_kind is_theorem theorem_kind db
 
+-- the axioms are the statements with the kind of one
 pub axioms_by_kind : (db : List Statement) (kinds : List Kind) → kinds ≡ map kind_of db
     → numbers_of is_axiom_kind kinds ≡ columns db None
 axioms_by_kind db kinds kinds_are =
@@ -116,6 +124,7 @@ axioms_by_kind db kinds kinds_are =
 
 -- ---- one statement more
 
+-- statements as they count, with one statement more
 pub counted_push : (w : Bool) (db : List Statement) (s : Statement)
     → counted w (db ++ s ∷ []) ≡ counted w db ++ counted_as w s ∷ []
 counted_push true db s = map-append as_axiom db (s ∷ [])
@@ -130,6 +139,7 @@ pub test_at_is_test_of_kind : (test : Kind → Bool) (kinds : List Kind) (j : �
 test_at_is_test_of_kind test kinds j d j_lt_length =
     ap (λ o. elim o [ None ↦ false | Some k ↦ test k ]) (slice_get-get_or kinds j d j_lt_length)
 
+-- the kinds of the statements up to i + 1 are those up to i and that of the next
 pub kinds_push : (text : List ℕ) (ws : List Word) (os : List Outline) (w : Bool) (i : ℕ)
     → (d : Outline)
     → i < length os
@@ -145,6 +155,7 @@ kinds_push text ws os w i d i_lt_length_os =
     ∙ ap (map kind_of) (counted_push w earlier_statements s)
     ∙ map-append kind_of (counted w earlier_statements) (counted_as w s ∷ [])
 
+-- there are as many kinds as outlines
 pub kinds_lt_2_31 : (text : List ℕ) (ws : List Word) (os : List Outline) (w : Bool)
     (kinds : List Kind)
     → kinds ≡ map kind_of (counted w (statements text ws os)) → length os < 2 ^ 31
@@ -189,6 +200,7 @@ counted_element true db k s s_is_statement_k =
     got_axiom db k ∙ ap (option_map as_axiom) s_is_statement_k
 counted_element false db k s s_is_statement_k = s_is_statement_k
 
+-- a statement that counts as a theorem was read as this theorem
 pub counted_theorem_is_theorem : (w : Bool) (db : List Statement) (k : ℕ) (s : Statement)
     → slice_get db k ≡ Some s
     → option_map kind_of (slice_get (counted w db) k) ≡ Some kind.Theorem
@@ -231,6 +243,7 @@ open_statement true (provable l k xs e ps d) = by_open_proof (is_open_proof ps)
 open_statement true (opening k) = refl
 open_statement true (closing k) = refl
 
+-- an open theorem that counts as an axiom, by the two kinds
 pub is_open_by_kinds : (w : Bool) (db : List Statement) (k : ℕ) (x y : Kind)
     → option_map kind_of (slice_get db k) ≡ Some x
     → option_map kind_of (slice_get (counted w db) k) ≡ Some y
@@ -257,6 +270,7 @@ is_open_by_kinds w db k x y read_kind_is_x counted_kind_is_y =
 
 -- ---- tests of a statement by its kind
 
+-- a test of a kind that decides a test of statements decides it at each number
 pub test_by_kind : (p : Statement → Bool) (test : Kind → Bool)
     → ((s : Statement) → test (kind_of s) ≡ list_any p (s ∷ [])) → (db : List Statement) (k : ℕ)
     → (x : Kind)
@@ -269,6 +283,7 @@ test_by_kind p test test_decides db k x kind_is_x = by_statement (slice_get db k
     by_statement (Some s) kind_of_o_is_x = let x_is_kind_of_s : x ≡ kind_of s = cc in
         ap test x_is_kind_of_s ∙ test_decides s
 
+-- the tests of kinds are those of statements
 pub assertion_kind : (s : Statement) → is_assertion_kind (kind_of s)
     ≡ list_any is_assertion (s ∷ [])
 assertion_kind (constants k xs d) = refl

@@ -36,6 +36,7 @@ statements_le_tokens (s ∷ row) =
           (flat_map spelling_of row),
     )
 
+-- the statements that were read are no more than the bytes of the text
 pub statements_le_bytes : (text : List ℕ) (db : List Statement) (fault : Option Fault)
     → IsRead (length text) (lexed_of text) db fault → length db ≤ length text
 statements_le_bytes text db fault is_read =

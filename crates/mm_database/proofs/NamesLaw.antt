@@ -56,6 +56,7 @@ pub with_known_name_is_unchanged : (w : Bytes) (ns : List Bytes) → is_in w ns 
     → with_name w ns ≡ ns
 with_known_name_is_unchanged w ns w_in_ns = ap (λ b. if b then ns else (ns ++ w ∷ [])) w_in_ns
 
+-- each entry has one name
 pub as_many_names_as_entries : {V : Type 0} (es : List (Name × V))
     → length es ≡ length (map (λ x. x.bytes.now) (keys_of es))
 as_many_names_as_entries es =
@@ -80,6 +81,7 @@ index_of_le_length w (n ∷ ns) = by_equality (bytes_eq w n) (index_of_le_length
     by_equality true h = omega arith
     by_equality false h = omega (arith, h)
 
+-- what follows from a clause holds of the result too
 pub on_ok_then : {A E : Type 0} {P Q : Type 0} (r : Result A E) → OnOk r P → (P → Q) → OnOk r Q
 on_ok_then (Ok a) holds f = f holds
 on_ok_then (Err e) holds f = tt
@@ -108,6 +110,7 @@ entry_has_name (x ∷ es) zero k v w entry_i_is_k name_i_is_w =
 entry_has_name (x ∷ es) (suc i) k v w entry_i_is_k name_i_is_w =
     entry_has_name es i k v w entry_i_is_k name_i_is_w
 
+-- the name at the number of an entry
 pub name_of_entry : {V : Type 0} (es : List (Name × V)) (i : ℕ) (k : Name) (v : V)
     → slice_get es i ≡ Some (k, v) → slice_get (map (λ x. x.bytes.now) (keys_of es)) i
     ≡ Some k.bytes.now

@@ -35,6 +35,7 @@ is_disjoint_at db j kind_is_disjoint = by_statement (slice_get db j) kind_is_dis
     by_statement None h = absurd (cc)
     by_statement (Some s) h = ap (λ b. b || false) (is_disjoint_kind s (cc))
 
+-- an active `$d` that has both symbols makes them stand together
 pub near_are_together : (db : List Statement) (j k x y : ℕ)
     → option_map kind_of (slice_get db j) ≡ Some kind.Disjoint → is_active db j k ≡ true
     → is_member (formula_at db j) x ≡ true → is_member (formula_at db j) y ≡ true

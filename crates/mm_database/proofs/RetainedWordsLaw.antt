@@ -34,6 +34,7 @@ use Rattle.mm_database.proofs.KindsLaw.{counted_theorem_is_theorem}
 -- ---- what is kept of an outline is that of its statement
 
 module _ (text : List ℕ) (ws : List Word) where
+  -- the word that is kept for a label is the statement's label
   label_word_is_label : (o : Kind) (k m e : ℕ)
       → as_tokens text (label_word ws (record { kind = o; keyword = k; middle = m; end = e }))
       ≡ label_tokens (statement_between text ws o k m e)
@@ -47,11 +48,13 @@ module _ (text : List ℕ) (ws : List Word) where
   label_word_is_label kind.Essential k m e = refl
   label_word_is_label kind.Axiom k m e = refl
 
+  -- no tokens are between two places that are equal
   nothing_between : (m e : ℕ) → m ≡ e → between text ws (m + 1) e ≡ []
   nothing_between m e m_is_e =
       let no_width : e - (m + 1) ≡ 0 = omega arith in
       ap (λ n. as_tokens text (take n (drop (m + 1) ws))) no_width
 
+  -- the words after the middle are those of the statement's proof
   between_is_proof : (o : Kind) (k m e : ℕ) → HasEnd o k m e
       → between text ws (m + 1) e ≡ proof_of (statement_between text ws o k m e)
   between_is_proof kind.Theorem k m e has_end = refl
@@ -64,6 +67,7 @@ module _ (text : List ℕ) (ws : List Word) where
   between_is_proof kind.Essential k m e has_end = nothing_between m e has_end
   between_is_proof kind.Axiom k m e has_end = nothing_between m e has_end
 
+  -- the word at the end is the statement's last token
   last_word_is_end : (o : Kind) (k m e : ℕ) → HasEnd o k m e
       → (nth_word ws e).start ≡ end_at (statement_between text ws o k m e)
   last_word_is_end kind.Theorem k m e has_end = refl
@@ -117,6 +121,7 @@ module _ (text : List ℕ) (ws : List Word) where
       last_is = last_word_is_end o.kind o.keyword o.middle o.end is_outline.0.4;
     }
 
+    -- the words of all outlines are those of their statements
     pub retained_words_are_of_statements : (os : List Outline)
         → All (λ o. IsOutline o × (o.end < length ws)) os
         → AreRetained text (statements text ws os) (map (retained_words ws) os)
@@ -258,7 +263,8 @@ module _ (text : List ℕ) (db : List Statement) (w : Bool) (fault : Option Faul
             → option_map end_at (slice_get n.statements k)
             ≡ Some (get_or words (length words - 1) d).start
         last_is_retained d =
-            let last_index : length words - 1 ≡ length (retained_k.label ++ retained_k.proof) = omega
+            let last_index : length words - 1 ≡ length (retained_k.label ++ retained_k.proof) =
+            omega
             (arith, word_count) in
             let last_of_words =
             ap₂ (λ ys i. get_or ys i d) words_end_in_last last_index
@@ -293,7 +299,8 @@ module _ (text : List ℕ) (db : List Statement) (w : Bool) (fault : Option Faul
           first_word_is_label d =
               ap (λ ys. Some (token_of text (get_or ys 0 d)).word) words_begin_with_label
               ∙ ap (λ t. Some t.word) first_is_label.2
-              ∙ sym (counted_label_is_label ∙ ap (option_map (λ t. t.word)) (has_label s labelled).1)
+              ∙ sym (counted_label_is_label
+              ∙ ap (option_map (λ t. t.word)) (has_label s labelled).1)
 
           word_count_with_label : length words ≡ suc (length retained_k.proof + 1)
           word_count_with_label =

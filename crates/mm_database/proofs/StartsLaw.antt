@@ -16,6 +16,7 @@ pub record StartsTo (ps : List (ℕ × ℕ)) (n : ℕ) (starts : List ℕ) : Typ
   pub starts_are : (x : ℕ) → x < length starts → IsStart ps x (get_or starts x 0)
   pub symbols_have_starts : (p : ℕ) → p < n → (get_or ps p (0, 0)).0 < length starts
 
+-- no pairs have no starts
 pub starts_of_no_pairs : (ps : List (ℕ × ℕ)) → StartsTo ps 0 []
 starts_of_no_pairs ps =
     record {
@@ -113,6 +114,7 @@ starts_of_all_pairs ps n starts length_le_n starts_to_n x = by_order (cases_lt x
 
 module _ (ps : List (ℕ × ℕ)) (rising : AreRising ps) (x at from to : ℕ)
     (from_starts_x : IsStart ps x from) (to_ends_x : IsStart ps (x + 1) to) where
+  -- the pairs between the two starts are those of the symbol
   symbol_is_x : (p : ℕ) (d : ℕ × ℕ) → from ≤ p → p < to → (get_or ps p d).0 ≡ x
   symbol_is_x p d from_le_p p_lt_to =
       let to_le_length = to_ends_x.start_le_length in
@@ -122,6 +124,7 @@ module _ (ps : List (ℕ × ℕ)) (rising : AreRising ps) (x at from to : ℕ)
       ap (λ (q : ℕ × ℕ). q.0) (get_or_default ps p d (0, 0) p_lt_length)
       ∙ (omega (arith, x_le_symbol, symbol_le_x))
 
+  -- they are a slice of all pairs
   element_of_slice : (i : ℕ) (d : ℕ × ℕ) → i < to - from
       → get_or (slice_range ps from to) i d ≡ get_or ps (from + i) d
   element_of_slice i d i_lt_width = get_or-take (to - from) (drop from ps) i d i_lt_width
@@ -133,6 +136,7 @@ module _ (ps : List (ℕ × ℕ)) (rising : AreRising ps) (x at from to : ℕ)
       (let drop_length = length-drop from ps in let to_le_length = to_ends_x.start_le_length in
       omega (arith, drop_length, to_le_length))
 
+  -- among them those with a lower statement stand first
   pub slice_is_partitioned : IsPartitionedBy (λ p. nat_lt p.1 at) (slice_range ps from to)
   slice_is_partitioned i j d i_le_j j_lt_length j_is_lower = by_equality (cases_eq i j)
     where
@@ -177,6 +181,7 @@ module _ (ps : List (ℕ × ℕ)) (rising : AreRising ps) (x at from to : ℕ)
   module _ (n : ℕ) (bound : n ≤ length (slice_range ps from to))
       (point : IsPartitionPoint (λ y. nat_lt y.1 at ≡ true) (λ y. nat_lt y.1 at ≡ false)
       (slice_range ps from to) n) where
+    -- so with n of them the pairs before are counted, and no others
     pub pair_before_point_is_before : (p : ℕ) → p < from + n
         → is_pair_before (get_or ps p (0, 0)) x at ≡ true
     pair_before_point_is_before p p_lt_point = by_order (cases_lt p from)

@@ -17,6 +17,7 @@ use Rattle.mm_database.specs.Names.{are_distinct, with_name}
 pub bytes_eq_itself : (w : Bytes) → bytes_eq w w ≡ true
 bytes_eq_itself w = (bytes_eq-Decides w w).1 refl
 
+-- three tests in another order
 or_rotate : (a b c : Bool) → ((a || b) || c) ≡ (b || (a || c))
 or_rotate true true c = refl
 or_rotate true false c = refl
@@ -28,6 +29,7 @@ abbrev pub if_new : Bool → Bytes → List Bytes
 if_new true w = []
 if_new false w = w ∷ []
 
+-- the first occurrences with one word in front
 first_occurrences_cons : (e : List Bytes) (v : Bytes) (ws : List Bytes) (b : Bool) → is_in v e ≡ b
     → first_occurrences e (v ∷ ws)
     ≡ elim b [ true ↦ first_occurrences e ws | false ↦ v ∷ first_occurrences (v ∷ e) ws ]
@@ -65,7 +67,8 @@ first_occurrences_append (v ∷ ws) e w =
         ≡ first_occurrences e (v ∷ ws) ++ if_new (is_in w e || (bytes_eq w v || is_in w ws)) w
     by_membership true word_in_e without_v with_v =
         first_occurrences_cons e v (ws ++ w ∷ []) true word_in_e ∙ without_v
-        ∙ ap (λ b. first_occurrences e ws ++ if_new b w) (known word_in_e (bytes_eq w v) refl)
+        ∙ ap (λ b. first_occurrences e ws ++ if_new b w)
+        (new_if_equal word_in_e (bytes_eq w v) refl)
         ∙ sym (ap (λ l. l ++ if_new (is_in w e || (bytes_eq w v || is_in w ws)) w)
         (first_occurrences_cons e v ws true word_in_e))
     by_membership false v_not_in_e without_v with_v =
@@ -102,6 +105,7 @@ in_first_occurrences (v ∷ ws) e w w_not_in_e =
         ∙ ap (λ b. b || is_in w (first_occurrences (v ∷ e) ws)) w_eq_v
         ∙ with_v (ap₂ (λ a b. a || b) w_eq_v w_not_in_e) ∙ sym (ap (λ b. b || is_in w ws) w_eq_v)
 
+-- an earlier word is no first occurrence
 not_in_first_occurrences : (ws e : List Bytes) (w : Bytes) → is_in w e ≡ true
     → is_in w (first_occurrences e ws) ≡ false
 not_in_first_occurrences [] e w word_in_e = refl
@@ -127,6 +131,7 @@ not_in_first_occurrences (v ∷ ws) e w word_in_e =
 abbrev pub added : List Bytes → Bytes → List Bytes
 added ns w = ns ++ if_new (is_in w ns) w
 
+-- the first occurrences with one word at the end
 pub first_occurrences_push : (ws : List Bytes) (w : Bytes)
     → first_occurrences [] (ws ++ w ∷ []) ≡ added (first_occurrences [] ws) w
 first_occurrences_push ws w =
@@ -149,6 +154,7 @@ name_at_index_of (n ∷ ns) w w_in_ns = by_equality (name_at_index_of ns w) (byt
         ap (λ b. slice_get (n ∷ ns) (elim b [ true ↦ 0 | false ↦ suc (index_of w ns) ])) w_eq_n
         ∙ in_rest (sym (ap (λ b. b || is_in w ns) w_eq_n) ∙ w_in_ns)
 
+-- a name with a number is one of the names
 pub element_is_in_names : (ns : List Bytes) (s : ℕ) (w : Bytes) → slice_get ns s ≡ Some w
     → is_in w ns ≡ true
 element_is_in_names [] zero w element_is_w = absurd (let none_is_w : None ≡ Some w = element_is_w in
@@ -187,7 +193,7 @@ index_of_element (v ∷ ws) e s w element_is_w =
         by_equality : (b : Bool) → bytes_eq w v ≡ b → index_of w (v ∷ t) ≡ suc s
         by_equality true w_eq_v =
             absurd (true≢false
-            (sym (ap (λ v_is_w. is_in v_is_w t) (sym (same_word w v w_eq_v))
+            (sym (ap (λ x. is_in x t) (sym (same_word w v w_eq_v))
             ∙ element_is_in_names t s w element_is_w) ∙ v_not_in_t))
         by_equality false w_eq_v = ap (λ b. elim b [ true ↦ 0 | false ↦ suc (index_of w t) ]) w_eq_v
             ∙ ap suc (index_in_rest s element_is_w)
@@ -222,6 +228,7 @@ position_is_index w ks =
     step true n = refl
     step false n = omega arith
 
+-- a key that equals the word is a name that does
 pub key_is_name : (w : Bytes) (ks : List (Name))
     → list_any (λ k. bytes_eq w k.bytes.now) ks ≡ is_in w (map (λ k. k.bytes.now) ks)
 key_is_name w [] = refl
@@ -244,6 +251,7 @@ position_is_index_of w ks n position_is_n =
         ≡ Some n = found_is_n in cc
     by_presence false found_is_n = let some_is_n : None ≡ Some n = found_is_n in cc
 
+-- a word that is no name has the number after the last
 pub missing_index_is_length : (w : Bytes) (ns : List Bytes) → is_in w ns ≡ false
     → length ns ≡ index_of w ns
 missing_index_is_length w [] w_not_in_ns = refl
@@ -295,6 +303,7 @@ index_of_distinct (n ∷ ns) are_distinct_names (suc i) w element_i_is_w =
         ∙ left_is_false (is_in n ns) (are_distinct ns) are_distinct_names))
     by_equality false w_eq_n index_in_rest = ap suc index_in_rest
 
+-- names of which none is twice stay such with a new one
 distinct_push : (ns : List Bytes) (w : Bytes) → are_distinct ns ≡ true → is_in w ns ≡ false
     → are_distinct (ns ++ w ∷ []) ≡ true
 distinct_push [] w are_distinct_names w_not_in_ns = refl
@@ -303,7 +312,7 @@ distinct_push (n ∷ ns) w are_distinct_names w_not_in_ns =
     (list_any-append (bytes_eq n) ns (w ∷ [])
     ∙ ap₂ (λ a b. a || (b || false))
     (left_is_false (is_in n ns) (are_distinct ns) are_distinct_names)
-    (differ (bytes_eq n w) refl))
+    (n_ne_w (bytes_eq n w) refl))
     (distinct_push ns w (right_is_true (is_in n ns) (are_distinct ns) are_distinct_names)
     (or_parts (bytes_eq w n) (is_in w ns) w_not_in_ns).1)
   where

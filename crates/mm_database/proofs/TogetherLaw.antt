@@ -17,6 +17,7 @@ use Rattle.mm_database.specs.Together.{are_together_at}
 
 module _ (db : List Statement) (b : BlockLists) (blocks : IsBlocks db b) (k : ℕ)
     (k_le_length : k ≤ length db) where
+  -- a `$d` is active exactly if it is before k and its block is open there
   pub active_local_is_active : (j : ℕ) → list_any is_disjoint_statement (statement_at db j) ≡ true
       → is_active_local b j k ≡ is_member (active_of is_disjoint_statement db k) j
   active_local_is_active j j_is_disjoint =
@@ -34,6 +35,7 @@ module _ (db : List Statement) (b : BlockLists) (blocks : IsBlocks db b) (k : �
           && (list_any is_disjoint_statement (statement_at db j) && is_block_open db j k))
           (le-ltb j k k_le_j))
 
+  -- what is active of the `$d` is a `$d`
   pub active_is_disjoint : (j : ℕ) → is_member (active_of is_disjoint_statement db k) j ≡ true
       → list_any is_disjoint_statement (statement_at db j) ≡ true
   active_is_disjoint j j_is_active =

@@ -13,7 +13,9 @@ use Rattle.mm_database.proofs.DisjointIndexLaw.{other_symbol_by_values}
 use Rattle.mm_database.proofs.disjoint_index.are_together.Goals as goal
 use Rattle.mm_database.proofs.disjoint_index.are_together.Goals.{}
 use Rattle.mm_database.proofs.disjoint_index.are_together.Goals.{}
+use Rattle.mm_database.proofs.disjoint_index.are_together.Goals.{}
 use Rattle.mm_database.proofs.disjoint_index.are_together.Goals.{else-x_statement-y_statement-via-then-x_statement-y_statement+else-is_open_at}
+use Rattle.mm_database.proofs.disjoint_index.are_together.Goals.{}
 use Rattle.mm_database.proofs.disjoint_index.are_together.Goals.{}
 use Rattle.mm_database.proofs.disjoint_index.are_together.Goals.{}
 use Rattle.mm_database.proofs.disjoint_index.are_together.Goals.{else-x_statement-y_statement-via-else-x_statement-y_statement}
