@@ -26,9 +26,11 @@ module _ (w : Bool) (db : List Statement) where
   pub labels_counted : (find : List ℕ → Option ℕ) → AreLabels db find → AreLabels counted_db find
   labels_counted find are_labels = record {
     found =
-        λ x k x_is_found. let k_is_labelled = are_labels.found x k x_is_found in
-        (subst (λ n. k < n) (sym (counted_length w db)) k_is_labelled.0, same_labels_at x k
-        ∙ k_is_labelled.1);
+        λ x k x_is_found. let k_is_labelled = are_labels.found x k x_is_found in (
+          subst (λ n. k < n) (sym (counted_length w db)) k_is_labelled.0,
+          same_labels_at x k
+              ∙ k_is_labelled.1,
+        );
     missing = λ x x_is_found k. same_labels_at x k ∙ are_labels.missing x x_is_found k;
     only = λ x j k x_labels_j x_labels_k. are_labels.only x j k (sym (same_labels_at x j)
         ∙ x_labels_j) (sym (same_labels_at x k) ∙ x_labels_k);

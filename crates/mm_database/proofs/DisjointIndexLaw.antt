@@ -205,7 +205,7 @@ module _ (b : BlockLists) (ps : List (ℕ × ℕ)) (rising : AreRising ps) (x at
         → AddsFromEnd b ps x at start next_end earlier_pairs
         (pairs_so_far ++ ((get_or ps (end - 1) (0, 0)).1, x) ∷ [])
     added_open end next_end earlier_pairs pairs_so_far adds end_gt_0 last_symbol_is_x last_is_open
-    next_lt_end
+        next_lt_end
         skipped_are_closed = record {
           end_le_start = let end_le_start = adds.end_le_start in
               omega (arith, end_le_start, next_lt_end);

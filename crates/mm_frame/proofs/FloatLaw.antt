@@ -30,10 +30,10 @@ use Rattle.mm_outline.proofs.FaultlessLaw.{floating_new}
 use Rattle.mm_outline.proofs.AmongLaw.{typed_in, among_active}
 
 -- a word that has a place is there
-pub index_get : (w : Bytes) (ws : List Bytes) → index_of w ws < length ws
+pub word_at_index_of : (w : Bytes) (ws : List Bytes) → index_of w ws < length ws
     → slice_get ws (index_of w ws) ≡ Some w
-index_get w [] h = absurd (omega arith)
-index_get w (v ∷ vs) h = by_equality (bytes_eq w v) refl h (index_get w vs)
+word_at_index_of w [] h = absurd (omega arith)
+word_at_index_of w (v ∷ vs) h = by_equality (bytes_eq w v) refl h (word_at_index_of w vs)
   where
     by_equality : (b : Bool) → bytes_eq w v ≡ b
         → (elim b [ true ↦ 0 | false ↦ suc (index_of w vs) ]) < length (v ∷ vs)
@@ -42,11 +42,11 @@ index_get w (v ∷ vs) h = by_equality (bytes_eq w v) refl h (index_get w vs)
     by_equality true e h r = ap Some (sym ((bytes_eq-Decides w v).0 e))
     by_equality false e h r = r (omega arith)
 
-abbrev pub list_at : Option Statement → List Statement
-list_at o = elim o [ None ↦ [] | Some s ↦ s ∷ [] ]
+abbrev pub as_list : Option Statement → List Statement
+as_list o = elim o [ None ↦ [] | Some s ↦ s ∷ [] ]
 
-abbrev typed_of : List Statement → Option Statement → Option ℕ
-typed_of db o =
+abbrev typed_variable_of : List Statement → Option Statement → Option ℕ
+typed_variable_of db o =
     if list_any is_floating (elim o [ None ↦ [] | Some s ↦ s ∷ [] ]) then slice_get
     (flat_map (formula_of db) (elim o [ None ↦ [] | Some s ↦ s ∷ [] ])) 1 else None
 
@@ -62,18 +62,18 @@ pub record IsFloat (db : List Statement) (k v : ℕ) : Type 0 where
   pub constant : is_in typecode.word (flat_map constants_of (take k db)) ≡ true
 
 module _ (db : List Statement) (sound : IsSound db) where
-  law : (k : ℕ) → k < length db → (s : Statement) → slice_get db k ≡ Some s
+  lawful_has_no_faults : (k : ℕ) → k < length db → (s : Statement) → slice_get db k ≡ Some s
       → scope_faults (names_before db k) (depth db k) s ≡ []
-  law k h s e =
+  lawful_has_no_faults k h s e =
       least_none (scope_faults (names_before db k) (depth db k) s)
       (sym (ap
       (λ o. elim o
       [ None ↦ None | Some s ↦ least (scope_faults (names_before db k) (depth db k) s) ]) e)
       ∙ sound.lawful k h)
 
-  constant_there : (n : Names) (keyword : ℕ) (c v : Token)
+  typecode_is_constant : (n : Names) (keyword : ℕ) (c v : Token)
       → floating_faults n keyword (c ∷ v ∷ []) ≡ [] → is_in c.word n.constants ≡ true
-  constant_there n keyword c v h = by_membership (is_in c.word n.constants) refl h
+  typecode_is_constant n keyword c v h = by_membership (is_in c.word n.constants) refl h
     where
       codes : Bool → List Fault
       codes =
@@ -90,31 +90,37 @@ module _ (db : List Statement) (sound : IsSound db) where
       by_membership false e h = absurd (cc)
 
   -- a `$f` by its statement
-  float_of : (k v : ℕ) → k < length db → (o : Option Statement) → slice_get db k ≡ o
+  is_float_of_statement : (k v : ℕ) → k < length db → (o : Option Statement) → slice_get db k ≡ o
       → list_any is_floating (elim o [ None ↦ [] | Some s ↦ s ∷ [] ]) ≡ true
       → (slice_get (flat_map (formula_of db) (elim o [ None ↦ [] | Some s ↦ s ∷ [] ])) 1 ≡ Some v)
       → IsFloat db k v
-  float_of k v k_lt_length_db None e t f = absurd (true≢false (sym t))
-  float_of k v k_lt_length_db (Some (constants a xs d)) e t f = absurd (true≢false (sym t))
-  float_of k v k_lt_length_db (Some (variables a xs d)) e t f = absurd (true≢false (sym t))
-  float_of k v k_lt_length_db (Some (disjoint a xs d)) e t f = absurd (true≢false (sym t))
-  float_of k v k_lt_length_db (Some (essential l a xs d)) e t f = absurd (true≢false (sym t))
-  float_of k v k_lt_length_db (Some (axiomatic l a xs d)) e t f = absurd (true≢false (sym t))
-  float_of k v k_lt_length_db (Some (provable l a xs q ps d)) e t f = absurd (true≢false (sym t))
-  float_of k v k_lt_length_db (Some (opening a)) e t f = absurd (true≢false (sym t))
-  float_of k v k_lt_length_db (Some (closing a)) e t f = absurd (true≢false (sym t))
-  float_of k v k_lt_length_db (Some (floating l a [] d)) e t f = absurd (cc)
-  float_of k v k_lt_length_db (Some (floating l a (c ∷ []) d)) e t f = absurd (cc)
-  float_of k v k_lt_length_db (Some (floating l a (c ∷ x ∷ y ∷ ys) d)) e t f =
+  is_float_of_statement k v k_lt_length_db None e t f = absurd (true≢false (sym t))
+  is_float_of_statement k v k_lt_length_db (Some (constants a xs d)) e t f =
+      absurd (true≢false (sym t))
+  is_float_of_statement k v k_lt_length_db (Some (variables a xs d)) e t f =
+      absurd (true≢false (sym t))
+  is_float_of_statement k v k_lt_length_db (Some (disjoint a xs d)) e t f =
+      absurd (true≢false (sym t))
+  is_float_of_statement k v k_lt_length_db (Some (essential l a xs d)) e t f =
+      absurd (true≢false (sym t))
+  is_float_of_statement k v k_lt_length_db (Some (axiomatic l a xs d)) e t f =
+      absurd (true≢false (sym t))
+  is_float_of_statement k v k_lt_length_db (Some (provable l a xs q ps d)) e t f =
+      absurd (true≢false (sym t))
+  is_float_of_statement k v k_lt_length_db (Some (opening a)) e t f = absurd (true≢false (sym t))
+  is_float_of_statement k v k_lt_length_db (Some (closing a)) e t f = absurd (true≢false (sym t))
+  is_float_of_statement k v k_lt_length_db (Some (floating l a [] d)) e t f = absurd (cc)
+  is_float_of_statement k v k_lt_length_db (Some (floating l a (c ∷ []) d)) e t f = absurd (cc)
+  is_float_of_statement k v k_lt_length_db (Some (floating l a (c ∷ x ∷ y ∷ ys) d)) e t f =
       absurd (let n = (append_none (label_faults (names_before db k) l)
       (floating_faults (names_before db k) a (c ∷ x ∷ y ∷ ys))
-      (law k k_lt_length_db (floating l a (c ∷ x ∷ y ∷ ys) d) e)).1 in
+      (lawful_has_no_faults k k_lt_length_db (floating l a (c ∷ x ∷ y ∷ ys) d) e)).1 in
       cc)
-  float_of k v k_lt_length_db (Some (floating l a (c ∷ x ∷ []) d)) e t f =
+  is_float_of_statement k v k_lt_length_db (Some (floating l a (c ∷ x ∷ []) d)) e t f =
       let n =
       (append_none (label_faults (names_before db k) l)
       (floating_faults (names_before db k) a (c ∷ x ∷ []))
-      (law k k_lt_length_db (floating l a (c ∷ x ∷ []) d) e)).1 in
+      (lawful_has_no_faults k k_lt_length_db (floating l a (c ∷ x ∷ []) d) e)).1 in
       record {
         label = l;
         keyword = a;
@@ -124,13 +130,13 @@ module _ (db : List Statement) (sound : IsSound db) where
         is = e;
         number = same_Some _ _ f;
         untyped = (floating_new (names_before db k) a c x n).1;
-        constant = constant_there (names_before db k) a c x n;
+        constant = typecode_is_constant (names_before db k) a c x n;
       }
 
-  pub typed_float : (k v : ℕ) → k < length db → typed_variable_at db k ≡ Some v → IsFloat db k v
-  typed_float k v k_lt_length_db e = by_statement (slice_get db k) refl e
+  pub typed_is_float : (k v : ℕ) → k < length db → typed_variable_at db k ≡ Some v → IsFloat db k v
+  typed_is_float k v k_lt_length_db e = by_statement (slice_get db k) refl e
     where
-      by_statement : (o : Option Statement) → slice_get db k ≡ o → typed_of db o ≡ Some v
+      by_statement : (o : Option Statement) → slice_get db k ≡ o → typed_variable_of db o ≡ Some v
           → IsFloat db k v
       by_statement o s t = by_floating (list_any is_floating
           (elim o [ None ↦ [] | Some s ↦ s ∷ [] ])) refl t
@@ -141,16 +147,16 @@ module _ (db : List Statement) (sound : IsSound db) where
               (flat_map (formula_of db) (elim o [ None ↦ [] | Some s ↦ s ∷ [] ])) 1 else None)
               ≡ Some v
               → IsFloat db k v
-          by_floating true p q = float_of k v k_lt_length_db o s p q
+          by_floating true p q = is_float_of_statement k v k_lt_length_db o s p q
           by_floating false p q = absurd (cc)
 
   -- a `$f` has a variable
-  pub floating_typed : (k : ℕ) → k < length db
-      → list_any is_floating (list_at (slice_get db k)) ≡ true
+  pub floating_is_typed : (k : ℕ) → k < length db
+      → list_any is_floating (as_list (slice_get db k)) ≡ true
       → (v : ℕ) × (typed_variable_at db k ≡ Some v) × IsFloat db k v
-  floating_typed k k_lt_length_db t = by_statement (slice_get db k) refl t
+  floating_is_typed k k_lt_length_db t = by_statement (slice_get db k) refl t
     where
-      by_statement : (o : Option Statement) → slice_get db k ≡ o → list_any is_floating (list_at o)
+      by_statement : (o : Option Statement) → slice_get db k ≡ o → list_any is_floating (as_list o)
           ≡ true
           → (v : ℕ) × (typed_variable_at db k ≡ Some v) × IsFloat db k v
       by_statement None e t = absurd (true≢false (sym t))
@@ -164,45 +170,51 @@ module _ (db : List Statement) (sound : IsSound db) where
       by_statement (Some (closing a)) e t = absurd (true≢false (sym t))
       by_statement (Some (floating l a [] d)) e t =
           absurd (let n = (append_none (label_faults (names_before db k) l)
-          (floating_faults (names_before db k) a []) (law k k_lt_length_db (floating l a [] d) e)).1
+          (floating_faults (names_before db k) a [])
+          (lawful_has_no_faults k k_lt_length_db (floating l a [] d) e)).1
           in
           cc)
       by_statement (Some (floating l a (c ∷ []) d)) e t =
           absurd (let n = (append_none (label_faults (names_before db k) l)
           (floating_faults (names_before db k) a (c ∷ []))
-          (law k k_lt_length_db (floating l a (c ∷ []) d) e)).1 in
+          (lawful_has_no_faults k k_lt_length_db (floating l a (c ∷ []) d) e)).1 in
           cc)
       by_statement (Some (floating l a (c ∷ x ∷ xs) d)) e t =
-          let v = index_of x.word (symbol_names db) in let is = ap (typed_of db) e in
-          (v, is, typed_float k v k_lt_length_db is)
+          let v = index_of x.word (symbol_names db) in let is = ap (typed_variable_of db) e in
+          (v, is, typed_is_float k v k_lt_length_db is)
 
   module _ (k v : ℕ) (h : k < length db) (f : IsFloat db k v) where
-    pub formula_is : formula_at db k ≡ index_of f.typecode.word (symbol_names db) ∷ v ∷ []
-    formula_is =
-        ap (λ o. flat_map (formula_of db) (list_at o)) f.is
+    pub formula_is_typecode_and_variable : formula_at db k
+        ≡ index_of f.typecode.word (symbol_names db) ∷ v ∷ []
+    formula_is_typecode_and_variable =
+        ap (λ o. flat_map (formula_of db) (as_list o)) f.is
         ∙ ap (λ x. index_of f.typecode.word (symbol_names db) ∷ x ∷ []) f.number
 
-    pub floating_is : list_any is_floating (list_at (slice_get db k)) ≡ true
-    floating_is = ap (λ o. list_any is_floating (list_at o)) f.is
+    pub float_is_floating : list_any is_floating (as_list (slice_get db k)) ≡ true
+    float_is_floating = ap (λ o. list_any is_floating (as_list o)) f.is
 
-    typecode_below : index_of f.typecode.word (symbol_names db) < length (symbol_names db)
-    typecode_below =
-        subst (λ (xs : List ℕ). get_or xs 0 0 < length (symbol_names db)) formula_is
+    typecode_lt_symbol_count : index_of f.typecode.word (symbol_names db) < length (symbol_names db)
+    typecode_lt_symbol_count =
+        subst (λ (xs : List ℕ). get_or xs 0 0 < length (symbol_names db))
+        formula_is_typecode_and_variable
         (sound.symbols_have_numbers k h 0 0
-        (subst (λ (xs : List ℕ). 0 < length xs) (sym formula_is) (omega arith)))
+        (subst (λ (xs : List ℕ). 0 < length xs) (sym formula_is_typecode_and_variable)
+        (omega arith)))
 
-    pub variable_below : v < length (symbol_names db)
-    variable_below =
-        subst (λ (xs : List ℕ). get_or xs 1 0 < length (symbol_names db)) formula_is
+    pub variable_lt_symbol_count : v < length (symbol_names db)
+    variable_lt_symbol_count =
+        subst (λ (xs : List ℕ). get_or xs 1 0 < length (symbol_names db))
+        formula_is_typecode_and_variable
         (sound.symbols_have_numbers k h 1 0
-        (subst (λ (xs : List ℕ). 1 < length xs) (sym formula_is) (omega arith)))
+        (subst (λ (xs : List ℕ). 1 < length xs) (sym formula_is_typecode_and_variable)
+        (omega arith)))
 
     -- the typecode of the `$f` is no variable
-    pub typecode_constant : is_variable_number db (index_of f.typecode.word (symbol_names db))
+    pub typecode_is_no_variable : is_variable_number db (index_of f.typecode.word (symbol_names db))
         ≡ false
-    typecode_constant =
+    typecode_is_no_variable =
         ap (λ o. elim o [ None ↦ false | Some w ↦ is_in w (flat_map variables_of db) ])
-        (index_get f.typecode.word (symbol_names db) typecode_below)
+        (word_at_index_of f.typecode.word (symbol_names db) typecode_lt_symbol_count)
         ∙ sound.no_constant_is_variable f.typecode.word
         (sym (ap (λ xs. is_in f.typecode.word (flat_map constants_of xs))
         (take-append-drop k db))
@@ -211,30 +223,31 @@ module _ (db : List Statement) (sound : IsSound db) where
         (flat_map constants_of (drop k db))
         ∙ ap (λ b. b || is_in f.typecode.word (flat_map constants_of (drop k db))) f.constant)
 
-    pub float_active : (l : ℕ) → k < l → is_active db k l ≡ is_block_open db k l
-    float_active l m =
+    pub float_active_is_block_open : (l : ℕ) → k < l → is_active db k l ≡ is_block_open db k l
+    float_active_is_block_open l m =
         ap₂ (λ t o. t && is_some_still_active o (is_block_open db k l)) (lt-ltb k l m) f.is
 
   -- a variable has one active `$f`
-  pub typed_once : (j k v : ℕ) → j < k → k < length db → IsFloat db j v → IsFloat db k v
+  pub not_typed_twice : (j k v : ℕ) → j < k → k < length db → IsFloat db j v → IsFloat db k v
       → is_block_open db j k ≡ true → ⊥
-  typed_once j k v j_lt_k k_lt_length_db is_float g e =
+  not_typed_twice j k v j_lt_k k_lt_length_db is_float g e =
       let i : j < length db = omega arith in
       let bj = subst (λ n. n < length (symbol_names db)) (sym is_float.number)
-      (variable_below j v i is_float) in
+      (variable_lt_symbol_count j v i is_float) in
       let bk = subst (λ n. n < length (symbol_names db)) (sym g.number)
-      (variable_below k v k_lt_length_db g) in
+      (variable_lt_symbol_count k v k_lt_length_db g) in
       let same =
       same_Some _ _
-      (sym (index_get is_float.variable.word (symbol_names db) bj)
+      (sym (word_at_index_of is_float.variable.word (symbol_names db) bj)
       ∙ ap (slice_get (symbol_names db)) (is_float.number ∙ sym g.number)
-      ∙ index_get g.variable.word (symbol_names db) bk) in
+      ∙ word_at_index_of g.variable.word (symbol_names db) bk) in
       let w = g.variable.word in
       let there =
-      ap (λ o. is_in w (flat_map typed_words (list_at o))) is_float.is
+      ap (λ o. is_in w (flat_map typed_words (as_list o))) is_float.is
       ∙ ap (λ b. b || false) ((bytes_eq-Decides w is_float.variable.word).1 (sym same)) in
       true≢false
       (sym (range_any (λ i. is_active db i k && has_word db typed_words w i) k 0 j (omega arith)
-      (omega arith) (ap₂ (λ a b. a && b) (float_active j v i is_float k j_lt_k ∙ e) there))
+      (omega arith) (ap₂ (λ a b. a && b) (float_active_is_block_open j v i is_float k j_lt_k
+      ∙ e) there))
       ∙ sym (among_active db typed_words w (λ i. is_active db i k) k 0)
       ∙ sym (typed_in w (active_statements db k)) ∙ g.untyped)

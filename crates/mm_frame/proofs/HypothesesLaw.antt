@@ -25,17 +25,17 @@ use Rattle.mm_database.specs.ParsedStatements.{IsSound, typed_variable_at}
 use Rattle.mm_frame.specs.Hypotheses.{AreLastFloats, is_float_of}
 use Rattle.mm_spec.specs.Rising.{IsRisingFrom}
 use Rattle.mm_spec.proofs.RisingLaw.{filter_is}
-use Rattle.mm_frame.proofs.FloatLaw.{typed_float, floating_typed, formula_is, floating_is}
-use Rattle.mm_frame.proofs.FloatLaw.{typecode_constant, variable_below, float_active}
+use Rattle.mm_frame.proofs.FloatLaw.{typed_is_float, floating_is_typed, formula_is_typecode_and_variable, float_is_floating}
+use Rattle.mm_frame.proofs.FloatLaw.{typecode_is_no_variable, variable_lt_symbol_count, float_active_is_block_open}
 use Rattle.mm_spec.proofs.MemberLaw.{member_filter, member_range, active_member, essential_local}
 
 -- a list that is strictly rising, by its neighbours
-pub rising_is : (xs : List ℕ) (a : ℕ) → IsStrictlyIncreasing xs
+pub rising_from_increasing : (xs : List ℕ) (a : ℕ) → IsStrictlyIncreasing xs
     → (0 < length xs → a ≤ get_or xs 0 0) → IsRisingFrom a xs
-rising_is [] a inc h = tt
-rising_is (y ∷ ys) a inc h = (
+rising_from_increasing [] a inc h = tt
+rising_from_increasing (y ∷ ys) a inc h = (
   h (omega arith),
-  rising_is ys (y + 1) (λ k l. tail_increases k (inc (k + 1) (omega arith)))
+  rising_from_increasing ys (y + 1) (λ k l. tail_increases k (inc (k + 1) (omega arith)))
       (λ l. second_is_greater (inc 0 (omega arith))),
 )
   where
@@ -72,12 +72,12 @@ filter_filter p q (x ∷ xs) = by_first_test (q x) (filter_filter p q xs)
 module _ (db : List Statement) (k : ℕ) where
   -- ---- variables
 
-  pub mandatory_is : (xs : List ℕ)
+  pub found_are_mandatory_variables : (xs : List ℕ)
       → ((i : ℕ) → is_member xs i ≡ is_member (active_of is_essential db k) i) → (x : ℕ)
       → (is_variable_number db x
       && (is_member (formula_at db k) x || list_any (λ j. is_member (formula_at db j) x) xs))
       ≡ is_member (mandatory_variables db k) x
-  mandatory_is xs h x =
+  found_are_mandatory_variables xs h x =
       sym (member_filter (is_variable_number db)
       (formula_at db k ++ flat_map (formula_at db) (active_of is_essential db k)) x
       ∙ ap (λ b. is_variable_number db x && b)
@@ -88,17 +88,17 @@ module _ (db : List Statement) (k : ℕ) where
       ∙ sym (same_any (λ j. is_member (formula_at db j) x) xs
       (active_of is_essential db k) h))))
 
-  pub essential_before : (xs : List ℕ)
+  pub essential_lt_k : (xs : List ℕ)
       → ((i : ℕ) → is_member xs i ≡ is_member (active_of is_essential db k) i) → (i : ℕ)
       → i < length xs → get_or xs i 0 < k
-  essential_before xs h i l =
+  essential_lt_k xs h i l =
       let j = get_or xs i 0 in
       let e =
       sym (active_member is_essential db essential_local k j) ∙ sym (h j) ∙ member_at xs i 0 l in
       ltb-true j k (and_parts (nat_lt j k) (is_staying is_essential db j k) e).0
 
-  variable_named : (x : ℕ) → is_variable_number db x ≡ true → x < length (symbol_names db)
-  variable_named x x_is_variable = by_order (cases_lt x (length (symbol_names db)))
+  variable_has_name : (x : ℕ) → is_variable_number db x ≡ true → x < length (symbol_names db)
+  variable_has_name x x_is_variable = by_order (cases_lt x (length (symbol_names db)))
     where
       by_order : (x < length (symbol_names db)) ⊎ (length (symbol_names db) ≤ x)
           → x < length (symbol_names db)
@@ -109,21 +109,21 @@ module _ (db : List Statement) (k : ℕ) where
           [ None ↦ false | Some w ↦ is_in w (flat_map variables_of db) ])
           (slice_get_past (symbol_names db) x l)))
 
-  pub mandatory_named : (x : ℕ) → is_member (mandatory_variables db k) x ≡ true
+  pub mandatory_has_name : (x : ℕ) → is_member (mandatory_variables db k) x ≡ true
       → x < length (symbol_names db)
-  mandatory_named x e =
-      variable_named x
+  mandatory_has_name x e =
+      variable_has_name x
       (and_parts (is_variable_number db x)
       (is_member (formula_at db k ++ flat_map (formula_at db) (active_of is_essential db k)) x)
       (sym (member_filter (is_variable_number db)
       (formula_at db k ++ flat_map (formula_at db) (active_of is_essential db k)) x)
       ∙ e)).0
 
-  pub variables_below : (xs : List ℕ)
+  pub variables_have_names : (xs : List ℕ)
       → ((x : ℕ) → is_member xs x ≡ is_member (mandatory_variables db k) x)
       → All (λ s. s < length (symbol_names db)) xs
-  variables_below xs h i d l =
-      mandatory_named (get_or xs i d) (sym (h (get_or xs i d)) ∙ member_at xs i d l)
+  variables_have_names xs h i d l =
+      mandatory_has_name (get_or xs i d) (sym (h (get_or xs i d)) ∙ member_at xs i d l)
 
   -- ---- hypotheses
 
@@ -143,13 +143,13 @@ module _ (db : List Statement) (k : ℕ) where
           → is_active db j k ≡ true → list_any (is_float_of db k ts j) variables ≡ true
       float_found j j_lt_k t m active_at_k =
           let j_lt_length_db : j < length db = omega arith in
-          let f = floating_typed db sound j j_lt_length_db t in
+          let f = floating_is_typed db sound j j_lt_length_db t in
           let v = f.0 in
           let x = f.2 in
           let c = index_of x.typecode.word (symbol_names db) in
           let both =
           sym (ap (list_any (is_member (mandatory_variables db k)))
-          (formula_is db sound j v j_lt_length_db x))
+          (formula_is_typecode_and_variable db sound j v j_lt_length_db x))
           ∙ m in
           let no =
           member_filter (is_variable_number db)
@@ -157,12 +157,14 @@ module _ (db : List Statement) (k : ℕ) where
           ∙ ap (λ b. b
           && is_member (formula_at db k ++ flat_map (formula_at db) (active_of is_essential db k))
           c)
-          (typecode_constant db sound j v j_lt_length_db x) in
+          (typecode_is_no_variable db sound j v j_lt_length_db x) in
           let yes =
           sym (or-false (is_member (mandatory_variables db k) v))
           ∙ sym (ap (λ b. b || (is_member (mandatory_variables db k) v || false)) no) ∙ both in
-          let on = sym (float_active db sound j v j_lt_length_db x k j_lt_k) ∙ active_at_k in
-          let same = typed.alone j v j_lt_k (variable_below db sound j v j_lt_length_db x) f.1 on in
+          let on = sym (float_active_is_block_open db sound j v j_lt_length_db x k j_lt_k)
+          ∙ active_at_k in
+          let same = typed.open_is_last j v j_lt_k (variable_lt_symbol_count db sound j v j_lt_length_db x)
+          f.1 on in
           any_of (is_float_of db k ts j) variables v (variables_are v ∙ yes)
           (ap₂ (λ p q. p && q) (eq-eqb j (get_or ts v 0) (sym same))
           (ap₂ (λ p q. not p && q)
@@ -173,10 +175,10 @@ module _ (db : List Statement) (k : ℕ) where
           ∙ on)))
 
       -- what is found is an active `$f` of a mandatory variable
-      found_float : (j : ℕ) → list_any (is_float_of db k ts j) variables ≡ true
+      found_is_active_float : (j : ℕ) → list_any (is_float_of db k ts j) variables ≡ true
           → (is_active db j k ≡ true) × (list_any is_floating (statement_at db j) ≡ true)
           × (list_any (is_member (mandatory_variables db k)) (formula_at db j) ≡ true) × (j < k)
-      found_float j e =
+      found_is_active_float j e =
           let w = any_witness (is_float_of db k ts j) variables e in
           let v = w.0 in
           let t = get_or ts v 0 in
@@ -187,42 +189,43 @@ module _ (db : List Statement) (k : ℕ) where
           in
           let m = sym (variables_are v) ∙ w.1 in
           let s =
-          typed.some v (mandatory_named v m)
+          typed.last_is_typed v (mandatory_has_name v m)
           (λ z. true≢false
           (sym (and_parts (not (nat_eq t never)) (is_block_open db t k) rest).0
           ∙ ap not (eq-eqb t never z))) in
           let l : j < k = subst (λ i. i < k) (sym same) s.0 in
           let j_lt_length_db : j < length db = omega arith in
           let at : typed_variable_at db j ≡ Some v = ap (typed_variable_at db) same ∙ s.1 in
-          let x = typed_float db sound j v j_lt_length_db at in
+          let x = typed_is_float db sound j v j_lt_length_db at in
           let c = index_of x.typecode.word (symbol_names db) in (
-            float_active db sound j v j_lt_length_db x k l ∙ ap (λ i. is_block_open db i k) same
+            float_active_is_block_open db sound j v j_lt_length_db x k l
+                ∙ ap (λ i. is_block_open db i k) same
                 ∙ (and_parts (not (nat_eq t never)) (is_block_open db t k) rest).1,
-            floating_is db sound j v j_lt_length_db x,
+            float_is_floating db sound j v j_lt_length_db x,
             ap (list_any (is_member (mandatory_variables db k)))
-                (formula_is db sound j v j_lt_length_db x)
+                (formula_is_typecode_and_variable db sound j v j_lt_length_db x)
                 ∙ ap (λ b. is_member (mandatory_variables db k) c || (b || false)) m
                 ∙ or-true (is_member (mandatory_variables db k) c),
             l,
           )
 
-      pub hypotheses_are : (es xs : List ℕ)
+      pub hypotheses_are_mandatory : (es xs : List ℕ)
           → ((j : ℕ) → is_member es j ≡ is_member (active_of is_essential db k) j)
           → IsStrictlyIncreasing xs
           → ((j : ℕ) → is_member xs j ≡ (is_member es j
           || list_any (is_float_of db k ts j) variables))
           → xs ≡ mandatory_hypotheses db k
-      hypotheses_are es xs essentials rising same =
+      hypotheses_are_mandatory es xs essentials rising same =
           sym (filter_filter wanted (λ j. is_active db j k) (range_with_len 0 k)
           ∙ filter_is (λ j. is_active db j k && wanted j) k 0 xs
-          (rising_is xs 0 rising (λ l. omega arith))
+          (rising_from_increasing xs 0 rising (λ l. omega arith))
           (λ j e. let l = (right_to_left j (sym (same j) ∙ e)).1 in omega (arith, l))
           (λ j a b. both j (omega arith)))
         where
-          essential_is : (j : ℕ)
+          member_is_active_essential : (j : ℕ)
               → is_member es j
               ≡ (list_any is_essential (statement_at db j) && (is_active db j k && nat_lt j k))
-          essential_is j =
+          member_is_active_essential j =
               essentials j
               ∙ member_filter (λ j. list_any is_essential (statement_at db j)) (active db k) j
               ∙ ap (λ b. list_any is_essential (statement_at db j) && b)
@@ -240,7 +243,7 @@ module _ (db : List Statement) (k : ℕ) where
                   → (b || list_any (is_float_of db k ts j) variables) ≡ true
                   → ((is_active db j k && wanted j) ≡ true) × (j < k)
               by_membership true j_is_member e =
-                  let z = sym (essential_is j) ∙ j_is_member in
+                  let z = sym (member_is_active_essential j) ∙ j_is_member in
                   let t =
                   (and_parts (list_any is_essential (statement_at db j))
                   (is_active db j k && nat_lt j k) z).0 in
@@ -255,7 +258,7 @@ module _ (db : List Statement) (k : ℕ) where
                     ltb-true j k (and_parts (is_active db j k) (nat_lt j k) y).1,
                   )
               by_membership false m e =
-                  let f = found_float j e in (
+                  let f = found_is_active_float j e in (
                     ap₂ (λ a b. a && b) f.0
                         (ap (λ b. list_any is_essential (statement_at db j) || b)
                         (ap₂ (λ a b. a && b) f.1 f.2)
@@ -279,7 +282,7 @@ module _ (db : List Statement) (k : ℕ) where
                   → (is_member es j || list_any (is_float_of db k ts j) variables) ≡ true
               by_essential true t e =
                   ap (λ b. b || list_any (is_float_of db k ts j) variables)
-                  (essential_is j ∙ ap₂ (λ p q. p && q) t
+                  (member_is_active_essential j ∙ ap₂ (λ p q. p && q) t
                   (ap₂ (λ p q. p && q) a (lt-ltb j k j_lt_k)))
               by_essential false t e =
                   ap (λ b. is_member es j || b)

@@ -18,38 +18,38 @@ use Rattle.mm_spec.proofs.BoolLaw.{same_tests}
 use Rattle.mm_spec.proofs.MemberLaw.{member_push, IsLocalTest, active_member}
 use Rattle.mm_outline.specs.Blocks.{never}
 use Rattle.mm_frame.specs.Latest.{is_staying, IsCandidate, IsLatest}
-use Rattle.mm_frame.proofs.NestedLaw.{stays_earlier, stays_nested}
+use Rattle.mm_frame.proofs.NestedLaw.{open_at_earlier, open_at_nested}
 
 -- how far the search still has to go
 abbrev pub height : ℕ → ℕ
 height last = cond (nat_eq last never) 0 (last + 1)
 
 module _ (test : Statement → Bool) (db : List Statement) where
-  pub on_earlier : (i j k : ℕ) → i ≤ j → j ≤ k → is_staying test db i k ≡ true
+  pub staying_at_earlier : (i j k : ℕ) → i ≤ j → j ≤ k → is_staying test db i k ≡ true
       → is_staying test db i j ≡ true
-  on_earlier i j k h l e =
+  staying_at_earlier i j k h l e =
       ap₂ (λ a b. a && b) (and_parts (list_any test (statement_at db i)) (is_block_open db i k) e).0
-      (stays_earlier db i j k h l
+      (open_at_earlier db i j k h l
       (and_parts (list_any test (statement_at db i)) (is_block_open db i k) e).1)
 
-  pub on_nested : (i j k : ℕ) → i < j → j ≤ k → is_staying test db j k ≡ true
+  pub staying_at_nested : (i j k : ℕ) → i < j → j ≤ k → is_staying test db j k ≡ true
       → is_staying test db i k ≡ is_staying test db i j
-  on_nested i j k h l e =
+  staying_at_nested i j k h l e =
       ap (λ b. list_any test (statement_at db i) && b)
-      (stays_nested db i j k h l
+      (open_at_nested db i j k h l
       (and_parts (list_any test (statement_at db j)) (is_block_open db j k) e).1)
 
   -- a candidate that is not open gives way to the last one active at it
-  pub candidate_next : (k last next : ℕ) → IsCandidate test db k last → last ≢ never
+  pub candidate_at_latest : (k last next : ℕ) → IsCandidate test db k last → last ≢ never
       → is_block_open db last k ≡ false → IsLatest test db last next → IsCandidate test db k next
-  candidate_next k last next is_candidate ne out is_latest = record {
-    found =
-        λ n. let f = is_latest.found n in let g = is_candidate.found ne in (
+  candidate_at_latest k last next is_candidate ne out is_latest = record {
+    last_is_found =
+        λ n. let f = is_latest.last_is_found n in let g = is_candidate.last_is_found ne in (
           (let a = f.0 in let b = g.0 in omega (arith, a, b)),
           (and_parts
               (list_any test (statement_at db next)) (is_block_open db next last) f.1).0,
         );
-    after = λ i h o. by_order i h o (cases_order i last);
+    later_are_not_staying = λ i h o. by_order i h o (cases_order i last);
   }
     where
       by_order : (i : ℕ) → i < k → (next < i) ⊎ (next ≡ never) → (i ≡ last)
@@ -58,46 +58,46 @@ module _ (test : Statement → Bool) (db : List Statement) where
       by_order i i_lt_k o (inr (inl l)) =
           false_from_ne_true (is_staying test db i k)
           (λ t. true≢false
-          (sym (on_earlier i last k (omega arith)
-          (let g = (is_candidate.found ne).0 in omega (arith, g)) t)
-          ∙ is_latest.after i l o))
+          (sym (staying_at_earlier i last k (omega arith)
+          (let g = (is_candidate.last_is_found ne).0 in omega (arith, g)) t)
+          ∙ is_latest.later_are_not_staying i l o))
       by_order i i_lt_k o (inl e) =
           subst (λ i. is_staying test db i k ≡ false) (sym e)
           (false_from_ne_true (is_staying test db last k)
           (λ t. true≢false
           (sym (and_parts (list_any test (statement_at db last)) (is_block_open db last k) t).1
           ∙ out)))
-      by_order i i_lt_k o (inr (inr g)) = is_candidate.after i i_lt_k (inl g)
+      by_order i i_lt_k o (inr (inr g)) = is_candidate.later_are_not_staying i i_lt_k (inl g)
 
-  pub candidate_open : (k last : ℕ) → IsCandidate test db k last
+  pub open_candidate_is_latest : (k last : ℕ) → IsCandidate test db k last
       → (last ≢ never → is_block_open db last k ≡ true) → IsLatest test db k last
-  candidate_open k last c o = record {
-    found = λ n. let f = c.found n in (f.0, ap₂ (λ a b. a && b) f.1 (o n));
-    after = c.after;
+  open_candidate_is_latest k last c o = record {
+    last_is_found = λ n. let f = c.last_is_found n in (f.0, ap₂ (λ a b. a && b) f.1 (o n));
+    later_are_not_staying = c.later_are_not_staying;
   }
 
   -- the statement itself, or the last one at it
-  pub candidate_self : (k : ℕ) → k < never → list_any test (statement_at db k) ≡ true
+  pub statement_is_candidate : (k : ℕ) → k < never → list_any test (statement_at db k) ≡ true
       → IsCandidate test db (k + 1) k
-  candidate_self k few e = record {
-    found = λ n. ((omega arith), e);
-    after = λ i h o. absurd (none_is_later i h o);
+  statement_is_candidate k few e = record {
+    last_is_found = λ n. ((omega arith), e);
+    later_are_not_staying = λ i h o. absurd (none_is_later i h o);
   }
     where
       none_is_later : (i : ℕ) → i < k + 1 → (k < i) ⊎ (k ≡ never) → ⊥
       none_is_later i h (inl l) = omega arith
       none_is_later i h (inr l) = omega arith
 
-  pub candidate_other : (k last : ℕ) → list_any test (statement_at db k) ≡ false
+  pub latest_is_candidate_after_other : (k last : ℕ) → list_any test (statement_at db k) ≡ false
       → IsLatest test db k last → IsCandidate test db (k + 1) last
-  candidate_other k last e is_latest = record {
-    found =
-        λ n. let f = is_latest.found n in (
+  latest_is_candidate_after_other k last e is_latest = record {
+    last_is_found =
+        λ n. let f = is_latest.last_is_found n in (
           (let l = f.0 in omega (arith, l)),
           (and_parts (list_any test (statement_at db last))
               (is_block_open db last k) f.1).0,
         );
-    after = λ i h o. by_order i h o (cases_lt i k);
+    later_are_not_staying = λ i h o. by_order i h o (cases_lt i k);
   }
     where
       by_order : (i : ℕ) → i < k + 1 → (last < i) ⊎ (last ≡ never) → (i < k) ⊎ (k ≤ i)
@@ -105,18 +105,20 @@ module _ (test : Statement → Bool) (db : List Statement) where
       by_order i h o (inl l) =
           false_from_ne_true (is_staying test db i (k + 1))
           (λ t. true≢false
-          (sym (on_earlier i k (k + 1) (omega arith) (omega arith) t) ∙ is_latest.after i l o))
+          (sym (staying_at_earlier i k (k + 1) (omega arith) (omega arith) t)
+          ∙ is_latest.later_are_not_staying i l o))
       by_order i h o (inr g) =
           let i_is_k : i ≡ k = omega arith in
           ap (λ b. b && is_block_open db i (k + 1))
           (ap (λ i. list_any test (statement_at db i)) i_is_k ∙ e)
 
-  pub latest_start : (last : ℕ) → last ≡ never → IsLatest test db 0 last
-  latest_start last e = record { found = λ n. absurd (n e); after = λ i h o. absurd (omega arith) }
+  pub no_latest_at_start : (last : ℕ) → last ≡ never → IsLatest test db 0 last
+  no_latest_at_start last e =
+      record { last_is_found = λ n. absurd (n e); later_are_not_staying = λ i h o. absurd (omega arith) }
 
-  pub height_less : (k last next : ℕ) → last ≢ never → IsLatest test db last next
+  pub next_height_lt_height : (k last next : ℕ) → last ≢ never → IsLatest test db last next
       → height next < height last
-  height_less k last next ne is_latest = by_presence (cases_eq next never)
+  next_height_lt_height k last next ne is_latest = by_presence (cases_eq next never)
     where
       full : height last ≡ last + 1
       full = ap (λ b. cond b 0 (last + 1)) (ne_eqb last never ne)
@@ -127,47 +129,47 @@ module _ (test : Statement → Bool) (db : List Statement) where
           omega (arith, z, full)
       by_presence (inr n) =
           let z : height next ≡ next + 1 = ap (λ b. cond b 0 (next + 1)) (ne_eqb next never n) in
-          let f = (is_latest.found n).0 in omega (arith, z, full, f)
+          let f = (is_latest.last_is_found n).0 in omega (arith, z, full, f)
 
   -- ---- the walk
 
   -- the list has only ones that are active at k, and all of these that are after `last`
   pub record IsWalked (k : ℕ) (xs : List ℕ) (last : ℕ) : Type 0 where
-    pub found : last ≢ never → (last < k) × (is_staying test db last k ≡ true)
-    pub only : (i : ℕ) → is_member xs i ≡ true → (i < k) × (is_staying test db i k ≡ true)
-    pub all : (i : ℕ) → i < k → is_staying test db i k ≡ true
+    pub last_is_found : last ≢ never → (last < k) × (is_staying test db last k ≡ true)
+    pub members_are_staying : (i : ℕ) → is_member xs i ≡ true → (i < k) × (is_staying test db i k ≡ true)
+    pub staying_are_members : (i : ℕ) → i < k → is_staying test db i k ≡ true
         → (is_member xs i ≡ true) ⊎ ((last ≢ never) × (i ≤ last))
 
-  pub walked_start : (k last : ℕ) → IsLatest test db k last → IsWalked k [] last
-  walked_start k last x = record {
-    found = x.found;
-    only = λ i e. absurd (true≢false (sym e));
-    all = λ i h e. inr (by_presence i h e (cases_eq last never) (cases_lt last i));
+  pub walked_from_latest : (k last : ℕ) → IsLatest test db k last → IsWalked k [] last
+  walked_from_latest k last x = record {
+    last_is_found = x.last_is_found;
+    members_are_staying = λ i e. absurd (true≢false (sym e));
+    staying_are_members = λ i h e. inr (by_presence i h e (cases_eq last never) (cases_lt last i));
   }
     where
       by_presence : (i : ℕ) → i < k → is_staying test db i k ≡ true → (last ≡ never)
           ⊎ (last ≢ never)
           → (last < i) ⊎ (i ≤ last) → (last ≢ never) × (i ≤ last)
-      by_presence i h e (inl n) b = absurd (true≢false (sym e ∙ x.after i h (inr n)))
-      by_presence i h e (inr n) (inl l) = absurd (true≢false (sym e ∙ x.after i h (inl l)))
+      by_presence i h e (inl n) b = absurd (true≢false (sym e ∙ x.later_are_not_staying i h (inr n)))
+      by_presence i h e (inr n) (inl l) = absurd (true≢false (sym e ∙ x.later_are_not_staying i h (inl l)))
       by_presence i h e (inr n) (inr l) = (n, l)
 
-  pub walked_next : (k : ℕ) (xs : List ℕ) (last next : ℕ) → k ≤ length db
+  pub walked_with_last : (k : ℕ) (xs : List ℕ) (last next : ℕ) → k ≤ length db
       → IsWalked k xs last → last ≢ never → IsLatest test db last next
       → IsWalked k (xs ++ last ∷ []) next
-  walked_next k xs last next few is_walked ne is_latest = record {
-    found =
-        λ n. let f = is_latest.found n in let l = last_is_staying.0 in (
+  walked_with_last k xs last next few is_walked ne is_latest = record {
+    last_is_found =
+        λ n. let f = is_latest.last_is_found n in let l = last_is_staying.0 in (
           (let a = f.0 in omega (arith, a, l)),
-          on_nested next last k f.0 (omega (arith, l)) last_is_staying.1
+          staying_at_nested next last k f.0 (omega (arith, l)) last_is_staying.1
               ∙ f.1,
         );
-    only = λ i e. only i e;
-    all = λ i h e. all i h e (is_walked.all i h e);
+    members_are_staying = λ i e. only i e;
+    staying_are_members = λ i h e. all i h e (is_walked.staying_are_members i h e);
   }
     where
       last_is_staying : (last < k) × (is_staying test db last k ≡ true)
-      last_is_staying = is_walked.found ne
+      last_is_staying = is_walked.last_is_found ne
 
       only : (i : ℕ) → is_member (xs ++ last ∷ []) i ≡ true
           → (i < k) × (is_staying test db i k ≡ true)
@@ -176,7 +178,7 @@ module _ (test : Statement → Bool) (db : List Statement) where
         where
           by_values : (a b : Bool) → is_member xs i ≡ a → nat_eq i last ≡ b → (a || b) ≡ true
               → (i < k) × (is_staying test db i k ≡ true)
-          by_values true b p q t = is_walked.only i p
+          by_values true b p q t = is_walked.members_are_staying i p
           by_values false true p q t =
               subst (λ i. (i < k) × (is_staying test db i k ≡ true))
               (sym (eqb-true i last q)) last_is_staying
@@ -193,16 +195,16 @@ module _ (test : Statement → Bool) (db : List Statement) where
               → (next ≢ never) × (i ≤ next)
           by_presence i_lt_last (inl n) b =
               absurd (true≢false
-              (sym (on_earlier i last k (omega arith) (let l = last_is_staying.0 in
+              (sym (staying_at_earlier i last k (omega arith) (let l = last_is_staying.0 in
               omega (arith, l))
               staying_at_k)
-              ∙ is_latest.after i i_lt_last (inr n)))
+              ∙ is_latest.later_are_not_staying i i_lt_last (inr n)))
           by_presence i_lt_last (inr n) (inl l) =
               absurd (true≢false
-              (sym (on_earlier i last k (omega arith) (let l = last_is_staying.0 in
+              (sym (staying_at_earlier i last k (omega arith) (let l = last_is_staying.0 in
               omega (arith, l))
               staying_at_k)
-              ∙ is_latest.after i i_lt_last (inl l)))
+              ∙ is_latest.later_are_not_staying i i_lt_last (inl l)))
           by_presence i_lt_last (inr n) (inr l) = (n, l)
 
           by_order : (i < last) ⊎ (last ≤ i)
@@ -213,11 +215,11 @@ module _ (test : Statement → Bool) (db : List Statement) where
               inl (member_push xs last i ∙ ap (λ b. is_member xs i || b) (eq-eqb i last i_is_last)
               ∙ or-true (is_member xs i))
 
-  pub walked_end : IsLocalTest test → (k : ℕ) (xs : List ℕ) (last : ℕ) → IsWalked k xs last
+  pub walked_is_active : IsLocalTest test → (k : ℕ) (xs : List ℕ) (last : ℕ) → IsWalked k xs last
       → last ≡ never → (i : ℕ) → is_member xs i ≡ is_member (active_of test db k) i
-  walked_end local k xs last is_walked last_is_never i =
+  walked_is_active local k xs last is_walked last_is_never i =
       same_tests (is_member xs i) (nat_lt i k && is_staying test db i k)
-      (λ m. let f = is_walked.only i m in ap₂ (λ a b. a && b) (lt-ltb i k f.0) f.1)
+      (λ m. let f = is_walked.members_are_staying i m in ap₂ (λ a b. a && b) (lt-ltb i k f.0) f.1)
       (λ t. by_order t (cases_lt i k))
       ∙ sym (active_member test db local k i)
     where
@@ -226,7 +228,7 @@ module _ (test : Statement → Bool) (db : List Statement) where
       by_order t (inr l) =
           absurd (true≢false
           (sym (and_parts (nat_lt i k) (is_staying test db i k) t).0 ∙ le-ltb i k l))
-      by_order t (inl l) = by_membership (is_walked.all i l
+      by_order t (inl l) = by_membership (is_walked.staying_are_members i l
           (and_parts (nat_lt i k) (is_staying test db i k) t).1)
         where
           by_membership : (is_member xs i ≡ true) ⊎ ((last ≢ never) × (i ≤ last)) → is_member xs i
@@ -235,16 +237,17 @@ module _ (test : Statement → Bool) (db : List Statement) where
           by_membership (inr (n, l)) = absurd (n last_is_never)
 
 -- a list of the latest statements stays such with the one at the next place
-pub each_pushed : (test : Statement → Bool) (db : List Statement) (xs ys : List ℕ) (last k : ℕ)
+pub each_latest_with_next : (test : Statement → Bool) (db : List Statement) (xs ys : List ℕ)
+    (last k : ℕ)
     → length xs ≡ k + 1 → ys ≡ xs ++ last ∷ []
     → ((i : ℕ) → i ≤ k → IsLatest test db i (get_or xs i 0)) → IsLatest test db (k + 1) last
     → record {
       count : length ys ≡ k + 1 + 1;
-      each : (i : ℕ) → i ≤ k + 1 → IsLatest test db i (get_or ys i 0);
+      each_is_latest : (i : ℕ) → i ≤ k + 1 → IsLatest test db i (get_or ys i 0);
     }
-each_pushed test db xs ys last k length_xs_is_next_k e old new = record {
+each_latest_with_next test db xs ys last k length_xs_is_next_k e old new = record {
   count = ap length e ∙ length-append xs (last ∷ []) ∙ ap (λ m. m + 1) length_xs_is_next_k;
-  each = λ i h. by_order i h (cases_lt i (k + 1));
+  each_is_latest = λ i h. by_order i h (cases_lt i (k + 1));
 }
   where
     by_order : (i : ℕ) → i ≤ k + 1 → (i < k + 1) ⊎ (k + 1 ≤ i) → IsLatest test db i (get_or ys i 0)

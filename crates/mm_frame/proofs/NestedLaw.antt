@@ -10,18 +10,18 @@ use Rattle.mm_spec.proofs.BoolLaw.{same_tests}
 
 module _ (db : List Statement) where
   -- the block of statement j is open at k if it is open at a later statement
-  pub stays_earlier : (j k l : ℕ) → j ≤ k → k ≤ l → is_block_open db j l ≡ true
+  pub open_at_earlier : (j k l : ℕ) → j ≤ k → k ≤ l → is_block_open db j l ≡ true
       → is_block_open db j k ≡ true
-  stays_earlier j k l h m e =
+  open_at_earlier j k l h m e =
       let inside = (is_block_open_exact db j l (omega arith)).0 e in
       (is_block_open_exact db j k h).1 (λ i a b. inside i a (omega arith))
 
   -- to the end of the inner one is to where it began
-  pub stays_nested : (i j k : ℕ) → i < j → j ≤ k → is_block_open db j k ≡ true
+  pub open_at_nested : (i j k : ℕ) → i < j → j ≤ k → is_block_open db j k ≡ true
       → is_block_open db i k ≡ is_block_open db i j
-  stays_nested i j k i_lt_j j_le_k e =
+  open_at_nested i j k i_lt_j j_le_k e =
       same_tests (is_block_open db i k) (is_block_open db i j)
-      (stays_earlier i j k (omega arith) j_le_k)
+      (open_at_earlier i j k (omega arith) j_le_k)
       (λ f. (is_block_open_exact db i k (omega arith)).1
       (outer ((is_block_open_exact db i j (omega arith)).0 f)
       ((is_block_open_exact db j k j_le_k).0 e)))

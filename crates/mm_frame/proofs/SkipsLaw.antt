@@ -14,8 +14,8 @@ module _ (b : BlockLists) (ps : List (ℕ × ℕ)) where
   pair_at i = get_or ps i (0, 0)
 
   -- the skips of the pairs before `at`
-  abbrev pub AreSoFar : ℕ → List ℕ → Type 0
-  AreSoFar at skips =
+  abbrev pub AreSkipsSoFar : ℕ → List ℕ → Type 0
+  AreSkipsSoFar at skips =
       (length skips ≡ at)
       × ((q : ℕ) → q < at → (get_or skips q 0 ≤ q) × Covers b ps (get_or skips q 0) q)
 
@@ -57,16 +57,17 @@ module _ (b : BlockLists) (ps : List (ℕ × ℕ)) where
           (e.0 ∙ same, omega (arith, f, no_later))
 
   -- a skip that was found is no later than its pair
-  pub skip_read : (at : ℕ) (skips : List ℕ) → AreSoFar at skips → (q r d : ℕ) → q < at
+  pub skip_covers : (at : ℕ) (skips : List ℕ) → AreSkipsSoFar at skips → (q r d : ℕ) → q < at
       → r ≡ get_or skips q d → (r ≤ q) × Covers b ps r q
-  skip_read at skips a q r d l e =
+  skip_covers at skips a q r d l e =
       let n = a.0 in
       subst (λ s. (s ≤ q) × Covers b ps s q)
       (sym (e ∙ get_or_default_zero skips q d (omega (arith, l, n)))) (a.1 q l)
 
-  pub skips_more : (at s : ℕ) (skips : List ℕ) → AreSoFar at skips → (s ≤ at) × Covers b ps s at
-      → (more : List ℕ) → more ≡ skips ++ s ∷ [] → AreSoFar (at + 1) more
-  skips_more at s skips a c more e = (
+  pub skips_with_next : (at s : ℕ) (skips : List ℕ) → AreSkipsSoFar at skips
+      → (s ≤ at) × Covers b ps s at
+      → (more : List ℕ) → more ≡ skips ++ s ∷ [] → AreSkipsSoFar (at + 1) more
+  skips_with_next at s skips a c more e = (
     ap length e ∙ length-append skips (s ∷ []) ∙ ap (λ n. n + 1) a.0,
     λ q l. by_order q (cases_lt q at) l,
   )
@@ -85,9 +86,9 @@ module _ (b : BlockLists) (ps : List (ℕ × ℕ)) where
           (sym (ap (λ xs. get_or xs at 0) e ∙ ap (λ j. get_or (skips ++ s ∷ []) j 0) (sym a.0)
           ∙ get_or-append_seam skips s [] 0)) c)
 
-  pub all_skips : (at : ℕ) (skips : List ℕ) → AreSoFar at skips → at ≤ length ps
+  pub so_far_are_skips : (at : ℕ) (skips : List ℕ) → AreSkipsSoFar at skips → at ≤ length ps
       → length ps ≤ at → AreSkips b ps skips
-  all_skips at skips a l m = record {
+  so_far_are_skips at skips a l m = record {
     count = (let n = a.0 in omega (arith, n, l, m));
     within = λ q h. (a.1 q (omega (arith, h, l, m))).0;
     covers = λ q h. (a.1 q (omega (arith, h, l, m))).1;

@@ -11,13 +11,13 @@ use Rattle.mm_frame.specs.Hypotheses.{AreStamps}
 use Rattle.mm_spec.proofs.MemberLaw.{member_push}
 
 -- stamps stay those of the variables if a symbol is stamped and added to them
-pub stamp_more : (n stamp : ℕ) (stamps variables : List ℕ) (s : ℕ)
+pub stamps_with_symbol : (n stamp : ℕ) (stamps variables : List ℕ) (s : ℕ)
     → AreStamps n stamp stamps variables → s < n
     → AreStamps n stamp (set stamps s stamp) (variables ++ s ∷ [])
-stamp_more n stamp stamps variables s m h = record {
+stamps_with_symbol n stamp stamps variables s m h = record {
   count = length-set stamps s stamp ∙ m.count;
-  within = λ x l. within x l (cases_eq x s);
-  marked = λ x l. marked x l (cases_eq x s) ∙ sym (member_push variables s x);
+  stamps_le_stamp = λ x l. within x l (cases_eq x s);
+  marked_is_member = λ x l. marked x l (cases_eq x s) ∙ sym (member_push variables s x);
 }
   where
     stamp_is_set : get_or (set stamps s stamp) s 0 ≡ stamp
@@ -28,7 +28,7 @@ stamp_more n stamp stamps variables s m h = record {
         subst (λ x. get_or (set stamps s stamp) x 0 ≤ stamp) (sym e)
         (subst (λ v. v ≤ stamp) (sym stamp_is_set) (le_refl stamp))
     within x l (inr e) =
-        subst (λ v. v ≤ stamp) (sym (get_or-set_other stamps s x stamp 0 e)) (m.within x l)
+        subst (λ v. v ≤ stamp) (sym (get_or-set_other stamps s x stamp 0 e)) (m.stamps_le_stamp x l)
 
     marked : (x : ℕ) → x < n → (x ≡ s) ⊎ (x ≢ s)
         → nat_eq (get_or (set stamps s stamp) x 0) stamp ≡ (is_member variables x || nat_eq x s)
@@ -38,27 +38,27 @@ stamp_more n stamp stamps variables s m h = record {
         ∙ sym (ap (λ b. is_member variables x || b) (eq-eqb x s e)
         ∙ or-true (is_member variables x))
     marked x l (inr e) =
-        ap (λ v. nat_eq v stamp) (get_or-set_other stamps s x stamp 0 e) ∙ m.marked x l
+        ap (λ v. nat_eq v stamp) (get_or-set_other stamps s x stamp 0 e) ∙ m.marked_is_member x l
         ∙ sym (ap (λ b. is_member variables x || b) (ne_eqb x s e)
         ∙ or-false (is_member variables x))
 
 -- with a new stamp none is marked
-pub stamps_fresh : (n k : ℕ) (stamps variables : List ℕ) → length stamps ≡ n
+pub fresh_stamps_mark_none : (n k : ℕ) (stamps variables : List ℕ) → length stamps ≡ n
     → ((x : ℕ) → x < n → get_or stamps x 0 ≤ k) → variables ≡ []
     → AreStamps n (k + 1) stamps variables
-stamps_fresh n k stamps variables c w e = record {
+fresh_stamps_mark_none n k stamps variables c w e = record {
   count = c;
-  within = λ x l. let h = w x l in omega (arith, h);
-  marked =
+  stamps_le_stamp = λ x l. let h = w x l in omega (arith, h);
+  marked_is_member =
       λ x l. let h = w x l in
       ne_eqb (get_or stamps x 0) (k + 1) (λ s. absurd (omega (arith, s, h)))
       ∙ sym (ap (λ f. is_member f x) e);
 }
 
 -- a symbol that has been noted already, one that is new, and one that is no variable
-pub listed_new : (v : ℕ → Bool) (s x : ℕ) (b : Bool) → v s ≡ true
+pub listed_with_new : (v : ℕ → Bool) (s x : ℕ) (b : Bool) → v s ≡ true
     → (b || nat_eq x s) ≡ (b || (v x && nat_eq x s))
-listed_new v s x b e = by_equality (cases_eq x s)
+listed_with_new v s x b e = by_equality (cases_eq x s)
   where
     by_equality : (x ≡ s) ⊎ (x ≢ s) → (b || nat_eq x s) ≡ (b || (v x && nat_eq x s))
     by_equality (inl q) = ap (λ a. b || (a && nat_eq x s)) (sym (ap v q ∙ e))
@@ -66,8 +66,9 @@ listed_new v s x b e = by_equality (cases_eq x s)
         ap (λ a. b || a) (ne_eqb x s q)
         ∙ sym (ap (λ a. b || a) (ap (λ a. v x && a) (ne_eqb x s q) ∙ and-false (v x)))
 
-pub listed_again : (v m : ℕ → Bool) (s x : ℕ) → m s ≡ true → m x ≡ (m x || (v x && nat_eq x s))
-listed_again v m s x e = by_equality (cases_eq x s)
+pub listed_is_unchanged : (v m : ℕ → Bool) (s x : ℕ) → m s ≡ true
+    → m x ≡ (m x || (v x && nat_eq x s))
+listed_is_unchanged v m s x e = by_equality (cases_eq x s)
   where
     right_false : (a b : Bool) → a ≡ (a || (b && false))
     right_false true b = refl
@@ -78,8 +79,9 @@ listed_again v m s x e = by_equality (cases_eq x s)
     by_equality (inl q) = let t = ap m q ∙ e in t ∙ sym (ap (λ a. a || (v x && nat_eq x s)) t)
     by_equality (inr q) = right_false (m x) (v x) ∙ ap (λ a. m x || (v x && a)) (sym (ne_eqb x s q))
 
-pub not_listed : (v m : ℕ → Bool) (s x : ℕ) → v s ≡ false → m x ≡ (m x || (v x && nat_eq x s))
-not_listed v m s x e = by_equality (cases_eq x s)
+pub not_listed_is_unchanged : (v m : ℕ → Bool) (s x : ℕ) → v s ≡ false
+    → m x ≡ (m x || (v x && nat_eq x s))
+not_listed_is_unchanged v m s x e = by_equality (cases_eq x s)
   where
     right_false : (a b : Bool) → a ≡ (a || (b && false))
     right_false true b = refl
@@ -98,11 +100,11 @@ listed_row false false t e = refl
 listed_row false true t e = refl
 
 -- a symbol with this stamp has been found
-pub stamped_again : (n stamp : ℕ) (stamps variables : List ℕ) (s place r : ℕ)
+pub stamped_is_member : (n stamp : ℕ) (stamps variables : List ℕ) (s place r : ℕ)
     → AreStamps n stamp stamps variables
     → s < n → place ≡ s → r ≡ get_or stamps place r → r ≡ stamp → is_member variables s ≡ true
-stamped_again n stamp stamps variables s place r m l p e f =
-    sym (m.marked s l)
+stamped_is_member n stamp stamps variables s place r m l p e f =
+    sym (m.marked_is_member s l)
     ∙ eq-eqb (get_or stamps s 0) stamp
     (sym (get_or_default_zero stamps s r (let c = m.count in omega (arith, l, c)))
     ∙ ap (λ i. get_or stamps i r) (sym p) ∙ sym e ∙ f)

@@ -16,8 +16,8 @@ IsLinkChain links n (j ∷ js) =
 
 -- each chain begins at one of the links, and each link leads to one before it
 pub record AreLinked (heads : List ℕ) (links : List (ℕ × ℕ)) : Type 0 where
-  pub within : (x : ℕ) → x < length heads → get_or heads x 0 ≤ length links
-  pub down : (i : ℕ) → i < length links → (get_or links i (0, 0)).1 ≤ i
+  pub heads_le_length : (x : ℕ) → x < length heads → get_or heads x 0 ≤ length links
+  pub next_le_index : (i : ℕ) → i < length links → (get_or links i (0, 0)).1 ≤ i
 
 -- the chain from link n on has the statements that pass the test, in ascending order, all of them
 -- from `least` on

@@ -3,7 +3,7 @@ use Rattle.std.proofs.lemmas.Grind.{get_or_default_zero}
 use Rattle.mm_spec.specs.Frame.{is_essential}
 use Rattle.mm_outline.specs.Blocks.{never}
 use Rattle.mm_frame.specs.Latest.{IsLatest}
-use Rattle.mm_frame.proofs.LatestLaw.{candidate_self, candidate_other, each_pushed}
+use Rattle.mm_frame.proofs.LatestLaw.{statement_is_candidate, latest_is_candidate_after_other, each_latest_with_next}
 use Rattle.mm_frame.proofs.active.latest_essentials.Goals as goal
 use Rattle.mm_frame.proofs.active.latest_essentials.Goals.{then-is_essential, else-is_essential}
 
@@ -19,7 +19,8 @@ last_open-last-requires-clause-candidate g c =
     let k_lt_never : k < never = omega (arith, s, e, h, n) in
     elim c.if-is_essential.branch [
       | then-is_essential w ↦ rw w.candidate-is
-          (candidate_self t db k k_lt_never (sym c.is_essential.ensures ∙ w.if-is_essential.true))
+          (statement_is_candidate t db k k_lt_never (sym c.is_essential.ensures
+          ∙ w.if-is_essential.true))
       | else-is_essential w ↦
           let m = c.loop-statement.invariant.count in
           let v = w.index.result.now in
@@ -27,15 +28,16 @@ last_open-last-requires-clause-candidate g c =
           sym (w.index.ensures
           ∙ get_or_default_zero c.loop-statement.latest.items k v (omega (arith, m))) in
           rw w.candidate-is
-          (candidate_other t db k v (sym c.is_essential.ensures ∙ w.if-is_essential.false)
-          (subst (IsLatest t db k) is (c.loop-statement.invariant.each k (omega arith))))
+          (latest_is_candidate_after_other t db k v (sym c.is_essential.ensures
+          ∙ w.if-is_essential.false)
+          (subst (IsLatest t db k) is (c.loop-statement.invariant.each_is_latest k (omega arith))))
     ]
 
 pub loop-statement-preserved : goal.loop-statement-preserved
 loop-statement-preserved g c =
     let m = c.loop-statement.invariant.count in
-    each_pushed is_essential c.args.statements.now.list c.loop-statement.latest.items
+    each_latest_with_next is_essential c.args.statements.now.list c.loop-statement.latest.items
     c.push-in-loop-statement.new.self.items
     c.last_open-last.result c.loop-statement.statement m c.in_ok-push-2.ensures.items
-    c.loop-statement.invariant.each
+    c.loop-statement.invariant.each_is_latest
     c.last_open-last.ensures

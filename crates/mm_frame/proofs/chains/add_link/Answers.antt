@@ -1,6 +1,6 @@
 use Rattle.std.proofs.Common.{◌≡◌, ◌<◌, ◌+◌, length, get_or, sym, arith, ◌∙◌}
 use Rattle.std.proofs.lemmas.List.{get_or_default}
-use Rattle.mm_frame.proofs.ChainsLaw.{begun, chains_more}
+use Rattle.mm_frame.proofs.ChainsLaw.{chains_with_known_statement, chains_with_statement}
 use Rattle.mm_frame.proofs.chains.add_link.Goals as goal
 
 pub returns-in_ok-push-clause-chains : goal.returns-in_ok-push-clause-chains
@@ -19,7 +19,8 @@ returns-in_ok-push-clause-chains g c = λ has h.
     let count : c.len.result ≡ length links + 1 =
     omega (arith, c.len.ensures, c.in_ok-push.ensures.len) in
     rw (c.in_ok-push.ensures.items, count, head)
-    (chains_more has heads links c.args.symbol x c.args.statement (sym c.number-index.ensures)
+    (chains_with_statement has heads links c.args.symbol x c.args.statement
+    (sym c.number-index.ensures)
     x_lt_length_heads
     (rw (← head, ← c.deref.ensures.value) (c.begins_with.ensures.none c.if-not-begins_with.true)) h)
 
@@ -37,6 +38,7 @@ returns-else-not-begins_with-clause-chains g c = λ has h.
     c.index-first_link.ensures ∙ get_or_default heads x c.index-first_link.result.now 0
     x_lt_length_heads in
     let met = c.begins_with.ensures.some c.if-not-begins_with.false in
-    begun has heads links c.args.symbol x c.args.statement (sym c.number-index.ensures)
+    chains_with_known_statement has heads links c.args.symbol x c.args.statement
+    (sym c.number-index.ensures)
     x_lt_length_heads
     (rw (← head) met.0) (rw (← head, ← c.deref.ensures.value) met.1) h

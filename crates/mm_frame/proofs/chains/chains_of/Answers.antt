@@ -1,8 +1,8 @@
 use Rattle.std.proofs.Common.{◌≡◌, ◌∙◌, ◌+◌, ◌-◌, ◌<◌, ℕ, List, length, get_or, refl, sym, ap}
 use Rattle.std.proofs.Common.{arith, replicate}
 use Rattle.std.proofs.lemmas.List.{length-replicate, get_or-replicate}
-use Rattle.mm_frame.proofs.ChainsLaw.{none_yet, linked_none, same_chains, with_disjoint}
-use Rattle.mm_frame.proofs.ChainsLaw.{without_disjoint, symbol_below}
+use Rattle.mm_frame.proofs.ChainsLaw.{no_chains_at_start, no_links_are_linked, chains_for_equal_tests, has_symbol_with_disjoint}
+use Rattle.mm_frame.proofs.ChainsLaw.{has_symbol_without_disjoint, symbol_lt_symbol_count}
 use Rattle.mm_frame.proofs.chains.chains_of.Goals as goal
 
 pub loop-statement-init : goal.loop-statement-init
@@ -18,8 +18,9 @@ loop-statement-init g c =
     record {
       within = let e = c.len-statement.ensures.len in omega (arith, e);
       count = length_heads_is_n ∙ c.symbol_count.ensures.count;
-      linked = rw c.new.ensures.items (linked_none heads empty);
-      chains = rw (c.new.ensures.items, c.len-statement.ensures.len) (none_yet db heads empty);
+      linked = rw c.new.ensures.items (no_links_are_linked heads empty);
+      chains = rw (c.new.ensures.items, c.len-statement.ensures.len)
+          (no_chains_at_start db heads empty);
     }
 
 pub loop-statement-preserved-in-Continue-branch-2 :
@@ -34,11 +35,11 @@ loop-statement-preserved-in-Continue-branch-2 g c =
       count = c.in_ok-add_links.ensures.count ∙ c.loop-statement.invariant.count;
       linked = c.in_ok-add_links.ensures.linked;
       chains =
-          same_chains _ _ (statement - 1) (statement - 1) _ _ (omega arith)
-          (λ x j. with_disjoint db (statement - 1) x j statement c.formula.result.now e
+          chains_for_equal_tests _ _ (statement - 1) (statement - 1) _ _ (omega arith)
+          (λ x j. has_symbol_with_disjoint db (statement - 1) x j statement c.formula.result.now e
           c.formula.ensures.formula (sym c.is_disjoint.ensures ∙ c.if-is_disjoint.true))
           (c.in_ok-add_links.ensures.chains _
-          (same_chains _ _ (statement - 1) statement _ _ (omega arith) (λ x j. refl)
+          (chains_for_equal_tests _ _ (statement - 1) statement _ _ (omega arith) (λ x j. refl)
           c.loop-statement.invariant.chains));
     }
 
@@ -53,13 +54,13 @@ loop-statement-preserved g c =
       count = c.loop-statement.invariant.count;
       linked = c.loop-statement.invariant.linked;
       chains =
-          same_chains _ _ (statement - 1) statement _ _ (omega arith)
-          (λ x j. without_disjoint db (statement - 1) x j statement e
+          chains_for_equal_tests _ _ (statement - 1) statement _ _ (omega arith)
+          (λ x j. has_symbol_without_disjoint db (statement - 1) x j statement e
           (sym c.is_disjoint.ensures ∙ c.if-is_disjoint.false))
           c.loop-statement.invariant.chains;
     }
 
 pub returns-clause-all : goal.returns-clause-all
 returns-clause-all g c = λ x j e.
-    let l = symbol_below c.args.statements.now.list c.len-statement.ensures.sound x j e in
+    let l = symbol_lt_symbol_count c.args.statements.now.list c.len-statement.ensures.sound x j e in
     omega (arith, l, c.loop-statement.invariant.count)

@@ -1,5 +1,5 @@
 use Rattle.std.proofs.Common.{◌-◌, length, ap, sym, ◌∙◌, arith}
-use Rattle.mm_frame.proofs.SkipsLaw.{covers_itself, covers_before, skip_read, skips_more, all_skips}
+use Rattle.mm_frame.proofs.SkipsLaw.{covers_itself, covers_before, skip_covers, skips_with_next, so_far_are_skips}
 use Rattle.mm_frame.proofs.disjoint_index.skips_of.Goals as goal
 
 pub loop-index-init : goal.loop-index-init
@@ -19,7 +19,7 @@ loop-covered_from-smaller g c =
     let i = c.loop-covered_from.invariant.0 in
     let t = c.loop-covered_from-test.true in
     let s =
-    skip_read c.args.blocks.now c.args.pairs.now index c.loop-index.skips.items
+    skip_covers c.args.blocks.now c.args.pairs.now index c.loop-index.skips.items
     c.loop-index.invariant
     (covered_from - 1)
     c.index-covered_from.result.now _ (omega (arith, i, t)) c.index-covered_from.ensures in
@@ -36,14 +36,14 @@ loop-covered_from-preserved g c =
     covers_before c.args.blocks.now c.args.pairs.now covered_from index
     c.index-covered_from.result.now t l i.1
     (sym c.is_covered.ensures ∙ c.if-is_covered.true)
-    (skip_read c.args.blocks.now c.args.pairs.now index c.loop-index.skips.items
+    (skip_covers c.args.blocks.now c.args.pairs.now index c.loop-index.skips.items
     c.loop-index.invariant
     (covered_from - 1)
     c.index-covered_from.result.now _ (omega (arith, l, t)) c.index-covered_from.ensures)
 
 pub loop-index-preserved : goal.loop-index-preserved
 loop-index-preserved g c =
-    skips_more c.args.blocks.now c.args.pairs.now c.loop-index.index
+    skips_with_next c.args.blocks.now c.args.pairs.now c.loop-index.index
     c.loop-covered_from.covered_from
     c.loop-index.skips.items
     c.loop-index.invariant c.loop-covered_from.invariant c.push.new.self.items
@@ -51,7 +51,7 @@ loop-index-preserved g c =
 
 pub returns : goal.returns
 returns g c =
-    all_skips c.args.blocks.now c.args.pairs.now c.loop-index.index c.loop-index.skips.items
+    so_far_are_skips c.args.blocks.now c.args.pairs.now c.loop-index.index c.loop-index.skips.items
     c.loop-index.invariant c.loop-index.auto.index-end c.loop-index-test.false
 
 pub is_covered-requires-clause-pair : goal.is_covered-requires-clause-pair

@@ -2,7 +2,7 @@ use Rattle.std.proofs.Common.{length, Some, ap, sym, ◌∙◌, arith}
 use Rattle.std.proofs.lemmas.List.FromFn.{length-map-range_with_len}
 use Rattle.mm_database.specs.Frames.{frame_or_none}
 use Rattle.mm_database.proofs.NamesLaw.{on_ok_then}
-use Rattle.mm_frame.proofs.FramesLaw.{frames_more, own_frame}
+use Rattle.mm_frame.proofs.FramesLaw.{frames_with_statement, frame_is_frame_or_none}
 use Rattle.mm_frame.proofs.frames.add_frame.Goals as goal
 
 pub add-requires : goal.add-requires
@@ -21,8 +21,8 @@ returns-in_ok-frame-clause-frames g c =
     let k = c.args.statement in
     let is = sym c.is_assertion.ensures ∙ c.if-is_assertion.true in
     on_ok_then c.add.result c.add.ensures
-    (λ e. frames_more db k _ _ _ c.requires.frames e
-    (ap Some c.in_ok-frame.ensures.frame ∙ own_frame db k _ is))
+    (λ e. frames_with_statement db k _ _ _ c.requires.frames e
+    (ap Some c.in_ok-frame.ensures.frame ∙ frame_is_frame_or_none db k _ is))
 
 pub returns-else-is_assertion-clause-frames : goal.returns-else-is_assertion-clause-frames
 returns-else-is_assertion-clause-frames g c =
@@ -30,4 +30,4 @@ returns-else-is_assertion-clause-frames g c =
     let k = c.args.statement in
     let is = sym c.is_assertion.ensures ∙ c.if-is_assertion.false in
     on_ok_then c.add_none.result c.add_none.ensures
-    (λ e. frames_more db k _ _ _ c.requires.frames e (own_frame db k _ is))
+    (λ e. frames_with_statement db k _ _ _ c.requires.frames e (frame_is_frame_or_none db k _ is))

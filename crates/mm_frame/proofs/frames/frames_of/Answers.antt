@@ -3,7 +3,7 @@ use Rattle.mm_spec.specs.Frame.{is_essential}
 use Rattle.mm_frame.specs.Latest.{AreLatest}
 use Rattle.mm_frame.specs.Hypotheses.{AreLastFloats}
 use Rattle.mm_database.specs.Frames.{frames_before}
-use Rattle.mm_frame.proofs.FramesLaw.{typed_start}
+use Rattle.mm_frame.proofs.FramesLaw.{last_floats_at_start}
 use Rattle.mm_frame.proofs.frames.frames_of.Goals as goal
 
 pub returns : goal.returns
@@ -18,13 +18,13 @@ returns g c =
 pub loop-statement-init : goal.loop-statement-init
 loop-statement-init g c = record {
   last_floats =
-      typed_start c.args.statements.now.list c.in_ok-last_floats.last_floats.items
+      last_floats_at_start c.args.statements.now.list c.in_ok-last_floats.last_floats.items
       c.symbol_count.result
       c.symbol_count.ensures.count c.in_ok-last_floats.ensures.count
       c.in_ok-last_floats.ensures.each;
   stamps = record {
     count = c.in_ok-filled.ensures.count ∙ c.symbol_count-2.ensures.count;
-    within =
+    stamps_le_stamp =
         λ x h.
         let n = c.symbol_count-2.ensures.count in
         let e = c.in_ok-filled.ensures.each x (omega (arith, h, n)) in
@@ -48,7 +48,7 @@ add_frame-requires-clause-ready g c = record {
       subst (λ xs. AreLastFloats c.args.statements.now.list c.loop-statement.statement xs)
       (sym c.deref-in-loop-statement.ensures.value)
       c.loop-statement.invariant.last_floats;
-  fresh = c.loop-statement.invariant.stamps;
+  stamps_are_fresh = c.loop-statement.invariant.stamps;
 }
 
 pub add_frame-requires-clause-statement : goal.add_frame-requires-clause-statement

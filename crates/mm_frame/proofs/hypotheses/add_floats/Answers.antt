@@ -2,7 +2,7 @@ use Rattle.std.proofs.Common.{arith, ℕ, List, ap, ◌∙◌, ◌||◌, take_al
 use Rattle.std.specs.List.{list_any}
 use Rattle.mm_spec.specs.Derivation.{is_member}
 use Rattle.mm_frame.specs.Hypotheses.{is_float_of}
-use Rattle.mm_frame.proofs.LoopsLaw.{none_so_far, any_next, float_pushed, float_closed, float_none}
+use Rattle.mm_frame.proofs.LoopsLaw.{none_so_far, any_with_next_element, floats_with_open_float, floats_without_closed_float, floats_without_float}
 use Rattle.mm_spec.specs.Scope.{is_block_open}
 use Rattle.mm_outline.specs.Blocks.{never}
 use Rattle.std.proofs.lemmas.Bool.{ne_eqb, eq-eqb}
@@ -29,7 +29,7 @@ is_open_at-requires-clause-before g c =
     c.loop-symbol-test.true in
     let e = c.symbol-item.is in
     let m = c.number.ensures in
-    let f = c.requires.last_floats.some c.number.result (omega (arith, h, e, m)) c.if-floating.true
+    let f = c.requires.last_floats.last_is_typed c.number.result (omega (arith, h, e, m)) c.if-floating.true
     in
     let before = f.0 in
     omega (arith, before)
@@ -40,7 +40,7 @@ is_open_at-requires-clause-within g c =
     c.loop-symbol-test.true in
     let e = c.symbol-item.is in
     let m = c.number.ensures in
-    let f = c.requires.last_floats.some c.number.result (omega (arith, h, e, m)) c.if-floating.true
+    let f = c.requires.last_floats.last_is_typed c.number.result (omega (arith, h, e, m)) c.if-floating.true
     in
     let before = f.0 in
     let at = c.requires.at in
@@ -59,17 +59,20 @@ loop-symbol-preserved g c = λ j.
     let n : is_member more j ≡ (is_member hs j || is_float_of db at last_floats j v) =
     elim c.if-floating.branch [
       | then-floating+then-is_open_at+in_ok-push w ↦
-          float_pushed hs more f j (nat_eq f never) is_open (ne_eqb f never w.if-floating.true)
+          floats_with_open_float hs more f j (nat_eq f never) is_open
+          (ne_eqb f never w.if-floating.true)
           (sym w.is_open_at.ensures ∙ w.if-is_open_at.true)
           (ap (λ x. x.items) w.hyps-is ∙ w.in_ok-push.ensures.items)
       | then-floating+else-is_open_at w ↦
-          float_closed hs more f j (nat_eq f never) is_open
+          floats_without_closed_float hs more f j (nat_eq f never) is_open
           (sym w.is_open_at.ensures ∙ w.if-is_open_at.false) (ap (λ x. x.items) w.hyps-is)
       | else-floating w ↦
-          float_none hs more f j (nat_eq f never) is_open (eq-eqb f never w.if-floating.false)
+          floats_without_float hs more f j (nat_eq f never) is_open
+          (eq-eqb f never w.if-floating.false)
           (ap (λ x. x.items) w.hyps-is)
     ] in
-    any_next (is_float_of db at last_floats j) c.args.variables.now c.loop-symbol.symbol-index
+    any_with_next_element (is_float_of db at last_floats j) c.args.variables.now
+    c.loop-symbol.symbol-index
     c.symbol-item.result _ _ _ c.loop-symbol-test.true (c.loop-symbol.invariant j)
     (n ∙ ap (λ x. is_member hs j || is_float_of db at last_floats j x)
     (c.number.ensures ∙ c.symbol-item.is))

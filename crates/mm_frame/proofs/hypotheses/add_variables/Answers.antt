@@ -1,14 +1,14 @@
 use Rattle.std.proofs.Common.{arith, ℕ, List, ap, ◌∙◌, ◌&&◌, ◌||◌, take_all}
 use Rattle.mm_spec.specs.Derivation.{is_member}
 use Rattle.mm_spec.specs.Frame.{is_variable_number}
-use Rattle.mm_frame.proofs.LoopsLaw.{listed_none, listed_next}
+use Rattle.mm_frame.proofs.LoopsLaw.{listed_of_no_symbols, listed_with_next_symbol}
 use Rattle.mm_frame.proofs.hypotheses.add_variables.Goals as goal
 
 pub loop-symbol-init : goal.loop-symbol-init
 loop-symbol-init g c = record {
   stamps = c.requires.stamps;
   variables =
-      λ x. listed_none (is_member c.args.variables.now.items x)
+      λ x. listed_of_no_symbols (is_member c.args.variables.now.items x)
       (is_variable_number c.args.statements.now.list x);
 }
 
@@ -24,7 +24,8 @@ loop-symbol-preserved g c = record {
   stamps = c.in_ok-add_variable.ensures.stamps;
   variables =
       λ x.
-      listed_next c.args.symbols.now c.loop-symbol.symbol-index c.symbol-item.result x _ _ _
+      listed_with_next_symbol c.args.symbols.now c.loop-symbol.symbol-index c.symbol-item.result x _
+      _ _
       (is_variable_number c.args.statements.now.list x) c.loop-symbol-test.true c.symbol-item.is
       (c.loop-symbol.invariant.variables x) (c.in_ok-add_variable.ensures.variables x);
 }
