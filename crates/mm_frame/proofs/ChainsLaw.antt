@@ -144,7 +144,7 @@ module _ (heads : List ℕ) (links : List (ℕ × ℕ)) (x k : ℕ) (x_lt_length
           omega (arith, next_is_head, next_le)
 
 module _ (has : ℕ → ℕ → Bool) (heads : List ℕ) (links : List (ℕ × ℕ)) (s x k : ℕ) (s_is_x : s ≡ x)
-    (here : x < length heads)
+    (x_lt_length : x < length heads)
   where
     -- where it is there already, nothing changes
     pub chains_with_known_statement : 0 < get_or heads x 0

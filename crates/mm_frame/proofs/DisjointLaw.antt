@@ -83,19 +83,19 @@ module _ (by_statement : List (ℕ × ℕ)) (rising : AreRising by_statement) (p
       (pairs_so_far ++ (low, (get_or by_statement at (0, 0)).1) ∷ [])
   adds_later_with_pair at earlier_pairs pairs_so_far adds at_lt_length_by_statement same_statement =
       record {
-    place_lt_at = let place_lt_at = adds.place_lt_at in omega (arith, place_lt_at);
-    at_le_length = omega (arith, at_lt_length_by_statement);
-    statement_is_same =
-        λ p place_lt_p p_lt_next. statement_is_same p place_lt_p p_lt_next (cases_eq p at);
-    earlier_pairs_stay = λ x y had_pair. has_pair_still x y (adds.earlier_pairs_stay x y had_pair);
-    new_pairs_are_later =
-        λ x y had_pair. new_pair_is_later x y (has_pair pairs_so_far x y) refl
-        (sym (list_any-append (λ p. nat_eq x p.0 && nat_eq y p.1) pairs_so_far
-        ((low, high_variable) ∷ []))
-        ∙ had_pair);
-    later_pairs_are_added =
-        λ p place_lt_p p_lt_next. later_pair_is_added p place_lt_p p_lt_next (cases_eq p at);
-  }
+        place_lt_at = let place_lt_at = adds.place_lt_at in omega (arith, place_lt_at);
+        at_le_length = omega (arith, at_lt_length_by_statement);
+        statement_is_same =
+            λ p place_lt_p p_lt_next. statement_is_same p place_lt_p p_lt_next (cases_eq p at);
+        earlier_pairs_stay = λ x y had_pair. has_pair_still x y (adds.earlier_pairs_stay x y had_pair);
+        new_pairs_are_later =
+            λ x y had_pair. new_pair_is_later x y (has_pair pairs_so_far x y) refl
+            (sym (list_any-append (λ p. nat_eq x p.0 && nat_eq y p.1) pairs_so_far
+            ((low, high_variable) ∷ []))
+            ∙ had_pair);
+        later_pairs_are_added =
+            λ p place_lt_p p_lt_next. later_pair_is_added p place_lt_p p_lt_next (cases_eq p at);
+      }
     where
       high_variable : ℕ
       high_variable = (get_or by_statement at (0, 0)).1
@@ -218,7 +218,7 @@ module _ (by_statement : List (ℕ × ℕ)) (rising : AreRising by_statement) (p
           place_lt_p : (place ≡ p) ⊎ ((place < p) ⊎ (p < place)) → place < p
           place_lt_p (inl place_is_p) =
               absurd (let variables_equal = ap (λ i. (get_or by_statement i (0, 0)).1) place_is_p in
-                  omega (arith, variables_equal, low_lt_variable))
+              omega (arith, variables_equal, low_lt_variable))
           place_lt_p (inr (inl place_order)) = place_order
           place_lt_p (inr (inr place_order)) =
               absurd (not_before (earlier_is_before by_statement rising p place (0, 0) place_order
@@ -303,11 +303,11 @@ or_with_next_symbol false m q r l y s q_is_r = by_equality (cases_eq y s)
 -- ---- the mandatory pairs
 
 module _ (db : List Statement) (b : BlockLists) (blocks : IsBlocks db b) (k : ℕ)
-    (h : k ≤ length db) (ps : List (ℕ × ℕ))
-    (are : (x j : ℕ) → has_pair ps x j ≡ has_symbol db x j) (variables : List ℕ)
+    (k_le_length : k ≤ length db) (ps : List (ℕ × ℕ))
+    (pairs_are_members : (x j : ℕ) → has_pair ps x j ≡ has_symbol db x j) (variables : List ℕ)
     (by_statement : List (ℕ × ℕ))
     (variables_are : (x : ℕ) → is_member variables x ≡ is_member (mandatory_variables db k) x)
-    (had_is : (j y : ℕ)
+    (paired_is : (j y : ℕ)
     → has_pair by_statement j y ≡ (is_member variables y
     && (has_pair ps y j && is_active_local b j k)))
   where
@@ -328,114 +328,129 @@ module _ (db : List Statement) (b : BlockLists) (blocks : IsBlocks db b) (k : �
 
     member_is_in_range : (x : ℕ) → is_member vs x ≡ true
         → is_member (range_with_len 0 count) x ≡ true
-    member_is_in_range x e =
-        let l = mandatory_has_name db k x e in
-        member_range count 0 x (omega arith) ∙ lt-ltb x (0 + count) (omega (arith, l))
+    member_is_in_range x x_is_member =
+        let x_lt_count = mandatory_has_name db k x x_is_member in
+        member_range count 0 x (omega arith) ∙ lt-ltb x (0 + count) (omega (arith, x_lt_count))
 
     paired_is_active_member : (j y : ℕ) → has_pair by_statement j y ≡ true
         → (is_member vs y ≡ true) × (is_member (formula_at db j) y ≡ true)
         × (is_member (active_of is_disjoint_statement db k) j ≡ true)
     paired_is_active_member j y has_pair_x_y =
-        let f = sym (had_is j y) ∙ has_pair_x_y in
-        let r = (and_parts (is_member variables y) (has_pair ps y j && is_active_local b j k) f).1
+        let is_paired = sym (paired_is j y) ∙ has_pair_x_y in
+        let is_active_pair =
+        (and_parts (is_member variables y) (has_pair ps y j && is_active_local b j k) is_paired).1
         in
-        let s = sym (are y j) ∙ (and_parts (has_pair ps y j) (is_active_local b j k) r).0 in
-        let d =
+        let j_has_y = sym (pairs_are_members y j)
+        ∙ (and_parts (has_pair ps y j) (is_active_local b j k) is_active_pair).0 in
+        let j_is_disjoint =
         (and_parts (list_any is_disjoint_statement (statement_at db j))
-        (is_member (formula_at db j) y) s).0 in (
+        (is_member (formula_at db j) y) j_has_y).0 in (
           sym (variables_are y)
-              ∙ (and_parts (is_member variables y) (has_pair ps y j && is_active_local b j k) f).0,
+              ∙ (and_parts (is_member variables y) (has_pair ps y j && is_active_local b j k)
+              is_paired).0,
           (and_parts (list_any is_disjoint_statement (statement_at db j))
-              (is_member (formula_at db j) y) s).1,
-          sym (active_local_is_active db b blocks k h j d)
-              ∙ (and_parts (has_pair ps y j) (is_active_local b j k) r).1,
+              (is_member (formula_at db j) y) j_has_y).1,
+          sym (active_local_is_active db b blocks k k_le_length j j_is_disjoint)
+              ∙ (and_parts (has_pair ps y j) (is_active_local b j k) is_active_pair).1,
         )
 
     active_member_is_paired : (j y : ℕ) → is_member vs y ≡ true
         → is_member (formula_at db j) y ≡ true
         → is_member (active_of is_disjoint_statement db k) j ≡ true → has_pair by_statement j y
         ≡ true
-    active_member_is_paired j y m f a =
-        let d = active_is_disjoint db b blocks k h j a in
-        had_is j y
-        ∙ ap₂ (λ p q. p && q) (variables_are y ∙ m)
-        (ap₂ (λ p q. p && q) (are y j ∙ ap₂ (λ p q. p && q) d f)
-        (active_local_is_active db b blocks k h j d ∙ a))
+    active_member_is_paired j y y_is_member j_has_y j_is_active =
+        let j_is_disjoint = active_is_disjoint db b blocks k k_le_length j j_is_active in
+        paired_is j y
+        ∙ ap₂ (λ p q. p && q) (variables_are y ∙ y_is_member)
+        (ap₂ (λ p q. p && q) (pairs_are_members y j ∙ ap₂ (λ p q. p && q) j_is_disjoint j_has_y)
+        (active_local_is_active db b blocks k k_le_length j j_is_disjoint ∙ j_is_active))
 
     left_to_right : (x y : ℕ) → together x y ≡ true
         → (wanted (pair x y)
         && (is_member (range_with_len 0 count) x && is_member (range_with_len 0 count) y))
         ≡ true
-    left_to_right x y e =
-        let w = place_where_test_holds (λ p. has_later by_statement p x y) by_statement e in
-        let j = (get_or by_statement w.0 (0, 0)).0 in
-        let s =
-        eqb-true x (get_or by_statement w.0 (0, 0)).1
-        (and_parts (nat_eq x (get_or by_statement w.0 (0, 0)).1)
-        (has_pair by_statement j y && nat_lt x y) w.2).0 in
-        let r =
-        (and_parts (nat_eq x (get_or by_statement w.0 (0, 0)).1)
-        (has_pair by_statement j y && nat_lt x y) w.2).1 in
-        let less = (and_parts (has_pair by_statement j y) (nat_lt x y) r).1 in
-        let l = ltb-true x y less in
-        let one = paired_is_active_member j x (ap (has_pair by_statement j) s
-        ∙ has_pair_at_place by_statement w.0 (0, 0) w.1)
+    left_to_right x y x_y_together =
+        let place = place_where_test_holds (λ p. has_later by_statement p x y) by_statement
+        x_y_together in
+        let j = (get_or by_statement place.0 (0, 0)).0 in
+        let x_is_variable =
+        eqb-true x (get_or by_statement place.0 (0, 0)).1
+        (and_parts (nat_eq x (get_or by_statement place.0 (0, 0)).1)
+        (has_pair by_statement j y && nat_lt x y) place.2).0 in
+        let is_later_pair =
+        (and_parts (nat_eq x (get_or by_statement place.0 (0, 0)).1)
+        (has_pair by_statement j y && nat_lt x y) place.2).1 in
+        let x_lt_y_test = (and_parts (has_pair by_statement j y) (nat_lt x y) is_later_pair).1 in
+        let x_lt_y = ltb-true x y x_lt_y_test in
+        let x_of_j = paired_is_active_member j x (ap (has_pair by_statement j) x_is_variable
+        ∙ has_pair_at_place by_statement place.0 (0, 0) place.1)
         in
-        let other = paired_is_active_member j y
-        (and_parts (has_pair by_statement j y) (nat_lt x y) r).0 in
-        let apart =
+        let y_of_j = paired_is_active_member j y
+        (and_parts (has_pair by_statement j y) (nat_lt x y) is_later_pair).0 in
+        let some_active_has_both =
         any_of (λ i. is_member (formula_at db i) x && is_member (formula_at db i) y)
-        (active_of is_disjoint_statement db k) j one.2 (ap₂ (λ a b. a && b) one.1 other.1) in
-        let dis : disjoint_at db k x y ≡ true =
-        ap₂ (λ a b. not a && b) (ne_eqb x y (λ q. absurd (omega (arith, q, l)))) apart in
+        (active_of is_disjoint_statement db k) j x_of_j.2 (ap₂ (λ a b. a && b) x_of_j.1 y_of_j.1) in
+        let are_disjoint : disjoint_at db k x y ≡ true =
+        ap₂ (λ a b. not a && b) (ne_eqb x y (λ x_is_y. absurd (omega (arith, x_is_y, x_lt_y))))
+        some_active_has_both in
         ap₂ (λ a b. a && b)
         (ap₂ (λ a b. a && b)
-        (ap₂ (λ a b. a && b) (ap₂ (λ a b. a && b) less one.0) other.0) dis)
-        (ap₂ (λ a b. a && b) (member_is_in_range x one.0) (member_is_in_range y other.0))
+        (ap₂ (λ a b. a && b) (ap₂ (λ a b. a && b) x_lt_y_test x_of_j.0) y_of_j.0) are_disjoint)
+        (ap₂ (λ a b. a && b) (member_is_in_range x x_of_j.0) (member_is_in_range y y_of_j.0))
 
     right_to_left : (x y : ℕ)
         → (wanted (pair x y)
         && (is_member (range_with_len 0 count) x && is_member (range_with_len 0 count) y))
         ≡ true
         → together x y ≡ true
-    right_to_left x y e =
-        let t =
+    right_to_left x y are_wanted =
+        let pair_is_wanted =
         (and_parts (wanted (pair x y))
-        (is_member (range_with_len 0 count) x && is_member (range_with_len 0 count) y) e).0 in
-        let abc =
-        (and_parts (nat_lt x y && is_member vs x && is_member vs y) (disjoint_at db k x y) t).0 in
-        let dis =
-        (and_parts (nat_lt x y && is_member vs x && is_member vs y) (disjoint_at db k x y) t).1 in
-        let ab = (and_parts (nat_lt x y && is_member vs x) (is_member vs y) abc).0 in
-        let my = (and_parts (nat_lt x y && is_member vs x) (is_member vs y) abc).1 in
-        let less = (and_parts (nat_lt x y) (is_member vs x) ab).0 in
-        let mx = (and_parts (nat_lt x y) (is_member vs x) ab).1 in
-        let w =
+        (is_member (range_with_len 0 count) x && is_member (range_with_len 0 count) y)
+        are_wanted).0 in
+        let low_high_members =
+        (and_parts (nat_lt x y && is_member vs x && is_member vs y)
+        (disjoint_at db k x y) pair_is_wanted).0 in
+        let are_disjoint =
+        (and_parts (nat_lt x y && is_member vs x && is_member vs y)
+        (disjoint_at db k x y) pair_is_wanted).1 in
+        let low_high_member =
+        (and_parts (nat_lt x y && is_member vs x) (is_member vs y) low_high_members).0 in
+        let y_is_member =
+        (and_parts (nat_lt x y && is_member vs x) (is_member vs y) low_high_members).1 in
+        let x_lt_y_test = (and_parts (nat_lt x y) (is_member vs x) low_high_member).0 in
+        let x_is_member = (and_parts (nat_lt x y) (is_member vs x) low_high_member).1 in
+        let active_with_both =
         any_witness (λ i. is_member (formula_at db i) x && is_member (formula_at db i) y)
         (active_of is_disjoint_statement db k)
         (and_parts (not (nat_eq x y))
         (list_any (λ i. is_member (formula_at db i) x && is_member (formula_at db i) y)
-        (active_of is_disjoint_statement db k)) dis).1 in
-        let j = w.0 in
-        let hx =
-        active_member_is_paired j x mx
-        (and_parts (is_member (formula_at db j) x) (is_member (formula_at db j) y) w.2).0 w.1 in
-        let hy =
-        active_member_is_paired j y my
-        (and_parts (is_member (formula_at db j) x) (is_member (formula_at db j) y) w.2).1 w.1 in
-        let v = place_of_pair by_statement j x hx in
-        list_any_at (λ p. has_later by_statement p x y) by_statement v.0 (0, 0) v.1
-        (ap₂ (λ a b. a && b) (eq-eqb x (get_or by_statement v.0 (0, 0)).1 (sym v.3))
-        (ap₂ (λ a b. a && b) (ap (λ i. has_pair by_statement i y) v.2 ∙ hy) less))
+        (active_of is_disjoint_statement db k)) are_disjoint).1 in
+        let j = active_with_both.0 in
+        let j_has_x =
+        active_member_is_paired j x x_is_member
+        (and_parts (is_member (formula_at db j) x)
+        (is_member (formula_at db j) y) active_with_both.2).0 active_with_both.1 in
+        let j_has_y =
+        active_member_is_paired j y y_is_member
+        (and_parts (is_member (formula_at db j) x)
+        (is_member (formula_at db j) y) active_with_both.2).1 active_with_both.1 in
+        let place_of_x = place_of_pair by_statement j x j_has_x in
+        list_any_at (λ p. has_later by_statement p x y) by_statement place_of_x.0
+        (0, 0) place_of_x.1
+        (ap₂ (λ a b. a && b)
+        (eq-eqb x (get_or by_statement place_of_x.0 (0, 0)).1 (sym place_of_x.3))
+        (ap₂ (λ a b. a && b) (ap (λ i. has_pair by_statement i y) place_of_x.2
+        ∙ j_has_y) x_lt_y_test))
 
     pub pairs_are_mandatory_pairs : (qs : List (ℕ × ℕ)) → AreRising qs
         → ((x y : ℕ) → has_pair qs x y ≡ together x y)
         → map (λ p. pair p.0 p.1) qs ≡ mandatory_pairs db k
-    pairs_are_mandatory_pairs qs rising is =
+    pairs_are_mandatory_pairs qs rising has_pair_is_together =
         sorted_with_same_members_equal (map (λ p. pair p.0 p.1) qs) (filter wanted (pairs_of count))
         (mapped_are_sorted qs rising)
         (filtered_are_sorted wanted (pairs_of count) (all_pairs_are_sorted count))
-        (λ x y. has_mapped_pair qs x y ∙ is x y
+        (λ x y. has_mapped_pair qs x y ∙ has_pair_is_together x y
         ∙ same_tests (together x y)
         (wanted (pair x y)
         && (is_member (range_with_len 0 count) x && is_member (range_with_len 0 count) y))
