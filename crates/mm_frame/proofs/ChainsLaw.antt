@@ -85,9 +85,11 @@ first_is_member links n k (j ∷ js) is_chain n_gt_0 first_is_k =
     ap (λ b. b || is_member js k) (eq-eqb k j (sym first_is_k ∙ is_chain.2))
 
 -- a chain stays such for a test with the same values and a lower least statement
-chain_for_equal_test : (has equal_test : ℕ → Bool) (a b : ℕ) (links : List (ℕ × ℕ)) (n : ℕ) → a ≤ b
-    → ((j : ℕ) → has j ≡ equal_test j) → HasChain has b links n → HasChain equal_test a links n
-chain_for_equal_test has equal_test a b links n a_le_b tests_equal has_chain = record {
+chain_for_equal_test : (passes equal_test : ℕ → Bool) (a b : ℕ) (links : List (ℕ × ℕ)) (n : ℕ)
+    → a ≤ b
+    → ((j : ℕ) → passes j ≡ equal_test j) → HasChain passes b links n
+    → HasChain equal_test a links n
+chain_for_equal_test passes equal_test a b links n a_le_b tests_equal has_chain = record {
   statements = has_chain.statements;
   chain = has_chain.chain;
   rising = rising_from_lower a b has_chain.statements a_le_b has_chain.rising;
@@ -143,56 +145,57 @@ module _ (heads : List ℕ) (links : List (ℕ × ℕ)) (x k : ℕ) (x_lt_length
           let next_le = are_linked.next_le_index i i_lt_length_links in
           omega (arith, next_is_head, next_le)
 
-module _ (has : ℕ → ℕ → Bool) (heads : List ℕ) (links : List (ℕ × ℕ)) (s x k : ℕ) (s_is_x : s ≡ x)
+module _ (passes : ℕ → ℕ → Bool) (heads : List ℕ) (links : List (ℕ × ℕ)) (s x k : ℕ) (s_is_x : s
+    ≡ x)
     (x_lt_length : x < length heads)
   where
     -- where it is there already, nothing changes
     pub chains_with_known_statement : 0 < get_or heads x 0
         → (get_or links (get_or heads x 0 - 1) (0, 0)).0 ≡ k
-        → AreChains has k heads links
-        → AreChains (λ y j. has y j || (nat_eq y s && nat_eq j k)) k heads links
+        → AreChains passes k heads links
+        → AreChains (λ y j. passes y j || (nat_eq y s && nat_eq j k)) k heads links
     chains_with_known_statement head_gt_0 first_is_k are_chains y y_lt_length =
-        chain_for_equal_test (has y) (λ j. has y j || (nat_eq y s && nat_eq j k)) k k links
+        chain_for_equal_test (passes y) (λ j. passes y j || (nat_eq y s && nat_eq j k)) k k links
         (get_or heads y 0) (omega arith) (λ j. by_equality j (cases_eq y x) (cases_eq j k))
         (are_chains y y_lt_length)
       where
-        x_has_k : has x k ≡ true
+        x_has_k : passes x k ≡ true
         x_has_k =
             sym ((are_chains x x_lt_length).members_are k)
             ∙ first_is_member links (get_or heads x 0) k (are_chains x x_lt_length).statements
             (are_chains x x_lt_length).chain head_gt_0 first_is_k
 
         by_equality : (j : ℕ) → (y ≡ x) ⊎ (y ≢ x) → (j ≡ k) ⊎ (j ≢ k)
-            → has y j ≡ (has y j || (nat_eq y s && nat_eq j k))
+            → passes y j ≡ (passes y j || (nat_eq y s && nat_eq j k))
         by_equality j (inl y_is_x) (inl j_is_k) =
-            let y_has_j : has y j ≡ true = ap₂ has y_is_x j_is_k ∙ x_has_k in
+            let y_has_j : passes y j ≡ true = ap₂ passes y_is_x j_is_k ∙ x_has_k in
             y_has_j ∙ sym (ap (λ b. b || (nat_eq y s && nat_eq j k)) y_has_j)
         by_equality j (inl y_is_x) (inr differs) =
-            sym (ap (λ b. has y j || (nat_eq y s && b)) (ne_eqb j k differs)
-            ∙ ap (λ b. has y j || b) (and-false (nat_eq y s)) ∙ or-false (has y j))
+            sym (ap (λ b. passes y j || (nat_eq y s && b)) (ne_eqb j k differs)
+            ∙ ap (λ b. passes y j || b) (and-false (nat_eq y s)) ∙ or-false (passes y j))
         by_equality j (inr differs) j_order =
-            sym (ap (λ b. has y j || (b && nat_eq j k))
+            sym (ap (λ b. passes y j || (b && nat_eq j k))
             (ne_eqb y s (λ y_is_x. differs (y_is_x ∙ s_is_x)))
-            ∙ or-false (has y j))
+            ∙ or-false (passes y j))
 
     -- the statement stands in front of the chain of x, and the other chains stay
     pub chains_with_statement
         : (0 < get_or heads x 0 → (get_or links (get_or heads x 0 - 1) (0, 0)).0 ≡ k → ⊥)
-        → AreChains has k heads links
-        → AreChains (λ y j. has y j || (nat_eq y s && nat_eq j k)) k
+        → AreChains passes k heads links
+        → AreChains (λ y j. passes y j || (nat_eq y s && nat_eq j k)) k
         (set heads x (length links + 1)) (links ++ (k, get_or heads x 0) ∷ [])
     chains_with_statement first_ne_k are_chains y y_lt_set_length = by_equality (cases_eq y x)
       where
-        chain_of_x : HasChain (has x) k links (get_or heads x 0)
+        chain_of_x : HasChain (passes x) k links (get_or heads x 0)
         chain_of_x = are_chains x x_lt_length
 
         members_with_front : (j : ℕ) → y ≡ x
             → (nat_eq j k || is_member chain_of_x.statements j)
-            ≡ (has y j || (nat_eq y s && nat_eq j k))
+            ≡ (passes y j || (nat_eq y s && nat_eq j k))
         members_with_front j y_is_x =
-            ap (λ b. nat_eq j k || b) (chain_of_x.members_are j ∙ ap (λ z. has z j) (sym y_is_x))
-            ∙ or_swap (nat_eq j k) (has y j)
-            ∙ sym (ap (λ b. has y j || (b && nat_eq j k)) (eq-eqb y s (y_is_x ∙ sym s_is_x)))
+            ap (λ b. nat_eq j k || b) (chain_of_x.members_are j ∙ ap (λ z. passes z j) (sym y_is_x))
+            ∙ or_swap (nat_eq j k) (passes y j)
+            ∙ sym (ap (λ b. passes y j || (b && nat_eq j k)) (eq-eqb y s (y_is_x ∙ sym s_is_x)))
           where
             or_swap : (a b : Bool) → (a || b) ≡ (b || a)
             or_swap true true = refl
@@ -201,7 +204,7 @@ module _ (has : ℕ → ℕ → Bool) (heads : List ℕ) (links : List (ℕ × �
             or_swap false false = refl
 
         by_equality : (y ≡ x) ⊎ (y ≢ x)
-            → HasChain (λ j. has y j || (nat_eq y s && nat_eq j k)) k
+            → HasChain (λ j. passes y j || (nat_eq y s && nat_eq j k)) k
             (links ++ (k, get_or heads x 0) ∷ []) (get_or (set heads x (length links + 1)) y 0)
         by_equality (inl y_is_x) = record {
           statements = k ∷ chain_of_x.statements;
@@ -223,7 +226,7 @@ module _ (has : ℕ → ℕ → Bool) (heads : List ℕ) (links : List (ℕ × �
         }
         by_equality (inr y_ne_x) =
             let set_length = length-set heads x (length links + 1) in
-            let has_chain : HasChain (has y) k links (get_or heads y 0) =
+            let has_chain : HasChain (passes y) k links (get_or heads y 0) =
             are_chains y (omega (arith, y_lt_set_length, set_length)) in
             record {
               statements = has_chain.statements;
@@ -237,28 +240,30 @@ module _ (has : ℕ → ℕ → Bool) (heads : List ℕ) (links : List (ℕ × �
                   has_chain.chain);
               rising = has_chain.rising;
               members_are = λ j. has_chain.members_are j
-                  ∙ sym (ap (λ b. has y j || (b && nat_eq j k))
+                  ∙ sym (ap (λ b. passes y j || (b && nat_eq j k))
                   (ne_eqb y s (λ y_is_x. y_ne_x (y_is_x ∙ s_is_x)))
-                  ∙ or-false (has y j));
+                  ∙ or-false (passes y j));
             }
 
 -- chains stay such for a test with the same values and a lower least statement
-pub chains_for_equal_tests : (has equal_test : ℕ → ℕ
+pub chains_for_equal_tests : (passes equal_test : ℕ → ℕ
     → Bool) (a b : ℕ) (heads : List ℕ) (links : List (ℕ × ℕ))
-    → a ≤ b → ((x j : ℕ) → has x j ≡ equal_test x j) → AreChains has b heads links
+    → a ≤ b → ((x j : ℕ) → passes x j ≡ equal_test x j) → AreChains passes b heads links
     → AreChains equal_test a heads links
-chains_for_equal_tests has equal_test a b heads links a_le_b tests_equal are_chains x x_lt_length =
-    chain_for_equal_test (has x) (equal_test x) a b links (get_or heads x 0) a_le_b (tests_equal x)
+chains_for_equal_tests passes equal_test a b heads links a_le_b tests_equal are_chains x x_lt_length
+    =
+    chain_for_equal_test (passes x) (equal_test x) a b links (get_or heads x 0) a_le_b
+    (tests_equal x)
     (are_chains x x_lt_length)
 
 -- the chains have the statement for the first i + 1 symbols
-pub test_with_next_symbol : (has : ℕ → ℕ → Bool) (xs : List ℕ) (i d s k : ℕ) → i < length xs
+pub test_with_next_symbol : (passes : ℕ → ℕ → Bool) (xs : List ℕ) (i d s k : ℕ) → i < length xs
     → s ≡ get_or xs i d → (x j : ℕ)
-    → ((has x j || (is_member (take i xs) x && nat_eq j k)) || (nat_eq x s && nat_eq j k))
-    ≡ (has x j || (is_member (take (i + 1) xs) x && nat_eq j k))
-test_with_next_symbol has xs i d s k i_lt_length_xs s_is_element_i x j =
-    by_values (has x j) (is_member (take i xs) x) (nat_eq x s) (nat_eq j k)
-    ∙ sym (ap (λ b. has x j || (b && nat_eq j k)) member_of_one_more)
+    → ((passes x j || (is_member (take i xs) x && nat_eq j k)) || (nat_eq x s && nat_eq j k))
+    ≡ (passes x j || (is_member (take (i + 1) xs) x && nat_eq j k))
+test_with_next_symbol passes xs i d s k i_lt_length_xs s_is_element_i x j =
+    by_values (passes x j) (is_member (take i xs) x) (nat_eq x s) (nat_eq j k)
+    ∙ sym (ap (λ b. passes x j || (b && nat_eq j k)) member_of_one_more)
   where
     member_of_one_more : is_member (take (i + 1) xs) x ≡ (is_member (take i xs) x || nat_eq x s)
     member_of_one_more =
@@ -395,50 +400,62 @@ symbol_lt_symbol_count db sound x j j_has_x =
 
 -- ---- the pairs of one chain
 
--- so far `now` has been made of `old`, and the chain from link `number` on is still to be added
-pub record IsRest (links : List (ℕ × ℕ)) (symbol number : ℕ) (old now : List (ℕ × ℕ))
-    (all : List ℕ) : Type 0 where
-  pub rest : List ℕ
-  pub chain : IsLinkChain links number rest
-  pub pairs : old ++ map (λ j. (symbol, j)) all ≡ now ++ map (λ j. (symbol, j)) rest
+-- so far `pairs_so_far` has been made of `earlier_pairs`, and the chain from link `number` on is
+-- still to be added
+pub record IsRest (links : List (ℕ × ℕ)) (symbol number : ℕ)
+    (earlier_pairs pairs_so_far : List (ℕ × ℕ))
+    (all_statements : List ℕ) : Type 0 where
+  pub remaining : List ℕ
+  pub chain : IsLinkChain links number remaining
+  pub pairs : earlier_pairs ++ map (λ j. (symbol, j)) all_statements
+      ≡ pairs_so_far ++ map (λ j. (symbol, j)) remaining
 
-module _ (links : List (ℕ × ℕ)) (symbol : ℕ) (old now : List (ℕ × ℕ)) (all : List ℕ) where
-  pub rest_is_all : (number : ℕ) → IsLinkChain links number statements → old ≡ so_far
-      → IsRest links symbol number old so_far statements
-  rest_is_all number is_chain old_is_so_far =
+module _ (links : List (ℕ × ℕ)) (symbol : ℕ) (earlier_pairs pairs_so_far : List (ℕ × ℕ))
+    (all_statements : List ℕ) where
+  pub rest_is_all : (number : ℕ) → IsLinkChain links number all_statements
+      → earlier_pairs ≡ pairs_so_far
+      → IsRest links symbol number earlier_pairs pairs_so_far all_statements
+  rest_is_all number is_chain earlier_is_so_far =
       record {
-        rest = statements;
+        remaining = all_statements;
         chain = is_chain;
         pairs =
-            ap (λ ps. ps ++ map (λ j. (symbol, j)) statements) old_is_so_far;
+            ap (λ ps. ps ++ map (λ j. (symbol, j)) all_statements) earlier_is_so_far;
       }
 
-  pub rest_after_link : (number : ℕ) → 0 < number → IsRest links symbol number old so_far all
-      → IsRest links symbol (get_or links (number - 1) (0, 0)).1 old
-      (so_far ++ (symbol, (get_or links (number - 1) (0, 0)).0) ∷ []) all
-  rest_after_link number number_gt_0 is_rest = by_rest is_rest.rest is_rest.chain is_rest.pairs
+  pub rest_after_link : (number : ℕ) → 0 < number
+      → IsRest links symbol number earlier_pairs pairs_so_far all_statements
+      → IsRest links symbol (get_or links (number - 1) (0, 0)).1 earlier_pairs
+      (pairs_so_far ++ (symbol, (get_or links (number - 1) (0, 0)).0) ∷ []) all_statements
+  rest_after_link number number_gt_0 is_rest = by_rest is_rest.remaining is_rest.chain is_rest.pairs
     where
-      by_rest : (rest : List ℕ) → IsLinkChain links number rest
-          → old ++ map (λ j. (symbol, j)) all ≡ so_far ++ map (λ j. (symbol, j)) rest
-          → IsRest links symbol (get_or links (number - 1) (0, 0)).1 old
-          (so_far ++ (symbol, (get_or links (number - 1) (0, 0)).0) ∷ []) all
+      by_rest : (remaining : List ℕ) → IsLinkChain links number remaining
+          → earlier_pairs ++ map (λ j. (symbol, j)) all_statements
+          ≡ pairs_so_far ++ map (λ j. (symbol, j)) remaining
+          → IsRest links symbol (get_or links (number - 1) (0, 0)).1 earlier_pairs
+          (pairs_so_far ++ (symbol, (get_or links (number - 1) (0, 0)).0) ∷ []) all_statements
       by_rest [] is_chain pairs_equal = absurd (omega (arith, is_chain, number_gt_0))
       by_rest (j ∷ js) is_chain pairs_equal = record {
-        rest = js;
+        remaining = js;
         chain = is_chain.3;
         pairs =
-            pairs_equal ∙ sym (append_assoc so_far ((symbol, j) ∷ []) (map (λ j. (symbol, j)) js))
-            ∙ ap (λ i. (so_far ++ (symbol, i) ∷ []) ++ map (λ j. (symbol, j)) js) (sym is_chain.2);
+            pairs_equal ∙ sym
+            (append_assoc pairs_so_far ((symbol, j) ∷ []) (map (λ j. (symbol, j)) js))
+            ∙ ap (λ i. (pairs_so_far ++ (symbol, i) ∷ []) ++ map (λ j. (symbol, j)) js)
+            (sym is_chain.2);
       }
 
-  pub no_rest_is_all_added : (number : ℕ) → number ≡ 0 → IsRest links symbol number old now all
-      → now ≡ old ++ map (λ j. (symbol, j)) all
-  no_rest_is_all_added number number_is_0 is_rest = by_rest is_rest.rest is_rest.chain is_rest.pairs
+  pub no_rest_is_all_added : (number : ℕ) → number ≡ 0
+      → IsRest links symbol number earlier_pairs pairs_so_far all_statements
+      → pairs_so_far ≡ earlier_pairs ++ map (λ j. (symbol, j)) all_statements
+  no_rest_is_all_added number number_is_0 is_rest =
+      by_rest is_rest.remaining is_rest.chain is_rest.pairs
     where
-      by_rest : (rest : List ℕ) → IsLinkChain links number rest
-          → old ++ map (λ j. (symbol, j)) all ≡ now ++ map (λ j. (symbol, j)) rest
-          → now ≡ old ++ map (λ j. (symbol, j)) all
-      by_rest [] is_chain pairs_equal = sym (pairs_equal ∙ append-nil now)
+      by_rest : (remaining : List ℕ) → IsLinkChain links number remaining
+          → earlier_pairs ++ map (λ j. (symbol, j)) all_statements
+          ≡ pairs_so_far ++ map (λ j. (symbol, j)) remaining
+          → pairs_so_far ≡ earlier_pairs ++ map (λ j. (symbol, j)) all_statements
+      by_rest [] is_chain pairs_equal = sym (pairs_equal ∙ append-nil pairs_so_far)
       by_rest (j ∷ js) is_chain pairs_equal = absurd (let number_gt_0 = is_chain.0 in
           omega (arith, number_gt_0, number_is_0))
 

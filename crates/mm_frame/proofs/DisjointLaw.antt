@@ -22,7 +22,9 @@ use Rattle.mm_database.proofs.TogetherLaw.{active_local_is_active, active_is_dis
 use Rattle.mm_database.proofs.DisjointIndexLaw.{place_of_pair, has_pair_at_place, earlier_is_before}
 use Rattle.mm_frame.specs.Together.{has_later}
 use Rattle.mm_frame.proofs.HypothesesLaw.{mandatory_has_name}
-use Rattle.mm_frame.proofs.PairsLaw.{has_mapped_pair, mapped_are_sorted, sorted_with_same_members_equal, has_filtered_pair, has_pair_in_rows}
+use Rattle.mm_frame.proofs.PairsLaw.{has_mapped_pair, mapped_are_sorted}
+use Rattle.mm_frame.proofs.PairsLaw.{sorted_with_same_members_equal, has_filtered_pair}
+use Rattle.mm_frame.proofs.PairsLaw.{has_pair_in_rows}
 use Rattle.mm_frame.proofs.PairsLaw.{filtered_are_sorted, all_pairs_are_sorted}
 
 place_where_test_holds : (f : ℕ × ℕ → Bool) (ps : List (ℕ × ℕ)) → list_any f ps ≡ true
@@ -42,22 +44,25 @@ place_where_test_holds f (q ∷ qs) some_passes =
 -- ---- the variables after one, in the same statement
 
 -- the pairs after index `place` and before index `at` have been looked at
-pub record AddsLater (by_statement : List (ℕ × ℕ)) (place at : ℕ) (earlier_pairs pairs_so_far : List (ℕ × ℕ)) : Type 0
+pub record AddsLater (by_statement : List (ℕ × ℕ)) (place at : ℕ)
+    (earlier_pairs pairs_so_far : List (ℕ × ℕ)) : Type 0
   where
     pub place_lt_at : place < at
     pub at_le_length : at ≤ length by_statement
     pub statement_is_same : (p : ℕ) → place < p → p < at → (get_or by_statement p (0, 0)).0
         ≡ (get_or by_statement place (0, 0)).0
-    pub earlier_pairs_stay : (x y : ℕ) → has_pair earlier_pairs x y ≡ true → has_pair pairs_so_far x y ≡ true
+    pub earlier_pairs_stay : (x y : ℕ) → has_pair earlier_pairs x y ≡ true
+        → has_pair pairs_so_far x y ≡ true
     pub new_pairs_are_later : (x y : ℕ) → has_pair pairs_so_far x y ≡ true
         → (has_pair earlier_pairs x y ≡ true)
         ⊎ ((x ≡ (get_or by_statement place (0, 0)).1) × (p : ℕ) × (place < p) × (p < at)
         × ((get_or by_statement p (0, 0)).1 ≡ y))
     pub later_pairs_are_added : (p : ℕ) → place < p → p < at
-        → has_pair pairs_so_far (get_or by_statement place (0, 0)).1 (get_or by_statement p (0, 0)).1 ≡ true
+        → has_pair pairs_so_far (get_or by_statement place (0, 0)).1
+        (get_or by_statement p (0, 0)).1 ≡ true
 
 module _ (by_statement : List (ℕ × ℕ)) (rising : AreRising by_statement) (place : ℕ)
-    (inside : place < length by_statement) where
+    (place_lt_length : place < length by_statement) where
   abbrev j : ℕ
   j = (get_or by_statement place (0, 0)).0
 
@@ -69,11 +74,12 @@ module _ (by_statement : List (ℕ × ℕ)) (rising : AreRising by_statement) (p
   adds_later_at_start earlier_pairs =
       record {
         place_lt_at = omega arith;
-        at_le_length = omega (arith, inside);
+        at_le_length = omega (arith, place_lt_length);
         statement_is_same = λ p place_lt_p p_lt_next. absurd (omega (arith, place_lt_p, p_lt_next));
         earlier_pairs_stay = λ x y had_pair. had_pair;
         new_pairs_are_later = λ x y had_pair. inl had_pair;
-        later_pairs_are_added = λ p place_lt_p p_lt_next. absurd (omega (arith, place_lt_p, p_lt_next));
+        later_pairs_are_added =
+            λ p place_lt_p p_lt_next. absurd (omega (arith, place_lt_p, p_lt_next));
       }
 
   pub adds_later_with_pair : (at : ℕ) (earlier_pairs pairs_so_far : List (ℕ × ℕ))
@@ -87,7 +93,8 @@ module _ (by_statement : List (ℕ × ℕ)) (rising : AreRising by_statement) (p
         at_le_length = omega (arith, at_lt_length_by_statement);
         statement_is_same =
             λ p place_lt_p p_lt_next. statement_is_same p place_lt_p p_lt_next (cases_eq p at);
-        earlier_pairs_stay = λ x y had_pair. has_pair_still x y (adds.earlier_pairs_stay x y had_pair);
+        earlier_pairs_stay =
+            λ x y had_pair. has_pair_still x y (adds.earlier_pairs_stay x y had_pair);
         new_pairs_are_later =
             λ x y had_pair. new_pair_is_later x y (has_pair pairs_so_far x y) refl
             (sym (list_any-append (λ p. nat_eq x p.0 && nat_eq y p.1) pairs_so_far
@@ -103,7 +110,8 @@ module _ (by_statement : List (ℕ × ℕ)) (rising : AreRising by_statement) (p
       has_pair_still : (x y : ℕ) → has_pair pairs_so_far x y ≡ true
           → has_pair (pairs_so_far ++ (low, high_variable) ∷ []) x y ≡ true
       has_pair_still x y had_pair =
-          list_any-append (λ p. nat_eq x p.0 && nat_eq y p.1) pairs_so_far ((low, high_variable) ∷ [])
+          list_any-append (λ p. nat_eq x p.0 && nat_eq y p.1) pairs_so_far
+          ((low, high_variable) ∷ [])
           ∙ ap (λ c. c || has_pair ((low, high_variable) ∷ []) x y) had_pair
 
       statement_is_same : (p : ℕ) → place < p → p < at + 1 → (p ≡ at) ⊎ (p ≢ at)
@@ -145,9 +153,11 @@ module _ (by_statement : List (ℕ × ℕ)) (rising : AreRising by_statement) (p
           )
 
       later_pair_is_added : (p : ℕ) → place < p → p < at + 1 → (p ≡ at) ⊎ (p ≢ at)
-          → has_pair (pairs_so_far ++ (low, high_variable) ∷ []) low (get_or by_statement p (0, 0)).1 ≡ true
+          → has_pair (pairs_so_far ++ (low, high_variable) ∷ []) low
+          (get_or by_statement p (0, 0)).1 ≡ true
       later_pair_is_added p place_lt_p p_lt_next_at (inl p_is_at) =
-          list_any-append (λ q. nat_eq low q.0 && nat_eq (get_or by_statement p (0, 0)).1 q.1) pairs_so_far
+          list_any-append (λ q. nat_eq low q.0 && nat_eq (get_or by_statement p (0, 0)).1 q.1)
+          pairs_so_far
           ((low, high_variable) ∷ [])
           ∙ ap (λ c. has_pair pairs_so_far low (get_or by_statement p (0, 0)).1 || (c || false))
           (ap₂ (λ u v. u && v) (eq-eqb low low refl)
@@ -179,7 +189,8 @@ module _ (by_statement : List (ℕ × ℕ)) (rising : AreRising by_statement) (p
           variable_lt : IsBefore j low (get_or by_statement p (0, 0)).0
               (get_or by_statement p (0, 0)).1
               → low < (get_or by_statement p (0, 0)).1
-          variable_lt (inl lower) = absurd (let statement_lt = adds.statement_is_same p place_lt_p p_lt_at in
+          variable_lt (inl lower) =
+              absurd (let statement_lt = adds.statement_is_same p place_lt_p p_lt_at in
               omega (arith, lower, statement_lt))
           variable_lt (inr (statement_lt, lower)) = lower
 
@@ -191,7 +202,8 @@ module _ (by_statement : List (ℕ × ℕ)) (rising : AreRising by_statement) (p
           && (has_pair by_statement j y && nat_lt x y))) x_is_low
       left_to_right (inr (x_is_low, p, place_lt_p, p_lt_at, variable_is_y)) =
           let has_pair_j_y =
-          ap₂ (has_pair by_statement) (sym (adds.statement_is_same p place_lt_p p_lt_at)) (sym variable_is_y)
+          ap₂ (has_pair by_statement) (sym (adds.statement_is_same p place_lt_p p_lt_at))
+          (sym variable_is_y)
           ∙ has_pair_at_place by_statement p (0, 0) (let at_le_length = adds.at_le_length in
           omega (arith, p_lt_at, at_le_length)) in
           let low_lt_variable = later_is_higher p place_lt_p p_lt_at in
@@ -222,7 +234,7 @@ module _ (by_statement : List (ℕ × ℕ)) (rising : AreRising by_statement) (p
           place_lt_p (inr (inl place_order)) = place_order
           place_lt_p (inr (inr place_order)) =
               absurd (not_before (earlier_is_before by_statement rising p place (0, 0) place_order
-              inside))
+              place_lt_length))
 
           at_not_before : at < length by_statement → at ≤ p
               → IsBefore j low (get_or by_statement at (0, 0)).0 (get_or by_statement at (0, 0)).1

@@ -63,7 +63,7 @@ pub record IsFloat (db : List Statement) (k v : ℕ) : Type 0 where
   pub untyped : is_typed (names_before db k) variable.word ≡ false
   pub constant : is_in typecode.word (flat_map constants_of (take k db)) ≡ true
 
-module _ (db : List Statement) (sound : IsSound db) where
+module _ (db : List Statement) (is_sound : IsSound db) where
   lawful_has_no_faults : (k : ℕ) → k < length db → (s : Statement) → slice_get db k ≡ Some s
       → scope_faults (names_before db k) (depth db k) s ≡ []
   lawful_has_no_faults k k_lt_length s s_is_statement_k =
@@ -72,7 +72,7 @@ module _ (db : List Statement) (sound : IsSound db) where
       (λ o. elim o
       [ None ↦ None | Some s ↦ least (scope_faults (names_before db k) (depth db k) s) ])
       s_is_statement_k)
-      ∙ sound.lawful k k_lt_length)
+      ∙ is_sound.lawful k k_lt_length)
 
   typecode_is_constant : (n : Names) (keyword : ℕ) (c v : Token)
       → floating_faults n keyword (c ∷ v ∷ []) ≡ [] → is_in c.word n.constants ≡ true
@@ -232,7 +232,7 @@ module _ (db : List Statement) (sound : IsSound db) where
     typecode_lt_symbol_count =
         subst (λ (xs : List ℕ). get_or xs 0 0 < length (symbol_names db))
         formula_is_typecode_and_variable
-        (sound.symbols_have_numbers k h 0 0
+        (is_sound.symbols_have_numbers k h 0 0
         (subst (λ (xs : List ℕ). 0 < length xs) (sym formula_is_typecode_and_variable)
         (omega arith)))
 
@@ -240,7 +240,7 @@ module _ (db : List Statement) (sound : IsSound db) where
     variable_lt_symbol_count =
         subst (λ (xs : List ℕ). get_or xs 1 0 < length (symbol_names db))
         formula_is_typecode_and_variable
-        (sound.symbols_have_numbers k h 1 0
+        (is_sound.symbols_have_numbers k h 1 0
         (subst (λ (xs : List ℕ). 1 < length xs) (sym formula_is_typecode_and_variable)
         (omega arith)))
 
@@ -250,7 +250,7 @@ module _ (db : List Statement) (sound : IsSound db) where
     typecode_is_no_variable =
         ap (λ o. elim o [ None ↦ false | Some w ↦ is_in w (flat_map variables_of db) ])
         (word_at_index_of f.typecode.word (symbol_names db) typecode_lt_symbol_count)
-        ∙ sound.no_constant_is_variable f.typecode.word
+        ∙ is_sound.no_constant_is_variable f.typecode.word
         (sym (ap (λ xs. is_in f.typecode.word (flat_map constants_of xs))
         (take-append-drop k db))
         ∙ ap (is_in f.typecode.word) (flat_map-append constants_of (take k db) (drop k db))

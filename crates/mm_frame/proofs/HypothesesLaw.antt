@@ -25,8 +25,10 @@ use Rattle.mm_database.specs.ParsedStatements.{IsSound, typed_variable_at}
 use Rattle.mm_frame.specs.Hypotheses.{AreLastFloats, is_float_of}
 use Rattle.mm_spec.specs.Rising.{IsRisingFrom}
 use Rattle.mm_spec.proofs.RisingLaw.{filter_is}
-use Rattle.mm_frame.proofs.FloatLaw.{typed_is_float, floating_is_typed, formula_is_typecode_and_variable, float_is_floating}
-use Rattle.mm_frame.proofs.FloatLaw.{typecode_is_no_variable, variable_lt_symbol_count, float_active_is_block_open}
+use Rattle.mm_frame.proofs.FloatLaw.{typed_is_float, floating_is_typed}
+use Rattle.mm_frame.proofs.FloatLaw.{formula_is_typecode_and_variable, float_is_floating}
+use Rattle.mm_frame.proofs.FloatLaw.{typecode_is_no_variable, variable_lt_symbol_count}
+use Rattle.mm_frame.proofs.FloatLaw.{float_active_is_block_open}
 use Rattle.mm_spec.proofs.MemberLaw.{member_filter, member_range, active_member, essential_local}
 
 -- a list that is strictly rising, by its neighbours
@@ -139,7 +141,7 @@ module _ (db : List Statement) (k : ℕ) where
       || (list_any is_floating (statement_at db j)
       && list_any (is_member (mandatory_variables db k)) (formula_at db j))
 
-  module _ (sound : IsSound db) (k_le_length : k ≤ length db) (ts : List ℕ)
+  module _ (is_sound : IsSound db) (k_le_length : k ≤ length db) (ts : List ℕ)
       (last_floats : AreLastFloats db k ts)
       (variables : List ℕ)
       (variables_are : (x : ℕ) → is_member variables x ≡ is_member (mandatory_variables db k) x)
@@ -150,13 +152,13 @@ module _ (db : List Statement) (k : ℕ) where
           → is_active db j k ≡ true → list_any (is_float_of db k ts j) variables ≡ true
       float_found j j_lt_k j_is_floating j_has_mandatory active_at_k =
           let j_lt_length_db : j < length db = omega arith in
-          let floating = floating_is_typed db sound j j_lt_length_db j_is_floating in
+          let floating = floating_is_typed db is_sound j j_lt_length_db j_is_floating in
           let v = floating.0 in
           let x = floating.2 in
           let c = index_of x.typecode.word (symbol_names db) in
           let typecode_or_variable =
           sym (ap (list_any (is_member (mandatory_variables db k)))
-          (formula_is_typecode_and_variable db sound j v j_lt_length_db x))
+          (formula_is_typecode_and_variable db is_sound j v j_lt_length_db x))
           ∙ j_has_mandatory in
           let typecode_is_not_mandatory =
           member_filter (is_variable_number db)
@@ -164,21 +166,21 @@ module _ (db : List Statement) (k : ℕ) where
           ∙ ap (λ b. b
           && is_member (formula_at db k ++ flat_map (formula_at db) (active_of is_essential db k))
           c)
-          (typecode_is_no_variable db sound j v j_lt_length_db x) in
+          (typecode_is_no_variable db is_sound j v j_lt_length_db x) in
           let variable_is_mandatory =
           sym (or-false (is_member (mandatory_variables db k) v))
           ∙ sym (ap (λ b. b || (is_member (mandatory_variables db k) v || false))
           typecode_is_not_mandatory) ∙ typecode_or_variable in
-          let j_is_open = sym (float_active_is_block_open db sound j v j_lt_length_db x k j_lt_k)
+          let j_is_open = sym (float_active_is_block_open db is_sound j v j_lt_length_db x k j_lt_k)
           ∙ active_at_k in
           let last_is_j = last_floats.open_is_last j v j_lt_k
-          (variable_lt_symbol_count db sound j v j_lt_length_db x)
+          (variable_lt_symbol_count db is_sound j v j_lt_length_db x)
           floating.1 j_is_open in
           any_of (is_float_of db k ts j) variables v (variables_are v ∙ variable_is_mandatory)
           (ap₂ (λ p q. p && q) (eq-eqb j (get_or ts v 0) (sym last_is_j))
           (ap₂ (λ p q. not p && q)
           (ne_eqb (get_or ts v 0) never
-          (λ last_is_never. let length_lt_2_31 = sound.few_statements in
+          (λ last_is_never. let length_lt_2_31 = is_sound.few_statements in
           absurd (omega (arith, last_is_never, last_is_j, j_lt_length_db, length_lt_2_31))))
           (ap (λ i. is_block_open db i k) last_is_j
           ∙ j_is_open)))
@@ -208,14 +210,14 @@ module _ (db : List Statement) (k : ℕ) where
           let j_lt_length_db : j < length db = omega arith in
           let j_types_v : typed_variable_at db j ≡ Some v =
           ap (typed_variable_at db) j_is_t ∙ t_types_v.1 in
-          let x = typed_is_float db sound j v j_lt_length_db j_types_v in
+          let x = typed_is_float db is_sound j v j_lt_length_db j_types_v in
           let c = index_of x.typecode.word (symbol_names db) in (
-            float_active_is_block_open db sound j v j_lt_length_db x k j_lt_k
+            float_active_is_block_open db is_sound j v j_lt_length_db x k j_lt_k
                 ∙ ap (λ i. is_block_open db i k) j_is_t
                 ∙ (and_parts (not (nat_eq t never)) (is_block_open db t k) t_is_open).1,
-            float_is_floating db sound j v j_lt_length_db x,
+            float_is_floating db is_sound j v j_lt_length_db x,
             ap (list_any (is_member (mandatory_variables db k)))
-                (formula_is_typecode_and_variable db sound j v j_lt_length_db x)
+                (formula_is_typecode_and_variable db is_sound j v j_lt_length_db x)
                 ∙ ap (λ b. is_member (mandatory_variables db k) c || (b || false)) v_is_mandatory
                 ∙ or-true (is_member (mandatory_variables db k) c),
             j_lt_k,

@@ -159,7 +159,8 @@ module _ (test : Statement → Bool) (db : List Statement) where
   -- the list has only ones that are active at k, and all of these that are after `last`
   pub record IsWalked (k : ℕ) (xs : List ℕ) (last : ℕ) : Type 0 where
     pub last_is_found : last ≢ never → (last < k) × (is_staying test db last k ≡ true)
-    pub members_are_staying : (i : ℕ) → is_member xs i ≡ true → (i < k) × (is_staying test db i k ≡ true)
+    pub members_are_staying : (i : ℕ) → is_member xs i ≡ true
+        → (i < k) × (is_staying test db i k ≡ true)
     pub staying_are_members : (i : ℕ) → i < k → is_staying test db i k ≡ true
         → (is_member xs i ≡ true) ⊎ ((last ≢ never) × (i ≤ last))
 

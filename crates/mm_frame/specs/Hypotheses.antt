@@ -12,7 +12,8 @@ use Rattle.mm_database.specs.ParsedStatements.{typed_variable_at}
 pub record AreStamps (n stamp : ℕ) (stamps variables : List ℕ) : Type 0 where
   pub count : length stamps ≡ n
   pub stamps_le_stamp : (x : ℕ) → x < n → slice_index stamps x ≤ stamp
-  pub marked_is_member : (x : ℕ) → x < n → nat_eq (slice_index stamps x) stamp ≡ is_member variables x
+  pub marked_is_member : (x : ℕ) → x < n
+      → nat_eq (slice_index stamps x) stamp ≡ is_member variables x
 
 -- no symbol has a later stamp
 pub record IsFresh (n stamp : ℕ) (stamps : List ℕ) : Type 0 where
@@ -25,7 +26,8 @@ pub record AreLastFloats (db : List Statement) (k : ℕ) (last_floats : List ℕ
   pub last_is_typed : (v : ℕ) → v < length (symbol_names db) → slice_index last_floats v ≢ never
       → (slice_index last_floats v < k) × (typed_variable_at db (slice_index last_floats v)
       ≡ Some v)
-  pub open_is_last : (j v : ℕ) → j < k → v < length (symbol_names db) → typed_variable_at db j ≡ Some v
+  pub open_is_last : (j v : ℕ) → j < k → v < length (symbol_names db)
+      → typed_variable_at db j ≡ Some v
       → is_block_open db j k ≡ true → slice_index last_floats v ≡ j
 
 -- What a walk keeps for the symbols is ready for statement k: the last `$f` of each variable before

@@ -8,14 +8,16 @@ pub loop-last-preserved : goal.loop-last-preserved
 loop-last-preserved g c =
     let last = c.loop-last.last in
     let next = get_or c.args.latest.now last 0 in
-    let f = (c.loop-last.invariant.last_is_found c.loop-last-test.true).0 in
-    let h = c.requires.at in
-    let l : last ≤ length c.args.statements.now.list = omega (arith, f, h) in
+    let last_lt_at = (c.loop-last.invariant.last_is_found c.loop-last-test.true).0 in
+    let at_le_length = c.requires.at in
+    let last_le_length : last ≤ length c.args.statements.now.list =
+    omega (arith, last_lt_at, at_le_length) in
     rw c.in_ok-push.ensures.items
     (walked_with_last is_essential c.args.statements.now.list c.args.at c.loop-last.into.items last
     next
-    h
-    c.loop-last.invariant c.loop-last-test.true (c.requires.latest.each_is_latest last l))
+    at_le_length
+    c.loop-last.invariant c.loop-last-test.true
+    (c.requires.latest.each_is_latest last last_le_length))
 
 pub returns : goal.returns
 returns g c =

@@ -8,11 +8,11 @@ pub loop-symbol-preserved : goal.loop-symbol-preserved
 loop-symbol-preserved g c = record {
   count = c.in_ok-add_link.ensures.count ∙ c.loop-symbol.invariant.count;
   linked = c.in_ok-add_link.ensures.linked;
-  chains = λ has h.
+  chains = λ has are_chains.
       chains_for_equal_tests _ _ c.args.statement c.args.statement _ _ (omega arith)
       (test_with_next_symbol has c.args.symbols.now c.loop-symbol.symbol-index _ _ c.args.statement
       c.loop-symbol-test.true c.symbol-item.is)
-      (c.in_ok-add_link.ensures.chains _ (c.loop-symbol.invariant.chains has h));
+      (c.in_ok-add_link.ensures.chains _ (c.loop-symbol.invariant.chains has are_chains));
 }
 
 pub returns-clause-chains : goal.returns-clause-chains

@@ -8,15 +8,15 @@ returns-else-by_statement-later g c =
     adds_later_at_end c.args.by_statement.now c.requires.rising c.args.index c.requires.index
     c.loop-later.later
     c.args.pairs.now.items c.loop-later.pairs.items c.loop-later.invariant
-    (λ l. c.if-by_statement-later.false)
+    (λ later_lt_length. c.if-by_statement-later.false)
 
 pub returns-after-loop-later : goal.returns-after-loop-later
 returns-after-loop-later g c =
-    let t = c.loop-later-test.false in
+    let length_le_later = c.loop-later-test.false in
     adds_later_at_end c.args.by_statement.now c.requires.rising c.args.index c.requires.index
     c.loop-later.later
     c.args.pairs.now.items c.loop-later.pairs.items c.loop-later.invariant
-    (λ l. absurd (omega (arith, l, t)))
+    (λ later_lt_length. absurd (omega (arith, later_lt_length, length_le_later)))
 
 pub loop-later-init : goal.loop-later-init
 loop-later-init g c =

@@ -3,7 +3,8 @@ use Rattle.mm_spec.specs.Derivation.{is_member}
 use Rattle.mm_spec.specs.Frame.{symbol_names, is_variable_number}
 use Rattle.mm_spec.proofs.MemberLaw.{member_push}
 use Rattle.mm_frame.specs.Hypotheses.{AreStamps}
-use Rattle.mm_frame.proofs.StampsLaw.{stamps_with_symbol, stamped_is_member, listed_with_new, listed_is_unchanged}
+use Rattle.mm_frame.proofs.StampsLaw.{stamps_with_symbol, stamped_is_member, listed_with_new}
+use Rattle.mm_frame.proofs.StampsLaw.{listed_is_unchanged}
 use Rattle.mm_frame.proofs.StampsLaw.{not_listed_is_unchanged}
 use Rattle.mm_frame.proofs.hypotheses.add_variable.Goals as goal
 

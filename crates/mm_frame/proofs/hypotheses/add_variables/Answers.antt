@@ -14,10 +14,10 @@ loop-symbol-init g c = record {
 
 pub add_variable-requires-clause-symbol : goal.add_variable-requires-clause-symbol
 add_variable-requires-clause-symbol g c =
-    let h = c.requires.symbols c.loop-symbol.symbol-index c.symbol-item.result
+    let symbol_lt_count = c.requires.symbols c.loop-symbol.symbol-index c.symbol-item.result
     c.loop-symbol-test.true in
-    let e = c.symbol-item.is in
-    omega (arith, h, e)
+    let symbol_is_item = c.symbol-item.is in
+    omega (arith, symbol_lt_count, symbol_is_item)
 
 pub loop-symbol-preserved : goal.loop-symbol-preserved
 loop-symbol-preserved g c = record {

@@ -20,8 +20,8 @@ returns-clause-hyps g c =
     let db = c.args.sources.now.statements.now.list in
     let k = c.args.assertion in
     let ts = c.args.last_floats.now in
-    let h = c.requires.assertion in
-    let k_le_length_db : k ≤ length db = omega (arith, h) in
+    let assertion_lt_length = c.requires.assertion in
+    let k_le_length_db : k ≤ length db = omega (arith, assertion_lt_length) in
     hypotheses_are_mandatory db k c.requires.sources.sound k_le_length_db ts
     c.requires.ready.last_floats_are
     c.list_mandatory_variables.new.variables.items

@@ -10,12 +10,12 @@ use Rattle.mm_frame.proofs.hypotheses.list_mandatory_variables.Goals as goal
 pub formula-requires-in-loop-essential : goal.formula-requires-in-loop-essential
 formula-requires-in-loop-essential g c =
     let i = c.loop-essential.essential-index in
-    let h = c.requires.assertion in
-    let l =
+    let assertion_lt_length = c.requires.assertion in
+    let essential_lt_assertion =
     essential_lt_k c.args.statements.now.list c.args.assertion c.args.essentials.now
     c.requires.essentials
     i c.loop-essential-test.true in
-    omega (arith, l, h)
+    omega (arith, essential_lt_assertion, assertion_lt_length)
 
 pub returns-clause-variables : goal.returns-clause-variables
 returns-clause-variables g c = λ x.
@@ -32,7 +32,8 @@ pub add_variables-requires-clause-stamps : goal.add_variables-requires-clause-st
 add_variables-requires-clause-stamps g c =
     fresh_stamps_mark_none (length (symbol_names c.args.statements.now.list)) c.args.assertion
     c.args.stamps.now.items
-    c.clear.new.self.items c.requires.fresh.count c.requires.fresh.stamps_le_stamp c.clear.ensures.items
+    c.clear.new.self.items c.requires.fresh.count c.requires.fresh.stamps_le_stamp
+    c.clear.ensures.items
 
 pub loop-essential-init : goal.loop-essential-init
 loop-essential-init g c = record {

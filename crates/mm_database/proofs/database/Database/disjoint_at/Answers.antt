@@ -36,4 +36,4 @@ returns-else-are_together_near g c =
     (rw (← blocks.blocks) c.are_together.ensures.none)
     ∙ sym (together_counted w s.list k x y) ∙ sym (ap (λ t. not t && are_together_at db k x y)
     x_ne_y)
-    ∙ ap (λ (counts_equal : Contents). disjoint_at counts_equal.statements k x y) c.self.view_is
+    ∙ ap (λ (n : Contents). disjoint_at n.statements k x y) c.self.view_is

@@ -12,7 +12,7 @@ between-requires-clause-within g c =
     let spaced_count =
     ap length
     (c.self.invariant.lists_are.spaced_labels_are
-    ∙ ap (λ (spaced_count : Contents). spaced_labels spaced_count.statements) c.self.view_is)
+    ∙ ap (λ (n : Contents). spaced_labels n.statements) c.self.view_is)
     ∙ length-map (theorems db) (λ k. 32 ∷ label_at db k) in
     let to_le_theorems = c.requires.within in
     omega (arith, spaced_count, to_le_theorems)
