@@ -17,7 +17,7 @@ use Rattle.mm_spec.specs.CompressedProof.{compressed_steps, letter_faults, lette
 use Rattle.mm_spec.specs.CompressedProof.{group_steps}
 use Rattle.mm_outline.specs.Parts.{as_tokens, token_of}
 use Rattle.mm_spec.specs.Steps.{PlacedStep}
-use Rattle.mm_steps.specs.Read.{read}
+use Rattle.mm_steps.specs.TheoremSteps.{theorem_steps}
 use Rattle.mm_proof.specs.Letters.{AreInOrder, closed_brackets}
 
 -- a compressed proof with further labels before it
@@ -114,9 +114,9 @@ pub read_steps : (db : List Statement) (k : ℕ) (p : Compressed) (labels ls : L
     → p ≡ closed_brackets labels ls
     → xs ≡ mandatory_hypotheses db k ++ flat_map (λ t. usable db k t.word) labels → t ≡ k
     → steps ≡ group_steps xs [] 0 (groups [] (letters_of ls)).0
-    → read t steps ≡ read k (compressed_steps db k p)
+    → theorem_steps t steps ≡ theorem_steps k (compressed_steps db k p)
 read_steps db k p labels ls xs t steps e h same is =
-    ap₂ read same
+    ap₂ theorem_steps same
     (is ∙ ap (λ ys. group_steps ys [] 0 (groups [] (letters_of ls)).0) h
     ∙ ap (compressed_steps db k) (sym e))
 

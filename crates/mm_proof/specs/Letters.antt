@@ -12,10 +12,10 @@ use Rattle.mm_spec.specs.CompressedProof.{Compressed, Letter, groups, group_step
 use Rattle.mm_spec.specs.CompressedProof.{bracketed, letter_faults, letters_from}
 use Rattle.mm_outline.specs.Parts.{as_tokens}
 use Rattle.mm_proof.specs.Number.{saturated}
-use Rattle.mm_steps.specs.Read.{as_step}
+use Rattle.mm_steps.specs.TheoremSteps.{as_step}
 use Rattle.mm_proof.specs.Refused.{StartsWith}
 use Rattle.mm_proof.specs.declared.letters.BegunNumber.{BegunNumber}
-use Rattle.mm_steps.specs.declared.placed.Step.{Step}
+use Rattle.mm_steps.specs.declared.step_list.Step.{Step}
 use Rattle.mm_proof.specs.declared.refused.ProofRefused.{ProofRefused}
 
 -- the theorem, the labels that have numbers, the steps that were marked, the number whose last

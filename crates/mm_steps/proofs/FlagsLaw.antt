@@ -7,8 +7,8 @@ use Rattle.std.proofs.lemmas.List.Folds.{list_any-append}
 use Rattle.std.proofs.lemmas.Bool.{or_right}
 use Rattle.mm_spec.specs.Steps.{marked}
 use Rattle.mm_spec.proofs.BoolLaw.{or_with_false}
-use Rattle.mm_steps.specs.declared.placed.Placed.{Placed}
-use Rattle.mm_steps.specs.Read.{is_marked, takes_up}
+use Rattle.mm_steps.specs.declared.step_list.Placed.{Placed}
+use Rattle.mm_steps.specs.TheoremSteps.{is_marked, takes_up}
 use Rattle.mm_steps.specs.Flags.{step_by, placed_of, placed_steps, no_step, AreFlags}
 
 -- a step that is stored as before changes no other

@@ -12,7 +12,7 @@ use Rattle.mm_proof.proofs.LettersLaw.{err_then}
 use Rattle.mm_proof.proofs.ReadLaw.{theorem_is, theorem_within, end_is, compressed_at, normal_at}
 use Rattle.mm_proof.proofs.ReadLaw.{normal_steps_at, compressed_steps_at, empty_at, no_words}
 use Rattle.mm_outline.proofs.ResultsLaw.{ok_then}
-use Rattle.mm_steps.specs.Read.{read}
+use Rattle.mm_steps.specs.TheoremSteps.{theorem_steps}
 use Rattle.mm_spec.specs.Lawful.{least}
 use Rattle.mm_spec.specs.Text.{fault}
 use Rattle.mm_spec.specs.declared.Code.TheVariants.{EmptyProof}
@@ -81,7 +81,7 @@ returns-clause-steps g c =
     let test : bytes_eq (slice_range text first.start first.end) (codes "(") ≡ false =
     ap₂ bytes_eq (sym label) (sym c.as_slice.ensures) ∙ sym c.eq.ensures ∙ c.if-eq.false in
     ok_then c.read_normal.result c.read_normal.ensures.steps (λ s e. e
-    ∙ ap (read c.args.theorem) (sym (normal_steps_at db c.args.theorem _ t (token_of text first)
+    ∙ ap (theorem_steps c.args.theorem) (sym (normal_steps_at db c.args.theorem _ t (token_of text first)
     (as_tokens text c.in-Some.rest.now)
     (ap (as_tokens text) c.in-Some.ensures.cases.0) test)))
 
@@ -122,7 +122,7 @@ returns-then-eq-clause-steps g c =
     let test : bytes_eq (slice_range text first.start first.end) (codes "(") ≡ true =
     ap₂ bytes_eq (sym label) (sym c.as_slice.ensures) ∙ sym c.eq.ensures ∙ c.if-eq.true in
     ok_then c.read_compressed.result c.read_compressed.ensures.steps (λ s e. e
-    ∙ ap (read c.args.theorem) (sym (compressed_steps_at db c.args.theorem _ t (token_of text
+    ∙ ap (theorem_steps c.args.theorem) (sym (compressed_steps_at db c.args.theorem _ t (token_of text
     first) (as_tokens text c.in-Some.rest.now)
     (ap (as_tokens text) c.in-Some.ensures.cases.0) test)))
 

@@ -2,8 +2,8 @@
 
 ghost use Rattle.std.specs.Prelude.{◌≡◌, ◌<◌, ◌++◌, ◌∷◌, [], length, OnOk, OnErr};
 ghost use Rattle.mm_spec.specs.Steps.{placed};
-ghost use Rattle.mm_steps.specs.Read.{Read, read, as_step, step_at, is_marked as marked_in};
-ghost use Rattle.mm_steps.specs.Read.{IsEarlier};
+ghost use Rattle.mm_steps.specs.TheoremSteps.{TheoremSteps, theorem_steps, as_step, step_at, is_marked as marked_in};
+ghost use Rattle.mm_steps.specs.TheoremSteps.{IsEarlier};
 
 use std::alloc::{AllocError, Allocator};
 use std::marker::Model;
@@ -45,12 +45,12 @@ pub struct Steps<A: Allocator> {
 }
 
 impl<A: Allocator> Model for Steps<A> {
-    ghost use Rattle.mm_steps.specs.Read.{Read, read};
+    ghost use Rattle.mm_steps.specs.TheoremSteps.{TheoremSteps, theorem_steps};
     ghost use Rattle.mm_steps.specs.Flags.{placed_steps, AreFlags};
 
-    ghost Value = { Read };
+    ghost Value = { TheoremSteps };
 
-    ghost view = { λ s. read s.theorem (placed_steps s.steps.items) };
+    ghost view = { λ s. theorem_steps s.theorem (placed_steps s.steps.items) };
 
     ghost invariant = { λ s. AreFlags s.steps.items };
 }
@@ -58,7 +58,7 @@ impl<A: Allocator> Model for Steps<A> {
 impl<A: Allocator> Steps<A> {
     /// No steps yet, of the proof of the statement `theorem`, which has at most `max_steps` steps.
     pub fn none(alloc: A, theorem: u32, max_steps: usize) -> Self
-        ensures { result ≡ read theorem [] }
+        ensures { result ≡ theorem_steps theorem [] }
     {
         let mut steps = Vec::new(alloc);
         // If there is no memory for the room, the list begins without it and grows as steps come.
@@ -75,7 +75,7 @@ impl<A: Allocator> Steps<A> {
     pub fn push(&mut self, at: u32, step: Step) -> Result<(), AllocError>
         requires { IsEarlier (as_step step) (length self.old.steps) }
         ensures ok { OnOk result
-            (self.new ≡ read self.old.theorem (self.old.steps ++ placed at (as_step step) ∷ [])) }
+            (self.new ≡ theorem_steps self.old.theorem (self.old.steps ++ placed at (as_step step) ∷ [])) }
         ensures err { OnErr result (self.new ≡ self.old) }
     {
         match step {

@@ -2,12 +2,12 @@ use Rattle.std.proofs.Common.{◌≡◌, ◌++◌, ◌∷◌, [], ◌<◌, false
 use Rattle.std.proofs.Common.{get_or, subst, length-append}
 use Rattle.std.proofs.lemmas.List.{get_or_default, length-map}
 use Rattle.mm_spec.specs.Steps.{placed}
-use Rattle.mm_steps.specs.declared.placed.Placed.{Placed}
-use Rattle.mm_steps.specs.declared.placed.StepKind.TheVariants.{Marked}
-use Rattle.mm_steps.specs.Read.{read, as_step, IsEarlier}
+use Rattle.mm_steps.specs.declared.step_list.Placed.{Placed}
+use Rattle.mm_steps.specs.declared.step_list.StepKind.TheVariants.{Marked}
+use Rattle.mm_steps.specs.TheoremSteps.{theorem_steps, as_step, IsEarlier}
 use Rattle.mm_steps.specs.Flags.{placed_steps, placed_of, no_step}
 use Rattle.mm_steps.proofs.FlagsLaw.{flag_more, placed_steps_set, placed_steps_more}
-use Rattle.mm_steps.proofs.placed.Steps.push.Goals as goal
+use Rattle.mm_steps.proofs.step_list.Steps.push.Goals as goal
 
 pub invariant_of-self-in-Marked : goal.invariant_of-self-in-Marked
 invariant_of-self-in-Marked g c =
@@ -49,9 +49,9 @@ returns-in_ok-push-in-Marked-clause-ok g c =
     (arith, is_earlier, same_length, n, length-append old (entry ∷ [])) in
     let is_old_entry : old_entry ≡ get_or pushed marked_step no_step =
     c.index_mut.ensures.value ∙ sym (get_or_default pushed marked_step no_step old_entry within) in
-    ap (read c.self.inside.theorem)
+    ap (theorem_steps c.self.inside.theorem)
     (placed_steps_set pushed marked_step _ (ap placed_of is_old_entry) ∙ ap placed_steps is_pushed
     ∙ placed_steps_more old entry
     ∙ ap (λ s. placed_steps old ++ placed c.args.at (as_step s) ∷ []) (sym c.in-Marked.is))
-    ∙ ap (λ r. read r.theorem (r.steps ++ placed c.args.at (as_step c.args.step) ∷ []))
+    ∙ ap (λ r. theorem_steps r.theorem (r.steps ++ placed c.args.at (as_step c.args.step) ∷ []))
     c.self.view_is

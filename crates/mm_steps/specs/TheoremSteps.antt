@@ -3,16 +3,16 @@ use Rattle.std.specs.Prelude.{ℕ, ◌<◌, ◌==◌, Bool, false, List, get_or}
 use Rattle.std.specs.List.{list_any}
 use Rattle.mm_spec.specs.Steps as spec
 use Rattle.mm_spec.specs.Steps.{PlacedStep, placed, label, marked}
-use Rattle.mm_steps.specs.declared.placed.Step.{Step}
-use Rattle.mm_steps.specs.declared.placed.Step.TheVariants.{Label, Marked}
+use Rattle.mm_steps.specs.declared.step_list.Step.{Step}
+use Rattle.mm_steps.specs.declared.step_list.Step.TheVariants.{Label, Marked}
 
 -- the steps of a proof, and the number of its theorem's statement
-pub record Read : Type 0 where
+pub record TheoremSteps : Type 0 where
   pub theorem : ℕ
   pub steps : List PlacedStep
 
-abbrev pub read : ℕ → List PlacedStep → Read
-read t steps = record { theorem = t; steps = steps }
+abbrev pub theorem_steps : ℕ → List PlacedStep → TheoremSteps
+theorem_steps t steps = record { theorem = t; steps = steps }
 
 -- the step of the definitions that a step of the code stands for
 abbrev pub as_step : Step → spec.Step
