@@ -4,7 +4,7 @@ use Rattle.std.proofs.lemmas.List.Elements.{All-push}
 use Rattle.mm_spec.specs.Statement.{Statement}
 use Rattle.mm_spec.specs.Derivation.{are_disjoint}
 use Rattle.mm_spec.specs.Citation.{context_at}
-use Rattle.mm_rule.proofs.DisjointLaw.{either_order}
+use Rattle.mm_rule.proofs.DisjointLaw.{are_disjoint_symmetric}
 use Rattle.mm_machine.specs.DisjointCache.{AreDisjointAt, HasPair, InsertsPair}
 
 module _ (db : List Statement) (t : ℕ) (ps : List (ℕ × ℕ)) (h : AreDisjointAt db t ps) where
@@ -17,7 +17,7 @@ module _ (db : List Statement) (t : ℕ) (ps : List (ℕ × ℕ)) (h : AreDisjoi
 
   pub either_disjoint : (a b : ℕ) → HasPair ps a b ⊎ HasPair ps b a → Disjoint a b
   either_disjoint a b (inl p) = has_disjoint a b p
-  either_disjoint a b (inr p) = either_order db t b a (has_disjoint b a p)
+  either_disjoint a b (inr p) = are_disjoint_symmetric db t b a (has_disjoint b a p)
 
   pub insert_keeps_disjoint : (a b : ℕ) (qs : List (ℕ × ℕ)) → Disjoint a b → InsertsPair ps a b qs
       → AreDisjointAt db t qs
@@ -30,4 +30,4 @@ module _ (db : List Statement) (t : ℕ) (ps : List (ℕ × ℕ)) (h : AreDisjoi
       → InsertsPair ps a b qs ⊎ InsertsPair ps b a qs → AreDisjointAt db t qs
   either_insert_keeps_disjoint a b qs d (inl e) = insert_keeps_disjoint a b qs d e
   either_insert_keeps_disjoint a b qs d (inr e) =
-      insert_keeps_disjoint b a qs (either_order db t a b d) e
+      insert_keeps_disjoint b a qs (are_disjoint_symmetric db t a b d) e

@@ -15,7 +15,7 @@ use Rattle.mm_machine.specs.Arena.{Arena, arena, symbols_of, span, no_symbols, w
 use Rattle.mm_machine.specs.Arena.{span_formula}
 use Rattle.mm_machine.specs.Arena.{IsIn}
 use Rattle.mm_rule.specs.Rule.{IsConstantBelow, IsVariableBelow}
-use Rattle.mm_rule.proofs.SliceLaw.{stretch_more}
+use Rattle.mm_rule.proofs.SliceLaw.{stretch_of_longer_list}
 use Rattle.mm_machine.specs.Replaced.{replaced_part, replaced}
 use Rattle.mm_machine.specs.State.{span_formulas, appended_span, IsMarkedEntry}
 
@@ -55,7 +55,7 @@ unmarked_more unmarked marked more e is_in = by_store e.store e.start e.end is_i
     by_store Unmarked s t r w =
         record {
           inside = record { rising = r; within = omega (arith, w, length-append unmarked more) };
-          same = stretch_more unmarked more s t r w;
+          same = stretch_of_longer_list unmarked more s t r w;
         }
     by_store Marked s t r w = record { inside = record { rising = r; within = w }; same = refl }
 
@@ -70,7 +70,7 @@ marked_more unmarked marked more e is_in = by_store e.store e.start e.end is_in.
     by_store Marked s t r w =
         record {
           inside = record { rising = r; within = omega (arith, w, length-append marked more) };
-          same = stretch_more marked more s t r w;
+          same = stretch_of_longer_list marked more s t r w;
         }
 
 -- an entry of a marked formula, whatever the unmarked ones are

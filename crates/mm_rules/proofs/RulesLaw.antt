@@ -11,7 +11,7 @@ use Rattle.mm_rules.specs.declared.rules.IndexRange.{IndexRange}
 use Rattle.mm_rule.specs.Rule.{compiled_rule, IsCompiled}
 use Rattle.mm_rules.specs.Rules.{rule_lists, elements_in, IsIndexRange, HasRule}
 use Rattle.mm_rules.specs.Rules.{AreRules}
-use Rattle.mm_rule.proofs.SliceLaw.{stretch_more}
+use Rattle.mm_rule.proofs.SliceLaw.{stretch_of_longer_list}
 
 module _ {X : Type 0} (xs more : List X) (s : IndexRange) where
   longer : IsIndexRange (length xs) s → IsIndexRange (length (xs ++ more)) s
@@ -23,7 +23,7 @@ module _ {X : Type 0} (xs more : List X) (s : IndexRange) where
       }
 
   stays : IsIndexRange (length xs) s → elements_in (xs ++ more) s ≡ elements_in xs s
-  stays h = stretch_more xs more s.start s.end h.rising h.within
+  stays h = stretch_of_longer_list xs more s.start s.end h.rising h.within
 
   module _ (from : s.start ≡ length xs) (to : s.end ≡ length (xs ++ more)) where
     last_in : IsIndexRange (length (xs ++ more)) s
