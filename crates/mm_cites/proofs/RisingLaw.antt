@@ -25,8 +25,7 @@ filtered_range_is_statement_list p n n_lt_2_31 =
     record {
       few = let selection_le_n = selection_no_longer p n 0 in
           omega (arith, selection_le_n, n_lt_2_31);
-      selection_rises =
-          λ i j selection_le_n j_lt_length. selection_rises p n 0 i j selection_le_n j_lt_length;
+      rises = λ i j i_lt_j j_lt_length. selection_rises p n 0 i j i_lt_j j_lt_length;
     }
   where
     selection_no_longer : (p : ℕ → Bool) (n a : ℕ) → length (filter p (range_with_len a n)) ≤ n
@@ -37,12 +36,12 @@ filtered_range_is_statement_list p n n_lt_2_31 =
             → length {A = ℕ}
             (cond b (a ∷ filter p (range_with_len (a + 1) n)) (filter p (range_with_len (a + 1) n)))
             ≤ suc n
-        by_test true j_lt_length = omega (arith, j_lt_length)
-        by_test false j_lt_length = omega (arith, j_lt_length)
+        by_test true rest_le_n = omega (arith, rest_le_n)
+        by_test false rest_le_n = omega (arith, rest_le_n)
 
     start_le_selected : (p : ℕ → Bool) (n a i : ℕ) → i < length (filter p (range_with_len a n))
         → a ≤ get_or (filter p (range_with_len a n)) i 0
-    start_le_selected p zero a i j_lt_length = absurd (omega arith)
+    start_le_selected p zero a i i_lt_length = absurd (omega arith)
     start_le_selected p (suc n) a i i_inside =
         by_test (p a) (start_le_selected p n (a + 1)) i i_inside
       where
@@ -65,7 +64,7 @@ filtered_range_is_statement_list p n n_lt_2_31 =
     selection_rises : (p : ℕ → Bool) (n a i j : ℕ) → i < j
         → j < length (filter p (range_with_len a n))
         → get_or (filter p (range_with_len a n)) i 0 < get_or (filter p (range_with_len a n)) j 0
-    selection_rises p zero a i j selection_le_n j_lt_length = absurd (omega arith)
+    selection_rises p zero a i j i_lt_j j_lt_length = absurd (omega arith)
     selection_rises p (suc n) a i j i_below_j j_inside =
         by_test (p a) (selection_rises p n (a + 1)) (start_le_selected p n (a + 1)) i j i_below_j
         j_inside

@@ -11,13 +11,7 @@ use Rattle.mm_database.proofs.DisjointIndexLaw.{has_pair_at_place, parted_by_val
 use Rattle.mm_database.proofs.DisjointIndexLaw.{symbol_by_values}
 use Rattle.mm_database.proofs.DisjointIndexLaw.{other_symbol_by_values}
 use Rattle.mm_database.proofs.disjoint_index.are_together.Goals as goal
-use Rattle.mm_database.proofs.disjoint_index.are_together.Goals.{}
-use Rattle.mm_database.proofs.disjoint_index.are_together.Goals.{}
-use Rattle.mm_database.proofs.disjoint_index.are_together.Goals.{}
 use Rattle.mm_database.proofs.disjoint_index.are_together.Goals.{else-x_statement-y_statement-via-then-x_statement-y_statement+else-is_open_at}
-use Rattle.mm_database.proofs.disjoint_index.are_together.Goals.{}
-use Rattle.mm_database.proofs.disjoint_index.are_together.Goals.{}
-use Rattle.mm_database.proofs.disjoint_index.are_together.Goals.{}
 use Rattle.mm_database.proofs.disjoint_index.are_together.Goals.{else-x_statement-y_statement-via-else-x_statement-y_statement}
 
 pub returns-then-is_open_at-clause-found : goal.returns-then-is_open_at-clause-found

@@ -11,7 +11,6 @@ use Rattle.mm_rules.proofs.RuleLaw.{map_take_more, map_push, typed_more, typed_p
 use Rattle.mm_rules.proofs.RuleLaw.{essential_more, essential_part_count, parts_below}
 use Rattle.mm_rules.proofs.RuleLaw.{numbered_same}
 use Rattle.mm_rules.proofs.compile.compile_hypotheses.Goals.{then-is_first_floating+in_ok-push}
-use Rattle.mm_rules.proofs.compile.compile_hypotheses.Goals.{}
 use Rattle.mm_rules.proofs.compile.compile_hypotheses.Goals.{else-is_first_floating+in_ok-compile_formula+in_ok-push-2}
 use Rattle.mm_rules.proofs.compile.compile_hypotheses.Goals as goal
 
