@@ -510,9 +510,9 @@ words_have_letters from end text (v ∷ ws) in_order words_are_some no_letters =
 pub stands_at_next : (s : LettersState) (at : ℕ) → StandsAt s at → StandsAt s (at + 1)
 stands_at_next s at stands =
     record {
-      few = (let steps_le_place = stands.few in omega (arith, steps_le_place));
+      steps_le_place = (let steps_le_place = stands.steps_le_place in omega (arith, steps_le_place));
       earlier =
-          stands.earlier;
+          stands.marks_are_earlier;
     }
 
 -- a letter with a step
@@ -521,11 +521,11 @@ pub stands_at_next_with_step : (s new : LettersState) (at : ℕ) (x : PlacedStep
     → StandsAt new (at + 1)
 stands_at_next_with_step s new at x stands new_has_step =
     let pushed_length = length-append s.steps (x ∷ []) in
-    let steps_le_place = stands.few in
+    let steps_le_place = stands.steps_le_place in
     subst (λ n. StandsAt n (at + 1)) (sym new_has_step)
     (record {
-      few = omega (arith, pushed_length, steps_le_place);
-      earlier = λ k d k_lt_marks. let new_has_step = stands.earlier k d k_lt_marks in
+      steps_le_place = omega (arith, pushed_length, steps_le_place);
+      marks_are_earlier = λ k d k_lt_marks. let new_has_step = stands.marks_are_earlier k d k_lt_marks in
           omega (arith, pushed_length, new_has_step);
     })
 

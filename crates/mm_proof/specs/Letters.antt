@@ -67,8 +67,8 @@ pub record Continues (s : LettersState) (all unread : List Letter) : Type 0 wher
 
 -- each mark is of a step so far, and there are no more steps than bytes before the place
 pub record StandsAt (s : LettersState) (at : ℕ) : Type 0 where
-  pub few : length s.steps ≤ at
-  pub earlier : All (λ j. j < length s.steps) s.marks
+  pub steps_le_place : length s.steps ≤ at
+  pub marks_are_earlier : All (λ j. j < length s.steps) s.marks
 
 -- a number that has no letters yet begins at the place
 abbrev pub BeginsAt : BegunNumber → ℕ → Type 0
@@ -96,7 +96,7 @@ pub record ReadsAllLetters (old : LettersState) (xs : List Letter) (end : ℕ) (
     : Type 0 where
   pub theorem : new.theorem ≡ old.theorem
   pub steps : new.steps ≡ group_steps old.labels [] 0 (groups [] xs).0
-  pub sound : letter_faults (length old.labels) end xs ≡ []
+  pub letters_are_faultless : letter_faults (length old.labels) end xs ≡ []
 
 -- these letters have a fault, which is the first fault of all letters
 abbrev pub RefusesLetters : LettersState → List Letter → ProofRefused → Type 0
@@ -124,10 +124,10 @@ closed_brackets labels letters = record { labels = labels; letters = Some letter
 -- fault, and the statements that they name were appended to the list `old`.
 pub record ReadsLabels (db : List Statement) (k : ℕ) (text : List ℕ) (words : List Word) (n : ℕ)
     (old new : List ℕ) : Type 0 where
-  pub some : n < length words
+  pub n_lt_length : n < length words
   pub brackets : bracketed (as_tokens text words)
       ≡ closed_brackets (as_tokens text (take n words)) (as_tokens text (drop (n + 1) words))
   pub labels : new
       ≡ old ++ flat_map (λ t. usable db k t.word) (as_tokens text (take n words))
-  pub many : length new ≡ length old + n
-  pub sound : flat_map (proof_label_faults db k) (as_tokens text (take n words)) ≡ []
+  pub label_count : length new ≡ length old + n
+  pub labels_are_faultless : flat_map (proof_label_faults db k) (as_tokens text (take n words)) ≡ []

@@ -26,7 +26,7 @@ returns-in-None-clause-fault g c =
     ap₂ bytes_eq (sym label_is_word) (sym c.as_slice.ensures) ∙ sym c.eq.ensures ∙ c.if-eq.false in
     let first_fault =
     unusable_label_is_first_fault db c.args.theorem c.args.end earlier_labels (token_of text w)
-    (as_tokens text (drop (n + 1) words)) c.loop-n.invariant.sound word_closes_not
+    (as_tokens text (drop (n + 1) words)) c.loop-n.invariant.labels_are_faultless word_closes_not
     (ap (usable db c.args.theorem) (sym label_is_word) ∙ c.in-None.ensures) in
     rw c.refused.ensures (
       first_fault.0,
@@ -51,7 +51,7 @@ returns-clause-fault g c =
           ∙ ap (λ ts. with_labels_before earlier_labels (bracketed ts))
           (no_tokens_past_end text words n c.loop-n-test.false))
           ∙ open_brackets_is_first_fault db c.args.theorem c.args.end earlier_labels
-          c.loop-n.invariant.sound,
+          c.loop-n.invariant.labels_are_faultless,
     )
 
 pub returns-in_err-push-in-Some-clause-fault : goal.returns-in_err-push-in-Some-clause-fault
@@ -71,7 +71,7 @@ returns-then-eq-clause-labels g c =
     let word_closes : bytes_eq (slice_range text w.start w.end) (codes ")") ≡ true =
     ap₂ bytes_eq (sym label_is_word) (sym c.as_slice.ensures) ∙ sym c.eq.ensures ∙ c.if-eq.true in
     record {
-      some = c.loop-n-test.true;
+      n_lt_length = c.loop-n-test.true;
       brackets =
           c.loop-n.invariant.bracketed
           ∙ ap (λ ts. with_labels_before earlier_labels (bracketed ts))
@@ -79,8 +79,8 @@ returns-then-eq-clause-labels g c =
           ∙ brackets_close earlier_labels (token_of text w)
           (as_tokens text (drop (n + 1) words)) word_closes;
       labels = c.loop-n.invariant.labels;
-      many = c.loop-n.invariant.many;
-      sound = c.loop-n.invariant.sound;
+      label_count = c.loop-n.invariant.label_count;
+      labels_are_faultless = c.loop-n.invariant.labels_are_faultless;
     }
 
 pub bytes-label-requires-clause-order : goal.bytes-label-requires-clause-order

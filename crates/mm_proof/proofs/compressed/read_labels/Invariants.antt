@@ -14,8 +14,8 @@ invariant-loop-n g l = record {
       ≡ l.fn.labels.items
       ++ flat_map (λ t. usable l.database.statements l.theorem t.word)
       (as_tokens l.database.text (take l.n l.words));
-  many : length l.labels.items ≡ length l.fn.labels.items + l.n;
-  sound : flat_map (proof_label_faults l.database.statements l.theorem)
+  label_count : length l.labels.items ≡ length l.fn.labels.items + l.n;
+  labels_are_faultless : flat_map (proof_label_faults l.database.statements l.theorem)
       (as_tokens l.database.text (take l.n l.words))
       ≡ [];
 }

@@ -90,7 +90,7 @@ returns-clause-reads g c =
           steps_are_all_steps (with_number c.loop-word.self (if_begun c.loop-word.begun))
           all_letters continues_after_all
           ∙ ap (λ ls. group_steps ls [] 0 (groups [] all_letters).0) c.loop-word.invariant.labels;
-      sound =
+      letters_are_faultless =
           subst (λ ls. letter_faults (length ls) c.args.end all_letters
           ≡ []) c.loop-word.invariant.labels
           (no_fault_at_end (with_number c.loop-word.self (if_begun c.loop-word.begun)) c.args.end
