@@ -510,9 +510,8 @@ words_have_letters from end text (v ∷ ws) in_order words_are_some no_letters =
 pub stands_at_next : (s : LettersState) (at : ℕ) → StandsAt s at → StandsAt s (at + 1)
 stands_at_next s at stands =
     record {
-      steps_le_place = (let steps_le_place = stands.steps_le_place in omega (arith, steps_le_place));
-      earlier =
-          stands.marks_are_earlier;
+      steps_le_place = (let steps_le_at = stands.steps_le_place in omega (arith, steps_le_at));
+      marks_are_earlier = stands.marks_are_earlier;
     }
 
 -- a letter with a step
@@ -525,8 +524,9 @@ stands_at_next_with_step s new at x stands new_has_step =
     subst (λ n. StandsAt n (at + 1)) (sym new_has_step)
     (record {
       steps_le_place = omega (arith, pushed_length, steps_le_place);
-      marks_are_earlier = λ k d k_lt_marks. let new_has_step = stands.marks_are_earlier k d k_lt_marks in
-          omega (arith, pushed_length, new_has_step);
+      marks_are_earlier = λ k d k_lt_marks.
+          let mark_lt_steps = stands.marks_are_earlier k d k_lt_marks in
+          omega (arith, pushed_length, mark_lt_steps);
     })
 
 -- the digits of letters

@@ -12,9 +12,11 @@ use Rattle.mm_proof.specs.declared.digits.LetterKind.TheVariants.{Early, Last, M
 use Rattle.mm_proof.specs.declared.digits.LetterKind.TheVariants.{Other}
 use Rattle.mm_proof.specs.Number.{IsNumber, HasLetterKind, saturated}
 
+-- the bytes of letters
 abbrev bytes : List Letter → List ℕ
 bytes xs = map (λ x. x.byte) xs
 
+-- the letters that a text has have its bytes
 bytes_of_letters_from : (at : ℕ) (bs : List ℕ) → bytes (letters_from at bs) ≡ bs
 bytes_of_letters_from at [] = refl
 bytes_of_letters_from at (b ∷ bs) = ap (λ z. b ∷ z) (bytes_of_letters_from (at + 1) bs)
@@ -23,17 +25,20 @@ bytes_of_letters_from at (b ∷ bs) = ap (λ z. b ∷ z) (bytes_of_letters_from 
 abbrev pub early_bytes : List ℕ → ℕ
 early_bytes bs = fold (λ n b. 5 * n + (b - 84)) 0 bs
 
-fold_bytes : (a : ℕ) (xs : List Letter)
+-- the value of early letters depends only on their bytes
+fold_is_fold_of_bytes : (a : ℕ) (xs : List Letter)
     → fold (λ n (x : Letter). 5 * n + (x.byte - 84)) a xs
     ≡ fold (λ n b. 5 * n + (b - 84)) a (bytes xs)
-fold_bytes a [] = refl
-fold_bytes a (x ∷ xs) = fold_bytes (5 * a + (x.byte - 84)) xs
+fold_is_fold_of_bytes a [] = refl
+fold_is_fold_of_bytes a (x ∷ xs) = fold_is_fold_of_bytes (5 * a + (x.byte - 84)) xs
 
-all_bytes : (xs : List Letter)
+-- whether letters are early depends only on their bytes
+early_if_bytes_are_early : (xs : List Letter)
     → list_all (λ (x : Letter). is_early x.byte) xs ≡ list_all is_early (bytes xs)
-all_bytes [] = refl
-all_bytes (x ∷ xs) = ap (λ b. is_early x.byte && b) (all_bytes xs)
+early_if_bytes_are_early [] = refl
+early_if_bytes_are_early (x ∷ xs) = ap (λ b. is_early x.byte && b) (early_if_bytes_are_early xs)
 
+-- early bytes and a last one spell the number that they have as value
 pub is_number_from_bytes : (bs : List ℕ) (b n : ℕ) → list_all is_early bs ≡ true → is_last b ≡ true
     → early_bytes bs * 20 + (b - 64) ≡ n → IsNumber (bs ++ b ∷ []) n
 is_number_from_bytes bs b n early_bytes_are_early b_is_last value_is_n =
@@ -41,35 +46,40 @@ is_number_from_bytes bs b n early_bytes_are_early b_is_last value_is_n =
     let g : Group = record { early = xs; last = record { at = 0; byte = b } } in
     record {
       group = g;
-      spelled = ap (λ z. z ++ b ∷ []) (bytes_of_letters_from 0 bs);
-      early = all_bytes xs ∙ ap (list_all is_early) (bytes_of_letters_from 0 bs)
+      letters_are_word = ap (λ z. z ++ b ∷ []) (bytes_of_letters_from 0 bs);
+      early_letters_are_early = early_if_bytes_are_early xs
+          ∙ ap (list_all is_early) (bytes_of_letters_from 0 bs)
           ∙ early_bytes_are_early;
-      last = b_is_last;
-      value_is = ap (λ z. z * 20 + (b - 64)) (fold_bytes 0 xs
+      last_letter_is_last = b_is_last;
+      value_is = ap (λ z. z * 20 + (b - 64)) (fold_is_fold_of_bytes 0 xs
           ∙ ap early_bytes (bytes_of_letters_from 0 bs))
           ∙ value_is_n;
     }
 
+-- the bytes `bs` are early, `b` is last, and they have the value `n`
 pub record IsSpelled (bs : List ℕ) (b n : ℕ) : Type 0 where
-  pub early : list_all is_early bs ≡ true
-  pub last : is_last b ≡ true
+  pub bytes_are_early : list_all is_early bs ≡ true
+  pub b_is_last : is_last b ≡ true
   pub value_is : early_bytes bs * 20 + (b - 64) ≡ n
 
+-- a number is spelled by its bytes
 pub number_is_spelled : (bs : List ℕ) (b n : ℕ) → IsNumber (bs ++ b ∷ []) n → IsSpelled bs b n
 number_is_spelled bs b n is_number =
     let bytes_equal = same_from_push (bytes is_number.group.early) bs is_number.group.last.byte b
-    is_number.spelled in
+    is_number.letters_are_word in
     record {
-      early = ap (list_all is_early) (sym bytes_equal.0) ∙ sym (all_bytes is_number.group.early)
-          ∙ is_number.early;
-      last = ap is_last (sym bytes_equal.1) ∙ is_number.last;
+      bytes_are_early = ap (list_all is_early) (sym bytes_equal.0)
+          ∙ sym (early_if_bytes_are_early is_number.group.early)
+          ∙ is_number.early_letters_are_early;
+      b_is_last = ap is_last (sym bytes_equal.1) ∙ is_number.last_letter_is_last;
       value_is =
           ap₂ (λ z y. z * 20 + (y - 64))
-          (ap early_bytes (sym bytes_equal.0) ∙ sym (fold_bytes 0 is_number.group.early))
+          (ap early_bytes (sym bytes_equal.0) ∙ sym (fold_is_fold_of_bytes 0 is_number.group.early))
           (sym bytes_equal.1)
           ∙ is_number.value_is;
     }
 
+-- each of early bytes is early
 pub element_of_early_is_early : (bs : List ℕ) (i d : ℕ) → list_all is_early bs ≡ true
     → i < length bs
     → is_early (get_or bs i d) ≡ true
@@ -89,11 +99,13 @@ kind_is_not_early Mark b has_kind kind_isnt_early = ap is_early has_kind
 kind_is_not_early UnknownStep b has_kind kind_isnt_early = ap is_early has_kind
 kind_is_not_early Other b has_kind kind_isnt_early = has_kind.0
 
+-- no number has a byte before its last that isn't early
 pub no_number_with_late_byte : (bs : List ℕ) (b n i d : ℕ) (k : LetterKind) → i < length bs
     → HasLetterKind (get_or bs i d) k → ((x : ℕ) → k ≡ Early x → ⊥) → IsNumber (bs ++ b ∷ []) n → ⊥
 no_number_with_late_byte bs b n i d k i_lt_length has_kind kind_isnt_early is_number =
     true≢false
-    (sym (element_of_early_is_early bs i d (number_is_spelled bs b n is_number).early i_lt_length)
+    (sym (element_of_early_is_early bs i d (number_is_spelled bs b n is_number).bytes_are_early
+    i_lt_length)
     ∙ kind_is_not_early k (get_or bs i d) has_kind kind_isnt_early)
 
 -- the value that the code has, by the conversion to 32 bits
@@ -108,6 +120,7 @@ saturated_is_number (Ok x) bs b v w w_fits v_is_saturated w_is_saturated bytes_a
 saturated_is_number (Err x) bs b v w w_fits v_is_saturated w_is_saturated bytes_are_early
     b_is_last = tt
 
+-- if the conversion to 32 bits fails, each number with these bytes is larger than 32 bits hold
 pub saturated_is_too_large : {E : Type 0} (r : Result ℕ E) (bs : List ℕ) (b v w : ℕ)
     → OkIff r (w < 4294967296) w
     → v ≡ saturated (early_bytes bs) → w ≡ saturated (20 * v + (b - 64))

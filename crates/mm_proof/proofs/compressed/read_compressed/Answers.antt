@@ -76,23 +76,28 @@ read_all-requires-clause-none g c =
 
 pub offset_bounds-words-label_count : goal.offset_bounds-words-label_count
 offset_bounds-words-label_count g c =
-    let count_lt_words = c.in_ok-label_count.ensures.labels.n_lt_length in omega (arith, count_lt_words)
+    let count_lt_words = c.in_ok-label_count.ensures.labels.n_lt_length in
+    omega (arith, count_lt_words)
 
 pub overflow_add-letter_words : goal.overflow_add-letter_words
 overflow_add-letter_words g c =
-    let count_lt_words = c.in_ok-label_count.ensures.labels.n_lt_length in omega (arith, count_lt_words)
+    let count_lt_words = c.in_ok-label_count.ensures.labels.n_lt_length in
+    omega (arith, count_lt_words)
 
 pub slice_bounds-letter_words-count : goal.slice_bounds-letter_words-count
 slice_bounds-letter_words-count g c =
-    let count_lt_words = c.in_ok-label_count.ensures.labels.n_lt_length in omega (arith, count_lt_words)
+    let count_lt_words = c.in_ok-label_count.ensures.labels.n_lt_length in
+    omega (arith, count_lt_words)
 
 pub slice_bounds-letter_words-end : goal.slice_bounds-letter_words-end
 slice_bounds-letter_words-end g c =
-    let count_lt_words = c.in_ok-label_count.ensures.labels.n_lt_length in omega (arith, count_lt_words)
+    let count_lt_words = c.in_ok-label_count.ensures.labels.n_lt_length in
+    omega (arith, count_lt_words)
 
 pub slice_bounds-letter_words-start : goal.slice_bounds-letter_words-start
 slice_bounds-letter_words-start g c =
-    let count_lt_words = c.in_ok-label_count.ensures.labels.n_lt_length in omega (arith, count_lt_words)
+    let count_lt_words = c.in_ok-label_count.ensures.labels.n_lt_length in
+    omega (arith, count_lt_words)
 
 pub returns-clause-sound : goal.returns-clause-sound
 returns-clause-sound g c =
@@ -107,7 +112,8 @@ returns-clause-sound g c =
     labels_begin_with_hypotheses
     c.in_ok-label_count.ensures.labels.label_count c.in_ok-label_count.ensures.labels.brackets
     c.in_ok-label_count.ensures.labels.labels_are_faultless
-    ∙ rw (c.none-letters.ensures, c.text.ensures, take_rest) at c.in_ok-read_all.ensures.reads.letters_are_faultless
+    ∙ rw (c.none-letters.ensures, c.text.ensures, take_rest) at
+    c.in_ok-read_all.ensures.reads.letters_are_faultless
 
 pub returns-in_err-read_all-clause-fault : goal.returns-in_err-read_all-clause-fault
 returns-in_err-read_all-clause-fault g c =
