@@ -289,7 +289,7 @@ module _ (db : List Statement) (k : ℕ) where
               (and_parts (is_active db j k) (wanted j) active_and_wanted).1
             where
               j_is_active : is_active db j k ≡ true
-              a = (and_parts (is_active db j k) (wanted j) active_and_wanted).0
+              j_is_active = (and_parts (is_active db j k) (wanted j) active_and_wanted).0
 
               by_essential : (b : Bool) → list_any is_essential (statement_at db j) ≡ b
                   → (b || (list_any is_floating (statement_at db j)

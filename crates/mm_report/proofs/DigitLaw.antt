@@ -52,5 +52,5 @@ cells_are_digits_of_marks m i =
     (zero-add k))))
   where
     cells_as_many_as_columns : length (map (cell_text m i) (range_with_len 0 m.columns)) ≡ m.columns
-    long =
+    cells_as_many_as_columns =
         length-map (range_with_len 0 m.columns) (cell_text m i) ∙ length-range_with_len 0 m.columns

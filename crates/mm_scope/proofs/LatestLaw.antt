@@ -25,9 +25,6 @@ module _ (db : List Statement) (f : Statement → List Bytes) (w : Bytes) where
       among_active db f w (λ j. is_active db j (length db)) (length db) 0
       ∙ by_active (is_active db last (length db)) refl
     where
-      is_active_with_word : ℕ → Bool
-      q = λ j. is_active db j (length db) && has_word db f w j
-
       no_other_passes : is_active db last (length db) ≡ false → (j : ℕ) → j < length db
           → (a b : Bool)
           → is_active db j (length db) ≡ a → has_word db f w j ≡ b → (a && b) ≡ false
