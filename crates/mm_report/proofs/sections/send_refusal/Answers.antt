@@ -38,7 +38,7 @@ returns g c =
     ∙ ap (count_by (λ b. b == 10)) before_is_taken) in
     let column_is =
     ap (λ (n : ℕ). decimal (n + 1))
-    (c.bytes_after_line_feed.ensures.value ∙ ap bytes_after_line_feed before_is_taken) in
+    (c.bytes_after_line_feed.ensures.value_is ∙ ap bytes_after_line_feed before_is_taken) in
     sent_equal_text _
     (refusal_regrouped (codes "refused ") _ _ (codes " E")
     (two_digits (code_number c.args.fault.now.code)))

@@ -28,7 +28,7 @@ loop-first-preserved g c =
     let labels_as_rows = c.requires.labels in
     let end_le_labels : end ≤ length c.args.labels.now = omega (arith, labels_as_rows) in
     let spaced_are_run =
-    c.spaced.ensures.labels
+    c.spaced.ensures.labels_are_spaced
     ∙ spaced_run_is_rows m c.args.labels.now first end first_le_end end_le_labels in
     let users_with_next_run =
     users_with_run m names c.args.column c.requires.column c.loop-first.last_sent first end

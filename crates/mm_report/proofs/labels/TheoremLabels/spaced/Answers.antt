@@ -13,7 +13,8 @@ returns g c =
     ∙ ap (λ (ls : List Bytes). flat_map (λ (l : Bytes). 32 ∷ l)
     (slice_range ls c.args.from c.args.to)) c.self.view_is in
     record {
-      labels = spaced_are;
-      some = λ from_lt_to. subst (λ (bytes : List ℕ). 0 < length bytes) (sym spaced_are)
-          (spaced_has_bytes c.args.self.now c.args.from c.args.to from_lt_to c.requires.within);
+      labels_are_spaced = spaced_are;
+      has_bytes = λ from_lt_to. subst (λ (bytes : List ℕ). 0 < length bytes) (sym spaced_are)
+          (spaced_has_bytes c.args.self.now c.args.from c.args.to from_lt_to
+          c.requires.to_le_length);
     }

@@ -7,7 +7,7 @@ pub returns-then-not-is_full : goal.returns-then-not-is_full
 returns-then-not-is_full g c =
     sent_both c.make_room.ensures.sent
     (sent_if_held (g.W.Write.contents c.make_room.new.to) c.make_room.new.self c.hold_byte.new.self
-    (c.args.byte ∷ []) c.hold_byte.ensures.held c.hold_byte.ensures.failed)
+    (c.args.byte ∷ []) c.hold_byte.ensures.is_held c.hold_byte.ensures.failed_unchanged)
 
 pub returns-else-not-is_full : goal.returns-else-not-is_full
 returns-else-not-is_full g c =
@@ -20,6 +20,6 @@ returns-else-not-is_full g c =
         → c.make_room.new.self.failed ≡ true
     by_failure (inl failed) = failed
     by_failure (inr not_failed) =
-        let room_left = c.make_room.ensures.room not_failed in
-        let no_room = c.if-not-is_full.ensures.full in
+        let room_left = c.make_room.ensures.has_room not_failed in
+        let no_room = c.if-not-is_full.ensures.has_no_room in
         absurd (omega (arith, room_left, no_room))
