@@ -149,6 +149,7 @@ in_order_after_first text w ws from end in_order =
     in_order_from_lower 0 (w.start + length (token_of text w).word) end (as_tokens text ws)
     (omega arith) in_order.2
 
+-- words that are in order stay so without the first `n` of them
 pub in_order_after_drop : (text : List ℕ) (ws : List Word) (n from end : ℕ)
     → AreInOrder from (as_tokens text ws) end → AreInOrder 0 (as_tokens text (drop n ws)) end
 in_order_after_drop text ws zero from end in_order =
@@ -162,6 +163,7 @@ pub tokens_begin_with_word : (text : List ℕ) (ws : List Word) (n : ℕ) (d : W
     → as_tokens text (drop n ws) ≡ token_of text (get_or ws n d) ∷ as_tokens text (drop (n + 1) ws)
 tokens_begin_with_word text ws n d n_lt_length = ap (as_tokens text) (drop_more ws n d n_lt_length)
 
+-- past the last word there are no tokens
 pub no_tokens_past_end : (text : List ℕ) (ws : List Word) (n : ℕ) → length ws ≤ n
     → as_tokens text (drop n ws) ≡ []
 no_tokens_past_end text [] zero length_le_n = refl

@@ -19,19 +19,23 @@ use Rattle.mm_spec.proofs.ListLaw.{pairs_head, pairs_tail}
 use Rattle.mm_outline.specs.Parts.{as_tokens, token_of}
 use Rattle.mm_proof.specs.Refused.{word_faults}
 
+-- what holds of all pairs of a list holds of those of its back part
 pub pairs_of_back : {X : Type 0} (R : X → X → Type 0) (xs ys : List X) → AllPairs R (xs ++ ys)
     → AllPairs R ys
 pairs_of_back R [] ys pairs_are_related = pairs_are_related
 pairs_of_back R (x ∷ xs) ys pairs_are_related =
     pairs_of_back R xs ys (pairs_tail R x (xs ++ ys) pairs_are_related)
 
+-- the first token stands before the second
 abbrev pub StandsEarlier : Token → Token → Type 0
 StandsEarlier t u = t.at < u.at
 
+-- a fault, if there is one, stands after place `n`
 abbrev IsLater : ℕ → Option Fault → Type 0
 IsLater n None = Unit {0}
 IsLater n (Some g) = n < g.at
 
+-- if all faults stand after a place, so does the first of them
 least_is_later : (n : ℕ) (fs : List Fault) → AllByRecursion (λ (g : Fault). n < g.at) fs
     → IsLater n (least fs)
 least_is_later n [] all_later = tt
@@ -46,6 +50,7 @@ least_is_later n (f ∷ fs) all_later = by_fault (least fs) (least_is_later n fs
     by_fault None o_is_later = all_later.0
     by_fault (Some g) o_is_later = lesser_is_later g (is_before f g) o_is_later
 
+-- a fault that stands before all others is the least
 first_is_least : (f : Fault) (fs : List Fault) → AllByRecursion (λ (g : Fault). f.at < g.at) fs
     → least (f ∷ fs) ≡ Some f
 first_is_least f fs all_later = by_fault (least fs) (least_is_later f.at fs all_later)
@@ -60,6 +65,7 @@ first_is_least f fs all_later = by_fault (least fs) (least_is_later f.at fs all_
 abbrev AreAt : (Token → List Fault) → Type 0
 AreAt F = (u : Token) → AllByRecursion (λ (g : Fault). g.at ≡ u.at) (F u)
 
+-- the faults of tokens after a place stand after that place
 faults_are_later : (F : Token → List Fault) → AreAt F → (n : ℕ) (us : List Token)
     → AllByRecursion (λ (u : Token). n < u.at) us
     → AllByRecursion (λ (g : Fault). n < g.at) (flat_map F us)
@@ -79,6 +85,7 @@ faults_are_later F faults_stand_at_words n (u ∷ us) words_are_later =
           rest_are_later,
     )
 
+-- the fault of the first word that has one is the least fault of the words
 fault_of_first_faulty_word_is_least : (F : Token → List Fault) → AreAt F
     → (front : List Token) (t : Token) (back : List Token) (f : Fault)
     → AllPairs StandsEarlier (front ++ t ∷ back) → flat_map F front ≡ [] → F t ≡ f ∷ []
@@ -99,6 +106,7 @@ fault_of_first_faulty_word_is_least F faults_stand_at_words front t back f token
     (subst (λ n. AllByRecursion (λ (g : Fault). n < g.at) (flat_map F back)) (sym f_at_is_t_at)
     (faults_are_later F faults_stand_at_words t.at back back_is_later))
 
+-- the faults of a label stand where the label stands
 word_faults_stand_at_word : (db : List Statement) (k : ℕ) → AreAt (word_faults db k)
 word_faults_stand_at_word db k u = by_question_mark (bytes_eq u.word (codes "?"))
   where
@@ -118,6 +126,7 @@ word_faults_stand_at_word db k u = by_question_mark (bytes_eq u.word (codes "?")
     by_question_mark false = unusable_stands_at_word (usable db k u.word)
 
 module _ (text : List ℕ) (ws : List Word) (i : ℕ) (w : Word) (i_lt_length : i < length ws) where
+  -- the words of the proof are those before the faulty word, that word, and those after it
   tokens_split : as_tokens text ws
       ≡ as_tokens text (take i ws)
       ++ token_of text (get_or ws i w) ∷ as_tokens text (drop (i + 1) ws)
@@ -126,6 +135,7 @@ module _ (text : List ℕ) (ws : List Word) (i : ℕ) (w : Word) (i_lt_length : 
       (sym (take-append-drop i ws) ∙ ap (λ z. take i ws ++ z) (drop_more ws i w i_lt_length))
       ∙ map-append (token_of text) (take i ws) (get_or ws i w ∷ drop (i + 1) ws)
 
+  -- the fault of the first faulty word is the least of those of a normal proof
   pub fault_of_faulty_word_is_least : (db : List Statement) (k : ℕ) (f : Fault)
       → AllPairs StandsEarlier (as_tokens text ws)
       → flat_map (word_faults db k) (as_tokens text (take i ws)) ≡ []
@@ -146,6 +156,7 @@ question_mark_fault db k u u_is_question_mark =
     ap (λ b. elim b [ true ↦ fault u.at IncompleteProof ∷ [] | false ↦ proof_label_faults db k u ])
     u_is_question_mark
 
+-- a label that isn't usable has this one fault
 pub unusable_label_fault : (db : List Statement) (k : ℕ) (u : Token)
     → bytes_eq u.word (codes "?") ≡ false
     → usable db k u.word ≡ [] → word_faults db k u ≡ fault u.at UnusableLabel ∷ []

@@ -36,6 +36,7 @@ abbrev pub begun_at : Option BegunNumber → ℕ → BegunNumber
 begun_at None at = record { at = at; value = 0 }
 begun_at (Some b) at = b
 
+-- what follows from a property of an error holds of the error
 pub on_err_then : {T E : Type 0} (r : Result T E) {P Q : E → Type 0} → IfErr r P
     → ((e : E) → P e → Q e) → IfErr r Q
 on_err_then (Ok x) holds p_gives_q = tt
@@ -57,6 +58,7 @@ letters_begin_with_letter text i end i_lt_end end_le_length =
     ap (λ xs. letters_from i (take (end - i) xs)) (drop_more text i 0 i_lt_length)
     ∙ ap (λ n. letters_from i (take n (get_or text i 0 ∷ drop (i + 1) text))) width_is_suc
 
+-- past the end of a word there are no letters
 pub no_letters_past_end : (text : List ℕ) (i end : ℕ) → end ≤ i
     → letters_from i (slice_range text i end) ≡ []
 no_letters_past_end text i end end_le_i =
@@ -87,9 +89,11 @@ stands_before_rest s new text w ws end start_le_end end_le_length stands_before_
       stands_before_w.2.2,
     )
 
+-- the letters of a number, the last of them at a place
 abbrev group : List Letter → ℕ → ℕ → Group
 group early at byte = record { early = early; last = letter at byte }
 
+-- a number that has begun starts where it was begun
 group_starts_at_begun : (number : Option BegunNumber) (early : List Letter) (at byte : ℕ)
     → Begins number early
     → starts_at (group early at byte) ≡ (begun_at number at).at
@@ -98,6 +102,7 @@ group_starts_at_begun (Some n) early at byte begins =
     ap (λ es. starts_at (group es at byte)) begins.2
     ∙ sym begins.3
 
+-- the value that the code has is the value of the letters, as 64 bits hold it
 saturated_value_is_group_value : (number : Option BegunNumber) (early : List Letter) (at byte : ℕ)
     → Begins number early
     → saturated (20 * (begun_at number at).value + (byte - 64))
@@ -131,6 +136,7 @@ named_number_le_count labels marks (suc n) s n_names_s =
         omega (arith, entry_index_lt_length)
     by_entries None label_n_is_a None mark_is_b n_names_s = absurd (cc)
 
+-- the last letter of a number is no `Z`
 last_letter_is_no_mark : (byte : ℕ) → is_last byte ≡ true → (byte == 90) ≡ false
 last_letter_is_no_mark byte byte_is_last = by_equality (byte == 90) refl
   where
@@ -141,6 +147,7 @@ last_letter_is_no_mark byte byte_is_last = by_equality (byte == 90) refl
         let byte_eq_90 = eqb-true byte 90 byte_is_90 in absurd (omega arith)
     by_equality false byte_is_90 = refl
 
+-- after the last letter of a number the state has its step
 pub continues_after_last_letter : (t : ℕ) (labels marks : List ℕ) (number : Option BegunNumber)
     (steps : List PlacedStep)
     → (place byte : ℕ) (s : spec.Step)
@@ -154,8 +161,7 @@ pub continues_after_last_letter : (t : ℕ) (labels marks : List ℕ) (number : 
     all_letters
     unread
 continues_after_last_letter t labels marks number steps place byte s byte_is_not_early byte_is_last
-    number_names_s all_letters unread
-    h =
+    number_names_s all_letters unread continues =
     record {
       early = [];
       begins = refl;
@@ -254,11 +260,10 @@ pub continues_after_early_letter : (t : ℕ) (labels marks : List ℕ) (number :
     → Continues (letters_state t labels marks number steps) all_letters (letter place byte ∷ unread)
     → Continues (letters_state t labels marks (Some begun) steps) all_letters unread
 continues_after_early_letter t labels marks number steps place byte begun byte_is_early place_is
-    value_is all_letters unread
-    h =
+    value_is all_letters unread continues =
     record {
       early = continues.early ++ x ∷ [];
-      begins_with_letter =
+      begins =
           begins_with_letter number continues.early continues.begins place_is value_is;
       steps = continues.steps
           ∙ ap (λ r. steps ++ group_steps labels marks (length steps) r.0) groups_split;
@@ -305,6 +310,7 @@ continues_after_early_letter t labels marks number steps place byte begun byte_i
           value_is ∙ values_equal,
         )
 
+-- the digit of an early letter is 1 to 5
 pub early_digit_is_in_range : (byte digit : ℕ) → is_early byte ≡ true → digit ≡ byte - 84
     → (0 < digit) × (digit ≤ 20)
 early_digit_is_in_range byte digit byte_is_early digit_is =
@@ -317,6 +323,7 @@ early_digit_is_in_range byte digit byte_is_early digit_is =
 abbrev begun_number : ℕ → ℕ → BegunNumber
 begun_number at value = record { at = at; value = value }
 
+-- a number that begins at the place is the number with which the state goes on there
 begun_at_is_number : (b : BegunNumber) (place : ℕ) → BeginsAt b place
     → begun_at (if_begun b) place ≡ b
 begun_at_is_number b place begins_at_place = by_zero (b.value == 0) refl
@@ -327,6 +334,7 @@ begun_at_is_number b place begins_at_place = by_zero (b.value == 0) refl
         ap₂ begun_number (sym (begins_at_place value_eq_0)) (sym value_eq_0)
     by_zero false value_is_0 = refl
 
+-- a number whose value isn't 0 has begun
 pub number_with_letters_is_begun : (b : BegunNumber) → 0 < b.value → if_begun b ≡ Some b
 number_with_letters_is_begun b value_gt_0 = by_zero (b.value == 0) refl
   where
@@ -334,6 +342,7 @@ number_with_letters_is_begun b value_gt_0 = by_zero (b.value == 0) refl
     by_zero true value_is_0 = let value_eq_0 = eqb-true b.value 0 value_is_0 in absurd (omega arith)
     by_zero false value_is_0 = refl
 
+-- a number whose value is 0 hasn't begun
 pub number_without_letters_is_not_begun : (b : BegunNumber) → b.value ≡ 0 → if_begun b ≡ None
 number_without_letters_is_not_begun b value_is_0 =
     ap (λ n. if n == 0 then None else Some b) value_is_0
@@ -445,6 +454,7 @@ has_early_letters None early begins = ap (λ es. nat_lt 0 (length es)) begins
 has_early_letters (Some n) early begins =
     ap (λ es. nat_lt 0 (length es)) begins.2 ∙ lt-ltb 0 (suc (length begins.1)) (omega arith)
 
+-- of all letters at most a number that is open at the end has a fault
 faults_at_end : (s : LettersState) (end : ℕ) (x : Letter) (xs : List Letter)
     → Continues s (x ∷ xs) []
     → letter_faults (length s.labels) end (x ∷ xs) ≡ at end (when (is_some s.number) OpenNumber)
@@ -455,6 +465,7 @@ faults_at_end s end x xs continues =
     ∙ ap (λ b. at end (when b OpenNumber))
     (has_early_letters s.number continues.early continues.begins)
 
+-- a number that is open at the end is the first fault
 pub open_number_is_first_fault : (s : LettersState) (end : ℕ) (all_letters : List Letter)
     → is_some s.number ≡ true
     → ¬ (all_letters ≡ []) → Continues s all_letters []
@@ -464,6 +475,7 @@ open_number_is_first_fault s end [] number_is_open letters_are_some continues =
 open_number_is_first_fault s end (x ∷ xs) number_is_open letters_are_some continues =
     ([], faults_at_end s end x xs continues ∙ ap (λ b. at end (when b OpenNumber)) number_is_open)
 
+-- if no number is open at the end, the letters have no fault
 pub no_fault_at_end : (s : LettersState) (end : ℕ) (all_letters : List Letter)
     → is_some s.number ≡ false
     → ¬ (all_letters ≡ []) → Continues s all_letters []
@@ -487,6 +499,7 @@ continues_at_end s text ws n all_letters length_le_n continues =
     drop_past_end (suc n) [] length_le_n = refl
     drop_past_end (suc n) (w ∷ ws) length_le_n = drop_past_end n ws (omega arith)
 
+-- at the end the steps of the state are the steps of all letters
 pub steps_are_all_steps : (s : LettersState) (all_letters : List Letter)
     → Continues s all_letters []
     → s.steps ≡ group_steps s.labels [] 0 (groups [] all_letters).0

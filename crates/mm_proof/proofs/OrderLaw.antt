@@ -28,6 +28,7 @@ use Rattle.mm_proof.specs.declared.refused.ProofRefused.TheVariants.{Fault as Fa
 
 -- ---- faults in order
 
+-- each fault comes before those after it
 abbrev AreSorted : List Fault → Type 0
 AreSorted [] = Unit {0}
 AreSorted (f ∷ fs) = AllByRecursion (λ (g : Fault). is_before f g ≡ true) fs × AreSorted fs
@@ -38,23 +39,27 @@ record IsRun (from to : ℕ) (fs : List Fault) : Type 0 where
   places_lt_to : AllByRecursion (λ (f : Fault). f.at < to) fs
   are_sorted : AreSorted fs
 
+-- what holds of all faults of two lists holds of those of both together
 all_of_append : (P : Fault → Type 0) (xs ys : List Fault) → AllByRecursion P xs
     → AllByRecursion P ys
     → AllByRecursion P (xs ++ ys)
 all_of_append P [] ys xs_pass ys_pass = ys_pass
 all_of_append P (x ∷ xs) ys xs_pass ys_pass = (xs_pass.0, all_of_append P xs ys xs_pass.1 ys_pass)
 
+-- what follows from a property of all faults holds of all faults
 all_of_weaker : (P Q : Fault → Type 0) (xs : List Fault) → ((x : Fault) → P x → Q x)
     → AllByRecursion P xs → AllByRecursion Q xs
 all_of_weaker P Q [] p_gives_q xs_pass = tt
 all_of_weaker P Q (x ∷ xs) p_gives_q xs_pass =
     (p_gives_q x xs_pass.0, all_of_weaker P Q xs p_gives_q xs_pass.1)
 
+-- a fault that stands earlier comes before the other
 earlier_is_before : (f g : Fault) → f.at < g.at → is_before f g ≡ true
 earlier_is_before f g f_lt_g =
     ap (λ b. b || ((f.at == g.at) && nat_le (code_number f.code) (code_number g.code)))
     (lt-ltb f.at g.at f_lt_g)
 
+-- two runs of faults, one after the other, are one run
 joined_runs_are_run : (from mid to : ℕ) (xs ys : List Fault) → from ≤ mid → mid ≤ to
     → IsRun from mid xs
     → IsRun mid to ys → IsRun from to (xs ++ ys)
@@ -84,9 +89,11 @@ joined_runs_are_run from mid to xs ys from_le_mid mid_le_to xs_are_run ys_are_ru
       joined_is_sorted xs places_lt_mid.1 xs_are_sorted.1,
     )
 
+-- no faults are a run
 run_of_none : (from to : ℕ) → IsRun from to []
 run_of_none from to = record { from_le_places = tt; places_lt_to = tt; are_sorted = tt }
 
+-- one fault is a run
 run_of_one : (from to place : ℕ) (c : Code) → from ≤ place → place < to
     → IsRun from to (fault place c ∷ [])
 run_of_one from to place c from_le_place place_lt_to =
@@ -97,12 +104,14 @@ run_of_one from to place c from_le_place place_lt_to =
           (tt, tt);
     }
 
+-- a fault that there may be is a run
 run_if : (from to place : ℕ) (b : Bool) (c : Code) → from ≤ place → place < to
     → IsRun from to (at place (when b c))
 run_if from to place true c from_le_place place_lt_to =
     run_of_one from to place c from_le_place place_lt_to
 run_if from to place false c from_le_place place_lt_to = run_of_none from to
 
+-- a run from a later place is one from an earlier place
 run_from_lower : (from low to : ℕ) (fs : List Fault) → from ≤ low → IsRun low to fs
     → IsRun from to fs
 run_from_lower from low to fs from_le_low is_run =
@@ -142,6 +151,7 @@ first_sorted_is_least f fs are_sorted = by_fault (least fs) (before_least fs are
 
 -- ---- letters
 
+-- the letters stand one after the other, from a place on and before an end
 abbrev AreRising : ℕ → List Letter → ℕ → Type 0
 AreRising from [] end = from ≤ end
 AreRising from (x ∷ xs) end = (from ≤ x.at) × AreRising (x.at + 1) xs end
@@ -151,6 +161,7 @@ abbrev IsOpenAt : ℕ → List Letter → ℕ → Type 0
 IsOpenAt from [] now = from ≤ now
 IsOpenAt from (x ∷ xs) now = (from ≤ x.at) × (x.at < now)
 
+-- letters that rise from a later place rise from an earlier one
 rising_from_lower : (from to end : ℕ) (xs : List Letter) → from ≤ to → AreRising to xs end
     → AreRising from xs end
 rising_from_lower from to end [] from_le_to are_rising = omega (arith, from_le_to, are_rising)
@@ -160,6 +171,7 @@ rising_from_lower from to end (x ∷ xs) from_le_to are_rising = (
   are_rising.1,
 )
 
+-- the letters of a word rise
 word_letters_rise : (place end : ℕ) (w : Bytes) (rest : List Letter)
     → AreRising (place + length w) rest end
     → AreRising place (letters_from place w ++ rest) end
@@ -172,6 +184,7 @@ word_letters_rise place end (b ∷ bs) rest rest_rises = (
       (omega arith) rest_rises),
 )
 
+-- the letters of words in order rise
 letters_rise : (from end : ℕ) (ts : List Token) → AreInOrder from ts end
     → AreRising from (letters_of ts) end
 letters_rise from end [] in_order = in_order
@@ -180,6 +193,7 @@ letters_rise from end (t ∷ ts) in_order =
     (word_letters_rise t.at end t.word (letters_of ts)
     (letters_rise (t.at + length t.word) end ts in_order.2))
 
+-- the faults of a mark are a run
 mark_faults_are_run : (from place : ℕ) (a b : Bool) → from ≤ place
     → IsRun from (place + 1) (at place (when a OpenNumber ++ when b MarkBeforeStep))
 mark_faults_are_run from place true true from_le_place = record {
@@ -200,6 +214,7 @@ mark_faults_are_run from place false b from_le_place =
     run_if from (place + 1) place b MarkBeforeStep from_le_place (omega arith)
 
 module _ (labels end : ℕ) where
+  -- the faults of a number are a run
   group_faults_are_run : (from now place byte : ℕ) (early : List Letter) (marks count : ℕ)
       → IsOpenAt from early now → now ≤ place
       → IsRun from (place + 1)
@@ -259,12 +274,14 @@ module _ (labels end : ℕ) where
       group_faults labels marks count (groups early xs).0
       ++ at end (when (nat_lt 0 (length (groups early xs).1)) OpenNumber)
 
+  -- the place where an open number stands isn't past the end
   from_le_end : (from now : ℕ) (early : List Letter) → IsOpenAt from early now → now ≤ end
       → from ≤ end
   from_le_end from now [] is_open now_le_end = omega (arith, is_open, now_le_end)
   from_le_end from now (x ∷ xs) is_open now_le_end = let from_le_first = is_open.0 in
       let first_lt_now = is_open.1 in omega (arith, from_le_first, first_lt_now, now_le_end)
 
+  -- letters that rise from a place begin no later than the end
   rising_from_le_end : (from : ℕ) (xs : List Letter) → AreRising from xs end → from ≤ end
   rising_from_le_end from [] are_rising = are_rising
   rising_from_le_end from (x ∷ xs) are_rising =
@@ -272,6 +289,7 @@ module _ (labels end : ℕ) where
       let next_le_end = rising_from_le_end (x.at + 1) xs are_rising.1 in
       omega (arith, from_le_first, next_le_end)
 
+  -- the faults of the letters that are left are a run
   remaining_faults_are_run : (xs early : List Letter) (from now marks count : ℕ)
       → IsOpenAt from early now
       → AreRising now xs end → IsRun from (end + 1) (remaining_faults early marks count xs)
@@ -377,6 +395,7 @@ module _ (labels end : ℕ) where
       by_mark true run_after_early run_after_group = run_after_early
       by_mark false run_after_early run_after_group = run_after_group
 
+  -- the faults of all letters are a run
   letter_faults_are_run : (from : ℕ) (xs : List Letter) → AreRising from xs end
       → IsRun from (end + 1) (letter_faults labels end xs)
   letter_faults_are_run from [] are_rising =
@@ -386,6 +405,7 @@ module _ (labels end : ℕ) where
 
 -- ---- brackets
 
+-- the faults of a label are a run
 label_faults_are_run : (db : List Statement) (k : ℕ) (t : Token)
     → IsRun t.at (t.at + 1) (proof_label_faults db k t)
 label_faults_are_run db k t = by_usability (usable db k t.word)
@@ -395,6 +415,7 @@ label_faults_are_run db k t = by_usability (usable db k t.word)
     by_usability [] = run_of_one t.at (t.at + 1) t.at UnusableLabel (omega arith) (omega arith)
     by_usability (j ∷ js) = run_of_none t.at (t.at + 1)
 
+-- words in order begin no later than they end
 in_order_from_le_end : (from end : ℕ) (ts : List Token) → AreInOrder from ts end → from ≤ end
 in_order_from_le_end from end [] in_order = in_order
 in_order_from_le_end from end (t ∷ ts) in_order =
@@ -403,12 +424,14 @@ in_order_from_le_end from end (t ∷ ts) in_order =
     omega (arith, from_le_place, next_le_end)
 
 module _ (db : List Statement) (k end : ℕ) where
+  -- the faults of a compressed proof
   abbrev faults_of : ℕ → Compressed → List Fault
   faults_of n p =
       flat_map (proof_label_faults db k) p.labels
       ++ elim p.letters
       [ None ↦ fault end OpenBrackets ∷ [] | Some us ↦ letter_faults n end (letters_of us) ]
 
+  -- the faults of the labels in brackets and of the letters are a run
   bracket_faults_are_run : (n from : ℕ) (ts : List Token) → AreInOrder from ts end
       → IsRun from (end + 1) (faults_of n (bracketed ts))
   bracket_faults_are_run n from [] in_order =

@@ -28,6 +28,7 @@ pub record IsProvable (db : List Statement) (k : ℕ) (ps : List Token) : Type 0
   pub dot : ℕ
   pub statement_is : slice_get db k ≡ Some (provable label keyword symbols equals ps dot)
 
+-- a theorem whose proof is read is a `$p` statement with this label and these words
 pub theorem_is_provable : (db : List Statement) (k : ℕ) (ps : List Token)
     → is_theorem_at db k ≡ true
     → option_map proof_of (slice_get db k) ≡ Some ps → IsProvable db k ps
@@ -114,6 +115,7 @@ steps_at_is_steps db k ps is_provable =
     ap (λ o. elim o [ Some (provable l p xs a qs d) ↦ steps db k qs | _ ↦ [] ])
     is_provable.statement_is
 
+-- the steps of a theorem with a compressed proof
 pub compressed_steps_at : (db : List Statement) (k : ℕ) (ps : List Token)
     (is_provable : IsProvable db k ps)
     → (first : Token) (rest : List Token)
@@ -126,6 +128,7 @@ compressed_steps_at db k ps is_provable first rest ps_are_first_and_rest first_o
       | false ↦ normal_steps db k (first ∷ rest)
     ]) first_opens
 
+-- the steps of a theorem with a normal proof
 pub normal_steps_at : (db : List Statement) (k : ℕ) (ps : List Token)
     (is_provable : IsProvable db k ps)
     → (first : Token) (rest : List Token)
@@ -139,6 +142,7 @@ normal_steps_at db k ps is_provable first rest ps_are_first_and_rest first_opens
     ]) first_opens_not
     ∙ ap (normal_steps db k) (sym ps_are_first_and_rest)
 
+-- a proof without words has no tokens
 pub no_words : (text : List ℕ) (ws : List Word) → length ws ≡ 0 → as_tokens text ws ≡ []
 no_words text [] no_length = refl
 no_words text (w ∷ ws) no_length = absurd (omega (arith, no_length))

@@ -63,6 +63,7 @@ words_follow text (w ∷ ws) are_words words_ascend =
         )
         (following_words_follow vs (All-tail (λ (v : Word). w.end ≤ v.start) v vs j_lt_0))
 
+-- what holds of all pairs of a list holds of those of its front part
 pairs_of_front : {X : Type 0} (R : X → X → Type 0) (xs ys : List X) → AllPairs R (xs ++ ys)
     → AllPairs R xs
 pairs_of_front R xs ys pairs_are_related = λ i j d i_lt_j j_lt_length.
@@ -76,12 +77,14 @@ pub record StandsIn (xs ys : List Token) : Type 0 where
   pub tokens_after : List Token
   pub splits : ys ≡ tokens_before ++ (xs ++ tokens_after)
 
+-- what follows in a list also follows in a part of it
 pairs_of_inner : (xs ys : List Token) → StandsIn xs ys → AllPairs Follows ys → AllPairs Follows xs
 pairs_of_inner xs ys stands_in ys_follow =
     pairs_of_front Follows xs stands_in.tokens_after
     (pairs_of_back Follows stands_in.tokens_before (xs ++ stands_in.tokens_after)
     (subst (AllPairs Follows) stands_in.splits ys_follow))
 
+-- the tokens of a statement stand in those of the database
 statement_stands_in : (db : List Statement) (k : ℕ) (s : Statement) → slice_get db k ≡ Some s
     → StandsIn (spelling_of s) (flat_map spelling_of db)
 statement_stands_in [] zero s s_is_statement_k = absurd (cc)
@@ -103,6 +106,7 @@ statement_stands_in (x ∷ db) (suc k) s s_is_statement_k =
           (spelling_of s ++ stands_in_rest.tokens_after));
     }
 
+-- a statement keeps its number if statements are added at the end
 slice_get_of_longer : (db rest : List Statement) (k : ℕ) (s : Statement) → slice_get db k ≡ Some s
     → slice_get (db ++ rest) k ≡ Some s
 slice_get_of_longer [] rest zero s s_is_statement_k = absurd (cc)
@@ -167,6 +171,7 @@ statement_as_read db with_open counted_statements counted_are k l p xs e ps d s_
     theorem_read with_open db k l p xs e ps d
     (subst (λ c. slice_get c k ≡ Some (provable l p xs e ps d)) counted_are s_is_counted_theorem)
 
+-- each word of a proof stands after the one before it
 pub proof_words_rise : (text : List ℕ) (db : List Statement) (with_open : Bool)
     (fault : Option Fault)
     → IsRead (length text) (lexed_of text) db fault → (counted_statements : List Statement)
@@ -184,6 +189,7 @@ proof_words_rise text db with_open fault is_read counted_statements counted_are 
     let word_end_le_next = words_follow_each_other.1 in
     omega (arith, word_has_bytes, word_end_le_next)
 
+-- tokens that follow each other are in order
 following_are_in_order : (from : ℕ) (ts : List Token) (d : Token) → AllPairs Follows (ts ++ d ∷ [])
     → All (λ t. from ≤ t.at) (ts ++ d ∷ []) → AreInOrder from ts d.at
 following_are_in_order from [] d tokens_follow from_le_places =
@@ -202,6 +208,7 @@ following_are_in_order from (t ∷ ts) d tokens_follow from_le_places =
     first_follows [] all_follow = All-head (Follows t) d [] all_follow
     first_follows (u ∷ us) all_follow = All-head (Follows t) u (us ++ d ∷ []) all_follow
 
+-- the words of a proof are in order
 pub proof_words_are_in_order : (text : List ℕ) (db : List Statement) (with_open : Bool)
     (fault : Option Fault)
     → IsRead (length text) (lexed_of text) db fault → (counted_statements : List Statement)

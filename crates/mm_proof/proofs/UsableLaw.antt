@@ -12,23 +12,28 @@ use Rattle.mm_spec.proofs.BoolLaw.{passes_alone}
 use Rattle.mm_spec.proofs.RisingLaw.{filter_is}
 
 module _ (db : List Statement) (k : ℕ) (w : Bytes) where
+  -- whether a statement has the label
   abbrev labelled : ℕ → Bool
   labelled j = list_any (is_labelled w) (statement_at db j)
 
+  -- whether a statement has the label and may be used
   abbrev passes : ℕ → Bool
   passes j = is_active db j k && labelled j
 
+  -- if no statement has the label and may be used, the label isn't usable
   none_passes : ((j : ℕ) → passes j ≡ false) → usable db k w ≡ []
   none_passes all_fail =
       filter_is passes k 0 [] tt
       (λ j is_member_of_none. absurd (true≢false (sym is_member_of_none)))
       (λ j i_ge_0 i_lt_k. all_fail j)
 
+  -- a label that no statement has isn't usable
   pub undeclared_is_unusable : ((j : ℕ) → labelled j ≡ false) → usable db k w ≡ []
   undeclared_is_unusable none_is_labelled =
       none_passes (λ j. ap (λ b. is_active db j k && b) (none_is_labelled j)
       ∙ and-false (is_active db j k))
 
+  -- a label of a statement that isn't active isn't usable
   pub inactive_is_unusable : (j : ℕ) → ((i : ℕ) → labelled i ≡ true → i ≡ j)
       → is_active db j k ≡ false
       → usable db k w ≡ []
@@ -42,6 +47,7 @@ module _ (db : List Statement) (k : ℕ) (w : Bytes) where
       by_label i false label_of_i_is_b = ap (λ b. is_active db i k && b) label_of_i_is_b
           ∙ and-false (is_active db i k)
 
+  -- a label of an active statement is usable
   pub active_is_usable : (j : ℕ) → ((i : ℕ) → labelled i ≡ true → i ≡ j) → labelled j ≡ true
       → is_active db j k ≡ true → usable db k w ≡ j ∷ []
   active_is_usable j only_j_is_labelled j_is_labelled active_at_k =

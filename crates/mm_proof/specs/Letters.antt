@@ -27,6 +27,7 @@ pub record LettersState : Type 0 where
   pub number : Option BegunNumber
   pub steps : List PlacedStep
 
+-- a state with these parts
 abbrev pub letters_state : ℕ → List ℕ → List ℕ → Option BegunNumber → List PlacedStep → LettersState
 letters_state t labels marks number steps =
     record { theorem = t; labels = labels; marks = marks; number = number; steps = steps }
@@ -35,6 +36,7 @@ letters_state t labels marks number steps =
 abbrev pub with_number : LettersState → Option BegunNumber → LettersState
 with_number s number = letters_state s.theorem s.labels s.marks number s.steps
 
+-- a byte at a place
 abbrev pub letter : ℕ → ℕ → Letter
 letter at byte = record { at = at; byte = byte }
 

@@ -48,11 +48,13 @@ module _ (db : List Statement) (only : Option Bytes) (cited : List ℕ) where
       ∙ filter_snoc is_listed (take i cited) (get_or cited i 0)
       ∙ ap (λ c. listed_before i ++ cond c (get_or cited i 0 ∷ []) []) is_listed_is_b
 
+  -- a statement that is listed is added
   pub listed_before_with_listed : (i : ℕ) → i < length cited → is_listed (get_or cited i 0) ≡ true
       → listed_before (i + 1) ≡ listed_before i ++ get_or cited i 0 ∷ []
   listed_before_with_listed i i_lt_length i_is_listed =
       listed_before_push i i_lt_length true i_is_listed
 
+  -- a statement that isn't listed adds nothing
   pub listed_before_unchanged : (i : ℕ) → i < length cited → is_listed (get_or cited i 0) ≡ false
       → listed_before (i + 1) ≡ listed_before i
   listed_before_unchanged i i_lt_length i_is_not_listed =
@@ -66,6 +68,7 @@ module _ (db : List Statement) (only : Option Bytes) (cited : List ℕ) where
       ∙ length-append (listed_before i)
       (get_or cited i 0 ∷ [])
 
+  -- a statement that isn't listed doesn't count
   pub listed_count_unchanged : (i : ℕ) → i < length cited → is_listed (get_or cited i 0) ≡ false
       → length (listed_before (i + 1)) ≡ length (listed_before i)
   listed_count_unchanged i i_lt_length i_is_not_listed =

@@ -67,23 +67,24 @@ module _ (db : List Statement) where
   placed_with_floating : (n : ℕ) (t : List ℕ) (h : Formula) (hs : List Formula) (y : ℕ)
       → y < length t
       → ((x : ℕ) → binds (context_at db 0) x h ≡ nat_eq x y) → PlacedFrom (suc n) hs t
-      → PlacedFrom n (j_gt_0 ∷ hs) (slice_set t y n)
-  placed_with_floating n t j_gt_0 hs y y_lt_length h_binds_y placed_rest x x_is_bound =
-      by_binding (binds (context_at db 0) x j_gt_0) (h_binds_y x) x_is_bound
+      → PlacedFrom n (h ∷ hs) (slice_set t y n)
+  placed_with_floating n t h hs y y_lt_length h_binds_y placed_rest x x_is_bound =
+      by_binding (binds (context_at db 0) x h) (h_binds_y x) x_is_bound
     where
       by_binding : (v : Bool) → v ≡ nat_eq x y → (v || list_any (binds (context_at db 0) x) hs)
           ≡ true
           → get_or (slice_set t y n) x 0 ≡ n + cond v 0 (suc (floating_index db hs x))
       by_binding true binds_is_equality x_is_bound =
-          let z : n ≡ n + 0 = omega arith in
+          let n_is_n_plus_0 : n ≡ n + 0 = omega arith in
           ap (λ z. get_or (slice_set t y n) z 0) (eqb-true x y (sym binds_is_equality))
-          ∙ get_or-set_same t y n 0 y_lt_length ∙ z
+          ∙ get_or-set_same t y n 0 y_lt_length ∙ n_is_n_plus_0
       by_binding false binds_is_equality x_is_bound =
           let x_not_y : x ≢ y =
           λ x_is_y. true≢false (sym (eq-eqb x y x_is_y) ∙ sym binds_is_equality) in
           let x_is_placed = placed_rest x x_is_bound in
-          let z : get_or t x 0 ≡ n + suc (floating_index db hs x) = omega (arith, x_is_placed) in
-          get_or-set_other t y x n 0 x_not_y ∙ z
+          let x_is_after_n : get_or t x 0 ≡ n + suc (floating_index db hs x) =
+          omega (arith, x_is_placed) in
+          get_or-set_other t y x n 0 x_not_y ∙ x_is_after_n
 
   module _ (hyps : List ℕ) where
     abbrev pub hs : ℕ → List Formula
