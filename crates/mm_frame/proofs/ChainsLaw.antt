@@ -69,6 +69,7 @@ rising_from_next links n k (j ∷ js) is_chain is_rising first_ne_k =
     by_equality (inl j_is_k) = absurd (first_ne_k is_chain.0 (is_chain.2 ∙ j_is_k))
     by_equality (inr j_ne_k) = let k_le_j = is_rising.0 in omega (arith, k_le_j, j_ne_k)
 
+-- what rises from a bound also rises from a lower one
 rising_from_lower : (a b : ℕ) (js : List ℕ) → a ≤ b → IsRisingFrom b js → IsRisingFrom a js
 rising_from_lower a b [] a_le_b is_rising = tt
 rising_from_lower a b (j ∷ js) a_le_b is_rising = (
@@ -280,6 +281,7 @@ test_with_next_symbol passes xs i d s k i_lt_length_xs s_is_element_i x j =
 
 -- ---- the statements, from the last to the first
 
+-- past the last statement no symbol has a chain
 pub no_chains_at_start : (db : List Statement) (heads : List ℕ)
     → ((x : ℕ) → x < length heads → get_or heads x 0 ≡ 0)
     → AreChains (λ x j. nat_le (length db) j && has_symbol db x j) (length db) heads []
@@ -301,6 +303,7 @@ no_chains_at_start db heads heads_are_0 x x_lt_length = record {
         (is_member (formula_at db j) x) has_symbol_x_j).0 in
         absurd (true≢false (sym length_le_j_is_a ∙ lt-leb (length db) j j_lt_length))
 
+-- without links each symbol is linked to none
 pub no_links_are_linked : (heads : List ℕ) → ((x : ℕ) → x < length heads → get_or heads x 0 ≡ 0)
     → AreLinked heads []
 no_links_are_linked heads heads_are_0 = record {
@@ -309,6 +312,7 @@ no_links_are_linked heads heads_are_0 = record {
   next_le_index = λ i index_lt_length. absurd (omega (arith, index_lt_length));
 }
 
+-- to be at least `k` is to be more than `k` or equal to it
 le_is_le_next_or_equal : (k j : ℕ) → nat_le k j ≡ (nat_le (k + 1) j || nat_eq j k)
 le_is_le_next_or_equal k j = by_order (cases_order j k)
   where
@@ -325,6 +329,7 @@ le_is_le_next_or_equal k j = by_order (cases_order j k)
         ∙ sym (ap (λ b. b || nat_eq j k) (le-leb (k + 1) j (omega (arith, j_order))))
 
 module _ (db : List Statement) (k : ℕ) (x j : ℕ) where
+  -- the statements from `k` on are statement `k`, if it is a `$d`, and those after it
   at_k_or_later : (d : Bool) → list_any is_disjoint_statement (statement_at db k) ≡ d
       → ((nat_le (k + 1) j && has_symbol db x j)
       || ((d && is_member (formula_at db k) x) && nat_eq j k))
@@ -354,6 +359,7 @@ module _ (db : List Statement) (k : ℕ) (x j : ℕ) where
           ∙ sym (ap (λ b. (nat_le (k + 1) j || b) && has_symbol db x j) (ne_eqb j k j_ne_k)
           ∙ ap (λ b. b && has_symbol db x j) (or-false (nat_le (k + 1) j)))
 
+  -- a `$d` statement with the symbol is the first of its chain
   pub has_symbol_with_disjoint : (least : ℕ) (xs : List ℕ) → least ≡ k + 1 → xs ≡ formula_at db k
       → list_any is_disjoint_statement (statement_at db k) ≡ true
       → ((nat_le least j && has_symbol db x j) || (is_member xs x && nat_eq j k))
@@ -363,6 +369,7 @@ module _ (db : List Statement) (k : ℕ) (x j : ℕ) where
       least_is_next_k xs_are_formula
       ∙ at_k_or_later true k_is_disjoint
 
+  -- a statement that is no `$d` changes no chain
   pub has_symbol_without_disjoint : (least : ℕ) → least ≡ k + 1
       → list_any is_disjoint_statement (statement_at db k) ≡ false
       → (nat_le least j && has_symbol db x j) ≡ (nat_le k j && has_symbol db x j)
@@ -371,6 +378,7 @@ module _ (db : List Statement) (k : ℕ) (x j : ℕ) where
       ∙ sym (or-false (nat_le (k + 1) j && has_symbol db x j))
       ∙ at_k_or_later false k_is_not_disjoint
 
+-- a member of a list is below what all its members are below
 member_lt_bound : (n y : ℕ) (xs : List ℕ) → All (λ s. s < n) xs → is_member xs y ≡ true → y < n
 member_lt_bound n y [] all_lt_n y_is_member = absurd (true≢false (sym y_is_member))
 member_lt_bound n y (x ∷ xs) all_lt_n y_is_member =
@@ -412,6 +420,7 @@ pub record IsRest (links : List (ℕ × ℕ)) (symbol number : ℕ)
 
 module _ (links : List (ℕ × ℕ)) (symbol : ℕ) (earlier_pairs pairs_so_far : List (ℕ × ℕ))
     (all_statements : List ℕ) where
+  -- before the first link the whole chain remains
   pub rest_is_all : (number : ℕ) → IsLinkChain links number all_statements
       → earlier_pairs ≡ pairs_so_far
       → IsRest links symbol number earlier_pairs pairs_so_far all_statements
@@ -423,6 +432,7 @@ module _ (links : List (ℕ × ℕ)) (symbol : ℕ) (earlier_pairs pairs_so_far 
             ap (λ ps. ps ++ map (λ j. (symbol, j)) all_statements) earlier_is_so_far;
       }
 
+  -- after a link the rest of the chain remains
   pub rest_after_link : (number : ℕ) → 0 < number
       → IsRest links symbol number earlier_pairs pairs_so_far all_statements
       → IsRest links symbol (get_or links (number - 1) (0, 0)).1 earlier_pairs
@@ -445,6 +455,7 @@ module _ (links : List (ℕ × ℕ)) (symbol : ℕ) (earlier_pairs pairs_so_far 
             (sym is_chain.2);
       }
 
+  -- if nothing remains of the chain, all its statements were added
   pub no_rest_is_all_added : (number : ℕ) → number ≡ 0
       → IsRest links symbol number earlier_pairs pairs_so_far all_statements
       → pairs_so_far ≡ earlier_pairs ++ map (λ j. (symbol, j)) all_statements
@@ -466,6 +477,7 @@ pub record ArePairsTo (db : List Statement) (x : ℕ) (ps : List (ℕ × ℕ)) :
   pub rising : AreRising ps
   pub members_are : (y j : ℕ) → has_pair ps y j ≡ (nat_lt y x && has_symbol db y j)
 
+-- two rising lists, one after the other, rise if the first ends before the second begins
 rising_append : (ps qs : List (ℕ × ℕ)) → AreRising ps → AreRising qs
     → ((a b x y : ℕ) → has_pair ps a b ≡ true → has_pair qs x y ≡ true → IsBefore a b x y)
     → AreRising (ps ++ qs)
@@ -487,6 +499,7 @@ rising_append (p ∷ ps) qs ps_are_rising qs_are_rising ps_before_qs = (
     by_membership x y (inl in_list) = ps_are_rising.0 x y in_list
     by_membership x y (inr in_list) = ps_before_qs p.0 p.1 x y first_pair_is_in in_list
 
+-- a row has the pairs of its symbol with each statement of the row
 has_pair_in_row : (x : ℕ) (js : List ℕ) (y j : ℕ)
     → has_pair (map (λ i. (x, i)) js) y j ≡ (nat_eq y x && is_member js j)
 has_pair_in_row x [] y j = sym (and-false (nat_eq y x))
@@ -498,6 +511,7 @@ has_pair_in_row x (i ∷ js) y j =
     by_values true b c = refl
     by_values false b c = refl
 
+-- each member is at least what the list rises from
 least_le_member : (least j : ℕ) (js : List ℕ) → IsRisingFrom least js → is_member js j ≡ true
     → least ≤ j
 least_le_member least j [] is_rising j_is_member = absurd (true≢false (sym j_is_member))
@@ -514,6 +528,7 @@ least_le_member least j (i ∷ js) is_rising j_is_member =
     by_membership (inr is_member_here) rest_le = let least_le_i = is_rising.0 in
         let next_le_j = rest_le is_member_here in omega (arith, least_le_i, next_le_j)
 
+-- the pairs of a symbol with rising statements rise
 rising_row : (x least : ℕ) (js : List ℕ) → IsRisingFrom least js
     → AreRising (map (λ j. (x, j)) js)
 rising_row x least [] is_rising = tt
@@ -525,6 +540,7 @@ rising_row x least (i ∷ js) is_rising = (
   rising_row x (i + 1) js is_rising.1,
 )
 
+-- to be below `x + 1` is to be below `x` or equal to it
 lt_next_is_lt_or_equal : (y x : ℕ) → nat_lt y (x + 1) ≡ (nat_lt y x || nat_eq y x)
 lt_next_is_lt_or_equal y x = by_order (cases_order y x)
   where
@@ -540,6 +556,7 @@ lt_next_is_lt_or_equal y x = by_order (cases_order y x)
         ∙ sym (ap₂ (λ a b. a || b) (le-ltb y x (omega (arith, y_order)))
         (ne_eqb y x (λ y_is_x. absurd (omega (arith, y_order, y_is_x)))))
 
+-- the pairs of the symbols so far, with those of one symbol more
 pub pairs_with_symbol : (db : List Statement) (x n : ℕ) (links ps qs : List (ℕ × ℕ))
     (chain : HasChain (has_symbol db x) 0 links n) → ArePairsTo db x ps
     → qs ≡ ps ++ map (λ j. (x, j)) chain.statements → ArePairsTo db (x + 1) qs

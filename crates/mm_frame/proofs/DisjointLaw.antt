@@ -27,6 +27,7 @@ use Rattle.mm_frame.proofs.PairsLaw.{sorted_with_same_members_equal, has_filtere
 use Rattle.mm_frame.proofs.PairsLaw.{has_pair_in_rows}
 use Rattle.mm_frame.proofs.PairsLaw.{filtered_are_sorted, all_pairs_are_sorted}
 
+-- if some pair passes a test, there is a place where it does
 place_where_test_holds : (f : ℕ × ℕ → Bool) (ps : List (ℕ × ℕ)) → list_any f ps ≡ true
     → (p : ℕ) × (p < length ps) × (f (get_or ps p (0, 0)) ≡ true)
 place_where_test_holds f [] some_passes = absurd (true≢false (sym some_passes))
@@ -63,12 +64,15 @@ pub record AddsLater (by_statement : List (ℕ × ℕ)) (place at : ℕ)
 
 module _ (by_statement : List (ℕ × ℕ)) (rising : AreRising by_statement) (place : ℕ)
     (place_lt_length : place < length by_statement) where
+  -- the statement at the place
   abbrev j : ℕ
   j = (get_or by_statement place (0, 0)).0
 
+  -- the lower symbol at the place
   abbrev low : ℕ
   low = (get_or by_statement place (0, 0)).1
 
+  -- right after the place no later pair was added yet
   pub adds_later_at_start : (earlier_pairs : List (ℕ × ℕ))
       → AddsLater by_statement place (place + 1) earlier_pairs earlier_pairs
   adds_later_at_start earlier_pairs =
@@ -82,6 +86,7 @@ module _ (by_statement : List (ℕ × ℕ)) (rising : AreRising by_statement) (p
             λ p place_lt_p p_lt_next. absurd (omega (arith, place_lt_p, p_lt_next));
       }
 
+  -- a later pair of the same statement is added
   pub adds_later_with_pair : (at : ℕ) (earlier_pairs pairs_so_far : List (ℕ × ℕ))
       → AddsLater by_statement place at earlier_pairs pairs_so_far
       → at < length by_statement → (get_or by_statement at (0, 0)).0 ≡ j
@@ -168,6 +173,7 @@ module _ (by_statement : List (ℕ × ℕ)) (rising : AreRising by_statement) (p
           has_pair_still low (get_or by_statement p (0, 0)).1
           (adds.later_pairs_are_added p place_lt_p (omega (arith, p_lt_next_at, p_ne_at)))
 
+  -- where the statement ends, all its later pairs were added
   pub adds_later_at_end : (at : ℕ) (earlier_pairs pairs_so_far : List (ℕ × ℕ))
       → AddsLater by_statement place at earlier_pairs pairs_so_far
       → (at < length by_statement → (get_or by_statement at (0, 0)).0 ≢ j)
@@ -253,9 +259,10 @@ module _ (by_statement : List (ℕ × ℕ)) (rising : AreRising by_statement) (p
                   omega (arith, statements_equal, statement_lt, statement_is_j)
 
               not_at_or_later : (at ≡ p) ⊎ (at ≢ p) → ⊥
-              not_at_or_later (inl statements_equal) = let t =
-                  ap (λ i. (get_or by_statement i (0, 0)).0) statements_equal in omega
-                  (arith, t, statement_lt, statement_is_j)
+              not_at_or_later (inl at_is_p) =
+                  let statements_equal =
+                  ap (λ i. (get_or by_statement i (0, 0)).0) at_is_p in
+                  omega (arith, statements_equal, statement_lt, statement_is_j)
               not_at_or_later (inr at_ne_p) =
                   p_not_before (earlier_is_before by_statement rising at p (0, 0)
                   (omega (arith, at_le_p, at_ne_p))
@@ -291,6 +298,7 @@ module _ (by_statement : List (ℕ × ℕ)) (rising : AreRising by_statement) (p
 
 -- ---- one symbol more
 
+-- a condition on a list of symbols, with one symbol more
 pub or_with_next_symbol : (o m q r l : Bool) (y s : ℕ) → (y ≡ s → q ≡ r)
     → ((o || (m && (r && l))) || (nat_eq y s && (q && l))) ≡ (o || ((m || nat_eq y s) && (r && l)))
 or_with_next_symbol true m q r l y s q_is_r = refl
@@ -455,6 +463,7 @@ module _ (db : List Statement) (b : BlockLists) (blocks : IsBlocks db b) (k : �
         (ap₂ (λ a b. a && b) (ap (λ i. has_pair by_statement i y) place_of_x.2
         ∙ j_has_y) x_lt_y_test))
 
+    -- rising pairs with the same members are the mandatory pairs of the frame
     pub pairs_are_mandatory_pairs : (qs : List (ℕ × ℕ)) → AreRising qs
         → ((x y : ℕ) → has_pair qs x y ≡ together x y)
         → map (λ p. pair p.0 p.1) qs ≡ mandatory_pairs db k

@@ -44,26 +44,30 @@ word_at_index_of w (v ∷ vs) index_lt_length =
         ap Some (sym ((bytes_eq-Decides w v).0 w_eq_v))
     by_equality false w_eq_v index_lt_length in_rest = in_rest (omega arith)
 
+-- the statement as a list, which is empty if there is none
 abbrev pub as_list : Option Statement → List Statement
 as_list o = elim o [ None ↦ [] | Some s ↦ s ∷ [] ]
 
+-- the variable to which a statement gives a type, if there is a statement
 abbrev typed_variable_of : List Statement → Option Statement → Option ℕ
 typed_variable_of db o =
     if list_any is_floating (elim o [ None ↦ [] | Some s ↦ s ∷ [] ]) then slice_get
     (flat_map (formula_of db) (elim o [ None ↦ [] | Some s ↦ s ∷ [] ])) 1 else None
 
+-- statement `k` is a `$f` of variable `v`
 pub record IsFloat (db : List Statement) (k v : ℕ) : Type 0 where
   pub label : Token
   pub keyword : ℕ
   pub typecode : Token
   pub variable : Token
   pub dot : ℕ
-  pub is : slice_get db k ≡ Some (floating label keyword (typecode ∷ variable ∷ []) dot)
-  pub number : index_of variable.word (symbol_names db) ≡ v
-  pub untyped : is_typed (names_before db k) variable.word ≡ false
-  pub constant : is_in typecode.word (flat_map constants_of (take k db)) ≡ true
+  pub statement_is : slice_get db k ≡ Some (floating label keyword (typecode ∷ variable ∷ []) dot)
+  pub number_is_v : index_of variable.word (symbol_names db) ≡ v
+  pub variable_is_untyped : is_typed (names_before db k) variable.word ≡ false
+  pub typecode_is_declared : is_in typecode.word (flat_map constants_of (take k db)) ≡ true
 
 module _ (db : List Statement) (is_sound : IsSound db) where
+  -- a statement of a lawful database has no fault
   lawful_has_no_faults : (k : ℕ) → k < length db → (s : Statement) → slice_get db k ≡ Some s
       → scope_faults (names_before db k) (depth db k) s ≡ []
   lawful_has_no_faults k k_lt_length s s_is_statement_k =
@@ -74,6 +78,7 @@ module _ (db : List Statement) (is_sound : IsSound db) where
       s_is_statement_k)
       ∙ is_sound.lawful k k_lt_length)
 
+  -- the typecode of a lawful `$f` is a constant
   typecode_is_constant : (n : Names) (keyword : ℕ) (c v : Token)
       → floating_faults n keyword (c ∷ v ∷ []) ≡ [] → is_in c.word n.constants ≡ true
   typecode_is_constant n keyword c v no_fault =
@@ -145,12 +150,13 @@ module _ (db : List Statement) (is_sound : IsSound db) where
         typecode = c;
         variable = x;
         dot = d;
-        is = statement_k_is_o;
-        number = same_Some _ _ second_symbol_is_v;
-        untyped = (floating_new (names_before db k) a c x no_typing_fault).1;
-        constant = typecode_is_constant (names_before db k) a c x no_typing_fault;
+        statement_is = statement_k_is_o;
+        number_is_v = same_Some _ _ second_symbol_is_v;
+        variable_is_untyped = (floating_new (names_before db k) a c x no_typing_fault).1;
+        typecode_is_declared = typecode_is_constant (names_before db k) a c x no_typing_fault;
       }
 
+  -- a statement that gives a variable a type is its `$f`
   pub typed_is_float : (k v : ℕ) → k < length db → typed_variable_at db k ≡ Some v → IsFloat db k v
   typed_is_float k v k_lt_length_db typed_variable_is_v =
       by_statement (slice_get db k) refl typed_variable_is_v
@@ -218,67 +224,75 @@ module _ (db : List Statement) (is_sound : IsSound db) where
           let typed_variable_is_v = ap (typed_variable_of db) statement_k_is_o in
           (v, typed_variable_is_v, typed_is_float k v k_lt_length_db typed_variable_is_v)
 
-  module _ (k v : ℕ) (h : k < length db) (f : IsFloat db k v) where
+  module _ (k v : ℕ) (k_lt_length : k < length db) (float : IsFloat db k v) where
+    -- the formula of a `$f` is its typecode and its variable
     pub formula_is_typecode_and_variable : formula_at db k
-        ≡ index_of f.typecode.word (symbol_names db) ∷ v ∷ []
+        ≡ index_of float.typecode.word (symbol_names db) ∷ v ∷ []
     formula_is_typecode_and_variable =
-        ap (λ o. flat_map (formula_of db) (as_list o)) f.is
-        ∙ ap (λ x. index_of f.typecode.word (symbol_names db) ∷ x ∷ []) f.number
+        ap (λ o. flat_map (formula_of db) (as_list o)) float.statement_is
+        ∙ ap (λ x. index_of float.typecode.word (symbol_names db) ∷ x ∷ []) float.number_is_v
 
+    -- a `$f` is a floating hypothesis
     pub float_is_floating : list_any is_floating (as_list (slice_get db k)) ≡ true
-    float_is_floating = ap (λ o. list_any is_floating (as_list o)) f.is
+    float_is_floating = ap (λ o. list_any is_floating (as_list o)) float.statement_is
 
-    typecode_lt_symbol_count : index_of f.typecode.word (symbol_names db) < length (symbol_names db)
+    typecode_lt_symbol_count : index_of float.typecode.word (symbol_names db) < length
+        (symbol_names db)
     typecode_lt_symbol_count =
         subst (λ (xs : List ℕ). get_or xs 0 0 < length (symbol_names db))
         formula_is_typecode_and_variable
-        (is_sound.symbols_have_numbers k h 0 0
+        (is_sound.symbols_have_numbers k k_lt_length 0 0
         (subst (λ (xs : List ℕ). 0 < length xs) (sym formula_is_typecode_and_variable)
         (omega arith)))
 
+    -- the variable of a `$f` is one of the symbols
     pub variable_lt_symbol_count : v < length (symbol_names db)
     variable_lt_symbol_count =
         subst (λ (xs : List ℕ). get_or xs 1 0 < length (symbol_names db))
         formula_is_typecode_and_variable
-        (is_sound.symbols_have_numbers k h 1 0
+        (is_sound.symbols_have_numbers k k_lt_length 1 0
         (subst (λ (xs : List ℕ). 1 < length xs) (sym formula_is_typecode_and_variable)
         (omega arith)))
 
     -- the typecode of the `$f` is no variable
-    pub typecode_is_no_variable : is_variable_number db (index_of f.typecode.word (symbol_names db))
+    pub typecode_is_no_variable : is_variable_number db
+        (index_of float.typecode.word (symbol_names db))
         ≡ false
     typecode_is_no_variable =
         ap (λ o. elim o [ None ↦ false | Some w ↦ is_in w (flat_map variables_of db) ])
-        (word_at_index_of f.typecode.word (symbol_names db) typecode_lt_symbol_count)
-        ∙ is_sound.no_constant_is_variable f.typecode.word
-        (sym (ap (λ xs. is_in f.typecode.word (flat_map constants_of xs))
+        (word_at_index_of float.typecode.word (symbol_names db) typecode_lt_symbol_count)
+        ∙ is_sound.no_constant_is_variable float.typecode.word
+        (sym (ap (λ xs. is_in float.typecode.word (flat_map constants_of xs))
         (take-append-drop k db))
-        ∙ ap (is_in f.typecode.word) (flat_map-append constants_of (take k db) (drop k db))
-        ∙ list_any-append (bytes_eq f.typecode.word) (flat_map constants_of (take k db))
+        ∙ ap (is_in float.typecode.word) (flat_map-append constants_of (take k db) (drop k db))
+        ∙ list_any-append (bytes_eq float.typecode.word) (flat_map constants_of (take k db))
         (flat_map constants_of (drop k db))
-        ∙ ap (λ b. b || is_in f.typecode.word (flat_map constants_of (drop k db))) f.constant)
+        ∙ ap (λ b. b || is_in float.typecode.word (flat_map constants_of (drop k db)))
+        float.typecode_is_declared)
 
+    -- a `$f` is active exactly while its block is open
     pub float_active_is_block_open : (l : ℕ) → k < l → is_active db k l ≡ is_block_open db k l
     float_active_is_block_open l k_lt_l =
-        ap₂ (λ t o. t && is_some_still_active o (is_block_open db k l)) (lt-ltb k l k_lt_l) f.is
+        ap₂ (λ t o. t && is_some_still_active o (is_block_open db k l))
+        (lt-ltb k l k_lt_l) float.statement_is
 
   -- a variable has one active `$f`
   pub not_typed_twice : (j k v : ℕ) → j < k → k < length db → IsFloat db j v → IsFloat db k v
       → is_block_open db j k ≡ true → ⊥
   not_typed_twice j k v j_lt_k k_lt_length_db j_is_float k_is_float j_is_open =
       let j_lt_length : j < length db = omega arith in
-      let j_index_lt_count = subst (λ n. n < length (symbol_names db)) (sym j_is_float.number)
+      let j_index_lt_count = subst (λ n. n < length (symbol_names db)) (sym j_is_float.number_is_v)
       (variable_lt_symbol_count j v j_lt_length j_is_float) in
-      let k_index_lt_count = subst (λ n. n < length (symbol_names db)) (sym k_is_float.number)
+      let k_index_lt_count = subst (λ n. n < length (symbol_names db)) (sym k_is_float.number_is_v)
       (variable_lt_symbol_count k v k_lt_length_db k_is_float) in
       let variables_equal =
       same_Some _ _
       (sym (word_at_index_of j_is_float.variable.word (symbol_names db) j_index_lt_count)
-      ∙ ap (slice_get (symbol_names db)) (j_is_float.number ∙ sym k_is_float.number)
+      ∙ ap (slice_get (symbol_names db)) (j_is_float.number_is_v ∙ sym k_is_float.number_is_v)
       ∙ word_at_index_of k_is_float.variable.word (symbol_names db) k_index_lt_count) in
       let w = k_is_float.variable.word in
       let j_types_w =
-      ap (λ o. is_in w (flat_map typed_words (as_list o))) j_is_float.is
+      ap (λ o. is_in w (flat_map typed_words (as_list o))) j_is_float.statement_is
       ∙ ap (λ b. b || false)
       ((bytes_eq-Decides w j_is_float.variable.word).1 (sym variables_equal)) in
       true≢false
@@ -288,4 +302,4 @@ module _ (db : List Statement) (is_sound : IsSound db) where
       (float_active_is_block_open j v j_lt_length j_is_float k j_lt_k
       ∙ j_is_open) j_types_w))
       ∙ sym (among_active db typed_words w (λ j_lt_length. is_active db j_lt_length k) k 0)
-      ∙ sym (typed_in w (active_statements db k)) ∙ k_is_float.untyped)
+      ∙ sym (typed_in w (active_statements db k)) ∙ k_is_float.variable_is_untyped)

@@ -20,6 +20,7 @@ use Rattle.mm_frame.proofs.FloatLaw.{typed_is_float, not_typed_twice, variable_l
 
 -- ---- the types of variables
 
+-- before the first statement no variable has a `$f`
 pub last_floats_at_start : (db : List Statement) (ts : List ℕ) (n : ℕ)
     → n ≡ length (symbol_names db)
     → length ts ≡ n → ((i : ℕ) → i < n → get_or ts i 0 ≡ never) → AreLastFloats db 0 ts
@@ -30,6 +31,7 @@ last_floats_at_start db ts n n_is_symbol_count length_is_n all_are_never = recor
   open_is_last = λ j v v_lt_count. absurd (omega arith);
 }
 
+-- a statement that is no `$f` leaves the last `$f` of each variable
 pub last_floats_without_float : (db : List Statement) (k : ℕ) (ts : List ℕ) → AreLastFloats db k ts
     → typed_variable_at db k ≡ None → AreLastFloats db (k + 1) ts
 last_floats_without_float db k ts last_floats k_has_no_float = record {
@@ -56,6 +58,7 @@ last_floats_without_float db k ts last_floats k_has_no_float = record {
         ∙ ap (typed_variable_at db) j_is_k
         ∙ k_has_no_float in cc)
 
+-- a `$f` becomes the last of its variable
 pub last_floats_with_float : (db : List Statement) → IsSound db → (k v : ℕ) (ts : List ℕ)
     → k < length db
     → AreLastFloats db k ts → typed_variable_at db k ≡ Some v
@@ -126,6 +129,7 @@ frames_with_statement db k old new x old_are_frames new_are_pushed x_is_frame =
     new_are_pushed ∙ ap₂ (λ fs f. fs ++ f ∷ []) old_are_frames x_is_frame
     ∙ sym (map-range_with_len_more (frame_or_none db) 0 k k (omega arith))
 
+-- an assertion has its frame, and another statement none
 pub frame_is_frame_or_none : (db : List Statement) (k : ℕ) (b : Bool)
     → list_any is_assertion (statement_at db k) ≡ b
     → (if b then Some (mandatory_at db k) else None) ≡ frame_or_none db k

@@ -58,6 +58,7 @@ rising_from_increasing (y ∷ ys) a increasing a_le_first = (
         (subst (λ i. get_or (y ∷ ys) i 0 < get_or (y ∷ ys) (k + 1 + 1) 0) one_more_than_k
         second_is_greater_than_y)
 
+-- two filters are one with both tests
 filter_filter : (p q : ℕ → Bool) (xs : List ℕ)
     → filter p (filter q xs) ≡ filter (λ j. q j && p j) xs
 filter_filter p q [] = refl
@@ -78,6 +79,7 @@ filter_filter p q (x ∷ xs) = by_first_test (q x) (filter_filter p q xs)
 module _ (db : List Statement) (k : ℕ) where
   -- ---- variables
 
+  -- the variables that were found are the mandatory variables
   pub found_are_mandatory_variables : (xs : List ℕ)
       → ((i : ℕ) → is_member xs i ≡ is_member (active_of is_essential db k) i) → (x : ℕ)
       → (is_variable_number db x
@@ -94,6 +96,7 @@ module _ (db : List Statement) (k : ℕ) where
       ∙ sym (same_any (λ j. is_member (formula_at db j) x) xs
       (active_of is_essential db k) essentials_are_active))))
 
+  -- an active `$e` stands before the assertion
   pub essential_lt_k : (xs : List ℕ)
       → ((i : ℕ) → is_member xs i ≡ is_member (active_of is_essential db k) i) → (i : ℕ)
       → i < length xs → get_or xs i 0 < k
@@ -104,6 +107,7 @@ module _ (db : List Statement) (k : ℕ) where
       ∙ member_at xs i 0 i_lt_length in
       ltb-true j k (and_parts (nat_lt j k) (is_staying is_essential db j k) j_is_active).0
 
+  -- a variable is one of the symbols
   variable_has_name : (x : ℕ) → is_variable_number db x ≡ true → x < length (symbol_names db)
   variable_has_name x x_is_variable = by_order (cases_lt x (length (symbol_names db)))
     where
@@ -116,6 +120,7 @@ module _ (db : List Statement) (k : ℕ) where
           [ None ↦ false | Some w ↦ is_in w (flat_map variables_of db) ])
           (slice_get_past (symbol_names db) x x_order)))
 
+  -- a mandatory variable is one of the symbols
   pub mandatory_has_name : (x : ℕ) → is_member (mandatory_variables db k) x ≡ true
       → x < length (symbol_names db)
   mandatory_has_name x x_is_mandatory =
@@ -126,6 +131,7 @@ module _ (db : List Statement) (k : ℕ) where
       (formula_at db k ++ flat_map (formula_at db) (active_of is_essential db k)) x)
       ∙ x_is_mandatory)).0
 
+  -- all the variables are symbols
   pub variables_have_names : (xs : List ℕ)
       → ((x : ℕ) → is_member xs x ≡ is_member (mandatory_variables db k) x)
       → All (λ s. s < length (symbol_names db)) xs
@@ -135,6 +141,7 @@ module _ (db : List Statement) (k : ℕ) where
 
   -- ---- hypotheses
 
+  -- whether a statement is a `$e` or a `$f` of a mandatory variable
   abbrev wanted : ℕ → Bool
   wanted j =
       list_any is_essential (statement_at db j)
@@ -154,27 +161,28 @@ module _ (db : List Statement) (k : ℕ) where
           let j_lt_length_db : j < length db = omega arith in
           let floating = floating_is_typed db is_sound j j_lt_length_db j_is_floating in
           let v = floating.0 in
-          let x = floating.2 in
-          let c = index_of x.typecode.word (symbol_names db) in
+          let float = floating.2 in
+          let typecode = index_of float.typecode.word (symbol_names db) in
           let typecode_or_variable =
           sym (ap (list_any (is_member (mandatory_variables db k)))
-          (formula_is_typecode_and_variable db is_sound j v j_lt_length_db x))
+          (formula_is_typecode_and_variable db is_sound j v j_lt_length_db float))
           ∙ j_has_mandatory in
           let typecode_is_not_mandatory =
           member_filter (is_variable_number db)
-          (formula_at db k ++ flat_map (formula_at db) (active_of is_essential db k)) c
+          (formula_at db k ++ flat_map (formula_at db) (active_of is_essential db k)) typecode
           ∙ ap (λ b. b
           && is_member (formula_at db k ++ flat_map (formula_at db) (active_of is_essential db k))
-          c)
-          (typecode_is_no_variable db is_sound j v j_lt_length_db x) in
+          typecode)
+          (typecode_is_no_variable db is_sound j v j_lt_length_db float) in
           let variable_is_mandatory =
           sym (or-false (is_member (mandatory_variables db k) v))
           ∙ sym (ap (λ b. b || (is_member (mandatory_variables db k) v || false))
           typecode_is_not_mandatory) ∙ typecode_or_variable in
-          let j_is_open = sym (float_active_is_block_open db is_sound j v j_lt_length_db x k j_lt_k)
+          let j_is_open = sym
+          (float_active_is_block_open db is_sound j v j_lt_length_db float k j_lt_k)
           ∙ active_at_k in
           let last_is_j = last_floats.open_is_last j v j_lt_k
-          (variable_lt_symbol_count db is_sound j v j_lt_length_db x)
+          (variable_lt_symbol_count db is_sound j v j_lt_length_db float)
           floating.1 j_is_open in
           any_of (is_float_of db k ts j) variables v (variables_are v ∙ variable_is_mandatory)
           (ap₂ (λ p q. p && q) (eq-eqb j (get_or ts v 0) (sym last_is_j))
@@ -192,34 +200,40 @@ module _ (db : List Statement) (k : ℕ) where
       found_is_active_float j j_is_found =
           let witness = any_witness (is_float_of db k ts j) variables j_is_found in
           let v = witness.0 in
-          let t = get_or ts v 0 in
+          let last_float = get_or ts v 0 in
           let j_is_t =
-          eqb-true j t (and_parts (nat_eq j t) (not (nat_eq t never) && is_block_open db t k)
+          eqb-true j last_float
+          (and_parts (nat_eq j last_float)
+          (not (nat_eq last_float never) && is_block_open db last_float k)
           witness.2).0
           in
-          let t_is_open = (and_parts (nat_eq j t) (not (nat_eq t never) && is_block_open db t k)
+          let t_is_open = (and_parts (nat_eq j last_float)
+          (not (nat_eq last_float never) && is_block_open db last_float k)
           witness.2).1
           in
           let v_is_mandatory = sym (variables_are v) ∙ witness.1 in
           let t_types_v =
           last_floats.last_is_typed v (mandatory_has_name v v_is_mandatory)
           (λ t_is_never. true≢false
-          (sym (and_parts (not (nat_eq t never)) (is_block_open db t k) t_is_open).0
-          ∙ ap not (eq-eqb t never t_is_never))) in
+          (sym (and_parts (not (nat_eq last_float never))
+          (is_block_open db last_float k) t_is_open).0
+          ∙ ap not (eq-eqb last_float never t_is_never))) in
           let j_lt_k : j < k = subst (λ i. i < k) (sym j_is_t) t_types_v.0 in
           let j_lt_length_db : j < length db = omega arith in
           let j_types_v : typed_variable_at db j ≡ Some v =
           ap (typed_variable_at db) j_is_t ∙ t_types_v.1 in
-          let x = typed_is_float db is_sound j v j_lt_length_db j_types_v in
-          let c = index_of x.typecode.word (symbol_names db) in (
-            float_active_is_block_open db is_sound j v j_lt_length_db x k j_lt_k
+          let float = typed_is_float db is_sound j v j_lt_length_db j_types_v in
+          let typecode = index_of float.typecode.word (symbol_names db) in (
+            float_active_is_block_open db is_sound j v j_lt_length_db float k j_lt_k
                 ∙ ap (λ i. is_block_open db i k) j_is_t
-                ∙ (and_parts (not (nat_eq t never)) (is_block_open db t k) t_is_open).1,
-            float_is_floating db is_sound j v j_lt_length_db x,
+                ∙ (and_parts (not (nat_eq last_float never))
+                (is_block_open db last_float k) t_is_open).1,
+            float_is_floating db is_sound j v j_lt_length_db float,
             ap (list_any (is_member (mandatory_variables db k)))
-                (formula_is_typecode_and_variable db is_sound j v j_lt_length_db x)
-                ∙ ap (λ b. is_member (mandatory_variables db k) c || (b || false)) v_is_mandatory
-                ∙ or-true (is_member (mandatory_variables db k) c),
+                (formula_is_typecode_and_variable db is_sound j v j_lt_length_db float)
+                ∙ ap (λ b. is_member (mandatory_variables db k) typecode || (b || false))
+                v_is_mandatory
+                ∙ or-true (is_member (mandatory_variables db k) typecode),
             j_lt_k,
           )
 

@@ -25,6 +25,7 @@ abbrev pub height : ℕ → ℕ
 height last = cond (nat_eq last never) 0 (last + 1)
 
 module _ (test : Statement → Bool) (db : List Statement) where
+  -- what stays until `k` stays until an earlier statement
   pub staying_at_earlier : (i j k : ℕ) → i ≤ j → j ≤ k → is_staying test db i k ≡ true
       → is_staying test db i j ≡ true
   staying_at_earlier i j k i_le_j j_le_k i_stays_at_k =
@@ -33,6 +34,7 @@ module _ (test : Statement → Bool) (db : List Statement) where
       (open_at_earlier db i j k i_le_j j_le_k
       (and_parts (list_any test (statement_at db i)) (is_block_open db i k) i_stays_at_k).1)
 
+  -- while a statement stays, an earlier one stays exactly if it stayed before that one
   pub staying_at_nested : (i j k : ℕ) → i < j → j ≤ k → is_staying test db j k ≡ true
       → is_staying test db i k ≡ is_staying test db i j
   staying_at_nested i j k i_lt_j j_le_k j_stays_at_k =
@@ -77,6 +79,7 @@ module _ (test : Statement → Bool) (db : List Statement) where
       by_order i i_lt_k later_than_next (inr (inr last_lt_i)) =
           is_candidate.later_are_not_staying i i_lt_k (inl last_lt_i)
 
+  -- a candidate that still stays is the latest
   pub open_candidate_is_latest : (k last : ℕ) → IsCandidate test db k last
       → (last ≢ never → is_block_open db last k ≡ true) → IsLatest test db k last
   open_candidate_is_latest k last is_candidate last_is_open = record {
@@ -102,6 +105,7 @@ module _ (test : Statement → Bool) (db : List Statement) where
       none_is_later i i_lt_next (inl k_lt_i_or_never) = omega arith
       none_is_later i i_lt_next (inr k_lt_i_or_never) = omega arith
 
+  -- if a statement fails the test, the latest before it is a candidate after it
   pub latest_is_candidate_after_other : (k last : ℕ) → list_any test (statement_at db k) ≡ false
       → IsLatest test db k last → IsCandidate test db (k + 1) last
   latest_is_candidate_after_other k last k_is_other is_latest = record {
@@ -127,6 +131,7 @@ module _ (test : Statement → Bool) (db : List Statement) where
           ap (λ b. b && is_block_open db i (k + 1))
           (ap (λ i. list_any test (statement_at db i)) i_is_k ∙ k_is_other)
 
+  -- before the first statement there is no latest
   pub no_latest_at_start : (last : ℕ) → last ≡ never → IsLatest test db 0 last
   no_latest_at_start last last_is_never =
       record {
@@ -136,6 +141,7 @@ module _ (test : Statement → Bool) (db : List Statement) where
             λ i i_lt_0 later_than_last. absurd (omega arith);
       }
 
+  -- the next on the way is nearer to the start
   pub next_height_lt_height : (k last next : ℕ) → last ≢ never → IsLatest test db last next
       → height next < height last
   next_height_lt_height k last next last_ne_never is_latest = by_presence (cases_eq next never)
@@ -158,12 +164,14 @@ module _ (test : Statement → Bool) (db : List Statement) where
 
   -- the list has only ones that are active at k, and all of these that are after `last`
   pub record IsWalked (k : ℕ) (xs : List ℕ) (last : ℕ) : Type 0 where
+    -- the latest, if there is one, stands before `k` and stays until `k`
     pub last_is_found : last ≢ never → (last < k) × (is_staying test db last k ≡ true)
     pub members_are_staying : (i : ℕ) → is_member xs i ≡ true
         → (i < k) × (is_staying test db i k ≡ true)
     pub staying_are_members : (i : ℕ) → i < k → is_staying test db i k ≡ true
         → (is_member xs i ≡ true) ⊎ ((last ≢ never) × (i ≤ last))
 
+  -- the walk begins at the latest
   pub walked_from_latest : (k last : ℕ) → IsLatest test db k last → IsWalked k [] last
   walked_from_latest k last is_latest = record {
     last_is_found = is_latest.last_is_found;
@@ -185,6 +193,7 @@ module _ (test : Statement → Bool) (db : List Statement) where
       by_presence i i_lt_k i_stays (inr last_is_never_or_not) (inr order_of_last) =
           (last_is_never_or_not, order_of_last)
 
+  -- the walk goes on with the next
   pub walked_with_last : (k : ℕ) (xs : List ℕ) (last next : ℕ) → k ≤ length db
       → IsWalked k xs last → last ≢ never → IsLatest test db last next
       → IsWalked k (xs ++ last ∷ []) next
@@ -250,6 +259,7 @@ module _ (test : Statement → Bool) (db : List Statement) where
               inl (member_push xs last i ∙ ap (λ b. is_member xs i || b) (eq-eqb i last i_is_last)
               ∙ or-true (is_member xs i))
 
+  -- the whole walk has the active statements that pass the test
   pub walked_is_active : IsLocalTest test → (k : ℕ) (xs : List ℕ) (last : ℕ) → IsWalked k xs last
       → last ≡ never → (i : ℕ) → is_member xs i ≡ is_member (active_of test db k) i
   walked_is_active is_local k xs last is_walked last_is_never i =

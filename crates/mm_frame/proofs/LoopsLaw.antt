@@ -10,6 +10,7 @@ use Rattle.mm_database.specs.Pairs.{has_pair}
 use Rattle.mm_frame.proofs.DisjointLaw.{or_with_next_symbol}
 use Rattle.mm_frame.proofs.StampsLaw.{listed_row}
 
+-- disjunctions may be regrouped
 or_assoc : (a b c : Bool) → ((a || b) || c) ≡ (a || (b || c))
 or_assoc true b c = refl
 or_assoc false b c = refl
@@ -54,6 +55,7 @@ listed_with_next_symbol xs i s x o b n v i_lt_length_xs s_is_element b_is_so_far
     (sym (list_any_more (nat_eq x) xs i s i_lt_length_xs
     ∙ ap (λ z. is_member (take i xs) x || nat_eq x z) (sym s_is_element)))
 
+-- no symbols add none
 pub listed_of_no_symbols : (o v : Bool) → o ≡ (o || (v && false))
 listed_of_no_symbols true v = refl
 listed_of_no_symbols false true = refl
@@ -104,6 +106,7 @@ floats_with_open_float hs pushed f j never is_open never_false is_open_true more
     by_values true = refl
     by_values false = refl
 
+-- a `$f` whose block is closed isn't added
 pub floats_without_closed_float : (hs unchanged : List ℕ) (f j : ℕ) (never is_open : Bool)
     → is_open ≡ false → unchanged ≡ hs
     → is_member unchanged j ≡ (is_member hs j || (nat_eq j f && (not never && is_open)))
@@ -117,6 +120,7 @@ floats_without_closed_float hs unchanged f j never is_open is_open_false unchang
     by_values false true false = refl
     by_values false false c = refl
 
+-- a variable without a `$f` adds none
 pub floats_without_float : (hs unchanged : List ℕ) (f j : ℕ) (never is_open : Bool) → never ≡ true
     → unchanged ≡ hs
     → is_member unchanged j ≡ (is_member hs j || (nat_eq j f && (not never && is_open)))

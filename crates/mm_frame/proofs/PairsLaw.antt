@@ -22,18 +22,22 @@ use Rattle.mm_spec.specs.Frame.{pairs_of}
 use Rattle.mm_spec.proofs.BoolLaw.{same_tests}
 use Rattle.mm_database.specs.Pairs.{has_pair, IsBefore, AreRising}
 
+-- a smaller number compares as less
 cmp_less : (a b : ℕ) → a < b → nat_cmp a b ≡ Less
 cmp_less a b a_lt_b = ap (λ t. cond t Less (cond (nat_eq a b) Equal Greater)) (lt-ltb a b a_lt_b)
 
+-- equal numbers compare as equal
 cmp_equal : (a b : ℕ) → a ≡ b → nat_cmp a b ≡ Equal
 cmp_equal a b a_is_b =
     ap₂ (λ t u. cond t Less (cond u Equal Greater)) (le-ltb a b (omega arith)) (eq-eqb a b a_is_b)
 
+-- a greater number compares as greater
 cmp_greater : (a b : ℕ) → b < a → nat_cmp a b ≡ Greater
 cmp_greater a b b_lt_a =
     ap₂ (λ t u. cond t Less (cond u Equal Greater)) (le-ltb a b (omega arith))
     (ne_eqb a b (λ a_is_b. absurd (omega (arith, a_is_b, b_lt_a))))
 
+-- a pair that compares as less is before the other
 less_is_before : (a b c d : ℕ) → ordering_then (nat_cmp a c) (nat_cmp b d) ≡ Less → IsBefore a b c d
 less_is_before a b c d is_less = by_order (cases_order a c) (cases_order b d)
   where
@@ -52,6 +56,7 @@ less_is_before a b c d is_less = by_order (cases_order a c) (cases_order b d)
         sym (ap (λ o. ordering_then o (nat_cmp b d)) (cmp_greater a c is_greater))
         ∙ is_less in cc)
 
+-- numbers are equal exactly if they compare as equal
 eq_is_cmp_equal : (a b : ℕ) → nat_eq a b ≡ is_eq (nat_cmp a b)
 eq_is_cmp_equal a b = by_order (cases_order a b)
   where
@@ -64,12 +69,15 @@ eq_is_cmp_equal a b = by_order (cases_order a b)
         ne_eqb a b (λ a_is_b_here. absurd (omega (arith, a_is_b_here, b_lt_a)))
         ∙ sym (ap is_eq (cmp_greater a b b_lt_a))
 
+-- pairs compare by the first number, then by the second
 abbrev pair_order : ℕ × ℕ → ℕ × ℕ → Ordering
 pair_order x y = ordering_then (nat_cmp x.0 y.0) (nat_cmp x.1 y.1)
 
+-- whether two pairs compare as equal
 abbrev same_pair : ℕ × ℕ → ℕ × ℕ → Bool
 same_pair x y = nat_eq x.0 y.0 && nat_eq x.1 y.1
 
+-- pairs sorted without repetition rise
 pub sorted_is_rising : (ys : List (ℕ × ℕ)) → IsStrictlySortedBy pair_order ys → AreRising ys
 unfolding IsStrictlySortedBy
 sorted_is_rising [] are_sorted = tt
@@ -96,6 +104,7 @@ sorted_is_rising (p ∷ ps) are_sorted = (
             ∙ all_less.0)
         by_head false x_y_is_q has_pair_x_y rest_is_before = rest_is_before has_pair_x_y
 
+-- sorted pairs rise once repetitions are left out
 pub deduped_is_rising : (xs ys : List (ℕ × ℕ)) → IsSorted pair_order xs → ys ≡ dedup same_pair xs
     → AreRising ys
 deduped_is_rising xs ys is_sorted ys_are_deduped =
@@ -106,6 +115,7 @@ deduped_is_rising xs ys is_sorted ys_are_deduped =
     (λ x y. ap₂ (λ a b. a && b) (eq_is_cmp_equal x.0 y.0) (eq_is_cmp_equal x.1 y.1)
     ∙ tied_then (nat_cmp x.0 y.0) (nat_cmp x.1 y.1)) xs is_sorted))
 
+-- what the test finds is in the list
 contains_from_has_pair : (ps : List (ℕ × ℕ)) (x y : ℕ) → has_pair ps x y ≡ true → Contains ps (x, y)
 contains_from_has_pair ps x y has_pair_x_y =
     let witness = Any-from_list_any (λ p. nat_eq x p.0 && nat_eq y p.1) ps has_pair_x_y in
@@ -120,18 +130,21 @@ contains_from_has_pair ps x y has_pair_x_y =
     ap₂ (λ (i j : ℕ). (i, j)) (sym x_is_first) (sym y_is_second) in
     (witness.0, witness.2, subst (λ (z : ℕ × ℕ). get_or ps witness.0 z ≡ z) pair_is_x_y witness.3)
 
+-- the test finds what is in the list
 has_pair_from_contains : (ps : List (ℕ × ℕ)) (x y : ℕ) → Contains ps (x, y) → has_pair ps x y ≡ true
 has_pair_from_contains ps x y contains =
     list_any_at (λ p. nat_eq x p.0 && nat_eq y p.1) ps contains.0 (x, y) contains.1
     (ap₂ (λ a b. a && b) (eq-eqb x (get_or ps contains.0 (x, y)).0 (sym (ap (λ p. p.0) contains.2)))
     (eq-eqb y (get_or ps contains.0 (x, y)).1 (sym (ap (λ p. p.1) contains.2))))
 
+-- pairs that compare as equal are equal
 same_pair_is_equal : (p q : ℕ × ℕ) → same_pair p q ≡ true → p ≡ q
 same_pair_is_equal p q pairs_are_same =
     ap₂ (λ (i j : ℕ). (i, j))
     (eqb-true p.0 q.0 (and_parts (nat_eq p.0 q.0) (nat_eq p.1 q.1) pairs_are_same).0)
     (eqb-true p.1 q.1 (and_parts (nat_eq p.0 q.0) (nat_eq p.1 q.1) pairs_are_same).1)
 
+-- sorting and leaving out repetitions keeps the same pairs
 pub sort_and_dedup_same : (xs ys zs : List (ℕ × ℕ)) → IsPermutation xs ys → zs ≡ dedup same_pair ys
     → (x y : ℕ) → has_pair zs x y ≡ has_pair xs x y
 sort_and_dedup_same xs ys zs is_permutation zs_are_deduped x y =
@@ -151,20 +164,24 @@ sort_and_dedup_same xs ys zs is_permutation zs_are_deduped x y =
 
 -- ---- the pairs of the definitions
 
+-- whether a list has the pair of these symbols
 abbrev pub has_symbol_pair : List Pair → ℕ → ℕ → Bool
 has_symbol_pair ps x y = list_any (λ p. nat_eq x p.low && nat_eq y p.high) ps
 
+-- each pair is before the next
 abbrev pub AreSorted : List Pair → Type 0
 AreSorted [] = Unit {0}
 AreSorted (p ∷ ps) =
     ((x y : ℕ) → has_symbol_pair ps x y ≡ true → IsBefore p.low p.high x y) × AreSorted ps
 
+-- the pairs of symbols are those of the numbers
 pub has_mapped_pair : (ps : List (ℕ × ℕ)) (x y : ℕ)
     → has_symbol_pair (map (λ p. pair p.0 p.1) ps) x y ≡ has_pair ps x y
 has_mapped_pair [] x y = refl
 has_mapped_pair (p ∷ ps) x y =
     ap (λ b. (nat_eq x p.0 && nat_eq y p.1) || b) (has_mapped_pair ps x y)
 
+-- rising pairs of numbers are sorted as pairs of symbols
 pub mapped_are_sorted : (ps : List (ℕ × ℕ)) → AreRising ps → AreSorted (map (λ p. pair p.0 p.1) ps)
 mapped_are_sorted [] are_rising = tt
 mapped_are_sorted (p ∷ ps) are_rising = (
@@ -173,15 +190,18 @@ mapped_are_sorted (p ∷ ps) are_rising = (
   mapped_are_sorted ps are_rising.1,
 )
 
+-- the first pair is in the list
 first_is_in : (p : Pair) (ps : List Pair) → has_symbol_pair (p ∷ ps) p.low p.high ≡ true
 first_is_in p ps =
     ap₂ (λ a b. (a && b) || has_symbol_pair ps p.low p.high) (eq-eqb p.low p.low refl)
     (eq-eqb p.high p.high refl)
 
+-- no pair is before itself
 not_before_itself : (a b : ℕ) → IsBefore a b a b → ⊥
 not_before_itself a b (inl lower) = omega arith
 not_before_itself a b (inr (first_equal, lower)) = omega arith
 
+-- of two pairs only one is before the other
 not_before_each_other : (a b c d : ℕ) → IsBefore a b c d → IsBefore c d a b → ⊥
 not_before_each_other a b c d (inl lower) (inl lower_back) = omega arith
 not_before_each_other a b c d (inl lower) (inr (first_equal, lower_back)) = omega arith
@@ -205,6 +225,7 @@ in_first_or_rest p ps x y in_list = by_head (nat_eq x p.low && nat_eq y p.high) 
         )
     by_head false is_first in_list = inr in_list
 
+-- a pair of the rest is in the list
 in_rest_is_in : (p : Pair) (ps : List Pair) (x y : ℕ) → has_symbol_pair ps x y ≡ true
     → has_symbol_pair (p ∷ ps) x y ≡ true
 in_rest_is_in p ps x y in_rest =
@@ -271,6 +292,7 @@ sorted_with_same_members_equal (p ∷ ps) (q ∷ qs) ps_sorted qs_sorted same_me
             (subst (λ b. IsBefore q.low q.high x b) (where_found.1
             ∙ parts_equal.1) (qs_sorted.0 x y in_tail))))
 
+-- a filtered list has the pairs that pass the test
 pub has_filtered_pair : (t : Pair → Bool) (ps : List Pair) (x y : ℕ)
     → has_symbol_pair (filter t ps) x y ≡ (t (pair x y) && has_symbol_pair ps x y)
 has_filtered_pair t [] x y = sym (and-false (t (pair x y)))
@@ -297,6 +319,7 @@ has_filtered_pair t (p ∷ ps) x y =
         ∙ sym (ap (λ b. b && true) (test_of_equal_pairs s ∙ test_of_p))
     by_test false test_of_p false s rest_has_filtered = rest_has_filtered
 
+-- sorted pairs stay so when filtered
 pub filtered_are_sorted : (t : Pair → Bool) (ps : List Pair) → AreSorted ps
     → AreSorted (filter t ps)
 filtered_are_sorted t [] are_sorted = tt
@@ -312,6 +335,7 @@ filtered_are_sorted t (p ∷ ps) are_sorted = by_test (t p) (filtered_are_sorted
     )
     by_test false rest_is_sorted = rest_is_sorted
 
+-- a row has the pairs of its symbol with each symbol of the row
 has_pair_in_row : (c : ℕ) (xs : List ℕ) (x y : ℕ)
     → has_symbol_pair (map (pair c) xs) x y ≡ (nat_eq x c && is_member xs y)
 has_pair_in_row c [] x y = sym (and-false (nat_eq x c))
@@ -323,6 +347,7 @@ has_pair_in_row c (z ∷ xs) x y =
     by_values true = refl
     by_values false = refl
 
+-- the rows have the pairs of each symbol with each other one
 pub has_pair_in_rows : (ys xs : List ℕ) (x y : ℕ)
     → has_symbol_pair (flat_map (λ c. map (pair c) ys) xs) x y ≡ (is_member xs x && is_member ys y)
 has_pair_in_rows ys [] x y = refl
@@ -340,6 +365,7 @@ has_pair_in_rows ys (c ∷ xs) x y =
         right_is_false false = refl
     by_values false b = refl
 
+-- no number of a range is below its start
 start_le_member : (n a x : ℕ) → is_member (range_with_len a n) x ≡ true → a ≤ x
 start_le_member zero a x is_member_x = absurd (true≢false (sym is_member_x))
 start_le_member (suc n) a x is_member_x =
@@ -352,6 +378,7 @@ start_le_member (suc n) a x is_member_x =
     by_equality false x_is_a is_member_x rest_le = let a_le_x = rest_le is_member_x in
         omega (arith, a_le_x)
 
+-- two sorted lists, one before the other, are sorted
 appended_are_sorted : (ps qs : List Pair) → AreSorted ps → AreSorted qs
     → ((a b x y : ℕ) → has_symbol_pair ps a b ≡ true → has_symbol_pair qs x y ≡ true
     → IsBefore a b x y)
@@ -371,6 +398,7 @@ appended_are_sorted (p ∷ ps) qs ps_sorted qs_sorted ps_before_qs = (
     by_membership x y false in_ps in_either =
         ps_before_qs p.low p.high x y (first_is_in p ps) in_either
 
+-- a row of pairs is sorted
 row_is_sorted : (c n a : ℕ) → AreSorted (map (pair c) (range_with_len a n))
 row_is_sorted c zero a = tt
 row_is_sorted c (suc n) a = (
@@ -384,6 +412,7 @@ row_is_sorted c (suc n) a = (
   row_is_sorted c n (a + 1),
 )
 
+-- the rows, one after the other, are sorted
 rows_are_sorted : (m n a : ℕ)
     → AreSorted (flat_map (λ c. map (pair c) (range_with_len 0 m)) (range_with_len a n))
 rows_are_sorted m zero a = tt

@@ -10,6 +10,7 @@ use Rattle.mm_outline.specs.Blocks.{BlockLists, end_of}
 use Rattle.mm_database.specs.DisjointIndex.{IsCovered, Covers, AreSkips}
 
 module _ (b : BlockLists) (ps : List (ℕ × ℕ)) where
+  -- the pair at a place
   abbrev pair_at : ℕ → ℕ × ℕ
   pair_at i = get_or ps i (0, 0)
 
@@ -19,6 +20,7 @@ module _ (b : BlockLists) (ps : List (ℕ × ℕ)) where
       (length skips ≡ at)
       × ((q : ℕ) → q < at → (get_or skips q 0 ≤ q) × Covers b ps (get_or skips q 0) q)
 
+  -- a pair covers itself
   pub covers_itself : (q : ℕ) → Covers b ps q q
   covers_itself q p q_le_p p_le_q =
       let q_is_p : q ≡ p = omega arith in
@@ -65,6 +67,7 @@ module _ (b : BlockLists) (ps : List (ℕ × ℕ)) where
       (sym (r_is_skip ∙ get_or_default_zero skips q d (omega (arith, q_lt_at, skips_length))))
       (are_so_far.1 q q_lt_at)
 
+  -- the skips so far, with that of the next pair
   pub skips_with_next : (at s : ℕ) (skips : List ℕ) → AreSkipsSoFar at skips
       → (s ≤ at) × Covers b ps s at
       → (pushed : List ℕ) → pushed ≡ skips ++ s ∷ [] → AreSkipsSoFar (at + 1) pushed
@@ -89,6 +92,7 @@ module _ (b : BlockLists) (ps : List (ℕ × ℕ)) where
           ∙ ap (λ j. get_or (skips ++ s ∷ []) j 0) (sym are_so_far.0)
           ∙ get_or-append_seam skips s [] 0)) s_covers)
 
+  -- at the end the skips so far are all of them
   pub so_far_are_skips : (at : ℕ) (skips : List ℕ) → AreSkipsSoFar at skips → at ≤ length ps
       → length ps ≤ at → AreSkips b ps skips
   so_far_are_skips at skips are_so_far at_le_length length_le_at = record {

@@ -72,6 +72,7 @@ listed_with_new v s x b s_is_variable = by_equality (cases_eq x s)
         ap (λ a. b || a) (ne_eqb x s x_order)
         ∙ sym (ap (λ a. b || a) (ap (λ a. v x && a) (ne_eqb x s x_order) ∙ and-false (v x)))
 
+-- a symbol that is already listed changes nothing
 pub listed_is_unchanged : (v m : ℕ → Bool) (s x : ℕ) → m s ≡ true
     → m x ≡ (m x || (v x && nat_eq x s))
 listed_is_unchanged v m s x s_is_listed = by_equality (cases_eq x s)
@@ -87,6 +88,7 @@ listed_is_unchanged v m s x s_is_listed = by_equality (cases_eq x s)
     by_equality (inr x_order) =
         right_false (m x) (v x) ∙ ap (λ a. m x || (v x && a)) (sym (ne_eqb x s x_order))
 
+-- a symbol that is no variable changes nothing
 pub not_listed_is_unchanged : (v m : ℕ → Bool) (s x : ℕ) → v s ≡ false
     → m x ≡ (m x || (v x && nat_eq x s))
 not_listed_is_unchanged v m s x s_is_no_variable = by_equality (cases_eq x s)

@@ -14,6 +14,7 @@ use Rattle.mm_spec.specs.Citation.{context_at}
 use Rattle.mm_spec.proofs.FindsLaw.{each_filter, each_any}
 use Rattle.mm_rule.specs.Assertions.{as_pairs}
 
+-- equality of numbers is symmetric
 eq_symmetric : (x y : ℕ) → (x == y) ≡ (y == x)
 eq_symmetric x y = by_equality (x == y) (y == x) refl refl
   where
@@ -25,6 +26,7 @@ eq_symmetric x y = by_equality (x == y) (y == x) refl refl
     by_equality false true x_eq_y_is_a y_eq_x_is_b =
         absurd (true≢false (sym (eq-eqb x y (sym (eqb-true y x y_eq_x_is_b))) ∙ x_eq_y_is_a))
 
+-- equal tests find the same
 any_of_equal_tests : (p q : ℕ → Bool) → ((j : ℕ) → p j ≡ q j) → (xs : List ℕ)
     → list_any p xs ≡ list_any q xs
 any_of_equal_tests p q tests_equal [] = refl
@@ -32,6 +34,7 @@ any_of_equal_tests p q tests_equal (x ∷ xs) =
     ap₂ (λ a b. a || b) (tests_equal x) (any_of_equal_tests p q tests_equal xs)
 
 module _ (db : List Statement) (k : ℕ) where
+  -- what is disjoint from another is so the other way round
   disjoint_symmetric : (x y : ℕ) → disjoint_at db k x y ≡ disjoint_at db k y x
   disjoint_symmetric x y =
       ap₂ (λ a b. not a && b) (eq_symmetric x y)
@@ -40,6 +43,7 @@ module _ (db : List Statement) (k : ℕ) where
       (λ j. and_comm (is_member (formula_at db j) x) (is_member (formula_at db j) y))
       (active_of is_disjoint_statement db k))
 
+  -- the test of a context is symmetric too
   pub are_disjoint_symmetric : (x y : ℕ) → are_disjoint (context_at db k) x y ≡ true
       → are_disjoint (context_at db k) y x ≡ true
   are_disjoint_symmetric x y are_disjoint_x_y =
@@ -47,6 +51,7 @@ module _ (db : List Statement) (k : ℕ) where
       (ap₂ (λ a b. not a && b) (eq_symmetric y x) (disjoint_symmetric y x))
       ∙ are_disjoint_x_y
 
+  -- what a `$d` makes disjoint is disjoint in the context
   disjoint_at_are_disjoint : (x y : ℕ) → disjoint_at db k x y ≡ true
       → are_disjoint (context_at db k) x y ≡ true
   disjoint_at_are_disjoint x y disjoint_x_y =

@@ -13,6 +13,7 @@ use Rattle.mm_spec.specs.Citation.{context_at}
 use Rattle.mm_rule.specs.Rule.{floating_index}
 
 module _ (db : List Statement) where
+  -- a variable that is bound has the index of a hypothesis
   pub floating_index_lt_length : (hs : List Formula) (x : ℕ) → IsBound (context_at db 0) hs x
       → floating_index db hs x < length hs
   floating_index_lt_length [] x x_is_bound = absurd (true≢false (sym x_is_bound))
@@ -52,6 +53,7 @@ module _ (db : List Statement) where
   PlacedFrom n hs t =
       (x : ℕ) → IsBound (context_at db 0) hs x → get_or t x 0 ≡ n + floating_index db hs x
 
+  -- before a hypothesis that binds no variable, the places stay as they are
   placed_without_floating : (n : ℕ) (t : List ℕ) (h : Formula) (hs : List Formula)
       → ((x : ℕ) → binds (context_at db 0) x h ≡ false) → PlacedFrom (suc n) hs t
       → PlacedFrom n (h ∷ hs) t
@@ -64,6 +66,7 @@ module _ (db : List Statement) where
       by_binding false binds_is_false x_is_bound = let x_is_placed = placed_rest x x_is_bound in
           omega (arith, x_is_placed)
 
+  -- before the `$f` of a variable, the variable gets its place
   placed_with_floating : (n : ℕ) (t : List ℕ) (h : Formula) (hs : List Formula) (y : ℕ)
       → y < length t
       → ((x : ℕ) → binds (context_at db 0) x h ≡ nat_eq x y) → PlacedFrom (suc n) hs t
@@ -87,6 +90,7 @@ module _ (db : List Statement) where
           get_or-set_other t y x n 0 x_not_y ∙ x_is_after_n
 
   module _ (hyps : List ℕ) where
+    -- the formulas of the hypotheses from number `j` on
     abbrev pub hs : ℕ → List Formula
     hs j = map (formula_at db) (drop j hyps)
 
@@ -94,6 +98,7 @@ module _ (db : List Statement) where
     drop_length_is_nil [] = refl
     drop_length_is_nil (x ∷ xs) = drop_length_is_nil xs
 
+    -- past the last hypothesis no variable needs a place
     pub placed_at_end : (t : List ℕ) → PlacedFrom (length hyps) (hs (length hyps)) t
     placed_at_end t =
         subst (λ d. PlacedFrom (length hyps) (map (formula_at db) d) t)

@@ -17,17 +17,20 @@ use Rattle.mm_spec.proofs.FindsLaw.{is_before, each_filter, each_any, member_fil
 use Rattle.mm_spec.proofs.BoolLaw.{middle_parts}
 use Rattle.mm_rule.specs.Assertions.{as_pairs}
 
+-- what follows from a property of all members holds of all members
 all_of_weaker : (P Q : ℕ → Type 0) → ((x : ℕ) → P x → Q x) → (xs : List ℕ) → AllByRecursion P xs
     → AllByRecursion Q xs
 all_of_weaker P Q p_gives_q [] all_p = tt
 all_of_weaker P Q p_gives_q (x ∷ xs) all_p =
     (p_gives_q x all_p.0, all_of_weaker P Q p_gives_q xs all_p.1)
 
+-- a property of all members holds of those that pass a test
 filter_keeps_all : (P : ℕ → Type 0) (t : ℕ → Bool) (xs : List ℕ) → AllByRecursion P xs
     → AllByRecursion P (filter t xs)
 filter_keeps_all P t xs all_p =
     each_filter P t xs (all_of_weaker P (λ x. t x ≡ true → P x) (λ x holds passes. holds) xs all_p)
 
+-- a filtered list is no longer
 filter_no_longer : (t : ℕ → Bool) (xs : List ℕ) → length (filter t xs) ≤ length xs
 filter_no_longer t [] = omega arith
 filter_no_longer t (x ∷ xs) = by_test (t x) (filter_no_longer t xs)
@@ -48,6 +51,7 @@ hypotheses_le_k db k =
     && list_any (is_member (mandatory_variables db k)) (formula_at db j))) (active db k) in
     omega (arith, active_le_k, hypotheses_le_active, length-range_with_len 0 k)
 
+-- the mandatory hypotheses are statements of the database
 pub hypotheses_lt_length : (db : List Statement) (k : ℕ) → k ≤ length db
     → All (λ h. h < length db) (mandatory_hypotheses db k)
 hypotheses_lt_length db k k_le_length =
@@ -57,6 +61,7 @@ hypotheses_lt_length db k k_le_length =
     (each_any (λ j. is_active db j k ≡ true → j < length db) (range_with_len 0 k)
     (λ j j_is_active. let j_lt_k = is_before db j k j_is_active in omega (arith, j_lt_k)))))
 
+-- a variable is one of the symbols
 variable_lt_symbol_count : (db : List Statement) (x : ℕ) → is_variable_number db x ≡ true
     → x < length (symbol_names db)
 variable_lt_symbol_count db x x_is_variable =
@@ -68,12 +73,14 @@ variable_lt_symbol_count db x x_is_variable =
     by_name None name_x_is_o x_is_variable = absurd (true≢false (sym x_is_variable))
     by_name (Some w) name_x_is_o x_is_variable = slice_get_within (symbol_names db) x w name_x_is_o
 
+-- a mandatory variable is one of the symbols
 mandatory_lt_symbol_count : (db : List Statement) (k x : ℕ) → is_member (mandatory_variables db k) x
     ≡ true
     → x < length (symbol_names db)
 mandatory_lt_symbol_count db k x x_is_mandatory =
     variable_lt_symbol_count db x (member_filter (is_variable_number db) _ x x_is_mandatory).0
 
+-- the mandatory pairs are of symbols
 pub pairs_lt_symbol_count : (db : List Statement) (k : ℕ) (ps : List (ℕ × ℕ))
     → as_pairs ps ≡ mandatory_pairs db k
     → All (λ (p : ℕ × ℕ). (p.0 < length (symbol_names db)) × (p.1 < length (symbol_names db))) ps

@@ -4,6 +4,7 @@ use Rattle.std.proofs.Common.{◌∙◌, arith}
 use Rattle.std.proofs.lemmas.List.{drop-append-le, take-append-le}
 use Rattle.std.proofs.Common.{length-drop}
 
+-- a stretch of a list is the same stretch of a longer list
 pub stretch_of_longer_list : {X : Type 0} (xs added : List X) (s t : ℕ) → s ≤ t → t ≤ length xs
     → slice_range (xs ++ added) s t ≡ slice_range xs s t
 stretch_of_longer_list xs added s t s_le_t t_le_length =

@@ -20,6 +20,7 @@ placed_steps_unchanged_by_set (p ∷ ps) zero q same_step = ap (λ z. z ∷ plac
 placed_steps_unchanged_by_set (p ∷ ps) (suc j) q same_step =
     ap (λ z. placed_of p ∷ z) (placed_steps_unchanged_by_set ps j q same_step)
 
+-- the steps that are stored, with one more
 pub placed_steps_push : (ps : List Placed) (p : Placed)
     → placed_steps (ps ++ p ∷ []) ≡ placed_steps ps ++ placed_of p ∷ []
 placed_steps_push ps p = map-append placed_of ps (p ∷ [])
@@ -33,6 +34,7 @@ flag_unchanged_by_unmarked (q ∷ ps) p zero p_is_not_marked = refl
 flag_unchanged_by_unmarked (q ∷ ps) p (suc i) p_is_not_marked =
     flag_unchanged_by_unmarked ps p i p_is_not_marked
 
+-- `false` at the end of a disjunction may be left out
 or_false_at_end : (a b : Bool) → (a || (b || false)) ≡ (a || b)
 or_false_at_end true b = refl
 or_false_at_end false true = refl

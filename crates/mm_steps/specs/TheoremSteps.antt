@@ -11,6 +11,7 @@ pub record TheoremSteps : Type 0 where
   pub theorem : ℕ
   pub steps : List PlacedStep
 
+-- theorem `t` has these steps
 abbrev pub theorem_steps : ℕ → List PlacedStep → TheoremSteps
 theorem_steps t steps = record { theorem = t; steps = steps }
 

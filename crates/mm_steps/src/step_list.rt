@@ -2,7 +2,8 @@
 
 ghost use Rattle.std.specs.Prelude.{◌≡◌, ◌<◌, ◌++◌, ◌∷◌, [], length, OnOk, OnErr};
 ghost use Rattle.mm_spec.specs.Steps.{placed};
-ghost use Rattle.mm_steps.specs.TheoremSteps.{TheoremSteps, theorem_steps, as_step, step_at, is_marked as marked_in};
+ghost use Rattle.mm_steps.specs.TheoremSteps.{TheoremSteps, theorem_steps, as_step, step_at};
+ghost use Rattle.mm_steps.specs.TheoremSteps.{is_marked as marked_in};
 ghost use Rattle.mm_steps.specs.TheoremSteps.{IsEarlier};
 
 use std::alloc::{AllocError, Allocator};
@@ -75,7 +76,8 @@ impl<A: Allocator> Steps<A> {
     pub fn push(&mut self, at: u32, step: Step) -> Result<(), AllocError>
         requires { IsEarlier (as_step step) (length self.old.steps) }
         ensures ok { OnOk result
-            (self.new ≡ theorem_steps self.old.theorem (self.old.steps ++ placed at (as_step step) ∷ [])) }
+            (self.new
+            ≡ theorem_steps self.old.theorem (self.old.steps ++ placed at (as_step step) ∷ [])) }
         ensures err { OnErr result (self.new ≡ self.old) }
     {
         match step {

@@ -6,7 +6,8 @@ use Rattle.mm_steps.specs.declared.step_list.Placed.{Placed}
 use Rattle.mm_steps.specs.declared.step_list.StepKind.TheVariants.{Marked}
 use Rattle.mm_steps.specs.TheoremSteps.{theorem_steps, as_step, IsEarlier}
 use Rattle.mm_steps.specs.Flags.{placed_steps, placed_of, no_step}
-use Rattle.mm_steps.proofs.FlagsLaw.{flags_with_marked_step, placed_steps_unchanged_by_set, placed_steps_push}
+use Rattle.mm_steps.proofs.FlagsLaw.{flags_with_marked_step, placed_steps_unchanged_by_set}
+use Rattle.mm_steps.proofs.FlagsLaw.{placed_steps_push}
 use Rattle.mm_steps.proofs.step_list.Steps.push.Goals as goal
 
 pub invariant_of-self-in-Marked : goal.invariant_of-self-in-Marked
