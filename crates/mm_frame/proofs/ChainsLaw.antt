@@ -387,11 +387,11 @@ member_lt_bound n y (x ∷ xs) all_lt_n y_is_member =
   where
     by_membership : (nat_eq y x ≡ true) ⊎ (is_member xs y ≡ true) → (is_member xs y ≡ true → y < n)
         → y < n
-    by_membership (inl is_member_here) rest_lt_n =
-        let y_is_x = eqb-true y x is_member_here in
-        let x_lt_n = All-head (λ is_member_here. is_member_here < n) x xs all_lt_n in
+    by_membership (inl y_equals_x) rest_lt_n =
+        let y_is_x = eqb-true y x y_equals_x in
+        let x_lt_n = All-head (λ s. s < n) x xs all_lt_n in
         omega (arith, y_is_x, x_lt_n)
-    by_membership (inr is_member_here) rest_lt_n = rest_lt_n is_member_here
+    by_membership (inr y_in_rest) rest_lt_n = rest_lt_n y_in_rest
 
 -- a symbol of a `$d` has a number
 pub symbol_lt_symbol_count : (db : List Statement) → IsSound db → (x j : ℕ)
@@ -483,11 +483,11 @@ rising_append : (ps qs : List (ℕ × ℕ)) → AreRising ps → AreRising qs
     → AreRising (ps ++ qs)
 rising_append [] qs ps_are_rising qs_are_rising ps_before_qs = qs_are_rising
 rising_append (p ∷ ps) qs ps_are_rising qs_are_rising ps_before_qs = (
-  λ x y e. by_membership x y (or_cases (has_pair ps x y) (has_pair qs x y)
-      (sym (list_any-append (λ q. nat_eq x q.0 && nat_eq y q.1) ps qs) ∙ e)),
+  λ x y has_either. by_membership x y (or_cases (has_pair ps x y) (has_pair qs x y)
+      (sym (list_any-append (λ q. nat_eq x q.0 && nat_eq y q.1) ps qs) ∙ has_either)),
   rising_append ps qs ps_are_rising.1 qs_are_rising
-      (λ a b x y e f. ps_before_qs a b x y
-      (or_right (nat_eq a p.0 && nat_eq b p.1) (has_pair ps a b) e) f),
+      (λ a b x y has_either has_second. ps_before_qs a b x y
+      (or_right (nat_eq a p.0 && nat_eq b p.1) (has_pair ps a b) has_either) has_second),
 )
   where
     first_pair_is_in : has_pair (p ∷ ps) p.0 p.1 ≡ true
@@ -496,8 +496,8 @@ rising_append (p ∷ ps) qs ps_are_rising qs_are_rising ps_before_qs = (
 
     by_membership : (x y : ℕ) → (has_pair ps x y ≡ true) ⊎ (has_pair qs x y ≡ true)
         → IsBefore p.0 p.1 x y
-    by_membership x y (inl in_list) = ps_are_rising.0 x y in_list
-    by_membership x y (inr in_list) = ps_before_qs p.0 p.1 x y first_pair_is_in in_list
+    by_membership x y (inl in_ps) = ps_are_rising.0 x y in_ps
+    by_membership x y (inr in_qs) = ps_before_qs p.0 p.1 x y first_pair_is_in in_qs
 
 -- a row has the pairs of its symbol with each statement of the row
 has_pair_in_row : (x : ℕ) (js : List ℕ) (y j : ℕ)
@@ -522,11 +522,11 @@ least_le_member least j (i ∷ js) is_rising j_is_member =
     by_membership : (nat_eq j i ≡ true) ⊎ (is_member js j ≡ true)
         → (is_member js j ≡ true → i + 1 ≤ j)
         → least ≤ j
-    by_membership (inl is_member_here) rest_le = let least_le_i = is_rising.0 in
-        let next_le_j = eqb-true j i is_member_here in
-        omega (arith, least_le_i, next_le_j)
-    by_membership (inr is_member_here) rest_le = let least_le_i = is_rising.0 in
-        let next_le_j = rest_le is_member_here in omega (arith, least_le_i, next_le_j)
+    by_membership (inl j_is_i) rest_le = let least_le_i = is_rising.0 in
+        let j_eq_i = eqb-true j i j_is_i in
+        omega (arith, least_le_i, j_eq_i)
+    by_membership (inr j_in_rest) rest_le = let least_le_i = is_rising.0 in
+        let next_le_j = rest_le j_in_rest in omega (arith, least_le_i, next_le_j)
 
 -- the pairs of a symbol with rising statements rise
 rising_row : (x least : ℕ) (js : List ℕ) → IsRisingFrom least js

@@ -140,9 +140,9 @@ module _ (by_statement : List (ℕ × ℕ)) (rising : AreRising by_statement) (p
               → (has_pair earlier_pairs x y ≡ true)
               ⊎ ((x ≡ low) × (p : ℕ) × (place < p) × (p < at + 1)
               × ((get_or by_statement p (0, 0)).1 ≡ y))
-          later_with_next (inl is_new_pair) = inl is_new_pair
-          later_with_next (inr (is_new_pair, p, place_lt_p, p_lt_at, variable_is_y)) =
-              inr (is_new_pair, p, place_lt_p, omega (arith, p_lt_at), variable_is_y)
+          later_with_next (inl was_earlier) = inl was_earlier
+          later_with_next (inr (x_is_low, p, place_lt_p, p_lt_at, variable_is_y)) =
+              inr (x_is_low, p, place_lt_p, omega (arith, p_lt_at), variable_is_y)
       new_pair_is_later x y false not_had has_pair_after =
           let is_new_pair = sym (or-false (nat_eq x low && nat_eq y high_variable))
           ∙ has_pair_after in
@@ -204,8 +204,8 @@ module _ (by_statement : List (ℕ × ℕ)) (rising : AreRising by_statement) (p
           ⊎ ((x ≡ low) × (p : ℕ) × (place < p) × (p < at) × ((get_or by_statement p (0, 0)).1 ≡ y))
           → (has_pair earlier_pairs x y ||
           (nat_eq x low && (has_pair by_statement j y && nat_lt x y))) ≡ true
-      left_to_right (inl x_is_low) = ap (λ c. c || (nat_eq x low
-          && (has_pair by_statement j y && nat_lt x y))) x_is_low
+      left_to_right (inl was_earlier) = ap (λ c. c || (nat_eq x low
+          && (has_pair by_statement j y && nat_lt x y))) was_earlier
       left_to_right (inr (x_is_low, p, place_lt_p, p_lt_at, variable_is_y)) =
           let has_pair_j_y =
           ap₂ (has_pair by_statement) (sym (adds.statement_is_same p place_lt_p p_lt_at))

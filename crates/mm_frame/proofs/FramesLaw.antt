@@ -65,8 +65,9 @@ pub last_floats_with_float : (db : List Statement) → IsSound db → (k v : ℕ
     → AreLastFloats db (k + 1) (set ts v k)
 last_floats_with_float db sound k v ts k_lt_length last_floats k_types_v = record {
   count = length-set ts v k ∙ last_floats.count;
-  last_is_typed = λ u h ne. by_equality u h ne (cases_eq u v);
-  open_is_last = λ j u h l is on. open_is_last_float j u h l is on (cases_lt j k) (cases_eq u v);
+  last_is_typed = λ u u_lt_count last_is_some. by_equality u u_lt_count last_is_some (cases_eq u v);
+  open_is_last = λ j u u_lt_count j_lt_next j_types_u j_is_open. open_is_last_float j u u_lt_count
+      j_lt_next j_types_u j_is_open (cases_lt j k) (cases_eq u v);
 }
   where
     v_lt_length : v < length ts

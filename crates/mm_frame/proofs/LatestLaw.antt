@@ -102,8 +102,8 @@ module _ (test : Statement → Bool) (db : List Statement) where
   }
     where
       none_is_later : (i : ℕ) → i < k + 1 → (k < i) ⊎ (k ≡ never) → ⊥
-      none_is_later i i_lt_next (inl k_lt_i_or_never) = omega arith
-      none_is_later i i_lt_next (inr k_lt_i_or_never) = omega arith
+      none_is_later i i_lt_next (inl k_lt_i) = omega arith
+      none_is_later i i_lt_next (inr k_is_never) = omega arith
 
   -- if a statement fails the test, the latest before it is a candidate after it
   pub latest_is_candidate_after_other : (k last : ℕ) → list_any test (statement_at db k) ≡ false
@@ -184,14 +184,14 @@ module _ (test : Statement → Bool) (db : List Statement) where
       by_presence : (i : ℕ) → i < k → is_staying test db i k ≡ true → (last ≡ never)
           ⊎ (last ≢ never)
           → (last < i) ⊎ (i ≤ last) → (last ≢ never) × (i ≤ last)
-      by_presence i i_lt_k i_stays (inl last_is_never_or_not) order =
+      by_presence i i_lt_k i_stays (inl last_is_never) order =
           absurd (true≢false (sym i_stays
-          ∙ is_latest.later_are_not_staying i i_lt_k (inr last_is_never_or_not)))
-      by_presence i i_lt_k i_stays (inr last_is_never_or_not) (inl order_of_last) =
+          ∙ is_latest.later_are_not_staying i i_lt_k (inr last_is_never)))
+      by_presence i i_lt_k i_stays (inr last_ne_never) (inl last_lt_i) =
           absurd (true≢false (sym i_stays
-          ∙ is_latest.later_are_not_staying i i_lt_k (inl order_of_last)))
-      by_presence i i_lt_k i_stays (inr last_is_never_or_not) (inr order_of_last) =
-          (last_is_never_or_not, order_of_last)
+          ∙ is_latest.later_are_not_staying i i_lt_k (inl last_lt_i)))
+      by_presence i i_lt_k i_stays (inr last_ne_never) (inr i_le_last) =
+          (last_ne_never, i_le_last)
 
   -- the walk goes on with the next
   pub walked_with_last : (k : ℕ) (xs : List ℕ) (last next : ℕ) → k ≤ length db
@@ -237,24 +237,25 @@ module _ (test : Statement → Bool) (db : List Statement) where
         where
           by_presence : i < last → (next ≡ never) ⊎ (next ≢ never) → (next < i) ⊎ (i ≤ next)
               → (next ≢ never) × (i ≤ next)
-          by_presence i_lt_last (inl last_ne_never) order =
+          by_presence i_lt_last (inl next_is_never) order =
               absurd (true≢false
-              (sym (staying_at_earlier i last k (omega arith) (let i_le_last = last_is_staying.0 in
-              omega (arith, i_le_last))
+              (sym (staying_at_earlier i last k (omega arith) (let last_lt_k = last_is_staying.0 in
+              omega (arith, last_lt_k))
               staying_at_k)
-              ∙ is_latest.later_are_not_staying i i_lt_last (inr last_ne_never)))
-          by_presence i_lt_last (inr last_ne_never) (inl i_le_last) =
+              ∙ is_latest.later_are_not_staying i i_lt_last (inr next_is_never)))
+          by_presence i_lt_last (inr next_ne_never) (inl next_lt_i) =
               absurd (true≢false
-              (sym (staying_at_earlier i last k (omega arith) (let i_le_last = last_is_staying.0 in
-              omega (arith, i_le_last))
+              (sym (staying_at_earlier i last k (omega arith) (let last_lt_k = last_is_staying.0 in
+              omega (arith, last_lt_k))
               staying_at_k)
-              ∙ is_latest.later_are_not_staying i i_lt_last (inl i_le_last)))
-          by_presence i_lt_last (inr last_ne_never) (inr i_le_last) = (last_ne_never, i_le_last)
+              ∙ is_latest.later_are_not_staying i i_lt_last (inl next_lt_i)))
+          by_presence i_lt_last (inr next_ne_never) (inr i_le_next) = (next_ne_never, i_le_next)
 
           by_order : (i < last) ⊎ (last ≤ i)
               → (is_member (xs ++ last ∷ []) i ≡ true) ⊎ ((next ≢ never) × (i ≤ next))
-          by_order (inl in_xs) = inr (by_presence in_xs (cases_eq next never) (cases_lt next i))
-          by_order (inr in_xs) =
+          by_order (inl i_lt_last) =
+              inr (by_presence i_lt_last (cases_eq next never) (cases_lt next i))
+          by_order (inr last_le_i) =
               let i_is_last : i ≡ last = omega arith in
               inl (member_push xs last i ∙ ap (λ b. is_member xs i || b) (eq-eqb i last i_is_last)
               ∙ or-true (is_member xs i))
@@ -296,7 +297,7 @@ each_latest_with_next test db xs ys last k length_xs_is_next_k ys_are_pushed lat
     latest_at_next = record {
       count = ap length ys_are_pushed ∙ length-append xs (last ∷ [])
           ∙ ap (λ m. m + 1) length_xs_is_next_k;
-      each_is_latest = λ i h. by_order i h (cases_lt i (k + 1));
+      each_is_latest = λ i i_lt_length. by_order i i_lt_length (cases_lt i (k + 1));
     }
   where
     by_order : (i : ℕ) → i ≤ k + 1 → (i < k + 1) ⊎ (k + 1 ≤ i) → IsLatest test db i (get_or ys i 0)

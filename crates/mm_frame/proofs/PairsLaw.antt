@@ -249,8 +249,8 @@ sorted_with_same_members_equal (p ∷ ps) (q ∷ qs) ps_sorted qs_sorted same_me
         ⊎ (has_symbol_pair qs p.low p.high ≡ true)
         → ((q.low ≡ p.low) × (q.high ≡ p.high)) ⊎ (has_symbol_pair ps q.low q.high ≡ true)
         → (p.low ≡ q.low) × (p.high ≡ q.high)
-    first_members_equal (inl p_in_qs) second = p_in_qs
-    first_members_equal (inr p_in_qs) (inl q_in_ps) = (sym q_in_ps.0, sym q_in_ps.1)
+    first_members_equal (inl p_is_q) second = p_is_q
+    first_members_equal (inr p_in_qs) (inl q_is_p) = (sym q_is_p.0, sym q_is_p.1)
     first_members_equal (inr p_in_qs) (inr q_in_ps) =
         absurd (not_before_each_other p.low p.high q.low q.high (ps_sorted.0 q.low q.high q_in_ps)
         (qs_sorted.0 p.low p.high p_in_qs))
@@ -275,21 +275,21 @@ sorted_with_same_members_equal (p ∷ ps) (q ∷ qs) ps_sorted qs_sorted same_me
         left_to_right : has_symbol_pair ps x y ≡ true
             → ((x ≡ q.low) × (y ≡ q.high)) ⊎ (has_symbol_pair qs x y ≡ true)
             → has_symbol_pair qs x y ≡ true
-        left_to_right in_tail (inr where_found) = where_found
-        left_to_right in_tail (inl where_found) =
+        left_to_right in_tail (inr in_tail_of_qs) = in_tail_of_qs
+        left_to_right in_tail (inl is_first) =
             absurd (not_before_itself p.low p.high
-            (subst (λ a. IsBefore p.low p.high a p.high) (where_found.0 ∙ sym parts_equal.0)
-            (subst (λ b. IsBefore p.low p.high x b) (where_found.1
+            (subst (λ a. IsBefore p.low p.high a p.high) (is_first.0 ∙ sym parts_equal.0)
+            (subst (λ b. IsBefore p.low p.high x b) (is_first.1
             ∙ sym parts_equal.1) (ps_sorted.0 x y in_tail))))
 
         right_to_left : has_symbol_pair qs x y ≡ true
             → ((x ≡ p.low) × (y ≡ p.high)) ⊎ (has_symbol_pair ps x y ≡ true)
             → has_symbol_pair ps x y ≡ true
-        right_to_left in_tail (inr where_found) = where_found
-        right_to_left in_tail (inl where_found) =
+        right_to_left in_tail (inr in_tail_of_ps) = in_tail_of_ps
+        right_to_left in_tail (inl is_first) =
             absurd (not_before_itself q.low q.high
-            (subst (λ a. IsBefore q.low q.high a q.high) (where_found.0 ∙ parts_equal.0)
-            (subst (λ b. IsBefore q.low q.high x b) (where_found.1
+            (subst (λ a. IsBefore q.low q.high a q.high) (is_first.0 ∙ parts_equal.0)
+            (subst (λ b. IsBefore q.low q.high x b) (is_first.1
             ∙ parts_equal.1) (qs_sorted.0 x y in_tail))))
 
 -- a filtered list has the pairs that pass the test
@@ -308,16 +308,16 @@ has_filtered_pair t (p ∷ ps) x y =
         → has_symbol_pair (filter t ps) x y ≡ (t (pair x y) && has_symbol_pair ps x y)
         → has_symbol_pair (cond b (p ∷ filter t ps) (filter t ps)) x y
         ≡ (t (pair x y) && (c || has_symbol_pair ps x y))
-    by_test true test_of_p true s rest_has_filtered =
-        ap (λ b. b || has_symbol_pair (filter t ps) x y) s
-        ∙ sym (ap (λ b. b && true) (test_of_equal_pairs s ∙ test_of_p))
-    by_test true test_of_p false s rest_has_filtered =
-        ap (λ b. b || has_symbol_pair (filter t ps) x y) s ∙ rest_has_filtered
-    by_test false test_of_p true s rest_has_filtered =
+    by_test true test_of_p true equality_is_c rest_has_filtered =
+        ap (λ b. b || has_symbol_pair (filter t ps) x y) equality_is_c
+        ∙ sym (ap (λ b. b && true) (test_of_equal_pairs equality_is_c ∙ test_of_p))
+    by_test true test_of_p false equality_is_c rest_has_filtered =
+        ap (λ b. b || has_symbol_pair (filter t ps) x y) equality_is_c ∙ rest_has_filtered
+    by_test false test_of_p true equality_is_c rest_has_filtered =
         rest_has_filtered
-        ∙ ap (λ b. b && has_symbol_pair ps x y) (test_of_equal_pairs s ∙ test_of_p)
-        ∙ sym (ap (λ b. b && true) (test_of_equal_pairs s ∙ test_of_p))
-    by_test false test_of_p false s rest_has_filtered = rest_has_filtered
+        ∙ ap (λ b. b && has_symbol_pair ps x y) (test_of_equal_pairs equality_is_c ∙ test_of_p)
+        ∙ sym (ap (λ b. b && true) (test_of_equal_pairs equality_is_c ∙ test_of_p))
+    by_test false test_of_p false equality_is_c rest_has_filtered = rest_has_filtered
 
 -- sorted pairs stay so when filtered
 pub filtered_are_sorted : (t : Pair → Bool) (ps : List Pair) → AreSorted ps
@@ -385,10 +385,11 @@ appended_are_sorted : (ps qs : List Pair) → AreSorted ps → AreSorted qs
     → AreSorted (ps ++ qs)
 appended_are_sorted [] qs ps_sorted qs_sorted ps_before_qs = qs_sorted
 appended_are_sorted (p ∷ ps) qs ps_sorted qs_sorted ps_before_qs = (
-  λ x y e. by_membership x y (has_symbol_pair ps x y) refl
-      (sym (list_any-append _ ps qs) ∙ e),
+  λ x y has_either. by_membership x y (has_symbol_pair ps x y) refl
+      (sym (list_any-append _ ps qs) ∙ has_either),
   appended_are_sorted ps qs ps_sorted.1 qs_sorted
-      (λ a b x y e f. ps_before_qs a b x y (in_rest_is_in p ps a b e) f),
+      (λ a b x y has_either has_second. ps_before_qs a b x y
+      (in_rest_is_in p ps a b has_either) has_second),
 )
   where
     by_membership : (x y : ℕ) → (c : Bool) → has_symbol_pair ps x y ≡ c

@@ -437,12 +437,12 @@ continues_from_start t labels all_letters =
     record { early = []; begins = refl; steps = refl; faults = refl; run = refl }
 
 -- a fault of the letters is one of the proof
-pub letter_fault_is_first : (n end : ℕ) (all_letters : List Letter) (none_is_some : ProofRefused)
-    → StartsWith (group_faults n 0 0 (groups [] all_letters).0) none_is_some
-    → StartsWith (letter_faults n end all_letters) none_is_some
+pub letter_fault_is_first : (n end : ℕ) (all_letters : List Letter) (e : ProofRefused)
+    → StartsWith (group_faults n 0 0 (groups [] all_letters).0) e
+    → StartsWith (letter_faults n end all_letters) e
 letter_fault_is_first n end all_letters Memory starts_with_e = tt
 letter_fault_is_first n end [] (Faulty f) starts_with_e =
-    absurd (let none_is_some = starts_with_e.1 in cc)
+    absurd (let nothing_is_f = starts_with_e.1 in cc)
 letter_fault_is_first n end (x ∷ xs) (Faulty f) starts_with_e =
     let end_fault = at end (when (nat_lt 0 (length (groups [] (x ∷ xs)).1)) OpenNumber) in
     (starts_with_e.0 ++ end_fault, ap (λ fs. fs ++ end_fault) starts_with_e.1)

@@ -67,8 +67,8 @@ variable_lt_symbol_count : (db : List Statement) (x : ℕ) → is_variable_numbe
 variable_lt_symbol_count db x x_is_variable =
     by_name (slice_get (symbol_names db) x) refl x_is_variable
   where
-    by_name : (name_x_is_o : Option Bytes) → slice_get (symbol_names db) x ≡ name_x_is_o
-        → elim name_x_is_o [ None ↦ false | Some w ↦ is_in w (flat_map variables_of db) ] ≡ true
+    by_name : (o : Option Bytes) → slice_get (symbol_names db) x ≡ o
+        → elim o [ None ↦ false | Some w ↦ is_in w (flat_map variables_of db) ] ≡ true
         → x < length (symbol_names db)
     by_name None name_x_is_o x_is_variable = absurd (true≢false (sym x_is_variable))
     by_name (Some w) name_x_is_o x_is_variable = slice_get_within (symbol_names db) x w name_x_is_o

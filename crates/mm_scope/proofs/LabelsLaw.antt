@@ -85,48 +85,55 @@ module _ (db : List Statement) (s : Statement) (find new : List ℕ → Option �
       → new w ≡ label_after (length db) (label_of s) w (find w))
       → ((w : Bytes) → is_labelled w s ≡ true → find w ≡ None) → AreLabels (db ++ s ∷ []) new
   labels_after_statement new_is_label_after find_is_none = record {
-    found = λ w k e. found w k e (labelled_or_unchanged w (label_of s) refl (new_is_label_after w));
-    missing =
-        λ w e k. missing w k e (labelled_or_unchanged w (label_of s) refl (new_is_label_after w))
+    found_has_label = λ w k k_is_found. found_has_label_after w k k_is_found
+        (labelled_or_unchanged w (label_of s) refl (new_is_label_after w));
+    missing_has_no_statement =
+        λ w w_is_missing k. missing_has_no_statement_after w k w_is_missing
+        (labelled_or_unchanged w (label_of s) refl (new_is_label_after w))
         (cases_order k (length db));
-    only = λ w j k e f. only w j k e f (cases_lt j (length db)) (cases_lt k (length db));
+    label_is_unique =
+        λ w j k w_labels_j w_labels_k. label_is_unique_after w j k w_labels_j w_labels_k
+        (cases_lt j (length db)) (cases_lt k (length db));
   }
     where
-      found : (w : Bytes) (k : ℕ) → new w ≡ Some k
+      found_has_label_after : (w : Bytes) (k : ℕ) → new w ≡ Some k
           → ((is_labelled w s ≡ true) × (new w ≡ Some (length db)))
           ⊎ ((is_labelled w s ≡ false) × (new w ≡ find w))
           → (k < length (db ++ s ∷ []))
           × IsTrue (list_any (is_labelled w) (statement_at (db ++ s ∷ []) k))
-      found w k new_w_is_k (inl (w_labels_s, new_w_is_last)) =
+      found_has_label_after w k new_w_is_k (inl (w_labels_s, new_w_is_last)) =
           let last_is_k = same_Some (length db) k (sym new_w_is_last ∙ new_w_is_k) in (
             omega (arith, last_is_k, length-append db (s ∷ [])),
             (ap (λ i. list_any (is_labelled w) (statement_at (db ++ s ∷ []) i)) (sym last_is_k)
                 ∙ labelled_at_last_is_labelled w ∙ w_labels_s),
           )
-      found w k new_w_is_k (inr (w_labels_s, new_w_is_last)) =
-          let found_before = labels_of_db.found w k (sym new_w_is_last ∙ new_w_is_k) in (
+      found_has_label_after w k new_w_is_k (inr (w_labels_not_s, new_w_is_old)) =
+          let found_before = labels_of_db.found_has_label w k (sym new_w_is_old ∙ new_w_is_k) in (
             (let k_lt_length = found_before.0 in
                 omega (arith, k_lt_length, length-append db (s ∷ []))),
             labelled_before_is_unchanged w k
                 found_before.0 ∙ found_before.1,
           )
 
-      missing : (w : Bytes) (k : ℕ) → new w ≡ None
+      missing_has_no_statement_after : (w : Bytes) (k : ℕ) → new w ≡ None
           → ((is_labelled w s ≡ true) × (new w ≡ Some (length db)))
           ⊎ ((is_labelled w s ≡ false) × (new w ≡ find w))
           → (k ≡ length db) ⊎ ((k < length db) ⊎ (length db < k))
           → list_any (is_labelled w) (statement_at (db ++ s ∷ []) k) ≡ false
-      missing w k new_w_is_none (inl (w_labels_s, new_w_is_last)) order =
+      missing_has_no_statement_after w k new_w_is_none (inl (w_labels_s, new_w_is_last)) order =
           absurd (let some_is_none = sym new_w_is_last ∙ new_w_is_none in cc)
-      missing w k new_w_is_none (inr (w_labels_s, new_w_is_last)) (inl k_order) =
-          ap (λ i. list_any (is_labelled w) (statement_at (db ++ s ∷ []) i)) k_order
-          ∙ labelled_at_last_is_labelled w ∙ w_labels_s
-      missing w k new_w_is_none (inr (w_labels_s, new_w_is_last)) (inr (inl k_order)) =
-          labelled_before_is_unchanged w k k_order
-          ∙ labels_of_db.missing w (sym new_w_is_last ∙ new_w_is_none) k
-      missing w k new_w_is_none (inr (w_labels_s, new_w_is_last)) (inr (inr k_order)) =
+      missing_has_no_statement_after w k new_w_is_none (inr (w_labels_not_s, new_w_is_old))
+          (inl k_is_last) =
+          ap (λ i. list_any (is_labelled w) (statement_at (db ++ s ∷ []) i)) k_is_last
+          ∙ labelled_at_last_is_labelled w ∙ w_labels_not_s
+      missing_has_no_statement_after w k new_w_is_none (inr (w_labels_not_s, new_w_is_old))
+          (inr (inl k_lt_length)) =
+          labelled_before_is_unchanged w k k_lt_length
+          ∙ labels_of_db.missing_has_no_statement w (sym new_w_is_old ∙ new_w_is_none) k
+      missing_has_no_statement_after w k new_w_is_none (inr (w_labels_not_s, new_w_is_old))
+          (inr (inr length_lt_k)) =
           ap (λ o. list_any (is_labelled w) (elim o [ None ↦ [] | Some t ↦ t ∷ [] ]))
-          (slice_get_past (db ++ s ∷ []) k (omega (arith, k_order, length-append db (s ∷ []))))
+          (slice_get_past (db ++ s ∷ []) k (omega (arith, length_lt_k, length-append db (s ∷ []))))
 
       -- a label of the new statement is none before
       no_earlier_label : (w : Bytes) (j k : ℕ)
@@ -142,19 +149,20 @@ module _ (db : List Statement) (s : Statement) (find new : List ℕ → Option �
           ∙ sym (ap (λ i. list_any (is_labelled w) (statement_at (db ++ s ∷ []) i)) k_is_last)
           ∙ w_labels_k in
           true≢false (sym w_labels_j ∙ labelled_before_is_unchanged w j j_lt_length
-          ∙ labels_of_db.missing w (find_is_none w w_labels_s) j)
+          ∙ labels_of_db.missing_has_no_statement w (find_is_none w w_labels_s) j)
 
-      only : (w : Bytes) (j k : ℕ) → list_any (is_labelled w) (statement_at (db ++ s ∷ []) j) ≡ true
+      label_is_unique_after : (w : Bytes) (j k : ℕ)
+          → list_any (is_labelled w) (statement_at (db ++ s ∷ []) j) ≡ true
           → list_any (is_labelled w) (statement_at (db ++ s ∷ []) k) ≡ true
           → (j < length db) ⊎ (length db ≤ j) → (k < length db) ⊎ (length db ≤ k) → j ≡ k
-      only w j k w_labels_j w_labels_k (inl j_order) (inl k_order) =
-          labels_of_db.only w j k (sym (labelled_before_is_unchanged w j j_order)
+      label_is_unique_after w j k w_labels_j w_labels_k (inl j_order) (inl k_order) =
+          labels_of_db.label_is_unique w j k (sym (labelled_before_is_unchanged w j j_order)
           ∙ w_labels_j) (sym (labelled_before_is_unchanged w k k_order) ∙ w_labels_k)
-      only w j k w_labels_j w_labels_k (inl j_order) (inr k_order) =
+      label_is_unique_after w j k w_labels_j w_labels_k (inl j_order) (inr k_order) =
           absurd (no_earlier_label w j k w_labels_j w_labels_k j_order k_order)
-      only w j k w_labels_j w_labels_k (inr j_order) (inl k_order) =
+      label_is_unique_after w j k w_labels_j w_labels_k (inr j_order) (inl k_order) =
           absurd (no_earlier_label w k j w_labels_k w_labels_j k_order j_order)
-      only w j k w_labels_j w_labels_k (inr j_order) (inr k_order) =
+      label_is_unique_after w j k w_labels_j w_labels_k (inr j_order) (inr k_order) =
           let j_is_there = is_there (is_labelled w) (db ++ s ∷ []) j w_labels_j in
           let k_is_there = is_there (is_labelled w) (db ++ s ∷ []) k w_labels_k in
           omega (arith, j_is_there, k_is_there, j_order, k_order, length-append db (s ∷ []))

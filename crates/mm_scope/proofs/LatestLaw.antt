@@ -98,7 +98,8 @@ module _ (db : List Statement) (s : Statement) where
     pub latest_unchanged : (last : ℕ) → Latest db f w last → is_in w (f s ++ []) ≡ false
         → Latest (db ++ s ∷ []) f w last
     latest_unchanged last latest s_has_not_w = record {
-      last_lt_length = let l = latest.last_lt_length in omega (arith, l, length-append db (s ∷ []));
+      last_lt_length = let last_lt_before = latest.last_lt_length in
+          omega (arith, last_lt_before, length-append db (s ∷ []));
       last_has_word = has_word_in_front last latest.last_lt_length ∙ latest.last_has_word;
       active_is_last =
           λ j h k e. by_order j h k

@@ -208,27 +208,36 @@ depth_after_is_depth : (text : List ℕ) (ws : List Word) (db : List Statement) 
     → length db < never → (k : Kind) (w m e : ℕ)
     → depth_after k (depth db (length db))
     ≡ depth (db ++ statement_between text ws k w m e ∷ []) (length db + 1)
-depth_after_is_depth text ws db b x db_lt_never kind.Open w m e =
+depth_after_is_depth text ws db b are_blocks db_lt_never kind.Open w m e =
     (let depth_grows =
-    depth_opening db (statement_between text ws kind.Open w m e) b x db_lt_never refl refl in omega
+    depth_opening db (statement_between text ws kind.Open w m e) b are_blocks db_lt_never refl
+    refl in omega
     (arith, depth_grows))
-depth_after_is_depth text ws db b x db_lt_never kind.Close w m e =
-    sym (depth_closing db (statement_between text ws kind.Close w m e) b x db_lt_never refl refl
+depth_after_is_depth text ws db b are_blocks db_lt_never kind.Close w m e =
+    sym (depth_closing db (statement_between text ws kind.Close w m e) b are_blocks db_lt_never refl
+    refl
     ∙ minus_one_is_one_less (depth db (length db)))
-depth_after_is_depth text ws db b x db_lt_never kind.Constants w m e =
-    sym (depth_plain db (statement_between text ws kind.Constants w m e) b x db_lt_never refl refl)
-depth_after_is_depth text ws db b x db_lt_never kind.Variables w m e =
-    sym (depth_plain db (statement_between text ws kind.Variables w m e) b x db_lt_never refl refl)
-depth_after_is_depth text ws db b x db_lt_never kind.Disjoint w m e =
-    sym (depth_plain db (statement_between text ws kind.Disjoint w m e) b x db_lt_never refl refl)
-depth_after_is_depth text ws db b x db_lt_never kind.Floating w m e =
-    sym (depth_plain db (statement_between text ws kind.Floating w m e) b x db_lt_never refl refl)
-depth_after_is_depth text ws db b x db_lt_never kind.Essential w m e =
-    sym (depth_plain db (statement_between text ws kind.Essential w m e) b x db_lt_never refl refl)
-depth_after_is_depth text ws db b x db_lt_never kind.Axiom w m e =
-    sym (depth_plain db (statement_between text ws kind.Axiom w m e) b x db_lt_never refl refl)
-depth_after_is_depth text ws db b x db_lt_never kind.Theorem w m e =
-    sym (depth_plain db (statement_between text ws kind.Theorem w m e) b x db_lt_never refl refl)
+depth_after_is_depth text ws db b are_blocks db_lt_never kind.Constants w m e =
+    sym (depth_plain db (statement_between text ws kind.Constants w m e) b are_blocks db_lt_never
+    refl refl)
+depth_after_is_depth text ws db b are_blocks db_lt_never kind.Variables w m e =
+    sym (depth_plain db (statement_between text ws kind.Variables w m e) b are_blocks db_lt_never
+    refl refl)
+depth_after_is_depth text ws db b are_blocks db_lt_never kind.Disjoint w m e =
+    sym (depth_plain db (statement_between text ws kind.Disjoint w m e) b are_blocks db_lt_never
+    refl refl)
+depth_after_is_depth text ws db b are_blocks db_lt_never kind.Floating w m e =
+    sym (depth_plain db (statement_between text ws kind.Floating w m e) b are_blocks db_lt_never
+    refl refl)
+depth_after_is_depth text ws db b are_blocks db_lt_never kind.Essential w m e =
+    sym (depth_plain db (statement_between text ws kind.Essential w m e) b are_blocks db_lt_never
+    refl refl)
+depth_after_is_depth text ws db b are_blocks db_lt_never kind.Axiom w m e =
+    sym (depth_plain db (statement_between text ws kind.Axiom w m e) b are_blocks db_lt_never refl
+    refl)
+depth_after_is_depth text ws db b are_blocks db_lt_never kind.Theorem w m e =
+    sym (depth_plain db (statement_between text ws kind.Theorem w m e) b are_blocks db_lt_never refl
+    refl)
 
 -- one lawful statement more is read
 pub is_read_to_with_statement : (text : List ℕ) (ws : List Word) (db : List Statement)
@@ -243,7 +252,8 @@ pub is_read_to_with_statement : (text : List ℕ) (ws : List Word) (db : List St
     (statement_between text ws k w m e))
     → IsReadTo text ws (db ++ statement_between text ws k w m e ∷ []) (depth_after k open_blocks)
     (e + 1)
-is_read_to_with_statement text ws db open_blocks token_index is_read_to length_lt_2_31 b x k w m e
+is_read_to_with_statement text ws db open_blocks token_index is_read_to length_lt_2_31 b are_blocks
+    k w m e
     index_le_e
     e_lt_length leads_to_s no_fault = record {
       leads = leads_then is_read_to.leads leads_to_s;
@@ -254,7 +264,7 @@ is_read_to_with_statement text ws db open_blocks token_index is_read_to length_l
           depth_after_le k open_blocks token_index e is_read_to.open_blocks_le_index index_le_e;
       open_blocks_is_depth =
           ap (depth_after k) is_read_to.open_blocks_is_depth
-          ∙ depth_after_is_depth text ws db b x
+          ∙ depth_after_is_depth text ws db b are_blocks
           (let db_le_index = is_read_to.length_db_le_index in
           let index_le_ws = is_read_to.index_le_length in
           omega (arith, db_le_index, index_le_ws, length_lt_2_31)) k w m e

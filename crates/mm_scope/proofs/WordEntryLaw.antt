@@ -198,20 +198,21 @@ module _ (db : List Statement) (s : Statement) (w : Bytes) where
       earlier_typecode_is_c : (d : Bytes) → (t : Bool) → nat_eq e.typed never ≡ t
           → (not t && not (bytes_eq c e.typecode)) ≡ false
           → ((not t && not (bytes_eq d e.typecode)) || not (bytes_eq d c)) ≡ not (bytes_eq d c)
-      earlier_typecode_is_c d true h q = refl
-      earlier_typecode_is_c d false h q = by_equality (bytes_eq c e.typecode) refl q
+      earlier_typecode_is_c d true typed_is_t typecode_is_same = refl
+      earlier_typecode_is_c d false typed_is_t typecode_is_same =
+          by_equality (bytes_eq c e.typecode) refl typecode_is_same
         where
           by_equality : (b : Bool) → bytes_eq c e.typecode ≡ b → not b ≡ false
               → (not (bytes_eq d e.typecode) || not (bytes_eq d c)) ≡ not (bytes_eq d c)
-          by_equality true z q =
+          by_equality true equality_is_b typecode_is_same =
               ap (λ y. not (bytes_eq d y) || not (bytes_eq d c))
-              (sym ((bytes_eq-Decides c e.typecode).0 z))
+              (sym ((bytes_eq-Decides c e.typecode).0 equality_is_b))
               ∙ twice (not (bytes_eq d c))
             where
               twice : (y : Bool) → (y || y) ≡ y
               twice true = refl
               twice false = refl
-          by_equality false z q = absurd (true≢false q)
+          by_equality false equality_is_b typecode_is_same = absurd (true≢false typecode_is_same)
 
       other_typecode_after : (d : Bytes)
           → list_any (gives_other_typecode d w) (flat_map typings_of (db ++ s ∷ []))
