@@ -49,13 +49,13 @@ module _ (db : List Statement) (db_lt_never : length db < never) (w : Bytes) whe
   no_constant_entry : (x : Option WordEntry) → IsEntryOf db w x → is_in w n.constants ≡ false
       → is_constant_entry x ≡ false
   no_constant_entry x x_is_entry w_is_no_constant =
-      sym x_is_entry.constant
+      sym x_is_entry.constant_is_known
       ∙ sym (ap (λ xs. is_in w (flat_map constants_of xs)) take_length_is_db) ∙ w_is_no_constant
 
   no_variable_entry : (x : Option WordEntry) → IsEntryOf db w x → is_in w n.all_variables ≡ false
       → is_variable_entry x ≡ false
   no_variable_entry x x_is_entry w_is_no_variable =
-      sym x_is_entry.variable
+      sym x_is_entry.variable_is_known
       ∙ sym (ap (λ xs. is_in w (flat_map variables_of xs)) take_length_is_db) ∙ w_is_no_variable
 
   -- nothing is in the empty list behind a list
@@ -122,7 +122,7 @@ module _ (db : List Statement) (db_lt_never : length db < never) (w : Bytes) whe
           let untyped = floating_new n k c v no_fault in
           absurd (true≢false
           (sym (ap (λ u. is_in u n.active_variables) (sym v_is_w) ∙ untyped.0)
-          ∙ no_active_statement_has_word db variables_of w x_is_entry.variable))
+          ∙ no_active_statement_has_word db variables_of w x_is_entry.variable_is_known))
       typed (Some o) x_is_entry v_is_w =
           let untyped = floating_new n k c v no_fault in
           entry_of_typed_variable db (floating l k (c ∷ v ∷ []) e) w o x_is_entry db_lt_never c.word

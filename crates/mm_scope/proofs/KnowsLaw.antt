@@ -64,38 +64,40 @@ module _ (db : List Statement) (b : BlockLists) (x : IsBlocks db b)
       → is_in w (flat_map variables_of (active_statements db (length db)))
       ≡ judge.is_active_variable (is_open_in b) o
   in_active_is_active_variable None is_entry =
-      no_active_statement_has_word db variables_of w is_entry.variable
+      no_active_statement_has_word db variables_of w is_entry.variable_is_known
   in_active_is_active_variable (Some s) is_entry = by_test s.is_variable refl
     where
       by_test : (v : Bool) → s.is_variable ≡ v
           → is_in w (flat_map variables_of (active_statements db (length db)))
           ≡ (v && is_open_in b s.declared)
       by_test true is_variable_is_v =
-          let last_declares_w = is_entry.declared is_variable_is_v in
+          let last_declares_w = is_entry.declaration_is_latest is_variable_is_v in
           in_active_iff_latest_active db variables_of w s.declared last_declares_w
           ∙ latest_active_is_open db b x db_lt_never variables_of w
           (declarations_are_local w) s.declared last_declares_w
       by_test false is_variable_is_v =
-          no_active_statement_has_word db variables_of w (is_entry.variable ∙ is_variable_is_v)
+          no_active_statement_has_word db variables_of w
+          (is_entry.variable_is_known ∙ is_variable_is_v)
 
   -- a word has an active `$f` exactly if its entry says so
   in_active_is_typed_here : (o : Option Symbol) → IsEntryOf db w (entry_of o)
       → is_in w (flat_map typed_words (active_statements db (length db)))
       ≡ is_typed_here (is_open_in b) o
   in_active_is_typed_here None is_entry =
-      no_active_statement_has_word db typed_words w (is_entry.untyped refl)
+      no_active_statement_has_word db typed_words w (is_entry.untyped_has_no_typing refl)
   in_active_is_typed_here (Some s) is_entry = by_case (cases_eq s.typed never)
     where
       by_case : (s.typed ≡ never) ⊎ (s.typed ≢ never)
           → is_in w (flat_map typed_words (active_statements db (length db)))
           ≡ is_open_in b s.typed
       by_case (inl typed_is_never) =
-          no_active_statement_has_word db typed_words w (is_entry.untyped typed_is_never)
+          no_active_statement_has_word db typed_words w
+          (is_entry.untyped_has_no_typing typed_is_never)
           ∙ sym (ap (is_open_in b) typed_is_never
           ∙ never_is_not_open b (let block_count = x.count in
           omega (arith, block_count, db_lt_never)))
       by_case (inr typed_ne_never) =
-          let last_types_w = is_entry.typed typed_ne_never in
+          let last_types_w = is_entry.typing_is_latest typed_ne_never in
           in_active_iff_latest_active db typed_words w s.typed last_types_w
           ∙ latest_active_is_open db b x db_lt_never typed_words w
           (typings_are_local w) s.typed last_types_w
@@ -127,11 +129,11 @@ scope_knows_names db look labels b knows db_lt_never =
     record {
       constants =
           λ w. ap (λ xs. is_in w (flat_map constants_of xs)) take_length_is_db
-          ∙ (knows.symbols w).constant
+          ∙ (knows.symbols w).constant_is_known
           ∙ constant_entry_is_constant_in (look w);
       all_variables =
           λ w. ap (λ xs. is_in w (flat_map variables_of xs)) take_length_is_db
-          ∙ (knows.symbols w).variable
+          ∙ (knows.symbols w).variable_is_known
           ∙ variable_entry_is_variable_in (look w);
       active_variables =
           λ w. in_active_is_active_variable db b knows.blocks db_lt_never w (look w)

@@ -82,14 +82,16 @@ module _ (db : List Statement) (s : Statement) (w : Bytes) where
       → is_in w (constants_of s ++ []) ≡ false → is_in w (variables_of s ++ []) ≡ false
       → is_in w (typed_words s ++ []) ≡ false → IsEntryOf (db ++ s ∷ []) w x
   entry_is_unchanged x x_is_entry s_is_no_constant s_is_no_variable s_types_not_w = record {
-    constant = in_flat_map_unchanged constants_of s_is_no_constant ∙ x_is_entry.constant;
-    variable = in_flat_map_unchanged variables_of s_is_no_variable ∙ x_is_entry.variable;
-    declared = λ is_variable. latest_unchanged db s variables_of w (declared_by x)
-        (x_is_entry.declared is_variable) s_is_no_variable;
-    typed = λ is_typed. latest_unchanged db s typed_words w (typed_by x)
-        (x_is_entry.typed is_typed) s_types_not_w;
-    untyped = λ is_variable. in_flat_map_unchanged typed_words s_types_not_w
-        ∙ x_is_entry.untyped is_variable;
+    constant_is_known = in_flat_map_unchanged constants_of s_is_no_constant
+        ∙ x_is_entry.constant_is_known;
+    variable_is_known = in_flat_map_unchanged variables_of s_is_no_variable
+        ∙ x_is_entry.variable_is_known;
+    declaration_is_latest = λ is_variable. latest_unchanged db s variables_of w (declared_by x)
+        (x_is_entry.declaration_is_latest is_variable) s_is_no_variable;
+    typing_is_latest = λ is_typed. latest_unchanged db s typed_words w (typed_by x)
+        (x_is_entry.typing_is_latest is_typed) s_types_not_w;
+    untyped_has_no_typing = λ typed_is_never. in_flat_map_unchanged typed_words s_types_not_w
+        ∙ x_is_entry.untyped_has_no_typing typed_is_never;
     other_typecode = λ c. other_typecode_unchanged c s_types_not_w ∙ x_is_entry.other_typecode c;
   }
 
@@ -98,12 +100,13 @@ module _ (db : List Statement) (s : Statement) (w : Bytes) where
       → is_in w (variables_of s ++ []) ≡ false → is_in w (typed_words s ++ []) ≡ false → (n : ℕ)
       → IsEntryOf (db ++ s ∷ []) w (Some (entry false n never w))
   entry_of_new_constant w_has_no_entry s_is_constant s_is_no_variable s_types_not_w n = record {
-    constant = in_flat_map_of_last constants_of s_is_constant;
-    variable = in_flat_map_unchanged variables_of s_is_no_variable ∙ w_has_no_entry.variable;
-    declared = λ is_variable. absurd (true≢false (sym is_variable));
-    typed = λ is_typed. absurd (is_typed refl);
-    untyped = λ is_variable. in_flat_map_unchanged typed_words s_types_not_w
-        ∙ w_has_no_entry.untyped refl;
+    constant_is_known = in_flat_map_of_last constants_of s_is_constant;
+    variable_is_known = in_flat_map_unchanged variables_of s_is_no_variable
+        ∙ w_has_no_entry.variable_is_known;
+    declaration_is_latest = λ is_variable. absurd (true≢false (sym is_variable));
+    typing_is_latest = λ is_typed. absurd (is_typed refl);
+    untyped_has_no_typing = λ typed_is_never. in_flat_map_unchanged typed_words s_types_not_w
+        ∙ w_has_no_entry.untyped_has_no_typing refl;
     other_typecode = λ c. other_typecode_unchanged c s_types_not_w
         ∙ w_has_no_entry.other_typecode c;
   }
@@ -141,18 +144,23 @@ module _ (db : List Statement) (s : Statement) (w : Bytes) where
       s_types_not_w =
       let declared_is_variable = is_declared x in
       record {
-        constant = in_flat_map_unchanged constants_of s_is_no_constant ∙ x_is_entry.constant
+        constant_is_known = in_flat_map_unchanged constants_of s_is_no_constant
+            ∙ x_is_entry.constant_is_known
             ∙ x_is_no_constant ∙ sym declared_is_variable.0;
-        variable = in_flat_map_of_last variables_of s_is_variable ∙ sym declared_is_variable.1;
-        declared =
-            λ e. subst (Latest (db ++ s ∷ []) variables_of w) (sym declared_is_variable.2)
+        variable_is_known = in_flat_map_of_last variables_of s_is_variable
+            ∙ sym declared_is_variable.1;
+        declaration_is_latest =
+            λ is_variable. subst (Latest (db ++ s ∷ []) variables_of w) (sym declared_is_variable.2)
             (latest_is_new db s variables_of w s_is_variable w_is_inactive);
-        typed =
-            λ n. subst (Latest (db ++ s ∷ []) typed_words w) (sym (declaring_keeps_typed_by x))
+        typing_is_latest =
+            λ is_typed. subst (Latest (db ++ s ∷ []) typed_words w)
+            (sym (declaring_keeps_typed_by x))
             (latest_unchanged db s typed_words w (typed_by x)
-            (x_is_entry.typed (λ e. n (declaring_keeps_typed_by x ∙ e))) s_types_not_w);
-        untyped = λ e. in_flat_map_unchanged typed_words s_types_not_w
-            ∙ x_is_entry.untyped (sym (declaring_keeps_typed_by x) ∙ e);
+            (x_is_entry.typing_is_latest
+            (λ typed_is_never. is_typed (declaring_keeps_typed_by x ∙ typed_is_never)))
+            s_types_not_w);
+        untyped_has_no_typing = λ typed_is_never. in_flat_map_unchanged typed_words s_types_not_w
+            ∙ x_is_entry.untyped_has_no_typing (sym (declaring_keeps_typed_by x) ∙ typed_is_never);
         other_typecode = λ c. other_typecode_unchanged c s_types_not_w ∙ x_is_entry.other_typecode c
             ∙ other_declared c x;
       }
@@ -167,12 +175,16 @@ module _ (db : List Statement) (s : Statement) (w : Bytes) where
       → IsEntryOf (db ++ s ∷ []) w (typed_entry (length db) c (Some e))
   entry_of_typed_variable e e_is_entry db_lt_never c w_has_no_active_type no_other_typecode_before
       s_is_no_constant s_is_no_variable s_types_w = record {
-        constant = in_flat_map_unchanged constants_of s_is_no_constant ∙ e_is_entry.constant;
-        variable = in_flat_map_unchanged variables_of s_is_no_variable ∙ e_is_entry.variable;
-        declared = λ is_variable. latest_unchanged db s variables_of w e.declared
-            (e_is_entry.declared is_variable) s_is_no_variable;
-        typed = λ is_typed. latest_is_new db s typed_words w s_has_typing w_has_no_active_type;
-        untyped = λ number_is_never. absurd (omega (arith, number_is_never, db_lt_never));
+        constant_is_known = in_flat_map_unchanged constants_of s_is_no_constant
+            ∙ e_is_entry.constant_is_known;
+        variable_is_known = in_flat_map_unchanged variables_of s_is_no_variable
+            ∙ e_is_entry.variable_is_known;
+        declaration_is_latest = λ is_variable. latest_unchanged db s variables_of w e.declared
+            (e_is_entry.declaration_is_latest is_variable) s_is_no_variable;
+        typing_is_latest =
+            λ is_typed. latest_is_new db s typed_words w s_has_typing w_has_no_active_type;
+        untyped_has_no_typing =
+            λ number_is_never. absurd (omega (arith, number_is_never, db_lt_never));
         other_typecode = other_typecode_after;
       }
     where

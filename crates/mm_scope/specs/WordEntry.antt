@@ -65,11 +65,11 @@ typecode_by (Some e) = e.typecode
 
 -- the entry is what the statements say of the word
 pub record IsEntryOf (db : List Statement) (w : Bytes) (x : Option WordEntry) : Type 0 where
-  pub constant : is_in w (flat_map constants_of db) ≡ is_constant_entry x
-  pub variable : is_in w (flat_map variables_of db) ≡ is_variable_entry x
-  pub declared : is_variable_entry x ≡ true → Latest db variables_of w (declared_by x)
-  pub typed : typed_by x ≢ never → Latest db typed_words w (typed_by x)
-  pub untyped : typed_by x ≡ never → is_in w (flat_map typed_words db) ≡ false
+  pub constant_is_known : is_in w (flat_map constants_of db) ≡ is_constant_entry x
+  pub variable_is_known : is_in w (flat_map variables_of db) ≡ is_variable_entry x
+  pub declaration_is_latest : is_variable_entry x ≡ true → Latest db variables_of w (declared_by x)
+  pub typing_is_latest : typed_by x ≢ never → Latest db typed_words w (typed_by x)
+  pub untyped_has_no_typing : typed_by x ≡ never → is_in w (flat_map typed_words db) ≡ false
   pub other_typecode : (c : Bytes)
       → list_any (gives_other_typecode c w) (flat_map typings_of db)
       ≡ (not (nat_eq (typed_by x) never) && not (bytes_eq c (typecode_by x)))
