@@ -25,15 +25,17 @@ module _ (w : Bool) (db : List Statement) where
   -- a label stands for the same statement
   pub labels_counted : (find : List ℕ → Option ℕ) → AreLabels db find → AreLabels counted_db find
   labels_counted find are_labels = record {
-    found =
-        λ x k x_is_found. let k_is_labelled = are_labels.found x k x_is_found in (
+    found_has_label =
+        λ x k x_is_found. let k_is_labelled = are_labels.found_has_label x k x_is_found in (
           subst (λ n. k < n) (sym (counted_length w db)) k_is_labelled.0,
           same_labels_at x k
               ∙ k_is_labelled.1,
         );
-    missing = λ x x_is_found k. same_labels_at x k ∙ are_labels.missing x x_is_found k;
-    only = λ x j k x_labels_j x_labels_k. are_labels.only x j k (sym (same_labels_at x j)
-        ∙ x_labels_j) (sym (same_labels_at x k) ∙ x_labels_k);
+    missing_has_no_statement = λ x x_is_missing k. same_labels_at x k
+        ∙ are_labels.missing_has_no_statement x x_is_missing k;
+    label_is_unique = λ x j k x_labels_j x_labels_k.
+        are_labels.label_is_unique x j k (sym (same_labels_at x j) ∙ x_labels_j)
+        (sym (same_labels_at x k) ∙ x_labels_k);
   }
     where
       same_labels_at : (x : List ℕ) (k : ℕ)

@@ -72,18 +72,20 @@ module _ (db : List Statement) (find : List ℕ → Option ℕ) (are_labels : Ar
   pub found_label_is_label : (r : Option ℕ) → r ≡ find w
       → IfSome r (λ k. (k < length db) × IsTrue (list_any (is_labelled w) (statement_at db k)))
   found_label_is_label None r_is_found = tt
-  found_label_is_label (Some k) r_is_found = are_labels.found w k (sym r_is_found)
+  found_label_is_label (Some k) r_is_found = are_labels.found_has_label w k (sym r_is_found)
 
   pub found_label_is_unique : (r : Option ℕ) → r ≡ find w
       → IfSome r
       (λ k. (j : ℕ) → list_any (is_labelled w) (statement_at db j) ≡ true → j ≡ k)
   found_label_is_unique None r_is_found = tt
   found_label_is_unique (Some k) r_is_found =
-      λ j w_labels_j. are_labels.only w j k w_labels_j (are_labels.found w k (sym r_is_found)).1
+      λ j w_labels_j. are_labels.label_is_unique w j k w_labels_j
+      (are_labels.found_has_label w k (sym r_is_found)).1
 
   pub missing_label_is_none : (r : Option ℕ) → r ≡ find w
       → IfNone r ((j : ℕ) → list_any (is_labelled w) (statement_at db j) ≡ false)
-  missing_label_is_none None r_is_found = λ j. are_labels.missing w (sym r_is_found) j
+  missing_label_is_none None r_is_found =
+      λ j. are_labels.missing_has_no_statement w (sym r_is_found) j
   missing_label_is_none (Some k) r_is_found = tt
 
 -- the frames of what was read of a text are complete

@@ -539,12 +539,12 @@ module _ (b : BlockLists) (ps : List (ℕ × ℕ)) (rising : AreRising ps) (x y 
               ⊎ (nat_le at (end_of b (get_or ps (x_end - 1) (0, 0)).1) ≡ false) → ⊥
           impossible (inl p_before_last) reason =
               closed_is_inactive p (skipped_are_closed p next_le_p p_before_last) j_is_active
-          impossible (inr p_at_end) (inr reason) =
+          impossible (inr p_at_end) (inr last_is_closed) =
               let p_is_last : p ≡ x_end - 1 = omega (arith, p_lt_x_end, p_at_end) in
               closed_is_inactive p (ap (λ i. nat_le at (end_of b (get_or ps i (0, 0)).1)) p_is_last
-              ∙ reason)
+              ∙ last_is_closed)
               j_is_active
-          impossible (inr p_at_end) (inl reason) =
+          impossible (inr p_at_end) (inl statement_is_lower) =
               let p_is_last : p ≡ x_end - 1 = omega (arith, p_lt_x_end, p_at_end) in
               let statements_of_p_equal = ap (λ i. (get_or ps i (0, 0)).1) p_is_last in
               let statement_le =
@@ -626,7 +626,7 @@ module _ (b : BlockLists) (ps : List (ℕ × ℕ)) (rising : AreRising ps) (x y 
           → (get_or ps q (0, 0)).0 ≡ y
           → ((p : ℕ) → p < x_end → (get_or ps p (0, 0)).0 ≡ x → ⊥)
           ⊎ ((p : ℕ) → p < y_end → (get_or ps p (0, 0)).0 ≡ y → ⊥) → ⊥
-      by_exhausted_symbol p q p_lt_x_end q_lt_y_end p_has_x q_has_y (inl none_before_end) =
-          none_before_end p p_lt_x_end p_has_x
-      by_exhausted_symbol p q p_lt_x_end q_lt_y_end p_has_x q_has_y (inr none_before_end) =
-          none_before_end q q_lt_y_end q_has_y
+      by_exhausted_symbol p q p_lt_x_end q_lt_y_end p_has_x q_has_y (inl x_before_end_not) =
+          x_before_end_not p p_lt_x_end p_has_x
+      by_exhausted_symbol p q p_lt_x_end q_lt_y_end p_has_x q_has_y (inr y_before_end_not) =
+          y_before_end_not q q_lt_y_end q_has_y

@@ -35,8 +35,8 @@ names_inserted (e ∷ es) k v = by_equality (bytes_eq k.bytes.now e.0.bytes.now)
         ∷ map (λ x. x.bytes.now)
         (keys_of (insert_entry (λ (a b : Name). bytes_eq a.bytes.now b.bytes.now) es k v))
         ≡ (if b then (e.0.bytes.now ∷ ns) else ((e.0.bytes.now ∷ ns) ++ k.bytes.now ∷ []))
-    by_membership true h = ap (λ l. e.0.bytes.now ∷ l) h
-    by_membership false h = ap (λ l. e.0.bytes.now ∷ l) h
+    by_membership true rest_inserted = ap (λ l. e.0.bytes.now ∷ l) rest_inserted
+    by_membership false rest_inserted = ap (λ l. e.0.bytes.now ∷ l) rest_inserted
 
     by_equality : (b : Bool)
         → map (λ x. x.bytes.now)
@@ -48,8 +48,8 @@ names_inserted (e ∷ es) k v = by_equality (bytes_eq k.bytes.now e.0.bytes.now)
         (e ∷ insert_entry (λ (a b : Name). bytes_eq a.bytes.now b.bytes.now) es k v)))
         ≡ (if b || is_in k.bytes.now ns then (e.0.bytes.now ∷ ns) else
         ((e.0.bytes.now ∷ ns) ++ k.bytes.now ∷ []))
-    by_equality true h = refl
-    by_equality false h = by_membership (is_in k.bytes.now ns) h
+    by_equality true rest_inserted = refl
+    by_equality false rest_inserted = by_membership (is_in k.bytes.now ns) rest_inserted
 
 -- a name that is there stays the list as it was
 pub with_known_name_is_unchanged : (w : Bytes) (ns : List Bytes) → is_in w ns ≡ true
@@ -78,21 +78,21 @@ index_of_le_length w (n ∷ ns) = by_equality (bytes_eq w n) (index_of_le_length
   where
     by_equality : (b : Bool) → index_of w ns ≤ length ns
         → elim b [ true ↦ 0 | false ↦ suc (index_of w ns) ] ≤ suc (length ns)
-    by_equality true h = omega arith
-    by_equality false h = omega (arith, h)
+    by_equality true rest_index_le = omega arith
+    by_equality false rest_index_le = omega (arith, rest_index_le)
 
 -- what follows from a clause holds of the result too
 pub on_ok_then : {A E : Type 0} {P Q : Type 0} (r : Result A E) → OnOk r P → (P → Q) → OnOk r Q
-on_ok_then (Ok a) holds f = f holds
-on_ok_then (Err e) holds f = tt
+on_ok_then (Ok a) p_holds q_from_p = q_from_p p_holds
+on_ok_then (Err e) p_holds q_from_p = tt
 
 -- a name that is found is there
 pub found_name_is_in : {V : Type 0} (w : Bytes) (es : List (Name × V)) (o : Option V)
-    → lookup (λ (o_is_some : Name). bytes_eq w o_is_some.bytes.now) es ≡ o → is_some o ≡ true
+    → lookup (λ (k : Name). bytes_eq w k.bytes.now) es ≡ o → is_some o ≡ true
     → is_in w (map (λ x. x.bytes.now) (keys_of es)) ≡ true
 found_name_is_in w es o found_is_o o_is_some =
     sym (key_is_name w (keys_of es))
-    ∙ sym (is_some-lookup (λ (o_is_some : Name). bytes_eq w o_is_some.bytes.now) es)
+    ∙ sym (is_some-lookup (λ (k : Name). bytes_eq w k.bytes.now) es)
     ∙ ap is_some found_is_o ∙ o_is_some
 
 -- the name of an entry
@@ -100,13 +100,15 @@ pub entry_has_name : {V : Type 0} (es : List (Name × V)) (i : ℕ) (k : Name) (
     → slice_get es i ≡ Some (k, v) → slice_get (map (λ x. x.bytes.now) (keys_of es)) i ≡ Some w
     → k.bytes.now ≡ w
 entry_has_name [] zero k v w entry_i_is_k name_i_is_w =
-    absurd (let q : None ≡ Some w = name_i_is_w in cc)
+    absurd (let none_is_w : None ≡ Some w = name_i_is_w in cc)
 entry_has_name [] (suc i) k v w entry_i_is_k name_i_is_w =
-    absurd (let q : None ≡ Some w = name_i_is_w in cc)
+    absurd (let none_is_w : None ≡ Some w = name_i_is_w in cc)
 entry_has_name (x ∷ es) zero k v w entry_i_is_k name_i_is_w =
-    let p : Some x ≡ Some (k, v) = entry_i_is_k in
-    let q : Some x.0.bytes.now ≡ Some w = name_i_is_w in
-    let r : x ≡ (k, v) = cc in let s : x.0.bytes.now ≡ w = cc in ap (λ y. y.0.bytes.now) (sym r) ∙ s
+    let entry_is_some : Some x ≡ Some (k, v) = entry_i_is_k in
+    let name_is_some : Some x.0.bytes.now ≡ Some w = name_i_is_w in
+    let entry_is_k : x ≡ (k, v) = cc in
+    let name_is_w : x.0.bytes.now ≡ w = cc in
+    ap (λ y. y.0.bytes.now) (sym entry_is_k) ∙ name_is_w
 entry_has_name (x ∷ es) (suc i) k v w entry_i_is_k name_i_is_w =
     entry_has_name es i k v w entry_i_is_k name_i_is_w
 
@@ -114,8 +116,10 @@ entry_has_name (x ∷ es) (suc i) k v w entry_i_is_k name_i_is_w =
 pub name_of_entry : {V : Type 0} (es : List (Name × V)) (i : ℕ) (k : Name) (v : V)
     → slice_get es i ≡ Some (k, v) → slice_get (map (λ x. x.bytes.now) (keys_of es)) i
     ≡ Some k.bytes.now
-name_of_entry [] zero k v entry_i_is_k = absurd (let q : None ≡ Some (k, v) = entry_i_is_k in cc)
-name_of_entry [] (suc i) k v entry_i_is_k = absurd (let q : None ≡ Some (k, v) = entry_i_is_k in cc)
+name_of_entry [] zero k v entry_i_is_k =
+    absurd (let none_is_entry : None ≡ Some (k, v) = entry_i_is_k in cc)
+name_of_entry [] (suc i) k v entry_i_is_k =
+    absurd (let none_is_entry : None ≡ Some (k, v) = entry_i_is_k in cc)
 name_of_entry (x ∷ es) zero k v entry_i_is_k = ap (option_map (λ y. y.0.bytes.now)) entry_i_is_k
 name_of_entry (x ∷ es) (suc i) k v entry_i_is_k = name_of_entry es i k v entry_i_is_k
 

@@ -21,7 +21,7 @@ is_disjoint_kind (variables k xs d) kind_is_disjoint = absurd (cc)
 is_disjoint_kind (floating l k xs d) kind_is_disjoint = absurd (cc)
 is_disjoint_kind (essential l k xs d) kind_is_disjoint = absurd (cc)
 is_disjoint_kind (axiomatic l k xs d) kind_is_disjoint = absurd (cc)
-is_disjoint_kind (provable l k xs kind_is_disjoint ps d) h = absurd (cc)
+is_disjoint_kind (provable l k xs e ps d) kind_is_disjoint = absurd (cc)
 is_disjoint_kind (opening k) kind_is_disjoint = absurd (cc)
 is_disjoint_kind (closing k) kind_is_disjoint = absurd (cc)
 
@@ -32,8 +32,8 @@ is_disjoint_at db j kind_is_disjoint = by_statement (slice_get db j) kind_is_dis
   where
     by_statement : (o : Option Statement) → option_map kind_of o ≡ Some kind.Disjoint
         → list_any is_disjoint_statement (elim o [ None ↦ [] | Some s ↦ s ∷ [] ]) ≡ true
-    by_statement None h = absurd (cc)
-    by_statement (Some s) h = ap (λ b. b || false) (is_disjoint_kind s (cc))
+    by_statement None kind_is_disjoint = absurd (cc)
+    by_statement (Some s) kind_is_disjoint = ap (λ b. b || false) (is_disjoint_kind s (cc))
 
 -- an active `$d` that has both symbols makes them stand together
 pub near_are_together : (db : List Statement) (j k x y : ℕ)

@@ -87,21 +87,22 @@ module _ (text : List ℕ) (ws : List Word) where
     IsInside w = (w.start ≤ w.end) × (w.end ≤ length text)
 
     one_word_is_within : (i : ℕ) → i < length ws → AreWithin text (nth_word ws i ∷ [])
-    one_word_is_within i i_lt_length zero d h = words i (record { start = 0; end = 0 }) i_lt_length
-    one_word_is_within i i_lt_length (suc n) d h = absurd (omega arith)
+    one_word_is_within i i_lt_length zero d zero_lt_1 =
+        words i (record { start = 0; end = 0 }) i_lt_length
+    one_word_is_within i i_lt_length (suc n) d suc_n_lt_1 = absurd (omega arith)
 
     label_is_within : (o : Outline) → IsOutline o × (o.end < length ws)
         → AreWithin text (label_word ws o)
     label_is_within o is_outline = by_label (is_labelled_kind o.kind)
       where
-        by_label : (keyword_le_middle : Bool)
-            → AreWithin text (if keyword_le_middle then nth_word ws (o.keyword - 1) ∷ [] else [])
+        by_label : (with_label : Bool)
+            → AreWithin text (if with_label then nth_word ws (o.keyword - 1) ∷ [] else [])
         by_label true =
             let keyword_gt_0 = is_outline.0.2 in let keyword_le_middle = is_outline.0.3 in
             let end_lt_length = is_outline.1 in
             one_word_is_within (o.keyword - 1)
             (omega (arith, keyword_gt_0, keyword_le_middle, end_lt_length))
-        by_label false = λ k d l. absurd (omega arith)
+        by_label false = λ k d k_lt_0. absurd (omega arith)
 
     retained_words_are_of_statement : (o : Outline) → IsOutline o × (o.end < length ws)
         → IsRetained text (statement_of text ws o) (retained_words ws o)

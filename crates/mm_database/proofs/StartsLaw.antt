@@ -157,7 +157,7 @@ module _ (ps : List (ℕ × ℕ)) (rising : AreRising ps) (x at from to : ℕ)
           (omega (arith, i_lt_j, j_lt_width_here)) in
           let j_has_x = symbol_is_x (from + j) d (omega arith) (omega (arith, j_lt_width_here)) in
           absurd (omega (arith, i_has_x, j_has_x, symbol_lt))
-      statement_lt i_lt_j (inr (symbol_lt, statement_is_lower)) = statement_is_lower
+      statement_lt i_lt_j (inr (symbol_is_equal, statement_is_lower)) = statement_is_lower
 
       by_equality : (i ≡ j) ⊎ (i ≡ j → ⊥) → nat_lt (get_or (slice_range ps from to) i d).1 at ≡ true
       by_equality (inl i_is_j) =
@@ -223,18 +223,19 @@ module _ (ps : List (ℕ × ℕ)) (rising : AreRising ps) (x at from to : ℕ)
             impossible (inl symbol_lt) = let symbol_gt =
                 to_ends_x.later_are_no_lower p p_order p_lt_length_ps in
                 omega (arith, symbol_gt, symbol_lt)
-            impossible (inr (symbol_lt, statement_is_lower)) =
+            impossible (inr (symbol_is_equal, statement_is_lower)) =
                 let symbol_gt = to_ends_x.later_are_no_lower p p_order p_lt_length_ps in
-                omega (arith, symbol_gt, symbol_lt)
+                omega (arith, symbol_gt, symbol_is_equal)
         not_before is_before (inl p_order) = impossible is_before
           where
             from_le_p : from ≤ p
             from_le_p = omega arith
 
             impossible : IsBefore (get_or ps p (0, 0)).0 (get_or ps p (0, 0)).1 x at → ⊥
-            impossible (inl symbol_lt) = let symbol_is = symbol_is_x p (0, 0) from_le_p p_order in
+            impossible (inl symbol_lt) =
+                let symbol_is = symbol_is_x p (0, 0) from_le_p p_order in
                 omega (arith, symbol_is, symbol_lt)
-            impossible (inr (symbol_lt, statement_is_lower)) =
+            impossible (inr (symbol_is_equal, statement_is_lower)) =
                 let index_lt_width : p - from < to - from = omega (arith, from_le_p, p_order) in
                 let from_plus_index_is_p : from + (p - from) ≡ p = omega (arith, from_le_p) in
                 let width = slice_length in

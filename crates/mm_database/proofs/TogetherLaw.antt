@@ -55,7 +55,8 @@ module _ (db : List Statement) (b : BlockLists) (blocks : IsBlocks db b) (k : �
         → is_active_local b j k ≡ false)
         → r ≡ are_together_at db k x y
     found_is_together r x y found_if_true none_if_false =
-        same_tests r (are_together_at db k x y) left_to_right (λ e. right_to_left r refl e)
+        same_tests r (are_together_at db k x y) left_to_right
+        (λ are_together. right_to_left r refl are_together)
       where
         left_to_right : r ≡ true → are_together_at db k x y ≡ true
         left_to_right r_true =

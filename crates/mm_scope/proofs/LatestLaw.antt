@@ -102,8 +102,8 @@ module _ (db : List Statement) (s : Statement) where
           omega (arith, last_lt_before, length-append db (s ∷ []));
       last_has_word = has_word_in_front last latest.last_lt_length ∙ latest.last_has_word;
       active_is_last =
-          λ j h k e. by_order j h k
-          (ap (is_active (db ++ s ∷ []) j) (sym (length-append db (s ∷ []))) ∙ e)
+          λ j j_lt_length j_has_w j_is_active. by_order j j_lt_length j_has_w
+          (ap (is_active (db ++ s ∷ []) j) (sym (length-append db (s ∷ []))) ∙ j_is_active)
           (cases_lt j (length db));
     }
       where
@@ -128,8 +128,8 @@ module _ (db : List Statement) (s : Statement) where
       last_lt_length = omega (arith, length-append db (s ∷ []));
       last_has_word = has_word_at_end ∙ s_has_w;
       active_is_last =
-          λ j h k e. by_order j h k
-          (ap (is_active (db ++ s ∷ []) j) (sym (length-append db (s ∷ []))) ∙ e)
+          λ j j_lt_length j_has_w j_is_active. by_order j j_lt_length j_has_w
+          (ap (is_active (db ++ s ∷ []) j) (sym (length-append db (s ∷ []))) ∙ j_is_active)
           (cases_lt j (length db));
     }
       where

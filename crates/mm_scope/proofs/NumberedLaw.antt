@@ -142,7 +142,8 @@ module _ (db : List Statement) (lawful : (k : ℕ) → k < length db → scope_f
   formulas_push : map (formula_of db) db ++ formula_of all s ∷ [] ≡ map (formula_of all) all
   formulas_push =
       ap (λ fs. fs ++ formula_of all s ∷ [])
-      (maps_equal (formula_of db) (formula_of all) db (λ k t e. sym (formula_is_unchanged k t e)))
+      (maps_equal (formula_of db) (formula_of all) db
+      (λ k t t_is_statement_k. sym (formula_is_unchanged k t t_is_statement_k)))
       ∙ sym (map-append (formula_of all) db (s ∷ []))
 
   -- formulas of statements stay such with that of one statement more
