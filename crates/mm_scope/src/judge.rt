@@ -34,9 +34,9 @@ impl<'a, A: Allocator + Copy> Scope<'a, A> {
         numbers: &mut Vec<Sym, A>,
     ) -> Result<Option<Fault>, AllocError>
         requires words { AreWithin text.now tokens.now }
-        requires order { from ≤ to }
-        requires within { to ≤ length tokens.now }
-        requires few { length (names_in self.now) < 2 ^ 31 }
+        requires from_le_to { from ≤ to }
+        requires to_le_length { to ≤ length tokens.now }
+        requires few_names { length (names_in self.now) < 2 ^ 31 }
         ensures fault { IfOk result
             (IsLeastFault self.now
             (λ n. at_each (symbol_codes n) [] (between text.now tokens.now from to))) }
@@ -69,8 +69,8 @@ impl<'a, A: Allocator + Copy> Scope<'a, A> {
         to: u32,
     ) -> Result<Option<Fault>, AllocError>
         requires words { AreWithin text.now tokens.now }
-        requires order { from ≤ to }
-        requires within { to < length tokens.now }
+        requires from_le_to { from ≤ to }
+        requires to_lt_length { to < length tokens.now }
         ensures { IfOk result
             (IsLeastFault self.now
             (λ n. at_each (listed_codes n kind) [] (between text.now tokens.now from to))) }
@@ -99,9 +99,9 @@ impl<'a, A: Allocator + Copy> Scope<'a, A> {
         numbers: &mut Vec<Sym, A>,
     ) -> Result<Option<Fault>, AllocError>
         requires words { AreWithin text.now tokens.now }
-        requires order { from ≤ to }
-        requires within { to < length tokens.now }
-        requires few { length (names_in self.now) < 2 ^ 31 }
+        requires from_le_to { from ≤ to }
+        requires to_lt_length { to < length tokens.now }
+        requires few_names { length (names_in self.now) < 2 ^ 31 }
         ensures fault { IfOk result
             (IsLeastFault self.now
             (λ n. formula_faults n (between text.now tokens.now from to)
@@ -125,7 +125,7 @@ impl<'a, A: Allocator + Copy> Scope<'a, A> {
     /// Returns the fault of the label at the token `token_index`.
     fn label_fault(&self, text: &[u8], tokens: &[Word], token_index: u32) -> Option<Fault>
         requires words { AreWithin text.now tokens.now }
-        requires within { token_index < length tokens.now }
+        requires index_lt_length { token_index < length tokens.now }
         ensures { IsLeastFault self.now
             (λ n. label_faults n (token_at text.now tokens.now token_index)) result }
     {
@@ -136,8 +136,8 @@ impl<'a, A: Allocator + Copy> Scope<'a, A> {
     /// Returns the fault of the symbols of a `$f`.
     fn floating_fault(&self, text: &[u8], tokens: &[Word], keyword: u32, to: u32) -> Option<Fault>
         requires words { AreWithin text.now tokens.now }
-        requires order { keyword < to }
-        requires within { to < length tokens.now }
+        requires keyword_lt_to { keyword < to }
+        requires to_lt_length { to < length tokens.now }
         ensures { IsLeastFault self.now
             (λ n. floating_faults n (nth_word tokens.now keyword).start
             (between text.now tokens.now (keyword + 1) to)) result }
@@ -164,7 +164,7 @@ impl<'a, A: Allocator + Copy> Scope<'a, A> {
         outline: Outline,
     ) -> Option<Fault>
         requires among { IsAmong _text.now tokens.now outline }
-        requires order { outline.keyword < outline.middle }
+        requires keyword_lt_middle { outline.keyword < outline.middle }
         requires lists { lists_symbols outline.kind ≡ true }
         ensures { (n : DeclaredNames)
             → (faults : List SpecFault)
@@ -208,7 +208,7 @@ impl<'a, A: Allocator + Copy> Scope<'a, A> {
         numbers: &mut Vec<Sym, A>,
     ) -> Result<Option<Fault>, AllocError>
         requires among { IsAmong text.now tokens.now outline }
-        requires few { length (names_in self.now) < 2 ^ 31 }
+        requires few_names { length (names_in self.now) < 2 ^ 31 }
         ensures numbers { OnOk result
             (numbers.new.items
             ≡ numbers.old.items
@@ -251,8 +251,8 @@ impl<'a, A: Allocator + Copy> Scope<'a, A> {
     ) -> Result<Option<Fault>, AllocError>
         requires among { IsAmong text.now tokens.now outline }
         requires label { 0 < outline.keyword }
-        requires order { outline.keyword < outline.middle }
-        requires few { length (names_in self.now) < 2 ^ 31 }
+        requires keyword_lt_middle { outline.keyword < outline.middle }
+        requires few_names { length (names_in self.now) < 2 ^ 31 }
         ensures fault { IfOk result
             (IsLeastFault self.now
             (λ n. label_faults n (token_at text.now tokens.now (outline.keyword - 1))
@@ -281,7 +281,7 @@ impl<'a, A: Allocator + Copy> Scope<'a, A> {
         outline: Outline,
     ) -> Result<Option<Fault>, AllocError>
         requires among { IsAmong text.now tokens.now outline }
-        requires order { outline.keyword < outline.middle }
+        requires keyword_lt_middle { outline.keyword < outline.middle }
         requires lists { lists_symbols outline.kind ≡ true }
         ensures { IfOk result
             (IsLeastFault self.now
@@ -353,8 +353,8 @@ const MAX_WORDS_COMPARED: u32 = 16;
 /// Whether the word at `token_index` is among the words before it, from `from` on.
 fn is_among(text: &[u8], tokens: &[Word], from: u32, token_index: u32) -> bool
     requires words { AreWithin text.now tokens.now }
-    requires order { from ≤ token_index }
-    requires within { token_index < length tokens.now }
+    requires from_le_index { from ≤ token_index }
+    requires index_lt_length { token_index < length tokens.now }
     ensures { result
         ≡ is_in (token_at text.now tokens.now token_index).word
         (words (between text.now tokens.now from token_index)) }
@@ -381,8 +381,8 @@ fn is_repeated<'a, A: Allocator + Copy>(
     token_index: u32,
 ) -> Result<bool, AllocError>
     requires words { AreWithin text.now tokens.now }
-    requires order { from ≤ token_index }
-    requires within { token_index < length tokens.now }
+    requires from_le_index { from ≤ token_index }
+    requires index_lt_length { token_index < length tokens.now }
     requires seen { is_short ≡ false → (w : List ℕ)
         → is_some (find seen.old.entries w)
         ≡ is_in w (words (between text.now tokens.now from token_index)) }

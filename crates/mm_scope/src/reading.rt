@@ -99,7 +99,7 @@ fn no_scope<'a, A: Allocator + Copy>(alloc: A) -> Result<Scope<'a, A>, AllocErro
 
 /// Returns the fault at the end of a text.
 fn end_fault(lexical: Option<Fault>, text: &[u8], part: Part, depth: u32) -> Option<Fault>
-    requires short { lexical ≡ None → length text.now < 2 ^ 31 }
+    requires few_bytes { lexical ≡ None → length text.now < 2 ^ 31 }
     ensures { result ≡ end_fault_of lexical (length text.now) part depth }
 {
     match lexical {
@@ -149,7 +149,7 @@ impl<'a, A: Allocator + Copy> Outlined<'a, A> {
         outline: Outline,
     ) -> Result<(), AllocError>
         requires among { IsAmong text.now tokens.now outline }
-        requires few { length tokens.now < 2 ^ 31 }
+        requires few_tokens { length tokens.now < 2 ^ 31 }
         requires no_fault { self.old.fault ≡ None }
         requires is_read_so_far { IsReadSoFar
             (statements text.now tokens.now self.old.outlines.items) (read_so_far self.old) }
@@ -184,9 +184,9 @@ pub fn outline_statements<'a, A: Allocator + Copy>(
 ) -> Result<Outlined<'a, A>, AllocError>
     requires words { AreWithin text.now tokens.now }
     requires tokens { AreTokens text.now tokens.now }
-    requires few { length tokens.now < 2 ^ 31 }
-    requires short { lexical ≡ None → length text.now < 2 ^ 31 }
-    ensures few { IfOk result (λ d. length d.outlines.items < 2 ^ 31) }
+    requires few_tokens { length tokens.now < 2 ^ 31 }
+    requires few_bytes { lexical ≡ None → length text.now < 2 ^ 31 }
+    ensures few_outlines { IfOk result (λ d. length d.outlines.items < 2 ^ 31) }
     ensures outlines { IfOk result
         (λ d. All (λ o. IsOutline o × (o.end < length tokens.now)) d.outlines.items) }
     ensures is_read_so_far { IfOk result

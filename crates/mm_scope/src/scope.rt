@@ -208,7 +208,7 @@ impl<'a, A: Allocator + Copy> Scope<'a, A> {
         outline: Outline,
     ) -> Result<(), AllocError>
         requires among { IsAmong text.now tokens.now outline }
-        requires few { length tokens.now < 2 ^ 31 }
+        requires few_tokens { length tokens.now < 2 ^ 31 }
         requires keeps { (db : List Statement) × IsScopeAfter db self.old × (length db < 2 ^ 31) }
         ensures keeps { OnOk result
             (IsNextScope self.old self.new (statement_of text.now tokens.now outline)) }
@@ -230,7 +230,7 @@ impl<'a, A: Allocator + Copy> Scope<'a, A> {
         number: u32,
     ) -> Result<(), AllocError>
         requires among { IsAmong text.now tokens.now outline }
-        requires few { length tokens.now < 2 ^ 31 }
+        requires few_tokens { length tokens.now < 2 ^ 31 }
         ensures symbols { OnOk result
             ((w : List ℕ)
             → entry_in self.new w
@@ -274,7 +274,7 @@ impl<'a, A: Allocator + Copy> Scope<'a, A> {
     ) -> Result<(), AllocError>
         requires words { AreWithin text.now tokens.now }
         requires label { 0 < keyword }
-        requires within { keyword < length tokens.now }
+        requires keyword_lt_length { keyword < length tokens.now }
         ensures labels { OnOk result
             ((w : List ℕ)
             → label_in self.new w
@@ -296,7 +296,7 @@ impl<'a, A: Allocator + Copy> Scope<'a, A> {
         number: u32,
     ) -> Result<(), AllocError>
         requires words { AreWithin text.now tokens.now }
-        requires within { from + 1 < length tokens.now }
+        requires next_lt_length { from + 1 < length tokens.now }
         ensures labels { OnOk result
             ((w : List ℕ) → label_in self.new w ≡ label_in self.old w) }
         ensures symbols { OnOk result
@@ -336,7 +336,7 @@ impl<'a, A: Allocator + Copy> Scope<'a, A> {
         number: u32,
     ) -> Result<(), AllocError>
         requires among { IsAmong text.now tokens.now outline }
-        requires order { outline.keyword < outline.middle }
+        requires keyword_lt_middle { outline.keyword < outline.middle }
         ensures labels { OnOk result
             ((w : List ℕ) → label_in self.new w ≡ label_in self.old w) }
         ensures symbols { OnOk result

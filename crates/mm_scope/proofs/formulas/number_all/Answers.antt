@@ -10,7 +10,7 @@ use Rattle.mm_database.proofs.NamesLaw.{index_of_le_length}
 pub overflow_cast-number : goal.overflow_cast-number
 overflow_cast-number g c =
     let ns = names_of c.args.names.now.symbols in
-    let names_lt_2_31 = c.requires.few in
+    let names_lt_2_31 = c.requires.few_names in
     let index_le_length = index_of_le_length c.bytes.result.now ns in
     let number_is_index = c.numbered-number.ensures.number in
     omega (arith, index_le_length, number_is_index, names_lt_2_31)

@@ -12,7 +12,7 @@ loop-earlier-preserved c =
     let word = (token_at text ws c.args.token_index).word in
     let i = c.loop-earlier.earlier in
     let i_lt_token_index = c.loop-earlier-test.true in
-    let token_index_lt_length = c.requires.within in
+    let token_index_lt_length = c.requires.index_lt_length in
     let among_with_word_i = among_between_push text ws c.args.from i (omega arith)
     (omega (arith, i_lt_token_index, token_index_lt_length)) word in
     let earlier_words = words (between text ws c.args.from i) in

@@ -9,8 +9,8 @@ returns-else-is_short-clause-seen g c =
     on_ok_then c.insert_word.result c.insert_word.ensures.inserted
     (λ inserted is_not_short. seen_between_push c.args.text.now c.args.tokens.now c.args.from
     c.args.token_index
-    c.requires.order
-    c.requires.within (find c.args.seen.now.entries) (find c.insert_word.new.seen.entries)
+    c.requires.from_le_index
+    c.requires.index_lt_length (find c.args.seen.now.entries) (find c.insert_word.new.seen.entries)
     (λ w. inserted w
     ∙ ap (λ b. if bytes_eq b w then Some 0 else find c.args.seen.now.entries w) c.bytes.ensures)
     (c.requires.seen is_not_short))

@@ -35,7 +35,7 @@ add_if_lawful-requires-clause-next g c =
     let longest = is_longest ts in
     let db_le_index = is_read_to.length_db_le_index in
     let index_le_length = is_read_to.index_le_length in
-    let tokens_lt_2_31 = c.requires.few in
+    let tokens_lt_2_31 = c.requires.few_tokens in
     let as_tokens_length = length-map ws (token_of text) in
     record {
       lawful = is_read_to.lawful;
@@ -51,12 +51,12 @@ add_if_lawful-requires-clause-next g c =
           omega (arith, names_le_tokens, as_tokens_length, tokens_lt_2_31));
     }
 
-pub returns-then-is_some-clause-few : goal.returns-then-is_some-clause-few
-returns-then-is_some-clause-few g c =
+pub returns-then-is_some-clause-few_outlines : goal.returns-then-is_some-clause-few_outlines
+returns-then-is_some-clause-few_outlines g c =
     let loop = c.statements in
     let db_le_index = loop.invariant.reading.length_db_le_index in
     let index_le_length = loop.invariant.reading.index_le_length in
-    let tokens_lt_2_31 = c.requires.few in
+    let tokens_lt_2_31 = c.requires.few_tokens in
     let statements_length =
     length-map loop.read.outlines.items (statement_of c.args.text.now c.args.tokens.now) in
     let outlines_length =
@@ -129,7 +129,7 @@ statements-preserved g c =
     ∙ map-append (statement_of text ws) loop.read.outlines.items (outline ∷ []) in
     let is_read_to_next =
     is_read_to_with_statement text ws db loop.depth loop.token_index loop.invariant.reading
-    c.requires.few
+    c.requires.few_tokens
     blocks
     loop.invariant.is_read_so_far.keeps.blocks outline.kind outline.keyword outline.middle
     outline.end
@@ -149,12 +149,12 @@ statements-preserved g c =
       no_fault = sym none_is_fault;
     }
 
-pub returns-in-Stopped-clause-few : goal.returns-in-Stopped-clause-few
-returns-in-Stopped-clause-few g c =
+pub returns-in-Stopped-clause-few_outlines : goal.returns-in-Stopped-clause-few_outlines
+returns-in-Stopped-clause-few_outlines g c =
     let loop = c.statements in
     let db_le_index = loop.invariant.reading.length_db_le_index in
     let index_le_length = loop.invariant.reading.index_le_length in
-    let tokens_lt_2_31 = c.requires.few in
+    let tokens_lt_2_31 = c.requires.few_tokens in
     let statements_length =
     length-map loop.read.outlines.items (statement_of c.args.text.now c.args.tokens.now) in
     omega (arith, db_le_index, index_le_length, tokens_lt_2_31, statements_length)
@@ -168,12 +168,12 @@ returns-in-Stopped-clause-read g c =
     (statements text ws loop.read.outlines.items) loop.depth loop.token_index loop.invariant.reading
     c.in-Stopped.fault c.in-Stopped.ensures.0 c.in-Stopped.ensures.1
 
-pub returns-in-Ended-clause-few : goal.returns-in-Ended-clause-few
-returns-in-Ended-clause-few g c =
+pub returns-in-Ended-clause-few_outlines : goal.returns-in-Ended-clause-few_outlines
+returns-in-Ended-clause-few_outlines g c =
     let loop = c.statements in
     let db_le_index = loop.invariant.reading.length_db_le_index in
     let index_le_length = loop.invariant.reading.index_le_length in
-    let tokens_lt_2_31 = c.requires.few in
+    let tokens_lt_2_31 = c.requires.few_tokens in
     let statements_length =
     length-map loop.read.outlines.items (statement_of c.args.text.now c.args.tokens.now) in
     omega (arith, db_le_index, index_le_length, tokens_lt_2_31, statements_length)

@@ -15,8 +15,8 @@ use Rattle.mm_scope.proofs.NumberedLaw.{declared_names_are_symbol_names, taken_n
 use Rattle.mm_scope.proofs.NumberedLaw.{formulas_with_statement}
 use Rattle.mm_scope.proofs.reading.Outlined.add_if_lawful.Goals as goal
 
-pub fault-requires-clause-few : goal.fault-requires-clause-few
-fault-requires-clause-few g c =
+pub fault-requires-clause-few_names : goal.fault-requires-clause-few_names
+fault-requires-clause-few_names g c =
     let db = statements c.args.text.now c.args.tokens.now c.args.self.now.outlines.items in
     let s = statement_of c.args.text.now c.args.tokens.now c.args.outline in
     let names_length = ap length c.requires.is_read_so_far.names_are in

@@ -8,8 +8,8 @@ use Rattle.mm_scope.proofs.scope.Scope.floating_fault.Goals as goal
 
 pub returns-then-to-keyword-ne3 : goal.returns-then-to-keyword-ne3
 returns-then-to-keyword-ne3 g c = λ n are_names.
-    let keyword_lt_to = c.requires.order in
-    let to_lt_length = c.requires.within in
+    let keyword_lt_to = c.requires.keyword_lt_to in
+    let to_lt_length = c.requires.to_lt_length in
     c.fault_with_code.ensures
     ∙ not_two_between_is_faulty n
     (nth_word c.args.tokens.now c.args.keyword).start c.args.text.now c.args.tokens.now
@@ -19,7 +19,7 @@ pub returns-in-Some : goal.returns-in-Some
 returns-in-Some g c = λ n are_names.
     let text = c.args.text.now in
     let ws = c.args.tokens.now in
-    let to_lt_length = c.requires.within in
+    let to_lt_length = c.requires.to_lt_length in
     let keyword_place = (nth_word ws c.args.keyword).start in
     let first = token_at text ws (c.args.keyword + 1) in
     let second = token_at text ws (c.args.keyword + 2) in
@@ -37,7 +37,7 @@ pub returns-in-None : goal.returns-in-None
 returns-in-None g c = λ n are_names.
     let text = c.args.text.now in
     let ws = c.args.tokens.now in
-    let to_lt_length = c.requires.within in
+    let to_lt_length = c.requires.to_lt_length in
     let keyword_place = (nth_word ws c.args.keyword).start in
     let first = token_at text ws (c.args.keyword + 1) in
     let second = token_at text ws (c.args.keyword + 2) in

@@ -14,7 +14,7 @@ use Rattle.mm_database.proofs.NamesLaw.{index_of_le_length}
 pub overflow_cast-number : goal.overflow_cast-number
 overflow_cast-number g c =
     let ns = names_of c.args.self.now.names.symbols in
-    let names_lt_2_31 = c.requires.few in
+    let names_lt_2_31 = c.requires.few_names in
     let index_le_length = index_of_le_length c.bytes.result.now ns in
     let number_is_index = c.numbered-number.ensures.number in
     omega (arith, index_le_length, number_is_index, names_lt_2_31)
@@ -23,8 +23,8 @@ pub returns-clause-fault : goal.returns-clause-fault
 returns-clause-fault g c = λ n are_names.
     let s = c.args.self.now in
     let from_ne_to = c.if-from-to.false in
-    let to_lt_length = c.requires.within in
-    let from_le_to = c.requires.order in
+    let to_lt_length = c.requires.to_lt_length in
+    let from_le_to = c.requires.from_le_to in
     let from_lt_to : c.args.from < c.args.to = omega (arith, from_ne_to, from_le_to) in
     let to_le_length : c.args.to ≤ length c.args.tokens.now = omega (arith, to_lt_length) in
     let text = c.args.text.now in
@@ -47,8 +47,8 @@ returns-clause-numbers g c =
     let text = c.args.text.now in
     let ws = c.args.tokens.now in
     let from_ne_to = c.if-from-to.false in
-    let to_lt_length = c.requires.within in
-    let from_le_to = c.requires.order in
+    let to_lt_length = c.requires.to_lt_length in
+    let from_le_to = c.requires.from_le_to in
     let from_lt_to : c.args.from < c.args.to = omega (arith, from_ne_to, from_le_to) in
     let to_le_length : c.args.to ≤ length ws = omega (arith, to_lt_length) in
     let ns = names_of c.args.self.now.names.symbols in

@@ -13,7 +13,7 @@ use Rattle.mm_database.proofs.NamesLaw.{index_of_le_length}
 pub overflow_cast-number : goal.overflow_cast-number
 overflow_cast-number g c =
     let ns = names_of c.args.self.now.names.symbols in
-    let names_lt_2_31 = c.requires.few in
+    let names_lt_2_31 = c.requires.few_names in
     let index_le_length = index_of_le_length c.bytes.result.now ns in
     let number_is_index = c.numbered-number.ensures.number in
     omega (arith, index_le_length, number_is_index, names_lt_2_31)
@@ -24,7 +24,7 @@ loop-token_index-preserved g c =
     let text = c.args.text.now in
     let ws = c.args.tokens.now in
     let index_lt_to = c.loop-token_index-test.true in
-    let to_le_length = c.requires.within in
+    let to_le_length = c.requires.to_le_length in
     let index_lt_length : c.loop-token_index.token_index < length ws =
     omega (arith, index_lt_to, to_le_length) in
     let from_le_index : c.args.from ≤ c.loop-token_index.token_index = omega arith in

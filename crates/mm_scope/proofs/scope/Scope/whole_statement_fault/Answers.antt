@@ -24,7 +24,7 @@ returns-in-Constants g c = λ n.
           ∙ c.code_if.ensures keyword_place)
           (c.fault_with_code.ensures ∙ c.code_if-in-Constants.ensures middle_place
           ∙ ap (λ b. least (at middle_place (when b EmptyDeclaration)))
-          (nothing_between_is_empty n text ws o.keyword o.middle c.requires.order
+          (nothing_between_is_empty n text ws o.keyword o.middle c.requires.keyword_lt_middle
           (omega (arith, end_lt_length, middle_le_end)))),
       ap (λ kd. scope_faults n c.args.depth (statement_between text ws kd o.keyword o.middle o.end))
           c.in-Constants.is
@@ -45,7 +45,7 @@ returns-in-Variables g c = λ n.
       empty_faults,
       c.fault_with_code-in-Variables.ensures ∙ c.code_if-in-Variables.ensures middle_place
           ∙ ap (λ b. least (at middle_place (when b EmptyDeclaration)))
-          (nothing_between_is_empty n text ws o.keyword o.middle c.requires.order
+          (nothing_between_is_empty n text ws o.keyword o.middle c.requires.keyword_lt_middle
           (omega (arith, end_lt_length, middle_le_end))),
       ap (λ kd. scope_faults n c.args.depth (statement_between text ws kd o.keyword o.middle o.end))
           c.in-Variables.is
