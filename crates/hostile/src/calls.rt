@@ -3,7 +3,7 @@
 ghost use Rattle.std.specs.Prelude.{◌≡◌, ◌≤◌, [], IfOk, IsTrue};
 ghost use Rattle.mm_spec.specs.Citation.{steps_at, reading_faults_at};
 ghost use Rattle.mm_spec.specs.Output.{is_theorem_at};
-ghost use Rattle.mm_steps.specs.Read.{read};
+ghost use Rattle.mm_steps.specs.TheoremSteps.{theorem_steps};
 ghost use Rattle.mm_check.specs.Checker.{IsMadeFor};
 
 use crate::flags::BY_ALL_NODES;
@@ -50,7 +50,7 @@ pub(crate) fn checked<A: Allocator + Copy>(
     steps: &Steps<A>,
 ) -> Result<Checked<A>, CheckRefused>
     requires theorem { IsTrue (is_theorem_at database.now.statements theorem) }
-    requires steps { steps.now ≡ read theorem (steps_at database.now.statements theorem) }
+    requires steps { steps.now ≡ theorem_steps theorem (steps_at database.now.statements theorem) }
     requires sound { reading_faults_at database.now.statements theorem ≡ [] }
 {
     check(alloc, database, theorem, steps, BY_ALL_NODES)
@@ -66,7 +66,7 @@ pub(crate) fn checked_by<A: Allocator + Copy>(
 ) -> Result<Checked<A>, CheckRefused>
     requires made_for { IsMadeFor database.now.statements checker.old }
     requires theorem { IsTrue (is_theorem_at database.now.statements theorem) }
-    requires steps { steps.now ≡ read theorem (steps_at database.now.statements theorem) }
+    requires steps { steps.now ≡ theorem_steps theorem (steps_at database.now.statements theorem) }
     requires sound { reading_faults_at database.now.statements theorem ≡ [] }
     ensures made_for { IsMadeFor database.now.statements checker.new }
 {

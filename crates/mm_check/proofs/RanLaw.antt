@@ -13,7 +13,7 @@ use Rattle.mm_spec.specs.Steps.{Step, label, marked, PlacedStep, placed}
 use Rattle.mm_spec.specs.Statement.{Statement}
 use Rattle.mm_spec.specs.Citation.{context_at}
 use Rattle.mm_spec.specs.Laws.Stack.{IsGoodStep, step_entries, top}
-use Rattle.mm_steps.specs.Read.{step_at, is_marked, takes_up}
+use Rattle.mm_steps.specs.TheoremSteps.{step_at, is_marked, takes_up}
 use Rattle.mm_machine.specs.State.{MachineState, machine_state, with_mark, reason_of}
 use Rattle.mm_machine.specs.declared.machine.StepRefused.{StepRefused}
 use Rattle.mm_machine.specs.declared.machine.StepRefused.TheVariants.{Fault, Memory}

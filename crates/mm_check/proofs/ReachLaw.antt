@@ -18,7 +18,7 @@ use Rattle.mm_spec.proofs.StepsLaw.{after_more, GrownForest, grows}
 use Rattle.mm_spec.specs.Laws.Stack.{AreGoodSteps, IsGoodStep, step_entries, top}
 use Rattle.mm_spec.specs.Statement.{Statement, provable}
 use Rattle.mm_spec.specs.Citation.{context_at, is_theorem}
-use Rattle.mm_steps.specs.Read.{step_at}
+use Rattle.mm_steps.specs.TheoremSteps.{step_at}
 use Rattle.std.specs.Option.{option_map}
 use Rattle.std.proofs.Math.Bool.{or-false}
 use Rattle.std.proofs.lemmas.Bool.{or_left, or_right}

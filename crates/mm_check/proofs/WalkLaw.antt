@@ -20,7 +20,7 @@ use Rattle.mm_spec.specs.Laws.Complete.{AreComplete}
 use Rattle.mm_spec.specs.Citation.{context_at, rule_at, steps_at, IsProof, Cites}
 use Rattle.mm_spec.specs.Laws.Stack.{IsCompleteRule, AreGoodSteps, IsGoodStep}
 use Rattle.mm_spec.proofs.CitedLaw.{proof_unique}
-use Rattle.mm_steps.specs.Read.{step_at, IsEarlier}
+use Rattle.mm_steps.specs.TheoremSteps.{step_at, IsEarlier}
 use Rattle.mm_rule.specs.Assertions.{is_assertion_at}
 use Rattle.mm_check.specs.Contract.{is_labelled_step}
 use Rattle.mm_check.specs.Flags.{child_flags, taken_flags, step_flags_after}

@@ -11,7 +11,7 @@ use Rattle.mm_spec.specs.Citation.{context_at, steps_at, reading_faults_at}
 use Rattle.mm_spec.specs.Output.{is_theorem_at}
 use Rattle.mm_spec.specs.Laws.Complete.{AreComplete}
 use Rattle.mm_spec.specs.Laws.Stack.{AreGoodSteps}
-use Rattle.mm_steps.specs.Read.{is_marked}
+use Rattle.mm_steps.specs.TheoremSteps.{is_marked}
 use Rattle.mm_machine.specs.State.{MachineState}
 use Rattle.mm_rule.specs.Assertions.{is_assertion_at}
 

@@ -7,7 +7,7 @@ ghost use Rattle.mm_spec.specs.Scope.{statement_at};
 ghost use Rattle.mm_spec.specs.Frame.{is_essential as is_essential_statement};
 ghost use Rattle.mm_spec.specs.Derivation.{Trees, is_member};
 ghost use Rattle.mm_spec.specs.Citation.{IsProof, Cites};
-ghost use Rattle.mm_steps.specs.Read.{as_step, IsEarlier};
+ghost use Rattle.mm_steps.specs.TheoremSteps.{as_step, IsEarlier};
 ghost use Rattle.mm_rule.specs.Assertions.{is_assertion_at};
 ghost use Rattle.mm_check.specs.Contract.{is_labelled_step, IsLabelBelow};
 ghost use Rattle.mm_check.specs.Flags.{child_flags, taken_flags, step_flags_after};

@@ -3,7 +3,7 @@
 ghost use Rattle.std.specs.Prelude.{◌≡◌, ◌==◌, ◌&&◌, ◌||◌, ℕ, [], length, true, IfOk, OnOk};
 ghost use Rattle.std.specs.List.Sorted.{IsStrictlyIncreasing};
 ghost use Rattle.mm_spec.specs.Derivation.{is_member};
-ghost use Rattle.mm_steps.specs.Read.{as_step};
+ghost use Rattle.mm_steps.specs.TheoremSteps.{as_step};
 ghost use Rattle.mm_rule.specs.Assertions.{is_assertion_at};
 ghost use Rattle.mm_check.specs.Contract.{IsLabelBelow, is_labelled_step};
 

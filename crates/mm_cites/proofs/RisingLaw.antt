@@ -5,43 +5,45 @@ use Rattle.std.specs.List.{range_with_len, filter}
 use Rattle.mm_cites.specs.Citing.{IsStatementList}
 
 -- each element of a selection passes the test
-pub filter_at : (p : ℕ → Bool) (xs : List ℕ) (i d : ℕ) → i < length (filter p xs)
+pub filtered_passes : (p : ℕ → Bool) (xs : List ℕ) (i d : ℕ) → i < length (filter p xs)
     → p (get_or (filter p xs) i d) ≡ true
-filter_at p [] i d h = absurd (omega arith)
-filter_at p (x ∷ xs) i d h = by_test (p x) refl (filter_at p xs) i h
+filtered_passes p [] i d i_lt_length = absurd (omega arith)
+filtered_passes p (x ∷ xs) i d i_lt_length = by_test (p x) refl (filtered_passes p xs) i i_lt_length
   where
     by_test : (a : Bool) → p x ≡ a
         → ((i d : ℕ) → i < length (filter p xs) → p (get_or (filter p xs) i d) ≡ true) → (i : ℕ)
         → i < length {A = ℕ} (cond a (x ∷ filter p xs) (filter p xs))
         → p (get_or (cond a (x ∷ filter p xs) (filter p xs)) i d) ≡ true
-    by_test true e r zero h = e
-    by_test true e r (suc i) h = r i d (omega arith)
-    by_test false e r i h = r i d h
+    by_test true p_x_is_a rest_passes zero i_lt_length = p_x_is_a
+    by_test true p_x_is_a rest_passes (suc i) i_lt_length = rest_passes i d (omega arith)
+    by_test false p_x_is_a rest_passes i i_lt_length = rest_passes i d i_lt_length
 
 -- a selection of the numbers below n, in order, is a statement list: each is above the one before
-pub filter_rising : (p : ℕ → Bool) (n : ℕ) → n < 2 ^ 31
+pub filtered_range_is_statement_list : (p : ℕ → Bool) (n : ℕ) → n < 2 ^ 31
     → IsStatementList (filter p (range_with_len 0 n))
-filter_rising p n few =
+filtered_range_is_statement_list p n n_lt_2_31 =
     record {
-      few = let l = shorter p n 0 in omega (arith, l, few);
-      rises = λ i j l h. rises p n 0 i j l h;
+      few = let selection_le_n = selection_no_longer p n 0 in
+          omega (arith, selection_le_n, n_lt_2_31);
+      rises = λ i j i_lt_j j_lt_length. selection_rises p n 0 i j i_lt_j j_lt_length;
     }
   where
-    shorter : (p : ℕ → Bool) (n a : ℕ) → length (filter p (range_with_len a n)) ≤ n
-    shorter p zero a = omega arith
-    shorter p (suc n) a = by_test (p a) (shorter p n (a + 1))
+    selection_no_longer : (p : ℕ → Bool) (n a : ℕ) → length (filter p (range_with_len a n)) ≤ n
+    selection_no_longer p zero a = omega arith
+    selection_no_longer p (suc n) a = by_test (p a) (selection_no_longer p n (a + 1))
       where
         by_test : (b : Bool) → length (filter p (range_with_len (a + 1) n)) ≤ n
             → length {A = ℕ}
             (cond b (a ∷ filter p (range_with_len (a + 1) n)) (filter p (range_with_len (a + 1) n)))
             ≤ suc n
-        by_test true h = omega (arith, h)
-        by_test false h = omega (arith, h)
+        by_test true rest_le_n = omega (arith, rest_le_n)
+        by_test false rest_le_n = omega (arith, rest_le_n)
 
-    least : (p : ℕ → Bool) (n a i : ℕ) → i < length (filter p (range_with_len a n))
+    start_le_selected : (p : ℕ → Bool) (n a i : ℕ) → i < length (filter p (range_with_len a n))
         → a ≤ get_or (filter p (range_with_len a n)) i 0
-    least p zero a i h = absurd (omega arith)
-    least p (suc n) a i i_inside = by_test (p a) (least p n (a + 1)) i i_inside
+    start_le_selected p zero a i i_lt_length = absurd (omega arith)
+    start_le_selected p (suc n) a i i_inside =
+        by_test (p a) (start_le_selected p n (a + 1)) i i_inside
       where
         by_test : (b : Bool)
             → ((i : ℕ) → i < length (filter p (range_with_len (a + 1) n))
@@ -53,15 +55,19 @@ filter_rising p n few =
             → a ≤ get_or {A = ℕ}
             (cond b (a ∷ filter p (range_with_len (a + 1) n))
             (filter p (range_with_len (a + 1) n))) i 0
-        by_test true r zero i_inside = omega arith
-        by_test true r (suc i) i_inside = let k = r i (omega arith) in omega (arith, k)
-        by_test false r i i_inside = let k = r i i_inside in omega (arith, k)
+        by_test true next_le_selected zero i_inside = omega arith
+        by_test true next_le_selected (suc i) i_inside = let next_le =
+            next_le_selected i (omega arith) in omega (arith, next_le)
+        by_test false next_le_selected i i_inside = let next_le = next_le_selected i i_inside in
+            omega (arith, next_le)
 
-    rises : (p : ℕ → Bool) (n a i j : ℕ) → i < j → j < length (filter p (range_with_len a n))
+    selection_rises : (p : ℕ → Bool) (n a i j : ℕ) → i < j
+        → j < length (filter p (range_with_len a n))
         → get_or (filter p (range_with_len a n)) i 0 < get_or (filter p (range_with_len a n)) j 0
-    rises p zero a i j l h = absurd (omega arith)
-    rises p (suc n) a i j i_below_j j_inside =
-        by_test (p a) (rises p n (a + 1)) (least p n (a + 1)) i j i_below_j j_inside
+    selection_rises p zero a i j i_lt_j j_lt_length = absurd (omega arith)
+    selection_rises p (suc n) a i j i_below_j j_inside =
+        by_test (p a) (selection_rises p n (a + 1)) (start_le_selected p n (a + 1)) i j i_below_j
+        j_inside
       where
         by_test : (b : Bool)
             → ((i j : ℕ) → i < j → j < length (filter p (range_with_len (a + 1) n))
@@ -79,9 +85,13 @@ filter_rising p n few =
             < get_or {A = ℕ}
             (cond b (a ∷ filter p (range_with_len (a + 1) n))
             (filter p (range_with_len (a + 1) n))) j 0
-        by_test true r m zero zero i_below_j j_inside = absurd (omega arith)
-        by_test true r m zero (suc j) i_below_j j_inside = let k = m j (omega arith) in
-            omega (arith, k)
-        by_test true r m (suc i) zero i_below_j j_inside = absurd (omega arith)
-        by_test true r m (suc i) (suc j) i_below_j j_inside = r i j (omega arith) (omega arith)
-        by_test false r m i j i_below_j j_inside = r i j i_below_j j_inside
+        by_test true rest_rises next_le_selected zero zero i_below_j j_inside = absurd (omega arith)
+        by_test true rest_rises next_le_selected zero (suc j) i_below_j j_inside = let next_le =
+            next_le_selected j (omega arith) in
+            omega (arith, next_le)
+        by_test true rest_rises next_le_selected (suc i) zero i_below_j j_inside =
+            absurd (omega arith)
+        by_test true rest_rises next_le_selected (suc i) (suc j) i_below_j j_inside =
+            rest_rises i j (omega arith) (omega arith)
+        by_test false rest_rises next_le_selected i j i_below_j j_inside =
+            rest_rises i j i_below_j j_inside

@@ -6,12 +6,15 @@ pub record Citing : Type 0 where
   pub theorems : List ℕ
   pub cites : List (List ℕ)
 
+-- these theorems cite these lists of statements
 abbrev pub citing : List ℕ → List (List ℕ) → Citing
 citing theorems cites = record { theorems = theorems; cites = cites }
 
+-- the statement of the theorem in row `i`
 abbrev pub theorem_at : Citing → ℕ → ℕ
 theorem_at c i = slice_index c.theorems i
 
+-- the statements that the theorem in row `i` cites
 abbrev pub list_at : Citing → ℕ → List ℕ
 list_at c i = slice_index_or c.cites i []
 

@@ -18,36 +18,46 @@ module _ (w : Bool) (db : List Statement) where
   abbrev counted_db : List Statement
   counted_db = counted w db
 
-  shorter : (k : ℕ) → k < length counted_db → k < length db
-  shorter k h = subst (λ n. k < n) (counted_length w db) h
+  -- as many statements count as were read
+  k_lt_length : (k : ℕ) → k < length counted_db → k < length db
+  k_lt_length k k_lt_counted_length = subst (λ n. k < n) (counted_length w db) k_lt_counted_length
 
+  -- a label stands for the same statement
   pub labels_counted : (find : List ℕ → Option ℕ) → AreLabels db find → AreLabels counted_db find
-  labels_counted find h = record {
-    found =
-        λ x k e. let f = h.found x k e in
-        (subst (λ n. k < n) (sym (counted_length w db)) f.0, same x k ∙ f.1);
-    missing = λ x e k. same x k ∙ h.missing x e k;
-    only = λ x j k e f. h.only x j k (sym (same x j) ∙ e) (sym (same x k) ∙ f);
+  labels_counted find are_labels = record {
+    found_has_label =
+        λ x k x_is_found. let k_is_labelled = are_labels.found_has_label x k x_is_found in (
+          subst (λ n. k < n) (sym (counted_length w db)) k_is_labelled.0,
+          same_labels_at x k
+              ∙ k_is_labelled.1,
+        );
+    missing_has_no_statement = λ x x_is_missing k. same_labels_at x k
+        ∙ are_labels.missing_has_no_statement x x_is_missing k;
+    label_is_unique = λ x j k x_labels_j x_labels_k.
+        are_labels.label_is_unique x j k (sym (same_labels_at x j) ∙ x_labels_j)
+        (sym (same_labels_at x k) ∙ x_labels_k);
   }
     where
-      same : (x : List ℕ) (k : ℕ)
+      same_labels_at : (x : List ℕ) (k : ℕ)
           → list_any (is_labelled x) (statement_at counted_db k)
           ≡ list_any (is_labelled x) (statement_at db k)
-      same x k = counted_any w db (is_labelled x) (λ l k xs e ps d. refl) k
+      same_labels_at x k = counted_any w db (is_labelled x) (λ l k xs e ps d. refl) k
 
   -- whether some active `$d` has both symbols
   pub together_counted : (k x y : ℕ) → are_together_at counted_db k x y ≡ are_together_at db k x y
   together_counted k x y =
-      ap (λ (f : ℕ → Formula). any f (disjoint_in counted_db) (is_active counted_db))
+      ap (λ (f : ℕ → Formula). some_active_has_both f (disjoint_in counted_db)
+      (is_active counted_db))
       (counted_formula w db)
-      ∙ ap (λ t. any (formula_at db) t (is_active counted_db))
+      ∙ ap (λ t. some_active_has_both (formula_at db) t (is_active counted_db))
       (fun_ext (λ j. counted_any w db is_disjoint_statement (λ l k xs e ps d. refl) j))
-      ∙ ap (λ (a : ℕ → ℕ → Bool). any (formula_at db) (disjoint_in db) a) (counted_active w db)
+      ∙ ap (λ (a : ℕ → ℕ → Bool). some_active_has_both (formula_at db) (disjoint_in db) a)
+      (counted_active w db)
     where
       disjoint_in : List Statement → ℕ → Bool
       disjoint_in ss j = list_any is_disjoint_statement (statement_at ss j)
 
-      any : (ℕ → Formula) → (ℕ → Bool) → (ℕ → ℕ → Bool) → Bool
-      any f test active =
+      some_active_has_both : (ℕ → Formula) → (ℕ → Bool) → (ℕ → ℕ → Bool) → Bool
+      some_active_has_both f test active =
           list_any (λ j. is_member (f j) x && is_member (f j) y)
           (filter test (filter (λ j. active j k) (range_with_len 0 k)))

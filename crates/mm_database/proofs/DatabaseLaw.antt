@@ -32,61 +32,65 @@ pub has_outline : (text : List ℕ) (ws : List Word) (os : List Outline) (b : Bl
     → (p : ParsedStatements) → parsed_statements text (statements text ws os) b ≡ p → (k : ℕ) → k
     < length p.list
     → k < length os
-has_outline text ws os b p e k h =
-    let n = ap (λ (q : ParsedStatements). length q.list) e in
-    omega (arith, h, n, length-map os (statement_of text ws))
+has_outline text ws os b p p_is_parsed k k_lt_length =
+    let lengths_equal = ap (λ (q : ParsedStatements). length q.list) p_is_parsed in
+    omega (arith, k_lt_length, lengths_equal, length-map os (statement_of text ws))
 
 -- there are as many statements as were read
 pub as_many_statements : (text : List ℕ) (db : List Statement) (w : Bool) (fault : Option Fault)
     → (n : Contents) → contents text db w fault ≡ n → length n.statements ≡ length db
-as_many_statements text db w fault n e =
-    ap (λ (m : Contents). length m.statements) (sym e) ∙ counted_length w db
+as_many_statements text db w fault n n_is_contents =
+    ap (λ (m : Contents). length m.statements) (sym n_is_contents) ∙ counted_length w db
 
 -- what is no theorem has no proof
 pub no_proof : (s : Option Statement) (x : Kind) → option_map kind_of s ≡ Some x
     → ¬ (x ≡ kind.Theorem) → option_map proof_of s ≡ Some []
-no_proof None x h n = absurd (cc)
-no_proof (Some (constants k xs d)) x h n = refl
-no_proof (Some (variables k xs d)) x h n = refl
-no_proof (Some (disjoint k xs d)) x h n = refl
-no_proof (Some (floating l k xs d)) x h n = refl
-no_proof (Some (essential l k xs d)) x h n = refl
-no_proof (Some (axiomatic l k xs d)) x h n = refl
-no_proof (Some (provable l k xs e ps d)) x h n =
-    let is : kind.Theorem ≡ x = cc in absurd (n (sym is))
-no_proof (Some (opening k)) x h n = refl
-no_proof (Some (closing k)) x h n = refl
+no_proof None x kind_is_x x_is_no_theorem = absurd (cc)
+no_proof (Some (constants k xs d)) x kind_is_x x_is_no_theorem = refl
+no_proof (Some (variables k xs d)) x kind_is_x x_is_no_theorem = refl
+no_proof (Some (disjoint k xs d)) x kind_is_x x_is_no_theorem = refl
+no_proof (Some (floating l k xs d)) x kind_is_x x_is_no_theorem = refl
+no_proof (Some (essential l k xs d)) x kind_is_x x_is_no_theorem = refl
+no_proof (Some (axiomatic l k xs d)) x kind_is_x x_is_no_theorem = refl
+no_proof (Some (provable l k xs e ps d)) x kind_is_x x_is_no_theorem =
+    let theorem_is_x : kind.Theorem ≡ x = cc in absurd (x_is_no_theorem (sym theorem_is_x))
+no_proof (Some (opening k)) x kind_is_x x_is_no_theorem = refl
+no_proof (Some (closing k)) x kind_is_x x_is_no_theorem = refl
 
 -- after the last statement is none
 pub none_past_the_end : (p : Statement → Bool) (db : List Statement) (k : ℕ) → length db ≤ k
     → list_any p (statement_at db k) ≡ false
-none_past_the_end p [] zero h = refl
-none_past_the_end p [] (suc k) h = refl
-none_past_the_end p (s ∷ db) zero h = absurd (omega arith)
-none_past_the_end p (s ∷ db) (suc k) h = none_past_the_end p db k (omega arith)
+none_past_the_end p [] zero length_le_k = refl
+none_past_the_end p [] (suc k) length_le_k = refl
+none_past_the_end p (s ∷ db) zero length_le_k = absurd (omega arith)
+none_past_the_end p (s ∷ db) (suc k) length_le_k = none_past_the_end p db k (omega arith)
 
 -- ---- what a lookup of a label answers
 
-module _ (db : List Statement) (find : List ℕ → Option ℕ) (are : AreLabels db find)
+module _ (db : List Statement) (find : List ℕ → Option ℕ) (are_labels : AreLabels db find)
     (w : List ℕ) where
-  pub label_some : (r : Option ℕ) → r ≡ find w
+  pub found_label_is_label : (r : Option ℕ) → r ≡ find w
       → IfSome r (λ k. (k < length db) × IsTrue (list_any (is_labelled w) (statement_at db k)))
-  label_some None e = tt
-  label_some (Some k) e = are.found w k (sym e)
+  found_label_is_label None r_is_found = tt
+  found_label_is_label (Some k) r_is_found = are_labels.found_has_label w k (sym r_is_found)
 
-  pub label_only : (r : Option ℕ) → r ≡ find w
+  pub found_label_is_unique : (r : Option ℕ) → r ≡ find w
       → IfSome r
       (λ k. (j : ℕ) → list_any (is_labelled w) (statement_at db j) ≡ true → j ≡ k)
-  label_only None e = tt
-  label_only (Some k) e = λ j h. are.only w j k h (are.found w k (sym e)).1
+  found_label_is_unique None r_is_found = tt
+  found_label_is_unique (Some k) r_is_found =
+      λ j w_labels_j. are_labels.label_is_unique w j k w_labels_j
+      (are_labels.found_has_label w k (sym r_is_found)).1
 
-  pub label_none : (r : Option ℕ) → r ≡ find w
+  pub missing_label_is_none : (r : Option ℕ) → r ≡ find w
       → IfNone r ((j : ℕ) → list_any (is_labelled w) (statement_at db j) ≡ false)
-  label_none None e = λ j. are.missing w (sym e) j
-  label_none (Some k) e = tt
+  missing_label_is_none None r_is_found =
+      λ j. are_labels.missing_has_no_statement w (sym r_is_found) j
+  missing_label_is_none (Some k) r_is_found = tt
 
 -- the frames of what was read of a text are complete
-pub read_complete : (text : List ℕ) (db : List Statement) (w : Bool) (fault : Option Fault)
+pub read_statements_are_complete : (text : List ℕ) (db : List Statement) (w : Bool)
+    (fault : Option Fault)
     → IsRead (length text) (lexed_of text) db fault → AreComplete (counted w db)
-read_complete text db w fault read =
-    counted_complete w db (reads_complete (length text) (lexed_of text) db fault read)
+read_statements_are_complete text db w fault is_read =
+    counted_complete w db (reads_complete (length text) (lexed_of text) db fault is_read)

@@ -21,10 +21,12 @@ use Rattle.mm_outline.proofs.StatementsLaw.{is_there}
 
 -- ---- pairs by their places
 
-pub has_at : (ps : List (ℕ × ℕ)) (x y : ℕ) → has_pair ps x y ≡ true
+-- a pair of the list stands somewhere in it
+pub place_of_pair : (ps : List (ℕ × ℕ)) (x y : ℕ) → has_pair ps x y ≡ true
     → (p : ℕ) × (p < length ps) × ((get_or ps p (0, 0)).0 ≡ x) × ((get_or ps p (0, 0)).1 ≡ y)
-has_at [] x y h = absurd (true≢false (sym h))
-has_at (q ∷ qs) x y h = by_head (nat_eq x q.0 && nat_eq y q.1) refl h (λ k. has_at qs x y k)
+place_of_pair [] x y has_pair_x_y = absurd (true≢false (sym has_pair_x_y))
+place_of_pair (q ∷ qs) x y has_pair_x_y =
+    by_head (nat_eq x q.0 && nat_eq y q.1) refl has_pair_x_y (λ k. place_of_pair qs x y k)
   where
     by_head : (b : Bool) → (nat_eq x q.0 && nat_eq y q.1) ≡ b → (b || has_pair qs x y) ≡ true
         → (has_pair qs x y ≡ true
@@ -32,459 +34,599 @@ has_at (q ∷ qs) x y h = by_head (nat_eq x q.0 && nat_eq y q.1) refl h (λ k. h
         × ((get_or qs p (0, 0)).1 ≡ y))
         → (p : ℕ) × (p < length (q ∷ qs)) × ((get_or (q ∷ qs) p (0, 0)).0 ≡ x)
         × ((get_or (q ∷ qs) p (0, 0)).1 ≡ y)
-    by_head true e h f = (
+    by_head true q_is_x_y has_pair_x_y place_in_rest = (
       0,
       omega arith,
-      sym (eqb-true x q.0 (and_parts (nat_eq x q.0) (nat_eq y q.1) e).0),
+      sym (eqb-true x q.0 (and_parts (nat_eq x q.0) (nat_eq y q.1) q_is_x_y).0),
       sym
-          (eqb-true y q.1 (and_parts (nat_eq x q.0) (nat_eq y q.1) e).1),
+          (eqb-true y q.1 (and_parts (nat_eq x q.0) (nat_eq y q.1) q_is_x_y).1),
     )
-    by_head false e h f = let r = f h in let l = r.1 in (suc r.0, omega (arith, l), r.2, r.3)
+    by_head false q_is_x_y has_pair_x_y place_in_rest = let place = place_in_rest has_pair_x_y in
+        let place_lt_length = place.1 in
+        (suc place.0, omega (arith, place_lt_length), place.2, place.3)
 
-pub at_has : (ps : List (ℕ × ℕ)) (p : ℕ) (d : ℕ × ℕ) → p < length ps
+-- the list has each pair that stands in it
+pub has_pair_at_place : (ps : List (ℕ × ℕ)) (p : ℕ) (d : ℕ × ℕ) → p < length ps
     → has_pair ps (get_or ps p d).0 (get_or ps p d).1 ≡ true
-at_has [] p d h = absurd (omega arith)
-at_has (q ∷ qs) zero d h =
+has_pair_at_place [] p d p_lt_length = absurd (omega arith)
+has_pair_at_place (q ∷ qs) zero d p_lt_length =
     ap (λ b. b || has_pair qs q.0 q.1)
     (ap₂ (λ a b. a && b) (eq-eqb q.0 q.0 refl) (eq-eqb q.1 q.1 refl))
-at_has (q ∷ qs) (suc p) d h =
+has_pair_at_place (q ∷ qs) (suc p) d p_lt_length =
     ap (λ b. (nat_eq (get_or qs p d).0 q.0 && nat_eq (get_or qs p d).1 q.1) || b)
-    (at_has qs p d (omega arith))
+    (has_pair_at_place qs p d (omega arith))
     ∙ or-true (nat_eq (get_or qs p d).0 q.0 && nat_eq (get_or qs p d).1 q.1)
 
-pub rising_at : (ps : List (ℕ × ℕ)) → AreRising ps → (i j : ℕ) (d : ℕ × ℕ) → i < j → j < length ps
+-- of two pairs in a list in ascending order, the earlier is before the later
+pub earlier_is_before : (ps : List (ℕ × ℕ)) → AreRising ps → (i j : ℕ) (d : ℕ × ℕ) → i < j
+    → j < length ps
     → IsBefore (get_or ps i d).0 (get_or ps i d).1 (get_or ps j d).0 (get_or ps j d).1
-rising_at [] h i j d l m = absurd (omega arith)
-rising_at (p ∷ ps) h zero zero d l m = absurd (omega arith)
-rising_at (p ∷ ps) h zero (suc j) d l m =
-    h.0 (get_or ps j d).0 (get_or ps j d).1 (at_has ps j d (omega arith))
-rising_at (p ∷ ps) h (suc i) zero d l m = absurd (omega arith)
-rising_at (p ∷ ps) h (suc i) (suc j) d l m = rising_at ps h.1 i j d (omega arith) (omega arith)
+earlier_is_before [] are_rising i j d i_lt_j j_lt_length = absurd (omega arith)
+earlier_is_before (p ∷ ps) are_rising zero zero d i_lt_j j_lt_length = absurd (omega arith)
+earlier_is_before (p ∷ ps) are_rising zero (suc j) d i_lt_j j_lt_length =
+    are_rising.0 (get_or ps j d).0 (get_or ps j d).1 (has_pair_at_place ps j d (omega arith))
+earlier_is_before (p ∷ ps) are_rising (suc i) zero d i_lt_j j_lt_length = absurd (omega arith)
+earlier_is_before (p ∷ ps) are_rising (suc i) (suc j) d i_lt_j j_lt_length =
+    earlier_is_before ps are_rising.1 i j d (omega arith) (omega arith)
 
 -- ---- before
 
-pub before_is : (p : ℕ × ℕ) (x y : ℕ) → is_pair_before p x y ≡ true → IsBefore p.0 p.1 x y
-before_is p x y h = by_symbol (nat_lt p.0 x) refl h
+-- what the test of pairs says, and its converse
+pub is_before_from_test : (p : ℕ × ℕ) (x y : ℕ) → is_pair_before p x y ≡ true → IsBefore p.0 p.1 x y
+is_before_from_test p x y test_is_true = by_symbol (nat_lt p.0 x) refl test_is_true
   where
     by_symbol : (b : Bool) → nat_lt p.0 x ≡ b → (b || (nat_eq p.0 x && nat_lt p.1 y)) ≡ true
         → IsBefore p.0 p.1 x y
-    by_symbol true e h = inl (ltb-true p.0 x e)
-    by_symbol false e h =
+    by_symbol true p0_lt_x test_is_true = inl (ltb-true p.0 x p0_lt_x)
+    by_symbol false p0_lt_x test_is_true =
         inr (
-          eqb-true p.0 x (and_parts (nat_eq p.0 x) (nat_lt p.1 y) h).0,
+          eqb-true p.0 x (and_parts (nat_eq p.0 x) (nat_lt p.1 y) test_is_true).0,
           ltb-true p.1 y
-              (and_parts (nat_eq p.0 x) (nat_lt p.1 y) h).1,
+              (and_parts (nat_eq p.0 x) (nat_lt p.1 y) test_is_true).1,
         )
 
 pub is_pair_before_if : (p : ℕ × ℕ) (x y : ℕ) → IsBefore p.0 p.1 x y → is_pair_before p x y ≡ true
-is_pair_before_if p x y (inl l) = ap (λ b. b || (nat_eq p.0 x && nat_lt p.1 y)) (lt-ltb p.0 x l)
-is_pair_before_if p x y (inr (e, l)) =
-    ap (λ b. nat_lt p.0 x || b) (ap₂ (λ a b. a && b) (eq-eqb p.0 x e) (lt-ltb p.1 y l))
+is_pair_before_if p x y (inl lower) =
+    ap (λ b. b || (nat_eq p.0 x && nat_lt p.1 y)) (lt-ltb p.0 x lower)
+is_pair_before_if p x y (inr (p0_is_x, lower)) =
+    ap (λ b. nat_lt p.0 x || b) (ap₂ (λ a b. a && b) (eq-eqb p.0 x p0_is_x) (lt-ltb p.1 y lower))
     ∙ or-true (nat_lt p.0 x)
 
-before_through : (a b c d e f : ℕ) → IsBefore a b c d → IsBefore c d e f → IsBefore a b e f
-before_through a b c d e f (inl l) (inl m) = inl (omega arith)
-before_through a b c d e f (inl l) (inr (s, m)) = inl (omega arith)
-before_through a b c d e f (inr (s, l)) (inl m) = inl (omega arith)
-before_through a b c d e f (inr (s, l)) (inr (t, m)) = inr (omega arith, omega arith)
+-- a pair before one that is before a third is before the third
+before_is_transitive : (a b c d e f : ℕ) → IsBefore a b c d → IsBefore c d e f → IsBefore a b e f
+before_is_transitive a b c d e f (inl first_lower) (inl second_lower) = inl (omega arith)
+before_is_transitive a b c d e f (inl first_lower) (inr (first_equal, second_lower)) =
+    inl (omega arith)
+before_is_transitive a b c d e f (inr (first_equal, first_lower)) (inl second_lower) =
+    inl (omega arith)
+before_is_transitive a b c d e f (inr (first_equal, first_lower))
+    (inr (second_equal, second_lower)) = inr (omega arith, omega arith)
 
-pub partitioned : (ps : List (ℕ × ℕ)) → AreRising ps → (x y : ℕ)
+-- in a list in ascending order, the pairs before a pair stand first
+pub is_partitioned_by_before : (ps : List (ℕ × ℕ)) → AreRising ps → (x y : ℕ)
     → IsPartitionedBy (λ p. is_pair_before p x y) ps
-partitioned ps are_rising x y i j d l m e = by_equality (cases_eq i j)
+is_partitioned_by_before ps are_rising x y i j d i_lt_j j_lt_length j_is_before =
+    by_equality (cases_eq i j)
   where
     by_equality : (i ≡ j) ⊎ (i ≢ j) → is_pair_before (get_or ps i d) x y ≡ true
-    by_equality (inl s) = ap (λ k. is_pair_before (get_or ps k d) x y) s ∙ e
-    by_equality (inr n) =
+    by_equality (inl i_is_j) = ap (λ k. is_pair_before (get_or ps k d) x y) i_is_j ∙ j_is_before
+    by_equality (inr i_ne_j) =
         is_pair_before_if (get_or ps i d) x y
-        (before_through (get_or ps i d).0 (get_or ps i d).1 (get_or ps j d).0 (get_or ps j d).1 x y
-        (rising_at ps are_rising i j d (omega arith) m) (before_is (get_or ps j d) x y e))
+        (before_is_transitive (get_or ps i d).0 (get_or ps i d).1 (get_or ps j d).0
+        (get_or ps j d).1 x y
+        (earlier_is_before ps are_rising i j d (omega arith) j_lt_length)
+        (is_before_from_test (get_or ps j d) x y j_is_before))
 
 -- ---- the blocks of the pairs
 
+-- the statements that have symbols have blocks
 pub have_blocks : (db : List Statement) (b : BlockLists) → IsBlocks db b → (ps : List (ℕ × ℕ))
     → ((x j : ℕ) → has_pair ps x j ≡ has_symbol db x j) → HaveBlocks b ps
-have_blocks db b blocks ps are p l =
+have_blocks db b blocks ps pairs_are_members p p_lt_length =
     let j = (get_or ps p (0, 0)).1 in
     let x = (get_or ps p (0, 0)).0 in
-    let e = sym (are x j) ∙ at_has ps p (0, 0) l in
-    let m =
+    let has_symbol_x_j = sym (pairs_are_members x j) ∙ has_pair_at_place ps p (0, 0) p_lt_length in
+    let j_is_there =
     is_there is_disjoint_statement db j
     (and_parts (list_any is_disjoint_statement (statement_at db j))
-    (is_member (formula_at db j) x) e).0 in
-    (let c = blocks.count in omega (arith, c, m), blocks.known j m)
+    (is_member (formula_at db j) x) has_symbol_x_j).0 in (
+      let block_count = blocks.count in
+          omega (arith, block_count, j_is_there),
+      blocks.known j j_is_there,
+    )
 
 -- ---- the pairs before that of a symbol and a statement
 
 -- so many pairs stand before that of the symbol and the place
 pub record IsPartedAt (ps : List (ℕ × ℕ)) (x at start : ℕ) : Type 0 where
-  pub within : start ≤ length ps
-  pub before : (p : ℕ) → p < start → is_pair_before (get_or ps p (0, 0)) x at ≡ true
-  pub after : (p : ℕ) → start ≤ p → p < length ps → is_pair_before (get_or ps p (0, 0)) x at ≡ false
+  pub start_le_length : start ≤ length ps
+  pub earlier_are_before : (p : ℕ) → p < start → is_pair_before (get_or ps p (0, 0)) x at ≡ true
+  pub later_are_not_before : (p : ℕ) → start ≤ p → p < length ps
+      → is_pair_before (get_or ps p (0, 0)) x at ≡ false
 
 -- the same for a list and a symbol that are equal to these
-module _ (qs ps : List (ℕ × ℕ)) (y x : ℕ) (same : qs ≡ ps) (is : y ≡ x) where
+module _ (qs ps : List (ℕ × ℕ)) (y x : ℕ) (qs_is_ps : qs ≡ ps) (y_is_x : y ≡ x) where
+  -- what is said of the equal list is said of this one
   pub parted_by_values : (at start : ℕ) → start ≤ length qs
       → ((p : ℕ) → p < start → is_pair_before (get_or qs p (0, 0)) y at ≡ true)
       → ((p : ℕ) → start ≤ p → p < length qs → is_pair_before (get_or qs p (0, 0)) y at ≡ false)
       → IsPartedAt ps x at start
-  parted_by_values at start w b a = rw (← same, ← is) (record { within = w; before = b; after = a })
+  parted_by_values at start start_le_length earlier_are_before later_are_not_before =
+      rw (← qs_is_ps, ← y_is_x) (record {
+        start_le_length = start_le_length;
+        earlier_are_before =
+            earlier_are_before;
+        later_are_not_before = later_are_not_before;
+      })
 
   pub symbol_by_values : (p : ℕ) → (get_or qs p (0, 0)).0 ≡ y → (get_or ps p (0, 0)).0 ≡ x
-  symbol_by_values p e = rw (← same, ← is) e
+  symbol_by_values p symbol_is_y = rw (← qs_is_ps, ← y_is_x) symbol_is_y
 
   pub other_symbol_by_values : (p : ℕ) → (get_or qs p (0, 0)).0 ≢ y → (get_or ps p (0, 0)).0 ≢ x
-  other_symbol_by_values p n = rw (← same, ← is) n
+  other_symbol_by_values p symbol_ne_y = rw (← qs_is_ps, ← y_is_x) symbol_ne_y
 
 -- ---- what is added of one symbol
 
 -- the pairs from index `end` up to `start` have been looked at
 pub record AddsFromEnd (b : BlockLists) (ps : List (ℕ × ℕ)) (x at start end : ℕ)
-    (old now : List (ℕ × ℕ)) : Type 0 where
-  pub inside : end ≤ start
-  pub old_stay : (j y : ℕ) → has_pair old j y ≡ true → has_pair now j y ≡ true
-  pub only : (j y : ℕ) → has_pair now j y ≡ true
-      → (has_pair old j y ≡ true)
+    (earlier_pairs pairs_so_far : List (ℕ × ℕ)) : Type 0 where
+  pub end_le_start : end ≤ start
+  pub old_pairs_stay : (j y : ℕ) → has_pair earlier_pairs j y ≡ true
+      → has_pair pairs_so_far j y ≡ true
+  pub new_pairs_are_active : (j y : ℕ) → has_pair pairs_so_far j y ≡ true
+      → (has_pair earlier_pairs j y ≡ true)
       ⊎ ((y ≡ x) × (has_pair ps x j ≡ true) × (is_active_local b j at ≡ true))
-  pub all : (p : ℕ) → end ≤ p → p < start → (get_or ps p (0, 0)).0 ≡ x
+  pub active_pairs_are_added : (p : ℕ) → end ≤ p → p < start → (get_or ps p (0, 0)).0 ≡ x
       → nat_le at (end_of b (get_or ps p (0, 0)).1) ≡ true
-      → has_pair now (get_or ps p (0, 0)).1 x ≡ true
+      → has_pair pairs_so_far (get_or ps p (0, 0)).1 x ≡ true
 
 module _ (b : BlockLists) (ps : List (ℕ × ℕ)) (rising : AreRising ps) (x at start : ℕ)
     (parted : IsPartedAt ps x at start)
   where
     -- before the place, where the symbol is that
     pub is_before : (p : ℕ) → p < start → (get_or ps p (0, 0)).0 ≡ x → (get_or ps p (0, 0)).1 < at
-    is_before p l e = by_symbol (before_is (get_or ps p (0, 0)) x at (parted.before p l))
+    is_before p p_lt_start symbol_is_x =
+        by_symbol (is_before_from_test (get_or ps p (0, 0)) x at
+        (parted.earlier_are_before p p_lt_start))
       where
         by_symbol : IsBefore (get_or ps p (0, 0)).0 (get_or ps p (0, 0)).1 x at
             → (get_or ps p (0, 0)).1 < at
-        by_symbol (inl m) = absurd (omega (arith, m, e))
-        by_symbol (inr (s, m)) = m
+        by_symbol (inl lower) = absurd (omega (arith, lower, symbol_is_x))
+        by_symbol (inr (symbol_is_x, lower)) = lower
 
     -- a `$d` whose block is open is added
-    pub added_open : (end next : ℕ) (old now : List (ℕ × ℕ))
-        → AddsFromEnd b ps x at start end old now
+    pub added_open : (end next_end : ℕ) (earlier_pairs pairs_so_far : List (ℕ × ℕ))
+        → AddsFromEnd b ps x at start end earlier_pairs pairs_so_far
         → 0 < end → (get_or ps (end - 1) (0, 0)).0 ≡ x
         → nat_le at (end_of b (get_or ps (end - 1) (0, 0)).1) ≡ true
-        → next < end
-        → ((p : ℕ) → next ≤ p → p + 1 < end
+        → next_end < end
+        → ((p : ℕ) → next_end ≤ p → p + 1 < end
         → nat_le at (end_of b (get_or ps p (0, 0)).1) ≡ false)
-        → AddsFromEnd b ps x at start next old (now ++ ((get_or ps (end - 1) (0, 0)).1, x) ∷ [])
-    added_open end next old now a some s o less passed = record {
-      inside = let i = a.inside in omega (arith, i, less);
-      old_stay = λ j y e. longer j y (a.old_stay j y e);
-      only =
-          λ j y e. only j y (has_pair now j y) refl
-          (sym (list_any-append (λ p. nat_eq j p.0 && nat_eq y p.1) now ((m, x) ∷ [])) ∙ e);
-      all = λ p l h e f. all p l h e f (cases_order (p + 1) end);
-    }
+        → AddsFromEnd b ps x at start next_end earlier_pairs
+        (pairs_so_far ++ ((get_or ps (end - 1) (0, 0)).1, x) ∷ [])
+    added_open end next_end earlier_pairs pairs_so_far adds end_gt_0 last_symbol_is_x last_is_open
+        next_lt_end
+        skipped_are_closed = record {
+          end_le_start = let end_le_start = adds.end_le_start in
+              omega (arith, end_le_start, next_lt_end);
+          old_pairs_stay = λ j y had_pair. has_pair_still j y (adds.old_pairs_stay j y had_pair);
+          new_pairs_are_active =
+              λ j y had_pair. new_pair_is_active j y (has_pair pairs_so_far j y) refl
+              (sym (list_any-append (λ p. nat_eq j p.0 && nat_eq y p.1) pairs_so_far
+              ((last_statement, x) ∷ []))
+              ∙ had_pair);
+          active_pairs_are_added =
+              λ p next_le_p p_lt_start had_pair p_is_open. active_pair_is_added p next_le_p
+              p_lt_start
+              had_pair p_is_open (cases_order (p + 1) end);
+        }
       where
-        m : ℕ
-        m = (get_or ps (end - 1) (0, 0)).1
+        last_statement : ℕ
+        last_statement = (get_or ps (end - 1) (0, 0)).1
 
-        here : end - 1 < start
-        here = let i = a.inside in omega (arith, i, some)
+        last_lt_start : end - 1 < start
+        last_lt_start = let end_le_start = adds.end_le_start in
+            omega (arith, end_le_start, end_gt_0)
 
-        longer : (j y : ℕ) → has_pair now j y ≡ true → has_pair (now ++ (m, x) ∷ []) j y ≡ true
-        longer j y e =
-            list_any-append (λ p. nat_eq j p.0 && nat_eq y p.1) now ((m, x) ∷ [])
-            ∙ ap (λ c. c || has_pair ((m, x) ∷ []) j y) e
+        has_pair_still : (j y : ℕ) → has_pair pairs_so_far j y ≡ true
+            → has_pair (pairs_so_far ++ (last_statement, x) ∷ []) j y ≡ true
+        has_pair_still j y had_pair =
+            list_any-append (λ p. nat_eq j p.0 && nat_eq y p.1) pairs_so_far
+            ((last_statement, x) ∷ [])
+            ∙ ap (λ c. c || has_pair ((last_statement, x) ∷ []) j y) had_pair
 
-        only : (j y : ℕ) (c : Bool) → has_pair now j y ≡ c
-            → (c || ((nat_eq j m && nat_eq y x) || false)) ≡ true
-            → (has_pair old j y ≡ true)
+        new_pair_is_active : (j y : ℕ) (c : Bool) → has_pair pairs_so_far j y ≡ c
+            → (c || ((nat_eq j last_statement && nat_eq y x) || false)) ≡ true
+            → (has_pair earlier_pairs j y ≡ true)
             ⊎ ((y ≡ x) × (has_pair ps x j ≡ true) × (is_active_local b j at ≡ true))
-        only j y true has_pair_x_y h = a.only j y has_pair_x_y
-        only j y false e h =
-            let t = sym (or-false (nat_eq j m && nat_eq y x)) ∙ h in
-            let sj = eqb-true j m (and_parts (nat_eq j m) (nat_eq y x) t).0 in
-            let sy = eqb-true y x (and_parts (nat_eq j m) (nat_eq y x) t).1 in
+        new_pair_is_active j y true has_pair_x_y has_pair_after =
+            adds.new_pairs_are_active j y has_pair_x_y
+        new_pair_is_active j y false not_had has_pair_after =
+            let is_last_pair = sym (or-false (nat_eq j last_statement && nat_eq y x))
+            ∙ has_pair_after in
+            let j_is_last_statement = eqb-true j last_statement
+            (and_parts (nat_eq j last_statement) (nat_eq y x) is_last_pair).0 in
+            let y_is_x = eqb-true y x
+            (and_parts (nat_eq j last_statement) (nat_eq y x) is_last_pair).1 in
             inr (
-              sy,
-              ap₂ (λ u v. has_pair ps u v) (sym s) sj
-                  ∙ at_has ps (end - 1) (0, 0) (let w = parted.within in omega (arith, here, w)),
+              y_is_x,
+              ap₂ (λ u v. has_pair ps u v) (sym last_symbol_is_x) j_is_last_statement
+                  ∙ has_pair_at_place ps (end - 1) (0, 0) (let start_le_length =
+                  parted.start_le_length in
+                  omega (arith, last_lt_start, start_le_length)),
               ap₂ (λ u v. u && v)
-                  (ap (λ j. nat_lt j at) sj ∙ lt-ltb m at (is_before (end - 1) here s))
-                  (ap (λ j. nat_le at (end_of b j)) sj ∙ o),
+                  (ap (λ j. nat_lt j at) j_is_last_statement
+                  ∙ lt-ltb last_statement at (is_before (end - 1) last_lt_start last_symbol_is_x))
+                  (ap (λ j. nat_le at (end_of b j)) j_is_last_statement ∙ last_is_open),
             )
 
-        all : (p : ℕ) → next ≤ p → p < start → (get_or ps p (0, 0)).0 ≡ x
+        active_pair_is_added : (p : ℕ) → next_end ≤ p → p < start → (get_or ps p (0, 0)).0 ≡ x
             → nat_le at (end_of b (get_or ps p (0, 0)).1) ≡ true
             → (p + 1 ≡ end) ⊎ ((p + 1 < end) ⊎ (end < p + 1))
-            → has_pair (now ++ (m, x) ∷ []) (get_or ps p (0, 0)).1 x ≡ true
-        all p next_le_p p_lt_start e f (inl q) =
-            let sp : p ≡ end - 1 = omega (arith, q) in
-            list_any-append (λ r. nat_eq (get_or ps p (0, 0)).1 r.0 && nat_eq x r.1) now
-            ((m, x) ∷ [])
-            ∙ ap (λ c. has_pair now (get_or ps p (0, 0)).1 x || (c || false))
+            → has_pair (pairs_so_far ++ (last_statement, x) ∷ []) (get_or ps p (0, 0)).1 x ≡ true
+        active_pair_is_added p next_le_p p_lt_start p_has_x p_is_open (inl p_order) =
+            let p_is_last : p ≡ end - 1 = omega (arith, p_order) in
+            list_any-append (λ r. nat_eq (get_or ps p (0, 0)).1 r.0 && nat_eq x r.1) pairs_so_far
+            ((last_statement, x) ∷ [])
+            ∙ ap (λ c. has_pair pairs_so_far (get_or ps p (0, 0)).1 x || (c || false))
             (ap₂ (λ u v. u && v)
-            (eq-eqb (get_or ps p (0, 0)).1 m (ap (λ i. (get_or ps i (0, 0)).1) sp))
+            (eq-eqb (get_or ps p (0, 0)).1 last_statement
+            (ap (λ i. (get_or ps i (0, 0)).1) p_is_last))
             (eq-eqb x x refl))
-            ∙ or-true (has_pair now (get_or ps p (0, 0)).1 x)
-        all p next_le_p p_lt_start e f (inr (inl q)) = absurd
-            (true≢false (sym f ∙ passed p next_le_p q))
-        all p next_le_p p_lt_start e f (inr (inr q)) =
-            longer (get_or ps p (0, 0)).1 x (a.all p (omega (arith, q)) p_lt_start e f)
+            ∙ or-true (has_pair pairs_so_far (get_or ps p (0, 0)).1 x)
+        active_pair_is_added p next_le_p p_lt_start p_has_x p_is_open (inr (inl p_order)) = absurd
+            (true≢false (sym p_is_open ∙ skipped_are_closed p next_le_p p_order))
+        active_pair_is_added p next_le_p p_lt_start p_has_x p_is_open (inr (inr p_order)) =
+            has_pair_still (get_or ps p (0, 0)).1 x
+            (adds.active_pairs_are_added p (omega (arith, p_order)) p_lt_start p_has_x p_is_open)
 
     -- a `$d` whose block is closed is passed over
-    pub added_closed : (end next : ℕ) (old now : List (ℕ × ℕ))
-        → AddsFromEnd b ps x at start end old now
+    pub added_closed : (end next_end : ℕ) (earlier_pairs pairs_so_far : List (ℕ × ℕ))
+        → AddsFromEnd b ps x at start end earlier_pairs pairs_so_far
         → 0 < end → nat_le at (end_of b (get_or ps (end - 1) (0, 0)).1) ≡ false
-        → next < end
-        → ((p : ℕ) → next ≤ p → p + 1 < end
+        → next_end < end
+        → ((p : ℕ) → next_end ≤ p → p + 1 < end
         → nat_le at (end_of b (get_or ps p (0, 0)).1) ≡ false)
-        → AddsFromEnd b ps x at start next old now
-    added_closed end next old now a some o less passed = record {
-      inside = let i = a.inside in omega (arith, i, less);
-      old_stay = a.old_stay;
-      only = a.only;
-      all = λ p l h e f. all p l h e f (cases_order (p + 1) end);
-    }
+        → AddsFromEnd b ps x at start next_end earlier_pairs pairs_so_far
+    added_closed end next_end earlier_pairs pairs_so_far adds end_gt_0 last_is_closed next_lt_end
+        skipped_are_closed =
+        record {
+          end_le_start = let end_le_start = adds.end_le_start in
+              omega (arith, end_le_start, next_lt_end);
+          old_pairs_stay = adds.old_pairs_stay;
+          new_pairs_are_active = adds.new_pairs_are_active;
+          active_pairs_are_added =
+              λ p next_le_p p_lt_start p_has_x p_is_open. active_pair_is_added p next_le_p
+              p_lt_start
+              p_has_x p_is_open (cases_order (p + 1) end);
+        }
       where
-        all : (p : ℕ) → next ≤ p → p < start → (get_or ps p (0, 0)).0 ≡ x
+        active_pair_is_added : (p : ℕ) → next_end ≤ p → p < start → (get_or ps p (0, 0)).0 ≡ x
             → nat_le at (end_of b (get_or ps p (0, 0)).1) ≡ true
             → (p + 1 ≡ end) ⊎ ((p + 1 < end) ⊎ (end < p + 1))
-            → has_pair now (get_or ps p (0, 0)).1 x ≡ true
-        all p next_le_p p_lt_start e f (inl q) =
-            let sp : p ≡ end - 1 = omega (arith, q) in
+            → has_pair pairs_so_far (get_or ps p (0, 0)).1 x ≡ true
+        active_pair_is_added p next_le_p p_lt_start p_has_x p_is_open (inl p_order) =
+            let p_is_last : p ≡ end - 1 = omega (arith, p_order) in
             absurd (true≢false
-            (sym f ∙ ap (λ i. nat_le at (end_of b (get_or ps i (0, 0)).1)) sp ∙ o))
-        all p next_le_p p_lt_start e f (inr (inl q)) = absurd
-            (true≢false (sym f ∙ passed p next_le_p q))
-        all p next_le_p p_lt_start e f (inr (inr q)) = a.all p (omega (arith, q)) p_lt_start e f
+            (sym p_is_open ∙ ap (λ i. nat_le at (end_of b (get_or ps i (0, 0)).1)) p_is_last
+            ∙ last_is_closed))
+        active_pair_is_added p next_le_p p_lt_start p_has_x p_is_open (inr (inl p_order)) = absurd
+            (true≢false (sym p_is_open ∙ skipped_are_closed p next_le_p p_order))
+        active_pair_is_added p next_le_p p_lt_start p_has_x p_is_open (inr (inr p_order)) =
+            adds.active_pairs_are_added p (omega (arith, p_order)) p_lt_start p_has_x p_is_open
 
     -- none further down has the symbol
     pub none_before_end : (end : ℕ) → end ≤ start → (0 < end → (get_or ps (end - 1) (0, 0)).0 ≢ x)
         → (p : ℕ) → p < end → (get_or ps p (0, 0)).0 ≡ x → ⊥
-    none_before_end end i n p p_lt_end e = by_equality (cases_eq p (end - 1))
+    none_before_end end end_le_start last_symbol_ne_x p p_lt_end symbol_is_x =
+        by_equality (cases_eq p (end - 1))
       where
-        below : (q : ℕ) → q < start → (get_or ps q (0, 0)).0 ≤ x
-        below q h = symbol_le (before_is (get_or ps q (0, 0)) x at (parted.before q h))
+        symbol_le_x : (q : ℕ) → q < start → (get_or ps q (0, 0)).0 ≤ x
+        symbol_le_x q q_lt_start =
+            symbol_le (is_before_from_test (get_or ps q (0, 0)) x at
+            (parted.earlier_are_before q q_lt_start))
           where
             symbol_le : IsBefore (get_or ps q (0, 0)).0 (get_or ps q (0, 0)).1 x at
                 → (get_or ps q (0, 0)).0 ≤ x
-            symbol_le (inl m) = omega (arith, m)
-            symbol_le (inr (s, m)) = omega (arith, s)
+            symbol_le (inl symbol_lt_x) = omega (arith, symbol_lt_x)
+            symbol_le (inr (symbol_is_x, symbol_lt_x)) = omega (arith, symbol_is_x)
 
         symbol_ge : IsBefore (get_or ps p (0, 0)).0 (get_or ps p (0, 0)).1
             (get_or ps (end - 1) (0, 0)).0
             (get_or ps (end - 1) (0, 0)).1
             → x ≤ (get_or ps (end - 1) (0, 0)).0
-        symbol_ge (inl m) = omega (arith, m, e)
-        symbol_ge (inr (s, m)) = omega (arith, s, e)
+        symbol_ge (inl symbol_lt) = omega (arith, symbol_lt, symbol_is_x)
+        symbol_ge (inr (symbols_equal, symbol_lt)) = omega (arith, symbols_equal, symbol_is_x)
 
         by_equality : (p ≡ end - 1) ⊎ (p ≢ end - 1) → ⊥
-        by_equality (inl s) = n (omega (arith, p_lt_end))
-            (sym (ap (λ i. (get_or ps i (0, 0)).0) s) ∙ e)
-        by_equality (inr t) =
-            let w = parted.within in
-            let u =
-            symbol_ge (rising_at ps rising p (end - 1) (0, 0) (omega (arith, p_lt_end, t))
-            (omega (arith, p_lt_end, i, w))) in
-            let v = below (end - 1) (omega (arith, p_lt_end, i)) in
-            n (omega (arith, p_lt_end)) (omega (arith, u, v))
+        by_equality (inl p_is_last) = last_symbol_ne_x (omega (arith, p_lt_end))
+            (sym (ap (λ i. (get_or ps i (0, 0)).0) p_is_last) ∙ symbol_is_x)
+        by_equality (inr p_ne_last) =
+            let start_le_length = parted.start_le_length in
+            let x_le_last_symbol =
+            symbol_ge (earlier_is_before ps rising p (end - 1) (0, 0)
+            (omega (arith, p_lt_end, p_ne_last))
+            (omega (arith, p_lt_end, end_le_start, start_le_length))) in
+            let last_symbol_le_x = symbol_le_x (end - 1) (omega (arith, p_lt_end, end_le_start)) in
+            last_symbol_ne_x (omega (arith, p_lt_end))
+            (omega (arith, x_le_last_symbol, last_symbol_le_x))
 
     -- a pair of the symbol and an earlier statement stands before index `start`
-    pub inside_if : (p : ℕ) → p < length ps → (get_or ps p (0, 0)).0 ≡ x
+    pub pair_lt_start : (p : ℕ) → p < length ps → (get_or ps p (0, 0)).0 ≡ x
         → (get_or ps p (0, 0)).1 < at
         → p < start
-    inside_if p p_lt_length_ps e m = by_order (cases_lt p start)
+    pair_lt_start p p_lt_length_ps symbol_is_x statement_lt_at = by_order (cases_lt p start)
       where
         by_order : (p < start) ⊎ (start ≤ p) → p < start
-        by_order (inl h) = h
-        by_order (inr h) =
+        by_order (inl p_order) = p_order
+        by_order (inr p_order) =
             absurd (true≢false
-            (sym (is_pair_before_if (get_or ps p (0, 0)) x at (inr (e, m)))
-            ∙ parted.after p h p_lt_length_ps))
+            (sym (is_pair_before_if (get_or ps p (0, 0)) x at (inr (symbol_is_x, statement_lt_at)))
+            ∙ parted.later_are_not_before p p_order p_lt_length_ps))
 
-    pub all_are_added : (end : ℕ) (old now : List (ℕ × ℕ)) → AddsFromEnd b ps x at start end old now
+    -- at the end exactly the active `$d` with the symbol have been added
+    pub all_are_added : (end : ℕ) (earlier_pairs pairs_so_far : List (ℕ × ℕ))
+        → AddsFromEnd b ps x at start end earlier_pairs pairs_so_far
         → (0 < end → (get_or ps (end - 1) (0, 0)).0 ≢ x)
         → (j y : ℕ)
-        → has_pair now j y
-        ≡ (has_pair old j y || (nat_eq y x && (has_pair ps x j && is_active_local b j at)))
-    all_are_added end old now a n j y =
-        same_tests (has_pair now j y)
-        (has_pair old j y || (nat_eq y x && (has_pair ps x j && is_active_local b j at)))
-        (λ e. left_to_right (a.only j y e)) (λ e. right_to_left (has_pair old j y) refl e)
+        → has_pair pairs_so_far j y
+        ≡ (has_pair earlier_pairs j y ||
+        (nat_eq y x && (has_pair ps x j && is_active_local b j at)))
+    all_are_added end earlier_pairs pairs_so_far adds last_symbol_ne_x j y =
+        same_tests (has_pair pairs_so_far j y)
+        (has_pair earlier_pairs j y || (nat_eq y x && (has_pair ps x j && is_active_local b j at)))
+        (λ test. left_to_right (adds.new_pairs_are_active j y test))
+        (λ test. right_to_left (has_pair earlier_pairs j y) refl test)
       where
-        left_to_right : (has_pair old j y ≡ true)
+        left_to_right : (has_pair earlier_pairs j y ≡ true)
             ⊎ ((y ≡ x) × (has_pair ps x j ≡ true) × (is_active_local b j at ≡ true))
-            → (has_pair old j y || (nat_eq y x && (has_pair ps x j && is_active_local b j at)))
+            → (has_pair earlier_pairs j y ||
+            (nat_eq y x && (has_pair ps x j && is_active_local b j at)))
             ≡ true
-        left_to_right (inl e) = ap (λ c. c || (nat_eq y x
-            && (has_pair ps x j && is_active_local b j at))) e
-        left_to_right (inr (s, h, o)) =
-            ap (λ c. has_pair old j y || c)
-            (ap₂ (λ u v. u && v) (eq-eqb y x s) (ap₂ (λ u v. u && v) h o))
-            ∙ or-true (has_pair old j y)
+        left_to_right (inl had_pair) = ap (λ c. c || (nat_eq y x
+            && (has_pair ps x j && is_active_local b j at))) had_pair
+        left_to_right (inr (y_is_x, has_pair_x_j, j_is_active)) =
+            ap (λ c. has_pair earlier_pairs j y || c)
+            (ap₂ (λ u v. u && v) (eq-eqb y x y_is_x) (ap₂ (λ u v. u && v) has_pair_x_j j_is_active))
+            ∙ or-true (has_pair earlier_pairs j y)
 
-        found : has_pair ps x j ≡ true → is_active_local b j at ≡ true → has_pair now j x ≡ true
-        found has_pair_x_j j_is_active =
-            let w = has_at ps x j has_pair_x_j in
-            let p = w.0 in
-            let m = ltb-true j at (and_parts (nat_lt j at) (nat_le at (end_of b j))
+        active_pair_is_found : has_pair ps x j ≡ true → is_active_local b j at ≡ true
+            → has_pair pairs_so_far j x ≡ true
+        active_pair_is_found has_pair_x_j j_is_active =
+            let place = place_of_pair ps x j has_pair_x_j in
+            let p = place.0 in
+            let j_lt_at = ltb-true j at (and_parts (nat_lt j at) (nat_le at (end_of b j))
             j_is_active).0 in
-            let r = (and_parts (nat_lt j at) (nat_le at (end_of b j)) j_is_active).1 in
-            let l = inside_if p w.1 w.2 (let e = w.3 in omega (arith, m, e)) in
-            by_order p l w.2 w.3 r (cases_lt p end)
+            let j_is_open = (and_parts (nat_lt j at) (nat_le at (end_of b j)) j_is_active).1 in
+            let place_lt_start = pair_lt_start p place.1 place.2 (let statement_is_j = place.3 in
+            omega (arith, j_lt_at, statement_is_j)) in
+            by_order p place_lt_start place.2 place.3 j_is_open (cases_lt p end)
           where
             by_order : (p : ℕ) → p < start → (get_or ps p (0, 0)).0 ≡ x → (get_or ps p (0, 0)).1 ≡ j
-                → nat_le at (end_of b j) ≡ true → (p < end) ⊎ (end ≤ p) → has_pair now j x ≡ true
-            by_order p l e f r (inl q) = absurd (none_before_end end a.inside n p q e)
-            by_order p l e f r (inr q) =
-                ap (λ i. has_pair now i x) (sym f)
-                ∙ a.all p q l e (ap (λ i. nat_le at (end_of b i)) f ∙ r)
+                → nat_le at (end_of b j) ≡ true → (p < end) ⊎ (end ≤ p)
+                → has_pair pairs_so_far j x ≡ true
+            by_order p p_lt_start p_has_x statement_is_j j_is_open (inl p_order) =
+                absurd (none_before_end end adds.end_le_start last_symbol_ne_x p p_order p_has_x)
+            by_order p p_lt_start p_has_x statement_is_j j_is_open (inr p_order) =
+                ap (λ i. has_pair pairs_so_far i x) (sym statement_is_j)
+                ∙ adds.active_pairs_are_added p p_order p_lt_start p_has_x
+                (ap (λ i. nat_le at (end_of b i)) statement_is_j ∙ j_is_open)
 
-        right_to_left : (c : Bool) → has_pair old j y ≡ c
+        right_to_left : (c : Bool) → has_pair earlier_pairs j y ≡ c
             → (c || (nat_eq y x && (has_pair ps x j && is_active_local b j at))) ≡ true
-            → has_pair now j y ≡ true
-        right_to_left true has_pair_x_y h = a.old_stay j y has_pair_x_y
-        right_to_left false e h =
-            let s =
-            eqb-true y x (and_parts (nat_eq y x) (has_pair ps x j && is_active_local b j at) h).0 in
-            let r = (and_parts (nat_eq y x) (has_pair ps x j && is_active_local b j at) h).1 in
-            ap (has_pair now j) s
-            ∙ found (and_parts (has_pair ps x j) (is_active_local b j at) r).0
-            (and_parts (has_pair ps x j) (is_active_local b j at) r).1
+            → has_pair pairs_so_far j y ≡ true
+        right_to_left true has_pair_x_y is_added = adds.old_pairs_stay j y has_pair_x_y
+        right_to_left false not_had is_added =
+            let y_is_x =
+            eqb-true y x (and_parts (nat_eq y x) (has_pair ps x j && is_active_local b j at)
+            is_added).0 in
+            let j_is_active_member =
+            (and_parts (nat_eq y x) (has_pair ps x j && is_active_local b j at) is_added).1 in
+            ap (has_pair pairs_so_far j) y_is_x
+            ∙ active_pair_is_found
+            (and_parts (has_pair ps x j) (is_active_local b j at) j_is_active_member).0
+            (and_parts (has_pair ps x j) (is_active_local b j at) j_is_active_member).1
 
 -- ---- whether two symbols have one together
 
 -- an active statement that is paired with both symbols has its two pairs before `x_end` and `y_end`
 pub record NoneInCommon (b : BlockLists) (ps : List (ℕ × ℕ)) (x y at x_end y_end : ℕ) : Type 0 where
-  pub met : (p q : ℕ) → p < length ps → q < length ps → (get_or ps p (0, 0)).0 ≡ x
+  pub common_pairs_are_before_ends : (p q : ℕ) → p < length ps → q < length ps
+      → (get_or ps p (0, 0)).0 ≡ x
       → (get_or ps q (0, 0)).0 ≡ y → (get_or ps p (0, 0)).1 ≡ (get_or ps q (0, 0)).1
       → is_active_local b (get_or ps p (0, 0)).1 at ≡ true → (p < x_end) × (q < y_end)
 
 module _ (b : BlockLists) (ps : List (ℕ × ℕ)) (rising : AreRising ps) (x y at : ℕ) where
+  -- before any pair is looked at, all common ones are before the ends
   pub none_at_start : (x_end y_end : ℕ) → x_end ≤ length ps → y_end ≤ length ps
       → ((p : ℕ) → p < x_end → is_pair_before (get_or ps p (0, 0)) x at ≡ true)
       → ((p : ℕ) → x_end ≤ p → p < length ps → is_pair_before (get_or ps p (0, 0)) x at ≡ false)
       → ((p : ℕ) → p < y_end → is_pair_before (get_or ps p (0, 0)) y at ≡ true)
       → ((p : ℕ) → y_end ≤ p → p < length ps → is_pair_before (get_or ps p (0, 0)) y at ≡ false)
       → NoneInCommon b ps x y at x_end y_end
-  none_at_start x_end y_end x_end_le_length_ps y_end_le_length_ps bl al br ar = record {
-    met = λ p q h i e f s o.
-        let m =
-        ltb-true (get_or ps p (0, 0)).1 at
-        (and_parts (nat_lt (get_or ps p (0, 0)).1 at)
-        (nat_le at (end_of b (get_or ps p (0, 0)).1)) o).0 in (
-          inside_if b ps rising x at x_end (record
-              { within = x_end_le_length_ps; before = bl; after = al }) p h e m,
-          inside_if b ps rising y at y_end (record
-              { within = y_end_le_length_ps; before = br; after = ar }) q
-              i f (omega (arith, m, s)),
-        );
-  }
+  none_at_start x_end y_end x_end_le_length_ps y_end_le_length_ps earlier_are_before_x
+      later_are_not_before_x earlier_are_before_y later_are_not_before_y = record {
+        common_pairs_are_before_ends =
+            λ p q p_lt_length q_lt_length p_has_x q_has_y statements_equal is_active.
+            let statement_lt_at =
+            ltb-true (get_or ps p (0, 0)).1 at
+            (and_parts (nat_lt (get_or ps p (0, 0)).1 at)
+            (nat_le at (end_of b (get_or ps p (0, 0)).1)) is_active).0 in (
+              pair_lt_start b ps rising x at x_end (record {
+                start_le_length = x_end_le_length_ps;
+                earlier_are_before =
+                    earlier_are_before_x;
+                later_are_not_before = later_are_not_before_x;
+              }) p p_lt_length
+                  p_has_x statement_lt_at,
+              pair_lt_start b ps rising y at y_end (record {
+                start_le_length = y_end_le_length_ps;
+                earlier_are_before =
+                    earlier_are_before_y;
+                later_are_not_before = later_are_not_before_y;
+              }) q
+                  q_lt_length q_has_y (omega (arith, statement_lt_at, statements_equal)),
+            );
+      }
 
   -- of two pairs of one symbol, the earlier has no greater statement
   statements_ascend : (q r : ℕ) → q ≤ r → r < length ps
       → (get_or ps q (0, 0)).0 ≡ (get_or ps r (0, 0)).0
       → (get_or ps q (0, 0)).1 ≤ (get_or ps r (0, 0)).1
-  statements_ascend q r q_le_r r_lt_length_ps e = by_equality (cases_eq q r)
+  statements_ascend q r q_le_r r_lt_length_ps symbols_equal = by_equality (cases_eq q r)
     where
       by_equality : (q ≡ r) ⊎ (q ≢ r) → (get_or ps q (0, 0)).1 ≤ (get_or ps r (0, 0)).1
-      by_equality (inl s) = let t = ap (λ i. (get_or ps i (0, 0)).1) s in omega (arith, t)
-      by_equality (inr n) = statement_le (rising_at ps rising q r (0, 0) (omega (arith, q_le_r, n))
+      by_equality (inl q_is_r) = let statements_equal =
+          ap (λ i. (get_or ps i (0, 0)).1) q_is_r in
+          omega (arith, statements_equal)
+      by_equality (inr q_ne_r) =
+          statement_le (earlier_is_before ps rising q r (0, 0) (omega (arith, q_le_r, q_ne_r))
           r_lt_length_ps)
         where
           statement_le : IsBefore (get_or ps q (0, 0)).0 (get_or ps q (0, 0)).1
               (get_or ps r (0, 0)).0
               (get_or ps r (0, 0)).1
               → (get_or ps q (0, 0)).1 ≤ (get_or ps r (0, 0)).1
-          statement_le (inl m) = absurd (omega (arith, m, e))
-          statement_le (inr (s, m)) = omega (arith, m)
+          statement_le (inl lower) = absurd (omega (arith, lower, symbols_equal))
+          statement_le (inr (symbols_equal, lower)) = omega (arith, lower)
 
-  closed : (p : ℕ) → nat_le at (end_of b (get_or ps p (0, 0)).1) ≡ false
+  -- a `$d` whose block is closed is not active
+  closed_is_inactive : (p : ℕ) → nat_le at (end_of b (get_or ps p (0, 0)).1) ≡ false
       → is_active_local b (get_or ps p (0, 0)).1 at ≡ true → ⊥
-  closed p c o =
+  closed_is_inactive p is_closed is_active =
       true≢false
       (sym (and_parts (nat_lt (get_or ps p (0, 0)).1 at)
-      (nat_le at (end_of b (get_or ps p (0, 0)).1)) o).1
-      ∙ c)
+      (nat_le at (end_of b (get_or ps p (0, 0)).1)) is_active).1
+      ∙ is_closed)
 
   -- the last of the one is of a later statement than the last of the other, or of the same, whose
   -- block is closed
-  pub none_before_x_end : (x_end y_end next : ℕ) → NoneInCommon b ps x y at x_end y_end → 0 < x_end
+  pub none_before_x_end : (x_end y_end next_end : ℕ) → NoneInCommon b ps x y at x_end y_end
+      → 0 < x_end
       → x_end ≤ length ps → 0 < y_end → y_end ≤ length ps → (get_or ps (y_end - 1) (0, 0)).0 ≡ y
       → ((get_or ps (y_end - 1) (0, 0)).1 < (get_or ps (x_end - 1) (0, 0)).1)
       ⊎ (nat_le at (end_of b (get_or ps (x_end - 1) (0, 0)).1) ≡ false)
-      → ((p : ℕ) → next ≤ p → p + 1 < x_end → nat_le at (end_of b (get_or ps p (0, 0)).1) ≡ false)
-      → NoneInCommon b ps x y at next y_end
-  none_before_x_end x_end y_end next a sl wl sr wr ey why passed =
+      → ((p : ℕ) → next_end ≤ p → p + 1 < x_end → nat_le at (end_of b (get_or ps p (0, 0)).1)
+      ≡ false)
+      → NoneInCommon b ps x y at next_end y_end
+  none_before_x_end x_end y_end next_end none_in_common x_end_gt_0 x_end_le_length y_end_gt_0
+      y_end_le_length last_has_y later_or_closed skipped_are_closed =
       record {
-        met = λ p q h i e f s o. let m = a.met p q h i e f s o in
-            (is_before_next p q m.0 m.1 f s o (cases_lt p next) why, m.1);
+        common_pairs_are_before_ends =
+            λ p q p_lt_length q_lt_length p_has_x q_has_y statements_equal is_active.
+            let before_ends =
+            none_in_common.common_pairs_are_before_ends p q p_lt_length q_lt_length p_has_x q_has_y
+            statements_equal is_active in (
+              is_before_next p q before_ends.0 before_ends.1 q_has_y statements_equal is_active
+                  (cases_lt p next_end) later_or_closed,
+              before_ends.1,
+            );
       }
     where
       is_before_next : (p q : ℕ) → p < x_end → q < y_end → (get_or ps q (0, 0)).0 ≡ y
           → (get_or ps p (0, 0)).1 ≡ (get_or ps q (0, 0)).1
-          → is_active_local b (get_or ps p (0, 0)).1 at ≡ true → (p < next) ⊎ (next ≤ p)
+          → is_active_local b (get_or ps p (0, 0)).1 at ≡ true → (p < next_end) ⊎ (next_end ≤ p)
           → ((get_or ps (y_end - 1) (0, 0)).1 < (get_or ps (x_end - 1) (0, 0)).1)
-          ⊎ (nat_le at (end_of b (get_or ps (x_end - 1) (0, 0)).1) ≡ false) → p < next
-      is_before_next p q p_lt_x_end q_lt_y_end f s j_is_active (inl m) w = m
-      is_before_next p q p_lt_x_end q_lt_y_end f s j_is_active (inr m) w = absurd
-          (impossible (cases_lt (p + 1) x_end) w)
+          ⊎ (nat_le at (end_of b (get_or ps (x_end - 1) (0, 0)).1) ≡ false) → p < next_end
+      is_before_next p q p_lt_x_end q_lt_y_end q_has_y statements_equal j_is_active
+          (inl p_lt_next) reason = p_lt_next
+      is_before_next p q p_lt_x_end q_lt_y_end q_has_y statements_equal j_is_active
+          (inr next_le_p) reason = absurd
+          (impossible (cases_lt (p + 1) x_end) reason)
         where
           impossible : (p + 1 < x_end) ⊎ (x_end ≤ p + 1)
               → ((get_or ps (y_end - 1) (0, 0)).1 < (get_or ps (x_end - 1) (0, 0)).1)
               ⊎ (nat_le at (end_of b (get_or ps (x_end - 1) (0, 0)).1) ≡ false) → ⊥
-          impossible (inl n) w = closed p (passed p m n) j_is_active
-          impossible (inr n) (inr c) =
-              let t : p ≡ x_end - 1 = omega (arith, p_lt_x_end, n) in
-              closed p (ap (λ i. nat_le at (end_of b (get_or ps i (0, 0)).1)) t ∙ c)
+          impossible (inl p_before_last) reason =
+              closed_is_inactive p (skipped_are_closed p next_le_p p_before_last) j_is_active
+          impossible (inr p_at_end) (inr last_is_closed) =
+              let p_is_last : p ≡ x_end - 1 = omega (arith, p_lt_x_end, p_at_end) in
+              closed_is_inactive p (ap (λ i. nat_le at (end_of b (get_or ps i (0, 0)).1)) p_is_last
+              ∙ last_is_closed)
               j_is_active
-          impossible (inr n) (inl c) =
-              let t : p ≡ x_end - 1 = omega (arith, p_lt_x_end, n) in
-              let u = ap (λ i. (get_or ps i (0, 0)).1) t in
-              let v =
-              statements_ascend q (y_end - 1) (omega (arith, q_lt_y_end)) (omega (arith, sr, wr))
-              (f ∙ sym ey) in
-              omega (arith, u, v, s, c)
+          impossible (inr p_at_end) (inl statement_is_lower) =
+              let p_is_last : p ≡ x_end - 1 = omega (arith, p_lt_x_end, p_at_end) in
+              let statements_of_p_equal = ap (λ i. (get_or ps i (0, 0)).1) p_is_last in
+              let statement_le =
+              statements_ascend q (y_end - 1) (omega (arith, q_lt_y_end))
+              (omega (arith, y_end_gt_0, y_end_le_length))
+              (q_has_y ∙ sym last_has_y) in
+              omega (arith, statements_of_p_equal, statement_le, statements_equal, reason)
 
-  pub none_before_y_end : (x_end y_end next : ℕ) → NoneInCommon b ps x y at x_end y_end → 0 < x_end
+  -- the same with the two symbols exchanged
+  pub none_before_y_end : (x_end y_end next_end : ℕ) → NoneInCommon b ps x y at x_end y_end
+      → 0 < x_end
       → x_end ≤ length ps → 0 < y_end → y_end ≤ length ps → (get_or ps (x_end - 1) (0, 0)).0 ≡ x
       → (get_or ps (x_end - 1) (0, 0)).1 < (get_or ps (y_end - 1) (0, 0)).1
-      → ((p : ℕ) → next ≤ p → p + 1 < y_end → nat_le at (end_of b (get_or ps p (0, 0)).1) ≡ false)
-      → NoneInCommon b ps x y at x_end next
-  none_before_y_end x_end y_end next a sl wl sr wr ex why passed =
+      → ((p : ℕ) → next_end ≤ p → p + 1 < y_end → nat_le at (end_of b (get_or ps p (0, 0)).1)
+      ≡ false)
+      → NoneInCommon b ps x y at x_end next_end
+  none_before_y_end x_end y_end next_end none_in_common x_end_gt_0 x_end_le_length y_end_gt_0
+      y_end_le_length last_has_x x_statement_lt_y_statement skipped_are_closed =
       record {
-        met = λ p q h i e f s o. let m = a.met p q h i e f s o in
-            (m.0, is_before_next p q m.0 m.1 e s o (cases_lt q next));
+        common_pairs_are_before_ends =
+            λ p q p_lt_length q_lt_length p_has_x q_has_y statements_equal is_active.
+            let before_ends =
+            none_in_common.common_pairs_are_before_ends p q p_lt_length q_lt_length p_has_x q_has_y
+            statements_equal is_active in (
+              before_ends.0,
+              is_before_next p q before_ends.0 before_ends.1 p_has_x statements_equal
+                  is_active (cases_lt q next_end),
+            );
       }
     where
       is_before_next : (p q : ℕ) → p < x_end → q < y_end → (get_or ps p (0, 0)).0 ≡ x
           → (get_or ps p (0, 0)).1 ≡ (get_or ps q (0, 0)).1
-          → is_active_local b (get_or ps p (0, 0)).1 at ≡ true → (q < next) ⊎ (next ≤ q) → q < next
-      is_before_next p q p_lt_x_end q_lt_y_end e s j_is_active (inl m) = m
-      is_before_next p q p_lt_x_end q_lt_y_end e s j_is_active (inr m) = absurd
+          → is_active_local b (get_or ps p (0, 0)).1 at ≡ true → (q < next_end) ⊎ (next_end ≤ q)
+          → q < next_end
+      is_before_next p q p_lt_x_end q_lt_y_end p_has_x statements_equal j_is_active
+          (inl q_lt_next) =
+          q_lt_next
+      is_before_next p q p_lt_x_end q_lt_y_end p_has_x statements_equal j_is_active
+          (inr next_le_q) =
+          absurd
           (impossible (cases_lt (q + 1) y_end))
         where
           impossible : (q + 1 < y_end) ⊎ (y_end ≤ q + 1) → ⊥
-          impossible (inl n) = closed q (passed q m n)
-              (ap (λ j. is_active_local b j at) (sym s) ∙ j_is_active)
-          impossible (inr n) =
-              let q_is_previous_y_end : q ≡ y_end - 1 = omega (arith, q_lt_y_end, n) in
-              let u = ap (λ i. (get_or ps i (0, 0)).1) q_is_previous_y_end in
-              let v =
-              statements_ascend p (x_end - 1) (omega (arith, p_lt_x_end)) (omega (arith, sl, wl))
-              (e ∙ sym ex) in
-              omega (arith, u, v, s, why)
+          impossible (inl q_before_last) =
+              closed_is_inactive q (skipped_are_closed q next_le_q q_before_last)
+              (ap (λ j. is_active_local b j at) (sym statements_equal) ∙ j_is_active)
+          impossible (inr q_at_end) =
+              let q_is_last : q ≡ y_end - 1 = omega (arith, q_lt_y_end, q_at_end) in
+              let statements_of_q_equal = ap (λ i. (get_or ps i (0, 0)).1) q_is_last in
+              let statement_le =
+              statements_ascend p (x_end - 1) (omega (arith, p_lt_x_end))
+              (omega (arith, x_end_gt_0, x_end_le_length))
+              (p_has_x ∙ sym last_has_x) in
+              omega (
+                arith,
+                statements_of_q_equal,
+                statement_le,
+                statements_equal,
+                x_statement_lt_y_statement,
+              )
 
   -- if one of the two symbols has no pair before its end, no active statement has both symbols
   pub none_at_end : (x_end y_end : ℕ) → NoneInCommon b ps x y at x_end y_end
       → ((p : ℕ) → p < x_end → (get_or ps p (0, 0)).0 ≡ x → ⊥)
       ⊎ ((p : ℕ) → p < y_end → (get_or ps p (0, 0)).0 ≡ y → ⊥)
       → (j : ℕ) → has_pair ps x j ≡ true → has_pair ps y j ≡ true → is_active_local b j at ≡ false
-  none_at_end x_end y_end a none j hx hy = false_from_ne_true (is_active_local b j at) (λ o.
-      let w = has_at ps x j hx in
-      let v = has_at ps y j hy in
-      let m =
-      a.met w.0 v.0 w.1 v.1 w.2 v.2 (w.3 ∙ sym v.3) (ap (λ i. is_active_local b i at) w.3 ∙ o) in
-      by_exhausted_symbol w.0 v.0 m.0 m.1 w.2 v.2 none)
+  none_at_end x_end y_end none_in_common x_or_y_exhausted j j_has_x j_has_y =
+      false_from_ne_true (is_active_local b j at) (λ j_is_active.
+      let place_of_x = place_of_pair ps x j j_has_x in
+      let place_of_y = place_of_pair ps y j j_has_y in
+      let both_before_ends =
+      none_in_common.common_pairs_are_before_ends place_of_x.0 place_of_y.0 place_of_x.1
+      place_of_y.1 place_of_x.2 place_of_y.2 (place_of_x.3
+      ∙ sym place_of_y.3) (ap (λ i. is_active_local b i at) place_of_x.3 ∙ j_is_active) in
+      by_exhausted_symbol place_of_x.0 place_of_y.0 both_before_ends.0 both_before_ends.1
+      place_of_x.2 place_of_y.2 x_or_y_exhausted)
     where
       by_exhausted_symbol : (p q : ℕ) → p < x_end → q < y_end → (get_or ps p (0, 0)).0 ≡ x
           → (get_or ps q (0, 0)).0 ≡ y
           → ((p : ℕ) → p < x_end → (get_or ps p (0, 0)).0 ≡ x → ⊥)
           ⊎ ((p : ℕ) → p < y_end → (get_or ps p (0, 0)).0 ≡ y → ⊥) → ⊥
-      by_exhausted_symbol p q l r e f (inl n) = n p l e
-      by_exhausted_symbol p q l r e f (inr n) = n q r f
+      by_exhausted_symbol p q p_lt_x_end q_lt_y_end p_has_x q_has_y (inl x_before_end_not) =
+          x_before_end_not p p_lt_x_end p_has_x
+      by_exhausted_symbol p q p_lt_x_end q_lt_y_end p_has_x q_has_y (inr y_before_end_not) =
+          y_before_end_not q q_lt_y_end q_has_y

@@ -20,89 +20,105 @@ use Rattle.mm_database.specs.Frames.{frames_before, frames_at, AreFrameIndices}
 use Rattle.mm_database.specs.declared.frames.Frame.{Frame}
 
 -- the frame of an assertion among all frames
-pub frame_there : (db : List Statement) (k : ℕ) → list_any is_assertion (statement_at db k) ≡ true
+pub frame_of_assertion : (db : List Statement) (k : ℕ) → list_any is_assertion (statement_at db k)
+    ≡ true
     → get_or (frames_before db (length db)) k None ≡ Some (mandatory_at db k)
-frame_there db k is =
+frame_of_assertion db k k_is_assertion =
     get_or-map-range_with_len (frame_or_none db) 0 (length db) k k None
-    (is_there is_assertion db k is) (omega arith)
-    ∙ ap (λ b. if b then Some (mandatory_at db k) else None) is
+    (is_there is_assertion db k k_is_assertion) (omega arith)
+    ∙ ap (λ b. if b then Some (mandatory_at db k) else None) k_is_assertion
 
 module _ {A : Type 0} (fs : List (Frame A)) where
-  frame_at_push : (f : Frame A) (p : ℕ) → length fs < never → (p < length fs) ⊎ (p ≡ never)
+  -- an index keeps its frame when a frame is added
+  frame_at_unchanged : (f : Frame A) (p : ℕ) → length fs < never → (p < length fs) ⊎ (p ≡ never)
       → option_map mandatory_in (slice_get (fs ++ f ∷ []) p)
       ≡ option_map mandatory_in (slice_get fs p)
-  frame_at_push f p few (inl l) =
-      let longer = length_push fs f in
+  frame_at_unchanged f p frames_lt_never (inl p_lt_length) =
+      let pushed_length = length_push fs f in
       ap (option_map mandatory_in)
-      (slice_get-get_or (fs ++ f ∷ []) p f (omega (arith, l, longer))
-      ∙ ap Some (get_or_append_left fs (f ∷ []) f p l) ∙ sym (slice_get-get_or fs p f l))
-  frame_at_push f p few (inr e) =
-      let longer = length_push fs f in
+      (slice_get-get_or (fs ++ f ∷ []) p f (omega (arith, p_lt_length, pushed_length))
+      ∙ ap Some (get_or_append_left fs (f ∷ []) f p p_lt_length)
+      ∙ sym (slice_get-get_or fs p f p_lt_length))
+  frame_at_unchanged f p frames_lt_never (inr p_is_never) =
+      let pushed_length = length_push fs f in
       ap (option_map mandatory_in)
-      (slice_get_past (fs ++ f ∷ []) p (omega (arith, e, few, longer))
-      ∙ sym (slice_get_past fs p (omega (arith, e, few))))
+      (slice_get_past (fs ++ f ∷ []) p (omega (arith, p_is_never, frames_lt_never, pushed_length))
+      ∙ sym (slice_get_past fs p (omega (arith, p_is_never, frames_lt_never))))
 
-  frames_at_push : (f : Frame A) (ps : List ℕ) → length fs < never
+  -- the indices keep their frames when a frame is added
+  frames_at_unchanged : (f : Frame A) (ps : List ℕ) → length fs < never
       → ((i : ℕ) → i < length ps → (slice_index ps i < length fs) ⊎ (slice_index ps i ≡ never))
       → frames_at (fs ++ f ∷ []) ps ≡ frames_at fs ps
-  frames_at_push f [] few each = refl
-  frames_at_push f (p ∷ ps) few each =
-      ap₂ (λ o l. o ∷ l) (frame_at_push f p few (each 0 (omega arith)))
-      (frames_at_push f ps few (λ i l. each (suc i) (omega (arith, l))))
+  frames_at_unchanged f [] frames_lt_never index_known_or_never = refl
+  frames_at_unchanged f (p ∷ ps) frames_lt_never index_known_or_never =
+      ap₂ (λ o l. o ∷ l)
+      (frame_at_unchanged f p frames_lt_never (index_known_or_never 0 (omega arith)))
+      (frames_at_unchanged f ps frames_lt_never
+      (λ i i_lt_length. index_known_or_never (suc i) (omega (arith, i_lt_length))))
 
   -- the frames of the statements with the frame of one assertion more
-  pub frames_at_more : (f : Frame A) (ps : List ℕ) → AreFrameIndices (length fs) ps
+  pub frames_at_push_frame : (f : Frame A) (ps : List ℕ) → AreFrameIndices (length fs) ps
       → length fs < never
       → frames_at (fs ++ f ∷ []) (ps ++ length fs ∷ [])
       ≡ frames_at fs ps ++ Some (mandatory_in f) ∷ []
-  frames_at_more f ps are few =
-      let longer = length_push fs f in
+  frames_at_push_frame f ps are_indices frames_lt_never =
+      let pushed_length = length_push fs f in
       map_push (λ p. option_map mandatory_in (slice_get (fs ++ f ∷ []) p)) ps (length fs)
-      ∙ ap₂ (λ l o. l ++ o ∷ []) (frames_at_push f ps few are.each)
+      ∙ ap₂ (λ l o. l ++ o ∷ [])
+      (frames_at_unchanged f ps frames_lt_never are_indices.index_known_or_never)
       (ap (option_map mandatory_in)
-      (slice_get-get_or (fs ++ f ∷ []) (length fs) f (omega (arith, longer))
+      (slice_get-get_or (fs ++ f ∷ []) (length fs) f (omega (arith, pushed_length))
       ∙ ap Some (get_or_push fs f f (length fs) refl)))
 
+  -- each statement has an index
   pub as_many_indices : (ps : List ℕ) → length (frames_at fs ps) ≡ length ps
   as_many_indices ps = length-map ps (λ p. option_map mandatory_in (slice_get fs p))
 
   -- a statement without a frame more
-  pub frames_at_none : (ps : List ℕ) → length fs ≤ never
+  pub frames_at_push_none : (ps : List ℕ) → length fs ≤ never
       → frames_at fs (ps ++ never ∷ []) ≡ frames_at fs ps ++ None ∷ []
-  frames_at_none ps few =
+  frames_at_push_none ps frames_le_never =
       map_push (λ p. option_map mandatory_in (slice_get fs p)) ps never
-      ∙ ap (λ o. frames_at fs ps ++ option_map mandatory_in o ∷ []) (slice_get_past fs never few)
+      ∙ ap (λ o. frames_at fs ps ++ option_map mandatory_in o ∷ [])
+      (slice_get_past fs never frames_le_never)
 
   -- where a frame is, there is its index
-  pub index_there : (ps : List ℕ) (k : ℕ) → IsSome (get_or (frames_at fs ps) k None) → k < length ps
-  index_there ps k is = by_order (cases_lt k (length ps))
+  pub frame_index_lt_length : (ps : List ℕ) (k : ℕ) → IsSome (get_or (frames_at fs ps) k None)
+      → k < length ps
+  frame_index_lt_length ps k k_has_frame = by_order (cases_lt k (length ps))
     where
       by_order : (k < length ps) ⊎ (length ps ≤ k) → k < length ps
-      by_order (inl l) = l
-      by_order (inr l) =
-          let n = as_many_indices ps in
-          let none = get_or_past (frames_at fs ps) k None (omega (arith, l, n)) in
-          absurd (true≢false (sym is ∙ ap is_some none))
+      by_order (inl k_order) = k_order
+      by_order (inr k_order) =
+          let indices_count = as_many_indices ps in
+          let frame_is_none =
+          get_or_past (frames_at fs ps) k None (omega (arith, k_order, indices_count)) in
+          absurd (true≢false (sym k_has_frame ∙ ap is_some frame_is_none))
 
   -- if statement k has a frame, its index is that of one of the frames
   pub frame_at_index : (ps : List ℕ) (k p : ℕ) → IsSome (get_or (frames_at fs ps) k None)
       → p ≡ slice_index ps k → (p < length fs) × ((d : Frame A)
       → get_or (frames_at fs ps) k None ≡ Some (mandatory_in (get_or fs p d)))
-  frame_at_index ps k p is e = by_order (cases_lt p (length fs))
+  frame_at_index ps k p k_has_frame p_is_index = by_order (cases_lt p (length fs))
     where
       frame_with_index : ℕ → Option Mandatory
       frame_with_index q = option_map mandatory_in (slice_get fs q)
 
-      frame_is : get_or (frames_at fs ps) k None ≡ frame_with_index p
-      frame_is =
-          get_or-map frame_with_index ps k 0 None (index_there ps k is)
-          ∙ ap frame_with_index (sym e)
+      frame_is_at_index : get_or (frames_at fs ps) k None ≡ frame_with_index p
+      frame_is_at_index =
+          get_or-map frame_with_index ps k 0 None (frame_index_lt_length ps k k_has_frame)
+          ∙ ap frame_with_index (sym p_is_index)
 
       by_order : (p < length fs) ⊎ (length fs ≤ p)
           → (p < length fs) × ((d : Frame A)
           → get_or (frames_at fs ps) k None ≡ Some (mandatory_in (get_or fs p d)))
-      by_order (inl l) =
-          (l, λ d. frame_is ∙ ap (option_map mandatory_in) (slice_get-get_or fs p d l))
-      by_order (inr l) =
+      by_order (inl p_order) = (
+        p_order,
+        λ d. frame_is_at_index
+            ∙ ap (option_map mandatory_in) (slice_get-get_or fs p d p_order),
+      )
+      by_order (inr p_order) =
           absurd (true≢false
-          (sym is ∙ ap is_some (frame_is ∙ ap (option_map mandatory_in) (slice_get_past fs p l))))
+          (sym k_has_frame
+          ∙ ap is_some (frame_is_at_index
+          ∙ ap (option_map mandatory_in) (slice_get_past fs p p_order))))

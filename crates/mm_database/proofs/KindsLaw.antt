@@ -29,34 +29,43 @@ use Rattle.mm_database.specs.Kinds.{is_disjoint_kind}
 
 -- ---- the numbers that pass a test
 
-filter_more : (p : ℕ → Bool) (k : ℕ) (b : Bool) → p k ≡ b
+-- the numbers up to k + 1 that pass are those up to k, and k if it passes
+filter_range_push : (p : ℕ → Bool) (k : ℕ) (b : Bool) → p k ≡ b
     → filter p (range_with_len 0 (k + 1)) ≡ filter p (range_with_len 0 k) ++ (cond b (k ∷ []) [])
-filter_more p k b e =
-    let s : k + 1 ≡ suc k = omega arith in
-    let z : 0 + k ≡ k = omega arith in
-    ap (λ n. filter p (range_with_len 0 n)) s ∙ ap (filter p) (range_more 0 k)
-    ∙ ap (λ i. filter p (range_with_len 0 k ++ i ∷ [])) z
+filter_range_push p k b p_k_is_b =
+    let k_plus_1_is_suc : k + 1 ≡ suc k = omega arith in
+    let zero_plus_k_is_k : 0 + k ≡ k = omega arith in
+    ap (λ n. filter p (range_with_len 0 n)) k_plus_1_is_suc ∙ ap (filter p) (range_more 0 k)
+    ∙ ap (λ i. filter p (range_with_len 0 k ++ i ∷ [])) zero_plus_k_is_k
     ∙ filter-append p (range_with_len 0 k) (k ∷ [])
-    ∙ ap (λ c. filter p (range_with_len 0 k) ++ cond c (k ∷ []) []) e
+    ∙ ap (λ c. filter p (range_with_len 0 k) ++ cond c (k ∷ []) []) p_k_is_b
 
-pub filter_push : (p : ℕ → Bool) (k : ℕ) (xs ys : List ℕ) → xs ≡ filter p (range_with_len 0 k)
+-- the list with k, which passes
+pub filter_range_passes : (p : ℕ → Bool) (k : ℕ) (xs ys : List ℕ)
+    → xs ≡ filter p (range_with_len 0 k)
     → p k ≡ true → ys ≡ xs ++ k ∷ [] → ys ≡ filter p (range_with_len 0 (k + 1))
-filter_push p k xs ys h e is = is ∙ ap (λ zs. zs ++ k ∷ []) h ∙ sym (filter_more p k true e)
+filter_range_passes p k xs ys xs_are_filtered k_passes ys_are_xs_and_k =
+    ys_are_xs_and_k ∙ ap (λ zs. zs ++ k ∷ []) xs_are_filtered
+    ∙ sym (filter_range_push p k true k_passes)
 
-pub filter_skip : (p : ℕ → Bool) (k : ℕ) (xs : List ℕ) → xs ≡ filter p (range_with_len 0 k)
+-- the list without k, which doesn't pass
+pub filter_range_skips : (p : ℕ → Bool) (k : ℕ) (xs : List ℕ) → xs ≡ filter p (range_with_len 0 k)
     → p k ≡ false → xs ≡ filter p (range_with_len 0 (k + 1))
-filter_skip p k xs h e =
-    h ∙ sym (append-nil (filter p (range_with_len 0 k))) ∙ sym (filter_more p k false e)
+filter_range_skips p k xs xs_are_filtered k_fails =
+    xs_are_filtered ∙ sym (append-nil (filter p (range_with_len 0 k)))
+    ∙ sym (filter_range_push p k false k_fails)
 
 -- ---- the theorems and the axioms by the kinds
 
-got_kind : (db : List Statement) (j : ℕ)
+-- the kind of a statement by its number
+kind_at_index : (db : List Statement) (j : ℕ)
     → slice_get (map kind_of db) j ≡ option_map kind_of (slice_get db j)
-got_kind [] zero = refl
-got_kind [] (suc j) = refl
-got_kind (s ∷ db) zero = refl
-got_kind (s ∷ db) (suc j) = got_kind db j
+kind_at_index [] zero = refl
+kind_at_index [] (suc j) = refl
+kind_at_index (s ∷ db) zero = refl
+kind_at_index (s ∷ db) (suc j) = kind_at_index db j
 
+-- the test of a kind for theorems and axioms is the test of the statement
 theorem_kind : (s : Statement) → is_theorem_kind (kind_of s) ≡ list_any is_theorem (s ∷ [])
 theorem_kind (constants k xs d) = refl
 theorem_kind (variables k xs d) = refl
@@ -79,15 +88,17 @@ axiom_kind (provable l k xs e ps d) = refl
 axiom_kind (opening k) = refl
 axiom_kind (closing k) = refl
 
-numbers_are : (test : Kind → Bool) (p : Statement → Bool)
+-- the numbers whose kinds pass are those whose statements pass
+numbers_by_kind : (test : Kind → Bool) (p : Statement → Bool)
     → ((s : Statement) → test (kind_of s) ≡ list_any p (s ∷ [])) → (db : List Statement)
     → numbers_of test (map kind_of db)
     ≡ filter (λ j. list_any p (statement_at db j)) (range_with_len 0 (length db))
-numbers_are test p h db =
-    let n = length-map db kind_of in
-    ap (λ n. filter (λ j. tested (slice_get (map kind_of db) j)) (range_with_len 0 n)) n
+numbers_by_kind test p test_decides db =
+    let kinds_length = length-map db kind_of in
+    ap (λ count. filter (λ j. tested (slice_get (map kind_of db) j))
+    (range_with_len 0 count)) kinds_length
     ∙ ap (λ q. filter q (range_with_len 0 (length db)))
-    (fun_ext (λ j. ap tested (got_kind db j) ∙ by_statement (slice_get db j)))
+    (fun_ext (λ j. ap tested (kind_at_index db j) ∙ by_statement (slice_get db j)))
   where
     tested : Option Kind → Bool
     tested o = elim o [ None ↦ false | Some k ↦ test k ]
@@ -95,98 +106,112 @@ numbers_are test p h db =
     by_statement : (o : Option Statement)
         → tested (option_map kind_of o) ≡ list_any p (elim o [ None ↦ [] | Some s ↦ s ∷ [] ])
     by_statement None = refl
-    by_statement (Some s) = h s
+    by_statement (Some s) = test_decides s
 
+-- the theorems are the statements with the kind of one
 pub theorems_by_kind : (db : List Statement) (kinds : List Kind) → kinds ≡ map kind_of db
     → numbers_of is_theorem_kind kinds ≡ theorems db
-theorems_by_kind db kinds e =
-    ap (numbers_of is_theorem_kind) e ∙ numbers_are is_theorem_kind is_theorem theorem_kind db
+theorems_by_kind db kinds kinds_are =
+    ap (numbers_of is_theorem_kind) kinds_are
+    ∙ numbers_by_kind is_theorem_kind is_theorem theorem_kind db
 
+-- the axioms are the statements with the kind of one
 pub axioms_by_kind : (db : List Statement) (kinds : List Kind) → kinds ≡ map kind_of db
     → numbers_of is_axiom_kind kinds ≡ columns db None
-axioms_by_kind db kinds e =
-    ap (numbers_of is_axiom_kind) e ∙ numbers_are is_axiom_kind (is_column None) axiom_kind db
+axioms_by_kind db kinds kinds_are =
+    ap (numbers_of is_axiom_kind) kinds_are
+    ∙ numbers_by_kind is_axiom_kind (is_column None) axiom_kind db
 
 -- ---- one statement more
 
-pub counted_more : (w : Bool) (db : List Statement) (s : Statement)
+-- statements as they count, with one statement more
+pub counted_push : (w : Bool) (db : List Statement) (s : Statement)
     → counted w (db ++ s ∷ []) ≡ counted w db ++ counted_as w s ∷ []
-counted_more true db s = map-append as_axiom db (s ∷ [])
-counted_more false db s = refl
+counted_push true db s = map-append as_axiom db (s ∷ [])
+counted_push false db s = refl
 
 -- ---- the kind of one statement
 
 -- the test of a kind at a place
-pub kind_at : (test : Kind → Bool) (kinds : List Kind) (j : ℕ) (d : Kind) → j < length kinds
+pub test_at_is_test_of_kind : (test : Kind → Bool) (kinds : List Kind) (j : ℕ) (d : Kind)
+    → j < length kinds
     → elim (slice_get kinds j) [ None ↦ false | Some k ↦ test k ] ≡ test (get_or kinds j d)
-kind_at test kinds j d h =
-    ap (λ o. elim o [ None ↦ false | Some k ↦ test k ]) (slice_get-get_or kinds j d h)
+test_at_is_test_of_kind test kinds j d j_lt_length =
+    ap (λ o. elim o [ None ↦ false | Some k ↦ test k ]) (slice_get-get_or kinds j d j_lt_length)
 
-pub kinds_more : (text : List ℕ) (ws : List Word) (os : List Outline) (w : Bool) (i : ℕ)
+-- the kinds of the statements up to i + 1 are those up to i and that of the next
+pub kinds_push : (text : List ℕ) (ws : List Word) (os : List Outline) (w : Bool) (i : ℕ)
     → (d : Outline)
     → i < length os
     → map kind_of (counted w (statements text ws (take (i + 1) os)))
     ≡ map kind_of (counted w (statements text ws (take i os)))
     ++ kind_of (counted_as w (statement_of text ws (get_or os i d))) ∷ []
-kinds_more text ws os w i d i_lt_length_os =
+kinds_push text ws os w i d i_lt_length_os =
     let s = statement_of text ws (get_or os i d) in
-    let before = statements text ws (take i os) in
+    let earlier_statements = statements text ws (take i os) in
     ap (λ os. map kind_of (counted w (statements text ws os))) (take_more os i d i_lt_length_os)
     ∙ ap (λ db. map kind_of (counted w db))
     (map-append (statement_of text ws) (take i os) (get_or os i d ∷ []))
-    ∙ ap (map kind_of) (counted_more w before s)
-    ∙ map-append kind_of (counted w before) (counted_as w s ∷ [])
+    ∙ ap (map kind_of) (counted_push w earlier_statements s)
+    ∙ map-append kind_of (counted w earlier_statements) (counted_as w s ∷ [])
 
-pub kinds_few : (text : List ℕ) (ws : List Word) (os : List Outline) (w : Bool) (kinds : List Kind)
+-- there are as many kinds as outlines
+pub kinds_lt_2_31 : (text : List ℕ) (ws : List Word) (os : List Outline) (w : Bool)
+    (kinds : List Kind)
     → kinds ≡ map kind_of (counted w (statements text ws os)) → length os < 2 ^ 31
     → length kinds < 2 ^ 31
-kinds_few text ws os w kinds e few =
-    let n =
-    ap length e ∙ length-map (counted w (statements text ws os)) kind_of
+kinds_lt_2_31 text ws os w kinds kinds_are outlines_lt_2_31 =
+    let kinds_length =
+    ap length kinds_are ∙ length-map (counted w (statements text ws os)) kind_of
     ∙ counted_length w (statements text ws os)
     ∙ length-map os (statement_of text ws) in
-    omega (arith, n, few)
+    omega (arith, kinds_length, outlines_lt_2_31)
 
 -- ---- where a statement counts as what it is
 
 -- what counts as a theorem is one
-pub still_theorem : (w : Bool) (s : Statement) → kind_of (counted_as w s) ≡ kind.Theorem
+pub counted_theorem_is_unchanged : (w : Bool) (s : Statement)
+    → kind_of (counted_as w s) ≡ kind.Theorem
     → counted_as w s ≡ s
-still_theorem false s h = refl
-still_theorem true (constants k xs d) h = refl
-still_theorem true (variables k xs d) h = refl
-still_theorem true (disjoint k xs d) h = refl
-still_theorem true (floating l k xs d) h = refl
-still_theorem true (essential l k xs d) h = refl
-still_theorem true (axiomatic l k xs d) h = refl
-still_theorem true (provable l k xs e ps d) h = by_open_proof (is_open_proof ps) h
+counted_theorem_is_unchanged false s counts_as_theorem = refl
+counted_theorem_is_unchanged true (constants k xs d) counts_as_theorem = refl
+counted_theorem_is_unchanged true (variables k xs d) counts_as_theorem = refl
+counted_theorem_is_unchanged true (disjoint k xs d) counts_as_theorem = refl
+counted_theorem_is_unchanged true (floating l k xs d) counts_as_theorem = refl
+counted_theorem_is_unchanged true (essential l k xs d) counts_as_theorem = refl
+counted_theorem_is_unchanged true (axiomatic l k xs d) counts_as_theorem = refl
+counted_theorem_is_unchanged true (provable l k xs e ps d) counts_as_theorem =
+    by_open_proof (is_open_proof ps) counts_as_theorem
   where
     by_open_proof : (b : Bool)
         → kind_of (elim b [ true ↦ axiomatic l k xs d | false ↦ provable l k xs e ps d ])
         ≡ kind.Theorem
         → (elim b [ true ↦ axiomatic l k xs d | false ↦ provable l k xs e ps d ])
         ≡ provable l k xs e ps d
-    by_open_proof true h = absurd (cc)
-    by_open_proof false h = refl
-still_theorem true (opening k) h = refl
-still_theorem true (closing k) h = refl
+    by_open_proof true counts_as_theorem = absurd (cc)
+    by_open_proof false counts_as_theorem = refl
+counted_theorem_is_unchanged true (opening k) counts_as_theorem = refl
+counted_theorem_is_unchanged true (closing k) counts_as_theorem = refl
 
 -- a statement as it counts
-pub counted_at : (w : Bool) (db : List Statement) (k : ℕ) (s : Statement)
+pub counted_element : (w : Bool) (db : List Statement) (k : ℕ) (s : Statement)
     → slice_get db k ≡ Some s → slice_get (counted w db) k ≡ Some (counted_as w s)
-counted_at true db k s e = got_axiom db k ∙ ap (option_map as_axiom) e
-counted_at false db k s e = e
+counted_element true db k s s_is_statement_k =
+    got_axiom db k ∙ ap (option_map as_axiom) s_is_statement_k
+counted_element false db k s s_is_statement_k = s_is_statement_k
 
-pub theorem_at : (w : Bool) (db : List Statement) (k : ℕ) (s : Statement)
+-- a statement that counts as a theorem was read as this theorem
+pub counted_theorem_is_theorem : (w : Bool) (db : List Statement) (k : ℕ) (s : Statement)
     → slice_get db k ≡ Some s
     → option_map kind_of (slice_get (counted w db) k) ≡ Some kind.Theorem
     → (kind_of s ≡ kind.Theorem) × (slice_get (counted w db) k ≡ Some s)
-theorem_at w db k s e h =
-    let at = counted_at w db k s e in
-    let some : Some (kind_of (counted_as w s)) ≡ Some kind.Theorem =
-    sym (ap (option_map kind_of) at) ∙ h in
-    let is : kind_of (counted_as w s) ≡ kind.Theorem = cc in
-    let same = still_theorem w s is in (ap kind_of (sym same) ∙ is, at ∙ ap Some same)
+counted_theorem_is_theorem w db k s s_is_statement_k k_counts_as_theorem =
+    let counted_statement_k = counted_element w db k s s_is_statement_k in
+    let some_kind_is_theorem : Some (kind_of (counted_as w s)) ≡ Some kind.Theorem =
+    sym (ap (option_map kind_of) counted_statement_k) ∙ k_counts_as_theorem in
+    let counts_as_theorem : kind_of (counted_as w s) ≡ kind.Theorem = cc in
+    let counted_is_s = counted_theorem_is_unchanged w s counts_as_theorem in
+    (ap kind_of (sym counted_is_s) ∙ counts_as_theorem, counted_statement_k ∙ ap Some counted_is_s)
 
 -- what is a theorem and counts as an axiom is an open one
 open_statement : (w : Bool) (s : Statement)
@@ -218,39 +243,47 @@ open_statement true (provable l k xs e ps d) = by_open_proof (is_open_proof ps)
 open_statement true (opening k) = refl
 open_statement true (closing k) = refl
 
-pub open_is : (w : Bool) (db : List Statement) (k : ℕ) (x y : Kind)
+-- an open theorem that counts as an axiom, by the two kinds
+pub is_open_by_kinds : (w : Bool) (db : List Statement) (k : ℕ) (x y : Kind)
     → option_map kind_of (slice_get db k) ≡ Some x
     → option_map kind_of (slice_get (counted w db) k) ≡ Some y
     → (is_theorem_kind x && is_axiom_kind y)
     ≡ (w && list_any is_open_theorem (statement_at db k))
-open_is w db k x y h e = by_statement (slice_get db k) refl h
+is_open_by_kinds w db k x y read_kind_is_x counted_kind_is_y =
+    by_statement (slice_get db k) refl read_kind_is_x
   where
     by_statement : (o : Option Statement) → slice_get db k ≡ o → option_map kind_of o ≡ Some x
         → (is_theorem_kind x && is_axiom_kind y)
         ≡ (w && list_any is_open_theorem (statement_at db k))
-    by_statement None n i = absurd (cc)
-    by_statement (Some s) n i =
-        let own : kind_of s ≡ x = cc in
-        let some : Some (kind_of (counted_as w s)) ≡ Some y =
-        sym (ap (option_map kind_of) (counted_at w db k s n)) ∙ e in
-        let counts : kind_of (counted_as w s) ≡ y = cc in
-        ap₂ (λ a b. is_theorem_kind a && is_axiom_kind b) (sym own) (sym counts)
+    by_statement None statement_k_is_o kind_of_o_is_x = absurd (cc)
+    by_statement (Some s) statement_k_is_o kind_of_o_is_x =
+        let kind_of_s_is_x : kind_of s ≡ x = cc in
+        let some_counted_kind_is_y : Some (kind_of (counted_as w s)) ≡ Some y =
+        sym (ap (option_map kind_of) (counted_element w db k s statement_k_is_o))
+        ∙ counted_kind_is_y in
+        let counted_kind_of_s_is_y : kind_of (counted_as w s) ≡ y = cc in
+        ap₂ (λ a b. is_theorem_kind a && is_axiom_kind b) (sym kind_of_s_is_x)
+        (sym counted_kind_of_s_is_y)
         ∙ open_statement w s
-        ∙ ap (λ o. w && list_any is_open_theorem (elim o [ None ↦ [] | Some s ↦ s ∷ [] ])) (sym n)
+        ∙ ap (λ o. w && list_any is_open_theorem (elim o [ None ↦ [] | Some s ↦ s ∷ [] ]))
+        (sym statement_k_is_o)
 
 -- ---- tests of a statement by its kind
 
-pub kind_tells : (p : Statement → Bool) (test : Kind → Bool)
+-- a test of a kind that decides a test of statements decides it at each number
+pub test_by_kind : (p : Statement → Bool) (test : Kind → Bool)
     → ((s : Statement) → test (kind_of s) ≡ list_any p (s ∷ [])) → (db : List Statement) (k : ℕ)
     → (x : Kind)
     → option_map kind_of (slice_get db k) ≡ Some x → test x ≡ list_any p (statement_at db k)
-kind_tells p test each db k x h = by_statement (slice_get db k) h
+test_by_kind p test test_decides db k x kind_is_x = by_statement (slice_get db k) kind_is_x
   where
     by_statement : (o : Option Statement) → option_map kind_of o ≡ Some x
         → test x ≡ list_any p (elim o [ None ↦ [] | Some s ↦ s ∷ [] ])
-    by_statement None i = absurd (cc)
-    by_statement (Some s) i = let own : x ≡ kind_of s = cc in ap test own ∙ each s
+    by_statement None kind_of_o_is_x = absurd (cc)
+    by_statement (Some s) kind_of_o_is_x = let x_is_kind_of_s : x ≡ kind_of s = cc in
+        ap test x_is_kind_of_s ∙ test_decides s
 
+-- the tests of kinds are those of statements
 pub assertion_kind : (s : Statement) → is_assertion_kind (kind_of s)
     ≡ list_any is_assertion (s ∷ [])
 assertion_kind (constants k xs d) = refl

@@ -1,17 +1,18 @@
 -- `Database` has an invariant, `IsDatabase`: each field is what the definitions say of the
--- statements. The calls go back from fields to statements: names by `index_distinct`
+-- statements. The calls go back from fields to statements: names by `index_of_distinct`
 -- (`SymbolsLaw.antt`) and `names_inserted` (`NamesLaw.antt`), where a word longer than the longest
--- is none (`no_longer_with`, `LongestLaw.antt`); kinds by `kind_tells`, and theorems by
+-- is none (`none_longer_with_name`, `LongestLaw.antt`); kinds by `test_by_kind`, and theorems by
 -- `theorems_by_kind` (`KindsLaw.antt`). Lists that are kept one after the other are the lists that
 -- were joined (`more_joined`, `parts_between`, `ListsLaw.antt` of `mm_lists`): labels and proofs
 -- (`label_is_retained` and `proof_is_retained`, `RetainedWordsLaw.antt`), and the labels of
 -- theorems (`spaced_slice`, `SpacedLaw.antt`). A frame is found by its index, which stays its own
--- as frames are added (`frame_at_index` and `frames_at_more`, `FrameIndicesLaw.antt`).
+-- as frames are added (`frame_at_index` and `frames_at_push_frame`, `FrameIndicesLaw.antt`).
 -- `are_together` finds a `$d` of two variables by `none_before_x_end` and `none_before_y_end`
--- (`DisjointIndexLaw.antt`), among pairs that begin where `StartsLaw.antt` says, and `together_is`
--- (`TogetherLaw.antt`) says what that answers; `near_is` (`NearLaw.antt`) says it of a `$d` found
--- shortly before a statement. `labels_counted` and others (`CountedLaw.antt`) transfer what is
--- known of the statements that were read to these as they count.
+-- (`DisjointIndexLaw.antt`), among pairs that begin where `StartsLaw.antt` says, and
+-- `found_is_together` (`TogetherLaw.antt`) says what that answers; `near_are_together`
+-- (`NearLaw.antt`) says it of a `$d` found shortly before a statement. `labels_counted` and others
+-- (`CountedLaw.antt`) transfer what is known of the statements that were read to these as they
+-- count.
 pub mod SymbolsLaw
 pub mod NamesLaw
 pub mod LongestLaw

@@ -5,20 +5,23 @@ use Rattle.std.proofs.lemmas.Slice.Eq.{bytes_eq-Decides}
 use Rattle.mm_spec.specs.Text.{Bytes}
 
 -- a longer word is another one
-longer_other : (v w : Bytes) → length v < length w → bytes_eq v w ≡ false
-longer_other v w h = by_equality (bytes_eq v w) refl
+longer_word_is_other : (v w : Bytes) → length v < length w → bytes_eq v w ≡ false
+longer_word_is_other v w v_shorter_w = by_equality (bytes_eq v w) refl
   where
     by_equality : (b : Bool) → bytes_eq v w ≡ b → b ≡ false
-    by_equality true e = let n = ap length ((bytes_eq-Decides v w).0 e) in absurd
-        (omega (arith, h, n))
-    by_equality false e = refl
+    by_equality true v_eq_w = let lengths_equal = ap length ((bytes_eq-Decides v w).0 v_eq_w) in
+        absurd
+        (omega (arith, v_shorter_w, lengths_equal))
+    by_equality false v_eq_w = refl
 
 -- with one name more, none is longer than the longest so far and that one
-pub no_longer_with : {V : Type 0} (old new : Bytes → Option V) (n m : ℕ) (v : Bytes) (x : Option V)
+pub none_longer_with_name : {V : Type 0} (old new : Bytes
+    → Option V) (n m : ℕ) (v : Bytes) (x : Option V)
     → n ≤ m → length v ≤ m
     → ((w : Bytes) → n < length w → old w ≡ None)
     → ((w : Bytes) → new w ≡ (if bytes_eq v w then x else old w))
     → (w : Bytes) → m < length w → new w ≡ None
-no_longer_with old new n m v x first second none is w h =
-    is w ∙ ap (λ b. if b then x else old w) (longer_other v w (omega (arith, h, second)))
-    ∙ none w (omega (arith, h, first))
+none_longer_with_name old new n m v x n_le_m v_le_m none_longer_in_old new_adds_v w m_lt_w =
+    new_adds_v w ∙ ap (λ b. if b then x else old w)
+    (longer_word_is_other v w (omega (arith, m_lt_w, v_le_m)))
+    ∙ none_longer_in_old w (omega (arith, m_lt_w, n_le_m))

@@ -15,37 +15,39 @@ use Rattle.mm_database.specs.Together.{are_together_at}
 use Rattle.mm_spec.proofs.MemberLaw.{member_filter, member_range, any_of}
 
 is_disjoint_kind : (s : Statement) → kind_of s ≡ kind.Disjoint → is_disjoint_statement s ≡ true
-is_disjoint_kind (disjoint k xs d) e = refl
-is_disjoint_kind (constants k xs d) e = absurd (cc)
-is_disjoint_kind (variables k xs d) e = absurd (cc)
-is_disjoint_kind (floating l k xs d) e = absurd (cc)
-is_disjoint_kind (essential l k xs d) e = absurd (cc)
-is_disjoint_kind (axiomatic l k xs d) e = absurd (cc)
-is_disjoint_kind (provable l k xs e ps d) h = absurd (cc)
-is_disjoint_kind (opening k) e = absurd (cc)
-is_disjoint_kind (closing k) e = absurd (cc)
+is_disjoint_kind (disjoint k xs d) kind_is_disjoint = refl
+is_disjoint_kind (constants k xs d) kind_is_disjoint = absurd (cc)
+is_disjoint_kind (variables k xs d) kind_is_disjoint = absurd (cc)
+is_disjoint_kind (floating l k xs d) kind_is_disjoint = absurd (cc)
+is_disjoint_kind (essential l k xs d) kind_is_disjoint = absurd (cc)
+is_disjoint_kind (axiomatic l k xs d) kind_is_disjoint = absurd (cc)
+is_disjoint_kind (provable l k xs e ps d) kind_is_disjoint = absurd (cc)
+is_disjoint_kind (opening k) kind_is_disjoint = absurd (cc)
+is_disjoint_kind (closing k) kind_is_disjoint = absurd (cc)
 
 is_disjoint_at : (db : List Statement) (j : ℕ)
     → option_map kind_of (slice_get db j) ≡ Some kind.Disjoint
     → list_any is_disjoint_statement (statement_at db j) ≡ true
-is_disjoint_at db j e = by_statement (slice_get db j) e
+is_disjoint_at db j kind_is_disjoint = by_statement (slice_get db j) kind_is_disjoint
   where
     by_statement : (o : Option Statement) → option_map kind_of o ≡ Some kind.Disjoint
         → list_any is_disjoint_statement (elim o [ None ↦ [] | Some s ↦ s ∷ [] ]) ≡ true
-    by_statement None h = absurd (cc)
-    by_statement (Some s) h = ap (λ b. b || false) (is_disjoint_kind s (cc))
+    by_statement None kind_is_disjoint = absurd (cc)
+    by_statement (Some s) kind_is_disjoint = ap (λ b. b || false) (is_disjoint_kind s (cc))
 
-pub near_is : (db : List Statement) (j k x y : ℕ)
+-- an active `$d` that has both symbols makes them stand together
+pub near_are_together : (db : List Statement) (j k x y : ℕ)
     → option_map kind_of (slice_get db j) ≡ Some kind.Disjoint → is_active db j k ≡ true
     → is_member (formula_at db j) x ≡ true → is_member (formula_at db j) y ≡ true
     → are_together_at db k x y ≡ true
-near_is db j k x y d active_at_k ex ey =
+near_are_together db j k x y j_is_disjoint active_at_k j_has_x j_has_y =
     any_of (λ i. is_member (formula_at db i) x && is_member (formula_at db i) y)
     (active_of is_disjoint_statement db k) j
     (member_filter (λ i. list_any is_disjoint_statement (statement_at db i)) (active db k) j
-    ∙ ap₂ (λ p q. p && q) (is_disjoint_at db j d)
+    ∙ ap₂ (λ p q. p && q) (is_disjoint_at db j j_is_disjoint)
     (member_filter (λ i. is_active db i k) (range_with_len 0 k) j
     ∙ ap₂ (λ p q. p && q) active_at_k
-    (member_range k 0 j (omega arith) ∙ (let z : 0 + k ≡ k = omega arith in ap (nat_lt j) z)
+    (member_range k 0 j (omega arith) ∙ (let zero_plus_k_is_k : 0 + k ≡ k = omega arith in
+    ap (nat_lt j) zero_plus_k_is_k)
     ∙ (and_parts (nat_lt j k) _ active_at_k).0)))
-    (ap₂ (λ p q. p && q) ex ey)
+    (ap₂ (λ p q. p && q) j_has_x j_has_y)

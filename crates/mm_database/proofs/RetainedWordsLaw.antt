@@ -29,284 +29,329 @@ use Rattle.mm_database.specs.Database.{Contents, contents, kind_of}
 use Rattle.mm_database.specs.RetainedWords.{AreRetained, IsRetained, retained_words, label_tokens}
 use Rattle.mm_outline.specs.Parts.{is_labelled_kind}
 use Rattle.mm_database.specs.RetainedWords.{label_word, end_at}
-use Rattle.mm_database.proofs.KindsLaw.{theorem_at}
+use Rattle.mm_database.proofs.KindsLaw.{counted_theorem_is_theorem}
 
 -- ---- what is kept of an outline is that of its statement
 
 module _ (text : List ℕ) (ws : List Word) where
-  label_made : (o : Kind) (k m e : ℕ)
+  -- the word that is kept for a label is the statement's label
+  label_word_is_label : (o : Kind) (k m e : ℕ)
       → as_tokens text (label_word ws (record { kind = o; keyword = k; middle = m; end = e }))
       ≡ label_tokens (statement_between text ws o k m e)
-  label_made kind.Theorem k m e = refl
-  label_made kind.Open k m e = refl
-  label_made kind.Close k m e = refl
-  label_made kind.Constants k m e = refl
-  label_made kind.Variables k m e = refl
-  label_made kind.Disjoint k m e = refl
-  label_made kind.Floating k m e = refl
-  label_made kind.Essential k m e = refl
-  label_made kind.Axiom k m e = refl
+  label_word_is_label kind.Theorem k m e = refl
+  label_word_is_label kind.Open k m e = refl
+  label_word_is_label kind.Close k m e = refl
+  label_word_is_label kind.Constants k m e = refl
+  label_word_is_label kind.Variables k m e = refl
+  label_word_is_label kind.Disjoint k m e = refl
+  label_word_is_label kind.Floating k m e = refl
+  label_word_is_label kind.Essential k m e = refl
+  label_word_is_label kind.Axiom k m e = refl
 
-  none_between : (m e : ℕ) → m ≡ e → between text ws (m + 1) e ≡ []
-  none_between m e h =
-      let n : e - (m + 1) ≡ 0 = omega arith in ap (λ n. as_tokens text (take n (drop (m + 1) ws))) n
+  -- no tokens are between two places that are equal
+  nothing_between : (m e : ℕ) → m ≡ e → between text ws (m + 1) e ≡ []
+  nothing_between m e m_is_e =
+      let no_width : e - (m + 1) ≡ 0 = omega arith in
+      ap (λ n. as_tokens text (take n (drop (m + 1) ws))) no_width
 
-  proof_made : (o : Kind) (k m e : ℕ) → HasEnd o k m e
+  -- the words after the middle are those of the statement's proof
+  between_is_proof : (o : Kind) (k m e : ℕ) → HasEnd o k m e
       → between text ws (m + 1) e ≡ proof_of (statement_between text ws o k m e)
-  proof_made kind.Theorem k m e h = refl
-  proof_made kind.Open k m e h = none_between m e h.1
-  proof_made kind.Close k m e h = none_between m e h.1
-  proof_made kind.Constants k m e h = none_between m e h
-  proof_made kind.Variables k m e h = none_between m e h
-  proof_made kind.Disjoint k m e h = none_between m e h
-  proof_made kind.Floating k m e h = none_between m e h
-  proof_made kind.Essential k m e h = none_between m e h
-  proof_made kind.Axiom k m e h = none_between m e h
+  between_is_proof kind.Theorem k m e has_end = refl
+  between_is_proof kind.Open k m e has_end = nothing_between m e has_end.1
+  between_is_proof kind.Close k m e has_end = nothing_between m e has_end.1
+  between_is_proof kind.Constants k m e has_end = nothing_between m e has_end
+  between_is_proof kind.Variables k m e has_end = nothing_between m e has_end
+  between_is_proof kind.Disjoint k m e has_end = nothing_between m e has_end
+  between_is_proof kind.Floating k m e has_end = nothing_between m e has_end
+  between_is_proof kind.Essential k m e has_end = nothing_between m e has_end
+  between_is_proof kind.Axiom k m e has_end = nothing_between m e has_end
 
-  last_made : (o : Kind) (k m e : ℕ) → HasEnd o k m e
+  -- the word at the end is the statement's last token
+  last_word_is_end : (o : Kind) (k m e : ℕ) → HasEnd o k m e
       → (nth_word ws e).start ≡ end_at (statement_between text ws o k m e)
-  last_made kind.Theorem k m e h = refl
-  last_made kind.Open k m e h = ap (λ i. (nth_word ws i).start) (sym (h.0 ∙ h.1))
-  last_made kind.Close k m e h = ap (λ i. (nth_word ws i).start) (sym (h.0 ∙ h.1))
-  last_made kind.Constants k m e h = ap (λ i. (nth_word ws i).start) (sym h)
-  last_made kind.Variables k m e h = ap (λ i. (nth_word ws i).start) (sym h)
-  last_made kind.Disjoint k m e h = ap (λ i. (nth_word ws i).start) (sym h)
-  last_made kind.Floating k m e h = ap (λ i. (nth_word ws i).start) (sym h)
-  last_made kind.Essential k m e h = ap (λ i. (nth_word ws i).start) (sym h)
-  last_made kind.Axiom k m e h = ap (λ i. (nth_word ws i).start) (sym h)
+  last_word_is_end kind.Theorem k m e has_end = refl
+  last_word_is_end kind.Open k m e has_end =
+      ap (λ i. (nth_word ws i).start) (sym (has_end.0 ∙ has_end.1))
+  last_word_is_end kind.Close k m e has_end =
+      ap (λ i. (nth_word ws i).start) (sym (has_end.0 ∙ has_end.1))
+  last_word_is_end kind.Constants k m e has_end = ap (λ i. (nth_word ws i).start) (sym has_end)
+  last_word_is_end kind.Variables k m e has_end = ap (λ i. (nth_word ws i).start) (sym has_end)
+  last_word_is_end kind.Disjoint k m e has_end = ap (λ i. (nth_word ws i).start) (sym has_end)
+  last_word_is_end kind.Floating k m e has_end = ap (λ i. (nth_word ws i).start) (sym has_end)
+  last_word_is_end kind.Essential k m e has_end = ap (λ i. (nth_word ws i).start) (sym has_end)
+  last_word_is_end kind.Axiom k m e has_end = ap (λ i. (nth_word ws i).start) (sym has_end)
 
   module _ (words : AreWithin text ws) where
     abbrev IsInside : Word → Type 0
     IsInside w = (w.start ≤ w.end) × (w.end ≤ length text)
 
-    within_one : (i : ℕ) → i < length ws → AreWithin text (nth_word ws i ∷ [])
-    within_one i l zero d h = words i (record { start = 0; end = 0 }) l
-    within_one i l (suc n) d h = absurd (omega arith)
+    one_word_is_within : (i : ℕ) → i < length ws → AreWithin text (nth_word ws i ∷ [])
+    one_word_is_within i i_lt_length zero d zero_lt_1 =
+        words i (record { start = 0; end = 0 }) i_lt_length
+    one_word_is_within i i_lt_length (suc n) d suc_n_lt_1 = absurd (omega arith)
 
-    within_label : (o : Outline) → IsOutline o × (o.end < length ws)
+    label_is_within : (o : Outline) → IsOutline o × (o.end < length ws)
         → AreWithin text (label_word ws o)
-    within_label o h = by_label (is_labelled_kind o.kind)
+    label_is_within o is_outline = by_label (is_labelled_kind o.kind)
       where
-        by_label : (b : Bool) → AreWithin text (if b then nth_word ws (o.keyword - 1) ∷ [] else [])
+        by_label : (with_label : Bool)
+            → AreWithin text (if with_label then nth_word ws (o.keyword - 1) ∷ [] else [])
         by_label true =
-            let a = h.0.2 in let b = h.0.3 in let e = h.1 in
-            within_one (o.keyword - 1) (omega (arith, a, b, e))
-        by_label false = λ k d l. absurd (omega arith)
+            let keyword_gt_0 = is_outline.0.2 in let keyword_le_middle = is_outline.0.3 in
+            let end_lt_length = is_outline.1 in
+            one_word_is_within (o.keyword - 1)
+            (omega (arith, keyword_gt_0, keyword_le_middle, end_lt_length))
+        by_label false = λ k d k_lt_0. absurd (omega arith)
 
-    retained_is : (o : Outline) → IsOutline o × (o.end < length ws)
+    retained_words_are_of_statement : (o : Outline) → IsOutline o × (o.end < length ws)
         → IsRetained text (statement_of text ws o) (retained_words ws o)
-    retained_is o h = record {
+    retained_words_are_of_statement o is_outline = record {
       label = label_word ws o;
       proof = slice_range ws (o.middle + 1) o.end;
       last = nth_word ws o.end;
       words_are = refl;
-      within =
-          All-append IsInside (label_word ws o) _ (within_label o h)
+      words_within_text =
+          All-append IsInside (label_word ws o) _ (label_is_within o is_outline)
           (All-append IsInside (slice_range ws (o.middle + 1) o.end) _
           (All-take IsInside (o.end - (o.middle + 1)) (drop (o.middle + 1) ws)
           (All-drop IsInside (o.middle + 1) ws words))
-          (within_one o.end h.1));
-      label_is = label_made o.kind o.keyword o.middle o.end;
-      proof_is = proof_made o.kind o.keyword o.middle o.end h.0.4;
-      last_is = last_made o.kind o.keyword o.middle o.end h.0.4;
+          (one_word_is_within o.end is_outline.1));
+      label_is = label_word_is_label o.kind o.keyword o.middle o.end;
+      proof_is = between_is_proof o.kind o.keyword o.middle o.end is_outline.0.4;
+      last_is = last_word_is_end o.kind o.keyword o.middle o.end is_outline.0.4;
     }
 
-    pub retained_are : (os : List Outline) → All (λ o. IsOutline o × (o.end < length ws)) os
+    -- the words of all outlines are those of their statements
+    pub retained_words_are_of_statements : (os : List Outline)
+        → All (λ o. IsOutline o × (o.end < length ws)) os
         → AreRetained text (statements text ws os) (map (retained_words ws) os)
-    retained_are os h =
+    retained_words_are_of_statements os are_outlines =
         record {
           count = length-map os (retained_words ws) ∙ sym (length-map os (statement_of text ws));
-          each = each;
+          words_are_retained = words_are_retained;
         }
       where
-        each : (k : ℕ) (s : Statement) → slice_get (statements text ws os) k ≡ Some s
+        words_are_retained : (k : ℕ) (s : Statement) → slice_get (statements text ws os) k ≡ Some s
             → IsRetained text s (get_or (map (retained_words ws) os) k [])
-        each k s e =
+        words_are_retained k s s_is_statement_k =
             let d : Outline = record { kind = kind.Open; keyword = 0; middle = 0; end = 0 } in
-            let n = length-map os (statement_of text ws) in
+            let statements_length = length-map os (statement_of text ws) in
             let k_lt_length_os : k < length os =
-            let m = slice_get_within (statements text ws os) k s e in omega (arith, m, n) in
-            let is : Some (statement_of text ws (get_or os k d)) ≡ Some s =
-            sym (statement_is text ws os k d k_lt_length_os) ∙ e in
-            let same : statement_of text ws (get_or os k d) ≡ s = cc in
-            subst (λ t. IsRetained text t (get_or (map (retained_words ws) os) k [])) same
+            let k_lt_statements_length =
+            slice_get_within (statements text ws os) k s s_is_statement_k in
+            omega (arith, k_lt_statements_length, statements_length) in
+            let some_statement_is_s : Some (statement_of text ws (get_or os k d)) ≡ Some s =
+            sym (statement_is text ws os k d k_lt_length_os) ∙ s_is_statement_k in
+            let statement_is_s : statement_of text ws (get_or os k d) ≡ s = cc in
+            subst (λ t. IsRetained text t (get_or (map (retained_words ws) os) k [])) statement_is_s
             (subst (IsRetained text (statement_of text ws (get_or os k d)))
             (sym (get_mapped (retained_words ws) os k d [] k_lt_length_os))
-            (retained_is (get_or os k d) (h k d k_lt_length_os)))
+            (retained_words_are_of_statement (get_or os k d) (are_outlines k d k_lt_length_os)))
 
 -- ---- what the kept words of a statement answer
 
 has_label : (s : Statement) → is_labelled_kind (kind_of s) ≡ true
     → (l : Token) × (label_of s ≡ Some l)
-has_label (floating l k xs d) h = (l, refl)
-has_label (essential l k xs d) h = (l, refl)
-has_label (axiomatic l k xs d) h = (l, refl)
-has_label (provable l k xs e ps d) h = (l, refl)
-has_label (constants k xs d) h = absurd (let f : false ≡ true = h in cc)
-has_label (variables k xs d) h = absurd (let f : false ≡ true = h in cc)
-has_label (disjoint k xs d) h = absurd (let f : false ≡ true = h in cc)
-has_label (opening k) h = absurd (let f : false ≡ true = h in cc)
-has_label (closing k) h = absurd (let f : false ≡ true = h in cc)
+has_label (floating l k xs d) kind_has_label = (l, refl)
+has_label (essential l k xs d) kind_has_label = (l, refl)
+has_label (axiomatic l k xs d) kind_has_label = (l, refl)
+has_label (provable l k xs e ps d) kind_has_label = (l, refl)
+has_label (constants k xs d) kind_has_label =
+    absurd (let false_is_true : false ≡ true = kind_has_label in cc)
+has_label (variables k xs d) kind_has_label =
+    absurd (let false_is_true : false ≡ true = kind_has_label in cc)
+has_label (disjoint k xs d) kind_has_label =
+    absurd (let false_is_true : false ≡ true = kind_has_label in cc)
+has_label (opening k) kind_has_label = absurd (let false_is_true : false ≡ true = kind_has_label in
+    cc)
+has_label (closing k) kind_has_label = absurd (let false_is_true : false ≡ true = kind_has_label in
+    cc)
 
-has_none : (s : Statement) → is_labelled_kind (kind_of s) ≡ false → label_of s ≡ None
-has_none (floating l k xs d) h = absurd (let f : true ≡ false = h in cc)
-has_none (essential l k xs d) h = absurd (let f : true ≡ false = h in cc)
-has_none (axiomatic l k xs d) h = absurd (let f : true ≡ false = h in cc)
-has_none (provable l k xs e ps d) h = absurd (let f : true ≡ false = h in cc)
-has_none (constants k xs d) h = refl
-has_none (variables k xs d) h = refl
-has_none (disjoint k xs d) h = refl
-has_none (opening k) h = refl
-has_none (closing k) h = refl
+unlabelled_has_no_label : (s : Statement) → is_labelled_kind (kind_of s) ≡ false → label_of s ≡ None
+unlabelled_has_no_label (floating l k xs d) kind_has_no_label =
+    absurd (let true_is_false : true ≡ false = kind_has_no_label in cc)
+unlabelled_has_no_label (essential l k xs d) kind_has_no_label =
+    absurd (let true_is_false : true ≡ false = kind_has_no_label in cc)
+unlabelled_has_no_label (axiomatic l k xs d) kind_has_no_label =
+    absurd (let true_is_false : true ≡ false = kind_has_no_label in cc)
+unlabelled_has_no_label (provable l k xs e ps d) kind_has_no_label =
+    absurd (let true_is_false : true ≡ false = kind_has_no_label in cc)
+unlabelled_has_no_label (constants k xs d) kind_has_no_label = refl
+unlabelled_has_no_label (variables k xs d) kind_has_no_label = refl
+unlabelled_has_no_label (disjoint k xs d) kind_has_no_label = refl
+unlabelled_has_no_label (opening k) kind_has_no_label = refl
+unlabelled_has_no_label (closing k) kind_has_no_label = refl
 
 -- the only word of a label
 only_word : (text : List ℕ) (label : List Word) (l : Token) → as_tokens text label ≡ l ∷ []
     → (w : Word) × (label ≡ w ∷ []) × (token_of text w ≡ l)
-only_word text [] l e = absurd (let n = ap length e in omega (arith, n))
-only_word text (w ∷ []) l e = (w, refl, ap (λ ts. get_or ts 0 l) e)
-only_word text (w ∷ v ∷ ws) l e = absurd (let n = ap length e in omega (arith, n))
+only_word text [] l label_is_l = absurd (let lengths_equal = ap length label_is_l in
+    omega (arith, lengths_equal))
+only_word text (w ∷ []) l label_is_l = (w, refl, ap (λ ts. get_or ts 0 l) label_is_l)
+only_word text (w ∷ v ∷ ws) l label_is_l = absurd (let lengths_equal = ap length label_is_l in
+    omega (arith, lengths_equal))
 
 module _ (text : List ℕ) (db : List Statement) (w : Bool) (fault : Option Fault) (n : Contents)
-    (is : contents text db w fault ≡ n) (k : ℕ) (there : k < length n.statements) where
-  below : k < length db
-  below =
-      let q = ap (λ (m : Contents). length m.statements) is in
-      let c = counted_length w db in omega (arith, q, c, there)
+    (contents_are_n : contents text db w fault ≡ n) (k : ℕ) (k_lt_counted : k < length n.statements)
+  where
+    k_lt_length : k < length db
+    k_lt_length =
+        let lengths_equal = ap (λ (m : Contents). length m.statements) contents_are_n in
+        let counted_length_is_length = counted_length w db in
+        omega (arith, lengths_equal, counted_length_is_length, k_lt_counted)
 
-  abbrev s : Statement
-  s = get_or db k (opening 0)
+    abbrev s : Statement
+    s = get_or db k (opening 0)
 
-  s_is_statement_k : slice_get db k ≡ Some s
-  s_is_statement_k = slice_get-get_or db k (opening 0) below
+    s_is_statement_k : slice_get db k ≡ Some s
+    s_is_statement_k = slice_get-get_or db k (opening 0) k_lt_length
 
-  kind_here : (x : Kind) → option_map kind_of (slice_get db k) ≡ Some x → kind_of s ≡ x
-  kind_here x h =
-      let e : Some (kind_of s) ≡ Some x = sym (ap (option_map kind_of) s_is_statement_k) ∙ h in cc
+    kind_of_s_is_kind_k : (x : Kind) → option_map kind_of (slice_get db k) ≡ Some x → kind_of s ≡ x
+    kind_of_s_is_kind_k x kind_k_is_x =
+        let some_kind_is_x : Some (kind_of s) ≡ Some x =
+        sym (ap (option_map kind_of) s_is_statement_k) ∙ kind_k_is_x in cc
 
-  label_read : option_map (λ t. t.word) (option_and_then label_of (slice_get n.statements k))
-      ≡ option_map (λ t. t.word) (label_of s)
-  label_read =
-      subst (λ (n : Contents). option_map (λ t. t.word)
-      (option_and_then label_of (slice_get n.statements k))
-      ≡ option_map (λ t. t.word) (label_of s)) is
-      (ap (option_map (λ t. t.word))
-      (counted_then w db label_of (λ l k xs e ps d. refl) k
-      ∙ ap (option_and_then label_of) s_is_statement_k))
+    counted_label_is_label : option_map (λ t. t.word)
+        (option_and_then label_of (slice_get n.statements k))
+        ≡ option_map (λ t. t.word) (label_of s)
+    counted_label_is_label =
+        subst (λ (n : Contents). option_map (λ t. t.word)
+        (option_and_then label_of (slice_get n.statements k))
+        ≡ option_map (λ t. t.word) (label_of s)) contents_are_n
+        (ap (option_map (λ t. t.word))
+        (counted_then w db label_of (λ l k xs e ps d. refl) k
+        ∙ ap (option_and_then label_of) s_is_statement_k))
 
-  -- no label
-  pub label_missing : (x : Kind) → option_map kind_of (slice_get db k) ≡ Some x
-      → is_labelled_kind x ≡ false
-      → None ≡ option_map (λ t. t.word) (option_and_then label_of (slice_get n.statements k))
-  label_missing x kind labelled =
-      sym (label_read
-      ∙ ap (option_map (λ t. t.word))
-      (has_none s (ap is_labelled_kind (kind_here x kind) ∙ labelled)))
+    -- no label
+    pub label_missing : (x : Kind) → option_map kind_of (slice_get db k) ≡ Some x
+        → is_labelled_kind x ≡ false
+        → None ≡ option_map (λ t. t.word) (option_and_then label_of (slice_get n.statements k))
+    label_missing x kind_k_is_x is_not_labelled =
+        sym (counted_label_is_label
+        ∙ ap (option_map (λ t. t.word))
+        (unlabelled_has_no_label s (ap is_labelled_kind (kind_of_s_is_kind_k x kind_k_is_x)
+        ∙ is_not_labelled)))
 
-  module _ (retained : List (List Word)) (h : AreRetained text db retained) where
-    pub retained_below : k < length retained
-    retained_below = let c = h.count in let l = below in omega (arith, c, l)
+    module _ (retained : List (List Word)) (are_retained : AreRetained text db retained) where
+      pub k_lt_retained_count : k < length retained
+      k_lt_retained_count = let retained_count = are_retained.count in let k_lt_db = k_lt_length in
+          omega (arith, retained_count, k_lt_db)
 
-    module _ (words : List Word) (e : words ≡ get_or retained k []) where
-      retained_k : IsRetained text s words
-      retained_k = subst (IsRetained text s) (sym e) (h.each k s s_is_statement_k)
+      module _ (words : List Word) (words_are_words_k : words ≡ get_or retained k []) where
+        retained_k : IsRetained text s words
+        retained_k = subst (IsRetained text s) (sym words_are_words_k)
+            (are_retained.words_are_retained k s s_is_statement_k)
 
-      words_end_in_last : words ≡ (retained_k.label ++ retained_k.proof) ++ retained_k.last ∷ []
-      words_end_in_last =
-          retained_k.words_are ∙ sym (append_assoc retained_k.label retained_k.proof
-          (retained_k.last ∷ []))
+        words_end_in_last : words ≡ (retained_k.label ++ retained_k.proof) ++ retained_k.last ∷ []
+        words_end_in_last =
+            retained_k.words_are ∙ sym (append_assoc retained_k.label retained_k.proof
+            (retained_k.last ∷ []))
 
-      word_count : length words ≡ length (retained_k.label ++ retained_k.proof) + 1
-      word_count =
-          ap length words_end_in_last ∙ length-append (retained_k.label ++ retained_k.proof)
-          (retained_k.last ∷ [])
+        word_count : length words ≡ length (retained_k.label ++ retained_k.proof) + 1
+        word_count =
+            ap length words_end_in_last ∙ length-append (retained_k.label ++ retained_k.proof)
+            (retained_k.last ∷ [])
 
-      pub some_are_retained : 0 < length words
-      some_are_retained = omega (arith, word_count)
+        pub some_are_retained : 0 < length words
+        some_are_retained = omega (arith, word_count)
 
-      pub word_within : AreWithin text words
-      word_within = retained_k.within
+        pub words_are_within : AreWithin text words
+        words_are_within = retained_k.words_within_text
 
-      -- the last of the retained words is the last token of the statement
-      pub last_is_retained : (d : Word)
-          → option_map end_at (slice_get n.statements k)
-          ≡ Some (get_or words (length words - 1) d).start
-      last_is_retained d =
-          let m : length words - 1 ≡ length (retained_k.label ++ retained_k.proof) = omega
-          (arith, word_count) in
-          let last =
-          ap₂ (λ ys i. get_or ys i d) words_end_in_last m
-          ∙ get_or-append_seam (retained_k.label ++ retained_k.proof) retained_k.last [] d in
-          subst (λ (n : Contents). option_map end_at (slice_get n.statements k)
-          ≡ Some (get_or words (length words - 1) d).start) is
-          (counted_got w db end_at (λ l k xs e ps d. refl) k
-          ∙ ap (option_map end_at) s_is_statement_k
-          ∙ ap Some (sym retained_k.last_is) ∙ ap (λ x. Some x.start) (sym last))
+        -- the last of the retained words is the last token of the statement
+        pub last_is_retained : (d : Word)
+            → option_map end_at (slice_get n.statements k)
+            ≡ Some (get_or words (length words - 1) d).start
+        last_is_retained d =
+            let last_index : length words - 1 ≡ length (retained_k.label ++ retained_k.proof) =
+            omega
+            (arith, word_count) in
+            let last_of_words =
+            ap₂ (λ ys i. get_or ys i d) words_end_in_last last_index
+            ∙ get_or-append_seam (retained_k.label ++ retained_k.proof) retained_k.last [] d in
+            subst (λ (n : Contents). option_map end_at (slice_get n.statements k)
+            ≡ Some (get_or words (length words - 1) d).start) contents_are_n
+            (counted_got w db end_at (λ l k xs e ps d. refl) k
+            ∙ ap (option_map end_at) s_is_statement_k
+            ∙ ap Some (sym retained_k.last_is) ∙ ap (λ x. Some x.start) (sym last_of_words))
 
-      module _ (x : Kind) (kind : kind_of s ≡ x) (of_kind : is_labelled_kind x ≡ true) where
-        labelled : is_labelled_kind (kind_of s) ≡ true
-        labelled = ap is_labelled_kind kind ∙ of_kind
+        module _ (x : Kind) (kind : kind_of s ≡ x) (of_kind : is_labelled_kind x ≡ true) where
+          labelled : is_labelled_kind (kind_of s) ≡ true
+          labelled = ap is_labelled_kind kind ∙ of_kind
 
-        first_is_label : (v : Word) × (retained_k.label ≡ v ∷ [])
-            × (token_of text v ≡ (has_label s labelled).0)
-        first_is_label =
-            let l = has_label s labelled in
-            only_word text retained_k.label l.0
-            (retained_k.label_is ∙ ap (λ o. elim o [ None ↦ [] | Some l ↦ l ∷ [] ]) l.1)
+          first_is_label : (v : Word) × (retained_k.label ≡ v ∷ [])
+              × (token_of text v ≡ (has_label s labelled).0)
+          first_is_label =
+              let label_of_s = has_label s labelled in
+              only_word text retained_k.label label_of_s.0
+              (retained_k.label_is
+              ∙ ap (λ o. elim o [ None ↦ [] | Some l ↦ l ∷ [] ]) label_of_s.1)
 
-        begins : words ≡ first_is_label.0 ∷ (retained_k.proof ++ retained_k.last ∷ [])
-        begins =
-            retained_k.words_are ∙ ap (λ l. l ++ (retained_k.proof ++ retained_k.last ∷ []))
-            first_is_label.1
+          words_begin_with_label : words
+              ≡ first_is_label.0 ∷ (retained_k.proof ++ retained_k.last ∷ [])
+          words_begin_with_label =
+              retained_k.words_are ∙ ap (λ l. l ++ (retained_k.proof ++ retained_k.last ∷ []))
+              first_is_label.1
 
-        label_first : (d : Word)
+          first_word_is_label : (d : Word)
+              → Some (slice_range text (get_or words 0 d).start (get_or words 0 d).end)
+              ≡ option_map (λ t. t.word) (option_and_then label_of (slice_get n.statements k))
+          first_word_is_label d =
+              ap (λ ys. Some (token_of text (get_or ys 0 d)).word) words_begin_with_label
+              ∙ ap (λ t. Some t.word) first_is_label.2
+              ∙ sym (counted_label_is_label
+              ∙ ap (option_map (λ t. t.word)) (has_label s labelled).1)
+
+          word_count_with_label : length words ≡ suc (length retained_k.proof + 1)
+          word_count_with_label =
+              ap length words_begin_with_label
+              ∙ ap suc (length-append retained_k.proof (retained_k.last ∷ []))
+
+          two_are_retained : 2 ≤ length words
+          two_are_retained = omega (arith, word_count_with_label)
+
+          -- the words of the proof
+          middle_words_are_proof : slice_range words 1 (length words - 1) ≡ retained_k.proof
+          middle_words_are_proof =
+              let proof_length : (length words - 1) - 1 ≡ length retained_k.proof =
+              omega (arith, word_count_with_label) in
+              ap₂ (λ m ys. take m (drop 1 ys)) proof_length
+              words_begin_with_label
+              ∙ take-append_seam retained_k.proof (retained_k.last ∷ [])
+
+        -- the first of the retained words of a labelled statement is its label
+        pub label_is_retained : (x : Kind) → option_map kind_of (slice_get db k) ≡ Some x
+            → is_labelled_kind x ≡ true → (d : Word)
             → Some (slice_range text (get_or words 0 d).start (get_or words 0 d).end)
             ≡ option_map (λ t. t.word) (option_and_then label_of (slice_get n.statements k))
-        label_first d =
-            ap (λ ys. Some (token_of text (get_or ys 0 d)).word) begins
-            ∙ ap (λ t. Some t.word) first_is_label.2
-            ∙ sym (label_read ∙ ap (option_map (λ t. t.word)) (has_label s labelled).1)
+        label_is_retained x kind_k_is_x is_labelled d =
+            first_word_is_label x (kind_of_s_is_kind_k x kind_k_is_x) is_labelled d
 
-        two : length words ≡ suc (length retained_k.proof + 1)
-        two = ap length begins ∙ ap suc (length-append retained_k.proof (retained_k.last ∷ []))
+        module _ (counts : option_map kind_of (slice_get n.statements k) ≡ Some kind.Theorem) where
+          theorem : (kind_of s ≡ kind.Theorem) × (slice_get (counted w db) k ≡ Some s)
+          theorem =
+              counted_theorem_is_theorem w db k s s_is_statement_k
+              (subst (λ (n : Contents). option_map kind_of (slice_get n.statements k)
+              ≡ Some kind.Theorem) (sym contents_are_n) counts)
 
-        two_are_retained : 2 ≤ length words
-        two_are_retained = omega (arith, two)
+          pub theorem_has_two_words : 2 ≤ length words
+          theorem_has_two_words = two_are_retained kind.Theorem theorem.0 refl
 
-        -- the words of the proof
-        proof_words : slice_range words 1 (length words - 1) ≡ retained_k.proof
-        proof_words =
-            let m : (length words - 1) - 1 ≡ length retained_k.proof = omega (arith, two) in
-            ap₂ (λ m ys. take m (drop 1 ys)) m begins
-            ∙ take-append_seam retained_k.proof (retained_k.last ∷ [])
+          pub proof_is_retained : option_map proof_of (slice_get n.statements k)
+              ≡ Some (as_tokens n.text (slice_range words 1 (length words - 1)))
+          proof_is_retained =
+              subst (λ (n : Contents). option_map proof_of (slice_get n.statements k)
+              ≡ Some (as_tokens n.text (slice_range words 1 (length words - 1)))) contents_are_n
+              (ap (option_map proof_of) theorem.1 ∙ ap Some (sym retained_k.proof_is)
+              ∙ ap (λ xs. Some (as_tokens text xs))
+              (sym (middle_words_are_proof kind.Theorem theorem.0 refl)))
 
-      -- the first of the retained words of a labelled statement is its label
-      pub label_is_retained : (x : Kind) → option_map kind_of (slice_get db k) ≡ Some x
-          → is_labelled_kind x ≡ true → (d : Word)
-          → Some (slice_range text (get_or words 0 d).start (get_or words 0 d).end)
-          ≡ option_map (λ t. t.word) (option_and_then label_of (slice_get n.statements k))
-      label_is_retained x kind labelled d = label_first x (kind_here x kind) labelled d
-
-      module _ (counts : option_map kind_of (slice_get n.statements k) ≡ Some kind.Theorem) where
-        theorem : (kind_of s ≡ kind.Theorem) × (slice_get (counted w db) k ≡ Some s)
-        theorem =
-            theorem_at w db k s s_is_statement_k
-            (subst (λ (n : Contents). option_map kind_of (slice_get n.statements k)
-            ≡ Some kind.Theorem) (sym is) counts)
-
-        pub theorem_long : 2 ≤ length words
-        theorem_long = two_are_retained kind.Theorem theorem.0 refl
-
-        pub proof_is_retained : option_map proof_of (slice_get n.statements k)
-            ≡ Some (as_tokens n.text (slice_range words 1 (length words - 1)))
-        proof_is_retained =
-            subst (λ (n : Contents). option_map proof_of (slice_get n.statements k)
-            ≡ Some (as_tokens n.text (slice_range words 1 (length words - 1)))) is
-            (ap (option_map proof_of) theorem.1 ∙ ap Some (sym retained_k.proof_is)
-            ∙ ap (λ xs. Some (as_tokens text xs)) (sym (proof_words kind.Theorem theorem.0 refl)))
-
-        pub proof_within : AreWithin n.text (slice_range words 1 (length words - 1))
-        proof_within =
-            subst (λ (n : Contents). AreWithin n.text (slice_range words 1 (length words - 1))) is
-            (All-take (λ w. (w.start ≤ w.end) × (w.end ≤ length text)) (length words - 1 - 1)
-            (drop 1 words)
-            (All-drop (λ w. (w.start ≤ w.end) × (w.end ≤ length text)) 1 words retained_k.within))
+          pub proof_within : AreWithin n.text (slice_range words 1 (length words - 1))
+          proof_within =
+              subst (λ (n : Contents). AreWithin n.text (slice_range words 1 (length words - 1)))
+              contents_are_n
+              (All-take (λ w. (w.start ≤ w.end) × (w.end ≤ length text)) (length words - 1 - 1)
+              (drop 1 words)
+              (All-drop (λ w. (w.start ≤ w.end)
+              × (w.end ≤ length text)) 1 words retained_k.words_within_text))

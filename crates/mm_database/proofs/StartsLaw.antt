@@ -8,192 +8,241 @@ use Rattle.std.proofs.lemmas.List.{get_or_push, get_or_append_left, get_or_past,
 use Rattle.std.proofs.lemmas.List.{get_or-take, get_or-drop, length-take-le, length-drop}
 use Rattle.mm_database.specs.Pairs.{IsBefore, is_pair_before, AreRising}
 use Rattle.mm_database.specs.Starts.{IsStart, AreStarts}
-use Rattle.mm_database.proofs.DisjointIndexLaw.{rising_at, is_pair_before_if, before_is}
+use Rattle.mm_database.proofs.DisjointIndexLaw.{earlier_is_before, is_pair_before_if}
+use Rattle.mm_database.proofs.DisjointIndexLaw.{is_before_from_test}
 
 -- the starts that the first n pairs tell
 pub record StartsTo (ps : List (ℕ × ℕ)) (n : ℕ) (starts : List ℕ) : Type 0 where
-  pub each : (x : ℕ) → x < length starts → IsStart ps x (get_or starts x 0)
-  pub known : (p : ℕ) → p < n → (get_or ps p (0, 0)).0 < length starts
+  pub starts_are : (x : ℕ) → x < length starts → IsStart ps x (get_or starts x 0)
+  pub symbols_have_starts : (p : ℕ) → p < n → (get_or ps p (0, 0)).0 < length starts
 
-pub starts_none : (ps : List (ℕ × ℕ)) → StartsTo ps 0 []
-starts_none ps = record { each = λ x l. absurd (omega arith); known = λ p l. absurd (omega arith) }
+-- no pairs have no starts
+pub starts_of_no_pairs : (ps : List (ℕ × ℕ)) → StartsTo ps 0 []
+starts_of_no_pairs ps =
+    record {
+      starts_are = λ x lt_zero. absurd (omega arith);
+      symbols_have_starts =
+          λ p lt_zero. absurd (omega arith);
+    }
 
 -- later pairs are of no earlier symbol
-no_lower : (ps : List (ℕ × ℕ)) → AreRising ps → (i j : ℕ) → i ≤ j → j < length ps
+symbols_ascend : (ps : List (ℕ × ℕ)) → AreRising ps → (i j : ℕ) → i ≤ j → j < length ps
     → (get_or ps i (0, 0)).0 ≤ (get_or ps j (0, 0)).0
-no_lower ps are_rising i j le lt = by_equality (cases_eq i j)
+symbols_ascend ps are_rising i j i_le_j j_lt_length = by_equality (cases_eq i j)
   where
     symbol_le : IsBefore (get_or ps i (0, 0)).0 (get_or ps i (0, 0)).1 (get_or ps j (0, 0)).0
         (get_or ps j (0, 0)).1
         → (get_or ps i (0, 0)).0 ≤ (get_or ps j (0, 0)).0
-    symbol_le (inl l) = omega arith
-    symbol_le (inr (e, l)) = omega arith
+    symbol_le (inl lower) = omega arith
+    symbol_le (inr (symbols_equal, lower)) = omega arith
 
     by_equality : (i ≡ j) ⊎ (i ≡ j → ⊥) → (get_or ps i (0, 0)).0 ≤ (get_or ps j (0, 0)).0
-    by_equality (inl e) = let s = ap (λ k. (get_or ps k (0, 0)).0) e in omega (arith, s)
-    by_equality (inr ne) = symbol_le (rising_at ps are_rising i j (0, 0) (omega arith) lt)
+    by_equality (inl i_is_j) = let symbols_equal = ap (λ k. (get_or ps k (0, 0)).0) i_is_j in
+        omega (arith, symbols_equal)
+    by_equality (inr i_ne_j) =
+        symbol_le (earlier_is_before ps are_rising i j (0, 0) (omega arith) j_lt_length)
 
 -- a symbol more, up to that of pair n
-pub starts_more : (ps : List (ℕ × ℕ)) (n : ℕ) (starts : List ℕ) → AreRising ps → n < length ps
+pub starts_push : (ps : List (ℕ × ℕ)) (n : ℕ) (starts : List ℕ) → AreRising ps → n < length ps
     → length starts ≤ (get_or ps n (0, 0)).0 → StartsTo ps n starts
     → StartsTo ps n (starts ++ n ∷ [])
-starts_more ps n starts r lt below h = record {
-  each = λ x l. each x l (cases_eq x (length starts));
-  known = λ p l. let k = h.known p l in omega (arith, k, longer);
+starts_push ps n starts are_rising n_lt_length starts_le_symbol starts_to_n = record {
+  starts_are = λ x x_lt_pushed_length. start_is x x_lt_pushed_length (cases_eq x (length starts));
+  symbols_have_starts = λ p p_lt_n. let symbol_lt_starts =
+      starts_to_n.symbols_have_starts p p_lt_n in omega (arith, symbol_lt_starts, pushed_length);
 }
   where
-    longer : length (starts ++ n ∷ []) ≡ length starts + 1
-    longer = length-append starts (n ∷ [])
+    pushed_length : length (starts ++ n ∷ []) ≡ length starts + 1
+    pushed_length = length-append starts (n ∷ [])
 
     new_start_is : IsStart ps (length starts) n
     new_start_is = record {
-      within = omega arith;
-      before = λ p l. h.known p l;
-      after = λ p l m. let up = no_lower ps r n p l m in omega (arith, up, below);
+      start_le_length = omega arith;
+      earlier_are_lower = λ p p_lt_n. starts_to_n.symbols_have_starts p p_lt_n;
+      later_are_no_lower = λ p n_le_p p_lt_length. let symbols_le =
+          symbols_ascend ps are_rising n p n_le_p p_lt_length in
+          omega (arith, symbols_le, starts_le_symbol);
     }
 
-    each : (x : ℕ) → x < length (starts ++ n ∷ []) → (x ≡ length starts) ⊎ (x ≡ length starts → ⊥)
+    start_is : (x : ℕ) → x < length (starts ++ n ∷ [])
+        → (x ≡ length starts) ⊎ (x ≡ length starts → ⊥)
         → IsStart ps x (get_or (starts ++ n ∷ []) x 0)
-    each x l (inl e) =
-        subst (IsStart ps x) (sym (get_or_push starts n 0 x (sym e)))
-        (subst (λ y. IsStart ps y n) (sym e) new_start_is)
-    each x l (inr ne) =
-        let x_lt_length_starts : x < length starts = omega (arith, l, longer, ne) in
+    start_is x x_lt_pushed_length (inl x_is_last) =
+        subst (IsStart ps x) (sym (get_or_push starts n 0 x (sym x_is_last)))
+        (subst (λ y. IsStart ps y n) (sym x_is_last) new_start_is)
+    start_is x x_lt_pushed_length (inr x_ne_last) =
+        let x_lt_length_starts : x < length starts =
+        omega (arith, x_lt_pushed_length, pushed_length, x_ne_last) in
         subst (IsStart ps x) (sym (get_or_append_left starts (n ∷ []) 0 x x_lt_length_starts))
-        (h.each x x_lt_length_starts)
+        (starts_to_n.starts_are x x_lt_length_starts)
 
 -- a pair more, whose symbol has a start
-pub starts_next : (ps : List (ℕ × ℕ)) (n : ℕ) (starts : List ℕ)
+pub starts_with_pair : (ps : List (ℕ × ℕ)) (n : ℕ) (starts : List ℕ)
     → (get_or ps n (0, 0)).0 < length starts → StartsTo ps n starts → StartsTo ps (n + 1) starts
-starts_next ps n starts known h = record {
-  each = h.each;
-  known = λ p l. by_equality p l (cases_eq p n);
+starts_with_pair ps n starts symbol_has_start starts_to_n = record {
+  starts_are = starts_to_n.starts_are;
+  symbols_have_starts = λ p l. by_equality p l (cases_eq p n);
 }
   where
     by_equality : (p : ℕ) → p < n + 1 → (p ≡ n) ⊎ (p ≡ n → ⊥) → (get_or ps p (0, 0)).0
         < length starts
-    by_equality p l (inl e) = let s = ap (λ k. (get_or ps k (0, 0)).0) e in omega (arith, s, known)
-    by_equality p l (inr ne) = h.known p (omega arith)
+    by_equality p p_le_n (inl p_is_n) = let symbols_equal =
+        ap (λ k. (get_or ps k (0, 0)).0) p_is_n in
+        omega (arith, symbols_equal, symbol_has_start)
+    by_equality p p_le_n (inr p_ne_n) = starts_to_n.symbols_have_starts p (omega arith)
 
 -- the starts for the first n pairs are those for all pairs, if there are no more than n
-pub starts_all : (ps : List (ℕ × ℕ)) (n : ℕ) (starts : List ℕ) → length ps ≤ n
+pub starts_of_all_pairs : (ps : List (ℕ × ℕ)) (n : ℕ) (starts : List ℕ) → length ps ≤ n
     → StartsTo ps n starts → AreStarts ps starts
-starts_all ps n starts all h x = by_order (cases_lt x (length starts))
+starts_of_all_pairs ps n starts length_le_n starts_to_n x = by_order (cases_lt x (length starts))
   where
     by_order : (x < length starts) ⊎ (length starts ≤ x)
         → IsStart ps x (get_or starts x (length ps))
-    by_order (inl l) = subst (IsStart ps x) (get_or_default starts x 0 (length ps) l) (h.each x l)
-    by_order (inr g) = subst (IsStart ps x) (sym (get_or_past starts x (length ps) g)) (record {
-      within = omega arith;
-      before = λ p l. let k = h.known p (omega arith) in omega (arith, k, g);
-      after = λ p l m. absurd (omega arith);
-    })
+    by_order (inl x_lt_starts) =
+        subst (IsStart ps x) (get_or_default starts x 0 (length ps) x_lt_starts)
+        (starts_to_n.starts_are x x_lt_starts)
+    by_order (inr starts_le_x) =
+        subst (IsStart ps x) (sym (get_or_past starts x (length ps) starts_le_x)) (record {
+          start_le_length = omega arith;
+          earlier_are_lower = λ p p_lt_start. let symbol_lt_starts =
+              starts_to_n.symbols_have_starts p (omega arith) in
+              omega (arith, symbol_lt_starts, starts_le_x);
+          later_are_no_lower = λ p start_le_p p_lt_length. absurd (omega arith);
+        })
 
 -- ---- among the pairs of one symbol
 
 module _ (ps : List (ℕ × ℕ)) (rising : AreRising ps) (x at from to : ℕ)
     (from_starts_x : IsStart ps x from) (to_ends_x : IsStart ps (x + 1) to) where
+  -- the pairs between the two starts are those of the symbol
   symbol_is_x : (p : ℕ) (d : ℕ × ℕ) → from ≤ p → p < to → (get_or ps p d).0 ≡ x
-  symbol_is_x p d l m =
-      let inside = to_ends_x.within in
-      let lt : p < length ps = omega (arith, inside, m) in
-      let low = from_starts_x.after p l lt in
-      let high = to_ends_x.before p m in
-      ap (λ (q : ℕ × ℕ). q.0) (get_or_default ps p d (0, 0) lt) ∙ (omega (arith, low, high))
+  symbol_is_x p d from_le_p p_lt_to =
+      let to_le_length = to_ends_x.start_le_length in
+      let p_lt_length : p < length ps = omega (arith, to_le_length, p_lt_to) in
+      let x_le_symbol = from_starts_x.later_are_no_lower p from_le_p p_lt_length in
+      let symbol_le_x = to_ends_x.earlier_are_lower p p_lt_to in
+      ap (λ (q : ℕ × ℕ). q.0) (get_or_default ps p d (0, 0) p_lt_length)
+      ∙ (omega (arith, x_le_symbol, symbol_le_x))
 
-  part_at : (i : ℕ) (d : ℕ × ℕ) → i < to - from
+  -- they are a slice of all pairs
+  element_of_slice : (i : ℕ) (d : ℕ × ℕ) → i < to - from
       → get_or (slice_range ps from to) i d ≡ get_or ps (from + i) d
-  part_at i d l = get_or-take (to - from) (drop from ps) i d l ∙ get_or-drop from ps i d
+  element_of_slice i d i_lt_width = get_or-take (to - from) (drop from ps) i d i_lt_width
+      ∙ get_or-drop from ps i d
 
-  part_long : length (slice_range ps from to) ≡ to - from
-  part_long =
+  slice_length : length (slice_range ps from to) ≡ to - from
+  slice_length =
       length-take-le (to - from) (drop from ps)
-      (let e = length-drop from ps in let inside = to_ends_x.within in omega (arith, e, inside))
+      (let drop_length = length-drop from ps in let to_le_length = to_ends_x.start_le_length in
+      omega (arith, drop_length, to_le_length))
 
-  pub part_partitioned : IsPartitionedBy (λ p. nat_lt p.1 at) (slice_range ps from to)
-  part_partitioned i j d l m e = by_equality (cases_eq i j)
+  -- among them those with a lower statement stand first
+  pub slice_is_partitioned : IsPartitionedBy (λ p. nat_lt p.1 at) (slice_range ps from to)
+  slice_is_partitioned i j d i_le_j j_lt_length j_is_lower = by_equality (cases_eq i j)
     where
-      long : j < to - from
-      long = let n = part_long in omega (arith, m, n)
+      j_lt_width : j < to - from
+      j_lt_width = let width = slice_length in omega (arith, j_lt_length, width)
 
-      inside : from + j < length ps
-      inside = let w = to_ends_x.within in let n = long in omega (arith, w, n)
+      j_lt_pairs : from + j < length ps
+      j_lt_pairs = let to_le_length = to_ends_x.start_le_length in
+          let j_lt_width_here = j_lt_width in omega (arith, to_le_length, j_lt_width_here)
 
       statement_lt : i < j
           → IsBefore (get_or ps (from + i) d).0 (get_or ps (from + i) d).1
           (get_or ps (from + j) d).0 (get_or ps (from + j) d).1
           → (get_or ps (from + i) d).1 < (get_or ps (from + j) d).1
-      statement_lt i_lt_j (inl s) =
-          let n = long in
-          let a = symbol_is_x (from + i) d (omega arith) (omega (arith, i_lt_j, n)) in
-          let b = symbol_is_x (from + j) d (omega arith) (omega (arith, n)) in
-          absurd (omega (arith, a, b, s))
-      statement_lt i_lt_j (inr (s, t)) = t
+      statement_lt i_lt_j (inl symbol_lt) =
+          let j_lt_width_here = j_lt_width in
+          let i_has_x = symbol_is_x (from + i) d (omega arith)
+          (omega (arith, i_lt_j, j_lt_width_here)) in
+          let j_has_x = symbol_is_x (from + j) d (omega arith) (omega (arith, j_lt_width_here)) in
+          absurd (omega (arith, i_has_x, j_has_x, symbol_lt))
+      statement_lt i_lt_j (inr (symbol_is_equal, statement_is_lower)) = statement_is_lower
 
       by_equality : (i ≡ j) ⊎ (i ≡ j → ⊥) → nat_lt (get_or (slice_range ps from to) i d).1 at ≡ true
-      by_equality (inl s) = ap (λ k. nat_lt (get_or (slice_range ps from to) k d).1 at) s ∙ e
-      by_equality (inr ne) =
-          let k : i < j = omega arith in
-          let n = long in
-          let short : i < to - from = omega (arith, k, n) in
-          let up = statement_lt k (rising_at ps rising (from + i) (from + j) d (omega (arith, k))
-          inside) in
-          let less =
+      by_equality (inl i_is_j) =
+          ap (λ k. nat_lt (get_or (slice_range ps from to) k d).1 at) i_is_j
+          ∙ j_is_lower
+      by_equality (inr i_ne_j) =
+          let i_lt_j_here : i < j = omega arith in
+          let j_lt_width_here = j_lt_width in
+          let i_lt_width : i < to - from = omega (arith, i_lt_j_here, j_lt_width_here) in
+          let statement_i_lt_j = statement_lt i_lt_j_here
+          (earlier_is_before ps rising (from + i) (from + j) d (omega (arith, i_lt_j_here))
+          j_lt_pairs) in
+          let statement_j_lt_at =
           ltb-true (get_or ps (from + j) d).1 at
-          (ap (λ (q : ℕ × ℕ). nat_lt q.1 at) (sym (part_at j d long)) ∙ e) in
-          ap (λ (q : ℕ × ℕ). nat_lt q.1 at) (part_at i d short)
-          ∙ lt-ltb (get_or ps (from + i) d).1 at (omega (arith, up, less))
+          (ap (λ (q : ℕ × ℕ). nat_lt q.1 at) (sym (element_of_slice j d j_lt_width))
+          ∙ j_is_lower) in
+          ap (λ (q : ℕ × ℕ). nat_lt q.1 at) (element_of_slice i d i_lt_width)
+          ∙ lt-ltb (get_or ps (from + i) d).1 at
+          (omega (arith, statement_i_lt_j, statement_j_lt_at))
 
   module _ (n : ℕ) (bound : n ≤ length (slice_range ps from to))
       (point : IsPartitionPoint (λ y. nat_lt y.1 at ≡ true) (λ y. nat_lt y.1 at ≡ false)
       (slice_range ps from to) n) where
-    pub before_point : (p : ℕ) → p < from + n → is_pair_before (get_or ps p (0, 0)) x at ≡ true
-    before_point p l = by_order (cases_lt p from)
+    -- so with n of them the pairs before are counted, and no others
+    pub pair_before_point_is_before : (p : ℕ) → p < from + n
+        → is_pair_before (get_or ps p (0, 0)) x at ≡ true
+    pair_before_point_is_before p p_lt_point = by_order (cases_lt p from)
       where
         by_order : (p < from) ⊎ (from ≤ p) → is_pair_before (get_or ps p (0, 0)) x at ≡ true
-        by_order (inl k) =
-            is_pair_before_if (get_or ps p (0, 0)) x at (inl (from_starts_x.before p k))
-        by_order (inr k) =
-            let long = part_long in
-            let short : p - from < to - from = omega (arith, k, l, bound, long) in
-            let same : from + (p - from) ≡ p = omega (arith, k) in
-            let less =
+        by_order (inl p_order) =
+            is_pair_before_if (get_or ps p (0, 0)) x at
+            (inl (from_starts_x.earlier_are_lower p p_order))
+        by_order (inr p_order) =
+            let width = slice_length in
+            let index_lt_width : p - from < to - from =
+            omega (arith, p_order, p_lt_point, bound, width) in
+            let from_plus_index_is_p : from + (p - from) ≡ p = omega (arith, p_order) in
+            let statement_lt_at =
             ltb-true (get_or ps p (0, 0)).1 at
             (ap (λ (q : ℕ × ℕ). nat_lt q.1 at)
-            (sym (part_at (p - from) (0, 0) short ∙ ap (λ i. get_or ps i (0, 0)) same))
-            ∙ point.0 (p - from) (0, 0) (omega arith) (omega (arith, k, l))) in
+            (sym (element_of_slice (p - from) (0, 0) index_lt_width
+            ∙ ap (λ i. get_or ps i (0, 0)) from_plus_index_is_p))
+            ∙ point.0 (p - from) (0, 0) (omega arith) (omega (arith, p_order, p_lt_point))) in
             is_pair_before_if (get_or ps p (0, 0)) x at
-            (inr (symbol_is_x p (0, 0) k (omega (arith, short, k)), less))
+            (inr (
+              symbol_is_x p (0, 0) p_order (omega (arith, index_lt_width, p_order)),
+              statement_lt_at,
+            ))
 
-    pub after_point : (p : ℕ) → from + n ≤ p → p < length ps
+    pub pair_after_point_is_not_before : (p : ℕ) → from + n ≤ p → p < length ps
         → is_pair_before (get_or ps p (0, 0)) x at ≡ false
-    after_point p l p_lt_length_ps =
+    pair_after_point_is_not_before p point_le_p p_lt_length_ps =
         false_from_ne_true (is_pair_before (get_or ps p (0, 0)) x at)
-        (λ e. not_before (before_is (get_or ps p (0, 0)) x at e) (cases_lt p to))
+        (λ test_is_true. not_before (is_before_from_test (get_or ps p (0, 0)) x at test_is_true)
+        (cases_lt p to))
       where
         not_before : IsBefore (get_or ps p (0, 0)).0 (get_or ps p (0, 0)).1 x at → (p < to)
             ⊎ (to ≤ p)
             → ⊥
-        not_before is_before (inr k) = impossible is_before
+        not_before is_before (inr p_order) = impossible is_before
           where
             impossible : IsBefore (get_or ps p (0, 0)).0 (get_or ps p (0, 0)).1 x at → ⊥
-            impossible (inl s) = let h = to_ends_x.after p k p_lt_length_ps in omega (arith, h, s)
-            impossible (inr (s, t)) =
-                let h = to_ends_x.after p k p_lt_length_ps in omega (arith, h, s)
-        not_before is_before (inl k) = impossible is_before
+            impossible (inl symbol_lt) = let symbol_gt =
+                to_ends_x.later_are_no_lower p p_order p_lt_length_ps in
+                omega (arith, symbol_gt, symbol_lt)
+            impossible (inr (symbol_is_equal, statement_is_lower)) =
+                let symbol_gt = to_ends_x.later_are_no_lower p p_order p_lt_length_ps in
+                omega (arith, symbol_gt, symbol_is_equal)
+        not_before is_before (inl p_order) = impossible is_before
           where
-            low : from ≤ p
-            low = omega arith
+            from_le_p : from ≤ p
+            from_le_p = omega arith
 
             impossible : IsBefore (get_or ps p (0, 0)).0 (get_or ps p (0, 0)).1 x at → ⊥
-            impossible (inl s) = let h = symbol_is_x p (0, 0) low k in omega (arith, h, s)
-            impossible (inr (s, t)) =
-                let short : p - from < to - from = omega (arith, low, k) in
-                let same : from + (p - from) ≡ p = omega (arith, low) in
-                let long = part_long in
+            impossible (inl symbol_lt) =
+                let symbol_is = symbol_is_x p (0, 0) from_le_p p_order in
+                omega (arith, symbol_is, symbol_lt)
+            impossible (inr (symbol_is_equal, statement_is_lower)) =
+                let index_lt_width : p - from < to - from = omega (arith, from_le_p, p_order) in
+                let from_plus_index_is_p : from + (p - from) ≡ p = omega (arith, from_le_p) in
+                let width = slice_length in
                 true≢false
-                (sym (lt-ltb (get_or ps p (0, 0)).1 at t)
+                (sym (lt-ltb (get_or ps p (0, 0)).1 at statement_is_lower)
                 ∙ ap (λ (q : ℕ × ℕ). nat_lt q.1 at)
-                (sym (part_at (p - from) (0, 0) short ∙ ap (λ i. get_or ps i (0, 0)) same))
-                ∙ point.1 (p - from) (0, 0) (omega (arith, l, low))
-                (omega (arith, short, long)))
+                (sym (element_of_slice (p - from) (0, 0) index_lt_width
+                ∙ ap (λ i. get_or ps i (0, 0)) from_plus_index_is_p))
+                ∙ point.1 (p - from) (0, 0) (omega (arith, point_le_p, from_le_p))
+                (omega (arith, index_lt_width, width)))

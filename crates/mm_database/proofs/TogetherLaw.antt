@@ -16,73 +16,81 @@ use Rattle.mm_database.specs.Pairs.{has_pair}
 use Rattle.mm_database.specs.Together.{are_together_at}
 
 module _ (db : List Statement) (b : BlockLists) (blocks : IsBlocks db b) (k : ℕ)
-    (h : k ≤ length db) where
-  pub active_local_is : (j : ℕ) → list_any is_disjoint_statement (statement_at db j) ≡ true
+    (k_le_length : k ≤ length db) where
+  -- a `$d` is active exactly if it is before k and its block is open there
+  pub active_local_is_active : (j : ℕ) → list_any is_disjoint_statement (statement_at db j) ≡ true
       → is_active_local b j k ≡ is_member (active_of is_disjoint_statement db k) j
-  active_local_is j t =
+  active_local_is_active j j_is_disjoint =
       by_order (cases_lt j k) ∙ sym (active_member is_disjoint_statement db disjoint_local k j)
     where
       by_order : (j < k) ⊎ (k ≤ j)
           → is_active_local b j k
           ≡ (nat_lt j k && (list_any is_disjoint_statement (statement_at db j)
           && is_block_open db j k))
-      by_order (inl l) = ap (λ c. nat_lt j k && c)
-          (sym (ap₂ (λ p q. p && q) t (blocks.ended j k l h)))
-      by_order (inr g) =
-          ap (λ c. c && nat_le k (end_of b j)) (le-ltb j k g)
+      by_order (inl j_lt_k) = ap (λ c. nat_lt j k && c)
+          (sym (ap₂ (λ p q. p && q) j_is_disjoint (blocks.ended j k j_lt_k k_le_length)))
+      by_order (inr k_le_j) =
+          ap (λ c. c && nat_le k (end_of b j)) (le-ltb j k k_le_j)
           ∙ sym (ap (λ c. c
           && (list_any is_disjoint_statement (statement_at db j) && is_block_open db j k))
-          (le-ltb j k g))
+          (le-ltb j k k_le_j))
 
-  pub kind_of_active : (j : ℕ) → is_member (active_of is_disjoint_statement db k) j ≡ true
+  -- what is active of the `$d` is a `$d`
+  pub active_is_disjoint : (j : ℕ) → is_member (active_of is_disjoint_statement db k) j ≡ true
       → list_any is_disjoint_statement (statement_at db j) ≡ true
-  kind_of_active j e =
+  active_is_disjoint j j_is_active =
       (and_parts (list_any is_disjoint_statement (statement_at db j)) _
       (and_parts (nat_lt j k)
       ((list_any is_disjoint_statement (statement_at db j) && is_block_open db j k))
-      (sym (active_member is_disjoint_statement db disjoint_local k j) ∙ e)).1).0
+      (sym (active_member is_disjoint_statement db disjoint_local k j) ∙ j_is_active)).1).0
 
-  module _ (ps : List (ℕ × ℕ)) (are : (x j : ℕ) → has_pair ps x j ≡ has_symbol db x j) where
+  module _ (ps : List (ℕ × ℕ)) (pairs_are_members : (x j : ℕ)
+      → has_pair ps x j ≡ has_symbol db x j) where
     -- the answer to whether an active `$d` has both
-    pub together_is : (r : Bool) (x y : ℕ)
+    pub found_is_together : (r : Bool) (x y : ℕ)
         → (r ≡ true
         → (j : ℕ) × (has_pair ps x j ≡ true) × (has_pair ps y j ≡ true)
         × (is_active_local b j k ≡ true))
         → (r ≡ false → (j : ℕ) → has_pair ps x j ≡ true → has_pair ps y j ≡ true
         → is_active_local b j k ≡ false)
         → r ≡ are_together_at db k x y
-    together_is r x y found none =
-        same_tests r (are_together_at db k x y) left_to_right (λ e. right_to_left r refl e)
+    found_is_together r x y found_if_true none_if_false =
+        same_tests r (are_together_at db k x y) left_to_right
+        (λ are_together. right_to_left r refl are_together)
       where
         left_to_right : r ≡ true → are_together_at db k x y ≡ true
         left_to_right r_true =
-            let w = found r_true in
-            let j = w.0 in
-            let ex = sym (are x j) ∙ w.1 in
-            let ey = sym (are y j) ∙ w.2 in
-            let t =
+            let common = found_if_true r_true in
+            let j = common.0 in
+            let has_symbol_x = sym (pairs_are_members x j) ∙ common.1 in
+            let has_symbol_y = sym (pairs_are_members y j) ∙ common.2 in
+            let j_is_disjoint =
             (and_parts (list_any is_disjoint_statement (statement_at db j))
-            (is_member (formula_at db j) x) ex).0 in
+            (is_member (formula_at db j) x) has_symbol_x).0 in
             any_of (λ i. is_member (formula_at db i) x && is_member (formula_at db i) y)
-            (active_of is_disjoint_statement db k) j (sym (active_local_is j t) ∙ w.3)
+            (active_of is_disjoint_statement db k) j (sym (active_local_is_active j j_is_disjoint)
+            ∙ common.3)
             (ap₂ (λ p q. p && q)
             (and_parts (list_any is_disjoint_statement (statement_at db j))
-            (is_member (formula_at db j) x) ex).1
+            (is_member (formula_at db j) x) has_symbol_x).1
             (and_parts (list_any is_disjoint_statement (statement_at db j))
-            (is_member (formula_at db j) y) ey).1)
+            (is_member (formula_at db j) y) has_symbol_y).1)
 
         right_to_left : (c : Bool) → r ≡ c → are_together_at db k x y ≡ true → r ≡ true
         right_to_left true r_true x_and_y_together = r_true
         right_to_left false r_false x_and_y_together =
-            let w =
+            let common =
             any_witness (λ j. is_member (formula_at db j) x && is_member (formula_at db j) y)
             (active_of is_disjoint_statement db k) x_and_y_together in
-            let j = w.0 in
-            let d = kind_of_active j w.1 in
-            let ex =
-            are x j ∙ ap₂ (λ p q. p && q) d
-            (and_parts (is_member (formula_at db j) x) (is_member (formula_at db j) y) w.2).0 in
-            let ey =
-            are y j ∙ ap₂ (λ p q. p && q) d
-            (and_parts (is_member (formula_at db j) x) (is_member (formula_at db j) y) w.2).1 in
-            absurd (true≢false (sym (active_local_is j d ∙ w.1) ∙ none r_false j ex ey))
+            let j = common.0 in
+            let j_is_disjoint = active_is_disjoint j common.1 in
+            let has_pair_x_j =
+            pairs_are_members x j ∙ ap₂ (λ p q. p && q) j_is_disjoint
+            (and_parts (is_member (formula_at db j) x)
+            (is_member (formula_at db j) y) common.2).0 in
+            let has_pair_y_j =
+            pairs_are_members y j ∙ ap₂ (λ p q. p && q) j_is_disjoint
+            (and_parts (is_member (formula_at db j) x)
+            (is_member (formula_at db j) y) common.2).1 in
+            absurd (true≢false (sym (active_local_is_active j j_is_disjoint ∙ common.1)
+            ∙ none_if_false r_false j has_pair_x_j has_pair_y_j))

@@ -29,7 +29,7 @@ pub record Contents : Type 0 where
   pub statements : List Statement
   pub fault : Option Fault
 
-abbrev pub contents : List ℕ → List Statement → Bool → Option Fault → Contents
+abbrev pub contents : List ℕ → List Statement → (with_open : Bool) → Option Fault → Contents
 contents text db with_open fault =
     record {
       text = text;
@@ -56,14 +56,14 @@ module _ {A : Type 0} where
     pub axioms_are : l.axioms.items ≡ columns db None
     pub spaced_labels_are : l.spaced_labels ≡ spaced_labels db
 
-  abbrev pub contents_of : Bool → Reading A → Contents
+  abbrev pub contents_of : (with_open : Bool) → Reading A → Contents
   contents_of with_open r =
       contents r.statements.text r.statements.list with_open r.fault
 
   -- the statements are the reading of the text, and all tables are theirs
   pub record IsDatabase (with_open : Bool) (r : Reading A) (tables : StatementTables A)
       : Type 0 where
-    pub few : length r.statements.list < 2 ^ 31
+    pub few_statements : length r.statements.list < 2 ^ 31
     pub read : IsRead (length r.statements.text) (lexed_of r.statements.text)
         r.statements.list r.fault
     pub labels : AreLabels r.statements.list (find r.names.labels)

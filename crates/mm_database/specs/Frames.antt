@@ -42,7 +42,7 @@ module _ {A : Type 0} where
 
 -- each index is that of one of the frames, or `never`, which is past their end
 pub record AreFrameIndices (count : ℕ) (indices : List ℕ) : Type 0 where
-  pub no_more : count ≤ length indices
-  pub few : count ≤ never
-  pub each : (i : ℕ) → i < length indices
+  pub count_le_length : count ≤ length indices
+  pub count_le_never : count ≤ never
+  pub index_known_or_never : (i : ℕ) → i < length indices
       → (slice_index indices i < count) ⊎ (slice_index indices i ≡ never)

@@ -48,5 +48,5 @@ known_names symbols labels = record { symbols = symbols; labels = labels }
 -- no symbol is there twice, and no name is longer than the longest
 pub record IsNameTable (n : KnownNames) (longest_symbol longest_label : ℕ) : Type 0 where
   pub distinct : are_distinct (names_of n.symbols) ≡ true
-  pub symbols_no_longer : AreNoLonger n.symbols longest_symbol
-  pub labels_no_longer : AreNoLonger n.labels longest_label
+  pub no_symbol_is_longer : AreNoLonger n.symbols longest_symbol
+  pub no_label_is_longer : AreNoLonger n.labels longest_label

@@ -21,7 +21,7 @@ parsed_statements text db b = record { text = text; list = db; blocks = b }
 
 -- the statements are lawful, no constant is a variable too, and each symbol has a number
 pub record IsSound (db : List Statement) : Type 0 where
-  pub few : length db < 2 ^ 31
+  pub few_statements : length db < 2 ^ 31
   pub lawful : (k : ℕ) → k < length db → scope_fault db k ≡ None
   pub no_constant_is_variable : (w : Bytes) → is_in w (flat_map constants_of db) ≡ true
       → is_in w (flat_map variables_of db) ≡ false

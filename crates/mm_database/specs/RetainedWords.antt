@@ -39,7 +39,7 @@ pub record IsRetained (text : List ℕ) (s : Statement) (words : List Word) : Ty
   pub proof : List Word
   pub last : Word
   pub words_are : words ≡ label ++ (proof ++ last ∷ [])
-  pub within : AreWithin text words
+  pub words_within_text : AreWithin text words
   pub label_is : as_tokens text label ≡ label_tokens s
   pub proof_is : as_tokens text proof ≡ proof_of s
   pub last_is : last.start ≡ end_at s
@@ -48,5 +48,5 @@ pub record IsRetained (text : List ℕ) (s : Statement) (words : List Word) : Ty
 pub record AreRetained (text : List ℕ) (db : List Statement) (retained : List (List Word)) : Type 0
   where
     pub count : length retained ≡ length db
-    pub each : (k : ℕ) (s : Statement) → slice_get db k ≡ Some s
+    pub words_are_retained : (k : ℕ) (s : Statement) → slice_get db k ≡ Some s
         → IsRetained text s (slice_index_or retained k [])

@@ -29,160 +29,174 @@ use Rattle.mm_database.specs.ParsedStatements.{IsSound}
 chain_with_more_links : (links : List (ℕ × ℕ)) (l : ℕ × ℕ) (n : ℕ) (js : List ℕ)
     → IsLinkChain links n js
     → IsLinkChain (links ++ l ∷ []) n js
-chain_with_more_links links l n [] h = h
-chain_with_more_links links l n (j ∷ js) h =
-    let some = h.0 in
-    let within = h.1 in
-    let long = length-append links (l ∷ []) in
-    let same : get_or (links ++ l ∷ []) (n - 1) (0, 0) ≡ get_or links (n - 1) (0, 0) =
-    get_or_append_left links (l ∷ []) (0, 0) (n - 1) (omega (arith, some, within)) in (
-      some,
-      omega (arith, within, long),
-      ap (λ (q : ℕ × ℕ). q.0) same ∙ h.2,
-      subst (λ (q : ℕ × ℕ). IsLinkChain (links ++ l ∷ []) q.1 js) (sym same)
-          (chain_with_more_links links l (get_or links (n - 1) (0, 0)).1 js h.3),
+chain_with_more_links links l n [] is_chain = is_chain
+chain_with_more_links links l n (j ∷ js) is_chain =
+    let n_gt_0 = is_chain.0 in
+    let n_le_length = is_chain.1 in
+    let pushed_length = length-append links (l ∷ []) in
+    let link_is_unchanged : get_or (links ++ l ∷ []) (n - 1) (0, 0) ≡ get_or links (n - 1) (0, 0) =
+    get_or_append_left links (l ∷ []) (0, 0) (n - 1) (omega (arith, n_gt_0, n_le_length)) in (
+      n_gt_0,
+      omega (arith, n_le_length, pushed_length),
+      ap (λ (q : ℕ × ℕ). q.0) link_is_unchanged ∙ is_chain.2,
+      subst (λ (q : ℕ × ℕ). IsLinkChain (links ++ l ∷ []) q.1 js) (sym link_is_unchanged)
+          (chain_with_more_links links l (get_or links (n - 1) (0, 0)).1 js is_chain.3),
     )
 
 -- the new link stands in front
-chain_more : (links : List (ℕ × ℕ)) (k n : ℕ) (js : List ℕ) → IsLinkChain links n js
+chain_with_link_in_front : (links : List (ℕ × ℕ)) (k n : ℕ) (js : List ℕ) → IsLinkChain links n js
     → IsLinkChain (links ++ (k, n) ∷ []) (length links + 1) (k ∷ js)
-chain_more links k n js is_link_chain =
-    let long = length-append links ((k, n) ∷ []) in
-    let last : get_or (links ++ (k, n) ∷ []) (length links + 1 - 1) (0, 0) ≡ (k, n) =
+chain_with_link_in_front links k n js is_chain =
+    let pushed_length = length-append links ((k, n) ∷ []) in
+    let last_link_is_k_n : get_or (links ++ (k, n) ∷ []) (length links + 1 - 1) (0, 0) ≡ (k, n) =
     get_or_push links (k, n) (0, 0) (length links + 1 - 1) (omega arith) in (
       omega arith,
-      omega (arith, long),
-      ap (λ (q : ℕ × ℕ). q.0) last,
-      subst (λ (q : ℕ × ℕ). IsLinkChain (links ++ (k, n) ∷ []) q.1 js) (sym last)
-          (chain_with_more_links links (k, n) n js is_link_chain),
+      omega (arith, pushed_length),
+      ap (λ (q : ℕ × ℕ). q.0) last_link_is_k_n,
+      subst (λ (q : ℕ × ℕ). IsLinkChain (links ++ (k, n) ∷ []) q.1 js) (sym last_link_is_k_n)
+          (chain_with_more_links links (k, n) n js is_chain),
     )
 
 -- a chain that doesn't begin with k, and has nothing before k, has only later statements
 rising_from_next : (links : List (ℕ × ℕ)) (n k : ℕ) (js : List ℕ) → IsLinkChain links n js
     → IsRisingFrom k js
     → (0 < n → (get_or links (n - 1) (0, 0)).0 ≡ k → ⊥) → IsRisingFrom (k + 1) js
-rising_from_next links n k [] c r other = tt
-rising_from_next links n k (j ∷ js) c r other = (by_equality (cases_eq j k), r.1)
+rising_from_next links n k [] is_chain is_rising first_ne_k = tt
+rising_from_next links n k (j ∷ js) is_chain is_rising first_ne_k =
+    (by_equality (cases_eq j k), is_rising.1)
   where
     by_equality : (j ≡ k) ⊎ (j ≢ k) → k + 1 ≤ j
-    by_equality (inl e) = absurd (other c.0 (c.2 ∙ e))
-    by_equality (inr ne) = let l = r.0 in omega (arith, l, ne)
+    by_equality (inl j_is_k) = absurd (first_ne_k is_chain.0 (is_chain.2 ∙ j_is_k))
+    by_equality (inr j_ne_k) = let k_le_j = is_rising.0 in omega (arith, k_le_j, j_ne_k)
 
+-- what rises from a bound also rises from a lower one
 rising_from_lower : (a b : ℕ) (js : List ℕ) → a ≤ b → IsRisingFrom b js → IsRisingFrom a js
-rising_from_lower a b [] l r = tt
-rising_from_lower a b (j ∷ js) l r = (let m = r.0 in omega (arith, l, m), r.1)
+rising_from_lower a b [] a_le_b is_rising = tt
+rising_from_lower a b (j ∷ js) a_le_b is_rising = (
+  let b_le_j = is_rising.0 in
+      omega (arith, a_le_b, b_le_j),
+  is_rising.1,
+)
 
 -- a chain that begins with k has it
-begins : (links : List (ℕ × ℕ)) (n k : ℕ) (js : List ℕ) → IsLinkChain links n js → 0 < n
+first_is_member : (links : List (ℕ × ℕ)) (n k : ℕ) (js : List ℕ) → IsLinkChain links n js → 0 < n
     → (get_or links (n - 1) (0, 0)).0 ≡ k → is_member js k ≡ true
-begins links n k [] c some e = absurd (omega (arith, c, some))
-begins links n k (j ∷ js) c some e = ap (λ b. b || is_member js k) (eq-eqb k j (sym e ∙ c.2))
+first_is_member links n k [] is_chain n_gt_0 first_is_k = absurd (omega (arith, is_chain, n_gt_0))
+first_is_member links n k (j ∷ js) is_chain n_gt_0 first_is_k =
+    ap (λ b. b || is_member js k) (eq-eqb k j (sym first_is_k ∙ is_chain.2))
 
 -- a chain stays such for a test with the same values and a lower least statement
-same_chain : (has now : ℕ → Bool) (a b : ℕ) (links : List (ℕ × ℕ)) (n : ℕ) → a ≤ b
-    → ((j : ℕ) → has j ≡ now j) → HasChain has b links n → HasChain now a links n
-same_chain has now a b links n l same h = record {
-  statements = h.statements;
-  chain = h.chain;
-  rising = rising_from_lower a b h.statements l h.rising;
-  members_are = λ j. h.members_are j ∙ same j;
+chain_for_equal_test : (passes equal_test : ℕ → Bool) (a b : ℕ) (links : List (ℕ × ℕ)) (n : ℕ)
+    → a ≤ b
+    → ((j : ℕ) → passes j ≡ equal_test j) → HasChain passes b links n
+    → HasChain equal_test a links n
+chain_for_equal_test passes equal_test a b links n a_le_b tests_equal has_chain = record {
+  statements = has_chain.statements;
+  chain = has_chain.chain;
+  rising = rising_from_lower a b has_chain.statements a_le_b has_chain.rising;
+  members_are = λ j. has_chain.members_are j ∙ tests_equal j;
 }
 
 -- ---- a statement in front of a chain
 
-module _ (heads : List ℕ) (links : List (ℕ × ℕ)) (x k : ℕ) (here : x < length heads) where
+module _ (heads : List ℕ) (links : List (ℕ × ℕ)) (x k : ℕ) (x_lt_length : x < length heads) where
   -- a link more keeps all within the list
-  pub linked_more : AreLinked heads links
+  pub linked_with_link : AreLinked heads links
       → AreLinked (set heads x (length links + 1)) (links ++ (k, get_or heads x 0) ∷ [])
-  linked_more h = record {
-    within = λ y l. within y l (cases_eq y x);
-    down = λ i l. down i l (cases_eq i (length links));
+  linked_with_link are_linked = record {
+    heads_le_length = λ y y_lt_length. head_le_length y y_lt_length (cases_eq y x);
+    next_le_index = λ i i_lt_length. next_le_link i i_lt_length (cases_eq i (length links));
   }
     where
-      long : length (links ++ (k, get_or heads x 0) ∷ []) ≡ length links + 1
-      long = length-append links ((k, get_or heads x 0) ∷ [])
+      pushed_length : length (links ++ (k, get_or heads x 0) ∷ []) ≡ length links + 1
+      pushed_length = length-append links ((k, get_or heads x 0) ∷ [])
 
-      within : (y : ℕ) → y < length (set heads x (length links + 1)) → (y ≡ x) ⊎ (y ≢ x)
+      head_le_length : (y : ℕ) → y < length (set heads x (length links + 1)) → (y ≡ x) ⊎ (y ≢ x)
           → get_or (set heads x (length links + 1)) y 0
           ≤ length (links ++ (k, get_or heads x 0) ∷ [])
-      within y l (inl e) =
-          let s =
-          ap (λ z. get_or (set heads x (length links + 1)) z 0) e
-          ∙ get_or-set_same heads x (length links + 1) 0 here in
-          let m = long in
-          omega (arith, s, m)
-      within y l (inr n) =
-          let s = get_or-set_other heads x y (length links + 1) 0 n in
-          let m = long in
-          let c = length-set heads x (length links + 1) in
-          let w = h.within y (omega (arith, l, c)) in
-          omega (arith, s, m, w)
+      head_le_length y y_lt_set_length (inl y_is_x) =
+          let head_is_set =
+          ap (λ z. get_or (set heads x (length links + 1)) z 0) y_is_x
+          ∙ get_or-set_same heads x (length links + 1) 0 x_lt_length in
+          let pushed_length_here = pushed_length in
+          omega (arith, head_is_set, pushed_length_here)
+      head_le_length y y_lt_set_length (inr y_ne_x) =
+          let head_is_set = get_or-set_other heads x y (length links + 1) 0 y_ne_x in
+          let pushed_length_here = pushed_length in
+          let set_length = length-set heads x (length links + 1) in
+          let head_le = are_linked.heads_le_length y (omega (arith, y_lt_set_length, set_length)) in
+          omega (arith, head_is_set, pushed_length_here, head_le)
 
-      down : (i : ℕ) → i < length (links ++ (k, get_or heads x 0) ∷ [])
+      next_le_link : (i : ℕ) → i < length (links ++ (k, get_or heads x 0) ∷ [])
           → (i ≡ length links) ⊎ (i ≢ length links)
           → (get_or (links ++ (k, get_or heads x 0) ∷ []) i (0, 0)).1 ≤ i
-      down i l (inl e) =
-          let s =
-          ap (λ (q : ℕ × ℕ). q.1) (get_or_push links (k, get_or heads x 0) (0, 0) i (sym e)) in
-          let w = h.within x here in
-          omega (arith, s, w, e)
-      down i l (inr n) =
-          let m = long in
-          let i_lt_length_links : i < length links = omega (arith, l, m, n) in
-          let s =
+      next_le_link i i_lt_pushed_length (inl i_is_last) =
+          let next_is_head =
+          ap (λ (q : ℕ × ℕ). q.1)
+          (get_or_push links (k, get_or heads x 0) (0, 0) i (sym i_is_last)) in
+          let head_le = are_linked.heads_le_length x x_lt_length in
+          omega (arith, next_is_head, head_le, i_is_last)
+      next_le_link i i_lt_pushed_length (inr i_ne_last) =
+          let pushed_length_here = pushed_length in
+          let i_lt_length_links : i < length links =
+          omega (arith, i_lt_pushed_length, pushed_length_here, i_ne_last) in
+          let next_is_head =
           ap (λ (q : ℕ × ℕ). q.1)
           (get_or_append_left links ((k, get_or heads x 0) ∷ []) (0, 0) i i_lt_length_links) in
-          let d = h.down i i_lt_length_links in
-          omega (arith, s, d)
+          let next_le = are_linked.next_le_index i i_lt_length_links in
+          omega (arith, next_is_head, next_le)
 
-module _ (has : ℕ → ℕ → Bool) (heads : List ℕ) (links : List (ℕ × ℕ)) (s x k : ℕ) (is : s ≡ x)
-    (here : x < length heads)
+module _ (passes : ℕ → ℕ → Bool) (heads : List ℕ) (links : List (ℕ × ℕ)) (s x k : ℕ) (s_is_x : s
+    ≡ x)
+    (x_lt_length : x < length heads)
   where
     -- where it is there already, nothing changes
-    pub begun : 0 < get_or heads x 0 → (get_or links (get_or heads x 0 - 1) (0, 0)).0 ≡ k
-        → AreChains has k heads links
-        → AreChains (λ y j. has y j || (nat_eq y s && nat_eq j k)) k heads links
-    begun some first are_chains y l =
-        same_chain (has y) (λ j. has y j || (nat_eq y s && nat_eq j k)) k k links
+    pub chains_with_known_statement : 0 < get_or heads x 0
+        → (get_or links (get_or heads x 0 - 1) (0, 0)).0 ≡ k
+        → AreChains passes k heads links
+        → AreChains (λ y j. passes y j || (nat_eq y s && nat_eq j k)) k heads links
+    chains_with_known_statement head_gt_0 first_is_k are_chains y y_lt_length =
+        chain_for_equal_test (passes y) (λ j. passes y j || (nat_eq y s && nat_eq j k)) k k links
         (get_or heads y 0) (omega arith) (λ j. by_equality j (cases_eq y x) (cases_eq j k))
-        (are_chains y l)
+        (are_chains y y_lt_length)
       where
-        has_it : has x k ≡ true
-        has_it =
-            sym ((are_chains x here).members_are k)
-            ∙ begins links (get_or heads x 0) k (are_chains x here).statements
-            (are_chains x here).chain some first
+        x_has_k : passes x k ≡ true
+        x_has_k =
+            sym ((are_chains x x_lt_length).members_are k)
+            ∙ first_is_member links (get_or heads x 0) k (are_chains x x_lt_length).statements
+            (are_chains x x_lt_length).chain head_gt_0 first_is_k
 
         by_equality : (j : ℕ) → (y ≡ x) ⊎ (y ≢ x) → (j ≡ k) ⊎ (j ≢ k)
-            → has y j ≡ (has y j || (nat_eq y s && nat_eq j k))
-        by_equality j (inl e) (inl f) =
-            let t : has y j ≡ true = ap₂ has e f ∙ has_it in
-            t ∙ sym (ap (λ b. b || (nat_eq y s && nat_eq j k)) t)
-        by_equality j (inl e) (inr n) =
-            sym (ap (λ b. has y j || (nat_eq y s && b)) (ne_eqb j k n)
-            ∙ ap (λ b. has y j || b) (and-false (nat_eq y s)) ∙ or-false (has y j))
-        by_equality j (inr n) q =
-            sym (ap (λ b. has y j || (b && nat_eq j k)) (ne_eqb y s (λ e. n (e ∙ is)))
-            ∙ or-false (has y j))
+            → passes y j ≡ (passes y j || (nat_eq y s && nat_eq j k))
+        by_equality j (inl y_is_x) (inl j_is_k) =
+            let y_has_j : passes y j ≡ true = ap₂ passes y_is_x j_is_k ∙ x_has_k in
+            y_has_j ∙ sym (ap (λ b. b || (nat_eq y s && nat_eq j k)) y_has_j)
+        by_equality j (inl y_is_x) (inr differs) =
+            sym (ap (λ b. passes y j || (nat_eq y s && b)) (ne_eqb j k differs)
+            ∙ ap (λ b. passes y j || b) (and-false (nat_eq y s)) ∙ or-false (passes y j))
+        by_equality j (inr differs) j_order =
+            sym (ap (λ b. passes y j || (b && nat_eq j k))
+            (ne_eqb y s (λ y_is_x. differs (y_is_x ∙ s_is_x)))
+            ∙ or-false (passes y j))
 
     -- the statement stands in front of the chain of x, and the other chains stay
-    pub chains_more
+    pub chains_with_statement
         : (0 < get_or heads x 0 → (get_or links (get_or heads x 0 - 1) (0, 0)).0 ≡ k → ⊥)
-        → AreChains has k heads links
-        → AreChains (λ y j. has y j || (nat_eq y s && nat_eq j k)) k
+        → AreChains passes k heads links
+        → AreChains (λ y j. passes y j || (nat_eq y s && nat_eq j k)) k
         (set heads x (length links + 1)) (links ++ (k, get_or heads x 0) ∷ [])
-    chains_more other_first h y l = by_equality (cases_eq y x)
+    chains_with_statement first_ne_k are_chains y y_lt_set_length = by_equality (cases_eq y x)
       where
-        old : HasChain (has x) k links (get_or heads x 0)
-        old = h x here
+        chain_of_x : HasChain (passes x) k links (get_or heads x 0)
+        chain_of_x = are_chains x x_lt_length
 
         members_with_front : (j : ℕ) → y ≡ x
-            → (nat_eq j k || is_member old.statements j)
-            ≡ (has y j || (nat_eq y s && nat_eq j k))
+            → (nat_eq j k || is_member chain_of_x.statements j)
+            ≡ (passes y j || (nat_eq y s && nat_eq j k))
         members_with_front j y_is_x =
-            ap (λ b. nat_eq j k || b) (old.members_are j ∙ ap (λ z. has z j) (sym y_is_x))
-            ∙ or_swap (nat_eq j k) (has y j)
-            ∙ sym (ap (λ b. has y j || (b && nat_eq j k)) (eq-eqb y s (y_is_x ∙ sym is)))
+            ap (λ b. nat_eq j k || b) (chain_of_x.members_are j ∙ ap (λ z. passes z j) (sym y_is_x))
+            ∙ or_swap (nat_eq j k) (passes y j)
+            ∙ sym (ap (λ b. passes y j || (b && nat_eq j k)) (eq-eqb y s (y_is_x ∙ sym s_is_x)))
           where
             or_swap : (a b : Bool) → (a || b) ≡ (b || a)
             or_swap true true = refl
@@ -191,65 +205,73 @@ module _ (has : ℕ → ℕ → Bool) (heads : List ℕ) (links : List (ℕ × �
             or_swap false false = refl
 
         by_equality : (y ≡ x) ⊎ (y ≢ x)
-            → HasChain (λ j. has y j || (nat_eq y s && nat_eq j k)) k
+            → HasChain (λ j. passes y j || (nat_eq y s && nat_eq j k)) k
             (links ++ (k, get_or heads x 0) ∷ []) (get_or (set heads x (length links + 1)) y 0)
-        by_equality (inl e) = record {
-          statements = k ∷ old.statements;
+        by_equality (inl y_is_x) = record {
+          statements = k ∷ chain_of_x.statements;
           chain =
               subst
-              (λ n. IsLinkChain (links ++ (k, get_or heads x 0) ∷ []) n (k ∷ old.statements))
-              (sym (ap (λ z. get_or (set heads x (length links + 1)) z 0) e
-              ∙ get_or-set_same heads x (length links + 1) 0 here))
-              (chain_more links k (get_or heads x 0) old.statements old.chain);
+              (λ n. IsLinkChain (links ++ (k, get_or heads x 0) ∷ []) n
+              (k ∷ chain_of_x.statements))
+              (sym (ap (λ z. get_or (set heads x (length links + 1)) z 0) y_is_x
+              ∙ get_or-set_same heads x (length links + 1) 0 x_lt_length))
+              (chain_with_link_in_front links k (get_or heads x 0) chain_of_x.statements
+              chain_of_x.chain);
           rising = (
             omega arith,
-            rising_from_next links (get_or heads x 0) k old.statements old.chain old.rising
-                other_first,
+            rising_from_next links (get_or heads x 0) k chain_of_x.statements chain_of_x.chain
+                chain_of_x.rising
+                first_ne_k,
           );
-          members_are = λ j. members_with_front j e;
+          members_are = λ j. members_with_front j y_is_x;
         }
-        by_equality (inr n) =
-            let c = length-set heads x (length links + 1) in
-            let has_chain : HasChain (has y) k links (get_or heads y 0) =
-            h y (omega (arith, l, c)) in
+        by_equality (inr y_ne_x) =
+            let set_length = length-set heads x (length links + 1) in
+            let has_chain : HasChain (passes y) k links (get_or heads y 0) =
+            are_chains y (omega (arith, y_lt_set_length, set_length)) in
             record {
               statements = has_chain.statements;
               chain =
                   subst
-                  (λ n. IsLinkChain (links ++ (k, get_or heads x 0) ∷ []) n has_chain.statements)
-                  (sym (get_or-set_other heads x y (length links + 1) 0 n))
+                  (λ n. IsLinkChain (links ++ (k, get_or heads x 0) ∷ []) n
+                  has_chain.statements)
+                  (sym (get_or-set_other heads x y (length links + 1) 0 y_ne_x))
                   (chain_with_more_links links (k, get_or heads x 0) (get_or heads y 0)
                   has_chain.statements
                   has_chain.chain);
               rising = has_chain.rising;
               members_are = λ j. has_chain.members_are j
-                  ∙ sym (ap (λ b. has y j || (b && nat_eq j k))
-                  (ne_eqb y s (λ e. n (e ∙ is)))
-                  ∙ or-false (has y j));
+                  ∙ sym (ap (λ b. passes y j || (b && nat_eq j k))
+                  (ne_eqb y s (λ y_is_x. y_ne_x (y_is_x ∙ s_is_x)))
+                  ∙ or-false (passes y j));
             }
 
 -- chains stay such for a test with the same values and a lower least statement
-pub same_chains : (has now : ℕ → ℕ → Bool) (a b : ℕ) (heads : List ℕ) (links : List (ℕ × ℕ))
-    → a ≤ b → ((x j : ℕ) → has x j ≡ now x j) → AreChains has b heads links
-    → AreChains now a heads links
-same_chains has now a b heads links l same h x m =
-    same_chain (has x) (now x) a b links (get_or heads x 0) l (same x) (h x m)
+pub chains_for_equal_tests : (passes equal_test : ℕ → ℕ
+    → Bool) (a b : ℕ) (heads : List ℕ) (links : List (ℕ × ℕ))
+    → a ≤ b → ((x j : ℕ) → passes x j ≡ equal_test x j) → AreChains passes b heads links
+    → AreChains equal_test a heads links
+chains_for_equal_tests passes equal_test a b heads links a_le_b tests_equal are_chains x x_lt_length
+    =
+    chain_for_equal_test (passes x) (equal_test x) a b links (get_or heads x 0) a_le_b
+    (tests_equal x)
+    (are_chains x x_lt_length)
 
 -- the chains have the statement for the first i + 1 symbols
-pub more_symbols : (has : ℕ → ℕ → Bool) (xs : List ℕ) (i d s k : ℕ) → i < length xs
+pub test_with_next_symbol : (passes : ℕ → ℕ → Bool) (xs : List ℕ) (i d s k : ℕ) → i < length xs
     → s ≡ get_or xs i d → (x j : ℕ)
-    → ((has x j || (is_member (take i xs) x && nat_eq j k)) || (nat_eq x s && nat_eq j k))
-    ≡ (has x j || (is_member (take (i + 1) xs) x && nat_eq j k))
-more_symbols has xs i d s k i_lt_length_xs is x j =
-    by_values (has x j) (is_member (take i xs) x) (nat_eq x s) (nat_eq j k)
-    ∙ sym (ap (λ b. has x j || (b && nat_eq j k)) longer)
+    → ((passes x j || (is_member (take i xs) x && nat_eq j k)) || (nat_eq x s && nat_eq j k))
+    ≡ (passes x j || (is_member (take (i + 1) xs) x && nat_eq j k))
+test_with_next_symbol passes xs i d s k i_lt_length_xs s_is_element_i x j =
+    by_values (passes x j) (is_member (take i xs) x) (nat_eq x s) (nat_eq j k)
+    ∙ sym (ap (λ b. passes x j || (b && nat_eq j k)) member_of_one_more)
   where
-    longer : is_member (take (i + 1) xs) x ≡ (is_member (take i xs) x || nat_eq x s)
-    longer =
+    member_of_one_more : is_member (take (i + 1) xs) x ≡ (is_member (take i xs) x || nat_eq x s)
+    member_of_one_more =
         ap (λ ys. is_member ys x) (take_more xs i d i_lt_length_xs)
         ∙ list_any-append (nat_eq x) (take i xs) (get_or xs i d ∷ [])
         ∙ ap (λ b. is_member (take i xs) x || b) (or-false (nat_eq x (get_or xs i d)))
-        ∙ ap (λ y. is_member (take i xs) x || nat_eq x y) (sym is)
+        ∙ ap (λ y. is_member (take i xs) x || nat_eq x y) (sym s_is_element_i)
 
     by_values : (a m n e : Bool) → ((a || (m && e)) || (n && e)) ≡ (a || ((m || n) && e))
     by_values true m n e = refl
@@ -259,160 +281,194 @@ more_symbols has xs i d s k i_lt_length_xs is x j =
 
 -- ---- the statements, from the last to the first
 
-pub none_yet : (db : List Statement) (heads : List ℕ)
+-- past the last statement no symbol has a chain
+pub no_chains_at_start : (db : List Statement) (heads : List ℕ)
     → ((x : ℕ) → x < length heads → get_or heads x 0 ≡ 0)
     → AreChains (λ x j. nat_le (length db) j && has_symbol db x j) (length db) heads []
-none_yet db heads empty x l = record {
+no_chains_at_start db heads heads_are_0 x x_lt_length = record {
   statements = [];
-  chain = empty x l;
+  chain = heads_are_0 x x_lt_length;
   rising = tt;
   members_are = λ j. sym (by_values j (nat_le (length db) j) refl (has_symbol db x j) refl);
 }
   where
     by_values : (j : ℕ) (a : Bool) → nat_le (length db) j ≡ a → (b : Bool) → has_symbol db x j ≡ b
         → (a && b) ≡ false
-    by_values j false e b f = refl
-    by_values j true e false f = refl
-    by_values j true e true has_symbol_x_j =
-        let m =
+    by_values j false length_le_j_is_a b has_symbol_is_b = refl
+    by_values j true length_le_j_is_a false has_symbol_is_b = refl
+    by_values j true length_le_j_is_a true has_symbol_x_j =
+        let j_lt_length =
         is_there is_disjoint_statement db j
         (and_parts (list_any is_disjoint_statement (statement_at db j))
         (is_member (formula_at db j) x) has_symbol_x_j).0 in
-        absurd (true≢false (sym e ∙ lt-leb (length db) j m))
+        absurd (true≢false (sym length_le_j_is_a ∙ lt-leb (length db) j j_lt_length))
 
-pub linked_none : (heads : List ℕ) → ((x : ℕ) → x < length heads → get_or heads x 0 ≡ 0)
+-- without links each symbol is linked to none
+pub no_links_are_linked : (heads : List ℕ) → ((x : ℕ) → x < length heads → get_or heads x 0 ≡ 0)
     → AreLinked heads []
-linked_none heads empty = record {
-  within = λ x l. let e = empty x l in omega (arith, e);
-  down = λ i l. absurd (omega (arith, l));
+no_links_are_linked heads heads_are_0 = record {
+  heads_le_length = λ x index_lt_length. let head_is_0 = heads_are_0 x index_lt_length in
+      omega (arith, head_is_0);
+  next_le_index = λ i index_lt_length. absurd (omega (arith, index_lt_length));
 }
 
-le_back : (k j : ℕ) → nat_le k j ≡ (nat_le (k + 1) j || nat_eq j k)
-le_back k j = by_order (cases_order j k)
+-- to be at least `k` is to be more than `k` or equal to it
+le_is_le_next_or_equal : (k j : ℕ) → nat_le k j ≡ (nat_le (k + 1) j || nat_eq j k)
+le_is_le_next_or_equal k j = by_order (cases_order j k)
   where
     by_order : (j ≡ k) ⊎ ((j < k) ⊎ (k < j)) → nat_le k j ≡ (nat_le (k + 1) j || nat_eq j k)
-    by_order (inl e) =
-        le-leb k j (omega (arith, e))
-        ∙ sym (ap (λ b. nat_le (k + 1) j || b) (eq-eqb j k e) ∙ or-true (nat_le (k + 1) j))
-    by_order (inr (inl l)) =
-        lt-leb k j l
-        ∙ sym (ap₂ (λ a b. a || b) (lt-leb (k + 1) j (omega (arith, l)))
-        (ne_eqb j k (λ e. absurd (omega (arith, l, e)))))
-    by_order (inr (inr l)) =
-        le-leb k j (omega (arith, l))
-        ∙ sym (ap (λ b. b || nat_eq j k) (le-leb (k + 1) j (omega (arith, l))))
+    by_order (inl j_is_k) =
+        le-leb k j (omega (arith, j_is_k))
+        ∙ sym (ap (λ b. nat_le (k + 1) j || b) (eq-eqb j k j_is_k) ∙ or-true (nat_le (k + 1) j))
+    by_order (inr (inl j_order)) =
+        lt-leb k j j_order
+        ∙ sym (ap₂ (λ a b. a || b) (lt-leb (k + 1) j (omega (arith, j_order)))
+        (ne_eqb j k (λ j_is_k. absurd (omega (arith, j_order, j_is_k)))))
+    by_order (inr (inr j_order)) =
+        le-leb k j (omega (arith, j_order))
+        ∙ sym (ap (λ b. b || nat_eq j k) (le-leb (k + 1) j (omega (arith, j_order))))
 
 module _ (db : List Statement) (k : ℕ) (x j : ℕ) where
-  here_or_later : (d : Bool) → list_any is_disjoint_statement (statement_at db k) ≡ d
+  -- the statements from `k` on are statement `k`, if it is a `$d`, and those after it
+  at_k_or_later : (d : Bool) → list_any is_disjoint_statement (statement_at db k) ≡ d
       → ((nat_le (k + 1) j && has_symbol db x j)
       || ((d && is_member (formula_at db k) x) && nat_eq j k))
       ≡ (nat_le k j && has_symbol db x j)
-  here_or_later d is =
-      by_equality (cases_eq j k) ∙ sym (ap (λ b. b && has_symbol db x j) (le_back k j))
+  at_k_or_later d k_is_disjoint_is_d =
+      by_equality (cases_eq j k)
+      ∙ sym (ap (λ b. b && has_symbol db x j) (le_is_le_next_or_equal k j))
     where
       by_equality : (j ≡ k) ⊎ (j ≢ k)
           → ((nat_le (k + 1) j && has_symbol db x j)
           || ((d && is_member (formula_at db k) x) && nat_eq j k))
           ≡ ((nat_le (k + 1) j || nat_eq j k) && has_symbol db x j)
-      by_equality (inl e) =
+      by_equality (inl j_is_k) =
           ap₂ (λ a b. (a && has_symbol db x j) || ((d && is_member (formula_at db k) x) && b))
-          (lt-leb (k + 1) j (omega (arith, e))) (eq-eqb j k e)
+          (lt-leb (k + 1) j (omega (arith, j_is_k))) (eq-eqb j k j_is_k)
           ∙ and-true (d && is_member (formula_at db k) x)
-          ∙ ap (λ b. b && is_member (formula_at db k) x) (sym is)
-          ∙ ap (has_symbol db x) (sym e)
+          ∙ ap (λ b. b && is_member (formula_at db k) x) (sym k_is_disjoint_is_d)
+          ∙ ap (has_symbol db x) (sym j_is_k)
           ∙ sym (ap₂ (λ a b. (a || b) && has_symbol db x j)
-          (lt-leb (k + 1) j (omega (arith, e))) (eq-eqb j k e))
-      by_equality (inr n) =
+          (lt-leb (k + 1) j (omega (arith, j_is_k))) (eq-eqb j k j_is_k))
+      by_equality (inr j_ne_k) =
           ap (λ b. (nat_le (k + 1) j && has_symbol db x j)
-          || ((d && is_member (formula_at db k) x) && b)) (ne_eqb j k n)
+          || ((d && is_member (formula_at db k) x) && b)) (ne_eqb j k j_ne_k)
           ∙ ap (λ b. (nat_le (k + 1) j && has_symbol db x j) || b)
           (and-false (d && is_member (formula_at db k) x))
           ∙ or-false (nat_le (k + 1) j && has_symbol db x j)
-          ∙ sym (ap (λ b. (nat_le (k + 1) j || b) && has_symbol db x j) (ne_eqb j k n)
+          ∙ sym (ap (λ b. (nat_le (k + 1) j || b) && has_symbol db x j) (ne_eqb j k j_ne_k)
           ∙ ap (λ b. b && has_symbol db x j) (or-false (nat_le (k + 1) j)))
 
-  pub with_disjoint : (left : ℕ) (xs : List ℕ) → left ≡ k + 1 → xs ≡ formula_at db k
+  -- a `$d` statement with the symbol is the first of its chain
+  pub has_symbol_with_disjoint : (least : ℕ) (xs : List ℕ) → least ≡ k + 1 → xs ≡ formula_at db k
       → list_any is_disjoint_statement (statement_at db k) ≡ true
-      → ((nat_le left j && has_symbol db x j) || (is_member xs x && nat_eq j k))
+      → ((nat_le least j && has_symbol db x j) || (is_member xs x && nat_eq j k))
       ≡ (nat_le k j && has_symbol db x j)
-  with_disjoint left xs e f is =
-      ap₂ (λ n ys. (nat_le n j && has_symbol db x j) || (is_member ys x && nat_eq j k)) e f
-      ∙ here_or_later true is
+  has_symbol_with_disjoint least xs least_is_next_k xs_are_formula k_is_disjoint =
+      ap₂ (λ n ys. (nat_le n j && has_symbol db x j) || (is_member ys x && nat_eq j k))
+      least_is_next_k xs_are_formula
+      ∙ at_k_or_later true k_is_disjoint
 
-  pub without_disjoint : (left : ℕ) → left ≡ k + 1
+  -- a statement that is no `$d` changes no chain
+  pub has_symbol_without_disjoint : (least : ℕ) → least ≡ k + 1
       → list_any is_disjoint_statement (statement_at db k) ≡ false
-      → (nat_le left j && has_symbol db x j) ≡ (nat_le k j && has_symbol db x j)
-  without_disjoint left e is =
-      ap (λ n. nat_le n j && has_symbol db x j) e
-      ∙ sym (or-false (nat_le (k + 1) j && has_symbol db x j)) ∙ here_or_later false is
+      → (nat_le least j && has_symbol db x j) ≡ (nat_le k j && has_symbol db x j)
+  has_symbol_without_disjoint least least_is_next_k k_is_not_disjoint =
+      ap (λ n. nat_le n j && has_symbol db x j) least_is_next_k
+      ∙ sym (or-false (nat_le (k + 1) j && has_symbol db x j))
+      ∙ at_k_or_later false k_is_not_disjoint
 
-member_below : (n y : ℕ) (xs : List ℕ) → All (λ s. s < n) xs → is_member xs y ≡ true → y < n
-member_below n y [] h e = absurd (true≢false (sym e))
-member_below n y (x ∷ xs) h e =
-    by_membership (or_cases (nat_eq y x) (is_member xs y) e)
-    (member_below n y xs (All-tail (λ s. s < n) x xs h))
+-- a member of a list is below what all its members are below
+member_lt_bound : (n y : ℕ) (xs : List ℕ) → All (λ s. s < n) xs → is_member xs y ≡ true → y < n
+member_lt_bound n y [] all_lt_n y_is_member = absurd (true≢false (sym y_is_member))
+member_lt_bound n y (x ∷ xs) all_lt_n y_is_member =
+    by_membership (or_cases (nat_eq y x) (is_member xs y) y_is_member)
+    (member_lt_bound n y xs (All-tail (λ s. s < n) x xs all_lt_n))
   where
     by_membership : (nat_eq y x ≡ true) ⊎ (is_member xs y ≡ true) → (is_member xs y ≡ true → y < n)
         → y < n
-    by_membership (inl s) rest =
-        let q = eqb-true y x s in
-        let l = All-head (λ s. s < n) x xs h in
-        omega (arith, q, l)
-    by_membership (inr s) rest = rest s
+    by_membership (inl y_equals_x) rest_lt_n =
+        let y_is_x = eqb-true y x y_equals_x in
+        let x_lt_n = All-head (λ s. s < n) x xs all_lt_n in
+        omega (arith, y_is_x, x_lt_n)
+    by_membership (inr y_in_rest) rest_lt_n = rest_lt_n y_in_rest
 
 -- a symbol of a `$d` has a number
-pub symbol_below : (db : List Statement) → IsSound db → (x j : ℕ) → has_symbol db x j ≡ true
+pub symbol_lt_symbol_count : (db : List Statement) → IsSound db → (x j : ℕ)
+    → has_symbol db x j ≡ true
     → x < length (symbol_names db)
-symbol_below db sound x j e =
+symbol_lt_symbol_count db sound x j j_has_x =
     let parts =
     and_parts (list_any is_disjoint_statement (statement_at db j)) (is_member (formula_at db j) x)
-    e in
-    let there = is_there is_disjoint_statement db j parts.0 in
-    member_below (length (symbol_names db)) x (formula_at db j) (sound.symbols_have_numbers j there)
+    j_has_x in
+    let j_lt_length = is_there is_disjoint_statement db j parts.0 in
+    member_lt_bound (length (symbol_names db)) x (formula_at db j)
+    (sound.symbols_have_numbers j j_lt_length)
     parts.1
 
 -- ---- the pairs of one chain
 
--- so far `now` has been made of `old`, and the chain from link `number` on is still to be added
-pub record IsRest (links : List (ℕ × ℕ)) (symbol number : ℕ) (old now : List (ℕ × ℕ))
-    (all : List ℕ) : Type 0 where
-  pub rest : List ℕ
-  pub chain : IsLinkChain links number rest
-  pub pairs : old ++ map (λ j. (symbol, j)) all ≡ now ++ map (λ j. (symbol, j)) rest
+-- so far `pairs_so_far` has been made of `earlier_pairs`, and the chain from link `number` on is
+-- still to be added
+pub record IsRest (links : List (ℕ × ℕ)) (symbol number : ℕ)
+    (earlier_pairs pairs_so_far : List (ℕ × ℕ))
+    (all_statements : List ℕ) : Type 0 where
+  pub remaining : List ℕ
+  pub chain : IsLinkChain links number remaining
+  pub pairs : earlier_pairs ++ map (λ j. (symbol, j)) all_statements
+      ≡ pairs_so_far ++ map (λ j. (symbol, j)) remaining
 
-module _ (links : List (ℕ × ℕ)) (symbol : ℕ) (old now : List (ℕ × ℕ)) (all : List ℕ) where
-  pub rest_all : (number : ℕ) → IsLinkChain links number all → old ≡ now
-      → IsRest links symbol number old now all
-  rest_all number c e =
-      record { rest = all; chain = c; pairs = ap (λ ps. ps ++ map (λ j. (symbol, j)) all) e }
-
-  pub rest_less : (number : ℕ) → 0 < number → IsRest links symbol number old now all
-      → IsRest links symbol (get_or links (number - 1) (0, 0)).1 old
-      (now ++ (symbol, (get_or links (number - 1) (0, 0)).0) ∷ []) all
-  rest_less number some is_rest = by_rest is_rest.rest is_rest.chain is_rest.pairs
-    where
-      by_rest : (rest : List ℕ) → IsLinkChain links number rest
-          → old ++ map (λ j. (symbol, j)) all ≡ now ++ map (λ j. (symbol, j)) rest
-          → IsRest links symbol (get_or links (number - 1) (0, 0)).1 old
-          (now ++ (symbol, (get_or links (number - 1) (0, 0)).0) ∷ []) all
-      by_rest [] c e = absurd (omega (arith, c, some))
-      by_rest (j ∷ js) c e = record {
-        rest = js;
-        chain = c.3;
+module _ (links : List (ℕ × ℕ)) (symbol : ℕ) (earlier_pairs pairs_so_far : List (ℕ × ℕ))
+    (all_statements : List ℕ) where
+  -- before the first link the whole chain remains
+  pub rest_is_all : (number : ℕ) → IsLinkChain links number all_statements
+      → earlier_pairs ≡ pairs_so_far
+      → IsRest links symbol number earlier_pairs pairs_so_far all_statements
+  rest_is_all number is_chain earlier_is_so_far =
+      record {
+        remaining = all_statements;
+        chain = is_chain;
         pairs =
-            e ∙ sym (append_assoc now ((symbol, j) ∷ []) (map (λ j. (symbol, j)) js))
-            ∙ ap (λ i. (now ++ (symbol, i) ∷ []) ++ map (λ j. (symbol, j)) js) (sym c.2);
+            ap (λ ps. ps ++ map (λ j. (symbol, j)) all_statements) earlier_is_so_far;
       }
 
-  pub rest_none : (number : ℕ) → number ≡ 0 → IsRest links symbol number old now all
-      → now ≡ old ++ map (λ j. (symbol, j)) all
-  rest_none number none h = by_rest h.rest h.chain h.pairs
+  -- after a link the rest of the chain remains
+  pub rest_after_link : (number : ℕ) → 0 < number
+      → IsRest links symbol number earlier_pairs pairs_so_far all_statements
+      → IsRest links symbol (get_or links (number - 1) (0, 0)).1 earlier_pairs
+      (pairs_so_far ++ (symbol, (get_or links (number - 1) (0, 0)).0) ∷ []) all_statements
+  rest_after_link number number_gt_0 is_rest = by_rest is_rest.remaining is_rest.chain is_rest.pairs
     where
-      by_rest : (rest : List ℕ) → IsLinkChain links number rest
-          → old ++ map (λ j. (symbol, j)) all ≡ now ++ map (λ j. (symbol, j)) rest
-          → now ≡ old ++ map (λ j. (symbol, j)) all
-      by_rest [] c e = sym (e ∙ append-nil now)
-      by_rest (j ∷ js) c e = absurd (let s = c.0 in omega (arith, s, none))
+      by_rest : (remaining : List ℕ) → IsLinkChain links number remaining
+          → earlier_pairs ++ map (λ j. (symbol, j)) all_statements
+          ≡ pairs_so_far ++ map (λ j. (symbol, j)) remaining
+          → IsRest links symbol (get_or links (number - 1) (0, 0)).1 earlier_pairs
+          (pairs_so_far ++ (symbol, (get_or links (number - 1) (0, 0)).0) ∷ []) all_statements
+      by_rest [] is_chain pairs_equal = absurd (omega (arith, is_chain, number_gt_0))
+      by_rest (j ∷ js) is_chain pairs_equal = record {
+        remaining = js;
+        chain = is_chain.3;
+        pairs =
+            pairs_equal ∙ sym
+            (append_assoc pairs_so_far ((symbol, j) ∷ []) (map (λ j. (symbol, j)) js))
+            ∙ ap (λ i. (pairs_so_far ++ (symbol, i) ∷ []) ++ map (λ j. (symbol, j)) js)
+            (sym is_chain.2);
+      }
+
+  -- if nothing remains of the chain, all its statements were added
+  pub no_rest_is_all_added : (number : ℕ) → number ≡ 0
+      → IsRest links symbol number earlier_pairs pairs_so_far all_statements
+      → pairs_so_far ≡ earlier_pairs ++ map (λ j. (symbol, j)) all_statements
+  no_rest_is_all_added number number_is_0 is_rest =
+      by_rest is_rest.remaining is_rest.chain is_rest.pairs
+    where
+      by_rest : (remaining : List ℕ) → IsLinkChain links number remaining
+          → earlier_pairs ++ map (λ j. (symbol, j)) all_statements
+          ≡ pairs_so_far ++ map (λ j. (symbol, j)) remaining
+          → pairs_so_far ≡ earlier_pairs ++ map (λ j. (symbol, j)) all_statements
+      by_rest [] is_chain pairs_equal = sym (pairs_equal ∙ append-nil pairs_so_far)
+      by_rest (j ∷ js) is_chain pairs_equal = absurd (let number_gt_0 = is_chain.0 in
+          omega (arith, number_gt_0, number_is_0))
 
 -- ---- the pairs of all chains, symbol after symbol
 
@@ -421,124 +477,140 @@ pub record ArePairsTo (db : List Statement) (x : ℕ) (ps : List (ℕ × ℕ)) :
   pub rising : AreRising ps
   pub members_are : (y j : ℕ) → has_pair ps y j ≡ (nat_lt y x && has_symbol db y j)
 
+-- two rising lists, one after the other, rise if the first ends before the second begins
 rising_append : (ps qs : List (ℕ × ℕ)) → AreRising ps → AreRising qs
     → ((a b x y : ℕ) → has_pair ps a b ≡ true → has_pair qs x y ≡ true → IsBefore a b x y)
     → AreRising (ps ++ qs)
-rising_append [] qs r are_rising h = are_rising
-rising_append (p ∷ ps) qs r are_rising h = (
-  λ x y e. by_membership x y (or_cases (has_pair ps x y) (has_pair qs x y)
-      (sym (list_any-append (λ q. nat_eq x q.0 && nat_eq y q.1) ps qs) ∙ e)),
-  rising_append ps qs r.1 are_rising
-      (λ a b x y e f. h a b x y
-      (or_right (nat_eq a p.0 && nat_eq b p.1) (has_pair ps a b) e) f),
+rising_append [] qs ps_are_rising qs_are_rising ps_before_qs = qs_are_rising
+rising_append (p ∷ ps) qs ps_are_rising qs_are_rising ps_before_qs = (
+  λ x y has_either. by_membership x y (or_cases (has_pair ps x y) (has_pair qs x y)
+      (sym (list_any-append (λ q. nat_eq x q.0 && nat_eq y q.1) ps qs) ∙ has_either)),
+  rising_append ps qs ps_are_rising.1 qs_are_rising
+      (λ a b x y has_either has_second. ps_before_qs a b x y
+      (or_right (nat_eq a p.0 && nat_eq b p.1) (has_pair ps a b) has_either) has_second),
 )
   where
-    itself : has_pair (p ∷ ps) p.0 p.1 ≡ true
-    itself =
+    first_pair_is_in : has_pair (p ∷ ps) p.0 p.1 ≡ true
+    first_pair_is_in =
         ap₂ (λ a b. (a && b) || has_pair ps p.0 p.1) (eq-eqb p.0 p.0 refl) (eq-eqb p.1 p.1 refl)
 
     by_membership : (x y : ℕ) → (has_pair ps x y ≡ true) ⊎ (has_pair qs x y ≡ true)
         → IsBefore p.0 p.1 x y
-    by_membership x y (inl e) = r.0 x y e
-    by_membership x y (inr e) = h p.0 p.1 x y itself e
+    by_membership x y (inl in_ps) = ps_are_rising.0 x y in_ps
+    by_membership x y (inr in_qs) = ps_before_qs p.0 p.1 x y first_pair_is_in in_qs
 
-has_row : (x : ℕ) (js : List ℕ) (y j : ℕ)
+-- a row has the pairs of its symbol with each statement of the row
+has_pair_in_row : (x : ℕ) (js : List ℕ) (y j : ℕ)
     → has_pair (map (λ i. (x, i)) js) y j ≡ (nat_eq y x && is_member js j)
-has_row x [] y j = sym (and-false (nat_eq y x))
-has_row x (i ∷ js) y j =
-    ap (λ b. (nat_eq y x && nat_eq j i) || b) (has_row x js y j)
+has_pair_in_row x [] y j = sym (and-false (nat_eq y x))
+has_pair_in_row x (i ∷ js) y j =
+    ap (λ b. (nat_eq y x && nat_eq j i) || b) (has_pair_in_row x js y j)
     ∙ by_values (nat_eq y x) (nat_eq j i) (is_member js j)
   where
     by_values : (a b c : Bool) → ((a && b) || (a && c)) ≡ (a && (b || c))
     by_values true b c = refl
     by_values false b c = refl
 
-from_least : (least j : ℕ) (js : List ℕ) → IsRisingFrom least js → is_member js j ≡ true
+-- each member is at least what the list rises from
+least_le_member : (least j : ℕ) (js : List ℕ) → IsRisingFrom least js → is_member js j ≡ true
     → least ≤ j
-from_least least j [] r e = absurd (true≢false (sym e))
-from_least least j (i ∷ js) r e =
-    by_membership (or_cases (nat_eq j i) (is_member js j) e) (from_least (i + 1) j js r.1)
+least_le_member least j [] is_rising j_is_member = absurd (true≢false (sym j_is_member))
+least_le_member least j (i ∷ js) is_rising j_is_member =
+    by_membership (or_cases (nat_eq j i) (is_member js j) j_is_member)
+    (least_le_member (i + 1) j js is_rising.1)
   where
     by_membership : (nat_eq j i ≡ true) ⊎ (is_member js j ≡ true)
         → (is_member js j ≡ true → i + 1 ≤ j)
         → least ≤ j
-    by_membership (inl s) later = let m = r.0 in let q = eqb-true j i s in omega (arith, m, q)
-    by_membership (inr s) later = let m = r.0 in let q = later s in omega (arith, m, q)
+    by_membership (inl j_is_i) rest_le = let least_le_i = is_rising.0 in
+        let j_eq_i = eqb-true j i j_is_i in
+        omega (arith, least_le_i, j_eq_i)
+    by_membership (inr j_in_rest) rest_le = let least_le_i = is_rising.0 in
+        let next_le_j = rest_le j_in_rest in omega (arith, least_le_i, next_le_j)
 
+-- the pairs of a symbol with rising statements rise
 rising_row : (x least : ℕ) (js : List ℕ) → IsRisingFrom least js
     → AreRising (map (λ j. (x, j)) js)
-rising_row x least [] r = tt
-rising_row x least (i ∷ js) r = (
-  λ y j e. let h =
-      and_parts (nat_eq y x) (is_member js j) (sym (has_row x js y j) ∙ e) in
-      let l = from_least (i + 1) j js r.1 h.1 in
-      inr (sym (eqb-true y x h.0), omega (arith, l)),
-  rising_row x (i + 1) js r.1,
+rising_row x least [] is_rising = tt
+rising_row x least (i ∷ js) is_rising = (
+  λ y j has_pair_y_j. let in_row =
+      and_parts (nat_eq y x) (is_member js j) (sym (has_pair_in_row x js y j) ∙ has_pair_y_j) in
+      let next_le_j = least_le_member (i + 1) j js is_rising.1 in_row.1 in
+      inr (sym (eqb-true y x in_row.0), omega (arith, next_le_j)),
+  rising_row x (i + 1) js is_rising.1,
 )
 
-lt_next : (y x : ℕ) → nat_lt y (x + 1) ≡ (nat_lt y x || nat_eq y x)
-lt_next y x = by_order (cases_order y x)
+-- to be below `x + 1` is to be below `x` or equal to it
+lt_next_is_lt_or_equal : (y x : ℕ) → nat_lt y (x + 1) ≡ (nat_lt y x || nat_eq y x)
+lt_next_is_lt_or_equal y x = by_order (cases_order y x)
   where
     by_order : (y ≡ x) ⊎ ((y < x) ⊎ (x < y)) → nat_lt y (x + 1) ≡ (nat_lt y x || nat_eq y x)
-    by_order (inl e) =
-        lt-ltb y (x + 1) (omega (arith, e))
-        ∙ sym (ap (λ b. nat_lt y x || b) (eq-eqb y x e) ∙ or-true (nat_lt y x))
-    by_order (inr (inl l)) =
-        lt-ltb y (x + 1) (omega (arith, l)) ∙ sym (ap (λ b. b || nat_eq y x) (lt-ltb y x l))
-    by_order (inr (inr l)) =
-        le-ltb y (x + 1) (omega (arith, l))
-        ∙ sym (ap₂ (λ a b. a || b) (le-ltb y x (omega (arith, l)))
-        (ne_eqb y x (λ e. absurd (omega (arith, l, e)))))
+    by_order (inl y_is_x) =
+        lt-ltb y (x + 1) (omega (arith, y_is_x))
+        ∙ sym (ap (λ b. nat_lt y x || b) (eq-eqb y x y_is_x) ∙ or-true (nat_lt y x))
+    by_order (inr (inl y_order)) =
+        lt-ltb y (x + 1) (omega (arith, y_order))
+        ∙ sym (ap (λ b. b || nat_eq y x) (lt-ltb y x y_order))
+    by_order (inr (inr y_order)) =
+        le-ltb y (x + 1) (omega (arith, y_order))
+        ∙ sym (ap₂ (λ a b. a || b) (le-ltb y x (omega (arith, y_order)))
+        (ne_eqb y x (λ y_is_x. absurd (omega (arith, y_order, y_is_x)))))
 
-pub pairs_more : (db : List Statement) (x n : ℕ) (links ps qs : List (ℕ × ℕ))
-    (h : HasChain (has_symbol db x) 0 links n) → ArePairsTo db x ps
-    → qs ≡ ps ++ map (λ j. (x, j)) h.statements → ArePairsTo db (x + 1) qs
-pairs_more db x n links ps qs h are_pairs_to is =
-    subst (ArePairsTo db (x + 1)) (sym is) (record {
+-- the pairs of the symbols so far, with those of one symbol more
+pub pairs_with_symbol : (db : List Statement) (x n : ℕ) (links ps qs : List (ℕ × ℕ))
+    (chain : HasChain (has_symbol db x) 0 links n) → ArePairsTo db x ps
+    → qs ≡ ps ++ map (λ j. (x, j)) chain.statements → ArePairsTo db (x + 1) qs
+pairs_with_symbol db x n links ps qs chain are_pairs_to qs_are_pushed =
+    subst (ArePairsTo db (x + 1)) (sym qs_are_pushed) (record {
       rising =
-          rising_append ps row are_pairs_to.rising (rising_row x 0 h.statements h.rising)
-          (λ b c y j e f. inl (later b c y j e f));
+          rising_append ps row are_pairs_to.rising (rising_row x 0 chain.statements chain.rising)
+          (λ b c y j ps_has_pair row_has_pair. inl
+          (earlier_lt_row b c y j ps_has_pair row_has_pair));
       members_are = λ y j.
           list_any-append (λ q. nat_eq y q.0 && nat_eq j q.1) ps row
-          ∙ ap₂ (λ b c. b || c) (are_pairs_to.members_are y j) (has_row x h.statements y j)
-          ∙ by_equality y j (cases_eq y x) ∙ sym (ap (λ b. b && has_symbol db y j) (lt_next y x));
+          ∙ ap₂ (λ b c. b || c) (are_pairs_to.members_are y j)
+          (has_pair_in_row x chain.statements y j)
+          ∙ by_equality y j (cases_eq y x)
+          ∙ sym (ap (λ b. b && has_symbol db y j) (lt_next_is_lt_or_equal y x));
     })
   where
     row : List (ℕ × ℕ)
-    row = map (λ j. (x, j)) h.statements
+    row = map (λ j. (x, j)) chain.statements
 
-    later : (b c y j : ℕ) → has_pair ps b c ≡ true → has_pair row y j ≡ true → b < y
-    later b c y j e f =
-        let l = ltb-true b x (and_parts (nat_lt b x) (has_symbol db b c)
-        (sym (are_pairs_to.members_are b c) ∙ e)).0 in
-        let s =
+    earlier_lt_row : (b c y j : ℕ) → has_pair ps b c ≡ true → has_pair row y j ≡ true → b < y
+    earlier_lt_row b c y j ps_has_pair row_has_pair =
+        let b_lt_x = ltb-true b x (and_parts (nat_lt b x) (has_symbol db b c)
+        (sym (are_pairs_to.members_are b c) ∙ ps_has_pair)).0 in
+        let y_is_x =
         eqb-true y x
-        (and_parts (nat_eq y x) (is_member h.statements j)
-        (sym (has_row x h.statements y j) ∙ f)).0 in
-        omega (arith, l, s)
+        (and_parts (nat_eq y x) (is_member chain.statements j)
+        (sym (has_pair_in_row x chain.statements y j) ∙ row_has_pair)).0 in
+        omega (arith, b_lt_x, y_is_x)
 
     by_equality : (y j : ℕ) → (y ≡ x) ⊎ (y ≢ x)
-        → ((nat_lt y x && has_symbol db y j) || (nat_eq y x && is_member h.statements j))
+        → ((nat_lt y x && has_symbol db y j) || (nat_eq y x && is_member chain.statements j))
         ≡ ((nat_lt y x || nat_eq y x) && has_symbol db y j)
-    by_equality y j (inl e) =
-        ap₂ (λ b c. (b && has_symbol db y j) || (c && is_member h.statements j))
-        (le-ltb y x (omega (arith, e))) (eq-eqb y x e)
-        ∙ h.members_are j ∙ ap (λ z. has_symbol db z j) (sym e)
-        ∙ sym (ap₂ (λ b c. (b || c) && has_symbol db y j) (le-ltb y x (omega (arith, e)))
-        (eq-eqb y x e))
-    by_equality y j (inr n) =
-        ap (λ b. (nat_lt y x && has_symbol db y j) || (b && is_member h.statements j))
-        (ne_eqb y x n)
+    by_equality y j (inl ps_has_pair) =
+        ap₂ (λ b c. (b && has_symbol db y j) || (c && is_member chain.statements j))
+        (le-ltb y x (omega (arith, ps_has_pair))) (eq-eqb y x ps_has_pair)
+        ∙ chain.members_are j ∙ ap (λ z. has_symbol db z j) (sym ps_has_pair)
+        ∙ sym (ap₂ (λ b c. (b || c) && has_symbol db y j) (le-ltb y x (omega (arith, ps_has_pair)))
+        (eq-eqb y x ps_has_pair))
+    by_equality y j (inr y_ne_x) =
+        ap (λ b. (nat_lt y x && has_symbol db y j) || (b && is_member chain.statements j))
+        (ne_eqb y x y_ne_x)
         ∙ or-false (nat_lt y x && has_symbol db y j)
-        ∙ sym (ap (λ b. (nat_lt y x || b) && has_symbol db y j) (ne_eqb y x n)
+        ∙ sym (ap (λ b. (nat_lt y x || b) && has_symbol db y j) (ne_eqb y x y_ne_x)
         ∙ ap (λ b. b && has_symbol db y j) (or-false (nat_lt y x)))
 
 -- there are no other symbols
-pub pairs_all : (db : List Statement) (x : ℕ) (ps : List (ℕ × ℕ))
+pub pairs_of_all_symbols : (db : List Statement) (x : ℕ) (ps : List (ℕ × ℕ))
     → ((y j : ℕ) → has_symbol db y j ≡ true → y < x) → ArePairsTo db x ps
     → (y j : ℕ) → has_pair ps y j ≡ has_symbol db y j
-pairs_all db x ps all a y j = a.members_are y j ∙ by_has_symbol (has_symbol db y j) refl
+pairs_of_all_symbols db x ps symbols_lt_x are_pairs y j =
+    are_pairs.members_are y j ∙ by_has_symbol (has_symbol db y j) refl
   where
     by_has_symbol : (b : Bool) → has_symbol db y j ≡ b → (nat_lt y x && b) ≡ b
-    by_has_symbol false e = and-false (nat_lt y x)
-    by_has_symbol true e = ap (λ b. b && true) (lt-ltb y x (all y j e))
+    by_has_symbol false has_symbol_is_b = and-false (nat_lt y x)
+    by_has_symbol true has_symbol_is_b =
+        ap (λ b. b && true) (lt-ltb y x (symbols_lt_x y j has_symbol_is_b))

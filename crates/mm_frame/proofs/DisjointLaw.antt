@@ -18,251 +18,316 @@ use Rattle.mm_spec.proofs.MemberLaw.{any_witness, any_of, member_range}
 use Rattle.mm_outline.specs.Blocks.{BlockLists, IsBlocks}
 use Rattle.mm_database.specs.DisjointIndex.{has_symbol, is_active_local}
 use Rattle.mm_database.specs.Pairs.{has_pair, IsBefore, AreRising}
-use Rattle.mm_database.proofs.TogetherLaw.{active_local_is, kind_of_active}
-use Rattle.mm_database.proofs.DisjointIndexLaw.{has_at, at_has, rising_at}
+use Rattle.mm_database.proofs.TogetherLaw.{active_local_is_active, active_is_disjoint}
+use Rattle.mm_database.proofs.DisjointIndexLaw.{place_of_pair, has_pair_at_place, earlier_is_before}
 use Rattle.mm_frame.specs.Together.{has_later}
-use Rattle.mm_frame.proofs.HypothesesLaw.{mandatory_named}
-use Rattle.mm_frame.proofs.PairsLaw.{has_map, sorted_map, unique, has_filter, has_rows}
-use Rattle.mm_frame.proofs.PairsLaw.{sorted_filter, sorted_pairs}
+use Rattle.mm_frame.proofs.HypothesesLaw.{mandatory_has_name}
+use Rattle.mm_frame.proofs.PairsLaw.{has_mapped_pair, mapped_are_sorted}
+use Rattle.mm_frame.proofs.PairsLaw.{sorted_with_same_members_equal, has_filtered_pair}
+use Rattle.mm_frame.proofs.PairsLaw.{has_pair_in_rows}
+use Rattle.mm_frame.proofs.PairsLaw.{filtered_are_sorted, all_pairs_are_sorted}
 
-any_pair : (f : ℕ × ℕ → Bool) (ps : List (ℕ × ℕ)) → list_any f ps ≡ true
+-- if some pair passes a test, there is a place where it does
+place_where_test_holds : (f : ℕ × ℕ → Bool) (ps : List (ℕ × ℕ)) → list_any f ps ≡ true
     → (p : ℕ) × (p < length ps) × (f (get_or ps p (0, 0)) ≡ true)
-any_pair f [] h = absurd (true≢false (sym h))
-any_pair f (q ∷ qs) h = by_head (f q) refl h (λ k. any_pair f qs k)
+place_where_test_holds f [] some_passes = absurd (true≢false (sym some_passes))
+place_where_test_holds f (q ∷ qs) some_passes =
+    by_head (f q) refl some_passes (λ k. place_where_test_holds f qs k)
   where
     by_head : (c : Bool) → f q ≡ c → (c || list_any f qs) ≡ true
         → (list_any f qs ≡ true → (p : ℕ) × (p < length qs) × (f (get_or qs p (0, 0)) ≡ true))
         → (p : ℕ) × (p < length (q ∷ qs)) × (f (get_or (q ∷ qs) p (0, 0)) ≡ true)
-    by_head true e h r = (0, omega arith, e)
-    by_head false e h r = let w = r h in let l = w.1 in (suc w.0, omega (arith, l), w.2)
+    by_head true q_is_c some_passes place_in_rest = (0, omega arith, q_is_c)
+    by_head false q_is_c some_passes place_in_rest = let place = place_in_rest some_passes in
+        let place_lt_length = place.1 in
+        (suc place.0, omega (arith, place_lt_length), place.2)
 
 -- ---- the variables after one, in the same statement
 
 -- the pairs after index `place` and before index `at` have been looked at
-pub record AddsLater (by_statement : List (ℕ × ℕ)) (place at : ℕ) (old now : List (ℕ × ℕ)) : Type 0
+pub record AddsLater (by_statement : List (ℕ × ℕ)) (place at : ℕ)
+    (earlier_pairs pairs_so_far : List (ℕ × ℕ)) : Type 0
   where
-    pub further : place < at
-    pub within : at ≤ length by_statement
-    pub same : (p : ℕ) → place < p → p < at → (get_or by_statement p (0, 0)).0
+    pub place_lt_at : place < at
+    pub at_le_length : at ≤ length by_statement
+    pub statement_is_same : (p : ℕ) → place < p → p < at → (get_or by_statement p (0, 0)).0
         ≡ (get_or by_statement place (0, 0)).0
-    pub old_stay : (x y : ℕ) → has_pair old x y ≡ true → has_pair now x y ≡ true
-    pub only : (x y : ℕ) → has_pair now x y ≡ true
-        → (has_pair old x y ≡ true)
+    pub earlier_pairs_stay : (x y : ℕ) → has_pair earlier_pairs x y ≡ true
+        → has_pair pairs_so_far x y ≡ true
+    pub new_pairs_are_later : (x y : ℕ) → has_pair pairs_so_far x y ≡ true
+        → (has_pair earlier_pairs x y ≡ true)
         ⊎ ((x ≡ (get_or by_statement place (0, 0)).1) × (p : ℕ) × (place < p) × (p < at)
         × ((get_or by_statement p (0, 0)).1 ≡ y))
-    pub all : (p : ℕ) → place < p → p < at
-        → has_pair now (get_or by_statement place (0, 0)).1 (get_or by_statement p (0, 0)).1 ≡ true
+    pub later_pairs_are_added : (p : ℕ) → place < p → p < at
+        → has_pair pairs_so_far (get_or by_statement place (0, 0)).1
+        (get_or by_statement p (0, 0)).1 ≡ true
 
 module _ (by_statement : List (ℕ × ℕ)) (rising : AreRising by_statement) (place : ℕ)
-    (inside : place < length by_statement) where
+    (place_lt_length : place < length by_statement) where
+  -- the statement at the place
   abbrev j : ℕ
   j = (get_or by_statement place (0, 0)).0
 
+  -- the lower symbol at the place
   abbrev low : ℕ
   low = (get_or by_statement place (0, 0)).1
 
-  pub after_start : (old : List (ℕ × ℕ)) → AddsLater by_statement place (place + 1) old old
-  after_start old =
+  -- right after the place no later pair was added yet
+  pub adds_later_at_start : (earlier_pairs : List (ℕ × ℕ))
+      → AddsLater by_statement place (place + 1) earlier_pairs earlier_pairs
+  adds_later_at_start earlier_pairs =
       record {
-        further = omega arith;
-        within = omega (arith, inside);
-        same = λ p l m. absurd (omega (arith, l, m));
-        old_stay = λ x y e. e;
-        only = λ x y e. inl e;
-        all = λ p l m. absurd (omega (arith, l, m));
+        place_lt_at = omega arith;
+        at_le_length = omega (arith, place_lt_length);
+        statement_is_same = λ p place_lt_p p_lt_next. absurd (omega (arith, place_lt_p, p_lt_next));
+        earlier_pairs_stay = λ x y had_pair. had_pair;
+        new_pairs_are_later = λ x y had_pair. inl had_pair;
+        later_pairs_are_added =
+            λ p place_lt_p p_lt_next. absurd (omega (arith, place_lt_p, p_lt_next));
       }
 
-  pub after_next : (at : ℕ) (old now : List (ℕ × ℕ)) → AddsLater by_statement place at old now
+  -- a later pair of the same statement is added
+  pub adds_later_with_pair : (at : ℕ) (earlier_pairs pairs_so_far : List (ℕ × ℕ))
+      → AddsLater by_statement place at earlier_pairs pairs_so_far
       → at < length by_statement → (get_or by_statement at (0, 0)).0 ≡ j
-      → AddsLater by_statement place (at + 1) old
-      (now ++ (low, (get_or by_statement at (0, 0)).1) ∷ [])
-  after_next at old now b at_lt_length_by_statement s = record {
-    further = let f = b.further in omega (arith, f);
-    within = omega (arith, at_lt_length_by_statement);
-    same = λ p h m. same p h m (cases_eq p at);
-    old_stay = λ x y e. longer x y (b.old_stay x y e);
-    only =
-        λ x y e. only x y (has_pair now x y) refl
-        (sym (list_any-append (λ p. nat_eq x p.0 && nat_eq y p.1) now ((low, high) ∷ [])) ∙ e);
-    all = λ p h m. all p h m (cases_eq p at);
-  }
+      → AddsLater by_statement place (at + 1) earlier_pairs
+      (pairs_so_far ++ (low, (get_or by_statement at (0, 0)).1) ∷ [])
+  adds_later_with_pair at earlier_pairs pairs_so_far adds at_lt_length_by_statement same_statement =
+      record {
+        place_lt_at = let place_lt_at = adds.place_lt_at in omega (arith, place_lt_at);
+        at_le_length = omega (arith, at_lt_length_by_statement);
+        statement_is_same =
+            λ p place_lt_p p_lt_next. statement_is_same p place_lt_p p_lt_next (cases_eq p at);
+        earlier_pairs_stay =
+            λ x y had_pair. has_pair_still x y (adds.earlier_pairs_stay x y had_pair);
+        new_pairs_are_later =
+            λ x y had_pair. new_pair_is_later x y (has_pair pairs_so_far x y) refl
+            (sym (list_any-append (λ p. nat_eq x p.0 && nat_eq y p.1) pairs_so_far
+            ((low, high_variable) ∷ []))
+            ∙ had_pair);
+        later_pairs_are_added =
+            λ p place_lt_p p_lt_next. later_pair_is_added p place_lt_p p_lt_next (cases_eq p at);
+      }
     where
-      high : ℕ
-      high = (get_or by_statement at (0, 0)).1
+      high_variable : ℕ
+      high_variable = (get_or by_statement at (0, 0)).1
 
-      longer : (x y : ℕ) → has_pair now x y ≡ true → has_pair (now ++ (low, high) ∷ []) x y ≡ true
-      longer x y e =
-          list_any-append (λ p. nat_eq x p.0 && nat_eq y p.1) now ((low, high) ∷ [])
-          ∙ ap (λ c. c || has_pair ((low, high) ∷ []) x y) e
+      has_pair_still : (x y : ℕ) → has_pair pairs_so_far x y ≡ true
+          → has_pair (pairs_so_far ++ (low, high_variable) ∷ []) x y ≡ true
+      has_pair_still x y had_pair =
+          list_any-append (λ p. nat_eq x p.0 && nat_eq y p.1) pairs_so_far
+          ((low, high_variable) ∷ [])
+          ∙ ap (λ c. c || has_pair ((low, high_variable) ∷ []) x y) had_pair
 
-      same : (p : ℕ) → place < p → p < at + 1 → (p ≡ at) ⊎ (p ≢ at)
+      statement_is_same : (p : ℕ) → place < p → p < at + 1 → (p ≡ at) ⊎ (p ≢ at)
           → (get_or by_statement p (0, 0)).0 ≡ j
-      same p h m (inl e) = ap (λ i. (get_or by_statement i (0, 0)).0) e ∙ s
-      same p h m (inr n) = b.same p h (omega (arith, m, n))
+      statement_is_same p place_lt_p p_lt_next (inl p_is_at) =
+          ap (λ i. (get_or by_statement i (0, 0)).0) p_is_at ∙ same_statement
+      statement_is_same p place_lt_p p_lt_next (inr p_ne_at) =
+          adds.statement_is_same p place_lt_p (omega (arith, p_lt_next, p_ne_at))
 
-      only : (x y : ℕ) (c : Bool) → has_pair now x y ≡ c
-          → (c || ((nat_eq x low && nat_eq y high) || false)) ≡ true
-          → (has_pair old x y ≡ true)
+      new_pair_is_later : (x y : ℕ) (c : Bool) → has_pair pairs_so_far x y ≡ c
+          → (c || ((nat_eq x low && nat_eq y high_variable) || false)) ≡ true
+          → (has_pair earlier_pairs x y ≡ true)
           ⊎ ((x ≡ low) × (p : ℕ) × (place < p) × (p < at + 1)
           × ((get_or by_statement p (0, 0)).1 ≡ y))
-      only x y true has_pair_x_y h = longer_one (b.only x y has_pair_x_y)
+      new_pair_is_later x y true has_pair_x_y has_pair_after =
+          later_with_next (adds.new_pairs_are_later x y has_pair_x_y)
         where
-          longer_one : (has_pair old x y ≡ true)
+          later_with_next : (has_pair earlier_pairs x y ≡ true)
               ⊎ ((x ≡ low) × (p : ℕ) × (place < p) × (p < at)
               × ((get_or by_statement p (0, 0)).1 ≡ y))
-              → (has_pair old x y ≡ true)
+              → (has_pair earlier_pairs x y ≡ true)
               ⊎ ((x ≡ low) × (p : ℕ) × (place < p) × (p < at + 1)
               × ((get_or by_statement p (0, 0)).1 ≡ y))
-          longer_one (inl t) = inl t
-          longer_one (inr (t, p, u, v, w)) = inr (t, p, u, omega (arith, v), w)
-      only x y false e h =
-          let t = sym (or-false (nat_eq x low && nat_eq y high)) ∙ h in
-          let f = b.further in
+          later_with_next (inl was_earlier) = inl was_earlier
+          later_with_next (inr (x_is_low, p, place_lt_p, p_lt_at, variable_is_y)) =
+              inr (x_is_low, p, place_lt_p, omega (arith, p_lt_at), variable_is_y)
+      new_pair_is_later x y false not_had has_pair_after =
+          let is_new_pair = sym (or-false (nat_eq x low && nat_eq y high_variable))
+          ∙ has_pair_after in
+          let place_lt_at = adds.place_lt_at in
           inr (
-            eqb-true x low (and_parts (nat_eq x low) (nat_eq y high) t).0,
+            eqb-true x low (and_parts (nat_eq x low) (nat_eq y high_variable) is_new_pair).0,
             at,
-            f,
+            place_lt_at,
             omega arith,
             sym
-                (eqb-true y high (and_parts (nat_eq x low) (nat_eq y high) t).1),
+                (eqb-true y high_variable
+                (and_parts (nat_eq x low) (nat_eq y high_variable) is_new_pair).1),
           )
 
-      all : (p : ℕ) → place < p → p < at + 1 → (p ≡ at) ⊎ (p ≢ at)
-          → has_pair (now ++ (low, high) ∷ []) low (get_or by_statement p (0, 0)).1 ≡ true
-      all p place_lt_p p_lt_next_at (inl e) =
-          list_any-append (λ q. nat_eq low q.0 && nat_eq (get_or by_statement p (0, 0)).1 q.1) now
-          ((low, high) ∷ [])
-          ∙ ap (λ c. has_pair now low (get_or by_statement p (0, 0)).1 || (c || false))
+      later_pair_is_added : (p : ℕ) → place < p → p < at + 1 → (p ≡ at) ⊎ (p ≢ at)
+          → has_pair (pairs_so_far ++ (low, high_variable) ∷ []) low
+          (get_or by_statement p (0, 0)).1 ≡ true
+      later_pair_is_added p place_lt_p p_lt_next_at (inl p_is_at) =
+          list_any-append (λ q. nat_eq low q.0 && nat_eq (get_or by_statement p (0, 0)).1 q.1)
+          pairs_so_far
+          ((low, high_variable) ∷ [])
+          ∙ ap (λ c. has_pair pairs_so_far low (get_or by_statement p (0, 0)).1 || (c || false))
           (ap₂ (λ u v. u && v) (eq-eqb low low refl)
-          (eq-eqb (get_or by_statement p (0, 0)).1 high
-          (ap (λ i. (get_or by_statement i (0, 0)).1) e)))
-          ∙ or-true (has_pair now low (get_or by_statement p (0, 0)).1)
-      all p place_lt_p p_lt_next_at (inr n) = longer low (get_or by_statement p (0, 0)).1
-          (b.all p place_lt_p (omega (arith, p_lt_next_at, n)))
+          (eq-eqb (get_or by_statement p (0, 0)).1 high_variable
+          (ap (λ i. (get_or by_statement i (0, 0)).1) p_is_at)))
+          ∙ or-true (has_pair pairs_so_far low (get_or by_statement p (0, 0)).1)
+      later_pair_is_added p place_lt_p p_lt_next_at (inr p_ne_at) =
+          has_pair_still low (get_or by_statement p (0, 0)).1
+          (adds.later_pairs_are_added p place_lt_p (omega (arith, p_lt_next_at, p_ne_at)))
 
-  pub after_end : (at : ℕ) (old now : List (ℕ × ℕ)) → AddsLater by_statement place at old now
+  -- where the statement ends, all its later pairs were added
+  pub adds_later_at_end : (at : ℕ) (earlier_pairs pairs_so_far : List (ℕ × ℕ))
+      → AddsLater by_statement place at earlier_pairs pairs_so_far
       → (at < length by_statement → (get_or by_statement at (0, 0)).0 ≢ j)
       → (x y : ℕ)
-      → has_pair now x y ≡ (has_pair old x y || has_later by_statement (get_or by_statement place
+      → has_pair pairs_so_far x y
+      ≡ (has_pair earlier_pairs x y || has_later by_statement (get_or by_statement place
       (0, 0)) x y)
-  after_end at old now b stop x y =
-      same_tests (has_pair now x y)
-      (has_pair old x y || (nat_eq x low && (has_pair by_statement j y && nat_lt x y)))
-      (λ e. left_to_right (b.only x y e)) (λ e. right_to_left (has_pair old x y) refl e)
+  adds_later_at_end at earlier_pairs pairs_so_far adds statement_ends x y =
+      same_tests (has_pair pairs_so_far x y)
+      (has_pair earlier_pairs x y || (nat_eq x low && (has_pair by_statement j y && nat_lt x y)))
+      (λ test. left_to_right (adds.new_pairs_are_later x y test))
+      (λ test. right_to_left (has_pair earlier_pairs x y) refl test)
     where
       later_is_higher : (p : ℕ) → place < p → p < at → low < (get_or by_statement p (0, 0)).1
-      later_is_higher p h m =
-          variable_lt (rising_at by_statement rising place p (0, 0) h
-          (let w = b.within in omega (arith, m, w)))
+      later_is_higher p place_lt_p p_lt_at =
+          variable_lt (earlier_is_before by_statement rising place p (0, 0) place_lt_p
+          (let at_le_length = adds.at_le_length in omega (arith, p_lt_at, at_le_length)))
         where
           variable_lt : IsBefore j low (get_or by_statement p (0, 0)).0
               (get_or by_statement p (0, 0)).1
               → low < (get_or by_statement p (0, 0)).1
-          variable_lt (inl l) = absurd (let s = b.same p h m in omega (arith, l, s))
-          variable_lt (inr (s, l)) = l
+          variable_lt (inl lower) =
+              absurd (let statement_lt = adds.statement_is_same p place_lt_p p_lt_at in
+              omega (arith, lower, statement_lt))
+          variable_lt (inr (statement_lt, lower)) = lower
 
-      left_to_right : (has_pair old x y ≡ true)
+      left_to_right : (has_pair earlier_pairs x y ≡ true)
           ⊎ ((x ≡ low) × (p : ℕ) × (place < p) × (p < at) × ((get_or by_statement p (0, 0)).1 ≡ y))
-          → (has_pair old x y || (nat_eq x low && (has_pair by_statement j y && nat_lt x y))) ≡ true
-      left_to_right (inl e) = ap (λ c. c || (nat_eq x low
-          && (has_pair by_statement j y && nat_lt x y))) e
-      left_to_right (inr (e, p, h, m, s)) =
-          let there =
-          ap₂ (has_pair by_statement) (sym (b.same p h m)) (sym s)
-          ∙ at_has by_statement p (0, 0) (let w = b.within in omega (arith, m, w)) in
-          let l = later_is_higher p h m in
-          ap (λ c. has_pair old x y || c)
-          (ap₂ (λ u v. u && v) (eq-eqb x low e)
-          (ap₂ (λ u v. u && v) there (lt-ltb x y (omega (arith, e, l, s)))))
-          ∙ or-true (has_pair old x y)
+          → (has_pair earlier_pairs x y ||
+          (nat_eq x low && (has_pair by_statement j y && nat_lt x y))) ≡ true
+      left_to_right (inl was_earlier) = ap (λ c. c || (nat_eq x low
+          && (has_pair by_statement j y && nat_lt x y))) was_earlier
+      left_to_right (inr (x_is_low, p, place_lt_p, p_lt_at, variable_is_y)) =
+          let has_pair_j_y =
+          ap₂ (has_pair by_statement) (sym (adds.statement_is_same p place_lt_p p_lt_at))
+          (sym variable_is_y)
+          ∙ has_pair_at_place by_statement p (0, 0) (let at_le_length = adds.at_le_length in
+          omega (arith, p_lt_at, at_le_length)) in
+          let low_lt_variable = later_is_higher p place_lt_p p_lt_at in
+          ap (λ c. has_pair earlier_pairs x y || c)
+          (ap₂ (λ u v. u && v) (eq-eqb x low x_is_low)
+          (ap₂ (λ u v. u && v) has_pair_j_y
+          (lt-ltb x y (omega (arith, x_is_low, low_lt_variable, variable_is_y)))))
+          ∙ or-true (has_pair earlier_pairs x y)
 
-      from : (p : ℕ) → p < length by_statement → (get_or by_statement p (0, 0)).0 ≡ j → low
+      place_in_range : (p : ℕ) → p < length by_statement → (get_or by_statement p (0, 0)).0 ≡ j
+          → low
           < (get_or by_statement p (0, 0)).1
           → (place < p) × (p < at)
-      from p p_lt_length_by_statement s m = (first (cases_order place p), by_order (cases_lt p at))
+      place_in_range p p_lt_length_by_statement statement_is_j low_lt_variable =
+          (place_lt_p (cases_order place p), by_order (cases_lt p at))
         where
-          down : IsBefore (get_or by_statement p (0, 0)).0 (get_or by_statement p (0, 0)).1 j low
+          not_before : IsBefore (get_or by_statement p (0, 0)).0
+              (get_or by_statement p (0, 0)).1 j low
               → ⊥
-          down (inl u) = omega (arith, u, s)
-          down (inr (e, u)) = omega (arith, u, m)
+          not_before (inl statement_lt) = omega (arith, statement_lt, statement_is_j)
+          not_before (inr (statements_equal, statement_lt)) =
+              omega (arith, statement_lt, low_lt_variable)
 
-          first : (place ≡ p) ⊎ ((place < p) ⊎ (p < place)) → place < p
-          first (inl e) =
-              absurd (let t = ap (λ i. (get_or by_statement i (0, 0)).1) e in omega (arith, t, m))
-          first (inr (inl u)) = u
-          first (inr (inr u)) = absurd (down (rising_at by_statement rising p place (0, 0) u
-              inside))
+          place_lt_p : (place ≡ p) ⊎ ((place < p) ⊎ (p < place)) → place < p
+          place_lt_p (inl place_is_p) =
+              absurd (let variables_equal = ap (λ i. (get_or by_statement i (0, 0)).1) place_is_p in
+              omega (arith, variables_equal, low_lt_variable))
+          place_lt_p (inr (inl place_order)) = place_order
+          place_lt_p (inr (inr place_order)) =
+              absurd (not_before (earlier_is_before by_statement rising p place (0, 0) place_order
+              place_lt_length))
 
-          up : at < length by_statement → at ≤ p
+          at_not_before : at < length by_statement → at ≤ p
               → IsBefore j low (get_or by_statement at (0, 0)).0 (get_or by_statement at (0, 0)).1
               → ⊥
-          up at_lt_length_by_statement at_le_p (inr (e, w)) = stop at_lt_length_by_statement (sym e)
-          up at_lt_length_by_statement at_le_p (inl w) = again (cases_eq at p)
+          at_not_before at_lt_length_by_statement at_le_p (inr (statements_equal, statement_lt)) =
+              statement_ends at_lt_length_by_statement (sym statements_equal)
+          at_not_before at_lt_length_by_statement at_le_p (inl statement_lt) =
+              not_at_or_later (cases_eq at p)
             where
-              over : IsBefore (get_or by_statement at (0, 0)).0 (get_or by_statement at (0, 0)).1
+              p_not_before : IsBefore (get_or by_statement at (0, 0)).0
+                  (get_or by_statement at (0, 0)).1
                   (get_or by_statement p (0, 0)).0 (get_or by_statement p (0, 0)).1
                   → ⊥
-              over (inl z) = omega (arith, z, w, s)
-              over (inr (e, z)) = omega (arith, e, w, s)
+              p_not_before (inl lower) = omega (arith, lower, statement_lt, statement_is_j)
+              p_not_before (inr (statements_equal, lower)) =
+                  omega (arith, statements_equal, statement_lt, statement_is_j)
 
-              again : (at ≡ p) ⊎ (at ≢ p) → ⊥
-              again (inl e) = let t = ap (λ i. (get_or by_statement i (0, 0)).0) e in omega
-                  (arith, t, w, s)
-              again (inr n) = over (rising_at by_statement rising at p (0, 0)
-                  (omega (arith, at_le_p, n))
+              not_at_or_later : (at ≡ p) ⊎ (at ≢ p) → ⊥
+              not_at_or_later (inl at_is_p) =
+                  let statements_equal =
+                  ap (λ i. (get_or by_statement i (0, 0)).0) at_is_p in
+                  omega (arith, statements_equal, statement_lt, statement_is_j)
+              not_at_or_later (inr at_ne_p) =
+                  p_not_before (earlier_is_before by_statement rising at p (0, 0)
+                  (omega (arith, at_le_p, at_ne_p))
                   p_lt_length_by_statement)
 
           by_order : (p < at) ⊎ (at ≤ p) → p < at
-          by_order (inl u) = u
-          by_order (inr u) =
-              absurd (up (omega (arith, u, p_lt_length_by_statement)) u
-              (rising_at by_statement rising place at (0, 0) b.further
-              (omega (arith, u, p_lt_length_by_statement))))
+          by_order (inl p_order) = p_order
+          by_order (inr p_order) =
+              absurd (at_not_before (omega (arith, p_order, p_lt_length_by_statement)) p_order
+              (earlier_is_before by_statement rising place at (0, 0) adds.place_lt_at
+              (omega (arith, p_order, p_lt_length_by_statement))))
 
-      right_to_left : (c : Bool) → has_pair old x y ≡ c
+      right_to_left : (c : Bool) → has_pair earlier_pairs x y ≡ c
           → (c || (nat_eq x low && (has_pair by_statement j y && nat_lt x y))) ≡ true
-          → has_pair now x y ≡ true
-      right_to_left true has_pair_x_y h = b.old_stay x y has_pair_x_y
-      right_to_left false e h =
-          let s = eqb-true x low (and_parts (nat_eq x low) (has_pair by_statement j y && nat_lt x y)
-          h).0 in
-          let r = (and_parts (nat_eq x low) (has_pair by_statement j y && nat_lt x y) h).1 in
-          let w = has_at by_statement j y (and_parts (has_pair by_statement j y) (nat_lt x y) r).0
+          → has_pair pairs_so_far x y ≡ true
+      right_to_left true has_pair_x_y is_later = adds.earlier_pairs_stay x y has_pair_x_y
+      right_to_left false not_had is_later =
+          let x_is_low = eqb-true x low
+          (and_parts (nat_eq x low) (has_pair by_statement j y && nat_lt x y)
+          is_later).0 in
+          let is_pair_of_j =
+          (and_parts (nat_eq x low) (has_pair by_statement j y && nat_lt x y) is_later).1 in
+          let place = place_of_pair by_statement j y
+          (and_parts (has_pair by_statement j y) (nat_lt x y) is_pair_of_j).0
           in
-          let l = ltb-true x y (and_parts (has_pair by_statement j y) (nat_lt x y) r).1 in
-          let t = w.3 in
-          let i = from w.0 w.1 w.2 (omega (arith, s, l, t)) in
-          ap₂ (has_pair now) s (sym t) ∙ b.all w.0 i.0 i.1
+          let x_lt_y = ltb-true x y
+          (and_parts (has_pair by_statement j y) (nat_lt x y) is_pair_of_j).1 in
+          let variable_is_y = place.3 in
+          let range = place_in_range place.0 place.1 place.2
+          (omega (arith, x_is_low, x_lt_y, variable_is_y)) in
+          ap₂ (has_pair pairs_so_far) x_is_low (sym variable_is_y)
+          ∙ adds.later_pairs_are_added place.0 range.0 range.1
 
 -- ---- one symbol more
 
-pub one_more : (o m q r l : Bool) (y s : ℕ) → (y ≡ s → q ≡ r)
+-- a condition on a list of symbols, with one symbol more
+pub or_with_next_symbol : (o m q r l : Bool) (y s : ℕ) → (y ≡ s → q ≡ r)
     → ((o || (m && (r && l))) || (nat_eq y s && (q && l))) ≡ (o || ((m || nat_eq y s) && (r && l)))
-one_more true m q r l y s e = refl
-one_more false m q r l y s e = by_equality (cases_eq y s)
+or_with_next_symbol true m q r l y s q_is_r = refl
+or_with_next_symbol false m q r l y s q_is_r = by_equality (cases_eq y s)
   where
-    flip : (m r : Bool) → ((m && r) || r) ≡ ((m || true) && r)
-    flip true true = refl
-    flip true false = refl
-    flip false r = refl
+    or_absorbs : (m r : Bool) → ((m && r) || r) ≡ ((m || true) && r)
+    or_absorbs true true = refl
+    or_absorbs true false = refl
+    or_absorbs false r = refl
 
     by_equality : (y ≡ s) ⊎ (y ≢ s)
         → ((m && (r && l)) || (nat_eq y s && (q && l))) ≡ ((m || nat_eq y s) && (r && l))
-    by_equality (inl t) =
-        ap₂ (λ c d. (m && (r && l)) || (c && (d && l))) (eq-eqb y s t) (e t) ∙ flip m (r && l)
-        ∙ sym (ap (λ c. (m || c) && (r && l)) (eq-eqb y s t))
-    by_equality (inr n) =
-        ap (λ c. (m && (r && l)) || (c && (q && l))) (ne_eqb y s n) ∙ or-false (m && (r && l))
-        ∙ sym (ap (λ c. (m || c) && (r && l)) (ne_eqb y s n) ∙ ap (λ c. c && (r && l)) (or-false m))
+    by_equality (inl y_is_s) =
+        ap₂ (λ c d. (m && (r && l)) || (c && (d && l))) (eq-eqb y s y_is_s) (q_is_r y_is_s)
+        ∙ or_absorbs m (r && l)
+        ∙ sym (ap (λ c. (m || c) && (r && l)) (eq-eqb y s y_is_s))
+    by_equality (inr y_ne_s) =
+        ap (λ c. (m && (r && l)) || (c && (q && l))) (ne_eqb y s y_ne_s) ∙ or-false (m && (r && l))
+        ∙ sym (ap (λ c. (m || c) && (r && l)) (ne_eqb y s y_ne_s)
+        ∙ ap (λ c. c && (r && l)) (or-false m))
 
 -- ---- the mandatory pairs
 
 module _ (db : List Statement) (b : BlockLists) (blocks : IsBlocks db b) (k : ℕ)
-    (h : k ≤ length db) (ps : List (ℕ × ℕ))
-    (are : (x j : ℕ) → has_pair ps x j ≡ has_symbol db x j) (variables : List ℕ)
+    (k_le_length : k ≤ length db) (ps : List (ℕ × ℕ))
+    (pairs_are_members : (x j : ℕ) → has_pair ps x j ≡ has_symbol db x j) (variables : List ℕ)
     (by_statement : List (ℕ × ℕ))
     (variables_are : (x : ℕ) → is_member variables x ≡ is_member (mandatory_variables db k) x)
-    (had_is : (j y : ℕ)
+    (paired_is : (j y : ℕ)
     → has_pair by_statement j y ≡ (is_member variables y
     && (has_pair ps y j && is_active_local b j k)))
   where
@@ -281,115 +346,136 @@ module _ (db : List Statement) (b : BlockLists) (blocks : IsBlocks db b) (k : �
     abbrev pub together : ℕ → ℕ → Bool
     together x y = list_any (λ p. has_later by_statement p x y) by_statement
 
-    in_range : (x : ℕ) → is_member vs x ≡ true → is_member (range_with_len 0 count) x ≡ true
-    in_range x e =
-        let l = mandatory_named db k x e in
-        member_range count 0 x (omega arith) ∙ lt-ltb x (0 + count) (omega (arith, l))
+    member_is_in_range : (x : ℕ) → is_member vs x ≡ true
+        → is_member (range_with_len 0 count) x ≡ true
+    member_is_in_range x x_is_member =
+        let x_lt_count = mandatory_has_name db k x x_is_member in
+        member_range count 0 x (omega arith) ∙ lt-ltb x (0 + count) (omega (arith, x_lt_count))
 
-    had_then : (j y : ℕ) → has_pair by_statement j y ≡ true
+    paired_is_active_member : (j y : ℕ) → has_pair by_statement j y ≡ true
         → (is_member vs y ≡ true) × (is_member (formula_at db j) y ≡ true)
         × (is_member (active_of is_disjoint_statement db k) j ≡ true)
-    had_then j y has_pair_x_y =
-        let f = sym (had_is j y) ∙ has_pair_x_y in
-        let r = (and_parts (is_member variables y) (has_pair ps y j && is_active_local b j k) f).1
+    paired_is_active_member j y has_pair_x_y =
+        let is_paired = sym (paired_is j y) ∙ has_pair_x_y in
+        let is_active_pair =
+        (and_parts (is_member variables y) (has_pair ps y j && is_active_local b j k) is_paired).1
         in
-        let s = sym (are y j) ∙ (and_parts (has_pair ps y j) (is_active_local b j k) r).0 in
-        let d =
+        let j_has_y = sym (pairs_are_members y j)
+        ∙ (and_parts (has_pair ps y j) (is_active_local b j k) is_active_pair).0 in
+        let j_is_disjoint =
         (and_parts (list_any is_disjoint_statement (statement_at db j))
-        (is_member (formula_at db j) y) s).0 in (
+        (is_member (formula_at db j) y) j_has_y).0 in (
           sym (variables_are y)
-              ∙ (and_parts (is_member variables y) (has_pair ps y j && is_active_local b j k) f).0,
+              ∙ (and_parts (is_member variables y) (has_pair ps y j && is_active_local b j k)
+              is_paired).0,
           (and_parts (list_any is_disjoint_statement (statement_at db j))
-              (is_member (formula_at db j) y) s).1,
-          sym (active_local_is db b blocks k h j d)
-              ∙ (and_parts (has_pair ps y j) (is_active_local b j k) r).1,
+              (is_member (formula_at db j) y) j_has_y).1,
+          sym (active_local_is_active db b blocks k k_le_length j j_is_disjoint)
+              ∙ (and_parts (has_pair ps y j) (is_active_local b j k) is_active_pair).1,
         )
 
-    had_if : (j y : ℕ) → is_member vs y ≡ true → is_member (formula_at db j) y ≡ true
+    active_member_is_paired : (j y : ℕ) → is_member vs y ≡ true
+        → is_member (formula_at db j) y ≡ true
         → is_member (active_of is_disjoint_statement db k) j ≡ true → has_pair by_statement j y
         ≡ true
-    had_if j y m f a =
-        let d = kind_of_active db b blocks k h j a in
-        had_is j y
-        ∙ ap₂ (λ p q. p && q) (variables_are y ∙ m)
-        (ap₂ (λ p q. p && q) (are y j ∙ ap₂ (λ p q. p && q) d f)
-        (active_local_is db b blocks k h j d ∙ a))
+    active_member_is_paired j y y_is_member j_has_y j_is_active =
+        let j_is_disjoint = active_is_disjoint db b blocks k k_le_length j j_is_active in
+        paired_is j y
+        ∙ ap₂ (λ p q. p && q) (variables_are y ∙ y_is_member)
+        (ap₂ (λ p q. p && q) (pairs_are_members y j ∙ ap₂ (λ p q. p && q) j_is_disjoint j_has_y)
+        (active_local_is_active db b blocks k k_le_length j j_is_disjoint ∙ j_is_active))
 
     left_to_right : (x y : ℕ) → together x y ≡ true
         → (wanted (pair x y)
         && (is_member (range_with_len 0 count) x && is_member (range_with_len 0 count) y))
         ≡ true
-    left_to_right x y e =
-        let w = any_pair (λ p. has_later by_statement p x y) by_statement e in
-        let j = (get_or by_statement w.0 (0, 0)).0 in
-        let s =
-        eqb-true x (get_or by_statement w.0 (0, 0)).1
-        (and_parts (nat_eq x (get_or by_statement w.0 (0, 0)).1)
-        (has_pair by_statement j y && nat_lt x y) w.2).0 in
-        let r =
-        (and_parts (nat_eq x (get_or by_statement w.0 (0, 0)).1)
-        (has_pair by_statement j y && nat_lt x y) w.2).1 in
-        let less = (and_parts (has_pair by_statement j y) (nat_lt x y) r).1 in
-        let l = ltb-true x y less in
-        let one = had_then j x (ap (has_pair by_statement j) s ∙ at_has by_statement w.0 (0, 0) w.1)
+    left_to_right x y x_y_together =
+        let place = place_where_test_holds (λ p. has_later by_statement p x y) by_statement
+        x_y_together in
+        let j = (get_or by_statement place.0 (0, 0)).0 in
+        let x_is_variable =
+        eqb-true x (get_or by_statement place.0 (0, 0)).1
+        (and_parts (nat_eq x (get_or by_statement place.0 (0, 0)).1)
+        (has_pair by_statement j y && nat_lt x y) place.2).0 in
+        let is_later_pair =
+        (and_parts (nat_eq x (get_or by_statement place.0 (0, 0)).1)
+        (has_pair by_statement j y && nat_lt x y) place.2).1 in
+        let x_lt_y_test = (and_parts (has_pair by_statement j y) (nat_lt x y) is_later_pair).1 in
+        let x_lt_y = ltb-true x y x_lt_y_test in
+        let x_of_j = paired_is_active_member j x (ap (has_pair by_statement j) x_is_variable
+        ∙ has_pair_at_place by_statement place.0 (0, 0) place.1)
         in
-        let other = had_then j y (and_parts (has_pair by_statement j y) (nat_lt x y) r).0 in
-        let apart =
+        let y_of_j = paired_is_active_member j y
+        (and_parts (has_pair by_statement j y) (nat_lt x y) is_later_pair).0 in
+        let some_active_has_both =
         any_of (λ i. is_member (formula_at db i) x && is_member (formula_at db i) y)
-        (active_of is_disjoint_statement db k) j one.2 (ap₂ (λ a b. a && b) one.1 other.1) in
-        let dis : disjoint_at db k x y ≡ true =
-        ap₂ (λ a b. not a && b) (ne_eqb x y (λ q. absurd (omega (arith, q, l)))) apart in
+        (active_of is_disjoint_statement db k) j x_of_j.2 (ap₂ (λ a b. a && b) x_of_j.1 y_of_j.1) in
+        let are_disjoint : disjoint_at db k x y ≡ true =
+        ap₂ (λ a b. not a && b) (ne_eqb x y (λ x_is_y. absurd (omega (arith, x_is_y, x_lt_y))))
+        some_active_has_both in
         ap₂ (λ a b. a && b)
         (ap₂ (λ a b. a && b)
-        (ap₂ (λ a b. a && b) (ap₂ (λ a b. a && b) less one.0) other.0) dis)
-        (ap₂ (λ a b. a && b) (in_range x one.0) (in_range y other.0))
+        (ap₂ (λ a b. a && b) (ap₂ (λ a b. a && b) x_lt_y_test x_of_j.0) y_of_j.0) are_disjoint)
+        (ap₂ (λ a b. a && b) (member_is_in_range x x_of_j.0) (member_is_in_range y y_of_j.0))
 
     right_to_left : (x y : ℕ)
         → (wanted (pair x y)
         && (is_member (range_with_len 0 count) x && is_member (range_with_len 0 count) y))
         ≡ true
         → together x y ≡ true
-    right_to_left x y e =
-        let t =
+    right_to_left x y are_wanted =
+        let pair_is_wanted =
         (and_parts (wanted (pair x y))
-        (is_member (range_with_len 0 count) x && is_member (range_with_len 0 count) y) e).0 in
-        let abc =
-        (and_parts (nat_lt x y && is_member vs x && is_member vs y) (disjoint_at db k x y) t).0 in
-        let dis =
-        (and_parts (nat_lt x y && is_member vs x && is_member vs y) (disjoint_at db k x y) t).1 in
-        let ab = (and_parts (nat_lt x y && is_member vs x) (is_member vs y) abc).0 in
-        let my = (and_parts (nat_lt x y && is_member vs x) (is_member vs y) abc).1 in
-        let less = (and_parts (nat_lt x y) (is_member vs x) ab).0 in
-        let mx = (and_parts (nat_lt x y) (is_member vs x) ab).1 in
-        let w =
+        (is_member (range_with_len 0 count) x && is_member (range_with_len 0 count) y)
+        are_wanted).0 in
+        let low_high_members =
+        (and_parts (nat_lt x y && is_member vs x && is_member vs y)
+        (disjoint_at db k x y) pair_is_wanted).0 in
+        let are_disjoint =
+        (and_parts (nat_lt x y && is_member vs x && is_member vs y)
+        (disjoint_at db k x y) pair_is_wanted).1 in
+        let low_high_member =
+        (and_parts (nat_lt x y && is_member vs x) (is_member vs y) low_high_members).0 in
+        let y_is_member =
+        (and_parts (nat_lt x y && is_member vs x) (is_member vs y) low_high_members).1 in
+        let x_lt_y_test = (and_parts (nat_lt x y) (is_member vs x) low_high_member).0 in
+        let x_is_member = (and_parts (nat_lt x y) (is_member vs x) low_high_member).1 in
+        let active_with_both =
         any_witness (λ i. is_member (formula_at db i) x && is_member (formula_at db i) y)
         (active_of is_disjoint_statement db k)
         (and_parts (not (nat_eq x y))
         (list_any (λ i. is_member (formula_at db i) x && is_member (formula_at db i) y)
-        (active_of is_disjoint_statement db k)) dis).1 in
-        let j = w.0 in
-        let hx =
-        had_if j x mx
-        (and_parts (is_member (formula_at db j) x) (is_member (formula_at db j) y) w.2).0 w.1 in
-        let hy =
-        had_if j y my
-        (and_parts (is_member (formula_at db j) x) (is_member (formula_at db j) y) w.2).1 w.1 in
-        let v = has_at by_statement j x hx in
-        list_any_at (λ p. has_later by_statement p x y) by_statement v.0 (0, 0) v.1
-        (ap₂ (λ a b. a && b) (eq-eqb x (get_or by_statement v.0 (0, 0)).1 (sym v.3))
-        (ap₂ (λ a b. a && b) (ap (λ i. has_pair by_statement i y) v.2 ∙ hy) less))
+        (active_of is_disjoint_statement db k)) are_disjoint).1 in
+        let j = active_with_both.0 in
+        let j_has_x =
+        active_member_is_paired j x x_is_member
+        (and_parts (is_member (formula_at db j) x)
+        (is_member (formula_at db j) y) active_with_both.2).0 active_with_both.1 in
+        let j_has_y =
+        active_member_is_paired j y y_is_member
+        (and_parts (is_member (formula_at db j) x)
+        (is_member (formula_at db j) y) active_with_both.2).1 active_with_both.1 in
+        let place_of_x = place_of_pair by_statement j x j_has_x in
+        list_any_at (λ p. has_later by_statement p x y) by_statement place_of_x.0
+        (0, 0) place_of_x.1
+        (ap₂ (λ a b. a && b)
+        (eq-eqb x (get_or by_statement place_of_x.0 (0, 0)).1 (sym place_of_x.3))
+        (ap₂ (λ a b. a && b) (ap (λ i. has_pair by_statement i y) place_of_x.2
+        ∙ j_has_y) x_lt_y_test))
 
-    pub pairs_are : (qs : List (ℕ × ℕ)) → AreRising qs
+    -- rising pairs with the same members are the mandatory pairs of the frame
+    pub pairs_are_mandatory_pairs : (qs : List (ℕ × ℕ)) → AreRising qs
         → ((x y : ℕ) → has_pair qs x y ≡ together x y)
         → map (λ p. pair p.0 p.1) qs ≡ mandatory_pairs db k
-    pairs_are qs rising is =
-        unique (map (λ p. pair p.0 p.1) qs) (filter wanted (pairs_of count))
-        (sorted_map qs rising) (sorted_filter wanted (pairs_of count) (sorted_pairs count))
-        (λ x y. has_map qs x y ∙ is x y
+    pairs_are_mandatory_pairs qs rising has_pair_is_together =
+        sorted_with_same_members_equal (map (λ p. pair p.0 p.1) qs) (filter wanted (pairs_of count))
+        (mapped_are_sorted qs rising)
+        (filtered_are_sorted wanted (pairs_of count) (all_pairs_are_sorted count))
+        (λ x y. has_mapped_pair qs x y ∙ has_pair_is_together x y
         ∙ same_tests (together x y)
         (wanted (pair x y)
         && (is_member (range_with_len 0 count) x && is_member (range_with_len 0 count) y))
         (left_to_right x y) (right_to_left x y)
-        ∙ sym (has_filter wanted (pairs_of count) x y
+        ∙ sym (has_filtered_pair wanted (pairs_of count) x y
         ∙ ap (λ b. wanted (pair x y) && b)
-        (has_rows (range_with_len 0 count) (range_with_len 0 count) x y)))
+        (has_pair_in_rows (range_with_len 0 count) (range_with_len 0 count) x y)))

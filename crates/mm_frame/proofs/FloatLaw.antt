@@ -30,50 +30,59 @@ use Rattle.mm_outline.proofs.FaultlessLaw.{floating_new}
 use Rattle.mm_outline.proofs.AmongLaw.{typed_in, among_active}
 
 -- a word that has a place is there
-pub index_get : (w : Bytes) (ws : List Bytes) → index_of w ws < length ws
+pub word_at_index_of : (w : Bytes) (ws : List Bytes) → index_of w ws < length ws
     → slice_get ws (index_of w ws) ≡ Some w
-index_get w [] h = absurd (omega arith)
-index_get w (v ∷ vs) h = by_equality (bytes_eq w v) refl h (index_get w vs)
+word_at_index_of w [] index_lt_length = absurd (omega arith)
+word_at_index_of w (v ∷ vs) index_lt_length =
+    by_equality (bytes_eq w v) refl index_lt_length (word_at_index_of w vs)
   where
     by_equality : (b : Bool) → bytes_eq w v ≡ b
         → (elim b [ true ↦ 0 | false ↦ suc (index_of w vs) ]) < length (v ∷ vs)
         → (index_of w vs < length vs → slice_get vs (index_of w vs) ≡ Some w)
         → slice_get (v ∷ vs) (elim b [ true ↦ 0 | false ↦ suc (index_of w vs) ]) ≡ Some w
-    by_equality true e h r = ap Some (sym ((bytes_eq-Decides w v).0 e))
-    by_equality false e h r = r (omega arith)
+    by_equality true w_eq_v index_lt_length in_rest =
+        ap Some (sym ((bytes_eq-Decides w v).0 w_eq_v))
+    by_equality false w_eq_v index_lt_length in_rest = in_rest (omega arith)
 
-abbrev pub list_at : Option Statement → List Statement
-list_at o = elim o [ None ↦ [] | Some s ↦ s ∷ [] ]
+-- the statement as a list, which is empty if there is none
+abbrev pub as_list : Option Statement → List Statement
+as_list o = elim o [ None ↦ [] | Some s ↦ s ∷ [] ]
 
-abbrev typed_of : List Statement → Option Statement → Option ℕ
-typed_of db o =
+-- the variable to which a statement gives a type, if there is a statement
+abbrev typed_variable_of : List Statement → Option Statement → Option ℕ
+typed_variable_of db o =
     if list_any is_floating (elim o [ None ↦ [] | Some s ↦ s ∷ [] ]) then slice_get
     (flat_map (formula_of db) (elim o [ None ↦ [] | Some s ↦ s ∷ [] ])) 1 else None
 
+-- statement `k` is a `$f` of variable `v`
 pub record IsFloat (db : List Statement) (k v : ℕ) : Type 0 where
   pub label : Token
   pub keyword : ℕ
   pub typecode : Token
   pub variable : Token
   pub dot : ℕ
-  pub is : slice_get db k ≡ Some (floating label keyword (typecode ∷ variable ∷ []) dot)
-  pub number : index_of variable.word (symbol_names db) ≡ v
-  pub untyped : is_typed (names_before db k) variable.word ≡ false
-  pub constant : is_in typecode.word (flat_map constants_of (take k db)) ≡ true
+  pub statement_is : slice_get db k ≡ Some (floating label keyword (typecode ∷ variable ∷ []) dot)
+  pub number_is_v : index_of variable.word (symbol_names db) ≡ v
+  pub variable_is_untyped : is_typed (names_before db k) variable.word ≡ false
+  pub typecode_is_declared : is_in typecode.word (flat_map constants_of (take k db)) ≡ true
 
-module _ (db : List Statement) (sound : IsSound db) where
-  law : (k : ℕ) → k < length db → (s : Statement) → slice_get db k ≡ Some s
+module _ (db : List Statement) (is_sound : IsSound db) where
+  -- a statement of a lawful database has no fault
+  lawful_has_no_faults : (k : ℕ) → k < length db → (s : Statement) → slice_get db k ≡ Some s
       → scope_faults (names_before db k) (depth db k) s ≡ []
-  law k h s e =
+  lawful_has_no_faults k k_lt_length s s_is_statement_k =
       least_none (scope_faults (names_before db k) (depth db k) s)
       (sym (ap
       (λ o. elim o
-      [ None ↦ None | Some s ↦ least (scope_faults (names_before db k) (depth db k) s) ]) e)
-      ∙ sound.lawful k h)
+      [ None ↦ None | Some s ↦ least (scope_faults (names_before db k) (depth db k) s) ])
+      s_is_statement_k)
+      ∙ is_sound.lawful k k_lt_length)
 
-  constant_there : (n : Names) (keyword : ℕ) (c v : Token)
+  -- the typecode of a lawful `$f` is a constant
+  typecode_is_constant : (n : Names) (keyword : ℕ) (c v : Token)
       → floating_faults n keyword (c ∷ v ∷ []) ≡ [] → is_in c.word n.constants ≡ true
-  constant_there n keyword c v h = by_membership (is_in c.word n.constants) refl h
+  typecode_is_constant n keyword c v no_fault =
+      by_membership (is_in c.word n.constants) refl no_fault
     where
       codes : Bool → List Fault
       codes =
@@ -86,155 +95,211 @@ module _ (db : List Statement) (sound : IsSound db) where
 
       by_membership : (a : Bool) → is_in c.word n.constants ≡ a
           → codes (a && is_in v.word n.active_variables) ≡ [] → is_in c.word n.constants ≡ true
-      by_membership true e h = e
-      by_membership false e h = absurd (cc)
+      by_membership true c_is_constant no_fault = c_is_constant
+      by_membership false c_is_constant no_fault = absurd (cc)
 
   -- a `$f` by its statement
-  float_of : (k v : ℕ) → k < length db → (o : Option Statement) → slice_get db k ≡ o
+  is_float_of_statement : (k v : ℕ) → k < length db → (o : Option Statement) → slice_get db k ≡ o
       → list_any is_floating (elim o [ None ↦ [] | Some s ↦ s ∷ [] ]) ≡ true
       → (slice_get (flat_map (formula_of db) (elim o [ None ↦ [] | Some s ↦ s ∷ [] ])) 1 ≡ Some v)
       → IsFloat db k v
-  float_of k v k_lt_length_db None e t f = absurd (true≢false (sym t))
-  float_of k v k_lt_length_db (Some (constants a xs d)) e t f = absurd (true≢false (sym t))
-  float_of k v k_lt_length_db (Some (variables a xs d)) e t f = absurd (true≢false (sym t))
-  float_of k v k_lt_length_db (Some (disjoint a xs d)) e t f = absurd (true≢false (sym t))
-  float_of k v k_lt_length_db (Some (essential l a xs d)) e t f = absurd (true≢false (sym t))
-  float_of k v k_lt_length_db (Some (axiomatic l a xs d)) e t f = absurd (true≢false (sym t))
-  float_of k v k_lt_length_db (Some (provable l a xs q ps d)) e t f = absurd (true≢false (sym t))
-  float_of k v k_lt_length_db (Some (opening a)) e t f = absurd (true≢false (sym t))
-  float_of k v k_lt_length_db (Some (closing a)) e t f = absurd (true≢false (sym t))
-  float_of k v k_lt_length_db (Some (floating l a [] d)) e t f = absurd (cc)
-  float_of k v k_lt_length_db (Some (floating l a (c ∷ []) d)) e t f = absurd (cc)
-  float_of k v k_lt_length_db (Some (floating l a (c ∷ x ∷ y ∷ ys) d)) e t f =
-      absurd (let n = (append_none (label_faults (names_before db k) l)
+  is_float_of_statement k v k_lt_length_db None statement_k_is_o o_is_floating second_symbol_is_v =
+      absurd (true≢false (sym o_is_floating))
+  is_float_of_statement k v k_lt_length_db (Some (constants a xs d)) statement_k_is_o o_is_floating
+      second_symbol_is_v =
+      absurd (true≢false (sym o_is_floating))
+  is_float_of_statement k v k_lt_length_db (Some (variables a xs d)) statement_k_is_o o_is_floating
+      second_symbol_is_v =
+      absurd (true≢false (sym o_is_floating))
+  is_float_of_statement k v k_lt_length_db (Some (disjoint a xs d)) statement_k_is_o o_is_floating
+      second_symbol_is_v =
+      absurd (true≢false (sym o_is_floating))
+  is_float_of_statement k v k_lt_length_db (Some (essential l a xs d)) statement_k_is_o
+      o_is_floating second_symbol_is_v =
+      absurd (true≢false (sym o_is_floating))
+  is_float_of_statement k v k_lt_length_db (Some (axiomatic l a xs d)) statement_k_is_o
+      o_is_floating second_symbol_is_v =
+      absurd (true≢false (sym o_is_floating))
+  is_float_of_statement k v k_lt_length_db (Some (provable l a xs q ps d)) statement_k_is_o
+      o_is_floating second_symbol_is_v =
+      absurd (true≢false (sym o_is_floating))
+  is_float_of_statement k v k_lt_length_db (Some (opening a)) statement_k_is_o o_is_floating
+      second_symbol_is_v = absurd (true≢false (sym o_is_floating))
+  is_float_of_statement k v k_lt_length_db (Some (closing a)) statement_k_is_o o_is_floating
+      second_symbol_is_v = absurd (true≢false (sym o_is_floating))
+  is_float_of_statement k v k_lt_length_db (Some (floating l a [] d)) statement_k_is_o o_is_floating
+      second_symbol_is_v = absurd (cc)
+  is_float_of_statement k v k_lt_length_db (Some (floating l a (c ∷ []) d)) statement_k_is_o
+      o_is_floating second_symbol_is_v = absurd (cc)
+  is_float_of_statement k v k_lt_length_db (Some (floating l a (c ∷ x ∷ y ∷ ys) d)) statement_k_is_o
+      o_is_floating second_symbol_is_v =
+      absurd (let no_typing_fault = (append_none (label_faults (names_before db k) l)
       (floating_faults (names_before db k) a (c ∷ x ∷ y ∷ ys))
-      (law k k_lt_length_db (floating l a (c ∷ x ∷ y ∷ ys) d) e)).1 in
+      (lawful_has_no_faults k k_lt_length_db
+      (floating l a (c ∷ x ∷ y ∷ ys) d) statement_k_is_o)).1 in
       cc)
-  float_of k v k_lt_length_db (Some (floating l a (c ∷ x ∷ []) d)) e t f =
-      let n =
+  is_float_of_statement k v k_lt_length_db (Some (floating l a (c ∷ x ∷ []) d)) statement_k_is_o
+      o_is_floating second_symbol_is_v =
+      let no_typing_fault =
       (append_none (label_faults (names_before db k) l)
       (floating_faults (names_before db k) a (c ∷ x ∷ []))
-      (law k k_lt_length_db (floating l a (c ∷ x ∷ []) d) e)).1 in
+      (lawful_has_no_faults k k_lt_length_db (floating l a (c ∷ x ∷ []) d) statement_k_is_o)).1 in
       record {
         label = l;
         keyword = a;
         typecode = c;
         variable = x;
         dot = d;
-        is = e;
-        number = same_Some _ _ f;
-        untyped = (floating_new (names_before db k) a c x n).1;
-        constant = constant_there (names_before db k) a c x n;
+        statement_is = statement_k_is_o;
+        number_is_v = same_Some _ _ second_symbol_is_v;
+        variable_is_untyped = (floating_new (names_before db k) a c x no_typing_fault).1;
+        typecode_is_declared = typecode_is_constant (names_before db k) a c x no_typing_fault;
       }
 
-  pub typed_float : (k v : ℕ) → k < length db → typed_variable_at db k ≡ Some v → IsFloat db k v
-  typed_float k v k_lt_length_db e = by_statement (slice_get db k) refl e
+  -- a statement that gives a variable a type is its `$f`
+  pub typed_is_float : (k v : ℕ) → k < length db → typed_variable_at db k ≡ Some v → IsFloat db k v
+  typed_is_float k v k_lt_length_db typed_variable_is_v =
+      by_statement (slice_get db k) refl typed_variable_is_v
     where
-      by_statement : (o : Option Statement) → slice_get db k ≡ o → typed_of db o ≡ Some v
+      by_statement : (o : Option Statement) → slice_get db k ≡ o → typed_variable_of db o ≡ Some v
           → IsFloat db k v
-      by_statement o s t = by_floating (list_any is_floating
-          (elim o [ None ↦ [] | Some s ↦ s ∷ [] ])) refl t
+      by_statement o statement_k_is_o typed_variable_is_v = by_floating (list_any is_floating
+          (elim o [ None ↦ [] | Some statement_k_is_o ↦ statement_k_is_o ∷ [] ])) refl
+          typed_variable_is_v
         where
-          by_floating : (b : Bool) → list_any is_floating (elim o [ None ↦ [] | Some s ↦ s ∷ [] ])
+          by_floating : (b : Bool)
+              → list_any is_floating
+              (elim o [ None ↦ [] | Some statement_k_is_o ↦ statement_k_is_o ∷ [] ])
               ≡ b
               → (if b then slice_get
-              (flat_map (formula_of db) (elim o [ None ↦ [] | Some s ↦ s ∷ [] ])) 1 else None)
+              (flat_map (formula_of db)
+              (elim o [ None ↦ [] | Some statement_k_is_o ↦ statement_k_is_o ∷ [] ])) 1 else None)
               ≡ Some v
               → IsFloat db k v
-          by_floating true p q = float_of k v k_lt_length_db o s p q
-          by_floating false p q = absurd (cc)
+          by_floating true o_is_floating second_symbol_is_v =
+              is_float_of_statement k v k_lt_length_db o statement_k_is_o o_is_floating
+              second_symbol_is_v
+          by_floating false o_is_floating second_symbol_is_v = absurd (cc)
 
   -- a `$f` has a variable
-  pub floating_typed : (k : ℕ) → k < length db
-      → list_any is_floating (list_at (slice_get db k)) ≡ true
+  pub floating_is_typed : (k : ℕ) → k < length db
+      → list_any is_floating (as_list (slice_get db k)) ≡ true
       → (v : ℕ) × (typed_variable_at db k ≡ Some v) × IsFloat db k v
-  floating_typed k k_lt_length_db t = by_statement (slice_get db k) refl t
+  floating_is_typed k k_lt_length_db k_is_floating =
+      by_statement (slice_get db k) refl k_is_floating
     where
-      by_statement : (o : Option Statement) → slice_get db k ≡ o → list_any is_floating (list_at o)
+      by_statement : (o : Option Statement) → slice_get db k ≡ o → list_any is_floating (as_list o)
           ≡ true
           → (v : ℕ) × (typed_variable_at db k ≡ Some v) × IsFloat db k v
-      by_statement None e t = absurd (true≢false (sym t))
-      by_statement (Some (constants a xs d)) e t = absurd (true≢false (sym t))
-      by_statement (Some (variables a xs d)) e t = absurd (true≢false (sym t))
-      by_statement (Some (disjoint a xs d)) e t = absurd (true≢false (sym t))
-      by_statement (Some (essential l a xs d)) e t = absurd (true≢false (sym t))
-      by_statement (Some (axiomatic l a xs d)) e t = absurd (true≢false (sym t))
-      by_statement (Some (provable l a xs q ps d)) e t = absurd (true≢false (sym t))
-      by_statement (Some (opening a)) e t = absurd (true≢false (sym t))
-      by_statement (Some (closing a)) e t = absurd (true≢false (sym t))
-      by_statement (Some (floating l a [] d)) e t =
-          absurd (let n = (append_none (label_faults (names_before db k) l)
-          (floating_faults (names_before db k) a []) (law k k_lt_length_db (floating l a [] d) e)).1
+      by_statement None statement_k_is_o k_is_floating = absurd (true≢false (sym k_is_floating))
+      by_statement (Some (constants a xs d)) statement_k_is_o k_is_floating =
+          absurd (true≢false (sym k_is_floating))
+      by_statement (Some (variables a xs d)) statement_k_is_o k_is_floating =
+          absurd (true≢false (sym k_is_floating))
+      by_statement (Some (disjoint a xs d)) statement_k_is_o k_is_floating =
+          absurd (true≢false (sym k_is_floating))
+      by_statement (Some (essential l a xs d)) statement_k_is_o k_is_floating =
+          absurd (true≢false (sym k_is_floating))
+      by_statement (Some (axiomatic l a xs d)) statement_k_is_o k_is_floating =
+          absurd (true≢false (sym k_is_floating))
+      by_statement (Some (provable l a xs q ps d)) statement_k_is_o k_is_floating =
+          absurd (true≢false (sym k_is_floating))
+      by_statement (Some (opening a)) statement_k_is_o k_is_floating =
+          absurd (true≢false (sym k_is_floating))
+      by_statement (Some (closing a)) statement_k_is_o k_is_floating =
+          absurd (true≢false (sym k_is_floating))
+      by_statement (Some (floating l a [] d)) statement_k_is_o k_is_floating =
+          absurd (let no_typing_fault = (append_none (label_faults (names_before db k) l)
+          (floating_faults (names_before db k) a [])
+          (lawful_has_no_faults k k_lt_length_db (floating l a [] d) statement_k_is_o)).1
           in
           cc)
-      by_statement (Some (floating l a (c ∷ []) d)) e t =
-          absurd (let n = (append_none (label_faults (names_before db k) l)
+      by_statement (Some (floating l a (c ∷ []) d)) statement_k_is_o k_is_floating =
+          absurd (let no_typing_fault = (append_none (label_faults (names_before db k) l)
           (floating_faults (names_before db k) a (c ∷ []))
-          (law k k_lt_length_db (floating l a (c ∷ []) d) e)).1 in
+          (lawful_has_no_faults k k_lt_length_db (floating l a (c ∷ []) d) statement_k_is_o)).1 in
           cc)
-      by_statement (Some (floating l a (c ∷ x ∷ xs) d)) e t =
-          let v = index_of x.word (symbol_names db) in let is = ap (typed_of db) e in
-          (v, is, typed_float k v k_lt_length_db is)
+      by_statement (Some (floating l a (c ∷ x ∷ xs) d)) statement_k_is_o k_is_floating =
+          let v = index_of x.word (symbol_names db) in
+          let typed_variable_is_v = ap (typed_variable_of db) statement_k_is_o in
+          (v, typed_variable_is_v, typed_is_float k v k_lt_length_db typed_variable_is_v)
 
-  module _ (k v : ℕ) (h : k < length db) (f : IsFloat db k v) where
-    pub formula_is : formula_at db k ≡ index_of f.typecode.word (symbol_names db) ∷ v ∷ []
-    formula_is =
-        ap (λ o. flat_map (formula_of db) (list_at o)) f.is
-        ∙ ap (λ x. index_of f.typecode.word (symbol_names db) ∷ x ∷ []) f.number
+  module _ (k v : ℕ) (k_lt_length : k < length db) (float : IsFloat db k v) where
+    -- the formula of a `$f` is its typecode and its variable
+    pub formula_is_typecode_and_variable : formula_at db k
+        ≡ index_of float.typecode.word (symbol_names db) ∷ v ∷ []
+    formula_is_typecode_and_variable =
+        ap (λ o. flat_map (formula_of db) (as_list o)) float.statement_is
+        ∙ ap (λ x. index_of float.typecode.word (symbol_names db) ∷ x ∷ []) float.number_is_v
 
-    pub floating_is : list_any is_floating (list_at (slice_get db k)) ≡ true
-    floating_is = ap (λ o. list_any is_floating (list_at o)) f.is
+    -- a `$f` is a floating hypothesis
+    pub float_is_floating : list_any is_floating (as_list (slice_get db k)) ≡ true
+    float_is_floating = ap (λ o. list_any is_floating (as_list o)) float.statement_is
 
-    typecode_below : index_of f.typecode.word (symbol_names db) < length (symbol_names db)
-    typecode_below =
-        subst (λ (xs : List ℕ). get_or xs 0 0 < length (symbol_names db)) formula_is
-        (sound.symbols_have_numbers k h 0 0
-        (subst (λ (xs : List ℕ). 0 < length xs) (sym formula_is) (omega arith)))
+    typecode_lt_symbol_count : index_of float.typecode.word (symbol_names db) < length
+        (symbol_names db)
+    typecode_lt_symbol_count =
+        subst (λ (xs : List ℕ). get_or xs 0 0 < length (symbol_names db))
+        formula_is_typecode_and_variable
+        (is_sound.symbols_have_numbers k k_lt_length 0 0
+        (subst (λ (xs : List ℕ). 0 < length xs) (sym formula_is_typecode_and_variable)
+        (omega arith)))
 
-    pub variable_below : v < length (symbol_names db)
-    variable_below =
-        subst (λ (xs : List ℕ). get_or xs 1 0 < length (symbol_names db)) formula_is
-        (sound.symbols_have_numbers k h 1 0
-        (subst (λ (xs : List ℕ). 1 < length xs) (sym formula_is) (omega arith)))
+    -- the variable of a `$f` is one of the symbols
+    pub variable_lt_symbol_count : v < length (symbol_names db)
+    variable_lt_symbol_count =
+        subst (λ (xs : List ℕ). get_or xs 1 0 < length (symbol_names db))
+        formula_is_typecode_and_variable
+        (is_sound.symbols_have_numbers k k_lt_length 1 0
+        (subst (λ (xs : List ℕ). 1 < length xs) (sym formula_is_typecode_and_variable)
+        (omega arith)))
 
     -- the typecode of the `$f` is no variable
-    pub typecode_constant : is_variable_number db (index_of f.typecode.word (symbol_names db))
+    pub typecode_is_no_variable : is_variable_number db
+        (index_of float.typecode.word (symbol_names db))
         ≡ false
-    typecode_constant =
+    typecode_is_no_variable =
         ap (λ o. elim o [ None ↦ false | Some w ↦ is_in w (flat_map variables_of db) ])
-        (index_get f.typecode.word (symbol_names db) typecode_below)
-        ∙ sound.no_constant_is_variable f.typecode.word
-        (sym (ap (λ xs. is_in f.typecode.word (flat_map constants_of xs))
+        (word_at_index_of float.typecode.word (symbol_names db) typecode_lt_symbol_count)
+        ∙ is_sound.no_constant_is_variable float.typecode.word
+        (sym (ap (λ xs. is_in float.typecode.word (flat_map constants_of xs))
         (take-append-drop k db))
-        ∙ ap (is_in f.typecode.word) (flat_map-append constants_of (take k db) (drop k db))
-        ∙ list_any-append (bytes_eq f.typecode.word) (flat_map constants_of (take k db))
+        ∙ ap (is_in float.typecode.word) (flat_map-append constants_of (take k db) (drop k db))
+        ∙ list_any-append (bytes_eq float.typecode.word) (flat_map constants_of (take k db))
         (flat_map constants_of (drop k db))
-        ∙ ap (λ b. b || is_in f.typecode.word (flat_map constants_of (drop k db))) f.constant)
+        ∙ ap (λ b. b || is_in float.typecode.word (flat_map constants_of (drop k db)))
+        float.typecode_is_declared)
 
-    pub float_active : (l : ℕ) → k < l → is_active db k l ≡ is_block_open db k l
-    float_active l m =
-        ap₂ (λ t o. t && is_some_still_active o (is_block_open db k l)) (lt-ltb k l m) f.is
+    -- a `$f` is active exactly while its block is open
+    pub float_active_is_block_open : (l : ℕ) → k < l → is_active db k l ≡ is_block_open db k l
+    float_active_is_block_open l k_lt_l =
+        ap₂ (λ t o. t && is_some_still_active o (is_block_open db k l))
+        (lt-ltb k l k_lt_l) float.statement_is
 
   -- a variable has one active `$f`
-  pub typed_once : (j k v : ℕ) → j < k → k < length db → IsFloat db j v → IsFloat db k v
+  pub not_typed_twice : (j k v : ℕ) → j < k → k < length db → IsFloat db j v → IsFloat db k v
       → is_block_open db j k ≡ true → ⊥
-  typed_once j k v j_lt_k k_lt_length_db is_float g e =
-      let i : j < length db = omega arith in
-      let bj = subst (λ n. n < length (symbol_names db)) (sym is_float.number)
-      (variable_below j v i is_float) in
-      let bk = subst (λ n. n < length (symbol_names db)) (sym g.number)
-      (variable_below k v k_lt_length_db g) in
-      let same =
+  not_typed_twice j k v j_lt_k k_lt_length_db j_is_float k_is_float j_is_open =
+      let j_lt_length : j < length db = omega arith in
+      let j_index_lt_count = subst (λ n. n < length (symbol_names db)) (sym j_is_float.number_is_v)
+      (variable_lt_symbol_count j v j_lt_length j_is_float) in
+      let k_index_lt_count = subst (λ n. n < length (symbol_names db)) (sym k_is_float.number_is_v)
+      (variable_lt_symbol_count k v k_lt_length_db k_is_float) in
+      let variables_equal =
       same_Some _ _
-      (sym (index_get is_float.variable.word (symbol_names db) bj)
-      ∙ ap (slice_get (symbol_names db)) (is_float.number ∙ sym g.number)
-      ∙ index_get g.variable.word (symbol_names db) bk) in
-      let w = g.variable.word in
-      let there =
-      ap (λ o. is_in w (flat_map typed_words (list_at o))) is_float.is
-      ∙ ap (λ b. b || false) ((bytes_eq-Decides w is_float.variable.word).1 (sym same)) in
+      (sym (word_at_index_of j_is_float.variable.word (symbol_names db) j_index_lt_count)
+      ∙ ap (slice_get (symbol_names db)) (j_is_float.number_is_v ∙ sym k_is_float.number_is_v)
+      ∙ word_at_index_of k_is_float.variable.word (symbol_names db) k_index_lt_count) in
+      let w = k_is_float.variable.word in
+      let j_types_w =
+      ap (λ o. is_in w (flat_map typed_words (as_list o))) j_is_float.statement_is
+      ∙ ap (λ b. b || false)
+      ((bytes_eq-Decides w j_is_float.variable.word).1 (sym variables_equal)) in
       true≢false
-      (sym (range_any (λ i. is_active db i k && has_word db typed_words w i) k 0 j (omega arith)
-      (omega arith) (ap₂ (λ a b. a && b) (float_active j v i is_float k j_lt_k ∙ e) there))
-      ∙ sym (among_active db typed_words w (λ i. is_active db i k) k 0)
-      ∙ sym (typed_in w (active_statements db k)) ∙ g.untyped)
+      (sym (range_any (λ j_lt_length. is_active db j_lt_length k && has_word db typed_words w
+      j_lt_length) k 0 j (omega arith)
+      (omega arith) (ap₂ (λ a b. a && b)
+      (float_active_is_block_open j v j_lt_length j_is_float k j_lt_k
+      ∙ j_is_open) j_types_w))
+      ∙ sym (among_active db typed_words w (λ j_lt_length. is_active db j_lt_length k) k 0)
+      ∙ sym (typed_in w (active_statements db k)) ∙ k_is_float.variable_is_untyped)

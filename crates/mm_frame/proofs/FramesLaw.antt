@@ -15,93 +15,124 @@ use Rattle.mm_outline.specs.Blocks.{never}
 use Rattle.mm_database.specs.Frames.{Mandatory, mandatory_at, frame_or_none, frames_before}
 use Rattle.mm_database.specs.ParsedStatements.{IsSound, typed_variable_at}
 use Rattle.mm_frame.specs.Hypotheses.{AreLastFloats}
-use Rattle.mm_frame.proofs.NestedLaw.{stays_earlier}
-use Rattle.mm_frame.proofs.FloatLaw.{typed_float, typed_once, variable_below}
+use Rattle.mm_frame.proofs.NestedLaw.{open_at_earlier}
+use Rattle.mm_frame.proofs.FloatLaw.{typed_is_float, not_typed_twice, variable_lt_symbol_count}
 
 -- ---- the types of variables
 
-pub typed_start : (db : List Statement) (ts : List ℕ) (n : ℕ) → n ≡ length (symbol_names db)
+-- before the first statement no variable has a `$f`
+pub last_floats_at_start : (db : List Statement) (ts : List ℕ) (n : ℕ)
+    → n ≡ length (symbol_names db)
     → length ts ≡ n → ((i : ℕ) → i < n → get_or ts i 0 ≡ never) → AreLastFloats db 0 ts
-typed_start db ts n c m all = record {
-  count = m ∙ c;
-  some = λ v h ne. absurd (ne (all v (omega (arith, c, h))));
-  alone = λ j v h. absurd (omega arith);
+last_floats_at_start db ts n n_is_symbol_count length_is_n all_are_never = record {
+  count = length_is_n ∙ n_is_symbol_count;
+  last_is_typed = λ v v_lt_count last_ne_never. absurd
+      (last_ne_never (all_are_never v (omega (arith, n_is_symbol_count, v_lt_count))));
+  open_is_last = λ j v v_lt_count. absurd (omega arith);
 }
 
-pub typed_none : (db : List Statement) (k : ℕ) (ts : List ℕ) → AreLastFloats db k ts
+-- a statement that is no `$f` leaves the last `$f` of each variable
+pub last_floats_without_float : (db : List Statement) (k : ℕ) (ts : List ℕ) → AreLastFloats db k ts
     → typed_variable_at db k ≡ None → AreLastFloats db (k + 1) ts
-typed_none db k ts t e = record {
-  count = t.count;
-  some = λ v h ne. let s = t.some v h ne in ((let a = s.0 in omega (arith, a)), s.1);
-  alone = λ j v h l is on. by_order j v h l is on (cases_lt j k);
+last_floats_without_float db k ts last_floats k_has_no_float = record {
+  count = last_floats.count;
+  last_is_typed = λ v v_lt_count last_ne_never. let last_is_typed_before =
+      last_floats.last_is_typed v v_lt_count last_ne_never in (
+        (let last_lt_k = last_is_typed_before.0 in
+            omega (arith, last_lt_k)),
+        last_is_typed_before.1,
+      );
+  open_is_last = λ j v v_lt_count v_has_number j_types_v j_is_open. by_order j v v_lt_count
+      v_has_number j_types_v
+      j_is_open (cases_lt j k);
 }
   where
     by_order : (j v : ℕ) → j < k + 1 → v < length (symbol_names db) → typed_variable_at db j
         ≡ Some v
         → is_block_open db j (k + 1) ≡ true → (j < k) ⊎ (k ≤ j) → get_or ts v 0 ≡ j
-    by_order j v h l is on (inl m) =
-        t.alone j v m l is (stays_earlier db j k (k + 1) (omega arith) (omega arith) on)
-    by_order j v h l is on (inr m) =
-        absurd (let j_is_k : j ≡ k = omega arith in let z = sym is
+    by_order j v v_lt_count j_types_v_at j_types_v j_is_open (inl k_order) =
+        last_floats.open_is_last j v k_order j_types_v_at j_types_v
+        (open_at_earlier db j k (k + 1) (omega arith) (omega arith) j_is_open)
+    by_order j v v_lt_count j_types_v_at j_types_v j_is_open (inr k_order) =
+        absurd (let j_is_k : j ≡ k = omega arith in let none_is_some = sym j_types_v
         ∙ ap (typed_variable_at db) j_is_k
-        ∙ e in cc)
+        ∙ k_has_no_float in cc)
 
-pub typed_some : (db : List Statement) → IsSound db → (k v : ℕ) (ts : List ℕ) → k < length db
+-- a `$f` becomes the last of its variable
+pub last_floats_with_float : (db : List Statement) → IsSound db → (k v : ℕ) (ts : List ℕ)
+    → k < length db
     → AreLastFloats db k ts → typed_variable_at db k ≡ Some v
     → AreLastFloats db (k + 1) (set ts v k)
-typed_some db sound k v ts few t e = record {
-  count = length-set ts v k ∙ t.count;
-  some = λ u h ne. by_equality u h ne (cases_eq u v);
-  alone = λ j u h l is on. alone j u h l is on (cases_lt j k) (cases_eq u v);
+last_floats_with_float db sound k v ts k_lt_length last_floats k_types_v = record {
+  count = length-set ts v k ∙ last_floats.count;
+  last_is_typed = λ u u_lt_count last_is_some. by_equality u u_lt_count last_is_some (cases_eq u v);
+  open_is_last = λ j u u_lt_count j_lt_next j_types_u j_is_open. open_is_last_float j u u_lt_count
+      j_lt_next j_types_u j_is_open (cases_lt j k) (cases_eq u v);
 }
   where
-    below : v < length ts
-    below =
-        let c = t.count in
-        let b = variable_below db sound k v few (typed_float db sound k v few e) in
-        omega (arith, b, c)
+    v_lt_length : v < length ts
+    v_lt_length =
+        let last_floats_count = last_floats.count in
+        let v_lt_symbol_count = variable_lt_symbol_count db sound k v k_lt_length
+        (typed_is_float db sound k v k_lt_length k_types_v) in
+        omega (arith, v_lt_symbol_count, last_floats_count)
 
     float_is_set : get_or (set ts v k) v 0 ≡ k
-    float_is_set = get_or-set_same ts v k 0 below
+    float_is_set = get_or-set_same ts v k 0 v_lt_length
 
     by_equality : (u : ℕ) → u < length (symbol_names db) → get_or (set ts v k) u 0 ≢ never
         → (u ≡ v) ⊎ (u ≢ v)
         → (get_or (set ts v k) u 0 < k + 1) × (typed_variable_at db (get_or (set ts v k) u 0)
         ≡ Some u)
-    by_equality u h ne (inl s) =
-        let is = ap (λ i. get_or (set ts v k) i 0) s ∙ float_is_set in
-        ((omega (arith, is)), ap (typed_variable_at db) is ∙ e ∙ ap Some (sym s))
-    by_equality u h ne (inr n) =
-        let is = get_or-set_other ts v u k 0 n in
-        let o = t.some u h (λ z. ne (is ∙ z)) in
-        ((let a = o.0 in omega (arith, a, is)), ap (typed_variable_at db) is ∙ o.1)
+    by_equality u u_lt_count last_ne_never (inl u_is_v) =
+        let last_is = ap (λ i. get_or (set ts v k) i 0) u_is_v ∙ float_is_set in (
+          (omega (arith, last_is)),
+          ap (typed_variable_at db) last_is ∙ k_types_v
+              ∙ ap Some (sym u_is_v),
+        )
+    by_equality u u_lt_count last_ne_never (inr u_ne_v) =
+        let last_is = get_or-set_other ts v u k 0 u_ne_v in
+        let last_is_typed_before =
+        last_floats.last_is_typed u u_lt_count (λ last_is_never. last_ne_never (last_is
+        ∙ last_is_never)) in (
+          (let last_lt_k = last_is_typed_before.0 in
+              omega (arith, last_lt_k, last_is)),
+          ap (typed_variable_at db) last_is
+              ∙ last_is_typed_before.1,
+        )
 
-    alone : (j u : ℕ) → j < k + 1 → u < length (symbol_names db) → typed_variable_at db j ≡ Some u
+    open_is_last_float : (j u : ℕ) → j < k + 1 → u < length (symbol_names db)
+        → typed_variable_at db j ≡ Some u
         → is_block_open db j (k + 1) ≡ true → (j < k) ⊎ (k ≤ j) → (u ≡ v) ⊎ (u ≢ v)
         → get_or (set ts v k) u 0 ≡ j
-    alone j u j_lt_next_k l is on (inl m) (inl s) =
-        absurd (typed_once db sound j k v m few
-        (typed_float db sound j v (omega arith) (is ∙ ap Some s)) (typed_float db sound k v few e)
-        (stays_earlier db j k (k + 1) (omega arith) (omega arith) on))
-    alone j u j_lt_next_k l is on (inl m) (inr n) =
-        get_or-set_other ts v u k 0 n
-        ∙ t.alone j u m l is (stays_earlier db j k (k + 1) (omega arith) (omega arith) on)
-    alone j u j_lt_next_k l is on (inr m) q =
+    open_is_last_float j u j_lt_next_k u_lt_count j_types_u j_is_open (inl k_order) (inl u_is_v) =
+        absurd (not_typed_twice db sound j k v k_order k_lt_length
+        (typed_is_float db sound j v (omega arith) (j_types_u ∙ ap Some u_is_v))
+        (typed_is_float db sound k v k_lt_length k_types_v)
+        (open_at_earlier db j k (k + 1) (omega arith) (omega arith) j_is_open))
+    open_is_last_float j u j_lt_next_k u_lt_count j_types_u j_is_open (inl k_order) (inr u_ne_v) =
+        get_or-set_other ts v u k 0 u_ne_v
+        ∙ last_floats.open_is_last j u k_order u_lt_count j_types_u
+        (open_at_earlier db j k (k + 1) (omega arith) (omega arith) j_is_open)
+    open_is_last_float j u j_lt_next_k u_lt_count j_types_u j_is_open (inr k_order) u_order =
         let k_is_j : k ≡ j = omega arith in
-        let s = same_Some _ _ (sym is ∙ sym (ap (typed_variable_at db) k_is_j) ∙ e) in
-        ap (λ i. get_or (set ts v k) i 0) s ∙ float_is_set ∙ k_is_j
+        let u_is_v = same_Some _ _ (sym j_types_u ∙ sym (ap (typed_variable_at db) k_is_j)
+        ∙ k_types_v) in
+        ap (λ i. get_or (set ts v k) i 0) u_is_v ∙ float_is_set ∙ k_is_j
 
 -- ---- the frames
 
 -- a statement more, with its frame if it is an assertion
-pub frames_more : (db : List Statement) (k : ℕ) (old new : List (Option Mandatory))
+pub frames_with_statement : (db : List Statement) (k : ℕ) (old new : List (Option Mandatory))
     (x : Option Mandatory) → old ≡ frames_before db k → new ≡ old ++ x ∷ [] → x ≡ frame_or_none db k
     → new ≡ frames_before db (k + 1)
-frames_more db k old new x before now is =
-    now ∙ ap₂ (λ fs f. fs ++ f ∷ []) before is
+frames_with_statement db k old new x old_are_frames new_are_pushed x_is_frame =
+    new_are_pushed ∙ ap₂ (λ fs f. fs ++ f ∷ []) old_are_frames x_is_frame
     ∙ sym (map-range_with_len_more (frame_or_none db) 0 k k (omega arith))
 
-pub own_frame : (db : List Statement) (k : ℕ) (b : Bool)
+-- an assertion has its frame, and another statement none
+pub frame_is_frame_or_none : (db : List Statement) (k : ℕ) (b : Bool)
     → list_any is_assertion (statement_at db k) ≡ b
     → (if b then Some (mandatory_at db k) else None) ≡ frame_or_none db k
-own_frame db k b is = sym (ap (λ b. if b then Some (mandatory_at db k) else None) is)
+frame_is_frame_or_none db k b is_assertion_is_b =
+    sym (ap (λ b. if b then Some (mandatory_at db k) else None) is_assertion_is_b)

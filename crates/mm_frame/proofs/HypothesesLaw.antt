@@ -25,33 +25,40 @@ use Rattle.mm_database.specs.ParsedStatements.{IsSound, typed_variable_at}
 use Rattle.mm_frame.specs.Hypotheses.{AreLastFloats, is_float_of}
 use Rattle.mm_spec.specs.Rising.{IsRisingFrom}
 use Rattle.mm_spec.proofs.RisingLaw.{filter_is}
-use Rattle.mm_frame.proofs.FloatLaw.{typed_float, floating_typed, formula_is, floating_is}
-use Rattle.mm_frame.proofs.FloatLaw.{typecode_constant, variable_below, float_active}
+use Rattle.mm_frame.proofs.FloatLaw.{typed_is_float, floating_is_typed}
+use Rattle.mm_frame.proofs.FloatLaw.{formula_is_typecode_and_variable, float_is_floating}
+use Rattle.mm_frame.proofs.FloatLaw.{typecode_is_no_variable, variable_lt_symbol_count}
+use Rattle.mm_frame.proofs.FloatLaw.{float_active_is_block_open}
 use Rattle.mm_spec.proofs.MemberLaw.{member_filter, member_range, active_member, essential_local}
 
 -- a list that is strictly rising, by its neighbours
-pub rising_is : (xs : List ℕ) (a : ℕ) → IsStrictlyIncreasing xs
+pub rising_from_increasing : (xs : List ℕ) (a : ℕ) → IsStrictlyIncreasing xs
     → (0 < length xs → a ≤ get_or xs 0 0) → IsRisingFrom a xs
-rising_is [] a inc h = tt
-rising_is (y ∷ ys) a inc h = (
-  h (omega arith),
-  rising_is ys (y + 1) (λ k l. tail_increases k (inc (k + 1) (omega arith)))
-      (λ l. second_is_greater (inc 0 (omega arith))),
+rising_from_increasing [] a increasing a_le_first = tt
+rising_from_increasing (y ∷ ys) a increasing a_le_first = (
+  a_le_first (omega arith),
+  rising_from_increasing ys (y + 1)
+      (λ k positive. tail_increases k (increasing (k + 1) (omega arith)))
+      (λ positive. second_is_greater (increasing 0 (omega arith))),
 )
   where
     second_is_greater : get_or (y ∷ ys) 0 0 < get_or (y ∷ ys) (0 + 1) 0 → y + 1 ≤ get_or ys 0 0
-    second_is_greater s =
-        let e : 0 + 1 ≡ suc 0 = omega arith in let t = subst (λ i. y < get_or (y ∷ ys) i 0) e s in
-        omega (arith, t)
+    second_is_greater second_is_greater_than_y =
+        let zero_plus_one_is_suc : 0 + 1 ≡ suc 0 = omega arith in
+        let y_lt_second =
+        subst (λ i. y < get_or (y ∷ ys) i 0) zero_plus_one_is_suc second_is_greater_than_y in
+        omega (arith, y_lt_second)
 
     tail_increases : (k : ℕ) → get_or (y ∷ ys) (k + 1) 0 < get_or (y ∷ ys) (k + 1 + 1) 0
         → get_or ys k 0 < get_or ys (k + 1) 0
-    tail_increases k s =
+    tail_increases k second_is_greater_than_y =
         let one_more_than_k : k + 1 ≡ suc k = omega arith in
-        let f : k + 1 + 1 ≡ suc (k + 1) = omega arith in
-        subst (λ i. get_or ys k 0 < get_or (y ∷ ys) i 0) f
-        (subst (λ i. get_or (y ∷ ys) i 0 < get_or (y ∷ ys) (k + 1 + 1) 0) one_more_than_k s)
+        let one_more_than_next : k + 1 + 1 ≡ suc (k + 1) = omega arith in
+        subst (λ i. get_or ys k 0 < get_or (y ∷ ys) i 0) one_more_than_next
+        (subst (λ i. get_or (y ∷ ys) i 0 < get_or (y ∷ ys) (k + 1 + 1) 0) one_more_than_k
+        second_is_greater_than_y)
 
+-- two filters are one with both tests
 filter_filter : (p q : ℕ → Bool) (xs : List ℕ)
     → filter p (filter q xs) ≡ filter (λ j. q j && p j) xs
 filter_filter p q [] = refl
@@ -60,24 +67,25 @@ filter_filter p q (x ∷ xs) = by_first_test (q x) (filter_filter p q xs)
     by_first_test : (b : Bool) → filter p (filter q xs) ≡ filter (λ j. q j && p j) xs
         → filter p (cond b (x ∷ filter q xs) (filter q xs))
         ≡ cond (b && p x) (x ∷ filter (λ j. q j && p j) xs) (filter (λ j. q j && p j) xs)
-    by_first_test true r = by_second_test (p x)
+    by_first_test true filters_equal = by_second_test (p x)
       where
         by_second_test : (c : Bool)
             → ◌≡◌ {A = List ℕ} (cond c (x ∷ filter p (filter q xs)) (filter p (filter q xs)))
             (cond c (x ∷ filter (λ j. q j && p j) xs) (filter (λ j. q j && p j) xs))
-        by_second_test true = ap (λ ys. x ∷ ys) r
-        by_second_test false = r
-    by_first_test false r = r
+        by_second_test true = ap (λ ys. x ∷ ys) filters_equal
+        by_second_test false = filters_equal
+    by_first_test false filters_equal = filters_equal
 
 module _ (db : List Statement) (k : ℕ) where
   -- ---- variables
 
-  pub mandatory_is : (xs : List ℕ)
+  -- the variables that were found are the mandatory variables
+  pub found_are_mandatory_variables : (xs : List ℕ)
       → ((i : ℕ) → is_member xs i ≡ is_member (active_of is_essential db k) i) → (x : ℕ)
       → (is_variable_number db x
       && (is_member (formula_at db k) x || list_any (λ j. is_member (formula_at db j) x) xs))
       ≡ is_member (mandatory_variables db k) x
-  mandatory_is xs h x =
+  found_are_mandatory_variables xs essentials_are_active x =
       sym (member_filter (is_variable_number db)
       (formula_at db k ++ flat_map (formula_at db) (active_of is_essential db k)) x
       ∙ ap (λ b. is_variable_number db x && b)
@@ -86,54 +94,62 @@ module _ (db : List Statement) (k : ℕ) where
       ∙ ap (λ b. is_member (formula_at db k) x || b)
       (member_flat (formula_at db) (active_of is_essential db k) x
       ∙ sym (same_any (λ j. is_member (formula_at db j) x) xs
-      (active_of is_essential db k) h))))
+      (active_of is_essential db k) essentials_are_active))))
 
-  pub essential_before : (xs : List ℕ)
+  -- an active `$e` stands before the assertion
+  pub essential_lt_k : (xs : List ℕ)
       → ((i : ℕ) → is_member xs i ≡ is_member (active_of is_essential db k) i) → (i : ℕ)
       → i < length xs → get_or xs i 0 < k
-  essential_before xs h i l =
+  essential_lt_k xs essentials_are_active i i_lt_length =
       let j = get_or xs i 0 in
-      let e =
-      sym (active_member is_essential db essential_local k j) ∙ sym (h j) ∙ member_at xs i 0 l in
-      ltb-true j k (and_parts (nat_lt j k) (is_staying is_essential db j k) e).0
+      let j_is_active =
+      sym (active_member is_essential db essential_local k j) ∙ sym (essentials_are_active j)
+      ∙ member_at xs i 0 i_lt_length in
+      ltb-true j k (and_parts (nat_lt j k) (is_staying is_essential db j k) j_is_active).0
 
-  variable_named : (x : ℕ) → is_variable_number db x ≡ true → x < length (symbol_names db)
-  variable_named x x_is_variable = by_order (cases_lt x (length (symbol_names db)))
+  -- a variable is one of the symbols
+  variable_has_name : (x : ℕ) → is_variable_number db x ≡ true → x < length (symbol_names db)
+  variable_has_name x x_is_variable = by_order (cases_lt x (length (symbol_names db)))
     where
       by_order : (x < length (symbol_names db)) ⊎ (length (symbol_names db) ≤ x)
           → x < length (symbol_names db)
-      by_order (inl l) = l
-      by_order (inr l) =
+      by_order (inl x_order) = x_order
+      by_order (inr x_order) =
           absurd (true≢false
           (sym x_is_variable ∙ ap (λ o. elim o
           [ None ↦ false | Some w ↦ is_in w (flat_map variables_of db) ])
-          (slice_get_past (symbol_names db) x l)))
+          (slice_get_past (symbol_names db) x x_order)))
 
-  pub mandatory_named : (x : ℕ) → is_member (mandatory_variables db k) x ≡ true
+  -- a mandatory variable is one of the symbols
+  pub mandatory_has_name : (x : ℕ) → is_member (mandatory_variables db k) x ≡ true
       → x < length (symbol_names db)
-  mandatory_named x e =
-      variable_named x
+  mandatory_has_name x x_is_mandatory =
+      variable_has_name x
       (and_parts (is_variable_number db x)
       (is_member (formula_at db k ++ flat_map (formula_at db) (active_of is_essential db k)) x)
       (sym (member_filter (is_variable_number db)
       (formula_at db k ++ flat_map (formula_at db) (active_of is_essential db k)) x)
-      ∙ e)).0
+      ∙ x_is_mandatory)).0
 
-  pub variables_below : (xs : List ℕ)
+  -- all the variables are symbols
+  pub variables_have_names : (xs : List ℕ)
       → ((x : ℕ) → is_member xs x ≡ is_member (mandatory_variables db k) x)
       → All (λ s. s < length (symbol_names db)) xs
-  variables_below xs h i d l =
-      mandatory_named (get_or xs i d) (sym (h (get_or xs i d)) ∙ member_at xs i d l)
+  variables_have_names xs are_mandatory i d i_lt_length =
+      mandatory_has_name (get_or xs i d) (sym (are_mandatory (get_or xs i d))
+      ∙ member_at xs i d i_lt_length)
 
   -- ---- hypotheses
 
+  -- whether a statement is a `$e` or a `$f` of a mandatory variable
   abbrev wanted : ℕ → Bool
   wanted j =
       list_any is_essential (statement_at db j)
       || (list_any is_floating (statement_at db j)
       && list_any (is_member (mandatory_variables db k)) (formula_at db j))
 
-  module _ (sound : IsSound db) (h : k ≤ length db) (ts : List ℕ) (typed : AreLastFloats db k ts)
+  module _ (is_sound : IsSound db) (k_le_length : k ≤ length db) (ts : List ℕ)
+      (last_floats : AreLastFloats db k ts)
       (variables : List ℕ)
       (variables_are : (x : ℕ) → is_member variables x ≡ is_member (mandatory_variables db k) x)
     where
@@ -141,157 +157,178 @@ module _ (db : List Statement) (k : ℕ) where
       float_found : (j : ℕ) → j < k → list_any is_floating (statement_at db j) ≡ true
           → list_any (is_member (mandatory_variables db k)) (formula_at db j) ≡ true
           → is_active db j k ≡ true → list_any (is_float_of db k ts j) variables ≡ true
-      float_found j j_lt_k t m active_at_k =
+      float_found j j_lt_k j_is_floating j_has_mandatory active_at_k =
           let j_lt_length_db : j < length db = omega arith in
-          let f = floating_typed db sound j j_lt_length_db t in
-          let v = f.0 in
-          let x = f.2 in
-          let c = index_of x.typecode.word (symbol_names db) in
-          let both =
+          let floating = floating_is_typed db is_sound j j_lt_length_db j_is_floating in
+          let v = floating.0 in
+          let float = floating.2 in
+          let typecode = index_of float.typecode.word (symbol_names db) in
+          let typecode_or_variable =
           sym (ap (list_any (is_member (mandatory_variables db k)))
-          (formula_is db sound j v j_lt_length_db x))
-          ∙ m in
-          let no =
+          (formula_is_typecode_and_variable db is_sound j v j_lt_length_db float))
+          ∙ j_has_mandatory in
+          let typecode_is_not_mandatory =
           member_filter (is_variable_number db)
-          (formula_at db k ++ flat_map (formula_at db) (active_of is_essential db k)) c
+          (formula_at db k ++ flat_map (formula_at db) (active_of is_essential db k)) typecode
           ∙ ap (λ b. b
           && is_member (formula_at db k ++ flat_map (formula_at db) (active_of is_essential db k))
-          c)
-          (typecode_constant db sound j v j_lt_length_db x) in
-          let yes =
+          typecode)
+          (typecode_is_no_variable db is_sound j v j_lt_length_db float) in
+          let variable_is_mandatory =
           sym (or-false (is_member (mandatory_variables db k) v))
-          ∙ sym (ap (λ b. b || (is_member (mandatory_variables db k) v || false)) no) ∙ both in
-          let on = sym (float_active db sound j v j_lt_length_db x k j_lt_k) ∙ active_at_k in
-          let same = typed.alone j v j_lt_k (variable_below db sound j v j_lt_length_db x) f.1 on in
-          any_of (is_float_of db k ts j) variables v (variables_are v ∙ yes)
-          (ap₂ (λ p q. p && q) (eq-eqb j (get_or ts v 0) (sym same))
+          ∙ sym (ap (λ b. b || (is_member (mandatory_variables db k) v || false))
+          typecode_is_not_mandatory) ∙ typecode_or_variable in
+          let j_is_open = sym
+          (float_active_is_block_open db is_sound j v j_lt_length_db float k j_lt_k)
+          ∙ active_at_k in
+          let last_is_j = last_floats.open_is_last j v j_lt_k
+          (variable_lt_symbol_count db is_sound j v j_lt_length_db float)
+          floating.1 j_is_open in
+          any_of (is_float_of db k ts j) variables v (variables_are v ∙ variable_is_mandatory)
+          (ap₂ (λ p q. p && q) (eq-eqb j (get_or ts v 0) (sym last_is_j))
           (ap₂ (λ p q. not p && q)
           (ne_eqb (get_or ts v 0) never
-          (λ e. let few = sound.few in absurd (omega (arith, e, same, j_lt_length_db, few))))
-          (ap (λ i. is_block_open db i k) same
-          ∙ on)))
+          (λ last_is_never. let length_lt_2_31 = is_sound.few_statements in
+          absurd (omega (arith, last_is_never, last_is_j, j_lt_length_db, length_lt_2_31))))
+          (ap (λ i. is_block_open db i k) last_is_j
+          ∙ j_is_open)))
 
       -- what is found is an active `$f` of a mandatory variable
-      found_float : (j : ℕ) → list_any (is_float_of db k ts j) variables ≡ true
+      found_is_active_float : (j : ℕ) → list_any (is_float_of db k ts j) variables ≡ true
           → (is_active db j k ≡ true) × (list_any is_floating (statement_at db j) ≡ true)
           × (list_any (is_member (mandatory_variables db k)) (formula_at db j) ≡ true) × (j < k)
-      found_float j e =
-          let w = any_witness (is_float_of db k ts j) variables e in
-          let v = w.0 in
-          let t = get_or ts v 0 in
-          let same =
-          eqb-true j t (and_parts (nat_eq j t) (not (nat_eq t never) && is_block_open db t k) w.2).0
+      found_is_active_float j j_is_found =
+          let witness = any_witness (is_float_of db k ts j) variables j_is_found in
+          let v = witness.0 in
+          let last_float = get_or ts v 0 in
+          let j_is_t =
+          eqb-true j last_float
+          (and_parts (nat_eq j last_float)
+          (not (nat_eq last_float never) && is_block_open db last_float k)
+          witness.2).0
           in
-          let rest = (and_parts (nat_eq j t) (not (nat_eq t never) && is_block_open db t k) w.2).1
+          let t_is_open = (and_parts (nat_eq j last_float)
+          (not (nat_eq last_float never) && is_block_open db last_float k)
+          witness.2).1
           in
-          let m = sym (variables_are v) ∙ w.1 in
-          let s =
-          typed.some v (mandatory_named v m)
-          (λ z. true≢false
-          (sym (and_parts (not (nat_eq t never)) (is_block_open db t k) rest).0
-          ∙ ap not (eq-eqb t never z))) in
-          let l : j < k = subst (λ i. i < k) (sym same) s.0 in
+          let v_is_mandatory = sym (variables_are v) ∙ witness.1 in
+          let t_types_v =
+          last_floats.last_is_typed v (mandatory_has_name v v_is_mandatory)
+          (λ t_is_never. true≢false
+          (sym (and_parts (not (nat_eq last_float never))
+          (is_block_open db last_float k) t_is_open).0
+          ∙ ap not (eq-eqb last_float never t_is_never))) in
+          let j_lt_k : j < k = subst (λ i. i < k) (sym j_is_t) t_types_v.0 in
           let j_lt_length_db : j < length db = omega arith in
-          let at : typed_variable_at db j ≡ Some v = ap (typed_variable_at db) same ∙ s.1 in
-          let x = typed_float db sound j v j_lt_length_db at in
-          let c = index_of x.typecode.word (symbol_names db) in (
-            float_active db sound j v j_lt_length_db x k l ∙ ap (λ i. is_block_open db i k) same
-                ∙ (and_parts (not (nat_eq t never)) (is_block_open db t k) rest).1,
-            floating_is db sound j v j_lt_length_db x,
+          let j_types_v : typed_variable_at db j ≡ Some v =
+          ap (typed_variable_at db) j_is_t ∙ t_types_v.1 in
+          let float = typed_is_float db is_sound j v j_lt_length_db j_types_v in
+          let typecode = index_of float.typecode.word (symbol_names db) in (
+            float_active_is_block_open db is_sound j v j_lt_length_db float k j_lt_k
+                ∙ ap (λ i. is_block_open db i k) j_is_t
+                ∙ (and_parts (not (nat_eq last_float never))
+                (is_block_open db last_float k) t_is_open).1,
+            float_is_floating db is_sound j v j_lt_length_db float,
             ap (list_any (is_member (mandatory_variables db k)))
-                (formula_is db sound j v j_lt_length_db x)
-                ∙ ap (λ b. is_member (mandatory_variables db k) c || (b || false)) m
-                ∙ or-true (is_member (mandatory_variables db k) c),
-            l,
+                (formula_is_typecode_and_variable db is_sound j v j_lt_length_db float)
+                ∙ ap (λ b. is_member (mandatory_variables db k) typecode || (b || false))
+                v_is_mandatory
+                ∙ or-true (is_member (mandatory_variables db k) typecode),
+            j_lt_k,
           )
 
-      pub hypotheses_are : (es xs : List ℕ)
+      pub hypotheses_are_mandatory : (es xs : List ℕ)
           → ((j : ℕ) → is_member es j ≡ is_member (active_of is_essential db k) j)
           → IsStrictlyIncreasing xs
           → ((j : ℕ) → is_member xs j ≡ (is_member es j
           || list_any (is_float_of db k ts j) variables))
           → xs ≡ mandatory_hypotheses db k
-      hypotheses_are es xs essentials rising same =
+      hypotheses_are_mandatory es xs essentials_are_active xs_are_rising xs_members_are =
           sym (filter_filter wanted (λ j. is_active db j k) (range_with_len 0 k)
           ∙ filter_is (λ j. is_active db j k && wanted j) k 0 xs
-          (rising_is xs 0 rising (λ l. omega arith))
-          (λ j e. let l = (right_to_left j (sym (same j) ∙ e)).1 in omega (arith, l))
-          (λ j a b. both j (omega arith)))
+          (rising_from_increasing xs 0 xs_are_rising (λ j_lt_k. omega arith))
+          (λ j j_is_in_xs. let j_lt_k = (right_to_left j (sym (xs_members_are j) ∙ j_is_in_xs)).1 in
+          omega (arith, j_lt_k))
+          (λ j wanted_if_member b. wanted_is_member j (omega arith)))
         where
-          essential_is : (j : ℕ)
+          member_is_active_essential : (j : ℕ)
               → is_member es j
               ≡ (list_any is_essential (statement_at db j) && (is_active db j k && nat_lt j k))
-          essential_is j =
-              essentials j
+          member_is_active_essential j =
+              essentials_are_active j
               ∙ member_filter (λ j. list_any is_essential (statement_at db j)) (active db k) j
               ∙ ap (λ b. list_any is_essential (statement_at db j) && b)
               (member_filter (λ j. is_active db j k) (range_with_len 0 k) j
               ∙ ap (λ b. is_active db j k && b)
               (member_range k 0 j (omega arith)
-              ∙ (let z : 0 + k ≡ k = omega arith in ap (nat_lt j) z)))
+              ∙ (let zero_plus_k_is_k : 0 + k ≡ k = omega arith in ap (nat_lt j) zero_plus_k_is_k)))
 
           right_to_left : (j : ℕ) → (is_member es j || list_any (is_float_of db k ts j) variables)
               ≡ true
               → ((is_active db j k && wanted j) ≡ true) × (j < k)
-          right_to_left j e = by_membership (is_member es j) refl e
+          right_to_left j is_found = by_membership (is_member es j) refl is_found
             where
               by_membership : (b : Bool) → is_member es j ≡ b
                   → (b || list_any (is_float_of db k ts j) variables) ≡ true
                   → ((is_active db j k && wanted j) ≡ true) × (j < k)
-              by_membership true j_is_member e =
-                  let z = sym (essential_is j) ∙ j_is_member in
-                  let t =
+              by_membership true j_is_member is_found =
+                  let j_is_active_essential = sym (member_is_active_essential j) ∙ j_is_member in
+                  let j_is_essential =
                   (and_parts (list_any is_essential (statement_at db j))
-                  (is_active db j k && nat_lt j k) z).0 in
-                  let y =
+                  (is_active db j k && nat_lt j k) j_is_active_essential).0 in
+                  let j_is_active_before_k =
                   (and_parts (list_any is_essential (statement_at db j))
-                  (is_active db j k && nat_lt j k) z).1 in (
+                  (is_active db j k && nat_lt j k) j_is_active_essential).1 in (
                     ap₂ (λ a b. a
                         && (b ||
                         (list_any is_floating (statement_at db j)
                         && list_any (is_member (mandatory_variables db k)) (formula_at db j))))
-                        (and_parts (is_active db j k) (nat_lt j k) y).0 t,
-                    ltb-true j k (and_parts (is_active db j k) (nat_lt j k) y).1,
+                        (and_parts (is_active db j k) (nat_lt j k) j_is_active_before_k).0
+                        j_is_essential,
+                    ltb-true j k (and_parts (is_active db j k) (nat_lt j k) j_is_active_before_k).1,
                   )
-              by_membership false m e =
-                  let f = found_float j e in (
-                    ap₂ (λ a b. a && b) f.0
+              by_membership false not_member is_found =
+                  let active_float = found_is_active_float j is_found in (
+                    ap₂ (λ a b. a && b) active_float.0
                         (ap (λ b. list_any is_essential (statement_at db j) || b)
-                        (ap₂ (λ a b. a && b) f.1 f.2)
+                        (ap₂ (λ a b. a && b) active_float.1 active_float.2)
                         ∙ or-true (list_any is_essential (statement_at db j))),
-                    f.3,
+                    active_float.3,
                   )
 
           left_to_right : (j : ℕ) → j < k → (is_active db j k && wanted j) ≡ true
               → (is_member es j || list_any (is_float_of db k ts j) variables) ≡ true
-          left_to_right j j_lt_k e =
+          left_to_right j j_lt_k active_and_wanted =
               by_essential (list_any is_essential (statement_at db j)) refl
-              (and_parts (is_active db j k) (wanted j) e).1
+              (and_parts (is_active db j k) (wanted j) active_and_wanted).1
             where
-              a : is_active db j k ≡ true
-              a = (and_parts (is_active db j k) (wanted j) e).0
+              j_is_active : is_active db j k ≡ true
+              j_is_active = (and_parts (is_active db j k) (wanted j) active_and_wanted).0
 
               by_essential : (b : Bool) → list_any is_essential (statement_at db j) ≡ b
                   → (b || (list_any is_floating (statement_at db j)
                   && list_any (is_member (mandatory_variables db k)) (formula_at db j)))
                   ≡ true
                   → (is_member es j || list_any (is_float_of db k ts j) variables) ≡ true
-              by_essential true t e =
+              by_essential true j_is_essential active_and_wanted =
                   ap (λ b. b || list_any (is_float_of db k ts j) variables)
-                  (essential_is j ∙ ap₂ (λ p q. p && q) t
-                  (ap₂ (λ p q. p && q) a (lt-ltb j k j_lt_k)))
-              by_essential false t e =
+                  (member_is_active_essential j ∙ ap₂ (λ p q. p && q) j_is_essential
+                  (ap₂ (λ p q. p && q) j_is_active (lt-ltb j k j_lt_k)))
+              by_essential false j_is_essential active_and_wanted =
                   ap (λ b. is_member es j || b)
                   (float_found j j_lt_k
                   (and_parts (list_any is_floating (statement_at db j))
-                  (list_any (is_member (mandatory_variables db k)) (formula_at db j)) e).0
+                  (list_any (is_member (mandatory_variables db k)) (formula_at db j))
+                  active_and_wanted).0
                   (and_parts (list_any is_floating (statement_at db j))
-                  (list_any (is_member (mandatory_variables db k)) (formula_at db j)) e).1 a)
+                  (list_any (is_member (mandatory_variables db k)) (formula_at db j))
+                  active_and_wanted).1 j_is_active)
                   ∙ or-true (is_member es j)
 
-          both : (j : ℕ) → j < k → (is_active db j k && wanted j) ≡ is_member xs j
-          both j l =
+          wanted_is_member : (j : ℕ) → j < k → (is_active db j k && wanted j) ≡ is_member xs j
+          wanted_is_member j j_lt_k =
               same_tests (is_active db j k && wanted j)
-              (is_member es j || list_any (is_float_of db k ts j) variables) (left_to_right j l)
-              (λ e. (right_to_left j e).0)
-              ∙ sym (same j)
+              (is_member es j || list_any (is_float_of db k ts j) variables)
+              (left_to_right j j_lt_k)
+              (λ is_found. (right_to_left j is_found).0)
+              ∙ sym (xs_members_are j)

@@ -18,242 +18,300 @@ use Rattle.mm_spec.proofs.BoolLaw.{same_tests}
 use Rattle.mm_spec.proofs.MemberLaw.{member_push, IsLocalTest, active_member}
 use Rattle.mm_outline.specs.Blocks.{never}
 use Rattle.mm_frame.specs.Latest.{is_staying, IsCandidate, IsLatest}
-use Rattle.mm_frame.proofs.NestedLaw.{stays_earlier, stays_nested}
+use Rattle.mm_frame.proofs.NestedLaw.{open_at_earlier, open_at_nested}
 
 -- how far the search still has to go
 abbrev pub height : ℕ → ℕ
 height last = cond (nat_eq last never) 0 (last + 1)
 
 module _ (test : Statement → Bool) (db : List Statement) where
-  pub on_earlier : (i j k : ℕ) → i ≤ j → j ≤ k → is_staying test db i k ≡ true
+  -- what stays until `k` stays until an earlier statement
+  pub staying_at_earlier : (i j k : ℕ) → i ≤ j → j ≤ k → is_staying test db i k ≡ true
       → is_staying test db i j ≡ true
-  on_earlier i j k h l e =
-      ap₂ (λ a b. a && b) (and_parts (list_any test (statement_at db i)) (is_block_open db i k) e).0
-      (stays_earlier db i j k h l
-      (and_parts (list_any test (statement_at db i)) (is_block_open db i k) e).1)
+  staying_at_earlier i j k i_le_j j_le_k i_stays_at_k =
+      ap₂ (λ a b. a && b)
+      (and_parts (list_any test (statement_at db i)) (is_block_open db i k) i_stays_at_k).0
+      (open_at_earlier db i j k i_le_j j_le_k
+      (and_parts (list_any test (statement_at db i)) (is_block_open db i k) i_stays_at_k).1)
 
-  pub on_nested : (i j k : ℕ) → i < j → j ≤ k → is_staying test db j k ≡ true
+  -- while a statement stays, an earlier one stays exactly if it stayed before that one
+  pub staying_at_nested : (i j k : ℕ) → i < j → j ≤ k → is_staying test db j k ≡ true
       → is_staying test db i k ≡ is_staying test db i j
-  on_nested i j k h l e =
+  staying_at_nested i j k i_lt_j j_le_k j_stays_at_k =
       ap (λ b. list_any test (statement_at db i) && b)
-      (stays_nested db i j k h l
-      (and_parts (list_any test (statement_at db j)) (is_block_open db j k) e).1)
+      (open_at_nested db i j k i_lt_j j_le_k
+      (and_parts (list_any test (statement_at db j)) (is_block_open db j k) j_stays_at_k).1)
 
   -- a candidate that is not open gives way to the last one active at it
-  pub candidate_next : (k last next : ℕ) → IsCandidate test db k last → last ≢ never
+  pub candidate_at_latest : (k last next : ℕ) → IsCandidate test db k last → last ≢ never
       → is_block_open db last k ≡ false → IsLatest test db last next → IsCandidate test db k next
-  candidate_next k last next is_candidate ne out is_latest = record {
-    found =
-        λ n. let f = is_latest.found n in let g = is_candidate.found ne in (
-          (let a = f.0 in let b = g.0 in omega (arith, a, b)),
+  candidate_at_latest k last next is_candidate last_ne_never last_is_closed is_latest = record {
+    last_is_found =
+        λ next_ne_never. let next_is_found = is_latest.last_is_found next_ne_never in
+        let last_is_candidate = is_candidate.last_is_found last_ne_never in (
+          (let next_lt_last = next_is_found.0 in let last_lt_k = last_is_candidate.0 in
+              omega (arith, next_lt_last, last_lt_k)),
           (and_parts
-              (list_any test (statement_at db next)) (is_block_open db next last) f.1).0,
+              (list_any test (statement_at db next))
+              (is_block_open db next last) next_is_found.1).0,
         );
-    after = λ i h o. by_order i h o (cases_order i last);
+    later_are_not_staying =
+        λ i i_lt_k later_than_next. by_order i i_lt_k later_than_next (cases_order i last);
   }
     where
       by_order : (i : ℕ) → i < k → (next < i) ⊎ (next ≡ never) → (i ≡ last)
           ⊎ ((i < last) ⊎ (last < i))
           → is_staying test db i k ≡ false
-      by_order i i_lt_k o (inr (inl l)) =
+      by_order i i_lt_k later_than_next (inr (inl i_lt_last)) =
           false_from_ne_true (is_staying test db i k)
-          (λ t. true≢false
-          (sym (on_earlier i last k (omega arith)
-          (let g = (is_candidate.found ne).0 in omega (arith, g)) t)
-          ∙ is_latest.after i l o))
-      by_order i i_lt_k o (inl e) =
-          subst (λ i. is_staying test db i k ≡ false) (sym e)
+          (λ i_stays. true≢false
+          (sym (staying_at_earlier i last k (omega arith)
+          (let last_lt_i = (is_candidate.last_is_found last_ne_never).0 in
+          omega (arith, last_lt_i)) i_stays)
+          ∙ is_latest.later_are_not_staying i i_lt_last later_than_next))
+      by_order i i_lt_k later_than_next (inl i_is_last) =
+          subst (λ i. is_staying test db i k ≡ false) (sym i_is_last)
           (false_from_ne_true (is_staying test db last k)
-          (λ t. true≢false
-          (sym (and_parts (list_any test (statement_at db last)) (is_block_open db last k) t).1
-          ∙ out)))
-      by_order i i_lt_k o (inr (inr g)) = is_candidate.after i i_lt_k (inl g)
+          (λ i_stays. true≢false
+          (sym (and_parts (list_any test (statement_at db last))
+          (is_block_open db last k) i_stays).1
+          ∙ last_is_closed)))
+      by_order i i_lt_k later_than_next (inr (inr last_lt_i)) =
+          is_candidate.later_are_not_staying i i_lt_k (inl last_lt_i)
 
-  pub candidate_open : (k last : ℕ) → IsCandidate test db k last
+  -- a candidate that still stays is the latest
+  pub open_candidate_is_latest : (k last : ℕ) → IsCandidate test db k last
       → (last ≢ never → is_block_open db last k ≡ true) → IsLatest test db k last
-  candidate_open k last c o = record {
-    found = λ n. let f = c.found n in (f.0, ap₂ (λ a b. a && b) f.1 (o n));
-    after = c.after;
+  open_candidate_is_latest k last is_candidate last_is_open = record {
+    last_is_found = λ last_ne_never. let last_is_found_here =
+        is_candidate.last_is_found last_ne_never in (
+          last_is_found_here.0,
+          ap₂ (λ a b. a && b) last_is_found_here.1
+              (last_is_open last_ne_never),
+        );
+    later_are_not_staying = is_candidate.later_are_not_staying;
   }
 
   -- the statement itself, or the last one at it
-  pub candidate_self : (k : ℕ) → k < never → list_any test (statement_at db k) ≡ true
+  pub statement_is_candidate : (k : ℕ) → k < never → list_any test (statement_at db k) ≡ true
       → IsCandidate test db (k + 1) k
-  candidate_self k few e = record {
-    found = λ n. ((omega arith), e);
-    after = λ i h o. absurd (none_is_later i h o);
+  statement_is_candidate k k_lt_never k_is_of_kind = record {
+    last_is_found = λ k_ne_never. ((omega arith), k_is_of_kind);
+    later_are_not_staying =
+        λ i i_lt_next later_than_k. absurd (none_is_later i i_lt_next later_than_k);
   }
     where
       none_is_later : (i : ℕ) → i < k + 1 → (k < i) ⊎ (k ≡ never) → ⊥
-      none_is_later i h (inl l) = omega arith
-      none_is_later i h (inr l) = omega arith
+      none_is_later i i_lt_next (inl k_lt_i) = omega arith
+      none_is_later i i_lt_next (inr k_is_never) = omega arith
 
-  pub candidate_other : (k last : ℕ) → list_any test (statement_at db k) ≡ false
+  -- if a statement fails the test, the latest before it is a candidate after it
+  pub latest_is_candidate_after_other : (k last : ℕ) → list_any test (statement_at db k) ≡ false
       → IsLatest test db k last → IsCandidate test db (k + 1) last
-  candidate_other k last e is_latest = record {
-    found =
-        λ n. let f = is_latest.found n in (
-          (let l = f.0 in omega (arith, l)),
+  latest_is_candidate_after_other k last k_is_other is_latest = record {
+    last_is_found =
+        λ last_ne_never. let last_is_found_here = is_latest.last_is_found last_ne_never in (
+          (let last_lt_k = last_is_found_here.0 in omega (arith, last_lt_k)),
           (and_parts (list_any test (statement_at db last))
-              (is_block_open db last k) f.1).0,
+              (is_block_open db last k) last_is_found_here.1).0,
         );
-    after = λ i h o. by_order i h o (cases_lt i k);
+    later_are_not_staying =
+        λ i i_lt_next later_than_last. by_order i i_lt_next later_than_last (cases_lt i k);
   }
     where
       by_order : (i : ℕ) → i < k + 1 → (last < i) ⊎ (last ≡ never) → (i < k) ⊎ (k ≤ i)
           → is_staying test db i (k + 1) ≡ false
-      by_order i h o (inl l) =
+      by_order i i_lt_next later_than_last (inl last_lt_k) =
           false_from_ne_true (is_staying test db i (k + 1))
-          (λ t. true≢false
-          (sym (on_earlier i k (k + 1) (omega arith) (omega arith) t) ∙ is_latest.after i l o))
-      by_order i h o (inr g) =
+          (λ i_stays. true≢false
+          (sym (staying_at_earlier i k (k + 1) (omega arith) (omega arith) i_stays)
+          ∙ is_latest.later_are_not_staying i last_lt_k later_than_last))
+      by_order i i_lt_next later_than_last (inr k_le_i) =
           let i_is_k : i ≡ k = omega arith in
           ap (λ b. b && is_block_open db i (k + 1))
-          (ap (λ i. list_any test (statement_at db i)) i_is_k ∙ e)
+          (ap (λ i. list_any test (statement_at db i)) i_is_k ∙ k_is_other)
 
-  pub latest_start : (last : ℕ) → last ≡ never → IsLatest test db 0 last
-  latest_start last e = record { found = λ n. absurd (n e); after = λ i h o. absurd (omega arith) }
+  -- before the first statement there is no latest
+  pub no_latest_at_start : (last : ℕ) → last ≡ never → IsLatest test db 0 last
+  no_latest_at_start last last_is_never =
+      record {
+        last_is_found =
+            λ last_ne_never. absurd (last_ne_never last_is_never);
+        later_are_not_staying =
+            λ i i_lt_0 later_than_last. absurd (omega arith);
+      }
 
-  pub height_less : (k last next : ℕ) → last ≢ never → IsLatest test db last next
+  -- the next on the way is nearer to the start
+  pub next_height_lt_height : (k last next : ℕ) → last ≢ never → IsLatest test db last next
       → height next < height last
-  height_less k last next ne is_latest = by_presence (cases_eq next never)
+  next_height_lt_height k last next last_ne_never is_latest = by_presence (cases_eq next never)
     where
-      full : height last ≡ last + 1
-      full = ap (λ b. cond b 0 (last + 1)) (ne_eqb last never ne)
+      height_is_last_plus_1 : height last ≡ last + 1
+      height_is_last_plus_1 = ap (λ b. cond b 0 (last + 1)) (ne_eqb last never last_ne_never)
 
       by_presence : (next ≡ never) ⊎ (next ≢ never) → height next < height last
-      by_presence (inl e) =
-          let z : height next ≡ 0 = ap (λ b. cond b 0 (next + 1)) (eq-eqb next never e) in
-          omega (arith, z, full)
-      by_presence (inr n) =
-          let z : height next ≡ next + 1 = ap (λ b. cond b 0 (next + 1)) (ne_eqb next never n) in
-          let f = (is_latest.found n).0 in omega (arith, z, full, f)
+      by_presence (inl next_is_never) =
+          let height_of_next : height next ≡ 0 =
+          ap (λ b. cond b 0 (next + 1)) (eq-eqb next never next_is_never) in
+          omega (arith, height_of_next, height_is_last_plus_1)
+      by_presence (inr next_ne_never) =
+          let height_of_next : height next ≡ next + 1 =
+          ap (λ b. cond b 0 (next + 1)) (ne_eqb next never next_ne_never) in
+          let next_lt_last = (is_latest.last_is_found next_ne_never).0 in
+          omega (arith, height_of_next, height_is_last_plus_1, next_lt_last)
 
   -- ---- the walk
 
   -- the list has only ones that are active at k, and all of these that are after `last`
   pub record IsWalked (k : ℕ) (xs : List ℕ) (last : ℕ) : Type 0 where
-    pub found : last ≢ never → (last < k) × (is_staying test db last k ≡ true)
-    pub only : (i : ℕ) → is_member xs i ≡ true → (i < k) × (is_staying test db i k ≡ true)
-    pub all : (i : ℕ) → i < k → is_staying test db i k ≡ true
+    -- the latest, if there is one, stands before `k` and stays until `k`
+    pub last_is_found : last ≢ never → (last < k) × (is_staying test db last k ≡ true)
+    pub members_are_staying : (i : ℕ) → is_member xs i ≡ true
+        → (i < k) × (is_staying test db i k ≡ true)
+    pub staying_are_members : (i : ℕ) → i < k → is_staying test db i k ≡ true
         → (is_member xs i ≡ true) ⊎ ((last ≢ never) × (i ≤ last))
 
-  pub walked_start : (k last : ℕ) → IsLatest test db k last → IsWalked k [] last
-  walked_start k last x = record {
-    found = x.found;
-    only = λ i e. absurd (true≢false (sym e));
-    all = λ i h e. inr (by_presence i h e (cases_eq last never) (cases_lt last i));
+  -- the walk begins at the latest
+  pub walked_from_latest : (k last : ℕ) → IsLatest test db k last → IsWalked k [] last
+  walked_from_latest k last is_latest = record {
+    last_is_found = is_latest.last_is_found;
+    members_are_staying = λ i i_stays. absurd (true≢false (sym i_stays));
+    staying_are_members =
+        λ i i_lt_k i_stays. inr
+        (by_presence i i_lt_k i_stays (cases_eq last never) (cases_lt last i));
   }
     where
       by_presence : (i : ℕ) → i < k → is_staying test db i k ≡ true → (last ≡ never)
           ⊎ (last ≢ never)
           → (last < i) ⊎ (i ≤ last) → (last ≢ never) × (i ≤ last)
-      by_presence i h e (inl n) b = absurd (true≢false (sym e ∙ x.after i h (inr n)))
-      by_presence i h e (inr n) (inl l) = absurd (true≢false (sym e ∙ x.after i h (inl l)))
-      by_presence i h e (inr n) (inr l) = (n, l)
+      by_presence i i_lt_k i_stays (inl last_is_never) order =
+          absurd (true≢false (sym i_stays
+          ∙ is_latest.later_are_not_staying i i_lt_k (inr last_is_never)))
+      by_presence i i_lt_k i_stays (inr last_ne_never) (inl last_lt_i) =
+          absurd (true≢false (sym i_stays
+          ∙ is_latest.later_are_not_staying i i_lt_k (inl last_lt_i)))
+      by_presence i i_lt_k i_stays (inr last_ne_never) (inr i_le_last) =
+          (last_ne_never, i_le_last)
 
-  pub walked_next : (k : ℕ) (xs : List ℕ) (last next : ℕ) → k ≤ length db
+  -- the walk goes on with the next
+  pub walked_with_last : (k : ℕ) (xs : List ℕ) (last next : ℕ) → k ≤ length db
       → IsWalked k xs last → last ≢ never → IsLatest test db last next
       → IsWalked k (xs ++ last ∷ []) next
-  walked_next k xs last next few is_walked ne is_latest = record {
-    found =
-        λ n. let f = is_latest.found n in let l = last_is_staying.0 in (
-          (let a = f.0 in omega (arith, a, l)),
-          on_nested next last k f.0 (omega (arith, l)) last_is_staying.1
-              ∙ f.1,
+  walked_with_last k xs last next k_le_length is_walked last_ne_never is_latest = record {
+    last_is_found =
+        λ next_ne_never. let next_is_found = is_latest.last_is_found next_ne_never in
+        let last_lt_k = last_is_staying.0 in (
+          (let next_lt_last = next_is_found.0 in omega (arith, next_lt_last, last_lt_k)),
+          staying_at_nested next last k next_is_found.0 (omega (arith, last_lt_k)) last_is_staying.1
+              ∙ next_is_found.1,
         );
-    only = λ i e. only i e;
-    all = λ i h e. all i h e (is_walked.all i h e);
+    members_are_staying = λ i holds. member_is_staying i holds;
+    staying_are_members =
+        λ i i_lt_k holds. staying_is_member i i_lt_k holds
+        (is_walked.staying_are_members i i_lt_k holds);
   }
     where
       last_is_staying : (last < k) × (is_staying test db last k ≡ true)
-      last_is_staying = is_walked.found ne
+      last_is_staying = is_walked.last_is_found last_ne_never
 
-      only : (i : ℕ) → is_member (xs ++ last ∷ []) i ≡ true
+      member_is_staying : (i : ℕ) → is_member (xs ++ last ∷ []) i ≡ true
           → (i < k) × (is_staying test db i k ≡ true)
-      only i i_is_member = by_values (is_member xs i) (nat_eq i last) refl refl
+      member_is_staying i i_is_member = by_values (is_member xs i) (nat_eq i last) refl refl
           (sym (member_push xs last i) ∙ i_is_member)
         where
           by_values : (a b : Bool) → is_member xs i ≡ a → nat_eq i last ≡ b → (a || b) ≡ true
               → (i < k) × (is_staying test db i k ≡ true)
-          by_values true b p q t = is_walked.only i p
-          by_values false true p q t =
+          by_values true b in_xs is_last in_one = is_walked.members_are_staying i in_xs
+          by_values false true in_xs is_last in_one =
               subst (λ i. (i < k) × (is_staying test db i k ≡ true))
-              (sym (eqb-true i last q)) last_is_staying
-          by_values false false p q t = absurd (true≢false (sym t))
+              (sym (eqb-true i last is_last)) last_is_staying
+          by_values false false in_xs is_last in_one = absurd (true≢false (sym in_one))
 
-      all : (i : ℕ) → i < k → is_staying test db i k ≡ true
+      staying_is_member : (i : ℕ) → i < k → is_staying test db i k ≡ true
           → (is_member xs i ≡ true) ⊎ ((last ≢ never) × (i ≤ last))
           → (is_member (xs ++ last ∷ []) i ≡ true) ⊎ ((next ≢ never) × (i ≤ next))
-      all i i_lt_k staying_at_k (inl m) = inl (member_push xs last i
-          ∙ ap (λ b. b || nat_eq i last) m)
-      all i i_lt_k staying_at_k (inr (n, l)) = by_order (cases_lt i last)
+      staying_is_member i i_lt_k staying_at_k (inl in_xs) = inl (member_push xs last i
+          ∙ ap (λ b. b || nat_eq i last) in_xs)
+      staying_is_member i i_lt_k staying_at_k (inr (last_ne_never, i_le_last)) =
+          by_order (cases_lt i last)
         where
           by_presence : i < last → (next ≡ never) ⊎ (next ≢ never) → (next < i) ⊎ (i ≤ next)
               → (next ≢ never) × (i ≤ next)
-          by_presence i_lt_last (inl n) b =
+          by_presence i_lt_last (inl next_is_never) order =
               absurd (true≢false
-              (sym (on_earlier i last k (omega arith) (let l = last_is_staying.0 in omega (arith, l))
+              (sym (staying_at_earlier i last k (omega arith) (let last_lt_k = last_is_staying.0 in
+              omega (arith, last_lt_k))
               staying_at_k)
-              ∙ is_latest.after i i_lt_last (inr n)))
-          by_presence i_lt_last (inr n) (inl l) =
+              ∙ is_latest.later_are_not_staying i i_lt_last (inr next_is_never)))
+          by_presence i_lt_last (inr next_ne_never) (inl next_lt_i) =
               absurd (true≢false
-              (sym (on_earlier i last k (omega arith) (let l = last_is_staying.0 in omega (arith, l))
+              (sym (staying_at_earlier i last k (omega arith) (let last_lt_k = last_is_staying.0 in
+              omega (arith, last_lt_k))
               staying_at_k)
-              ∙ is_latest.after i i_lt_last (inl l)))
-          by_presence i_lt_last (inr n) (inr l) = (n, l)
+              ∙ is_latest.later_are_not_staying i i_lt_last (inl next_lt_i)))
+          by_presence i_lt_last (inr next_ne_never) (inr i_le_next) = (next_ne_never, i_le_next)
 
           by_order : (i < last) ⊎ (last ≤ i)
               → (is_member (xs ++ last ∷ []) i ≡ true) ⊎ ((next ≢ never) × (i ≤ next))
-          by_order (inl m) = inr (by_presence m (cases_eq next never) (cases_lt next i))
-          by_order (inr m) =
+          by_order (inl i_lt_last) =
+              inr (by_presence i_lt_last (cases_eq next never) (cases_lt next i))
+          by_order (inr last_le_i) =
               let i_is_last : i ≡ last = omega arith in
               inl (member_push xs last i ∙ ap (λ b. is_member xs i || b) (eq-eqb i last i_is_last)
               ∙ or-true (is_member xs i))
 
-  pub walked_end : IsLocalTest test → (k : ℕ) (xs : List ℕ) (last : ℕ) → IsWalked k xs last
+  -- the whole walk has the active statements that pass the test
+  pub walked_is_active : IsLocalTest test → (k : ℕ) (xs : List ℕ) (last : ℕ) → IsWalked k xs last
       → last ≡ never → (i : ℕ) → is_member xs i ≡ is_member (active_of test db k) i
-  walked_end local k xs last is_walked last_is_never i =
+  walked_is_active is_local k xs last is_walked last_is_never i =
       same_tests (is_member xs i) (nat_lt i k && is_staying test db i k)
-      (λ m. let f = is_walked.only i m in ap₂ (λ a b. a && b) (lt-ltb i k f.0) f.1)
-      (λ t. by_order t (cases_lt i k))
-      ∙ sym (active_member test db local k i)
+      (λ in_xs. let i_is_staying = is_walked.members_are_staying i in_xs in
+      ap₂ (λ a b. a && b) (lt-ltb i k i_is_staying.0) i_is_staying.1)
+      (λ i_is_active. by_order i_is_active (cases_lt i k))
+      ∙ sym (active_member test db is_local k i)
     where
       by_order : (nat_lt i k && is_staying test db i k) ≡ true → (i < k) ⊎ (k ≤ i) → is_member xs i
           ≡ true
-      by_order t (inr l) =
+      by_order i_is_active (inr i_order) =
           absurd (true≢false
-          (sym (and_parts (nat_lt i k) (is_staying test db i k) t).0 ∙ le-ltb i k l))
-      by_order t (inl l) = by_membership (is_walked.all i l
-          (and_parts (nat_lt i k) (is_staying test db i k) t).1)
+          (sym (and_parts (nat_lt i k) (is_staying test db i k) i_is_active).0
+          ∙ le-ltb i k i_order))
+      by_order i_is_active (inl i_order) = by_membership (is_walked.staying_are_members i i_order
+          (and_parts (nat_lt i k) (is_staying test db i k) i_is_active).1)
         where
           by_membership : (is_member xs i ≡ true) ⊎ ((last ≢ never) × (i ≤ last)) → is_member xs i
               ≡ true
-          by_membership (inl m) = m
-          by_membership (inr (n, l)) = absurd (n last_is_never)
+          by_membership (inl in_xs) = in_xs
+          by_membership (inr (last_ne_never, i_order)) = absurd (last_ne_never last_is_never)
 
 -- a list of the latest statements stays such with the one at the next place
-pub each_pushed : (test : Statement → Bool) (db : List Statement) (xs ys : List ℕ) (last k : ℕ)
+pub each_latest_with_next : (test : Statement → Bool) (db : List Statement) (xs ys : List ℕ)
+    (last k : ℕ)
     → length xs ≡ k + 1 → ys ≡ xs ++ last ∷ []
     → ((i : ℕ) → i ≤ k → IsLatest test db i (get_or xs i 0)) → IsLatest test db (k + 1) last
     → record {
       count : length ys ≡ k + 1 + 1;
-      each : (i : ℕ) → i ≤ k + 1 → IsLatest test db i (get_or ys i 0);
+      each_is_latest : (i : ℕ) → i ≤ k + 1 → IsLatest test db i (get_or ys i 0);
     }
-each_pushed test db xs ys last k length_xs_is_next_k e old new = record {
-  count = ap length e ∙ length-append xs (last ∷ []) ∙ ap (λ m. m + 1) length_xs_is_next_k;
-  each = λ i h. by_order i h (cases_lt i (k + 1));
-}
+each_latest_with_next test db xs ys last k length_xs_is_next_k ys_are_pushed latest_before
+    latest_at_next = record {
+      count = ap length ys_are_pushed ∙ length-append xs (last ∷ [])
+          ∙ ap (λ m. m + 1) length_xs_is_next_k;
+      each_is_latest = λ i i_lt_length. by_order i i_lt_length (cases_lt i (k + 1));
+    }
   where
     by_order : (i : ℕ) → i ≤ k + 1 → (i < k + 1) ⊎ (k + 1 ≤ i) → IsLatest test db i (get_or ys i 0)
-    by_order i i_le_next_k (inl l) =
+    by_order i i_le_next_k (inl i_order) =
         subst (IsLatest test db i)
-        (sym (ap (λ zs. get_or zs i 0) e
-        ∙ get_or_append_left xs (last ∷ []) 0 i (omega (arith, length_xs_is_next_k, l))))
-        (old i (omega arith))
-    by_order i i_le_next_k (inr l) =
-        let i_is_length_xs : i ≡ length xs = omega (arith, length_xs_is_next_k, i_le_next_k, l) in
-        let j : i ≡ k + 1 = omega arith in
+        (sym (ap (λ zs. get_or zs i 0) ys_are_pushed
+        ∙ get_or_append_left xs (last ∷ []) 0 i (omega (arith, length_xs_is_next_k, i_order))))
+        (latest_before i (omega arith))
+    by_order i i_le_next_k (inr i_order) =
+        let i_is_length_xs : i ≡ length xs =
+        omega (arith, length_xs_is_next_k, i_le_next_k, i_order) in
+        let i_is_next_k : i ≡ k + 1 = omega arith in
         subst (IsLatest test db i)
-        (sym (ap (λ zs. get_or zs i 0) e ∙ ap (λ q. get_or (xs ++ last ∷ []) q 0) i_is_length_xs
-        ∙ get_or-append_seam xs last [] 0)) (subst (λ q. IsLatest test db q last) (sym j) new)
+        (sym (ap (λ zs. get_or zs i 0) ys_are_pushed
+        ∙ ap (λ q. get_or (xs ++ last ∷ []) q 0) i_is_length_xs
+        ∙ get_or-append_seam xs last [] 0))
+        (subst (λ q. IsLatest test db q last) (sym i_is_next_k) latest_at_next)

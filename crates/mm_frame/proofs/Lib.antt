@@ -1,11 +1,13 @@
 -- Lists are identified by their members: an ascending list with the right members is the right list
--- (`filter_is` of `mm_spec`, `unique` in `PairsLaw.antt`). `candidate_open` and `walked_end`
--- (`LatestLaw.antt`) find the active `$e`, `mandatory_is` the variables, and `hypotheses_are`
--- (`HypothesesLaw.antt`) the hypotheses. `with_disjoint` and `pairs_more` (`ChainsLaw.antt`) give
--- the `$d` by variables, with `have_blocks` of `mm_database` `IsDisjointIndex`, and `pairs_are`
--- (`DisjointLaw.antt`) the pairs. (`SkipsLaw.antt`: the loops of `skips_of`; `LoopsLaw.antt`: one
--- more element in the loops that collect.) The loop of `frames_of` adds to the frames by
--- `frames_more` (`FramesLaw.antt`). So `frame_tables_of` has `AreFrameTables`.
+-- (`filter_is` of `mm_spec`, `sorted_with_same_members_equal` in `PairsLaw.antt`).
+-- `open_candidate_is_latest` and `walked_is_active` (`LatestLaw.antt`) find the active `$e`,
+-- `found_are_mandatory_variables` the variables, and `hypotheses_are_mandatory`
+-- (`HypothesesLaw.antt`) the hypotheses. `has_symbol_with_disjoint` and `pairs_with_symbol`
+-- (`ChainsLaw.antt`) give the `$d` by variables, with `have_blocks` of `mm_database`
+-- `IsDisjointIndex`, and `pairs_are_mandatory_pairs` (`DisjointLaw.antt`) the pairs.
+-- (`SkipsLaw.antt`: the loops of `skips_of`; `LoopsLaw.antt`: one more element in the loops that
+-- collect.) The loop of `frames_of` adds to the frames by `frames_with_statement`
+-- (`FramesLaw.antt`). So `frame_tables_of` has `AreFrameTables`.
 pub mod DisjointLaw
 pub mod FloatLaw
 pub mod FramesLaw

@@ -7,9 +7,10 @@ use Rattle.std.proofs.Math.Bool.{or-false}
 use Rattle.std.specs.List.{list_any}
 use Rattle.mm_spec.specs.Derivation.{is_member}
 use Rattle.mm_database.specs.Pairs.{has_pair}
-use Rattle.mm_frame.proofs.DisjointLaw.{one_more}
+use Rattle.mm_frame.proofs.DisjointLaw.{or_with_next_symbol}
 use Rattle.mm_frame.proofs.StampsLaw.{listed_row}
 
+-- disjunctions may be regrouped
 or_assoc : (a b c : Bool) → ((a || b) || c) ≡ (a || (b || c))
 or_assoc true b c = refl
 or_assoc false b c = refl
@@ -19,77 +20,84 @@ pub none_so_far : (o : Bool) → o ≡ (o || false)
 none_so_far o = sym (or-false o)
 
 -- the next element makes the test true, or not
-pub any_next : {X : Type 0} (t : X → Bool) (xs : List X) (i : ℕ) (d : X) (o b n : Bool)
+pub any_with_next_element : {X : Type 0} (t : X → Bool) (xs : List X) (i : ℕ) (d : X) (o b n : Bool)
     → i < length xs → b ≡ (o || list_any t (take i xs)) → n ≡ (b || t (get_or xs i d))
     → n ≡ (o || list_any t (take (i + 1) xs))
-any_next t xs i d o b n h e m =
-    m ∙ ap (λ z. z || t (get_or xs i d)) e
+any_with_next_element t xs i d o b n i_lt_length b_is_so_far n_is_b_or_next =
+    n_is_b_or_next ∙ ap (λ z. z || t (get_or xs i d)) b_is_so_far
     ∙ or_assoc o (list_any t (take i xs)) (t (get_or xs i d))
-    ∙ ap (λ z. o || z) (sym (list_any_more t xs i d h))
+    ∙ ap (λ z. o || z) (sym (list_any_more t xs i d i_lt_length))
 
 -- the pairs of the next symbol
-pub active_next : (xs : List ℕ) (ps : List (ℕ × ℕ)) (i s j y : ℕ) (o b n l : Bool)
+pub active_with_next_symbol : (xs : List ℕ) (ps : List (ℕ × ℕ)) (i s j y : ℕ) (o b n l : Bool)
     → i < length xs → s ≡ get_or xs i s
     → b ≡ (o || (is_member (take i xs) y && (has_pair ps y j && l)))
     → n ≡ (b || (nat_eq y s && (has_pair ps s j && l)))
     → n ≡ (o || (is_member (take (i + 1) xs) y && (has_pair ps y j && l)))
-active_next xs ps i s j y o b n l i_lt_length_xs e a m =
-    m ∙ ap (λ z. z || (nat_eq y s && (has_pair ps s j && l))) a
-    ∙ one_more o (is_member (take i xs) y) (has_pair ps s j) (has_pair ps y j) l y s
-    (λ q. ap (λ z. has_pair ps z j) (sym q))
+active_with_next_symbol xs ps i s j y o b n l i_lt_length_xs s_is_element b_is_so_far n_is_b_or_next
+    =
+    n_is_b_or_next ∙ ap (λ z. z || (nat_eq y s && (has_pair ps s j && l))) b_is_so_far
+    ∙ or_with_next_symbol o (is_member (take i xs) y) (has_pair ps s j) (has_pair ps y j) l y s
+    (λ y_is_s. ap (λ z. has_pair ps z j) (sym y_is_s))
     ∙ ap (λ z. o || (z && (has_pair ps y j && l)))
     (sym (list_any_more (nat_eq y) xs i s i_lt_length_xs
-    ∙ ap (λ z. is_member (take i xs) y || nat_eq y z) (sym e)))
+    ∙ ap (λ z. is_member (take i xs) y || nat_eq y z) (sym s_is_element)))
 
 -- the next symbol is noted if it is a variable
-pub listed_next : (xs : List ℕ) (i s x : ℕ) (o b n v : Bool)
+pub listed_with_next_symbol : (xs : List ℕ) (i s x : ℕ) (o b n v : Bool)
     → i < length xs → s ≡ get_or xs i s
     → b ≡ (o || (v && is_member (take i xs) x)) → n ≡ (b || (v && nat_eq x s))
     → n ≡ (o || (v && is_member (take (i + 1) xs) x))
-listed_next xs i s x o b n v i_lt_length_xs e a m =
-    m ∙ ap (λ z. z || (v && nat_eq x s)) a
+listed_with_next_symbol xs i s x o b n v i_lt_length_xs s_is_element b_is_so_far n_is_b_or_next =
+    n_is_b_or_next ∙ ap (λ z. z || (v && nat_eq x s)) b_is_so_far
     ∙ listed_row o v (is_member (take i xs) x) (nat_eq x s)
     ∙ ap (λ z. o || (v && z))
     (sym (list_any_more (nat_eq x) xs i s i_lt_length_xs
-    ∙ ap (λ z. is_member (take i xs) x || nat_eq x z) (sym e)))
+    ∙ ap (λ z. is_member (take i xs) x || nat_eq x z) (sym s_is_element)))
 
-pub listed_none : (o v : Bool) → o ≡ (o || (v && false))
-listed_none true v = refl
-listed_none false true = refl
-listed_none false false = refl
+-- no symbols add none
+pub listed_of_no_symbols : (o v : Bool) → o ≡ (o || (v && false))
+listed_of_no_symbols true v = refl
+listed_of_no_symbols false true = refl
+listed_of_no_symbols false false = refl
 
 -- the variables of the first formula, when nothing has been found before
-pub mandatory_first : (x : ℕ) (old xs ys : List ℕ) (n v : Bool) → length old ≡ 0 → xs ≡ ys
+pub variables_of_first_formula : (x : ℕ) (old xs ys : List ℕ) (n v : Bool) → length old ≡ 0
+    → xs ≡ ys
     → n ≡ (is_member old x || (v && is_member xs x)) → n ≡ (v && (is_member ys x || false))
-mandatory_first x [] xs ys n v h e m =
-    m ∙ ap (λ zs. v && is_member zs x) e ∙ ap (λ z. v && z) (sym (or-false (is_member ys x)))
-mandatory_first x (o ∷ old) xs ys n v h e m = absurd (omega (arith, h))
+variables_of_first_formula x [] xs ys n v old_is_empty xs_are_ys n_is_member =
+    n_is_member ∙ ap (λ zs. v && is_member zs x) xs_are_ys
+    ∙ ap (λ z. v && z) (sym (or-false (is_member ys x)))
+variables_of_first_formula x (o ∷ old) xs ys n v old_is_empty xs_are_ys n_is_member =
+    absurd (omega (arith, old_is_empty))
 
 -- the variables of the next formula, when those of the formulas before it have been found
-pub mandatory_next : (x : ℕ) (f : ℕ → List ℕ) (es : List ℕ) (i d : ℕ) (xs : List ℕ)
+pub variables_with_next_formula : (x : ℕ) (f : ℕ → List ℕ) (es : List ℕ) (i d : ℕ) (xs : List ℕ)
     (n b v k : Bool) → i < length es → xs ≡ f (get_or es i d)
     → b ≡ (v && (k || list_any (λ j. is_member (f j) x) (take i es)))
     → n ≡ (b || (v && is_member xs x))
     → n ≡ (v && (k || list_any (λ j. is_member (f j) x) (take (i + 1) es)))
-mandatory_next x f es i d xs n b v k i_lt_length_es e a m =
-    m ∙ ap (λ z. z || (v && is_member xs x)) a
+variables_with_next_formula x f es i d xs n b v k i_lt_length_es xs_are_formula b_is_so_far
+    n_is_b_or_next =
+    n_is_b_or_next ∙ ap (λ z. z || (v && is_member xs x)) b_is_so_far
     ∙ ap (λ zs. (v && (k || list_any (λ j. is_member (f j) x) (take i es)))
     || (v && is_member zs x))
-    e
-    ∙ row v k (list_any (λ j. is_member (f j) x) (take i es)) (is_member (f (get_or es i d)) x)
+    xs_are_formula
+    ∙ or_distributes v k (list_any (λ j. is_member (f j) x) (take i es))
+    (is_member (f (get_or es i d)) x)
     ∙ ap (λ z. v && (k || z)) (sym (list_any_more (λ j. is_member (f j) x) es i d i_lt_length_es))
   where
-    row : (v k t e : Bool) → ((v && (k || t)) || (v && e)) ≡ (v && (k || (t || e)))
-    row true k t e = or_assoc k t e
-    row false k t e = refl
+    or_distributes : (v k t e : Bool) → ((v && (k || t)) || (v && e)) ≡ (v && (k || (t || e)))
+    or_distributes true k t e = or_assoc k t e
+    or_distributes false k t e = refl
 
 -- the floating statement of the next variable, if it is open
-pub float_pushed : (hs more : List ℕ) (f j : ℕ) (never is_open : Bool) → never ≡ false
+pub floats_with_open_float : (hs pushed : List ℕ) (f j : ℕ) (never is_open : Bool) → never ≡ false
     → is_open ≡ true
-    → more ≡ hs ++ f ∷ []
-    → is_member more j ≡ (is_member hs j || (nat_eq j f && (not never && is_open)))
-float_pushed hs more f j never is_open never_false is_open_true e =
-    ap (λ xs. is_member xs j) e ∙ list_any-append (nat_eq j) hs (f ∷ [])
+    → pushed ≡ hs ++ f ∷ []
+    → is_member pushed j ≡ (is_member hs j || (nat_eq j f && (not never && is_open)))
+floats_with_open_float hs pushed f j never is_open never_false is_open_true more_is_pushed =
+    ap (λ xs. is_member xs j) more_is_pushed ∙ list_any-append (nat_eq j) hs (f ∷ [])
     ∙ ap (λ z. is_member hs j || z) (by_values (nat_eq j f))
     ∙ ap (λ z. is_member hs j || (nat_eq j f && (not z && true))) (sym never_false)
     ∙ ap (λ z. is_member hs j || (nat_eq j f && (not never && z))) (sym is_open_true)
@@ -98,10 +106,12 @@ float_pushed hs more f j never is_open never_false is_open_true e =
     by_values true = refl
     by_values false = refl
 
-pub float_closed : (hs more : List ℕ) (f j : ℕ) (never is_open : Bool) → is_open ≡ false → more ≡ hs
-    → is_member more j ≡ (is_member hs j || (nat_eq j f && (not never && is_open)))
-float_closed hs more f j never is_open is_open_false more_is_hs =
-    ap (λ xs. is_member xs j) more_is_hs ∙ by_values (is_member hs j) (nat_eq j f) (not never)
+-- a `$f` whose block is closed isn't added
+pub floats_without_closed_float : (hs unchanged : List ℕ) (f j : ℕ) (never is_open : Bool)
+    → is_open ≡ false → unchanged ≡ hs
+    → is_member unchanged j ≡ (is_member hs j || (nat_eq j f && (not never && is_open)))
+floats_without_closed_float hs unchanged f j never is_open is_open_false unchanged_is_hs =
+    ap (λ xs. is_member xs j) unchanged_is_hs ∙ by_values (is_member hs j) (nat_eq j f) (not never)
     ∙ ap (λ z. is_member hs j || (nat_eq j f && (not never && z))) (sym is_open_false)
   where
     by_values : (a b c : Bool) → a ≡ (a || (b && (c && false)))
@@ -110,10 +120,12 @@ float_closed hs more f j never is_open is_open_false more_is_hs =
     by_values false true false = refl
     by_values false false c = refl
 
-pub float_none : (hs more : List ℕ) (f j : ℕ) (never is_open : Bool) → never ≡ true → more ≡ hs
-    → is_member more j ≡ (is_member hs j || (nat_eq j f && (not never && is_open)))
-float_none hs more f j never is_open never_true more_is_hs =
-    ap (λ xs. is_member xs j) more_is_hs ∙ by_values (is_member hs j) (nat_eq j f)
+-- a variable without a `$f` adds none
+pub floats_without_float : (hs unchanged : List ℕ) (f j : ℕ) (never is_open : Bool) → never ≡ true
+    → unchanged ≡ hs
+    → is_member unchanged j ≡ (is_member hs j || (nat_eq j f && (not never && is_open)))
+floats_without_float hs unchanged f j never is_open never_true unchanged_is_hs =
+    ap (λ xs. is_member xs j) unchanged_is_hs ∙ by_values (is_member hs j) (nat_eq j f)
     ∙ ap (λ z. is_member hs j || (nat_eq j f && (not z && is_open))) (sym never_true)
   where
     by_values : (a b : Bool) → a ≡ (a || (b && false))

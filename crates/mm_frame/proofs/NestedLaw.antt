@@ -10,26 +10,28 @@ use Rattle.mm_spec.proofs.BoolLaw.{same_tests}
 
 module _ (db : List Statement) where
   -- the block of statement j is open at k if it is open at a later statement
-  pub stays_earlier : (j k l : ℕ) → j ≤ k → k ≤ l → is_block_open db j l ≡ true
+  pub open_at_earlier : (j k l : ℕ) → j ≤ k → k ≤ l → is_block_open db j l ≡ true
       → is_block_open db j k ≡ true
-  stays_earlier j k l h m e =
-      let inside = (is_block_open_exact db j l (omega arith)).0 e in
-      (is_block_open_exact db j k h).1 (λ i a b. inside i a (omega arith))
+  open_at_earlier j k l j_le_k k_le_l j_is_open_at_l =
+      let depth_stays = (is_block_open_exact db j l (omega arith)).0 j_is_open_at_l in
+      (is_block_open_exact db j k j_le_k).1 (λ i a b. depth_stays i a (omega arith))
 
   -- to the end of the inner one is to where it began
-  pub stays_nested : (i j k : ℕ) → i < j → j ≤ k → is_block_open db j k ≡ true
+  pub open_at_nested : (i j k : ℕ) → i < j → j ≤ k → is_block_open db j k ≡ true
       → is_block_open db i k ≡ is_block_open db i j
-  stays_nested i j k i_lt_j j_le_k e =
+  open_at_nested i j k i_lt_j j_le_k j_is_open_at_k =
       same_tests (is_block_open db i k) (is_block_open db i j)
-      (stays_earlier i j k (omega arith) j_le_k)
-      (λ f. (is_block_open_exact db i k (omega arith)).1
-      (outer ((is_block_open_exact db i j (omega arith)).0 f)
-      ((is_block_open_exact db j k j_le_k).0 e)))
+      (open_at_earlier i j k (omega arith) j_le_k)
+      (λ i_is_open_at_j. (is_block_open_exact db i k (omega arith)).1
+      (in_both_blocks ((is_block_open_exact db i j (omega arith)).0 i_is_open_at_j)
+      ((is_block_open_exact db j k j_le_k).0 j_is_open_at_k)))
     where
-      outer : InBlock db i j → InBlock db j k → InBlock db i k
-      outer f g m a b = by_order (cases_lt j m)
+      in_both_blocks : InBlock db i j → InBlock db j k → InBlock db i k
+      in_both_blocks i_is_open_at_j j_block m i_le_m m_le_k = by_order (cases_lt j m)
         where
           by_order : (j < m) ⊎ (m ≤ j) → depth db i ≤ depth db m
-          by_order (inl q) = let x = f j i_lt_j (omega arith) in let y = g m q b in omega
-              (arith, x, y)
-          by_order (inr q) = f m a q
+          by_order (inl m_order) = let depth_i_le_depth_j = i_is_open_at_j j i_lt_j (omega arith) in
+              let depth_j_le_depth_m = j_block m m_order m_le_k in
+              omega
+              (arith, depth_i_le_depth_j, depth_j_le_depth_m)
+          by_order (inr m_order) = i_is_open_at_j m i_le_m m_order

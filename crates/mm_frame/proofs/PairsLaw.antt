@@ -22,258 +22,338 @@ use Rattle.mm_spec.specs.Frame.{pairs_of}
 use Rattle.mm_spec.proofs.BoolLaw.{same_tests}
 use Rattle.mm_database.specs.Pairs.{has_pair, IsBefore, AreRising}
 
+-- a smaller number compares as less
 cmp_less : (a b : ℕ) → a < b → nat_cmp a b ≡ Less
-cmp_less a b h = ap (λ t. cond t Less (cond (nat_eq a b) Equal Greater)) (lt-ltb a b h)
+cmp_less a b a_lt_b = ap (λ t. cond t Less (cond (nat_eq a b) Equal Greater)) (lt-ltb a b a_lt_b)
 
+-- equal numbers compare as equal
 cmp_equal : (a b : ℕ) → a ≡ b → nat_cmp a b ≡ Equal
-cmp_equal a b h =
-    ap₂ (λ t u. cond t Less (cond u Equal Greater)) (le-ltb a b (omega arith)) (eq-eqb a b h)
+cmp_equal a b a_is_b =
+    ap₂ (λ t u. cond t Less (cond u Equal Greater)) (le-ltb a b (omega arith)) (eq-eqb a b a_is_b)
 
+-- a greater number compares as greater
 cmp_greater : (a b : ℕ) → b < a → nat_cmp a b ≡ Greater
-cmp_greater a b h =
+cmp_greater a b b_lt_a =
     ap₂ (λ t u. cond t Less (cond u Equal Greater)) (le-ltb a b (omega arith))
-    (ne_eqb a b (λ e. absurd (omega (arith, e, h))))
+    (ne_eqb a b (λ a_is_b. absurd (omega (arith, a_is_b, b_lt_a))))
 
-less_before : (a b c d : ℕ) → ordering_then (nat_cmp a c) (nat_cmp b d) ≡ Less → IsBefore a b c d
-less_before a b c d e = by_order (cases_order a c) (cases_order b d)
+-- a pair that compares as less is before the other
+less_is_before : (a b c d : ℕ) → ordering_then (nat_cmp a c) (nat_cmp b d) ≡ Less → IsBefore a b c d
+less_is_before a b c d is_less = by_order (cases_order a c) (cases_order b d)
   where
     by_order : (a ≡ c) ⊎ ((a < c) ⊎ (c < a)) → (b ≡ d) ⊎ ((b < d) ⊎ (d < b)) → IsBefore a b c d
-    by_order (inr (inl l)) q = inl l
-    by_order (inl s) (inr (inl l)) = inr (s, l)
-    by_order (inl s) (inl t) =
-        absurd (let z = sym (ap₂ ordering_then (cmp_equal a c s) (cmp_equal b d t)) ∙ e in cc)
-    by_order (inl s) (inr (inr g)) =
-        absurd (let z = sym (ap₂ ordering_then (cmp_equal a c s) (cmp_greater b d g)) ∙ e in cc)
-    by_order (inr (inr g)) q =
-        absurd (let z = sym (ap (λ o. ordering_then o (nat_cmp b d)) (cmp_greater a c g)) ∙ e in cc)
+    by_order (inr (inl a_lt_c)) b_order = inl a_lt_c
+    by_order (inl a_is_c) (inr (inl a_lt_c)) = inr (a_is_c, a_lt_c)
+    by_order (inl a_is_c) (inl b_is_d) =
+        absurd (let less_is_other =
+        sym (ap₂ ordering_then (cmp_equal a c a_is_c) (cmp_equal b d b_is_d)) ∙ is_less in cc)
+    by_order (inl a_is_c) (inr (inr is_greater)) =
+        absurd (let less_is_other =
+        sym (ap₂ ordering_then (cmp_equal a c a_is_c) (cmp_greater b d is_greater)) ∙ is_less in
+        cc)
+    by_order (inr (inr is_greater)) b_order =
+        absurd (let less_is_other =
+        sym (ap (λ o. ordering_then o (nat_cmp b d)) (cmp_greater a c is_greater))
+        ∙ is_less in cc)
 
-eq_cmp : (a b : ℕ) → nat_eq a b ≡ is_eq (nat_cmp a b)
-eq_cmp a b = by_order (cases_order a b)
+-- numbers are equal exactly if they compare as equal
+eq_is_cmp_equal : (a b : ℕ) → nat_eq a b ≡ is_eq (nat_cmp a b)
+eq_is_cmp_equal a b = by_order (cases_order a b)
   where
     by_order : (a ≡ b) ⊎ ((a < b) ⊎ (b < a)) → nat_eq a b ≡ is_eq (nat_cmp a b)
-    by_order (inl s) = eq-eqb a b s ∙ sym (ap is_eq (cmp_equal a b s))
-    by_order (inr (inl l)) =
-        ne_eqb a b (λ e. absurd (omega (arith, e, l))) ∙ sym (ap is_eq (cmp_less a b l))
-    by_order (inr (inr g)) =
-        ne_eqb a b (λ e. absurd (omega (arith, e, g))) ∙ sym (ap is_eq (cmp_greater a b g))
+    by_order (inl a_is_b) = eq-eqb a b a_is_b ∙ sym (ap is_eq (cmp_equal a b a_is_b))
+    by_order (inr (inl a_lt_b)) =
+        ne_eqb a b (λ a_is_b_here. absurd (omega (arith, a_is_b_here, a_lt_b)))
+        ∙ sym (ap is_eq (cmp_less a b a_lt_b))
+    by_order (inr (inr b_lt_a)) =
+        ne_eqb a b (λ a_is_b_here. absurd (omega (arith, a_is_b_here, b_lt_a)))
+        ∙ sym (ap is_eq (cmp_greater a b b_lt_a))
 
-abbrev order : ℕ × ℕ → ℕ × ℕ → Ordering
-order x y = ordering_then (nat_cmp x.0 y.0) (nat_cmp x.1 y.1)
+-- pairs compare by the first number, then by the second
+abbrev pair_order : ℕ × ℕ → ℕ × ℕ → Ordering
+pair_order x y = ordering_then (nat_cmp x.0 y.0) (nat_cmp x.1 y.1)
 
+-- whether two pairs compare as equal
 abbrev same_pair : ℕ × ℕ → ℕ × ℕ → Bool
 same_pair x y = nat_eq x.0 y.0 && nat_eq x.1 y.1
 
-pub to_rising : (ys : List (ℕ × ℕ)) → IsStrictlySortedBy order ys → AreRising ys
+-- pairs sorted without repetition rise
+pub sorted_is_rising : (ys : List (ℕ × ℕ)) → IsStrictlySortedBy pair_order ys → AreRising ys
 unfolding IsStrictlySortedBy
-to_rising [] h = tt
-to_rising (p ∷ ps) h = (λ x y e. before_all ps h.0 x y e, to_rising ps h.1)
+sorted_is_rising [] are_sorted = tt
+sorted_is_rising (p ∷ ps) are_sorted = (
+  λ x y has_pair_x_y. before_all ps are_sorted.0 x y has_pair_x_y,
+  sorted_is_rising ps
+      are_sorted.1,
+)
   where
-    before_all : (qs : List (ℕ × ℕ)) → AllByRecursion (λ q. order p q ≡ Less) qs → (x y : ℕ)
+    before_all : (qs : List (ℕ × ℕ)) → AllByRecursion (λ q. pair_order p q ≡ Less) qs → (x y : ℕ)
         → has_pair qs x y ≡ true → IsBefore p.0 p.1 x y
-    before_all [] a x y e = absurd (true≢false (sym e))
-    before_all (q ∷ qs) a x y e = by_head (nat_eq x q.0 && nat_eq y q.1) refl e
-        (before_all qs a.1 x y)
+    before_all [] all_less x y has_pair_x_y = absurd (true≢false (sym has_pair_x_y))
+    before_all (q ∷ qs) all_less x y has_pair_x_y =
+        by_head (nat_eq x q.0 && nat_eq y q.1) refl has_pair_x_y
+        (before_all qs all_less.1 x y)
       where
         by_head : (b : Bool) → (nat_eq x q.0 && nat_eq y q.1) ≡ b → (b || has_pair qs x y) ≡ true
             → (has_pair qs x y ≡ true → IsBefore p.0 p.1 x y) → IsBefore p.0 p.1 x y
-        by_head true s e r =
-            let u = eqb-true x q.0 (and_parts (nat_eq x q.0) (nat_eq y q.1) s).0 in
-            let v = eqb-true y q.1 (and_parts (nat_eq x q.0) (nat_eq y q.1) s).1 in
-            less_before p.0 p.1 x y
-            (ap₂ (λ i j. ordering_then (nat_cmp p.0 i) (nat_cmp p.1 j)) u v ∙ a.0)
-        by_head false s e r = r e
+        by_head true x_y_is_q has_pair_x_y rest_is_before =
+            let x_is_q0 = eqb-true x q.0 (and_parts (nat_eq x q.0) (nat_eq y q.1) x_y_is_q).0 in
+            let y_is_q1 = eqb-true y q.1 (and_parts (nat_eq x q.0) (nat_eq y q.1) x_y_is_q).1 in
+            less_is_before p.0 p.1 x y
+            (ap₂ (λ i j. ordering_then (nat_cmp p.0 i) (nat_cmp p.1 j)) x_is_q0 y_is_q1
+            ∙ all_less.0)
+        by_head false x_y_is_q has_pair_x_y rest_is_before = rest_is_before has_pair_x_y
 
-pub strict_rising : (xs ys : List (ℕ × ℕ)) → IsSorted order xs → ys ≡ dedup same_pair xs
+-- sorted pairs rise once repetitions are left out
+pub deduped_is_rising : (xs ys : List (ℕ × ℕ)) → IsSorted pair_order xs → ys ≡ dedup same_pair xs
     → AreRising ys
-strict_rising xs ys s e =
-    subst AreRising (sym e)
-    (to_rising (dedup same_pair xs)
+deduped_is_rising xs ys is_sorted ys_are_deduped =
+    subst AreRising (sym ys_are_deduped)
+    (sorted_is_rising (dedup same_pair xs)
     (IsStrictlySortedBy-dedup
     (then_total (on_total (λ p. p.0) nat_cmp_total) (on_total (λ p. p.1) nat_cmp_total))
-    (λ x y. ap₂ (λ a b. a && b) (eq_cmp x.0 y.0) (eq_cmp x.1 y.1)
-    ∙ tied_then (nat_cmp x.0 y.0) (nat_cmp x.1 y.1)) xs s))
+    (λ x y. ap₂ (λ a b. a && b) (eq_is_cmp_equal x.0 y.0) (eq_is_cmp_equal x.1 y.1)
+    ∙ tied_then (nat_cmp x.0 y.0) (nat_cmp x.1 y.1)) xs is_sorted))
 
-contains : (ps : List (ℕ × ℕ)) (x y : ℕ) → has_pair ps x y ≡ true → Contains ps (x, y)
-contains ps x y h =
-    let n = Any-from_list_any (λ p. nat_eq x p.0 && nat_eq y p.1) ps h in
-    let q = n.1 in
-    let u = eqb-true x q.0 (and_parts (nat_eq x q.0) (nat_eq y q.1) n.4).0 in
-    let v = eqb-true y q.1 (and_parts (nat_eq x q.0) (nat_eq y q.1) n.4).1 in
-    let e : q ≡ (x, y) = ap₂ (λ (i j : ℕ). (i, j)) (sym u) (sym v) in
-    (n.0, n.2, subst (λ (z : ℕ × ℕ). get_or ps n.0 z ≡ z) e n.3)
+-- what the test finds is in the list
+contains_from_has_pair : (ps : List (ℕ × ℕ)) (x y : ℕ) → has_pair ps x y ≡ true → Contains ps (x, y)
+contains_from_has_pair ps x y has_pair_x_y =
+    let witness = Any-from_list_any (λ p. nat_eq x p.0 && nat_eq y p.1) ps has_pair_x_y in
+    let pair_found = witness.1 in
+    let x_is_first =
+    eqb-true x pair_found.0
+    (and_parts (nat_eq x pair_found.0) (nat_eq y pair_found.1) witness.4).0 in
+    let y_is_second =
+    eqb-true y pair_found.1
+    (and_parts (nat_eq x pair_found.0) (nat_eq y pair_found.1) witness.4).1 in
+    let pair_is_x_y : pair_found ≡ (x, y) =
+    ap₂ (λ (i j : ℕ). (i, j)) (sym x_is_first) (sym y_is_second) in
+    (witness.0, witness.2, subst (λ (z : ℕ × ℕ). get_or ps witness.0 z ≡ z) pair_is_x_y witness.3)
 
-member : (ps : List (ℕ × ℕ)) (x y : ℕ) → Contains ps (x, y) → has_pair ps x y ≡ true
-member ps x y h =
-    list_any_at (λ p. nat_eq x p.0 && nat_eq y p.1) ps h.0 (x, y) h.1
-    (ap₂ (λ a b. a && b) (eq-eqb x (get_or ps h.0 (x, y)).0 (sym (ap (λ p. p.0) h.2)))
-    (eq-eqb y (get_or ps h.0 (x, y)).1 (sym (ap (λ p. p.1) h.2))))
+-- the test finds what is in the list
+has_pair_from_contains : (ps : List (ℕ × ℕ)) (x y : ℕ) → Contains ps (x, y) → has_pair ps x y ≡ true
+has_pair_from_contains ps x y contains =
+    list_any_at (λ p. nat_eq x p.0 && nat_eq y p.1) ps contains.0 (x, y) contains.1
+    (ap₂ (λ a b. a && b) (eq-eqb x (get_or ps contains.0 (x, y)).0 (sym (ap (λ p. p.0) contains.2)))
+    (eq-eqb y (get_or ps contains.0 (x, y)).1 (sym (ap (λ p. p.1) contains.2))))
 
-same_equal : (p q : ℕ × ℕ) → same_pair p q ≡ true → p ≡ q
-same_equal p q h =
-    ap₂ (λ (i j : ℕ). (i, j)) (eqb-true p.0 q.0 (and_parts (nat_eq p.0 q.0) (nat_eq p.1 q.1) h).0)
-    (eqb-true p.1 q.1 (and_parts (nat_eq p.0 q.0) (nat_eq p.1 q.1) h).1)
+-- pairs that compare as equal are equal
+same_pair_is_equal : (p q : ℕ × ℕ) → same_pair p q ≡ true → p ≡ q
+same_pair_is_equal p q pairs_are_same =
+    ap₂ (λ (i j : ℕ). (i, j))
+    (eqb-true p.0 q.0 (and_parts (nat_eq p.0 q.0) (nat_eq p.1 q.1) pairs_are_same).0)
+    (eqb-true p.1 q.1 (and_parts (nat_eq p.0 q.0) (nat_eq p.1 q.1) pairs_are_same).1)
 
+-- sorting and leaving out repetitions keeps the same pairs
 pub sort_and_dedup_same : (xs ys zs : List (ℕ × ℕ)) → IsPermutation xs ys → zs ≡ dedup same_pair ys
     → (x y : ℕ) → has_pair zs x y ≡ has_pair xs x y
-sort_and_dedup_same xs ys zs p e x y =
-    ap (λ z. has_pair z x y) e
+sort_and_dedup_same xs ys zs is_permutation zs_are_deduped x y =
+    ap (λ z. has_pair z x y) zs_are_deduped
     ∙ same_tests _ _
-    (λ h. member xs x y
-    (Contains-permutation ys xs (x, y) (IsPermutation-sym xs ys p)
-    (Contains-from_dedup same_pair ys (x, y) (contains (dedup same_pair ys) x y h))))
-    (λ h. member (dedup same_pair ys) x y
+    (λ has_pair_z. has_pair_from_contains xs x y
+    (Contains-permutation ys xs (x, y) (IsPermutation-sym xs ys is_permutation)
+    (Contains-from_dedup same_pair ys (x, y)
+    (contains_from_has_pair (dedup same_pair ys) x y has_pair_z))))
+    (λ has_pair_z. has_pair_from_contains (dedup same_pair ys) x y
     (Contains-dedup
-    (and_equiv (on_equiv (λ p. p.0) nat_eq_equiv) (on_equiv (λ p. p.1) nat_eq_equiv)) same_equal
-    ys (x, y) (Contains-permutation xs ys (x, y) p (contains xs x y h))))
+    (and_equiv (on_equiv (λ p. p.0) nat_eq_equiv)
+    (on_equiv (λ p. p.1) nat_eq_equiv))
+    same_pair_is_equal
+    ys (x, y) (Contains-permutation xs ys (x, y) is_permutation
+    (contains_from_has_pair xs x y has_pair_z))))
 
 -- ---- the pairs of the definitions
 
-abbrev pub has : List Pair → ℕ → ℕ → Bool
-has ps x y = list_any (λ p. nat_eq x p.low && nat_eq y p.high) ps
+-- whether a list has the pair of these symbols
+abbrev pub has_symbol_pair : List Pair → ℕ → ℕ → Bool
+has_symbol_pair ps x y = list_any (λ p. nat_eq x p.low && nat_eq y p.high) ps
 
-abbrev pub Sorted : List Pair → Type 0
-Sorted [] = Unit {0}
-Sorted (p ∷ ps) = ((x y : ℕ) → has ps x y ≡ true → IsBefore p.low p.high x y) × Sorted ps
+-- each pair is before the next
+abbrev pub AreSorted : List Pair → Type 0
+AreSorted [] = Unit {0}
+AreSorted (p ∷ ps) =
+    ((x y : ℕ) → has_symbol_pair ps x y ≡ true → IsBefore p.low p.high x y) × AreSorted ps
 
-pub has_map : (ps : List (ℕ × ℕ)) (x y : ℕ) → has (map (λ p. pair p.0 p.1) ps) x y ≡ has_pair ps x y
-has_map [] x y = refl
-has_map (p ∷ ps) x y = ap (λ b. (nat_eq x p.0 && nat_eq y p.1) || b) (has_map ps x y)
+-- the pairs of symbols are those of the numbers
+pub has_mapped_pair : (ps : List (ℕ × ℕ)) (x y : ℕ)
+    → has_symbol_pair (map (λ p. pair p.0 p.1) ps) x y ≡ has_pair ps x y
+has_mapped_pair [] x y = refl
+has_mapped_pair (p ∷ ps) x y =
+    ap (λ b. (nat_eq x p.0 && nat_eq y p.1) || b) (has_mapped_pair ps x y)
 
-pub sorted_map : (ps : List (ℕ × ℕ)) → AreRising ps → Sorted (map (λ p. pair p.0 p.1) ps)
-sorted_map [] h = tt
-sorted_map (p ∷ ps) h = (λ x y e. h.0 x y (sym (has_map ps x y) ∙ e), sorted_map ps h.1)
+-- rising pairs of numbers are sorted as pairs of symbols
+pub mapped_are_sorted : (ps : List (ℕ × ℕ)) → AreRising ps → AreSorted (map (λ p. pair p.0 p.1) ps)
+mapped_are_sorted [] are_rising = tt
+mapped_are_sorted (p ∷ ps) are_rising = (
+  λ x y has_mapped. are_rising.0 x y (sym (has_mapped_pair ps x y)
+      ∙ has_mapped),
+  mapped_are_sorted ps are_rising.1,
+)
 
-self : (p : Pair) (ps : List Pair) → has (p ∷ ps) p.low p.high ≡ true
-self p ps =
-    ap₂ (λ a b. (a && b) || has ps p.low p.high) (eq-eqb p.low p.low refl)
+-- the first pair is in the list
+first_is_in : (p : Pair) (ps : List Pair) → has_symbol_pair (p ∷ ps) p.low p.high ≡ true
+first_is_in p ps =
+    ap₂ (λ a b. (a && b) || has_symbol_pair ps p.low p.high) (eq-eqb p.low p.low refl)
     (eq-eqb p.high p.high refl)
 
-not_before : (a b : ℕ) → IsBefore a b a b → ⊥
-not_before a b (inl l) = omega arith
-not_before a b (inr (e, l)) = omega arith
+-- no pair is before itself
+not_before_itself : (a b : ℕ) → IsBefore a b a b → ⊥
+not_before_itself a b (inl lower) = omega arith
+not_before_itself a b (inr (first_equal, lower)) = omega arith
 
-not_both : (a b c d : ℕ) → IsBefore a b c d → IsBefore c d a b → ⊥
-not_both a b c d (inl l) (inl m) = omega arith
-not_both a b c d (inl l) (inr (e, m)) = omega arith
-not_both a b c d (inr (e, l)) (inl m) = omega arith
-not_both a b c d (inr (e, l)) (inr (f, m)) = omega arith
+-- of two pairs only one is before the other
+not_before_each_other : (a b c d : ℕ) → IsBefore a b c d → IsBefore c d a b → ⊥
+not_before_each_other a b c d (inl lower) (inl lower_back) = omega arith
+not_before_each_other a b c d (inl lower) (inr (first_equal, lower_back)) = omega arith
+not_before_each_other a b c d (inr (first_equal, lower)) (inl lower_back) = omega arith
+not_before_each_other a b c d (inr (first_equal, lower)) (inr (first_equal_back, lower_back)) =
+    omega arith
 
 -- the front of a list, or one of those after
-split : (p : Pair) (ps : List Pair) (x y : ℕ) → has (p ∷ ps) x y ≡ true
-    → ((x ≡ p.low) × (y ≡ p.high)) ⊎ (has ps x y ≡ true)
-split p ps x y e = by_head (nat_eq x p.low && nat_eq y p.high) refl e
+in_first_or_rest : (p : Pair) (ps : List Pair) (x y : ℕ) → has_symbol_pair (p ∷ ps) x y ≡ true
+    → ((x ≡ p.low) × (y ≡ p.high)) ⊎ (has_symbol_pair ps x y ≡ true)
+in_first_or_rest p ps x y in_list = by_head (nat_eq x p.low && nat_eq y p.high) refl in_list
   where
-    by_head : (b : Bool) → (nat_eq x p.low && nat_eq y p.high) ≡ b → (b || has ps x y) ≡ true
-        → ((x ≡ p.low) × (y ≡ p.high)) ⊎ (has ps x y ≡ true)
-    by_head true s e =
+    by_head : (b : Bool) → (nat_eq x p.low && nat_eq y p.high) ≡ b
+        → (b || has_symbol_pair ps x y) ≡ true
+        → ((x ≡ p.low) × (y ≡ p.high)) ⊎ (has_symbol_pair ps x y ≡ true)
+    by_head true is_first in_list =
         inl (
-          eqb-true x p.low (and_parts (nat_eq x p.low) (nat_eq y p.high) s).0,
+          eqb-true x p.low (and_parts (nat_eq x p.low) (nat_eq y p.high) is_first).0,
           eqb-true y p.high
-              (and_parts (nat_eq x p.low) (nat_eq y p.high) s).1,
+              (and_parts (nat_eq x p.low) (nat_eq y p.high) is_first).1,
         )
-    by_head false s e = inr e
+    by_head false is_first in_list = inr in_list
 
-after : (p : Pair) (ps : List Pair) (x y : ℕ) → has ps x y ≡ true → has (p ∷ ps) x y ≡ true
-after p ps x y e =
-    ap (λ b. (nat_eq x p.low && nat_eq y p.high) || b) e
+-- a pair of the rest is in the list
+in_rest_is_in : (p : Pair) (ps : List Pair) (x y : ℕ) → has_symbol_pair ps x y ≡ true
+    → has_symbol_pair (p ∷ ps) x y ≡ true
+in_rest_is_in p ps x y in_rest =
+    ap (λ b. (nat_eq x p.low && nat_eq y p.high) || b) in_rest
     ∙ or-true (nat_eq x p.low && nat_eq y p.high)
 
 -- two lists in order with the same members are one
-pub unique : (ps qs : List Pair) → Sorted ps → Sorted qs → ((x y : ℕ) → has ps x y ≡ has qs x y)
+pub sorted_with_same_members_equal : (ps qs : List Pair) → AreSorted ps → AreSorted qs
+    → ((x y : ℕ) → has_symbol_pair ps x y ≡ has_symbol_pair qs x y)
     → ps ≡ qs
-unique [] [] s t h = refl
-unique [] (q ∷ qs) s t h = absurd (true≢false (sym (self q qs) ∙ sym (h q.low q.high)))
-unique (p ∷ ps) [] s t h = absurd (true≢false (sym (self p ps) ∙ h p.low p.high))
-unique (p ∷ ps) (q ∷ qs) s t h = ap₂ (λ a b. a ∷ b) first (unique ps qs s.1 t.1 tails)
+sorted_with_same_members_equal [] [] ps_sorted qs_sorted same_members = refl
+sorted_with_same_members_equal [] (q ∷ qs) ps_sorted qs_sorted same_members =
+    absurd (true≢false (sym (first_is_in q qs) ∙ sym (same_members q.low q.high)))
+sorted_with_same_members_equal (p ∷ ps) [] ps_sorted qs_sorted same_members =
+    absurd (true≢false (sym (first_is_in p ps) ∙ same_members p.low p.high))
+sorted_with_same_members_equal (p ∷ ps) (q ∷ qs) ps_sorted qs_sorted same_members =
+    ap₂ (λ a b. a ∷ b) firsts_equal
+    (sorted_with_same_members_equal ps qs ps_sorted.1 qs_sorted.1 tails_have_same_members)
   where
-    both : ((p.low ≡ q.low) × (p.high ≡ q.high)) ⊎ (has qs p.low p.high ≡ true)
-        → ((q.low ≡ p.low) × (q.high ≡ p.high)) ⊎ (has ps q.low q.high ≡ true)
+    first_members_equal : ((p.low ≡ q.low) × (p.high ≡ q.high))
+        ⊎ (has_symbol_pair qs p.low p.high ≡ true)
+        → ((q.low ≡ p.low) × (q.high ≡ p.high)) ⊎ (has_symbol_pair ps q.low q.high ≡ true)
         → (p.low ≡ q.low) × (p.high ≡ q.high)
-    both (inl e) b = e
-    both (inr e) (inl f) = (sym f.0, sym f.1)
-    both (inr e) (inr f) =
-        absurd (not_both p.low p.high q.low q.high (s.0 q.low q.high f) (t.0 p.low p.high e))
+    first_members_equal (inl p_is_q) second = p_is_q
+    first_members_equal (inr p_in_qs) (inl q_is_p) = (sym q_is_p.0, sym q_is_p.1)
+    first_members_equal (inr p_in_qs) (inr q_in_ps) =
+        absurd (not_before_each_other p.low p.high q.low q.high (ps_sorted.0 q.low q.high q_in_ps)
+        (qs_sorted.0 p.low p.high p_in_qs))
 
-    parts : (p.low ≡ q.low) × (p.high ≡ q.high)
-    parts =
-        both (split q qs p.low p.high (sym (h p.low p.high) ∙ self p ps))
-        (split p ps q.low q.high (h q.low q.high ∙ self q qs))
+    parts_equal : (p.low ≡ q.low) × (p.high ≡ q.high)
+    parts_equal =
+        first_members_equal (in_first_or_rest q qs p.low p.high (sym (same_members p.low p.high)
+        ∙ first_is_in p ps))
+        (in_first_or_rest p ps q.low q.high (same_members q.low q.high ∙ first_is_in q qs))
 
-    first : p ≡ q
-    first = ap₂ pair parts.0 parts.1
+    firsts_equal : p ≡ q
+    firsts_equal = ap₂ pair parts_equal.0 parts_equal.1
 
-    tails : (x y : ℕ) → has ps x y ≡ has qs x y
-    tails x y =
-        same_tests (has ps x y) (has qs x y)
-        (λ e. left_to_right e (split q qs x y (sym (h x y) ∙ after p ps x y e)))
-        (λ e. right_to_left e (split p ps x y (h x y ∙ after q qs x y e)))
+    tails_have_same_members : (x y : ℕ) → has_symbol_pair ps x y ≡ has_symbol_pair qs x y
+    tails_have_same_members x y =
+        same_tests (has_symbol_pair ps x y) (has_symbol_pair qs x y)
+        (λ in_tail. left_to_right in_tail (in_first_or_rest q qs x y (sym (same_members x y)
+        ∙ in_rest_is_in p ps x y in_tail)))
+        (λ in_tail. right_to_left in_tail (in_first_or_rest p ps x y (same_members x y
+        ∙ in_rest_is_in q qs x y in_tail)))
       where
-        left_to_right : has ps x y ≡ true → ((x ≡ q.low) × (y ≡ q.high)) ⊎ (has qs x y ≡ true)
-            → has qs x y ≡ true
-        left_to_right e (inr f) = f
-        left_to_right e (inl f) =
-            absurd (not_before p.low p.high
-            (subst (λ a. IsBefore p.low p.high a p.high) (f.0 ∙ sym parts.0)
-            (subst (λ b. IsBefore p.low p.high x b) (f.1 ∙ sym parts.1) (s.0 x y e))))
+        left_to_right : has_symbol_pair ps x y ≡ true
+            → ((x ≡ q.low) × (y ≡ q.high)) ⊎ (has_symbol_pair qs x y ≡ true)
+            → has_symbol_pair qs x y ≡ true
+        left_to_right in_tail (inr in_tail_of_qs) = in_tail_of_qs
+        left_to_right in_tail (inl is_first) =
+            absurd (not_before_itself p.low p.high
+            (subst (λ a. IsBefore p.low p.high a p.high) (is_first.0 ∙ sym parts_equal.0)
+            (subst (λ b. IsBefore p.low p.high x b) (is_first.1
+            ∙ sym parts_equal.1) (ps_sorted.0 x y in_tail))))
 
-        right_to_left : has qs x y ≡ true → ((x ≡ p.low) × (y ≡ p.high)) ⊎ (has ps x y ≡ true)
-            → has ps x y ≡ true
-        right_to_left e (inr f) = f
-        right_to_left e (inl f) =
-            absurd (not_before q.low q.high
-            (subst (λ a. IsBefore q.low q.high a q.high) (f.0 ∙ parts.0)
-            (subst (λ b. IsBefore q.low q.high x b) (f.1 ∙ parts.1) (t.0 x y e))))
+        right_to_left : has_symbol_pair qs x y ≡ true
+            → ((x ≡ p.low) × (y ≡ p.high)) ⊎ (has_symbol_pair ps x y ≡ true)
+            → has_symbol_pair ps x y ≡ true
+        right_to_left in_tail (inr in_tail_of_ps) = in_tail_of_ps
+        right_to_left in_tail (inl is_first) =
+            absurd (not_before_itself q.low q.high
+            (subst (λ a. IsBefore q.low q.high a q.high) (is_first.0 ∙ parts_equal.0)
+            (subst (λ b. IsBefore q.low q.high x b) (is_first.1
+            ∙ parts_equal.1) (qs_sorted.0 x y in_tail))))
 
-pub has_filter : (t : Pair → Bool) (ps : List Pair) (x y : ℕ)
-    → has (filter t ps) x y ≡ (t (pair x y) && has ps x y)
-has_filter t [] x y = sym (and-false (t (pair x y)))
-has_filter t (p ∷ ps) x y =
-    by_test (t p) refl (nat_eq x p.low && nat_eq y p.high) refl (has_filter t ps x y)
+-- a filtered list has the pairs that pass the test
+pub has_filtered_pair : (t : Pair → Bool) (ps : List Pair) (x y : ℕ)
+    → has_symbol_pair (filter t ps) x y ≡ (t (pair x y) && has_symbol_pair ps x y)
+has_filtered_pair t [] x y = sym (and-false (t (pair x y)))
+has_filtered_pair t (p ∷ ps) x y =
+    by_test (t p) refl (nat_eq x p.low && nat_eq y p.high) refl (has_filtered_pair t ps x y)
   where
-    at : (nat_eq x p.low && nat_eq y p.high) ≡ true → t (pair x y) ≡ t p
-    at s =
-        ap t (ap₂ pair (eqb-true x p.low (and_parts (nat_eq x p.low) (nat_eq y p.high) s).0)
-        (eqb-true y p.high (and_parts (nat_eq x p.low) (nat_eq y p.high) s).1))
+    test_of_equal_pairs : (nat_eq x p.low && nat_eq y p.high) ≡ true → t (pair x y) ≡ t p
+    test_of_equal_pairs pair_is_p =
+        ap t (ap₂ pair (eqb-true x p.low (and_parts (nat_eq x p.low) (nat_eq y p.high) pair_is_p).0)
+        (eqb-true y p.high (and_parts (nat_eq x p.low) (nat_eq y p.high) pair_is_p).1))
 
     by_test : (b : Bool) → t p ≡ b → (c : Bool) → (nat_eq x p.low && nat_eq y p.high) ≡ c
-        → has (filter t ps) x y ≡ (t (pair x y) && has ps x y)
-        → has (cond b (p ∷ filter t ps) (filter t ps)) x y ≡ (t (pair x y) && (c || has ps x y))
-    by_test true e true s r =
-        ap (λ b. b || has (filter t ps) x y) s ∙ sym (ap (λ b. b && true) (at s ∙ e))
-    by_test true e false s r = ap (λ b. b || has (filter t ps) x y) s ∙ r
-    by_test false e true s r =
-        r ∙ ap (λ b. b && has ps x y) (at s ∙ e) ∙ sym (ap (λ b. b && true) (at s ∙ e))
-    by_test false e false s r = r
+        → has_symbol_pair (filter t ps) x y ≡ (t (pair x y) && has_symbol_pair ps x y)
+        → has_symbol_pair (cond b (p ∷ filter t ps) (filter t ps)) x y
+        ≡ (t (pair x y) && (c || has_symbol_pair ps x y))
+    by_test true test_of_p true equality_is_c rest_has_filtered =
+        ap (λ b. b || has_symbol_pair (filter t ps) x y) equality_is_c
+        ∙ sym (ap (λ b. b && true) (test_of_equal_pairs equality_is_c ∙ test_of_p))
+    by_test true test_of_p false equality_is_c rest_has_filtered =
+        ap (λ b. b || has_symbol_pair (filter t ps) x y) equality_is_c ∙ rest_has_filtered
+    by_test false test_of_p true equality_is_c rest_has_filtered =
+        rest_has_filtered
+        ∙ ap (λ b. b && has_symbol_pair ps x y) (test_of_equal_pairs equality_is_c ∙ test_of_p)
+        ∙ sym (ap (λ b. b && true) (test_of_equal_pairs equality_is_c ∙ test_of_p))
+    by_test false test_of_p false equality_is_c rest_has_filtered = rest_has_filtered
 
-pub sorted_filter : (t : Pair → Bool) (ps : List Pair) → Sorted ps → Sorted (filter t ps)
-sorted_filter t [] s = tt
-sorted_filter t (p ∷ ps) s = by_test (t p) (sorted_filter t ps s.1)
+-- sorted pairs stay so when filtered
+pub filtered_are_sorted : (t : Pair → Bool) (ps : List Pair) → AreSorted ps
+    → AreSorted (filter t ps)
+filtered_are_sorted t [] are_sorted = tt
+filtered_are_sorted t (p ∷ ps) are_sorted = by_test (t p) (filtered_are_sorted t ps are_sorted.1)
   where
-    by_test : (b : Bool) → Sorted (filter t ps) → Sorted (cond b (p ∷ filter t ps) (filter t ps))
-    by_test true r = (
-      λ x y e. s.0 x y
-          (and_parts (t (pair x y)) (has ps x y) (sym (has_filter t ps x y) ∙ e)).1,
-      r,
+    by_test : (b : Bool) → AreSorted (filter t ps)
+        → AreSorted (cond b (p ∷ filter t ps) (filter t ps))
+    by_test true rest_is_sorted = (
+      λ x y has_filtered. are_sorted.0 x y
+          (and_parts (t (pair x y)) (has_symbol_pair ps x y) (sym (has_filtered_pair t ps x y)
+          ∙ has_filtered)).1,
+      rest_is_sorted,
     )
-    by_test false r = r
+    by_test false rest_is_sorted = rest_is_sorted
 
-has_row : (c : ℕ) (xs : List ℕ) (x y : ℕ)
-    → has (map (pair c) xs) x y ≡ (nat_eq x c && is_member xs y)
-has_row c [] x y = sym (and-false (nat_eq x c))
-has_row c (z ∷ xs) x y =
-    ap (λ b. (nat_eq x c && nat_eq y z) || b) (has_row c xs x y) ∙ by_values (nat_eq x c)
+-- a row has the pairs of its symbol with each symbol of the row
+has_pair_in_row : (c : ℕ) (xs : List ℕ) (x y : ℕ)
+    → has_symbol_pair (map (pair c) xs) x y ≡ (nat_eq x c && is_member xs y)
+has_pair_in_row c [] x y = sym (and-false (nat_eq x c))
+has_pair_in_row c (z ∷ xs) x y =
+    ap (λ b. (nat_eq x c && nat_eq y z) || b) (has_pair_in_row c xs x y) ∙ by_values (nat_eq x c)
   where
     by_values : (b : Bool)
         → ((b && nat_eq y z) || (b && is_member xs y)) ≡ (b && (nat_eq y z || is_member xs y))
     by_values true = refl
     by_values false = refl
 
-pub has_rows : (ys xs : List ℕ) (x y : ℕ)
-    → has (flat_map (λ c. map (pair c) ys) xs) x y ≡ (is_member xs x && is_member ys y)
-has_rows ys [] x y = refl
-has_rows ys (c ∷ xs) x y =
+-- the rows have the pairs of each symbol with each other one
+pub has_pair_in_rows : (ys xs : List ℕ) (x y : ℕ)
+    → has_symbol_pair (flat_map (λ c. map (pair c) ys) xs) x y ≡ (is_member xs x && is_member ys y)
+has_pair_in_rows ys [] x y = refl
+has_pair_in_rows ys (c ∷ xs) x y =
     list_any-append _ (map (pair c) ys) (flat_map (λ c. map (pair c) ys) xs)
-    ∙ ap₂ (λ a b. a || b) (has_row c ys x y) (has_rows ys xs x y)
+    ∙ ap₂ (λ a b. a || b) (has_pair_in_row c ys x y) (has_pair_in_rows ys xs x y)
     ∙ by_values (nat_eq x c) (is_member ys y)
   where
     by_values : (a b : Bool) → ((a && b) || (is_member xs x && b)) ≡ ((a || is_member xs x) && b)
@@ -285,58 +365,72 @@ has_rows ys (c ∷ xs) x y =
         right_is_false false = refl
     by_values false b = refl
 
-range_low : (n a x : ℕ) → is_member (range_with_len a n) x ≡ true → a ≤ x
-range_low zero a x e = absurd (true≢false (sym e))
-range_low (suc n) a x e = by_equality (nat_eq x a) refl e (range_low n (a + 1) x)
+-- no number of a range is below its start
+start_le_member : (n a x : ℕ) → is_member (range_with_len a n) x ≡ true → a ≤ x
+start_le_member zero a x is_member_x = absurd (true≢false (sym is_member_x))
+start_le_member (suc n) a x is_member_x =
+    by_equality (nat_eq x a) refl is_member_x (start_le_member n (a + 1) x)
   where
     by_equality : (b : Bool) → nat_eq x a ≡ b → (b || is_member (range_with_len (a + 1) n) x) ≡ true
         → (is_member (range_with_len (a + 1) n) x ≡ true → a + 1 ≤ x) → a ≤ x
-    by_equality true s e r = let q = eqb-true x a s in omega (arith, q)
-    by_equality false s e r = let q = r e in omega (arith, q)
+    by_equality true x_is_a is_member_x rest_le = let a_le_x = eqb-true x a x_is_a in
+        omega (arith, a_le_x)
+    by_equality false x_is_a is_member_x rest_le = let a_le_x = rest_le is_member_x in
+        omega (arith, a_le_x)
 
-sorted_append : (ps qs : List Pair) → Sorted ps → Sorted qs
-    → ((a b x y : ℕ) → has ps a b ≡ true → has qs x y ≡ true → IsBefore a b x y) → Sorted (ps ++ qs)
-sorted_append [] qs s t h = t
-sorted_append (p ∷ ps) qs s t h = (
-  λ x y e. by_membership x y (has ps x y) refl
-      (sym (list_any-append _ ps qs) ∙ e),
-  sorted_append ps qs s.1 t
-      (λ a b x y e f. h a b x y (after p ps a b e) f),
+-- two sorted lists, one before the other, are sorted
+appended_are_sorted : (ps qs : List Pair) → AreSorted ps → AreSorted qs
+    → ((a b x y : ℕ) → has_symbol_pair ps a b ≡ true → has_symbol_pair qs x y ≡ true
+    → IsBefore a b x y)
+    → AreSorted (ps ++ qs)
+appended_are_sorted [] qs ps_sorted qs_sorted ps_before_qs = qs_sorted
+appended_are_sorted (p ∷ ps) qs ps_sorted qs_sorted ps_before_qs = (
+  λ x y has_either. by_membership x y (has_symbol_pair ps x y) refl
+      (sym (list_any-append _ ps qs) ∙ has_either),
+  appended_are_sorted ps qs ps_sorted.1 qs_sorted
+      (λ a b x y has_either has_second. ps_before_qs a b x y
+      (in_rest_is_in p ps a b has_either) has_second),
 )
   where
-    by_membership : (x y : ℕ) → (c : Bool) → has ps x y ≡ c → (c || has qs x y) ≡ true
+    by_membership : (x y : ℕ) → (c : Bool) → has_symbol_pair ps x y ≡ c
+        → (c || has_symbol_pair qs x y) ≡ true
         → IsBefore p.low p.high x y
-    by_membership x y true e f = s.0 x y e
-    by_membership x y false e f = h p.low p.high x y (self p ps) f
+    by_membership x y true in_ps in_either = ps_sorted.0 x y in_ps
+    by_membership x y false in_ps in_either =
+        ps_before_qs p.low p.high x y (first_is_in p ps) in_either
 
-sorted_row : (c n a : ℕ) → Sorted (map (pair c) (range_with_len a n))
-sorted_row c zero a = tt
-sorted_row c (suc n) a = (
-  λ x y e. let h = sym (has_row c (range_with_len (a + 1) n) x y) ∙ e in
-      let q = eqb-true x c (and_parts (nat_eq x c) (is_member (range_with_len (a + 1) n) y) h).0 in
-      let l = range_low n (a + 1) y
-      (and_parts (nat_eq x c) (is_member (range_with_len (a + 1) n) y) h).1 in
-      inr (sym q, omega (arith, l)),
-  sorted_row c n (a + 1),
+-- a row of pairs is sorted
+row_is_sorted : (c n a : ℕ) → AreSorted (map (pair c) (range_with_len a n))
+row_is_sorted c zero a = tt
+row_is_sorted c (suc n) a = (
+  λ x y has_symbol_pair_x_y. let in_row = sym (has_pair_in_row c (range_with_len (a + 1) n) x y)
+      ∙ has_symbol_pair_x_y in
+      let x_is_c = eqb-true x c
+      (and_parts (nat_eq x c) (is_member (range_with_len (a + 1) n) y) in_row).0 in
+      let next_le_y = start_le_member n (a + 1) y
+      (and_parts (nat_eq x c) (is_member (range_with_len (a + 1) n) y) in_row).1 in
+      inr (sym x_is_c, omega (arith, next_le_y)),
+  row_is_sorted c n (a + 1),
 )
 
-sorted_rows : (m n a : ℕ)
-    → Sorted (flat_map (λ c. map (pair c) (range_with_len 0 m)) (range_with_len a n))
-sorted_rows m zero a = tt
-sorted_rows m (suc n) a =
-    sorted_append (map (pair a) (range_with_len 0 m))
+-- the rows, one after the other, are sorted
+rows_are_sorted : (m n a : ℕ)
+    → AreSorted (flat_map (λ c. map (pair c) (range_with_len 0 m)) (range_with_len a n))
+rows_are_sorted m zero a = tt
+rows_are_sorted m (suc n) a =
+    appended_are_sorted (map (pair a) (range_with_len 0 m))
     (flat_map (λ c. map (pair c) (range_with_len 0 m)) (range_with_len (a + 1) n))
-    (sorted_row a m 0) (sorted_rows m n (a + 1)) (λ p q x y e f.
-    let u =
+    (row_is_sorted a m 0) (rows_are_sorted m n (a + 1)) (λ p q x y in_row in_rows.
+    let p_is_a =
     eqb-true p a
     (and_parts (nat_eq p a) (is_member (range_with_len 0 m) q)
-    (sym (has_row a (range_with_len 0 m) p q) ∙ e)).0 in
-    let l =
-    range_low n (a + 1) x
+    (sym (has_pair_in_row a (range_with_len 0 m) p q) ∙ in_row)).0 in
+    let next_le_x =
+    start_le_member n (a + 1) x
     (and_parts (is_member (range_with_len (a + 1) n) x) (is_member (range_with_len 0 m) y)
-    (sym (has_rows (range_with_len 0 m) (range_with_len (a + 1) n) x y) ∙ f)).0 in
-    inl (omega (arith, u, l)))
+    (sym (has_pair_in_rows (range_with_len 0 m) (range_with_len (a + 1) n) x y) ∙ in_rows)).0 in
+    inl (omega (arith, p_is_a, next_le_x)))
 
 -- the list of all pairs of numbers below n is sorted
-pub sorted_pairs : (n : ℕ) → Sorted (pairs_of n)
-sorted_pairs n = sorted_rows n n 0
+pub all_pairs_are_sorted : (n : ℕ) → AreSorted (pairs_of n)
+all_pairs_are_sorted n = rows_are_sorted n n 0

@@ -10,17 +10,19 @@ use Rattle.mm_outline.specs.Blocks.{BlockLists, end_of}
 use Rattle.mm_database.specs.DisjointIndex.{IsCovered, Covers, AreSkips}
 
 module _ (b : BlockLists) (ps : List (ℕ × ℕ)) where
+  -- the pair at a place
   abbrev pair_at : ℕ → ℕ × ℕ
   pair_at i = get_or ps i (0, 0)
 
   -- the skips of the pairs before `at`
-  abbrev pub AreSoFar : ℕ → List ℕ → Type 0
-  AreSoFar at skips =
+  abbrev pub AreSkipsSoFar : ℕ → List ℕ → Type 0
+  AreSkipsSoFar at skips =
       (length skips ≡ at)
       × ((q : ℕ) → q < at → (get_or skips q 0 ≤ q) × Covers b ps (get_or skips q 0) q)
 
+  -- a pair covers itself
   pub covers_itself : (q : ℕ) → Covers b ps q q
-  covers_itself q p l m =
+  covers_itself q p q_le_p p_le_q =
       let q_is_p : q ≡ p = omega arith in
       subst (λ i. IsCovered b (pair_at i) (pair_at q)) q_is_p (refl, omega arith)
 
@@ -29,10 +31,10 @@ module _ (b : BlockLists) (ps : List (ℕ × ℕ)) where
       → (nat_eq (pair_at (first - 1)).0 (pair_at at).0
       && nat_le (end_of b (pair_at (first - 1)).1) (end_of b (pair_at at).1)) ≡ true
       → (s ≤ first - 1) × Covers b ps s (first - 1) → (s ≤ at) × Covers b ps s at
-  covers_before first at s first_positive first_le_at c t d =
-      let n = d.0 in (
-        omega (arith, first_positive, first_le_at, n),
-        λ p from to. by_order p from to
+  covers_before first at s first_positive first_le_at first_covers is_covered s_covers =
+      let s_le_previous = s_covers.0 in (
+        omega (arith, first_positive, first_le_at, s_le_previous),
+        λ p s_le_p p_le_at. by_order p s_le_p p_le_at
             (cases_lt p first),
       )
     where
@@ -40,55 +42,64 @@ module _ (b : BlockLists) (ps : List (ℕ × ℕ)) where
           × (nat_le (end_of b (pair_at (first - 1)).1) (end_of b (pair_at at).1) ≡ true)
       parts =
           and_parts (nat_eq (pair_at (first - 1)).0 (pair_at at).0)
-          (nat_le (end_of b (pair_at (first - 1)).1) (end_of b (pair_at at).1)) t
+          (nat_le (end_of b (pair_at (first - 1)).1) (end_of b (pair_at at).1)) is_covered
 
-      same : (pair_at (first - 1)).0 ≡ (pair_at at).0
-      same = eqb-true (pair_at (first - 1)).0 (pair_at at).0 parts.0
+      symbols_equal : (pair_at (first - 1)).0 ≡ (pair_at at).0
+      symbols_equal = eqb-true (pair_at (first - 1)).0 (pair_at at).0 parts.0
 
-      no_later : end_of b (pair_at (first - 1)).1 ≤ end_of b (pair_at at).1
-      no_later = leb-true (end_of b (pair_at (first - 1)).1) (end_of b (pair_at at).1) parts.1
+      end_le_end : end_of b (pair_at (first - 1)).1 ≤ end_of b (pair_at at).1
+      end_le_end = leb-true (end_of b (pair_at (first - 1)).1) (end_of b (pair_at at).1) parts.1
 
       by_order : (p : ℕ) → s ≤ p → p ≤ at → (p < first) ⊎ (first ≤ p)
           → IsCovered b (pair_at p) (pair_at at)
-      by_order p from to (inr h) = c p h to
-      by_order p from to (inl h) =
-          let e = d.1 p from (omega (arith, h)) in
-          let f = e.1 in
-          (e.0 ∙ same, omega (arith, f, no_later))
+      by_order p s_le_p p_le_at (inr p_order) = first_covers p p_order p_le_at
+      by_order p s_le_p p_le_at (inl p_order) =
+          let p_is_covered = s_covers.1 p s_le_p (omega (arith, p_order)) in
+          let p_end_le = p_is_covered.1 in
+          (p_is_covered.0 ∙ symbols_equal, omega (arith, p_end_le, end_le_end))
 
   -- a skip that was found is no later than its pair
-  pub skip_read : (at : ℕ) (skips : List ℕ) → AreSoFar at skips → (q r d : ℕ) → q < at
+  pub skip_covers : (at : ℕ) (skips : List ℕ) → AreSkipsSoFar at skips → (q r d : ℕ) → q < at
       → r ≡ get_or skips q d → (r ≤ q) × Covers b ps r q
-  skip_read at skips a q r d l e =
-      let n = a.0 in
+  skip_covers at skips are_so_far q r d q_lt_at r_is_skip =
+      let skips_length = are_so_far.0 in
       subst (λ s. (s ≤ q) × Covers b ps s q)
-      (sym (e ∙ get_or_default_zero skips q d (omega (arith, l, n)))) (a.1 q l)
+      (sym (r_is_skip ∙ get_or_default_zero skips q d (omega (arith, q_lt_at, skips_length))))
+      (are_so_far.1 q q_lt_at)
 
-  pub skips_more : (at s : ℕ) (skips : List ℕ) → AreSoFar at skips → (s ≤ at) × Covers b ps s at
-      → (more : List ℕ) → more ≡ skips ++ s ∷ [] → AreSoFar (at + 1) more
-  skips_more at s skips a c more e = (
-    ap length e ∙ length-append skips (s ∷ []) ∙ ap (λ n. n + 1) a.0,
-    λ q l. by_order q (cases_lt q at) l,
+  -- the skips so far, with that of the next pair
+  pub skips_with_next : (at s : ℕ) (skips : List ℕ) → AreSkipsSoFar at skips
+      → (s ≤ at) × Covers b ps s at
+      → (pushed : List ℕ) → pushed ≡ skips ++ s ∷ [] → AreSkipsSoFar (at + 1) pushed
+  skips_with_next at s skips are_so_far s_covers pushed more_is_pushed = (
+    ap length more_is_pushed ∙ length-append skips (s ∷ []) ∙ ap (λ n. n + 1) are_so_far.0,
+    λ q q_lt_next. by_order q (cases_lt q at) q_lt_next,
   )
     where
       by_order : (q : ℕ) → (q < at) ⊎ (at ≤ q) → q < at + 1
-          → (get_or more q 0 ≤ q) × Covers b ps (get_or more q 0) q
-      by_order q (inl h) q_lt_next_at =
-          let n = a.0 in
+          → (get_or pushed q 0 ≤ q) × Covers b ps (get_or pushed q 0) q
+      by_order q (inl q_order) q_lt_next_at =
+          let skips_length = are_so_far.0 in
           subst (λ x. (x ≤ q) × Covers b ps x q)
-          (sym (ap (λ xs. get_or xs q 0) e
-          ∙ get_or_append_left skips (s ∷ []) 0 q (omega (arith, h, n)))) (a.1 q h)
-      by_order q (inr h) q_lt_next_at =
-          let i : at ≡ q = omega (arith, h, q_lt_next_at) in
-          subst (λ j. (get_or more j 0 ≤ j) × Covers b ps (get_or more j 0) j) i
+          (sym (ap (λ xs. get_or xs q 0) more_is_pushed
+          ∙ get_or_append_left skips (s ∷ []) 0 q (omega (arith, q_order, skips_length))))
+          (are_so_far.1 q q_order)
+      by_order q (inr q_order) q_lt_next_at =
+          let at_is_q : at ≡ q = omega (arith, q_order, q_lt_next_at) in
+          subst (λ j. (get_or pushed j 0 ≤ j) × Covers b ps (get_or pushed j 0) j) at_is_q
           (subst (λ x. (x ≤ at) × Covers b ps x at)
-          (sym (ap (λ xs. get_or xs at 0) e ∙ ap (λ j. get_or (skips ++ s ∷ []) j 0) (sym a.0)
-          ∙ get_or-append_seam skips s [] 0)) c)
+          (sym (ap (λ xs. get_or xs at 0) more_is_pushed
+          ∙ ap (λ j. get_or (skips ++ s ∷ []) j 0) (sym are_so_far.0)
+          ∙ get_or-append_seam skips s [] 0)) s_covers)
 
-  pub all_skips : (at : ℕ) (skips : List ℕ) → AreSoFar at skips → at ≤ length ps
+  -- at the end the skips so far are all of them
+  pub so_far_are_skips : (at : ℕ) (skips : List ℕ) → AreSkipsSoFar at skips → at ≤ length ps
       → length ps ≤ at → AreSkips b ps skips
-  all_skips at skips a l m = record {
-    count = (let n = a.0 in omega (arith, n, l, m));
-    within = λ q h. (a.1 q (omega (arith, h, l, m))).0;
-    covers = λ q h. (a.1 q (omega (arith, h, l, m))).1;
+  so_far_are_skips at skips are_so_far at_le_length length_le_at = record {
+    count = (let skips_length = are_so_far.0 in
+        omega (arith, skips_length, at_le_length, length_le_at));
+    within = λ q q_lt_length.
+        (are_so_far.1 q (omega (arith, q_lt_length, at_le_length, length_le_at))).0;
+    covers = λ q q_lt_length.
+        (are_so_far.1 q (omega (arith, q_lt_length, at_le_length, length_le_at))).1;
   }

@@ -11,63 +11,71 @@ use Rattle.mm_frame.specs.Hypotheses.{AreStamps}
 use Rattle.mm_spec.proofs.MemberLaw.{member_push}
 
 -- stamps stay those of the variables if a symbol is stamped and added to them
-pub stamp_more : (n stamp : ℕ) (stamps variables : List ℕ) (s : ℕ)
+pub stamps_with_symbol : (n stamp : ℕ) (stamps variables : List ℕ) (s : ℕ)
     → AreStamps n stamp stamps variables → s < n
     → AreStamps n stamp (set stamps s stamp) (variables ++ s ∷ [])
-stamp_more n stamp stamps variables s m h = record {
-  count = length-set stamps s stamp ∙ m.count;
-  within = λ x l. within x l (cases_eq x s);
-  marked = λ x l. marked x l (cases_eq x s) ∙ sym (member_push variables s x);
+stamps_with_symbol n stamp stamps variables s are_stamps s_lt_n = record {
+  count = length-set stamps s stamp ∙ are_stamps.count;
+  stamps_le_stamp = λ x x_lt_n. stamp_le_stamp x x_lt_n (cases_eq x s);
+  marked_is_member = λ x x_lt_n. marked_if_member x x_lt_n (cases_eq x s)
+      ∙ sym (member_push variables s x);
 }
   where
     stamp_is_set : get_or (set stamps s stamp) s 0 ≡ stamp
-    stamp_is_set = get_or-set_same stamps s stamp 0 (let c = m.count in omega (arith, c, h))
+    stamp_is_set = get_or-set_same stamps s stamp 0 (let stamps_count = are_stamps.count in
+        omega (arith, stamps_count, s_lt_n))
 
-    within : (x : ℕ) → x < n → (x ≡ s) ⊎ (x ≢ s) → get_or (set stamps s stamp) x 0 ≤ stamp
-    within x l (inl e) =
-        subst (λ x. get_or (set stamps s stamp) x 0 ≤ stamp) (sym e)
+    stamp_le_stamp : (x : ℕ) → x < n → (x ≡ s) ⊎ (x ≢ s) → get_or (set stamps s stamp) x 0 ≤ stamp
+    stamp_le_stamp x x_lt_n (inl x_order) =
+        subst (λ x. get_or (set stamps s stamp) x 0 ≤ stamp) (sym x_order)
         (subst (λ v. v ≤ stamp) (sym stamp_is_set) (le_refl stamp))
-    within x l (inr e) =
-        subst (λ v. v ≤ stamp) (sym (get_or-set_other stamps s x stamp 0 e)) (m.within x l)
+    stamp_le_stamp x x_lt_n (inr x_order) =
+        subst (λ v. v ≤ stamp) (sym (get_or-set_other stamps s x stamp 0 x_order))
+        (are_stamps.stamps_le_stamp x x_lt_n)
 
-    marked : (x : ℕ) → x < n → (x ≡ s) ⊎ (x ≢ s)
+    marked_if_member : (x : ℕ) → x < n → (x ≡ s) ⊎ (x ≢ s)
         → nat_eq (get_or (set stamps s stamp) x 0) stamp ≡ (is_member variables x || nat_eq x s)
-    marked x l (inl e) =
-        ap (λ x. nat_eq (get_or (set stamps s stamp) x 0) stamp) e
+    marked_if_member x x_lt_n (inl x_order) =
+        ap (λ x. nat_eq (get_or (set stamps s stamp) x 0) stamp) x_order
         ∙ eq-eqb (get_or (set stamps s stamp) s 0) stamp stamp_is_set
-        ∙ sym (ap (λ b. is_member variables x || b) (eq-eqb x s e)
+        ∙ sym (ap (λ b. is_member variables x || b) (eq-eqb x s x_order)
         ∙ or-true (is_member variables x))
-    marked x l (inr e) =
-        ap (λ v. nat_eq v stamp) (get_or-set_other stamps s x stamp 0 e) ∙ m.marked x l
-        ∙ sym (ap (λ b. is_member variables x || b) (ne_eqb x s e)
+    marked_if_member x x_lt_n (inr x_order) =
+        ap (λ v. nat_eq v stamp) (get_or-set_other stamps s x stamp 0 x_order)
+        ∙ are_stamps.marked_is_member x x_lt_n
+        ∙ sym (ap (λ b. is_member variables x || b) (ne_eqb x s x_order)
         ∙ or-false (is_member variables x))
 
 -- with a new stamp none is marked
-pub stamps_fresh : (n k : ℕ) (stamps variables : List ℕ) → length stamps ≡ n
+pub fresh_stamps_mark_none : (n k : ℕ) (stamps variables : List ℕ) → length stamps ≡ n
     → ((x : ℕ) → x < n → get_or stamps x 0 ≤ k) → variables ≡ []
     → AreStamps n (k + 1) stamps variables
-stamps_fresh n k stamps variables c w e = record {
-  count = c;
-  within = λ x l. let h = w x l in omega (arith, h);
-  marked =
-      λ x l. let h = w x l in
-      ne_eqb (get_or stamps x 0) (k + 1) (λ s. absurd (omega (arith, s, h)))
-      ∙ sym (ap (λ f. is_member f x) e);
+fresh_stamps_mark_none n k stamps variables length_is_n stamps_le_k variables_are_none = record {
+  count = length_is_n;
+  stamps_le_stamp = λ x x_lt_n. let stamp_le_k = stamps_le_k x x_lt_n in omega (arith, stamp_le_k);
+  marked_is_member =
+      λ x x_lt_n. let stamp_le_k = stamps_le_k x x_lt_n in
+      ne_eqb (get_or stamps x 0) (k + 1)
+      (λ stamp_is_next. absurd (omega (arith, stamp_is_next, stamp_le_k)))
+      ∙ sym (ap (λ f. is_member f x) variables_are_none);
 }
 
 -- a symbol that has been noted already, one that is new, and one that is no variable
-pub listed_new : (v : ℕ → Bool) (s x : ℕ) (b : Bool) → v s ≡ true
+pub listed_with_new : (v : ℕ → Bool) (s x : ℕ) (b : Bool) → v s ≡ true
     → (b || nat_eq x s) ≡ (b || (v x && nat_eq x s))
-listed_new v s x b e = by_equality (cases_eq x s)
+listed_with_new v s x b s_is_variable = by_equality (cases_eq x s)
   where
     by_equality : (x ≡ s) ⊎ (x ≢ s) → (b || nat_eq x s) ≡ (b || (v x && nat_eq x s))
-    by_equality (inl q) = ap (λ a. b || (a && nat_eq x s)) (sym (ap v q ∙ e))
-    by_equality (inr q) =
-        ap (λ a. b || a) (ne_eqb x s q)
-        ∙ sym (ap (λ a. b || a) (ap (λ a. v x && a) (ne_eqb x s q) ∙ and-false (v x)))
+    by_equality (inl x_order) =
+        ap (λ a. b || (a && nat_eq x s)) (sym (ap v x_order ∙ s_is_variable))
+    by_equality (inr x_order) =
+        ap (λ a. b || a) (ne_eqb x s x_order)
+        ∙ sym (ap (λ a. b || a) (ap (λ a. v x && a) (ne_eqb x s x_order) ∙ and-false (v x)))
 
-pub listed_again : (v m : ℕ → Bool) (s x : ℕ) → m s ≡ true → m x ≡ (m x || (v x && nat_eq x s))
-listed_again v m s x e = by_equality (cases_eq x s)
+-- a symbol that is already listed changes nothing
+pub listed_is_unchanged : (v m : ℕ → Bool) (s x : ℕ) → m s ≡ true
+    → m x ≡ (m x || (v x && nat_eq x s))
+listed_is_unchanged v m s x s_is_listed = by_equality (cases_eq x s)
   where
     right_false : (a b : Bool) → a ≡ (a || (b && false))
     right_false true b = refl
@@ -75,11 +83,15 @@ listed_again v m s x e = by_equality (cases_eq x s)
     right_false false false = refl
 
     by_equality : (x ≡ s) ⊎ (x ≢ s) → m x ≡ (m x || (v x && nat_eq x s))
-    by_equality (inl q) = let t = ap m q ∙ e in t ∙ sym (ap (λ a. a || (v x && nat_eq x s)) t)
-    by_equality (inr q) = right_false (m x) (v x) ∙ ap (λ a. m x || (v x && a)) (sym (ne_eqb x s q))
+    by_equality (inl x_order) = let x_is_listed = ap m x_order ∙ s_is_listed in
+        x_is_listed ∙ sym (ap (λ a. a || (v x && nat_eq x s)) x_is_listed)
+    by_equality (inr x_order) =
+        right_false (m x) (v x) ∙ ap (λ a. m x || (v x && a)) (sym (ne_eqb x s x_order))
 
-pub not_listed : (v m : ℕ → Bool) (s x : ℕ) → v s ≡ false → m x ≡ (m x || (v x && nat_eq x s))
-not_listed v m s x e = by_equality (cases_eq x s)
+-- a symbol that is no variable changes nothing
+pub not_listed_is_unchanged : (v m : ℕ → Bool) (s x : ℕ) → v s ≡ false
+    → m x ≡ (m x || (v x && nat_eq x s))
+not_listed_is_unchanged v m s x s_is_no_variable = by_equality (cases_eq x s)
   where
     right_false : (a b : Bool) → a ≡ (a || (b && false))
     right_false true b = refl
@@ -87,9 +99,10 @@ not_listed v m s x e = by_equality (cases_eq x s)
     right_false false false = refl
 
     by_equality : (x ≡ s) ⊎ (x ≢ s) → m x ≡ (m x || (v x && nat_eq x s))
-    by_equality (inl q) = sym (or-false (m x))
-        ∙ ap (λ a. m x || (a && nat_eq x s)) (sym (ap v q ∙ e))
-    by_equality (inr q) = right_false (m x) (v x) ∙ ap (λ a. m x || (v x && a)) (sym (ne_eqb x s q))
+    by_equality (inl x_order) = sym (or-false (m x))
+        ∙ ap (λ a. m x || (a && nat_eq x s)) (sym (ap v x_order ∙ s_is_no_variable))
+    by_equality (inr x_order) =
+        right_false (m x) (v x) ∙ ap (λ a. m x || (v x && a)) (sym (ne_eqb x s x_order))
 
 -- a variable is among the found ones and those of the row with one symbol more
 pub listed_row : (f v t e : Bool) → ((f || (v && t)) || (v && e)) ≡ (f || (v && (t || e)))
@@ -98,11 +111,13 @@ listed_row false false t e = refl
 listed_row false true t e = refl
 
 -- a symbol with this stamp has been found
-pub stamped_again : (n stamp : ℕ) (stamps variables : List ℕ) (s place r : ℕ)
+pub stamped_is_member : (n stamp : ℕ) (stamps variables : List ℕ) (s place r : ℕ)
     → AreStamps n stamp stamps variables
     → s < n → place ≡ s → r ≡ get_or stamps place r → r ≡ stamp → is_member variables s ≡ true
-stamped_again n stamp stamps variables s place r m l p e f =
-    sym (m.marked s l)
+stamped_is_member n stamp stamps variables s place r are_stamps s_lt_n place_is_s r_is_stamp_of_s
+    r_is_stamp =
+    sym (are_stamps.marked_is_member s s_lt_n)
     ∙ eq-eqb (get_or stamps s 0) stamp
-    (sym (get_or_default_zero stamps s r (let c = m.count in omega (arith, l, c)))
-    ∙ ap (λ i. get_or stamps i r) (sym p) ∙ sym e ∙ f)
+    (sym (get_or_default_zero stamps s r (let stamps_count = are_stamps.count in
+    omega (arith, s_lt_n, stamps_count)))
+    ∙ ap (λ i. get_or stamps i r) (sym place_is_s) ∙ sym r_is_stamp_of_s ∙ r_is_stamp)

@@ -16,30 +16,30 @@ IsLinkChain links n (j ∷ js) =
 
 -- each chain begins at one of the links, and each link leads to one before it
 pub record AreLinked (heads : List ℕ) (links : List (ℕ × ℕ)) : Type 0 where
-  pub within : (x : ℕ) → x < length heads → get_or heads x 0 ≤ length links
-  pub down : (i : ℕ) → i < length links → (get_or links i (0, 0)).1 ≤ i
+  pub heads_le_length : (x : ℕ) → x < length heads → get_or heads x 0 ≤ length links
+  pub next_le_index : (i : ℕ) → i < length links → (get_or links i (0, 0)).1 ≤ i
 
 -- the chain from link n on has the statements that pass the test, in ascending order, all of them
 -- from `least` on
-pub record HasChain (has : ℕ → Bool) (least : ℕ) (links : List (ℕ × ℕ)) (n : ℕ) : Type 0 where
+pub record HasChain (passes : ℕ → Bool) (least : ℕ) (links : List (ℕ × ℕ)) (n : ℕ) : Type 0 where
   pub statements : List ℕ
   pub chain : IsLinkChain links n statements
   pub rising : IsRisingFrom least statements
-  pub members_are : (j : ℕ) → is_member statements j ≡ has j
+  pub members_are : (j : ℕ) → is_member statements j ≡ passes j
 
--- the chain of each symbol x has the statements j for which `has x j` is true
+-- the chain of each symbol x has the statements j for which `passes x j` is true
 abbrev pub AreChains : (ℕ → ℕ → Bool) → ℕ → List ℕ → List (ℕ × ℕ) → Type 0
-AreChains has least heads links =
-    (x : ℕ) → x < length heads → HasChain (has x) least links (get_or heads x 0)
+AreChains passes least heads links =
+    (x : ℕ) → x < length heads → HasChain (passes x) least links (get_or heads x 0)
 
 module _ {A : Type 0} where
   -- Statement k is put in front of the chains of the symbols that pass the test. If no statement of
   -- the chains was before k, these then have k beside what they had, and the others what they had.
   abbrev pub AddsInFront : (ℕ → Bool) → ℕ → Chains A → Chains A → Type 0
   AddsInFront test k old new =
-      (has : ℕ → ℕ → Bool) → AreChains has k old.heads.items old.links.items
-      → AreChains (λ x j. has x j || (test x && nat_eq j k)) k new.heads.items new.links.items
+      (passes : ℕ → ℕ → Bool) → AreChains passes k old.heads.items old.links.items
+      → AreChains (λ x j. passes x j || (test x && nat_eq j k)) k new.heads.items new.links.items
 
-  -- the chain of a symbol has these statements, in this order
+  -- the chain of a symbol passes these statements, in this order
   abbrev pub IsChainOf : Chains A → ℕ → List ℕ → Type 0
   IsChainOf c x statements = IsLinkChain c.links.items (get_or c.heads.items x 0) statements

@@ -11,28 +11,30 @@ use Rattle.mm_database.specs.ParsedStatements.{typed_variable_at}
 -- the symbols with this stamp are those that have been found
 pub record AreStamps (n stamp : ℕ) (stamps variables : List ℕ) : Type 0 where
   pub count : length stamps ≡ n
-  pub within : (x : ℕ) → x < n → slice_index stamps x ≤ stamp
-  pub marked : (x : ℕ) → x < n → nat_eq (slice_index stamps x) stamp ≡ is_member variables x
+  pub stamps_le_stamp : (x : ℕ) → x < n → slice_index stamps x ≤ stamp
+  pub marked_is_member : (x : ℕ) → x < n
+      → nat_eq (slice_index stamps x) stamp ≡ is_member variables x
 
 -- no symbol has a later stamp
 pub record IsFresh (n stamp : ℕ) (stamps : List ℕ) : Type 0 where
   pub count : length stamps ≡ n
-  pub within : (x : ℕ) → x < n → slice_index stamps x ≤ stamp
+  pub stamps_le_stamp : (x : ℕ) → x < n → slice_index stamps x ≤ stamp
 
 -- for each variable its last `$f` before k, the only one that may be active
 pub record AreLastFloats (db : List Statement) (k : ℕ) (last_floats : List ℕ) : Type 0 where
   pub count : length last_floats ≡ length (symbol_names db)
-  pub some : (v : ℕ) → v < length (symbol_names db) → slice_index last_floats v ≢ never
+  pub last_is_typed : (v : ℕ) → v < length (symbol_names db) → slice_index last_floats v ≢ never
       → (slice_index last_floats v < k) × (typed_variable_at db (slice_index last_floats v)
       ≡ Some v)
-  pub alone : (j v : ℕ) → j < k → v < length (symbol_names db) → typed_variable_at db j ≡ Some v
+  pub open_is_last : (j v : ℕ) → j < k → v < length (symbol_names db)
+      → typed_variable_at db j ≡ Some v
       → is_block_open db j k ≡ true → slice_index last_floats v ≡ j
 
 -- What a walk keeps for the symbols is ready for statement k: the last `$f` of each variable before
 -- k, and for each symbol a stamp that isn't after k.
 pub record AreReady (db : List Statement) (k : ℕ) (last_floats stamps : List ℕ) : Type 0 where
   pub last_floats_are : AreLastFloats db k last_floats
-  pub fresh : IsFresh (length (symbol_names db)) k stamps
+  pub stamps_are_fresh : IsFresh (length (symbol_names db)) k stamps
 
 -- statement j is the last `$f` of the variable, and active
 abbrev pub is_float_of : List Statement → ℕ → List ℕ → ℕ → ℕ → Bool

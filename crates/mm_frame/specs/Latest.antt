@@ -13,16 +13,18 @@ module _ (test : Statement → Bool) (db : List Statement) where
 
   -- no statement of the kind after `last` is active at k; `last` may be `never`, for none
   pub record IsCandidate (k last : ℕ) : Type 0 where
-    pub found : last ≢ never → (last < k) × (list_any test (statement_at db last) ≡ true)
-    pub after : (i : ℕ) → i < k → (last < i) ⊎ (last ≡ never) → is_staying i k ≡ false
+    pub last_is_found : last ≢ never → (last < k) × (list_any test (statement_at db last) ≡ true)
+    pub later_are_not_staying : (i : ℕ) → i < k → (last < i) ⊎ (last ≡ never)
+        → is_staying i k ≡ false
 
   -- no statement of the kind after `last` is active at k, and `last` is; it may be `never`, for
   -- none
   pub record IsLatest (k last : ℕ) : Type 0 where
-    pub found : last ≢ never → (last < k) × (is_staying last k ≡ true)
-    pub after : (i : ℕ) → i < k → (last < i) ⊎ (last ≡ never) → is_staying i k ≡ false
+    pub last_is_found : last ≢ never → (last < k) × (is_staying last k ≡ true)
+    pub later_are_not_staying : (i : ℕ) → i < k → (last < i) ⊎ (last ≡ never)
+        → is_staying i k ≡ false
 
   -- the last one that is active at each statement and at the end
   pub record AreLatest (lasts : List ℕ) : Type 0 where
     pub count : length lasts ≡ length db + 1
-    pub each : (k : ℕ) → k ≤ length db → IsLatest k (slice_index lasts k)
+    pub each_is_latest : (k : ℕ) → k ≤ length db → IsLatest k (slice_index lasts k)

@@ -4,7 +4,7 @@ use Rattle.std.proofs.lemmas.List.Elements.{All-push}
 use Rattle.mm_spec.specs.Statement.{Statement}
 use Rattle.mm_spec.specs.Derivation.{are_disjoint}
 use Rattle.mm_spec.specs.Citation.{context_at}
-use Rattle.mm_rule.proofs.DisjointLaw.{either_order}
+use Rattle.mm_rule.proofs.DisjointLaw.{are_disjoint_symmetric}
 use Rattle.mm_machine.specs.DisjointCache.{AreDisjointAt, HasPair, InsertsPair}
 
 module _ (db : List Statement) (t : ℕ) (ps : List (ℕ × ℕ)) (pairs_are_disjoint : AreDisjointAt db t
@@ -19,7 +19,7 @@ module _ (db : List Statement) (t : ℕ) (ps : List (ℕ × ℕ)) (pairs_are_dis
 
   pub either_disjoint : (a b : ℕ) → HasPair ps a b ⊎ HasPair ps b a → Disjoint a b
   either_disjoint a b (inl pair_is_there) = pair_of_cache_is_disjoint a b pair_is_there
-  either_disjoint a b (inr pair_is_there) = either_order db t b a (pair_of_cache_is_disjoint b a
+  either_disjoint a b (inr pair_is_there) = are_disjoint_symmetric db t b a (pair_of_cache_is_disjoint b a
       pair_is_there)
 
   pub insert_keeps_disjoint : (a b : ℕ) (qs : List (ℕ × ℕ)) → Disjoint a b → InsertsPair ps a b qs
@@ -36,4 +36,4 @@ module _ (db : List Statement) (t : ℕ) (ps : List (ℕ × ℕ)) (pairs_are_dis
   either_insert_keeps_disjoint a b qs is_disjoint (inl inserted) = insert_keeps_disjoint a b qs
       is_disjoint inserted
   either_insert_keeps_disjoint a b qs is_disjoint (inr inserted) =
-      insert_keeps_disjoint b a qs (either_order db t a b is_disjoint) inserted
+      insert_keeps_disjoint b a qs (are_disjoint_symmetric db t a b is_disjoint) inserted

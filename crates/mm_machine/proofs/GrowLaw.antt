@@ -15,7 +15,7 @@ use Rattle.mm_machine.specs.Arena.{Arena, arena, symbols_of, span, no_symbols, w
 use Rattle.mm_machine.specs.Arena.{span_formula}
 use Rattle.mm_machine.specs.Arena.{IsIn}
 use Rattle.mm_rule.specs.Rule.{IsConstantBelow, IsVariableBelow}
-use Rattle.mm_rule.proofs.SliceLaw.{stretch_more}
+use Rattle.mm_rule.proofs.SliceLaw.{stretch_of_longer_list}
 use Rattle.mm_machine.specs.Replaced.{replaced_part, replaced}
 use Rattle.mm_machine.specs.State.{span_formulas, appended_span, IsMarkedEntry}
 
@@ -76,7 +76,7 @@ stays_with_more_unmarked unmarked marked added e is_in = by_store e.store e.star
               length-append unmarked added,
             );
           };
-          formulas_equal = stretch_more unmarked added s t start_le_end end_le_length;
+          formulas_equal = stretch_of_longer_list unmarked added s t start_le_end end_le_length;
         }
     by_store Marked s t start_le_end end_le_length = record {
       is_in = record {
@@ -114,7 +114,7 @@ stays_with_more_marked unmarked marked added e is_in = by_store e.store e.start 
               length-append marked added,
             );
           };
-          formulas_equal = stretch_more marked added s t start_le_end end_le_length;
+          formulas_equal = stretch_of_longer_list marked added s t start_le_end end_le_length;
         }
 
 -- an entry of a marked formula, whatever the unmarked ones are

@@ -25,7 +25,7 @@ use Rattle.mm_rule.specs.Rule.{IsCompiled}
 use Rattle.mm_machine.specs.Replaced.{replacement, replaced_part}
 use Rattle.mm_machine.specs.Replaced.{replaced}
 use Rattle.mm_machine.specs.State.{span_formulas, applied}
-use Rattle.mm_rule.proofs.FirstLaw.{first_below, found_first}
+use Rattle.mm_rule.proofs.FirstLaw.{floating_index_lt_length, substitution_is_tail_at_index}
 use Rattle.mm_machine.proofs.StretchLaw.{formula_tail}
 
 span_formula_is_at : (xs : Arena) (es : List Span) (j : ℕ) → j < length es
@@ -43,7 +43,7 @@ module _ (db : List Statement) (t : ℕ) (hs : List Formula) (xs : Arena) (es : 
       → replacement xs es (floating_index db hs x) ≡ σ x
   replacement_is x is_bound =
       let j = floating_index db hs x in
-      let j_lt_length_hs : j < length hs = first_below db hs x is_bound in
+      let j_lt_length_hs : j < length hs = floating_index_lt_length db hs x is_bound in
       let is_in : IsIn xs (get_or es j no_symbols) =
       All-get_or (IsIn xs) es j no_symbols (omega (arith, j_lt_length_hs, counts_equal)) entries_in
       in
@@ -52,7 +52,7 @@ module _ (db : List Statement) (t : ℕ) (hs : List Formula) (xs : Arena) (es : 
       formula_tail (symbols_of xs (get_or es j no_symbols).store) (get_or es j no_symbols).start
       (get_or es j no_symbols).end is_in.start_le_end
       ∙ ap tail (span_formula_is_at xs es j (omega (arith, j_lt_length_hs, counts_equal)))
-      ∙ sym (found_first db t hs (span_formulas xs es) x formula_counts_equal is_bound)
+      ∙ sym (substitution_is_tail_at_index db t hs (span_formulas xs es) x formula_counts_equal is_bound)
 
   pub replaced_is_substituted : (f : Formula) → AreBound (context_at db t) hs f
       → replaced xs es (parts_of db hs f) ≡ substitute (context_at db t) σ f

@@ -19,82 +19,102 @@ use Rattle.mm_spec.proofs.ListLaw.{pairs_head, pairs_tail}
 use Rattle.mm_outline.specs.Parts.{as_tokens, token_of}
 use Rattle.mm_proof.specs.Refused.{word_faults}
 
-pub pairs_back : {X : Type 0} (R : X → X → Type 0) (xs ys : List X) → AllPairs R (xs ++ ys)
+-- what holds of all pairs of a list holds of those of its back part
+pub pairs_of_back : {X : Type 0} (R : X → X → Type 0) (xs ys : List X) → AllPairs R (xs ++ ys)
     → AllPairs R ys
-pairs_back R [] ys p = p
-pairs_back R (x ∷ xs) ys p = pairs_back R xs ys (pairs_tail R x (xs ++ ys) p)
+pairs_of_back R [] ys pairs_are_related = pairs_are_related
+pairs_of_back R (x ∷ xs) ys pairs_are_related =
+    pairs_of_back R xs ys (pairs_tail R x (xs ++ ys) pairs_are_related)
 
-abbrev pub Earlier : Token → Token → Type 0
-Earlier t u = t.at < u.at
+-- the first token stands before the second
+abbrev pub StandsEarlier : Token → Token → Type 0
+StandsEarlier t u = t.at < u.at
 
-abbrev Later : ℕ → Option Fault → Type 0
-Later n None = Unit {0}
-Later n (Some g) = n < g.at
+-- a fault, if there is one, stands after place `n`
+abbrev IsLater : ℕ → Option Fault → Type 0
+IsLater n None = Unit {0}
+IsLater n (Some g) = n < g.at
 
-least_later : (n : ℕ) (fs : List Fault) → AllByRecursion (λ (g : Fault). n < g.at) fs
-    → Later n (least fs)
-least_later n [] h = tt
-least_later n (f ∷ fs) h = by_fault (least fs) (least_later n fs h.1)
+-- if all faults stand after a place, so does the first of them
+least_is_later : (n : ℕ) (fs : List Fault) → AllByRecursion (λ (g : Fault). n < g.at) fs
+    → IsLater n (least fs)
+least_is_later n [] all_later = tt
+least_is_later n (f ∷ fs) all_later = by_fault (least fs) (least_is_later n fs all_later.1)
   where
-    two : (g : Fault) (b : Bool) → n < g.at → Later n (elim b [ true ↦ Some f | false ↦ Some g ])
-    two g true l = h.0
-    two g false l = l
+    lesser_is_later : (g : Fault) (b : Bool) → n < g.at
+        → IsLater n (elim b [ true ↦ Some f | false ↦ Some g ])
+    lesser_is_later g true g_is_later = all_later.0
+    lesser_is_later g false g_is_later = g_is_later
 
-    by_fault : (o : Option Fault) → Later n o → Later n (lesser f o)
-    by_fault None l = h.0
-    by_fault (Some g) l = two g (is_before f g) l
+    by_fault : (o : Option Fault) → IsLater n o → IsLater n (lesser f o)
+    by_fault None o_is_later = all_later.0
+    by_fault (Some g) o_is_later = lesser_is_later g (is_before f g) o_is_later
 
-first_least : (f : Fault) (fs : List Fault) → AllByRecursion (λ (g : Fault). f.at < g.at) fs
+-- a fault that stands before all others is the least
+first_is_least : (f : Fault) (fs : List Fault) → AllByRecursion (λ (g : Fault). f.at < g.at) fs
     → least (f ∷ fs) ≡ Some f
-first_least f fs h = by_fault (least fs) (least_later f.at fs h)
+first_is_least f fs all_later = by_fault (least fs) (least_is_later f.at fs all_later)
   where
-    by_fault : (o : Option Fault) → Later f.at o → lesser f o ≡ Some f
-    by_fault None l = refl
-    by_fault (Some g) l =
+    by_fault : (o : Option Fault) → IsLater f.at o → lesser f o ≡ Some f
+    by_fault None o_is_later = refl
+    by_fault (Some g) o_is_later =
         ap (λ b. elim (b || ((f.at == g.at) && nat_le (code_number f.code) (code_number g.code)))
-        [ true ↦ Some f | false ↦ Some g ]) (lt-ltb f.at g.at l)
+        [ true ↦ Some f | false ↦ Some g ]) (lt-ltb f.at g.at o_is_later)
 
 -- the faults of words stand at the words
 abbrev AreAt : (Token → List Fault) → Type 0
 AreAt F = (u : Token) → AllByRecursion (λ (g : Fault). g.at ≡ u.at) (F u)
 
-each_later : (F : Token → List Fault) → AreAt F → (n : ℕ) (us : List Token)
+-- the faults of tokens after a place stand after that place
+faults_are_later : (F : Token → List Fault) → AreAt F → (n : ℕ) (us : List Token)
     → AllByRecursion (λ (u : Token). n < u.at) us
     → AllByRecursion (λ (g : Fault). n < g.at) (flat_map F us)
-each_later F at n [] h = tt
-each_later F at n (u ∷ us) h = put (F u) (at u) (each_later F at n us h.1)
+faults_are_later F faults_stand_at_words n [] words_are_later = tt
+faults_are_later F faults_stand_at_words n (u ∷ us) words_are_later =
+    with_faults_of_word (F u) (faults_stand_at_words u)
+    (faults_are_later F faults_stand_at_words n us words_are_later.1)
   where
-    put : (gs : List Fault) → AllByRecursion (λ (g : Fault). g.at ≡ u.at) gs
+    with_faults_of_word : (gs : List Fault) → AllByRecursion (λ (g : Fault). g.at ≡ u.at) gs
         → AllByRecursion (λ (g : Fault). n < g.at) (flat_map F us)
         → AllByRecursion (λ (g : Fault). n < g.at) (gs ++ flat_map F us)
-    put [] e r = r
-    put (g ∷ gs) e r = (let a = e.0 in let b = h.0 in omega (arith, a, b), put gs e.1 r)
+    with_faults_of_word [] faults_stand_at_u rest_are_later = rest_are_later
+    with_faults_of_word (g ∷ gs) faults_stand_at_u rest_are_later = (
+      let g_stands_at_u = faults_stand_at_u.0 in let n_lt_place = words_are_later.0 in
+          omega (arith, g_stands_at_u, n_lt_place),
+      with_faults_of_word gs faults_stand_at_u.1
+          rest_are_later,
+    )
 
-least_first : (F : Token → List Fault) → AreAt F
+-- the fault of the first word that has one is the least fault of the words
+fault_of_first_faulty_word_is_least : (F : Token → List Fault) → AreAt F
     → (front : List Token) (t : Token) (back : List Token) (f : Fault)
-    → AllPairs Earlier (front ++ t ∷ back) → flat_map F front ≡ [] → F t ≡ f ∷ []
+    → AllPairs StandsEarlier (front ++ t ∷ back) → flat_map F front ≡ [] → F t ≡ f ∷ []
     → least (flat_map F (front ++ t ∷ back)) ≡ Some f
-least_first F at front t back f p none is =
-    let later : AllByRecursion (λ (u : Token). t.at < u.at) back =
+fault_of_first_faulty_word_is_least F faults_stand_at_words front t back f tokens_ascend
+    front_is_faultless t_has_f =
+    let back_is_later : AllByRecursion (λ (u : Token). t.at < u.at) back =
     recursion_from_All (λ (u : Token). t.at < u.at) back
-    (pairs_head Earlier t back (pairs_back Earlier front (t ∷ back) p)) in
-    let f_at_is_t_at : f.at ≡ t.at = (subst (AllByRecursion (λ (g : Fault). g.at ≡ t.at)) is
-    (at t)).0 in
-    let all : flat_map F (front ++ t ∷ back) ≡ f ∷ flat_map F back =
-    flat_map-append F front (t ∷ back) ∙ ap₂ (λ a b. a ++ (b ++ flat_map F back)) none is in
-    ap least all
-    ∙ first_least f (flat_map F back)
+    (pairs_head StandsEarlier t back
+    (pairs_of_back StandsEarlier front (t ∷ back) tokens_ascend)) in
+    let f_at_is_t_at : f.at ≡ t.at = (subst (AllByRecursion (λ (g : Fault). g.at ≡ t.at)) t_has_f
+    (faults_stand_at_words t)).0 in
+    let faults_are_f_and_back : flat_map F (front ++ t ∷ back) ≡ f ∷ flat_map F back =
+    flat_map-append F front (t ∷ back)
+    ∙ ap₂ (λ a b. a ++ (b ++ flat_map F back)) front_is_faultless t_has_f in
+    ap least faults_are_f_and_back
+    ∙ first_is_least f (flat_map F back)
     (subst (λ n. AllByRecursion (λ (g : Fault). n < g.at) (flat_map F back)) (sym f_at_is_t_at)
-    (each_later F at t.at back later))
+    (faults_are_later F faults_stand_at_words t.at back back_is_later))
 
-word_at : (db : List Statement) (k : ℕ) → AreAt (word_faults db k)
-word_at db k u = by_question_mark (bytes_eq u.word (codes "?"))
+-- the faults of a label stand where the label stands
+word_faults_stand_at_word : (db : List Statement) (k : ℕ) → AreAt (word_faults db k)
+word_faults_stand_at_word db k u = by_question_mark (bytes_eq u.word (codes "?"))
   where
-    none : (js : List ℕ)
+    unusable_stands_at_word : (js : List ℕ)
         → AllByRecursion (λ (g : Fault). g.at ≡ u.at)
         (elim js [ [] ↦ fault u.at UnusableLabel ∷ [] | j ∷ js ↦ [] ])
-    none [] = (refl, tt)
-    none (j ∷ js) = tt
+    unusable_stands_at_word [] = (refl, tt)
+    unusable_stands_at_word (j ∷ js) = tt
 
     by_question_mark : (b : Bool)
         → AllByRecursion (λ (g : Fault). g.at ≡ u.at)
@@ -103,37 +123,44 @@ word_at db k u = by_question_mark (bytes_eq u.word (codes "?"))
           | false ↦ elim (usable db k u.word) [ [] ↦ fault u.at UnusableLabel ∷ [] | j ∷ js ↦ [] ]
         ])
     by_question_mark true = (refl, tt)
-    by_question_mark false = none (usable db k u.word)
+    by_question_mark false = unusable_stands_at_word (usable db k u.word)
 
-module _ (text : List ℕ) (ws : List Word) (i : ℕ) (w : Word) (h : i < length ws) where
+module _ (text : List ℕ) (ws : List Word) (i : ℕ) (w : Word) (i_lt_length : i < length ws) where
+  -- the words of the proof are those before the faulty word, that word, and those after it
   tokens_split : as_tokens text ws
       ≡ as_tokens text (take i ws)
       ++ token_of text (get_or ws i w) ∷ as_tokens text (drop (i + 1) ws)
   tokens_split =
       ap (as_tokens text)
-      (sym (take-append-drop i ws) ∙ ap (λ z. take i ws ++ z) (drop_more ws i w h))
+      (sym (take-append-drop i ws) ∙ ap (λ z. take i ws ++ z) (drop_more ws i w i_lt_length))
       ∙ map-append (token_of text) (take i ws) (get_or ws i w ∷ drop (i + 1) ws)
 
-  pub faulty_word : (db : List Statement) (k : ℕ) (f : Fault) → AllPairs Earlier (as_tokens text ws)
+  -- the fault of the first faulty word is the least of those of a normal proof
+  pub fault_of_faulty_word_is_least : (db : List Statement) (k : ℕ) (f : Fault)
+      → AllPairs StandsEarlier (as_tokens text ws)
       → flat_map (word_faults db k) (as_tokens text (take i ws)) ≡ []
       → word_faults db k (token_of text (get_or ws i w)) ≡ f ∷ []
       → least (flat_map (word_faults db k) (as_tokens text ws)) ≡ Some f
-  faulty_word db k f p none is_f =
+  fault_of_faulty_word_is_least db k f tokens_ascend earlier_are_faultless word_has_f =
       ap (λ ts. least (flat_map (word_faults db k) ts)) tokens_split
-      ∙ least_first (word_faults db k) (word_at db k) (as_tokens text (take i ws))
+      ∙ fault_of_first_faulty_word_is_least (word_faults db k) (word_faults_stand_at_word db k)
+      (as_tokens text (take i ws))
       (token_of text (get_or ws i w)) (as_tokens text (drop (i + 1) ws)) f
-      (subst (AllPairs Earlier) tokens_split p) none is_f
+      (subst (AllPairs StandsEarlier) tokens_split tokens_ascend) earlier_are_faultless word_has_f
 
 -- the fault of one word
-pub question_fault : (db : List Statement) (k : ℕ) (u : Token) → bytes_eq u.word (codes "?") ≡ true
+pub question_mark_fault : (db : List Statement) (k : ℕ) (u : Token)
+    → bytes_eq u.word (codes "?") ≡ true
     → word_faults db k u ≡ fault u.at IncompleteProof ∷ []
-question_fault db k u e =
+question_mark_fault db k u u_is_question_mark =
     ap (λ b. elim b [ true ↦ fault u.at IncompleteProof ∷ [] | false ↦ proof_label_faults db k u ])
-    e
+    u_is_question_mark
 
-pub label_fault : (db : List Statement) (k : ℕ) (u : Token) → bytes_eq u.word (codes "?") ≡ false
+-- a label that isn't usable has this one fault
+pub unusable_label_fault : (db : List Statement) (k : ℕ) (u : Token)
+    → bytes_eq u.word (codes "?") ≡ false
     → usable db k u.word ≡ [] → word_faults db k u ≡ fault u.at UnusableLabel ∷ []
-label_fault db k u e n =
+unusable_label_fault db k u u_is_no_question_mark u_is_unusable =
     ap (λ b. elim b [ true ↦ fault u.at IncompleteProof ∷ [] | false ↦ proof_label_faults db k u ])
-    e
-    ∙ ap (λ js. elim js [ [] ↦ fault u.at UnusableLabel ∷ [] | j ∷ js ↦ [] ]) n
+    u_is_no_question_mark
+    ∙ ap (λ js. elim js [ [] ↦ fault u.at UnusableLabel ∷ [] | j ∷ js ↦ [] ]) u_is_unusable

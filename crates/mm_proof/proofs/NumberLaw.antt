@@ -12,102 +12,126 @@ use Rattle.mm_proof.specs.declared.digits.LetterKind.TheVariants.{Early, Last, M
 use Rattle.mm_proof.specs.declared.digits.LetterKind.TheVariants.{Other}
 use Rattle.mm_proof.specs.Number.{IsNumber, HasLetterKind, saturated}
 
+-- the bytes of letters
 abbrev bytes : List Letter → List ℕ
 bytes xs = map (λ x. x.byte) xs
 
-bytes_from : (at : ℕ) (bs : List ℕ) → bytes (letters_from at bs) ≡ bs
-bytes_from at [] = refl
-bytes_from at (b ∷ bs) = ap (λ z. b ∷ z) (bytes_from (at + 1) bs)
+-- the letters that a text has have its bytes
+bytes_of_letters_from : (at : ℕ) (bs : List ℕ) → bytes (letters_from at bs) ≡ bs
+bytes_of_letters_from at [] = refl
+bytes_of_letters_from at (b ∷ bs) = ap (λ z. b ∷ z) (bytes_of_letters_from (at + 1) bs)
 
 -- the value of early letters, by their bytes
 abbrev pub early_bytes : List ℕ → ℕ
 early_bytes bs = fold (λ n b. 5 * n + (b - 84)) 0 bs
 
-fold_bytes : (a : ℕ) (xs : List Letter)
+-- the value of early letters depends only on their bytes
+fold_is_fold_of_bytes : (a : ℕ) (xs : List Letter)
     → fold (λ n (x : Letter). 5 * n + (x.byte - 84)) a xs
     ≡ fold (λ n b. 5 * n + (b - 84)) a (bytes xs)
-fold_bytes a [] = refl
-fold_bytes a (x ∷ xs) = fold_bytes (5 * a + (x.byte - 84)) xs
+fold_is_fold_of_bytes a [] = refl
+fold_is_fold_of_bytes a (x ∷ xs) = fold_is_fold_of_bytes (5 * a + (x.byte - 84)) xs
 
-all_bytes : (xs : List Letter)
+-- whether letters are early depends only on their bytes
+early_if_bytes_are_early : (xs : List Letter)
     → list_all (λ (x : Letter). is_early x.byte) xs ≡ list_all is_early (bytes xs)
-all_bytes [] = refl
-all_bytes (x ∷ xs) = ap (λ b. is_early x.byte && b) (all_bytes xs)
+early_if_bytes_are_early [] = refl
+early_if_bytes_are_early (x ∷ xs) = ap (λ b. is_early x.byte && b) (early_if_bytes_are_early xs)
 
-pub made : (bs : List ℕ) (b n : ℕ) → list_all is_early bs ≡ true → is_last b ≡ true
+-- early bytes and a last one spell the number that they have as value
+pub is_number_from_bytes : (bs : List ℕ) (b n : ℕ) → list_all is_early bs ≡ true → is_last b ≡ true
     → early_bytes bs * 20 + (b - 64) ≡ n → IsNumber (bs ++ b ∷ []) n
-made bs b n e b_is_last v =
+is_number_from_bytes bs b n early_bytes_are_early b_is_last value_is_n =
     let xs = letters_from 0 bs in
     let g : Group = record { early = xs; last = record { at = 0; byte = b } } in
     record {
       group = g;
-      spelled = ap (λ z. z ++ b ∷ []) (bytes_from 0 bs);
-      early = all_bytes xs ∙ ap (list_all is_early) (bytes_from 0 bs) ∙ e;
-      last = b_is_last;
-      value_is = ap (λ z. z * 20 + (b - 64)) (fold_bytes 0 xs ∙ ap early_bytes (bytes_from 0 bs))
-          ∙ v;
+      letters_are_word = ap (λ z. z ++ b ∷ []) (bytes_of_letters_from 0 bs);
+      early_letters_are_early = early_if_bytes_are_early xs
+          ∙ ap (list_all is_early) (bytes_of_letters_from 0 bs)
+          ∙ early_bytes_are_early;
+      last_letter_is_last = b_is_last;
+      value_is = ap (λ z. z * 20 + (b - 64)) (fold_is_fold_of_bytes 0 xs
+          ∙ ap early_bytes (bytes_of_letters_from 0 bs))
+          ∙ value_is_n;
     }
 
+-- the bytes `bs` are early, `b` is last, and they have the value `n`
 pub record IsSpelled (bs : List ℕ) (b n : ℕ) : Type 0 where
-  pub early : list_all is_early bs ≡ true
-  pub last : is_last b ≡ true
+  pub bytes_are_early : list_all is_early bs ≡ true
+  pub b_is_last : is_last b ≡ true
   pub value_is : early_bytes bs * 20 + (b - 64) ≡ n
 
-pub spelled : (bs : List ℕ) (b n : ℕ) → IsNumber (bs ++ b ∷ []) n → IsSpelled bs b n
-spelled bs b n is_number =
-    let p = same_from_push (bytes is_number.group.early) bs is_number.group.last.byte b
-    is_number.spelled in
+-- a number is spelled by its bytes
+pub number_is_spelled : (bs : List ℕ) (b n : ℕ) → IsNumber (bs ++ b ∷ []) n → IsSpelled bs b n
+number_is_spelled bs b n is_number =
+    let bytes_equal = same_from_push (bytes is_number.group.early) bs is_number.group.last.byte b
+    is_number.letters_are_word in
     record {
-      early = ap (list_all is_early) (sym p.0) ∙ sym (all_bytes is_number.group.early)
-          ∙ is_number.early;
-      last = ap is_last (sym p.1) ∙ is_number.last;
+      bytes_are_early = ap (list_all is_early) (sym bytes_equal.0)
+          ∙ sym (early_if_bytes_are_early is_number.group.early)
+          ∙ is_number.early_letters_are_early;
+      b_is_last = ap is_last (sym bytes_equal.1) ∙ is_number.last_letter_is_last;
       value_is =
           ap₂ (λ z y. z * 20 + (y - 64))
-          (ap early_bytes (sym p.0) ∙ sym (fold_bytes 0 is_number.group.early)) (sym p.1)
+          (ap early_bytes (sym bytes_equal.0) ∙ sym (fold_is_fold_of_bytes 0 is_number.group.early))
+          (sym bytes_equal.1)
           ∙ is_number.value_is;
     }
 
-pub each_early : (bs : List ℕ) (i d : ℕ) → list_all is_early bs ≡ true → i < length bs
+-- each of early bytes is early
+pub element_of_early_is_early : (bs : List ℕ) (i d : ℕ) → list_all is_early bs ≡ true
+    → i < length bs
     → is_early (get_or bs i d) ≡ true
-each_early [] i d e l = absurd (omega arith)
-each_early (b ∷ bs) zero d e l = (and_parts (is_early b) (list_all is_early bs) e).0
-each_early (b ∷ bs) (suc i) d e l =
-    each_early bs i d (and_parts (is_early b) (list_all is_early bs) e).1 (omega arith)
+element_of_early_is_early [] i d all_are_early i_lt_length = absurd (omega arith)
+element_of_early_is_early (b ∷ bs) zero d all_are_early i_lt_length =
+    (and_parts (is_early b) (list_all is_early bs) all_are_early).0
+element_of_early_is_early (b ∷ bs) (suc i) d all_are_early i_lt_length =
+    element_of_early_is_early bs i d (and_parts (is_early b) (list_all is_early bs) all_are_early).1
+    (omega arith)
 
 -- a byte that isn't early is no early letter of a number
-kind_early : (k : LetterKind) (b : ℕ) → HasLetterKind b k → ((x : ℕ) → k ≡ Early x → ⊥)
+kind_is_not_early : (k : LetterKind) (b : ℕ) → HasLetterKind b k → ((x : ℕ) → k ≡ Early x → ⊥)
     → is_early b ≡ false
-kind_early (Early d) b h n = absurd (n d refl)
-kind_early (Last d) b h n = h.0
-kind_early Mark b h n = ap is_early h
-kind_early UnknownStep b h n = ap is_early h
-kind_early Other b h n = h.0
+kind_is_not_early (Early d) b has_kind kind_isnt_early = absurd (kind_isnt_early d refl)
+kind_is_not_early (Last d) b has_kind kind_isnt_early = has_kind.0
+kind_is_not_early Mark b has_kind kind_isnt_early = ap is_early has_kind
+kind_is_not_early UnknownStep b has_kind kind_isnt_early = ap is_early has_kind
+kind_is_not_early Other b has_kind kind_isnt_early = has_kind.0
 
-pub not_early : (bs : List ℕ) (b n i d : ℕ) (k : LetterKind) → i < length bs
+-- no number has a byte before its last that isn't early
+pub no_number_with_late_byte : (bs : List ℕ) (b n i d : ℕ) (k : LetterKind) → i < length bs
     → HasLetterKind (get_or bs i d) k → ((x : ℕ) → k ≡ Early x → ⊥) → IsNumber (bs ++ b ∷ []) n → ⊥
-not_early bs b n i d k l h e s =
+no_number_with_late_byte bs b n i d k i_lt_length has_kind kind_isnt_early is_number =
     true≢false
-    (sym (each_early bs i d (spelled bs b n s).early l) ∙ kind_early k (get_or bs i d) h e)
+    (sym (element_of_early_is_early bs i d (number_is_spelled bs b n is_number).bytes_are_early
+    i_lt_length)
+    ∙ kind_is_not_early k (get_or bs i d) has_kind kind_isnt_early)
 
 -- the value that the code has, by the conversion to 32 bits
-pub saturated_some : {E : Type 0} (r : Result ℕ E) (bs : List ℕ) (b v w : ℕ)
+pub saturated_is_number : {E : Type 0} (r : Result ℕ E) (bs : List ℕ) (b v w : ℕ)
     → OkIff r (w < 4294967296) w
     → v ≡ saturated (early_bytes bs) → w ≡ saturated (20 * v + (b - 64))
     → list_all is_early bs ≡ true → is_last b ≡ true
     → IfSome (result_ok r) (λ n. IsNumber (bs ++ b ∷ []) n)
-saturated_some (Ok x) bs b v w o e f a l =
-    made bs b x a l (let small = o.0 in let same = o.1 in omega (arith, small, same, e, f))
-saturated_some (Err x) bs b v w o e f a l = tt
+saturated_is_number (Ok x) bs b v w w_fits v_is_saturated w_is_saturated bytes_are_early b_is_last =
+    is_number_from_bytes bs b x bytes_are_early b_is_last (let w_lt_limit = w_fits.0 in
+    let x_is_w = w_fits.1 in omega (arith, w_lt_limit, x_is_w, v_is_saturated, w_is_saturated))
+saturated_is_number (Err x) bs b v w w_fits v_is_saturated w_is_saturated bytes_are_early
+    b_is_last = tt
 
-pub saturated_none : {E : Type 0} (r : Result ℕ E) (bs : List ℕ) (b v w : ℕ)
+-- if the conversion to 32 bits fails, each number with these bytes is larger than 32 bits hold
+pub saturated_is_too_large : {E : Type 0} (r : Result ℕ E) (bs : List ℕ) (b v w : ℕ)
     → OkIff r (w < 4294967296) w
     → v ≡ saturated (early_bytes bs) → w ≡ saturated (20 * v + (b - 64))
     → IfNone (result_ok r) ((n : ℕ) → IsNumber (bs ++ b ∷ []) n → 4294967295 < n)
-saturated_none (Ok x) bs b v w o e f = tt
-saturated_none (Err x) bs b v w o e f = λ n h. by_size n (spelled bs b n h).value_is
+saturated_is_too_large (Ok x) bs b v w w_fits_not v_is_saturated w_is_saturated = tt
+saturated_is_too_large (Err x) bs b v w w_fits_not v_is_saturated w_is_saturated =
+    λ n is_number. by_size n (number_is_spelled bs b n is_number).value_is
     (cases_lt w 4294967296)
   where
     by_size : (n : ℕ) → early_bytes bs * 20 + (b - 64) ≡ n → (w < 4294967296) ⊎ (4294967296 ≤ w)
         → 4294967295 < n
-    by_size n is (inl l) = absurd (o l)
-    by_size n is (inr l) = omega (arith, is, l, e, f)
+    by_size n value_is_n (inl w_order) = absurd (w_fits_not w_order)
+    by_size n value_is_n (inr w_order) =
+        omega (arith, value_is_n, w_order, v_is_saturated, w_is_saturated)

@@ -28,138 +28,178 @@ use Rattle.mm_proof.specs.declared.refused.ProofRefused.TheVariants.{Fault as Fa
 
 -- ---- faults in order
 
-abbrev Sorted : List Fault → Type 0
-Sorted [] = Unit {0}
-Sorted (f ∷ fs) = AllByRecursion (λ (g : Fault). is_before f g ≡ true) fs × Sorted fs
+-- each fault comes before those after it
+abbrev AreSorted : List Fault → Type 0
+AreSorted [] = Unit {0}
+AreSorted (f ∷ fs) = AllByRecursion (λ (g : Fault). is_before f g ≡ true) fs × AreSorted fs
 
 -- faults in order, from a place up to another
-record Run (from to : ℕ) (fs : List Fault) : Type 0 where
-  low : AllByRecursion (λ (f : Fault). from ≤ f.at) fs
-  high : AllByRecursion (λ (f : Fault). f.at < to) fs
-  sorted : Sorted fs
+record IsRun (from to : ℕ) (fs : List Fault) : Type 0 where
+  from_le_places : AllByRecursion (λ (f : Fault). from ≤ f.at) fs
+  places_lt_to : AllByRecursion (λ (f : Fault). f.at < to) fs
+  are_sorted : AreSorted fs
 
-each_append : (P : Fault → Type 0) (xs ys : List Fault) → AllByRecursion P xs → AllByRecursion P ys
+-- what holds of all faults of two lists holds of those of both together
+all_of_append : (P : Fault → Type 0) (xs ys : List Fault) → AllByRecursion P xs
+    → AllByRecursion P ys
     → AllByRecursion P (xs ++ ys)
-each_append P [] ys h k = k
-each_append P (x ∷ xs) ys h k = (h.0, each_append P xs ys h.1 k)
+all_of_append P [] ys xs_pass ys_pass = ys_pass
+all_of_append P (x ∷ xs) ys xs_pass ys_pass = (xs_pass.0, all_of_append P xs ys xs_pass.1 ys_pass)
 
-each_map : (P Q : Fault → Type 0) (xs : List Fault) → ((x : Fault) → P x → Q x)
+-- what follows from a property of all faults holds of all faults
+all_of_weaker : (P Q : Fault → Type 0) (xs : List Fault) → ((x : Fault) → P x → Q x)
     → AllByRecursion P xs → AllByRecursion Q xs
-each_map P Q [] f h = tt
-each_map P Q (x ∷ xs) f h = (f x h.0, each_map P Q xs f h.1)
+all_of_weaker P Q [] p_gives_q xs_pass = tt
+all_of_weaker P Q (x ∷ xs) p_gives_q xs_pass =
+    (p_gives_q x xs_pass.0, all_of_weaker P Q xs p_gives_q xs_pass.1)
 
-earlier : (f g : Fault) → f.at < g.at → is_before f g ≡ true
-earlier f g l =
+-- a fault that stands earlier comes before the other
+earlier_is_before : (f g : Fault) → f.at < g.at → is_before f g ≡ true
+earlier_is_before f g f_lt_g =
     ap (λ b. b || ((f.at == g.at) && nat_le (code_number f.code) (code_number g.code)))
-    (lt-ltb f.at g.at l)
+    (lt-ltb f.at g.at f_lt_g)
 
-join_runs : (from mid to : ℕ) (xs ys : List Fault) → from ≤ mid → mid ≤ to → Run from mid xs
-    → Run mid to ys → Run from to (xs ++ ys)
-join_runs from mid to xs ys from_le_mid mid_le_to h k = record {
-  low =
-      each_append (λ f. from ≤ f.at) xs ys h.low
-      (each_map (λ f. mid ≤ f.at) (λ f. from ≤ f.at) ys (λ f l. omega (arith, from_le_mid, l))
-      k.low);
-  high =
-      each_append (λ f. f.at < to) xs ys
-      (each_map (λ f. f.at < mid) (λ f. f.at < to) xs (λ f l. omega (arith, mid_le_to, l)) h.high)
-      k.high;
-  sorted = joined_is_sorted xs h.high h.sorted;
+-- two runs of faults, one after the other, are one run
+joined_runs_are_run : (from mid to : ℕ) (xs ys : List Fault) → from ≤ mid → mid ≤ to
+    → IsRun from mid xs
+    → IsRun mid to ys → IsRun from to (xs ++ ys)
+joined_runs_are_run from mid to xs ys from_le_mid mid_le_to xs_are_run ys_are_run = record {
+  from_le_places =
+      all_of_append (λ f. from ≤ f.at) xs ys xs_are_run.from_le_places
+      (all_of_weaker (λ f. mid ≤ f.at) (λ f. from ≤ f.at) ys
+      (λ f place_le. omega (arith, from_le_mid, place_le))
+      ys_are_run.from_le_places);
+  places_lt_to =
+      all_of_append (λ f. f.at < to) xs ys
+      (all_of_weaker (λ f. f.at < mid) (λ f. f.at < to) xs
+      (λ f place_le. omega (arith, mid_le_to, place_le)) xs_are_run.places_lt_to)
+      ys_are_run.places_lt_to;
+  are_sorted = joined_is_sorted xs xs_are_run.places_lt_to xs_are_run.are_sorted;
 }
   where
-    joined_is_sorted : (xs : List Fault) → AllByRecursion (λ (f : Fault). f.at < mid) xs → Sorted xs
-        → Sorted (xs ++ ys)
-    joined_is_sorted [] l s = k.sorted
-    joined_is_sorted (x ∷ xs) l s = (
-      each_append (λ g. is_before x g ≡ true) xs ys s.0
-          (each_map (λ f. mid ≤ f.at) (λ g. is_before x g ≡ true) ys
-          (λ g m. earlier x g (let n = l.0 in omega (arith, n, m))) k.low),
-      joined_is_sorted xs l.1 s.1,
+    joined_is_sorted : (xs : List Fault) → AllByRecursion (λ (f : Fault). f.at < mid) xs
+        → AreSorted xs
+        → AreSorted (xs ++ ys)
+    joined_is_sorted [] places_lt_mid xs_are_sorted = ys_are_run.are_sorted
+    joined_is_sorted (x ∷ xs) places_lt_mid xs_are_sorted = (
+      all_of_append (λ g. is_before x g ≡ true) xs ys xs_are_sorted.0
+          (all_of_weaker (λ f. mid ≤ f.at) (λ g. is_before x g ≡ true) ys
+          (λ g mid_le_place. earlier_is_before x g (let place_lt_mid = places_lt_mid.0 in
+          omega (arith, place_lt_mid, mid_le_place))) ys_are_run.from_le_places),
+      joined_is_sorted xs places_lt_mid.1 xs_are_sorted.1,
     )
 
-run_of_none : (from to : ℕ) → Run from to []
-run_of_none from to = record { low = tt; high = tt; sorted = tt }
+-- no faults are a run
+run_of_none : (from to : ℕ) → IsRun from to []
+run_of_none from to = record { from_le_places = tt; places_lt_to = tt; are_sorted = tt }
 
+-- one fault is a run
 run_of_one : (from to place : ℕ) (c : Code) → from ≤ place → place < to
-    → Run from to (fault place c ∷ [])
-run_of_one from to place c l h = record { low = (l, tt); high = (h, tt); sorted = (tt, tt) }
-
-run_if : (from to place : ℕ) (b : Bool) (c : Code) → from ≤ place → place < to
-    → Run from to (at place (when b c))
-run_if from to place true c l h = run_of_one from to place c l h
-run_if from to place false c l h = run_of_none from to
-
-run_from_lower : (from low to : ℕ) (fs : List Fault) → from ≤ low → Run low to fs → Run from to fs
-run_from_lower from low to fs l h =
+    → IsRun from to (fault place c ∷ [])
+run_of_one from to place c from_le_place place_lt_to =
     record {
-      low = each_map (λ f. low ≤ f.at) (λ f. from ≤ f.at) fs (λ f m. omega (arith, l, m)) h.low;
-      high = h.high;
-      sorted = h.sorted;
+      from_le_places = (from_le_place, tt);
+      places_lt_to = (place_lt_to, tt);
+      are_sorted =
+          (tt, tt);
+    }
+
+-- a fault that there may be is a run
+run_if : (from to place : ℕ) (b : Bool) (c : Code) → from ≤ place → place < to
+    → IsRun from to (at place (when b c))
+run_if from to place true c from_le_place place_lt_to =
+    run_of_one from to place c from_le_place place_lt_to
+run_if from to place false c from_le_place place_lt_to = run_of_none from to
+
+-- a run from a later place is one from an earlier place
+run_from_lower : (from low to : ℕ) (fs : List Fault) → from ≤ low → IsRun low to fs
+    → IsRun from to fs
+run_from_lower from low to fs from_le_low is_run =
+    record {
+      from_le_places = all_of_weaker (λ f. low ≤ f.at) (λ f. from ≤ f.at) fs
+          (λ f low_le_place. omega (arith, from_le_low, low_le_place)) is_run.from_le_places;
+      places_lt_to = is_run.places_lt_to;
+      are_sorted = is_run.are_sorted;
     }
 
 -- the first of faults in order is the least
-least_sorted : (f : Fault) (fs : List Fault) → Sorted (f ∷ fs) → least (f ∷ fs) ≡ Some f
-least_sorted f fs s = by_fault (least fs) (before_least fs s.0)
+first_sorted_is_least : (f : Fault) (fs : List Fault) → AreSorted (f ∷ fs) → least (f ∷ fs) ≡ Some f
+first_sorted_is_least f fs are_sorted = by_fault (least fs) (before_least fs are_sorted.0)
   where
-    Before : Option Fault → Type 0
-    Before None = Unit {0}
-    Before (Some g) = is_before f g ≡ true
+    IsBeforeLeast : Option Fault → Type 0
+    IsBeforeLeast None = Unit {0}
+    IsBeforeLeast (Some g) = is_before f g ≡ true
 
-    two : (g h : Fault) (b : Bool) → is_before f g ≡ true → is_before f h ≡ true
-        → Before (elim b [ true ↦ Some g | false ↦ Some h ])
-    two g h true p q = p
-    two g h false p q = q
+    lesser_is_before : (g h : Fault) (b : Bool) → is_before f g ≡ true → is_before f h ≡ true
+        → IsBeforeLeast (elim b [ true ↦ Some g | false ↦ Some h ])
+    lesser_is_before g h true f_before_g f_before_h = f_before_g
+    lesser_is_before g h false f_before_g f_before_h = f_before_h
 
     before_least : (fs : List Fault) → AllByRecursion (λ (g : Fault). is_before f g ≡ true) fs
-        → Before (least fs)
-    before_least [] a = tt
-    before_least (g ∷ gs) a = more (least gs) (before_least gs a.1)
+        → IsBeforeLeast (least fs)
+    before_least [] f_before_all = tt
+    before_least (g ∷ gs) f_before_all = before_lesser (least gs) (before_least gs f_before_all.1)
       where
-        more : (o : Option Fault) → Before o → Before (lesser g o)
-        more None p = a.0
-        more (Some h) p = two g h (is_before g h) a.0 p
+        before_lesser : (o : Option Fault) → IsBeforeLeast o → IsBeforeLeast (lesser g o)
+        before_lesser None f_before_g = f_before_all.0
+        before_lesser (Some h) f_before_g =
+            lesser_is_before g h (is_before g h) f_before_all.0 f_before_g
 
-    by_fault : (o : Option Fault) → Before o → lesser f o ≡ Some f
-    by_fault None p = refl
-    by_fault (Some g) p = ap (λ b. elim b [ true ↦ Some f | false ↦ Some g ]) p
+    by_fault : (o : Option Fault) → IsBeforeLeast o → lesser f o ≡ Some f
+    by_fault None f_before_g = refl
+    by_fault (Some g) f_before_g = ap (λ b. elim b [ true ↦ Some f | false ↦ Some g ]) f_before_g
 
 -- ---- letters
 
-abbrev Rise : ℕ → List Letter → ℕ → Type 0
-Rise from [] end = from ≤ end
-Rise from (x ∷ xs) end = (from ≤ x.at) × Rise (x.at + 1) xs end
+-- the letters stand one after the other, from a place on and before an end
+abbrev AreRising : ℕ → List Letter → ℕ → Type 0
+AreRising from [] end = from ≤ end
+AreRising from (x ∷ xs) end = (from ≤ x.at) × AreRising (x.at + 1) xs end
 
 -- an open run of early letters, before a place
 abbrev IsOpenAt : ℕ → List Letter → ℕ → Type 0
 IsOpenAt from [] now = from ≤ now
 IsOpenAt from (x ∷ xs) now = (from ≤ x.at) × (x.at < now)
 
-rise_from : (from to end : ℕ) (xs : List Letter) → from ≤ to → Rise to xs end → Rise from xs end
-rise_from from to end [] l r = omega (arith, l, r)
-rise_from from to end (x ∷ xs) l r = (let h = r.0 in omega (arith, l, h), r.1)
-
-rise_word : (place end : ℕ) (w : Bytes) (rest : List Letter) → Rise (place + length w) rest end
-    → Rise place (letters_from place w ++ rest) end
-rise_word place end [] rest r = rise_from place (place + 0) end rest (omega arith) r
-rise_word place end (b ∷ bs) rest r = (
-  omega arith,
-  rise_word (place + 1) end bs rest
-      (rise_from (place + 1 + length bs) (place + suc (length bs)) end rest (omega arith) r),
+-- letters that rise from a later place rise from an earlier one
+rising_from_lower : (from to end : ℕ) (xs : List Letter) → from ≤ to → AreRising to xs end
+    → AreRising from xs end
+rising_from_lower from to end [] from_le_to are_rising = omega (arith, from_le_to, are_rising)
+rising_from_lower from to end (x ∷ xs) from_le_to are_rising = (
+  let to_le_place = are_rising.0 in
+      omega (arith, from_le_to, to_le_place),
+  are_rising.1,
 )
 
-letters_rise : (from end : ℕ) (ts : List Token) → AreInOrder from ts end
-    → Rise from (letters_of ts) end
-letters_rise from end [] o = o
-letters_rise from end (t ∷ ts) o =
-    rise_from from t.at end (letters_from t.at t.word ++ letters_of ts) o.0
-    (rise_word t.at end t.word (letters_of ts) (letters_rise (t.at + length t.word) end ts o.2))
+-- the letters of a word rise
+word_letters_rise : (place end : ℕ) (w : Bytes) (rest : List Letter)
+    → AreRising (place + length w) rest end
+    → AreRising place (letters_from place w ++ rest) end
+word_letters_rise place end [] rest rest_rises =
+    rising_from_lower place (place + 0) end rest (omega arith) rest_rises
+word_letters_rise place end (b ∷ bs) rest rest_rises = (
+  omega arith,
+  word_letters_rise (place + 1) end bs rest
+      (rising_from_lower (place + 1 + length bs) (place + suc (length bs)) end rest
+      (omega arith) rest_rises),
+)
 
-mark_run : (from place : ℕ) (a b : Bool) → from ≤ place
-    → Run from (place + 1) (at place (when a OpenNumber ++ when b MarkBeforeStep))
-mark_run from place true true from_le_place = record {
-  low = (from_le_place, (from_le_place, tt));
-  high = (omega arith, (omega arith, tt));
-  sorted = (
+-- the letters of words in order rise
+letters_rise : (from end : ℕ) (ts : List Token) → AreInOrder from ts end
+    → AreRising from (letters_of ts) end
+letters_rise from end [] in_order = in_order
+letters_rise from end (t ∷ ts) in_order =
+    rising_from_lower from t.at end (letters_from t.at t.word ++ letters_of ts) in_order.0
+    (word_letters_rise t.at end t.word (letters_of ts)
+    (letters_rise (t.at + length t.word) end ts in_order.2))
+
+-- the faults of a mark are a run
+mark_faults_are_run : (from place : ℕ) (a b : Bool) → from ≤ place
+    → IsRun from (place + 1) (at place (when a OpenNumber ++ when b MarkBeforeStep))
+mark_faults_are_run from place true true from_le_place = record {
+  from_le_places = (from_le_place, (from_le_place, tt));
+  places_lt_to = (omega arith, (omega arith, tt));
+  are_sorted = (
     (
       ap (λ c. nat_lt place place || (c && true)) (eq-eqb place place refl)
           ∙ or-true (nat_lt place place),
@@ -168,38 +208,45 @@ mark_run from place true true from_le_place = record {
     (tt, tt),
   );
 }
-mark_run from place true false l = run_of_one from (place + 1) place OpenNumber l (omega arith)
-mark_run from place false b l = run_if from (place + 1) place b MarkBeforeStep l (omega arith)
+mark_faults_are_run from place true false from_le_place =
+    run_of_one from (place + 1) place OpenNumber from_le_place (omega arith)
+mark_faults_are_run from place false b from_le_place =
+    run_if from (place + 1) place b MarkBeforeStep from_le_place (omega arith)
 
 module _ (labels end : ℕ) where
-  group_run : (from now place byte : ℕ) (early : List Letter) (marks count : ℕ)
+  -- the faults of a number are a run
+  group_faults_are_run : (from now place byte : ℕ) (early : List Letter) (marks count : ℕ)
       → IsOpenAt from early now → now ≤ place
-      → Run from (place + 1)
+      → IsRun from (place + 1)
       (group_fault labels marks count
       (record { early = early; last = record { at = place; byte = byte } }))
-  group_run from now place byte early marks count o now_le_place = by_letter_kind (is_last byte)
+  group_faults_are_run from now place byte early marks count early_is_open now_le_place =
+      by_letter_kind (is_last byte)
       (byte == 90)
       (byte == 63)
     where
       g : Group
       g = record { early = early; last = record { at = place; byte = byte } }
 
-      low : (early : List Letter) → IsOpenAt from early now
+      from_le_start : (early : List Letter) → IsOpenAt from early now
           → from ≤ starts_at (record { early = early; last = record { at = place; byte = byte } })
-      low [] o = omega (arith, o, now_le_place)
-      low (x ∷ xs) o = o.0
+      from_le_start [] is_open = omega (arith, is_open, now_le_place)
+      from_le_start (x ∷ xs) is_open = is_open.0
 
-      high : (early : List Letter) → IsOpenAt from early now
+      start_lt_next : (early : List Letter) → IsOpenAt from early now
           → starts_at (record { early = early; last = record { at = place; byte = byte } })
           < place + 1
-      high [] o = omega arith
-      high (x ∷ xs) o = let h = o.1 in omega (arith, h, now_le_place)
+      start_lt_next [] is_open = omega arith
+      start_lt_next (x ∷ xs) is_open = let place_lt_now = is_open.1 in
+          omega (arith, place_lt_now, now_le_place)
 
-      within : (early : List Letter) → IsOpenAt from early now → from ≤ place
-      within [] o = omega (arith, o, now_le_place)
-      within (x ∷ xs) o = let h = o.0 in let k = o.1 in omega (arith, h, k, now_le_place)
+      letters_from_le_place : (early : List Letter) → IsOpenAt from early now → from ≤ place
+      letters_from_le_place [] is_open = omega (arith, is_open, now_le_place)
+      letters_from_le_place (x ∷ xs) is_open = let from_le_first = is_open.0 in
+          let first_lt_now = is_open.1 in
+          omega (arith, from_le_first, first_lt_now, now_le_place)
 
-      by_letter_kind : (a b c : Bool) → Run from (place + 1) (elim a [
+      by_letter_kind : (a b c : Bool) → IsRun from (place + 1) (elim a [
         | true ↦ at (starts_at g) (when (nat_lt (labels + marks) (value g)) NumberTooLarge)
         | false ↦ elim b [
           | true ↦ at place
@@ -209,176 +256,227 @@ module _ (labels end : ℕ) where
       ])
       by_letter_kind true b c =
           run_if from (place + 1) (starts_at g) (nat_lt (labels + marks) (value g)) NumberTooLarge
-          (low early o) (high early o)
-      by_letter_kind false true c = mark_run from place (nat_lt 0 (length early)) (count == 0)
-          (within early o)
+          (from_le_start early early_is_open) (start_lt_next early early_is_open)
+      by_letter_kind false true c =
+          mark_faults_are_run from place (nat_lt 0 (length early)) (count == 0)
+          (letters_from_le_place early early_is_open)
       by_letter_kind false false true =
-          run_of_one from (place + 1) place IncompleteProof (within early o) (omega arith)
+          run_of_one from (place + 1) place IncompleteProof
+          (letters_from_le_place early early_is_open)
+          (omega arith)
       by_letter_kind false false false = run_of_one from (place + 1) place BadLetter
-          (within early o)
+          (letters_from_le_place early early_is_open)
           (omega arith)
 
   -- the faults of the letters from an open run on
-  abbrev left_faults : List Letter → ℕ → ℕ → List Letter → List Fault
-  left_faults early marks count xs =
+  abbrev remaining_faults : List Letter → ℕ → ℕ → List Letter → List Fault
+  remaining_faults early marks count xs =
       group_faults labels marks count (groups early xs).0
       ++ at end (when (nat_lt 0 (length (groups early xs).1)) OpenNumber)
 
-  end_low : (from now : ℕ) (early : List Letter) → IsOpenAt from early now → now ≤ end → from ≤ end
-  end_low from now [] o l = omega (arith, o, l)
-  end_low from now (x ∷ xs) o l = let h = o.0 in let k = o.1 in omega (arith, h, k, l)
+  -- the place where an open number stands isn't past the end
+  from_le_end : (from now : ℕ) (early : List Letter) → IsOpenAt from early now → now ≤ end
+      → from ≤ end
+  from_le_end from now [] is_open now_le_end = omega (arith, is_open, now_le_end)
+  from_le_end from now (x ∷ xs) is_open now_le_end = let from_le_first = is_open.0 in
+      let first_lt_now = is_open.1 in omega (arith, from_le_first, first_lt_now, now_le_end)
 
-  rise_low : (from : ℕ) (xs : List Letter) → Rise from xs end → from ≤ end
-  rise_low from [] r = r
-  rise_low from (x ∷ xs) r =
-      let h = r.0 in let k = rise_low (x.at + 1) xs r.1 in omega (arith, h, k)
+  -- letters that rise from a place begin no later than the end
+  rising_from_le_end : (from : ℕ) (xs : List Letter) → AreRising from xs end → from ≤ end
+  rising_from_le_end from [] are_rising = are_rising
+  rising_from_le_end from (x ∷ xs) are_rising =
+      let from_le_first = are_rising.0 in
+      let next_le_end = rising_from_le_end (x.at + 1) xs are_rising.1 in
+      omega (arith, from_le_first, next_le_end)
 
-  left_run : (xs early : List Letter) (from now marks count : ℕ) → IsOpenAt from early now
-      → Rise now xs end → Run from (end + 1) (left_faults early marks count xs)
-  left_run [] early from now marks count is_open_at r =
+  -- the faults of the letters that are left are a run
+  remaining_faults_are_run : (xs early : List Letter) (from now marks count : ℕ)
+      → IsOpenAt from early now
+      → AreRising now xs end → IsRun from (end + 1) (remaining_faults early marks count xs)
+  remaining_faults_are_run [] early from now marks count is_open_at are_rising =
       run_if from (end + 1) end (nat_lt 0 (length early)) OpenNumber
-      (end_low from now early is_open_at r)
+      (from_le_end from now early is_open_at are_rising)
       (omega arith)
-  left_run (x ∷ xs) early from now marks count o r =
+  remaining_faults_are_run (x ∷ xs) early from now marks count early_is_open are_rising =
       by_mark (is_early x.byte)
-      (left_run xs (early ++ x ∷ []) from (x.at + 1) marks count (opens early o) r.1)
-      (ends (x.byte == 90)
-      (left_run xs [] (x.at + 1) (x.at + 1) (marks + 1) count (omega arith) r.1)
-      (left_run xs [] (x.at + 1) (x.at + 1) marks (count + 1) (omega arith) r.1))
+      (remaining_faults_are_run xs (early ++ x ∷ []) from (x.at + 1) marks count
+      (open_with_letter early early_is_open) are_rising.1)
+      (group_is_run (x.byte == 90)
+      (remaining_faults_are_run xs [] (x.at + 1) (x.at + 1) (marks + 1) count
+      (omega arith) are_rising.1)
+      (remaining_faults_are_run xs [] (x.at + 1) (x.at + 1) marks (count + 1)
+      (omega arith) are_rising.1))
     where
-      opens : (early : List Letter) → IsOpenAt from early now
+      open_with_letter : (early : List Letter) → IsOpenAt from early now
           → IsOpenAt from (early ++ x ∷ []) (x.at + 1)
-      opens [] o = (let h = r.0 in omega (arith, o, h), omega arith)
-      opens (e ∷ es) o = (o.0, let h = r.0 in let k = o.1 in omega (arith, h, k))
+      open_with_letter [] is_open = (
+        let now_le_place = are_rising.0 in
+            omega (arith, is_open, now_le_place),
+        omega arith,
+      )
+      open_with_letter (e ∷ es) is_open = (
+        is_open.0,
+        let now_le_place = are_rising.0 in
+            let first_lt_now = is_open.1 in
+            omega (arith, now_le_place, first_lt_now),
+      )
 
       g : Group
       g = record { early = early; last = x }
 
-      rest : List Group
-      rest = (groups [] xs).0
+      later_groups : List Group
+      later_groups = (groups [] xs).0
 
-      tail : List Fault
-      tail = at end (when (nat_lt 0 (length (groups [] xs).1)) OpenNumber)
+      end_faults : List Fault
+      end_faults = at end (when (nat_lt 0 (length (groups [] xs).1)) OpenNumber)
 
-      first : Run from (x.at + 1) (group_fault labels marks count g)
-      first = group_run from now x.at x.byte early marks count o r.0
+      first_is_run : IsRun from (x.at + 1) (group_fault labels marks count g)
+      first_is_run = group_faults_are_run from now x.at x.byte early marks count early_is_open
+          are_rising.0
 
-      start : from ≤ x.at + 1
-      start = starts early o
+      from_le_next : from ≤ x.at + 1
+      from_le_next = from_le_next_if_open early early_is_open
         where
-          starts : (early : List Letter) → IsOpenAt from early now → from ≤ x.at + 1
-          starts [] o = let h = r.0 in omega (arith, o, h)
-          starts (e ∷ es) o = let h = r.0 in let j = o.0 in let k = o.1 in omega (arith, h, j, k)
+          from_le_next_if_open : (early : List Letter) → IsOpenAt from early now → from ≤ x.at + 1
+          from_le_next_if_open [] is_open = let now_le_place = are_rising.0 in
+              omega (arith, is_open, now_le_place)
+          from_le_next_if_open (e ∷ es) is_open = let now_le_place = are_rising.0 in
+              let from_le_first = is_open.0 in
+              let first_lt_now = is_open.1 in
+              omega (arith, now_le_place, from_le_first, first_lt_now)
 
-      before : x.at + 1 ≤ end + 1
-      before = let low = rise_low (x.at + 1) xs r.1 in omega (arith, low)
+      next_le_end : x.at + 1 ≤ end + 1
+      next_le_end = let next_le_end_of_letters = rising_from_le_end (x.at + 1) xs are_rising.1 in
+          omega (arith, next_le_end_of_letters)
 
-      ended : Bool → List Fault
-      ended b =
+      faults_of_kind : Bool → List Fault
+      faults_of_kind b =
           (group_fault labels marks count g
           ++ elim b [
-            | true ↦ group_faults labels (marks + 1) count rest
-            | false ↦ group_faults labels marks (count + 1) rest
+            | true ↦ group_faults labels (marks + 1) count later_groups
+            | false ↦ group_faults labels marks (count + 1) later_groups
           ])
-          ++ tail
+          ++ end_faults
 
-      ends : (b : Bool) → Run (x.at + 1) (end + 1) (left_faults [] (marks + 1) count xs)
-          → Run (x.at + 1) (end + 1) (left_faults [] marks (count + 1) xs)
-          → Run from (end + 1) (ended b)
-      ends true k l =
-          subst (Run from (end + 1))
+      group_is_run : (b : Bool)
+          → IsRun (x.at + 1) (end + 1) (remaining_faults [] (marks + 1) count xs)
+          → IsRun (x.at + 1) (end + 1) (remaining_faults [] marks (count + 1) xs)
+          → IsRun from (end + 1) (faults_of_kind b)
+      group_is_run true run_after_mark run_after_step =
+          subst (IsRun from (end + 1))
           (sym (append_assoc (group_fault labels marks count g)
-          (group_faults labels (marks + 1) count rest) tail)) (join_runs from (x.at
-          + 1) (end + 1) _ _ start before first k)
-      ends false k l =
-          subst (Run from (end + 1))
+          (group_faults labels (marks + 1) count later_groups) end_faults))
+          (joined_runs_are_run from (x.at
+          + 1) (end + 1) _ _ from_le_next next_le_end first_is_run run_after_mark)
+      group_is_run false run_after_mark run_after_step =
+          subst (IsRun from (end + 1))
           (sym (append_assoc (group_fault labels marks count g)
-          (group_faults labels marks (count + 1) rest) tail)) (join_runs from (x.at
-          + 1) (end + 1) _ _ start before first l)
+          (group_faults labels marks (count + 1) later_groups) end_faults))
+          (joined_runs_are_run from (x.at
+          + 1) (end + 1) _ _ from_le_next next_le_end first_is_run run_after_step)
 
-      grouped : Bool → List Group × List Letter
-      grouped a =
+      groups_of_kind : Bool → List Group × List Letter
+      groups_of_kind a =
           elim a [
             | true ↦ groups (early ++ x ∷ []) xs
             | false ↦ let q = groups [] xs in (record { early = early; last = x } ∷ q.0, q.1)
           ]
 
-      all : Bool → List Fault
-      all a =
-          let r = grouped a in
-          group_faults labels marks count r.0 ++ at end (when (nat_lt 0 (length r.1)) OpenNumber)
+      faults_of_groups : Bool → List Fault
+      faults_of_groups a =
+          let are_rising = groups_of_kind a in
+          group_faults labels marks count are_rising.0 ++ at end
+          (when (nat_lt 0 (length are_rising.1)) OpenNumber)
 
-      by_mark : (a : Bool) → Run from (end + 1) (left_faults (early ++ x ∷ []) marks count xs)
-          → Run from (end + 1) (ended (x.byte == 90)) → Run from (end + 1) (all a)
-      by_mark true h k = h
-      by_mark false h k = k
+      by_mark : (a : Bool)
+          → IsRun from (end + 1) (remaining_faults (early ++ x ∷ []) marks count xs)
+          → IsRun from (end + 1) (faults_of_kind (x.byte == 90))
+          → IsRun from (end + 1) (faults_of_groups a)
+      by_mark true run_after_early run_after_group = run_after_early
+      by_mark false run_after_early run_after_group = run_after_group
 
-  letters_run : (from : ℕ) (xs : List Letter) → Rise from xs end
-      → Run from (end + 1) (letter_faults labels end xs)
-  letters_run from [] r = run_of_one from (end + 1) end EmptyProof r (omega arith)
-  letters_run from (x ∷ xs) r = left_run (x ∷ xs) [] from from 0 0 (omega arith) r
+  -- the faults of all letters are a run
+  letter_faults_are_run : (from : ℕ) (xs : List Letter) → AreRising from xs end
+      → IsRun from (end + 1) (letter_faults labels end xs)
+  letter_faults_are_run from [] are_rising =
+      run_of_one from (end + 1) end EmptyProof are_rising (omega arith)
+  letter_faults_are_run from (x ∷ xs) are_rising =
+      remaining_faults_are_run (x ∷ xs) [] from from 0 0 (omega arith) are_rising
 
 -- ---- brackets
 
-label_run : (db : List Statement) (k : ℕ) (t : Token)
-    → Run t.at (t.at + 1) (proof_label_faults db k t)
-label_run db k t = by_usability (usable db k t.word)
+-- the faults of a label are a run
+label_faults_are_run : (db : List Statement) (k : ℕ) (t : Token)
+    → IsRun t.at (t.at + 1) (proof_label_faults db k t)
+label_faults_are_run db k t = by_usability (usable db k t.word)
   where
     by_usability : (js : List ℕ)
-        → Run t.at (t.at + 1) (elim js [ [] ↦ fault t.at UnusableLabel ∷ [] | j ∷ js ↦ [] ])
+        → IsRun t.at (t.at + 1) (elim js [ [] ↦ fault t.at UnusableLabel ∷ [] | j ∷ js ↦ [] ])
     by_usability [] = run_of_one t.at (t.at + 1) t.at UnusableLabel (omega arith) (omega arith)
     by_usability (j ∷ js) = run_of_none t.at (t.at + 1)
 
-order_low : (from end : ℕ) (ts : List Token) → AreInOrder from ts end → from ≤ end
-order_low from end [] o = o
-order_low from end (t ∷ ts) o =
-    let h = o.0 in let k = order_low (t.at + length t.word) end ts o.2 in omega (arith, h, k)
+-- words in order begin no later than they end
+in_order_from_le_end : (from end : ℕ) (ts : List Token) → AreInOrder from ts end → from ≤ end
+in_order_from_le_end from end [] in_order = in_order
+in_order_from_le_end from end (t ∷ ts) in_order =
+    let from_le_place = in_order.0 in
+    let next_le_end = in_order_from_le_end (t.at + length t.word) end ts in_order.2 in
+    omega (arith, from_le_place, next_le_end)
 
 module _ (db : List Statement) (k end : ℕ) where
+  -- the faults of a compressed proof
   abbrev faults_of : ℕ → Compressed → List Fault
   faults_of n p =
       flat_map (proof_label_faults db k) p.labels
       ++ elim p.letters
       [ None ↦ fault end OpenBrackets ∷ [] | Some us ↦ letter_faults n end (letters_of us) ]
 
-  brackets_run : (n from : ℕ) (ts : List Token) → AreInOrder from ts end
-      → Run from (end + 1) (faults_of n (bracketed ts))
-  brackets_run n from [] o = run_of_one from (end + 1) end OpenBrackets o (omega arith)
-  brackets_run n from (t ∷ ts) o =
+  -- the faults of the labels in brackets and of the letters are a run
+  bracket_faults_are_run : (n from : ℕ) (ts : List Token) → AreInOrder from ts end
+      → IsRun from (end + 1) (faults_of n (bracketed ts))
+  bracket_faults_are_run n from [] in_order =
+      run_of_one from (end + 1) end OpenBrackets in_order (omega arith)
+  bracket_faults_are_run n from (t ∷ ts) in_order =
       by_closing_bracket (bytes_eq t.word (codes ")"))
-      (brackets_run n (t.at + length t.word) ts o.2)
+      (bracket_faults_are_run n (t.at + length t.word) ts in_order.2)
     where
-      before : t.at + length t.word ≤ end
-      before = order_low (t.at + length t.word) end ts o.2
+      label_end_le_end : t.at + length t.word ≤ end
+      label_end_le_end = in_order_from_le_end (t.at + length t.word) end ts in_order.2
 
-      by_closing_bracket : (b : Bool) → Run (t.at + length t.word) (end + 1) (faults_of n
+      by_closing_bracket : (b : Bool) → IsRun (t.at + length t.word) (end + 1) (faults_of n
           (bracketed ts))
-          → Run from (end + 1)
+          → IsRun from (end + 1)
           (faults_of n
           (elim b [
             | true ↦ record { labels = []; letters = Some ts }
             | false ↦ with_label t (bracketed ts)
           ]))
-      by_closing_bracket true h =
-          let low = o.0 in
-          letters_run n end from (letters_of ts)
-          (rise_from from (t.at + length t.word) end (letters_of ts) (omega (arith, low))
-          (letters_rise (t.at + length t.word) end ts o.2))
-      by_closing_bracket false h =
-          let low = o.0 in
-          let long = o.1 in
-          subst (Run from (end + 1))
+      by_closing_bracket true rest_is_run =
+          let from_le_place = in_order.0 in
+          letter_faults_are_run n end from (letters_of ts)
+          (rising_from_lower from (t.at + length t.word) end (letters_of ts)
+          (omega (arith, from_le_place))
+          (letters_rise (t.at + length t.word) end ts in_order.2))
+      by_closing_bracket false rest_is_run =
+          let from_le_place = in_order.0 in
+          let word_has_bytes = in_order.1 in
+          subst (IsRun from (end + 1))
           (sym (append_assoc (proof_label_faults db k t)
           (flat_map (proof_label_faults db k) (bracketed ts).labels) _))
-          (join_runs from (t.at + 1) (end + 1) _ _ (omega (arith, low)) (omega (arith, before))
-          (run_from_lower from t.at (t.at + 1) _ low (label_run db k t))
-          (run_from_lower (t.at + 1) (t.at + length t.word) (end + 1) _ (omega (arith, long)) h))
+          (joined_runs_are_run from (t.at + 1) (end + 1) _ _ (omega (arith, from_le_place))
+          (omega (arith, label_end_le_end))
+          (run_from_lower from t.at (t.at + 1) _ from_le_place (label_faults_are_run db k t))
+          (run_from_lower (t.at + 1) (t.at + length t.word) (end + 1) _
+          (omega (arith, word_has_bytes)) rest_is_run))
 
   -- the first fault that is found is the first
-  pub first_fault : (from : ℕ) (ts : List Token) (e : ProofRefused) → AreInOrder from ts end
+  pub first_fault_is_refusal : (from : ℕ) (ts : List Token) (e : ProofRefused)
+      → AreInOrder from ts end
       → StartsWith (compressed_faults db k end (bracketed ts)) e
       → IsProofRefusal (compressed_faults db k end (bracketed ts)) e
-  first_fault from ts Memory o s = tt
-  first_fault from ts (Faulty f) o s =
-      let many = length (mandatory_hypotheses db k) + length (bracketed ts).labels in
-      ap least s.1 ∙ least_sorted f s.0 (subst Sorted s.1 (brackets_run many from ts o).sorted)
+  first_fault_is_refusal from ts Memory in_order starts_with_f = tt
+  first_fault_is_refusal from ts (Faulty f) in_order starts_with_f =
+      let numbered_count = length (mandatory_hypotheses db k) + length (bracketed ts).labels in
+      ap least starts_with_f.1 ∙ first_sorted_is_least f starts_with_f.0
+      (subst AreSorted starts_with_f.1
+      (bracket_faults_are_run numbered_count from ts in_order).are_sorted)

@@ -6,6 +6,7 @@ use Rattle.mm_spec.specs.Statement.{Statement}
 use Rattle.mm_spec.specs.Output.{is_theorem_at, theorems}
 use Rattle.mm_spec.proofs.FindsLaw.{each_filter, each_any}
 
+-- each of the theorems is a theorem
 pub theorems_are : (db : List Statement) → All (λ t. IsTrue (is_theorem_at db t)) (theorems db)
 theorems_are db =
     let places = range_with_len 0 (length db) in

@@ -12,45 +12,62 @@ use Rattle.mm_spec.proofs.BoolLaw.{passes_alone}
 use Rattle.mm_spec.proofs.RisingLaw.{filter_is}
 
 module _ (db : List Statement) (k : ℕ) (w : Bytes) where
+  -- whether a statement has the label
   abbrev labelled : ℕ → Bool
   labelled j = list_any (is_labelled w) (statement_at db j)
 
+  -- whether a statement has the label and may be used
   abbrev passes : ℕ → Bool
   passes j = is_active db j k && labelled j
 
+  -- if no statement has the label and may be used, the label isn't usable
   none_passes : ((j : ℕ) → passes j ≡ false) → usable db k w ≡ []
-  none_passes h = filter_is passes k 0 [] tt (λ j e. absurd (true≢false (sym e))) (λ j l u. h j)
+  none_passes all_fail =
+      filter_is passes k 0 [] tt
+      (λ j is_member_of_none. absurd (true≢false (sym is_member_of_none)))
+      (λ j i_ge_0 i_lt_k. all_fail j)
 
-  pub none_usable : ((j : ℕ) → labelled j ≡ false) → usable db k w ≡ []
-  none_usable h =
-      none_passes (λ j. ap (λ b. is_active db j k && b) (h j) ∙ and-false (is_active db j k))
+  -- a label that no statement has isn't usable
+  pub undeclared_is_unusable : ((j : ℕ) → labelled j ≡ false) → usable db k w ≡ []
+  undeclared_is_unusable none_is_labelled =
+      none_passes (λ j. ap (λ b. is_active db j k && b) (none_is_labelled j)
+      ∙ and-false (is_active db j k))
 
-  pub inactive_usable : (j : ℕ) → ((i : ℕ) → labelled i ≡ true → i ≡ j) → is_active db j k ≡ false
+  -- a label of a statement that isn't active isn't usable
+  pub inactive_is_unusable : (j : ℕ) → ((i : ℕ) → labelled i ≡ true → i ≡ j)
+      → is_active db j k ≡ false
       → usable db k w ≡ []
-  inactive_usable j only a = none_passes (λ i. by_label i (labelled i) refl)
+  inactive_is_unusable j only_j_is_labelled j_is_inactive =
+      none_passes (λ i. by_label i (labelled i) refl)
     where
       by_label : (i : ℕ) (b : Bool) → labelled i ≡ b → passes i ≡ false
-      by_label i true e =
-          ap (λ x. is_active db x k && labelled i) (only i e) ∙ ap (λ b. b && labelled i) a
-      by_label i false e = ap (λ b. is_active db i k && b) e ∙ and-false (is_active db i k)
+      by_label i true label_of_i_is_b =
+          ap (λ x. is_active db x k && labelled i) (only_j_is_labelled i label_of_i_is_b)
+          ∙ ap (λ b. b && labelled i) j_is_inactive
+      by_label i false label_of_i_is_b = ap (λ b. is_active db i k && b) label_of_i_is_b
+          ∙ and-false (is_active db i k)
 
-  pub active_usable : (j : ℕ) → ((i : ℕ) → labelled i ≡ true → i ≡ j) → labelled j ≡ true
+  -- a label of an active statement is usable
+  pub active_is_usable : (j : ℕ) → ((i : ℕ) → labelled i ≡ true → i ≡ j) → labelled j ≡ true
       → is_active db j k ≡ true → usable db k w ≡ j ∷ []
-  active_usable j only l active_at_k =
-      filter_is passes k 0 (j ∷ []) ((omega arith), tt) before
-      (λ i low up. by_equality i (nat_eq i j) refl)
+  active_is_usable j only_j_is_labelled j_is_labelled active_at_k =
+      filter_is passes k 0 (j ∷ []) ((omega arith), tt) member_lt_k
+      (λ i i_ge_0 i_lt_k. by_equality i (nat_eq i j) refl)
     where
-      before : (i : ℕ) → (nat_eq i j || false) ≡ true → i < 0 + k
-      before i e =
+      member_lt_k : (i : ℕ) → (nat_eq i j || false) ≡ true → i < 0 + k
+      member_lt_k i i_is_member =
           let i_is_j : i ≡ j = eqb-true i j
-          (passes_alone (nat_eq i j) e) in let h = is_before db j k
+          (passes_alone (nat_eq i j) i_is_member) in let j_lt_k = is_before db j k
           active_at_k in
-          omega (arith, i_is_j, h)
+          omega (arith, i_is_j, j_lt_k)
 
-      other : (i : ℕ) → nat_eq i j ≡ false → (c : Bool) → labelled i ≡ c → passes i ≡ false
-      other i e true l = absurd (true≢false (sym (eq-eqb i j (only i l)) ∙ e))
-      other i e false l = ap (λ b. is_active db i k && b) l ∙ and-false (is_active db i k)
+      other_fails : (i : ℕ) → nat_eq i j ≡ false → (c : Bool) → labelled i ≡ c → passes i ≡ false
+      other_fails i i_ne_j true j_is_labelled =
+          absurd (true≢false (sym (eq-eqb i j (only_j_is_labelled i j_is_labelled)) ∙ i_ne_j))
+      other_fails i i_ne_j false j_is_labelled = ap (λ b. is_active db i k && b) j_is_labelled
+          ∙ and-false (is_active db i k)
 
       by_equality : (i : ℕ) (b : Bool) → nat_eq i j ≡ b → passes i ≡ (b || false)
-      by_equality i true e = ap passes (eqb-true i j e) ∙ ap₂ (λ x y. x && y) active_at_k l
-      by_equality i false e = other i e (labelled i) refl
+      by_equality i true i_eq_j_is_b =
+          ap passes (eqb-true i j i_eq_j_is_b) ∙ ap₂ (λ x y. x && y) active_at_k j_is_labelled
+      by_equality i false i_eq_j_is_b = other_fails i i_eq_j_is_b (labelled i) refl

@@ -12,10 +12,10 @@ use Rattle.mm_spec.specs.CompressedProof.{Compressed, Letter, groups, group_step
 use Rattle.mm_spec.specs.CompressedProof.{bracketed, letter_faults, letters_from}
 use Rattle.mm_outline.specs.Parts.{as_tokens}
 use Rattle.mm_proof.specs.Number.{saturated}
-use Rattle.mm_steps.specs.Read.{as_step}
+use Rattle.mm_steps.specs.TheoremSteps.{as_step}
 use Rattle.mm_proof.specs.Refused.{StartsWith}
 use Rattle.mm_proof.specs.declared.letters.BegunNumber.{BegunNumber}
-use Rattle.mm_steps.specs.declared.placed.Step.{Step}
+use Rattle.mm_steps.specs.declared.step_list.Step.{Step}
 use Rattle.mm_proof.specs.declared.refused.ProofRefused.{ProofRefused}
 
 -- the theorem, the labels that have numbers, the steps that were marked, the number whose last
@@ -27,6 +27,7 @@ pub record LettersState : Type 0 where
   pub number : Option BegunNumber
   pub steps : List PlacedStep
 
+-- a state with these parts
 abbrev pub letters_state : ℕ → List ℕ → List ℕ → Option BegunNumber → List PlacedStep → LettersState
 letters_state t labels marks number steps =
     record { theorem = t; labels = labels; marks = marks; number = number; steps = steps }
@@ -35,6 +36,7 @@ letters_state t labels marks number steps =
 abbrev pub with_number : LettersState → Option BegunNumber → LettersState
 with_number s number = letters_state s.theorem s.labels s.marks number s.steps
 
+-- a byte at a place
 abbrev pub letter : ℕ → ℕ → Letter
 letter at byte = record { at = at; byte = byte }
 
@@ -67,8 +69,8 @@ pub record Continues (s : LettersState) (all unread : List Letter) : Type 0 wher
 
 -- each mark is of a step so far, and there are no more steps than bytes before the place
 pub record StandsAt (s : LettersState) (at : ℕ) : Type 0 where
-  pub few : length s.steps ≤ at
-  pub earlier : All (λ j. j < length s.steps) s.marks
+  pub steps_le_place : length s.steps ≤ at
+  pub marks_are_earlier : All (λ j. j < length s.steps) s.marks
 
 -- a number that has no letters yet begins at the place
 abbrev pub BeginsAt : BegunNumber → ℕ → Type 0
@@ -96,7 +98,7 @@ pub record ReadsAllLetters (old : LettersState) (xs : List Letter) (end : ℕ) (
     : Type 0 where
   pub theorem : new.theorem ≡ old.theorem
   pub steps : new.steps ≡ group_steps old.labels [] 0 (groups [] xs).0
-  pub sound : letter_faults (length old.labels) end xs ≡ []
+  pub letters_are_faultless : letter_faults (length old.labels) end xs ≡ []
 
 -- these letters have a fault, which is the first fault of all letters
 abbrev pub RefusesLetters : LettersState → List Letter → ProofRefused → Type 0
@@ -124,10 +126,10 @@ closed_brackets labels letters = record { labels = labels; letters = Some letter
 -- fault, and the statements that they name were appended to the list `old`.
 pub record ReadsLabels (db : List Statement) (k : ℕ) (text : List ℕ) (words : List Word) (n : ℕ)
     (old new : List ℕ) : Type 0 where
-  pub some : n < length words
+  pub n_lt_length : n < length words
   pub brackets : bracketed (as_tokens text words)
       ≡ closed_brackets (as_tokens text (take n words)) (as_tokens text (drop (n + 1) words))
   pub labels : new
       ≡ old ++ flat_map (λ t. usable db k t.word) (as_tokens text (take n words))
-  pub many : length new ≡ length old + n
-  pub sound : flat_map (proof_label_faults db k) (as_tokens text (take n words)) ≡ []
+  pub label_count : length new ≡ length old + n
+  pub labels_are_faultless : flat_map (proof_label_faults db k) (as_tokens text (take n words)) ≡ []

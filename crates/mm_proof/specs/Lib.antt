@@ -1,4 +1,4 @@
-pub use Rattle.mm_steps.specs.Read
+pub use Rattle.mm_steps.specs.TheoremSteps
 pub mod Refused
 pub mod Number
 pub mod Letters

@@ -10,9 +10,9 @@ use Rattle.mm_proof.specs.declared.digits.LetterKind.TheVariants.{Other}
 -- the word consists of early letters followed by a last one, and has this value
 pub record IsNumber (word : List ℕ) (n : ℕ) : Type 0 where
   pub group : Group
-  pub spelled : map (λ x. x.byte) group.early ++ group.last.byte ∷ [] ≡ word
-  pub early : IsTrue (list_all (λ x. is_early x.byte) group.early)
-  pub last : IsTrue (is_last group.last.byte)
+  pub letters_are_word : map (λ x. x.byte) group.early ++ group.last.byte ∷ [] ≡ word
+  pub early_letters_are_early : IsTrue (list_all (λ x. is_early x.byte) group.early)
+  pub last_letter_is_last : IsTrue (is_last group.last.byte)
   pub value_is : value group ≡ n
 
 -- the kind of a byte, and its digit; `A` is 65, `U` is 85, `Z` is 90, `?` is 63

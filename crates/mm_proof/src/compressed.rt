@@ -4,7 +4,7 @@ ghost use Rattle.std.specs.Prelude.{◌≡◌, ◌<◌, [], length, IfOk, IfErr,
 ghost use Rattle.mm_spec.specs.CompressedProof.{bracketed, compressed_faults, compressed_steps};
 ghost use Rattle.mm_spec.specs.Output.{is_theorem_at};
 ghost use Rattle.mm_outline.specs.Parts.{as_tokens, AreWithin};
-ghost use Rattle.mm_steps.specs.Read.{read};
+ghost use Rattle.mm_steps.specs.TheoremSteps.{theorem_steps};
 ghost use Rattle.mm_proof.specs.Letters.{AreInOrder, ReadsLabels};
 ghost use Rattle.mm_proof.specs.Refused.{StartsWith};
 
@@ -74,7 +74,7 @@ pub(crate) fn read_compressed<A: Allocator + Copy>(
     requires within { AreWithin database.now.text words.now }
     requires in_order { AreInOrder 0 (as_tokens database.now.text words.now) end }
     ensures steps { IfOk result
-        (λ s. s ≡ read theorem
+        (λ s. s ≡ theorem_steps theorem
         (compressed_steps database.now.statements theorem
         (bracketed (as_tokens database.now.text words.now)))) }
     ensures sound { IfOk result

@@ -5,7 +5,7 @@ ghost use Rattle.std.specs.Prelude.{length, IfOk, IfErr, IfNone, OnOk};
 ghost use Rattle.mm_spec.specs.Steps.{placed};
 ghost use Rattle.mm_spec.specs.CompressedProof.{letters_of, letter_faults, step_of};
 ghost use Rattle.mm_outline.specs.Parts.{as_tokens, AreWithin};
-ghost use Rattle.mm_steps.specs.Read.{read, as_step, IsEarlier};
+ghost use Rattle.mm_steps.specs.TheoremSteps.{theorem_steps, as_step, IsEarlier};
 ghost use Rattle.mm_proof.specs.Number.{HasLetterKind, saturated};
 ghost use Rattle.mm_proof.specs.declared.digits.LetterKind.TheVariants.{Last};
 ghost use Rattle.mm_proof.specs.Letters.{letters_state, letter, with_number, step_as_list};
@@ -99,7 +99,7 @@ impl<A: Allocator> LettersRead<A> {
 
     /// The steps.
     pub(crate) fn into_steps(self) -> Steps<A>
-        ensures { result ≡ read self.theorem self.steps }
+        ensures { result ≡ theorem_steps self.theorem self.steps }
     {
         self.steps
     }

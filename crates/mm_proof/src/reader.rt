@@ -7,7 +7,7 @@ ghost use Rattle.mm_spec.specs.NormalProof.{usable, normal_steps};
 ghost use Rattle.mm_spec.specs.Citation.{steps_at, reading_faults_at};
 ghost use Rattle.mm_spec.specs.Output.{is_theorem_at};
 ghost use Rattle.mm_outline.specs.Parts.{as_tokens, AreWithin};
-ghost use Rattle.mm_steps.specs.Read.{Read, read};
+ghost use Rattle.mm_steps.specs.TheoremSteps.{TheoremSteps, theorem_steps};
 ghost use Rattle.mm_proof.specs.Refused.{IsProofRefusal, word_faults};
 
 use crate::compressed::read_compressed;
@@ -29,7 +29,7 @@ fn read_normal<A: Allocator + Copy>(
     requires rising { AllPairs (λ t u. t.at < u.at) (as_tokens database.now.text words.now) }
     ensures steps { IfOk result
         (λ s. s
-        ≡ read theorem
+        ≡ theorem_steps theorem
         (normal_steps database.now.statements theorem (as_tokens database.now.text words.now))) }
     ensures sound { IfOk result
         (λ s. flat_map (word_faults database.now.statements theorem)
@@ -64,7 +64,7 @@ pub fn read_proof<A: Allocator + Copy>(
     theorem: u32,
 ) -> Result<Steps<A>, ProofRefused>
     requires { IsTrue (is_theorem_at database.now.statements theorem) }
-    ensures steps { IfOk result (λ s. s ≡ read theorem (steps_at database.now.statements theorem)) }
+    ensures steps { IfOk result (λ s. s ≡ theorem_steps theorem (steps_at database.now.statements theorem)) }
     ensures sound { IfOk result (λ s. reading_faults_at database.now.statements theorem ≡ []) }
     ensures fault { IfErr result
         (λ e. IsProofRefusal (reading_faults_at database.now.statements theorem) e) }

@@ -9,14 +9,15 @@ use Rattle.std.proofs.lemmas.List.Folds.{flat_map-map}
 use Rattle.mm_spec.specs.Text.{Bytes}
 
 -- a selection among the numbers below n is below n
-pub selected_below : (p : ℕ → Bool) (n : ℕ) → All (λ k. k < n) (filter p (range_with_len 0 n))
-selected_below p n i d h = let k = selected_below_end n 0 i h in omega (arith, k)
+pub selected_lt_bound : (p : ℕ → Bool) (n : ℕ) → All (λ k. k < n) (filter p (range_with_len 0 n))
+selected_lt_bound p n i d i_lt_length =
+    let selected_lt_n = selected_lt_end n 0 i i_lt_length in omega (arith, selected_lt_n)
   where
-    selected_below_end : (m a i : ℕ) → i < length (filter p (range_with_len a m))
+    selected_lt_end : (m a i : ℕ) → i < length (filter p (range_with_len a m))
         → get_or (filter p (range_with_len a m)) i d < a + m
-    selected_below_end zero a i h = absurd (omega arith)
-    selected_below_end (suc m) a i i_inside =
-        by_test (p a) (selected_below_end m (a + 1)) i i_inside
+    selected_lt_end zero a i i_lt_length = absurd (omega arith)
+    selected_lt_end (suc m) a i i_lt_length =
+        by_test (p a) (selected_lt_end m (a + 1)) i i_lt_length
       where
         by_test : (b : Bool)
             → ((i : ℕ) → i < length (filter p (range_with_len (a + 1) m))
@@ -29,26 +30,28 @@ selected_below p n i d h = let k = selected_below_end n 0 i h in omega (arith, k
             (cond b (a ∷ filter p (range_with_len (a + 1) m))
             (filter p (range_with_len (a + 1) m))) i d
             < a + suc m
-        by_test true r zero i_inside = omega arith
-        by_test true r (suc i) i_inside = let k = r i (omega arith) in omega (arith, k)
-        by_test false r i i_inside = let k = r i i_inside in omega (arith, k)
+        by_test true rest_lt_end zero i_lt_length = omega arith
+        by_test true rest_lt_end (suc i) i_lt_length =
+            let later_lt_end = rest_lt_end i (omega arith) in omega (arith, later_lt_end)
+        by_test false rest_lt_end i i_lt_length =
+            let later_lt_end = rest_lt_end i i_lt_length in omega (arith, later_lt_end)
 
 -- what is looked up of part of a list, each after a space
-pub spaced_map : (f : ℕ → Bytes) (ks : List ℕ) (from to : ℕ)
+pub spaced_of_mapped : (f : ℕ → Bytes) (ks : List ℕ) (from to : ℕ)
     → flat_map (λ k. 32 ∷ f k) (slice_range ks from to)
     ≡ flat_map (λ (l : Bytes). 32 ∷ l) (slice_range (map f ks) from to)
-spaced_map f ks from to =
+spaced_of_mapped f ks from to =
     sym (flat_map-map (λ (l : Bytes). 32 ∷ l) f (slice_range ks from to))
     ∙ ap (flat_map (λ (l : Bytes). 32 ∷ l))
     (sym (ap (take (to - from)) (drop-map f from ks) ∙ take-map f (to - from) (drop from ks)))
 
 -- labels of neighbours, each after a space, are some bytes
-pub some_spaced : (names : List Bytes) (from to : ℕ) → from < to → to ≤ length names
+pub spaced_has_bytes : (names : List Bytes) (from to : ℕ) → from < to → to ≤ length names
     → 0 < length (flat_map (λ (l : Bytes). 32 ∷ l) (slice_range names from to))
-some_spaced names from to order within =
-    some_bytes (slice_range names from to) (simp (length-take, length-drop) (omega arith))
+spaced_has_bytes names from to from_lt_to to_le_length =
+    has_bytes (slice_range names from to) (simp (length-take, length-drop) (omega arith))
   where
-    some_bytes : (ls : List Bytes) → 0 < length ls → 0
-        < length (flat_map (λ (l : Bytes). 32 ∷ l) ls)
-    some_bytes [] none = absurd (omega arith)
-    some_bytes (l ∷ ls) none = omega arith
+    has_bytes : (ls : List Bytes) → 0 < length ls
+        → 0 < length (flat_map (λ (l : Bytes). 32 ∷ l) ls)
+    has_bytes [] ls_has_labels = absurd (omega arith)
+    has_bytes (l ∷ ls) ls_has_labels = omega arith

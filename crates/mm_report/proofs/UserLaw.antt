@@ -19,36 +19,41 @@ use Rattle.mm_report.specs.Rows.{row_of, after_label}
 use Rattle.mm_report.proofs.SentLaw.{range_append}
 
 -- if the test passes for all items, all are selected
-filter_all : {X : Type 0} (p : X → Bool) (f : ℕ → X) (a n : ℕ)
+filter_of_passing : {X : Type 0} (p : X → Bool) (f : ℕ → X) (a n : ℕ)
     → ((k : ℕ) → a ≤ k → k < a + n → p (f k) ≡ true)
     → filter p (map f (range_with_len a n)) ≡ map f (range_with_len a n)
-filter_all p f a zero h = refl
-filter_all {X} p f a (suc n) h =
+filter_of_passing p f a zero test_passes = refl
+filter_of_passing {X} p f a (suc n) test_passes =
     let rest : List X = filter p (map f (range_with_len (a + 1) n)) in
-    ap (λ (b : Bool). cond b (f a ∷ rest) rest) (h a (omega arith) (omega arith))
-    ∙ ap (λ z. f a ∷ z) (filter_all p f (a + 1) n (λ k lo hi. h k (omega arith) (omega arith)))
+    ap (λ (b : Bool). cond b (f a ∷ rest) rest) (test_passes a (omega arith) (omega arith))
+    ∙ ap (λ z. f a ∷ z)
+    (filter_of_passing p f (a + 1) n
+    (λ k a_lt_k k_lt_end. test_passes k (omega arith) (omega arith)))
 
 -- if the test passes for no item, none is selected
-filter_none : {X : Type 0} (p : X → Bool) (f : ℕ → X) (a n : ℕ)
+filter_of_failing : {X : Type 0} (p : X → Bool) (f : ℕ → X) (a n : ℕ)
     → ((k : ℕ) → a ≤ k → k < a + n → p (f k) ≡ false) → filter p (map f (range_with_len a n)) ≡ []
-filter_none p f a zero h = refl
-filter_none {X} p f a (suc n) h =
+filter_of_failing p f a zero test_fails = refl
+filter_of_failing {X} p f a (suc n) test_fails =
     let rest : List X = filter p (map f (range_with_len (a + 1) n)) in
-    ap (λ (b : Bool). cond b (f a ∷ rest) rest) (h a (omega arith) (omega arith))
-    ∙ filter_none p f (a + 1) n (λ k lo hi. h k (omega arith) (omega arith))
+    ap (λ (b : Bool). cond b (f a ∷ rest) rest) (test_fails a (omega arith) (omega arith))
+    ∙ filter_of_failing p f (a + 1) n
+    (λ k a_lt_k k_lt_end. test_fails k (omega arith) (omega arith))
 
-count_more : (p : ℕ → Bool) (n : ℕ)
+-- the next number counts if it passes the test
+count_in_range_push : (p : ℕ → Bool) (n : ℕ)
     → count_by p (range_with_len 0 (n + 1)) ≡ count_by p (range_with_len 0 n) + cond (p n) 1 0
-count_more p n =
+count_in_range_push p n =
     ap (count_by p) (sym (map-id (range_with_len 0 (n + 1))))
     ∙ sum_by-map-range_with_len_more (λ x. cond (p x) 1 0) (λ x. x) 0 n n (zero-add n)
     ∙ ap (λ xs. count_by p xs + cond (p n) 1 0) (map-id (range_with_len 0 n))
 
+-- the mark at a place of a row of tests is the test of that number
 pub mark_at_range : (f : ℕ → Bool) (a k n : ℕ) → n < k
     → mark_at n (map f (range_with_len a k)) ≡ f (a + n)
-mark_at_range f a zero n lt = absurd (omega arith)
-mark_at_range f a (suc k) zero lt = ap f (sym (add-zero a))
-mark_at_range f a (suc k) (suc n) lt =
+mark_at_range f a zero n n_lt_k = absurd (omega arith)
+mark_at_range f a (suc k) zero n_lt_k = ap f (sym (add-zero a))
+mark_at_range f a (suc k) (suc n) n_lt_k =
     mark_at_range f (a + 1) k n (omega arith) ∙ ap f (omega arith)
 
 -- the labels of rows, each after a space
@@ -65,19 +70,21 @@ separated_spaced [] = refl
 separated_spaced (r ∷ []) = sym (append-nil r.label)
 separated_spaced (r ∷ s ∷ rs) = ap (λ z. r.label ++ 32 ∷ z) (separated_spaced (s ∷ rs))
 
+-- after a label, further labels each have a space before them
 separated_append : (rs ss : List Row) → 0 < length rs
     → separated_rows (rs ++ ss) ≡ separated_rows rs ++ spaced ss
-separated_append [] ss some = absurd (omega arith)
-separated_append (r ∷ rs) ss some =
+separated_append [] ss rs_not_empty = absurd (omega arith)
+separated_append (r ∷ rs) ss rs_not_empty =
     separated_spaced (r ∷ (rs ++ ss))
     ∙ ap (drop 1) (flat_map-append (λ (q : Row). 32 ∷ q.label) (r ∷ rs) ss)
     ∙ ap (λ z. z ++ spaced ss) (sym (separated_spaced (r ∷ rs)))
 
 -- the spaced labels of neighbours are those of their rows
-pub run_spaced : (m : Marks) (names : List Bytes) (from to : ℕ) → from ≤ to → to ≤ length names
+pub spaced_run_is_rows : (m : Marks) (names : List Bytes) (from to : ℕ) → from ≤ to
+    → to ≤ length names
     → flat_map (λ (l : Bytes). 32 ∷ l) (slice_range names from to)
     ≡ spaced (map (λ i. row_of m (get_or names i []) i) (range_with_len from (to - from)))
-run_spaced m names from to order within =
+spaced_run_is_rows m names from to from_le_to to_le_length =
     let numbers : List ℕ = range_with_len from (to - from) in
     let row : ℕ → Row = λ i. row_of m (get_or names i []) i in
     ap (flat_map (λ (l : Bytes). 32 ∷ l))
@@ -86,6 +93,7 @@ run_spaced m names from to order within =
     ∙ sym (flat_map-map (λ (r : Row). 32 ∷ r.label) row numbers)
 
 module _ (m : Marks) (labels : ℕ → Bytes) (j : ℕ) where
+  -- the row of a theorem
   abbrev pub row : ℕ → Row
   row i = row_of m (labels i) i
 
@@ -97,15 +105,16 @@ module _ (m : Marks) (labels : ℕ → Bytes) (j : ℕ) where
   abbrev pub run : ℕ → ℕ → List Row
   run first end = map row (range_with_len first (end - first))
 
-module _ (m : Marks) (labels : ℕ → Bytes) (j : ℕ) (inside : j < m.columns) where
-  is_marked : (i : ℕ) → mark_at j ((row m labels j) i).marks ≡ mark m i j
-  is_marked i = mark_at_range (mark m i) 0 m.columns j inside ∙ ap (mark m i) (zero-add j)
+module _ (m : Marks) (labels : ℕ → Bytes) (j : ℕ) (j_lt_columns : j < m.columns) where
+  -- the row of a theorem has its mark of the column
+  row_has_mark : (i : ℕ) → mark_at j ((row m labels j) i).marks ≡ mark m i j
+  row_has_mark i = mark_at_range (mark m i) 0 m.columns j j_lt_columns ∙ ap (mark m i) (zero-add j)
 
   -- the users below n + d are those below n, and then those among the next d theorems
-  users_before_next : (n d : ℕ)
+  users_before_split : (n d : ℕ)
       → users_before m labels j (n + d)
       ≡ users_before m labels j n ++ users j (map (row m labels j) (range_with_len n d))
-  users_before_next n d =
+  users_before_split n d =
       ap (λ ns. users j (map (row m labels j) ns))
       (range_append 0 n d ∙ ap (λ k. range_with_len 0 n ++ range_with_len k d) (zero-add n))
       ∙ ap (users j) (map-append (row m labels j) (range_with_len 0 n) (range_with_len n d))
@@ -116,54 +125,59 @@ module _ (m : Marks) (labels : ℕ → Bytes) (j : ℕ) (inside : j < m.columns)
   users_before_run : (n d : ℕ) → ((k : ℕ) → n ≤ k → k < n + d → mark m k j ≡ true)
       → users_before m labels j (n + d)
       ≡ users_before m labels j n ++ map (row m labels j) (range_with_len n d)
-  users_before_run n d all =
-      users_before_next n d
+  users_before_run n d all_marked =
+      users_before_split n d
       ∙ ap (λ z. users_before m labels j n ++ z)
-      (filter_all (λ r. mark_at j r.marks) (row m labels j) n d
-      (λ k lo hi. is_marked k ∙ all k lo hi))
+      (filter_of_passing (λ r. mark_at j r.marks) (row m labels j) n d
+      (λ k n_le_k k_lt_end. row_has_mark k ∙ all_marked k n_le_k k_lt_end))
 
   -- if none of the next d theorems is marked, none is added to the users
   users_before_gap : (n d : ℕ) → ((k : ℕ) → n ≤ k → k < n + d → mark m k j ≡ false)
       → users_before m labels j (n + d) ≡ users_before m labels j n
-  users_before_gap n d none =
-      users_before_next n d
+  users_before_gap n d none_marked =
+      users_before_split n d
       ∙ ap (λ z. users_before m labels j n ++ z)
-      (filter_none (λ r. mark_at j r.marks) (row m labels j) n d
-      (λ k lo hi. is_marked k ∙ none k lo hi))
+      (filter_of_failing (λ r. mark_at j r.marks) (row m labels j) n d
+      (λ k n_le_k k_lt_end. row_has_mark k ∙ none_marked k n_le_k k_lt_end))
       ∙ append-nil (users_before m labels j n)
 
-  above_from_first : (last_sent : Option ℕ) (k : ℕ) → first_after last_sent ≤ k
+  -- what isn't before the first theorem after the last sent is above the last sent
+  above_if_not_before_first : (last_sent : Option ℕ) (k : ℕ) → first_after last_sent ≤ k
       → IsAbove last_sent k
-  above_from_first None k h = tt
-  above_from_first (Some i) k h = omega arith
+  above_if_not_before_first None k first_le_k = tt
+  above_if_not_before_first (Some i) k first_le_k = omega arith
 
-  first_from_above : (last_sent : Option ℕ) (i : ℕ) → IsAbove last_sent i
+  -- what is above the last sent isn't before the first theorem after it
+  first_le_if_above : (last_sent : Option ℕ) (i : ℕ) → IsAbove last_sent i
       → first_after last_sent ≤ i
-  first_from_above None i h = omega arith
-  first_from_above (Some l) i h = omega arith
+  first_le_if_above None i is_above = omega arith
+  first_le_if_above (Some l) i is_above = omega arith
 
   -- up to the next marked theorem nothing is added
-  users_before_to : (last_sent : Option ℕ) (n : ℕ) → first_after last_sent ≤ n
+  users_before_next_user : (last_sent : Option ℕ) (n : ℕ) → first_after last_sent ≤ n
       → ((k : ℕ) → IsAbove last_sent k → k < n → mark m k j ≡ false)
       → users_before m labels j n ≡ users_before m labels j (first_after last_sent)
-  users_before_to last_sent n le none =
-      let e : first_after last_sent + (n - first_after last_sent) ≡ n = omega arith in
-      ap (users_before m labels j) (sym e)
+  users_before_next_user last_sent n first_le_n none_marked =
+      let end_is_n : first_after last_sent + (n - first_after last_sent) ≡ n = omega arith in
+      ap (users_before m labels j) (sym end_is_n)
       ∙ users_before_gap (first_after last_sent) (n - first_after last_sent)
-      (λ k lo hi. none k (above_from_first last_sent k lo) (omega arith))
+      (λ k first_le_k k_lt_end. none_marked k (above_if_not_before_first last_sent k first_le_k)
+      (omega arith))
 
   -- after a marked theorem there is a user
-  some_gathered : (i : ℕ) → mark m i j ≡ true → 0 < length (users_before m labels j (i + 1))
-  some_gathered i e =
-      let one =
+  users_exist_after_marked : (i : ℕ) → mark m i j ≡ true
+      → 0 < length (users_before m labels j (i + 1))
+  users_exist_after_marked i i_is_marked =
+      let one_more_user =
       ap length
       (users_before_run i 1
-      (λ k lo hi. let same : k ≡ i = omega arith in ap (λ n. mark m n j) same ∙ e))
+      (λ k i_le_k k_lt_next. let k_is_i : k ≡ i = omega arith in
+      ap (λ n. mark m n j) k_is_i ∙ i_is_marked))
       ∙ length-append (users_before m labels j i) (row m labels j i ∷ []) in
-      omega (arith, one)
+      omega (arith, one_more_user)
 
   -- the labels of a run of marked theorems are added to those that were sent
-  pub users_more : (last_sent : Option ℕ) (first end : ℕ)
+  pub users_with_run : (last_sent : Option ℕ) (first end : ℕ)
       → IfSome last_sent (λ i. mark m i j ≡ true)
       → IsAbove last_sent first → first ≤ end
       → ((k : ℕ) → IsAbove last_sent k → k < first → mark m k j ≡ false)
@@ -171,78 +185,89 @@ module _ (m : Marks) (labels : ℕ → Bytes) (j : ℕ) (inside : j < m.columns)
       → separated_rows (users_before m labels j (first_after last_sent))
       ++ after_label last_sent (spaced (run m labels j first end))
       ≡ separated_rows (users_before m labels j end)
-  users_more last_sent first end marked up order none all =
-      text_by_last last_sent marked (users_before_to last_sent first
-      (first_from_above last_sent first up) none)
+  users_with_run last_sent first end last_is_marked first_is_above first_le_end none_marked
+      run_is_marked =
+      text_by_last last_sent last_is_marked (users_before_next_user last_sent first
+      (first_le_if_above last_sent first first_is_above) none_marked)
     where
       users_before_end : users_before m labels j end
           ≡ users_before m labels j first ++ run m labels j first end
       users_before_end =
-          let e : first + (end - first) ≡ end = omega arith in
-          ap (users_before m labels j) (sym e)
-          ∙ users_before_run first (end - first) (λ k lo hi. all k lo (omega arith))
+          let run_end_is_end : first + (end - first) ≡ end = omega arith in
+          ap (users_before m labels j) (sym run_end_is_end)
+          ∙ users_before_run first (end - first)
+          (λ k first_le_k k_lt_run_end. run_is_marked k first_le_k (omega arith))
 
       text_by_last : (o : Option ℕ) → IfSome o (λ i. mark m i j ≡ true)
           → users_before m labels j first ≡ users_before m labels j (first_after o)
           → separated_rows (users_before m labels j (first_after o))
           ++ after_label o (spaced (run m labels j first end))
           ≡ separated_rows (users_before m labels j end)
-      text_by_last None marked e =
-          sym (ap separated_rows (users_before_end ∙ ap (λ z. z ++ run m labels j first end) e)
+      text_by_last None last_is_marked no_users_between =
+          sym (ap separated_rows (users_before_end
+          ∙ ap (λ z. z ++ run m labels j first end) no_users_between)
           ∙ separated_spaced (run m labels j first end))
-      text_by_last (Some i) marked e =
-          sym (ap separated_rows (users_before_end ∙ ap (λ z. z ++ run m labels j first end) e)
+      text_by_last (Some i) last_is_marked no_users_between =
+          sym (ap separated_rows (users_before_end
+          ∙ ap (λ z. z ++ run m labels j first end) no_users_between)
           ∙ separated_append (users_before m labels j (i + 1)) (run m labels j first end)
-          (some_gathered i marked))
+          (users_exist_after_marked i last_is_marked))
 
   -- if no theorem after the last one that was sent is marked, all users were sent
-  pub users_all : (last_sent : Option ℕ) (n : ℕ) → first_after last_sent ≤ n
+  pub users_complete : (last_sent : Option ℕ) (n : ℕ) → first_after last_sent ≤ n
       → ((k : ℕ) → IsAbove last_sent k → k < n → mark m k j ≡ false)
       → separated_rows (users_before m labels j (first_after last_sent))
       ≡ separated_rows (users_before m labels j n)
-  users_all last_sent n le none = ap separated_rows (sym (users_before_to last_sent n le none))
+  users_complete last_sent n first_le_n none_marked =
+      ap separated_rows (sym (users_before_next_user last_sent n first_le_n none_marked))
 
-  length_of_one : (r : Row) (b : Bool) → length {A = Row} (cond b (r ∷ []) []) ≡ cond b 1 0
-  length_of_one r true = refl
-  length_of_one r false = refl
+  -- a row that is selected counts as one
+  length_of_selected_row : (r : Row) (b : Bool) → length {A = Row} (cond b (r ∷ []) []) ≡ cond b 1 0
+  length_of_selected_row r true = refl
+  length_of_selected_row r false = refl
 
   -- the count of a column
   pub users_counted : (n : ℕ)
-      → count_by (λ i. mark m i j) (range_with_len 0 n) ≡ length (users_before m labels j n)
+      → count_by (λ i. mark m i j) (range_with_len 0 n)
+      ≡ length (users_before m labels j n)
   users_counted zero = refl
   users_counted (suc n) =
-      let e : suc n ≡ n + 1 = omega arith in
-      let t = count_more (λ i. mark m i j) n in
-      let i = users_counted n in
-      let g =
-      ap length (users_before_next n 1)
+      let suc_is_plus_one : suc n ≡ n + 1 = omega arith in
+      let count_with_next = count_in_range_push (λ i. mark m i j) n in
+      let earlier_counted = users_counted n in
+      let length_with_next =
+      ap length (users_before_split n 1)
       ∙ length-append (users_before m labels j n)
       (filter (λ r. mark_at j r.marks) (row m labels j n ∷ [])) in
-      let o =
-      length_of_one (row m labels j n) (mark_at j (row m labels j n).marks)
-      ∙ ap (λ b. cond b 1 0) (is_marked n) in
-      ap (λ k. count_by (λ i. mark m i j) (range_with_len 0 k)) e ∙ t
-      ∙ sym (g ∙ omega (arith, i, o)) ∙ ap (λ k. length (users_before m labels j k)) (sym e)
+      let next_length =
+      length_of_selected_row (row m labels j n) (mark_at j (row m labels j n).marks)
+      ∙ ap (λ b. cond b 1 0) (row_has_mark n) in
+      ap (λ k. count_by (λ i. mark m i j) (range_with_len 0 k))
+      suc_is_plus_one ∙ count_with_next
+      ∙ sym (length_with_next ∙ omega (arith, earlier_counted, next_length))
+      ∙ ap (λ k. length (users_before m labels j k)) (sym suc_is_plus_one)
 
-usage_push : (rows : List Row) (a : ℕ) (ls : List Bytes) (l : Bytes)
+-- the lines of the columns from number `a` on, with one more column at the end
+usage_lines_from_push : (rows : List Row) (a : ℕ) (ls : List Bytes) (l : Bytes)
     → usage_lines rows a (ls ++ l ∷ []) ≡ usage_lines rows a ls ++ usage_line rows (a + length ls) l
-usage_push rows a [] l =
+usage_lines_from_push rows a [] l =
     append-nil (usage_line rows a l) ∙ ap (λ n. usage_line rows n l) (sym (add-zero a))
-usage_push rows a (k ∷ ls) l =
-    let e : a + 1 + length ls ≡ a + suc (length ls) = omega arith in
+usage_lines_from_push rows a (k ∷ ls) l =
+    let next_number_is_suc : a + 1 + length ls ≡ a + suc (length ls) = omega arith in
     ap (λ z. usage_line rows a k ++ z)
-    (usage_push rows (a + 1) ls l
-    ∙ ap (λ n. usage_lines rows (a + 1) ls ++ usage_line rows n l) e)
+    (usage_lines_from_push rows (a + 1) ls l
+    ∙ ap (λ n. usage_lines rows (a + 1) ls ++ usage_line rows n l) next_number_is_suc)
     ∙ sym (append_assoc (usage_line rows a k) (usage_lines rows (a + 1) ls)
     (usage_line rows (a + suc (length ls)) l))
 
 -- the lines of the first j + 1 columns are those of the first j, and then that of column j
-pub usage_more : (rows : List Row) (names : List Bytes) (j : ℕ) → j < length names
+pub usage_lines_push : (rows : List Row) (names : List Bytes) (j : ℕ) → j < length names
     → usage_lines rows 0 (take (j + 1) names)
     ≡ usage_lines rows 0 (take j names) ++ usage_line rows j (get_or names j [])
-usage_more rows names j lt =
-    let l = length-take-le j names (omega arith) in
-    let e : 0 + length (take j names) ≡ j = omega (arith, l) in
-    ap (usage_lines rows 0) (take_more names j [] lt)
-    ∙ usage_push rows 0 (take j names) (get_or names j [])
-    ∙ ap (λ n. usage_lines rows 0 (take j names) ++ usage_line rows n (get_or names j [])) e
+usage_lines_push rows names j j_lt_length =
+    let taken_length = length-take-le j names (omega arith) in
+    let next_number_is_j : 0 + length (take j names) ≡ j = omega (arith, taken_length) in
+    ap (usage_lines rows 0) (take_more names j [] j_lt_length)
+    ∙ usage_lines_from_push rows 0 (take j names) (get_or names j [])
+    ∙ ap (λ n. usage_lines rows 0 (take j names) ++ usage_line rows n (get_or names j []))
+    next_number_is_j

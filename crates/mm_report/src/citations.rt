@@ -12,8 +12,8 @@ ghost use Rattle.mm_report.specs.Sent.{Sent};
 
 use crate::labels::{TheoremLabels, label_of};
 use crate::open_columns::open_theorems;
+use crate::sections::{send_head, send_line};
 use crate::sink::{Sink, WriteFailed};
-use crate::text::{send_head, send_line};
 use mm_cites::Citations;
 use mm_database::Database;
 use mm_rows::{Columns, has_chosen_typecode};

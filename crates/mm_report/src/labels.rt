@@ -53,10 +53,11 @@ impl<'d, 'a, D: Allocator> TheoremLabels<'d, 'a, D> {
 
     /// Returns the labels with indices from `from` up to `to`, each after a space.
     pub fn spaced(&self, from: u32, to: u32) -> &'d [u8]
-        requires order { from ≤ to }
-        requires within { to ≤ length self.now }
-        ensures labels { result.now ≡ flat_map (λ l. 32 ∷ l) (slice_range self.now from to) }
-        ensures some { from < to → 0 < length result.now }
+        requires from_le_to { from ≤ to }
+        requires to_le_length { to ≤ length self.now }
+        ensures labels_are_spaced { result.now
+            ≡ flat_map (λ l. 32 ∷ l) (slice_range self.now from to) }
+        ensures has_bytes { from < to → 0 < length result.now }
     {
         self.database.spaced_labels(from, to)
     }

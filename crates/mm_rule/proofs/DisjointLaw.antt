@@ -14,61 +14,71 @@ use Rattle.mm_spec.specs.Citation.{context_at}
 use Rattle.mm_spec.proofs.FindsLaw.{each_filter, each_any}
 use Rattle.mm_rule.specs.Assertions.{as_pairs}
 
-eq_sym : (x y : ℕ) → (x == y) ≡ (y == x)
-eq_sym x y = by_equality (x == y) (y == x) refl refl
+-- equality of numbers is symmetric
+eq_symmetric : (x y : ℕ) → (x == y) ≡ (y == x)
+eq_symmetric x y = by_equality (x == y) (y == x) refl refl
   where
     by_equality : (a b : Bool) → (x == y) ≡ a → (y == x) ≡ b → a ≡ b
-    by_equality true true e f = refl
-    by_equality false false e f = refl
-    by_equality true false e f = absurd (true≢false (sym (eq-eqb y x (sym (eqb-true x y e))) ∙ f))
-    by_equality false true e f = absurd (true≢false (sym (eq-eqb x y (sym (eqb-true y x f))) ∙ e))
+    by_equality true true x_eq_y_is_a y_eq_x_is_b = refl
+    by_equality false false x_eq_y_is_a y_eq_x_is_b = refl
+    by_equality true false x_eq_y_is_a y_eq_x_is_b =
+        absurd (true≢false (sym (eq-eqb y x (sym (eqb-true x y x_eq_y_is_a))) ∙ y_eq_x_is_b))
+    by_equality false true x_eq_y_is_a y_eq_x_is_b =
+        absurd (true≢false (sym (eq-eqb x y (sym (eqb-true y x y_eq_x_is_b))) ∙ x_eq_y_is_a))
 
-any_same : (p q : ℕ → Bool) → ((j : ℕ) → p j ≡ q j) → (xs : List ℕ) → list_any p xs ≡ list_any q xs
-any_same p q e [] = refl
-any_same p q e (x ∷ xs) = ap₂ (λ a b. a || b) (e x) (any_same p q e xs)
+-- equal tests find the same
+any_of_equal_tests : (p q : ℕ → Bool) → ((j : ℕ) → p j ≡ q j) → (xs : List ℕ)
+    → list_any p xs ≡ list_any q xs
+any_of_equal_tests p q tests_equal [] = refl
+any_of_equal_tests p q tests_equal (x ∷ xs) =
+    ap₂ (λ a b. a || b) (tests_equal x) (any_of_equal_tests p q tests_equal xs)
 
 module _ (db : List Statement) (k : ℕ) where
-  disjoint_sym : (x y : ℕ) → disjoint_at db k x y ≡ disjoint_at db k y x
-  disjoint_sym x y =
-      ap₂ (λ a b. not a && b) (eq_sym x y)
-      (any_same (λ j. is_member (formula_at db j) x && is_member (formula_at db j) y)
+  -- what is disjoint from another is so the other way round
+  disjoint_symmetric : (x y : ℕ) → disjoint_at db k x y ≡ disjoint_at db k y x
+  disjoint_symmetric x y =
+      ap₂ (λ a b. not a && b) (eq_symmetric x y)
+      (any_of_equal_tests (λ j. is_member (formula_at db j) x && is_member (formula_at db j) y)
       (λ j. is_member (formula_at db j) y && is_member (formula_at db j) x)
       (λ j. and_comm (is_member (formula_at db j) x) (is_member (formula_at db j) y))
       (active_of is_disjoint_statement db k))
 
-  pub either_order : (x y : ℕ) → are_disjoint (context_at db k) x y ≡ true
+  -- the test of a context is symmetric too
+  pub are_disjoint_symmetric : (x y : ℕ) → are_disjoint (context_at db k) x y ≡ true
       → are_disjoint (context_at db k) y x ≡ true
-  either_order x y h =
+  are_disjoint_symmetric x y are_disjoint_x_y =
       ap₂ (λ a b. not a || b) (and_comm (is_variable_number db y) (is_variable_number db x))
-      (ap₂ (λ a b. not a && b) (eq_sym y x) (disjoint_sym y x))
-      ∙ h
+      (ap₂ (λ a b. not a && b) (eq_symmetric y x) (disjoint_symmetric y x))
+      ∙ are_disjoint_x_y
 
-  disjoint_if : (x y : ℕ) → disjoint_at db k x y ≡ true → are_disjoint (context_at db k) x y ≡ true
-  disjoint_if x y h =
+  -- what a `$d` makes disjoint is disjoint in the context
+  disjoint_at_are_disjoint : (x y : ℕ) → disjoint_at db k x y ≡ true
+      → are_disjoint (context_at db k) x y ≡ true
+  disjoint_at_are_disjoint x y disjoint_x_y =
       by_values (is_variable_number db x && is_variable_number db y) (x == y)
       (list_any (λ j. is_member (formula_at db j) x && is_member (formula_at db j) y)
-      (active_of is_disjoint_statement db k)) h
+      (active_of is_disjoint_statement db k)) disjoint_x_y
     where
       by_values : (v e l : Bool) → (not e && l) ≡ true → (not v || (not e && (not e && l))) ≡ true
-      by_values false e l h = refl
-      by_values true true l h = h
-      by_values true false l h = h
+      by_values false e l tests_hold = refl
+      by_values true true l tests_hold = tests_hold
+      by_values true false l tests_hold = tests_hold
 
   -- the pairs of a frame are disjoint at its assertion
-  pub pairs_disjoint : (ps : List (ℕ × ℕ)) → as_pairs ps ≡ mandatory_pairs db k
+  pub frame_pairs_are_disjoint : (ps : List (ℕ × ℕ)) → as_pairs ps ≡ mandatory_pairs db k
       → All (λ (p : ℕ × ℕ). are_disjoint (context_at db k) p.0 p.1 ≡ true) ps
-  pairs_disjoint ps e =
+  frame_pairs_are_disjoint ps ps_are_mandatory =
       All-from_recursion (λ (p : ℕ × ℕ). are_disjoint (context_at db k) p.0 p.1 ≡ true) ps
-      (of_pairs ps (subst (AllByRecursion Is) (sym e) all_are_disjoint))
+      (of_pairs ps (subst (AllByRecursion Is) (sym ps_are_mandatory) all_are_disjoint))
     where
       Is : Pair → Type 0
       Is p = are_disjoint (context_at db k) p.low p.high ≡ true
 
-      last_part : (a b c d : Bool) → (a && b && c && d) ≡ true → d ≡ true
-      last_part true true true d h = h
-      last_part true true false d h = absurd (cc)
-      last_part true false c d h = absurd (cc)
-      last_part false b c d h = absurd (cc)
+      last_holds : (a b c d : Bool) → (a && b && c && d) ≡ true → d ≡ true
+      last_holds true true true d all_hold = all_hold
+      last_holds true true false d all_hold = absurd (cc)
+      last_holds true false c d all_hold = absurd (cc)
+      last_holds false b c d all_hold = absurd (cc)
 
       in_order : Pair → Bool
       in_order p =
@@ -79,11 +89,12 @@ module _ (db : List Statement) (k : ℕ) where
       all_are_disjoint =
           each_filter Is in_order (pairs_of (length (symbol_names db)))
           (each_any (λ p. in_order p ≡ true → Is p) (pairs_of (length (symbol_names db)))
-          (λ p h. disjoint_if p.low p.high
-          (last_part (nat_lt p.low p.high) (is_member (mandatory_variables db k) p.low)
-          (is_member (mandatory_variables db k) p.high) (disjoint_at db k p.low p.high) h)))
+          (λ p p_is_in_order. disjoint_at_are_disjoint p.low p.high
+          (last_holds (nat_lt p.low p.high) (is_member (mandatory_variables db k) p.low)
+          (is_member (mandatory_variables db k) p.high)
+          (disjoint_at db k p.low p.high) p_is_in_order)))
 
       of_pairs : (ps : List (ℕ × ℕ)) → AllByRecursion Is (as_pairs ps)
           → AllByRecursion (λ (p : ℕ × ℕ). are_disjoint (context_at db k) p.0 p.1 ≡ true) ps
-      of_pairs [] h = tt
-      of_pairs (p ∷ ps) h = (h.0, of_pairs ps h.1)
+      of_pairs [] each_is_disjoint = tt
+      of_pairs (p ∷ ps) each_is_disjoint = (each_is_disjoint.0, of_pairs ps each_is_disjoint.1)

@@ -17,84 +17,101 @@ use Rattle.mm_spec.proofs.FindsLaw.{is_before, each_filter, each_any, member_fil
 use Rattle.mm_spec.proofs.BoolLaw.{middle_parts}
 use Rattle.mm_rule.specs.Assertions.{as_pairs}
 
-weaker : (P Q : ℕ → Type 0) → ((x : ℕ) → P x → Q x) → (xs : List ℕ) → AllByRecursion P xs
+-- what follows from a property of all members holds of all members
+all_of_weaker : (P Q : ℕ → Type 0) → ((x : ℕ) → P x → Q x) → (xs : List ℕ) → AllByRecursion P xs
     → AllByRecursion Q xs
-weaker P Q f [] h = tt
-weaker P Q f (x ∷ xs) h = (f x h.0, weaker P Q f xs h.1)
+all_of_weaker P Q p_gives_q [] all_p = tt
+all_of_weaker P Q p_gives_q (x ∷ xs) all_p =
+    (p_gives_q x all_p.0, all_of_weaker P Q p_gives_q xs all_p.1)
 
-filter_keeps : (P : ℕ → Type 0) (t : ℕ → Bool) (xs : List ℕ) → AllByRecursion P xs
+-- a property of all members holds of those that pass a test
+filter_keeps_all : (P : ℕ → Type 0) (t : ℕ → Bool) (xs : List ℕ) → AllByRecursion P xs
     → AllByRecursion P (filter t xs)
-filter_keeps P t xs h = each_filter P t xs (weaker P (λ x. t x ≡ true → P x) (λ x p e. p) xs h)
+filter_keeps_all P t xs all_p =
+    each_filter P t xs (all_of_weaker P (λ x. t x ≡ true → P x) (λ x holds passes. holds) xs all_p)
 
-filter_few : (t : ℕ → Bool) (xs : List ℕ) → length (filter t xs) ≤ length xs
-filter_few t [] = omega arith
-filter_few t (x ∷ xs) = by_test (t x) (filter_few t xs)
+-- a filtered list is no longer
+filter_no_longer : (t : ℕ → Bool) (xs : List ℕ) → length (filter t xs) ≤ length xs
+filter_no_longer t [] = omega arith
+filter_no_longer t (x ∷ xs) = by_test (t x) (filter_no_longer t xs)
   where
     by_test : (b : Bool) → length (filter t xs) ≤ length xs
         → length {A = ℕ} (cond b (x ∷ filter t xs) (filter t xs)) ≤ suc (length xs)
-    by_test true h = omega (arith, h)
-    by_test false h = omega (arith, h)
+    by_test true rest_le_length = omega (arith, rest_le_length)
+    by_test false rest_le_length = omega (arith, rest_le_length)
 
 -- an assertion has no more hypotheses than there are statements before it
-pub hyps_few : (db : List Statement) (k : ℕ) → length (mandatory_hypotheses db k) ≤ k
-hyps_few db k =
-    let a = filter_few (λ j. is_active db j k) (range_with_len 0 k) in
-    let b =
-    filter_few
+pub hypotheses_le_k : (db : List Statement) (k : ℕ) → length (mandatory_hypotheses db k) ≤ k
+hypotheses_le_k db k =
+    let active_le_k = filter_no_longer (λ j. is_active db j k) (range_with_len 0 k) in
+    let hypotheses_le_active =
+    filter_no_longer
     (λ j. list_any is_essential (statement_at db j)
     || (list_any is_floating (statement_at db j)
     && list_any (is_member (mandatory_variables db k)) (formula_at db j))) (active db k) in
-    omega (arith, a, b, length-range_with_len 0 k)
+    omega (arith, active_le_k, hypotheses_le_active, length-range_with_len 0 k)
 
-pub hyps_below : (db : List Statement) (k : ℕ) → k ≤ length db
+-- the mandatory hypotheses are statements of the database
+pub hypotheses_lt_length : (db : List Statement) (k : ℕ) → k ≤ length db
     → All (λ h. h < length db) (mandatory_hypotheses db k)
-hyps_below db k u = All-from_recursion (λ h. h < length db) (mandatory_hypotheses db k)
-    (filter_keeps (λ h. h < length db) _ _
+hypotheses_lt_length db k k_le_length =
+    All-from_recursion (λ h. h < length db) (mandatory_hypotheses db k)
+    (filter_keeps_all (λ h. h < length db) _ _
     (each_filter (λ h. h < length db) (λ j. is_active db j k) (range_with_len 0 k)
     (each_any (λ j. is_active db j k ≡ true → j < length db) (range_with_len 0 k)
-    (λ j e. let b = is_before db j k e in omega (arith, b)))))
+    (λ j j_is_active. let j_lt_k = is_before db j k j_is_active in omega (arith, j_lt_k)))))
 
-variable_below : (db : List Statement) (x : ℕ) → is_variable_number db x ≡ true
+-- a variable is one of the symbols
+variable_lt_symbol_count : (db : List Statement) (x : ℕ) → is_variable_number db x ≡ true
     → x < length (symbol_names db)
-variable_below db x e = by_name (slice_get (symbol_names db) x) refl e
+variable_lt_symbol_count db x x_is_variable =
+    by_name (slice_get (symbol_names db) x) refl x_is_variable
   where
     by_name : (o : Option Bytes) → slice_get (symbol_names db) x ≡ o
         → elim o [ None ↦ false | Some w ↦ is_in w (flat_map variables_of db) ] ≡ true
         → x < length (symbol_names db)
-    by_name None o e = absurd (true≢false (sym e))
-    by_name (Some w) o e = slice_get_within (symbol_names db) x w o
+    by_name None name_x_is_o x_is_variable = absurd (true≢false (sym x_is_variable))
+    by_name (Some w) name_x_is_o x_is_variable = slice_get_within (symbol_names db) x w name_x_is_o
 
-mandatory_below : (db : List Statement) (k x : ℕ) → is_member (mandatory_variables db k) x ≡ true
+-- a mandatory variable is one of the symbols
+mandatory_lt_symbol_count : (db : List Statement) (k x : ℕ) → is_member (mandatory_variables db k) x
+    ≡ true
     → x < length (symbol_names db)
-mandatory_below db k x e = variable_below db x (member_filter (is_variable_number db) _ x e).0
+mandatory_lt_symbol_count db k x x_is_mandatory =
+    variable_lt_symbol_count db x (member_filter (is_variable_number db) _ x x_is_mandatory).0
 
-pub pairs_below : (db : List Statement) (k : ℕ) (ps : List (ℕ × ℕ))
+-- the mandatory pairs are of symbols
+pub pairs_lt_symbol_count : (db : List Statement) (k : ℕ) (ps : List (ℕ × ℕ))
     → as_pairs ps ≡ mandatory_pairs db k
     → All (λ (p : ℕ × ℕ). (p.0 < length (symbol_names db)) × (p.1 < length (symbol_names db))) ps
-pairs_below db k ps e =
+pairs_lt_symbol_count db k ps ps_are_mandatory =
     All-from_recursion
     (λ (p : ℕ × ℕ). (p.0 < length (symbol_names db)) × (p.1 < length (symbol_names db))) ps
-    (back ps (subst (AllByRecursion Low) (sym e) low))
+    (of_pairs ps (subst (AllByRecursion IsLow) (sym ps_are_mandatory) mandatory_are_low))
   where
-    Low : Pair → Type 0
-    Low p = (p.low < length (symbol_names db)) × (p.high < length (symbol_names db))
+    IsLow : Pair → Type 0
+    IsLow p = (p.low < length (symbol_names db)) × (p.high < length (symbol_names db))
 
     in_order : Pair → Bool
     in_order p =
         nat_lt p.low p.high && is_member (mandatory_variables db k) p.low
         && is_member (mandatory_variables db k) p.high && disjoint_at db k p.low p.high
 
-    low : AllByRecursion Low (mandatory_pairs db k)
-    low =
-        each_filter Low in_order (pairs_of (length (symbol_names db)))
-        (each_any (λ p. in_order p ≡ true → Low p) (pairs_of (length (symbol_names db)))
-        (λ p h. let q =
+    mandatory_are_low : AllByRecursion IsLow (mandatory_pairs db k)
+    mandatory_are_low =
+        each_filter IsLow in_order (pairs_of (length (symbol_names db)))
+        (each_any (λ p. in_order p ≡ true → IsLow p) (pairs_of (length (symbol_names db)))
+        (λ p p_is_in_order. let members =
         middle_parts (nat_lt p.low p.high) (is_member (mandatory_variables db k) p.low)
-        (is_member (mandatory_variables db k) p.high) (disjoint_at db k p.low p.high) h in
-        (mandatory_below db k p.low q.0, mandatory_below db k p.high q.1)))
+        (is_member (mandatory_variables db k) p.high)
+        (disjoint_at db k p.low p.high) p_is_in_order in (
+          mandatory_lt_symbol_count db k p.low members.0,
+          mandatory_lt_symbol_count db k p.high
+              members.1,
+        )))
 
-    back : (ps : List (ℕ × ℕ)) → AllByRecursion Low (as_pairs ps)
+    of_pairs : (ps : List (ℕ × ℕ)) → AllByRecursion IsLow (as_pairs ps)
         → AllByRecursion
         (λ (p : ℕ × ℕ). (p.0 < length (symbol_names db)) × (p.1 < length (symbol_names db))) ps
-    back [] h = tt
-    back (p ∷ ps) h = (h.0, back ps h.1)
+    of_pairs [] each_is_low = tt
+    of_pairs (p ∷ ps) each_is_low = (each_is_low.0, of_pairs ps each_is_low.1)

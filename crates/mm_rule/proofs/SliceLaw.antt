@@ -4,8 +4,9 @@ use Rattle.std.proofs.Common.{◌∙◌, arith}
 use Rattle.std.proofs.lemmas.List.{drop-append-le, take-append-le}
 use Rattle.std.proofs.Common.{length-drop}
 
-pub stretch_more : {X : Type 0} (xs more : List X) (s t : ℕ) → s ≤ t → t ≤ length xs
-    → slice_range (xs ++ more) s t ≡ slice_range xs s t
-stretch_more xs more s t r w =
-    ap (take (t - s)) (drop-append-le s xs more (omega arith))
-    ∙ take-append-le (t - s) (drop s xs) more (omega (arith, length-drop s xs))
+-- a stretch of a list is the same stretch of a longer list
+pub stretch_of_longer_list : {X : Type 0} (xs added : List X) (s t : ℕ) → s ≤ t → t ≤ length xs
+    → slice_range (xs ++ added) s t ≡ slice_range xs s t
+stretch_of_longer_list xs added s t s_le_t t_le_length =
+    ap (take (t - s)) (drop-append-le s xs added (omega arith))
+    ∙ take-append-le (t - s) (drop s xs) added (omega (arith, length-drop s xs))

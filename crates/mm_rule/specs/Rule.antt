@@ -22,6 +22,7 @@ floating_index db (h ∷ hs) x =
 abbrev pub part_of : List Statement → List Formula → ℕ → RuleSymbol
 part_of db hs s = if is_variable_number db s then Variable (floating_index db hs s) else Constant s
 
+-- the symbols of a formula as parts
 abbrev pub parts_of : List Statement → List Formula → Formula → List RuleSymbol
 parts_of db hs f = map (part_of db hs) f
 
@@ -56,6 +57,8 @@ abbrev pub IsConstantBelow : ℕ → RuleSymbol → Type 0
 IsConstantBelow n (Constant s) = s < n
 IsConstantBelow n (Variable j) = Unit {0}
 
+-- an assertion, its hypotheses, its `$d` pairs, the parts of all its hypotheses one after the
+-- other, and the parts of its formula
 pub record CompiledRule : Type 0 where
   pub assertion : ℕ
   pub hypotheses : List Hypothesis
@@ -63,6 +66,7 @@ pub record CompiledRule : Type 0 where
   pub parts : List RuleSymbol
   pub formula : List RuleSymbol
 
+-- a rule with these parts
 abbrev pub compiled_rule : ℕ → List Hypothesis → List (ℕ × ℕ) → List RuleSymbol → List RuleSymbol
     → CompiledRule
 compiled_rule k hypotheses pairs parts formula =

@@ -24,7 +24,7 @@ use Rattle.mm_rules.specs.Rules.{AreCovered, AreFirstNumbers, AreCompiled, numbe
 use Rattle.mm_rules.specs.Rules.{numbered_pairs, AreShortNumbers}
 use Rattle.mm_rule.specs.Assertions.{as_pairs}
 use Rattle.mm_rule.specs.Assertions.{is_assertion_at}
-use Rattle.mm_rule.proofs.FirstLaw.{first_below}
+use Rattle.mm_rule.proofs.FirstLaw.{floating_index_lt_length}
 
 pub map_push : {X Y : Type 0} (f : X → Y) (xs : List X) (x : X)
     → map f (xs ++ x ∷ []) ≡ map f xs ++ f x ∷ []
@@ -127,7 +127,7 @@ module _ (db : List Statement) (hs : List Formula) where
     where
       by_is_variable : (s : ℕ) (v : Bool) → (v ≡ true → IsBound (context_at db 0) hs s)
           → IsVariableBelow (length hs) (cond v (Variable (floating_index db hs s)) (Constant s))
-      by_is_variable s true b = first_below db hs s (b refl)
+      by_is_variable s true b = floating_index_lt_length db hs s (b refl)
       by_is_variable s false b = tt
 
       each_is_below : (f : Formula)
@@ -224,7 +224,7 @@ module _ (db : List Statement) (hs : List Formula) where
           (λ (p : Pair). (floating_index db hs p.low, floating_index db hs p.high)) ps)
       each_is_below [] h = tt
       each_is_below (p ∷ ps) h = (
-        (first_below db hs p.low h.0.0, first_below db hs p.high h.0.1),
+        (floating_index_lt_length db hs p.low h.0.0, floating_index_lt_length db hs p.high h.0.1),
         each_is_below ps h.1,
       )
 

@@ -11,7 +11,7 @@ use Rattle.mm_rules.specs.declared.rules.IndexRange.{IndexRange}
 use Rattle.mm_rule.specs.Rule.{compiled_rule, IsCompiled}
 use Rattle.mm_rules.specs.Rules.{rule_lists, elements_in, IsIndexRange, HasRule}
 use Rattle.mm_rules.specs.Rules.{AreRules}
-use Rattle.mm_rule.proofs.SliceLaw.{stretch_more}
+use Rattle.mm_rule.proofs.SliceLaw.{stretch_of_longer_list}
 
 -- a range of a list in the same list with more elements at its end
 module _ {X : Type 0} (xs added : List X) (s : IndexRange) where
@@ -24,7 +24,7 @@ module _ {X : Type 0} (xs added : List X) (s : IndexRange) where
       }
 
   elements_stay : IsIndexRange (length xs) s → elements_in (xs ++ added) s ≡ elements_in xs s
-  elements_stay is_range = stretch_more xs added s.start s.end is_range.rising is_range.within
+  elements_stay is_range = stretch_of_longer_list xs added s.start s.end is_range.rising is_range.within
 
   module _ (start_is : s.start ≡ length xs) (end_is : s.end ≡ length (xs ++ added)) where
     added_range_is_range : IsIndexRange (length (xs ++ added)) s

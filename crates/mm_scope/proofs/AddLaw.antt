@@ -30,145 +30,170 @@ use Rattle.mm_outline.specs.declared.parts.Kind.TheVariants as kind
 use Rattle.mm_outline.proofs.BlocksLaw.{blocks_plain, blocks_opening, blocks_closing}
 use Rattle.mm_scope.proofs.JudgeLaw.{bytes_eq_sym}
 use Rattle.mm_outline.proofs.FaultlessLaw.{constant_new, floating_new, variable_new}
-use Rattle.mm_scope.proofs.KnowsLaw.{none_active}
+use Rattle.mm_scope.proofs.KnowsLaw.{no_active_statement_has_word}
 use Rattle.mm_outline.proofs.AmongLaw.{typed_in}
-use Rattle.mm_scope.proofs.LabelsLaw.{labels_after, label_unused}
-use Rattle.mm_scope.proofs.WordEntryLaw.{known_same, known_constant, known_variable, known_typed}
-use Rattle.mm_scope.proofs.WordEntryLaw.{in_more}
+use Rattle.mm_scope.proofs.LabelsLaw.{labels_after_statement, label_stands_for_nothing}
+use Rattle.mm_scope.proofs.WordEntryLaw.{entry_is_unchanged, entry_of_new_constant}
+use Rattle.mm_scope.proofs.WordEntryLaw.{entry_of_new_variable, entry_of_typed_variable}
+use Rattle.mm_scope.proofs.WordEntryLaw.{in_flat_map_push}
 
-module _ (db : List Statement) (few : length db < never) (w : Bytes) where
+module _ (db : List Statement) (db_lt_never : length db < never) (w : Bytes) where
   abbrev n : Names
   n = names_before db (length db)
 
-  all_taken : take (length db) db ≡ db
-  all_taken = take_all (length db) db (le_refl (length db))
+  -- all statements are taken
+  take_length_is_db : take (length db) db ≡ db
+  take_length_is_db = take_all (length db) db (le_refl (length db))
 
   -- with no entry, or that of a variable
-  no_constant : (x : Option WordEntry) → IsEntryOf db w x → is_in w n.constants ≡ false
+  no_constant_entry : (x : Option WordEntry) → IsEntryOf db w x → is_in w n.constants ≡ false
       → is_constant_entry x ≡ false
-  no_constant x k e =
-      sym k.constant ∙ sym (ap (λ xs. is_in w (flat_map constants_of xs)) all_taken) ∙ e
+  no_constant_entry x x_is_entry w_is_no_constant =
+      sym x_is_entry.constant_is_known
+      ∙ sym (ap (λ xs. is_in w (flat_map constants_of xs)) take_length_is_db) ∙ w_is_no_constant
 
-  no_variable : (x : Option WordEntry) → IsEntryOf db w x → is_in w n.all_variables ≡ false
+  no_variable_entry : (x : Option WordEntry) → IsEntryOf db w x → is_in w n.all_variables ≡ false
       → is_variable_entry x ≡ false
-  no_variable x k e =
-      sym k.variable ∙ sym (ap (λ xs. is_in w (flat_map variables_of xs)) all_taken) ∙ e
+  no_variable_entry x x_is_entry w_is_no_variable =
+      sym x_is_entry.variable_is_known
+      ∙ sym (ap (λ xs. is_in w (flat_map variables_of xs)) take_length_is_db) ∙ w_is_no_variable
 
-  in_nil : (xs : List Bytes) (b : Bool) → is_in w xs ≡ b → is_in w (xs ++ []) ≡ b
-  in_nil xs b e = ap (is_in w) (append-nil xs) ∙ e
+  -- nothing is in the empty list behind a list
+  in_append_nil : (xs : List Bytes) (b : Bool) → is_in w xs ≡ b → is_in w (xs ++ []) ≡ b
+  in_append_nil xs b in_xs_is_b = ap (is_in w) (append-nil xs) ∙ in_xs_is_b
 
-  constant_after : (k : ℕ) (xs : List Token) (e : ℕ) (x : Option WordEntry) → IsEntryOf db w x
+  -- the entry of a word after a `$c`
+  entry_after_constants : (k : ℕ) (xs : List Token) (e : ℕ) (x : Option WordEntry)
+      → IsEntryOf db w x
       → at_each (constant_codes n) [] xs ≡ []
       → IsEntryOf (db ++ constants k xs e ∷ []) w (entry_after (length db) (constants k xs e) w x)
-  constant_after k xs e x kn law = by_is_in (is_in w (words xs)) refl
+  entry_after_constants k xs e x x_is_entry no_fault = by_is_in (is_in w (words xs)) refl
     where
       fresh : (x : Option WordEntry) → IsEntryOf db w x → is_constant_entry x ≡ false
           → is_variable_entry x ≡ false → is_in w (words xs) ≡ true
           → IsEntryOf (db ++ constants k xs e ∷ []) w (declared_entry false (length db) w x)
-      fresh None kn c v h =
-          known_constant db (constants k xs e) w kn (in_nil (words xs) true h) refl refl (length db)
-      fresh (Some o) kn c v h = absurd (true≢false (sym (ap not v) ∙ c))
+      fresh None x_is_entry is_no_constant is_no_variable w_in_xs =
+          entry_of_new_constant db (constants k xs e) w x_is_entry
+          (in_append_nil (words xs) true w_in_xs) refl refl (length db)
+      fresh (Some o) x_is_entry is_no_constant is_no_variable w_in_xs =
+          absurd (true≢false (sym (ap not is_no_variable) ∙ is_no_constant))
 
       by_is_in : (b : Bool) → is_in w (words xs) ≡ b
           → IsEntryOf (db ++ constants k xs e ∷ []) w
           (if b then declared_entry false (length db) w x else x)
-      by_is_in false h =
-          known_same db (constants k xs e) w x kn (in_nil (words xs) false h) refl refl
-      by_is_in true h =
-          let new = constant_new n xs law w h in
-          fresh x kn (no_constant x kn new.0) (no_variable x kn new.1) h
+      by_is_in false w_in_xs =
+          entry_is_unchanged db (constants k xs e) w x x_is_entry
+          (in_append_nil (words xs) false w_in_xs) refl
+          refl
+      by_is_in true w_in_xs =
+          let undeclared = constant_new n xs no_fault w w_in_xs in
+          fresh x x_is_entry (no_constant_entry x x_is_entry undeclared.0)
+          (no_variable_entry x x_is_entry undeclared.1) w_in_xs
 
-  variable_after : (k : ℕ) (xs : List Token) (e : ℕ) (x : Option WordEntry) → IsEntryOf db w x
+  -- the entry of a word after a `$v`
+  entry_after_variables : (k : ℕ) (xs : List Token) (e : ℕ) (x : Option WordEntry)
+      → IsEntryOf db w x
       → at_each (variable_codes n) [] xs ≡ []
       → IsEntryOf (db ++ variables k xs e ∷ []) w (entry_after (length db) (variables k xs e) w x)
-  variable_after k xs e x kn law = by_is_in (is_in w (words xs)) refl
+  entry_after_variables k xs e x x_is_entry no_fault = by_is_in (is_in w (words xs)) refl
     where
       by_is_in : (b : Bool) → is_in w (words xs) ≡ b
           → IsEntryOf (db ++ variables k xs e ∷ []) w
           (if b then declared_entry true (length db) w x else x)
-      by_is_in false h =
-          known_same db (variables k xs e) w x kn refl (in_nil (words xs) false h) refl
-      by_is_in true h =
-          let new = variable_new n xs law w h in
-          known_variable db (variables k xs e) w x kn (no_constant x kn new.0) new.1 refl
-          (in_nil (words xs) true h) refl
+      by_is_in false w_in_xs =
+          entry_is_unchanged db (variables k xs e) w x x_is_entry refl
+          (in_append_nil (words xs) false w_in_xs) refl
+      by_is_in true w_in_xs =
+          let undeclared = variable_new n xs no_fault w w_in_xs in
+          entry_of_new_variable db (variables k xs e) w x x_is_entry
+          (no_constant_entry x x_is_entry undeclared.0) undeclared.1 refl
+          (in_append_nil (words xs) true w_in_xs) refl
 
-  floating_after : (l : Token) (k : ℕ) (c v : Token) (e : ℕ) (x : Option WordEntry)
+  -- the entry of a word after a `$f`
+  entry_after_floating : (l : Token) (k : ℕ) (c v : Token) (e : ℕ) (x : Option WordEntry)
       → IsEntryOf db w x → floating_faults n k (c ∷ v ∷ []) ≡ []
       → IsEntryOf (db ++ floating l k (c ∷ v ∷ []) e ∷ []) w
       (entry_after (length db) (floating l k (c ∷ v ∷ []) e) w x)
-  floating_after l k c v e x kn law = by_equality (bytes_eq v.word w) refl
+  entry_after_floating l k c v e x x_is_entry no_fault = by_equality (bytes_eq v.word w) refl
     where
       typed : (x : Option WordEntry) → IsEntryOf db w x → v.word ≡ w
           → IsEntryOf (db ++ floating l k (c ∷ v ∷ []) e ∷ []) w (typed_entry (length db) c.word x)
-      typed None kn same =
-          let new = floating_new n k c v law in
+      typed None x_is_entry v_is_w =
+          let untyped = floating_new n k c v no_fault in
           absurd (true≢false
-          (sym (ap (λ u. is_in u n.active_variables) (sym same) ∙ new.0)
-          ∙ none_active db variables_of w kn.variable))
-      typed (Some o) kn same =
-          let new = floating_new n k c v law in
-          known_typed db (floating l k (c ∷ v ∷ []) e) w o kn few c.word
+          (sym (ap (λ u. is_in u n.active_variables) (sym v_is_w) ∙ untyped.0)
+          ∙ no_active_statement_has_word db variables_of w x_is_entry.variable_is_known))
+      typed (Some o) x_is_entry v_is_w =
+          let untyped = floating_new n k c v no_fault in
+          entry_of_typed_variable db (floating l k (c ∷ v ∷ []) e) w o x_is_entry db_lt_never c.word
           (sym (typed_in w (active_statements db (length db)))
-          ∙ ap (λ u. list_any (λ t. bytes_eq u t.variable) n.active_typings) (sym same) ∙ new.1)
+          ∙ ap (λ u. list_any (λ t. bytes_eq u t.variable) n.active_typings) (sym v_is_w)
+          ∙ untyped.1)
           (sym (ap (λ xs. list_any (gives_other_typecode c.word w) (flat_map typings_of xs))
-          all_taken)
-          ∙ ap (λ u. list_any (gives_other_typecode c.word u) n.all_typings) (sym same) ∙ new.2)
-          refl refl (ap (λ u. record { typecode = c.word; variable = u } ∷ []) same)
+          take_length_is_db)
+          ∙ ap (λ u. list_any (gives_other_typecode c.word u) n.all_typings) (sym v_is_w)
+          ∙ untyped.2)
+          refl refl (ap (λ u. record { typecode = c.word; variable = u } ∷ []) v_is_w)
 
       by_equality : (b : Bool) → bytes_eq v.word w ≡ b
           → IsEntryOf (db ++ floating l k (c ∷ v ∷ []) e ∷ []) w
           (if b then typed_entry (length db) c.word x else x)
-      by_equality false h =
-          known_same db (floating l k (c ∷ v ∷ []) e) w x kn refl refl
-          (ap (λ b. b || false) (bytes_eq_sym w v.word ∙ h))
-      by_equality true h = typed x kn ((bytes_eq-Decides v.word w).0 h)
+      by_equality false v_eq_w =
+          entry_is_unchanged db (floating l k (c ∷ v ∷ []) e) w x x_is_entry refl refl
+          (ap (λ b. b || false) (bytes_eq_sym w v.word ∙ v_eq_w))
+      by_equality true v_eq_w = typed x x_is_entry ((bytes_eq-Decides v.word w).0 v_eq_w)
 
   -- what is known of the word after a lawful statement
-  pub known_after : (s : Statement) (d : ℕ) (x : Option WordEntry) → IsEntryOf db w x
+  pub entry_after_statement : (s : Statement) (d : ℕ) (x : Option WordEntry) → IsEntryOf db w x
       → scope_faults n d s ≡ [] → IsEntryOf (db ++ s ∷ []) w (entry_after (length db) s w x)
-  known_after (constants k xs e) d x kn law =
-      constant_after k xs e x kn
+  entry_after_statement (constants k xs e) d x x_is_entry no_fault =
+      entry_after_constants k xs e x x_is_entry
       (append_none
       (at k (when (nat_lt 0 d) ConstantInBlock) ++ at e (when (is_empty n xs) EmptyDeclaration))
-      (at_each (constant_codes n) [] xs) law).1
-  known_after (variables k xs e) d x kn law =
-      variable_after k xs e x kn
+      (at_each (constant_codes n) [] xs) no_fault).1
+  entry_after_statement (variables k xs e) d x x_is_entry no_fault =
+      entry_after_variables k xs e x x_is_entry
       (append_none (at e (when (is_empty n xs) EmptyDeclaration))
-      (at_each (variable_codes n) [] xs) law).1
-  known_after (floating l k [] e) d x kn law =
-      absurd (let h = (append_none (label_faults n l) (floating_faults n k []) law).1 in cc)
-  known_after (floating l k (c ∷ []) e) d x kn law =
-      absurd (let h = (append_none (label_faults n l) (floating_faults n k (c ∷ [])) law).1 in cc)
-  known_after (floating l k (c ∷ v ∷ []) e) d x kn law =
-      floating_after l k c v e x kn
-      (append_none (label_faults n l) (floating_faults n k (c ∷ v ∷ [])) law).1
-  known_after (floating l k (c ∷ v ∷ t ∷ ts) e) d x kn law =
-      absurd (let h = (append_none (label_faults n l)
-      (floating_faults n k (c ∷ v ∷ t ∷ ts)) law).1 in
+      (at_each (variable_codes n) [] xs) no_fault).1
+  entry_after_statement (floating l k [] e) d x x_is_entry no_fault =
+      absurd (let floating_has_no_fault =
+      (append_none (label_faults n l) (floating_faults n k []) no_fault).1 in cc)
+  entry_after_statement (floating l k (c ∷ []) e) d x x_is_entry no_fault =
+      absurd (let floating_has_no_fault =
+      (append_none (label_faults n l) (floating_faults n k (c ∷ [])) no_fault).1 in cc)
+  entry_after_statement (floating l k (c ∷ v ∷ []) e) d x x_is_entry no_fault =
+      entry_after_floating l k c v e x x_is_entry
+      (append_none (label_faults n l) (floating_faults n k (c ∷ v ∷ [])) no_fault).1
+  entry_after_statement (floating l k (c ∷ v ∷ t ∷ ts) e) d x x_is_entry no_fault =
+      absurd (let floating_has_no_fault = (append_none (label_faults n l)
+      (floating_faults n k (c ∷ v ∷ t ∷ ts)) no_fault).1 in
       cc)
-  known_after (disjoint k xs e) d x kn law = known_same db (disjoint k xs e) w x kn refl refl refl
-  known_after (essential l k xs e) d x kn law =
-      known_same db (essential l k xs e) w x kn refl refl refl
-  known_after (axiomatic l k xs e) d x kn law =
-      known_same db (axiomatic l k xs e) w x kn refl refl refl
-  known_after (provable l k xs q ps e) d x kn law =
-      known_same db (provable l k xs q ps e) w x kn refl refl refl
-  known_after (opening k) d x kn law = known_same db (opening k) w x kn refl refl refl
-  known_after (closing k) d x kn law = known_same db (closing k) w x kn refl refl refl
+  entry_after_statement (disjoint k xs e) d x x_is_entry no_fault =
+      entry_is_unchanged db (disjoint k xs e) w x x_is_entry refl refl refl
+  entry_after_statement (essential l k xs e) d x x_is_entry no_fault =
+      entry_is_unchanged db (essential l k xs e) w x x_is_entry refl refl refl
+  entry_after_statement (axiomatic l k xs e) d x x_is_entry no_fault =
+      entry_is_unchanged db (axiomatic l k xs e) w x x_is_entry refl refl refl
+  entry_after_statement (provable l k xs q ps e) d x x_is_entry no_fault =
+      entry_is_unchanged db (provable l k xs q ps e) w x x_is_entry refl refl refl
+  entry_after_statement (opening k) d x x_is_entry no_fault =
+      entry_is_unchanged db (opening k) w x x_is_entry refl refl refl
+  entry_after_statement (closing k) d x x_is_entry no_fault =
+      entry_is_unchanged db (closing k) w x x_is_entry refl refl refl
 
   -- whether it is a label after the statement
-  pub labelled_after : (s : Statement) (m : ℕ) (o : Option ℕ)
+  pub is_label_after_statement : (s : Statement) (m : ℕ) (o : Option ℕ)
       → is_in w (flat_map label_words db) ≡ is_some o
       → is_in w (flat_map label_words (db ++ s ∷ [])) ≡ is_some (label_after m (label_of s) w o)
-  labelled_after s m o e =
-      in_more db s w label_words ∙ ap (λ b. b || is_in w (label_words s ++ [])) e
+  is_label_after_statement s m o is_label_before =
+      in_flat_map_push db s w label_words
+      ∙ ap (λ b. b || is_in w (label_words s ++ [])) is_label_before
       ∙ by_token (label_of s)
     where
       by_word : (l : Token) (b : Bool) → bytes_eq w l.word ≡ b
           → (is_some o || (b || false)) ≡ is_some (if b then Some m else o)
-      by_word l true h = or-true (is_some o)
-      by_word l false h = or-false (is_some o)
+      by_word l true w_eq_l = or-true (is_some o)
+      by_word l false w_eq_l = or-false (is_some o)
 
       by_token : (q : Option Token)
           → (is_some o || is_in w (elim q [ None ↦ [] | Some l ↦ l.word ∷ [] ] ++ []))
@@ -179,32 +204,33 @@ module _ (db : List Statement) (few : length db < never) (w : Bytes) where
           ∙ ap (λ b. is_some (if b then Some m else o)) (bytes_eq_sym w l.word)
 
 module _ (text : List ℕ) (ws : List spec.Word) (db : List Statement) (b : BlockLists)
-    (x : IsBlocks db b) (few : length db < never) where
+    (x : IsBlocks db b) (db_lt_never : length db < never) where
   -- the blocks after a statement
   blocks_after : (k : Kind) (p m e : ℕ)
       → (is_closing (statement_between text ws k p m e) ≡ true → 0 < depth db (length db))
       → IsBlocks (db ++ statement_between text ws k p m e ∷ []) (pushed k b)
   blocks_after kind.Open p m e deep =
-      blocks_opening db (statement_between text ws kind.Open p m e) b x few refl refl
+      blocks_opening db (statement_between text ws kind.Open p m e) b x db_lt_never refl refl
   blocks_after kind.Close p m e deep =
-      blocks_closing db (statement_between text ws kind.Close p m e) b x few refl refl (deep refl)
+      blocks_closing db (statement_between text ws kind.Close p m e) b x db_lt_never refl refl
+      (deep refl)
   blocks_after kind.Constants p m e deep =
-      blocks_plain db (statement_between text ws kind.Constants p m e) b x few refl refl
+      blocks_plain db (statement_between text ws kind.Constants p m e) b x db_lt_never refl refl
   blocks_after kind.Variables p m e deep =
-      blocks_plain db (statement_between text ws kind.Variables p m e) b x few refl refl
+      blocks_plain db (statement_between text ws kind.Variables p m e) b x db_lt_never refl refl
   blocks_after kind.Disjoint p m e deep =
-      blocks_plain db (statement_between text ws kind.Disjoint p m e) b x few refl refl
+      blocks_plain db (statement_between text ws kind.Disjoint p m e) b x db_lt_never refl refl
   blocks_after kind.Floating p m e deep =
-      blocks_plain db (statement_between text ws kind.Floating p m e) b x few refl refl
+      blocks_plain db (statement_between text ws kind.Floating p m e) b x db_lt_never refl refl
   blocks_after kind.Essential p m e deep =
-      blocks_plain db (statement_between text ws kind.Essential p m e) b x few refl refl
+      blocks_plain db (statement_between text ws kind.Essential p m e) b x db_lt_never refl refl
   blocks_after kind.Axiom p m e deep =
-      blocks_plain db (statement_between text ws kind.Axiom p m e) b x few refl refl
+      blocks_plain db (statement_between text ws kind.Axiom p m e) b x db_lt_never refl refl
   blocks_after kind.Theorem p m e deep =
-      blocks_plain db (statement_between text ws kind.Theorem p m e) b x few refl refl
+      blocks_plain db (statement_between text ws kind.Theorem p m e) b x db_lt_never refl refl
 
 -- the code knows what it has to know after one lawful statement more
-pub keeps_after : (text : List ℕ) (ws : List spec.Word) (db : List Statement)
+pub knows_after_statement : (text : List ℕ) (ws : List spec.Word) (db : List Statement)
     → (look : List ℕ → Option Symbol) (labels : List ℕ → Option ℕ) (b : BlockLists)
     → KnowsStatements db look labels b → length db < never → (k : Kind) (p m e : ℕ)
     → least (scope_faults (names_before db (length db)) (depth db (length db))
@@ -221,37 +247,45 @@ pub keeps_after : (text : List ℕ) (ws : List spec.Word) (db : List Statement)
     → ((w : List ℕ)
     → names w ≡ label_after number (label_of (statement_between text ws k p m e)) w (labels w))
     → KnowsStatements (db ++ statement_between text ws k p m e ∷ []) new names c
-keeps_after text ws db look labels b x few k p m e law deep c same number is new after names known =
+knows_after_statement text ws db look labels b knows db_lt_never k p m e no_fault closes_open_block
+    c c_is_pushed number number_is_length new
+    entries_after
+    names labels_after =
     let s = statement_between text ws k p m e in
-    let n : number ≡ length db = is ∙ x.blocks.count in
+    let number_is_db_length : number ≡ length db = number_is_length ∙ knows.blocks.count in
     record {
       blocks =
-          subst (IsBlocks (db ++ statement_between text ws k p m e ∷ [])) (sym same)
-          (blocks_after text ws db b x.blocks few k p m e deep);
+          subst (IsBlocks (db ++ statement_between text ws k p m e ∷ [])) (sym c_is_pushed)
+          (blocks_after text ws db b knows.blocks db_lt_never k p m e closes_open_block);
       symbols =
           λ w. subst (IsEntryOf (db ++ statement_between text ws k p m e ∷ []) w)
-          (sym (after w ∙ ap (λ i. entry_after i (statement_between text ws k p m e) w
-          (entry_of (look w))) n))
-          (known_after db few w (statement_between text ws k p m e) (depth db (length db))
+          (sym (entries_after w ∙ ap (λ i. entry_after i (statement_between text ws k p m e) w
+          (entry_of (look w))) number_is_db_length))
+          (entry_after_statement db db_lt_never w (statement_between text ws k p m e)
+          (depth db (length db))
           (entry_of (look w))
-          (x.symbols w)
+          (knows.symbols w)
           (least_none
           (scope_faults (names_before db (length db)) (depth db (length db))
           (statement_between text ws k p m e))
-          law));
+          no_fault));
       labels_known =
-          λ w. labelled_after db few w (statement_between text ws k p m e) number (labels w)
-          (x.labels_known w)
-          ∙ ap is_some (sym (known w));
+          λ w. is_label_after_statement db db_lt_never w (statement_between text ws k p m e) number
+          (labels w)
+          (knows.labels_known w)
+          ∙ ap is_some (sym (labels_after w));
       labels_are =
-          labels_after db s labels names x.labels_are
-          (λ w. known w ∙ ap (λ i. label_after i (label_of s) w (labels w)) n)
-          (label_unused db labels x.labels_known (depth db (length db)) s
-          (least_none (scope_faults (names_before db (length db)) (depth db (length db)) s) law));
+          labels_after_statement db s labels names knows.labels_are
+          (λ w. labels_after w
+          ∙ ap (λ i. label_after i (label_of s) w (labels w)) number_is_db_length)
+          (label_stands_for_nothing db labels knows.labels_known (depth db (length db)) s
+          (least_none (scope_faults (names_before db (length db)) (depth db (length db)) s)
+          no_fault));
     }
 
 -- two clauses of one result
-pub on_both : {T E : Type 0} {P Q R : Type 0} (r : Result T E) → OnOk r P → OnOk r Q → (P → Q → R)
+pub on_ok_both : {T E : Type 0} {P Q R : Type 0} (r : Result T E) → OnOk r P → OnOk r Q
+    → (P → Q → R)
     → OnOk r R
-on_both (Ok a) p q f = f p q
-on_both (Err e) p q f = tt
+on_ok_both (Ok a) first_holds second_holds combine = combine first_holds second_holds
+on_ok_both (Err e) first_holds second_holds combine = tt

@@ -15,52 +15,59 @@ use Rattle.mm_spec.specs.Lawful.{IsLawful}
 use Rattle.mm_spec.specs.Frame.{symbol_names, index_of, first_occurrences, formula_at}
 use Rattle.mm_spec.proofs.FindsLaw.{formula_at_is}
 use Rattle.mm_spec.proofs.SymbolLaw.{declared_here}
-use Rattle.mm_database.proofs.SymbolsLaw.{itself, in_first, index_in}
+use Rattle.mm_database.proofs.SymbolsLaw.{bytes_eq_itself, in_first_occurrences, name_at_index_of}
 use Rattle.mm_outline.proofs.StatementsLaw.{get_mapped}
 
 -- ---- symbols are declared
 
-in_get : (ws : List Bytes) (i : ℕ) (d : Bytes) → i < length ws → is_in (get_or ws i d) ws ≡ true
-in_get [] i d h = absurd (omega arith)
-in_get (w ∷ ws) zero d h = ap (λ b. b || is_in w ws) (itself w)
-in_get (w ∷ ws) (suc i) d h =
-    ap (λ b. bytes_eq (get_or ws i d) w || b) (in_get ws i d (omega arith))
+-- an element of a list is in it
+element_is_in : (ws : List Bytes) (i : ℕ) (d : Bytes) → i < length ws
+    → is_in (get_or ws i d) ws ≡ true
+element_is_in [] i d i_lt_length = absurd (omega arith)
+element_is_in (w ∷ ws) zero d i_lt_length = ap (λ b. b || is_in w ws) (bytes_eq_itself w)
+element_is_in (w ∷ ws) (suc i) d i_lt_length =
+    ap (λ b. bytes_eq (get_or ws i d) w || b) (element_is_in ws i d (omega arith))
     ∙ or-true (bytes_eq (get_or ws i d) w)
 
 -- each symbol of a lawful statement has a name
-pub symbol_known : (db : List Statement) → ((k : ℕ) → k < length db → IsLawful db k) → (k : ℕ)
+pub symbol_is_declared_name : (db : List Statement) → ((k : ℕ) → k < length db → IsLawful db k)
+    → (k : ℕ)
     → k < length db → (s : Statement) → slice_get db k ≡ Some s → (w : Bytes)
     → is_in w (words (symbols_of s)) ≡ true → is_in w (symbol_names db) ≡ true
-symbol_known db law k l s e w h =
-    in_first (flat_map (λ s. constants_of s ++ variables_of s) db) [] w refl
-    ∙ declared_here db k s e (law k l) w h
+symbol_is_declared_name db all_lawful k k_lt_length s s_is_statement_k w w_in_symbols =
+    in_first_occurrences (flat_map (λ s. constants_of s ++ variables_of s) db) [] w refl
+    ∙ declared_here db k s s_is_statement_k (all_lawful k k_lt_length) w w_in_symbols
 
-pub symbols_known : (db : List Statement) → ((k : ℕ) → k < length db → IsLawful db k) → (k : ℕ)
+-- the symbols of a lawful statement are numbers of names
+pub symbols_have_names : (db : List Statement) → ((k : ℕ) → k < length db → IsLawful db k) → (k : ℕ)
     → k < length db → (s : Statement) → slice_get db k ≡ Some s
     → All (λ x. x < length (symbol_names db)) (formula_at db k)
-symbols_known db law k l s e =
+symbols_have_names db all_lawful k k_lt_length s s_is_statement_k =
     subst (λ (xs : List ℕ). All (λ x. x < length (symbol_names db)) xs)
-    (sym (formula_at_is db k s e))
-    (λ i d h.
+    (sym (formula_at_is db k s s_is_statement_k))
+    (λ i d i_lt_length.
     let ws = words (symbols_of s) in
-    let inside : i < length ws =
-    omega (arith, h, length-map ws (λ w. index_of w (symbol_names db))) in
+    let i_lt_symbol_count : i < length ws =
+    omega (arith, i_lt_length, length-map ws (λ w. index_of w (symbol_names db))) in
     let w = get_or ws i [] in
-    let known : is_in w (symbol_names db) ≡ true =
-    symbol_known db law k l s e w (in_get ws i [] inside) in
-    let place =
+    let w_in_names : is_in w (symbol_names db) ≡ true =
+    symbol_is_declared_name db all_lawful k k_lt_length s s_is_statement_k w
+    (element_is_in ws i [] i_lt_symbol_count) in
+    let index_lt_length =
     slice_get_within (symbol_names db) (index_of w (symbol_names db)) w
-    (index_in (symbol_names db) w known) in
+    (name_at_index_of (symbol_names db) w w_in_names) in
     subst (λ x. x < length (symbol_names db))
-    (sym (get_mapped (λ w. index_of w (symbol_names db)) ws i [] d inside)) place)
+    (sym (get_mapped (λ w. index_of w (symbol_names db)) ws i [] d
+    i_lt_symbol_count)) index_lt_length)
 
 -- ---- there are few
 
 within : (t u : Token) (xs : List Token) → length xs ≤ length (t ∷ (xs ++ u ∷ []))
 within t u xs = omega (arith, length-append xs (u ∷ []))
 
-labelled_within : (l t u : Token) (xs : List Token) → length xs ≤ length (l ∷ t ∷ (xs ++ u ∷ []))
-labelled_within l t u xs = omega (arith, length-append xs (u ∷ []))
+length_le_with_three : (l t u : Token) (xs : List Token)
+    → length xs ≤ length (l ∷ t ∷ (xs ++ u ∷ []))
+length_le_with_three l t u xs = omega (arith, length-append xs (u ∷ []))
 
 -- a statement's symbols are among its tokens
 symbols_spelled : (s : Statement) → length (symbols_of s) ≤ length (spelling_of s)
@@ -68,11 +75,11 @@ symbols_spelled (constants k xs d) = within (token k (codes "$c")) (token d (cod
 symbols_spelled (variables k xs d) = within (token k (codes "$v")) (token d (codes "$.")) xs
 symbols_spelled (disjoint k xs d) = within (token k (codes "$d")) (token d (codes "$.")) xs
 symbols_spelled (floating l k xs d) =
-    labelled_within l (token k (codes "$f")) (token d (codes "$.")) xs
+    length_le_with_three l (token k (codes "$f")) (token d (codes "$.")) xs
 symbols_spelled (essential l k xs d) =
-    labelled_within l (token k (codes "$e")) (token d (codes "$.")) xs
+    length_le_with_three l (token k (codes "$e")) (token d (codes "$.")) xs
 symbols_spelled (axiomatic l k xs d) =
-    labelled_within l (token k (codes "$a")) (token d (codes "$.")) xs
+    length_le_with_three l (token k (codes "$a")) (token d (codes "$.")) xs
 symbols_spelled (provable l k xs e ps d) =
     after l (token k (codes "$p")) (token e (codes "$=")) xs (ps ++ token d (codes "$.") ∷ [])
   where
@@ -81,14 +88,18 @@ symbols_spelled (provable l k xs e ps d) =
 symbols_spelled (opening k) = omega arith
 symbols_spelled (closing k) = omega arith
 
+-- a statement declares no more words than it has tokens
 declared_spelled : (s : Statement)
     → length (constants_of s ++ variables_of s) ≤ length (spelling_of s)
 declared_spelled (constants k xs d) =
-    let a = length-append (words xs) [] in let b = length-map xs (λ t. t.word) in
-    let w = symbols_spelled (constants k xs d) in omega (arith, a, b, w)
+    let append_length = length-append (words xs) [] in
+    let map_length = length-map xs (λ t. t.word) in
+    let symbols_le_spelling = symbols_spelled (constants k xs d) in
+    omega (arith, append_length, map_length, symbols_le_spelling)
 declared_spelled (variables k xs d) =
-    let b = length-map xs (λ t. t.word) in let w = symbols_spelled (variables k xs d) in
-    omega (arith, b, w)
+    let map_length = length-map xs (λ t. t.word) in
+    let symbols_le_spelling = symbols_spelled (variables k xs d) in
+    omega (arith, map_length, symbols_le_spelling)
 declared_spelled (disjoint k xs d) = omega arith
 declared_spelled (floating l k xs d) = omega arith
 declared_spelled (essential l k xs d) = omega arith
@@ -97,49 +108,61 @@ declared_spelled (provable l k xs e ps d) = omega arith
 declared_spelled (opening k) = omega arith
 declared_spelled (closing k) = omega arith
 
+-- if f gives no more of each statement than g, then no more of all of them
 shorter : {X Y : Type 0} (f : Statement → List X) (g : Statement → List Y)
     → ((s : Statement) → length (f s) ≤ length (g s)) → (xs : List Statement)
     → length (flat_map f xs) ≤ length (flat_map g xs)
-shorter f g h [] = omega arith
-shorter f g h (x ∷ xs) =
-    let a = length-append (f x) (flat_map f xs) in let b = length-append (g x) (flat_map g xs) in
-    let p = h x in let r = shorter f g h xs in omega (arith, a, b, p, r)
+shorter f g f_le_g [] = omega arith
+shorter f g f_le_g (x ∷ xs) =
+    let f_append_length = length-append (f x) (flat_map f xs) in
+    let g_append_length = length-append (g x) (flat_map g xs) in
+    let fx_le_gx = f_le_g x in let rest_le = shorter f g f_le_g xs in
+    omega (arith, f_append_length, g_append_length, fx_le_gx, rest_le)
 
-front_is_shorter : {X : Type 0} (f : Statement → List X) (xs ys : List Statement)
+-- what f gives of the first statements is no more than what it gives of all
+front_flat_map_no_longer : {X : Type 0} (f : Statement → List X) (xs ys : List Statement)
     → length (flat_map f xs) ≤ length (flat_map f (xs ++ ys))
-front_is_shorter f xs ys =
-    let a = ap length (flat_map-append f xs ys) in
-    let b = length-append (flat_map f xs) (flat_map f ys) in omega (arith, a, b)
+front_flat_map_no_longer f xs ys =
+    let flat_map_append_length = ap length (flat_map-append f xs ys) in
+    let append_length = length-append (flat_map f xs) (flat_map f ys) in
+    omega (arith, flat_map_append_length, append_length)
 
-first_shorter : (e ws : List Bytes) → length (first_occurrences e ws) ≤ length ws
-first_shorter e [] = omega arith
-first_shorter e (w ∷ ws) = by_is_in (is_in w e) (first_shorter e ws) (first_shorter (w ∷ e) ws)
+-- words have no more first occurrences than there are words
+first_occurrences_no_longer : (e ws : List Bytes) → length (first_occurrences e ws) ≤ length ws
+first_occurrences_no_longer e [] = omega arith
+first_occurrences_no_longer e (w ∷ ws) =
+    by_is_in (is_in w e) (first_occurrences_no_longer e ws) (first_occurrences_no_longer (w ∷ e) ws)
   where
     by_is_in : (b : Bool) → length (first_occurrences e ws) ≤ length ws
         → length (first_occurrences (w ∷ e) ws) ≤ length ws
         → length {A = Bytes}
         (elim b [ true ↦ first_occurrences e ws | false ↦ w ∷ first_occurrences (w ∷ e) ws ])
         ≤ suc (length ws)
-    by_is_in true p q = omega (arith, p)
-    by_is_in false p q = omega (arith, q)
+    by_is_in true unchanged_le extended_le = omega (arith, unchanged_le)
+    by_is_in false unchanged_le extended_le = omega (arith, extended_le)
 
 -- statements that stand in front of a list of statements, which are the first of the tokens
-module _ (ts rest : List Token) (list : List Statement)
-    (splits : ts ≡ flat_map spelling_of list ++ rest)
-    (db more : List Statement) (is : list ≡ db ++ more) where
-  spelled-few : length (flat_map spelling_of db) ≤ length ts
-  spelled-few =
-      let a = ap length splits in
-      let b = length-append (flat_map spelling_of list) rest in
-      let c = front_is_shorter spelling_of db more in
-      let d : length (flat_map spelling_of (db ++ more)) ≡ length (flat_map spelling_of list) =
-      ap (λ l. length (flat_map spelling_of l)) (sym is) in
-      omega (arith, a, b, c, d)
+module _ (ts later_tokens : List Token) (list : List Statement)
+    (splits : ts ≡ flat_map spelling_of list ++ later_tokens)
+    (db later_statements : List Statement) (list_is_db_and_more : list
+    ≡ db ++ later_statements) where
+  -- the tokens of the first statements are no more than all tokens
+  spelled_le_tokens : length (flat_map spelling_of db) ≤ length ts
+  spelled_le_tokens =
+      let tokens_length = ap length splits in
+      let append_length = length-append (flat_map spelling_of list) later_tokens in
+      let front_le_whole = front_flat_map_no_longer spelling_of db later_statements in
+      let list_is_db_more : length (flat_map spelling_of (db ++ later_statements))
+      ≡ length (flat_map spelling_of list) =
+      ap (λ l. length (flat_map spelling_of l)) (sym list_is_db_and_more) in
+      omega (arith, tokens_length, append_length, front_le_whole, list_is_db_more)
 
   -- the symbols are no more than the tokens
-  pub few_symbols : length (symbol_names db) ≤ length ts
-  few_symbols =
-      let a = first_shorter [] (flat_map (λ s. constants_of s ++ variables_of s) db) in
-      let b = shorter (λ s. constants_of s ++ variables_of s) spelling_of declared_spelled db in
-      let c = spelled-few in
-      omega (arith, a, b, c)
+  pub symbols_le_tokens : length (symbol_names db) ≤ length ts
+  symbols_le_tokens =
+      let names_le_words = first_occurrences_no_longer []
+      (flat_map (λ s. constants_of s ++ variables_of s) db) in
+      let words_le_spelling =
+      shorter (λ s. constants_of s ++ variables_of s) spelling_of declared_spelled db in
+      let spelling_le_tokens = spelled_le_tokens in
+      omega (arith, names_le_words, words_le_spelling, spelling_le_tokens)

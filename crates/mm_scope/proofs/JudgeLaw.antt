@@ -20,6 +20,7 @@ use Rattle.mm_outline.proofs.TurnsLaw.{between_more, between_none}
 use Rattle.mm_spec.specs.declared.Code.{Code}
 use Rattle.mm_spec.specs.declared.Code.TheVariants.{BadFloating}
 
+-- whether two words are equal doesn't depend on their order
 pub bytes_eq_sym : (a b : Bytes) → bytes_eq a b ≡ bytes_eq b a
 bytes_eq_sym a b = grind (arith, bytes_eq-Decides)
 
@@ -38,20 +39,22 @@ least_append (f ∷ xs) ys =
     grind (arith, least_append xs ys, lesser_fault_assoc (Some f) (least xs) (least ys))
 
 -- the lesser of the least of two lists
-pub both_least : (xs ys : List Fault) (a b r : Option Fault) → a ≡ least xs → b ≡ least ys
+pub lesser_of_least_is_least : (xs ys : List Fault) (a b r : Option Fault) → a ≡ least xs
+    → b ≡ least ys
     → r ≡ lesser_fault a b
     → r ≡ least (xs ++ ys)
-both_least xs ys a b r e f is = is ∙ ap₂ lesser_fault e f ∙ sym (least_append xs ys)
+lesser_of_least_is_least xs ys a b r a_is_least b_is_least r_is_lesser =
+    r_is_lesser ∙ ap₂ lesser_fault a_is_least b_is_least ∙ sym (least_append xs ys)
 
 -- the words before the next one: those of the tokens, the last one first, then those before them
 abbrev pub before_next : List Bytes → List Token → List Bytes
 before_next e [] = e
 before_next e (t ∷ ts) = before_next (t.word ∷ e) ts
 
-in_before : (w : Bytes) (e : List Bytes) (xs : List Token)
+in_before_next : (w : Bytes) (e : List Bytes) (xs : List Token)
     → is_in w (before_next e xs) ≡ (is_in w (words xs) || is_in w e)
-in_before w e [] = refl
-in_before w e (x ∷ xs) = grind (arith, in_before w (x.word ∷ e) xs)
+in_before_next w e [] = refl
+in_before_next w e (x ∷ xs) = grind (arith, in_before_next w (x.word ∷ e) xs)
 
 at_each_snoc : (codes : List Bytes → Bytes → List Code) (e : List Bytes) (xs : List Token)
     → (t : Token)
@@ -65,9 +68,11 @@ module _ (text : List ℕ) (ws : List spec.Word) (from i : ℕ) where
   abbrev pub earlier : List Bytes
   earlier = before_next [] (between text ws from i)
 
-  pub in_earlier : (w : Bytes) → is_in w (words (between text ws from i)) ≡ is_in w earlier
-  in_earlier w =
-      sym (in_before w [] (between text ws from i)
+  -- the words before the one at i, in both forms
+  pub in_between_is_in_earlier : (w : Bytes) → is_in w (words (between text ws from i))
+      ≡ is_in w earlier
+  in_between_is_in_earlier w =
+      sym (in_before_next w [] (between text ws from i)
       ∙ or-false (is_in w (words (between text ws from i))))
 
   abbrev pub next_word : Bytes
@@ -75,65 +80,79 @@ module _ (text : List ℕ) (ws : List spec.Word) (from i : ℕ) where
 
   -- the faults of the words with one symbol more are those of the earlier words, followed by those
   -- of the symbol
-  pub each_more : from ≤ i → i < length ws → (codes : List Bytes → Bytes → List Code)
+  pub at_each_between_push : from ≤ i → i < length ws → (codes : List Bytes → Bytes → List Code)
       → at_each codes [] (between text ws from (i + 1))
       ≡ at_each codes [] (between text ws from i)
       ++ at (token_at text ws i).at (codes earlier next_word)
-  each_more h l codes = rw (between_more text ws from i h l, at_each_snoc) refl
+  at_each_between_push from_le_i i_lt_length codes =
+      rw (between_more text ws from i from_le_i i_lt_length, at_each_snoc) refl
 
   -- a word is among the words with one more exactly if it is among the earlier ones or is that one
-  pub in_more : from ≤ i → i < length ws → (w : Bytes)
+  pub in_between_push : from ≤ i → i < length ws → (w : Bytes)
       → is_in w (words (between text ws from (i + 1)))
       ≡ (is_in w (words (between text ws from i)) || (bytes_eq next_word w || false))
-  in_more h l w =
-      ap (λ ts. is_in w (words ts)) (between_more text ws from i h l)
+  in_between_push from_le_i i_lt_length w =
+      ap (λ ts. is_in w (words ts)) (between_more text ws from i from_le_i i_lt_length)
       ∙ ap (is_in w) (map-append (λ t. t.word) (between text ws from i) (token_at text ws i ∷ []))
       ∙ list_any-append (bytes_eq w) (words (between text ws from i)) (next_word ∷ [])
       ∙ ap (λ b. is_in w (words (between text ws from i)) || (b || false))
       (bytes_eq_sym w next_word)
 
-  pub among_more : from ≤ i → i < length ws → (w : Bytes)
+  -- the same, with the test in front
+  pub among_between_push : from ≤ i → i < length ws → (w : Bytes)
       → (bytes_eq w next_word || is_in w (words (between text ws from i)))
       ≡ is_in w (words (between text ws from (i + 1)))
-  among_more h l w = rw (in_more h l w, bytes_eq_sym w next_word) (grind arith)
+  among_between_push from_le_i i_lt_length w =
+      rw (in_between_push from_le_i i_lt_length w, bytes_eq_sym w next_word) (grind arith)
 
-  pub seen_more : from ≤ i → i < length ws → (old new : Bytes → Option ℕ)
+  -- a map that has the words up to i has those up to i + 1 once the next is added
+  pub seen_between_push : from ≤ i → i < length ws → (old new : Bytes → Option ℕ)
       → ((w : Bytes) → new w ≡ (if bytes_eq next_word w then Some 0 else old w))
       → ((w : Bytes) → is_some (old w) ≡ is_in w (words (between text ws from i)))
       → (w : Bytes) → is_some (new w) ≡ is_in w (words (between text ws from (i + 1)))
-  seen_more h l old new u e w = rw (u w, in_more h l w, sym (e w)) (grind arith)
+  seen_between_push from_le_i i_lt_length old new new_adds_word old_is_seen w =
+      rw (new_adds_word w, in_between_push from_le_i i_lt_length w, sym (old_is_seen w))
+      (grind arith)
 
+-- the tokens from i on begin with the one at i
 pub between_first : (text : List ℕ) (ws : List spec.Word) (i j : ℕ) → i < j → j ≤ length ws
     → between text ws i j ≡ token_at text ws i ∷ between text ws (i + 1) j
-between_first text ws i j h l =
-    let within : i < length ws = omega arith in
-    let e : drop i ws ≡ nth_word ws i ∷ drop (i + 1) ws =
+between_first text ws i j i_lt_j j_le_length =
+    let i_lt_length : i < length ws = omega arith in
+    let drop_begins_at_i : drop i ws ≡ nth_word ws i ∷ drop (i + 1) ws =
     rw (add-one, drop-cons ws i (record { start = 0; end = 0 })) refl in
-    let n : j - i ≡ suc (j - (i + 1)) = omega arith in
-    ap₂ (λ m ys. map (token_of text) (take m ys)) n e
+    let width_is_suc : j - i ≡ suc (j - (i + 1)) = omega arith in
+    ap₂ (λ m ys. map (token_of text) (take m ys)) width_is_suc drop_begins_at_i
 
 -- a `$f` that has not two words between its keyword and its end has a fault at its keyword
-pub no_two : (n : Names) (keyword : ℕ) (xs : List Token) → length xs ≢ 2
+pub not_two_is_faulty : (n : Names) (keyword : ℕ) (xs : List Token) → length xs ≢ 2
     → Some (fault keyword BadFloating) ≡ least (floating_faults n keyword xs)
-no_two n keyword xs h = grind (arith, common_steps)
+not_two_is_faulty n keyword xs length_ne_2 = grind (arith, common_steps)
 
+-- there are as many tokens between two places as these are apart
 pub length_between : (text : List ℕ) (ws : List spec.Word) (i j : ℕ) → i ≤ j → j ≤ length ws
     → length (between text ws i j) ≡ j - i
-length_between text ws i j h l =
+length_between text ws i j i_le_j j_le_length =
     length-map (take (j - i) (drop i ws)) (token_of text)
     ∙ length-take-le (j - i) (drop i ws) (omega (arith, length-drop i ws))
 
-pub no_two_between : (n : Names) (keyword : ℕ) (text : List ℕ) (ws : List spec.Word) (k j : ℕ)
+-- the same for the tokens between a keyword and the end of a statement
+pub not_two_between_is_faulty : (n : Names) (keyword : ℕ) (text : List ℕ) (ws : List spec.Word)
+    (k j : ℕ)
     → k < j → j ≤ length ws → j - k ≢ 3
     → Some (fault keyword BadFloating)
     ≡ least (floating_faults n keyword (between text ws (k + 1) j))
-no_two_between n keyword text ws k j h l ne =
-    no_two n keyword (between text ws (k + 1) j)
-    (λ e. ne (let m = length_between text ws (k + 1) j (omega arith) l in omega (arith, m, e, h)))
+not_two_between_is_faulty n keyword text ws k j k_lt_j j_le_length width_ne_3 =
+    not_two_is_faulty n keyword (between text ws (k + 1) j)
+    (λ length_is_2. width_ne_3 (let between_length =
+    length_between text ws (k + 1) j (omega arith) j_le_length in
+    omega (arith, between_length, length_is_2, k_lt_j)))
 
-pub two_between : (text : List ℕ) (ws : List spec.Word) (k j : ℕ) → j ≤ length ws → j - k ≡ 3
+-- where the end is three tokens after the keyword, there are two between
+pub between_is_two_tokens : (text : List ℕ) (ws : List spec.Word) (k j : ℕ) → j ≤ length ws
+    → j - k ≡ 3
     → between text ws (k + 1) j ≡ token_at text ws (k + 1) ∷ token_at text ws (k + 2) ∷ []
-two_between text ws k j l e =
+between_is_two_tokens text ws k j j_le_length width_is_3 =
     grind (
       arith,
       between_first text ws (k + 1) j,
@@ -141,15 +160,16 @@ two_between text ws k j l e =
       between_none text ws j,
     )
 
-empty_count : (n : Names) (xs : List Token) → nat_eq (length xs) 0 ≡ is_empty n xs
-empty_count n [] = refl
-empty_count n (x ∷ xs) = grind arith
+no_length_is_empty : (n : Names) (xs : List Token) → nat_eq (length xs) 0 ≡ is_empty n xs
+no_length_is_empty n [] = refl
+no_length_is_empty n (x ∷ xs) = grind arith
 
 -- whether there are no words
-pub none_between : (n : Names) (text : List ℕ) (ws : List spec.Word) (k j : ℕ) → k < j
+pub nothing_between_is_empty : (n : Names) (text : List ℕ) (ws : List spec.Word) (k j : ℕ) → k < j
     → j ≤ length ws
     → nat_eq (j - k - 1) 0 ≡ is_empty n (between text ws (k + 1) j)
-none_between n text ws k j h l =
-    let m = length_between text ws (k + 1) j (omega arith) l in
-    let c : j - k - 1 ≡ length (between text ws (k + 1) j) = omega (arith, m) in
-    rw c (empty_count n (between text ws (k + 1) j))
+nothing_between_is_empty n text ws k j k_lt_j j_le_length =
+    let between_length = length_between text ws (k + 1) j (omega arith) j_le_length in
+    let count_is_length : j - k - 1 ≡ length (between text ws (k + 1) j) =
+    omega (arith, between_length) in
+    rw count_is_length (no_length_is_empty n (between text ws (k + 1) j))

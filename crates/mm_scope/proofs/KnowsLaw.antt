@@ -22,104 +22,129 @@ use Rattle.mm_outline.specs.Typed.{has_word, typed_words}
 use Rattle.mm_scope.specs.ReadSoFar.{KnowsStatements}
 use Rattle.mm_database.specs.Names.{is_constant_in, is_variable_in}
 use Rattle.mm_database.specs.declared.names.Symbol.{Symbol}
-use Rattle.mm_scope.proofs.LatestLaw.{latest_is}
+use Rattle.mm_scope.proofs.LatestLaw.{in_active_iff_latest_active}
 use Rattle.mm_outline.proofs.AmongLaw.{among_active, any_false, typed_in}
-use Rattle.mm_scope.proofs.OpenLaw.{latest_open, declares_local, types_local}
+use Rattle.mm_scope.proofs.OpenLaw.{latest_active_is_open, declarations_are_local}
+use Rattle.mm_scope.proofs.OpenLaw.{typings_are_local}
 
 -- a word that no statement has
-has_none : (db : List Statement) (f : Statement → List Bytes) (w : Bytes)
+no_statement_has_word : (db : List Statement) (f : Statement → List Bytes) (w : Bytes)
     → is_in w (flat_map f db) ≡ false → (j : ℕ) → has_word db f w j ≡ false
-has_none [] f w e j = refl
-has_none (s ∷ db) f w e zero =
-    let h = sym (list_any-append (bytes_eq w) (f s) (flat_map f db)) ∙ e in
+no_statement_has_word [] f w w_not_in_db j = refl
+no_statement_has_word (s ∷ db) f w w_not_in_db zero =
+    let w_not_in_either = sym (list_any-append (bytes_eq w) (f s) (flat_map f db)) ∙ w_not_in_db in
     list_any-append (bytes_eq w) (f s) []
-    ∙ ap (λ b. b || false) (or_parts (is_in w (f s)) (is_in w (flat_map f db)) h).0
-has_none (s ∷ db) f w e (suc j) =
-    let h = sym (list_any-append (bytes_eq w) (f s) (flat_map f db)) ∙ e in
-    has_none db f w (or_parts (is_in w (f s)) (is_in w (flat_map f db)) h).1 j
+    ∙ ap (λ b. b || false) (or_parts (is_in w (f s)) (is_in w (flat_map f db)) w_not_in_either).0
+no_statement_has_word (s ∷ db) f w w_not_in_db (suc j) =
+    let w_not_in_either = sym (list_any-append (bytes_eq w) (f s) (flat_map f db)) ∙ w_not_in_db in
+    no_statement_has_word db f w
+    (or_parts (is_in w (f s)) (is_in w (flat_map f db)) w_not_in_either).1 j
 
 -- no active statement has it either
-pub none_active : (db : List Statement) (f : Statement → List Bytes) (w : Bytes)
+pub no_active_statement_has_word : (db : List Statement) (f : Statement → List Bytes) (w : Bytes)
     → is_in w (flat_map f db) ≡ false
     → is_in w (flat_map f (active_statements db (length db))) ≡ false
-none_active db f w e =
+no_active_statement_has_word db f w w_not_in_db =
     among_active db f w (λ j. is_active db j (length db)) (length db) 0
     ∙ any_false (λ j. is_active db j (length db) && has_word db f w j) (length db) 0
-    (λ j l. ap (λ b. is_active db j (length db) && b) (has_none db f w e j)
+    (λ j j_lt_length. ap (λ b. is_active db j (length db) && b)
+    (no_statement_has_word db f w w_not_in_db j)
     ∙ and-false (is_active db j (length db)))
 
-never_open : (b : BlockLists) → length b.of ≤ never → is_open_in b never ≡ false
-never_open b h = ap (λ o. is_never (end_in b.ends o)) (slice_get_past b.of never h)
+-- no block is open by the number that stands for no statement
+never_is_not_open : (b : BlockLists) → length b.of ≤ never → is_open_in b never ≡ false
+never_is_not_open b length_le_never =
+    ap (λ o. is_never (end_in b.ends o)) (slice_get_past b.of never length_le_never)
 
-module _ (db : List Statement) (b : BlockLists) (x : IsBlocks db b) (few : length db < never)
+module _ (db : List Statement) (b : BlockLists) (x : IsBlocks db b)
+    (db_lt_never : length db < never)
     (w : Bytes) where
-  variable_active : (o : Option Symbol) → IsEntryOf db w (entry_of o)
+  -- a word is an active variable exactly if its entry says so
+  in_active_is_active_variable : (o : Option Symbol) → IsEntryOf db w (entry_of o)
       → is_in w (flat_map variables_of (active_statements db (length db)))
       ≡ judge.is_active_variable (is_open_in b) o
-  variable_active None k = none_active db variables_of w k.variable
-  variable_active (Some s) k = by_test s.is_variable refl
+  in_active_is_active_variable None is_entry =
+      no_active_statement_has_word db variables_of w is_entry.variable_is_known
+  in_active_is_active_variable (Some s) is_entry = by_test s.is_variable refl
     where
       by_test : (v : Bool) → s.is_variable ≡ v
           → is_in w (flat_map variables_of (active_statements db (length db)))
           ≡ (v && is_open_in b s.declared)
-      by_test true e =
-          let l = k.declared e in
-          latest_is db variables_of w s.declared l
-          ∙ latest_open db b x few variables_of w (declares_local w) s.declared l
-      by_test false e = none_active db variables_of w (k.variable ∙ e)
+      by_test true is_variable_is_v =
+          let last_declares_w = is_entry.declaration_is_latest is_variable_is_v in
+          in_active_iff_latest_active db variables_of w s.declared last_declares_w
+          ∙ latest_active_is_open db b x db_lt_never variables_of w
+          (declarations_are_local w) s.declared last_declares_w
+      by_test false is_variable_is_v =
+          no_active_statement_has_word db variables_of w
+          (is_entry.variable_is_known ∙ is_variable_is_v)
 
-  typed_active : (o : Option Symbol) → IsEntryOf db w (entry_of o)
+  -- a word has an active `$f` exactly if its entry says so
+  in_active_is_typed_here : (o : Option Symbol) → IsEntryOf db w (entry_of o)
       → is_in w (flat_map typed_words (active_statements db (length db)))
       ≡ is_typed_here (is_open_in b) o
-  typed_active None k = none_active db typed_words w (k.untyped refl)
-  typed_active (Some s) k = by_case (cases_eq s.typed never)
+  in_active_is_typed_here None is_entry =
+      no_active_statement_has_word db typed_words w (is_entry.untyped_has_no_typing refl)
+  in_active_is_typed_here (Some s) is_entry = by_case (cases_eq s.typed never)
     where
       by_case : (s.typed ≡ never) ⊎ (s.typed ≢ never)
           → is_in w (flat_map typed_words (active_statements db (length db)))
           ≡ is_open_in b s.typed
-      by_case (inl e) =
-          none_active db typed_words w (k.untyped e)
-          ∙ sym (ap (is_open_in b) e
-          ∙ never_open b (let c = x.count in omega (arith, c, few)))
-      by_case (inr n) =
-          let l = k.typed n in
-          latest_is db typed_words w s.typed l
-          ∙ latest_open db b x few typed_words w (types_local w) s.typed l
+      by_case (inl typed_is_never) =
+          no_active_statement_has_word db typed_words w
+          (is_entry.untyped_has_no_typing typed_is_never)
+          ∙ sym (ap (is_open_in b) typed_is_never
+          ∙ never_is_not_open b (let block_count = x.count in
+          omega (arith, block_count, db_lt_never)))
+      by_case (inr typed_ne_never) =
+          let last_types_w = is_entry.typing_is_latest typed_ne_never in
+          in_active_iff_latest_active db typed_words w s.typed last_types_w
+          ∙ latest_active_is_open db b x db_lt_never typed_words w
+          (typings_are_local w) s.typed last_types_w
 
-constant_is : (o : Option Symbol) → is_constant_entry (entry_of o) ≡ is_constant_in o
-constant_is None = refl
-constant_is (Some s) = refl
+constant_entry_is_constant_in : (o : Option Symbol)
+    → is_constant_entry (entry_of o) ≡ is_constant_in o
+constant_entry_is_constant_in None = refl
+constant_entry_is_constant_in (Some s) = refl
 
-variable_is : (o : Option Symbol) → is_variable_entry (entry_of o) ≡ is_variable_in o
-variable_is None = refl
-variable_is (Some s) = refl
+variable_entry_is_variable_in : (o : Option Symbol)
+    → is_variable_entry (entry_of o) ≡ is_variable_in o
+variable_entry_is_variable_in None = refl
+variable_entry_is_variable_in (Some s) = refl
 
-other_is : (c : Bytes) (o : Option Symbol)
+other_entry_is_other_typecode : (c : Bytes) (o : Option Symbol)
     → (not (nat_eq (typed_by (entry_of o)) never) && not (bytes_eq c (typecode_by (entry_of o))))
     ≡ has_other_typecode c o
-other_is c None = refl
-other_is c (Some s) = refl
+other_entry_is_other_typecode c None = refl
+other_entry_is_other_typecode c (Some s) = refl
 
 -- the names before the next statement are those that are known
-pub knows_is : (db : List Statement) (look : List ℕ → Option Symbol) (labels : List ℕ → Option ℕ)
+pub scope_knows_names : (db : List Statement) (look : List ℕ → Option Symbol) (labels : List ℕ
+    → Option ℕ)
     → (b : BlockLists)
     → KnowsStatements db look labels b → length db < never
     → Knows (names_before db (length db)) look labels (is_open_in b)
-knows_is db look labels b k few =
-    let all = take_all (length db) db (le_refl (length db)) in
+scope_knows_names db look labels b knows db_lt_never =
+    let take_length_is_db = take_all (length db) db (le_refl (length db)) in
     record {
       constants =
-          λ w. ap (λ xs. is_in w (flat_map constants_of xs)) all ∙ (k.symbols w).constant
-          ∙ constant_is (look w);
+          λ w. ap (λ xs. is_in w (flat_map constants_of xs)) take_length_is_db
+          ∙ (knows.symbols w).constant_is_known
+          ∙ constant_entry_is_constant_in (look w);
       all_variables =
-          λ w. ap (λ xs. is_in w (flat_map variables_of xs)) all ∙ (k.symbols w).variable
-          ∙ variable_is (look w);
-      active_variables = λ w. variable_active db b k.blocks few w (look w) (k.symbols w);
-      labels_known = λ w. ap (λ xs. is_in w (flat_map label_words xs)) all ∙ k.labels_known w;
+          λ w. ap (λ xs. is_in w (flat_map variables_of xs)) take_length_is_db
+          ∙ (knows.symbols w).variable_is_known
+          ∙ variable_entry_is_variable_in (look w);
+      active_variables =
+          λ w. in_active_is_active_variable db b knows.blocks db_lt_never w (look w)
+          (knows.symbols w);
+      labels_known = λ w. ap (λ xs. is_in w (flat_map label_words xs)) take_length_is_db
+          ∙ knows.labels_known w;
       typed =
-          λ w h. typed_in w (active_statements db (length db))
-          ∙ typed_active db b k.blocks few w (look w) (k.symbols w);
-      otherwise =
-          λ c w h. ap (λ xs. list_any (gives_other_typecode c w) (flat_map typings_of xs)) all
-          ∙ (k.symbols w).otherwise c ∙ other_is c (look w);
+          λ w is_active. typed_in w (active_statements db (length db))
+          ∙ in_active_is_typed_here db b knows.blocks db_lt_never w (look w) (knows.symbols w);
+      other_typecode =
+          λ c w is_active. ap (λ xs. list_any (gives_other_typecode c w) (flat_map typings_of xs))
+          take_length_is_db
+          ∙ (knows.symbols w).other_typecode c ∙ other_entry_is_other_typecode c (look w);
     }

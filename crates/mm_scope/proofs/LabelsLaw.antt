@@ -20,41 +20,42 @@ use Rattle.mm_scope.specs.WordEntry.{label_after}
 use Rattle.mm_database.specs.Labels.{AreLabels}
 use Rattle.mm_outline.proofs.StatementsLaw.{is_there}
 
-pub label_fresh : (n : Names) (d : ℕ) (s : Statement) → scope_faults n d s ≡ [] → (l : Token)
+-- a lawful statement's label is none of the earlier labels
+pub label_is_new : (n : Names) (d : ℕ) (s : Statement) → scope_faults n d s ≡ [] → (l : Token)
     → label_of s ≡ Some l → is_in l.word n.labels ≡ false
-label_fresh n d (floating m k xs e) h l q =
-    subst (λ (t : Token). is_in t.word n.labels ≡ false) (same_Some m l q)
-    (label_new n m (append_none (label_faults n m) (floating_faults n k xs) h).0)
-label_fresh n d (essential m k xs e) h l q =
-    subst (λ (t : Token). is_in t.word n.labels ≡ false) (same_Some m l q)
-    (label_new n m (append_none (label_faults n m) (formula_faults n xs e) h).0)
-label_fresh n d (axiomatic m k xs e) h l q =
-    subst (λ (t : Token). is_in t.word n.labels ≡ false) (same_Some m l q)
-    (label_new n m (append_none (label_faults n m) (formula_faults n xs e) h).0)
-label_fresh n d (provable m k xs p ps e) h l q =
-    subst (λ (t : Token). is_in t.word n.labels ≡ false) (same_Some m l q)
-    (label_new n m (append_none (label_faults n m) (formula_faults n xs p) h).0)
-label_fresh n d (constants k xs e) h l q = absurd (cc)
-label_fresh n d (variables k xs e) h l q = absurd (cc)
-label_fresh n d (disjoint k xs e) h l q = absurd (cc)
-label_fresh n d (opening k) h l q = absurd (cc)
-label_fresh n d (closing k) h l q = absurd (cc)
+label_is_new n d (floating m k xs e) no_fault l label_is_l =
+    subst (λ (t : Token). is_in t.word n.labels ≡ false) (same_Some m l label_is_l)
+    (label_new n m (append_none (label_faults n m) (floating_faults n k xs) no_fault).0)
+label_is_new n d (essential m k xs e) no_fault l label_is_l =
+    subst (λ (t : Token). is_in t.word n.labels ≡ false) (same_Some m l label_is_l)
+    (label_new n m (append_none (label_faults n m) (formula_faults n xs e) no_fault).0)
+label_is_new n d (axiomatic m k xs e) no_fault l label_is_l =
+    subst (λ (t : Token). is_in t.word n.labels ≡ false) (same_Some m l label_is_l)
+    (label_new n m (append_none (label_faults n m) (formula_faults n xs e) no_fault).0)
+label_is_new n d (provable m k xs p ps e) no_fault l label_is_l =
+    subst (λ (t : Token). is_in t.word n.labels ≡ false) (same_Some m l label_is_l)
+    (label_new n m (append_none (label_faults n m) (formula_faults n xs p) no_fault).0)
+label_is_new n d (constants k xs e) no_fault l label_is_l = absurd (cc)
+label_is_new n d (variables k xs e) no_fault l label_is_l = absurd (cc)
+label_is_new n d (disjoint k xs e) no_fault l label_is_l = absurd (cc)
+label_is_new n d (opening k) no_fault l label_is_l = absurd (cc)
+label_is_new n d (closing k) no_fault l label_is_l = absurd (cc)
 
 module _ (db : List Statement) (s : Statement) (find new : List ℕ → Option ℕ)
-    (x : AreLabels db find) where
+    (labels_of_db : AreLabels db find) where
   abbrev at_label : ℕ → Option Token → Bytes → Bool
   at_label k o w = elim o [ None ↦ false | Some l ↦ bytes_eq l.word w ]
 
-  label_before : (w : Bytes) (k : ℕ) → k < length db
+  labelled_before_is_unchanged : (w : Bytes) (k : ℕ) → k < length db
       → list_any (is_labelled w) (statement_at (db ++ s ∷ []) k)
       ≡ list_any (is_labelled w) (statement_at db k)
-  label_before w k h =
+  labelled_before_is_unchanged w k k_lt_length =
       ap (λ o. list_any (is_labelled w) (elim o [ None ↦ [] | Some t ↦ t ∷ [] ]))
-      (get_front db (s ∷ []) k h)
+      (get_front db (s ∷ []) k k_lt_length)
 
-  label_at_last : (w : Bytes)
+  labelled_at_last_is_labelled : (w : Bytes)
       → list_any (is_labelled w) (statement_at (db ++ s ∷ []) (length db)) ≡ is_labelled w s
-  label_at_last w =
+  labelled_at_last_is_labelled w =
       ap (λ o. list_any (is_labelled w) (elim o [ None ↦ [] | Some t ↦ t ∷ [] ])) (get_seam db s [])
       ∙ or-false (is_labelled w s)
 
@@ -63,101 +64,129 @@ module _ (db : List Statement) (s : Statement) (find new : List ℕ → Option �
       → new w ≡ label_after (length db) o w (find w)
       → ((is_labelled w s ≡ true) × (new w ≡ Some (length db)))
       ⊎ ((is_labelled w s ≡ false) × (new w ≡ find w))
-  labelled_or_unchanged w None e h =
-      inr (ap (λ o. elim o [ None ↦ false | Some l ↦ bytes_eq l.word w ]) e, h)
-  labelled_or_unchanged w (Some l) e h =
+  labelled_or_unchanged w None label_is_o new_is_label_after =
+      inr (
+        ap (λ o. elim o [ None ↦ false | Some l ↦ bytes_eq l.word w ]) label_is_o,
+        new_is_label_after,
+      )
+  labelled_or_unchanged w (Some l) label_is_o new_is_label_after =
       by_equality (bytes_eq l.word w)
-      (ap (λ o. elim o [ None ↦ false | Some l ↦ bytes_eq l.word w ]) e) h
+      (ap (λ o. elim o [ None ↦ false | Some l ↦ bytes_eq l.word w ]) label_is_o) new_is_label_after
     where
       by_equality : (b : Bool) → is_labelled w s ≡ b
           → new w ≡ (if b then Some (length db) else find w)
           → ((is_labelled w s ≡ true) × (new w ≡ Some (length db)))
           ⊎ ((is_labelled w s ≡ false) × (new w ≡ find w))
-      by_equality true p q = inl (p, q)
-      by_equality false p q = inr (p, q)
+      by_equality true labelled_is_b new_is_choice = inl (labelled_is_b, new_is_choice)
+      by_equality false labelled_is_b new_is_choice = inr (labelled_is_b, new_is_choice)
 
-  pub labels_after : ((w : Bytes) → new w ≡ label_after (length db) (label_of s) w (find w))
+  -- the map with the label of one statement more is that of the statements with this one
+  pub labels_after_statement : ((w : Bytes)
+      → new w ≡ label_after (length db) (label_of s) w (find w))
       → ((w : Bytes) → is_labelled w s ≡ true → find w ≡ None) → AreLabels (db ++ s ∷ []) new
-  labels_after is fresh = record {
-    found = λ w k e. found w k e (labelled_or_unchanged w (label_of s) refl (is w));
-    missing =
-        λ w e k. missing w k e (labelled_or_unchanged w (label_of s) refl (is w))
+  labels_after_statement new_is_label_after find_is_none = record {
+    found_has_label = λ w k k_is_found. found_has_label_after w k k_is_found
+        (labelled_or_unchanged w (label_of s) refl (new_is_label_after w));
+    missing_has_no_statement =
+        λ w w_is_missing k. missing_has_no_statement_after w k w_is_missing
+        (labelled_or_unchanged w (label_of s) refl (new_is_label_after w))
         (cases_order k (length db));
-    only = λ w j k e f. only w j k e f (cases_lt j (length db)) (cases_lt k (length db));
+    label_is_unique =
+        λ w j k w_labels_j w_labels_k. label_is_unique_after w j k w_labels_j w_labels_k
+        (cases_lt j (length db)) (cases_lt k (length db));
   }
     where
-      found : (w : Bytes) (k : ℕ) → new w ≡ Some k
+      found_has_label_after : (w : Bytes) (k : ℕ) → new w ≡ Some k
           → ((is_labelled w s ≡ true) × (new w ≡ Some (length db)))
           ⊎ ((is_labelled w s ≡ false) × (new w ≡ find w))
           → (k < length (db ++ s ∷ []))
           × IsTrue (list_any (is_labelled w) (statement_at (db ++ s ∷ []) k))
-      found w k e (inl (p, q)) =
-          let same = same_Some (length db) k (sym q ∙ e) in (
-            omega (arith, same, length-append db (s ∷ [])),
-            (ap (λ i. list_any (is_labelled w) (statement_at (db ++ s ∷ []) i)) (sym same)
-                ∙ label_at_last w ∙ p),
+      found_has_label_after w k new_w_is_k (inl (w_labels_s, new_w_is_last)) =
+          let last_is_k = same_Some (length db) k (sym new_w_is_last ∙ new_w_is_k) in (
+            omega (arith, last_is_k, length-append db (s ∷ [])),
+            (ap (λ i. list_any (is_labelled w) (statement_at (db ++ s ∷ []) i)) (sym last_is_k)
+                ∙ labelled_at_last_is_labelled w ∙ w_labels_s),
           )
-      found w k e (inr (p, q)) =
-          let f = x.found w k (sym q ∙ e) in
-          ((let l = f.0 in omega (arith, l, length-append db (s ∷ []))), label_before w k f.0 ∙ f.1)
+      found_has_label_after w k new_w_is_k (inr (w_labels_not_s, new_w_is_old)) =
+          let found_before = labels_of_db.found_has_label w k (sym new_w_is_old ∙ new_w_is_k) in (
+            (let k_lt_length = found_before.0 in
+                omega (arith, k_lt_length, length-append db (s ∷ []))),
+            labelled_before_is_unchanged w k
+                found_before.0 ∙ found_before.1,
+          )
 
-      missing : (w : Bytes) (k : ℕ) → new w ≡ None
+      missing_has_no_statement_after : (w : Bytes) (k : ℕ) → new w ≡ None
           → ((is_labelled w s ≡ true) × (new w ≡ Some (length db)))
           ⊎ ((is_labelled w s ≡ false) × (new w ≡ find w))
           → (k ≡ length db) ⊎ ((k < length db) ⊎ (length db < k))
           → list_any (is_labelled w) (statement_at (db ++ s ∷ []) k) ≡ false
-      missing w k e (inl (p, q)) c = absurd (let z = sym q ∙ e in cc)
-      missing w k e (inr (p, q)) (inl m) =
-          ap (λ i. list_any (is_labelled w) (statement_at (db ++ s ∷ []) i)) m ∙ label_at_last w ∙ p
-      missing w k e (inr (p, q)) (inr (inl m)) = label_before w k m ∙ x.missing w (sym q ∙ e) k
-      missing w k e (inr (p, q)) (inr (inr m)) =
+      missing_has_no_statement_after w k new_w_is_none (inl (w_labels_s, new_w_is_last)) order =
+          absurd (let some_is_none = sym new_w_is_last ∙ new_w_is_none in cc)
+      missing_has_no_statement_after w k new_w_is_none (inr (w_labels_not_s, new_w_is_old))
+          (inl k_is_last) =
+          ap (λ i. list_any (is_labelled w) (statement_at (db ++ s ∷ []) i)) k_is_last
+          ∙ labelled_at_last_is_labelled w ∙ w_labels_not_s
+      missing_has_no_statement_after w k new_w_is_none (inr (w_labels_not_s, new_w_is_old))
+          (inr (inl k_lt_length)) =
+          labelled_before_is_unchanged w k k_lt_length
+          ∙ labels_of_db.missing_has_no_statement w (sym new_w_is_old ∙ new_w_is_none) k
+      missing_has_no_statement_after w k new_w_is_none (inr (w_labels_not_s, new_w_is_old))
+          (inr (inr length_lt_k)) =
           ap (λ o. list_any (is_labelled w) (elim o [ None ↦ [] | Some t ↦ t ∷ [] ]))
-          (slice_get_past (db ++ s ∷ []) k (omega (arith, m, length-append db (s ∷ []))))
+          (slice_get_past (db ++ s ∷ []) k (omega (arith, length_lt_k, length-append db (s ∷ []))))
 
       -- a label of the new statement is none before
       no_earlier_label : (w : Bytes) (j k : ℕ)
           → list_any (is_labelled w) (statement_at (db ++ s ∷ []) j) ≡ true
           → list_any (is_labelled w) (statement_at (db ++ s ∷ []) k) ≡ true → j < length db
           → length db ≤ k → ⊥
-      no_earlier_label w j k e f l m =
-          let b = is_there (is_labelled w) (db ++ s ∷ []) k f in
-          let same : k ≡ length db = omega (arith, b, m, length-append db (s ∷ [])) in
-          let new : is_labelled w s ≡ true =
-          sym (label_at_last w)
-          ∙ sym (ap (λ i. list_any (is_labelled w) (statement_at (db ++ s ∷ []) i)) same) ∙ f in
-          true≢false (sym e ∙ label_before w j l ∙ x.missing w (fresh w new) j)
+      no_earlier_label w j k w_labels_j w_labels_k j_lt_length length_le_k =
+          let k_is_there = is_there (is_labelled w) (db ++ s ∷ []) k w_labels_k in
+          let k_is_last : k ≡ length db =
+          omega (arith, k_is_there, length_le_k, length-append db (s ∷ [])) in
+          let w_labels_s : is_labelled w s ≡ true =
+          sym (labelled_at_last_is_labelled w)
+          ∙ sym (ap (λ i. list_any (is_labelled w) (statement_at (db ++ s ∷ []) i)) k_is_last)
+          ∙ w_labels_k in
+          true≢false (sym w_labels_j ∙ labelled_before_is_unchanged w j j_lt_length
+          ∙ labels_of_db.missing_has_no_statement w (find_is_none w w_labels_s) j)
 
-      only : (w : Bytes) (j k : ℕ) → list_any (is_labelled w) (statement_at (db ++ s ∷ []) j) ≡ true
+      label_is_unique_after : (w : Bytes) (j k : ℕ)
+          → list_any (is_labelled w) (statement_at (db ++ s ∷ []) j) ≡ true
           → list_any (is_labelled w) (statement_at (db ++ s ∷ []) k) ≡ true
           → (j < length db) ⊎ (length db ≤ j) → (k < length db) ⊎ (length db ≤ k) → j ≡ k
-      only w j k e f (inl l) (inl m) =
-          x.only w j k (sym (label_before w j l) ∙ e) (sym (label_before w k m) ∙ f)
-      only w j k e f (inl l) (inr m) = absurd (no_earlier_label w j k e f l m)
-      only w j k e f (inr l) (inl m) = absurd (no_earlier_label w k j f e m l)
-      only w j k e f (inr l) (inr m) =
-          let a = is_there (is_labelled w) (db ++ s ∷ []) j e in
-          let b = is_there (is_labelled w) (db ++ s ∷ []) k f in
-          omega (arith, a, b, l, m, length-append db (s ∷ []))
+      label_is_unique_after w j k w_labels_j w_labels_k (inl j_order) (inl k_order) =
+          labels_of_db.label_is_unique w j k (sym (labelled_before_is_unchanged w j j_order)
+          ∙ w_labels_j) (sym (labelled_before_is_unchanged w k k_order) ∙ w_labels_k)
+      label_is_unique_after w j k w_labels_j w_labels_k (inl j_order) (inr k_order) =
+          absurd (no_earlier_label w j k w_labels_j w_labels_k j_order k_order)
+      label_is_unique_after w j k w_labels_j w_labels_k (inr j_order) (inl k_order) =
+          absurd (no_earlier_label w k j w_labels_k w_labels_j k_order j_order)
+      label_is_unique_after w j k w_labels_j w_labels_k (inr j_order) (inr k_order) =
+          let j_is_there = is_there (is_labelled w) (db ++ s ∷ []) j w_labels_j in
+          let k_is_there = is_there (is_labelled w) (db ++ s ∷ []) k w_labels_k in
+          omega (arith, j_is_there, k_is_there, j_order, k_order, length-append db (s ∷ []))
 
 -- a label of a lawful statement stands for nothing yet
-pub label_unused : (db : List Statement) (find : List ℕ → Option ℕ)
+pub label_stands_for_nothing : (db : List Statement) (find : List ℕ → Option ℕ)
     → ((w : Bytes) → is_in w (flat_map label_words db) ≡ is_some (find w)) → (d : ℕ) (s : Statement)
     → scope_faults (names_before db (length db)) d s ≡ [] → (w : Bytes) → is_labelled w s ≡ true
     → find w ≡ None
-label_unused db find known d s law w e = by_token (label_of s) refl e
+label_stands_for_nothing db find known_if_label d s no_fault w w_labels_s =
+    by_token (label_of s) refl w_labels_s
   where
-    none_of : (o : Option ℕ) → is_some o ≡ false → o ≡ None
-    none_of None q = refl
-    none_of (Some k) q = absurd (true≢false q)
+    is_none_from_false : (o : Option ℕ) → is_some o ≡ false → o ≡ None
+    is_none_from_false None is_some_is_false = refl
+    is_none_from_false (Some k) is_some_is_false = absurd (true≢false is_some_is_false)
 
     by_token : (o : Option Token) → label_of s ≡ o
         → (elim o [ None ↦ false | Some l ↦ bytes_eq l.word w ]) ≡ true → find w ≡ None
-    by_token None q f = absurd (true≢false (sym f))
-    by_token (Some l) q f =
-        let same = (bytes_eq-Decides l.word w).0 f in
-        none_of (find w)
-        (sym (known w)
+    by_token None label_is_o o_is_labelled_w = absurd (true≢false (sym o_is_labelled_w))
+    by_token (Some l) label_is_o o_is_labelled_w =
+        let l_is_w = (bytes_eq-Decides l.word w).0 o_is_labelled_w in
+        is_none_from_false (find w)
+        (sym (known_if_label w)
         ∙ sym (ap (λ xs. is_in w (flat_map label_words xs))
         (take_all (length db) db (le_refl (length db))))
         ∙ subst (λ (u : Bytes). is_in u (flat_map label_words (take (length db) db)) ≡ false)
-        same (label_fresh (names_before db (length db)) d s law l q))
+        l_is_w (label_is_new (names_before db (length db)) d s no_fault l label_is_o))

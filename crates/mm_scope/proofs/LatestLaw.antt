@@ -18,47 +18,53 @@ use Rattle.mm_scope.specs.WordEntry.{Latest}
 use Rattle.mm_outline.specs.Typed.{has_word}
 
 module _ (db : List Statement) (f : Statement → List Bytes) (w : Bytes) where
-  pub latest_is : (last : ℕ) → Latest db f w last
+  -- a word is in an active statement exactly if the last that has it is active
+  pub in_active_iff_latest_active : (last : ℕ) → Latest db f w last
       → is_in w (flat_map f (active_statements db (length db))) ≡ is_active db last (length db)
-  latest_is last x =
+  in_active_iff_latest_active last latest =
       among_active db f w (λ j. is_active db j (length db)) (length db) 0
       ∙ by_active (is_active db last (length db)) refl
     where
-      q : ℕ → Bool
-      q = λ j. is_active db j (length db) && has_word db f w j
-
-      none : is_active db last (length db) ≡ false → (j : ℕ) → j < length db → (a b : Bool)
+      no_other_passes : is_active db last (length db) ≡ false → (j : ℕ) → j < length db
+          → (a b : Bool)
           → is_active db j (length db) ≡ a → has_word db f w j ≡ b → (a && b) ≡ false
-      none e j l true true h k =
-          absurd (true≢false (sym h ∙ ap (λ i. is_active db i (length db)) (x.alone j l k h) ∙ e))
-      none e j l true false h k = refl
-      none e j l false b h k = refl
+      no_other_passes last_is_inactive j j_lt_length true true j_is_active j_has_word =
+          absurd (true≢false (sym j_is_active
+          ∙ ap (λ i. is_active db i (length db))
+          (latest.active_is_last j j_lt_length j_has_word j_is_active) ∙ last_is_inactive))
+      no_other_passes last_is_inactive j j_lt_length true false j_is_active j_has_word = refl
+      no_other_passes last_is_inactive j j_lt_length false b j_is_active j_has_word = refl
 
       by_active : (b : Bool) → is_active db last (length db) ≡ b
           → list_any (λ j. is_active db j (length db) && has_word db f w j)
           (range_with_len 0 (length db))
           ≡ b
-      by_active true e =
+      by_active true last_is_b =
           range_any (λ j. is_active db j (length db) && has_word db f w j) (length db) 0 last
-          (omega arith) (let l = x.before in omega (arith, l)) (ap₂ (λ a b. a && b) e x.there)
-      by_active false e =
+          (omega arith) (let j_lt_length = latest.last_lt_length in
+          omega (arith, j_lt_length)) (ap₂ (λ a b. a && b) last_is_b latest.last_has_word)
+      by_active false last_is_b =
           any_false (λ j. is_active db j (length db) && has_word db f w j) (length db) 0
-          (λ j l. let m : j < length db = omega arith in
-          none e j m (is_active db j (length db)) (has_word db f w j) refl refl)
+          (λ j j_lt_length. let j_lt_db_length : j < length db = omega arith in
+          no_other_passes last_is_b j j_lt_db_length (is_active db j (length db))
+          (has_word db f w j) refl refl)
 
 -- ---- one statement more
 
-kind_mono : (g l a b : Bool) → (g || (l && (a && b))) ≡ true → (g || (l && a)) ≡ true
-kind_mono true l a b e = refl
-kind_mono false true true b e = refl
-kind_mono false true false b e = e
-kind_mono false false a b e = e
+-- a test with one condition less holds too
+weaken_conjunct : (g l a b : Bool) → (g || (l && (a && b))) ≡ true → (g || (l && a)) ≡ true
+weaken_conjunct true l a b holds = refl
+weaken_conjunct false true true b holds = refl
+weaken_conjunct false true false b holds = holds
+weaken_conjunct false false a b holds = holds
 
 module _ (db : List Statement) (s : Statement) where
-  active_mono : (j : ℕ) → j < length db → is_active (db ++ s ∷ []) j (length db + 1) ≡ true
+  -- what is active after one statement more was active before it
+  active_before_if_active_after : (j : ℕ) → j < length db
+      → is_active (db ++ s ∷ []) j (length db + 1) ≡ true
       → is_active db j (length db) ≡ true
-  active_mono j h e =
-      ap₂ (λ x y. x && y) (lt-ltb j (length db) h)
+  active_before_if_active_after j j_lt_length j_is_active_after =
+      ap₂ (λ x y. x && y) (lt-ltb j (length db) j_lt_length)
       (by_statement (slice_get db j) (is_block_open db j (length db))
       (nat_le (depth db j) (depth (db ++ s ∷ []) (length db + 1)))
       (ap (λ z. z
@@ -67,64 +73,77 @@ module _ (db : List Statement) (s : Statement) where
       && nat_le (depth db j) (depth (db ++ s ∷ []) (length db + 1))))
       (sym (lt-ltb j (length db + 1) (omega arith)))
       ∙ ap₂ (λ o z. nat_lt j (length db + 1) && is_some_still_active o z)
-      (sym (get_front db (s ∷ []) j h)) (sym (stays_last db s j h))
-      ∙ e))
+      (sym (get_front db (s ∷ []) j j_lt_length)) (sym (stays_last db s j j_lt_length))
+      ∙ j_is_active_after))
     where
       by_statement : (o : Option Statement) (a b : Bool) → is_some_still_active o (a && b) ≡ true
           → is_some_still_active o a ≡ true
-      by_statement None a b e = e
-      by_statement (Some t) a b e = kind_mono (is_global t) (is_local t) a b e
+      by_statement None a b j_is_active_after = j_is_active_after
+      by_statement (Some t) a b j_is_active_after =
+          weaken_conjunct (is_global t) (is_local t) a b j_is_active_after
 
   module _ (f : Statement → List Bytes) (w : Bytes) where
-    has-front : (j : ℕ) → j < length db → has_word (db ++ s ∷ []) f w j ≡ has_word db f w j
-    has-front j h =
+    -- an earlier statement has the same words with one statement more
+    has_word_in_front : (j : ℕ) → j < length db → has_word (db ++ s ∷ []) f w j ≡ has_word db f w j
+    has_word_in_front j j_lt_length =
         ap (λ o. is_in w (flat_map f (elim o [ None ↦ [] | Some t ↦ t ∷ [] ])))
-        (get_front db (s ∷ []) j h)
+        (get_front db (s ∷ []) j j_lt_length)
 
-    has-new : has_word (db ++ s ∷ []) f w (length db) ≡ is_in w (f s ++ [])
-    has-new =
+    -- the last statement has its own words
+    has_word_at_end : has_word (db ++ s ∷ []) f w (length db) ≡ is_in w (f s ++ [])
+    has_word_at_end =
         ap (λ o. is_in w (flat_map f (elim o [ None ↦ [] | Some t ↦ t ∷ [] ]))) (get_seam db s [])
 
     -- the statement has not the word
-    pub latest_stays : (last : ℕ) → Latest db f w last → is_in w (f s ++ []) ≡ false
+    pub latest_unchanged : (last : ℕ) → Latest db f w last → is_in w (f s ++ []) ≡ false
         → Latest (db ++ s ∷ []) f w last
-    latest_stays last x n = record {
-      before = let l = x.before in omega (arith, l, length-append db (s ∷ []));
-      there = has-front last x.before ∙ x.there;
-      alone =
-          λ j h k e. by_order j h k
-          (ap (is_active (db ++ s ∷ []) j) (sym (length-append db (s ∷ []))) ∙ e)
+    latest_unchanged last latest s_has_not_w = record {
+      last_lt_length = let last_lt_before = latest.last_lt_length in
+          omega (arith, last_lt_before, length-append db (s ∷ []));
+      last_has_word = has_word_in_front last latest.last_lt_length ∙ latest.last_has_word;
+      active_is_last =
+          λ j j_lt_length j_has_w j_is_active. by_order j j_lt_length j_has_w
+          (ap (is_active (db ++ s ∷ []) j) (sym (length-append db (s ∷ []))) ∙ j_is_active)
           (cases_lt j (length db));
     }
       where
         by_order : (j : ℕ) → j < length (db ++ s ∷ []) → has_word (db ++ s ∷ []) f w j ≡ true
             → is_active (db ++ s ∷ []) j (length db + 1) ≡ true → (j < length db) ⊎ (length db ≤ j)
             → j ≡ last
-        by_order j h k e (inl l) = x.alone j l (sym (has-front j l) ∙ k) (active_mono j l e)
-        by_order j h k e (inr l) =
-            absurd (let same : j ≡ length db = omega (arith, h, l, length-append db (s ∷ [])) in
-            true≢false (sym k ∙ ap (has_word (db ++ s ∷ []) f w) same ∙ has-new ∙ n))
+        by_order j j_lt_new_length j_has_word j_is_active (inl j_order) =
+            latest.active_is_last j j_order (sym (has_word_in_front j j_order)
+            ∙ j_has_word) (active_before_if_active_after j j_order j_is_active)
+        by_order j j_lt_new_length j_has_word j_is_active (inr j_order) =
+            absurd (let j_is_last_index : j ≡ length db =
+            omega (arith, j_lt_new_length, j_order, length-append db (s ∷ [])) in
+            true≢false (sym j_has_word ∙ ap (has_word (db ++ s ∷ []) f w) j_is_last_index
+            ∙ has_word_at_end
+            ∙ s_has_not_w))
 
     -- the statement has the word, which no active one had
-    pub latest_new : is_in w (f s ++ []) ≡ true
+    pub latest_is_new : is_in w (f s ++ []) ≡ true
         → is_in w (flat_map f (active_statements db (length db))) ≡ false
         → Latest (db ++ s ∷ []) f w (length db)
-    latest_new t n = record {
-      before = omega (arith, length-append db (s ∷ []));
-      there = has-new ∙ t;
-      alone =
-          λ j h k e. by_order j h k
-          (ap (is_active (db ++ s ∷ []) j) (sym (length-append db (s ∷ []))) ∙ e)
+    latest_is_new s_has_w no_active_has_w = record {
+      last_lt_length = omega (arith, length-append db (s ∷ []));
+      last_has_word = has_word_at_end ∙ s_has_w;
+      active_is_last =
+          λ j j_lt_length j_has_w j_is_active. by_order j j_lt_length j_has_w
+          (ap (is_active (db ++ s ∷ []) j) (sym (length-append db (s ∷ []))) ∙ j_is_active)
           (cases_lt j (length db));
     }
       where
         by_order : (j : ℕ) → j < length (db ++ s ∷ []) → has_word (db ++ s ∷ []) f w j ≡ true
             → is_active (db ++ s ∷ []) j (length db + 1) ≡ true → (j < length db) ⊎ (length db ≤ j)
             → j ≡ length db
-        by_order j h k e (inl l) =
+        by_order j j_lt_new_length j_has_word j_is_active (inl j_order) =
             absurd (true≢false
             (sym (range_any (λ i. is_active db i (length db) && has_word db f w i) (length db) 0 j
             (omega arith) (omega arith)
-            (ap₂ (λ a b. a && b) (active_mono j l e) (sym (has-front j l) ∙ k)))
-            ∙ sym (among_active db f w (λ i. is_active db i (length db)) (length db) 0) ∙ n))
-        by_order j h k e (inr l) = omega (arith, h, l, length-append db (s ∷ []))
+            (ap₂ (λ a b. a && b) (active_before_if_active_after j j_order j_is_active)
+            (sym (has_word_in_front j j_order)
+            ∙ j_has_word)))
+            ∙ sym (among_active db f w (λ i. is_active db i (length db)) (length db) 0)
+            ∙ no_active_has_w))
+        by_order j j_lt_new_length j_has_word j_is_active (inr j_order) =
+            omega (arith, j_lt_new_length, j_order, length-append db (s ∷ []))

@@ -1,10 +1,11 @@
 -- The loop of `outline_statements` keeps two things: `IsReadTo` (the lawful statements lead to
--- `at`) and `IsReadSoFar` (names, blocks and numbers are theirs). `knows_is` (`KnowsLaw.antt`) says
--- that what has been read is what the judge needs. `both_least` and `each_more` (`JudgeLaw.antt`)
--- show that the code's fault is the least one, rule by rule and symbol by symbol. `keeps_after`
--- (`AddLaw.antt`) adds a lawful statement, `names_next` and `formulas_more` (`NumberedLaw.antt`)
--- its symbols. `reading_more` (`ReadLaw.antt`) goes on; `read_unlawful`, `read_stopped` and
--- `read_ended` end in `IsRead`.
+-- `token_index`) and `IsReadSoFar` (names, blocks and numbers are theirs). `scope_knows_names`
+-- (`KnowsLaw.antt`) says that what has been read is what the judge needs.
+-- `lesser_of_least_is_least` and `at_each_between_push` (`JudgeLaw.antt`) show that the code's
+-- fault is the least one, rule by rule and symbol by symbol. `knows_after_statement`
+-- (`AddLaw.antt`) adds a lawful statement, `declared_names_are_symbol_names` and
+-- `formulas_with_statement` (`NumberedLaw.antt`) its symbols. `is_read_to_with_statement`
+-- (`ReadLaw.antt`) goes on; `read_unlawful`, `read_stopped` and `read_ended` end in `IsRead`.
 pub mod AddLaw
 pub mod BoundsLaw
 pub mod DeclaredLaw

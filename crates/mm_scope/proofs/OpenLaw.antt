@@ -15,65 +15,79 @@ use Rattle.mm_outline.specs.Blocks.{is_open_in}
 use Rattle.mm_scope.specs.WordEntry.{Latest}
 use Rattle.mm_outline.specs.Typed.{typed_words}
 
-pub open_is : (db : List Statement) (b : BlockLists) → IsBlocks db b → length db < never → (j : ℕ)
+-- a statement's block is open at the end exactly if the lists say so
+pub block_open_is_open_in : (db : List Statement) (b : BlockLists) → IsBlocks db b
+    → length db < never → (j : ℕ)
     → j < length db → is_block_open db j (length db) ≡ is_open_in b j
-open_is db b x few j h =
-    let of : slice_get b.of j ≡ Some (get_or b.of j 0) =
-    slice_get-get_or b.of j 0 (let c = x.count in omega (arith, c, h)) in
-    let end : slice_get b.ends (get_or b.of j 0) ≡ Some (end_of b j) =
-    slice_get-get_or b.ends (get_or b.of j 0) 0 (x.known j h) in
-    x.ended j (length db) h (le_refl (length db)) ∙ by_case (x.bounds j h) ∙ ap is_never (sym end)
-    ∙ ap (λ o. is_never (end_in b.ends o)) (sym of)
+block_open_is_open_in db b are_blocks db_lt_never j j_lt_length =
+    let block_is_known : slice_get b.of j ≡ Some (get_or b.of j 0) =
+    slice_get-get_or b.of j 0 (let block_count = are_blocks.count in
+    omega (arith, block_count, j_lt_length)) in
+    let end_is_known : slice_get b.ends (get_or b.of j 0) ≡ Some (end_of b j) =
+    slice_get-get_or b.ends (get_or b.of j 0) 0 (are_blocks.known j j_lt_length) in
+    are_blocks.ended j (length db) j_lt_length (le_refl (length db))
+    ∙ by_case (are_blocks.bounds j j_lt_length) ∙ ap is_never (sym end_is_known)
+    ∙ ap (λ o. is_never (end_in b.ends o)) (sym block_is_known)
   where
     by_case : (end_of b j ≡ never) ⊎ (end_of b j < length db)
         → nat_le (length db) (end_of b j) ≡ nat_eq (end_of b j) never
-    by_case (inl e) =
-        le-leb (length db) (end_of b j) (omega (arith, e, few)) ∙ sym (eq-eqb (end_of b j) never e)
-    by_case (inr l) =
-        lt-leb (length db) (end_of b j) l
-        ∙ sym (ne_eqb (end_of b j) never (λ e. absurd (omega (arith, e, l, few))))
+    by_case (inl end_is_never) =
+        le-leb (length db) (end_of b j) (omega (arith, end_is_never, db_lt_never))
+        ∙ sym (eq-eqb (end_of b j) never end_is_never)
+    by_case (inr end_lt_length) =
+        lt-leb (length db) (end_of b j) end_lt_length
+        ∙ sym (ne_eqb (end_of b j) never
+        (λ end_is_never. absurd (omega (arith, end_is_never, end_lt_length, db_lt_never))))
 
 -- a statement that declares or types variables is active where its block is open
 abbrev pub IsLocal : (Statement → List Bytes) → List ℕ → Type 0
 IsLocal f w = (s : Statement) (b : Bool) → is_in w (f s ++ []) ≡ true → is_still_active s b ≡ b
 
-pub declares_local : (w : List ℕ) → IsLocal variables_of w
-declares_local w (variables k xs d) b h = refl
-declares_local w (constants k xs d) b h = absurd (true≢false (sym h))
-declares_local w (disjoint k xs d) b h = absurd (true≢false (sym h))
-declares_local w (floating l k xs d) b h = absurd (true≢false (sym h))
-declares_local w (essential l k xs d) b h = absurd (true≢false (sym h))
-declares_local w (axiomatic l k xs d) b h = absurd (true≢false (sym h))
-declares_local w (provable l k xs e ps d) b h = absurd (true≢false (sym h))
-declares_local w (opening k) b h = absurd (true≢false (sym h))
-declares_local w (closing k) b h = absurd (true≢false (sym h))
+-- a declaration of a variable is active where its block is open
+pub declarations_are_local : (w : List ℕ) → IsLocal variables_of w
+declarations_are_local w (variables k xs d) b declares_w = refl
+declarations_are_local w (constants k xs d) b declares_w = absurd (true≢false (sym declares_w))
+declarations_are_local w (disjoint k xs d) b declares_w = absurd (true≢false (sym declares_w))
+declarations_are_local w (floating l k xs d) b declares_w = absurd (true≢false (sym declares_w))
+declarations_are_local w (essential l k xs d) b declares_w = absurd (true≢false (sym declares_w))
+declarations_are_local w (axiomatic l k xs d) b declares_w = absurd (true≢false (sym declares_w))
+declarations_are_local w (provable l k xs e ps d) b declares_w =
+    absurd (true≢false (sym declares_w))
+declarations_are_local w (opening k) b declares_w = absurd (true≢false (sym declares_w))
+declarations_are_local w (closing k) b declares_w = absurd (true≢false (sym declares_w))
 
-pub types_local : (w : List ℕ) → IsLocal typed_words w
-types_local w (floating l k xs d) b h = refl
-types_local w (constants k xs d) b h = absurd (true≢false (sym h))
-types_local w (variables k xs d) b h = absurd (true≢false (sym h))
-types_local w (disjoint k xs d) b h = absurd (true≢false (sym h))
-types_local w (essential l k xs d) b h = absurd (true≢false (sym h))
-types_local w (axiomatic l k xs d) b h = absurd (true≢false (sym h))
-types_local w (provable l k xs e ps d) b h = absurd (true≢false (sym h))
-types_local w (opening k) b h = absurd (true≢false (sym h))
-types_local w (closing k) b h = absurd (true≢false (sym h))
+-- a `$f` is active where its block is open
+pub typings_are_local : (w : List ℕ) → IsLocal typed_words w
+typings_are_local w (floating l k xs d) b types_w = refl
+typings_are_local w (constants k xs d) b types_w = absurd (true≢false (sym types_w))
+typings_are_local w (variables k xs d) b types_w = absurd (true≢false (sym types_w))
+typings_are_local w (disjoint k xs d) b types_w = absurd (true≢false (sym types_w))
+typings_are_local w (essential l k xs d) b types_w = absurd (true≢false (sym types_w))
+typings_are_local w (axiomatic l k xs d) b types_w = absurd (true≢false (sym types_w))
+typings_are_local w (provable l k xs e ps d) b types_w = absurd (true≢false (sym types_w))
+typings_are_local w (opening k) b types_w = absurd (true≢false (sym types_w))
+typings_are_local w (closing k) b types_w = absurd (true≢false (sym types_w))
 
 -- the last statement that has a word is active exactly where its block is open
-pub latest_open : (db : List Statement) (b : BlockLists) → IsBlocks db b → length db < never
+pub latest_active_is_open : (db : List Statement) (b : BlockLists) → IsBlocks db b
+    → length db < never
     → (f : Statement → List Bytes) (w : List ℕ) → IsLocal f w → (last : ℕ) → Latest db f w last
     → is_active db last (length db) ≡ is_open_in b last
-latest_open db b x few f w local last l = by_statement (slice_get db last) refl
+latest_active_is_open db b are_blocks db_lt_never f w is_local last latest =
+    by_statement (slice_get db last) refl
   where
     by_statement : (o : Option Statement) → slice_get db last ≡ o
         → is_active db last (length db) ≡ is_open_in b last
-    by_statement None e =
+    by_statement None last_statement_is_o =
         absurd (true≢false
-        (sym l.there ∙ ap (λ o. is_in w (flat_map f (elim o [ None ↦ [] | Some t ↦ t ∷ [] ]))) e))
-    by_statement (Some s) e =
+        (sym latest.last_has_word
+        ∙ ap (λ o. is_in w (flat_map f (elim o [ None ↦ [] | Some t ↦ t ∷ [] ])))
+        last_statement_is_o))
+    by_statement (Some s) last_statement_is_o =
         ap₂ (λ t o. t && is_some_still_active o (is_block_open db last (length db)))
-        (lt-ltb last (length db) l.before) e
-        ∙ local s (is_block_open db last (length db))
-        (ap (λ o. is_in w (flat_map f (elim o [ None ↦ [] | Some t ↦ t ∷ [] ]))) (sym e)
-        ∙ l.there)
-        ∙ open_is db b x few last l.before
+        (lt-ltb last (length db) latest.last_lt_length) last_statement_is_o
+        ∙ is_local s (is_block_open db last (length db))
+        (ap (λ o. is_in w (flat_map f (elim o [ None ↦ [] | Some t ↦ t ∷ [] ])))
+        (sym last_statement_is_o)
+        ∙ latest.last_has_word)
+        ∙ block_open_is_open_in db b are_blocks db_lt_never last latest.last_lt_length

@@ -31,224 +31,277 @@ use Rattle.mm_outline.specs.declared.parts.Part.TheVariants.{Start, Labelled, Wo
 use Rattle.mm_outline.proofs.LeadsLaw.{leads_then}
 use Rattle.mm_spec.proofs.ShapeLaw.{count_end}
 
+-- the tokens before `token_index` are those of lawful statements, after which so many blocks are
+-- open
 pub record IsReadTo (text : List ℕ) (ws : List Word) (db : List Statement)
-    (deep at : ℕ) : Type 0 where
-  pub leads : Leads (start 0) (as_tokens text ws) db (start deep) (tokens_from text ws at)
-  pub within : at ≤ length ws
-  pub few : length db ≤ at
-  pub shallow : deep ≤ at
-  pub deep_is : deep ≡ depth db (length db)
+    (open_blocks token_index : ℕ) : Type 0 where
+  pub leads : Leads (start 0) (as_tokens text ws) db (start open_blocks)
+      (tokens_from text ws token_index)
+  pub index_le_length : token_index ≤ length ws
+  pub length_db_le_index : length db ≤ token_index
+  pub open_blocks_le_index : open_blocks ≤ token_index
+  pub open_blocks_is_depth : open_blocks ≡ depth db (length db)
   pub lawful : (k : ℕ) → k < length db → scope_fault db k ≡ None
 
 module _ (text : List ℕ) (ws : List Word) (len : ℕ) (lexical : Option Fault) (db : List Statement)
-    (deep at : ℕ) (r : IsReadTo text ws db deep at) where
+    (open_blocks token_index : ℕ) (is_read_to : IsReadTo text ws db open_blocks token_index) where
   abbrev x : LexedText
   x = lexed text ws lexical
 
   -- an unlawful statement
   pub read_unlawful : (s : Statement) (d : ℕ) (us : List _)
-      → Leads (start deep) (tokens_from text ws at) (s ∷ []) (start d) us → (f : Option Fault) → f
+      → Leads (start open_blocks) (tokens_from text ws token_index) (s ∷ []) (start d) us
+      → (f : Option Fault) → f
       ≢ None
-      → f ≡ least (scope_faults (names_before db (length db)) deep s)
+      → f ≡ least (scope_faults (names_before db (length db)) open_blocks s)
       → IsRead len (lexed text ws lexical) db f
-  read_unlawful s d us l f ne e =
-      let more = statements_from (start d) us in
-      let list : statements_of (as_tokens text ws) ≡ db ++ s ∷ more =
-      r.leads.statements ∙ ap (λ y. db ++ y) l.statements in
+  read_unlawful s d us leads_to_s f f_ne_none f_is_least =
+      let rest_of_statements = statements_from (start d) us in
+      let statements_are_db_s_rest : statements_of (as_tokens text ws)
+      ≡ db ++ s ∷ rest_of_statements =
+      is_read_to.leads.statements ∙ ap (λ y. db ++ y) leads_to_s.statements in
       record {
         statements = statements_of (as_tokens text ws);
         are_statements = is_longest (as_tokens text ws);
-        rest = s ∷ more;
-        splits = list;
+        rest = s ∷ rest_of_statements;
+        splits = statements_are_db_s_rest;
         lawful =
-            λ k h. ap (λ y. scope_fault y k) list ∙ scope_fault_front db (s ∷ more) k h
-            ∙ r.lawful k h;
+            λ k k_lt_length. ap (λ y. scope_fault y k) statements_are_db_s_rest
+            ∙ scope_fault_front db (s ∷ rest_of_statements) k k_lt_length
+            ∙ is_read_to.lawful k k_lt_length;
         stops = (
-          ne,
-          ap (λ y. scope_fault y (length db)) list ∙ scope_fault_next db s more
-              ∙ ap (λ d. least (scope_faults (names_before db (length db)) d s)) (sym r.deep_is)
-              ∙ sym e,
+          f_ne_none,
+          ap (λ y. scope_fault y (length db)) statements_are_db_s_rest
+              ∙ scope_fault_next db s rest_of_statements
+              ∙ ap (λ d. least (scope_faults (names_before db (length db)) d s))
+              (sym is_read_to.open_blocks_is_depth)
+              ∙ sym f_is_least,
         );
       }
 
   -- the text stops
   stops_with : (f : Option Fault) → text_fault len (lexed text ws lexical) ≡ f
       → StopsReading len (lexed text ws lexical) (statements_of (as_tokens text ws)) db [] f
-  stops_with None e = no_text_fault len (lexed text ws lexical) e
-  stops_with (Some f) e = text_fault_is len (lexed text ws lexical) f e
+  stops_with None text_fault_is_f = no_text_fault len (lexed text ws lexical) text_fault_is_f
+  stops_with (Some f) text_fault_is_f = text_fault_is len (lexed text ws lexical) f text_fault_is_f
 
-  pub read_end : statements_from (start deep) (tokens_from text ws at) ≡ [] → (f : Option Fault)
+  -- if no statement follows, the statements so far are what is read, with the fault of the text
+  pub is_read_at_end : statements_from (start open_blocks) (tokens_from text ws token_index) ≡ []
+      → (f : Option Fault)
       → text_fault len (lexed text ws lexical) ≡ f → IsRead len (lexed text ws lexical) db f
-  read_end n f e =
-      let list : statements_of (as_tokens text ws) ≡ db ++ [] =
-      r.leads.statements ∙ ap (λ y. db ++ y) n in
+  is_read_at_end no_statement_follows f text_fault_is_f =
+      let statements_are_db : statements_of (as_tokens text ws) ≡ db ++ [] =
+      is_read_to.leads.statements ∙ ap (λ y. db ++ y) no_statement_follows in
       record {
         statements = statements_of (as_tokens text ws);
         are_statements = is_longest (as_tokens text ws);
         rest = [];
-        splits = list;
-        lawful = λ k h. ap (λ y. scope_fault y k) list ∙ scope_fault_front db [] k h ∙ r.lawful k h;
-        stops = stops_with f e;
+        splits = statements_are_db;
+        lawful = λ k k_lt_length. ap (λ y. scope_fault y k) statements_are_db
+            ∙ scope_fault_front db [] k k_lt_length ∙ is_read_to.lawful k k_lt_length;
+        stops = stops_with f text_fault_is_f;
       }
 
-  pub read_stopped : (f : Fault) → statements_from (start deep) (tokens_from text ws at) ≡ []
-      → shape_fault_from (start deep) (tokens_from text ws at) ≡ Some f
+  -- a malformed statement
+  pub read_stopped : (f : Fault)
+      → statements_from (start open_blocks) (tokens_from text ws token_index) ≡ []
+      → shape_fault_from (start open_blocks) (tokens_from text ws token_index) ≡ Some f
       → IsRead len (lexed text ws lexical) db (Some f)
-  read_stopped f n e =
-      read_end n (Some f)
+  read_stopped f no_statement_follows shape_fault_is_f =
+      is_read_at_end no_statement_follows (Some f)
       (ap (λ o. first_fault_of o
       (first_fault_of lexical (fault_at_end len (progress_from (start 0) (as_tokens text ws)))))
-      (r.leads.stop
-      ∙ e))
+      (is_read_to.leads.stop
+      ∙ shape_fault_is_f))
 
-  end_is : (part : Part) (i : ℕ) (o : Option Fault)
-      → first_fault_of o (fault_at_end len (progress text ws deep part i))
-      ≡ end_fault_of o len part deep
-  end_is part i (Some f) = refl
-  end_is Start i None = by_number deep
+  fault_at_end_is_end_fault_of : (part : Part) (i : ℕ) (o : Option Fault)
+      → first_fault_of o (fault_at_end len (progress text ws open_blocks part i))
+      ≡ end_fault_of o len part open_blocks
+  fault_at_end_is_end_fault_of part i (Some f) = refl
+  fault_at_end_is_end_fault_of Start i None = by_number open_blocks
     where
       by_number : (d : ℕ) → fault_at_end len (start d) ≡ end_fault_of None len Start d
       by_number zero = refl
       by_number (suc d) = refl
-  end_is (Labelled l) i None = refl
-  end_is (Words k w) i None = refl
-  end_is (Formula w) i None = refl
-  end_is (Proof w e) i None = refl
+  fault_at_end_is_end_fault_of (Labelled l) i None = refl
+  fault_at_end_is_end_fault_of (Words k w) i None = refl
+  fault_at_end_is_end_fault_of (Formula w) i None = refl
+  fault_at_end_is_end_fault_of (Proof w e) i None = refl
 
-  pub read_ended : (part : Part) → statements_from (start deep) (tokens_from text ws at) ≡ []
-      → shape_fault_from (start deep) (tokens_from text ws at) ≡ None
-      → progress_from (start deep) (tokens_from text ws at) ≡ progress text ws deep part (length ws)
-      → (f : Option Fault) → f ≡ end_fault_of lexical len part deep
+  -- the end of the tokens
+  pub read_ended : (part : Part)
+      → statements_from (start open_blocks) (tokens_from text ws token_index) ≡ []
+      → shape_fault_from (start open_blocks) (tokens_from text ws token_index) ≡ None
+      → progress_from (start open_blocks) (tokens_from text ws token_index)
+      ≡ progress text ws open_blocks part (length ws)
+      → (f : Option Fault) → f ≡ end_fault_of lexical len part open_blocks
       → IsRead len (lexed text ws lexical) db f
-  read_ended part n s e f is =
-      read_end n f
+  read_ended part no_statement_follows no_shape_fault progress_is_part f f_is_end_fault =
+      is_read_at_end no_statement_follows f
       (ap₂ (λ o q. first_fault_of o (first_fault_of lexical (fault_at_end len q)))
-      (r.leads.stop ∙ s)
-      (r.leads.rest ∙ e)
-      ∙ end_is part (length ws) lexical ∙ sym is)
+      (is_read_to.leads.stop ∙ no_shape_fault)
+      (is_read_to.leads.rest ∙ progress_is_part)
+      ∙ fault_at_end_is_end_fault_of part (length ws) lexical ∙ sym f_is_end_fault)
 
 -- a statement that closes a block stands in one
-pub inside_block : (text : List ℕ) (ws : List Word) (db : List Statement) (deep at : ℕ)
-    → IsReadTo text ws db deep at → (s : Statement) (d : ℕ) (us : List _)
-    → Leads (start deep) (tokens_from text ws at) (s ∷ []) (start d) us → is_closing s ≡ true
+pub closing_is_inside_block : (text : List ℕ) (ws : List Word) (db : List Statement)
+    (open_blocks token_index : ℕ)
+    → IsReadTo text ws db open_blocks token_index → (s : Statement) (d : ℕ) (us : List _)
+    → Leads (start open_blocks) (tokens_from text ws token_index) (s ∷ []) (start d) us
+    → is_closing s ≡ true
     → 0 < depth db (length db)
-inside_block text ws db deep at r s d us l e =
-    let more = statements_from (start d) us in
-    let list : statements_of (as_tokens text ws) ≡ db ++ s ∷ more =
-    r.leads.statements ∙ ap (λ y. db ++ y) l.statements in
-    let front : take (length db + 1) (db ++ s ∷ more) ≡ db ++ s ∷ [] = take_one db s more in
-    let n : count_by is_closing (db ++ s ∷ []) ≤ count_by is_opening (db ++ s ∷ []) =
+closing_is_inside_block text ws db open_blocks token_index is_read_to s d us leads_to_s s_is_closing
+    =
+    let rest_of_statements = statements_from (start d) us in
+    let statements_are_db_s_rest : statements_of (as_tokens text ws)
+    ≡ db ++ s ∷ rest_of_statements =
+    is_read_to.leads.statements ∙ ap (λ y. db ++ y) leads_to_s.statements in
+    let front_is_db_s : take (length db + 1) (db ++ s ∷ rest_of_statements) ≡ db ++ s ∷ [] =
+    take_one db s rest_of_statements in
+    let closings_le_openings : count_by is_closing (db ++ s ∷ []) ≤ count_by is_opening
+    (db ++ s ∷ []) =
     subst (λ y. count_by is_closing y ≤ count_by is_opening y)
-    (ap (take (length db + 1)) list ∙ front)
+    (ap (take (length db + 1)) statements_are_db_s_rest ∙ front_is_db_s)
     ((is_longest (as_tokens text ws)).are_statements.nested (length db + 1)) in
-    let c : count_by is_closing (db ++ s ∷ []) ≡ count_by is_closing db + 1 =
-    count_end is_closing db s ∙ ap (λ b. count_by is_closing db + cond b 1 0) e in
-    let o : count_by is_opening (db ++ s ∷ []) ≡ count_by is_opening db + 0 =
-    count_end is_opening db s ∙ ap (λ b. count_by is_opening db + cond b 1 0) (not_both s e) in
-    let same = depth_end db s in
-    omega (arith, n, c, o, same)
+    let one_closing_more : count_by is_closing (db ++ s ∷ []) ≡ count_by is_closing db + 1 =
+    count_end is_closing db s ∙ ap (λ b. count_by is_closing db + cond b 1 0) s_is_closing in
+    let no_opening_more : count_by is_opening (db ++ s ∷ []) ≡ count_by is_opening db + 0 =
+    count_end is_opening db s
+    ∙ ap (λ b. count_by is_opening db + cond b 1 0) (not_both s s_is_closing) in
+    let depth_at_end = depth_end db s in
+    omega (arith, closings_le_openings, one_closing_more, no_opening_more, depth_at_end)
   where
-    take_one : (db : List Statement) (s : Statement) (more : List Statement)
-        → take (length db + 1) (db ++ s ∷ more) ≡ db ++ s ∷ []
-    take_one [] s more = refl
-    take_one (y ∷ db) s more =
-        let e : suc (length db) + 1 ≡ suc (length db + 1) = omega arith in
-        ap (λ m. take m (y ∷ (db ++ s ∷ more))) e ∙ ap (λ z. y ∷ z) (take_one db s more)
+    take_one : (db : List Statement) (s : Statement) (rest_of_statements : List Statement)
+        → take (length db + 1) (db ++ s ∷ rest_of_statements) ≡ db ++ s ∷ []
+    take_one [] s rest_of_statements = refl
+    take_one (y ∷ db) s rest_of_statements =
+        let suc_is_add : suc (length db) + 1 ≡ suc (length db + 1) = omega arith in
+        ap (λ m. take m (y ∷ (db ++ s ∷ rest_of_statements))) suc_is_add
+        ∙ ap (λ z. y ∷ z) (take_one db s rest_of_statements)
 
     not_both : (s : Statement) → is_closing s ≡ true → is_opening s ≡ false
-    not_both (opening k) e = absurd (true≢false (sym e))
-    not_both (closing k) e = refl
-    not_both (constants k xs d) e = refl
-    not_both (variables k xs d) e = refl
-    not_both (disjoint k xs d) e = refl
-    not_both (floating l k xs d) e = refl
-    not_both (essential l k xs d) e = refl
-    not_both (axiomatic l k xs d) e = refl
-    not_both (provable l k xs q ps d) e = refl
+    not_both (opening k) s_is_closing = absurd (true≢false (sym s_is_closing))
+    not_both (closing k) s_is_closing = refl
+    not_both (constants k xs d) s_is_closing = refl
+    not_both (variables k xs d) s_is_closing = refl
+    not_both (disjoint k xs d) s_is_closing = refl
+    not_both (floating l k xs d) s_is_closing = refl
+    not_both (essential l k xs d) s_is_closing = refl
+    not_both (axiomatic l k xs d) s_is_closing = refl
+    not_both (provable l k xs q ps d) s_is_closing = refl
 
-less_one_is : (d : ℕ) → d - 1 ≡ one_less d
-less_one_is zero = omega arith
-less_one_is (suc d) = omega arith
+minus_one_is_one_less : (d : ℕ) → d - 1 ≡ one_less d
+minus_one_is_one_less zero = omega arith
+minus_one_is_one_less (suc d) = omega arith
 
-after_le : (k : Kind) (d at end : ℕ) → d ≤ at → at ≤ end → depth_after k d ≤ end + 1
-after_le kind.Open d at end h l = omega arith
-after_le kind.Close zero at end h l = omega arith
-after_le kind.Close (suc d) at end h l = omega arith
-after_le _ d at end h l = omega arith
+-- the depth after a statement is at most the number of tokens up to its end
+depth_after_le : (k : Kind) (d token_index end : ℕ) → d ≤ token_index → token_index ≤ end
+    → depth_after k d ≤ end + 1
+depth_after_le kind.Open d token_index end d_le_index index_le_end = omega arith
+depth_after_le kind.Close zero token_index end d_le_index index_le_end = omega arith
+depth_after_le kind.Close (suc d) token_index end d_le_index index_le_end = omega arith
+depth_after_le _ d token_index end d_le_index index_le_end = omega arith
 
-depth_is : (text : List ℕ) (ws : List Word) (db : List Statement) (b : BlockLists) → IsBlocks db b
+-- the depth that the code counts after a statement is the depth after it
+depth_after_is_depth : (text : List ℕ) (ws : List Word) (db : List Statement) (b : BlockLists)
+    → IsBlocks db b
     → length db < never → (k : Kind) (w m e : ℕ)
     → depth_after k (depth db (length db))
     ≡ depth (db ++ statement_between text ws k w m e ∷ []) (length db + 1)
-depth_is text ws db b x few kind.Open w m e =
-    (let y = depth_opening db (statement_between text ws kind.Open w m e) b x few refl refl in omega
-    (arith, y))
-depth_is text ws db b x few kind.Close w m e =
-    sym (depth_closing db (statement_between text ws kind.Close w m e) b x few refl refl
-    ∙ less_one_is (depth db (length db)))
-depth_is text ws db b x few kind.Constants w m e =
-    sym (depth_plain db (statement_between text ws kind.Constants w m e) b x few refl refl)
-depth_is text ws db b x few kind.Variables w m e =
-    sym (depth_plain db (statement_between text ws kind.Variables w m e) b x few refl refl)
-depth_is text ws db b x few kind.Disjoint w m e =
-    sym (depth_plain db (statement_between text ws kind.Disjoint w m e) b x few refl refl)
-depth_is text ws db b x few kind.Floating w m e =
-    sym (depth_plain db (statement_between text ws kind.Floating w m e) b x few refl refl)
-depth_is text ws db b x few kind.Essential w m e =
-    sym (depth_plain db (statement_between text ws kind.Essential w m e) b x few refl refl)
-depth_is text ws db b x few kind.Axiom w m e =
-    sym (depth_plain db (statement_between text ws kind.Axiom w m e) b x few refl refl)
-depth_is text ws db b x few kind.Theorem w m e =
-    sym (depth_plain db (statement_between text ws kind.Theorem w m e) b x few refl refl)
+depth_after_is_depth text ws db b are_blocks db_lt_never kind.Open w m e =
+    (let depth_grows =
+    depth_opening db (statement_between text ws kind.Open w m e) b are_blocks db_lt_never refl
+    refl in omega
+    (arith, depth_grows))
+depth_after_is_depth text ws db b are_blocks db_lt_never kind.Close w m e =
+    sym (depth_closing db (statement_between text ws kind.Close w m e) b are_blocks db_lt_never refl
+    refl
+    ∙ minus_one_is_one_less (depth db (length db)))
+depth_after_is_depth text ws db b are_blocks db_lt_never kind.Constants w m e =
+    sym (depth_plain db (statement_between text ws kind.Constants w m e) b are_blocks db_lt_never
+    refl refl)
+depth_after_is_depth text ws db b are_blocks db_lt_never kind.Variables w m e =
+    sym (depth_plain db (statement_between text ws kind.Variables w m e) b are_blocks db_lt_never
+    refl refl)
+depth_after_is_depth text ws db b are_blocks db_lt_never kind.Disjoint w m e =
+    sym (depth_plain db (statement_between text ws kind.Disjoint w m e) b are_blocks db_lt_never
+    refl refl)
+depth_after_is_depth text ws db b are_blocks db_lt_never kind.Floating w m e =
+    sym (depth_plain db (statement_between text ws kind.Floating w m e) b are_blocks db_lt_never
+    refl refl)
+depth_after_is_depth text ws db b are_blocks db_lt_never kind.Essential w m e =
+    sym (depth_plain db (statement_between text ws kind.Essential w m e) b are_blocks db_lt_never
+    refl refl)
+depth_after_is_depth text ws db b are_blocks db_lt_never kind.Axiom w m e =
+    sym (depth_plain db (statement_between text ws kind.Axiom w m e) b are_blocks db_lt_never refl
+    refl)
+depth_after_is_depth text ws db b are_blocks db_lt_never kind.Theorem w m e =
+    sym (depth_plain db (statement_between text ws kind.Theorem w m e) b are_blocks db_lt_never refl
+    refl)
 
-pub reading_more : (text : List ℕ) (ws : List Word) (db : List Statement) (deep at : ℕ)
-    → IsReadTo text ws db deep at → length ws < 2 ^ 31 → (b : BlockLists) → IsBlocks db b
-    → (k : Kind) (w m e : ℕ) → at ≤ e → e < length ws
-    → Leads (start deep) (tokens_from text ws at) (statement_between text ws k w m e ∷ [])
-    (start (depth_after k deep)) (tokens_from text ws (e + 1))
-    → None ≡ least (scope_faults (names_before db (length db)) deep
+-- one lawful statement more is read
+pub is_read_to_with_statement : (text : List ℕ) (ws : List Word) (db : List Statement)
+    (open_blocks token_index : ℕ)
+    → IsReadTo text ws db open_blocks token_index → length ws < 2 ^ 31 → (b : BlockLists)
+    → IsBlocks db b
+    → (k : Kind) (w m e : ℕ) → token_index ≤ e → e < length ws
+    → Leads (start open_blocks) (tokens_from text ws token_index)
+    (statement_between text ws k w m e ∷ [])
+    (start (depth_after k open_blocks)) (tokens_from text ws (e + 1))
+    → None ≡ least (scope_faults (names_before db (length db)) open_blocks
     (statement_between text ws k w m e))
-    → IsReadTo text ws (db ++ statement_between text ws k w m e ∷ []) (depth_after k deep) (e + 1)
-reading_more text ws db deep at r small b x k w m e later within l f = record {
-  leads = leads_then r.leads l;
-  within = omega (arith, within);
-  few = let n = r.few in omega (arith, n, long, later);
-  shallow = after_le k deep at e r.shallow later;
-  deep_is =
-      ap (depth_after k) r.deep_is
-      ∙ depth_is text ws db b x
-      (let n = r.few in let i = r.within in omega (arith, n, i, small)) k w m e
-      ∙ ap (depth (db ++ s ∷ [])) (sym long);
-  lawful = lawful;
-}
+    → IsReadTo text ws (db ++ statement_between text ws k w m e ∷ []) (depth_after k open_blocks)
+    (e + 1)
+is_read_to_with_statement text ws db open_blocks token_index is_read_to length_lt_2_31 b are_blocks
+    k w m e
+    index_le_e
+    e_lt_length leads_to_s no_fault = record {
+      leads = leads_then is_read_to.leads leads_to_s;
+      index_le_length = omega (arith, e_lt_length);
+      length_db_le_index = let db_le_index = is_read_to.length_db_le_index in
+          omega (arith, db_le_index, one_statement_more, index_le_e);
+      open_blocks_le_index =
+          depth_after_le k open_blocks token_index e is_read_to.open_blocks_le_index index_le_e;
+      open_blocks_is_depth =
+          ap (depth_after k) is_read_to.open_blocks_is_depth
+          ∙ depth_after_is_depth text ws db b are_blocks
+          (let db_le_index = is_read_to.length_db_le_index in
+          let index_le_ws = is_read_to.index_le_length in
+          omega (arith, db_le_index, index_le_ws, length_lt_2_31)) k w m e
+          ∙ ap (depth (db ++ s ∷ [])) (sym one_statement_more);
+      lawful = lawful;
+    }
   where
     s : Statement
     s = statement_between text ws k w m e
 
-    long : length (db ++ statement_between text ws k w m e ∷ []) ≡ length db + 1
-    long = length-append db (statement_between text ws k w m e ∷ [])
+    one_statement_more : length (db ++ statement_between text ws k w m e ∷ []) ≡ length db + 1
+    one_statement_more = length-append db (statement_between text ws k w m e ∷ [])
 
     lawful : (j : ℕ) → j < length (db ++ statement_between text ws k w m e ∷ [])
         → scope_fault (db ++ statement_between text ws k w m e ∷ []) j ≡ None
-    lawful j h = by_order (cases_lt j (length db))
+    lawful j j_lt_length = by_order (cases_lt j (length db))
       where
         by_order : (j < length db) ⊎ (length db ≤ j)
             → scope_fault (db ++ statement_between text ws k w m e ∷ []) j ≡ None
-        by_order (inl i) =
-            scope_fault_front db (statement_between text ws k w m e ∷ []) j i ∙ r.lawful j i
-        by_order (inr i) =
-            let same : length db ≡ j = omega (arith, h, i, long) in
-            subst (λ j. scope_fault (db ++ statement_between text ws k w m e ∷ []) j ≡ None) same
+        by_order (inl j_lt_db) =
+            scope_fault_front db (statement_between text ws k w m e ∷ []) j j_lt_db
+            ∙ is_read_to.lawful j j_lt_db
+        by_order (inr db_le_j) =
+            let db_is_j : length db ≡ j = omega (arith, j_lt_length, db_le_j, one_statement_more) in
+            subst (λ j. scope_fault (db ++ statement_between text ws k w m e ∷ []) j ≡ None) db_is_j
             (scope_fault_next db (statement_between text ws k w m e) []
             ∙ ap (λ d. least
             (scope_faults (names_before db (length db)) d (statement_between text ws k w m e)))
-            (sym r.deep_is)
-            ∙ sym f)
+            (sym is_read_to.open_blocks_is_depth)
+            ∙ sym no_fault)
 
-pub some_not : (f : Option Fault) → is_some f ≡ true → f ≢ None
-some_not None h e = absurd (true≢false (sym h))
-some_not (Some f) h e = cc
+-- what is some fault isn't `None`
+pub not_none_if_some : (f : Option Fault) → is_some f ≡ true → f ≢ None
+not_none_if_some None is_some_is_true f_is_none = absurd (true≢false (sym is_some_is_true))
+not_none_if_some (Some f) is_some_is_true f_is_none = cc
 
-pub none_is : (f : Option Fault) → is_some f ≡ false → None ≡ f
-none_is None h = refl
-none_is (Some f) h = absurd (true≢false h)
+-- what is no fault is `None`
+pub none_if_not_some : (f : Option Fault) → is_some f ≡ false → None ≡ f
+none_if_not_some None is_some_is_false = refl
+none_if_not_some (Some f) is_some_is_false = absurd (true≢false is_some_is_false)

@@ -8,25 +8,29 @@ use Rattle.mm_database.specs.declared.names.Symbol.{Symbol}
 use Rattle.mm_outline.specs.Parts.{between, token_at}
 use Rattle.mm_scope.specs.WordEntry.{WordEntry, entry_of, typed_entry}
 use Rattle.mm_scope.specs.WordEntry.{typed_after}
-use Rattle.mm_scope.proofs.JudgeLaw.{two_between, length_between}
+use Rattle.mm_scope.proofs.JudgeLaw.{between_is_two_tokens, length_between}
 
-other_length : (n : ℕ) (xs : List Token) (w : List ℕ) (x : Option WordEntry) → length xs ≢ 2
+-- a `$f` that has not two symbols types nothing
+typed_after_other_length : (n : ℕ) (xs : List Token) (w : List ℕ) (x : Option WordEntry)
+    → length xs ≢ 2
     → typed_after n xs w x ≡ x
-other_length n [] w x h = refl
-other_length n (a ∷ []) w x h = refl
-other_length n (a ∷ b ∷ []) w x h = absurd (h refl)
-other_length n (a ∷ b ∷ c ∷ xs) w x h = refl
+typed_after_other_length n [] w x length_ne_2 = refl
+typed_after_other_length n (a ∷ []) w x length_ne_2 = refl
+typed_after_other_length n (a ∷ b ∷ []) w x length_ne_2 = absurd (length_ne_2 refl)
+typed_after_other_length n (a ∷ b ∷ c ∷ xs) w x length_ne_2 = refl
 
-module _ (text : List ℕ) (ws : List Word) (k j : ℕ) (l : j ≤ length ws) where
+module _ (text : List ℕ) (ws : List Word) (k j : ℕ) (j_le_length : j ≤ length ws) where
   -- no two symbols
-  pub typed_not : (n : ℕ) (w : List ℕ) (x : Option WordEntry) → k < j → j - k ≢ 3
+  pub typed_after_other_count : (n : ℕ) (w : List ℕ) (x : Option WordEntry) → k < j → j - k ≢ 3
       → typed_after n (between text ws (k + 1) j) w x ≡ x
-  typed_not n w x h ne =
-      other_length n (between text ws (k + 1) j) w x
-      (λ e. ne (let m = length_between text ws (k + 1) j (omega arith) l in omega (arith, m, e, h)))
+  typed_after_other_count n w x k_lt_j width_ne_3 =
+      typed_after_other_length n (between text ws (k + 1) j) w x
+      (λ length_is_2. width_ne_3 (let between_length =
+      length_between text ws (k + 1) j (omega arith) j_le_length in
+      omega (arith, between_length, length_is_2, k_lt_j)))
 
   -- two symbols
-  pub typed_now : j - k ≡ 3 → (n : ℕ) (old mid new : List ℕ → Option Symbol)
+  pub typed_after_two_symbols : j - k ≡ 3 → (n : ℕ) (old mid new : List ℕ → Option Symbol)
       → ((w : List ℕ) → mid w ≡ old w)
       → ((w : List ℕ)
       → entry_of (new w)
@@ -35,20 +39,21 @@ module _ (text : List ℕ) (ws : List Word) (k j : ℕ) (l : j ≤ length ws) wh
       (entry_of (mid (token_at text ws (k + 1 + 1)).word)) else entry_of (mid w)))
       → (w : List ℕ)
       → entry_of (new w) ≡ typed_after n (between text ws (k + 1) j) w (entry_of (old w))
-  typed_now e n old mid new same u w =
-      let next : k + 1 + 1 ≡ k + 2 = omega arith in
-      u w ∙ by_equality (bytes_eq (token_at text ws (k + 1 + 1)).word w) refl
+  typed_after_two_symbols width_is_3 n old mid new mid_is_old new_adds_type w =
+      let second_is_k_plus_2 : k + 1 + 1 ≡ k + 2 = omega arith in
+      new_adds_type w ∙ by_equality (bytes_eq (token_at text ws (k + 1 + 1)).word w) refl
       ∙ ap (λ m. if bytes_eq (token_at text ws m).word w then typed_entry n
-      (token_at text ws (k + 1)).word (entry_of (old w)) else entry_of (old w)) next
-      ∙ ap (λ xs. typed_after n xs w (entry_of (old w))) (sym (two_between text ws k j l e))
+      (token_at text ws (k + 1)).word (entry_of (old w)) else entry_of (old w)) second_is_k_plus_2
+      ∙ ap (λ xs. typed_after n xs w (entry_of (old w)))
+      (sym (between_is_two_tokens text ws k j j_le_length width_is_3))
     where
       by_equality : (b : Bool) → bytes_eq (token_at text ws (k + 1 + 1)).word w ≡ b
           → (if b then typed_entry n (token_at text ws (k + 1)).word
           (entry_of (mid (token_at text ws (k + 1 + 1)).word)) else entry_of (mid w))
           ≡ (if b then typed_entry n (token_at text ws (k + 1)).word
           (entry_of (old w)) else entry_of (old w))
-      by_equality true h =
+      by_equality true variable_eq_w =
           ap (λ v. typed_entry n (token_at text ws (k + 1)).word (entry_of (mid v)))
-          ((bytes_eq-Decides (token_at text ws (k + 1 + 1)).word w).0 h)
-          ∙ ap (λ o. typed_entry n (token_at text ws (k + 1)).word (entry_of o)) (same w)
-      by_equality false h = ap entry_of (same w)
+          ((bytes_eq-Decides (token_at text ws (k + 1 + 1)).word w).0 variable_eq_w)
+          ∙ ap (λ o. typed_entry n (token_at text ws (k + 1)).word (entry_of o)) (mid_is_old w)
+      by_equality false variable_eq_w = ap entry_of (mid_is_old w)

@@ -17,86 +17,107 @@ use Rattle.mm_scope.specs.WordEntry.{IsEntryOf, Latest, typed_by, typecode_by, d
 use Rattle.mm_scope.specs.WordEntry.{gives_other_typecode}
 use Rattle.mm_scope.specs.WordEntry.{is_constant_entry, is_variable_entry}
 use Rattle.mm_outline.specs.Typed.{typed_words}
-use Rattle.mm_scope.proofs.LatestLaw.{latest_stays, latest_new}
+use Rattle.mm_scope.proofs.LatestLaw.{latest_unchanged, latest_is_new}
 
-none_other : (c w : Bytes) (ts : List Typing) → is_in w (map (λ t. t.variable) ts ++ []) ≡ false
+-- a word that the typings don't have gets no other typecode from them
+no_typing_no_other_typecode : (c w : Bytes) (ts : List Typing)
+    → is_in w (map (λ t. t.variable) ts ++ []) ≡ false
     → list_any (gives_other_typecode c w) (ts ++ []) ≡ false
-none_other c w [] e = refl
-none_other c w (t ∷ ts) e = by_equality (bytes_eq w t.variable) e (none_other c w ts)
+no_typing_no_other_typecode c w [] w_not_typed = refl
+no_typing_no_other_typecode c w (t ∷ ts) w_not_typed =
+    by_equality (bytes_eq w t.variable) w_not_typed (no_typing_no_other_typecode c w ts)
   where
     by_equality : (b : Bool) → (b || is_in w (map (λ t. t.variable) ts ++ [])) ≡ false
         → (is_in w (map (λ t. t.variable) ts ++ []) ≡ false
         → list_any (gives_other_typecode c w) (ts ++ []) ≡ false)
         → ((b && not (bytes_eq c t.typecode)) || list_any (gives_other_typecode c w) (ts ++ []))
         ≡ false
-    by_equality true e r = absurd (true≢false e)
-    by_equality false e r = r e
+    by_equality true w_not_typed rest_has_no_other_typecode = absurd (true≢false w_not_typed)
+    by_equality false w_not_typed rest_has_no_other_typecode =
+        rest_has_no_other_typecode w_not_typed
 
 module _ (db : List Statement) (s : Statement) (w : Bytes) where
-  pub in_more : (f : Statement → List Bytes)
+  -- a word is in a list of all statements if it is in that of the earlier ones or of the last
+  pub in_flat_map_push : (f : Statement → List Bytes)
       → is_in w (flat_map f (db ++ s ∷ [])) ≡ (is_in w (flat_map f db) || is_in w (f s ++ []))
-  in_more f =
+  in_flat_map_push f =
       ap (is_in w) (flat_map-append f db (s ∷ []))
       ∙ list_any-append (bytes_eq w) (flat_map f db) (f s ++ [])
 
-  other_more : (c : Bytes)
+  -- another typecode is given by an earlier statement or by the last
+  other_typecode_push : (c : Bytes)
       → list_any (gives_other_typecode c w) (flat_map typings_of (db ++ s ∷ []))
       ≡ (list_any (gives_other_typecode c w) (flat_map typings_of db)
       || list_any (gives_other_typecode c w) (typings_of s ++ []))
-  other_more c =
+  other_typecode_push c =
       ap (list_any (gives_other_typecode c w)) (flat_map-append typings_of db (s ∷ []))
       ∙ list_any-append (gives_other_typecode c w) (flat_map typings_of db) (typings_of s ++ [])
 
   -- the statement has not the word among these
-  pub in_same : (f : Statement → List Bytes) → is_in w (f s ++ []) ≡ false
+  pub in_flat_map_unchanged : (f : Statement → List Bytes) → is_in w (f s ++ []) ≡ false
       → is_in w (flat_map f (db ++ s ∷ [])) ≡ is_in w (flat_map f db)
-  in_same f n =
-      in_more f ∙ ap (λ b. is_in w (flat_map f db) || b) n ∙ or-false (is_in w (flat_map f db))
+  in_flat_map_unchanged f s_has_not_w =
+      in_flat_map_push f ∙ ap (λ b. is_in w (flat_map f db) || b) s_has_not_w
+      ∙ or-false (is_in w (flat_map f db))
 
-  in_now : (f : Statement → List Bytes) → is_in w (f s ++ []) ≡ true
+  -- the statement has the word among these
+  in_flat_map_of_last : (f : Statement → List Bytes) → is_in w (f s ++ []) ≡ true
       → is_in w (flat_map f (db ++ s ∷ [])) ≡ true
-  in_now f n =
-      in_more f ∙ ap (λ b. is_in w (flat_map f db) || b) n ∙ or-true (is_in w (flat_map f db))
+  in_flat_map_of_last f s_has_w =
+      in_flat_map_push f ∙ ap (λ b. is_in w (flat_map f db) || b) s_has_w
+      ∙ or-true (is_in w (flat_map f db))
 
-  other_same : (c : Bytes) → is_in w (typed_words s ++ []) ≡ false
+  -- the statement doesn't type the word
+  other_typecode_unchanged : (c : Bytes) → is_in w (typed_words s ++ []) ≡ false
       → list_any (gives_other_typecode c w) (flat_map typings_of (db ++ s ∷ []))
       ≡ list_any (gives_other_typecode c w) (flat_map typings_of db)
-  other_same c n =
-      other_more c
+  other_typecode_unchanged c s_types_not_w =
+      other_typecode_push c
       ∙ ap (λ b. list_any (gives_other_typecode c w) (flat_map typings_of db) || b)
-      (none_other c w (typings_of s) n)
+      (no_typing_no_other_typecode c w (typings_of s) s_types_not_w)
       ∙ or-false (list_any (gives_other_typecode c w) (flat_map typings_of db))
 
   -- the statement says nothing of the word
-  pub known_same : (x : Option WordEntry) → IsEntryOf db w x
+  pub entry_is_unchanged : (x : Option WordEntry) → IsEntryOf db w x
       → is_in w (constants_of s ++ []) ≡ false → is_in w (variables_of s ++ []) ≡ false
       → is_in w (typed_words s ++ []) ≡ false → IsEntryOf (db ++ s ∷ []) w x
-  known_same x k nc nv nt = record {
-    constant = in_same constants_of nc ∙ k.constant;
-    variable = in_same variables_of nv ∙ k.variable;
-    declared = λ e. latest_stays db s variables_of w (declared_by x) (k.declared e) nv;
-    typed = λ n. latest_stays db s typed_words w (typed_by x) (k.typed n) nt;
-    untyped = λ e. in_same typed_words nt ∙ k.untyped e;
-    otherwise = λ c. other_same c nt ∙ k.otherwise c;
+  entry_is_unchanged x x_is_entry s_is_no_constant s_is_no_variable s_types_not_w = record {
+    constant_is_known = in_flat_map_unchanged constants_of s_is_no_constant
+        ∙ x_is_entry.constant_is_known;
+    variable_is_known = in_flat_map_unchanged variables_of s_is_no_variable
+        ∙ x_is_entry.variable_is_known;
+    declaration_is_latest = λ is_variable. latest_unchanged db s variables_of w (declared_by x)
+        (x_is_entry.declaration_is_latest is_variable) s_is_no_variable;
+    typing_is_latest = λ is_typed. latest_unchanged db s typed_words w (typed_by x)
+        (x_is_entry.typing_is_latest is_typed) s_types_not_w;
+    untyped_has_no_typing = λ typed_is_never. in_flat_map_unchanged typed_words s_types_not_w
+        ∙ x_is_entry.untyped_has_no_typing typed_is_never;
+    other_typecode = λ c. other_typecode_unchanged c s_types_not_w ∙ x_is_entry.other_typecode c;
   }
 
   -- what is known of a word after a statement that declares it as a constant
-  pub known_constant : IsEntryOf db w None → is_in w (constants_of s ++ []) ≡ true
+  pub entry_of_new_constant : IsEntryOf db w None → is_in w (constants_of s ++ []) ≡ true
       → is_in w (variables_of s ++ []) ≡ false → is_in w (typed_words s ++ []) ≡ false → (n : ℕ)
       → IsEntryOf (db ++ s ∷ []) w (Some (entry false n never w))
-  known_constant k yc nv nt n = record {
-    constant = in_now constants_of yc;
-    variable = in_same variables_of nv ∙ k.variable;
-    declared = λ e. absurd (true≢false (sym e));
-    typed = λ ne. absurd (ne refl);
-    untyped = λ e. in_same typed_words nt ∙ k.untyped refl;
-    otherwise = λ c. other_same c nt ∙ k.otherwise c;
+  entry_of_new_constant w_has_no_entry s_is_constant s_is_no_variable s_types_not_w n = record {
+    constant_is_known = in_flat_map_of_last constants_of s_is_constant;
+    variable_is_known = in_flat_map_unchanged variables_of s_is_no_variable
+        ∙ w_has_no_entry.variable_is_known;
+    declaration_is_latest = λ is_variable. absurd (true≢false (sym is_variable));
+    typing_is_latest = λ is_typed. absurd (is_typed refl);
+    untyped_has_no_typing = λ typed_is_never. in_flat_map_unchanged typed_words s_types_not_w
+        ∙ w_has_no_entry.untyped_has_no_typing refl;
+    other_typecode = λ c. other_typecode_unchanged c s_types_not_w
+        ∙ w_has_no_entry.other_typecode c;
   }
 
-  typed_same : (x : Option WordEntry) → typed_by (declared_entry true (length db) w x) ≡ typed_by x
-  typed_same None = refl
-  typed_same (Some e) = refl
+  -- a declaration leaves the `$f` of a word as it was
+  declaring_keeps_typed_by : (x : Option WordEntry) → typed_by (declared_entry true (length db) w x)
+      ≡ typed_by x
+  declaring_keeps_typed_by None = refl
+  declaring_keeps_typed_by (Some e) = refl
 
+  -- a declaration leaves the typecode of a word as it was
   other_declared : (c : Bytes) (x : Option WordEntry)
       → (not (nat_eq (typed_by x) never) && not (bytes_eq c (typecode_by x)))
       ≡ (not (nat_eq (typed_by (declared_entry true (length db) w x)) never)
@@ -104,6 +125,7 @@ module _ (db : List Statement) (s : Statement) (w : Bytes) where
   other_declared c None = refl
   other_declared c (Some e) = refl
 
+  -- the entry after a declaration is that of a variable, with this statement
   is_declared : (x : Option WordEntry)
       → (is_constant_entry (declared_entry true (length db) w x) ≡ false)
       × (is_variable_entry (declared_entry true (length db) w x) ≡ true)
@@ -112,84 +134,106 @@ module _ (db : List Statement) (s : Statement) (w : Bytes) where
   is_declared (Some e) = (refl, refl, refl)
 
   -- what is known of a word after a statement that declares it as a variable
-  pub known_variable : (x : Option WordEntry) → IsEntryOf db w x → is_constant_entry x ≡ false
+  pub entry_of_new_variable : (x : Option WordEntry) → IsEntryOf db w x
+      → is_constant_entry x ≡ false
       → is_in w (flat_map variables_of (active_statements db (length db))) ≡ false
       → is_in w (constants_of s ++ []) ≡ false → is_in w (variables_of s ++ []) ≡ true
       → is_in w (typed_words s ++ []) ≡ false
       → IsEntryOf (db ++ s ∷ []) w (declared_entry true (length db) w x)
-  known_variable x k none idle nc yv nt =
-      let is = is_declared x in
+  entry_of_new_variable x x_is_entry x_is_no_constant w_is_inactive s_is_no_constant s_is_variable
+      s_types_not_w =
+      let declared_is_variable = is_declared x in
       record {
-        constant = in_same constants_of nc ∙ k.constant ∙ none ∙ sym is.0;
-        variable = in_now variables_of yv ∙ sym is.1;
-        declared =
-            λ e. subst (Latest (db ++ s ∷ []) variables_of w) (sym is.2)
-            (latest_new db s variables_of w yv idle);
-        typed =
-            λ n. subst (Latest (db ++ s ∷ []) typed_words w) (sym (typed_same x))
-            (latest_stays db s typed_words w (typed_by x) (k.typed (λ e. n (typed_same x ∙ e))) nt);
-        untyped = λ e. in_same typed_words nt ∙ k.untyped (sym (typed_same x) ∙ e);
-        otherwise = λ c. other_same c nt ∙ k.otherwise c ∙ other_declared c x;
+        constant_is_known = in_flat_map_unchanged constants_of s_is_no_constant
+            ∙ x_is_entry.constant_is_known
+            ∙ x_is_no_constant ∙ sym declared_is_variable.0;
+        variable_is_known = in_flat_map_of_last variables_of s_is_variable
+            ∙ sym declared_is_variable.1;
+        declaration_is_latest =
+            λ is_variable. subst (Latest (db ++ s ∷ []) variables_of w) (sym declared_is_variable.2)
+            (latest_is_new db s variables_of w s_is_variable w_is_inactive);
+        typing_is_latest =
+            λ is_typed. subst (Latest (db ++ s ∷ []) typed_words w)
+            (sym (declaring_keeps_typed_by x))
+            (latest_unchanged db s typed_words w (typed_by x)
+            (x_is_entry.typing_is_latest
+            (λ typed_is_never. is_typed (declaring_keeps_typed_by x ∙ typed_is_never)))
+            s_types_not_w);
+        untyped_has_no_typing = λ typed_is_never. in_flat_map_unchanged typed_words s_types_not_w
+            ∙ x_is_entry.untyped_has_no_typing (sym (declaring_keeps_typed_by x) ∙ typed_is_never);
+        other_typecode = λ c. other_typecode_unchanged c s_types_not_w ∙ x_is_entry.other_typecode c
+            ∙ other_declared c x;
       }
 
   -- what is known of a word after a `$f` that types it
-  pub known_typed : (e : WordEntry) → IsEntryOf db w (Some e) → length db < never → (c : Bytes)
+  pub entry_of_typed_variable : (e : WordEntry) → IsEntryOf db w (Some e) → length db < never
+      → (c : Bytes)
       → is_in w (flat_map typed_words (active_statements db (length db))) ≡ false
       → list_any (gives_other_typecode c w) (flat_map typings_of db) ≡ false
       → is_in w (constants_of s ++ []) ≡ false → is_in w (variables_of s ++ []) ≡ false
       → typings_of s ≡ record { typecode = c; variable = w } ∷ []
       → IsEntryOf (db ++ s ∷ []) w (typed_entry (length db) c (Some e))
-  known_typed e k few c idle same nc nv is = record {
-    constant = in_same constants_of nc ∙ k.constant;
-    variable = in_same variables_of nv ∙ k.variable;
-    declared = λ v. latest_stays db s variables_of w e.declared (k.declared v) nv;
-    typed = λ n. latest_new db s typed_words w typed idle;
-    untyped = λ n. absurd (omega (arith, n, few));
-    otherwise = other;
-  }
+  entry_of_typed_variable e e_is_entry db_lt_never c w_has_no_active_type no_other_typecode_before
+      s_is_no_constant s_is_no_variable s_types_w = record {
+        constant_is_known = in_flat_map_unchanged constants_of s_is_no_constant
+            ∙ e_is_entry.constant_is_known;
+        variable_is_known = in_flat_map_unchanged variables_of s_is_no_variable
+            ∙ e_is_entry.variable_is_known;
+        declaration_is_latest = λ is_variable. latest_unchanged db s variables_of w e.declared
+            (e_is_entry.declaration_is_latest is_variable) s_is_no_variable;
+        typing_is_latest =
+            λ is_typed. latest_is_new db s typed_words w s_has_typing w_has_no_active_type;
+        untyped_has_no_typing =
+            λ number_is_never. absurd (omega (arith, number_is_never, db_lt_never));
+        other_typecode = other_typecode_after;
+      }
     where
       self : bytes_eq w w ≡ true
       self = (bytes_eq-Decides w w).1 refl
 
-      typed : is_in w (typed_words s ++ []) ≡ true
-      typed = ap (λ ts. is_in w (map (λ t. t.variable) ts ++ [])) is ∙ ap (λ b. b || false) self
+      s_has_typing : is_in w (typed_words s ++ []) ≡ true
+      s_has_typing = ap (λ ts. is_in w (map (λ t. t.variable) ts ++ [])) s_types_w
+          ∙ ap (λ b. b || false) self
 
-      now : (d : Bytes) → list_any (gives_other_typecode d w) (typings_of s ++ [])
+      other_in_s : (d : Bytes) → list_any (gives_other_typecode d w) (typings_of s ++ [])
           ≡ not (bytes_eq d c)
-      now d =
-          ap (λ ts. list_any (gives_other_typecode d w) (ts ++ [])) is
+      other_in_s d =
+          ap (λ ts. list_any (gives_other_typecode d w) (ts ++ [])) s_types_w
           ∙ ap (λ b. (b && not (bytes_eq d c)) || false) self ∙ or-false (not (bytes_eq d c))
 
-      again : (a b y : Bool) → (a && b) ≡ false → ((a && y) || y) ≡ y
-      again true b true h = refl
-      again true b false h = refl
-      again false b y h = refl
+      absorbs : (a b y : Bool) → (a && b) ≡ false → ((a && y) || y) ≡ y
+      absorbs true b true a_and_b_is_false = refl
+      absorbs true b false a_and_b_is_false = refl
+      absorbs false b y a_and_b_is_false = refl
 
       -- the typecode that an earlier `$f` gave is this one
-      old : (d : Bytes) → (t : Bool) → nat_eq e.typed never ≡ t
+      earlier_typecode_is_c : (d : Bytes) → (t : Bool) → nat_eq e.typed never ≡ t
           → (not t && not (bytes_eq c e.typecode)) ≡ false
           → ((not t && not (bytes_eq d e.typecode)) || not (bytes_eq d c)) ≡ not (bytes_eq d c)
-      old d true h q = refl
-      old d false h q = by_equality (bytes_eq c e.typecode) refl q
+      earlier_typecode_is_c d true typed_is_t typecode_is_same = refl
+      earlier_typecode_is_c d false typed_is_t typecode_is_same =
+          by_equality (bytes_eq c e.typecode) refl typecode_is_same
         where
           by_equality : (b : Bool) → bytes_eq c e.typecode ≡ b → not b ≡ false
               → (not (bytes_eq d e.typecode) || not (bytes_eq d c)) ≡ not (bytes_eq d c)
-          by_equality true z q =
+          by_equality true equality_is_b typecode_is_same =
               ap (λ y. not (bytes_eq d y) || not (bytes_eq d c))
-              (sym ((bytes_eq-Decides c e.typecode).0 z))
+              (sym ((bytes_eq-Decides c e.typecode).0 equality_is_b))
               ∙ twice (not (bytes_eq d c))
             where
               twice : (y : Bool) → (y || y) ≡ y
               twice true = refl
               twice false = refl
-          by_equality false z q = absurd (true≢false q)
+          by_equality false equality_is_b typecode_is_same = absurd (true≢false typecode_is_same)
 
-      other : (d : Bytes)
+      other_typecode_after : (d : Bytes)
           → list_any (gives_other_typecode d w) (flat_map typings_of (db ++ s ∷ []))
           ≡ (not (nat_eq (length db) never) && not (bytes_eq d c))
-      other d =
-          let new : nat_eq (length db) never ≡ false =
-          ne_eqb (length db) never (λ z. omega (arith, z, few)) in
-          other_more d ∙ ap₂ (λ a b. a || b) (k.otherwise d) (now d)
-          ∙ old d (nat_eq e.typed never) refl (sym (k.otherwise c) ∙ same)
-          ∙ sym (ap (λ b. not b && not (bytes_eq d c)) new)
+      other_typecode_after d =
+          let length_ne_never : nat_eq (length db) never ≡ false =
+          ne_eqb (length db) never
+          (λ length_is_never. omega (arith, length_is_never, db_lt_never)) in
+          other_typecode_push d ∙ ap₂ (λ a b. a || b) (e_is_entry.other_typecode d) (other_in_s d)
+          ∙ earlier_typecode_is_c d (nat_eq e.typed never) refl (sym (e_is_entry.other_typecode c)
+          ∙ no_other_typecode_before)
+          ∙ sym (ap (λ b. not b && not (bytes_eq d c)) length_ne_never)

@@ -42,7 +42,7 @@ pub record Knows (n : Names) (look : Bytes → Option Symbol) (labels : Bytes �
   pub labels_known : (w : Bytes) → is_in w n.labels ≡ is_some (labels w)
   pub typed : (w : Bytes) → is_active_variable is_open (look w) ≡ true
       → is_typed n w ≡ is_typed_here is_open (look w)
-  pub otherwise : (c w : Bytes) → is_active_variable is_open (look w) ≡ true
+  pub other_typecode : (c w : Bytes) → is_active_variable is_open (look w) ≡ true
       → is_typed_otherwise n c w ≡ has_other_typecode c (look w)
 
 -- the fault with a code at a place, and that of a `$f`, whose code is found at its variable, or for

@@ -36,14 +36,14 @@ pub record ReadSoFar : Type 0 where
   pub labels : List ℕ → Option ℕ
   pub blocks : BlockLists
   pub names : List (List ℕ)
-  pub numbers : List ℕ
-  pub places : List ℕ
+  pub symbols : List ℕ
+  pub ends : List ℕ
 
 -- what has been read is that of these statements
 pub record IsReadSoFar (db : List Statement) (k : ReadSoFar) : Type 0 where
   pub keeps : KnowsStatements db k.look k.labels k.blocks
   pub names_are : k.names ≡ symbol_names db
-  pub formulas : AreFormulas db k.numbers k.places
+  pub formulas : AreFormulas db k.symbols k.ends
 
 module _ {A : Type 0} where
   abbrev pub read_so_far : Outlined A → ReadSoFar
@@ -52,27 +52,28 @@ module _ {A : Type 0} where
     labels = find r.scope.names.labels;
     blocks = r.scope.blocks;
     names = names_of r.scope.names.symbols;
-    numbers = r.numbers.items;
-    places = r.places.items;
+    symbols = r.symbols.items;
+    ends = r.ends.items;
   }
 
   -- after the next statement there is its fault; if it has none, the statement was added to what
   -- had been read, otherwise nothing was
-  pub record HasTaken (text : List ℕ) (tokens : List Word) (before : List Outline) (deep : ℕ)
+  pub record HasTaken (text : List ℕ) (tokens : List Word) (before : List Outline) (open_blocks : ℕ)
       (o : Outline) (r : Outlined A) : Type 0 where
     pub fault : r.fault
-        ≡ least (scope_faults (names_before (statements text tokens before) (length before)) deep
+        ≡ least (scope_faults (names_before (statements text tokens before) (length before))
+        open_blocks
         (statement_of text tokens o))
-    pub taken : r.fault ≡ None
+    pub if_lawful : r.fault ≡ None
         → (r.outlines.items ≡ before ++ o ∷ [])
         × IsReadSoFar (statements text tokens before ++ statement_of text tokens o ∷ [])
         (read_so_far r)
-    pub stays : r.fault ≢ None
+    pub if_unlawful : r.fault ≢ None
         → (r.outlines.items ≡ before) × IsReadSoFar (statements text tokens before) (read_so_far r)
 
   -- the symbols of each statement
   abbrev pub formulas_of : Outlined A → List (List ℕ)
-  formulas_of r = cut r.places.items r.numbers.items
+  formulas_of r = cut r.ends.items r.symbols.items
 
   -- what was read of the text, the names by themselves
   abbrev pub reading_of : List ℕ → Outlined A → Reading A
@@ -84,9 +85,9 @@ module _ {A : Type 0} where
   }
 
 -- a statement that may follow lawful ones
-pub record MayTake (db : List Statement) (deep : ℕ) (s : Statement) : Type 0 where
+pub record MayTake (db : List Statement) (open_blocks : ℕ) (s : Statement) : Type 0 where
   pub lawful : (k : ℕ) → k < length db → scope_fault db k ≡ None
-  pub few : length db < 2 ^ 31
-  pub depth_is : deep ≡ depth db (length db)
-  pub inside : is_closing s ≡ true → 0 < depth db (length db)
+  pub few_statements : length db < 2 ^ 31
+  pub open_blocks_is_depth : open_blocks ≡ depth db (length db)
+  pub closes_open_block : is_closing s ≡ true → 0 < depth db (length db)
   pub few_names : length (symbol_names (db ++ s ∷ [])) < 2 ^ 31

@@ -22,7 +22,7 @@ use Rattle.mm_scope.specs.ReadSoFar.{KnowsStatements}
 pub record IsAmong (text : List ℕ) (tokens : List Word) (o : Outline) : Type 0 where
   pub words : AreWithin text tokens
   pub outline : IsOutline o
-  pub within : o.end < length tokens
+  pub end_lt_length : o.end < length tokens
 
 -- the words of a statement from its keyword to its end
 abbrev pub listed_words : List ℕ → List Word → Outline → List (List ℕ)

@@ -36,9 +36,9 @@ gives_other_typecode typecode word typing =
 module _ (db : List Statement) (f : Statement → List Bytes) (w : Bytes) where
   -- the last statement that has the word, the only one that may be active
   pub record Latest (last : ℕ) : Type 0 where
-    pub before : last < length db
-    pub there : has_word db f w last ≡ true
-    pub alone : (j : ℕ) → j < length db → has_word db f w j ≡ true
+    pub last_lt_length : last < length db
+    pub last_has_word : has_word db f w last ≡ true
+    pub active_is_last : (j : ℕ) → j < length db → has_word db f w j ≡ true
         → is_active db j (length db) ≡ true
         → j ≡ last
 
@@ -65,12 +65,12 @@ typecode_by (Some e) = e.typecode
 
 -- the entry is what the statements say of the word
 pub record IsEntryOf (db : List Statement) (w : Bytes) (x : Option WordEntry) : Type 0 where
-  pub constant : is_in w (flat_map constants_of db) ≡ is_constant_entry x
-  pub variable : is_in w (flat_map variables_of db) ≡ is_variable_entry x
-  pub declared : is_variable_entry x ≡ true → Latest db variables_of w (declared_by x)
-  pub typed : typed_by x ≢ never → Latest db typed_words w (typed_by x)
-  pub untyped : typed_by x ≡ never → is_in w (flat_map typed_words db) ≡ false
-  pub otherwise : (c : Bytes)
+  pub constant_is_known : is_in w (flat_map constants_of db) ≡ is_constant_entry x
+  pub variable_is_known : is_in w (flat_map variables_of db) ≡ is_variable_entry x
+  pub declaration_is_latest : is_variable_entry x ≡ true → Latest db variables_of w (declared_by x)
+  pub typing_is_latest : typed_by x ≢ never → Latest db typed_words w (typed_by x)
+  pub untyped_has_no_typing : typed_by x ≡ never → is_in w (flat_map typed_words db) ≡ false
+  pub other_typecode : (c : Bytes)
       → list_any (gives_other_typecode c w) (flat_map typings_of db)
       ≡ (not (nat_eq (typed_by x) never) && not (bytes_eq c (typecode_by x)))
 

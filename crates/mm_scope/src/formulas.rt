@@ -23,9 +23,9 @@ fn number_all<'a, A: Allocator + Copy>(
     numbers: &mut Vec<Sym, A>,
 ) -> Result<(), AllocError>
     requires words { AreWithin text.now tokens.now }
-    requires order { from ≤ to }
-    requires within { to ≤ length tokens.now }
-    requires few { length (names_of names.now.symbols) < 2 ^ 31 }
+    requires from_le_to { from ≤ to }
+    requires to_le_length { to ≤ length tokens.now }
+    requires few_names { length (names_of names.now.symbols) < 2 ^ 31 }
     ensures { OnOk result
         (numbers.new.items
         ≡ numbers.old.items
@@ -52,8 +52,8 @@ impl<'a, A: Allocator + Copy> Scope<'a, A> {
         requires words { AreWithin text.now tokens.now }
         requires few_tokens { length tokens.now < 2 ^ 31 }
         requires outline { IsOutline outline }
-        requires within { outline.end < length tokens.now }
-        requires few { length (names_in self.now) < 2 ^ 31 }
+        requires end_lt_length { outline.end < length tokens.now }
+        requires few_names { length (names_in self.now) < 2 ^ 31 }
         ensures { OnOk result
             (numbers.new.items
             ≡ numbers.old.items

@@ -34,9 +34,9 @@ impl<'a, A: Allocator + Copy> Scope<'a, A> {
         numbers: &mut Vec<Sym, A>,
     ) -> Result<Option<Fault>, AllocError>
         requires words { AreWithin text.now tokens.now }
-        requires order { from ≤ to }
-        requires within { to ≤ length tokens.now }
-        requires few { length (names_in self.now) < 2 ^ 31 }
+        requires from_le_to { from ≤ to }
+        requires to_le_length { to ≤ length tokens.now }
+        requires few_names { length (names_in self.now) < 2 ^ 31 }
         ensures fault { IfOk result
             (IsLeastFault self.now
             (λ n. at_each (symbol_codes n) [] (between text.now tokens.now from to))) }
@@ -48,11 +48,11 @@ impl<'a, A: Allocator + Copy> Scope<'a, A> {
         let mut least_found = None;
         for token_index in from..to {
             let token = tokens[token_index as usize];
-            let (number, known) = self.names.numbered(token.bytes(text));
+            let (number, symbol) = self.names.numbered(token.bytes(text));
             numbers.push(Sym::new(number as u32))?;
             least_found = lesser(
                 least_found,
-                fault_with_code(token.start, self.symbol_code(known)),
+                fault_with_code(token.start, self.symbol_code(symbol)),
             );
         }
         Ok(least_found)
@@ -69,8 +69,8 @@ impl<'a, A: Allocator + Copy> Scope<'a, A> {
         to: u32,
     ) -> Result<Option<Fault>, AllocError>
         requires words { AreWithin text.now tokens.now }
-        requires order { from ≤ to }
-        requires within { to < length tokens.now }
+        requires from_le_to { from ≤ to }
+        requires to_lt_length { to < length tokens.now }
         ensures { IfOk result
             (IsLeastFault self.now
             (λ n. at_each (listed_codes n kind) [] (between text.now tokens.now from to))) }
@@ -99,9 +99,9 @@ impl<'a, A: Allocator + Copy> Scope<'a, A> {
         numbers: &mut Vec<Sym, A>,
     ) -> Result<Option<Fault>, AllocError>
         requires words { AreWithin text.now tokens.now }
-        requires order { from ≤ to }
-        requires within { to < length tokens.now }
-        requires few { length (names_in self.now) < 2 ^ 31 }
+        requires from_le_to { from ≤ to }
+        requires to_lt_length { to < length tokens.now }
+        requires few_names { length (names_in self.now) < 2 ^ 31 }
         ensures fault { IfOk result
             (IsLeastFault self.now
             (λ n. formula_faults n (between text.now tokens.now from to)
@@ -115,17 +115,17 @@ impl<'a, A: Allocator + Copy> Scope<'a, A> {
             return Ok(fault_with_code(tokens[to as usize].start, Some(Code::BadTypecode)));
         }
         let token = tokens[from as usize];
-        let (number, known) = self.names.numbered(token.bytes(text));
+        let (number, symbol) = self.names.numbered(token.bytes(text));
         numbers.push(Sym::new(number as u32))?;
-        let typecode = fault_with_code(token.start, Self::typecode_fault_code(known));
-        let rest = self.symbols_fault(text, tokens, from + 1, to, numbers)?;
-        Ok(lesser(typecode, rest))
+        let fault_of_typecode = fault_with_code(token.start, Self::typecode_fault_code(symbol));
+        let fault_of_symbols = self.symbols_fault(text, tokens, from + 1, to, numbers)?;
+        Ok(lesser(fault_of_typecode, fault_of_symbols))
     }
 
     /// Returns the fault of the label at the token `token_index`.
     fn label_fault(&self, text: &[u8], tokens: &[Word], token_index: u32) -> Option<Fault>
         requires words { AreWithin text.now tokens.now }
-        requires within { token_index < length tokens.now }
+        requires index_lt_length { token_index < length tokens.now }
         ensures { IsLeastFault self.now
             (λ n. label_faults n (token_at text.now tokens.now token_index)) result }
     {
@@ -136,8 +136,8 @@ impl<'a, A: Allocator + Copy> Scope<'a, A> {
     /// Returns the fault of the symbols of a `$f`.
     fn floating_fault(&self, text: &[u8], tokens: &[Word], keyword: u32, to: u32) -> Option<Fault>
         requires words { AreWithin text.now tokens.now }
-        requires order { keyword < to }
-        requires within { to < length tokens.now }
+        requires keyword_lt_to { keyword < to }
+        requires to_lt_length { to < length tokens.now }
         ensures { IsLeastFault self.now
             (λ n. floating_faults n (nth_word tokens.now keyword).start
             (between text.now tokens.now (keyword + 1) to)) result }
@@ -164,7 +164,7 @@ impl<'a, A: Allocator + Copy> Scope<'a, A> {
         outline: Outline,
     ) -> Option<Fault>
         requires among { IsAmong _text.now tokens.now outline }
-        requires order { outline.keyword < outline.middle }
+        requires keyword_lt_middle { outline.keyword < outline.middle }
         requires lists { lists_symbols outline.kind ≡ true }
         ensures { (n : DeclaredNames)
             → (faults : List SpecFault)
@@ -208,7 +208,7 @@ impl<'a, A: Allocator + Copy> Scope<'a, A> {
         numbers: &mut Vec<Sym, A>,
     ) -> Result<Option<Fault>, AllocError>
         requires among { IsAmong text.now tokens.now outline }
-        requires few { length (names_in self.now) < 2 ^ 31 }
+        requires few_names { length (names_in self.now) < 2 ^ 31 }
         ensures numbers { OnOk result
             (numbers.new.items
             ≡ numbers.old.items
@@ -228,8 +228,11 @@ impl<'a, A: Allocator + Copy> Scope<'a, A> {
             Kind::Variables => self.declared(alloc, text, tokens, depth, outline),
             Kind::Disjoint => self.declared(alloc, text, tokens, depth, outline),
             Kind::Floating => {
-                let label = self.label_fault(text, tokens, keyword - 1);
-                Ok(lesser(label, self.floating_fault(text, tokens, keyword, middle)))
+                let fault_of_label = self.label_fault(text, tokens, keyword - 1);
+                Ok(lesser(
+                    fault_of_label,
+                    self.floating_fault(text, tokens, keyword, middle),
+                ))
             }
             Kind::Essential => self.labelled(text, tokens, outline, numbers),
             Kind::Axiom => self.labelled(text, tokens, outline, numbers),
@@ -248,8 +251,8 @@ impl<'a, A: Allocator + Copy> Scope<'a, A> {
     ) -> Result<Option<Fault>, AllocError>
         requires among { IsAmong text.now tokens.now outline }
         requires label { 0 < outline.keyword }
-        requires order { outline.keyword < outline.middle }
-        requires few { length (names_in self.now) < 2 ^ 31 }
+        requires keyword_lt_middle { outline.keyword < outline.middle }
+        requires few_names { length (names_in self.now) < 2 ^ 31 }
         ensures fault { IfOk result
             (IsLeastFault self.now
             (λ n. label_faults n (token_at text.now tokens.now (outline.keyword - 1))
@@ -262,10 +265,10 @@ impl<'a, A: Allocator + Copy> Scope<'a, A> {
             ++ numbers_in (names_in self.now)
             (between text.now tokens.now (outline.keyword + 1) outline.middle)) }
     {
-        let label = self.label_fault(text, tokens, outline.keyword - 1);
+        let fault_of_label = self.label_fault(text, tokens, outline.keyword - 1);
         let from = outline.keyword + 1;
-        let formula = self.formula_fault(text, tokens, from, outline.middle, numbers)?;
-        Ok(lesser(label, formula))
+        let fault_of_formula = self.formula_fault(text, tokens, from, outline.middle, numbers)?;
+        Ok(lesser(fault_of_label, fault_of_formula))
     }
 
     /// Returns the least fault of a `$c`, `$v` or `$d`.
@@ -278,16 +281,23 @@ impl<'a, A: Allocator + Copy> Scope<'a, A> {
         outline: Outline,
     ) -> Result<Option<Fault>, AllocError>
         requires among { IsAmong text.now tokens.now outline }
-        requires order { outline.keyword < outline.middle }
+        requires keyword_lt_middle { outline.keyword < outline.middle }
         requires lists { lists_symbols outline.kind ≡ true }
         ensures { IfOk result
             (IsLeastFault self.now
             (λ n. scope_faults n depth (statement_of text.now tokens.now outline))) }
     {
         let from = outline.keyword + 1;
-        let rest = self.declared_fault(alloc, text, tokens, outline.kind, from, outline.middle)?;
-        let whole = Self::whole_statement_fault(text, tokens, depth, outline);
-        Ok(lesser(whole, rest))
+        let fault_of_symbols = self.declared_fault(
+            alloc,
+            text,
+            tokens,
+            outline.kind,
+            from,
+            outline.middle,
+        )?;
+        let fault_of_statement = Self::whole_statement_fault(text, tokens, depth, outline);
+        Ok(lesser(fault_of_statement, fault_of_symbols))
     }
 }
 
@@ -318,12 +328,15 @@ fn lesser(first: Option<Fault>, second: Option<Fault>) -> Option<Fault>
         → second ≡ least later
         → result ≡ least (earlier ++ later) }
 {
-    let Some(new) = second else {
+    let Some(second_fault) = second else {
         return first;
     };
     match first {
-        Some(old) => {
-            if old.at < new.at || (old.at == new.at && old.code.number() <= new.code.number()) {
+        Some(first_fault) => {
+            if first_fault.at < second_fault.at
+                || (first_fault.at == second_fault.at
+                    && first_fault.code.number() <= second_fault.code.number())
+            {
                 first
             } else {
                 second
@@ -340,8 +353,8 @@ const MAX_WORDS_COMPARED: u32 = 16;
 /// Whether the word at `token_index` is among the words before it, from `from` on.
 fn is_among(text: &[u8], tokens: &[Word], from: u32, token_index: u32) -> bool
     requires words { AreWithin text.now tokens.now }
-    requires order { from ≤ token_index }
-    requires within { token_index < length tokens.now }
+    requires from_le_index { from ≤ token_index }
+    requires index_lt_length { token_index < length tokens.now }
     ensures { result
         ≡ is_in (token_at text.now tokens.now token_index).word
         (words (between text.now tokens.now from token_index)) }
@@ -368,8 +381,8 @@ fn is_repeated<'a, A: Allocator + Copy>(
     token_index: u32,
 ) -> Result<bool, AllocError>
     requires words { AreWithin text.now tokens.now }
-    requires order { from ≤ token_index }
-    requires within { token_index < length tokens.now }
+    requires from_le_index { from ≤ token_index }
+    requires index_lt_length { token_index < length tokens.now }
     requires seen { is_short ≡ false → (w : List ℕ)
         → is_some (find seen.old.entries w)
         ≡ is_in w (words (between text.now tokens.now from token_index)) }

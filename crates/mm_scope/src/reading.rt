@@ -29,8 +29,8 @@ use std::alloc::{AllocError, Allocator};
 pub struct Outlined<'a, A: Allocator> {
     pub outlines: Vec<Outline, A>,
     pub scope: Scope<'a, A>,
-    pub numbers: Vec<Sym, A>,
-    pub places: Vec<u32, A>,
+    pub symbols: Vec<Sym, A>,
+    pub ends: Vec<u32, A>,
     pub fault: Option<Fault>,
 }
 
@@ -40,8 +40,8 @@ impl<'a, A: Allocator> Drop for Outlined<'a, A> {
         let Self {
             outlines: _,
             scope: _,
-            numbers: _,
-            places: _,
+            symbols: _,
+            ends: _,
             fault: _,
         } = self;
     }
@@ -51,7 +51,7 @@ impl<'a, A: Allocator> Outlined<'a, A> {
     /// Returns what was read of the text, the names by themselves. `variables` says for each symbol
     /// whether it is a variable.
     pub fn into_reading(self, text: &'a [u8], variables: Vec<bool, A>) -> Reading<'a, A>
-        requires places { ArePlaces self.places.items (length self.numbers.items) }
+        requires ends { ArePlaces self.ends.items (length self.symbols.items) }
         requires parts { AreParsedStatements
             (statements text.now (tokens_of text.now) self.outlines.items) self.scope.blocks
             (formulas_of self) variables.items }
@@ -60,12 +60,12 @@ impl<'a, A: Allocator> Outlined<'a, A> {
         let Outlined {
             outlines,
             scope,
-            numbers,
-            places,
+            symbols,
+            ends,
             fault,
         } = self;
         let Scope { names, blocks } = scope;
-        let formulas = Lists::from_ends(numbers, places);
+        let formulas = Lists::from_ends(symbols, ends);
         Reading {
             statements: Statements::new(text, outlines, blocks, formulas, variables),
             names,
@@ -99,7 +99,7 @@ fn no_scope<'a, A: Allocator + Copy>(alloc: A) -> Result<Scope<'a, A>, AllocErro
 
 /// Returns the fault at the end of a text.
 fn end_fault(lexical: Option<Fault>, text: &[u8], part: Part, depth: u32) -> Option<Fault>
-    requires short { lexical ≡ None → length text.now < 2 ^ 31 }
+    requires few_bytes { lexical ≡ None → length text.now < 2 ^ 31 }
     ensures { result ≡ end_fault_of lexical (length text.now) part depth }
 {
     match lexical {
@@ -132,8 +132,8 @@ fn nothing_read<'a, A: Allocator + Copy>(alloc: A) -> Result<Outlined<'a, A>, Al
     Ok(Outlined {
         outlines: Vec::new(alloc),
         scope,
-        numbers: Vec::new(alloc),
-        places: Vec::new(alloc),
+        symbols: Vec::new(alloc),
+        ends: Vec::new(alloc),
         fault: None,
     })
 }
@@ -149,7 +149,7 @@ impl<'a, A: Allocator + Copy> Outlined<'a, A> {
         outline: Outline,
     ) -> Result<(), AllocError>
         requires among { IsAmong text.now tokens.now outline }
-        requires few { length tokens.now < 2 ^ 31 }
+        requires few_tokens { length tokens.now < 2 ^ 31 }
         requires no_fault { self.old.fault ≡ None }
         requires is_read_so_far { IsReadSoFar
             (statements text.now tokens.now self.old.outlines.items) (read_so_far self.old) }
@@ -158,18 +158,18 @@ impl<'a, A: Allocator + Copy> Outlined<'a, A> {
         ensures { OnOk result
             (HasTaken text.now tokens.now self.old.outlines.items depth outline self.new) }
     {
-        let number_count = self.numbers.len();
+        let number_count = self.symbols.len();
         self.fault = self
             .scope
-            .fault(alloc, text, tokens, depth, outline, &mut self.numbers)?;
+            .fault(alloc, text, tokens, depth, outline, &mut self.symbols)?;
         if self.fault.is_some() {
-            self.numbers.truncate(number_count);
+            self.symbols.truncate(number_count);
             return Ok(());
         }
         self.scope.add(text, tokens, outline)?;
         self.scope
-            .number_others(text, tokens, outline, &mut self.numbers)?;
-        end_list(&self.numbers, &mut self.places)?;
+            .number_others(text, tokens, outline, &mut self.symbols)?;
+        end_list(&self.symbols, &mut self.ends)?;
         self.outlines.push(outline)?;
         Ok(())
     }
@@ -184,9 +184,9 @@ pub fn outline_statements<'a, A: Allocator + Copy>(
 ) -> Result<Outlined<'a, A>, AllocError>
     requires words { AreWithin text.now tokens.now }
     requires tokens { AreTokens text.now tokens.now }
-    requires few { length tokens.now < 2 ^ 31 }
-    requires short { lexical ≡ None → length text.now < 2 ^ 31 }
-    ensures few { IfOk result (λ d. length d.outlines.items < 2 ^ 31) }
+    requires few_tokens { length tokens.now < 2 ^ 31 }
+    requires few_bytes { lexical ≡ None → length text.now < 2 ^ 31 }
+    ensures few_outlines { IfOk result (λ d. length d.outlines.items < 2 ^ 31) }
     ensures outlines { IfOk result
         (λ d. All (λ o. IsOutline o × (o.end < length tokens.now)) d.outlines.items) }
     ensures is_read_so_far { IfOk result
@@ -197,16 +197,16 @@ pub fn outline_statements<'a, A: Allocator + Copy>(
 {
     let mut read = nothing_read(alloc)?;
     let mut depth = 0;
-    let mut at = 0;
+    let mut token_index = 0;
     'statements: loop {
-        match next_statement(text, tokens, depth, at) {
+        match next_statement(text, tokens, depth, token_index) {
             NextStatement::Whole(outline) => {
                 read.add_if_lawful(alloc, text, tokens, depth, outline)?;
                 if read.fault.is_some() {
                     return Ok(read);
                 }
                 depth = depth_after(outline.kind, depth);
-                at = outline.end + 1;
+                token_index = outline.end + 1;
             }
             NextStatement::Stopped(fault) => {
                 read.fault = Some(fault);

@@ -45,14 +45,14 @@ impl<'a, A: Allocator + Copy> Scope<'a, A> {
         self.blocks.is_open(symbol.typed)
     }
 
-    /// Returns what is wrong with a word as a symbol of a formula after the typecode. `known` is
-    /// what is known of the word.
-    pub(crate) fn symbol_code(&self, known: Option<Symbol<'a>>) -> Option<Code>
+    /// Returns what is wrong with a word as a symbol of a formula after the typecode. `word_symbol`
+    /// is what is known of the word.
+    pub(crate) fn symbol_code(&self, word_symbol: Option<Symbol<'a>>) -> Option<Code>
         ensures { (word : List ℕ)
-            → symbol_in self.now word ≡ known.entry
+            → symbol_in self.now word ≡ word_symbol.entry
             → IsLeastCode self.now (λ n. symbol_codes n [] word) result }
     {
-        match known {
+        match word_symbol {
             Some(symbol) => {
                 if !symbol.is_variable {
                     None
@@ -83,13 +83,14 @@ impl<'a, A: Allocator + Copy> Scope<'a, A> {
         }
     }
 
-    /// Returns what is wrong with a word as a typecode. `known` is what is known of the word.
-    pub(crate) fn typecode_fault_code(known: Option<Symbol<'a>>) -> Option<Code>
+    /// Returns what is wrong with a word as a typecode. `word_symbol` is what is
+    /// known of the word.
+    pub(crate) fn typecode_fault_code(word_symbol: Option<Symbol<'a>>) -> Option<Code>
         ensures { (place : ℕ)
             → fault_at place result
-            ≡ least (at place (when (not (is_constant_in known.entry)) BadTypecode)) }
+            ≡ least (at place (when (not (is_constant_in word_symbol.entry)) BadTypecode)) }
     {
-        match known {
+        match word_symbol {
             Some(symbol) if !symbol.is_variable => None,
             _ => Some(Code::BadTypecode),
         }
@@ -207,7 +208,7 @@ impl<'a, A: Allocator + Copy> Scope<'a, A> {
         outline: Outline,
     ) -> Result<(), AllocError>
         requires among { IsAmong text.now tokens.now outline }
-        requires few { length tokens.now < 2 ^ 31 }
+        requires few_tokens { length tokens.now < 2 ^ 31 }
         requires keeps { (db : List Statement) × IsScopeAfter db self.old × (length db < 2 ^ 31) }
         ensures keeps { OnOk result
             (IsNextScope self.old self.new (statement_of text.now tokens.now outline)) }
@@ -229,7 +230,7 @@ impl<'a, A: Allocator + Copy> Scope<'a, A> {
         number: u32,
     ) -> Result<(), AllocError>
         requires among { IsAmong text.now tokens.now outline }
-        requires few { length tokens.now < 2 ^ 31 }
+        requires few_tokens { length tokens.now < 2 ^ 31 }
         ensures symbols { OnOk result
             ((w : List ℕ)
             → entry_in self.new w
@@ -273,7 +274,7 @@ impl<'a, A: Allocator + Copy> Scope<'a, A> {
     ) -> Result<(), AllocError>
         requires words { AreWithin text.now tokens.now }
         requires label { 0 < keyword }
-        requires within { keyword < length tokens.now }
+        requires keyword_lt_length { keyword < length tokens.now }
         ensures labels { OnOk result
             ((w : List ℕ)
             → label_in self.new w
@@ -295,7 +296,7 @@ impl<'a, A: Allocator + Copy> Scope<'a, A> {
         number: u32,
     ) -> Result<(), AllocError>
         requires words { AreWithin text.now tokens.now }
-        requires within { from + 1 < length tokens.now }
+        requires next_lt_length { from + 1 < length tokens.now }
         ensures labels { OnOk result
             ((w : List ℕ) → label_in self.new w ≡ label_in self.old w) }
         ensures symbols { OnOk result
@@ -335,7 +336,7 @@ impl<'a, A: Allocator + Copy> Scope<'a, A> {
         number: u32,
     ) -> Result<(), AllocError>
         requires among { IsAmong text.now tokens.now outline }
-        requires order { outline.keyword < outline.middle }
+        requires keyword_lt_middle { outline.keyword < outline.middle }
         ensures labels { OnOk result
             ((w : List ℕ) → label_in self.new w ≡ label_in self.old w) }
         ensures symbols { OnOk result

@@ -7,56 +7,62 @@ use Rattle.std.proofs.lemmas.List.Folds.{list_any-append}
 use Rattle.std.proofs.lemmas.Bool.{or_right}
 use Rattle.mm_spec.specs.Steps.{marked}
 use Rattle.mm_spec.proofs.BoolLaw.{or_with_false}
-use Rattle.mm_steps.specs.declared.placed.Placed.{Placed}
-use Rattle.mm_steps.specs.Read.{is_marked, takes_up}
+use Rattle.mm_steps.specs.declared.step_list.Placed.{Placed}
+use Rattle.mm_steps.specs.TheoremSteps.{is_marked, takes_up}
 use Rattle.mm_steps.specs.Flags.{step_by, placed_of, placed_steps, no_step, AreFlags}
 
 -- a step that is stored as before changes no other
-pub placed_steps_set : (ps : List Placed) (j : ℕ) (q : Placed)
+pub placed_steps_unchanged_by_set : (ps : List Placed) (j : ℕ) (q : Placed)
     → placed_of q ≡ placed_of (get_or ps j no_step)
     → placed_steps (slice_set ps j q) ≡ placed_steps ps
-placed_steps_set [] j q e = refl
-placed_steps_set (p ∷ ps) zero q e = ap (λ z. z ∷ placed_steps ps) e
-placed_steps_set (p ∷ ps) (suc j) q e = ap (λ z. placed_of p ∷ z) (placed_steps_set ps j q e)
+placed_steps_unchanged_by_set [] j q same_step = refl
+placed_steps_unchanged_by_set (p ∷ ps) zero q same_step = ap (λ z. z ∷ placed_steps ps) same_step
+placed_steps_unchanged_by_set (p ∷ ps) (suc j) q same_step =
+    ap (λ z. placed_of p ∷ z) (placed_steps_unchanged_by_set ps j q same_step)
 
-pub placed_steps_more : (ps : List Placed) (p : Placed)
+-- the steps that are stored, with one more
+pub placed_steps_push : (ps : List Placed) (p : Placed)
     → placed_steps (ps ++ p ∷ []) ≡ placed_steps ps ++ placed_of p ∷ []
-placed_steps_more ps p = map-append placed_of ps (p ∷ [])
+placed_steps_push ps p = map-append placed_of ps (p ∷ [])
 
 -- one more step that is not marked changes no flag
-unflagged : (ps : List Placed) (p : Placed) (i : ℕ) → p.is_marked ≡ false
+flag_unchanged_by_unmarked : (ps : List Placed) (p : Placed) (i : ℕ) → p.is_marked ≡ false
     → (get_or (ps ++ p ∷ []) i no_step).is_marked ≡ (get_or ps i no_step).is_marked
-unflagged [] p zero e = e
-unflagged [] p (suc i) e = refl
-unflagged (q ∷ ps) p zero e = refl
-unflagged (q ∷ ps) p (suc i) e = unflagged ps p i e
+flag_unchanged_by_unmarked [] p zero p_is_not_marked = p_is_not_marked
+flag_unchanged_by_unmarked [] p (suc i) p_is_not_marked = refl
+flag_unchanged_by_unmarked (q ∷ ps) p zero p_is_not_marked = refl
+flag_unchanged_by_unmarked (q ∷ ps) p (suc i) p_is_not_marked =
+    flag_unchanged_by_unmarked ps p i p_is_not_marked
 
-or_end : (a b : Bool) → (a || (b || false)) ≡ (a || b)
-or_end true b = refl
-or_end false true = refl
-or_end false false = refl
+-- `false` at the end of a disjunction may be left out
+or_false_at_end : (a b : Bool) → (a || (b || false)) ≡ (a || b)
+or_false_at_end true b = refl
+or_false_at_end false true = refl
+or_false_at_end false false = refl
 
 -- what one more step marks
 marked_by_one_more : (ps : List Placed) (p : Placed) (i : ℕ)
     → is_marked (placed_steps (ps ++ p ∷ [])) i
     ≡ (is_marked (placed_steps ps) i || takes_up i (step_by p.kind p.number))
 marked_by_one_more ps p i =
-    ap (λ z. is_marked z i) (placed_steps_more ps p)
+    ap (λ z. is_marked z i) (placed_steps_push ps p)
     ∙ list_any-append (λ s. takes_up i s.step) (placed_steps ps) (placed_of p ∷ [])
-    ∙ or_end (is_marked (placed_steps ps) i) (takes_up i (step_by p.kind p.number))
+    ∙ or_false_at_end (is_marked (placed_steps ps) i) (takes_up i (step_by p.kind p.number))
 
 -- one more step, which repeats the subproof of step j, and the flag of step j
-pub flag_more : (ps qs : List Placed) (p q : Placed) (j : ℕ) → AreFlags ps → qs ≡ ps ++ p ∷ []
+pub flags_with_marked_step : (ps qs : List Placed) (p q : Placed) (j : ℕ) → AreFlags ps
+    → qs ≡ ps ++ p ∷ []
     → p.is_marked ≡ false → step_by p.kind p.number ≡ marked j → j < length ps
     → placed_of q ≡ placed_of (get_or qs j no_step) → q.is_marked ≡ true
     → AreFlags (slice_set qs j q)
-flag_more ps qs p q j old_flags is_appended not_marked repeats_j j_within same_step q_is_marked i =
+flags_with_marked_step ps qs p q j old_flags is_appended not_marked repeats_j j_within same_step
+    q_is_marked i =
     by_equality (i == j) refl
   where
     marked_now : is_marked (placed_steps (slice_set qs j q)) i
         ≡ (is_marked (placed_steps ps) i || (i == j))
     marked_now =
-        ap (λ z. is_marked z i) (placed_steps_set qs j q same_step)
+        ap (λ z. is_marked z i) (placed_steps_unchanged_by_set qs j q same_step)
         ∙ ap (λ z. is_marked (placed_steps z) i) is_appended
         ∙ marked_by_one_more ps p i
         ∙ ap (λ s. is_marked (placed_steps ps) i || takes_up i s) repeats_j
@@ -64,15 +70,17 @@ flag_more ps qs p q j old_flags is_appended not_marked repeats_j j_within same_s
     by_equality : (b : Bool) → (i == j) ≡ b
         → (get_or (slice_set qs j q) i no_step).is_marked
         ≡ is_marked (placed_steps (slice_set qs j q)) i
-    by_equality true e =
-        ap (λ z. (get_or (slice_set qs j q) z no_step).is_marked) (eqb-true i j e)
+    by_equality true i_is_j =
+        ap (λ z. (get_or (slice_set qs j q) z no_step).is_marked) (eqb-true i j i_is_j)
         ∙ ap (λ z. z.is_marked)
         (get_or-set_same qs j q no_step
-        (let n = ap length is_appended in omega (arith, n, length-append ps (p ∷ []))))
-        ∙ q_is_marked ∙ sym (marked_now ∙ or_right (is_marked (placed_steps ps) i) (i == j) e)
-    by_equality false e =
+        (let pushed_length = ap length is_appended in
+        omega (arith, pushed_length, length-append ps (p ∷ []))))
+        ∙ q_is_marked ∙ sym (marked_now ∙ or_right (is_marked (placed_steps ps) i) (i == j) i_is_j)
+    by_equality false i_is_j =
         ap (λ z. z.is_marked)
-        (get_or-set_other qs j i q no_step (λ h. true≢false (sym (eq-eqb i j h) ∙ e)))
+        (get_or-set_other qs j i q no_step (λ i_eq_j. true≢false (sym (eq-eqb i j i_eq_j)
+        ∙ i_is_j)))
         ∙ ap (λ z. (get_or z i no_step).is_marked) is_appended
-        ∙ unflagged ps p i not_marked ∙ old_flags i
-        ∙ sym (marked_now ∙ or_with_false (is_marked (placed_steps ps) i) (i == j) e)
+        ∙ flag_unchanged_by_unmarked ps p i not_marked ∙ old_flags i
+        ∙ sym (marked_now ∙ or_with_false (is_marked (placed_steps ps) i) (i == j) i_is_j)

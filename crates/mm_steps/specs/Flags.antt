@@ -2,10 +2,10 @@
 use Rattle.std.specs.Prelude.{ℕ, ◌≡◌, false, List, get_or, map}
 use Rattle.mm_spec.specs.Steps as spec
 use Rattle.mm_spec.specs.Steps.{PlacedStep, placed, label, marked}
-use Rattle.mm_steps.specs.declared.placed.Placed.{Placed}
-use Rattle.mm_steps.specs.declared.placed.StepKind.{StepKind}
-use Rattle.mm_steps.specs.declared.placed.StepKind.TheVariants.{Label, Marked}
-use Rattle.mm_steps.specs.Read.{is_marked}
+use Rattle.mm_steps.specs.declared.step_list.Placed.{Placed}
+use Rattle.mm_steps.specs.declared.step_list.StepKind.{StepKind}
+use Rattle.mm_steps.specs.declared.step_list.StepKind.TheVariants.{Label, Marked}
+use Rattle.mm_steps.specs.TheoremSteps.{is_marked}
 
 -- the step of this kind that refers to the number
 abbrev pub step_by : StepKind → ℕ → spec.Step

@@ -1,2 +1,2 @@
-pub mod Read
+pub mod TheoremSteps
 pub mod Flags

@@ -14,7 +14,7 @@ use Rattle.mm_scope.specs.ReadSoFar.{KnowsStatements}
 use Rattle.mm_database.specs.ParsedStatements.{IsSound}
 use Rattle.mm_database.specs.declared.names.Symbol.{Symbol}
 use Rattle.mm_outline.specs.declared.parts.Outline.{Outline}
-use Rattle.mm_scope.proofs.BoundsLaw.{few_symbols}
+use Rattle.mm_scope.proofs.BoundsLaw.{symbols_le_tokens}
 use Rattle.mm_stmt.proofs.SoundLaw.{sound_read}
 
 -- the words lent are those of the text
@@ -35,7 +35,7 @@ module _ (text : List ℕ) (ws : List Word) (os : List Outline) (lexical fault :
   names_few names e =
       let n = ap length e in
       let f =
-      few_symbols (lexed text ws lexical).tokens r.are_statements.rest r.statements
+      symbols_le_tokens (lexed text ws lexical).tokens r.are_statements.rest r.statements
       r.are_statements.splits
       (statements text ws os) r.rest r.splits in
       let w = length-map ws (token_of text) in

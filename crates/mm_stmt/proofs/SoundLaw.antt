@@ -19,7 +19,7 @@ use Rattle.mm_scope.specs.WordEntry.{is_constant_entry, is_variable_entry}
 use Rattle.mm_scope.specs.ReadSoFar.{KnowsStatements}
 use Rattle.mm_database.specs.ParsedStatements.{IsSound}
 use Rattle.mm_database.specs.declared.names.Symbol.{Symbol}
-use Rattle.mm_scope.proofs.BoundsLaw.{symbols_known}
+use Rattle.mm_scope.proofs.BoundsLaw.{symbols_have_names}
 
 one_kind : (x : Option WordEntry) → is_constant_entry x ≡ true → is_variable_entry x ≡ false
 one_kind None e = refl
@@ -36,7 +36,7 @@ pub sound_is : (db : List Statement) (look : List ℕ → Option Symbol) (labels
     → ((k : ℕ) → k < length db → All (λ s. s < length (symbol_names db)) (formula_at db k))
     → IsSound db
 sound_is db look labels b x few lawful below = record {
-  few = few;
+  few_statements = few;
   lawful = lawful;
   no_constant_is_variable =
       λ w e. let k = x.symbols w in k.variable ∙ one_kind (entry_of (look w)) (sym k.constant ∙ e);
@@ -57,7 +57,7 @@ pub sound_read : (len : ℕ) (x : LexedText) (db : List Statement) (fault : Opti
 sound_read len x db fault r look labels b keeps few =
     let lawful = lawful_is len x db fault r in
     sound_is db look labels b keeps few lawful
-    (λ k h. symbols_known db lawful k h (get_or db k (opening 0))
+    (λ k h. symbols_have_names db lawful k h (get_or db k (opening 0))
     (slice_get-get_or db k (opening 0) h))
 
 -- the marks of the variables are those that the map has

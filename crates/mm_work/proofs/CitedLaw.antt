@@ -15,7 +15,7 @@ use Rattle.mm_spec.proofs.FindsLaw.{filter_member, passing_statement, inside_of}
 use Rattle.mm_spec.proofs.CitedLaw.{cites_earlier, proof_theorem}
 use Rattle.mm_spec.proofs.ListLaw.{member_at}
 use Rattle.mm_cites.specs.Citing.{Citing, citing, HasCitation, IsStatementList, IsFileOrder}
-use Rattle.mm_cites.proofs.RisingLaw.{filter_rising}
+use Rattle.mm_cites.proofs.RisingLaw.{filtered_range_is_statement_list}
 use Rattle.mm_work.specs.Judged.{HasCitations, HaveCitationsUpTo, CitesAsDatabase}
 
 -- a member of a list is its element at some index
@@ -71,7 +71,7 @@ valid_if_has_citations db by_essential t cites has_citations = (
 module _ (db : List Statement) (length_lt_limit : length db < 2 ^ 31) (are_complete : AreComplete
     db) where
   pub theorems_rise : IsStatementList (theorems db)
-  theorems_rise = filter_rising (λ j. list_any is_theorem (statement_at db j)) (length db)
+  theorems_rise = filtered_range_is_statement_list (λ j. list_any is_theorem (statement_at db j)) (length db)
       length_lt_limit
 
   -- the theorems before theorem i are valid

@@ -3,7 +3,7 @@
 ghost use Rattle.std.specs.Prelude.{◌≡◌, [], IfSome, IsTrue};
 ghost use Rattle.mm_spec.specs.Citation.{steps_at, reading_faults_at};
 ghost use Rattle.mm_spec.specs.Output.{is_theorem_at};
-ghost use Rattle.mm_steps.specs.Read.{read};
+ghost use Rattle.mm_steps.specs.TheoremSteps.{theorem_steps};
 
 use super::{MOST_GROWTHS, was_refused};
 use crate::calls::{all_checked, checked, checked_by};
@@ -183,7 +183,7 @@ fn checked_in_turn<'h, R: Abort>(
     steps: &Steps<&'h Refusing<Global>>,
 ) -> bool
     requires theorem { IsTrue (is_theorem_at database.now.statements theorem) }
-    requires steps { steps.now ≡ read theorem (steps_at database.now.statements theorem) }
+    requires steps { steps.now ≡ theorem_steps theorem (steps_at database.now.statements theorem) }
     requires sound { reading_faults_at database.now.statements theorem ≡ [] }
 {
     for number in 1..MOST_GROWTHS {
@@ -212,7 +212,7 @@ fn checker_refused<'h, R: Abort>(
     number: u64,
 ) -> Option<bool>
     requires theorem { IsTrue (is_theorem_at database.now.statements theorem) }
-    requires steps { steps.now ≡ read theorem (steps_at database.now.statements theorem) }
+    requires steps { steps.now ≡ theorem_steps theorem (steps_at database.now.statements theorem) }
     requires sound { reading_faults_at database.now.statements theorem ≡ [] }
 {
     let rules = Rules::none(heap);
@@ -236,7 +236,7 @@ fn checkers_in_turn<'h, R: Abort>(
     steps: &Steps<&'h Refusing<Global>>,
 ) -> bool
     requires theorem { IsTrue (is_theorem_at database.now.statements theorem) }
-    requires steps { steps.now ≡ read theorem (steps_at database.now.statements theorem) }
+    requires steps { steps.now ≡ theorem_steps theorem (steps_at database.now.statements theorem) }
     requires sound { reading_faults_at database.now.statements theorem ≡ [] }
 {
     for number in 1..MOST_GROWTHS {

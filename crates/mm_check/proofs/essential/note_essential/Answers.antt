@@ -3,7 +3,7 @@ use Rattle.std.proofs.Common.{take_at, replicate, refl, sym, ap, ◌∙◌, subs
 use Rattle.std.proofs.lemmas.Bool.{or_left}
 use Rattle.std.proofs.lemmas.List.{get_or_default}
 use Rattle.mm_spec.specs.Citation.{context_at}
-use Rattle.mm_steps.specs.Read.{as_step}
+use Rattle.mm_steps.specs.TheoremSteps.{as_step}
 use Rattle.mm_check.specs.Flags.{step_flags_after}
 use Rattle.mm_check.proofs.CompilerStateLaw.{good_step_label_is_below}
 use Rattle.mm_check.proofs.ReachLaw.{step_at_is_good}

@@ -11,66 +11,76 @@ use Rattle.mm_database.proofs.disjoint_index.add_active.Goals.{else-is_open_at}
 
 pub loop-pairs-preserved : goal.loop-pairs-preserved
 loop-pairs-preserved g c =
-    let b = c.args.blocks.now in
+    let blocks = c.args.blocks.now in
     let ps = c.args.disjoint_index.now.pairs in
     let x = c.args.symbol in
     let at = c.args.at in
     let start = c.count_before-end.result in
     let end = c.loop-pairs.end in
-    let v =
+    let pairs_are_ps =
     c.as_slice-pairs.ensures.value ∙ ap (λ (i : PairLists). i.pairs) c.disjoint_index.view_is in
-    let of = c.count_before-end.ensures in
-    let parted = parted_by_values _ ps _ x v c.number.ensures at start of.within of.before of.after
+    let parted_index = c.count_before-end.ensures in
+    let parted = parted_by_values _ ps _ x pairs_are_ps c.number.ensures at start
+    parted_index.within parted_index.before parted_index.after
     in
-    let here = c.ends_with.ensures.some c.loop-pairs-test.true in
-    let has = symbol_by_values _ ps _ x v c.number-in-loop-pairs.ensures (end - 1) here.1 in
-    let less = c.skip_last-end.ensures.less in
-    let known = c.loop-pairs.invariant.0 in
-    let fits : c.skip_last-end.result ≤ length ps = omega (arith, less, known) in
+    let last_has_symbol = c.ends_with.ensures.some c.loop-pairs-test.true in
+    let last_symbol_is_x =
+    symbol_by_values _ ps _ x pairs_are_ps c.number-in-loop-pairs.ensures
+    (end - 1) last_has_symbol.1 in
+    let next_lt_end = c.skip_last-end.ensures.less in
+    let end_le_length = c.loop-pairs.invariant.0 in
+    let next_le_length : c.skip_last-end.result ≤ length ps =
+    omega (arith, next_lt_end, end_le_length) in
     elim c.if-is_open_at.branch [
       | then-is_open_at+in_ok-push w ↦
-          let item : w.push.new.self.items
+          let pair_is_pushed : w.push.new.self.items
           ≡ c.loop-pairs.into.items ++ ((get_or ps (end - 1) (0, 0)).1, x) ∷ [] =
           w.in_ok-push.ensures.items
           ∙ ap₂ (λ (qs : List (ℕ × ℕ)) (z : ℕ). c.loop-pairs.into.items
-          ++ ((get_or qs (end - 1) (0, 0)).1, z) ∷ []) v w.number-then-is_open_at.ensures in
+          ++ ((get_or qs (end - 1) (0, 0)).1, z) ∷ []) pairs_are_ps
+          w.number-then-is_open_at.ensures in
           let is_open =
-          subst (λ (qs : List (ℕ × ℕ)). nat_le at (end_of b (get_or qs (end - 1) (0, 0)).1) ≡ true)
-          v (sym c.is_open_at.ensures ∙ w.if-is_open_at.true) in (
-            fits,
+          subst (λ (qs : List (ℕ × ℕ)). nat_le at (end_of blocks (get_or qs (end - 1) (0, 0)).1)
+          ≡ true)
+          pairs_are_ps (sym c.is_open_at.ensures ∙ w.if-is_open_at.true) in (
+            next_le_length,
             rw w.into-is
-                (rw item
-                (added_open b ps c.requires.ordered.rising x at start parted end
+                (rw pair_is_pushed
+                (added_open blocks ps c.requires.ordered.rising x at start parted end
                 c.skip_last-end.result c.args.into.now.items c.loop-pairs.into.items
-                c.loop-pairs.invariant.1 here.0 has is_open less c.skip_last-end.ensures.passed)),
+                c.loop-pairs.invariant.1 last_has_symbol.0 last_symbol_is_x is_open next_lt_end
+                c.skip_last-end.ensures.passed)),
           )
       | else-is_open_at w ↦ (
-        fits,
+        next_le_length,
         rw w.into-is
-            (added_closed b ps c.requires.ordered.rising x at start parted end
+            (added_closed blocks ps c.requires.ordered.rising x at start parted end
             c.skip_last-end.result c.args.into.now.items c.loop-pairs.into.items
             c.loop-pairs.invariant.1
-            here.0 (subst
-            (λ (qs : List (ℕ × ℕ)). nat_le at (end_of b (get_or qs (end - 1) (0, 0)).1) ≡ false) v
-            (sym c.is_open_at.ensures ∙ w.if-is_open_at.false)) less
+            last_has_symbol.0 (subst
+            (λ (qs : List (ℕ × ℕ)). nat_le at (end_of blocks (get_or qs (end - 1) (0, 0)).1)
+            ≡ false) pairs_are_ps
+            (sym c.is_open_at.ensures ∙ w.if-is_open_at.false)) next_lt_end
             c.skip_last-end.ensures.passed),
       )
     ]
 
 pub returns : goal.returns
 returns g c =
-    let b = c.args.blocks.now in
+    let blocks = c.args.blocks.now in
     let ps = c.args.disjoint_index.now.pairs in
     let x = c.args.symbol in
     let at = c.args.at in
     let start = c.count_before-end.result in
     let end = c.loop-pairs.end in
-    let v =
+    let pairs_are_ps =
     c.as_slice-pairs.ensures.value ∙ ap (λ (i : PairLists). i.pairs) c.disjoint_index.view_is in
-    let of = c.count_before-end.ensures in
-    let parted = parted_by_values _ ps _ x v c.number.ensures at start of.within of.before of.after
+    let parted_index = c.count_before-end.ensures in
+    let parted = parted_by_values _ ps _ x pairs_are_ps c.number.ensures at start
+    parted_index.within parted_index.before parted_index.after
     in
-    let none = c.ends_with.ensures.none c.loop-pairs-test.false in
-    all_are_added b ps c.requires.ordered.rising x at start parted end c.args.into.now.items
+    let last_symbol_ne_x = c.ends_with.ensures.none c.loop-pairs-test.false in
+    all_are_added blocks ps c.requires.ordered.rising x at start parted end c.args.into.now.items
     c.loop-pairs.into.items c.loop-pairs.invariant.1
-    (λ h. other_symbol_by_values _ ps _ x v c.number-in-loop-pairs.ensures (end - 1) (none h))
+    (λ end_gt_0. other_symbol_by_values _ ps _ x pairs_are_ps c.number-in-loop-pairs.ensures
+    (end - 1) (last_symbol_ne_x end_gt_0))

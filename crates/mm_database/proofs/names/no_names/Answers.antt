@@ -6,6 +6,6 @@ invariant_of-result g c =
     rw (c.new.ensures.empty, c.new-2.ensures.empty)
     (record {
       distinct = refl;
-      symbols_no_longer = λ w h. refl;
-      labels_no_longer = λ w h. refl;
+      no_symbol_is_longer = λ w h. refl;
+      no_label_is_longer = λ w h. refl;
     })

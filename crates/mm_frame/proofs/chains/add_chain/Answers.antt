@@ -1,32 +1,34 @@
 use Rattle.std.proofs.Common.{◌≡◌, ◌-◌, ◌<◌, get_or, length, arith, ◌∙◌}
 use Rattle.std.proofs.lemmas.List.{get_or_default}
-use Rattle.mm_frame.proofs.ChainsLaw.{rest_less, rest_none}
+use Rattle.mm_frame.proofs.ChainsLaw.{rest_after_link, no_rest_is_all_added}
 use Rattle.mm_frame.proofs.chains.add_chain.Goals as goal
 
 pub loop-number-preserved : goal.loop-number-preserved
 loop-number-preserved g c =
     let links = c.args.chains.now.links.items in
     let n = c.loop-number.number in
-    let some = c.loop-number-test.true in
-    let previous_n_lt_length_links : n - 1 < length links = omega (
+    let number_gt_0 = c.loop-number-test.true in
+    let index_lt_length : n - 1 < length links = omega (
       arith,
-      c.loop-number.invariant.within,
-      some,
+      c.loop-number.invariant.number_le_length,
+      number_gt_0,
     ) in
-    let link : c.index.result.now ≡ get_or links (n - 1) (0, 0) =
+    let link_is_at_index : c.index.result.now ≡ get_or links (n - 1) (0, 0) =
     c.index.ensures ∙ get_or_default links (n - 1) c.index.result.now (0, 0)
-    previous_n_lt_length_links in
+    index_lt_length in
     record {
-      within = rw link (let d = c.requires.linked.down (n - 1) previous_n_lt_length_links in omega
-          (arith, d, previous_n_lt_length_links));
-      rest = λ statements h. rw (c.in_ok-push.ensures.items, link)
-          (rest_less links c.args.symbol c.args.pairs.now.items c.loop-number.pairs.items statements
-          n some (c.loop-number.invariant.rest statements h));
+      number_le_length = rw link_is_at_index (let next_le_index =
+          c.requires.linked.next_le_index (n - 1) index_lt_length in omega
+          (arith, next_le_index, index_lt_length));
+      rest_is_chain = λ statements is_chain. rw (c.in_ok-push.ensures.items, link_is_at_index)
+          (rest_after_link links c.args.symbol c.args.pairs.now.items c.loop-number.pairs.items
+          statements
+          n number_gt_0 (c.loop-number.invariant.rest_is_chain statements is_chain));
     }
 
 pub returns : goal.returns
-returns g c = λ statements h.
-    rest_none c.args.chains.now.links.items c.args.symbol c.args.pairs.now.items
+returns g c = λ statements is_chain.
+    no_rest_is_all_added c.args.chains.now.links.items c.args.symbol c.args.pairs.now.items
     c.loop-number.pairs.items statements c.loop-number.number
-    (let e = c.loop-number-test.false in omega (arith, e))
-    (c.loop-number.invariant.rest statements h)
+    (let number_le_0 = c.loop-number-test.false in omega (arith, number_le_0))
+    (c.loop-number.invariant.rest_is_chain statements is_chain)

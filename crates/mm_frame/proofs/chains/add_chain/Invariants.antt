@@ -5,8 +5,8 @@ use Rattle.mm_frame.proofs.chains.add_chain.Given as goal
 
 abbrev pub invariant-loop-number : goal.invariant-loop-number
 invariant-loop-number g l = record {
-  within : l.number ≤ length l.chains.links.items;
-  rest : (statements : List ℕ)
+  number_le_length : l.number ≤ length l.chains.links.items;
+  rest_is_chain : (statements : List ℕ)
       → IsLinkChain l.chains.links.items (get_or l.chains.heads.items l.symbol 0) statements
       → IsRest l.chains.links.items l.symbol l.number l.initial.pairs.items l.pairs.items
       statements;

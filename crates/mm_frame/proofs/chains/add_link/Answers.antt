@@ -1,10 +1,10 @@
 use Rattle.std.proofs.Common.{◌≡◌, ◌<◌, ◌+◌, length, get_or, sym, arith, ◌∙◌}
 use Rattle.std.proofs.lemmas.List.{get_or_default}
-use Rattle.mm_frame.proofs.ChainsLaw.{begun, chains_more}
+use Rattle.mm_frame.proofs.ChainsLaw.{chains_with_known_statement, chains_with_statement}
 use Rattle.mm_frame.proofs.chains.add_link.Goals as goal
 
 pub returns-in_ok-push-clause-chains : goal.returns-in_ok-push-clause-chains
-returns-in_ok-push-clause-chains g c = λ has h.
+returns-in_ok-push-clause-chains g c = λ has are_chains.
     let heads = c.args.chains.now.heads.items in
     let links = c.args.chains.now.links.items in
     let x = c.number-index.result in
@@ -13,18 +13,20 @@ returns-in_ok-push-clause-chains g c = λ has h.
       c.number-index.ensures,
       c.requires.symbol,
     ) in
-    let head : c.index-first_link.result.now ≡ get_or heads x 0 =
+    let head_is_at_x : c.index-first_link.result.now ≡ get_or heads x 0 =
     c.index-first_link.ensures ∙ get_or_default heads x c.index-first_link.result.now 0
     x_lt_length_heads in
-    let count : c.len.result ≡ length links + 1 =
+    let len_is_next : c.len.result ≡ length links + 1 =
     omega (arith, c.len.ensures, c.in_ok-push.ensures.len) in
-    rw (c.in_ok-push.ensures.items, count, head)
-    (chains_more has heads links c.args.symbol x c.args.statement (sym c.number-index.ensures)
+    rw (c.in_ok-push.ensures.items, len_is_next, head_is_at_x)
+    (chains_with_statement has heads links c.args.symbol x c.args.statement
+    (sym c.number-index.ensures)
     x_lt_length_heads
-    (rw (← head, ← c.deref.ensures.value) (c.begins_with.ensures.none c.if-not-begins_with.true)) h)
+    (rw (← head_is_at_x, ← c.deref.ensures.value)
+    (c.begins_with.ensures.none c.if-not-begins_with.true)) are_chains)
 
 pub returns-else-not-begins_with-clause-chains : goal.returns-else-not-begins_with-clause-chains
-returns-else-not-begins_with-clause-chains g c = λ has h.
+returns-else-not-begins_with-clause-chains g c = λ has are_chains.
     let heads = c.args.chains.now.heads.items in
     let links = c.args.chains.now.links.items in
     let x = c.number-index.result in
@@ -33,10 +35,12 @@ returns-else-not-begins_with-clause-chains g c = λ has h.
       c.number-index.ensures,
       c.requires.symbol,
     ) in
-    let head : c.index-first_link.result.now ≡ get_or heads x 0 =
+    let head_is_at_x : c.index-first_link.result.now ≡ get_or heads x 0 =
     c.index-first_link.ensures ∙ get_or_default heads x c.index-first_link.result.now 0
     x_lt_length_heads in
-    let met = c.begins_with.ensures.some c.if-not-begins_with.false in
-    begun has heads links c.args.symbol x c.args.statement (sym c.number-index.ensures)
+    let statement_is_first = c.begins_with.ensures.some c.if-not-begins_with.false in
+    chains_with_known_statement has heads links c.args.symbol x c.args.statement
+    (sym c.number-index.ensures)
     x_lt_length_heads
-    (rw (← head) met.0) (rw (← head, ← c.deref.ensures.value) met.1) h
+    (rw (← head_is_at_x) statement_is_first.0)
+    (rw (← head_is_at_x, ← c.deref.ensures.value) statement_is_first.1) are_chains

@@ -1,18 +1,18 @@
 use Rattle.std.proofs.Common.{◌∙◌, ℕ, List, subst, arith, take_all}
 use Rattle.mm_spec.specs.Derivation.{is_member}
 use Rattle.mm_frame.specs.Chains.{AddsInFront}
-use Rattle.mm_frame.proofs.ChainsLaw.{more_symbols, same_chains}
+use Rattle.mm_frame.proofs.ChainsLaw.{test_with_next_symbol, chains_for_equal_tests}
 use Rattle.mm_frame.proofs.chains.add_links.Goals as goal
 
 pub loop-symbol-preserved : goal.loop-symbol-preserved
 loop-symbol-preserved g c = record {
   count = c.in_ok-add_link.ensures.count ∙ c.loop-symbol.invariant.count;
   linked = c.in_ok-add_link.ensures.linked;
-  chains = λ has h.
-      same_chains _ _ c.args.statement c.args.statement _ _ (omega arith)
-      (more_symbols has c.args.symbols.now c.loop-symbol.symbol-index _ _ c.args.statement
+  chains = λ has are_chains.
+      chains_for_equal_tests _ _ c.args.statement c.args.statement _ _ (omega arith)
+      (test_with_next_symbol has c.args.symbols.now c.loop-symbol.symbol-index _ _ c.args.statement
       c.loop-symbol-test.true c.symbol-item.is)
-      (c.in_ok-add_link.ensures.chains _ (c.loop-symbol.invariant.chains has h));
+      (c.in_ok-add_link.ensures.chains _ (c.loop-symbol.invariant.chains has are_chains));
 }
 
 pub returns-clause-chains : goal.returns-clause-chains

@@ -6,7 +6,7 @@ use Rattle.mm_frame.proofs.chains.chains_of.Given as goal
 
 abbrev pub invariant-loop-statement : goal.invariant-loop-statement
 invariant-loop-statement g l = record {
-  within : l.statement ≤ length l.statements.list;
+  statement_le_length : l.statement ≤ length l.statements.list;
   count : length l.chains.heads.items ≡ length (symbol_names l.statements.list);
   linked : AreLinked l.chains.heads.items l.chains.links.items;
   chains : AreChains (λ x j. nat_le l.statement j && has_symbol l.statements.list x j) l.statement

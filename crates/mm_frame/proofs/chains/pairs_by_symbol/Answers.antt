@@ -1,5 +1,5 @@
 use Rattle.std.proofs.Common.{◌<◌, length, get_or, arith}
-use Rattle.mm_frame.proofs.ChainsLaw.{pairs_more}
+use Rattle.mm_frame.proofs.ChainsLaw.{pairs_with_symbol}
 use Rattle.mm_frame.proofs.chains.pairs_by_symbol.Goals as goal
 
 pub loop-symbol-preserved : goal.loop-symbol-preserved
@@ -7,12 +7,19 @@ loop-symbol-preserved g c =
     let x = c.loop-symbol.symbol in
     let heads = c.in_ok-chains.chains.heads.items in
     let links = c.in_ok-chains.chains.links.items in
-    let test = c.loop-symbol-test.true in
-    let end = c.loop-symbol.auto.symbol-end in
+    let symbol_lt_end = c.loop-symbol-test.true in
+    let end_is_count = c.loop-symbol.auto.symbol-end in
     let x_lt_length_heads : x < length heads =
-    omega (arith, test, end, c.symbol_count-symbol-end.ensures.count, c.in_ok-chains.ensures.count)
+    omega (
+      arith,
+      symbol_lt_end,
+      end_is_count,
+      c.symbol_count-symbol-end.ensures.count,
+      c.in_ok-chains.ensures.count,
+    )
     in
     let chain = c.in_ok-chains.ensures.chains x x_lt_length_heads in
-    pairs_more c.args.statements.now.list x (get_or heads x 0) links c.loop-symbol.pairs.items
+    pairs_with_symbol c.args.statements.now.list x
+    (get_or heads x 0) links c.loop-symbol.pairs.items
     c.add_chain.new.pairs.items chain c.loop-symbol.invariant
     (c.in_ok-add_chain.ensures chain.statements chain.chain)

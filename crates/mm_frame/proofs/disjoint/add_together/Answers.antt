@@ -2,7 +2,7 @@ use Rattle.std.proofs.Common.{ℕ, List, ap, ◌∙◌, ◌||◌, take_all}
 use Rattle.std.specs.List.{list_any}
 use Rattle.mm_database.specs.Pairs.{has_pair}
 use Rattle.mm_frame.specs.Together.{has_later}
-use Rattle.mm_frame.proofs.LoopsLaw.{none_so_far, any_next}
+use Rattle.mm_frame.proofs.LoopsLaw.{none_so_far, any_with_next_element}
 use Rattle.mm_frame.proofs.disjoint.add_together.Goals as goal
 
 pub loop-index-init : goal.loop-index-init
@@ -10,7 +10,7 @@ loop-index-init g c = λ x y. none_so_far (has_pair c.args.pairs.now.items x y)
 
 pub loop-index-preserved : goal.loop-index-preserved
 loop-index-preserved g c = λ x y.
-    any_next (λ p. has_later c.args.by_statement.now p x y) c.args.by_statement.now
+    any_with_next_element (λ p. has_later c.args.by_statement.now p x y) c.args.by_statement.now
     c.loop-index.index (0, 0) _ _ _
     c.loop-index-test.true (c.loop-index.invariant x y) (c.in_ok-add_later_pairs.ensures x y)
 

@@ -5,20 +5,20 @@ use Rattle.mm_database.specs.DisjointIndex.{is_active_local}
 use Rattle.mm_database.specs.Pairs.{has_pair}
 use Rattle.mm_frame.specs.Together.{has_later}
 use Rattle.mm_outline.proofs.ResultsLaw.{ok_then}
-use Rattle.mm_frame.proofs.DisjointLaw.{pairs_are}
+use Rattle.mm_frame.proofs.DisjointLaw.{pairs_are_mandatory_pairs}
 use Rattle.mm_frame.proofs.disjoint.mandatory_pairs.Goals as goal
 
 pub returns : goal.returns
-returns g c = ok_then c.symbol_pairs.result c.symbol_pairs.ensures (λ v e.
+returns g c = ok_then c.symbol_pairs.result c.symbol_pairs.ensures (λ v pairs_are_symbol_pairs.
     let db = c.args.sources.now.statements.now.list in
     let b = c.args.sources.now.statements.now.blocks in
     let k = c.args.assertion in
-    let m = c.requires.assertion in
-    let k_le_length_db : k ≤ length db = omega (arith, m) in
+    let assertion_lt_length = c.requires.assertion in
+    let k_le_length_db : k ≤ length db = omega (arith, assertion_lt_length) in
     let ps = c.args.sources.now.disjoint_index.now.pairs in
     let variables = c.args.variables.now in
-    e ∙ ap (map (λ p. pair p.0 p.1)) c.deref-2.ensures.value
-    ∙ pairs_are db b c.blocks-2.ensures.theirs k k_le_length_db ps
+    pairs_are_symbol_pairs ∙ ap (map (λ p. pair p.0 p.1)) c.deref-2.ensures.value
+    ∙ pairs_are_mandatory_pairs db b c.blocks-2.ensures.theirs k k_le_length_db ps
     c.requires.sources.index_is.members_are
     variables
     c.sort_and_dedup_pairs.new.pairs.items

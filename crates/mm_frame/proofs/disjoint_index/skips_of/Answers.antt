@@ -1,9 +1,10 @@
 use Rattle.std.proofs.Common.{◌-◌, length, ap, sym, ◌∙◌, arith}
-use Rattle.mm_frame.proofs.SkipsLaw.{covers_itself, covers_before, skip_read, skips_more, all_skips}
+use Rattle.mm_frame.proofs.SkipsLaw.{covers_itself, covers_before, skip_covers, skips_with_next}
+use Rattle.mm_frame.proofs.SkipsLaw.{so_far_are_skips}
 use Rattle.mm_frame.proofs.disjoint_index.skips_of.Goals as goal
 
 pub loop-index-init : goal.loop-index-init
-loop-index-init g c = (ap length c.new-skips.ensures.items, λ q h. absurd (omega arith))
+loop-index-init g c = (ap length c.new-skips.ensures.items, λ q q_lt_0. absurd (omega arith))
 
 pub loop-covered_from-init : goal.loop-covered_from-init
 loop-covered_from-init g c = (
@@ -16,34 +17,36 @@ pub loop-covered_from-smaller : goal.loop-covered_from-smaller
 loop-covered_from-smaller g c =
     let index = c.loop-index.index in
     let covered_from = c.loop-covered_from.covered_from in
-    let i = c.loop-covered_from.invariant.0 in
-    let t = c.loop-covered_from-test.true in
-    let s =
-    skip_read c.args.blocks.now c.args.pairs.now index c.loop-index.skips.items
+    let covered_from_le_index = c.loop-covered_from.invariant.0 in
+    let covered_from_gt_0 = c.loop-covered_from-test.true in
+    let skip_covers_index =
+    skip_covers c.args.blocks.now c.args.pairs.now index c.loop-index.skips.items
     c.loop-index.invariant
     (covered_from - 1)
-    c.index-covered_from.result.now _ (omega (arith, i, t)) c.index-covered_from.ensures in
-    let l = s.0 in
-    omega (arith, l, t)
+    c.index-covered_from.result.now _ (omega (arith, covered_from_le_index, covered_from_gt_0))
+    c.index-covered_from.ensures in
+    let skip_le_previous = skip_covers_index.0 in
+    omega (arith, skip_le_previous, covered_from_gt_0)
 
 pub loop-covered_from-preserved : goal.loop-covered_from-preserved
 loop-covered_from-preserved g c =
     let index = c.loop-index.index in
     let covered_from = c.loop-covered_from.covered_from in
-    let i = c.loop-covered_from.invariant in
-    let l = i.0 in
-    let t = c.loop-covered_from-test.true in
+    let invariant = c.loop-covered_from.invariant in
+    let covered_from_le_index = invariant.0 in
+    let covered_from_gt_0 = c.loop-covered_from-test.true in
     covers_before c.args.blocks.now c.args.pairs.now covered_from index
-    c.index-covered_from.result.now t l i.1
+    c.index-covered_from.result.now covered_from_gt_0 covered_from_le_index invariant.1
     (sym c.is_covered.ensures ∙ c.if-is_covered.true)
-    (skip_read c.args.blocks.now c.args.pairs.now index c.loop-index.skips.items
+    (skip_covers c.args.blocks.now c.args.pairs.now index c.loop-index.skips.items
     c.loop-index.invariant
     (covered_from - 1)
-    c.index-covered_from.result.now _ (omega (arith, l, t)) c.index-covered_from.ensures)
+    c.index-covered_from.result.now _ (omega (arith, covered_from_le_index, covered_from_gt_0))
+    c.index-covered_from.ensures)
 
 pub loop-index-preserved : goal.loop-index-preserved
 loop-index-preserved g c =
-    skips_more c.args.blocks.now c.args.pairs.now c.loop-index.index
+    skips_with_next c.args.blocks.now c.args.pairs.now c.loop-index.index
     c.loop-covered_from.covered_from
     c.loop-index.skips.items
     c.loop-index.invariant c.loop-covered_from.invariant c.push.new.self.items
@@ -51,22 +54,23 @@ loop-index-preserved g c =
 
 pub returns : goal.returns
 returns g c =
-    all_skips c.args.blocks.now c.args.pairs.now c.loop-index.index c.loop-index.skips.items
+    so_far_are_skips c.args.blocks.now c.args.pairs.now c.loop-index.index c.loop-index.skips.items
     c.loop-index.invariant c.loop-index.auto.index-end c.loop-index-test.false
 
 pub is_covered-requires-clause-pair : goal.is_covered-requires-clause-pair
 is_covered-requires-clause-pair g c =
-    let i = c.loop-covered_from.invariant.0 in
-    let t = c.loop-index-test.true in
-    let f = c.loop-covered_from-test.true in
-    c.requires.known (c.loop-covered_from.covered_from - 1) (omega (arith, i, t, f))
+    let covered_from_le_index = c.loop-covered_from.invariant.0 in
+    let index_lt_end = c.loop-index-test.true in
+    let covered_from_gt_0 = c.loop-covered_from-test.true in
+    c.requires.known (c.loop-covered_from.covered_from - 1)
+    (omega (arith, covered_from_le_index, index_lt_end, covered_from_gt_0))
 
 pub is_covered-requires-clause-covering : goal.is_covered-requires-clause-covering
 is_covered-requires-clause-covering g c = c.requires.known c.loop-index.index c.loop-index-test.true
 
 pub index-covered_from-requires : goal.index-covered_from-requires
 index-covered_from-requires g c =
-    let n = c.loop-index.invariant.0 in
-    let i = c.loop-covered_from.invariant.0 in
-    let f = c.loop-covered_from-test.true in
-    omega (arith, n, i, f)
+    let skips_length = c.loop-index.invariant.0 in
+    let covered_from_le_index = c.loop-covered_from.invariant.0 in
+    let covered_from_gt_0 = c.loop-covered_from-test.true in
+    omega (arith, skips_length, covered_from_le_index, covered_from_gt_0)

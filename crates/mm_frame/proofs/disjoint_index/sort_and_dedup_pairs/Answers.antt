@@ -1,11 +1,11 @@
 use Rattle.std.proofs.Common.{nat_eq, ◌&&◌}
 use Rattle.std.proofs.lemmas.List.Filters.{dedup_is}
-use Rattle.mm_frame.proofs.PairsLaw.{strict_rising, sort_and_dedup_same}
+use Rattle.mm_frame.proofs.PairsLaw.{deduped_is_rising, sort_and_dedup_same}
 use Rattle.mm_frame.proofs.disjoint_index.sort_and_dedup_pairs.Goals as goal
 
 pub returns-clause-rising : goal.returns-clause-rising
 returns-clause-rising g c =
-    strict_rising c.sort_unstable.new.self.items c.dedup.new.self.items
+    deduped_is_rising c.sort_unstable.new.self.items c.dedup.new.self.items
     c.sort_unstable.ensures.sorted
     (dedup_is (λ x y. nat_eq x.0 y.0 && nat_eq x.1 y.1) _ _ c.dedup.ensures.filtered)
 

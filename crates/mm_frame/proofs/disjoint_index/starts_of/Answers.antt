@@ -1,15 +1,16 @@
 use Rattle.std.proofs.Common.{arith}
-use Rattle.mm_database.proofs.StartsLaw.{starts_more}
-use Rattle.mm_database.proofs.StartsLaw.{starts_all}
+use Rattle.mm_database.proofs.StartsLaw.{starts_push}
+use Rattle.mm_database.proofs.StartsLaw.{starts_of_all_pairs}
 use Rattle.mm_frame.proofs.disjoint_index.starts_of.Goals as goal
 
 pub loop-starts-preserved : goal.loop-starts-preserved
 loop-starts-preserved g c =
     rw c.in_ok-push.ensures.items
-    (starts_more c.args.pairs.now c.loop-index.index c.loop-starts.starts.items c.requires
+    (starts_push c.args.pairs.now c.loop-index.index c.loop-starts.starts.items c.requires
     c.loop-index-test.true (omega arith) c.loop-starts.invariant)
 
 pub returns : goal.returns
 returns g c =
-    starts_all c.args.pairs.now c.loop-index.index c.loop-index.starts.items c.loop-index-test.false
+    starts_of_all_pairs c.args.pairs.now c.loop-index.index c.loop-index.starts.items
+    c.loop-index-test.false
     c.loop-index.invariant

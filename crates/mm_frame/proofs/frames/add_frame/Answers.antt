@@ -1,33 +1,34 @@
 use Rattle.std.proofs.Common.{length, Some, ap, sym, ◌∙◌, arith}
 use Rattle.std.proofs.lemmas.List.FromFn.{length-map-range_with_len}
 use Rattle.mm_database.specs.Frames.{frame_or_none}
-use Rattle.mm_database.proofs.NamesLaw.{on_then}
-use Rattle.mm_frame.proofs.FramesLaw.{frames_more, own_frame}
+use Rattle.mm_database.proofs.NamesLaw.{on_ok_then}
+use Rattle.mm_frame.proofs.FramesLaw.{frames_with_statement, frame_is_frame_or_none}
 use Rattle.mm_frame.proofs.frames.add_frame.Goals as goal
 
 pub add-requires : goal.add-requires
 add-requires g c =
     let db = c.args.sources.now.statements.now.list in
-    let n =
+    let frames_length =
     ap length c.requires.frames
     ∙ length-map-range_with_len (frame_or_none db) 0 c.args.statement in
-    let small = c.requires.sources.sound.few in
-    let k = c.requires.statement in
-    omega (arith, n, small, k)
+    let length_lt_2_31 = c.requires.sources.sound.few_statements in
+    let statement_lt_length = c.requires.statement in
+    omega (arith, frames_length, length_lt_2_31, statement_lt_length)
 
 pub returns-in_ok-frame-clause-frames : goal.returns-in_ok-frame-clause-frames
 returns-in_ok-frame-clause-frames g c =
     let db = c.args.sources.now.statements.now.list in
     let k = c.args.statement in
-    let is = sym c.is_assertion.ensures ∙ c.if-is_assertion.true in
-    on_then c.add.result c.add.ensures
-    (λ e. frames_more db k _ _ _ c.requires.frames e
-    (ap Some c.in_ok-frame.ensures.frame ∙ own_frame db k _ is))
+    let is_assertion = sym c.is_assertion.ensures ∙ c.if-is_assertion.true in
+    on_ok_then c.add.result c.add.ensures
+    (λ frame_is_pushed. frames_with_statement db k _ _ _ c.requires.frames frame_is_pushed
+    (ap Some c.in_ok-frame.ensures.frame ∙ frame_is_frame_or_none db k _ is_assertion))
 
 pub returns-else-is_assertion-clause-frames : goal.returns-else-is_assertion-clause-frames
 returns-else-is_assertion-clause-frames g c =
     let db = c.args.sources.now.statements.now.list in
     let k = c.args.statement in
-    let is = sym c.is_assertion.ensures ∙ c.if-is_assertion.false in
-    on_then c.add_none.result c.add_none.ensures
-    (λ e. frames_more db k _ _ _ c.requires.frames e (own_frame db k _ is))
+    let is_no_assertion = sym c.is_assertion.ensures ∙ c.if-is_assertion.false in
+    on_ok_then c.add_none.result c.add_none.ensures
+    (λ none_is_pushed. frames_with_statement db k _ _ _ c.requires.frames none_is_pushed
+    (frame_is_frame_or_none db k _ is_no_assertion))

@@ -3,32 +3,33 @@ use Rattle.mm_spec.specs.Frame.{is_essential}
 use Rattle.mm_frame.specs.Latest.{AreLatest}
 use Rattle.mm_frame.specs.Hypotheses.{AreLastFloats}
 use Rattle.mm_database.specs.Frames.{frames_before}
-use Rattle.mm_frame.proofs.FramesLaw.{typed_start}
+use Rattle.mm_frame.proofs.FramesLaw.{last_floats_at_start}
 use Rattle.mm_frame.proofs.frames.frames_of.Goals as goal
 
 pub returns : goal.returns
 returns g c =
     let db = c.args.statements.now.list in
-    let e = c.loop-statement.auto.statement-end in
-    let n = c.len-count.ensures.len in
-    let m = c.loop-statement-test.false in
-    let all : c.loop-statement.statement ≡ length db = omega (arith, e, n, m) in
-    c.loop-statement.invariant.frames ∙ ap (frames_before db) all
+    let end_is_count = c.loop-statement.auto.statement-end in
+    let len_is_length = c.len-count.ensures.len in
+    let end_le_statement = c.loop-statement-test.false in
+    let statement_is_length : c.loop-statement.statement ≡ length db =
+    omega (arith, end_is_count, len_is_length, end_le_statement) in
+    c.loop-statement.invariant.frames ∙ ap (frames_before db) statement_is_length
 
 pub loop-statement-init : goal.loop-statement-init
 loop-statement-init g c = record {
   last_floats =
-      typed_start c.args.statements.now.list c.in_ok-last_floats.last_floats.items
+      last_floats_at_start c.args.statements.now.list c.in_ok-last_floats.last_floats.items
       c.symbol_count.result
       c.symbol_count.ensures.count c.in_ok-last_floats.ensures.count
       c.in_ok-last_floats.ensures.each;
   stamps = record {
     count = c.in_ok-filled.ensures.count ∙ c.symbol_count-2.ensures.count;
-    within =
-        λ x h.
-        let n = c.symbol_count-2.ensures.count in
-        let e = c.in_ok-filled.ensures.each x (omega (arith, h, n)) in
-        omega (arith, e);
+    stamps_le_stamp =
+        λ x x_lt_count.
+        let counts_equal = c.symbol_count-2.ensures.count in
+        let stamp_is_0 = c.in_ok-filled.ensures.each x (omega (arith, x_lt_count, counts_equal)) in
+        omega (arith, stamp_is_0);
   };
   frames = c.none-frames.ensures;
 }
@@ -48,13 +49,15 @@ add_frame-requires-clause-ready g c = record {
       subst (λ xs. AreLastFloats c.args.statements.now.list c.loop-statement.statement xs)
       (sym c.deref-in-loop-statement.ensures.value)
       c.loop-statement.invariant.last_floats;
-  fresh = c.loop-statement.invariant.stamps;
+  stamps_are_fresh = c.loop-statement.invariant.stamps;
 }
 
 pub add_frame-requires-clause-statement : goal.add_frame-requires-clause-statement
 add_frame-requires-clause-statement g c =
-    let t = c.loop-statement-test.true in let n = c.len-count.ensures.len in omega (arith, t, n)
+    let statement_lt_count = c.loop-statement-test.true in
+    let len_is_length = c.len-count.ensures.len in omega (arith, statement_lt_count, len_is_length)
 
 pub set_last_float-requires-clause-statement : goal.set_last_float-requires-clause-statement
 set_last_float-requires-clause-statement g c =
-    let t = c.loop-statement-test.true in let n = c.len-count.ensures.len in omega (arith, t, n)
+    let statement_lt_count = c.loop-statement-test.true in
+    let len_is_length = c.len-count.ensures.len in omega (arith, statement_lt_count, len_is_length)

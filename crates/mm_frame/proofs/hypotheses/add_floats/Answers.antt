@@ -2,7 +2,8 @@ use Rattle.std.proofs.Common.{arith, ℕ, List, ap, ◌∙◌, ◌||◌, take_al
 use Rattle.std.specs.List.{list_any}
 use Rattle.mm_spec.specs.Derivation.{is_member}
 use Rattle.mm_frame.specs.Hypotheses.{is_float_of}
-use Rattle.mm_frame.proofs.LoopsLaw.{none_so_far, any_next, float_pushed, float_closed, float_none}
+use Rattle.mm_frame.proofs.LoopsLaw.{none_so_far, any_with_next_element, floats_with_open_float}
+use Rattle.mm_frame.proofs.LoopsLaw.{floats_without_closed_float, floats_without_float}
 use Rattle.mm_spec.specs.Scope.{is_block_open}
 use Rattle.mm_outline.specs.Blocks.{never}
 use Rattle.std.proofs.lemmas.Bool.{ne_eqb, eq-eqb}
@@ -16,35 +17,39 @@ loop-symbol-init g c = λ j. none_so_far (is_member c.args.hyps.now.items j)
 
 pub bounds-last_floats-number : goal.bounds-last_floats-number
 bounds-last_floats-number g c =
-    let h = c.requires.variables c.loop-symbol.symbol-index c.symbol-item.result
+    let symbol_lt_count = c.requires.variables c.loop-symbol.symbol-index c.symbol-item.result
     c.loop-symbol-test.true in
-    let e = c.symbol-item.is in
-    let m = c.number.ensures in
-    let n = c.requires.last_floats.count in
-    omega (arith, h, e, m, n)
+    let symbol_is_item = c.symbol-item.is in
+    let number_is_symbol = c.number.ensures in
+    let last_floats_count = c.requires.last_floats.count in
+    omega (arith, symbol_lt_count, symbol_is_item, number_is_symbol, last_floats_count)
 
 pub is_open_at-requires-clause-before : goal.is_open_at-requires-clause-before
 is_open_at-requires-clause-before g c =
-    let h = c.requires.variables c.loop-symbol.symbol-index c.symbol-item.result
+    let symbol_lt_count = c.requires.variables c.loop-symbol.symbol-index c.symbol-item.result
     c.loop-symbol-test.true in
-    let e = c.symbol-item.is in
-    let m = c.number.ensures in
-    let f = c.requires.last_floats.some c.number.result (omega (arith, h, e, m)) c.if-floating.true
+    let symbol_is_item = c.symbol-item.is in
+    let number_is_symbol = c.number.ensures in
+    let last_is_typed =
+    c.requires.last_floats.last_is_typed c.number.result
+    (omega (arith, symbol_lt_count, symbol_is_item, number_is_symbol)) c.if-floating.true
     in
-    let before = f.0 in
-    omega (arith, before)
+    let last_lt_at = last_is_typed.0 in
+    omega (arith, last_lt_at)
 
 pub is_open_at-requires-clause-within : goal.is_open_at-requires-clause-within
 is_open_at-requires-clause-within g c =
-    let h = c.requires.variables c.loop-symbol.symbol-index c.symbol-item.result
+    let symbol_lt_count = c.requires.variables c.loop-symbol.symbol-index c.symbol-item.result
     c.loop-symbol-test.true in
-    let e = c.symbol-item.is in
-    let m = c.number.ensures in
-    let f = c.requires.last_floats.some c.number.result (omega (arith, h, e, m)) c.if-floating.true
+    let symbol_is_item = c.symbol-item.is in
+    let number_is_symbol = c.number.ensures in
+    let last_is_typed =
+    c.requires.last_floats.last_is_typed c.number.result
+    (omega (arith, symbol_lt_count, symbol_is_item, number_is_symbol)) c.if-floating.true
     in
-    let before = f.0 in
-    let at = c.requires.at in
-    omega (arith, before, at)
+    let last_lt_at = last_is_typed.0 in
+    let at_le_length = c.requires.at in
+    omega (arith, last_lt_at, at_le_length)
 
 pub loop-symbol-preserved : goal.loop-symbol-preserved
 loop-symbol-preserved g c = λ j.
@@ -54,24 +59,28 @@ loop-symbol-preserved g c = λ j.
     let v = c.number.result in
     let f = get_or last_floats v 0 in
     let hs = c.loop-symbol.hyps.items in
-    let more = c.if-floating.hyps.items in
+    let hyps_after = c.if-floating.hyps.items in
     let is_open = is_block_open db f at in
-    let n : is_member more j ≡ (is_member hs j || is_float_of db at last_floats j v) =
+    let member_is_hyp_or_float : is_member hyps_after j
+    ≡ (is_member hs j || is_float_of db at last_floats j v) =
     elim c.if-floating.branch [
       | then-floating+then-is_open_at+in_ok-push w ↦
-          float_pushed hs more f j (nat_eq f never) is_open (ne_eqb f never w.if-floating.true)
+          floats_with_open_float hs hyps_after f j (nat_eq f never) is_open
+          (ne_eqb f never w.if-floating.true)
           (sym w.is_open_at.ensures ∙ w.if-is_open_at.true)
           (ap (λ x. x.items) w.hyps-is ∙ w.in_ok-push.ensures.items)
       | then-floating+else-is_open_at w ↦
-          float_closed hs more f j (nat_eq f never) is_open
+          floats_without_closed_float hs hyps_after f j (nat_eq f never) is_open
           (sym w.is_open_at.ensures ∙ w.if-is_open_at.false) (ap (λ x. x.items) w.hyps-is)
       | else-floating w ↦
-          float_none hs more f j (nat_eq f never) is_open (eq-eqb f never w.if-floating.false)
+          floats_without_float hs hyps_after f j (nat_eq f never) is_open
+          (eq-eqb f never w.if-floating.false)
           (ap (λ x. x.items) w.hyps-is)
     ] in
-    any_next (is_float_of db at last_floats j) c.args.variables.now c.loop-symbol.symbol-index
+    any_with_next_element (is_float_of db at last_floats j) c.args.variables.now
+    c.loop-symbol.symbol-index
     c.symbol-item.result _ _ _ c.loop-symbol-test.true (c.loop-symbol.invariant j)
-    (n ∙ ap (λ x. is_member hs j || is_float_of db at last_floats j x)
+    (member_is_hyp_or_float ∙ ap (λ x. is_member hs j || is_float_of db at last_floats j x)
     (c.number.ensures ∙ c.symbol-item.is))
 
 pub returns : goal.returns

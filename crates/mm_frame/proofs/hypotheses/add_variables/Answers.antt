@@ -1,30 +1,31 @@
 use Rattle.std.proofs.Common.{arith, ℕ, List, ap, ◌∙◌, ◌&&◌, ◌||◌, take_all}
 use Rattle.mm_spec.specs.Derivation.{is_member}
 use Rattle.mm_spec.specs.Frame.{is_variable_number}
-use Rattle.mm_frame.proofs.LoopsLaw.{listed_none, listed_next}
+use Rattle.mm_frame.proofs.LoopsLaw.{listed_of_no_symbols, listed_with_next_symbol}
 use Rattle.mm_frame.proofs.hypotheses.add_variables.Goals as goal
 
 pub loop-symbol-init : goal.loop-symbol-init
 loop-symbol-init g c = record {
   stamps = c.requires.stamps;
   variables =
-      λ x. listed_none (is_member c.args.variables.now.items x)
+      λ x. listed_of_no_symbols (is_member c.args.variables.now.items x)
       (is_variable_number c.args.statements.now.list x);
 }
 
 pub add_variable-requires-clause-symbol : goal.add_variable-requires-clause-symbol
 add_variable-requires-clause-symbol g c =
-    let h = c.requires.symbols c.loop-symbol.symbol-index c.symbol-item.result
+    let symbol_lt_count = c.requires.symbols c.loop-symbol.symbol-index c.symbol-item.result
     c.loop-symbol-test.true in
-    let e = c.symbol-item.is in
-    omega (arith, h, e)
+    let symbol_is_item = c.symbol-item.is in
+    omega (arith, symbol_lt_count, symbol_is_item)
 
 pub loop-symbol-preserved : goal.loop-symbol-preserved
 loop-symbol-preserved g c = record {
   stamps = c.in_ok-add_variable.ensures.stamps;
   variables =
       λ x.
-      listed_next c.args.symbols.now c.loop-symbol.symbol-index c.symbol-item.result x _ _ _
+      listed_with_next_symbol c.args.symbols.now c.loop-symbol.symbol-index c.symbol-item.result x _
+      _ _
       (is_variable_number c.args.statements.now.list x) c.loop-symbol-test.true c.symbol-item.is
       (c.loop-symbol.invariant.variables x) (c.in_ok-add_variable.ensures.variables x);
 }

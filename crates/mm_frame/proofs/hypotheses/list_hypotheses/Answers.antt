@@ -3,7 +3,7 @@ use Rattle.std.specs.List.{list_any}
 use Rattle.mm_spec.specs.Derivation.{is_member}
 use Rattle.mm_spec.specs.Frame.{symbol_names}
 use Rattle.mm_frame.specs.Hypotheses.{is_float_of}
-use Rattle.mm_frame.proofs.HypothesesLaw.{variables_below, hypotheses_are}
+use Rattle.mm_frame.proofs.HypothesesLaw.{variables_have_names, hypotheses_are_mandatory}
 use Rattle.std.proofs.lemmas.Result.{IfOk-from_err}
 use Rattle.mm_frame.proofs.hypotheses.list_hypotheses.Goals as goal
 
@@ -12,7 +12,7 @@ add_floats-requires-clause-variables g c =
     let db = c.args.sources.now.statements.now.list in
     subst (λ (xs : List ℕ). All (λ s. s < length (symbol_names db)) xs)
     (sym c.deref-2.ensures.value)
-    (variables_below db c.args.assertion c.list_mandatory_variables.new.variables.items
+    (variables_have_names db c.args.assertion c.list_mandatory_variables.new.variables.items
     c.in_ok-list_mandatory_variables.ensures.variables)
 
 pub returns-clause-hyps : goal.returns-clause-hyps
@@ -20,9 +20,10 @@ returns-clause-hyps g c =
     let db = c.args.sources.now.statements.now.list in
     let k = c.args.assertion in
     let ts = c.args.last_floats.now in
-    let h = c.requires.assertion in
-    let k_le_length_db : k ≤ length db = omega (arith, h) in
-    hypotheses_are db k c.requires.sources.sound k_le_length_db ts c.requires.ready.last_floats_are
+    let assertion_lt_length = c.requires.assertion in
+    let k_le_length_db : k ≤ length db = omega (arith, assertion_lt_length) in
+    hypotheses_are_mandatory db k c.requires.sources.sound k_le_length_db ts
+    c.requires.ready.last_floats_are
     c.list_mandatory_variables.new.variables.items
     c.in_ok-list_mandatory_variables.ensures.variables
     c.active_essentials.new.into.items

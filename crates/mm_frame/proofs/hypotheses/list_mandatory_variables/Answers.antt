@@ -2,20 +2,20 @@ use Rattle.std.proofs.Common.{◌&&◌, ◌||◌, ap, ◌∙◌, arith, length, 
 use Rattle.std.specs.List.{list_any}
 use Rattle.mm_spec.specs.Derivation.{is_member}
 use Rattle.mm_spec.specs.Frame.{symbol_names, is_variable_number, formula_at}
-use Rattle.mm_frame.proofs.HypothesesLaw.{mandatory_is, essential_before}
-use Rattle.mm_frame.proofs.StampsLaw.{stamps_fresh}
-use Rattle.mm_frame.proofs.LoopsLaw.{mandatory_first, mandatory_next}
+use Rattle.mm_frame.proofs.HypothesesLaw.{found_are_mandatory_variables, essential_lt_k}
+use Rattle.mm_frame.proofs.StampsLaw.{fresh_stamps_mark_none}
+use Rattle.mm_frame.proofs.LoopsLaw.{variables_of_first_formula, variables_with_next_formula}
 use Rattle.mm_frame.proofs.hypotheses.list_mandatory_variables.Goals as goal
 
 pub formula-requires-in-loop-essential : goal.formula-requires-in-loop-essential
 formula-requires-in-loop-essential g c =
     let i = c.loop-essential.essential-index in
-    let h = c.requires.assertion in
-    let l =
-    essential_before c.args.statements.now.list c.args.assertion c.args.essentials.now
+    let assertion_lt_length = c.requires.assertion in
+    let essential_lt_assertion =
+    essential_lt_k c.args.statements.now.list c.args.assertion c.args.essentials.now
     c.requires.essentials
     i c.loop-essential-test.true in
-    omega (arith, l, h)
+    omega (arith, essential_lt_assertion, assertion_lt_length)
 
 pub returns-clause-variables : goal.returns-clause-variables
 returns-clause-variables g c = λ x.
@@ -26,20 +26,21 @@ returns-clause-variables g c = λ x.
     && (is_member (formula_at db c.args.assertion) x
     || list_any (λ j. is_member (formula_at db j) x) ys))
     (take_all c.loop-essential.essential-index xs c.loop-essential-test.false)
-    ∙ mandatory_is db c.args.assertion xs c.requires.essentials x
+    ∙ found_are_mandatory_variables db c.args.assertion xs c.requires.essentials x
 
 pub add_variables-requires-clause-stamps : goal.add_variables-requires-clause-stamps
 add_variables-requires-clause-stamps g c =
-    stamps_fresh (length (symbol_names c.args.statements.now.list)) c.args.assertion
+    fresh_stamps_mark_none (length (symbol_names c.args.statements.now.list)) c.args.assertion
     c.args.stamps.now.items
-    c.clear.new.self.items c.requires.fresh.count c.requires.fresh.within c.clear.ensures.items
+    c.clear.new.self.items c.requires.fresh.count c.requires.fresh.stamps_le_stamp
+    c.clear.ensures.items
 
 pub loop-essential-init : goal.loop-essential-init
 loop-essential-init g c = record {
   stamps = c.in_ok-add_variables.ensures.stamps;
   variables =
       λ x.
-      mandatory_first x c.clear.new.self.items c.formula.result.now
+      variables_of_first_formula x c.clear.new.self.items c.formula.result.now
       (formula_at c.args.statements.now.list c.args.assertion) _
       (is_variable_number c.args.statements.now.list x)
       (ap length c.clear.ensures.items) c.formula.ensures.formula
@@ -60,7 +61,7 @@ loop-essential-preserved g c = record {
   stamps = c.in_ok-add_variables-2.ensures.stamps;
   variables =
       λ x.
-      mandatory_next x (formula_at c.args.statements.now.list) c.args.essentials.now
+      variables_with_next_formula x (formula_at c.args.statements.now.list) c.args.essentials.now
       c.loop-essential.essential-index 0 c.formula-in-loop-essential.result.now _ _
       (is_variable_number c.args.statements.now.list x)
       (is_member (formula_at c.args.statements.now.list c.args.assertion) x)

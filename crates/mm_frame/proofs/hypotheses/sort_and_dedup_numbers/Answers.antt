@@ -7,9 +7,10 @@ use Rattle.mm_frame.proofs.hypotheses.sort_and_dedup_numbers.Goals as goal
 
 pub returns-clause-rising : goal.returns-clause-rising
 returns-clause-rising g c =
-    let e : c.dedup.new.self.items ≡ dedup nat_eq c.sort_unstable.new.self.items =
+    let numbers_are_deduped : c.dedup.new.self.items ≡ dedup nat_eq c.sort_unstable.new.self.items =
     dedup_is nat_eq _ _ c.dedup.ensures.filtered in
-    rw e (IsStrictlyIncreasing-dedup c.sort_unstable.new.self.items c.sort_unstable.ensures.sorted)
+    rw numbers_are_deduped
+    (IsStrictlyIncreasing-dedup c.sort_unstable.new.self.items c.sort_unstable.ensures.sorted)
 
 pub returns-clause-same : goal.returns-clause-same
 returns-clause-same g c =

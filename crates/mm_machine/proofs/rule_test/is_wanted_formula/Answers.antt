@@ -25,7 +25,7 @@ returns-then-not-begins_with c =
     let p = c.replacement_of-span.result in
     let i_lt_length_w : i < length w = c.loop-part-test.true in
     let replaced_part_is : replaced_part arena es c.part-item.result ≡ span_formula arena p =
-    ap (replaced_part arena es) c.in-Variable.is
+    ap (replaced_part arena es) (sym c.symbol.ensures ∙ c.in-Variable.is)
     ∙ sym (ap (span_formula arena) c.replacement_of-span.ensures) in
     let begins_is_false : starts_with nat_eq (slice_range xs a e) (span_formula arena p) ≡ false =
     sym c.begins_with.ensures.value ∙ c.if-not-begins_with.true in
@@ -45,11 +45,11 @@ loop-part-preserved c =
     let a = c.loop-part.at in
     let e = c.args.premise.end in
     let i_lt_length_w : i < length w = c.loop-part-test.true in
-    elim c.match-part.branch [
+    elim c.match-symbol.branch [
       | in-Variable+else-not-begins_with b ↦
           let p = b.replacement_of-span.result in
           let replaced_part_is : replaced_part arena es c.part-item.result ≡ span_formula arena p =
-          ap (replaced_part arena es) b.in-Variable.is
+          ap (replaced_part arena es) (sym c.symbol.ensures ∙ b.in-Variable.is)
           ∙ sym (ap (span_formula arena) b.replacement_of-span.ensures) in
           let begins_is_true : starts_with nat_eq (slice_range xs a e) (span_formula arena p)
           ≡ true =
@@ -61,7 +61,7 @@ loop-part-preserved c =
           length_formula arena p
           (variable_replacement_is_in arena es w i c.part-item.result b.in-Variable.number p
           c.requires.premises
-          c.requires.wanted i_lt_length_w c.part-item.is b.in-Variable.is
+          c.requires.wanted i_lt_length_w c.part-item.is (sym c.symbol.ensures ∙ b.in-Variable.is)
           b.replacement_of-span.ensures) in
           rw b.at-is (record {
             start_le_at = omega (arith, c.loop-part.invariant.start_le_at);
@@ -94,7 +94,7 @@ loop-part-preserved c =
             test_is_rest_test =
                 c.loop-part.invariant.test_is_rest_test
                 ∙ fit_splits arena es xs w i a e i_lt_length_w c.part-item.result (s ∷ [])
-                (sym c.part-item.is) (ap (replaced_part arena es) b.in-Constant.is)
+                (sym c.part-item.is) (ap (replaced_part arena es) (sym c.symbol.ensures ∙ b.in-Constant.is))
                 ∙ ap (λ z. z && rest_is_wanted arena es xs w i a e i_lt_length_w 1) begins_is_true;
           })
     ]
@@ -105,7 +105,7 @@ begins_with-requires-clause-span c =
     c.loop-part.part-index
     c.part-item.result c.in-Variable.number c.replacement_of-span.result c.requires.premises
     c.requires.wanted
-    c.loop-part-test.true c.part-item.is c.in-Variable.is c.replacement_of-span.ensures
+    c.loop-part-test.true c.part-item.is (sym c.symbol.ensures ∙ c.in-Variable.is) c.replacement_of-span.ensures
 
 pub overflow_sub-at : goal.overflow_sub-at
 overflow_sub-at c =

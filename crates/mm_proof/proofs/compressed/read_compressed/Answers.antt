@@ -4,9 +4,10 @@ use Rattle.std.proofs.lemmas.List.{take_rest}
 use Rattle.mm_spec.specs.CompressedProof.{bracketed}
 use Rattle.mm_spec.specs.NormalProof.{usable}
 use Rattle.mm_outline.specs.Parts.{as_tokens}
-use Rattle.mm_proof.proofs.BracketsLaw.{order_drop, read_steps, faults_closed}
+use Rattle.mm_proof.proofs.BracketsLaw.{in_order_after_drop, read_steps_are_compressed_steps}
+use Rattle.mm_proof.proofs.BracketsLaw.{faults_with_closed_brackets}
 use Rattle.std.proofs.lemmas.Result.{IfOk-from_err}
-use Rattle.mm_proof.proofs.LettersLaw.{err_same}
+use Rattle.mm_proof.proofs.LettersLaw.{on_same_err}
 use Rattle.mm_proof.specs.declared.refused.ProofRefused.TheVariants.{Memory}
 use Rattle.mm_proof.specs.Letters.{letters_state}
 use Rattle.mm_proof.specs.Refused.{StartsWith}
@@ -18,7 +19,8 @@ use Rattle.mm_proof.proofs.compressed.read_compressed.Goals as goal
 pub read_all-requires-clause-in_order : goal.read_all-requires-clause-in_order
 read_all-requires-clause-in_order g c =
     rw (c.text.ensures, take_rest)
-    (order_drop c.args.database.now.text c.args.words.now _ 0 c.args.end c.requires.in_order)
+    (in_order_after_drop c.args.database.now.text c.args.words.now _ 0 c.args.end
+    c.requires.in_order)
 
 pub returns-clause-steps : goal.returns-clause-steps
 returns-clause-steps g c =
@@ -26,30 +28,30 @@ returns-clause-steps g c =
     let text = c.args.database.now.text in
     let words = c.args.words.now in
     let n = c.in_ok-label_count.label_count in
-    let steps =
+    let steps_are_group_steps =
     rw (c.none-letters.ensures, c.text.ensures, take_rest) at
     c.in_ok-read_all.ensures.reads.steps in
-    let hypotheses =
+    let labels_begin_with_hypotheses =
     c.in_ok-extend_from_slice.ensures.items
     ∙ ap₂ (λ xs ys. xs ++ ys) c.with_room-labels.ensures
     (c.as_slice.ensures.value ∙ c.frame.ensures.hypotheses) in
-    let labels =
+    let labels_are =
     c.in_ok-label_count.ensures.labels.labels
     ∙ ap (λ xs. xs
     ++ flat_map (λ t. usable db c.args.theorem t.word) (as_tokens text (take n words)))
-    hypotheses in
-    let theorem =
+    labels_begin_with_hypotheses in
+    let theorem_is_same =
     c.in_ok-read_all.ensures.reads.theorem ∙ ap (λ s. s.theorem) c.none-letters.ensures in
     c.into_steps.ensures
-    ∙ read_steps db c.args.theorem (bracketed (as_tokens text words))
+    ∙ read_steps_are_compressed_steps db c.args.theorem (bracketed (as_tokens text words))
     (as_tokens text (take n words))
     (as_tokens text (drop (n + 1) words)) c.read_labels.new.labels.items _ _
-    c.in_ok-label_count.ensures.labels.brackets labels theorem steps
+    c.in_ok-label_count.ensures.labels.brackets labels_are theorem_is_same steps_are_group_steps
 
 pub returns-in_err-extend_from_slice-clause-fault :
     goal.returns-in_err-extend_from_slice-clause-fault
 returns-in_err-extend_from_slice-clause-fault g c =
-    err_same c.from_residual.result Memory _ c.from_residual.ensures.1 tt
+    on_same_err c.from_residual.result Memory _ c.from_residual.ensures.1 tt
 
 pub returns-in_err-extend_from_slice-clause-sound :
     goal.returns-in_err-extend_from_slice-clause-sound
@@ -63,7 +65,7 @@ returns-in_err-extend_from_slice-clause-steps g c =
 
 pub returns-in_err-label_count-clause-fault : goal.returns-in_err-label_count-clause-fault
 returns-in_err-label_count-clause-fault g c =
-    err_same c.from_residual-in_err-label_count.result c.in_err-label_count.field-0.0 _
+    on_same_err c.from_residual-in_err-label_count.result c.in_err-label_count.field-0.0 _
     c.from_residual-in_err-label_count.ensures.1
     c.in_err-label_count.ensures.fault
 
@@ -74,54 +76,65 @@ read_all-requires-clause-none g c =
 
 pub offset_bounds-words-label_count : goal.offset_bounds-words-label_count
 offset_bounds-words-label_count g c =
-    let s = c.in_ok-label_count.ensures.labels.some in omega (arith, s)
+    let count_lt_words = c.in_ok-label_count.ensures.labels.n_lt_length in
+    omega (arith, count_lt_words)
 
 pub overflow_add-letter_words : goal.overflow_add-letter_words
 overflow_add-letter_words g c =
-    let s = c.in_ok-label_count.ensures.labels.some in omega (arith, s)
+    let count_lt_words = c.in_ok-label_count.ensures.labels.n_lt_length in
+    omega (arith, count_lt_words)
 
 pub slice_bounds-letter_words-count : goal.slice_bounds-letter_words-count
 slice_bounds-letter_words-count g c =
-    let s = c.in_ok-label_count.ensures.labels.some in omega (arith, s)
+    let count_lt_words = c.in_ok-label_count.ensures.labels.n_lt_length in
+    omega (arith, count_lt_words)
 
 pub slice_bounds-letter_words-end : goal.slice_bounds-letter_words-end
 slice_bounds-letter_words-end g c =
-    let s = c.in_ok-label_count.ensures.labels.some in omega (arith, s)
+    let count_lt_words = c.in_ok-label_count.ensures.labels.n_lt_length in
+    omega (arith, count_lt_words)
 
 pub slice_bounds-letter_words-start : goal.slice_bounds-letter_words-start
 slice_bounds-letter_words-start g c =
-    let s = c.in_ok-label_count.ensures.labels.some in omega (arith, s)
+    let count_lt_words = c.in_ok-label_count.ensures.labels.n_lt_length in
+    omega (arith, count_lt_words)
 
 pub returns-clause-sound : goal.returns-clause-sound
 returns-clause-sound g c =
-    let hypotheses =
+    let labels_begin_with_hypotheses =
     c.in_ok-extend_from_slice.ensures.items
     ∙ ap₂ (λ xs ys. xs ++ ys) c.with_room-labels.ensures
     (c.as_slice.ensures.value ∙ c.frame.ensures.hypotheses) in
-    faults_closed c.args.database.now.statements c.args.theorem c.args.end c.args.database.now.text
+    faults_with_closed_brackets c.args.database.now.statements c.args.theorem c.args.end
+    c.args.database.now.text
     c.args.words.now c.in_ok-label_count.label_count c.extend_from_slice.new.self.items
-    c.read_labels.new.labels.items c.in_ok-label_count.ensures.labels.some hypotheses
-    c.in_ok-label_count.ensures.labels.many c.in_ok-label_count.ensures.labels.brackets
-    c.in_ok-label_count.ensures.labels.sound
-    ∙ rw (c.none-letters.ensures, c.text.ensures, take_rest) at c.in_ok-read_all.ensures.reads.sound
+    c.read_labels.new.labels.items c.in_ok-label_count.ensures.labels.n_lt_length
+    labels_begin_with_hypotheses
+    c.in_ok-label_count.ensures.labels.label_count c.in_ok-label_count.ensures.labels.brackets
+    c.in_ok-label_count.ensures.labels.labels_are_faultless
+    ∙ rw (c.none-letters.ensures, c.text.ensures, take_rest) at
+    c.in_ok-read_all.ensures.reads.letters_are_faultless
 
 pub returns-in_err-read_all-clause-fault : goal.returns-in_err-read_all-clause-fault
 returns-in_err-read_all-clause-fault g c =
-    let hypotheses =
+    let labels_begin_with_hypotheses =
     c.in_ok-extend_from_slice.ensures.items
     ∙ ap₂ (λ xs ys. xs ++ ys) c.with_room-labels.ensures
     (c.as_slice.ensures.value ∙ c.frame.ensures.hypotheses) in
-    let faults =
-    faults_closed c.args.database.now.statements c.args.theorem c.args.end c.args.database.now.text
+    let faults_are_letter_faults =
+    faults_with_closed_brackets c.args.database.now.statements c.args.theorem c.args.end
+    c.args.database.now.text
     c.args.words.now c.in_ok-label_count.label_count c.extend_from_slice.new.self.items
-    c.read_labels.new.labels.items c.in_ok-label_count.ensures.labels.some hypotheses
-    c.in_ok-label_count.ensures.labels.many c.in_ok-label_count.ensures.labels.brackets
-    c.in_ok-label_count.ensures.labels.sound in
-    let fault =
+    c.read_labels.new.labels.items c.in_ok-label_count.ensures.labels.n_lt_length
+    labels_begin_with_hypotheses
+    c.in_ok-label_count.ensures.labels.label_count c.in_ok-label_count.ensures.labels.brackets
+    c.in_ok-label_count.ensures.labels.labels_are_faultless in
+    let fault_is_first =
     rw (c.none-letters.ensures, c.text.ensures, take_rest) at c.in_err-read_all.ensures.fault in
-    err_same c.from_residual-in_err-read_all.result c.in_err-read_all.field-0.0 _
+    on_same_err c.from_residual-in_err-read_all.result c.in_err-read_all.field-0.0 _
     c.from_residual-in_err-read_all.ensures.1
-    (subst (λ fs. StartsWith fs c.in_err-read_all.field-0.0) (sym faults) fault)
+    (subst (λ fs. StartsWith fs c.in_err-read_all.field-0.0)
+    (sym faults_are_letter_faults) fault_is_first)
 
 pub read_labels-requires-clause-theorem : goal.read_labels-requires-clause-theorem
 read_labels-requires-clause-theorem g c =

@@ -2,20 +2,20 @@ use Rattle.std.proofs.Common.{◌≡◌, ◌+◌, ◌++◌, [], length, take, dr
 use Rattle.mm_spec.specs.NormalProof.{usable, proof_label_faults}
 use Rattle.mm_spec.specs.CompressedProof.{bracketed}
 use Rattle.mm_outline.specs.Parts.{as_tokens}
-use Rattle.mm_proof.proofs.BracketsLaw.{after}
+use Rattle.mm_proof.proofs.BracketsLaw.{with_labels_before}
 use Rattle.mm_proof.proofs.compressed.read_labels.Given as goal
 
 abbrev pub invariant-loop-n : goal.invariant-loop-n
 invariant-loop-n g l = record {
   bracketed : bracketed (as_tokens l.database.text l.words)
-      ≡ after (as_tokens l.database.text (take l.n l.words))
+      ≡ with_labels_before (as_tokens l.database.text (take l.n l.words))
       (bracketed (as_tokens l.database.text (drop l.n l.words)));
   labels : l.labels.items
       ≡ l.fn.labels.items
       ++ flat_map (λ t. usable l.database.statements l.theorem t.word)
       (as_tokens l.database.text (take l.n l.words));
-  many : length l.labels.items ≡ length l.fn.labels.items + l.n;
-  sound : flat_map (proof_label_faults l.database.statements l.theorem)
+  label_count : length l.labels.items ≡ length l.fn.labels.items + l.n;
+  labels_are_faultless : flat_map (proof_label_faults l.database.statements l.theorem)
       (as_tokens l.database.text (take l.n l.words))
       ≡ [];
 }

@@ -5,8 +5,9 @@ use Rattle.mm_spec.specs.NormalProof.{usable}
 use Rattle.mm_spec.specs.declared.Word.{Word}
 use Rattle.mm_spec.specs.declared.Code.TheVariants.{IncompleteProof, UnusableLabel}
 use Rattle.mm_outline.specs.Parts.{token_of}
-use Rattle.mm_proof.proofs.LeastLaw.{faulty_word, question_fault, label_fault}
-use Rattle.mm_proof.proofs.LettersLaw.{err_same}
+use Rattle.mm_proof.proofs.LeastLaw.{fault_of_faulty_word_is_least, question_mark_fault}
+use Rattle.mm_proof.proofs.LeastLaw.{unusable_label_fault}
+use Rattle.mm_proof.proofs.LettersLaw.{on_same_err}
 use Rattle.mm_proof.specs.declared.refused.ProofRefused.TheVariants.{Memory}
 use Rattle.mm_proof.proofs.reader.read_normal.Goals as goal
 
@@ -14,32 +15,36 @@ pub returns-then-eq-clause-fault : goal.returns-then-eq-clause-fault
 returns-then-eq-clause-fault g c =
     let db = c.args.database.now.statements in
     let text = c.args.database.now.text in
-    let none : Word = record { start = 0; end = 0 } in
-    let w = get_or c.args.words.now c.loop-word.word-index none in
-    let label = c.bytes-label.ensures ∙ ap (λ t. slice_range t w.start w.end) c.text-text.ensures in
-    let test : bytes_eq (slice_range text w.start w.end) (codes "?") ≡ true =
-    ap₂ bytes_eq (sym label) (sym c.as_slice.ensures) ∙ sym c.eq.ensures ∙ c.if-eq.true in
+    let no_word : Word = record { start = 0; end = 0 } in
+    let w = get_or c.args.words.now c.loop-word.word-index no_word in
+    let label_is_word =
+    c.bytes-label.ensures ∙ ap (λ t. slice_range t w.start w.end) c.text-text.ensures in
+    let word_is_question_mark : bytes_eq (slice_range text w.start w.end) (codes "?") ≡ true =
+    ap₂ bytes_eq (sym label_is_word) (sym c.as_slice.ensures) ∙ sym c.eq.ensures ∙ c.if-eq.true in
     rw c.refused.ensures
-    (faulty_word text c.args.words.now c.loop-word.word-index none c.loop-word-test.true db
+    (fault_of_faulty_word_is_least text c.args.words.now c.loop-word.word-index no_word
+    c.loop-word-test.true db
     c.args.theorem
     (fault w.start IncompleteProof) c.requires.rising c.loop-word.invariant.faults
-    (question_fault db c.args.theorem (token_of text w) test))
+    (question_mark_fault db c.args.theorem (token_of text w) word_is_question_mark))
 
 pub returns-in-None-clause-fault : goal.returns-in-None-clause-fault
 returns-in-None-clause-fault g c =
     let db = c.args.database.now.statements in
     let text = c.args.database.now.text in
-    let none : Word = record { start = 0; end = 0 } in
-    let w = get_or c.args.words.now c.loop-word.word-index none in
-    let label = c.bytes-label.ensures ∙ ap (λ t. slice_range t w.start w.end) c.text-text.ensures in
-    let test : bytes_eq (slice_range text w.start w.end) (codes "?") ≡ false =
-    ap₂ bytes_eq (sym label) (sym c.as_slice.ensures) ∙ sym c.eq.ensures ∙ c.if-eq.false in
+    let no_word : Word = record { start = 0; end = 0 } in
+    let w = get_or c.args.words.now c.loop-word.word-index no_word in
+    let label_is_word =
+    c.bytes-label.ensures ∙ ap (λ t. slice_range t w.start w.end) c.text-text.ensures in
+    let word_is_no_question_mark : bytes_eq (slice_range text w.start w.end) (codes "?") ≡ false =
+    ap₂ bytes_eq (sym label_is_word) (sym c.as_slice.ensures) ∙ sym c.eq.ensures ∙ c.if-eq.false in
     rw c.refused-in-None.ensures
-    (faulty_word text c.args.words.now c.loop-word.word-index none c.loop-word-test.true db
+    (fault_of_faulty_word_is_least text c.args.words.now c.loop-word.word-index no_word
+    c.loop-word-test.true db
     c.args.theorem (fault w.start UnusableLabel) c.requires.rising c.loop-word.invariant.faults
-    (label_fault db c.args.theorem (token_of text w) test
-    (ap (usable db c.args.theorem) (sym label) ∙ c.in-None.ensures)))
+    (unusable_label_fault db c.args.theorem (token_of text w) word_is_no_question_mark
+    (ap (usable db c.args.theorem) (sym label_is_word) ∙ c.in-None.ensures)))
 
 pub returns-in_err-push-in-Some-clause-fault : goal.returns-in_err-push-in-Some-clause-fault
 returns-in_err-push-in-Some-clause-fault g c =
-    err_same c.from_residual.result Memory _ c.from_residual.ensures.1 tt
+    on_same_err c.from_residual.result Memory _ c.from_residual.ensures.1 tt

@@ -1,7 +1,7 @@
 use Rattle.std.proofs.Common.{◌≡◌, [], take, flat_map}
 use Rattle.mm_spec.specs.NormalProof.{normal_steps}
 use Rattle.mm_outline.specs.Parts.{as_tokens}
-use Rattle.mm_steps.specs.Read.{read}
+use Rattle.mm_steps.specs.TheoremSteps.{theorem_steps}
 use Rattle.mm_proof.specs.Refused.{word_faults}
 use Rattle.mm_proof.proofs.reader.read_normal.Given as goal
 
@@ -11,7 +11,7 @@ invariant-loop-word g l = record {
       (as_tokens l.database.text (take l.word-index l.words))
       ≡ [];
   steps : l.steps
-      ≡ read l.theorem
+      ≡ theorem_steps l.theorem
       (normal_steps l.database.statements l.theorem
       (as_tokens l.database.text (take l.word-index l.words)));
 }

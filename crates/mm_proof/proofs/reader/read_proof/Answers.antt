@@ -5,14 +5,16 @@ use Rattle.mm_spec.specs.Citation.{reading_faults_at}
 use Rattle.mm_outline.specs.Parts.{as_tokens, token_of, AreWithin}
 use Rattle.mm_proof.specs.Letters.{AreInOrder}
 use Rattle.mm_proof.specs.Refused.{IsProofRefusal}
-use Rattle.mm_proof.proofs.RisingLaw.{proof_rising, proof_in_order}
-use Rattle.mm_proof.proofs.OrderLaw.{first_fault}
-use Rattle.mm_proof.proofs.BracketsLaw.{order_rest}
-use Rattle.mm_proof.proofs.LettersLaw.{err_then}
-use Rattle.mm_proof.proofs.ReadLaw.{theorem_is, theorem_within, end_is, compressed_at, normal_at}
-use Rattle.mm_proof.proofs.ReadLaw.{normal_steps_at, compressed_steps_at, empty_at, no_words}
+use Rattle.mm_proof.proofs.RisingLaw.{proof_words_rise, proof_words_are_in_order}
+use Rattle.mm_proof.proofs.OrderLaw.{first_fault_is_refusal}
+use Rattle.mm_proof.proofs.BracketsLaw.{in_order_after_first}
+use Rattle.mm_proof.proofs.LettersLaw.{on_err_then}
+use Rattle.mm_proof.proofs.ReadLaw.{theorem_is_provable, theorem_lt_length, dot_is_end}
+use Rattle.mm_proof.proofs.ReadLaw.{compressed_faults_at, normal_faults_at}
+use Rattle.mm_proof.proofs.ReadLaw.{normal_steps_at, compressed_steps_at, empty_proof_faults_at}
+use Rattle.mm_proof.proofs.ReadLaw.{no_words}
 use Rattle.mm_outline.proofs.ResultsLaw.{ok_then}
-use Rattle.mm_steps.specs.Read.{read}
+use Rattle.mm_steps.specs.TheoremSteps.{theorem_steps}
 use Rattle.mm_spec.specs.Lawful.{least}
 use Rattle.mm_spec.specs.Text.{fault}
 use Rattle.mm_spec.specs.declared.Code.TheVariants.{EmptyProof}
@@ -20,30 +22,38 @@ use Rattle.mm_proof.proofs.reader.read_proof.Goals as goal
 
 pub read_normal-requires-clause-theorem : goal.read_normal-requires-clause-theorem
 read_normal-requires-clause-theorem g c =
-    theorem_within c.args.database.now.statements c.args.theorem _
-    (theorem_is c.args.database.now.statements c.args.theorem _ c.requires
+    theorem_lt_length c.args.database.now.statements c.args.theorem _
+    (theorem_is_provable c.args.database.now.statements c.args.theorem _ c.requires
     c.proof_words-words.ensures.words)
 
 pub read_normal-requires-clause-rising : goal.read_normal-requires-clause-rising
 read_normal-requires-clause-rising g c =
     let db = c.args.database.now.statements in
-    let t = theorem_is db c.args.theorem _ c.requires c.proof_words-words.ensures.words in
-    proof_rising c.args.database.now.text c.args.database.now.read c.args.database.now.with_open _
-    c.len.ensures.read db c.len.ensures.counted c.args.theorem t.label t.keyword t.symbols
-    t.equals _ t.dot t.is
+    let is_provable =
+    theorem_is_provable db c.args.theorem _ c.requires c.proof_words-words.ensures.words in
+    proof_words_rise c.args.database.now.text c.args.database.now.read c.args.database.now.with_open
+    _
+    c.len.ensures.read db c.len.ensures.counted c.args.theorem is_provable.label is_provable.keyword
+    is_provable.symbols
+    is_provable.equals _ is_provable.dot is_provable.statement_is
 
 pub read_compressed-requires-clause-in_order : goal.read_compressed-requires-clause-in_order
 read_compressed-requires-clause-in_order g c =
     let db = c.args.database.now.statements in
     let text = c.args.database.now.text in
-    let t = theorem_is db c.args.theorem _ c.requires c.proof_words-words.ensures.words in
-    let e = end_is db c.args.theorem c.end_at-end.result _ t c.end_at-end.ensures in
-    let whole =
-    subst (λ ws. AreInOrder 0 (as_tokens text ws) t.dot) c.in-Some.ensures.cases.0
-    (proof_in_order text c.args.database.now.read c.args.database.now.with_open _ c.len.ensures.read
-    db c.len.ensures.counted c.args.theorem t.label t.keyword t.symbols t.equals _ t.dot t.is) in
-    subst (AreInOrder 0 (as_tokens text c.in-Some.rest.now)) e
-    (order_rest text c.in-Some.first.now c.in-Some.rest.now 0 t.dot whole)
+    let is_provable =
+    theorem_is_provable db c.args.theorem _ c.requires c.proof_words-words.ensures.words in
+    let dot_is_end_place =
+    dot_is_end db c.args.theorem c.end_at-end.result _ is_provable c.end_at-end.ensures in
+    let words_are_in_order =
+    subst (λ ws. AreInOrder 0 (as_tokens text ws) is_provable.dot) c.in-Some.ensures.cases.0
+    (proof_words_are_in_order text c.args.database.now.read c.args.database.now.with_open _
+    c.len.ensures.read
+    db c.len.ensures.counted c.args.theorem is_provable.label is_provable.keyword
+    is_provable.symbols is_provable.equals _ is_provable.dot is_provable.statement_is) in
+    subst (AreInOrder 0 (as_tokens text c.in-Some.rest.now)) dot_is_end_place
+    (in_order_after_first text c.in-Some.first.now c.in-Some.rest.now 0 is_provable.dot
+    words_are_in_order)
 
 pub returns-then-eq-clause-fault : goal.returns-then-eq-clause-fault
 returns-then-eq-clause-fault g c =
@@ -51,96 +61,128 @@ returns-then-eq-clause-fault g c =
     let text = c.args.database.now.text in
     let first = c.in-Some.first.now in
     let rest = as_tokens text c.in-Some.rest.now in
-    let t = theorem_is db c.args.theorem _ c.requires c.proof_words-words.ensures.words in
-    let e = end_is db c.args.theorem c.end_at-end.result _ t c.end_at-end.ensures in
-    let whole =
-    subst (λ ws. AreInOrder 0 (as_tokens text ws) t.dot) c.in-Some.ensures.cases.0
-    (proof_in_order text c.args.database.now.read c.args.database.now.with_open _ c.len.ensures.read
-    db c.len.ensures.counted c.args.theorem t.label t.keyword t.symbols t.equals _ t.dot t.is) in
-    let order = subst (AreInOrder 0 rest) e (order_rest text first c.in-Some.rest.now 0 t.dot whole)
+    let is_provable =
+    theorem_is_provable db c.args.theorem _ c.requires c.proof_words-words.ensures.words in
+    let dot_is_end_place =
+    dot_is_end db c.args.theorem c.end_at-end.result _ is_provable c.end_at-end.ensures in
+    let words_are_in_order =
+    subst (λ ws. AreInOrder 0 (as_tokens text ws) is_provable.dot) c.in-Some.ensures.cases.0
+    (proof_words_are_in_order text c.args.database.now.read c.args.database.now.with_open _
+    c.len.ensures.read
+    db c.len.ensures.counted c.args.theorem is_provable.label is_provable.keyword
+    is_provable.symbols is_provable.equals _ is_provable.dot is_provable.statement_is) in
+    let rest_is_in_order = subst (AreInOrder 0 rest) dot_is_end_place
+    (in_order_after_first text first c.in-Some.rest.now 0 is_provable.dot words_are_in_order)
     in
-    let label = c.bytes.ensures ∙ ap (λ t. slice_range t first.start first.end) c.text.ensures in
-    let test : bytes_eq (slice_range text first.start first.end) (codes "(") ≡ true =
-    ap₂ bytes_eq (sym label) (sym c.as_slice.ensures) ∙ sym c.eq.ensures ∙ c.if-eq.true in
-    let faults : reading_faults_at db c.args.theorem
+    let label_is_word =
+    c.bytes.ensures ∙ ap (λ t. slice_range t first.start first.end)
+    c.text.ensures in
+    let first_opens : bytes_eq (slice_range text first.start first.end) (codes "(") ≡ true =
+    ap₂ bytes_eq (sym label_is_word) (sym c.as_slice.ensures) ∙ sym c.eq.ensures ∙ c.if-eq.true in
+    let faults_are_compressed : reading_faults_at db c.args.theorem
     ≡ compressed_faults db c.args.theorem c.end_at-end.result (bracketed rest) =
-    compressed_at db c.args.theorem _ t (token_of text first) rest
-    (ap (as_tokens text) c.in-Some.ensures.cases.0) test
-    ∙ ap (λ end. compressed_faults db c.args.theorem end (bracketed rest)) e in
-    err_then c.read_compressed.result c.read_compressed.ensures.fault
-    (λ r s. subst (λ fs. IsProofRefusal fs r) (sym faults)
-    (first_fault db c.args.theorem c.end_at-end.result 0 rest r order s))
+    compressed_faults_at db c.args.theorem _ is_provable (token_of text first) rest
+    (ap (as_tokens text) c.in-Some.ensures.cases.0) first_opens
+    ∙ ap (λ end. compressed_faults db c.args.theorem end (bracketed rest)) dot_is_end_place in
+    on_err_then c.read_compressed.result c.read_compressed.ensures.fault
+    (λ refusal starts_with_refusal. subst (λ fs. IsProofRefusal fs refusal)
+    (sym faults_are_compressed)
+    (first_fault_is_refusal db c.args.theorem c.end_at-end.result 0 rest refusal rest_is_in_order
+    starts_with_refusal))
 
 pub returns-clause-steps : goal.returns-clause-steps
 returns-clause-steps g c =
     let db = c.args.database.now.statements in
     let text = c.args.database.now.text in
-    let t = theorem_is db c.args.theorem _ c.requires c.proof_words-words.ensures.words in
+    let is_provable =
+    theorem_is_provable db c.args.theorem _ c.requires c.proof_words-words.ensures.words in
     let first = c.in-Some.first.now in
-    let label = c.bytes.ensures ∙ ap (λ t. slice_range t first.start first.end) c.text.ensures in
-    let test : bytes_eq (slice_range text first.start first.end) (codes "(") ≡ false =
-    ap₂ bytes_eq (sym label) (sym c.as_slice.ensures) ∙ sym c.eq.ensures ∙ c.if-eq.false in
-    ok_then c.read_normal.result c.read_normal.ensures.steps (λ s e. e
-    ∙ ap (read c.args.theorem) (sym (normal_steps_at db c.args.theorem _ t (token_of text first)
+    let label_is_word =
+    c.bytes.ensures ∙ ap (λ t. slice_range t first.start first.end)
+    c.text.ensures in
+    let first_opens_not : bytes_eq (slice_range text first.start first.end) (codes "(") ≡ false =
+    ap₂ bytes_eq (sym label_is_word) (sym c.as_slice.ensures) ∙ sym c.eq.ensures ∙ c.if-eq.false in
+    ok_then c.read_normal.result c.read_normal.ensures.steps (λ steps steps_are_read. steps_are_read
+    ∙ ap (theorem_steps c.args.theorem)
+    (sym (normal_steps_at db c.args.theorem _ is_provable (token_of text first)
     (as_tokens text c.in-Some.rest.now)
-    (ap (as_tokens text) c.in-Some.ensures.cases.0) test)))
+    (ap (as_tokens text) c.in-Some.ensures.cases.0) first_opens_not)))
 
 pub returns-clause-sound : goal.returns-clause-sound
 returns-clause-sound g c =
     let db = c.args.database.now.statements in
     let text = c.args.database.now.text in
-    let t = theorem_is db c.args.theorem _ c.requires c.proof_words-words.ensures.words in
+    let is_provable =
+    theorem_is_provable db c.args.theorem _ c.requires c.proof_words-words.ensures.words in
     let first = c.in-Some.first.now in
-    let label = c.bytes.ensures ∙ ap (λ t. slice_range t first.start first.end) c.text.ensures in
-    let test : bytes_eq (slice_range text first.start first.end) (codes "(") ≡ false =
-    ap₂ bytes_eq (sym label) (sym c.as_slice.ensures) ∙ sym c.eq.ensures ∙ c.if-eq.false in
-    ok_then c.read_normal.result c.read_normal.ensures.sound (λ s h. normal_at db c.args.theorem _ t
+    let label_is_word =
+    c.bytes.ensures ∙ ap (λ t. slice_range t first.start first.end)
+    c.text.ensures in
+    let first_opens_not : bytes_eq (slice_range text first.start first.end) (codes "(") ≡ false =
+    ap₂ bytes_eq (sym label_is_word) (sym c.as_slice.ensures) ∙ sym c.eq.ensures ∙ c.if-eq.false in
+    ok_then c.read_normal.result c.read_normal.ensures.sound
+    (λ steps no_faults. normal_faults_at db c.args.theorem _ is_provable
     (token_of text first) (as_tokens text c.in-Some.rest.now)
-    (ap (as_tokens text) c.in-Some.ensures.cases.0) test ∙ h)
+    (ap (as_tokens text) c.in-Some.ensures.cases.0) first_opens_not ∙ no_faults)
 
 pub returns-clause-fault : goal.returns-clause-fault
 returns-clause-fault g c =
     let db = c.args.database.now.statements in
     let text = c.args.database.now.text in
-    let t = theorem_is db c.args.theorem _ c.requires c.proof_words-words.ensures.words in
+    let is_provable =
+    theorem_is_provable db c.args.theorem _ c.requires c.proof_words-words.ensures.words in
     let first = c.in-Some.first.now in
-    let label = c.bytes.ensures ∙ ap (λ t. slice_range t first.start first.end) c.text.ensures in
-    let test : bytes_eq (slice_range text first.start first.end) (codes "(") ≡ false =
-    ap₂ bytes_eq (sym label) (sym c.as_slice.ensures) ∙ sym c.eq.ensures ∙ c.if-eq.false in
-    err_then c.read_normal.result c.read_normal.ensures.fault
-    (λ r s. subst (λ fs. IsProofRefusal fs r)
-    (sym (normal_at db c.args.theorem _ t (token_of text first) (as_tokens text c.in-Some.rest.now)
-    (ap (as_tokens text) c.in-Some.ensures.cases.0) test)) s)
+    let label_is_word =
+    c.bytes.ensures ∙ ap (λ t. slice_range t first.start first.end)
+    c.text.ensures in
+    let first_opens_not : bytes_eq (slice_range text first.start first.end) (codes "(") ≡ false =
+    ap₂ bytes_eq (sym label_is_word) (sym c.as_slice.ensures) ∙ sym c.eq.ensures ∙ c.if-eq.false in
+    on_err_then c.read_normal.result c.read_normal.ensures.fault
+    (λ refusal is_refusal. subst (λ fs. IsProofRefusal fs refusal)
+    (sym (normal_faults_at db c.args.theorem _ is_provable (token_of text first)
+    (as_tokens text c.in-Some.rest.now)
+    (ap (as_tokens text) c.in-Some.ensures.cases.0) first_opens_not)) is_refusal)
 
 pub returns-then-eq-clause-steps : goal.returns-then-eq-clause-steps
 returns-then-eq-clause-steps g c =
     let db = c.args.database.now.statements in
     let text = c.args.database.now.text in
-    let t = theorem_is db c.args.theorem _ c.requires c.proof_words-words.ensures.words in
+    let is_provable =
+    theorem_is_provable db c.args.theorem _ c.requires c.proof_words-words.ensures.words in
     let first = c.in-Some.first.now in
-    let label = c.bytes.ensures ∙ ap (λ t. slice_range t first.start first.end) c.text.ensures in
-    let test : bytes_eq (slice_range text first.start first.end) (codes "(") ≡ true =
-    ap₂ bytes_eq (sym label) (sym c.as_slice.ensures) ∙ sym c.eq.ensures ∙ c.if-eq.true in
-    ok_then c.read_compressed.result c.read_compressed.ensures.steps (λ s e. e
-    ∙ ap (read c.args.theorem) (sym (compressed_steps_at db c.args.theorem _ t (token_of text
+    let label_is_word =
+    c.bytes.ensures ∙ ap (λ t. slice_range t first.start first.end)
+    c.text.ensures in
+    let first_opens : bytes_eq (slice_range text first.start first.end) (codes "(") ≡ true =
+    ap₂ bytes_eq (sym label_is_word) (sym c.as_slice.ensures) ∙ sym c.eq.ensures ∙ c.if-eq.true in
+    ok_then c.read_compressed.result c.read_compressed.ensures.steps
+    (λ steps steps_are_read. steps_are_read
+    ∙ ap (theorem_steps c.args.theorem)
+    (sym (compressed_steps_at db c.args.theorem _ is_provable (token_of text
     first) (as_tokens text c.in-Some.rest.now)
-    (ap (as_tokens text) c.in-Some.ensures.cases.0) test)))
+    (ap (as_tokens text) c.in-Some.ensures.cases.0) first_opens)))
 
 pub returns-then-eq-clause-sound : goal.returns-then-eq-clause-sound
 returns-then-eq-clause-sound g c =
     let db = c.args.database.now.statements in
     let text = c.args.database.now.text in
-    let t = theorem_is db c.args.theorem _ c.requires c.proof_words-words.ensures.words in
+    let is_provable =
+    theorem_is_provable db c.args.theorem _ c.requires c.proof_words-words.ensures.words in
     let first = c.in-Some.first.now in
-    let label = c.bytes.ensures ∙ ap (λ t. slice_range t first.start first.end) c.text.ensures in
-    let test : bytes_eq (slice_range text first.start first.end) (codes "(") ≡ true =
-    ap₂ bytes_eq (sym label) (sym c.as_slice.ensures) ∙ sym c.eq.ensures ∙ c.if-eq.true in
-    let e = end_is db c.args.theorem c.end_at-end.result _ t c.end_at-end.ensures in
+    let label_is_word =
+    c.bytes.ensures ∙ ap (λ t. slice_range t first.start first.end)
+    c.text.ensures in
+    let first_opens : bytes_eq (slice_range text first.start first.end) (codes "(") ≡ true =
+    ap₂ bytes_eq (sym label_is_word) (sym c.as_slice.ensures) ∙ sym c.eq.ensures ∙ c.if-eq.true in
+    let dot_is_end_place =
+    dot_is_end db c.args.theorem c.end_at-end.result _ is_provable c.end_at-end.ensures in
     let rest = as_tokens text c.in-Some.rest.now in
-    ok_then c.read_compressed.result c.read_compressed.ensures.sound (λ s h. compressed_at db
-    c.args.theorem _ t (token_of text first) (as_tokens text c.in-Some.rest.now)
-    (ap (as_tokens text) c.in-Some.ensures.cases.0) test
-    ∙ ap (λ end. compressed_faults db c.args.theorem end (bracketed rest)) e ∙ h)
+    ok_then c.read_compressed.result c.read_compressed.ensures.sound
+    (λ steps no_faults. compressed_faults_at db
+    c.args.theorem _ is_provable (token_of text first) (as_tokens text c.in-Some.rest.now)
+    (ap (as_tokens text) c.in-Some.ensures.cases.0) first_opens
+    ∙ ap (λ end. compressed_faults db c.args.theorem end (bracketed rest)) dot_is_end_place
+    ∙ no_faults)
 
 pub read_compressed-requires-clause-within : goal.read_compressed-requires-clause-within
 read_compressed-requires-clause-within g c =
@@ -153,10 +195,10 @@ pub returns-in_default-clause-fault : goal.returns-in_default-clause-fault
 returns-in_default-clause-fault g c =
     let db = c.args.database.now.statements in
     let text = c.args.database.now.text in
-    let t = theorem_is db c.args.theorem _ c.requires c.proof_words-words.ensures.words in
-    let e = end_is db c.args.theorem c.end_at-end.result _ t c.end_at-end.ensures in
+    let t = theorem_is_provable db c.args.theorem _ c.requires c.proof_words-words.ensures.words in
+    let e = dot_is_end db c.args.theorem c.end_at-end.result _ t c.end_at-end.ensures in
     rw c.refused.ensures
     (ap least
-    (empty_at db c.args.theorem _ t
+    (empty_proof_faults_at db c.args.theorem _ t
     (no_words text c.proof_words-words.result.now c.in_default.ensures.cases))
     ∙ ap (λ end. Some (fault end EmptyProof)) e)

@@ -2,19 +2,19 @@ use Rattle.std.proofs.Common.{◌≡◌, ◌≤◌, ◌+◌, ◌*◌, ◌++◌, 
 use Rattle.std.specs.List.{range_with_len}
 use Rattle.std.proofs.lemmas.List.{length-take-le}
 use Rattle.std.proofs.lemmas.List.FromFn.{take-map-range_with_len}
-use Rattle.mm_report.proofs.SentLaw.{sent_none, sent_more, sent_as}
-use Rattle.mm_report.proofs.DigitLaw.{cell_text, digits_append, cells_are}
+use Rattle.mm_report.proofs.SentLaw.{sent_nothing, sent_both, sent_equal_text}
+use Rattle.mm_report.proofs.DigitLaw.{cell_text, digits_append, cells_are_digits_of_marks}
 use Rattle.mm_report.proofs.cells.send_cells.Goals as goal
 
 pub loop-word-init : goal.loop-word-init
 loop-word-init g c =
-    let none : 0 ≡ min 0 c.args.marked.now.columns = omega arith in
+    let no_cells_yet : 0 ≡ min 0 c.args.marked.now.columns = omega arith in
     record {
-      within = omega arith;
+      word_le_words = omega arith;
       sent =
-          sent_as _
-          (ap (λ n. map (cell_text c.args.marked.now c.args.row) (range_with_len 0 n)) none)
-          (sent_none (g.W.Write.contents c.args.to.now) c.args.sink.now);
+          sent_equal_text _
+          (ap (λ n. map (cell_text c.args.marked.now c.args.row) (range_with_len 0 n)) no_cells_yet)
+          (sent_nothing (g.W.Write.contents c.args.to.now) c.args.sink.now);
     }
 
 pub loop-word-preserved : goal.loop-word-preserved
@@ -23,43 +23,47 @@ loop-word-preserved g c =
     let columns = c.args.marked.now.columns in
     let word = c.loop-word.word in
     let count = c.min-word_count.result in
-    let words = c.div_ceil-words.ensures in
-    let is = c.columns.ensures in
-    let same = c.columns-in-loop-word.ensures in
-    let inside = c.loop-word-test.true in
-    let least = c.min-word_count.ensures in
-    let long = c.min-word_count.array_long in
-    let shown = c.min.ensures in
-    let few : 64 * count ≤ length c.loop-word.digits = omega (arith, least, long) in
-    let part =
+    let words_is = c.div_ceil-words.ensures in
+    let columns_is = c.columns.ensures in
+    let columns_unchanged = c.columns-in-loop-word.ensures in
+    let word_lt_words = c.loop-word-test.true in
+    let count_is_least = c.min-word_count.ensures in
+    let count_fits_array = c.min-word_count.array_long in
+    let shown_is = c.min.ensures in
+    let cells_le_buffer : 64 * count ≤ length c.loop-word.digits =
+    omega (arith, count_is_least, count_fits_array) in
+    let part_is_cells =
     c.write_cells.ensures
     ∙ ap (λ n. map f (range_with_len (64 * word) n))
-    (length-take-le (64 * count) c.loop-word.digits few) in
-    let most : c.min.result ≤ 64 * count = omega (arith, shown) in
-    let piece =
-    ap (take c.min.result) part
-    ∙ take-map-range_with_len f (64 * word) (64 * count) c.min.result most in
-    let before : min (64 * word) columns ≡ 64 * word = omega (arith, words, is, inside) in
-    let sum : 64 * word + c.min.result ≡ min (64 * (word + count)) columns =
-    omega (arith, words, is, same, inside, shown) in
+    (length-take-le (64 * count) c.loop-word.digits cells_le_buffer) in
+    let shown_le_cells : c.min.result ≤ 64 * count = omega (arith, shown_is) in
+    let piece_is_cells =
+    ap (take c.min.result) part_is_cells
+    ∙ take-map-range_with_len f (64 * word) (64 * count) c.min.result shown_le_cells in
+    let cells_before_word : min (64 * word) columns ≡ 64 * word =
+    omega (arith, words_is, columns_is, word_lt_words) in
+    let cells_after_piece : 64 * word + c.min.result ≡ min (64 * (word + count)) columns =
+    omega (arith, words_is, columns_is, columns_unchanged, word_lt_words, shown_is) in
     record {
-      within = omega (arith, words, is, least, inside);
+      word_le_words = omega (arith, words_is, columns_is, count_is_least, word_lt_words);
       sent =
-          sent_as _
+          sent_equal_text _
           (ap (λ n. map f (range_with_len 0 n) ++ map f (range_with_len (64 * word) c.min.result))
-          before
-          ∙ digits_append f (64 * word) c.min.result _ sum)
-          (sent_more c.loop-word.invariant.sent (sent_as _ piece c.send.ensures));
+          cells_before_word
+          ∙ digits_append f (64 * word) c.min.result _ cells_after_piece)
+          (sent_both c.loop-word.invariant.sent (sent_equal_text _ piece_is_cells c.send.ensures));
     }
 
 pub returns : goal.returns
 returns g c =
     let f = cell_text c.args.marked.now c.args.row in
     let columns = c.args.marked.now.columns in
-    let words = c.div_ceil-words.ensures in
-    let is = c.columns.ensures in
-    let past = c.loop-word-test.false in
-    let all : min (64 * c.loop-word.word) columns ≡ columns = omega (arith, words, is, past) in
-    sent_as _
-    (ap (λ n. map f (range_with_len 0 n)) all ∙ cells_are c.args.marked.now c.args.row)
+    let words_is = c.div_ceil-words.ensures in
+    let columns_is = c.columns.ensures in
+    let words_le_word = c.loop-word-test.false in
+    let all_cells_sent : min (64 * c.loop-word.word) columns ≡ columns =
+    omega (arith, words_is, columns_is, words_le_word) in
+    sent_equal_text _
+    (ap (λ n. map f (range_with_len 0 n)) all_cells_sent
+    ∙ cells_are_digits_of_marks c.args.marked.now c.args.row)
     c.loop-word.invariant.sent

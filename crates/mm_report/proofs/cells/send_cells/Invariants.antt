@@ -7,7 +7,7 @@ use Rattle.mm_report.proofs.cells.send_cells.Given as goal
 
 abbrev pub invariant-loop-word : goal.invariant-loop-word
 invariant-loop-word g l = record {
-  within : l.word ≤ div_ceil l.marked.columns 64;
+  word_le_words : l.word ≤ div_ceil l.marked.columns 64;
   sent : Sent (g.W.Write.contents l.fn.to) (g.W.Write.contents l.to) l.fn.sink l.sink
       (map (cell_text l.marked l.row)
       (range_with_len 0 (min (64 * l.word) l.marked.columns)));

@@ -1,6 +1,6 @@
 use Rattle.std.proofs.Common.{◌<◌, length, sym, ◌∙◌, arith}
 use Rattle.std.specs.Option.{option_map}
-use Rattle.mm_report.proofs.CitationLaw.{count_more, count_same}
+use Rattle.mm_report.proofs.CitationLaw.{listed_count_with_listed, listed_count_unchanged}
 use Rattle.mm_report.proofs.citations.listed_count.Goals as goal
 use Rattle.mm_report.proofs.citations.listed_count.Goals.{then-has_chosen_typecode}
 use Rattle.mm_report.proofs.citations.listed_count.Goals.{else-has_chosen_typecode}
@@ -11,16 +11,22 @@ loop-statement-preserved g c =
     let only = option_map (λ w. w.now) c.args.only in
     let cited = c.args.cited.now in
     let i = c.loop-statement.statement-index in
-    let l : i < length cited = c.loop-statement-test.true in
-    let n = c.loop-statement.invariant.counted in
-    let few = c.loop-statement.invariant.few in
+    let i_lt_length : i < length cited = c.loop-statement-test.true in
+    let count_is = c.loop-statement.invariant.count_is in
+    let count_le_index = c.loop-statement.invariant.count_le_index in
     elim c.if-has_chosen_typecode.branch [
-      | then-has_chosen_typecode w ↦ let more =
-          count_more db only cited i l
+      | then-has_chosen_typecode w ↦ let count_with_next =
+          listed_count_with_listed db only cited i i_lt_length
           (sym c.has_chosen_typecode.ensures ∙ w.if-has_chosen_typecode.true) in
-          rw w.count-is (record { few = omega (arith, few); counted = omega (arith, n, more) })
-      | else-has_chosen_typecode w ↦ let same =
-          count_same db only cited i l
+          rw w.count-is (record {
+            count_le_index = omega (arith, count_le_index);
+            count_is = omega (arith, count_is, count_with_next);
+          })
+      | else-has_chosen_typecode w ↦ let count_unchanged =
+          listed_count_unchanged db only cited i i_lt_length
           (sym c.has_chosen_typecode.ensures ∙ w.if-has_chosen_typecode.false) in
-          rw w.count-is (record { few = omega (arith, few); counted = omega (arith, n, same) })
+          rw w.count-is (record {
+            count_le_index = omega (arith, count_le_index);
+            count_is = omega (arith, count_is, count_unchanged);
+          })
     ]

@@ -9,7 +9,7 @@ use Rattle.mm_report.proofs.citations.send_citation_lines.Given as goal
 
 abbrev pub invariant-loop-row : goal.invariant-loop-row
 invariant-loop-row g l = record {
-  within : l.row ≤ length l.citations.theorems;
+  row_le_theorems : l.row ≤ length l.citations.theorems;
   sent : Sent (g.W.Write.contents l.fn.to) (g.W.Write.contents l.to) l.fn.sink l.sink
       (flat_map citation_line
       (map (λ i. citing_row l.database.statements (option_map (λ w. w.now) l.only) l.citations

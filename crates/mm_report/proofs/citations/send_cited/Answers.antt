@@ -6,8 +6,9 @@ use Rattle.mm_spec.specs.Text.{Bytes}
 use Rattle.mm_spec.specs.Report.{separated}
 use Rattle.mm_spec.specs.Output.{label_at}
 use Rattle.mm_report.specs.Rows.{listed, next_label}
-use Rattle.mm_report.proofs.SentLaw.{sent_more, sent_as}
-use Rattle.mm_report.proofs.CitationLaw.{labels, listed_before_same, labels_more, separated_next}
+use Rattle.mm_report.proofs.SentLaw.{sent_both, sent_equal_text}
+use Rattle.mm_report.proofs.CitationLaw.{labels, listed_before_unchanged, labels_with_listed}
+use Rattle.mm_report.proofs.CitationLaw.{separated_push}
 use Rattle.mm_report.proofs.citations.send_cited.Goals as goal
 use Rattle.mm_report.proofs.citations.send_cited.Goals.{then-has_chosen_typecode}
 use Rattle.mm_report.proofs.citations.send_cited.Goals.{else-has_chosen_typecode}
@@ -18,38 +19,44 @@ loop-statement-preserved g c =
     let only = option_map (λ w. w.now) c.args.only in
     let cited = c.args.cited.now in
     let i = c.loop-statement.statement-index in
-    let l : i < length cited = c.loop-statement-test.true in
-    let inv = c.loop-statement.invariant in
+    let i_lt_length : i < length cited = c.loop-statement-test.true in
     elim c.if-has_chosen_typecode.branch [
       | then-has_chosen_typecode w ↦
-          let more =
-          labels_more db only cited i l
+          let labels_with_next =
+          labels_with_listed db only cited i i_lt_length
           (sym c.has_chosen_typecode.ensures ∙ w.if-has_chosen_typecode.true) in
-          let n =
-          ap (λ (xs : List Bytes). length xs) more
+          let labels_count =
+          ap (λ (xs : List Bytes). length xs) labels_with_next
           ∙ length-append (labels db only cited i) (label_at db (get_or cited i 0) ∷ []) in
           rw (w.is_first_label-is, w.sink-is, w.to-is) (record {
-            none = λ e. absurd (true≢false (sym e));
-            some = λ e. omega (arith, n);
+            first_label_has_none_before = λ false_is_true. absurd (true≢false (sym false_is_true));
+            later_label_has_some_before = λ false_is_false. omega (arith, labels_count);
             sent =
-                sent_as _
-                (sym (ap separated more
-                ∙ separated_next (labels db only cited i)
-                (label_at db (get_or cited i 0)) c.loop-statement.is_first_label inv.none inv.some))
-                (sent_more inv.sent
-                (sent_as _
+                sent_equal_text _
+                (sym (ap separated labels_with_next
+                ∙ separated_push (labels db only cited i)
+                (label_at db (get_or cited i 0))
+                c.loop-statement.is_first_label
+                c.loop-statement.invariant.first_label_has_none_before
+                c.loop-statement.invariant.later_label_has_some_before))
+                (sent_both c.loop-statement.invariant.sent
+                (sent_equal_text _
                 (ap (next_label c.loop-statement.is_first_label) w.label_of.ensures)
                 w.send_next_label.ensures));
           })
       | else-has_chosen_typecode w ↦
-          let same =
+          let labels_unchanged =
           ap (λ (xs : List ℕ). map (label_at db) xs)
-          (listed_before_same db only cited i l
+          (listed_before_unchanged db only cited i i_lt_length
           (sym c.has_chosen_typecode.ensures ∙ w.if-has_chosen_typecode.false)) in
           rw (w.is_first_label-is, w.sink-is, w.to-is) (record {
-            none = λ e. same ∙ inv.none e;
-            some = λ e. subst (λ (xs : List Bytes). 0 < length xs) (sym same) (inv.some e);
-            sent = sent_as _ (sym (ap separated same)) inv.sent;
+            first_label_has_none_before = λ is_first. labels_unchanged
+                ∙ c.loop-statement.invariant.first_label_has_none_before is_first;
+            later_label_has_some_before = λ is_later.
+                subst (λ (xs : List Bytes). 0 < length xs) (sym labels_unchanged)
+                (c.loop-statement.invariant.later_label_has_some_before is_later);
+            sent = sent_equal_text _ (sym (ap separated labels_unchanged))
+                c.loop-statement.invariant.sent;
           })
     ]
 
@@ -57,7 +64,7 @@ pub returns : goal.returns
 returns g c =
     let db = c.args.database.now.statements in
     let only = option_map (λ w. w.now) c.args.only in
-    sent_as _
+    sent_equal_text _
     (ap (λ (xs : List ℕ). separated (map (label_at db) (listed db only xs)))
     (take_all c.loop-statement.statement-index c.args.cited.now c.loop-statement-test.false))
     c.loop-statement.invariant.sent

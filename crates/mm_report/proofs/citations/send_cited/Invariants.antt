@@ -7,10 +7,10 @@ use Rattle.mm_report.proofs.citations.send_cited.Given as goal
 
 abbrev pub invariant-loop-statement : goal.invariant-loop-statement
 invariant-loop-statement g l = record {
-  none : l.is_first_label ≡ true
+  first_label_has_none_before : l.is_first_label ≡ true
       → labels l.database.statements (option_map (λ w. w.now) l.only) l.cited l.statement-index
       ≡ [];
-  some : l.is_first_label ≡ false
+  later_label_has_some_before : l.is_first_label ≡ false
       → 0 < length
       (labels l.database.statements (option_map (λ w. w.now) l.only) l.cited l.statement-index);
   sent : Sent (g.W.Write.contents l.fn.to) (g.W.Write.contents l.to) l.fn.sink l.sink

@@ -9,22 +9,23 @@ use Rattle.mm_spec.specs.Output.{label_at, theorems}
 use Rattle.mm_spec.specs.Report.{head, citation_report, citation_line}
 use Rattle.mm_spec.specs.Request.{Request}
 use Rattle.mm_report.specs.Rows.{citing_row, citing_rows, open_theorems, citation_report_of}
-use Rattle.mm_report.proofs.SentLaw.{sent_more, sent_as, written, written_part}
+use Rattle.mm_report.proofs.SentLaw.{sent_both, sent_equal_text, written_if_finished}
+use Rattle.mm_report.proofs.SentLaw.{prefix_written_if_failed}
 use Rattle.mm_report.proofs.citations.write_requested_citations.Goals as goal
 
 -- what is sent is the report of the database
-same_report : (request : Request) (d : Contents) (columns : List ℕ) (c : Citing)
+sent_is_report_of_database : (request : Request) (d : Contents) (columns : List ℕ) (c : Citing)
     → (opened : Option ℕ) (axioms : ℕ) (names : List Bytes)
     → opened ≡ open_theorems request.with_open d columns → axioms ≡ length columns
     → names ≡ map (label_at d.statements) (theorems d.statements)
     → citation_report request opened axioms (citing_rows d.statements request.only c names)
     ≡ citation_report_of request d columns c
-same_report request d columns c opened axioms names o a n =
+sent_is_report_of_database request d columns c opened axioms names opened_is axioms_is names_are =
     ap (λ (x : Option ℕ). citation_report request x axioms
-    (citing_rows d.statements request.only c names)) o
+    (citing_rows d.statements request.only c names)) opened_is
     ∙ ap₂ (λ (k : ℕ) (ls : List Bytes). citation_report request
     (open_theorems request.with_open d columns) k
-    (citing_rows d.statements request.only c ls)) a n
+    (citing_rows d.statements request.only c ls)) axioms_is names_are
 
 pub send_citation_lines-requires-clause-labels : goal.send_citation_lines-requires-clause-labels
 send_citation_lines-requires-clause-labels g c =
@@ -37,35 +38,36 @@ pub returns : goal.returns
 returns g c =
     let db = c.args.database.now.statements in
     let request = c.args.request.now in
-    let opened =
+    let opened_is =
     subst (λ (r : Request). c.open_theorems-open_columns.result
     ≡ open_theorems r.with_open c.args.database.now c.args.chosen.now) c.request.view_is
     c.open_theorems-open_columns.ensures in
     let only = request.only in
     let citing = c.args.citations.now in
     let names = c.new-labels.result in
-    let count : _ ≡ length (citing_rows db only citing names) =
+    let theorem_count_is : _ ≡ length (citing_rows db only citing names) =
     c.rows-theorems.ensures.rows
     ∙ sym (length-map-range_with_len
     (λ i. citing_row db only citing (slice_index_or names i []) i) 0 (length citing.theorems)) in
-    let first =
+    let head_is =
     ap (λ (n : ℕ). head request.form c.len-axioms.result c.open_theorems-open_columns.result n)
-    count in
-    let listed =
+    theorem_count_is in
+    let lines_are =
     ap (λ (r : Request). flat_map citation_line (citing_rows db r.only citing names))
     c.request.view_is in
-    let sent =
-    sent_as _
-    (same_report request c.args.database.now c.args.chosen.now citing
-    c.open_theorems-open_columns.result c.len-axioms.result names opened
+    let report_sent =
+    sent_equal_text _
+    (sent_is_report_of_database request c.args.database.now c.args.chosen.now citing
+    c.open_theorems-open_columns.result c.len-axioms.result names opened_is
     c.len-axioms.ensures.len c.new-labels.ensures)
-    (sent_more
-    (sent_more (sent_as _ first c.send_head.ensures)
-    (sent_more c.send_line.ensures (sent_as _ listed c.send_citation_lines.ensures)))
+    (sent_both
+    (sent_both (sent_equal_text _ head_is c.send_head.ensures)
+    (sent_both c.send_line.ensures (sent_equal_text _ lines_are c.send_citation_lines.ensures)))
     c.send_line-2.ensures) in
     record {
       ok =
-          written c.finish.result c.new-sink.ensures sent c.finish.ensures.sent
+          written_if_finished c.finish.result c.new-sink.ensures report_sent c.finish.ensures.sent
           c.finish.ensures.ok;
-      err = written_part c.finish.result c.new-sink.ensures sent c.finish.ensures.sent;
+      err = prefix_written_if_failed c.finish.result c.new-sink.ensures report_sent
+          c.finish.ensures.sent;
     }

@@ -12,21 +12,29 @@ loop-statement-preserved g c =
     let database = c.args.database.now in
     let chosen = c.args.chosen.now in
     let listed = c.statements-statement-items.result.now in
-    let same : listed ≡ chosen = c.statements-statement-items.ensures.statements in
-    let test : ℕ → Bool =
+    let statements_are_chosen : listed ≡ chosen = c.statements-statement-items.ensures.statements in
+    let is_open : ℕ → Bool =
     λ a. database.with_open && list_any is_open_theorem (statement_at database.read a) in
     let i = c.loop-statement.statement-index in
-    let l : i < length chosen =
-    subst (λ (xs : List ℕ). i < length xs) same c.loop-statement-test.true in
-    let here : test (get_or chosen i 0) ≡ c.is_open.result =
-    sym (c.is_open.ensures ∙ ap (λ (xs : List ℕ). test (get_or xs i 0)) same) in
-    let n = c.loop-statement.invariant.counted in
-    let few = c.loop-statement.invariant.few in
+    let i_lt_length : i < length chosen =
+    subst (λ (xs : List ℕ). i < length xs) statements_are_chosen c.loop-statement-test.true in
+    let next_is_open_as_asked : is_open (get_or chosen i 0) ≡ c.is_open.result =
+    sym (c.is_open.ensures ∙ ap (λ (xs : List ℕ). is_open (get_or xs i 0)) statements_are_chosen) in
+    let count_is = c.loop-statement.invariant.count_is in
+    let count_le_index = c.loop-statement.invariant.count_le_index in
     elim c.if-is_open.branch [
-      | then-is_open w ↦ let more =
-          count_by_more_yes test chosen i 0 l (here ∙ w.if-is_open.true) in
-          rw w.count-is (record { few = omega (arith, few); counted = omega (arith, n, more) })
-      | else-is_open w ↦ let more =
-          count_by_more_no test chosen i 0 l (here ∙ w.if-is_open.false) in
-          rw w.count-is (record { few = omega (arith, few); counted = omega (arith, n, more) })
+      | then-is_open w ↦ let count_with_next =
+          count_by_more_yes is_open chosen i 0 i_lt_length (next_is_open_as_asked
+          ∙ w.if-is_open.true) in
+          rw w.count-is (record {
+            count_le_index = omega (arith, count_le_index);
+            count_is = omega (arith, count_is, count_with_next);
+          })
+      | else-is_open w ↦ let count_unchanged =
+          count_by_more_no is_open chosen i 0 i_lt_length (next_is_open_as_asked
+          ∙ w.if-is_open.false) in
+          rw w.count-is (record {
+            count_le_index = omega (arith, count_le_index);
+            count_is = omega (arith, count_is, count_unchanged);
+          })
     ]

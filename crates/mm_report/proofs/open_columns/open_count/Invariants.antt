@@ -6,8 +6,8 @@ use Rattle.mm_report.proofs.open_columns.open_count.Given as goal
 
 abbrev pub invariant-loop-statement : goal.invariant-loop-statement
 invariant-loop-statement g l = record {
-  few : l.count ≤ l.statement-index;
-  counted : l.count
+  count_le_index : l.count ≤ l.statement-index;
+  count_is : l.count
       ≡ count_by (λ a. l.database.with_open && list_any is_open_theorem
       (statement_at l.database.read a))
       (take l.statement-index l.chosen);

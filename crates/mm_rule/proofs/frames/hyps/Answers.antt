@@ -1,22 +1,24 @@
 use Rattle.std.proofs.Common.{◌<◌, length, All, ap, sym, ◌∙◌, subst, arith}
 use Rattle.mm_spec.specs.Citation.{is_assertion}
 use Rattle.mm_outline.proofs.StatementsLaw.{is_there}
-use Rattle.mm_rule.proofs.FrameLaw.{hyps_below, hyps_few}
+use Rattle.mm_rule.proofs.FrameLaw.{hypotheses_lt_length, hypotheses_le_k}
 use Rattle.mm_rule.proofs.frames.hyps.Goals as goal
 
 pub returns-clause-below : goal.returns-clause-below
 returns-clause-below g c =
     let db = c.args.database.now.statements in
-    let there : c.args.assertion < length db = is_there is_assertion db c.args.assertion c.requires
+    let assertion_lt_length : c.args.assertion < length db =
+    is_there is_assertion db c.args.assertion c.requires
     in
     subst (All (λ h. h < length db)) (sym (c.as_slice.ensures.value ∙ c.frame.ensures.hypotheses))
-    (hyps_below db c.args.assertion (omega (arith, there)))
+    (hypotheses_lt_length db c.args.assertion (omega (arith, assertion_lt_length)))
 
 pub returns-clause-few : goal.returns-clause-few
 returns-clause-few g c =
     let db = c.args.database.now.statements in
-    let there : c.args.assertion < length db = is_there is_assertion db c.args.assertion c.requires
+    let assertion_lt_length : c.args.assertion < length db =
+    is_there is_assertion db c.args.assertion c.requires
     in
-    let same = ap length (c.as_slice.ensures.value ∙ c.frame.ensures.hypotheses) in
-    let few = hyps_few db c.args.assertion in
-    omega (arith, there, same, few, c.frame.ensures.few)
+    let lengths_equal = ap length (c.as_slice.ensures.value ∙ c.frame.ensures.hypotheses) in
+    let hypotheses_le_assertion = hypotheses_le_k db c.args.assertion in
+    omega (arith, assertion_lt_length, lengths_equal, hypotheses_le_assertion, c.frame.ensures.few)

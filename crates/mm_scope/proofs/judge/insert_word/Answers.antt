@@ -2,5 +2,5 @@ use Rattle.mm_scope.proofs.judge.insert_word.Goals as goal
 
 pub returns-clause-inserted : goal.returns-clause-inserted
 returns-clause-inserted g c =
-    let h = c.in_ok-previous.ensures.updates in
-    λ w. h.0 (record { bytes = record { ref_ptr = (0, 0); now = w } })
+    let updates = c.in_ok-previous.ensures.updates in
+    λ w. updates.0 (record { bytes = record { ref_ptr = (0, 0); now = w } })

@@ -11,161 +11,181 @@ use Rattle.mm_outline.specs.declared.parts.Outline.{Outline}
 use Rattle.mm_outline.specs.NextStatement.{tokens_from}
 use Rattle.mm_outline.specs.Statements.{statements}
 use Rattle.mm_scope.specs.ReadSoFar.{IsReadSoFar, read_so_far}
-use Rattle.mm_scope.proofs.ReadLaw.{reading_more, read_unlawful, read_stopped, read_ended, some_not}
-use Rattle.mm_scope.proofs.ReadLaw.{none_is, inside_block}
-use Rattle.mm_scope.proofs.BoundsLaw.{few_symbols}
+use Rattle.mm_scope.proofs.ReadLaw.{is_read_to_with_statement, read_unlawful, read_stopped}
+use Rattle.mm_scope.proofs.ReadLaw.{read_ended, not_none_if_some}
+use Rattle.mm_scope.proofs.ReadLaw.{none_if_not_some, closing_is_inside_block}
+use Rattle.mm_scope.proofs.BoundsLaw.{symbols_le_tokens}
 use Rattle.mm_scope.proofs.reading.outline_statements.Goals as goal
 
 pub add_if_lawful-requires-clause-next : goal.add_if_lawful-requires-clause-next
 add_if_lawful-requires-clause-next g c =
     let text = c.args.text.now in
     let ws = c.args.tokens.now in
-    let s = c.statements in
-    let o = c.in-Whole.outline in
-    let db = statements text ws s.read.outlines.items in
-    let one = statement_of text ws o in
-    let r = s.invariant.reading in
+    let loop = c.statements in
+    let outline = c.in-Whole.outline in
+    let db = statements text ws loop.read.outlines.items in
+    let s = statement_of text ws outline in
+    let is_read_to = loop.invariant.reading in
     let ts = as_tokens text ws in
-    let more = statements_from (start (depth_after o.kind s.depth))
-    (tokens_from text ws (o.end + 1)) in
-    let row : statements_of ts ≡ (db ++ one ∷ []) ++ more =
-    r.leads.statements ∙ ap (λ y. db ++ y) c.in-Whole.ensures.1.leads.statements
-    ∙ sym (append_assoc db (one ∷ []) more) in
+    let rest = statements_from (start (depth_after outline.kind loop.depth))
+    (tokens_from text ws (outline.end + 1)) in
+    let statements_are_db_s_rest : statements_of ts ≡ (db ++ s ∷ []) ++ rest =
+    is_read_to.leads.statements ∙ ap (λ y. db ++ y) c.in-Whole.ensures.1.leads.statements
+    ∙ sym (append_assoc db (s ∷ []) rest) in
     let longest = is_longest ts in
-    let count = r.few in
-    let inside = r.within in
-    let short = c.requires.few in
-    let long = length-map ws (token_of text) in
+    let db_le_index = is_read_to.length_db_le_index in
+    let index_le_length = is_read_to.index_le_length in
+    let tokens_lt_2_31 = c.requires.few_tokens in
+    let as_tokens_length = length-map ws (token_of text) in
     record {
-      lawful = r.lawful;
-      few = omega (arith, count, inside, short);
-      depth_is = r.deep_is;
-      inside =
-          inside_block text ws db s.depth s.at r one (depth_after o.kind s.depth)
-          (tokens_from text ws (o.end + 1)) c.in-Whole.ensures.1.leads;
+      lawful = is_read_to.lawful;
+      few_statements = omega (arith, db_le_index, index_le_length, tokens_lt_2_31);
+      open_blocks_is_depth = is_read_to.open_blocks_is_depth;
+      closes_open_block =
+          closing_is_inside_block text ws db loop.depth loop.token_index is_read_to s
+          (depth_after outline.kind loop.depth)
+          (tokens_from text ws (outline.end + 1)) c.in-Whole.ensures.1.leads;
       few_names =
-          (let n = few_symbols ts longest.rest (statements_of ts) longest.splits
-          (db ++ one ∷ []) more row in
-          omega (arith, n, long, short));
+          (let names_le_tokens = symbols_le_tokens ts longest.rest (statements_of ts) longest.splits
+          (db ++ s ∷ []) rest statements_are_db_s_rest in
+          omega (arith, names_le_tokens, as_tokens_length, tokens_lt_2_31));
     }
 
-pub returns-then-is_some-clause-few : goal.returns-then-is_some-clause-few
-returns-then-is_some-clause-few g c =
-    let s = c.statements in
-    let count = s.invariant.reading.few in
-    let inside = s.invariant.reading.within in
-    let short = c.requires.few in
-    let same = length-map s.read.outlines.items (statement_of c.args.text.now c.args.tokens.now) in
-    let stays =
+pub returns-then-is_some-clause-few_outlines : goal.returns-then-is_some-clause-few_outlines
+returns-then-is_some-clause-few_outlines g c =
+    let loop = c.statements in
+    let db_le_index = loop.invariant.reading.length_db_le_index in
+    let index_le_length = loop.invariant.reading.index_le_length in
+    let tokens_lt_2_31 = c.requires.few_tokens in
+    let statements_length =
+    length-map loop.read.outlines.items (statement_of c.args.text.now c.args.tokens.now) in
+    let outlines_length =
     ap length
-    (c.in_ok-add_if_lawful-in-Whole.ensures.stays
-    (some_not c.add_if_lawful.new.self.fault (sym c.is_some.ensures ∙ c.if-is_some.true))).0 in
-    omega (arith, count, inside, short, same, stays)
+    (c.in_ok-add_if_lawful-in-Whole.ensures.if_unlawful
+    (not_none_if_some c.add_if_lawful.new.self.fault (sym c.is_some.ensures
+    ∙ c.if-is_some.true))).0 in
+    omega (arith, db_le_index, index_le_length, tokens_lt_2_31, statements_length, outlines_length)
 
 pub returns-then-is_some-clause-outlines : goal.returns-then-is_some-clause-outlines
 returns-then-is_some-clause-outlines g c =
-    let stays =
-    (c.in_ok-add_if_lawful-in-Whole.ensures.stays
-    (some_not c.add_if_lawful.new.self.fault (sym c.is_some.ensures ∙ c.if-is_some.true))).0 in
+    let outlines_are_unchanged =
+    (c.in_ok-add_if_lawful-in-Whole.ensures.if_unlawful
+    (not_none_if_some c.add_if_lawful.new.self.fault (sym c.is_some.ensures
+    ∙ c.if-is_some.true))).0 in
     subst (λ (xs : List Outline). All (λ o. IsOutline o × (o.end < length c.args.tokens.now)) xs)
-    (sym stays) c.statements.invariant.outlines
+    (sym outlines_are_unchanged) c.statements.invariant.outlines
 
 pub returns-then-is_some-clause-is_read_so_far : goal.returns-then-is_some-clause-is_read_so_far
 returns-then-is_some-clause-is_read_so_far g c =
-    let stays =
-    c.in_ok-add_if_lawful-in-Whole.ensures.stays
-    (some_not c.add_if_lawful.new.self.fault (sym c.is_some.ensures ∙ c.if-is_some.true)) in
+    let unchanged_if_unlawful =
+    c.in_ok-add_if_lawful-in-Whole.ensures.if_unlawful
+    (not_none_if_some c.add_if_lawful.new.self.fault (sym c.is_some.ensures ∙ c.if-is_some.true)) in
     subst (λ (xs : List Outline). IsReadSoFar (statements c.args.text.now c.args.tokens.now xs)
-    (read_so_far c.add_if_lawful.new.self)) (sym stays.0) stays.1
+    (read_so_far c.add_if_lawful.new.self)) (sym unchanged_if_unlawful.0) unchanged_if_unlawful.1
 
 pub returns-then-is_some-clause-read : goal.returns-then-is_some-clause-read
 returns-then-is_some-clause-read g c =
     let text = c.args.text.now in
     let ws = c.args.tokens.now in
-    let s = c.statements in
-    let o = c.in-Whole.outline in
-    let db = statements text ws s.read.outlines.items in
-    let f = c.add_if_lawful.new.self.fault in
-    let is : is_some f ≡ true = sym c.is_some.ensures ∙ c.if-is_some.true in
-    let stays = (c.in_ok-add_if_lawful-in-Whole.ensures.stays (some_not f is)).0 in
-    let fault =
+    let loop = c.statements in
+    let outline = c.in-Whole.outline in
+    let db = statements text ws loop.read.outlines.items in
+    let fault = c.add_if_lawful.new.self.fault in
+    let is_some_is_true : is_some fault ≡ true = sym c.is_some.ensures ∙ c.if-is_some.true in
+    let outlines_are_unchanged =
+    (c.in_ok-add_if_lawful-in-Whole.ensures.if_unlawful
+    (not_none_if_some fault is_some_is_true)).0 in
+    let fault_is_least =
     c.in_ok-add_if_lawful-in-Whole.ensures.fault
-    ∙ ap (λ n. least (scope_faults (names_before db n) s.depth (statement_of text ws o)))
-    (sym (length-map s.read.outlines.items (statement_of text ws))) in
-    rw (ap (statements text ws) stays)
-    (read_unlawful text ws (length text) c.args.lexical db s.depth s.at s.invariant.reading
-    (statement_of text ws o) (depth_after o.kind s.depth)
-    (tokens_from text ws (o.end + 1)) c.in-Whole.ensures.1.leads f (some_not f is) fault)
+    ∙ ap (λ n. least (scope_faults (names_before db n) loop.depth (statement_of text ws outline)))
+    (sym (length-map loop.read.outlines.items (statement_of text ws))) in
+    rw (ap (statements text ws) outlines_are_unchanged)
+    (read_unlawful text ws (length text) c.args.lexical db loop.depth loop.token_index
+    loop.invariant.reading
+    (statement_of text ws outline) (depth_after outline.kind loop.depth)
+    (tokens_from text ws (outline.end + 1)) c.in-Whole.ensures.1.leads fault
+    (not_none_if_some fault is_some_is_true) fault_is_least)
 
 pub statements-preserved : goal.statements-preserved
 statements-preserved g c =
     let text = c.args.text.now in
     let ws = c.args.tokens.now in
-    let s = c.statements in
-    let o = c.in-Whole.outline in
-    let db = statements text ws s.read.outlines.items in
-    let one = statement_of text ws o in
-    let b = s.read.scope.blocks in
-    let f = c.add_if_lawful.new.self.fault in
-    let none : None ≡ f = none_is f (sym c.is_some.ensures ∙ c.if-is_some.false) in
-    let lawful =
-    none ∙ c.in_ok-add_if_lawful-in-Whole.ensures.fault
-    ∙ ap (λ n. least (scope_faults (names_before db n) s.depth one))
-    (sym (length-map s.read.outlines.items (statement_of text ws))) in
-    let taken = c.in_ok-add_if_lawful-in-Whole.ensures.taken (sym none) in
-    let more : statements text ws c.add_if_lawful.new.self.outlines.items ≡ db ++ one ∷ [] =
-    ap (statements text ws) taken.0
-    ∙ map-append (statement_of text ws) s.read.outlines.items (o ∷ []) in
-    let next =
-    reading_more text ws db s.depth s.at s.invariant.reading c.requires.few b
-    s.invariant.is_read_so_far.keeps.blocks o.kind o.keyword o.middle o.end
+    let loop = c.statements in
+    let outline = c.in-Whole.outline in
+    let db = statements text ws loop.read.outlines.items in
+    let statement = statement_of text ws outline in
+    let blocks = loop.read.scope.blocks in
+    let fault = c.add_if_lawful.new.self.fault in
+    let none_is_fault : None ≡ fault =
+    none_if_not_some fault (sym c.is_some.ensures ∙ c.if-is_some.false) in
+    let none_is_least =
+    none_is_fault ∙ c.in_ok-add_if_lawful-in-Whole.ensures.fault
+    ∙ ap (λ n. least (scope_faults (names_before db n) loop.depth statement))
+    (sym (length-map loop.read.outlines.items (statement_of text ws))) in
+    let taken_if_lawful = c.in_ok-add_if_lawful-in-Whole.ensures.if_lawful (sym none_is_fault) in
+    let statements_are_db_and_statement : statements text ws c.add_if_lawful.new.self.outlines.items
+    ≡ db ++ statement ∷ [] =
+    ap (statements text ws) taken_if_lawful.0
+    ∙ map-append (statement_of text ws) loop.read.outlines.items (outline ∷ []) in
+    let is_read_to_next =
+    is_read_to_with_statement text ws db loop.depth loop.token_index loop.invariant.reading
+    c.requires.few_tokens
+    blocks
+    loop.invariant.is_read_so_far.keeps.blocks outline.kind outline.keyword outline.middle
+    outline.end
     c.in-Whole.ensures.1.later
-    c.in-Whole.ensures.1.within c.in-Whole.ensures.1.leads lawful in
+    c.in-Whole.ensures.1.within c.in-Whole.ensures.1.leads none_is_least in
     record {
       outlines =
-          subst (λ (xs : List Outline). All (λ o. IsOutline o × (o.end < length ws)) xs)
-          (sym taken.0)
+          subst (λ (xs : List Outline). All (λ outline. IsOutline outline
+          × (outline.end < length ws)) xs)
+          (sym taken_if_lawful.0)
           (All-push
-          (λ o. IsOutline o × (o.end < length ws)) s.read.outlines.items o s.invariant.outlines
+          (λ outline. IsOutline outline × (outline.end < length ws)) loop.read.outlines.items
+          outline loop.invariant.outlines
           (c.in-Whole.ensures.0, c.in-Whole.ensures.1.within));
-      reading = rw (more, c.depth_after-depth.ensures) next;
-      is_read_so_far = rw more taken.1;
-      no_fault = sym none;
+      reading = rw (statements_are_db_and_statement, c.depth_after-depth.ensures) is_read_to_next;
+      is_read_so_far = rw statements_are_db_and_statement taken_if_lawful.1;
+      no_fault = sym none_is_fault;
     }
 
-pub returns-in-Stopped-clause-few : goal.returns-in-Stopped-clause-few
-returns-in-Stopped-clause-few g c =
-    let s = c.statements in
-    let count = s.invariant.reading.few in
-    let inside = s.invariant.reading.within in
-    let short = c.requires.few in
-    let same = length-map s.read.outlines.items (statement_of c.args.text.now c.args.tokens.now) in
-    omega (arith, count, inside, short, same)
+pub returns-in-Stopped-clause-few_outlines : goal.returns-in-Stopped-clause-few_outlines
+returns-in-Stopped-clause-few_outlines g c =
+    let loop = c.statements in
+    let db_le_index = loop.invariant.reading.length_db_le_index in
+    let index_le_length = loop.invariant.reading.index_le_length in
+    let tokens_lt_2_31 = c.requires.few_tokens in
+    let statements_length =
+    length-map loop.read.outlines.items (statement_of c.args.text.now c.args.tokens.now) in
+    omega (arith, db_le_index, index_le_length, tokens_lt_2_31, statements_length)
 
 pub returns-in-Stopped-clause-read : goal.returns-in-Stopped-clause-read
 returns-in-Stopped-clause-read g c =
     let text = c.args.text.now in
     let ws = c.args.tokens.now in
-    let s = c.statements in
+    let loop = c.statements in
     read_stopped text ws (length text) c.args.lexical
-    (statements text ws s.read.outlines.items) s.depth s.at s.invariant.reading
+    (statements text ws loop.read.outlines.items) loop.depth loop.token_index loop.invariant.reading
     c.in-Stopped.fault c.in-Stopped.ensures.0 c.in-Stopped.ensures.1
 
-pub returns-in-Ended-clause-few : goal.returns-in-Ended-clause-few
-returns-in-Ended-clause-few g c =
-    let s = c.statements in
-    let count = s.invariant.reading.few in
-    let inside = s.invariant.reading.within in
-    let short = c.requires.few in
-    let same = length-map s.read.outlines.items (statement_of c.args.text.now c.args.tokens.now) in
-    omega (arith, count, inside, short, same)
+pub returns-in-Ended-clause-few_outlines : goal.returns-in-Ended-clause-few_outlines
+returns-in-Ended-clause-few_outlines g c =
+    let loop = c.statements in
+    let db_le_index = loop.invariant.reading.length_db_le_index in
+    let index_le_length = loop.invariant.reading.index_le_length in
+    let tokens_lt_2_31 = c.requires.few_tokens in
+    let statements_length =
+    length-map loop.read.outlines.items (statement_of c.args.text.now c.args.tokens.now) in
+    omega (arith, db_le_index, index_le_length, tokens_lt_2_31, statements_length)
 
 pub returns-in-Ended-clause-read : goal.returns-in-Ended-clause-read
 returns-in-Ended-clause-read g c =
     let text = c.args.text.now in
     let ws = c.args.tokens.now in
-    let s = c.statements in
-    let e = c.in-Ended.ensures in
+    let loop = c.statements in
+    let statement_is_unfinished = c.in-Ended.ensures in
     read_ended text ws (length text) c.args.lexical
-    (statements text ws s.read.outlines.items) s.depth s.at s.invariant.reading c.in-Ended.part
-    e.0 e.1 e.2 c.end_fault-read.result c.end_fault-read.ensures
+    (statements text ws loop.read.outlines.items) loop.depth loop.token_index loop.invariant.reading
+    c.in-Ended.part
+    statement_is_unfinished.0 statement_is_unfinished.1 statement_is_unfinished.2
+    c.end_fault-read.result c.end_fault-read.ensures

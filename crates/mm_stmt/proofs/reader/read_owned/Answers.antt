@@ -11,7 +11,7 @@ use Rattle.mm_database.specs.Names.{names_of}
 use Rattle.mm_database.specs.FrameTables.{AreFrameTables}
 use Rattle.mm_database.specs.Database.{Contents, IsDatabase, AreStatementLists}
 use Rattle.mm_database.specs.declared.reading.Reading.{Reading}
-use Rattle.mm_database.proofs.RetainedWordsLaw.{retained_are}
+use Rattle.mm_database.proofs.RetainedWordsLaw.{retained_words_are_of_statements}
 use Rattle.mm_scope.specs.ReadSoFar.{IsReadSoFar, read_so_far}
 use Rattle.mm_database.specs.ParsedStatements.{IsSound}
 use Rattle.mm_spec.specs.Opened.{counted}
@@ -28,13 +28,13 @@ outline_statements-requires-clause-tokens g c =
     subst (AreTokens c.args.text.now)
     (sym (c.as_slice-words.ensures.value ∙ c.requires.tokens)) (tokens_tell c.args.text.now)
 
-pub outline_statements-requires-clause-few : goal.outline_statements-requires-clause-few
-outline_statements-requires-clause-few g c =
+pub outline_statements-requires-clause-few_tokens : goal.outline_statements-requires-clause-few_tokens
+outline_statements-requires-clause-few_tokens g c =
     subst (λ (ws : List Word). length ws < 2 ^ 31)
     (sym (c.as_slice-words.ensures.value ∙ c.requires.tokens)) (tokens_small c.args.text.now)
 
-pub outline_statements-requires-clause-short : goal.outline_statements-requires-clause-short
-outline_statements-requires-clause-short g c e =
+pub outline_statements-requires-clause-few_bytes : goal.outline_statements-requires-clause-few_bytes
+outline_statements-requires-clause-few_bytes g c e =
     let s = short_text c.args.text.now (sym c.requires.fault ∙ e) in omega (arith, s)
 
 pub list_statements-requires-clause-words : goal.list_statements-requires-clause-words
@@ -47,7 +47,8 @@ list_statements-requires-clause-outlines g c =
     rw c.deref.ensures.value c.in_ok-outlined.ensures.outlines
 
 pub list_statements-requires-clause-few : goal.list_statements-requires-clause-few
-list_statements-requires-clause-few g c = rw c.deref.ensures.value c.in_ok-outlined.ensures.few
+list_statements-requires-clause-few g c =
+    rw c.deref.ensures.value c.in_ok-outlined.ensures.few_outlines
 
 pub retain_all_words-requires : goal.retain_all_words-requires
 retain_all_words-requires g c = rw c.deref-2.ensures.value c.in_ok-outlined.ensures.outlines
@@ -65,7 +66,7 @@ reading_of-requires g c =
       sound =
           subst (λ (ws : List Word). IsSound (statements text ws os)) lent
           (sound text ws os _ _ outlined.read small _ _ _ outlined.is_read_so_far.keeps
-          outlined.few);
+          outlined.few_outlines);
       is_read_so_far =
           subst (λ (ws : List Word). IsReadSoFar (statements text ws os) (read_so_far read)) lent
           outlined.is_read_so_far;
@@ -98,8 +99,8 @@ new-requires g c =
       retained_words = c.in_ok-retained_words.retained_words;
     })) (sym same)
     (record {
-      few = let n = length-map os (statement_of text words) in
-          let few = outlined.few in omega (arith, n, few);
+      few_statements = let n = length-map os (statement_of text words) in
+          let few = outlined.few_outlines in omega (arith, n, few);
       read = is_read text ws words os _ _ lent refl c.requires.fault outlined.read;
       labels = is_read_so_far.keeps.labels_are;
       names_are = is_read_so_far.names_are;
@@ -109,7 +110,8 @@ new-requires g c =
       lists_are = statement_lists;
       retained_are =
           rw (c.in_ok-retained_words.ensures, c.deref-2.ensures.value, lent)
-          (retained_are text words (tokens_stand text) os (rw (sym lent) outlined.outlines));
+          (retained_words_are_of_statements text words (tokens_stand text) os
+          (rw (sym lent) outlined.outlines));
     })
 
 pub returns : goal.returns

@@ -3,13 +3,13 @@ use Rattle.mm_spec.specs.Output.{theorems, is_theorem_at, label_at}
 use Rattle.mm_spec.specs.Opened.{counted}
 use Rattle.mm_spec.proofs.OpenedLaw.{counted_label, theorem_still}
 use Rattle.mm_outline.specs.Statements.{statements}
-use Rattle.mm_database.proofs.KindsLaw.{theorems_by_kind, axioms_by_kind, kinds_few}
+use Rattle.mm_database.proofs.KindsLaw.{theorems_by_kind, axioms_by_kind, kinds_lt_2_31}
 use Rattle.mm_database.proofs.SpacedLaw.{theorems_are}
 use Rattle.mm_stmt.proofs.statement_lists.list_statements.Goals as goal
 
 pub assertions_of-requires : goal.assertions_of-requires
 assertions_of-requires g c =
-    kinds_few c.args.text.now c.args.tokens.now c.args.outlines.now c.args.with_open
+    kinds_lt_2_31 c.args.text.now c.args.tokens.now c.args.outlines.now c.args.with_open
     c.deref.result.now (c.deref.ensures.value ∙ c.in_ok-kinds.ensures) c.requires.few
 
 pub spaced_labels_of-requires-clause-theorems : goal.spaced_labels_of-requires-clause-theorems

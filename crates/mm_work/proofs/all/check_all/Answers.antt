@@ -5,7 +5,7 @@ use Rattle.mm_spec.specs.Output.{theorems}
 use Rattle.mm_spec.specs.Scope.{statement_at}
 use Rattle.mm_work.specs.Workers.{AreFindings, IsFoundValid, IsFoundFaulty}
 use Rattle.mm_work.specs.declared.worker.Findings.{Findings}
-use Rattle.mm_cites.proofs.RisingLaw.{filter_rising}
+use Rattle.mm_cites.proofs.RisingLaw.{filtered_range_is_statement_list}
 use Rattle.mm_work.proofs.AllLaw.{valid_below_floor, floor_is_found_faulty}
 use Rattle.mm_work.proofs.VerifyLaw.{is_first_fault}
 use Rattle.mm_work.proofs.all.check_all.Goals as goal
@@ -14,7 +14,7 @@ pub overflow_cast-count : goal.overflow_cast-count
 overflow_cast-count g c =
     let db = c.args.database.now.statements in
     let index_lt_limit =
-    (filter_rising (λ j. list_any is_theorem (statement_at db j))
+    (filtered_range_is_statement_list (λ j. list_any is_theorem (statement_at db j))
     (length db) c.theorems-count.ensures.few).few in
     let counts_equal = ap (λ (ts : List ℕ). length ts) c.theorems-count.ensures.theorems in
     omega (arith, index_lt_limit, counts_equal)

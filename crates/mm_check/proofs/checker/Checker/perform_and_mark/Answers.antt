@@ -1,5 +1,5 @@
 use Rattle.std.proofs.Common.{true, false, refl, sym, ◌∙◌, subst}
-use Rattle.mm_steps.specs.Read.{as_step}
+use Rattle.mm_steps.specs.TheoremSteps.{as_step}
 use Rattle.mm_check.specs.Checker.{CheckerState, IsAtTheorem, Performs}
 use Rattle.mm_check.proofs.RanLaw.{step_is_ready, refused_step_refuses, has_performed_after_step}
 use Rattle.mm_check.proofs.checker.Checker.perform_and_mark.Goals as goal

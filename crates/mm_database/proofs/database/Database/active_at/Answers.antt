@@ -7,15 +7,15 @@ use Rattle.mm_database.proofs.database.Database.active_at.Goals as goal
 
 pub is_active-requires-clause-statement : goal.is_active-requires-clause-statement
 is_active-requires-clause-statement g c =
-    let n = as_many_statements _ _ _ _ _ c.self.view_is in
-    let there = c.requires.statement in
-    omega (arith, n, there)
+    let counts_equal = as_many_statements _ _ _ _ _ c.self.view_is in
+    let statement_lt_length = c.requires.statement in
+    omega (arith, counts_equal, statement_lt_length)
 
 pub is_active-requires-clause-at : goal.is_active-requires-clause-at
 is_active-requires-clause-at g c =
-    let n = as_many_statements _ _ _ _ _ c.self.view_is in
-    let within = c.requires.at in
-    omega (arith, n, within)
+    let counts_equal = as_many_statements _ _ _ _ _ c.self.view_is in
+    let at_le_length = c.requires.at in
+    omega (arith, counts_equal, at_le_length)
 
 pub returns : goal.returns
 returns g c =

@@ -5,7 +5,7 @@ use Rattle.mm_spec.specs.Frame.{disjoint_at}
 use Rattle.mm_database.specs.Database.{Contents}
 use Rattle.mm_database.specs.Together.{are_together_at}
 use Rattle.mm_database.proofs.DatabaseLaw.{as_many_statements}
-use Rattle.mm_database.proofs.TogetherLaw.{together_is}
+use Rattle.mm_database.proofs.TogetherLaw.{found_is_together}
 use Rattle.mm_database.proofs.CountedLaw.{together_counted}
 use Rattle.mm_database.proofs.database.Database.disjoint_at.Goals as goal
 
@@ -24,16 +24,16 @@ returns-else-are_together_near g c =
     let k = c.args.statement in
     let x = c.args.x in
     let y = c.args.y in
-    let n = as_many_statements _ _ _ _ _ c.self.view_is in
-    let there = c.requires in
-    let k_le_length_list : k ≤ length s.list = omega (arith, n, there) in
-    let apart : nat_eq x y ≡ false =
-    ne_eqb x y (λ e. c.if-number.true (c.number.ensures ∙ e ∙ sym c.number-2.ensures)) in
+    let counts_equal = as_many_statements _ _ _ _ _ c.self.view_is in
+    let statement_le_length = c.requires in
+    let k_le_length_list : k ≤ length s.list = omega (arith, counts_equal, statement_le_length) in
+    let x_ne_y : nat_eq x y ≡ false =
+    ne_eqb x y (λ x_is_y. c.if-number.true (c.number.ensures ∙ x_is_y ∙ sym c.number-2.ensures)) in
     let blocks = c.blocks-else-are_together_near.ensures in
-    together_is s.list s.blocks blocks.theirs k k_le_length_list _
+    found_is_together s.list s.blocks blocks.theirs k k_le_length_list _
     c.self.invariant.frame_tables_are.disjoint_index.members_are c.are_together.result x y
     (rw (← blocks.blocks) c.are_together.ensures.found)
     (rw (← blocks.blocks) c.are_together.ensures.none)
     ∙ sym (together_counted w s.list k x y) ∙ sym (ap (λ t. not t && are_together_at db k x y)
-    apart)
+    x_ne_y)
     ∙ ap (λ (n : Contents). disjoint_at n.statements k x y) c.self.view_is

@@ -3,19 +3,21 @@ use Rattle.mm_database.specs.Database.{Contents}
 use Rattle.mm_database.specs.Labels.{AreLabels}
 use Rattle.mm_database.specs.Names.{find}
 use Rattle.mm_database.proofs.CountedLaw.{labels_counted}
-use Rattle.mm_database.proofs.DatabaseLaw.{label_some, label_only, label_none}
+use Rattle.mm_database.proofs.DatabaseLaw.{found_label_is_label, found_label_is_unique}
+use Rattle.mm_database.proofs.DatabaseLaw.{missing_label_is_none}
 use Rattle.mm_database.proofs.database.Database.find.Goals as goal
 
 pub returns : goal.returns
 returns g c =
     let w = c.args.label.now in
-    let are : AreLabels c.args.self.now.statements (find c.self.inside.reading.names.labels) =
+    let are_labels : AreLabels c.args.self.now.statements (find c.self.inside.reading.names.labels)
+    =
     subst (λ (n : Contents). AreLabels n.statements (find c.self.inside.reading.names.labels))
     c.self.view_is
     (labels_counted c.self.inside.with_open c.self.inside.reading.statements.list _
     c.self.invariant.labels) in
     record {
-      some = label_some _ _ are w c.labelled.result c.labelled.ensures;
-      only = label_only _ _ are w c.labelled.result c.labelled.ensures;
-      none = label_none _ _ are w c.labelled.result c.labelled.ensures;
+      some = found_label_is_label _ _ are_labels w c.labelled.result c.labelled.ensures;
+      only = found_label_is_unique _ _ are_labels w c.labelled.result c.labelled.ensures;
+      none = missing_label_is_none _ _ are_labels w c.labelled.result c.labelled.ensures;
     }

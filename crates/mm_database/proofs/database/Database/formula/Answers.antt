@@ -9,8 +9,9 @@ use Rattle.mm_database.proofs.database.Database.formula.Goals as goal
 
 pub formula-requires : goal.formula-requires
 formula-requires g c =
-    let n = as_many_statements _ _ _ _ _ c.self.view_is in let there = c.requires in omega
-    (arith, n, there)
+    let counts_equal = as_many_statements _ _ _ _ _ c.self.view_is in
+    let statement_lt_length = c.requires in omega
+    (arith, counts_equal, statement_lt_length)
 
 pub returns-clause-formula : goal.returns-clause-formula
 returns-clause-formula g c =
@@ -21,8 +22,8 @@ returns-clause-formula g c =
 
 pub returns-clause-known : goal.returns-clause-known
 returns-clause-known g c =
-    let names =
+    let names_equal =
     sym (counted_names c.self.inside.with_open c.self.inside.reading.statements.list)
     ∙ ap (λ (n : Contents). symbol_names n.statements) c.self.view_is in
-    subst (λ (ns : List Bytes). All (λ s. s < length ns) c.formula.result.now) names
+    subst (λ (ns : List Bytes). All (λ s. s < length ns) c.formula.result.now) names_equal
     c.formula.ensures.known

@@ -1,18 +1,20 @@
 use Rattle.std.proofs.Common.{◌∙◌, length, get_or, take, drop, ◌-◌, Some, sym, ap, arith}
 use Rattle.mm_database.specs.Database.{Contents}
 use Rattle.mm_database.proofs.DatabaseLaw.{as_many_statements}
-use Rattle.mm_database.proofs.RetainedWordsLaw.{retained_below, some_are_retained, word_within}
+use Rattle.mm_database.proofs.RetainedWordsLaw.{k_lt_retained_count, some_are_retained}
+use Rattle.mm_database.proofs.RetainedWordsLaw.{words_are_within}
 use Rattle.mm_database.proofs.RetainedWordsLaw.{label_is_retained}
 use Rattle.mm_database.proofs.RetainedWordsLaw.{label_missing}
 use Rattle.mm_database.proofs.database.Database.label.Goals as goal
 
 pub kind-requires : goal.kind-requires
 kind-requires g c =
-    let n = as_many_statements _ _ _ _ _ c.self.view_is in let there = c.requires in omega
-    (arith, n, there)
+    let counts_equal = as_many_statements _ _ _ _ _ c.self.view_is in
+    let statement_lt_length = c.requires in omega
+    (arith, counts_equal, statement_lt_length)
 
 pub get-requires : goal.get-requires
-get-requires g c = retained_below _ _ _ _ _ c.self.view_is _ c.requires _
+get-requires g c = k_lt_retained_count _ _ _ _ _ c.self.view_is _ c.requires _
     c.self.invariant.retained_are
 
 pub bounds-get-0 : goal.bounds-get-0
@@ -23,17 +25,21 @@ bounds-get-0 g c =
 
 pub bytes-requires : goal.bytes-requires
 bytes-requires g c =
-    let within =
-    word_within _ _ _ _ _ c.self.view_is _ c.requires _ c.self.invariant.retained_are
+    let word_is_within =
+    words_are_within _ _ _ _ _ c.self.view_is _ c.requires _ c.self.invariant.retained_are
     c.get.result.now
     c.get.ensures.is 0 (record { start = 0; end = 0 })
     (some_are_retained _ _ _ _ _ c.self.view_is _ c.requires _ c.self.invariant.retained_are
     c.get.result.now
     c.get.ensures.is) in
-    let text = ap (λ (n : Contents). length n.text) c.self.view_is in
-    let lent = ap length c.text.ensures in
-    let end = within.1 in
-    record { order = within.0; within = omega (arith, end, text, lent) }
+    let text_lengths_equal = ap (λ (n : Contents). length n.text) c.self.view_is in
+    let lent_length = ap length c.text.ensures in
+    let end_le_length = word_is_within.1 in
+    record {
+      order = word_is_within.0;
+      within =
+          omega (arith, end_le_length, text_lengths_equal, lent_length);
+    }
 
 pub returns-then-has_label : goal.returns-then-has_label
 returns-then-has_label g c =

@@ -1,8 +1,8 @@
 use Rattle.std.proofs.Common.{◌∙◌, length, subst, sym, ap, arith}
 use Rattle.mm_spec.specs.Laws.Complete.{AreComplete}
 use Rattle.mm_database.specs.Database.{Contents}
-use Rattle.mm_database.proofs.DatabaseLaw.{as_many_statements, read_complete}
-use Rattle.mm_database.proofs.LengthLaw.{statements_few}
+use Rattle.mm_database.proofs.DatabaseLaw.{as_many_statements, read_statements_are_complete}
+use Rattle.mm_database.proofs.LengthLaw.{statements_le_bytes}
 use Rattle.mm_database.proofs.database.Database.len.Goals as goal
 
 pub returns-clause-len : goal.returns-clause-len
@@ -11,12 +11,13 @@ returns-clause-len g c = c.len.ensures.len ∙ sym (as_many_statements _ _ _ _ _
 pub returns-clause-complete : goal.returns-clause-complete
 returns-clause-complete g c =
     subst (λ (n : Contents). AreComplete n.statements) c.self.view_is
-    (read_complete _ _ c.self.inside.with_open _ c.self.invariant.read)
+    (read_statements_are_complete _ _ c.self.inside.with_open _ c.self.invariant.read)
 
 pub returns-clause-few : goal.returns-clause-few
 returns-clause-few g c =
     let s = c.self.inside.reading.statements in
-    let few = statements_few s.text s.list c.self.inside.reading.fault c.self.invariant.read in
-    let text = ap (λ (n : Contents). length n.text) c.self.view_is in
-    let len = c.len.ensures.len in
-    omega (arith, few, text, len)
+    let statements_le_bytes_read =
+    statements_le_bytes s.text s.list c.self.inside.reading.fault c.self.invariant.read in
+    let text_lengths_equal = ap (λ (n : Contents). length n.text) c.self.view_is in
+    let len_is_length = c.len.ensures.len in
+    omega (arith, statements_le_bytes_read, text_lengths_equal, len_is_length)

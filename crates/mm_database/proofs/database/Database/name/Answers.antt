@@ -7,11 +7,11 @@ use Rattle.mm_database.proofs.database.Database.name.Goals as goal
 
 pub name-requires : goal.name-requires
 name-requires g c =
-    let names =
+    let names_equal =
     c.self.invariant.names_are
     ∙ sym (counted_names c.self.inside.with_open c.self.inside.reading.statements.list)
     ∙ ap (λ (v : Contents). symbol_names v.statements) c.self.view_is in
-    rw (c.number.ensures, names) c.requires
+    rw (c.number.ensures, names_equal) c.requires
 
 pub returns : goal.returns
 returns g c =

@@ -1,26 +1,27 @@
 use Rattle.std.proofs.Common.{◌∙◌, Some, ap, slice_get, arith}
 use Rattle.mm_database.proofs.DatabaseLaw.{no_proof}
-use Rattle.mm_database.proofs.RetainedWordsLaw.{retained_below, theorem_long, proof_is_retained}
+use Rattle.mm_database.proofs.RetainedWordsLaw.{k_lt_retained_count, theorem_has_two_words}
+use Rattle.mm_database.proofs.RetainedWordsLaw.{proof_is_retained}
 use Rattle.mm_database.proofs.RetainedWordsLaw.{proof_within}
 use Rattle.mm_database.proofs.database.Database.proof_words.Goals as goal
 
 pub get-words-requires : goal.get-words-requires
 get-words-requires g c =
-    retained_below _ _ _ _ _ c.self.view_is _ c.requires _ c.self.invariant.retained_are
+    k_lt_retained_count _ _ _ _ _ c.self.view_is _ c.requires _ c.self.invariant.retained_are
 
 pub overflow_sub-result : goal.overflow_sub-result
 overflow_sub-result g c =
-    let long =
-    theorem_long _ _ _ _ _ c.self.view_is _ c.requires _ c.self.invariant.retained_are
+    let two_le_words =
+    theorem_has_two_words _ _ _ _ _ c.self.view_is _ c.requires _ c.self.invariant.retained_are
     c.get-words.result.now c.get-words.ensures.is (c.kind.ensures ∙ ap Some c.in-Theorem.is) in
-    omega (arith, long)
+    omega (arith, two_le_words)
 
 pub slice_bounds-result-count : goal.slice_bounds-result-count
 slice_bounds-result-count g c =
-    let long =
-    theorem_long _ _ _ _ _ c.self.view_is _ c.requires _ c.self.invariant.retained_are
+    let two_le_words =
+    theorem_has_two_words _ _ _ _ _ c.self.view_is _ c.requires _ c.self.invariant.retained_are
     c.get-words.result.now c.get-words.ensures.is (c.kind.ensures ∙ ap Some c.in-Theorem.is) in
-    omega (arith, long)
+    omega (arith, two_le_words)
 
 pub slice_bounds-result-start : goal.slice_bounds-result-start
 slice_bounds-result-start g c = slice_bounds-result-count g c
@@ -43,5 +44,5 @@ returns-in_default g c =
       words = no_proof
           (slice_get c.args.self.now.statements c.args.statement) c.kind.result c.kind.ensures
           c.in_default.not-Theorem;
-      within = λ k d h. absurd (omega arith);
+      within = λ k d index_lt_0. absurd (omega arith);
     }

@@ -9,13 +9,13 @@ use Rattle.mm_database.proofs.database.Database.spaced_labels.Goals as goal
 pub between-requires-clause-within : goal.between-requires-clause-within
 between-requires-clause-within g c =
     let db = c.args.self.now.statements in
-    let n =
+    let spaced_count =
     ap length
     (c.self.invariant.lists_are.spaced_labels_are
     ∙ ap (λ (n : Contents). spaced_labels n.statements) c.self.view_is)
     ∙ length-map (theorems db) (λ k. 32 ∷ label_at db k) in
-    let within = c.requires.within in
-    omega (arith, n, within)
+    let to_le_theorems = c.requires.within in
+    omega (arith, spaced_count, to_le_theorems)
 
 pub returns : goal.returns
 returns g c =

@@ -2,13 +2,13 @@ use Rattle.std.proofs.Common.{◌∙◌, sym, ap, arith}
 use Rattle.std.specs.Map.{keys_of}
 use Rattle.mm_spec.specs.Frame.{index_of}
 use Rattle.mm_database.specs.Names.{find, KnownNames, names_of}
-use Rattle.mm_database.proofs.SymbolsLaw.{found_index}
-use Rattle.mm_database.proofs.NamesLaw.{missing_number}
+use Rattle.mm_database.proofs.SymbolsLaw.{position_is_index_of}
+use Rattle.mm_database.proofs.NamesLaw.{missing_number_is_count}
 use Rattle.mm_database.proofs.names.NameTable.looked_up_symbol.Goals as goal
 
 pub returns-in-Some-clause-number : goal.returns-in-Some-clause-number
 returns-in-Some-clause-number g c =
-    found_index c.args.word.now (keys_of c.self.inside.symbols.entries) c.in-Some.number
+    position_is_index_of c.args.word.now (keys_of c.self.inside.symbols.entries) c.in-Some.number
     (sym c.in-Some.ensures.index)
     ∙ ap (λ (n : KnownNames). index_of c.args.word.now (names_of n.symbols)) c.self.view_is
 
@@ -21,19 +21,20 @@ pub returns-then-word-self-clause-number : goal.returns-then-word-self-clause-nu
 returns-then-word-self-clause-number g c =
     let w = c.args.word.now in
     c.len.ensures.len
-    ∙ missing_number w c.self.inside.symbols.entries
-    (c.self.invariant.symbols_no_longer w (omega arith))
+    ∙ missing_number_is_count w c.self.inside.symbols.entries
+    (c.self.invariant.no_symbol_is_longer w (omega arith))
     ∙ ap (λ (n : KnownNames). index_of w (names_of n.symbols)) c.self.view_is
 
 pub returns-then-word-self-clause-symbol : goal.returns-then-word-self-clause-symbol
 returns-then-word-self-clause-symbol g c =
-    sym (c.self.invariant.symbols_no_longer c.args.word.now (omega arith))
+    sym (c.self.invariant.no_symbol_is_longer c.args.word.now (omega arith))
     ∙ ap (λ (n : KnownNames). find n.symbols c.args.word.now) c.self.view_is
 
 pub returns-in-None-clause-number : goal.returns-in-None-clause-number
 returns-in-None-clause-number g c =
     c.len-in-None.ensures.len
-    ∙ missing_number c.args.word.now c.self.inside.symbols.entries (sym c.in-None.ensures.value)
+    ∙ missing_number_is_count c.args.word.now c.self.inside.symbols.entries
+    (sym c.in-None.ensures.value)
     ∙ ap (λ (n : KnownNames). index_of c.args.word.now (names_of n.symbols)) c.self.view_is
 
 pub returns-in-None-clause-symbol : goal.returns-in-None-clause-symbol

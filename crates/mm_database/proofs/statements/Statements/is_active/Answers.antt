@@ -14,22 +14,29 @@ use Rattle.mm_database.proofs.statements.Statements.is_active.Goals as goal
 
 pub returns-then-statement-at : goal.returns-then-statement-at
 returns-then-statement-at g c =
-    let f = c.self.inside in
-    let ws = words_of f.text.now in
-    let os = f.outlines.items in
+    let fields = c.self.inside in
+    let ws = words_of fields.text.now in
+    let os = fields.outlines.items in
     let j = c.args.statement in
     let k = c.args.at in
     let o = c.index.result.now in
-    let b = f.blocks in
-    let n = ap (λ (p : ParsedStatements). length p.list) c.self.view_is in
-    let m = length-map os (statement_of f.text.now ws) in
-    let at = c.requires.at in
-    let k_le_length_os : k ≤ length os = omega (arith, n, m, at) in
-    let there = has_outline f.text.now ws os b _ c.self.view_is j c.requires.statement in
-    let law = active_is f.text.now ws os b c.self.invariant.blocks j k there k_le_length_os o in
-    let test : (nat_lt j k && active_kind (get_or os j o).kind (nat_le k (end_of b j)))
-    ≡ active_kind o.kind (nat_le k (end_of b j)) =
-    ap₂ (λ t p. t && active_kind p.kind (nat_le k (end_of b j))) (lt-ltb j k c.if-statement-at.true)
+    let blocks = fields.blocks in
+    let lengths_equal = ap (λ (p : ParsedStatements). length p.list) c.self.view_is in
+    let statements_length = length-map os (statement_of fields.text.now ws) in
+    let at_le_length = c.requires.at in
+    let k_le_length_os : k ≤ length os =
+    omega (arith, lengths_equal, statements_length, at_le_length) in
+    let outline_is_there =
+    has_outline fields.text.now ws os blocks _ c.self.view_is j c.requires.statement in
+    let is_active_is_kind_active =
+    active_is fields.text.now ws os blocks c.self.invariant.blocks j k outline_is_there
+    k_le_length_os o in
+    let test_is_kind_active :
+    (nat_lt j k && active_kind (get_or os j o).kind (nat_le k (end_of blocks j)))
+    ≡ active_kind o.kind (nat_le k (end_of blocks j)) =
+    ap₂ (λ t p. t && active_kind p.kind (nat_le k (end_of blocks j)))
+    (lt-ltb j k c.if-statement-at.true)
     (sym c.index.ensures) in
     subst (λ (p : ParsedStatements). c.is_active_kind.result ≡ is_active p.list j k) c.self.view_is
-    (c.is_active_kind.ensures ∙ ap (active_kind o.kind) c.is_open_at.ensures ∙ sym test ∙ law)
+    (c.is_active_kind.ensures ∙ ap (active_kind o.kind) c.is_open_at.ensures
+    ∙ sym test_is_kind_active ∙ is_active_is_kind_active)

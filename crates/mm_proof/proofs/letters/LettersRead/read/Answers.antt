@@ -2,15 +2,17 @@ use Rattle.std.proofs.Common.{◌∷◌, [], refl, arith, sym, ap, ◌∙◌, �
 use Rattle.mm_proof.specs.Number.{saturated}
 use Rattle.mm_proof.specs.declared.letters.BegunNumber.{BegunNumber}
 use Rattle.mm_proof.specs.Letters.{RefusesLetters, letter, with_number, ReadsLetters, if_begun}
-use Rattle.mm_proof.proofs.LettersLaw.{err_same, stands_later, last_digit, early_digit}
-use Rattle.mm_proof.proofs.LettersLaw.{early_here, none_begun}
+use Rattle.mm_proof.proofs.LettersLaw.{on_same_err, stands_at_next, last_digit_is_in_range}
+use Rattle.mm_proof.proofs.LettersLaw.{early_digit_is_in_range}
+use Rattle.mm_proof.proofs.LettersLaw.{continues_after_early_letter_of_number}
+use Rattle.mm_proof.proofs.LettersLaw.{number_without_letters_is_not_begun}
 use Rattle.std.proofs.lemmas.Result.{IfOk-from_err}
 use Rattle.mm_proof.proofs.letters.LettersRead.read.Goals as goal
 
 pub returns-in_err-end_number-in-Last-clause-refuses :
     goal.returns-in_err-end_number-in-Last-clause-refuses
 returns-in_err-end_number-in-Last-clause-refuses g c =
-    err_same c.from_residual.result c.in_err-end_number-in-Last.field-0.0
+    on_same_err c.from_residual.result c.in_err-end_number-in-Last.field-0.0
     (RefusesLetters (with_number c.args.self.now (if_begun c.args.number.now))
     (letter c.args.at c.args.byte ∷ []))
     c.from_residual.ensures.1
@@ -29,7 +31,7 @@ returns-in_err-end_number-in-Last-clause-reads g c =
 pub returns-in_ok-end_number-in-Last-clause-stands :
     goal.returns-in_ok-end_number-in-Last-clause-stands
 returns-in_ok-end_number-in-Last-clause-stands g c =
-    record { stands = c.in_ok-end_number-in-Last.ensures.stands; begins = λ e. refl }
+    record { stands = c.in_ok-end_number-in-Last.ensures.stands; begins = λ value_is_0. refl }
 
 pub returns-in_ok-end_number-in-Last-clause-reads :
     goal.returns-in_ok-end_number-in-Last-clause-reads
@@ -42,53 +44,56 @@ returns-in_ok-end_number-in-Last-clause-refuses g c = tt
 
 pub returns-in_ok-mark-in-Mark-clause-stands : goal.returns-in_ok-mark-in-Mark-clause-stands
 returns-in_ok-mark-in-Mark-clause-stands g c =
-    record { stands = c.in_ok-mark-in-Mark.ensures.stands; begins = λ e. refl }
+    record { stands = c.in_ok-mark-in-Mark.ensures.stands; begins = λ value_is_0. refl }
 
 pub returns-in-Early-clause-stands : goal.returns-in-Early-clause-stands
 returns-in-Early-clause-stands g c =
-    let d = early_digit c.args.byte c.in-Early.digit c.in-Early.ensures.0 c.in-Early.ensures.1 in
-    let v = c.with_next_digit.ensures.value in
+    let digit_in_range = early_digit_is_in_range c.args.byte c.in-Early.digit c.in-Early.ensures.0
+    c.in-Early.ensures.1 in
+    let value_is = c.with_next_digit.ensures.value in
     record {
-      stands = stands_later c.args.self.now c.args.at c.requires.stands.stands;
-      begins = λ e. absurd (omega (arith, e, v, d.0));
+      stands = stands_at_next c.args.self.now c.args.at c.requires.stands.stands;
+      begins = λ value_is_0. absurd (omega (arith, value_is_0, value_is, digit_in_range.0));
     }
 
 pub end_number-requires-clause-digit : goal.end_number-requires-clause-digit
 end_number-requires-clause-digit g c =
-    (last_digit c.args.byte c.in-Last.digit c.in-Last.ensures.1 c.in-Last.ensures.2).0
+    (last_digit_is_in_range c.args.byte c.in-Last.digit c.in-Last.ensures.1 c.in-Last.ensures.2).0
 
 pub end_number-requires-clause-small : goal.end_number-requires-clause-small
 end_number-requires-clause-small g c =
-    (last_digit c.args.byte c.in-Last.digit c.in-Last.ensures.1 c.in-Last.ensures.2).1
+    (last_digit_is_in_range c.args.byte c.in-Last.digit c.in-Last.ensures.1 c.in-Last.ensures.2).1
 
 pub with_next_digit-requires-clause-digit : goal.with_next_digit-requires-clause-digit
 with_next_digit-requires-clause-digit g c =
-    (early_digit c.args.byte c.in-Early.digit c.in-Early.ensures.0 c.in-Early.ensures.1).1
+    (early_digit_is_in_range c.args.byte c.in-Early.digit c.in-Early.ensures.0
+    c.in-Early.ensures.1).1
 
 pub returns-in_err-mark-in-Mark-clause-refuses : goal.returns-in_err-mark-in-Mark-clause-refuses
 returns-in_err-mark-in-Mark-clause-refuses g c =
-    let zero : c.args.number.now.value ≡ 0 = omega arith in
-    let n = none_begun c.args.number.now zero in
-    err_same c.from_residual-in_err-mark-in-Mark.result c.in_err-mark-in-Mark.field-0.0 _
+    let value_is_0 : c.args.number.now.value ≡ 0 = omega arith in
+    let number_is_none = number_without_letters_is_not_begun c.args.number.now value_is_0 in
+    on_same_err c.from_residual-in_err-mark-in-Mark.result c.in_err-mark-in-Mark.field-0.0 _
     c.from_residual-in_err-mark-in-Mark.ensures.1
     (subst (λ b. RefusesLetters (with_number c.args.self.now (if_begun c.args.number.now))
     (letter c.args.at b ∷ []) c.in_err-mark-in-Mark.field-0.0) (sym c.in-Mark.ensures)
     (subst (λ m. RefusesLetters (with_number c.args.self.now m) (letter c.args.at 90 ∷ [])
-    c.in_err-mark-in-Mark.field-0.0) (sym n) c.in_err-mark-in-Mark.ensures.refuses))
+    c.in_err-mark-in-Mark.field-0.0) (sym number_is_none) c.in_err-mark-in-Mark.ensures.refuses))
 
 pub returns-in_ok-mark-in-Mark-clause-reads : goal.returns-in_ok-mark-in-Mark-clause-reads
 returns-in_ok-mark-in-Mark-clause-reads g c =
-    let zero : c.args.number.now.value ≡ 0 = omega arith in
-    let n = none_begun c.args.number.now zero in
-    let after : BegunNumber = record { at = c.args.at + 1; value = c.args.number.now.value } in
-    let m = none_begun after zero in
+    let value_is_0 : c.args.number.now.value ≡ 0 = omega arith in
+    let number_is_none = number_without_letters_is_not_begun c.args.number.now value_is_0 in
+    let number_after : BegunNumber =
+    record { at = c.args.at + 1; value = c.args.number.now.value } in
+    let number_after_is_none = number_without_letters_is_not_begun number_after value_is_0 in
     subst (λ b. ReadsLetters (with_number c.args.self.now (if_begun c.args.number.now))
-    (letter c.args.at b ∷ []) (with_number c.mark.new.self (if_begun after)))
+    (letter c.args.at b ∷ []) (with_number c.mark.new.self (if_begun number_after)))
     (sym c.in-Mark.ensures)
     (subst (λ o. ReadsLetters (with_number c.args.self.now (if_begun c.args.number.now))
-    (letter c.args.at 90 ∷ []) (with_number c.mark.new.self o)) (sym m)
+    (letter c.args.at 90 ∷ []) (with_number c.mark.new.self o)) (sym number_after_is_none)
     (subst (λ o. ReadsLetters (with_number c.args.self.now o) (letter c.args.at 90 ∷ [])
-    (with_number c.mark.new.self None)) (sym n) c.in_ok-mark-in-Mark.ensures.reads))
+    (with_number c.mark.new.self None)) (sym number_is_none) c.in_ok-mark-in-Mark.ensures.reads))
 
 pub returns-in-Early-clause-reads : goal.returns-in-Early-clause-reads
 returns-in-Early-clause-reads g c =
@@ -97,7 +102,8 @@ returns-in-Early-clause-reads g c =
       theorem = refl;
       labels = refl;
       continues =
-          early_here s.theorem s.labels s.marks c.args.number.now s.steps c.args.at c.args.byte
+          continues_after_early_letter_of_number s.theorem s.labels s.marks c.args.number.now
+          s.steps c.args.at c.args.byte
           c.with_next_digit.result c.requires.stands.begins c.in-Early.ensures.0
           c.with_next_digit.ensures.at
           (c.with_next_digit.ensures.value

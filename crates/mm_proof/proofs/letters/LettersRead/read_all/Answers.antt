@@ -10,79 +10,92 @@ use Rattle.mm_spec.specs.declared.Code.TheVariants.{OpenNumber}
 use Rattle.mm_proof.specs.declared.refused.ProofRefused.TheVariants.{Fault as Faulty}
 use Rattle.mm_proof.specs.Refused.{StartsWith}
 use Rattle.std.proofs.lemmas.List.{drop_more}
-use Rattle.mm_proof.proofs.LettersLaw.{err_same, whole, fault_first, open_fault, no_fault, all_read}
-use Rattle.mm_proof.proofs.LettersLaw.{all_steps, some_letters, StandsBefore, stands_after}
-use Rattle.mm_proof.proofs.LettersLaw.{some_begun, none_begun}
+use Rattle.mm_proof.proofs.LettersLaw.{on_same_err, continues_from_start, letter_fault_is_first}
+use Rattle.mm_proof.proofs.LettersLaw.{open_number_is_first_fault, no_fault_at_end}
+use Rattle.mm_proof.proofs.LettersLaw.{continues_at_end}
+use Rattle.mm_proof.proofs.LettersLaw.{steps_are_all_steps, words_have_letters, StandsBefore}
+use Rattle.mm_proof.proofs.LettersLaw.{stands_before_rest}
+use Rattle.mm_proof.proofs.LettersLaw.{number_with_letters_is_begun}
+use Rattle.mm_proof.proofs.LettersLaw.{number_without_letters_is_not_begun}
 use Rattle.mm_proof.proofs.letters.LettersRead.read_all.Goals as goal
 
 pub returns-in_err-read_word-clause-fault : goal.returns-in_err-read_word-clause-fault
 returns-in_err-read_word-clause-fault g c =
-    let all = letters_of (as_tokens c.args.text.now c.args.words.now) in
-    let start : Continues c.args.self.now all all =
-    subst (λ s. Continues s all all) (sym c.requires.none)
-    (whole c.args.self.now.theorem c.args.self.now.labels all) in
-    let e = c.in_err-read_word.field-0.0 in
+    let all_letters = letters_of (as_tokens c.args.text.now c.args.words.now) in
+    let continues_at_start : Continues c.args.self.now all_letters all_letters =
+    subst (λ s. Continues s all_letters all_letters) (sym c.requires.none)
+    (continues_from_start c.args.self.now.theorem c.args.self.now.labels all_letters) in
+    let refusal = c.in_err-read_word.field-0.0 in
     let words = c.args.words.now in
     let i = c.loop-word.word-index in
-    let here =
-    subst (λ vs. Continues (with_number c.loop-word.self (if_begun c.loop-word.begun)) all
+    let continues_at_word =
+    subst (λ vs. Continues (with_number c.loop-word.self (if_begun c.loop-word.begun)) all_letters
     (letters_of (as_tokens c.args.text.now vs)))
     (drop_more words i (record { start = 0; end = 0 }) c.loop-word-test.true)
-    (c.loop-word.invariant.reads all start) in
-    err_same c.from_residual.result e
-    (λ e. StartsWith (letter_faults (length c.args.self.now.labels) c.args.end all) e)
+    (c.loop-word.invariant.reads all_letters continues_at_start) in
+    on_same_err c.from_residual.result refusal
+    (λ refusal. StartsWith (letter_faults (length c.args.self.now.labels) c.args.end all_letters)
+    refusal)
     c.from_residual.ensures.1
-    (fault_first (length c.args.self.now.labels) c.args.end all e
-    (subst (λ ls. StartsWith (group_faults (length ls) 0 0 (groups [] all).0) e)
+    (letter_fault_is_first (length c.args.self.now.labels) c.args.end all_letters refusal
+    (subst (λ ls. StartsWith (group_faults (length ls) 0 0 (groups [] all_letters).0) refusal)
     c.loop-word.invariant.labels
-    (c.in_err-read_word.ensures.refuses all
-    (letters_of (as_tokens c.args.text.now (drop (i + 1) words))) here)))
+    (c.in_err-read_word.ensures.refuses all_letters
+    (letters_of (as_tokens c.args.text.now (drop (i + 1) words))) continues_at_word)))
 
 pub returns-then-begun-gt0-clause-fault : goal.returns-then-begun-gt0-clause-fault
 returns-then-begun-gt0-clause-fault g c =
-    let all = letters_of (as_tokens c.args.text.now c.args.words.now) in
-    let start : Continues c.args.self.now all all =
-    subst (λ s. Continues s all all) (sym c.requires.none)
-    (whole c.args.self.now.theorem c.args.self.now.labels all) in
-    let last =
-    all_read
+    let all_letters = letters_of (as_tokens c.args.text.now c.args.words.now) in
+    let continues_at_start : Continues c.args.self.now all_letters all_letters =
+    subst (λ s. Continues s all_letters all_letters) (sym c.requires.none)
+    (continues_from_start c.args.self.now.theorem c.args.self.now.labels all_letters) in
+    let continues_after_all =
+    continues_at_end
     (with_number c.loop-word.self (if_begun c.loop-word.begun)) c.args.text.now c.args.words.now
-    c.loop-word.word-index all c.loop-word-test.false (c.loop-word.invariant.reads all start) in
-    let some =
-    some_letters 0 c.args.end c.args.text.now c.args.words.now c.requires.in_order
+    c.loop-word.word-index all_letters c.loop-word-test.false
+    (c.loop-word.invariant.reads all_letters continues_at_start) in
+    let letters_are_some =
+    words_have_letters 0 c.args.end c.args.text.now c.args.words.now c.requires.in_order
     (sym c.is_empty.ensures ∙ c.if-is_empty.false) in
-    let number = ap is_some (some_begun c.loop-word.begun c.if-begun-gt0.true) in
+    let number_is_open =
+    ap is_some (number_with_letters_is_begun c.loop-word.begun c.if-begun-gt0.true) in
     rw c.refused-then-begun-gt0.ensures
-    (subst (λ ls. StartsWith (letter_faults (length ls) c.args.end all)
+    (subst (λ ls. StartsWith (letter_faults (length ls) c.args.end all_letters)
     (Faulty (fault c.args.end OpenNumber))) c.loop-word.invariant.labels
-    (open_fault
-    (with_number c.loop-word.self (if_begun c.loop-word.begun)) c.args.end all number some
-    last))
+    (open_number_is_first_fault
+    (with_number c.loop-word.self (if_begun c.loop-word.begun)) c.args.end all_letters
+    number_is_open letters_are_some
+    continues_after_all))
 
 pub returns-clause-reads : goal.returns-clause-reads
 returns-clause-reads g c =
-    let all = letters_of (as_tokens c.args.text.now c.args.words.now) in
-    let start : Continues c.args.self.now all all =
-    subst (λ s. Continues s all all) (sym c.requires.none)
-    (whole c.args.self.now.theorem c.args.self.now.labels all) in
-    let last =
-    all_read
+    let all_letters = letters_of (as_tokens c.args.text.now c.args.words.now) in
+    let continues_at_start : Continues c.args.self.now all_letters all_letters =
+    subst (λ s. Continues s all_letters all_letters) (sym c.requires.none)
+    (continues_from_start c.args.self.now.theorem c.args.self.now.labels all_letters) in
+    let continues_after_all =
+    continues_at_end
     (with_number c.loop-word.self (if_begun c.loop-word.begun)) c.args.text.now c.args.words.now
-    c.loop-word.word-index all c.loop-word-test.false (c.loop-word.invariant.reads all start) in
-    let some =
-    some_letters 0 c.args.end c.args.text.now c.args.words.now c.requires.in_order
+    c.loop-word.word-index all_letters c.loop-word-test.false
+    (c.loop-word.invariant.reads all_letters continues_at_start) in
+    let letters_are_some =
+    words_have_letters 0 c.args.end c.args.text.now c.args.words.now c.requires.in_order
     (sym c.is_empty.ensures ∙ c.if-is_empty.false) in
-    let zero : c.loop-word.begun.value ≡ 0 = omega arith in
-    let number = ap is_some (none_begun c.loop-word.begun zero) in
+    let value_is_0 : c.loop-word.begun.value ≡ 0 = omega arith in
+    let number_is_none =
+    ap is_some (number_without_letters_is_not_begun c.loop-word.begun value_is_0) in
     record {
       theorem = c.loop-word.invariant.theorem;
       steps =
-          all_steps (with_number c.loop-word.self (if_begun c.loop-word.begun)) all last
-          ∙ ap (λ ls. group_steps ls [] 0 (groups [] all).0) c.loop-word.invariant.labels;
-      sound =
-          subst (λ ls. letter_faults (length ls) c.args.end all ≡ []) c.loop-word.invariant.labels
-          (no_fault (with_number c.loop-word.self (if_begun c.loop-word.begun)) c.args.end all
-          number some last);
+          steps_are_all_steps (with_number c.loop-word.self (if_begun c.loop-word.begun))
+          all_letters continues_after_all
+          ∙ ap (λ ls. group_steps ls [] 0 (groups [] all_letters).0) c.loop-word.invariant.labels;
+      letters_are_faultless =
+          subst (λ ls. letter_faults (length ls) c.args.end all_letters
+          ≡ []) c.loop-word.invariant.labels
+          (no_fault_at_end (with_number c.loop-word.self (if_begun c.loop-word.begun)) c.args.end
+          all_letters
+          number_is_none letters_are_some continues_after_all);
     }
 
 pub read_word-requires-clause-order : goal.read_word-requires-clause-order
@@ -98,20 +111,24 @@ loop-word-preserved g c =
     let text = c.args.text.now in
     let words = c.args.words.now in
     let i = c.loop-word.word-index in
-    let none : Word = record { start = 0; end = 0 } in
-    let next = drop_more words i none c.loop-word-test.true in
-    let within = c.requires.within i none c.loop-word-test.true in
-    let done = c.in_ok-read_word.ensures in
+    let no_word : Word = record { start = 0; end = 0 } in
+    let drop_begins_with_word = drop_more words i no_word c.loop-word-test.true in
+    let word_is_within = c.requires.within i no_word c.loop-word-test.true in
+    let word_is_read = c.in_ok-read_word.ensures in
     record {
-      theorem = done.reads.theorem ∙ c.loop-word.invariant.theorem;
-      labels = done.reads.labels ∙ c.loop-word.invariant.labels;
+      theorem = word_is_read.reads.theorem ∙ c.loop-word.invariant.theorem;
+      labels = word_is_read.reads.labels ∙ c.loop-word.invariant.labels;
       stands =
-          stands_after c.loop-word.self _ text (get_or words i none) (drop (i + 1) words)
-          c.args.end within.0 within.1
-          (subst (λ vs. StandsBefore c.loop-word.self (as_tokens text vs) c.args.end) next
-          c.loop-word.invariant.stands) done.stands;
+          stands_before_rest c.loop-word.self _ text (get_or words i no_word) (drop (i + 1) words)
+          c.args.end word_is_within.0 word_is_within.1
+          (subst (λ vs. StandsBefore c.loop-word.self (as_tokens text vs) c.args.end)
+          drop_begins_with_word
+          c.loop-word.invariant.stands) word_is_read.stands;
       reads =
-          λ all h. done.reads.continues all (letters_of (as_tokens text (drop (i + 1) words)))
-          (subst (λ vs. Continues (with_number c.loop-word.self (if_begun c.loop-word.begun)) all
-          (letters_of (as_tokens text vs))) next (c.loop-word.invariant.reads all h));
+          λ all_letters continues. word_is_read.reads.continues all_letters
+          (letters_of (as_tokens text (drop (i + 1) words)))
+          (subst (λ vs. Continues (with_number c.loop-word.self (if_begun c.loop-word.begun))
+          all_letters
+          (letters_of (as_tokens text vs))) drop_begins_with_word
+          (c.loop-word.invariant.reads all_letters continues));
     }

@@ -10,7 +10,8 @@ invariant-loop-word g l = record {
   theorem : l.self.theorem ≡ l.fn.self.theorem;
   labels : l.self.labels ≡ l.fn.self.labels;
   stands : StandsBefore l.self (as_tokens l.text (drop l.word-index l.words)) l.end;
-  reads : (all : List Letter) → Continues l.fn.self all (letters_of (as_tokens l.text l.words))
-      → Continues (with_number l.self (if_begun l.begun)) all
+  reads : (all_letters : List Letter)
+      → Continues l.fn.self all_letters (letters_of (as_tokens l.text l.words))
+      → Continues (with_number l.self (if_begun l.begun)) all_letters
       (letters_of (as_tokens l.text (drop l.word-index l.words)));
 }

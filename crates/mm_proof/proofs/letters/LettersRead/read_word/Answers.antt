@@ -2,48 +2,52 @@ use Rattle.std.proofs.Common.{[], ◌++◌, refl, length, slice_range, subst, sy
 use Rattle.mm_proof.specs.Refused.{StartsWith}
 use Rattle.mm_proof.specs.Letters.{RefusesLetters, Continues, with_number, if_begun}
 use Rattle.mm_spec.specs.CompressedProof.{letters_from, groups, group_faults}
-use Rattle.mm_proof.proofs.LettersLaw.{err_same, letters_more, letters_end}
+use Rattle.mm_proof.proofs.LettersLaw.{on_same_err, letters_begin_with_letter, no_letters_past_end}
 use Rattle.mm_proof.proofs.letters.LettersRead.read_word.Goals as goal
 
 pub loop-i-init : goal.loop-i-init
 loop-i-init g c =
-    let all_of = letters_from c.args.word.start
+    let word_letters_here = letters_from c.args.word.start
     (slice_range c.args.text.now c.args.word.start c.args.word.end) in
     record {
       theorem = refl;
       labels = refl;
       stands = record { stands = c.requires.stands; begins = c.begin_at.ensures.at };
       reads =
-          λ all unread h. subst (λ o. Continues (with_number c.args.self.now o) all
-          (all_of ++ unread))
-          (sym c.begin_at.ensures.same) h;
+          λ all_letters unread continues. subst
+          (λ o. Continues (with_number c.args.self.now o) all_letters
+          (word_letters_here ++ unread))
+          (sym c.begin_at.ensures.same) continues;
     }
 
 pub returns-in_err-read-clause-refuses : goal.returns-in_err-read-clause-refuses
 returns-in_err-read-clause-refuses g c =
-    let more =
-    letters_more c.args.text.now c.loop-i.i c.args.word.end c.loop-i-test.true
+    let letters_begin_with_i =
+    letters_begin_with_letter c.args.text.now c.loop-i.i c.args.word.end c.loop-i-test.true
     c.requires.within in
-    let reads = rw more at c.loop-i.invariant.reads in
-    err_same c.from_residual.result c.in_err-read.field-0.0
+    let reads = rw letters_begin_with_i at c.loop-i.invariant.reads in
+    on_same_err c.from_residual.result c.in_err-read.field-0.0
     (RefusesLetters (with_number c.args.self.now (if_begun c.args.number.now))
     (letters_from c.args.word.start
     (slice_range c.args.text.now c.args.word.start c.args.word.end))) c.from_residual.ensures.1
-    (λ all unread h. subst
-    (λ ls. StartsWith (group_faults (length ls) 0 0 (groups [] all).0) c.in_err-read.field-0.0)
-    c.loop-i.invariant.labels (c.in_err-read.ensures.refuses all _ (reads all unread h)))
+    (λ all_letters unread continues. subst
+    (λ ls. StartsWith (group_faults (length ls) 0 0 (groups [] all_letters).0)
+    c.in_err-read.field-0.0)
+    c.loop-i.invariant.labels
+    (c.in_err-read.ensures.refuses all_letters _ (reads all_letters unread continues)))
 
 pub loop-i-preserved : goal.loop-i-preserved
 loop-i-preserved g c =
-    let more =
-    letters_more c.args.text.now c.loop-i.i c.args.word.end c.loop-i-test.true
+    let letters_begin_with_i =
+    letters_begin_with_letter c.args.text.now c.loop-i.i c.args.word.end c.loop-i-test.true
     c.requires.within in
-    let reads = rw more at c.loop-i.invariant.reads in
+    let reads = rw letters_begin_with_i at c.loop-i.invariant.reads in
     record {
       theorem = c.in_ok-read.ensures.reads.theorem ∙ c.loop-i.invariant.theorem;
       labels = c.in_ok-read.ensures.reads.labels ∙ c.loop-i.invariant.labels;
       stands = c.in_ok-read.ensures.stands;
-      reads = λ all unread h. c.in_ok-read.ensures.reads.continues all _ (reads all unread h);
+      reads = λ all_letters unread continues. c.in_ok-read.ensures.reads.continues all_letters _
+          (reads all_letters unread continues);
     }
 
 pub returns-clause-reads : goal.returns-clause-reads
@@ -51,6 +55,6 @@ returns-clause-reads g c = record {
   theorem = c.loop-i.invariant.theorem;
   labels = c.loop-i.invariant.labels;
   continues =
-      rw (letters_end c.args.text.now c.loop-i.i c.args.word.end c.loop-i-test.false) at
+      rw (no_letters_past_end c.args.text.now c.loop-i.i c.args.word.end c.loop-i-test.false) at
       c.loop-i.invariant.reads;
 }

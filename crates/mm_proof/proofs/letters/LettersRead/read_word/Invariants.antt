@@ -8,9 +8,9 @@ invariant-loop-i g l = record {
   theorem : l.self.theorem ≡ l.fn.self.theorem;
   labels : l.self.labels ≡ l.fn.self.labels;
   stands : IsReadUpTo l.self l.number l.i;
-  reads : (all unread : List Letter)
-      → Continues (with_number l.fn.self (if_begun l.fn.number)) all
+  reads : (all_letters unread : List Letter)
+      → Continues (with_number l.fn.self (if_begun l.fn.number)) all_letters
       (letters_from l.fn.word.start (slice_range l.text l.fn.word.start l.fn.word.end) ++ unread)
-      → Continues (with_number l.self (if_begun l.number)) all
+      → Continues (with_number l.self (if_begun l.number)) all_letters
       (letters_from l.i (slice_range l.text l.i l.fn.word.end) ++ unread);
 }

@@ -1,5 +1,5 @@
 use Rattle.std.proofs.Common.{List, ℕ, ◌<◌, length, All, sym, ◌∙◌, subst}
-use Rattle.mm_report.proofs.LabelLaw.{selected_below}
+use Rattle.mm_report.proofs.LabelLaw.{selected_lt_bound}
 use Rattle.std.specs.List.{list_any}
 use Rattle.mm_spec.specs.Scope.{statement_at}
 use Rattle.mm_spec.specs.Output.{is_column}
@@ -8,6 +8,8 @@ use Rattle.mm_report.proofs.labels.ColumnLabels.new.Goals as goal
 pub invariant_of-result : goal.invariant_of-result
 invariant_of-result g c =
     let db = c.args.database.now.statements in
-    let r = c.requires in
-    subst (λ (l : List ℕ). All (λ k. k < length db) l) (sym (c.statements.ensures.statements ∙ r.1))
-    (selected_below (λ j. list_any (is_column r.0) (statement_at db j)) (length db))
+    let columns_of_typecode = c.requires in
+    subst (λ (l : List ℕ). All (λ k. k < length db) l)
+    (sym (c.statements.ensures.statements ∙ columns_of_typecode.1))
+    (selected_lt_bound (λ j. list_any (is_column columns_of_typecode.0) (statement_at db j))
+    (length db))

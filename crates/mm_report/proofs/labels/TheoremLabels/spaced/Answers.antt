@@ -2,18 +2,19 @@ use Rattle.std.proofs.Common.{List, ℕ, ◌<◌, ◌∷◌, length, sym, ap, su
 use Rattle.std.specs.Prelude.{flat_map, slice_range}
 use Rattle.mm_spec.specs.Text.{Bytes}
 use Rattle.mm_spec.specs.Output.{label_at, theorems}
-use Rattle.mm_report.proofs.LabelLaw.{spaced_map, some_spaced}
+use Rattle.mm_report.proofs.LabelLaw.{spaced_of_mapped, spaced_has_bytes}
 use Rattle.mm_report.proofs.labels.TheoremLabels.spaced.Goals as goal
 
 pub returns : goal.returns
 returns g c =
     let db = c.self.inside.database.now.statements in
-    let whole =
-    c.spaced_labels.ensures ∙ spaced_map (label_at db) (theorems db) c.args.from c.args.to
+    let spaced_are =
+    c.spaced_labels.ensures ∙ spaced_of_mapped (label_at db) (theorems db) c.args.from c.args.to
     ∙ ap (λ (ls : List Bytes). flat_map (λ (l : Bytes). 32 ∷ l)
     (slice_range ls c.args.from c.args.to)) c.self.view_is in
     record {
-      labels = whole;
-      some = λ lt. subst (λ (bytes : List ℕ). 0 < length bytes) (sym whole)
-          (some_spaced c.args.self.now c.args.from c.args.to lt c.requires.within);
+      labels_are_spaced = spaced_are;
+      has_bytes = λ from_lt_to. subst (λ (bytes : List ℕ). 0 < length bytes) (sym spaced_are)
+          (spaced_has_bytes c.args.self.now c.args.from c.args.to from_lt_to
+          c.requires.to_le_length);
     }

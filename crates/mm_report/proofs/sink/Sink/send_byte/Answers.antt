@@ -1,23 +1,25 @@
 use Rattle.std.proofs.Common.{◌≡◌, ◌⊎◌, inl, inr, true, false, [], ◌∷◌, arith}
 use Rattle.std.proofs.lemmas.Bool.{cases_Bool}
-use Rattle.mm_report.proofs.SentLaw.{sent_more, sent_held, sent_stuck}
+use Rattle.mm_report.proofs.SentLaw.{sent_both, sent_if_held, sent_after_failure}
 use Rattle.mm_report.proofs.sink.Sink.send_byte.Goals as goal
 
 pub returns-then-not-is_full : goal.returns-then-not-is_full
 returns-then-not-is_full g c =
-    sent_more c.make_room.ensures.sent
-    (sent_held (g.W.Write.contents c.make_room.new.to) c.make_room.new.self c.hold_byte.new.self
-    (c.args.byte ∷ []) c.hold_byte.ensures.held c.hold_byte.ensures.failed)
+    sent_both c.make_room.ensures.sent
+    (sent_if_held (g.W.Write.contents c.make_room.new.to) c.make_room.new.self c.hold_byte.new.self
+    (c.args.byte ∷ []) c.hold_byte.ensures.is_held c.hold_byte.ensures.failed_unchanged)
 
 pub returns-else-not-is_full : goal.returns-else-not-is_full
 returns-else-not-is_full g c =
-    sent_more c.make_room.ensures.sent
-    (sent_stuck (g.W.Write.contents c.make_room.new.to) c.make_room.new.self (c.args.byte ∷ [])
+    sent_both c.make_room.ensures.sent
+    (sent_after_failure (g.W.Write.contents c.make_room.new.to) c.make_room.new.self
+    (c.args.byte ∷ [])
     (by_failure (cases_Bool c.make_room.new.self.failed)))
   where
     by_failure : (c.make_room.new.self.failed ≡ true) ⊎ (c.make_room.new.self.failed ≡ false)
         → c.make_room.new.self.failed ≡ true
-    by_failure (inl t) = t
-    by_failure (inr f) =
-        let room = c.make_room.ensures.room f in let full = c.if-not-is_full.ensures.full in
-        absurd (omega (arith, room, full))
+    by_failure (inl failed) = failed
+    by_failure (inr not_failed) =
+        let room_left = c.make_room.ensures.has_room not_failed in
+        let no_room = c.if-not-is_full.ensures.has_no_room in
+        absurd (omega (arith, room_left, no_room))

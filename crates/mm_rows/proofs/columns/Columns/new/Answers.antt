@@ -6,7 +6,7 @@ use Rattle.std.proofs.lemmas.List.{take_all, take_more}
 use Rattle.mm_spec.specs.Scope.{statement_at}
 use Rattle.mm_spec.specs.Output.{columns, has_typecode, is_column}
 use Rattle.mm_cites.specs.Citing.{IsStatementList}
-use Rattle.mm_cites.proofs.RisingLaw.{filter_at, filter_rising}
+use Rattle.mm_cites.proofs.RisingLaw.{filtered_passes, filtered_range_is_statement_list}
 use Rattle.mm_rows.proofs.ColumnLaw.{filter_snoc, columns_are, axiom_asserts}
 use Rattle.mm_rows.proofs.columns.Columns.new.Goals as goal
 use Rattle.mm_rows.proofs.columns.Columns.new.Goals.{then-has_chosen_typecode+in_ok-push}
@@ -21,7 +21,7 @@ has_chosen_typecode-requires g c =
     axiom_asserts db (get_or c.axioms-axioms.result.now i 0)
     (subst (λ (l : List ℕ). list_any (is_column None) (statement_at db (get_or l i 0)) ≡ true)
     (sym c.axioms-axioms.ensures.axioms)
-    (filter_at p (range_with_len 0 (length db)) i 0
+    (filtered_passes p (range_with_len 0 (length db)) i 0
     (subst (λ (l : List ℕ). i < length l) c.axioms-axioms.ensures.axioms there)))
 
 pub loop-statement-preserved : goal.loop-statement-preserved
@@ -61,7 +61,7 @@ invariant_of-result g c =
     c.loop-statement.invariant ∙ ap (filter q) (all ∙ c.axioms-axioms.ensures.axioms)
     ∙ columns_are only db in
     subst IsStatementList (sym same)
-    (filter_rising (λ j. list_any (is_column only) (statement_at db j))
+    (filtered_range_is_statement_list (λ j. list_any (is_column only) (statement_at db j))
     (length db) c.axioms-axioms.ensures.few)
 
 pub returns : goal.returns

@@ -9,19 +9,20 @@ use Rattle.mm_outline.specs.Statements.{statements}
 use Rattle.mm_scope.specs.Formulas.{AreFormulas, judged}
 use Rattle.mm_scope.specs.Scopes.{names_in}
 use Rattle.mm_database.specs.Names.{find, names_of}
-use Rattle.mm_scope.proofs.KnowsLaw.{knows_is}
-use Rattle.mm_scope.proofs.NumberedLaw.{declared, names_shorter, names_next, taken_numbers}
-use Rattle.mm_scope.proofs.NumberedLaw.{formulas_more}
+use Rattle.mm_scope.proofs.KnowsLaw.{scope_knows_names}
+use Rattle.mm_scope.proofs.NumberedLaw.{declared, symbol_names_no_shorter}
+use Rattle.mm_scope.proofs.NumberedLaw.{declared_names_are_symbol_names, taken_numbers}
+use Rattle.mm_scope.proofs.NumberedLaw.{formulas_with_statement}
 use Rattle.mm_scope.proofs.reading.Outlined.add_if_lawful.Goals as goal
 
-pub fault-requires-clause-few : goal.fault-requires-clause-few
-fault-requires-clause-few g c =
+pub fault-requires-clause-few_names : goal.fault-requires-clause-few_names
+fault-requires-clause-few_names g c =
     let db = statements c.args.text.now c.args.tokens.now c.args.self.now.outlines.items in
     let s = statement_of c.args.text.now c.args.tokens.now c.args.outline in
-    let e = ap length c.requires.is_read_so_far.names_are in
-    let l = names_shorter db s in
-    let f = c.requires.next.few_names in
-    omega (arith, e, l, f)
+    let names_length = ap length c.requires.is_read_so_far.names_are in
+    let names_no_shorter = symbol_names_no_shorter db s in
+    let names_lt_2_31 = c.requires.next.few_names in
+    omega (arith, names_length, names_no_shorter, names_lt_2_31)
 
 pub returns-then-is_some : goal.returns-then-is_some
 returns-then-is_some g c =
@@ -30,37 +31,38 @@ returns-then-is_some g c =
     let os = c.args.self.now.outlines.items in
     let db = statements text ws os in
     let s = statement_of text ws c.args.outline in
-    let k = c.requires.is_read_so_far in
-    let next = c.requires.next in
+    let is_read_so_far = c.requires.is_read_so_far in
+    let may_take = c.requires.next in
     let b = c.args.self.now.scope.blocks in
-    let few = next.few in
-    let few_blocks : length db < never = omega (arith, few) in
-    let fault =
+    let db_lt_2_31 = may_take.few_statements in
+    let db_lt_never : length db < never = omega (arith, db_lt_2_31) in
+    let fault_is_least =
     c.in_ok-self.ensures.fault (names_before db (length db))
-    (knows_is db (find c.args.self.now.scope.names.symbols)
-    (find c.args.self.now.scope.names.labels) b k.keeps few_blocks) in
-    let begun = c.args.self.now.numbers.items in
-    let untouched : c.truncate.new.self.items ≡ begun =
+    (scope_knows_names db (find c.args.self.now.scope.names.symbols)
+    (find c.args.self.now.scope.names.labels) b is_read_so_far.keeps db_lt_never) in
+    let symbols_before = c.args.self.now.symbols.items in
+    let symbols_are_unchanged : c.truncate.new.self.items ≡ symbols_before =
     c.truncate.ensures.items
-    ∙ ap₂ take (c.len-number_count.ensures ∙ c.args.self.now.numbers.ok.0)
+    ∙ ap₂ take (c.len-number_count.ensures ∙ c.args.self.now.symbols.ok.0)
     c.in_ok-self.ensures.numbers
-    ∙ take-append-le (length begun) begun (judged (names_in c.args.self.now.scope) s)
-    (le_refl (length begun))
-    ∙ take_all (length begun) begun (le_refl (length begun)) in
+    ∙ take-append-le (length symbols_before) symbols_before
+    (judged (names_in c.args.self.now.scope) s)
+    (le_refl (length symbols_before))
+    ∙ take_all (length symbols_before) symbols_before (le_refl (length symbols_before)) in
     record {
       fault =
-          fault ∙ ap (λ n. least (scope_faults (names_before db n) c.args.depth s))
+          fault_is_least ∙ ap (λ n. least (scope_faults (names_before db n) c.args.depth s))
           (length-map os (statement_of text ws));
-      taken = search rules;
-      stays = λ some. (
+      if_lawful = search rules;
+      if_unlawful = λ is_some. (
         refl,
         record {
-          keeps = k.keeps;
-          names_are = k.names_are;
+          keeps = is_read_so_far.keeps;
+          names_are = is_read_so_far.names_are;
           formulas =
               subst
-              (λ (ns : List ℕ). AreFormulas db ns c.args.self.now.places.items)
-              (sym untouched) k.formulas;
+              (λ (ns : List ℕ). AreFormulas db ns c.args.self.now.ends.items)
+              (sym symbols_are_unchanged) is_read_so_far.formulas;
         },
       );
     }
@@ -72,45 +74,47 @@ returns g c =
     let os = c.args.self.now.outlines.items in
     let db = statements text ws os in
     let s = statement_of text ws c.args.outline in
-    let k = c.requires.is_read_so_far in
-    let next = c.requires.next in
+    let is_read_so_far = c.requires.is_read_so_far in
+    let may_take = c.requires.next in
     let b = c.args.self.now.scope.blocks in
-    let few = next.few in
-    let few_blocks : length db < never = omega (arith, few) in
-    let fault =
+    let db_lt_2_31 = may_take.few_statements in
+    let db_lt_never : length db < never = omega (arith, db_lt_2_31) in
+    let fault_is_least =
     c.in_ok-self.ensures.fault (names_before db (length db))
-    (knows_is db (find c.args.self.now.scope.names.symbols)
-    (find c.args.self.now.scope.names.labels) b k.keeps few_blocks) in
-    let names =
-    names_next db s (names_of c.add.new.self.names.symbols)
-    (c.in_ok-add.ensures.names (declared db) k.names_are) in
-    let more =
-    taken_numbers db s c.args.self.now.numbers.items c.fault.new.numbers.items
+    (scope_knows_names db (find c.args.self.now.scope.names.symbols)
+    (find c.args.self.now.scope.names.labels) b is_read_so_far.keeps db_lt_never) in
+    let names_are =
+    declared_names_are_symbol_names db s (names_of c.add.new.self.names.symbols)
+    (c.in_ok-add.ensures.names (declared db) is_read_so_far.names_are) in
+    let symbols_are_appended =
+    taken_numbers db s c.args.self.now.symbols.items c.fault.new.numbers.items
     c.number_others.new.numbers.items (names_of c.args.self.now.scope.names.symbols)
-    (names_of c.add.new.self.names.symbols) k.names_are names c.in_ok-self.ensures.numbers
+    (names_of c.add.new.self.names.symbols) is_read_so_far.names_are names_are
+    c.in_ok-self.ensures.numbers
     c.in_ok-number_others.ensures in
-    let formulas =
-    formulas_more db next.lawful s c.args.self.now.numbers.items
-    c.args.self.now.places.items k.formulas c.number_others.new.numbers.items more in
+    let are_formulas =
+    formulas_with_statement db may_take.lawful s c.args.self.now.symbols.items
+    c.args.self.now.ends.items is_read_so_far.formulas c.number_others.new.numbers.items
+    symbols_are_appended in
     record {
       fault =
-          fault ∙ ap (λ n. least (scope_faults (names_before db n) c.args.depth s))
+          fault_is_least ∙ ap (λ n. least (scope_faults (names_before db n) c.args.depth s))
           (length-map os (statement_of text ws));
-      taken = λ none. (
+      if_lawful = λ is_none. (
         c.in_ok-push.ensures.items,
         record {
           keeps =
-              c.in_ok-add.ensures.keeps db k.keeps (
+              c.in_ok-add.ensures.keeps db is_read_so_far.keeps (
                 ap (λ d. least (scope_faults (names_before db (length db)) d s))
-                    (sym next.depth_is) ∙ sym fault ∙ none,
-                next.inside,
+                    (sym may_take.open_blocks_is_depth) ∙ sym fault_is_least ∙ is_none,
+                may_take.closes_open_block,
               );
-          names_are = names;
+          names_are = names_are;
           formulas =
               subst
               (λ (ps : List ℕ). AreFormulas (db ++ s ∷ []) c.number_others.new.numbers.items ps)
-              (sym c.in_ok-end_list.ensures.ok) formulas;
+              (sym c.in_ok-end_list.ensures.ok) are_formulas;
         },
       );
-      stays = search rules;
+      if_unlawful = search rules;
     }

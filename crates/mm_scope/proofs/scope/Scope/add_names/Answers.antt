@@ -3,7 +3,7 @@ use Rattle.mm_database.specs.Names.{find}
 use Rattle.mm_outline.specs.Parts.{statement_between, IsKeywordBefore}
 use Rattle.mm_scope.specs.WordEntry.{entry_of}
 use Rattle.mm_scope.specs.WordEntry.{entry_after}
-use Rattle.mm_scope.proofs.TypedLaw.{typed_not, typed_now}
+use Rattle.mm_scope.proofs.TypedLaw.{typed_after_other_count, typed_after_two_symbols}
 use Rattle.mm_scope.proofs.scope.Scope.add_names.Goals as goal
 
 pub returns-in_ok-give_type-in-Floating-clause-symbols :
@@ -12,10 +12,11 @@ returns-in_ok-give_type-in-Floating-clause-symbols g c = λ w.
     let text = c.args.text.now in
     let ws = c.args.tokens.now in
     let o = c.args.outline in
-    let within = c.requires.among.within in
-    let order = c.requires.among.outline.3 in
-    let inside : o.middle ≤ length ws = omega (arith, within, order) in
-    typed_now text ws o.keyword o.middle inside c.if-outline-eq3.true c.args.number
+    let end_lt_length = c.requires.among.end_lt_length in
+    let middle_le_end = c.requires.among.outline.3 in
+    let middle_le_length : o.middle ≤ length ws = omega (arith, end_lt_length, middle_le_end) in
+    typed_after_two_symbols text ws o.keyword o.middle middle_le_length c.if-outline-eq3.true
+    c.args.number
     (find c.args.self.now.names.symbols) (find c.give_label.new.self.names.symbols)
     (find c.give_type.new.self.names.symbols)
     (λ w. ap (λ m. find m w) c.in_ok-give_label-in-Floating.ensures.symbols)
@@ -28,14 +29,14 @@ returns-else-outline-eq3-clause-symbols g c = λ w.
     let text = c.args.text.now in
     let ws = c.args.tokens.now in
     let o = c.args.outline in
-    let within = c.requires.among.within in
-    let order = c.requires.among.outline.3 in
-    let inside : o.middle ≤ length ws = omega (arith, within, order) in
-    let below : o.keyword < o.middle =
+    let end_lt_length = c.requires.among.end_lt_length in
+    let middle_le_end = c.requires.among.outline.3 in
+    let middle_le_length : o.middle ≤ length ws = omega (arith, end_lt_length, middle_le_end) in
+    let keyword_lt_middle : o.keyword < o.middle =
     subst (λ kd. IsKeywordBefore kd o.keyword o.middle) c.in-Floating.is
     c.requires.among.outline.1 in
     ap (λ m. entry_of (find m w)) c.in_ok-give_label-in-Floating.ensures.symbols
-    ∙ sym (typed_not text ws o.keyword o.middle inside c.args.number w
-    (entry_of (find c.args.self.now.names.symbols w)) below c.if-outline-eq3.false)
+    ∙ sym (typed_after_other_count text ws o.keyword o.middle middle_le_length c.args.number w
+    (entry_of (find c.args.self.now.names.symbols w)) keyword_lt_middle c.if-outline-eq3.false)
     ∙ ap (λ kd. entry_after c.args.number (statement_between text ws kd o.keyword o.middle o.end) w
     (entry_of (find c.args.self.now.names.symbols w))) (sym c.in-Floating.is)

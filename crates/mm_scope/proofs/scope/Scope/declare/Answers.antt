@@ -3,26 +3,27 @@ use Rattle.std.proofs.Common.{Some, bytes_eq, if◌then◌else◌}
 use Rattle.mm_spec.specs.Text.{words}
 use Rattle.mm_spec.specs.Frame.{first_occurrences}
 use Rattle.mm_outline.specs.Parts.{between}
-use Rattle.mm_scope.proofs.NumberedLaw.{names_more}
+use Rattle.mm_scope.proofs.NumberedLaw.{names_with_word}
 use Rattle.mm_database.specs.Names.{find, with_name}
 use Rattle.mm_scope.specs.WordEntry.{declared_entry, entry_of}
-use Rattle.mm_scope.proofs.DeclaredLaw.{declared_step}
+use Rattle.mm_scope.proofs.DeclaredLaw.{declared_with_next_word}
 use Rattle.mm_scope.proofs.scope.Scope.declare.Goals as goal
 
 pub loop-token_index-preserved : goal.loop-token_index-preserved
 loop-token_index-preserved g c =
     let from = c.args.outline.keyword + 1 in
-    let test = c.loop-token_index-test.true in
-    let within = c.requires.among.within in
-    let inside : c.loop-token_index.token_index
-    < length c.args.tokens.now = omega (arith, test, within) in
-    let later : from ≤ c.loop-token_index.token_index = omega arith in
-    let i = c.loop-token_index.invariant in
+    let index_lt_middle = c.loop-token_index-test.true in
+    let end_lt_length = c.requires.among.end_lt_length in
+    let index_lt_length : c.loop-token_index.token_index
+    < length c.args.tokens.now = omega (arith, index_lt_middle, end_lt_length) in
+    let from_le_index : from ≤ c.loop-token_index.token_index = omega arith in
+    let invariant = c.loop-token_index.invariant in
     record {
-      labels = λ w. c.in_ok-set_symbol.ensures.labels w ∙ i.labels w;
+      labels = λ w. c.in_ok-set_symbol.ensures.labels w ∙ invariant.labels w;
       symbols =
-          declared_step c.args.text.now c.args.tokens.now from c.loop-token_index.token_index later
-          inside
+          declared_with_next_word c.args.text.now c.args.tokens.now from
+          c.loop-token_index.token_index from_le_index
+          index_lt_length
           c.args.is_variable c.args.number c.declared-symbol.result
           (find c.args.self.now.names.symbols) (find c.loop-token_index.self.names.symbols)
           (find c.set_symbol.new.self.symbols)
@@ -32,19 +33,20 @@ loop-token_index-preserved g c =
           (c.declared-symbol.ensures
           ∙ ap (λ b. declared_entry c.args.is_variable c.args.number b
           (entry_of (find c.loop-token_index.self.names.symbols b))) c.bytes-word.ensures)
-          i.symbols;
-      blocks = i.blocks;
+          invariant.symbols;
+      blocks = invariant.blocks;
       names =
-          λ d h. c.in_ok-set_symbol.ensures.names
-          ∙ ap₂ with_name c.bytes-word.ensures (i.names d h)
-          ∙ names_more c.args.text.now c.args.tokens.now from c.loop-token_index.token_index later
-          inside d;
+          λ d names_are_declared. c.in_ok-set_symbol.ensures.names
+          ∙ ap₂ with_name c.bytes-word.ensures (invariant.names d names_are_declared)
+          ∙ names_with_word c.args.text.now c.args.tokens.now from c.loop-token_index.token_index
+          from_le_index
+          index_lt_length d;
     }
 
 pub returns-clause-names : goal.returns-clause-names
-returns-clause-names g c d h =
+returns-clause-names g c d names_are_declared =
     let from = c.args.outline.keyword + 1 in
-    let e : c.loop-token_index.token_index ≡ c.args.outline.middle = omega arith in
-    c.loop-token_index.invariant.names d h
+    let index_is_middle : c.loop-token_index.token_index ≡ c.args.outline.middle = omega arith in
+    c.loop-token_index.invariant.names d names_are_declared
     ∙ ap (λ i. first_occurrences []
-    (d ++ words (between c.args.text.now c.args.tokens.now from i))) e
+    (d ++ words (between c.args.text.now c.args.tokens.now from i))) index_is_middle

@@ -5,11 +5,11 @@ use Rattle.mm_scope.specs.Knows.{listed_codes}
 use Rattle.mm_scope.proofs.scope.Scope.declared.Goals as goal
 
 pub returns : goal.returns
-returns g c = λ n k.
+returns g c = λ n are_names.
     let o = c.args.outline in
-    let whole = c.whole_statement_fault-whole.ensures n in
-    c.lesser.ensures whole.0
+    let statement_faults = c.whole_statement_fault-fault_of_statement.ensures n in
+    c.lesser.ensures statement_faults.0
     (at_each (listed_codes n o.kind) []
     (between c.args.text.now c.args.tokens.now (o.keyword + 1) o.middle))
-    whole.1 (c.in_ok-rest.ensures n k)
-    ∙ ap least (sym whole.2)
+    statement_faults.1 (c.in_ok-fault_of_symbols.ensures n are_names)
+    ∙ ap least (sym statement_faults.2)

@@ -9,49 +9,50 @@ use Rattle.mm_spec.specs.declared.Code.TheVariants.{BadTypecode}
 use Rattle.mm_database.specs.Names.{find, is_constant_in, names_of}
 use Rattle.mm_scope.proofs.JudgeLaw.{between_first}
 use Rattle.mm_scope.proofs.scope.Scope.formula_fault.Goals as goal
-use Rattle.mm_database.proofs.NamesLaw.{index_le}
+use Rattle.mm_database.proofs.NamesLaw.{index_of_le_length}
 
 pub overflow_cast-number : goal.overflow_cast-number
 overflow_cast-number g c =
     let ns = names_of c.args.self.now.names.symbols in
-    let few = c.requires.few in
-    let le = index_le c.bytes.result.now ns in
-    let is = c.numbered-number.ensures.number in
-    omega (arith, le, is, few)
+    let names_lt_2_31 = c.requires.few_names in
+    let index_le_length = index_of_le_length c.bytes.result.now ns in
+    let number_is_index = c.numbered-number.ensures.number in
+    omega (arith, index_le_length, number_is_index, names_lt_2_31)
 
 pub returns-clause-fault : goal.returns-clause-fault
-returns-clause-fault g c = λ n k.
+returns-clause-fault g c = λ n are_names.
     let s = c.args.self.now in
-    let not_same = c.if-from-to.false in
-    let within = c.requires.within in
-    let order = c.requires.order in
-    let below : c.args.from < c.args.to = omega (arith, not_same, order) in
-    let inside : c.args.to ≤ length c.args.tokens.now = omega (arith, within) in
+    let from_ne_to = c.if-from-to.false in
+    let to_lt_length = c.requires.to_lt_length in
+    let from_le_to = c.requires.from_le_to in
+    let from_lt_to : c.args.from < c.args.to = omega (arith, from_ne_to, from_le_to) in
+    let to_le_length : c.args.to ≤ length c.args.tokens.now = omega (arith, to_lt_length) in
     let text = c.args.text.now in
     let ws = c.args.tokens.now in
     let t = token_at text ws c.args.from in
-    let end = (nth_word ws c.args.to).start in
-    let known = c.numbered-number.ensures.symbol ∙ ap (find s.names.symbols) c.bytes.ensures in
+    let end_place = (nth_word ws c.args.to).start in
+    let symbol_is_found =
+    c.numbered-number.ensures.symbol ∙ ap (find s.names.symbols) c.bytes.ensures in
     c.lesser.ensures (at t.at (when (not (is_in t.word n.constants)) BadTypecode))
     (at_each (symbol_codes n) [] (between text ws (c.args.from + 1) c.args.to))
-    (c.fault_with_code-typecode.ensures ∙ c.typecode_fault_code.ensures t.at
+    (c.fault_with_code-fault_of_typecode.ensures ∙ c.typecode_fault_code.ensures t.at
     ∙ ap (λ b. least (at t.at (when (not b) BadTypecode)))
-    (ap is_constant_in known ∙ sym (k.constants t.word)))
-    (c.in_ok-rest.ensures.fault n k)
-    ∙ ap (λ xs. least (formula_faults n xs end))
-    (sym (between_first text ws c.args.from c.args.to below inside))
+    (ap is_constant_in symbol_is_found ∙ sym (are_names.constants t.word)))
+    (c.in_ok-fault_of_symbols.ensures.fault n are_names)
+    ∙ ap (λ xs. least (formula_faults n xs end_place))
+    (sym (between_first text ws c.args.from c.args.to from_lt_to to_le_length))
 
 pub returns-clause-numbers : goal.returns-clause-numbers
 returns-clause-numbers g c =
     let text = c.args.text.now in
     let ws = c.args.tokens.now in
-    let not_same = c.if-from-to.false in
-    let within = c.requires.within in
-    let order = c.requires.order in
-    let below : c.args.from < c.args.to = omega (arith, not_same, order) in
-    let inside : c.args.to ≤ length ws = omega (arith, within) in
+    let from_ne_to = c.if-from-to.false in
+    let to_lt_length = c.requires.to_lt_length in
+    let from_le_to = c.requires.from_le_to in
+    let from_lt_to : c.args.from < c.args.to = omega (arith, from_ne_to, from_le_to) in
+    let to_le_length : c.args.to ≤ length ws = omega (arith, to_lt_length) in
     let ns = names_of c.args.self.now.names.symbols in
-    c.in_ok-rest.ensures.numbers
+    c.in_ok-fault_of_symbols.ensures.numbers
     ∙ ap (λ l. l ++ numbers_in ns (between text ws (c.args.from + 1) c.args.to))
     (c.in_ok-push.ensures.items
     ∙ ap (λ y. c.args.numbers.now.items ++ y ∷ [])
@@ -60,4 +61,4 @@ returns-clause-numbers g c =
     ∙ append_assoc c.args.numbers.now.items (index_of (token_at text ws c.args.from).word ns ∷ [])
     (numbers_in ns (between text ws (c.args.from + 1) c.args.to))
     ∙ ap (λ l. c.args.numbers.now.items ++ l)
-    (sym (ap (numbers_in ns) (between_first text ws c.args.from c.args.to below inside)))
+    (sym (ap (numbers_in ns) (between_first text ws c.args.from c.args.to from_lt_to to_le_length)))

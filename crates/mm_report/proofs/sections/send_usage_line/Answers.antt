@@ -1,0 +1,29 @@
+use Rattle.std.proofs.Common.{ℕ, ◌∙◌, [], sym, ap, decimal}
+use Rattle.std.proofs.lemmas.List.{length-map}
+use Rattle.std.specs.Prelude.{slice_index_or}
+use Rattle.mm_spec.specs.Text.{Bytes}
+use Rattle.mm_spec.specs.Report.{users}
+use Rattle.mm_report.specs.Rows.{rows_of}
+use Rattle.mm_report.proofs.SentLaw.{sent_both, sent_equal_text, list_line_regrouped}
+use Rattle.mm_report.proofs.UserLaw.{separated_rows, users_counted}
+use Rattle.mm_report.proofs.sections.send_usage_line.Goals as goal
+
+pub returns : goal.returns
+returns g c =
+    let names : ℕ → Bytes = λ i. slice_index_or c.args.labels.now i [] in
+    let count_is_decimal =
+    ap (λ (k : ℕ). decimal k)
+    (c.column_count.ensures
+    ∙ users_counted c.args.matrix.now names c.args.column c.requires.column c.args.matrix.now.rows
+    ∙ sym (length-map (users c.args.column (rows_of c.args.matrix.now c.args.labels.now))
+    (λ r. r.label))) in
+    sent_equal_text _
+    (list_line_regrouped c.args.label.now _
+    (separated_rows (users c.args.column (rows_of c.args.matrix.now c.args.labels.now))))
+    (sent_both
+    (sent_both
+    (sent_both
+    (sent_both (sent_both c.send.ensures c.send_byte.ensures)
+    (sent_equal_text _ count_is_decimal c.send_number.ensures)) c.send_byte-2.ensures)
+    c.send_users.ensures)
+    c.send_byte-3.ensures)
