@@ -20,7 +20,7 @@ use Rattle.mm_outline.specs.Parts.{between, token_at}
 use Rattle.mm_outline.proofs.TurnsLaw.{between_more, between_none}
 use Rattle.mm_lists.specs.Lists.{AreJoined, with_end}
 use Rattle.mm_database.specs.Names.{with_name}
-use Rattle.mm_lists.proofs.ListsLaw.{more_joined}
+use Rattle.mm_lists.proofs.ListsLaw.{joined_with_one_more}
 use Rattle.mm_outline.proofs.StatementsLaw.{get_mapped}
 use Rattle.std.proofs.lemmas.List.{length-map}
 use Rattle.mm_scope.specs.Formulas.{AreFormulas, numbers_in, judged, unjudged}
@@ -138,7 +138,7 @@ module _ (db : List Statement) (lawful : (k : ℕ) → k < length db → scope_f
       rw e
       (subst (λ fs. AreJoined fs (numbers ++ formula_of all s)
       (with_end places (length (numbers ++ formula_of all s)))) formulas-next
-      (more_joined (map (formula_of db) db) (formula_of all s) numbers places f))
+      (joined_with_one_more (map (formula_of db) db) (formula_of all s) numbers places f))
 
 -- ---- the formulas one by one
 

@@ -20,11 +20,11 @@ into_reading-requires g c =
     let few = c.requires.few_symbols in
     let count = c.in_ok-variable_flags.ensures.count in
     record {
-      places = is_read_so_far.formulas.order;
+      places = is_read_so_far.formulas.are_places;
       parts = record {
         sound = c.requires.sound;
         blocks = is_read_so_far.keeps.blocks;
-        numbered = rw is_read_so_far.formulas.are (formulas_numbered db);
+        numbered = rw is_read_so_far.formulas.cut_is_lists (formulas_numbered db);
         few_symbols = omega (arith, few, count);
         count = omega (arith, count, names);
         variable = λ s l. symbols.variable s (omega (arith, l, names));
