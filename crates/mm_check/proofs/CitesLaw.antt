@@ -6,7 +6,7 @@ use Rattle.mm_spec.specs.Statement.{Statement}
 use Rattle.mm_spec.specs.Derivation.{Trees, postfix, is_member}
 use Rattle.mm_spec.specs.Laws.Complete.{AreComplete}
 use Rattle.mm_spec.specs.Citation.{IsProof, Cites}
-use Rattle.mm_spec.proofs.CitedLaw.{proof_unique}
+use Rattle.mm_spec.proofs.CitedLaw.{two_proofs_are_equal}
 use Rattle.mm_spec.proofs.NodesLaw.{all_labels}
 use Rattle.mm_rule.specs.Assertions.{is_assertion_at}
 
@@ -21,6 +21,7 @@ all_cited db t d cites complete is_proof exact a = (
       (both.1, d, is_proof, (all_labels db d a).1 both.0),
   λ c. exact a
       ∙ and_from (is_member (postfix d) a) (is_assertion_at db a)
-      (subst (λ e. is_member (postfix e) a ≡ true) (proof_unique db complete t c.1 d c.2 is_proof)
+      (subst (λ e. is_member (postfix e) a ≡ true)
+      (two_proofs_are_equal db complete t c.1 d c.2 is_proof)
       ((all_labels db c.1 a).0 c.3)) c.0,
 )

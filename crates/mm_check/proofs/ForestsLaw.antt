@@ -10,7 +10,7 @@ use Rattle.mm_spec.specs.Steps.{Step, label, marked}
 use Rattle.mm_spec.specs.Valid.{IsLastTree, Adds, Plain, Derives}
 use Rattle.mm_spec.specs.Laws.Complete.{HasCompleteFrame}
 use Rattle.mm_spec.proofs.UniqueLaw.{◌⧺◌}
-use Rattle.mm_spec.proofs.CheckedLaw.{same_forest}
+use Rattle.mm_spec.proofs.CheckedLaw.{same_labels_same_forest}
 
 -- the forest after the first n steps
 abbrev pub forest_at : List Trees → ℕ → Trees
@@ -186,7 +186,8 @@ module _ (c : Context) where
         same_from_push (postfix ts ++ postfix cs) (postfix forest) k l
         (append_assoc (postfix ts) (postfix cs) (k ∷ []) ∙ p) in
         let is =
-        same_forest c fine forest (ts ⧺ cs) are_derivations (derivations_join ts cs e.0 e.1)
+        same_labels_same_forest c fine forest (ts ⧺ cs) are_derivations
+        (derivations_join ts cs e.0 e.1)
         (sym q.0 ∙ sym (postfix_join ts cs)) in (
           ts,
           f,
@@ -205,7 +206,9 @@ module _ (c : Context) where
     move_marked lists forests rest forest next j a are_derivations e adds here =
         let at = are_at lists forests j adds.0 a adds.2 in
         let from = adds.3 in
-        let same = same_forest c fine (get_or forests j none) from.0 at.1 from.1 (at.2 ∙ sym from.2)
+        let same =
+        same_labels_same_forest c fine (get_or forests j none) from.0 at.1 from.1
+        (at.2 ∙ sym from.2)
         in
         copy from.0 from.1 from.3 same at.0
       where
@@ -214,7 +217,7 @@ module _ (c : Context) where
         copy none dr is_last_tree same j_lt_length_forests = absurd is_last_tree
         copy (more ts l f cs) dr x same j_lt_length_forests =
             let is : next ≡ more forest l f cs =
-            same_forest c fine next (more forest l f cs) e (are_derivations, dr.1, dr.2)
+            same_labels_same_forest c fine next (more forest l f cs) e (are_derivations, dr.1, dr.2)
             (adds.4 ∙ ap (λ z. postfix forest ++ z) x) in
             let before : forest_at (forests ++ next ∷ rest) (length forests) ≡ forest =
             forest_front forests (next ∷ rest) (length forests) (omega arith) ∙ here in (
@@ -298,7 +301,7 @@ module _ (c : Context) where
           last =
               ap (forest_at (forests ++ [])) n
               ∙ forest_front forests [] (length forests) (omega arith) ∙ here
-              ∙ sym (same_forest c fine d forest dd dr h);
+              ∙ sym (same_labels_same_forest c fine d forest dd dr h);
         }
     forests_built (s ∷ steps) lists forests forest d a dr here dd h =
         let tail = plain_more steps (lists ++ h.0 ∷ []) h.0 (postfix d) h.2 in

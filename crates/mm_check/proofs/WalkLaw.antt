@@ -19,7 +19,7 @@ use Rattle.mm_spec.specs.Valid.{Derives}
 use Rattle.mm_spec.specs.Laws.Complete.{AreComplete}
 use Rattle.mm_spec.specs.Citation.{context_at, rule_at, steps_at, IsProof, Cites}
 use Rattle.mm_spec.specs.Laws.Stack.{IsCompleteRule, AreGoodSteps, IsGoodStep}
-use Rattle.mm_spec.proofs.CitedLaw.{proof_unique}
+use Rattle.mm_spec.proofs.CitedLaw.{two_proofs_are_equal}
 use Rattle.mm_steps.specs.Read.{step_at, IsEarlier}
 use Rattle.mm_rule.specs.Assertions.{is_assertion_at}
 use Rattle.mm_check.specs.Contract.{is_labelled_step}
@@ -409,7 +409,7 @@ module _ (db : List Statement) (t : ℕ) (steps : List PlacedStep) (complete : A
     λ m. let k = r.asserted a m in (k, r.derivation, r.proof, (r.exact a k).1 (inl m)),
     λ c. by_membership ((r.exact a c.0).0
         (subst (λ d. HasNode (child_counts db true) each_root d a)
-        (proof_unique db complete t c.1 r.derivation c.2 r.proof) c.3)),
+        (two_proofs_are_equal db complete t c.1 r.derivation c.2 r.proof) c.3)),
   )
     where
       by_membership : (is_member noted a ≡ true)

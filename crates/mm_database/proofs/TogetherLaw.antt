@@ -9,7 +9,8 @@ use Rattle.mm_spec.specs.Scope.{statement_at, is_block_open}
 use Rattle.mm_spec.specs.Derivation.{is_member}
 use Rattle.mm_spec.specs.Frame.{is_disjoint_statement, active_of, formula_at}
 use Rattle.mm_spec.proofs.BoolLaw.{same_tests}
-use Rattle.mm_spec.proofs.MemberLaw.{active_member, disjoint_local, any_witness, any_of}
+use Rattle.mm_spec.proofs.MemberLaw.{active_member, disjoint_local, passing_has_witness}
+use Rattle.mm_spec.proofs.MemberLaw.{witness_makes_any}
 use Rattle.mm_outline.specs.Blocks.{BlockLists, IsBlocks, end_of}
 use Rattle.mm_database.specs.DisjointIndex.{has_symbol, is_active_local}
 use Rattle.mm_database.specs.Pairs.{has_pair}
@@ -63,7 +64,7 @@ module _ (db : List Statement) (b : BlockLists) (blocks : IsBlocks db b) (k : �
             let t =
             (and_parts (list_any is_disjoint_statement (statement_at db j))
             (is_member (formula_at db j) x) ex).0 in
-            any_of (λ i. is_member (formula_at db i) x && is_member (formula_at db i) y)
+            witness_makes_any (λ i. is_member (formula_at db i) x && is_member (formula_at db i) y)
             (active_of is_disjoint_statement db k) j (sym (active_local_is j t) ∙ w.3)
             (ap₂ (λ p q. p && q)
             (and_parts (list_any is_disjoint_statement (statement_at db j))
@@ -75,7 +76,8 @@ module _ (db : List Statement) (b : BlockLists) (blocks : IsBlocks db b) (k : �
         right_to_left true r_true x_and_y_together = r_true
         right_to_left false r_false x_and_y_together =
             let w =
-            any_witness (λ j. is_member (formula_at db j) x && is_member (formula_at db j) y)
+            passing_has_witness
+            (λ j. is_member (formula_at db j) x && is_member (formula_at db j) y)
             (active_of is_disjoint_statement db k) x_and_y_together in
             let j = w.0 in
             let d = kind_of_active j w.1 in

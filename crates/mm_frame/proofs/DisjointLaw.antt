@@ -14,7 +14,7 @@ use Rattle.mm_spec.specs.Derivation.{Pair, pair, is_member}
 use Rattle.mm_spec.specs.Frame.{symbol_names, is_disjoint_statement, active_of, formula_at}
 use Rattle.mm_spec.specs.Frame.{mandatory_variables, mandatory_pairs, disjoint_at, pairs_of}
 use Rattle.mm_spec.proofs.BoolLaw.{same_tests}
-use Rattle.mm_spec.proofs.MemberLaw.{any_witness, any_of, member_range}
+use Rattle.mm_spec.proofs.MemberLaw.{passing_has_witness, witness_makes_any, member_range}
 use Rattle.mm_outline.specs.Blocks.{BlockLists, IsBlocks}
 use Rattle.mm_database.specs.DisjointIndex.{has_symbol, is_active_local}
 use Rattle.mm_database.specs.Pairs.{has_pair, IsBefore, AreRising}
@@ -335,7 +335,7 @@ module _ (db : List Statement) (b : BlockLists) (blocks : IsBlocks db b) (k : �
         in
         let other = had_then j y (and_parts (has_pair by_statement j y) (nat_lt x y) r).0 in
         let apart =
-        any_of (λ i. is_member (formula_at db i) x && is_member (formula_at db i) y)
+        witness_makes_any (λ i. is_member (formula_at db i) x && is_member (formula_at db i) y)
         (active_of is_disjoint_statement db k) j one.2 (ap₂ (λ a b. a && b) one.1 other.1) in
         let dis : disjoint_at db k x y ≡ true =
         ap₂ (λ a b. not a && b) (ne_eqb x y (λ q. absurd (omega (arith, q, l)))) apart in
@@ -362,7 +362,7 @@ module _ (db : List Statement) (b : BlockLists) (blocks : IsBlocks db b) (k : �
         let less = (and_parts (nat_lt x y) (is_member vs x) ab).0 in
         let mx = (and_parts (nat_lt x y) (is_member vs x) ab).1 in
         let w =
-        any_witness (λ i. is_member (formula_at db i) x && is_member (formula_at db i) y)
+        passing_has_witness (λ i. is_member (formula_at db i) x && is_member (formula_at db i) y)
         (active_of is_disjoint_statement db k)
         (and_parts (not (nat_eq x y))
         (list_any (λ i. is_member (formula_at db i) x && is_member (formula_at db i) y)

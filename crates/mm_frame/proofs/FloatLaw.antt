@@ -23,7 +23,7 @@ use Rattle.mm_spec.specs.declared.Code.TheVariants.{BadFloating, TypedBefore, Ot
 use Rattle.mm_spec.specs.Frame.{symbol_names, index_of, is_variable_number, is_floating, formula_at}
 use Rattle.mm_spec.specs.Frame.{formula_of}
 use Rattle.mm_spec.proofs.FindsLaw.{range_any}
-use Rattle.mm_spec.proofs.FaultlessLaw.{append_none, least_none}
+use Rattle.mm_spec.proofs.FaultlessLaw.{both_are_empty, no_least_no_faults}
 use Rattle.mm_outline.specs.Typed.{has_word, typed_words}
 use Rattle.mm_database.specs.ParsedStatements.{IsSound, typed_variable_at}
 use Rattle.mm_outline.proofs.FaultlessLaw.{floating_new}
@@ -65,7 +65,7 @@ module _ (db : List Statement) (sound : IsSound db) where
   law : (k : ℕ) → k < length db → (s : Statement) → slice_get db k ≡ Some s
       → scope_faults (names_before db k) (depth db k) s ≡ []
   law k h s e =
-      least_none (scope_faults (names_before db k) (depth db k) s)
+      no_least_no_faults (scope_faults (names_before db k) (depth db k) s)
       (sym (ap
       (λ o. elim o
       [ None ↦ None | Some s ↦ least (scope_faults (names_before db k) (depth db k) s) ]) e)
@@ -106,13 +106,13 @@ module _ (db : List Statement) (sound : IsSound db) where
   float_of k v k_lt_length_db (Some (floating l a [] d)) e t f = absurd (cc)
   float_of k v k_lt_length_db (Some (floating l a (c ∷ []) d)) e t f = absurd (cc)
   float_of k v k_lt_length_db (Some (floating l a (c ∷ x ∷ y ∷ ys) d)) e t f =
-      absurd (let n = (append_none (label_faults (names_before db k) l)
+      absurd (let n = (both_are_empty (label_faults (names_before db k) l)
       (floating_faults (names_before db k) a (c ∷ x ∷ y ∷ ys))
       (law k k_lt_length_db (floating l a (c ∷ x ∷ y ∷ ys) d) e)).1 in
       cc)
   float_of k v k_lt_length_db (Some (floating l a (c ∷ x ∷ []) d)) e t f =
       let n =
-      (append_none (label_faults (names_before db k) l)
+      (both_are_empty (label_faults (names_before db k) l)
       (floating_faults (names_before db k) a (c ∷ x ∷ []))
       (law k k_lt_length_db (floating l a (c ∷ x ∷ []) d) e)).1 in
       record {
@@ -163,12 +163,12 @@ module _ (db : List Statement) (sound : IsSound db) where
       by_statement (Some (opening a)) e t = absurd (true≢false (sym t))
       by_statement (Some (closing a)) e t = absurd (true≢false (sym t))
       by_statement (Some (floating l a [] d)) e t =
-          absurd (let n = (append_none (label_faults (names_before db k) l)
+          absurd (let n = (both_are_empty (label_faults (names_before db k) l)
           (floating_faults (names_before db k) a []) (law k k_lt_length_db (floating l a [] d) e)).1
           in
           cc)
       by_statement (Some (floating l a (c ∷ []) d)) e t =
-          absurd (let n = (append_none (label_faults (names_before db k) l)
+          absurd (let n = (both_are_empty (label_faults (names_before db k) l)
           (floating_faults (names_before db k) a (c ∷ []))
           (law k k_lt_length_db (floating l a (c ∷ []) d) e)).1 in
           cc)

@@ -17,8 +17,9 @@ use Rattle.mm_spec.specs.Frame.{symbol_names, index_of, is_variable_number, is_e
 use Rattle.mm_spec.specs.Frame.{is_floating, active_of, formula_at, mandatory_variables}
 use Rattle.mm_spec.specs.Frame.{mandatory_hypotheses}
 use Rattle.mm_spec.proofs.BoolLaw.{same_tests}
-use Rattle.mm_spec.proofs.MemberLaw.{any_witness, any_of, same_any, member_flat}
-use Rattle.mm_spec.proofs.ListLaw.{member_at}
+use Rattle.mm_spec.proofs.MemberLaw.{passing_has_witness, witness_makes_any, same_members_same_any}
+use Rattle.mm_spec.proofs.MemberLaw.{member_flat}
+use Rattle.mm_spec.proofs.ListLaw.{element_is_member}
 use Rattle.mm_outline.specs.Blocks.{never}
 use Rattle.mm_frame.specs.Latest.{is_staying}
 use Rattle.mm_database.specs.ParsedStatements.{IsSound, typed_variable_at}
@@ -85,7 +86,7 @@ module _ (db : List Statement) (k : ℕ) where
       (flat_map (formula_at db) (active_of is_essential db k))
       ∙ ap (λ b. is_member (formula_at db k) x || b)
       (member_flat (formula_at db) (active_of is_essential db k) x
-      ∙ sym (same_any (λ j. is_member (formula_at db j) x) xs
+      ∙ sym (same_members_same_any (λ j. is_member (formula_at db j) x) xs
       (active_of is_essential db k) h))))
 
   pub essential_before : (xs : List ℕ)
@@ -94,7 +95,8 @@ module _ (db : List Statement) (k : ℕ) where
   essential_before xs h i l =
       let j = get_or xs i 0 in
       let e =
-      sym (active_member is_essential db essential_local k j) ∙ sym (h j) ∙ member_at xs i 0 l in
+      sym (active_member is_essential db essential_local k j) ∙ sym (h j)
+      ∙ element_is_member xs i 0 l in
       ltb-true j k (and_parts (nat_lt j k) (is_staying is_essential db j k) e).0
 
   variable_named : (x : ℕ) → is_variable_number db x ≡ true → x < length (symbol_names db)
@@ -123,7 +125,7 @@ module _ (db : List Statement) (k : ℕ) where
       → ((x : ℕ) → is_member xs x ≡ is_member (mandatory_variables db k) x)
       → All (λ s. s < length (symbol_names db)) xs
   variables_below xs h i d l =
-      mandatory_named (get_or xs i d) (sym (h (get_or xs i d)) ∙ member_at xs i d l)
+      mandatory_named (get_or xs i d) (sym (h (get_or xs i d)) ∙ element_is_member xs i d l)
 
   -- ---- hypotheses
 
@@ -163,7 +165,7 @@ module _ (db : List Statement) (k : ℕ) where
           ∙ sym (ap (λ b. b || (is_member (mandatory_variables db k) v || false)) no) ∙ both in
           let on = sym (float_active db sound j v j_lt_length_db x k j_lt_k) ∙ active_at_k in
           let same = typed.alone j v j_lt_k (variable_below db sound j v j_lt_length_db x) f.1 on in
-          any_of (is_float_of db k ts j) variables v (variables_are v ∙ yes)
+          witness_makes_any (is_float_of db k ts j) variables v (variables_are v ∙ yes)
           (ap₂ (λ p q. p && q) (eq-eqb j (get_or ts v 0) (sym same))
           (ap₂ (λ p q. not p && q)
           (ne_eqb (get_or ts v 0) never
@@ -176,7 +178,7 @@ module _ (db : List Statement) (k : ℕ) where
           → (is_active db j k ≡ true) × (list_any is_floating (statement_at db j) ≡ true)
           × (list_any (is_member (mandatory_variables db k)) (formula_at db j) ≡ true) × (j < k)
       found_float j e =
-          let w = any_witness (is_float_of db k ts j) variables e in
+          let w = passing_has_witness (is_float_of db k ts j) variables e in
           let v = w.0 in
           let t = get_or ts v 0 in
           let same =

@@ -5,7 +5,7 @@ use Rattle.std.proofs.lemmas.Bool.{cases_lt}
 use Rattle.mm_spec.specs.Statement.{Statement}
 use Rattle.mm_spec.specs.Scope.{depth, is_block_open}
 use Rattle.mm_spec.specs.Laws.Blocks.{InBlock}
-use Rattle.mm_spec.proofs.ActivityLaw.{is_block_open_exact}
+use Rattle.mm_spec.proofs.ActivityLaw.{is_block_open_iff_in_block}
 use Rattle.mm_spec.proofs.BoolLaw.{same_tests}
 
 module _ (db : List Statement) where
@@ -13,8 +13,8 @@ module _ (db : List Statement) where
   pub stays_earlier : (j k l : ℕ) → j ≤ k → k ≤ l → is_block_open db j l ≡ true
       → is_block_open db j k ≡ true
   stays_earlier j k l h m e =
-      let inside = (is_block_open_exact db j l (omega arith)).0 e in
-      (is_block_open_exact db j k h).1 (λ i a b. inside i a (omega arith))
+      let inside = (is_block_open_iff_in_block db j l (omega arith)).0 e in
+      (is_block_open_iff_in_block db j k h).1 (λ i a b. inside i a (omega arith))
 
   -- to the end of the inner one is to where it began
   pub stays_nested : (i j k : ℕ) → i < j → j ≤ k → is_block_open db j k ≡ true
@@ -22,9 +22,9 @@ module _ (db : List Statement) where
   stays_nested i j k i_lt_j j_le_k e =
       same_tests (is_block_open db i k) (is_block_open db i j)
       (stays_earlier i j k (omega arith) j_le_k)
-      (λ f. (is_block_open_exact db i k (omega arith)).1
-      (outer ((is_block_open_exact db i j (omega arith)).0 f)
-      ((is_block_open_exact db j k j_le_k).0 e)))
+      (λ f. (is_block_open_iff_in_block db i k (omega arith)).1
+      (outer ((is_block_open_iff_in_block db i j (omega arith)).0 f)
+      ((is_block_open_iff_in_block db j k j_le_k).0 e)))
     where
       outer : InBlock db i j → InBlock db j k → InBlock db i k
       outer f g m a b = by_order (cases_lt j m)

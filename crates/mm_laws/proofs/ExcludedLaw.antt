@@ -7,7 +7,7 @@ use Rattle.mm_spec.specs.Valid.{Reason, StepFails, Adds, Plain}
 use Rattle.mm_spec.specs.Laws.Complete.{HasCompleteFrame}
 use Rattle.mm_spec.proofs.MachineLaw.{AreGood}
 use Rattle.mm_spec.proofs.StepsLaw.{forest_good, StoppedSteps}
-use Rattle.mm_spec.proofs.CheckedLaw.{plain_unique}
+use Rattle.mm_spec.proofs.CheckedLaw.{plain_lists_are_equal}
 use Rattle.mm_laws.proofs.ExactLaw.{IsPostfixOfForest, stopped_no_forest}
 
 module _ (c : Context) (all_complete : (l : ℕ) → HasCompleteFrame c (c.rule l)) where
@@ -55,7 +55,7 @@ module _ (c : Context) (all_complete : (l : ℕ) → HasCompleteFrame c (c.rule 
           rest.1 ∙ ap (λ z. z ++ rest.0) q.1 ∙ append_assoc plain_parts.0 (l ∷ []) rest.0 in
           let labels : postfix s.forest ≡ plain_parts.0 =
           s.is
-          ∙ plain_unique c all_complete s.before [] [] s.labels plain_parts.0 s.plain
+          ∙ plain_lists_are_equal c all_complete s.before [] [] s.labels plain_parts.0 s.plain
           plain_parts.2 in
           stopped_no_forest c all reason
           (subst (AreGood c) forest.2 (forest_good c all_complete forest.0 forest.1))

@@ -21,7 +21,8 @@ use Rattle.mm_laws.specs.Grammar.{AreCommentWords}
 use Rattle.mm_laws.specs.Grammar.{words_in, words_in_last_comment, tokens_in, IsWellBegun, IsFaulty}
 use Rattle.mm_laws.specs.Grammar.{IsReading}
 use Rattle.mm_spec.proofs.ReadingsLaw.{reading_opening, reading_closing, reading_comment}
-use Rattle.mm_spec.proofs.ReadingsLaw.{reading_faulty, reading_end, reading_one, reading_append}
+use Rattle.mm_spec.proofs.ReadingsLaw.{reading_faulty, reading_end, reading_of_token}
+use Rattle.mm_spec.proofs.ReadingsLaw.{reading_append}
 
 -- ---- the classes of words exclude each other
 
@@ -118,7 +119,7 @@ reading_lexemes : (text : List ℕ) (lexemes : List Lexeme) → AllByRecursion (
     ≡ record { tokens = flat_map tokens_in lexemes; fault = None; open_comment = None }
 reading_lexemes text [] all = reading_end text None
 reading_lexemes text (Single w ∷ lexemes) (h, all) =
-    reading_one text None w _ (role_token _ h)
+    reading_of_token text None w _ (role_token _ h)
     ∙ ap (with_tokens (w ∷ [])) (reading_lexemes text lexemes all)
 reading_lexemes text (Comment o ws c ∷ lexemes) (h, all) =
     reading_opening text None o _ (role_opening _ h.0)
@@ -219,7 +220,7 @@ both_are_begun text (w ∷ ws) = record {
     by_role_outside : RoleOutside (bytes_of text w) → BothAreBegun text ws
         → IsBegunIfFaultless text (w ∷ ws) (reading text None (w ∷ ws))
     by_role_outside (token h role) ih =
-        subst (IsBegunIfFaultless text (w ∷ ws)) (sym (reading_one text None w ws role))
+        subst (IsBegunIfFaultless text (w ∷ ws)) (sym (reading_of_token text None w ws role))
         (λ e. IsWellBegun_cons text (Single w) ws _ _ h (ih.outside_comment e))
     by_role_outside (opening h role) ih =
         subst (IsBegunIfFaultless text (w ∷ ws)) (sym (reading_opening text None w ws role))
@@ -291,13 +292,13 @@ split_at text c (x ∷ xs) f =
         → ((d : Option ℕ) → SplitIf text d xs f (reading text d xs))
         → SplitIf text c (x ∷ xs) f (reading text c (x ∷ xs))
     by_role roles.Token h ih =
-        subst (SplitIf text c (x ∷ xs) f) (sym (reading_one text c x xs h)) (λ e.
+        subst (SplitIf text c (x ∷ xs) f) (sym (reading_of_token text c x xs h)) (λ e.
         let s = ih c e in record {
           before = x ∷ s.before;
           w = s.w;
           after = s.after;
           split = ap (λ (us : List Word). x ∷ us) s.split;
-          begun = reading_one text c x s.before h ∙ ap (with_tokens (x ∷ [])) s.begun;
+          begun = reading_of_token text c x s.before h ∙ ap (with_tokens (x ∷ [])) s.begun;
           role = s.role;
           same_fault = s.same_fault;
         })

@@ -14,7 +14,7 @@ use Rattle.mm_spec.proofs.MachineLaw.{RunFailure}
 use Rattle.mm_spec.proofs.StepsLaw.{run_steps, StoppedSteps, StepsOutcome, steps_outcome}
 use Rattle.mm_spec.specs.Laws.Stack.{AreGoodSteps}
 use Rattle.mm_spec.specs.Laws.Complete.{HasCompleteFrame}
-use Rattle.mm_spec.proofs.CheckedLaw.{same_forest, plain_unique}
+use Rattle.mm_spec.proofs.CheckedLaw.{same_labels_same_forest, plain_lists_are_equal}
 use Rattle.mm_laws.proofs.ExcludedLaw.{excludes}
 use Rattle.mm_spec.specs.declared.Code.TheVariants.{NotOneEntry, OtherFormula}
 
@@ -179,8 +179,8 @@ module _ (c : Context) (all_complete : (l : ℕ) → HasCompleteFrame c (c.rule 
       → ¬ ProofEndFault c ps formula end f
   no_end_fault d h f e =
       let forest : e.forest ≡ d =
-      same_forest c all_complete e.forest d e.derivations h.3
-      (plain_unique c all_complete (steps_of ps) [] [] (postfix e.forest)
+      same_labels_same_forest c all_complete e.forest d e.derivations h.3
+      (plain_lists_are_equal c all_complete (steps_of ps) [] [] (postfix e.forest)
       (postfix d) e.plain h.4) in
       let one : formulas e.forest ≡ formula ∷ [] = ap formulas forest ∙ ap formulas h.2 in
       (subst (λ x. IsEndCode c x formula e.code) one e.fails).0 refl

@@ -37,10 +37,10 @@ use Rattle.mm_spec.specs.Laws.Complete.{HasCompleteFrame, AreComplete}
 use Rattle.mm_spec.specs.Opened.{counted}
 use Rattle.mm_spec.proofs.CompleteLaw.{reads_complete}
 use Rattle.mm_spec.proofs.OpenedLaw.{counted_complete}
-use Rattle.mm_spec.proofs.CheckedLaw.{same_forest, plain_unique}
+use Rattle.mm_spec.proofs.CheckedLaw.{same_labels_same_forest, plain_lists_are_equal}
 use Rattle.mm_laws.proofs.ExcludedLaw.{excludes}
 use Rattle.mm_laws.proofs.JudgedLaw.{stopped_steps, no_step_fault, no_end_fault, no_both_faults}
-use Rattle.mm_spec.proofs.LongestLaw.{longest_unique}
+use Rattle.mm_spec.proofs.LongestLaw.{longest_is_what_is_read}
 use Rattle.mm_spec.specs.declared.Code.TheVariants.{OpenStatement, OpenBlock}
 
 -- ---- two splits of one list
@@ -127,8 +127,9 @@ module _ (c : Context) (all_complete : (l : ℕ) → HasCompleteFrame c (c.rule 
       by_split (inl e) =
           let plain = subst (λ x. IsPlain c (map (λ p. p.step) x) (postfix s.forest)) e.0 s.plain in
           let forest : s.forest ≡ t.forest =
-          same_forest c all_complete s.forest t.forest s.derivations t.derivations
-          (plain_unique c all_complete (map (λ p. p.step) t.before) [] [] (postfix s.forest)
+          same_labels_same_forest c all_complete s.forest t.forest s.derivations t.derivations
+          (plain_lists_are_equal c all_complete (map (λ p. p.step) t.before) [] []
+          (postfix s.forest)
           (postfix t.forest) plain t.plain) in
           let fails =
           subst (λ x. StepFails c x.step (formulas t.forest) s.reason) e.1
@@ -151,8 +152,8 @@ module _ (c : Context) (all_complete : (l : ℕ) → HasCompleteFrame c (c.rule 
       → proof.ProofEndFault c ps formula end f → proof.ProofEndFault c ps formula end g → f ≡ g
   end_fault_unique ps formula end f g s t =
       let forest : s.forest ≡ t.forest =
-      same_forest c all_complete s.forest t.forest s.derivations t.derivations
-      (plain_unique c all_complete (map (λ p. p.step) ps) [] [] (postfix s.forest)
+      same_labels_same_forest c all_complete s.forest t.forest s.derivations t.derivations
+      (plain_lists_are_equal c all_complete (map (λ p. p.step) ps) [] [] (postfix s.forest)
       (postfix t.forest) s.plain t.plain) in
       s.is ∙ ap (fault end)
       (code_unique (formulas t.forest) formula s.code t.code
@@ -286,7 +287,7 @@ shape_unique ts f g s t =
 
 same_statements : (ts : List Token) (a b : List Statement) → AreLongestStatements ts a
     → AreLongestStatements ts b → a ≡ b
-same_statements ts a b h k = sym (longest_unique ts a h) ∙ longest_unique ts b k
+same_statements ts a b h k = sym (longest_is_what_is_read ts a h) ∙ longest_is_what_is_read ts b k
 
 end_unique : (len : ℕ) (ts : List Token) (f g : Fault) → FileEndFault len ts f
     → FileEndFault len ts g → f ≡ g

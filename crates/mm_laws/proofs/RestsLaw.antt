@@ -19,9 +19,9 @@ use Rattle.mm_spec.specs.Text.{Bytes}
 use Rattle.std.specs.List.Sorted.{IsStrictlyIncreasing}
 use Rattle.mm_laws.proofs.RisingListsLaw.{list_of}
 use Rattle.mm_laws.specs.Laws.Cells.{IsDecided}
-use Rattle.mm_spec.proofs.ChainsLaw.{rests_step}
+use Rattle.mm_spec.proofs.ChainsLaw.{rests_by_one_step}
 use Rattle.mm_spec.proofs.FindsLaw.{passing_statement, inside_of}
-use Rattle.mm_spec.proofs.CitedLaw.{cites_earlier, proof_theorem, proof_unique}
+use Rattle.mm_spec.proofs.CitedLaw.{cited_lt_theorem, proved_is_theorem, two_proofs_are_equal}
 use Rattle.mm_spec.proofs.NodesLaw.{node_labels, node_labels_are}
 
 -- ---- what is decided
@@ -70,7 +70,7 @@ module _ (db : List Statement) (by_essential : Bool) (all_complete : AreComplete
                   (p.0, v.1, v.2, are.1 p.1)),
               λ c. and_from (list_any is_assertion (statement_at db a)) listed c.0
                   (are.0 (subst (λ e. IsNodeLabel db by_essential e a)
-                  (proof_unique db all_complete t c.1 v.1 c.2 v.2) c.3)),
+                  (two_proofs_are_equal db all_complete t c.1 v.1 c.2 v.2) c.3)),
             ),
           )
 
@@ -83,7 +83,7 @@ module _ (db : List Statement) (by_essential : Bool) (all_complete : AreComplete
         (
           (λ h. absurd (true≢false (sym h))),
           λ c. absurd
-              (true≢false (sym (proof_theorem db t c.1 c.2) ∙ e)),
+              (true≢false (sym (proved_is_theorem db t c.1 c.2) ∙ e)),
         ),
       )
 
@@ -94,7 +94,7 @@ module _ (db : List Statement) (by_essential : Bool) (all_complete : AreComplete
       alike_decided (Cites db by_essential t a
       ⊎ ((b : ℕ) × (b < t) × (Cites db by_essential t b × RestsOn db by_essential b a)))
       (RestsOn db by_essential t a) rests_if_below
-      (λ r. below_if_cited ((rests_step (Cites db by_essential) t a).0 r))
+      (λ r. below_if_cited ((rests_by_one_step (Cites db by_essential) t a).0 r))
       (or_decided (Cites db by_essential t a)
       ((b : ℕ) × (b < t) × (Cites db by_essential t b × RestsOn db by_essential b a))
       (cites_decided t a)
@@ -106,15 +106,16 @@ module _ (db : List Statement) (by_essential : Bool) (all_complete : AreComplete
       rests_if_below : Cites db by_essential t a
           ⊎ ((b : ℕ) × (b < t) × (Cites db by_essential t b × RestsOn db by_essential b a))
           → RestsOn db by_essential t a
-      rests_if_below (inl c) = (rests_step (Cites db by_essential) t a).1 (inl c)
-      rests_if_below (inr h) = (rests_step (Cites db by_essential) t a).1 (inr (h.0, h.2.0, h.2.1))
+      rests_if_below (inl c) = (rests_by_one_step (Cites db by_essential) t a).1 (inl c)
+      rests_if_below (inr h) =
+          (rests_by_one_step (Cites db by_essential) t a).1 (inr (h.0, h.2.0, h.2.1))
 
       below_if_cited : Cites db by_essential t a
           ⊎ ((b : ℕ) × Cites db by_essential t b × RestsOn db by_essential b a)
           → Cites db by_essential t a
           ⊎ ((b : ℕ) × (b < t) × (Cites db by_essential t b × RestsOn db by_essential b a))
       below_if_cited (inl c) = inl c
-      below_if_cited (inr h) = inr (h.0, cites_earlier db by_essential t h.0 h.1, (h.1, h.2))
+      below_if_cited (inr h) = inr (h.0, cited_lt_theorem db by_essential t h.0 h.1, (h.1, h.2))
 
   pub rests_decided : (t a : ℕ) → IsDecided (RestsOn db by_essential t a)
   rests_decided t a = rests_below (suc t) t (omega arith) a
@@ -152,7 +153,8 @@ module _ (db : List Statement) (by_essential : Bool) (all_complete : AreComplete
         λ a. (
           (λ e. ((r.1.1 a).0 e).2),
           λ h. (r.1.1 a).1
-              (omega arith, (let l = cites_earlier db by_essential t a h.0 in omega (arith, l)), h),
+              (omega arith, (let l = cited_lt_theorem db by_essential t a h.0 in
+              omega (arith, l)), h),
         ),
       )
 

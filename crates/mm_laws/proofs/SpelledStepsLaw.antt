@@ -36,9 +36,9 @@ use Rattle.mm_laws.specs.Laws.NamedSteps.{StepsAreLabels}
 use Rattle.mm_spec.specs.declared.Code.TheVariants.{UnusableLabel}
 use Rattle.mm_spec.specs.declared.Code.TheVariants.{IncompleteProof}
 use Rattle.mm_spec.proofs.FindsLaw.{same_word, passing_statement, inside_of, declares}
-use Rattle.mm_spec.proofs.FaultlessLaw.{least_none, append_none, label_new}
+use Rattle.mm_spec.proofs.FaultlessLaw.{no_least_no_faults, both_are_empty, faultless_label_is_new}
 use Rattle.mm_spec.proofs.OpenedLaw.{counted_any}
-use Rattle.mm_spec.proofs.ListLaw.{get_none}
+use Rattle.mm_spec.proofs.ListLaw.{got_none_is_past_end}
 use Rattle.mm_laws.proofs.ReadLaw.{lawful_read}
 use Rattle.mm_laws.proofs.SpellingLaw.{bracketed_is, AreFaultless, faultless_letters, item_of}
 use Rattle.mm_laws.proofs.SpellingLaw.{groups_spell}
@@ -211,7 +211,7 @@ module _ (hypotheses labels : List ℕ) where
       by_label_or_mark (Some j) e b f =
           (label j, refl, of_label j (get_append hypotheses labels n j e))
       by_label_or_mark None e (Some i) f =
-          let x = get_none (hypotheses ++ labels) n e in
+          let x = got_none_is_past_end (hypotheses ++ labels) n e in
           let all = length-append hypotheses labels in (
             marked i,
             refl,
@@ -223,8 +223,8 @@ module _ (hypotheses labels : List ℕ) where
             ),
           )
       by_label_or_mark None e None f =
-          let x = get_none (hypotheses ++ labels) n e in
-          let y = get_none marks (n - length (hypotheses ++ labels)) f in
+          let x = got_none_is_past_end (hypotheses ++ labels) n e in
+          let y = got_none_is_past_end marks (n - length (hypotheses ++ labels)) f in
           let all = length-append hypotheses labels in
           absurd (omega arith)
 
@@ -320,18 +320,19 @@ module _ (hypotheses labels : List ℕ) where
 
 new_word : (n : KnownNames) (l : Token) (w : Bytes) → bytes_eq l.word w ≡ true
     → lawful.label_faults n l ≡ [] → is_in w n.labels ≡ false
-new_word n l w e h = ap (λ v. is_in v n.labels) (sym (same_word l.word w e)) ∙ label_new n l h
+new_word n l w e h =
+    ap (λ v. is_in v n.labels) (sym (same_word l.word w e)) ∙ faultless_label_is_new n l h
 
 label_fresh : (n : KnownNames) (d : ℕ) (s : Statement) (w : Bytes) → scope_faults n d s ≡ []
     → is_labelled w s ≡ true → is_in w n.labels ≡ false
 label_fresh n d (floating l k xs e) w h m =
-    new_word n l w m (append_none (lawful.label_faults n l) (floating_faults n k xs) h).0
+    new_word n l w m (both_are_empty (lawful.label_faults n l) (floating_faults n k xs) h).0
 label_fresh n d (essential l k xs e) w h m =
-    new_word n l w m (append_none (lawful.label_faults n l) (formula_faults n xs e) h).0
+    new_word n l w m (both_are_empty (lawful.label_faults n l) (formula_faults n xs e) h).0
 label_fresh n d (axiomatic l k xs e) w h m =
-    new_word n l w m (append_none (lawful.label_faults n l) (formula_faults n xs e) h).0
+    new_word n l w m (both_are_empty (lawful.label_faults n l) (formula_faults n xs e) h).0
 label_fresh n d (provable l k xs p ps e) w h m =
-    new_word n l w m (append_none (lawful.label_faults n l) (formula_faults n xs p) h).0
+    new_word n l w m (both_are_empty (lawful.label_faults n l) (formula_faults n xs p) h).0
 label_fresh n d _ w h m = absurd (true≢false (sym m))
 
 labelled_word : (s : Statement) (w : Bytes) → is_labelled w s ≡ true
@@ -380,7 +381,7 @@ module _ (db : List Statement) (law : (k : ℕ) → k < length db → IsLawful d
   faultless : (k : ℕ) (s : Statement) → slice_get db k ≡ Some s
       → scope_faults (names_before db k) (depth db k) s ≡ []
   faultless k s e =
-      least_none (scope_faults (names_before db k) (depth db k) s)
+      no_least_no_faults (scope_faults (names_before db k) (depth db k) s)
       (sym (ap judged e) ∙ law k (inside_of db k s e))
     where
       judged : Option Statement → Option Fault
@@ -460,10 +461,10 @@ module _ (db : List Statement) (differ : LabelsDiffer db) where
     all_usable (t ∷ ts) e =
         let one =
         usable_one t
-        (append_none (proof_label_faults db k t) (flat_map (proof_label_faults db k) ts) e).0 in
+        (both_are_empty (proof_label_faults db k t) (flat_map (proof_label_faults db k) ts) e).0 in
         let rest =
         all_usable ts
-        (append_none (proof_label_faults db k t) (flat_map (proof_label_faults db k) ts) e).1 in
+        (both_are_empty (proof_label_faults db k t) (flat_map (proof_label_faults db k) ts) e).1 in
         (one.0 ∷ rest.0, (one.2, rest.1), ap₂ (λ xs ys. xs ++ ys) one.1 rest.2)
 
     -- ---- proofs
@@ -480,8 +481,8 @@ module _ (db : List Statement) (differ : LabelsDiffer db) where
         let own : List Fault = own_faults t (bytes_eq t.word (codes "?")) in
         let more : List Fault = flat_map (λ u. own_faults u (bytes_eq u.word (codes "?"))) ts in
         ap₂ (λ xs ys. xs ++ ys)
-        (by_question_mark (bytes_eq t.word (codes "?")) (append_none own more e).0)
-        (normal_labels ts (append_none own more e).1)
+        (by_question_mark (bytes_eq t.word (codes "?")) (both_are_empty own more e).0)
+        (normal_labels ts (both_are_empty own more e).1)
       where
         by_question_mark : (b : Bool) → own_faults t b ≡ [] → proof_label_faults db k t ≡ []
         by_question_mark true h = absurd (cc)
@@ -494,13 +495,14 @@ module _ (db : List Statement) (differ : LabelsDiffer db) where
     labels_are (t ∷ ts) e =
         let one =
         usable_one t
-        (append_none (proof_label_faults db k t) (flat_map (proof_label_faults db k) ts) e).0 in
+        (both_are_empty (proof_label_faults db k t) (flat_map (proof_label_faults db k) ts) e).0 in
         subst (λ js. AllZip (λ u s. (j : ℕ) × (s ≡ label j) × IsUsable db k u.word j) (t ∷ ts)
         (map (λ p. p.step) (map (λ j. placed t.at (label j)) js ++ normal_steps db k ts)))
         (sym one.1) (
           (one.0, refl, one.2),
           labels_are ts
-              (append_none (proof_label_faults db k t) (flat_map (proof_label_faults db k) ts) e).1,
+              (both_are_empty (proof_label_faults db k t) (flat_map (proof_label_faults db k) ts)
+              e).1,
         )
 
     normal_are : (end : ℕ) (t : Token) (ts : List Token) → reading_faults db k end (t ∷ ts) ≡ []
@@ -540,11 +542,11 @@ module _ (db : List Statement) (differ : LabelsDiffer db) where
         let label_count = length (mandatory_hypotheses db k) + length labels in
         let js =
         all_usable labels
-        (append_none (flat_map (proof_label_faults db k) labels)
+        (both_are_empty (flat_map (proof_label_faults db k) labels)
         (letter_faults label_count end (letters_of letters)) f).0 in
         let letters_faultless =
         faultless_letters label_count end (letters_of letters)
-        (append_none (flat_map (proof_label_faults db k) labels)
+        (both_are_empty (flat_map (proof_label_faults db k) labels)
         (letter_faults label_count end (letters_of letters)) f).1 in
         let gs = (groups [] (letters_of letters)).0 in
         let groups_spell_letters : Spells (letters_in letters) (map item_of gs) =

@@ -24,7 +24,7 @@ use Rattle.mm_laws.specs.Laws.Letters.{PartsAreUnique, SpellingIsUnique, ProofsA
 use Rattle.mm_spec.specs.declared.Code.TheVariants.{OpenBrackets, OpenNumber, MarkBeforeStep}
 use Rattle.mm_spec.specs.declared.Code.TheVariants.{NumberTooLarge, IncompleteProof, BadLetter}
 use Rattle.mm_spec.proofs.FindsLaw.{same_word}
-use Rattle.mm_spec.proofs.FaultlessLaw.{append_none, at_none, when_none}
+use Rattle.mm_spec.proofs.FaultlessLaw.{both_are_empty, no_faults_no_codes, no_code_if_false}
 
 -- ---- one spelling
 
@@ -311,28 +311,29 @@ faultless_groups (g ∷ gs) label_count marks count f =
         absurd (omega arith)
     by_letter true p false q f after_number after_mark =
         let none =
-        when_none (nat_lt (label_count + marks) (value g)) NumberTooLarge
-        (at_none (starts_at g) (when (nat_lt (label_count + marks) (value g)) NumberTooLarge)
-        (append_none (faults_of_group true false) (faults_of_later_groups false) f).0) in
+        no_code_if_false (nat_lt (label_count + marks) (value g)) NumberTooLarge
+        (no_faults_no_codes (starts_at g)
+        (when (nat_lt (label_count + marks) (value g)) NumberTooLarge)
+        (both_are_empty (faults_of_group true false) (faults_of_later_groups false) f).0) in
         inl (
           p,
           ltb-false (label_count + marks) (value g) none,
           after_number
-              (append_none (faults_of_group true false) (faults_of_later_groups false) f).1,
+              (both_are_empty (faults_of_group true false) (faults_of_later_groups false) f).1,
         )
     by_letter false p true q f after_number after_mark =
         let codes =
-        at_none g.last.at
+        no_faults_no_codes g.last.at
         (when (nat_lt 0 (length g.early)) OpenNumber ++ when (count == 0) MarkBeforeStep)
-        (append_none (faults_of_group false true) (faults_of_later_groups true) f).0 in
+        (both_are_empty (faults_of_group false true) (faults_of_later_groups true) f).0 in
         let open_none =
-        when_none (nat_lt 0 (length g.early)) OpenNumber
-        (append_none (when (nat_lt 0 (length g.early)) OpenNumber)
+        no_code_if_false (nat_lt 0 (length g.early)) OpenNumber
+        (both_are_empty (when (nat_lt 0 (length g.early)) OpenNumber)
         (when (count == 0) MarkBeforeStep) codes).0 in
         let none =
         eqb-false count 0
-        (when_none (count == 0) MarkBeforeStep
-        (append_none (when (nat_lt 0 (length g.early)) OpenNumber)
+        (no_code_if_false (count == 0) MarkBeforeStep
+        (both_are_empty (when (nat_lt 0 (length g.early)) OpenNumber)
         (when (count == 0) MarkBeforeStep) codes).1) in
         inr (
           p,
@@ -340,11 +341,11 @@ faultless_groups (g ∷ gs) label_count marks count f =
           no_length g.early open_none,
           omega arith,
           after_mark
-              (append_none (faults_of_group false true) (faults_of_later_groups true) f).1,
+              (both_are_empty (faults_of_group false true) (faults_of_later_groups true) f).1,
         )
     by_letter false p false q f after_number after_mark =
         absurd (other_byte_is_fault (g.last.byte == 63)
-        (append_none (faults_of_group false false) (faults_of_later_groups false) f).0)
+        (both_are_empty (faults_of_group false false) (faults_of_later_groups false) f).0)
 
 pub early_digit : (b : ℕ) → is_early b ≡ true → IsEarlyDigit b (b - 84)
 early_digit b e =
@@ -505,13 +506,13 @@ faultless_letters label_count end [] e = absurd (cc)
 faultless_letters label_count end (x ∷ xs) e = record {
   faultless =
       faultless_groups (groups [] (x ∷ xs)).0 label_count 0 0
-      (append_none (group_faults label_count 0 0 (groups [] (x ∷ xs)).0)
+      (both_are_empty (group_faults label_count 0 0 (groups [] (x ∷ xs)).0)
       (at end (when (nat_lt 0 (length (groups [] (x ∷ xs)).1)) OpenNumber)) e).0;
   whole =
       no_length (groups [] (x ∷ xs)).1
-      (when_none (nat_lt 0 (length (groups [] (x ∷ xs)).1)) OpenNumber
-      (at_none end (when (nat_lt 0 (length (groups [] (x ∷ xs)).1)) OpenNumber)
-      (append_none (group_faults label_count 0 0 (groups [] (x ∷ xs)).0)
+      (no_code_if_false (nat_lt 0 (length (groups [] (x ∷ xs)).1)) OpenNumber
+      (no_faults_no_codes end (when (nat_lt 0 (length (groups [] (x ∷ xs)).1)) OpenNumber)
+      (both_are_empty (group_faults label_count 0 0 (groups [] (x ∷ xs)).0)
       (at end (when (nat_lt 0 (length (groups [] (x ∷ xs)).1)) OpenNumber)) e).1));
   some = λ n. cc;
 }
@@ -528,7 +529,7 @@ pub faultless_proof : (db : List Statement) (k end : ℕ) (t : Token) (ts : List
     → t.word ≡ codes "(" → reading_faults db k end (t ∷ ts) ≡ [] → IsFaultlessProof db k ts
 faultless_proof db k end t ts opens f =
     by_letters (bracketed ts).letters refl
-    (append_none (flat_map (proof_label_faults db k) (bracketed ts).labels)
+    (both_are_empty (flat_map (proof_label_faults db k) (bracketed ts).labels)
     (faults_of_letters (bracketed ts).letters) compressed_faultless).1
   where
     label_count : ℕ
@@ -559,7 +560,7 @@ faultless_proof db k end t ts opens f =
         record {
           letters = letters;
           is = e;
-          usable = (append_none (flat_map (proof_label_faults db k) (bracketed ts).labels)
+          usable = (both_are_empty (flat_map (proof_label_faults db k) (bracketed ts).labels)
               (faults_of_letters (bracketed ts).letters) compressed_faultless).0;
           good = faultless_letters label_count end (letters_of letters) g;
         }

@@ -13,8 +13,8 @@ use Rattle.mm_laws.specs.Laws.Read.{WhereRead}
 use Rattle.mm_laws.specs.Laws.Derivations.{LabelsDetermine, ProofIsUnique}
 use Rattle.mm_laws.specs.Laws.Faults.{IsValidOrFaulty}
 use Rattle.mm_laws.specs.Laws.Faults.{IsNeverBoth, FaultIsUnique}
-use Rattle.mm_spec.proofs.CheckedLaw.{same_forest}
-use Rattle.mm_spec.proofs.CitedLaw.{proof_unique}
+use Rattle.mm_spec.proofs.CheckedLaw.{same_labels_same_forest}
+use Rattle.mm_spec.proofs.CitedLaw.{two_proofs_are_equal}
 use Rattle.mm_spec.proofs.GoodStepsLaw.{good_steps}
 use Rattle.mm_laws.proofs.ReadLaw.{frames_complete}
 use Rattle.mm_laws.proofs.JudgedLaw.{Verdict, verdict, valid, step_fault, end_fault}
@@ -54,10 +54,11 @@ module _ (db : List Statement) (all_complete : AreComplete db) (k : ℕ) where
 
 pub labels_determine : WhereRead LabelsDetermine
 labels_determine len x db fault r w k =
-    same_forest (context_at (counted w db) k) (frames_complete len x db fault r w k)
+    same_labels_same_forest (context_at (counted w db) k) (frames_complete len x db fault r w k)
 
 pub one_proof : WhereRead ProofIsUnique
-one_proof len x db fault r w k = proof_unique (counted w db) (frames_complete len x db fault r w) k
+one_proof len x db fault r w k =
+    two_proofs_are_equal (counted w db) (frames_complete len x db fault r w) k
 
 pub one_holds : WhereRead IsValidOrFaulty
 one_holds len x db fault r w k t =

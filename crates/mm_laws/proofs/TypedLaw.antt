@@ -22,8 +22,9 @@ use Rattle.mm_spec.proofs.FindsLaw.{any_flat_map, any_filter, member_filter, fil
 use Rattle.mm_spec.proofs.FindsLaw.{passing_statement}
 use Rattle.mm_spec.proofs.FindsLaw.{statement_passes, passing_active, some_active_passes}
 use Rattle.mm_spec.proofs.FaultlessLaw.{has_formula}
-use Rattle.mm_spec.proofs.CompleteLaw.{Types, is_mandatory, is_mandatory_pair, mandatory_typed}
-use Rattle.mm_spec.proofs.CompleteLaw.{type_mandatory, of_formula, of_hypothesis, of_pair}
+use Rattle.mm_spec.proofs.CompleteLaw.{Types, is_mandatory, is_mandatory_pair, mandatory_is_typed}
+use Rattle.mm_spec.proofs.CompleteLaw.{typing_is_mandatory, formula_variable_is_mandatory}
+use Rattle.mm_spec.proofs.CompleteLaw.{hypothesis_variable_is_mandatory, pair_is_mandatory}
 use Rattle.mm_spec.proofs.OpenedLaw.{counted_any, counted_variable, counted_formula}
 use Rattle.mm_spec.proofs.OpenedLaw.{counted_mandatory, counted_hypotheses, counted_pairs}
 use Rattle.mm_laws.proofs.ReadLaw.{lawful_read}
@@ -80,18 +81,18 @@ module _ (db : List Statement) (lawful : (k : ℕ) → k < length db → IsLawfu
   typed : VariablesAreTyped db k
   typed assertion x h =
       let s = passing_statement db is_assertion k assertion in
-      let t = mandatory_typed db lawful k x s.0 s.1 (assertion_has_formula s.0 s.2) h in (
+      let t = mandatory_is_typed db lawful k x s.0 s.1 (assertion_has_formula s.0 s.2) h in (
         t.0,
-        is_mandatory_hypothesis t.0 t.1 (type_mandatory db lawful k t.0 x t.2 h),
+        is_mandatory_hypothesis t.0 t.1 (typing_is_mandatory db lawful k t.0 x t.2 h),
         is_typing t.0 t.2,
       )
     where
       is_typing : (i : ℕ) → Types db lawful i x → IsTyping db i x
       is_typing i t = record {
-        floats = statement_passes db is_floating i t.statement t.stands t.floats;
+        floats = statement_passes db is_floating i t.statement t.statement_is_at t.is_floating_statement;
         typecode = t.typecode;
-        is = t.is;
-        constant = t.constant;
+        is = t.formula_is;
+        constant = t.typecode_is_constant;
       }
 
   -- a symbol of the formula of a mandatory hypothesis is one of the hypotheses' symbols
@@ -147,17 +148,17 @@ module _ (db : List Statement) (lawful : (k : ℕ) → k < length db → IsLawfu
           → ((x == p.low) ≡ true) ⊎ ((x == p.high) ≡ true) → IsMandatory x
       by_side p m (inl e) =
           ap (is_member (mandatory_variables db k)) (eqb-true x p.low e)
-          ∙ (of_pair db lawful k p m).0
+          ∙ (pair_is_mandatory db lawful k p m).0
       by_side p m (inr e) =
           ap (is_member (mandatory_variables db k)) (eqb-true x p.high e)
-          ∙ (of_pair db lawful k p m).1
+          ∙ (pair_is_mandatory db lawful k p m).1
 
       in_hypotheses_or_pairs : (in_hypotheses x ≡ true) ⊎ (in_pairs x ≡ true) → IsMandatory x
       in_hypotheses_or_pairs (inl g) =
           let has = sym (any_filter (is_mandatory db k) (in_formula x) (active db k)) ∙ g in
           let a = passing_active db k (λ j. is_mandatory db k j && in_formula x j) has in
           let p = and_parts (is_mandatory db k a.0) (in_formula x a.0) a.2 in
-          of_hypothesis db lawful k a.0 x a.1 p.0 p.1 v
+          hypothesis_variable_is_mandatory db lawful k a.0 x a.1 p.0 p.1 v
       in_hypotheses_or_pairs (inr g) =
           let a =
           some_passes (λ p. is_mandatory_pair db k p && in_pair x p) all_pairs
@@ -167,7 +168,7 @@ module _ (db : List Statement) (lawful : (k : ℕ) → k < length db → IsLawfu
 
       in_formula_or_rest : (in_formula x k ≡ true) ⊎ ((in_hypotheses x || in_pairs x) ≡ true)
           → IsMandatory x
-      in_formula_or_rest (inl g) = of_formula db lawful k x g v
+      in_formula_or_rest (inl g) = formula_variable_is_mandatory db lawful k x g v
       in_formula_or_rest (inr g) =
           in_hypotheses_or_pairs (or_cases (in_hypotheses x) (in_pairs x) g)
 

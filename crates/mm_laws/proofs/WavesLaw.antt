@@ -14,11 +14,11 @@ use Rattle.mm_spec.specs.Lexed.{LexedText}
 use Rattle.mm_spec.specs.Output.{AreValid}
 use Rattle.mm_laws.specs.Laws.Cells.{IsDecided}
 use Rattle.mm_laws.specs.Laws.OneWave.{HaveWaves}
-use Rattle.mm_spec.proofs.ChainsLaw.{wave_unique}
+use Rattle.mm_spec.proofs.ChainsLaw.{two_waves_are_equal}
 use Rattle.mm_spec.specs.Opened.{counted}
 use Rattle.mm_spec.proofs.CompleteLaw.{reads_complete}
 use Rattle.mm_spec.proofs.OpenedLaw.{counted_complete}
-use Rattle.mm_spec.proofs.CitedLaw.{cites_earlier}
+use Rattle.mm_spec.proofs.CitedLaw.{cited_lt_theorem}
 use Rattle.mm_laws.proofs.RestsLaw.{cites_decided}
 
 module _ (db : List Statement) (by_essential : Bool) (all_complete : AreComplete db)
@@ -93,7 +93,8 @@ module _ (db : List Statement) (by_essential : Bool) (all_complete : AreComplete
       longest : (m : ℕ) → TheoremChain (Cites db by_essential) (IsTheorem db) t m → m ≤ r.0
       longest zero c = omega arith
       longest (suc m) c =
-          let x = r.2 c.0 (cites_earlier db by_essential t c.0 c.1) (c.1, c.2) m c.3 in omega arith
+          let x = r.2 c.0 (cited_lt_theorem db by_essential t c.0 c.1) (c.1, c.2) m c.3 in
+          omega arith
 
   wave_below : (n t : ℕ) → t < n → (w : ℕ) × IsWave db by_essential t w
   wave_below zero t l = absurd (omega arith)
@@ -112,5 +113,6 @@ have_waves len x with_open db h by_essential t =
     (counted_complete with_open db (reads_complete len x db None h.0)) h.1 t in (
       w.0,
       w.1,
-      λ m k. wave_unique (Cites statements by_essential) (IsTheorem statements) t m w.0 k w.1,
+      λ m k. two_waves_are_equal (Cites statements by_essential) (IsTheorem statements) t m w.0 k
+      w.1,
     )

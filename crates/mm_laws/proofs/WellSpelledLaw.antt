@@ -27,7 +27,7 @@ use Rattle.mm_laws.specs.Laws.WellFormed.{CompressedIsExact, NormalIsExact}
 use Rattle.mm_spec.specs.declared.Code.TheVariants.{OpenNumber, MarkBeforeStep, NumberTooLarge}
 use Rattle.mm_spec.specs.declared.Code.TheVariants.{UnusableLabel, IncompleteProof, BadLetter}
 use Rattle.mm_spec.proofs.FindsLaw.{same_word, is_before}
-use Rattle.mm_spec.proofs.FaultlessLaw.{append_none}
+use Rattle.mm_spec.proofs.FaultlessLaw.{both_are_empty}
 use Rattle.mm_laws.proofs.SpellingLaw.{EndsItem, no_early, item_unique, group_number, early_digit}
 use Rattle.mm_laws.proofs.SpellingLaw.{nonempty, parts_of, bracketed_is, bytes_of, AreEarly}
 use Rattle.mm_laws.proofs.SpellingLaw.{item_of}
@@ -537,9 +537,9 @@ module _ (db : List Statement) (differ : LabelsDiffer db) (k end : ℕ) where
   read_are_plain_words [] f = tt
   read_are_plain_words (t ∷ ts) f = (
     by_question_mark (bytes_eq t.word (codes "?")) refl
-        (append_none (faults_of_word t) (flat_map faults_of_word ts) f).0,
+        (both_are_empty (faults_of_word t) (flat_map faults_of_word ts) f).0,
     read_are_plain_words ts
-        (append_none (faults_of_word t) (flat_map faults_of_word ts) f).1,
+        (both_are_empty (faults_of_word t) (flat_map faults_of_word ts) f).1,
   )
     where
       by_question_mark : (b : Bool) → bytes_eq t.word (codes "?") ≡ b

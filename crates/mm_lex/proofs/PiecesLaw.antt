@@ -24,7 +24,8 @@ use Rattle.mm_lex.specs.Stretches.{IsUnbroken, IsBroken, joined_word}
 use Rattle.mm_lex.proofs.StretchesLaw.{join_words, join_broken, join_unbroken_broken}
 use Rattle.mm_lex.proofs.StretchesLaw.{join_broken_unbroken, join_unbroken, whole_broken}
 use Rattle.mm_spec.proofs.ReadingsLaw.{reading_opening, reading_closing, reading_comment}
-use Rattle.mm_spec.proofs.ReadingsLaw.{reading_faulty, reading_end, reading_append, reading_one}
+use Rattle.mm_spec.proofs.ReadingsLaw.{reading_faulty, reading_end, reading_append}
+use Rattle.mm_spec.proofs.ReadingsLaw.{reading_of_token}
 use Rattle.mm_spec.proofs.ReadingsLaw.{append_reading_with_tokens}
 use Rattle.mm_spec.proofs.WordRunsLaw.{words_between_none}
 use Rattle.mm_spec.proofs.WordsLaw.{words_between_cases}
@@ -58,7 +59,7 @@ module _ (text : List ℕ) (r : Reading) (w : Word) (b : Bool) (none : r.fault �
   append_reading_token role =
       append_reading_none text r _ none
       ∙ ap (with_tokens r.tokens)
-      (reading_one text r.open_comment w [] (role_is role)
+      (reading_of_token text r.open_comment w [] (role_is role)
       ∙ ap (with_tokens (w ∷ [])) (reading_end text r.open_comment))
       ∙ rw none refl
 

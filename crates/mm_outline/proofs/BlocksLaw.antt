@@ -10,7 +10,7 @@ use Rattle.std.proofs.Math.Seq.{get_or-append_seam}
 use Rattle.std.specs.List.{list_all, range_with_len}
 use Rattle.mm_spec.specs.Statement.{Statement, is_opening, is_closing}
 use Rattle.mm_spec.specs.Scope.{depth, is_block_open}
-use Rattle.mm_spec.proofs.ActivityLaw.{is_block_open_more}
+use Rattle.mm_spec.proofs.ActivityLaw.{is_block_open_one_later}
 use Rattle.mm_spec.proofs.ShapeLaw.{count_end}
 use Rattle.mm_outline.specs.Blocks.{BlockLists, block_lists, never, innermost, end_of}
 use Rattle.mm_outline.specs.Blocks.{IsBlocks}
@@ -71,7 +71,7 @@ module _ (db : List Statement) (s : Statement) where
       let e : suc (length db) ≡ length db + 1 = omega arith in
       subst (λ n. is_block_open more j n
       ≡ (is_block_open more j (length db) && nat_le (depth more j) (depth more n))) e
-      (is_block_open_more more j (length db) (omega arith))
+      (is_block_open_one_later more j (length db) (omega arith))
       ∙ ap₂ (λ a b. a && nat_le b (depth more (length db + 1)))
       (stays_front j (length db) h (le_refl (length db))) (depth_front j (omega arith))
 
@@ -82,7 +82,7 @@ module _ (db : List Statement) (s : Statement) where
       subst (λ n. is_block_open more (length db) n
       ≡ (is_block_open more (length db) (length db)
       && nat_le (depth more (length db)) (depth more n)))
-      e (is_block_open_more more (length db) (length db) (le_refl (length db)))
+      e (is_block_open_one_later more (length db) (length db) (le_refl (length db)))
       ∙ ap₂ (λ a b. a && nat_le b (depth more (length db + 1))) (stays_here (length db))
       (depth_front (length db) (le_refl (length db)))
 

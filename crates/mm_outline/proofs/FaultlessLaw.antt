@@ -8,7 +8,8 @@ use Rattle.mm_spec.specs.Lawful.{at, at_each, when, constant_codes}
 use Rattle.mm_spec.specs.Lawful.{variable_codes, floating_faults, is_typed, is_typed_otherwise}
 use Rattle.mm_spec.specs.declared.Code.TheVariants.{DeclaredBefore, BadFloating, TypedBefore}
 use Rattle.mm_spec.specs.declared.Code.TheVariants.{OtherTypecode, LabelIsSymbol}
-use Rattle.mm_spec.proofs.FaultlessLaw.{append_none, at_none, when_none, each_none}
+use Rattle.mm_spec.proofs.FaultlessLaw.{both_are_empty, no_faults_no_codes, no_code_if_false}
+use Rattle.mm_spec.proofs.FaultlessLaw.{each_word_has_no_codes}
 
 or_none : (a b c : Bool) → (a || b || c) ≡ false → (a ≡ false) × (b ≡ false)
 or_none false false c e = (refl, refl)
@@ -21,11 +22,11 @@ module _ (n : Names) where
       → is_in w (words ts) ≡ true
       → (is_in w n.constants ≡ false) × (is_in w n.all_variables ≡ false)
   constant_new ts h w i =
-      let none = each_none (constant_codes n) [] ts h w i in
+      let none = each_word_has_no_codes (constant_codes n) [] ts h w i in
       or_none (is_in w n.constants) (is_in w n.all_variables) (is_in w none.0)
-      (when_none
+      (no_code_if_false
       (is_in w n.constants || is_in w n.all_variables || is_in w none.0) DeclaredBefore
-      (append_none
+      (both_are_empty
       (when (is_in w n.constants || is_in w n.all_variables || is_in w none.0) DeclaredBefore)
       (when (is_in w n.labels) LabelIsSymbol) none.1).0)
 
@@ -34,11 +35,11 @@ module _ (n : Names) where
       → is_in w (words ts) ≡ true
       → (is_in w n.constants ≡ false) × (is_in w n.active_variables ≡ false)
   variable_new ts h w i =
-      let none = each_none (variable_codes n) [] ts h w i in
+      let none = each_word_has_no_codes (variable_codes n) [] ts h w i in
       or_none (is_in w n.constants) (is_in w n.active_variables) (is_in w none.0)
-      (when_none
+      (no_code_if_false
       (is_in w n.constants || is_in w n.active_variables || is_in w none.0) DeclaredBefore
-      (append_none
+      (both_are_empty
       (when (is_in w n.constants || is_in w n.active_variables || is_in w none.0)
       DeclaredBefore) (when (is_in w n.labels) LabelIsSymbol) none.1).0)
 
@@ -65,14 +66,14 @@ module _ (n : Names) where
       by_is_in true false e h = absurd (cc)
       by_is_in true true e h =
           let none =
-          append_none (when (is_typed n v.word) TypedBefore)
+          both_are_empty (when (is_typed n v.word) TypedBefore)
           (when (is_typed_otherwise n c.word v.word) OtherTypecode)
-          (at_none v.at
+          (no_faults_no_codes v.at
           (when (is_typed n v.word) TypedBefore
           ++ when (is_typed_otherwise n c.word v.word) OtherTypecode) h) in (
             e,
-            when_none (is_typed n v.word) TypedBefore none.0,
-            when_none
+            no_code_if_false (is_typed n v.word) TypedBefore none.0,
+            no_code_if_false
                 (is_typed_otherwise n c.word v.word) OtherTypecode none.1,
           )
 

@@ -25,7 +25,7 @@ use Rattle.mm_spec.specs.Readings.{reading, bytes_of}
 use Rattle.mm_spec.specs.Lexed.{tokens_of, lexical_fault}
 use Rattle.mm_spec.proofs.WordsLaw.{words_of_AreWords}
 use Rattle.mm_spec.proofs.ReadingsLaw.{reading_opening, reading_closing, reading_comment}
-use Rattle.mm_spec.proofs.ReadingsLaw.{reading_faulty, reading_end, reading_one, read_as_token}
+use Rattle.mm_spec.proofs.ReadingsLaw.{reading_faulty, reading_end, reading_of_token, read_as_token}
 use Rattle.mm_spec.proofs.LexedLaw.{tokens_of_long, lexical_fault_long, tokens_of_read}
 use Rattle.mm_spec.proofs.ListLaw.{pairs_head, pairs_tail}
 use Rattle.mm_outline.specs.Parts.{AreWithin}
@@ -45,7 +45,7 @@ module _ (Q : List Word → List Word → Type 0) (none : (ws : List Word) → Q
           → ((d : Option ℕ) → Q ws (reading text d ws).tokens)
           → Q (w ∷ ws) (reading text c (w ∷ ws)).tokens
       by_role Token e rest =
-          subst (λ r. Q (w ∷ ws) r.tokens) (sym (reading_one text c w ws e))
+          subst (λ r. Q (w ∷ ws) r.tokens) (sym (reading_of_token text c w ws e))
           (taken w ws (reading text c ws).tokens (rest c))
       by_role Opening e rest =
           subst (λ r. Q (w ∷ ws) r.tokens) (sym (reading_opening text c w ws e))
@@ -196,7 +196,7 @@ tokens_tokens text c (w ∷ ws) =
         → ((d : Option ℕ) → All P (reading text d ws).tokens)
         → All P (reading text c (w ∷ ws)).tokens
     by_role Token e rest =
-        subst (λ r. All P r.tokens) (sym (reading_one text c w ws e))
+        subst (λ r. All P r.tokens) (sym (reading_of_token text c w ws e))
         (All-cons P w (reading text c ws).tokens (read_as_token (is_some c) (bytes_of text w) e)
         (rest c))
     by_role Opening e rest =

@@ -14,7 +14,7 @@ use Rattle.std.proofs.lemmas.List.{length-take}
 use Rattle.mm_cites.specs.Citing.{Citing, HasCitation, IsStatementList, IsFileOrder}
 use Rattle.mm_cites.specs.Citing.{theorem_at, list_at}
 use Rattle.mm_spec.specs.Chains.{RestsOn}
-use Rattle.mm_spec.proofs.ChainsLaw.{rests_step}
+use Rattle.mm_spec.proofs.ChainsLaw.{rests_by_one_step}
 use Rattle.mm_spec.proofs.BoolLaw.{or_with_false}
 use Rattle.mm_rows.specs.BitRows.{IsBitRow, HasCitedRows, row_at}
 
@@ -121,7 +121,7 @@ filled_all c columns i row is_file_order within filled_from = record {
     marked_to_via : (a : ℕ) → IsVia c (list_at c i) (length (list_at c i)) a
         → RestsOn (HasCitation c) (theorem_at c i) a
     marked_to_via a is_via =
-        let step = (rests_step (HasCitation c) (theorem_at c i) a).1 in
+        let step = (rests_by_one_step (HasCitation c) (theorem_at c i) a).1 in
         ⊎_elim (λ e. step
         (inl (subst (HasCitation c (theorem_at c i)) e (cites_at is_via.0 is_via.1))))
         (λ r. step (inr (get_or (list_at c i) is_via.0 0, cites_at is_via.0 is_via.1, r))) is_via.2
@@ -148,7 +148,7 @@ filled_all c columns i row is_file_order within filled_from = record {
     via_to_marked a rests_on =
         ⊎_elim (λ s. via_of_citation a a s (inl refl))
         (λ filled_from. via_of_citation filled_from.0 a filled_from.1 (inr filled_from.2))
-        ((rests_step (HasCitation c) (theorem_at c i) a).0 rests_on)
+        ((rests_by_one_step (HasCitation c) (theorem_at c i) a).0 rests_on)
 
 -- what rests on nothing
 pub rests_on_nothing : (c : Citing) (t a : ℕ)
@@ -156,7 +156,7 @@ pub rests_on_nothing : (c : Citing) (t a : ℕ)
     → RestsOn (HasCitation c) t a → ⊥
 rests_on_nothing c t a none r =
     ⊎_elim (λ s. none s.row s.within s.theorem) (λ h. none h.1.row h.1.within h.1.theorem)
-    ((rests_step (HasCitation c) t a).0 r)
+    ((rests_by_one_step (HasCitation c) t a).0 r)
 
 -- a finished row is or-ed into another
 pub marks_of_or : (c : Citing) (columns : List ℕ) (t : ℕ) (old from new : List ℕ)

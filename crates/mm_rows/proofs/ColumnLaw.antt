@@ -13,7 +13,7 @@ use Rattle.mm_spec.specs.Citation.{is_assertion}
 use Rattle.mm_spec.specs.Output.{columns, has_typecode, is_column}
 use Rattle.mm_spec.specs.Frame.{symbol_names, index_of}
 use Rattle.mm_spec.proofs.FindsLaw.{passing_statement, statement_at_is, formula_at_is}
-use Rattle.mm_spec.proofs.FaultlessLaw.{index_of_get}
+use Rattle.mm_spec.proofs.FaultlessLaw.{symbol_of_number_is}
 use Rattle.mm_spec.proofs.BoolLaw.{passes_alone}
 use Rattle.mm_database.specs.Database.{typecode_of, is_labelled_kind, kind_of}
 
@@ -139,7 +139,8 @@ typecode_test db k x v w is e n =
             sym (typecode_is (t ∷ ts) same) ∙ e in
             let place : index_of t.word (symbol_names db) ≡ x = cc in
             let word : v ≡ t.word =
-            index_of_get t.word v (symbol_names db) (ap (slice_get (symbol_names db)) place ∙ n) in
+            symbol_of_number_is t.word v (symbol_names db)
+            (ap (slice_get (symbol_names db)) place ∙ n) in
             ap (λ u. bytes_eq u w) word
             ∙ sym (ap (list_any (has_typecode (Some w))) (statement_at_is db k s g)
             ∙ or-false (has_typecode (Some w) s) ∙ typecode_compared t ts same)

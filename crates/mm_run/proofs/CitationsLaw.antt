@@ -15,7 +15,7 @@ use Rattle.mm_spec.specs.declared.Choice.TheVariants.{Citations}
 use Rattle.mm_spec.specs.Output.{AreCited, IsCitingRowOf, theorems, columns, has_typecode, label_at}
 use Rattle.mm_spec.specs.Output.{IsReportOf}
 use Rattle.mm_spec.proofs.FindsLaw.{member_filter, filter_member}
-use Rattle.mm_spec.proofs.ListLaw.{member_at}
+use Rattle.mm_spec.proofs.ListLaw.{element_is_member}
 use Rattle.mm_work.specs.Citing.{Citing, theorem_at, list_at}
 use Rattle.mm_work.specs.Judged.{AllCited}
 use Rattle.mm_report.specs.Rows.{listed, citing_row, citing_rows, AreCitationsOf}
@@ -29,7 +29,7 @@ module _ (db : List Statement) (request : Request) (c : Citing)
     theorems_are = cited.theorems_are;
     assertions =
         λ i l k d m.
-        ((cited.exact i l (get_or (list_at c i) k d)).0 (member_at (list_at c i) k d m)).0;
+        ((cited.exact i l (get_or (list_at c i) k d)).0 (element_is_member (list_at c i) k d m)).0;
   }
 
   -- what is listed of a theorem is what it cites

@@ -14,7 +14,7 @@ use Rattle.mm_spec.specs.declared.Choice.TheVariants.{All, Matrix, Counts, Usage
 use Rattle.mm_spec.specs.Output.{IsRowOf, theorems, columns, label_at, IsReportOf}
 use Rattle.mm_spec.specs.Output.{IsOutput}
 use Rattle.mm_database.specs.Database.{Contents}
-use Rattle.mm_spec.proofs.ChainsLaw.{chains_alike}
+use Rattle.mm_spec.proofs.ChainsLaw.{alike_relations_have_alike_chains}
 use Rattle.mm_work.specs.Citing.{Citing, HasCitation, theorem_at}
 use Rattle.mm_rows.specs.Marks.{Marks, mark, IsMatrix}
 use Rattle.mm_report.specs.Rows.{row_of, rows_of, marks_of, open_theorems, report_of}
@@ -54,7 +54,8 @@ module _ (db : List Statement) (request : Request) (c : Citing) (m : Marks)
       (sym same) i_inside in
       let d =
       decides_through (mark m i j) (is_matrix.marked i j inside k)
-      (chains_alike (HasCitation c) (proof.Cites db request.essential) shows.same (theorem_at c i)
+      (alike_relations_have_alike_chains (HasCitation c) (proof.Cites db request.essential)
+      shows.same (theorem_at c i)
       (get_or (columns db request.only) j 0)) in
       subst (λ b. Decides b
       (proof.RestsOn db request.essential (get_or (theorems db) i 0)

@@ -16,7 +16,7 @@ use Rattle.mm_spec.specs.declared.Word as spec
 use Rattle.mm_spec.specs.declared.Code.TheVariants.{ConstantInBlock, EmptyDeclaration}
 use Rattle.std.specs.Prelude.{nat_lt}
 use Rattle.std.proofs.Math.Bool.{or-false, or-true}
-use Rattle.mm_spec.proofs.FaultlessLaw.{append_none, least_none}
+use Rattle.mm_spec.proofs.FaultlessLaw.{both_are_empty, no_least_no_faults}
 use Rattle.mm_outline.specs.Blocks.{BlockLists, IsBlocks, never, pushed}
 use Rattle.mm_scope.specs.WordEntry.{WordEntry, entry_of, declared_entry, typed_entry}
 use Rattle.mm_scope.specs.WordEntry.{IsEntryOf, gives_other_typecode, is_constant_entry}
@@ -129,22 +129,23 @@ module _ (db : List Statement) (few : length db < never) (w : Bytes) where
       → scope_faults n d s ≡ [] → IsEntryOf (db ++ s ∷ []) w (entry_after (length db) s w x)
   known_after (constants k xs e) d x kn law =
       constant_after k xs e x kn
-      (append_none
+      (both_are_empty
       (at k (when (nat_lt 0 d) ConstantInBlock) ++ at e (when (is_empty n xs) EmptyDeclaration))
       (at_each (constant_codes n) [] xs) law).1
   known_after (variables k xs e) d x kn law =
       variable_after k xs e x kn
-      (append_none (at e (when (is_empty n xs) EmptyDeclaration))
+      (both_are_empty (at e (when (is_empty n xs) EmptyDeclaration))
       (at_each (variable_codes n) [] xs) law).1
   known_after (floating l k [] e) d x kn law =
-      absurd (let h = (append_none (label_faults n l) (floating_faults n k []) law).1 in cc)
+      absurd (let h = (both_are_empty (label_faults n l) (floating_faults n k []) law).1 in cc)
   known_after (floating l k (c ∷ []) e) d x kn law =
-      absurd (let h = (append_none (label_faults n l) (floating_faults n k (c ∷ [])) law).1 in cc)
+      absurd (let h = (both_are_empty (label_faults n l) (floating_faults n k (c ∷ [])) law).1 in
+          cc)
   known_after (floating l k (c ∷ v ∷ []) e) d x kn law =
       floating_after l k c v e x kn
-      (append_none (label_faults n l) (floating_faults n k (c ∷ v ∷ [])) law).1
+      (both_are_empty (label_faults n l) (floating_faults n k (c ∷ v ∷ [])) law).1
   known_after (floating l k (c ∷ v ∷ t ∷ ts) e) d x kn law =
-      absurd (let h = (append_none (label_faults n l)
+      absurd (let h = (both_are_empty (label_faults n l)
       (floating_faults n k (c ∷ v ∷ t ∷ ts)) law).1 in
       cc)
   known_after (disjoint k xs e) d x kn law = known_same db (disjoint k xs e) w x kn refl refl refl
@@ -235,7 +236,7 @@ keeps_after text ws db look labels b x few k p m e law deep c same number is new
           (known_after db few w (statement_between text ws k p m e) (depth db (length db))
           (entry_of (look w))
           (x.symbols w)
-          (least_none
+          (no_least_no_faults
           (scope_faults (names_before db (length db)) (depth db (length db))
           (statement_between text ws k p m e))
           law));
@@ -247,7 +248,8 @@ keeps_after text ws db look labels b x few k p m e law deep c same number is new
           labels_after db s labels names x.labels_are
           (λ w. known w ∙ ap (λ i. label_after i (label_of s) w (labels w)) n)
           (label_unused db labels x.labels_known (depth db (length db)) s
-          (least_none (scope_faults (names_before db (length db)) (depth db (length db)) s) law));
+          (no_least_no_faults (scope_faults (names_before db (length db)) (depth db (length db)) s)
+          law));
     }
 
 -- two clauses of one result

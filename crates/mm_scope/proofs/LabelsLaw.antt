@@ -14,8 +14,8 @@ use Rattle.mm_spec.specs.Statement.{axiomatic, provable, opening, closing, label
 use Rattle.mm_spec.specs.Scope.{Names, names_before, statement_at, label_words}
 use Rattle.mm_spec.specs.NormalProof.{is_labelled}
 use Rattle.mm_spec.specs.Lawful.{scope_faults, label_faults, formula_faults, floating_faults}
-use Rattle.mm_spec.proofs.LocalLaw.{get_front, get_seam}
-use Rattle.mm_spec.proofs.FaultlessLaw.{append_none, label_new}
+use Rattle.mm_spec.proofs.LocalLaw.{get_front, get_at_seam}
+use Rattle.mm_spec.proofs.FaultlessLaw.{both_are_empty, faultless_label_is_new}
 use Rattle.mm_scope.specs.WordEntry.{label_after}
 use Rattle.mm_database.specs.Labels.{AreLabels}
 use Rattle.mm_outline.proofs.StatementsLaw.{is_there}
@@ -24,16 +24,16 @@ pub label_fresh : (n : Names) (d : ℕ) (s : Statement) → scope_faults n d s �
     → label_of s ≡ Some l → is_in l.word n.labels ≡ false
 label_fresh n d (floating m k xs e) h l q =
     subst (λ (t : Token). is_in t.word n.labels ≡ false) (same_Some m l q)
-    (label_new n m (append_none (label_faults n m) (floating_faults n k xs) h).0)
+    (faultless_label_is_new n m (both_are_empty (label_faults n m) (floating_faults n k xs) h).0)
 label_fresh n d (essential m k xs e) h l q =
     subst (λ (t : Token). is_in t.word n.labels ≡ false) (same_Some m l q)
-    (label_new n m (append_none (label_faults n m) (formula_faults n xs e) h).0)
+    (faultless_label_is_new n m (both_are_empty (label_faults n m) (formula_faults n xs e) h).0)
 label_fresh n d (axiomatic m k xs e) h l q =
     subst (λ (t : Token). is_in t.word n.labels ≡ false) (same_Some m l q)
-    (label_new n m (append_none (label_faults n m) (formula_faults n xs e) h).0)
+    (faultless_label_is_new n m (both_are_empty (label_faults n m) (formula_faults n xs e) h).0)
 label_fresh n d (provable m k xs p ps e) h l q =
     subst (λ (t : Token). is_in t.word n.labels ≡ false) (same_Some m l q)
-    (label_new n m (append_none (label_faults n m) (formula_faults n xs p) h).0)
+    (faultless_label_is_new n m (both_are_empty (label_faults n m) (formula_faults n xs p) h).0)
 label_fresh n d (constants k xs e) h l q = absurd (cc)
 label_fresh n d (variables k xs e) h l q = absurd (cc)
 label_fresh n d (disjoint k xs e) h l q = absurd (cc)
@@ -55,7 +55,8 @@ module _ (db : List Statement) (s : Statement) (find new : List ℕ → Option �
   label_at_last : (w : Bytes)
       → list_any (is_labelled w) (statement_at (db ++ s ∷ []) (length db)) ≡ is_labelled w s
   label_at_last w =
-      ap (λ o. list_any (is_labelled w) (elim o [ None ↦ [] | Some t ↦ t ∷ [] ])) (get_seam db s [])
+      ap (λ o. list_any (is_labelled w) (elim o [ None ↦ [] | Some t ↦ t ∷ [] ]))
+      (get_at_seam db s [])
       ∙ or-false (is_labelled w s)
 
   -- the statement has the label, or the map is the old one there

@@ -9,7 +9,7 @@ use Rattle.mm_spec.specs.Statement.{Statement}
 use Rattle.mm_spec.specs.Scope.{is_active, is_some_still_active, is_global, is_local}
 use Rattle.mm_spec.specs.Scope.{active_statements}
 use Rattle.mm_spec.specs.Scope.{depth, is_block_open}
-use Rattle.mm_spec.proofs.LocalLaw.{get_front, get_seam}
+use Rattle.mm_spec.proofs.LocalLaw.{get_front, get_at_seam}
 use Rattle.std.proofs.lemmas.Bool.{lt-ltb, cases_lt}
 use Rattle.mm_spec.proofs.FindsLaw.{range_any}
 use Rattle.mm_outline.proofs.AmongLaw.{any_false, among_active}
@@ -83,7 +83,8 @@ module _ (db : List Statement) (s : Statement) where
 
     has-new : has_word (db ++ s ∷ []) f w (length db) ≡ is_in w (f s ++ [])
     has-new =
-        ap (λ o. is_in w (flat_map f (elim o [ None ↦ [] | Some t ↦ t ∷ [] ]))) (get_seam db s [])
+        ap (λ o. is_in w (flat_map f (elim o [ None ↦ [] | Some t ↦ t ∷ [] ])))
+        (get_at_seam db s [])
 
     -- the statement has not the word
     pub latest_stays : (last : ℕ) → Latest db f w last → is_in w (f s ++ []) ≡ false

@@ -15,8 +15,8 @@ use Rattle.mm_spec.specs.Laws.Table.{start, statements_from, statements_of, shap
 use Rattle.mm_spec.specs.Laws.Table.{progress_from}
 use Rattle.mm_spec.specs.declared.Word.{Word}
 use Rattle.mm_spec.specs.declared.Fault.{Fault}
-use Rattle.mm_spec.proofs.LocalLaw.{scope_fault_front, scope_fault_next}
-use Rattle.mm_spec.proofs.LongestLaw.{is_longest}
+use Rattle.mm_spec.proofs.LocalLaw.{scope_fault_front, scope_fault_of_next}
+use Rattle.mm_spec.proofs.LongestLaw.{read_statements_are_longest}
 use Rattle.mm_spec.proofs.StopsLaw.{text_fault, text_fault_is, no_text_fault, first_fault_of}
 use Rattle.mm_spec.proofs.StopsLaw.{fault_at_end}
 use Rattle.mm_outline.specs.Parts.{as_tokens, progress, statement_between, depth_after, one_less}
@@ -57,7 +57,7 @@ module _ (text : List ℕ) (ws : List Word) (len : ℕ) (lexical : Option Fault)
       r.leads.statements ∙ ap (λ y. db ++ y) l.statements in
       record {
         statements = statements_of (as_tokens text ws);
-        are_statements = is_longest (as_tokens text ws);
+        are_statements = read_statements_are_longest (as_tokens text ws);
         rest = s ∷ more;
         splits = list;
         lawful =
@@ -65,7 +65,7 @@ module _ (text : List ℕ) (ws : List Word) (len : ℕ) (lexical : Option Fault)
             ∙ r.lawful k h;
         stops = (
           ne,
-          ap (λ y. scope_fault y (length db)) list ∙ scope_fault_next db s more
+          ap (λ y. scope_fault y (length db)) list ∙ scope_fault_of_next db s more
               ∙ ap (λ d. least (scope_faults (names_before db (length db)) d s)) (sym r.deep_is)
               ∙ sym e,
         );
@@ -84,7 +84,7 @@ module _ (text : List ℕ) (ws : List Word) (len : ℕ) (lexical : Option Fault)
       r.leads.statements ∙ ap (λ y. db ++ y) n in
       record {
         statements = statements_of (as_tokens text ws);
-        are_statements = is_longest (as_tokens text ws);
+        are_statements = read_statements_are_longest (as_tokens text ws);
         rest = [];
         splits = list;
         lawful = λ k h. ap (λ y. scope_fault y k) list ∙ scope_fault_front db [] k h ∙ r.lawful k h;
@@ -140,7 +140,7 @@ inside_block text ws db deep at r s d us l e =
     let n : count_by is_closing (db ++ s ∷ []) ≤ count_by is_opening (db ++ s ∷ []) =
     subst (λ y. count_by is_closing y ≤ count_by is_opening y)
     (ap (take (length db + 1)) list ∙ front)
-    ((is_longest (as_tokens text ws)).are_statements.nested (length db + 1)) in
+    ((read_statements_are_longest (as_tokens text ws)).are_statements.nested (length db + 1)) in
     let c : count_by is_closing (db ++ s ∷ []) ≡ count_by is_closing db + 1 =
     count_end is_closing db s ∙ ap (λ b. count_by is_closing db + cond b 1 0) e in
     let o : count_by is_opening (db ++ s ∷ []) ≡ count_by is_opening db + 0 =
@@ -239,7 +239,7 @@ reading_more text ws db deep at r small b x k w m e later within l f = record {
         by_order (inr i) =
             let same : length db ≡ j = omega (arith, h, i, long) in
             subst (λ j. scope_fault (db ++ statement_between text ws k w m e ∷ []) j ≡ None) same
-            (scope_fault_next db (statement_between text ws k w m e) []
+            (scope_fault_of_next db (statement_between text ws k w m e) []
             ∙ ap (λ d. least
             (scope_faults (names_before db (length db)) d (statement_between text ws k w m e)))
             (sym r.deep_is)

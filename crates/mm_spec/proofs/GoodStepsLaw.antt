@@ -31,8 +31,8 @@ use Rattle.mm_spec.specs.declared.Code.TheVariants.{BadLetter}
 use Rattle.mm_spec.specs.Laws.Stack.{IsCompleteRule, AreGoodSteps, IsGoodStep}
 use Rattle.mm_spec.proofs.CompleteLaw.{is_mandatory}
 use Rattle.mm_spec.proofs.FindsLaw.{each_any, each_filter, passing_statement}
-use Rattle.mm_spec.proofs.FaultlessLaw.{append_none, at_none, when_none}
-use Rattle.mm_spec.proofs.ListLaw.{get_none}
+use Rattle.mm_spec.proofs.FaultlessLaw.{both_are_empty, no_faults_no_codes, no_code_if_false}
+use Rattle.mm_spec.proofs.ListLaw.{got_none_is_past_end}
 
 abbrev steps_of : List PlacedStep → List Step
 steps_of ps = map (λ p. p.step) ps
@@ -92,10 +92,10 @@ each_usable db k (t ∷ ts) e =
     grind (
       arith,
       common_steps,
-      append_none,
+      both_are_empty,
       length-append,
       each_usable db k ts
-          (append_none (proof_label_faults db k t) (flat_map (proof_label_faults db k) ts) e).1,
+          (both_are_empty (proof_label_faults db k t) (flat_map (proof_label_faults db k) ts) e).1,
     )
 
 module _ (db : List Statement) (k : ℕ)
@@ -189,8 +189,8 @@ module _ (db : List Statement) (k : ℕ)
       by_label_or_mark None e (Some i) f =
           (marked i, refl, each_get (λ i. i < count) marks (n - length labels) i m f)
       by_label_or_mark None e None f =
-          let x = get_none labels n e in
-          let y = get_none marks (n - length labels) f in
+          let x = got_none_is_past_end labels n e in
+          let y = got_none_is_past_end marks (n - length labels) f in
           absurd (omega arith)
 
   groups_good : (gs : List Group) (labels marks : List ℕ) (label_count count : ℕ)
@@ -262,15 +262,15 @@ module _ (db : List Statement) (k : ℕ)
           let low =
           leb-true 65 g.last.byte (and_parts (nat_le 65 g.last.byte) (nat_le g.last.byte 84) p).0 in
           let none =
-          when_none (nat_lt (label_count + length marks) (value g)) NumberTooLarge
-          (at_none (starts_at g)
+          no_code_if_false (nat_lt (label_count + length marks) (value g)) NumberTooLarge
+          (no_faults_no_codes (starts_at g)
           (when (nat_lt (label_count + length marks) (value g)) NumberTooLarge)
-          (append_none (faults_of_group true false) (faults_of_later_groups false) f).0) in
+          (both_are_empty (faults_of_group true false) (faults_of_later_groups false) f).0) in
           let s =
           number_good labels marks count label_count (value g) l m h (positive _ g.last.byte low)
           (ltb-false (label_count + length marks) (value g) none) in
           let next = after_number
-          (append_none (faults_of_group true false) (faults_of_later_groups false) f).1 in
+          (both_are_empty (faults_of_group true false) (faults_of_later_groups false) f).1 in
           let one : suc count ≡ count + 1 = omega arith in
           subst (λ ss. AreGoodSteps (context_at db k) count
           (steps_of (map (placed (starts_at g)) ss ++ group_steps labels marks (count + 1) gs)))
@@ -282,25 +282,25 @@ module _ (db : List Statement) (k : ℕ)
           )
       by_letter false p true q f after_number after_mark =
           let codes =
-          at_none g.last.at
+          no_faults_no_codes g.last.at
           (when (nat_lt 0 (length g.early)) OpenNumber ++ when (count == 0) MarkBeforeStep)
-          (append_none (faults_of_group false true) (faults_of_later_groups true) f).0 in
+          (both_are_empty (faults_of_group false true) (faults_of_later_groups true) f).0 in
           let none =
           eqb-false count 0
-          (when_none (count == 0) MarkBeforeStep
-          (append_none (when (nat_lt 0 (length g.early)) OpenNumber)
+          (no_code_if_false (count == 0) MarkBeforeStep
+          (both_are_empty (when (nat_lt 0 (length g.early)) OpenNumber)
           (when (count == 0) MarkBeforeStep) codes).1) in
           after_mark (omega arith)
-          (append_none (faults_of_group false true) (faults_of_later_groups true) f).1
+          (both_are_empty (faults_of_group false true) (faults_of_later_groups true) f).1
       by_letter false p false q f after_number after_mark =
           absurd (other_byte_is_fault (g.last.byte == 63)
-          (append_none (faults_of_group false false) (faults_of_later_groups false) f).0)
+          (both_are_empty (faults_of_group false false) (faults_of_later_groups false) f).0)
 
   compressed_good : (end : ℕ) (p : Compressed) → compressed_faults db k end p ≡ []
       → AreGoodSteps (context_at db k) 0 (steps_of (compressed_steps db k p))
   compressed_good end p f =
       by_letters p.letters
-      (append_none (flat_map (proof_label_faults db k) p.labels)
+      (both_are_empty (flat_map (proof_label_faults db k) p.labels)
       (faults_of_letters p.letters) f).1
     where
       labels : List ℕ
@@ -333,7 +333,7 @@ module _ (db : List Statement) (k : ℕ)
             length-append (mandatory_hypotheses db k)
                 (flat_map (λ t. usable db k t.word) p.labels),
             each_usable db k p.labels
-                (append_none (flat_map (proof_label_faults db k) p.labels)
+                (both_are_empty (flat_map (proof_label_faults db k) p.labels)
                 (faults_of_letters p.letters) f).0,
           )
 
@@ -343,7 +343,7 @@ module _ (db : List Statement) (k : ℕ)
       letters_good (x ∷ xs) e =
           groups_good
           (groups [] (x ∷ xs)).0 labels [] label_count 0 labels_are_good tt enough_labels
-          (append_none (group_faults label_count 0 0 (groups [] (x ∷ xs)).0)
+          (both_are_empty (group_faults label_count 0 0 (groups [] (x ∷ xs)).0)
           (at end (when (nat_lt 0 (length (groups [] (x ∷ xs)).1)) OpenNumber)) e).0
 
       by_letters : (o : Option (List Token)) → faults_of_letters o ≡ []

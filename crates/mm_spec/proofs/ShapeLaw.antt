@@ -21,10 +21,11 @@ use Rattle.mm_spec.specs.Statement.{Statement, constants, variables, disjoint, f
 use Rattle.mm_spec.specs.Statement.{axiomatic, provable, opening, closing, spelling_of, is_plain}
 use Rattle.mm_spec.specs.Statement.{is_complete, is_opening, is_closing, AreStatements}
 use Rattle.mm_spec.specs.Statement.{BeginStatements}
-use Rattle.mm_spec.proofs.FollowedLaw.{State, at_label, at_start, begins_followed, depth_following}
-use Rattle.mm_spec.proofs.FollowedLaw.{blocks_counted}
+use Rattle.mm_spec.proofs.FollowedLaw.{State, at_label, at_start, beginnings_are_followed}
+use Rattle.mm_spec.proofs.FollowedLaw.{depth_following}
+use Rattle.mm_spec.proofs.FollowedLaw.{depth_counts_blocks}
 use Rattle.mm_spec.proofs.FollowedLaw.{follow, in_formula, in_proof, in_symbols, label_at_start}
-use Rattle.mm_spec.proofs.FollowedLaw.{next}
+use Rattle.mm_spec.proofs.FollowedLaw.{next_state}
 
 -- ---- what is followed begins a list
 
@@ -104,7 +105,7 @@ balanced_more d list s b w h = record {
       omega (
         arith,
         b.count,
-        blocks_counted s d h,
+        depth_counts_blocks s d h,
         count_end is_closing list s,
         count_end is_opening list s,
       );
@@ -128,7 +129,7 @@ balanced_more d list s b w h = record {
             (omega (
               arith,
               b.count,
-              blocks_counted s d h,
+              depth_counts_blocks s d h,
               count_end is_closing list s,
               count_end
                   is_opening list s,
@@ -297,7 +298,7 @@ pub labelled_whole : (l : Token) (ws : List Token) → is_label l.word ≡ true 
 labelled_whole l ws e f = ap₂ (λ x y. x && y && true) e f
 
 reads_next : (q : State) (ts : List Token) (x : Reads q ts) (t : Token) (k : Class)
-    → Meaning k t.word → Reaches (next q k t.word) (ts ++ t ∷ [])
+    → Meaning k t.word → Reaches (next_state q k t.word) (ts ++ t ∷ [])
 reads_next (at_start d) ts x t constant_keyword m =
     opens d ts x t (codes "$c") m (constants t.at) (λ ws k. refl)
     (λ ws k e. and_true (is_plain ws) e) (λ ws k e. refl) (λ ws k. refl)
@@ -379,7 +380,8 @@ pub follow_reads : (us ts : List Token) (q : State) → Reads q ts
     → Reaches (follow (Some q) us) (ts ++ us)
 follow_reads [] ts q x = subst (Reads q) (sym (append-nil ts)) x
 follow_reads (u ∷ us) ts q x =
-    by_state (next q (class u.word) u.word) (reads_next q ts x u (class u.word) (meaning u.word))
+    by_state (next_state q (class u.word) u.word)
+    (reads_next q ts x u (class u.word) (meaning u.word))
     (λ r y. follow_reads us (ts ++ u ∷ []) r y)
   where
     none_reaches : (vs : List Token) (all : List Token) → Reaches (follow None vs) all
@@ -446,7 +448,7 @@ reads_none =
 pub begins_exact : (ts : List Token)
     → BeginStatements ts ↔ ((q : State) × (follow (Some (at_start 0)) ts ≡ Some q))
 begins_exact ts = (
-  begins_followed ts,
+  beginnings_are_followed ts,
   λ h. reads_begins h.0 ts
       (subst (λ o. Reaches o ts) h.1 (follow_reads ts [] (at_start 0) reads_none)),
 )

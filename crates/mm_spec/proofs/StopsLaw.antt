@@ -21,10 +21,12 @@ use Rattle.mm_spec.specs.Laws.Table.{statements_of, shape_fault_from, shape_faul
 use Rattle.mm_spec.specs.Laws.Table.{progress_from}
 use Rattle.mm_spec.specs.Laws.Table.{progress_after, is_between_statements}
 use Rattle.mm_spec.proofs.FollowedLaw.{State, at_start, at_label, in_symbols, in_formula, in_proof}
-use Rattle.mm_spec.proofs.FollowedLaw.{next, label_at_start, follow, follow_append, no_way_back}
-use Rattle.mm_spec.proofs.FollowedLaw.{statements_followed, begins_followed}
+use Rattle.mm_spec.proofs.FollowedLaw.{next_state, label_at_start, follow, follow_appended}
+use Rattle.mm_spec.proofs.FollowedLaw.{nothing_follows_none}
+use Rattle.mm_spec.proofs.FollowedLaw.{statements_are_followed, beginnings_are_followed}
 use Rattle.mm_spec.proofs.ShapeLaw.{Reads, Reaches, follow_reads, reads_none, begins_exact}
-use Rattle.mm_spec.proofs.LongestLaw.{is_longest, longest_unique, statements_read_at_start}
+use Rattle.mm_spec.proofs.LongestLaw.{read_statements_are_longest, longest_is_what_is_read}
+use Rattle.mm_spec.proofs.LongestLaw.{statements_are_read_at_start}
 use Rattle.mm_spec.specs.declared.Code.TheVariants.{OpenStatement, OpenBlock}
 
 abbrev words_state : Bool → ℕ → State
@@ -50,7 +52,7 @@ state_after p (continued r) = Some (state_of p r)
 state_after p (completed e s) = Some (at_start e)
 
 same_transition : (p : Bool) (r : Progress) (k : Class) (t : Token)
-    → next (state_of p r) k t.word ≡ state_after (proves p r k) (transition r k t)
+    → next_state (state_of p r) k t.word ≡ state_after (proves p r k) (transition r k t)
 same_transition p (start zero) close_block t = refl
 same_transition p (start (suc d)) close_block t = refl
 same_transition p (start d) plain t = grind (arith, common_steps, label_at_start)
@@ -187,7 +189,8 @@ not_between : (ts : List Token) (r : Progress) (b : Bool)
     → follow (Some (at_start 0)) ts ≡ Some (state_of b r) → is_between_statements r ≡ false
     → ¬ IsBetween ts
 not_between ts r b e h x =
-    let y = statements_followed x.0 0 x.1.whole (λ n. let m = x.1.nested n in omega (arith, m)) in
+    let y =
+    statements_are_followed x.0 0 x.1.whole (λ n. let m = x.1.nested n in omega (arith, m)) in
     not_at_start r b (sym e ∙ ap (follow (Some (at_start 0))) (sym x.2) ∙ y.1) h
   where
     not_at_start : {d : ℕ} (r : Progress) (b : Bool) → Some (state_of b r) ≡ Some (at_start d)
@@ -222,11 +225,11 @@ shape_fault ts f e =
         → transition r (class first.word) first ≡ unexpected
         → ¬ BeginStatements (before ++ first ∷ [])
     begins_no_list before first r b y s m =
-        let q = begins_followed (before ++ first ∷ []) m in
+        let q = beginnings_are_followed (before ++ first ∷ []) m in
         let n : None ≡ Some q.0 =
         sym (ap (state_after (proves b r (class first.word))) s) ∙ sym (follow_one b r first [])
         ∙ ap (λ o. follow o (first ∷ [])) (sym y)
-        ∙ sym (follow_append before (first ∷ []) (Some (at_start 0))) ∙ q.1 in
+        ∙ sym (follow_appended before (first ∷ []) (Some (at_start 0))) ∙ q.1 in
         absurd (cc)
 
     by_begins : (before : List Token) (first : Token) (r : Progress) (b : Bool)
@@ -257,8 +260,9 @@ no_shape_fault ts e x =
       where
         by_state : (o : Option State) → follow (Some (at_start 0)) us ≡ o → BeginStatements us
         by_state None n =
-            absurd (no_way_back vs q
-            (ap (λ o. follow o vs) (sym n) ∙ sym (follow_append us vs (Some (at_start 0))) ∙ sym h))
+            absurd (nothing_follows_none vs q
+            (ap (λ o. follow o vs) (sym n) ∙ sym (follow_appended us vs (Some (at_start 0)))
+            ∙ sym h))
         by_state (Some r) n = (begins_exact us).1 (r, n)
 
 -- ---- the end
@@ -277,7 +281,7 @@ ends_between ts d b e =
     let whole : ts ≡ flat_map spelling_of x.statements =
     x.is ∙ ap (λ p. flat_map spelling_of x.statements ++ p) x.is_part
     ∙ append-nil (flat_map spelling_of x.statements) in
-    let y = statements_read_at_start x.statements [] x.balanced.are_statements in
+    let y = statements_are_read_at_start x.statements [] x.balanced.are_statements in
     let same : statements_of ts ≡ x.statements =
     ap statements_of (whole ∙ sym (append-nil (flat_map spelling_of x.statements))) ∙ y.2
     ∙ append-nil x.statements in
@@ -314,10 +318,10 @@ end_fault len ts f e h =
     within_statement r b y n h =
         record {
           statements = statements_of ts;
-          are_statements = is_longest ts;
+          are_statements = read_statements_are_longest ts;
           code =
               inl (
-                goes_on ts r b y n (is_longest ts),
+                goes_on ts r b y n (read_statements_are_longest ts),
                 sym
                     (same_Some (fault len OpenStatement) f h),
               );
@@ -331,9 +335,10 @@ end_fault len ts f e h =
         let c = x.count in
         record {
           statements = statements_of ts;
-          are_statements = is_longest ts;
+          are_statements = read_statements_are_longest ts;
           code = inr
-              (x.rest (is_longest ts), omega (arith, c), sym (same_Some (fault len OpenBlock) f h));
+              (x.rest (read_statements_are_longest ts), omega (arith, c),
+              sym (same_Some (fault len OpenBlock) f h));
         }
     by_progress (labelled d l) b y h = within_statement (labelled d l) b y refl h
     by_progress (words d make ws) b y h = within_statement (words d make ws) b y refl h
@@ -359,9 +364,9 @@ no_end_fault len ts e h f x =
         × (f ≡ fault len OpenBlock))
         → ⊥
     neither_fault list r x (inl c) =
-        c.0 (nothing_left_or_open list r (longest_unique ts list r) x).0
+        c.0 (nothing_left_or_open list r (longest_is_what_is_read ts list r) x).0
     neither_fault list r x (inr c) =
-        let s = (nothing_left_or_open list r (longest_unique ts list r) x).1 in
+        let s = (nothing_left_or_open list r (longest_is_what_is_read ts list r) x).1 in
         let l = c.1 in omega (arith, s, l)
 
     by_progress : (r : Progress) (b : Bool) → follow (Some (at_start 0)) ts ≡ Some (state_of b r)

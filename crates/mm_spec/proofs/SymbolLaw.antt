@@ -20,8 +20,9 @@ use Rattle.mm_spec.specs.declared.Code.TheVariants.{UndeclaredVariable, Repeated
 use Rattle.mm_spec.proofs.FindsLaw.{any_flat_map, inside_of, passing_statement, passing_active}
 use Rattle.mm_spec.proofs.FindsLaw.{same_word}
 use Rattle.mm_spec.proofs.FindsLaw.{declares, declared_before}
-use Rattle.mm_spec.proofs.FaultlessLaw.{least_none, append_none, at_none, when_none}
-use Rattle.mm_spec.proofs.FaultlessLaw.{each_none}
+use Rattle.mm_spec.proofs.FaultlessLaw.{no_least_no_faults, both_are_empty, no_faults_no_codes}
+use Rattle.mm_spec.proofs.FaultlessLaw.{no_code_if_false}
+use Rattle.mm_spec.proofs.FaultlessLaw.{each_word_has_no_codes}
 
 -- what is known of a symbol of a statement: a constant, an active variable, or one that the
 -- statement declares
@@ -41,19 +42,19 @@ formula_named n s (t ∷ ts) end e w m =
         constant
         (ap (λ v. is_in v n.constants) (same_word w t.word h)
         ∙ not-false (is_in t.word n.constants)
-        (when_none (not (is_in t.word n.constants)) BadTypecode
-        (at_none t.at (when (not (is_in t.word n.constants)) BadTypecode)
-        (append_none (at t.at (when (not (is_in t.word n.constants)) BadTypecode))
+        (no_code_if_false (not (is_in t.word n.constants)) BadTypecode
+        (no_faults_no_codes t.at (when (not (is_in t.word n.constants)) BadTypecode)
+        (both_are_empty (at t.at (when (not (is_in t.word n.constants)) BadTypecode))
         (at_each (symbol_codes n) [] ts) e).0)))
     at_first_or_later (inr h) =
         let x =
-        each_none (symbol_codes n) [] ts
-        (append_none (at t.at (when (not (is_in t.word n.constants)) BadTypecode))
+        each_word_has_no_codes (symbol_codes n) [] ts
+        (both_are_empty (at t.at (when (not (is_in t.word n.constants)) BadTypecode))
         (at_each (symbol_codes n) [] ts) e).1 w h in
         constant_or_variable (or_cases (is_in w n.constants) (is_in w n.active_variables)
         (not-false (is_in w n.constants || is_in w n.active_variables)
-        (when_none (not (is_in w n.constants || is_in w n.active_variables)) UndeclaredSymbol
-        (append_none
+        (no_code_if_false (not (is_in w n.constants || is_in w n.active_variables)) UndeclaredSymbol
+        (both_are_empty
         (when (not (is_in w n.constants || is_in w n.active_variables)) UndeclaredSymbol)
         (when (is_in w n.active_variables && not (is_typed n w)) UntypedVariable) x.1).0)))
       where
@@ -100,26 +101,26 @@ named n d (constants k xs e) f w m =
 named n d (variables k xs e) f w m = own_symbol m
 named n d (disjoint k xs e) f w m =
     let x =
-    each_none (disjoint_codes n) [] xs
-    (append_none (at e (when (nat_lt (length xs) 2) TooFewVariables))
+    each_word_has_no_codes (disjoint_codes n) [] xs
+    (both_are_empty (at e (when (nat_lt (length xs) 2) TooFewVariables))
     (at_each (disjoint_codes n) [] xs) f).1 w m in
     variable
     (not-false (is_in w n.active_variables)
-    (when_none (not (is_in w n.active_variables)) UndeclaredVariable
-    (append_none (when (not (is_in w n.active_variables)) UndeclaredVariable)
+    (no_code_if_false (not (is_in w n.active_variables)) UndeclaredVariable
+    (both_are_empty (when (not (is_in w n.active_variables)) UndeclaredVariable)
     (when (is_in w x.0) RepeatedVariable) x.1).0))
 named n d (floating l k xs e) f w m =
     floating_named n (floating l k xs e) k xs
-    (append_none (label_faults n l) (floating_faults n k xs) f).1 w m
+    (both_are_empty (label_faults n l) (floating_faults n k xs) f).1 w m
 named n d (essential l k xs e) f w m =
     formula_named n (essential l k xs e) xs e
-    (append_none (label_faults n l) (formula_faults n xs e) f).1 w m
+    (both_are_empty (label_faults n l) (formula_faults n xs e) f).1 w m
 named n d (axiomatic l k xs e) f w m =
     formula_named n (axiomatic l k xs e) xs e
-    (append_none (label_faults n l) (formula_faults n xs e) f).1 w m
+    (both_are_empty (label_faults n l) (formula_faults n xs e) f).1 w m
 named n d (provable l k xs e ps q) f w m =
     formula_named n (provable l k xs e ps q) xs e
-    (append_none (label_faults n l) (formula_faults n xs e) f).1 w m
+    (both_are_empty (label_faults n l) (formula_faults n xs e) f).1 w m
 named n d (opening k) f w m = absurd (true≢false (sym m))
 named n d (closing k) f w m = absurd (true≢false (sym m))
 
@@ -167,7 +168,7 @@ module _ (db : List Statement) where
       → is_in w (flat_map declared_words db) ≡ true
   declared_here k s e law w m =
       by_naming (named (names_before db k) (depth db k) s
-      (least_none _
+      (no_least_no_faults _
       (sym (ap
       (λ o. elim o
       [ None ↦ None | Some s ↦ least (scope_faults (names_before db k) (depth db k) s) ]) e)

@@ -12,8 +12,8 @@ use Rattle.mm_spec.specs.Citation as proof
 use Rattle.mm_spec.specs.Laws.Complete.{AreComplete}
 use Rattle.mm_spec.specs.Output.{theorems, is_theorem_at, AreValid}
 use Rattle.mm_spec.proofs.FindsLaw.{filter_member, passing_statement, inside_of}
-use Rattle.mm_spec.proofs.CitedLaw.{cites_earlier, proof_theorem}
-use Rattle.mm_spec.proofs.ListLaw.{member_at}
+use Rattle.mm_spec.proofs.CitedLaw.{cited_lt_theorem, proved_is_theorem}
+use Rattle.mm_spec.proofs.ListLaw.{element_is_member}
 use Rattle.mm_cites.specs.Citing.{Citing, citing, HasCitation, IsStatementList, IsFileOrder}
 use Rattle.mm_cites.proofs.RisingLaw.{filter_rising}
 use Rattle.mm_work.specs.Judged.{IsCited, AreCitedUpTo, CitesAsDatabase}
@@ -101,9 +101,9 @@ module _ (db : List Statement) (few : length db < 2 ^ 31) (complete : AreComplet
         rising = theorems_rise;
         each = are_cited_up_to.count;
         earlier =
-            λ i k l m. cites_earlier db by_essential (get_or (theorems db) i 0) _
+            λ i k l m. cited_lt_theorem db by_essential (get_or (theorems db) i 0) _
             (((are_cited_up_to.each i l).checked.exact (get_or (get_or lists i []) k 0)).0
-            (member_at (get_or lists i []) k 0 m));
+            (element_is_member (get_or lists i []) k 0 m));
       }
 
       pub shows : CitesAsDatabase db by_essential c
@@ -116,11 +116,11 @@ module _ (db : List Statement) (few : length db < 2 ^ 31) (complete : AreComplet
               subst (λ y. proof.Cites db by_essential t y) has_citation.cited
               (subst (λ y. proof.Cites db by_essential y b) has_citation.theorem
               (((are_cited_up_to.each has_citation.row has_citation.within).checked.exact b).0
-              (member_at l has_citation.list_index 0 has_citation.listed)))
+              (element_is_member l has_citation.list_index 0 has_citation.listed)))
 
           from : (t a : ℕ) → proof.Cites db by_essential t a → HasCitation c t a
           from t a x =
-              let p = index_of_theorem db t (proof_theorem db t x.1 x.2) in
+              let p = index_of_theorem db t (proved_is_theorem db t x.1 x.2) in
               let l = get_or lists p.0 [] in
               let m : is_member l a ≡ true =
               ((are_cited_up_to.each p.0 p.1).checked.exact a).1

@@ -1,6 +1,8 @@
 use Rattle.std.proofs.Common.{sym}
-use Rattle.mm_spec.proofs.LongestLaw.{is_longest, longest_unique}
+use Rattle.mm_spec.proofs.LongestLaw.{read_statements_are_longest, longest_is_what_is_read}
 use Rattle.mm_laws.proofs.statements.statements_are_the_longest.Goals as goal
 
 pub returns : goal.returns
-returns c = record { are = is_longest; only = λ ts list r. sym (longest_unique ts list r) }
+returns c =
+    record { are = read_statements_are_longest; only = λ ts list r.
+        sym (longest_is_what_is_read ts list r) }

@@ -5,7 +5,7 @@ use Rattle.std.proofs.lemmas.List.Elements.{All-push}
 use Rattle.mm_spec.specs.Scope.{names_before}
 use Rattle.mm_spec.specs.Lawful.{least, scope_faults}
 use Rattle.mm_spec.specs.Laws.Table.{start, statements_from, statements_of}
-use Rattle.mm_spec.proofs.LongestLaw.{is_longest}
+use Rattle.mm_spec.proofs.LongestLaw.{read_statements_are_longest}
 use Rattle.mm_outline.specs.Parts.{statement_of, token_of, as_tokens, depth_after, IsOutline}
 use Rattle.mm_outline.specs.declared.parts.Outline.{Outline}
 use Rattle.mm_outline.specs.NextStatement.{tokens_from}
@@ -31,7 +31,7 @@ add_if_lawful-requires-clause-next g c =
     let row : statements_of ts ≡ (db ++ one ∷ []) ++ more =
     r.leads.statements ∙ ap (λ y. db ++ y) c.in-Whole.ensures.1.leads.statements
     ∙ sym (append_assoc db (one ∷ []) more) in
-    let longest = is_longest ts in
+    let longest = read_statements_are_longest ts in
     let count = r.few in
     let inside = r.within in
     let short = c.requires.few in
