@@ -9,7 +9,7 @@ use Rattle.mm_spec.specs.Frame.{formula_at, frame_at}
 use Rattle.mm_spec.specs.Derivation.{Rule, hypothesis, assertion}
 use Rattle.mm_spec.specs.Citation.{context_at, rule_of, rule_at, is_assertion}
 use Rattle.mm_spec.specs.Laws.Stack.{IsCompleteRule, IsGoodStep}
-use Rattle.mm_spec.proofs.FindsLaw.{inside_of}
+use Rattle.mm_spec.proofs.FindsLaw.{got_lt_length}
 use Rattle.mm_spec.specs.Steps.{Step, label, marked}
 use Rattle.mm_rule.specs.Assertions.{is_assertion_at}
 use Rattle.mm_check.specs.Contract.{IsLabelBelow}
@@ -39,7 +39,7 @@ module _ (db : List Statement) (t j : ℕ) where
           }
 
   pub good_below : IsCompleteRule (context_at db t) (rule_at db t j) → j < length db
-  good_below good = let s = good_label_stands good in inside_of db j s.statement s.stands
+  good_below good = let s = good_label_stands good in got_lt_length db j s.statement s.stands
 
   at_is : (s : Statement) (b : Bool) → slice_get db j ≡ Some s → is_assertion_at db j ≡ b
       → list_any is_assertion (s ∷ []) ≡ b

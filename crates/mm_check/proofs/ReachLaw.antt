@@ -14,7 +14,7 @@ use Rattle.mm_spec.specs.Derivation.{AreDerivations, is_member}
 use Rattle.mm_spec.specs.Steps.{Step, label, marked, PlacedStep, placed}
 use Rattle.mm_spec.specs.Valid.{Reason, code_of, Plain, Adds, Derives, StepFault, ProofEndFault}
 use Rattle.mm_spec.specs.Valid.{IsEndCode, IsLastTree}
-use Rattle.mm_spec.proofs.StepsLaw.{after_more, GrownForest, grows}
+use Rattle.mm_spec.proofs.StepsLaw.{ends_after_one_more, GrownForest, good_step_grows_forest}
 use Rattle.mm_spec.specs.Laws.Stack.{AreGoodSteps, IsGoodStep, step_entries, top}
 use Rattle.mm_spec.specs.Statement.{Statement, provable}
 use Rattle.mm_spec.specs.Citation.{context_at, is_theorem}
@@ -90,7 +90,8 @@ reached_after_step db t steps_so_far stack ends noted s out then is_reached good
     ap (step_entries c s ends) is_reached.entries_are ∙ entries_are in
     let g =
     subst (GrownForest c is_reached.lists is_reached.forest s) same
-    (grows c is_reached.lists ends is_reached.forest s is_reached.derivations is_reached.after good)
+    (good_step_grows_forest c is_reached.lists ends is_reached.forest s is_reached.derivations
+    is_reached.after good)
     in
     let members = adds_member c is_reached.lists (postfix is_reached.forest) (postfix g.0) s g.2
     is_reached.within in
@@ -99,7 +100,7 @@ reached_after_step db t steps_so_far stack ends noted s out then is_reached good
       derivations = g.1;
       entries_are = g.3;
       lists = is_reached.lists ++ postfix g.0 ∷ [];
-      after = after_more c is_reached.lists ends (postfix g.0) (top out) is_reached.after
+      after = ends_after_one_more c is_reached.lists ends (postfix g.0) (top out) is_reached.after
           (g.0, g.1, refl, g.4);
       plain =
           λ rest all h. subst (λ z. Plain c [] [] z all)
@@ -131,7 +132,8 @@ failing_step_refuses db t steps i stack ends noted reason i_lt_length_steps is_r
     ap (step_entries c s.step ends) is_reached.entries_are ∙ entries_are in
     let g =
     subst (GrownForest c is_reached.lists is_reached.forest s.step) same
-    (grows c is_reached.lists ends is_reached.forest s.step is_reached.derivations is_reached.after
+    (good_step_grows_forest c is_reached.lists ends is_reached.forest s.step is_reached.derivations
+    is_reached.after
     good) in
     record {
       before = take i steps;

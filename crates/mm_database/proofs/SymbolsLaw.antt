@@ -10,7 +10,7 @@ use Rattle.std.proofs.Math.Bool.{or-true}
 use Rattle.std.proofs.lemmas.Bool.{or_parts}
 use Rattle.mm_spec.specs.Text.{Bytes, is_in}
 use Rattle.mm_spec.specs.Frame.{first_occurrences, index_of}
-use Rattle.mm_spec.proofs.FindsLaw.{same_word}
+use Rattle.mm_spec.proofs.FindsLaw.{equal_bytes_equal_words}
 use Rattle.mm_database.specs.declared.name.Name.{Name}
 use Rattle.mm_database.specs.Names.{are_distinct, with_name}
 
@@ -49,8 +49,9 @@ first_snoc (v ∷ ws) e w = by_membership (is_in v e) refl (first_snoc ws e w)
     known : is_in v e ≡ true → (b : Bool) → bytes_eq w v ≡ b
         → (is_in w e || is_in w ws) ≡ (is_in w e || (b || is_in w ws))
     known h true s =
-        ap (λ a. a || is_in w ws) (ap (λ x. is_in x e) (same_word w v s) ∙ h)
-        ∙ sym (ap (λ a. a || (true || is_in w ws)) (ap (λ x. is_in x e) (same_word w v s) ∙ h))
+        ap (λ a. a || is_in w ws) (ap (λ x. is_in x e) (equal_bytes_equal_words w v s) ∙ h)
+        ∙ sym (ap (λ a. a || (true || is_in w ws))
+        (ap (λ x. is_in x e) (equal_bytes_equal_words w v s) ∙ h))
     known h false s = refl
 
     by_membership : (b : Bool) → is_in v e ≡ b
@@ -84,7 +85,7 @@ in_first (v ∷ ws) e w h =
         → (b : Bool) → is_in v e ≡ b → (s : Bool) → bytes_eq w v ≡ s
         → is_in w (first_occurrences e (v ∷ ws)) ≡ (bytes_eq w v || is_in w ws)
     by_head r t true word_in_e true s = absurd (true≢false
-        (sym (ap (λ x. is_in x e) (same_word w v s) ∙ word_in_e) ∙ h))
+        (sym (ap (λ x. is_in x e) (equal_bytes_equal_words w v s) ∙ word_in_e) ∙ h))
     by_head r t true word_in_e false s =
         ap (is_in w) (first_step e v ws true word_in_e) ∙ r ∙ sym (ap (λ b. b || is_in w ws) s)
     by_head r t false k true s =
@@ -109,7 +110,7 @@ not_first (v ∷ ws) e w word_in_e =
         → is_in w (first_occurrences e (v ∷ ws)) ≡ false
     by_head r t true word_in_e s q = ap (is_in w) (first_step e v ws true word_in_e) ∙ r
     by_head r t false k true s = absurd (true≢false
-        (sym word_in_e ∙ ap (λ x. is_in x e) (same_word w v s) ∙ k))
+        (sym word_in_e ∙ ap (λ x. is_in x e) (equal_bytes_equal_words w v s) ∙ k))
     by_head r t false k false s =
         ap (is_in w) (first_step e v ws false k)
         ∙ ap (λ b. b || is_in w (first_occurrences (v ∷ e) ws)) s
@@ -136,7 +137,7 @@ index_in (n ∷ ns) w h = by_equality (index_in ns w) (bytes_eq w n) refl
         → slice_get (n ∷ ns) (index_of w (n ∷ ns)) ≡ Some w
     by_equality r true s =
         ap (λ b. slice_get (n ∷ ns) (elim b [ true ↦ 0 | false ↦ suc (index_of w ns) ])) s
-        ∙ ap Some (sym (same_word w n s))
+        ∙ ap Some (sym (equal_bytes_equal_words w n s))
     by_equality r false s =
         ap (λ b. slice_get (n ∷ ns) (elim b [ true ↦ 0 | false ↦ suc (index_of w ns) ])) s
         ∙ r (sym (ap (λ b. b || is_in w ns) s) ∙ h)
@@ -168,7 +169,7 @@ index_of_got (v ∷ ws) e s w h =
         by_equality : (b : Bool) → bytes_eq w v ≡ b → index_of w (v ∷ t) ≡ suc s
         by_equality true k =
             absurd (true≢false
-            (sym (ap (λ x. is_in x t) (sym (same_word w v k)) ∙ get_in t s w q) ∙ n))
+            (sym (ap (λ x. is_in x t) (sym (equal_bytes_equal_words w v k)) ∙ get_in t s w q) ∙ n))
         by_equality false k = ap (λ b. elim b [ true ↦ 0 | false ↦ suc (index_of w t) ]) k
             ∙ ap suc (r s q)
 
@@ -260,7 +261,7 @@ index_distinct (n ∷ ns) d (suc i) w e =
         → suc i ≡ elim b [ true ↦ 0 | false ↦ suc (index_of w ns) ]
     by_equality true s r =
         absurd (true≢false
-        (sym (get_in ns i w e) ∙ ap (λ x. is_in x ns) (same_word w n s)
+        (sym (get_in ns i w e) ∙ ap (λ x. is_in x ns) (equal_bytes_equal_words w n s)
         ∙ left_is_false (is_in n ns) (are_distinct ns) d))
     by_equality false s r = ap suc r
 
@@ -277,7 +278,7 @@ distinct_push (n ∷ ns) w d h =
   where
     differ : (b : Bool) → bytes_eq n w ≡ b → b ≡ false
     differ true s =
-        sym (ap (λ x. bytes_eq x n) (sym (same_word n w s)) ∙ itself n)
+        sym (ap (λ x. bytes_eq x n) (sym (equal_bytes_equal_words n w s)) ∙ itself n)
         ∙ (or_parts (bytes_eq w n) (is_in w ns) h).0
     differ false s = refl
 

@@ -9,11 +9,13 @@ use Rattle.mm_spec.specs.Derivation.{substitute, are_all_disjoint, Trees, none, 
 use Rattle.mm_spec.specs.Derivation.{AreDerivations}
 use Rattle.mm_spec.specs.Limits.{formula_limit}
 use Rattle.mm_spec.specs.Valid.{Reason, too_few, unmatched, not_disjoint, too_long, Fails}
-use Rattle.mm_spec.proofs.UnifyLaw.{same_equal, found_formula, found_disjoint}
+use Rattle.mm_spec.proofs.UnifyLaw.{tested_equal_are_equal, found_gives_formula}
+use Rattle.mm_spec.proofs.UnifyLaw.{found_keeps_disjoint}
 use Rattle.mm_spec.specs.Laws.Stack.{substitution_from, IsCompleteRule, step, apply, unless_failed}
 use Rattle.mm_spec.specs.Laws.Stack.{unless_too_long}
-use Rattle.mm_spec.proofs.MachineLaw.{proceed, run, AreGood, runs_forest, good_parts, no_other}
-use Rattle.mm_spec.proofs.MachineLaw.{run_outcome}
+use Rattle.mm_spec.proofs.MachineLaw.{proceed, run, AreGood, forest_is_run}
+use Rattle.mm_spec.proofs.MachineLaw.{good_append_is_good_parts, found_matches_if_any}
+use Rattle.mm_spec.proofs.MachineLaw.{run_has_outcome}
 use Rattle.mm_spec.proofs.MachineLaw.{RunOutcome, StoppedRun}
 
 -- the labels are the postfix list of a forest of derivations
@@ -45,14 +47,14 @@ module _ (c : Context) where
       (nat_le (length (substitute c σ a.formula)) formula_limit)
       (take (length es - length a.hypotheses) es ++ substitute c σ a.formula ∷ []))
       (le-leb (length a.hypotheses) (length es) h.0)
-      (false_from_ne_true _ (λ e. h.1 σ (same_equal _ _ e)))
+      (false_from_ne_true _ (λ e. h.1 σ (tested_equal_are_equal _ _ e)))
   stops (Some (assertion a)) es not_disjoint good h =
       let n = length es - length a.hypotheses in
       let ps = drop n es in
       let σ = substitution_from c a.hypotheses ps in
       let e : substitution_from c a.hypotheses (map (substitute c h.0) a.hypotheses) ≡ σ =
       ap (substitution_from c a.hypotheses) (sym h.2) in
-      let same_test = found_disjoint c a.hypotheses h.0 a.pairs good.pairs in
+      let same_test = found_keeps_disjoint c a.hypotheses h.0 a.pairs good.pairs in
       let disjoint =
       subst (λ (s : Substitution). list_all (λ p. are_all_disjoint c (s p.low) (s p.high)) a.pairs
       ≡ list_all (λ p. are_all_disjoint c (h.0 p.low) (h.0 p.high)) a.pairs) e same_test in
@@ -60,7 +62,7 @@ module _ (c : Context) where
       (list_all (λ p. are_all_disjoint c (σ p.low) (σ p.high)) a.pairs)
       (nat_le (length (substitute c σ a.formula)) formula_limit)
       (take n es ++ substitute c σ a.formula ∷ []))
-      (le-leb (length a.hypotheses) (length es) h.1) (no_other c a ps h.0 good h.2)
+      (le-leb (length a.hypotheses) (length es) h.1) (found_matches_if_any c a ps h.0 good h.2)
       ∙ ap (λ k. unless_failed true true k
       (nat_le (length (substitute c σ a.formula)) formula_limit)
       (take n es ++ substitute c σ a.formula ∷ [])) (disjoint
@@ -74,15 +76,15 @@ module _ (c : Context) where
       let disjoint =
       subst (λ (s : Substitution). list_all (λ p. are_all_disjoint c (s p.low) (s p.high)) a.pairs
       ≡ list_all (λ p. are_all_disjoint c (h.0 p.low) (h.0 p.high)) a.pairs) e
-      (found_disjoint c a.hypotheses h.0 a.pairs good.pairs) in
+      (found_keeps_disjoint c a.hypotheses h.0 a.pairs good.pairs) in
       let formula =
       subst (λ (s : Substitution). substitute c s a.formula ≡ substitute c h.0 a.formula) e
-      (found_formula c a.hypotheses h.0 a.formula good.formula) in
+      (found_gives_formula c a.hypotheses h.0 a.formula good.formula) in
       ap₂ (λ b m. unless_failed b m
       (list_all (λ p. are_all_disjoint c (σ p.low) (σ p.high)) a.pairs)
       (nat_le (length (substitute c σ a.formula)) formula_limit)
       (take n es ++ substitute c σ a.formula ∷ []))
-      (le-leb (length a.hypotheses) (length es) h.1) (no_other c a ps h.0 good h.2)
+      (le-leb (length a.hypotheses) (length es) h.1) (found_matches_if_any c a ps h.0 good h.2)
       ∙ ap₂ (λ k s. unless_failed true true k s (take n es ++ substitute c σ a.formula ∷ []))
       (disjoint ∙ h.3)
       (ap (λ f. nat_le (length f) formula_limit) formula ∙ lt-leb _ _ h.4)
@@ -93,7 +95,7 @@ module _ (c : Context) where
   forest_run ls good forest d e =
       let g : AreGood c (postfix forest) = subst (AreGood c) (sym e) good in
       ap (λ x. run c 0 x []) (sym e ∙ sym (append-nil (postfix forest)))
-      ∙ runs_forest c forest d g 0 [] []
+      ∙ forest_is_run c forest d g 0 [] []
 
   -- a run over the labels succeeds exactly if they are the postfix list of a forest of derivations
   pub exact_ok : (ls : List ℕ) → AreGood c ls
@@ -101,7 +103,7 @@ module _ (c : Context) where
   exact_ok ls good = (
     λ h. (formulas h.0, forest_run ls good h.0 h.1 h.2),
     λ h. let m = subst (RunOutcome c none ls) h.1
-        (run_outcome c ls none 0 tt good) in
+        (run_has_outcome c ls none 0 tt good) in
         (m.0, m.1, m.2),
   )
 
@@ -113,7 +115,7 @@ module _ (c : Context) where
   stopped_run ls reason good s =
       let good_split : AreGood c (s.before ++ s.label ∷ s.after) = subst
       (AreGood c) s.splits good in
-      let good_both = good_parts c s.before (s.label ∷ s.after) good_split in
+      let good_both = good_append_is_good_parts c s.before (s.label ∷ s.after) good_split in
       let good_reached : AreGood c (postfix s.reached) = subst (AreGood c)
       (sym s.labels) good_both.0 in
       let split_labels : ls ≡ postfix s.reached ++ s.label ∷ s.after =
@@ -121,7 +123,7 @@ module _ (c : Context) where
       let same_index : 0 + length (postfix s.reached) ≡ length s.before =
       let same_length = ap length s.labels in omega (arith, same_length) in
       ap (λ x. run c 0 x []) split_labels
-      ∙ runs_forest c s.reached s.derivations good_reached 0 (s.label ∷ s.after) []
+      ∙ forest_is_run c s.reached s.derivations good_reached 0 (s.label ∷ s.after) []
       ∙ ap (λ r. proceed r (0 + length (postfix s.reached))
       (run c (suc (0 + length (postfix s.reached))) s.after))
       (stops (c.rule s.label) (formulas s.reached) reason good_both.1.0 s.fails)

@@ -6,7 +6,7 @@ use Rattle.mm_spec.specs.Steps.{Step, label, marked}
 use Rattle.mm_spec.specs.Valid.{Reason, StepFails, Adds, Plain}
 use Rattle.mm_spec.specs.Laws.Complete.{HasCompleteFrame}
 use Rattle.mm_spec.proofs.MachineLaw.{AreGood}
-use Rattle.mm_spec.proofs.StepsLaw.{forest_good, StoppedSteps}
+use Rattle.mm_spec.proofs.StepsLaw.{forest_labels_are_good, StoppedSteps}
 use Rattle.mm_spec.proofs.CheckedLaw.{plain_lists_are_equal}
 use Rattle.mm_laws.proofs.ExactLaw.{IsPostfixOfForest, stopped_no_forest}
 
@@ -58,7 +58,7 @@ module _ (c : Context) (all_complete : (l : ℕ) → HasCompleteFrame c (c.rule 
           ∙ plain_lists_are_equal c all_complete s.before [] [] s.labels plain_parts.0 s.plain
           plain_parts.2 in
           stopped_no_forest c all reason
-          (subst (AreGood c) forest.2 (forest_good c all_complete forest.0 forest.1))
+          (subst (AreGood c) forest.2 (forest_labels_are_good c all_complete forest.0 forest.1))
           (record {
             before = plain_parts.0;
             label = l;

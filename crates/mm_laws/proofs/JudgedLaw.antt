@@ -11,7 +11,7 @@ use Rattle.mm_spec.specs.Steps.{Step, PlacedStep}
 use Rattle.mm_spec.specs.Valid.{code_of, Plain, IsPlain, Derives, StepFault, ProofEndFault}
 use Rattle.mm_spec.specs.Valid.{IsEndCode}
 use Rattle.mm_spec.proofs.MachineLaw.{RunFailure}
-use Rattle.mm_spec.proofs.StepsLaw.{run_steps, StoppedSteps, StepsOutcome, steps_outcome}
+use Rattle.mm_spec.proofs.StepsLaw.{run_steps, StoppedSteps, StepsOutcome, steps_have_outcome}
 use Rattle.mm_spec.specs.Laws.Stack.{AreGoodSteps}
 use Rattle.mm_spec.specs.Laws.Complete.{HasCompleteFrame}
 use Rattle.mm_spec.proofs.CheckedLaw.{same_labels_same_forest, plain_lists_are_equal}
@@ -119,7 +119,7 @@ module _ (c : Context) (all_complete : (l : ℕ) → HasCompleteFrame c (c.rule 
   pub verdict : AreGoodSteps c 0 (steps_of ps) → Verdict
   verdict good =
       by_result (run_steps c [] (steps_of ps) [])
-      (steps_outcome c (steps_of ps) [] [] none tt tt good)
+      (steps_have_outcome c (steps_of ps) [] [] none tt tt good)
     where
       by_result : (r : Result (List Formula) RunFailure) → StepsOutcome c [] [] (steps_of ps) r
           → Verdict

@@ -22,7 +22,7 @@ use Rattle.mm_laws.specs.Laws.NamedSteps.{StepsAreNamed, StepsAreLabels}
 use Rattle.mm_laws.specs.Laws.WellFormed.{CompressedIsExact, NormalIsExact}
 use Rattle.mm_laws.specs.Laws.Meaning.{SaysCompressed, SaysNormal, Says}
 use Rattle.mm_laws.specs.Laws.Meaning.{IsProved, ValidOnTheMeaning}
-use Rattle.mm_spec.proofs.FindsLaw.{same_word}
+use Rattle.mm_spec.proofs.FindsLaw.{equal_bytes_equal_words}
 use Rattle.mm_laws.proofs.SpelledStepsLaw.{steps_named, steps_labels, steps_unique}
 use Rattle.mm_laws.proofs.WellSpelledLaw.{compressed_exact, normal_exact}
 
@@ -155,7 +155,7 @@ module _ (db : List Statement) (k : ℕ) where
         by_bracket : (b : Bool)
             → bytes_eq t.word (codes "(") ≡ b → (t.word ≡ codes "(" → Goal)
             → (t.word ≢ codes "(" → Goal) → Goal
-        by_bracket true e c n = c (same_word t.word (codes "(") e)
+        by_bracket true e c n = c (equal_bytes_equal_words t.word (codes "(") e)
         by_bracket false e c n =
             n (λ w. true≢false (sym ((bytes_eq-Decides t.word (codes "(")).1 w) ∙ e))
 

@@ -20,9 +20,9 @@ use Rattle.std.specs.List.Sorted.{IsStrictlyIncreasing}
 use Rattle.mm_laws.proofs.RisingListsLaw.{list_of}
 use Rattle.mm_laws.specs.Laws.Cells.{IsDecided}
 use Rattle.mm_spec.proofs.ChainsLaw.{rests_by_one_step}
-use Rattle.mm_spec.proofs.FindsLaw.{passing_statement, inside_of}
+use Rattle.mm_spec.proofs.FindsLaw.{passing_statement, got_lt_length}
 use Rattle.mm_spec.proofs.CitedLaw.{cited_lt_theorem, proved_is_theorem, two_proofs_are_equal}
-use Rattle.mm_spec.proofs.NodesLaw.{node_labels, node_labels_are}
+use Rattle.mm_spec.proofs.NodesLaw.{node_labels, node_iff_listed}
 
 -- ---- what is decided
 
@@ -63,7 +63,7 @@ module _ (db : List Statement) (by_essential : Bool) (all_complete : AreComplete
       if_valid : IsValid db t → IsDecided (Cites db by_essential t a)
       if_valid v =
           let listed = is_member (node_labels (child_counts db by_essential) each_root v.1) a in
-          let are = node_labels_are (child_counts db by_essential) each_root v.1 a in (
+          let are = node_iff_listed (child_counts db by_essential) each_root v.1 a in (
             list_any is_assertion (statement_at db a) && listed,
             (
               (λ e. let p = and_parts (list_any is_assertion (statement_at db a)) listed e in
@@ -77,7 +77,7 @@ module _ (db : List Statement) (by_essential : Bool) (all_complete : AreComplete
       by_is_theorem : (b : Bool) → is_theorem_at db t ≡ b → IsDecided (Cites db by_essential t a)
       by_is_theorem true e =
           let f = passing_statement db is_theorem t e in
-          if_valid (valid t (inside_of db t f.0 f.1) e)
+          if_valid (valid t (got_lt_length db t f.0 f.1) e)
       by_is_theorem false e = (
         false,
         (

@@ -35,7 +35,8 @@ use Rattle.mm_laws.specs.Laws.NamedSteps.{StepsAreNamed, NamedStepsAreUnique}
 use Rattle.mm_laws.specs.Laws.NamedSteps.{StepsAreLabels}
 use Rattle.mm_spec.specs.declared.Code.TheVariants.{UnusableLabel}
 use Rattle.mm_spec.specs.declared.Code.TheVariants.{IncompleteProof}
-use Rattle.mm_spec.proofs.FindsLaw.{same_word, passing_statement, inside_of, declares}
+use Rattle.mm_spec.proofs.FindsLaw.{equal_bytes_equal_words, passing_statement, got_lt_length}
+use Rattle.mm_spec.proofs.FindsLaw.{later_place_knows_declared}
 use Rattle.mm_spec.proofs.FaultlessLaw.{no_least_no_faults, both_are_empty, faultless_label_is_new}
 use Rattle.mm_spec.proofs.OpenedLaw.{counted_any}
 use Rattle.mm_spec.proofs.ListLaw.{got_none_is_past_end}
@@ -321,7 +322,8 @@ module _ (hypotheses labels : List ℕ) where
 new_word : (n : KnownNames) (l : Token) (w : Bytes) → bytes_eq l.word w ≡ true
     → lawful.label_faults n l ≡ [] → is_in w n.labels ≡ false
 new_word n l w e h =
-    ap (λ v. is_in v n.labels) (sym (same_word l.word w e)) ∙ faultless_label_is_new n l h
+    ap (λ v. is_in v n.labels) (sym (equal_bytes_equal_words l.word w e))
+    ∙ faultless_label_is_new n l h
 
 label_fresh : (n : KnownNames) (d : ℕ) (s : Statement) (w : Bytes) → scope_faults n d s ≡ []
     → is_labelled w s ≡ true → is_in w n.labels ≡ false
@@ -344,7 +346,7 @@ labelled_word s w e = by_label (label_of s) e
     by_label None h = absurd (true≢false (sym h))
     by_label (Some l) h =
         or_left (bytes_eq w l.word) false
-        ((bytes_eq-Decides w l.word).1 (sym (same_word l.word w h)))
+        ((bytes_eq-Decides w l.word).1 (sym (equal_bytes_equal_words l.word w h)))
 
 -- the test finds nothing in a range, or one place
 one_in_range : (test : ℕ → Bool) → ((i j : ℕ) → test i ≡ true → test j ≡ true → i ≡ j) → (n a : ℕ)
@@ -382,7 +384,7 @@ module _ (db : List Statement) (law : (k : ℕ) → k < length db → IsLawful d
       → scope_faults (names_before db k) (depth db k) s ≡ []
   faultless k s e =
       no_least_no_faults (scope_faults (names_before db k) (depth db k) s)
-      (sym (ap judged e) ∙ law k (inside_of db k s e))
+      (sym (ap judged e) ∙ law k (got_lt_length db k s e))
     where
       judged : Option Statement → Option Fault
       judged o =
@@ -394,7 +396,9 @@ module _ (db : List Statement) (law : (k : ℕ) → k < length db → IsLawful d
       let t = passing_statement db (is_labelled w) j k in
       let fresh : is_in w (names_before db j).labels ≡ false =
       label_fresh (names_before db j) (depth db j) t.0 w (faultless j t.0 t.1) t.2 in
-      true≢false (sym (declares label_words db j i s.0 w s.1 l (labelled_word s.0 w s.2)) ∙ fresh)
+      true≢false
+      (sym (later_place_knows_declared label_words db j i s.0 w s.1 l (labelled_word s.0 w s.2))
+      ∙ fresh)
 
   labels_are_distinct : LabelsDiffer db
   labels_are_distinct w i j h k = by_order (cases_order i j)
@@ -528,7 +532,7 @@ module _ (db : List Statement) (differ : LabelsDiffer db) where
         by_bracket : (b : Bool) → bytes_eq t.word (codes "(") ≡ b → faults b ≡ []
             → AllZip (λ u s. (j : ℕ) × (s ≡ label j) × IsUsable db k u.word j) (t ∷ ts)
             (map (λ p. p.step) (out b))
-        by_bracket true e g = absurd (ne (same_word t.word (codes "(") e))
+        by_bracket true e g = absurd (ne (equal_bytes_equal_words t.word (codes "(") e))
         by_bracket false e g = labels_are (t ∷ ts) (normal_labels (t ∷ ts) g)
 
     named : (end : ℕ) (labels letters : List Token) (items : List Item)

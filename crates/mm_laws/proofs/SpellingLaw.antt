@@ -23,7 +23,7 @@ use Rattle.mm_laws.specs.Spelling.{AreLettersOf, IsSpelled, Spells, letters_in}
 use Rattle.mm_laws.specs.Laws.Letters.{PartsAreUnique, SpellingIsUnique, ProofsAreSpelled}
 use Rattle.mm_spec.specs.declared.Code.TheVariants.{OpenBrackets, OpenNumber, MarkBeforeStep}
 use Rattle.mm_spec.specs.declared.Code.TheVariants.{NumberTooLarge, IncompleteProof, BadLetter}
-use Rattle.mm_spec.proofs.FindsLaw.{same_word}
+use Rattle.mm_spec.proofs.FindsLaw.{equal_bytes_equal_words}
 use Rattle.mm_spec.proofs.FaultlessLaw.{both_are_empty, no_faults_no_codes, no_code_if_false}
 
 -- ---- one spelling
@@ -183,7 +183,7 @@ bracketed_is (t ∷ labels) closing letters e h =
         ≡ record { labels = labels; letters = Some letters }
         → bracketed_by t (labels ++ closing ∷ letters) b
         ≡ record { labels = t ∷ labels; letters = Some letters }
-    by_bracket true q r = absurd (h.0 (same_word t.word (codes ")") q))
+    by_bracket true q r = absurd (h.0 (equal_bytes_equal_words t.word (codes ")") q))
     by_bracket false q r = ap (with_label t) r
 
 pub parts_unique : PartsAreUnique
@@ -225,7 +225,7 @@ parts_of (t ∷ ts) letters e =
           labels = [];
           closing = t;
           are = ap (λ xs. t ∷ xs) same;
-          closes = same_word t.word (codes ")") q;
+          closes = equal_bytes_equal_words t.word (codes ")") q;
           first = tt;
         }
     by_bracket false q h of_the_rest =

@@ -15,7 +15,7 @@ use Rattle.mm_laws.specs.Laws.Faults.{IsValidOrFaulty}
 use Rattle.mm_laws.specs.Laws.Faults.{IsNeverBoth, FaultIsUnique}
 use Rattle.mm_spec.proofs.CheckedLaw.{same_labels_same_forest}
 use Rattle.mm_spec.proofs.CitedLaw.{two_proofs_are_equal}
-use Rattle.mm_spec.proofs.GoodStepsLaw.{good_steps}
+use Rattle.mm_spec.proofs.GoodStepsLaw.{faultless_steps_are_good}
 use Rattle.mm_laws.proofs.ReadLaw.{frames_complete}
 use Rattle.mm_laws.proofs.JudgedLaw.{Verdict, verdict, valid, step_fault, end_fault}
 use Rattle.mm_laws.proofs.OneOutputLaw.{proof_fault_unique, valid_no_fault}
@@ -49,7 +49,7 @@ module _ (db : List Statement) (all_complete : AreComplete db) (k : ℕ) where
       by_reading_faults [] e =
           by_verdict e
           (verdict (context_at db k) (all_complete k) (steps_at db k) (formula_at db k) end
-          (good_steps db k (all_complete k) e))
+          (faultless_steps_are_good db k (all_complete k) e))
       by_reading_faults (f ∷ fs) e = let g = least_some f fs in inr (g.0, inl (ap least e ∙ g.1))
 
 pub labels_determine : WhereRead LabelsDetermine

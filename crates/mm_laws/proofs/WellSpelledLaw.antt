@@ -26,7 +26,7 @@ use Rattle.mm_laws.specs.Laws.Read.{WhereRead}
 use Rattle.mm_laws.specs.Laws.WellFormed.{CompressedIsExact, NormalIsExact}
 use Rattle.mm_spec.specs.declared.Code.TheVariants.{OpenNumber, MarkBeforeStep, NumberTooLarge}
 use Rattle.mm_spec.specs.declared.Code.TheVariants.{UnusableLabel, IncompleteProof, BadLetter}
-use Rattle.mm_spec.proofs.FindsLaw.{same_word, is_before}
+use Rattle.mm_spec.proofs.FindsLaw.{equal_bytes_equal_words, active_lt_place}
 use Rattle.mm_spec.proofs.FaultlessLaw.{both_are_empty}
 use Rattle.mm_laws.proofs.SpellingLaw.{EndsItem, no_early, item_unique, group_number, early_digit}
 use Rattle.mm_laws.proofs.SpellingLaw.{nonempty, parts_of, bracketed_is, bytes_of, AreEarly}
@@ -403,7 +403,7 @@ usable_faultless db k t j h =
     by_usable (usable db k t.word)
     (λ n. filter_not_empty
     (λ i. is_active db i k && list_any (is_labelled t.word) (statement_at db i)) k 0 j (omega arith)
-    (let b = is_before db j k h.active in omega arith)
+    (let b = active_lt_place db j k h.active in omega arith)
     (and_from (is_active db j k)
     (list_any (is_labelled t.word) (statement_at db j)) h.active h.labelled) n)
   where
@@ -559,7 +559,7 @@ module _ (db : List Statement) (differ : LabelsDiffer db) (k end : ℕ) where
     where
       by_question_mark : (b : Bool) → bytes_eq t.word (codes "?") ≡ b
           → own_faults db differ k t b ≡ []
-      by_question_mark true e = absurd (h.0.0 (same_word t.word (codes "?") e))
+      by_question_mark true e = absurd (h.0.0 (equal_bytes_equal_words t.word (codes "?") e))
       by_question_mark false e = usable_faultless db k t h.0.1.0 h.0.1.1
 
   normal_read : (t : Token) (ts : List Token) → t.word ≢ codes "("
@@ -572,7 +572,7 @@ module _ (db : List Statement) (differ : LabelsDiffer db) (k end : ℕ) where
             | true ↦ compressed_faults db k end (bracketed ts)
             | false ↦ normal_faults db k end (t ∷ ts)
           ]) (flat_map faults_of_word (t ∷ ts))
-      by_bracket true e = absurd (ne (same_word t.word (codes "(") e))
+      by_bracket true e = absurd (ne (equal_bytes_equal_words t.word (codes "(") e))
       by_bracket false e = refl
 
 pub normal_exact : WhereRead NormalIsExact

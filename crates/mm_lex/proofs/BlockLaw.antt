@@ -19,9 +19,11 @@ use Rattle.mm_spec.specs.Readings.{bytes_of}
 use Rattle.mm_spec.specs.Roles.{is_clean}
 use Rattle.mm_spec.specs.Text.{has_dollar}
 use Rattle.mm_spec.specs.declared.Word.{Word}
-use Rattle.mm_spec.proofs.WordRunsLaw.{begins_word_inside, words_between_none, words_between_skips}
+use Rattle.mm_spec.proofs.WordRunsLaw.{none_begins_after_not_white, words_between_none}
+use Rattle.mm_spec.proofs.WordRunsLaw.{words_between_skips}
 use Rattle.mm_spec.proofs.WordRunsLaw.{words_between_take, word_at_not_white, word_at_nonempty}
-use Rattle.mm_spec.proofs.WordsLaw.{begins_word_boundary, begins_word_not_white, IsWord_is}
+use Rattle.mm_spec.proofs.WordsLaw.{begins_word_boundary, begins_word_not_white}
+use Rattle.mm_spec.proofs.WordsLaw.{word_at_start_is_word}
 use Rattle.mm_spec.proofs.BitLaw.{shifted}
 use Rattle.mm_lex.specs.Plain.{plain_at, IsPlainWord}
 use Rattle.mm_lex.specs.Beginnings.{ArePlain, IsFirst, IsPassed}
@@ -270,7 +272,7 @@ pub none_inside : (text : List ℕ) (start upto : ℕ)
 none_inside text start upto not_white i low high =
     let same : i - 1 + 1 ≡ i = omega arith in
     subst (λ (k : ℕ). begins_word text k ≡ false) same
-    (begins_word_inside text (i - 1) (not_white (i - 1) (omega arith) (omega arith)))
+    (none_begins_after_not_white text (i - 1) (not_white (i - 1) (omega arith) (omega arith)))
 
 -- ---- one beginning less
 
@@ -351,7 +353,7 @@ pub found_next : (text : List ℕ) (w : Word) (from upto to : ℕ) → IsWord te
 found_next text w from upto to word first passed =
     between_on text from w.start to first.low (λ i a b _. first.before i a b)
     ∙ words_between_take text w.start to first.within first.begins
-    ∙ ap₂ (λ (v : Word) (ws : List Word). v ∷ ws) (IsWord_is word)
+    ∙ ap₂ (λ (v : Word) (ws : List Word). v ∷ ws) (word_at_start_is_word word)
     (between_on text (w.start + 1) upto to (omega (arith, passed.later))
     (λ i a b _. passed.none i (omega arith) b))
 

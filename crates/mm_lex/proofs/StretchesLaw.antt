@@ -6,10 +6,11 @@ use Rattle.std.proofs.lemmas.Bool.{cases_lt}
 use Rattle.mm_spec.specs.declared.Word.{Word}
 use Rattle.mm_spec.specs.Words.{white_at, begins_word, word_at, words_between, words_of}
 use Rattle.mm_spec.proofs.WordRunsLaw.{IsBoundary, words_between_skip, words_between_take}
-use Rattle.mm_spec.proofs.WordRunsLaw.{words_between_none, words_between_skips, begins_word_inside}
+use Rattle.mm_spec.proofs.WordRunsLaw.{words_between_none, words_between_skips}
+use Rattle.mm_spec.proofs.WordRunsLaw.{none_begins_after_not_white}
 use Rattle.mm_spec.specs.Laws.Words.{IsWord}
 use Rattle.mm_lex.specs.Stretches.{NoWhite, IsUnbroken, IsBroken, joined_word}
-use Rattle.mm_spec.proofs.WordsLaw.{IsWord_begins, IsWord_is, words_between_cases}
+use Rattle.mm_spec.proofs.WordsLaw.{IsWord_begins, word_at_start_is_word, words_between_cases}
 
 -- the words of two stretches of places, one after the other
 pub words_between_append : (text : List ℕ) (n from mid to : ℕ) → from + n ≡ mid → mid ≤ to
@@ -71,7 +72,7 @@ none_begins_inside : (text : List ℕ) (p q : ℕ) → NoWhite text p q → (j :
 none_begins_inside text p q not_white j a b =
     let same : (j - 1) + 1 ≡ j = omega arith in
     subst (λ (k : ℕ). begins_word text k ≡ false) same
-    (begins_word_inside text (j - 1) (not_white (j - 1) (omega arith) (omega arith)))
+    (none_begins_after_not_white text (j - 1) (not_white (j - 1) (omega arith) (omega arith)))
 
 pub words_between_run : (text : List ℕ) (p q : ℕ) → q ≤ length text → IsBoundary text p
     → IsBoundary text q → NoWhite text p q → words_between text p q ≡ joined_word p q
@@ -81,7 +82,7 @@ words_between_run text p q le bp bq not_white =
     let word = run_is_word text p q lt le bp bq not_white in
     let n : ℕ = q - (p + 1) in
     words_between_take text p q lt (IsWord_begins word)
-    ∙ ap (λ (w : Word). w ∷ words_between text (p + 1) q) (IsWord_is word)
+    ∙ ap (λ (w : Word). w ∷ words_between text (p + 1) q) (word_at_start_is_word word)
     ∙ ap (λ (ws : List Word). let w : Word = record { start = p; end = q } in w ∷ ws)
     (words_between_skips text (q - (p + 1)) (p + 1) q q (omega arith) (omega arith)
     (none_begins_inside text p q not_white)

@@ -11,7 +11,7 @@ use Rattle.std.specs.List.{list_all, range_with_len}
 use Rattle.mm_spec.specs.Statement.{Statement, is_opening, is_closing}
 use Rattle.mm_spec.specs.Scope.{depth, is_block_open}
 use Rattle.mm_spec.proofs.ActivityLaw.{is_block_open_one_later}
-use Rattle.mm_spec.proofs.ShapeLaw.{count_end}
+use Rattle.mm_spec.proofs.ShapeLaw.{count_of_list_and_last}
 use Rattle.mm_outline.specs.Blocks.{BlockLists, block_lists, never, innermost, end_of}
 use Rattle.mm_outline.specs.Blocks.{IsBlocks}
 
@@ -40,8 +40,10 @@ module _ (db : List Statement) (s : Statement) where
   depth_last =
       let l : length more ≤ length db + 1 = omega (arith, length_more) in
       ap₂ (λ a b. a - b)
-      (ap (count_by is_opening) (take_all (length db + 1) more l) ∙ count_end is_opening db s)
-      (ap (count_by is_closing) (take_all (length db + 1) more l) ∙ count_end is_closing db s)
+      (ap (count_by is_opening) (take_all (length db + 1) more l)
+      ∙ count_of_list_and_last is_opening db s)
+      (ap (count_by is_closing) (take_all (length db + 1) more l)
+      ∙ count_of_list_and_last is_closing db s)
 
   same_all : (d e : ℕ) (f g : ℕ → ℕ) (n a : ℕ) → d ≡ e → ((i : ℕ) → i < a + n → f i ≡ g i)
       → list_all (λ i. nat_le d (f i)) (range_with_len a n)
@@ -338,9 +340,9 @@ module _ (db : List Statement) (s : Statement) (b : BlockLists) (x : IsBlocks db
       → (count_by is_opening (more db s) ≡ count_by is_opening db + cond p 1 0)
       × (count_by is_closing (more db s) ≡ count_by is_closing db + cond q 1 0)
   brackets_counted p q o c = (
-    count_end is_opening db s
+    count_of_list_and_last is_opening db s
         ∙ ap (λ r. count_by is_opening db + cond r 1 0) o,
-    count_end is_closing db s
+    count_of_list_and_last is_closing db s
         ∙ ap (λ r. count_by is_closing db + cond r 1 0) c,
   )
 

@@ -23,7 +23,7 @@ use Rattle.mm_spec.specs.Words.{begins_word, word_at, words_between, words_of}
 use Rattle.mm_spec.specs.Laws.Words.{IsWord}
 use Rattle.mm_spec.specs.Readings.{reading, bytes_of}
 use Rattle.mm_spec.specs.Lexed.{tokens_of, lexical_fault}
-use Rattle.mm_spec.proofs.WordsLaw.{words_of_AreWords}
+use Rattle.mm_spec.proofs.WordsLaw.{words_of_are_words}
 use Rattle.mm_spec.proofs.ReadingsLaw.{reading_opening, reading_closing, reading_comment}
 use Rattle.mm_spec.proofs.ReadingsLaw.{reading_faulty, reading_end, reading_of_token, read_as_token}
 use Rattle.mm_spec.proofs.LexedLaw.{tokens_of_long, lexical_fault_long, tokens_of_read}
@@ -122,13 +122,13 @@ by_limit P text none some = by_order (cases_lt text_limit (length text))
 pub tokens_are_words : (text : List ℕ) → All (IsWord text) (tokens_of text)
 tokens_are_words text =
     by_limit (All (IsWord text)) text (All-nil (IsWord text))
-    (all_kept (IsWord text) text None (words_of text) (words_of_AreWords text).each)
+    (all_kept (IsWord text) text None (words_of text) (words_of_are_words text).each)
 
 -- each token ends before the next begins
 pub tokens_rising : (text : List ℕ) → AllPairs (λ v w. v.end ≤ w.start) (tokens_of text)
 tokens_rising text =
     by_limit (AllPairs Later) text (λ i j d l k. absurd (omega arith))
-    (rising_kept text None (words_of text) (words_of_AreWords text).rising)
+    (rising_kept text None (words_of text) (words_of_are_words text).rising)
 
 -- the tokens stand in the text
 pub tokens_stand : (text : List ℕ) → AreWithin text (tokens_of text)

@@ -12,7 +12,7 @@ use Rattle.mm_spec.specs.Scope.{statement_at}
 use Rattle.mm_spec.specs.Citation.{is_assertion}
 use Rattle.mm_spec.specs.Output.{columns, has_typecode, is_column}
 use Rattle.mm_spec.specs.Frame.{symbol_names, index_of}
-use Rattle.mm_spec.proofs.FindsLaw.{passing_statement, statement_at_is, formula_at_is}
+use Rattle.mm_spec.proofs.FindsLaw.{passing_statement, statement_at_place, formula_at_place}
 use Rattle.mm_spec.proofs.FaultlessLaw.{symbol_of_number_is}
 use Rattle.mm_spec.proofs.BoolLaw.{passes_alone}
 use Rattle.mm_database.specs.Database.{typecode_of, is_labelled_kind, kind_of}
@@ -120,7 +120,7 @@ typecode_test db k x v w is e n =
         typecode_is xs same =
             ap₂ (λ ss f. if list_any
             (λ s. is_labelled_kind (kind_of s)) ss then slice_get f 0 else None)
-            (statement_at_is db k s g) (formula_at_is db k s g)
+            (statement_at_place db k s g) (formula_at_place db k s g)
             ∙ ap (λ b. if b
             || false then slice_get
             (map (λ u. index_of u (symbol_names db)) (words (symbols_of s))) 0 else None) lab
@@ -142,7 +142,7 @@ typecode_test db k x v w is e n =
             symbol_of_number_is t.word v (symbol_names db)
             (ap (slice_get (symbol_names db)) place ∙ n) in
             ap (λ u. bytes_eq u w) word
-            ∙ sym (ap (list_any (has_typecode (Some w))) (statement_at_is db k s g)
+            ∙ sym (ap (list_any (has_typecode (Some w))) (statement_at_place db k s g)
             ∙ or-false (has_typecode (Some w) s) ∙ typecode_compared t ts same)
 
     by_kind : (s : Statement) → slice_get db k ≡ Some s → is_assertion s ≡ true

@@ -13,8 +13,8 @@ use Rattle.mm_spec.specs.Statement.{axiomatic, provable, opening, closing, symbo
 use Rattle.mm_spec.specs.Scope.{constants_of, variables_of}
 use Rattle.mm_spec.specs.Lawful.{IsLawful}
 use Rattle.mm_spec.specs.Frame.{symbol_names, index_of, first_occurrences, formula_at}
-use Rattle.mm_spec.proofs.FindsLaw.{formula_at_is}
-use Rattle.mm_spec.proofs.SymbolLaw.{declared_here}
+use Rattle.mm_spec.proofs.FindsLaw.{formula_at_place}
+use Rattle.mm_spec.proofs.SymbolLaw.{lawful_symbols_are_declared}
 use Rattle.mm_database.proofs.SymbolsLaw.{itself, in_first, index_in}
 use Rattle.mm_outline.proofs.StatementsLaw.{get_mapped}
 
@@ -33,14 +33,14 @@ pub symbol_known : (db : List Statement) → ((k : ℕ) → k < length db → Is
     → is_in w (words (symbols_of s)) ≡ true → is_in w (symbol_names db) ≡ true
 symbol_known db law k l s e w h =
     in_first (flat_map (λ s. constants_of s ++ variables_of s) db) [] w refl
-    ∙ declared_here db k s e (law k l) w h
+    ∙ lawful_symbols_are_declared db k s e (law k l) w h
 
 pub symbols_known : (db : List Statement) → ((k : ℕ) → k < length db → IsLawful db k) → (k : ℕ)
     → k < length db → (s : Statement) → slice_get db k ≡ Some s
     → All (λ x. x < length (symbol_names db)) (formula_at db k)
 symbols_known db law k l s e =
     subst (λ (xs : List ℕ). All (λ x. x < length (symbol_names db)) xs)
-    (sym (formula_at_is db k s e))
+    (sym (formula_at_place db k s e))
     (λ i d h.
     let ws = words (symbols_of s) in
     let inside : i < length ws =

@@ -29,7 +29,7 @@ use Rattle.mm_outline.specs.Statements.{lexed, end_fault_of}
 use Rattle.mm_outline.specs.declared.parts.Part.{Part}
 use Rattle.mm_outline.specs.declared.parts.Part.TheVariants.{Start, Labelled, Words, Formula, Proof}
 use Rattle.mm_outline.proofs.LeadsLaw.{leads_then}
-use Rattle.mm_spec.proofs.ShapeLaw.{count_end}
+use Rattle.mm_spec.proofs.ShapeLaw.{count_of_list_and_last}
 
 pub record IsReadTo (text : List ℕ) (ws : List Word) (db : List Statement)
     (deep at : ℕ) : Type 0 where
@@ -142,9 +142,10 @@ inside_block text ws db deep at r s d us l e =
     (ap (take (length db + 1)) list ∙ front)
     ((read_statements_are_longest (as_tokens text ws)).are_statements.nested (length db + 1)) in
     let c : count_by is_closing (db ++ s ∷ []) ≡ count_by is_closing db + 1 =
-    count_end is_closing db s ∙ ap (λ b. count_by is_closing db + cond b 1 0) e in
+    count_of_list_and_last is_closing db s ∙ ap (λ b. count_by is_closing db + cond b 1 0) e in
     let o : count_by is_opening (db ++ s ∷ []) ≡ count_by is_opening db + 0 =
-    count_end is_opening db s ∙ ap (λ b. count_by is_opening db + cond b 1 0) (not_both s e) in
+    count_of_list_and_last is_opening db s
+    ∙ ap (λ b. count_by is_opening db + cond b 1 0) (not_both s e) in
     let same = depth_end db s in
     omega (arith, n, c, o, same)
   where

@@ -4,7 +4,7 @@ use Rattle.mm_spec.specs.Derivation.{Context, Trees, none, more, postfix, AreDer
 use Rattle.mm_spec.specs.Steps.{Step, label, marked}
 use Rattle.mm_spec.specs.Valid.{IsLastTree, Adds, Plain}
 use Rattle.mm_spec.proofs.UniqueLaw.{same_labels_same_derivations}
-use Rattle.mm_spec.proofs.StepsLaw.{forest_good}
+use Rattle.mm_spec.proofs.StepsLaw.{forest_labels_are_good}
 use Rattle.mm_spec.specs.Laws.Complete.{HasCompleteFrame}
 
 module _ (c : Context) (all_complete : (l : ℕ) → HasCompleteFrame c (c.rule l)) where
@@ -14,7 +14,7 @@ module _ (c : Context) (all_complete : (l : ℕ) → HasCompleteFrame c (c.rule 
       → r ≡ s
   same_labels_same_forest r s r_derives s_derives labels_equal =
       same_labels_same_derivations c r s r_derives s_derives
-      (forest_good c all_complete r r_derives) labels_equal
+      (forest_labels_are_good c all_complete r r_derives) labels_equal
 
   last_trees_are_equal : (forest : Trees) (x y : List ℕ) → IsLastTree forest x → IsLastTree forest y
       → x ≡ y

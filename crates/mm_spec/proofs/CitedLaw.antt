@@ -13,8 +13,8 @@ use Rattle.mm_spec.specs.Laws.Complete.{AreComplete}
 use Rattle.mm_spec.specs.Output.{is_theorem_at}
 use Rattle.mm_spec.proofs.BoolLaw.{passes_alone}
 use Rattle.mm_spec.proofs.CheckedLaw.{same_labels_same_forest, plain_lists_are_equal}
-use Rattle.mm_spec.proofs.FindsLaw.{is_before}
-use Rattle.mm_spec.proofs.NodesLaw.{label_member}
+use Rattle.mm_spec.proofs.FindsLaw.{active_lt_place}
+use Rattle.mm_spec.proofs.NodesLaw.{node_label_is_member}
 
 member_append : (xs ys : List ℕ) (a : ℕ)
     → is_member (xs ++ ys) a ≡ (is_member xs a || is_member ys a)
@@ -55,12 +55,12 @@ module _ (db : List Statement) where
   pub label_lt_theorem : (t a : ℕ) (d : Trees) → IsProof db t d → is_member (postfix d) a ≡ true
       → a < t
   label_lt_theorem t a d is_proof a_is_label =
-      grind (arith, common_steps, is_before, no_label_without_rule)
+      grind (arith, common_steps, active_lt_place, no_label_without_rule)
 
   -- what a theorem cites is earlier
   pub cited_lt_theorem : (by_essential : Bool) (t a : ℕ) → Cites db by_essential t a → a < t
   cited_lt_theorem by_essential t a cites =
-      label_lt_theorem t a cites.1 cites.2 (label_member db by_essential cites.1 a cites.3)
+      label_lt_theorem t a cites.1 cites.2 (node_label_is_member db by_essential cites.1 a cites.3)
 
   no_proof_without_steps : (t : ℕ) (d : Trees) → steps_at db t ≡ [] → IsProof db t d → ⊥
   no_proof_without_steps t d steps_are_empty is_proof = grind (arith, common_steps, length-append)

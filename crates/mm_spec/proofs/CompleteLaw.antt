@@ -26,10 +26,12 @@ use Rattle.mm_spec.specs.Lexed.{LexedText}
 use Rattle.mm_spec.proofs.LocalLaw.{scope_fault_front}
 use Rattle.mm_spec.proofs.FindsLaw.{any_flat_map, any_map, any_filter, member_filter}
 use Rattle.mm_spec.proofs.FindsLaw.{filter_member, each_member, each_map, each_any, each_filter}
-use Rattle.mm_spec.proofs.FindsLaw.{inside_of, formula_at_is, passing_statement, statement_passes}
+use Rattle.mm_spec.proofs.FindsLaw.{got_lt_length, formula_at_place, passing_statement}
+use Rattle.mm_spec.proofs.FindsLaw.{statement_passes}
 use Rattle.mm_spec.proofs.FindsLaw.{passing_active}
-use Rattle.mm_spec.proofs.FindsLaw.{some_active_passes, same_word, declaring_statement, declares}
-use Rattle.mm_spec.proofs.FindsLaw.{declared_before}
+use Rattle.mm_spec.proofs.FindsLaw.{some_active_passes, equal_bytes_equal_words}
+use Rattle.mm_spec.proofs.FindsLaw.{declaring_statement, later_place_knows_declared}
+use Rattle.mm_spec.proofs.FindsLaw.{declared_before_is_declared}
 use Rattle.mm_spec.proofs.FaultlessLaw.{no_least_no_faults, not_constant_and_variable}
 use Rattle.mm_spec.proofs.FaultlessLaw.{constant_is_no_variable_before}
 use Rattle.mm_spec.proofs.FaultlessLaw.{variable_is_no_constant_before}
@@ -59,7 +61,7 @@ is_mandatory_pair db k p =
 module _ (db : List Statement) (lawful : (k : ℕ) → k < length db → IsLawful db k) where
   lawful_is_faultless : (k : ℕ) (s : Statement) → slice_get db k ≡ Some s
       → scope_faults (names_before db k) (depth db k) s ≡ []
-  lawful_is_faultless k s s_at_k = grind (arith, common_steps, inside_of, no_least_no_faults)
+  lawful_is_faultless k s s_at_k = grind (arith, common_steps, got_lt_length, no_least_no_faults)
 
   -- no constant is a variable
   pub no_constant_is_variable : (w : Bytes) → is_in w (flat_map constants_of db) ≡ true
@@ -84,14 +86,16 @@ module _ (db : List Statement) (lawful : (k : ℕ) → k < length db → IsLawfu
       absurd_by_order i j s t s_at_i t_at_j s_declares_constant t_declares_variable
           (inr (inl i_j_order)) =
           true≢false
-          (sym (declares constants_of db j i s w s_at_i i_j_order s_declares_constant)
+          (sym (later_place_knows_declared constants_of db j i s w s_at_i i_j_order
+          s_declares_constant)
           ∙ variable_is_no_constant_before (names_before db j) (depth db j) t w
           (lawful_is_faultless j t t_at_j)
           t_declares_variable)
       absurd_by_order i j s t s_at_i t_at_j s_declares_constant t_declares_variable
           (inr (inr i_j_order)) =
           true≢false
-          (sym (declares variables_of db i j t w t_at_j i_j_order t_declares_variable)
+          (sym (later_place_knows_declared variables_of db i j t w t_at_j i_j_order
+          t_declares_variable)
           ∙ constant_is_no_variable_before (names_before db i) (depth db i) s w
           (lawful_is_faultless i s s_at_i)
           s_declares_constant)
@@ -99,7 +103,8 @@ module _ (db : List Statement) (lawful : (k : ℕ) → k < length db → IsLawfu
   constant_is_no_variable : (k : ℕ) (w : Bytes) → is_in w (names_before db k).constants ≡ true
       → is_variable_number db (index_of w (symbol_names db)) ≡ false
   constant_is_no_variable k w is_constant =
-      grind (arith, common_steps, no_constant_is_variable, declared_before, word_of_variable_number)
+      grind (arith, common_steps, no_constant_is_variable, declared_before_is_declared,
+      word_of_variable_number)
 
   -- statement i is the `$f` of x
   pub record Types (i x : ℕ) : Type 0 where
@@ -126,11 +131,11 @@ module _ (db : List Statement) (lawful : (k : ℕ) → k < length db → IsLawfu
           is_floating_statement = is_floating_s;
           typecode = index_of is_typing.typecode.word (symbol_names db);
           formula_is =
-              formula_at_is db i s s_at_i ∙ ap (formula_of db) is_typing.is_floating_of;
+              formula_at_place db i s s_at_i ∙ ap (formula_of db) is_typing.is_floating_of;
           typecode_is_constant =
               constant_is_no_variable i is_typing.typecode.word is_typing.typecode_is_constant;
         },
-        λ v v_is_typed. same_word v is_typing.variable.word
+        λ v v_is_typed. equal_bytes_equal_words v is_typing.variable.word
             (passes_alone (bytes_eq v is_typing.variable.word)
             (subst (λ x. list_any (λ u. bytes_eq v u.variable) (typings_of x) ≡ true)
             is_typing.is_floating_of
@@ -151,7 +156,7 @@ module _ (db : List Statement) (lawful : (k : ℕ) → k < length db → IsLawfu
   formula_variable_is_typed j x s s_at_j has_formula_s x_in_formula is_variable =
       let word_of_x =
       word_of_member (symbol_names db) (words (symbols_of s)) x
-      (ap (λ g. is_member g x) (sym (formula_at_is db j s s_at_j)) ∙ x_in_formula) in
+      (ap (λ g. is_member g x) (sym (formula_at_place db j s s_at_j)) ∙ x_in_formula) in
       typed_if_known word_of_x.0 word_of_x.2
       (word_of_variable_number db word_of_x.0
       (ap (is_variable_number db) (sym word_of_x.2) ∙ is_variable))
@@ -166,7 +171,7 @@ module _ (db : List Statement) (lawful : (k : ℕ) → k < length db → IsLawfu
       typed_if_known word_of_x x_is_number is_declared (inl is_constant) =
           absurd
           (no_constant_is_variable word_of_x
-          (declared_before constants_of db j word_of_x is_constant)
+          (declared_before_is_declared constants_of db j word_of_x is_constant)
           is_declared)
       typed_if_known word_of_x x_is_number is_declared (inr is_typed) =
           let types_w : Typing → Bool = λ (t : Typing). bytes_eq word_of_x t.variable in

@@ -23,7 +23,7 @@ use Rattle.mm_spec.specs.declared.Code.{Code}
 use Rattle.mm_spec.specs.declared.Code.TheVariants.{UndeclaredSymbol}
 use Rattle.mm_spec.specs.declared.Code.TheVariants.{UntypedVariable, BadTypecode, BadFloating}
 use Rattle.mm_spec.proofs.ActivityLaw.{is_block_open_iff_in_block}
-use Rattle.mm_spec.proofs.FindsLaw.{same_word}
+use Rattle.mm_spec.proofs.FindsLaw.{equal_bytes_equal_words}
 
 -- ---- no faults
 
@@ -71,7 +71,7 @@ each_word_has_no_codes codes earlier_words (t ∷ ts) no_faults w w_is_there =
         → (earlier : List Bytes) × (codes earlier w ≡ [])
     none_if_there (inl is_there) none_later = (
       earlier_words,
-      ap (codes earlier_words) (same_word w t.word is_there)
+      ap (codes earlier_words) (equal_bytes_equal_words w t.word is_there)
           ∙ no_faults_no_codes t.at (codes earlier_words t.word)
           (both_are_empty (at t.at (codes earlier_words t.word))
           (at_each codes (t.word ∷ earlier_words) ts) no_faults).0,
@@ -129,7 +129,7 @@ formula_symbols_are_known n (t ∷ ts) end no_faults w w_is_there =
   where
     known_if_there : (bytes_eq w t.word ≡ true) ⊎ (is_in w (words ts) ≡ true) → IsKnown n w
     known_if_there (inl w_is_there) =
-        inl (ap (λ v. is_in v n.constants) (same_word w t.word w_is_there)
+        inl (ap (λ v. is_in v n.constants) (equal_bytes_equal_words w t.word w_is_there)
         ∙ not-false (is_in t.word n.constants)
         (no_code_if_false (not (is_in t.word n.constants)) BadTypecode
         (no_faults_no_codes t.at (when (not (is_in t.word n.constants)) BadTypecode)
@@ -231,7 +231,8 @@ symbol_of_number_is w v (u ∷ us) got_v =
     v_is_w_by_test : (b : Bool) → bytes_eq w u ≡ b
         → slice_get (u ∷ us) (elim b [ true ↦ 0 | false ↦ suc (index_of w us) ]) ≡ Some v
         → (slice_get us (index_of w us) ≡ Some v → v ≡ w) → v ≡ w
-    v_is_w_by_test true test_is got_v later_is_w = let w_is_u : w ≡ u = same_word w u test_is in cc
+    v_is_w_by_test true test_is got_v later_is_w =
+        let w_is_u : w ≡ u = equal_bytes_equal_words w u test_is in cc
     v_is_w_by_test false test_is got_v later_is_w = later_is_w got_v
 
 pub word_of_variable_number : (db : List Statement) (w : Bytes)

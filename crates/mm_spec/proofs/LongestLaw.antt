@@ -27,8 +27,9 @@ use Rattle.mm_spec.proofs.FollowedLaw.{blocks_balance}
 use Rattle.mm_spec.proofs.FollowedLaw.{depth_counts_blocks, depth_following}
 use Rattle.mm_spec.proofs.FollowedLaw.{word_without_dollar_is_plain}
 use Rattle.mm_spec.proofs.FollowedLaw.{label_has_no_dollar}
-use Rattle.mm_spec.proofs.ShapeLaw.{Meaning, meaning, Balanced, balanced_more, plain_more, and_true}
-use Rattle.mm_spec.proofs.ShapeLaw.{labelled_whole, balanced_nothing}
+use Rattle.mm_spec.proofs.ShapeLaw.{Meaning, class_has_meaning, Balanced, balanced_with_one_more}
+use Rattle.mm_spec.proofs.ShapeLaw.{plain_with_one_more, true_and_true}
+use Rattle.mm_spec.proofs.ShapeLaw.{labelled_plain_is_complete, balanced_nothing}
 
 -- ---- a whole statement is read
 
@@ -175,7 +176,7 @@ transition_holds (start d) part t constant_keyword word_has_meaning part_is_read
     front = token t.at (codes "$c") ∷ [];
     are_plain = refl;
     spelling_is = λ xs k. refl;
-    is_complete_if_plain = λ xs k are_plain. and_true (is_plain xs) are_plain;
+    is_complete_if_plain = λ xs k are_plain. true_and_true (is_plain xs) are_plain;
     keeps_depth = λ xs k d. refl;
     not_closing = λ xs k. refl;
     part_is = ap₂ (λ p v. p ++ token t.at v ∷ []) part_is_read word_has_meaning;
@@ -187,7 +188,7 @@ transition_holds (start d) part t variable_keyword word_has_meaning part_is_read
     front = token t.at (codes "$v") ∷ [];
     are_plain = refl;
     spelling_is = λ xs k. refl;
-    is_complete_if_plain = λ xs k are_plain. and_true (is_plain xs) are_plain;
+    is_complete_if_plain = λ xs k are_plain. true_and_true (is_plain xs) are_plain;
     keeps_depth = λ xs k d. refl;
     not_closing = λ xs k. refl;
     part_is = ap₂ (λ p v. p ++ token t.at v ∷ []) part_is_read word_has_meaning;
@@ -199,7 +200,7 @@ transition_holds (start d) part t disjoint_keyword word_has_meaning part_is_read
     front = token t.at (codes "$d") ∷ [];
     are_plain = refl;
     spelling_is = λ xs k. refl;
-    is_complete_if_plain = λ xs k are_plain. and_true (is_plain xs) are_plain;
+    is_complete_if_plain = λ xs k are_plain. true_and_true (is_plain xs) are_plain;
     keeps_depth = λ xs k d. refl;
     not_closing = λ xs k. refl;
     part_is = ap₂ (λ p v. p ++ token t.at v ∷ []) part_is_read word_has_meaning;
@@ -229,7 +230,8 @@ transition_holds (labelled d l) part t floating_keyword word_has_meaning part_is
     front = l ∷ token t.at (codes "$f") ∷ [];
     are_plain = refl;
     spelling_is = λ xs k. refl;
-    is_complete_if_plain = λ xs k are_plain. labelled_whole l xs part_is_read.0 are_plain;
+    is_complete_if_plain =
+        λ xs k are_plain. labelled_plain_is_complete l xs part_is_read.0 are_plain;
     keeps_depth = λ xs k d. refl;
     not_closing = λ xs k. refl;
     part_is = ap₂ (λ p v. p ++ token t.at v ∷ []) part_is_read.1 word_has_meaning;
@@ -241,7 +243,8 @@ transition_holds (labelled d l) part t essential_keyword word_has_meaning part_i
     front = l ∷ token t.at (codes "$e") ∷ [];
     are_plain = refl;
     spelling_is = λ xs k. refl;
-    is_complete_if_plain = λ xs k are_plain. labelled_whole l xs part_is_read.0 are_plain;
+    is_complete_if_plain =
+        λ xs k are_plain. labelled_plain_is_complete l xs part_is_read.0 are_plain;
     keeps_depth = λ xs k d. refl;
     not_closing = λ xs k. refl;
     part_is = ap₂ (λ p v. p ++ token t.at v ∷ []) part_is_read.1 word_has_meaning;
@@ -253,7 +256,8 @@ transition_holds (labelled d l) part t axiom_keyword word_has_meaning part_is_re
     front = l ∷ token t.at (codes "$a") ∷ [];
     are_plain = refl;
     spelling_is = λ xs k. refl;
-    is_complete_if_plain = λ xs k are_plain. labelled_whole l xs part_is_read.0 are_plain;
+    is_complete_if_plain =
+        λ xs k are_plain. labelled_plain_is_complete l xs part_is_read.0 are_plain;
     keeps_depth = λ xs k d. refl;
     not_closing = λ xs k. refl;
     part_is = ap₂ (λ p v. p ++ token t.at v ∷ []) part_is_read.1 word_has_meaning;
@@ -263,7 +267,8 @@ transition_holds (labelled d l) part t theorem_keyword word_has_meaning part_is_
     (refl, (part_is_read.0, refl, ap₂ (λ p v. p ++ token t.at v ∷ []) part_is_read.1
     word_has_meaning))
 transition_holds (formula d l k ws) part t plain word_has_meaning part_is_read =
-    (refl, (part_is_read.0, plain_more ws t part_is_read.1 word_has_meaning, ap (λ p. p ++ t ∷ [])
+    (refl, (part_is_read.0, plain_with_one_more ws t part_is_read.1 word_has_meaning,
+    ap (λ p. p ++ t ∷ [])
     part_is_read.2))
 transition_holds (formula d l k ws) part t equals word_has_meaning part_is_read = (
   refl,
@@ -286,7 +291,7 @@ transition_holds (words d make ws) part t plain word_has_meaning part_is_read = 
   refl,
   record {
     front = part_is_read.front;
-    are_plain = plain_more ws t part_is_read.are_plain word_has_meaning;
+    are_plain = plain_with_one_more ws t part_is_read.are_plain word_has_meaning;
     spelling_is = part_is_read.spelling_is;
     is_complete_if_plain = part_is_read.is_complete_if_plain;
     keeps_depth = part_is_read.keeps_depth;
@@ -324,7 +329,7 @@ rest_is_read_on [] r list part is_balanced part_is_read =
 rest_is_read_on (t ∷ us) r list part is_balanced part_is_read =
     let read_further =
     read_by_transition (transition r (class t.word) t)
-    (transition_holds r part t (class t.word) (meaning t.word) part_is_read)
+    (transition_holds r part t (class t.word) (class_has_meaning t.word) part_is_read)
     (λ q list' part' is_balanced_next part_is_read_next. rest_is_read_on us q list' part'
     is_balanced_next
     part_is_read_next) in
@@ -356,7 +361,8 @@ rest_is_read_on (t ∷ us) r list part is_balanced part_is_read =
         let read_later =
         rest_is_read (start e) (list ++ s ∷ []) []
         (subst (λ n. Balanced n (list ++ s ∷ [])) transition_is.3
-        (balanced_more (depth_of_progress r) list s is_balanced transition_is.1 transition_is.2))
+        (balanced_with_one_more (depth_of_progress r) list s is_balanced transition_is.1
+        transition_is.2))
         refl in (
           read_later.rest,
           read_later.depth,

@@ -97,7 +97,8 @@ module _ {text : List ℕ} {ts : List Word} {open_comment : Option ℕ} {at : �
       }
   Reads_faulty b read_so_far is_next_word mode_is role_is =
       read_so_far.readings_equal
-      ∙ ap (λ (xs : List Word). with_tokens ts (reading text open_comment xs)) is_next_word.rest
+      ∙ ap (λ (xs : List Word). with_tokens ts (reading text open_comment xs))
+      is_next_word.words_are
       ∙ ap (with_tokens ts) (reading_faulty text open_comment w _ (rw (← mode_is) (sym role_is)))
       ∙ rw (append-nil, mode_is) refl
 
@@ -110,7 +111,7 @@ module _ {text : List ℕ} {ts : List Word} {open_comment : Option ℕ} {at : �
       record {
         readings_equal = read_so_far.readings_equal
             ∙ ap (λ (xs : List Word). with_tokens ts (reading text open_comment xs))
-            is_next_word.rest
+            is_next_word.words_are
             ∙ reading_step;
       }
 

@@ -5,9 +5,9 @@ use Rattle.std.proofs.lemmas.List.{length-map}
 use Rattle.mm_spec.specs.Nodes.{tree_count}
 use Rattle.mm_spec.specs.Derivation.{Formula, Rule, hypothesis, assertion, Context, substitute}
 use Rattle.mm_spec.specs.Derivation.{Follows, Trees, none, more, formulas, postfix, AreDerivations}
-use Rattle.mm_spec.proofs.UnifyLaw.{found_formula}
+use Rattle.mm_spec.proofs.UnifyLaw.{found_gives_formula}
 use Rattle.mm_spec.specs.Laws.Stack.{substitution_from, IsCompleteRule}
-use Rattle.mm_spec.proofs.MachineLaw.{AreGood, good_parts}
+use Rattle.mm_spec.proofs.MachineLaw.{AreGood, good_append_is_good_parts}
 
 -- two forests, one after the other
 infixl 40 ◌⧺◌
@@ -57,7 +57,7 @@ module _ (c : Context) where
   follows_result (Some (hypothesis g)) ps f is_complete follows = sym follows.1
   follows_result (Some (assertion a)) ps f is_complete follows =
       ap (λ x. substitute c (substitution_from c a.hypotheses x) a.formula) follows.1
-      ∙ found_formula c a.hypotheses follows.0 a.formula is_complete.formula ∙ sym follows.3
+      ∙ found_gives_formula c a.hypotheses follows.0 a.formula is_complete.formula ∙ sym follows.3
 
   -- the forest that the labels make of a forest
   abbrev grow : ℕ → Trees × Trees → Trees
@@ -73,8 +73,9 @@ module _ (c : Context) where
   labels_build_forest (more ts l f cs) are_derivations are_good ls base =
       let early_labels = postfix ts in
       let child_labels = postfix cs in
-      let split_at_children = good_parts c early_labels (child_labels ++ l ∷ []) are_good in
-      let split_at_label = good_parts c child_labels (l ∷ []) split_at_children.1 in
+      let split_at_children =
+      good_append_is_good_parts c early_labels (child_labels ++ l ∷ []) are_good in
+      let split_at_label = good_append_is_good_parts c child_labels (l ∷ []) split_at_children.1 in
       let regroup : (early_labels ++ (child_labels ++ l ∷ [])) ++ ls
       ≡ early_labels ++ (child_labels ++ l ∷ ls) =
       append_assoc early_labels (child_labels ++ l ∷ []) ls

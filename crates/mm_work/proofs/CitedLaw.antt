@@ -11,7 +11,7 @@ use Rattle.mm_spec.specs.Citation.{is_theorem, IsValid}
 use Rattle.mm_spec.specs.Citation as proof
 use Rattle.mm_spec.specs.Laws.Complete.{AreComplete}
 use Rattle.mm_spec.specs.Output.{theorems, is_theorem_at, AreValid}
-use Rattle.mm_spec.proofs.FindsLaw.{filter_member, passing_statement, inside_of}
+use Rattle.mm_spec.proofs.FindsLaw.{filter_member, passing_statement, got_lt_length}
 use Rattle.mm_spec.proofs.CitedLaw.{cited_lt_theorem, proved_is_theorem}
 use Rattle.mm_spec.proofs.ListLaw.{element_is_member}
 use Rattle.mm_cites.specs.Citing.{Citing, citing, HasCitation, IsStatementList, IsFileOrder}
@@ -50,7 +50,7 @@ index_of_theorem db t h =
     (filter_member (λ j. list_any is_theorem (statement_at db j))
     (range_with_len 0 (length db)) t h
     (in_range (length db) 0 t (omega arith)
-    (let l = inside_of db t f.0 f.1 in omega (arith, l))))
+    (let l = got_lt_length db t f.0 f.1 in omega (arith, l))))
 
 -- a theorem with citations is valid
 pub cited_valid : (db : List Statement) (by_essential : Bool) (t : ℕ) (cites : List ℕ)

@@ -1,7 +1,7 @@
 use Rattle.std.proofs.Common.{◌≡◌, sym, ap, None}
 use Rattle.mm_spec.specs.Words.{words_of}
 use Rattle.mm_spec.specs.Readings.{reading}
-use Rattle.mm_spec.proofs.WordsLaw.{AreWords_only}
+use Rattle.mm_spec.proofs.WordsLaw.{words_are_words_of}
 use Rattle.mm_laws.proofs.GrammarLaw.{reading_IsReading}
 use Rattle.mm_spec.proofs.LexedLaw.{tokens_of_long, lexical_fault_long, tokens_of_read}
 use Rattle.mm_spec.proofs.LexedLaw.{lexical_fault_read}
@@ -12,7 +12,7 @@ returns c text = record {
   too_long = λ h. (tokens_of_long text h, lexical_fault_long text h);
   read = λ h ws words.
       let same : reading text None (words_of text) ≡ reading text None ws =
-      ap (reading text None) (sym (AreWords_only text ws words)) in (
+      ap (reading text None) (sym (words_are_words_of text ws words)) in (
         reading text None ws,
         reading_IsReading text ws,
         tokens_of_read text
