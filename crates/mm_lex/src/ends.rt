@@ -13,8 +13,8 @@ use mm_bytes::is_white;
 fn first_white(text: &[u8], from: usize, to: usize) -> usize
     requires order { from ≤ to }
     requires within { to ≤ length text.now }
-    ensures from_here { from ≤ result }
-    ensures up_to { result ≤ to }
+    ensures from_le_place { from ≤ result }
+    ensures place_le_to { result ≤ to }
     ensures no_white { NoWhite text.now from result }
     ensures white { result < to → white_at text.now result ≡ true }
 {
@@ -33,8 +33,8 @@ fn first_white(text: &[u8], from: usize, to: usize) -> usize
 fn after_white(text: &[u8], from: usize, to: usize) -> usize
     requires order { from ≤ to }
     requires within { to ≤ length text.now }
-    ensures from_here { from ≤ result }
-    ensures up_to { result ≤ to }
+    ensures from_le_place { from ≤ result }
+    ensures place_le_to { result ≤ to }
     ensures no_white { NoWhite text.now result to }
     ensures white { (i : ℕ) → i + 1 ≡ result → from ≤ i → white_at text.now i ≡ true }
 {

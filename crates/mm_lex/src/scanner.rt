@@ -99,9 +99,9 @@ pub struct WordScanner<'a> {
     stops: u64,
     /// Where words begin, from `from` on. Bits after the text's end mean nothing.
     starts: u64,
-    ghost within: { base ≤ length text.now },
-    ghost low: { base ≤ from },
-    ghost high: { from ≤ base + 64 },
+    ghost base_le_length: { base ≤ length text.now },
+    ghost base_le_from: { base ≤ from },
+    ghost from_le_block_end: { from ≤ base + 64 },
     ghost white_is: { white ≡ mask is_white (take 64 (drop base text.now)) },
     ghost plain: { (i : ℕ) → i < 64 → base + i < length text.now → bit_at stops i ≡ 0
         → plain_at text.now (base + i) ≡ true },
@@ -109,7 +109,7 @@ pub struct WordScanner<'a> {
         → white_at text.now (base + i) ≡ false },
     ghost begins: { (i : ℕ) → i < 64 → base + i < length text.now → bit_at starts i ≡ 1
         → begins_word text.now (base + i) ≡ true },
-    ghost further: { (i : ℕ) → i < 64 → bit_at starts i ≡ 1 → from ≤ base + i },
+    ghost starts_are_from_from: { (i : ℕ) → i < 64 → bit_at starts i ≡ 1 → from ≤ base + i },
     ghost begins_none: { (i : ℕ) → i < 64 → base + i < length text.now → from ≤ base + i
         → bit_at starts i ≡ 0 → begins_word text.now (base + i) ≡ false },
 }
