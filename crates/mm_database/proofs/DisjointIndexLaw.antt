@@ -17,7 +17,7 @@ use Rattle.mm_spec.proofs.BoolLaw.{same_tests}
 use Rattle.mm_outline.specs.Blocks.{BlockLists, IsBlocks, end_of}
 use Rattle.mm_database.specs.Pairs.{has_pair, IsBefore, is_pair_before, AreRising}
 use Rattle.mm_database.specs.DisjointIndex.{has_symbol, is_active_local, HaveBlocks}
-use Rattle.mm_outline.proofs.StatementsLaw.{is_there}
+use Rattle.mm_outline.proofs.StatementsLaw.{passing_lt_length}
 
 -- ---- pairs by their places
 
@@ -108,10 +108,10 @@ have_blocks db b blocks ps are p l =
     let x = (get_or ps p (0, 0)).0 in
     let e = sym (are x j) ∙ at_has ps p (0, 0) l in
     let m =
-    is_there is_disjoint_statement db j
+    passing_lt_length is_disjoint_statement db j
     (and_parts (list_any is_disjoint_statement (statement_at db j))
     (is_member (formula_at db j) x) e).0 in
-    (let c = blocks.count in omega (arith, c, m), blocks.known j m)
+    (let c = blocks.count in omega (arith, c, m), blocks.blocks_have_ends j m)
 
 -- ---- the pairs before that of a symbol and a statement
 

@@ -24,7 +24,7 @@ use Rattle.mm_outline.specs.Statements.{statements}
 use Rattle.mm_outline.specs.declared.parts.Kind.{Kind}
 use Rattle.mm_outline.specs.declared.parts.Kind.TheVariants as kind
 use Rattle.mm_outline.specs.declared.parts.Outline.{Outline}
-use Rattle.mm_outline.proofs.StatementsLaw.{get_mapped, statement_is}
+use Rattle.mm_outline.proofs.StatementsLaw.{element_of_mapped, statement_of_outline_is}
 use Rattle.mm_database.specs.Database.{Contents, contents, kind_of}
 use Rattle.mm_database.specs.RetainedWords.{AreRetained, IsRetained, retained_words, label_tokens}
 use Rattle.mm_outline.specs.Parts.{is_labelled_kind}
@@ -127,11 +127,11 @@ module _ (text : List ℕ) (ws : List Word) where
             let k_lt_length_os : k < length os =
             let m = slice_get_within (statements text ws os) k s e in omega (arith, m, n) in
             let is : Some (statement_of text ws (get_or os k d)) ≡ Some s =
-            sym (statement_is text ws os k d k_lt_length_os) ∙ e in
+            sym (statement_of_outline_is text ws os k d k_lt_length_os) ∙ e in
             let same : statement_of text ws (get_or os k d) ≡ s = cc in
             subst (λ t. IsRetained text t (get_or (map (retained_words ws) os) k [])) same
             (subst (IsRetained text (statement_of text ws (get_or os k d)))
-            (sym (get_mapped (retained_words ws) os k d [] k_lt_length_os))
+            (sym (element_of_mapped (retained_words ws) os k d [] k_lt_length_os))
             (retained_is (get_or os k d) (h k d k_lt_length_os)))
 
 -- ---- what the kept words of a statement answer

@@ -28,7 +28,7 @@ module _ (db : List Statement) (b : BlockLists) (blocks : IsBlocks db b) (k : �
           ≡ (nat_lt j k && (list_any is_disjoint_statement (statement_at db j)
           && is_block_open db j k))
       by_order (inl l) = ap (λ c. nat_lt j k && c)
-          (sym (ap₂ (λ p q. p && q) t (blocks.ended j k l h)))
+          (sym (ap₂ (λ p q. p && q) t (blocks.open_up_to_end j k l h)))
       by_order (inr g) =
           ap (λ c. c && nat_le k (end_of b j)) (le-ltb j k g)
           ∙ sym (ap (λ c. c

@@ -16,7 +16,7 @@ use Rattle.mm_spec.specs.Statement.{Statement}
 use Rattle.mm_spec.specs.Scope.{statement_at}
 use Rattle.mm_spec.specs.Derivation.{is_member}
 use Rattle.mm_spec.specs.Frame.{symbol_names, is_disjoint_statement, formula_at}
-use Rattle.mm_outline.proofs.StatementsLaw.{is_there}
+use Rattle.mm_outline.proofs.StatementsLaw.{passing_lt_length}
 use Rattle.mm_spec.specs.Rising.{IsRisingFrom}
 use Rattle.mm_frame.specs.Chains.{IsLinkChain, AreLinked, HasChain, AreChains}
 use Rattle.mm_database.specs.DisjointIndex.{has_symbol}
@@ -275,7 +275,7 @@ none_yet db heads empty x l = record {
     by_values j true e false f = refl
     by_values j true e true has_symbol_x_j =
         let m =
-        is_there is_disjoint_statement db j
+        passing_lt_length is_disjoint_statement db j
         (and_parts (list_any is_disjoint_statement (statement_at db j))
         (is_member (formula_at db j) x) has_symbol_x_j).0 in
         absurd (true≢false (sym e ∙ lt-leb (length db) j m))
@@ -367,7 +367,7 @@ symbol_below db sound x j e =
     let parts =
     and_parts (list_any is_disjoint_statement (statement_at db j)) (is_member (formula_at db j) x)
     e in
-    let there = is_there is_disjoint_statement db j parts.0 in
+    let there = passing_lt_length is_disjoint_statement db j parts.0 in
     member_below (length (symbol_names db)) x (formula_at db j) (sound.symbols_have_numbers j there)
     parts.1
 

@@ -26,8 +26,8 @@ use Rattle.mm_spec.proofs.FindsLaw.{range_any}
 use Rattle.mm_spec.proofs.FaultlessLaw.{both_are_empty, no_least_no_faults}
 use Rattle.mm_outline.specs.Typed.{has_word, typed_words}
 use Rattle.mm_database.specs.ParsedStatements.{IsSound, typed_variable_at}
-use Rattle.mm_outline.proofs.FaultlessLaw.{floating_new}
-use Rattle.mm_outline.proofs.AmongLaw.{typed_in, among_active}
+use Rattle.mm_outline.proofs.FaultlessLaw.{faultless_floating_is_new}
+use Rattle.mm_outline.proofs.AmongLaw.{typed_word_is_typing, word_of_active_is_any}
 
 -- a word that has a place is there
 pub index_get : (w : Bytes) (ws : List Bytes) → index_of w ws < length ws
@@ -123,7 +123,7 @@ module _ (db : List Statement) (sound : IsSound db) where
         dot = d;
         is = e;
         number = same_Some _ _ f;
-        untyped = (floating_new (names_before db k) a c x n).1;
+        untyped = (faultless_floating_is_new (names_before db k) a c x n).1;
         constant = constant_there (names_before db k) a c x n;
       }
 
@@ -236,5 +236,5 @@ module _ (db : List Statement) (sound : IsSound db) where
       true≢false
       (sym (range_any (λ i. is_active db i k && has_word db typed_words w i) k 0 j (omega arith)
       (omega arith) (ap₂ (λ a b. a && b) (float_active j v i is_float k j_lt_k ∙ e) there))
-      ∙ sym (among_active db typed_words w (λ i. is_active db i k) k 0)
-      ∙ sym (typed_in w (active_statements db k)) ∙ g.untyped)
+      ∙ sym (word_of_active_is_any db typed_words w (λ i. is_active db i k) k 0)
+      ∙ sym (typed_word_is_typing w (active_statements db k)) ∙ g.untyped)

@@ -20,7 +20,7 @@ use Rattle.mm_spec.specs.Lexed.{lexed_of}
 use Rattle.mm_spec.specs.Output.{IsRead}
 use Rattle.mm_spec.proofs.OpenedLaw.{theorem_read}
 use Rattle.mm_spec.proofs.ListLaw.{pairs_head, pairs_tail}
-use Rattle.mm_outline.proofs.TokensLaw.{tokens_rising, tokens_are_words}
+use Rattle.mm_outline.proofs.TokensLaw.{tokens_rise, tokens_are_words}
 use Rattle.mm_proof.specs.Letters.{AreInOrder}
 use Rattle.mm_proof.proofs.LeastLaw.{Earlier, pairs_back}
 
@@ -122,7 +122,7 @@ proof_follows text db fault is_read k l p xs e ps d is =
     ∙ append_assoc a.before (spelling_of s ++ a.after) is_read.are_statements.rest
     ∙ ap (λ z. a.before ++ z) (append_assoc (spelling_of s) a.after is_read.are_statements.rest) in
     let all : AllPairs Follows ts =
-    begins_after text (lexed.tokens_of text) (tokens_are_words text) (tokens_rising text) in
+    begins_after text (lexed.tokens_of text) (tokens_are_words text) (tokens_rise text) in
     pairs_in (ps ++ token d (codes "$.") ∷ []) (spelling_of s) inner
     (pairs_in (spelling_of s) ts
     (record { before = a.before; after = a.after ++ is_read.are_statements.rest; is = whole }) all)

@@ -27,11 +27,13 @@ use Rattle.mm_scope.specs.ReadSoFar.{KnowsStatements}
 use Rattle.mm_database.specs.declared.names.Symbol.{Symbol}
 use Rattle.mm_outline.specs.declared.parts.Kind.{Kind}
 use Rattle.mm_outline.specs.declared.parts.Kind.TheVariants as kind
-use Rattle.mm_outline.proofs.BlocksLaw.{blocks_plain, blocks_opening, blocks_closing}
+use Rattle.mm_outline.proofs.BlocksLaw.{blocks_after_other, blocks_after_opening}
+use Rattle.mm_outline.proofs.BlocksLaw.{blocks_after_closing}
 use Rattle.mm_scope.proofs.JudgeLaw.{bytes_eq_sym}
-use Rattle.mm_outline.proofs.FaultlessLaw.{constant_new, floating_new, variable_new}
+use Rattle.mm_outline.proofs.FaultlessLaw.{faultless_constant_is_new, faultless_floating_is_new}
+use Rattle.mm_outline.proofs.FaultlessLaw.{faultless_variable_is_new}
 use Rattle.mm_scope.proofs.KnowsLaw.{none_active}
-use Rattle.mm_outline.proofs.AmongLaw.{typed_in}
+use Rattle.mm_outline.proofs.AmongLaw.{typed_word_is_typing}
 use Rattle.mm_scope.proofs.LabelsLaw.{labels_after, label_unused}
 use Rattle.mm_scope.proofs.WordEntryLaw.{known_same, known_constant, known_variable, known_typed}
 use Rattle.mm_scope.proofs.WordEntryLaw.{in_more}
@@ -75,7 +77,7 @@ module _ (db : List Statement) (few : length db < never) (w : Bytes) where
       by_is_in false h =
           known_same db (constants k xs e) w x kn (in_nil (words xs) false h) refl refl
       by_is_in true h =
-          let new = constant_new n xs law w h in
+          let new = faultless_constant_is_new n xs law w h in
           fresh x kn (no_constant x kn new.0) (no_variable x kn new.1) h
 
   variable_after : (k : ℕ) (xs : List Token) (e : ℕ) (x : Option WordEntry) → IsEntryOf db w x
@@ -89,7 +91,7 @@ module _ (db : List Statement) (few : length db < never) (w : Bytes) where
       by_is_in false h =
           known_same db (variables k xs e) w x kn refl (in_nil (words xs) false h) refl
       by_is_in true h =
-          let new = variable_new n xs law w h in
+          let new = faultless_variable_is_new n xs law w h in
           known_variable db (variables k xs e) w x kn (no_constant x kn new.0) new.1 refl
           (in_nil (words xs) true h) refl
 
@@ -102,14 +104,14 @@ module _ (db : List Statement) (few : length db < never) (w : Bytes) where
       typed : (x : Option WordEntry) → IsEntryOf db w x → v.word ≡ w
           → IsEntryOf (db ++ floating l k (c ∷ v ∷ []) e ∷ []) w (typed_entry (length db) c.word x)
       typed None kn same =
-          let new = floating_new n k c v law in
+          let new = faultless_floating_is_new n k c v law in
           absurd (true≢false
           (sym (ap (λ u. is_in u n.active_variables) (sym same) ∙ new.0)
           ∙ none_active db variables_of w kn.variable))
       typed (Some o) kn same =
-          let new = floating_new n k c v law in
+          let new = faultless_floating_is_new n k c v law in
           known_typed db (floating l k (c ∷ v ∷ []) e) w o kn few c.word
-          (sym (typed_in w (active_statements db (length db)))
+          (sym (typed_word_is_typing w (active_statements db (length db)))
           ∙ ap (λ u. list_any (λ t. bytes_eq u t.variable) n.active_typings) (sym same) ∙ new.1)
           (sym (ap (λ xs. list_any (gives_other_typecode c.word w) (flat_map typings_of xs))
           all_taken)
@@ -186,23 +188,24 @@ module _ (text : List ℕ) (ws : List spec.Word) (db : List Statement) (b : Bloc
       → (is_closing (statement_between text ws k p m e) ≡ true → 0 < depth db (length db))
       → IsBlocks (db ++ statement_between text ws k p m e ∷ []) (pushed k b)
   blocks_after kind.Open p m e deep =
-      blocks_opening db (statement_between text ws kind.Open p m e) b x few refl refl
+      blocks_after_opening db (statement_between text ws kind.Open p m e) b x few refl refl
   blocks_after kind.Close p m e deep =
-      blocks_closing db (statement_between text ws kind.Close p m e) b x few refl refl (deep refl)
+      blocks_after_closing db (statement_between text ws kind.Close p m e) b x few refl refl
+      (deep refl)
   blocks_after kind.Constants p m e deep =
-      blocks_plain db (statement_between text ws kind.Constants p m e) b x few refl refl
+      blocks_after_other db (statement_between text ws kind.Constants p m e) b x few refl refl
   blocks_after kind.Variables p m e deep =
-      blocks_plain db (statement_between text ws kind.Variables p m e) b x few refl refl
+      blocks_after_other db (statement_between text ws kind.Variables p m e) b x few refl refl
   blocks_after kind.Disjoint p m e deep =
-      blocks_plain db (statement_between text ws kind.Disjoint p m e) b x few refl refl
+      blocks_after_other db (statement_between text ws kind.Disjoint p m e) b x few refl refl
   blocks_after kind.Floating p m e deep =
-      blocks_plain db (statement_between text ws kind.Floating p m e) b x few refl refl
+      blocks_after_other db (statement_between text ws kind.Floating p m e) b x few refl refl
   blocks_after kind.Essential p m e deep =
-      blocks_plain db (statement_between text ws kind.Essential p m e) b x few refl refl
+      blocks_after_other db (statement_between text ws kind.Essential p m e) b x few refl refl
   blocks_after kind.Axiom p m e deep =
-      blocks_plain db (statement_between text ws kind.Axiom p m e) b x few refl refl
+      blocks_after_other db (statement_between text ws kind.Axiom p m e) b x few refl refl
   blocks_after kind.Theorem p m e deep =
-      blocks_plain db (statement_between text ws kind.Theorem p m e) b x few refl refl
+      blocks_after_other db (statement_between text ws kind.Theorem p m e) b x few refl refl
 
 -- the code knows what it has to know after one lawful statement more
 pub keeps_after : (text : List ℕ) (ws : List spec.Word) (db : List Statement)
@@ -213,7 +216,7 @@ pub keeps_after : (text : List ℕ) (ws : List spec.Word) (db : List Statement)
     ≡ None
     → (is_closing (statement_between text ws k p m e) ≡ true → 0 < depth db (length db))
     → (c : BlockLists)
-    → c ≡ pushed k b → (number : ℕ) → number ≡ length b.of
+    → c ≡ pushed k b → (number : ℕ) → number ≡ length b.block_of
     → (new : List ℕ → Option Symbol)
     → ((w : List ℕ)
     → entry_of (new w) ≡ entry_after number (statement_between text ws k p m e) w

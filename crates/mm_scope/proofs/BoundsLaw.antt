@@ -16,7 +16,7 @@ use Rattle.mm_spec.specs.Frame.{symbol_names, index_of, first_occurrences, formu
 use Rattle.mm_spec.proofs.FindsLaw.{formula_at_place}
 use Rattle.mm_spec.proofs.SymbolLaw.{lawful_symbols_are_declared}
 use Rattle.mm_database.proofs.SymbolsLaw.{itself, in_first, index_in}
-use Rattle.mm_outline.proofs.StatementsLaw.{get_mapped}
+use Rattle.mm_outline.proofs.StatementsLaw.{element_of_mapped}
 
 -- ---- symbols are declared
 
@@ -52,7 +52,7 @@ symbols_known db law k l s e =
     slice_get_within (symbol_names db) (index_of w (symbol_names db)) w
     (index_in (symbol_names db) w known) in
     subst (λ x. x < length (symbol_names db))
-    (sym (get_mapped (λ w. index_of w (symbol_names db)) ws i [] d inside)) place)
+    (sym (element_of_mapped (λ w. index_of w (symbol_names db)) ws i [] d inside)) place)
 
 -- ---- there are few
 

@@ -23,7 +23,8 @@ use Rattle.mm_scope.specs.ReadSoFar.{KnowsStatements}
 use Rattle.mm_database.specs.Names.{is_constant_in, is_variable_in}
 use Rattle.mm_database.specs.declared.names.Symbol.{Symbol}
 use Rattle.mm_scope.proofs.LatestLaw.{latest_is}
-use Rattle.mm_outline.proofs.AmongLaw.{among_active, any_false, typed_in}
+use Rattle.mm_outline.proofs.AmongLaw.{word_of_active_is_any, none_passes_no_any}
+use Rattle.mm_outline.proofs.AmongLaw.{typed_word_is_typing}
 use Rattle.mm_scope.proofs.OpenLaw.{latest_open, declares_local, types_local}
 
 -- a word that no statement has
@@ -43,13 +44,13 @@ pub none_active : (db : List Statement) (f : Statement → List Bytes) (w : Byte
     → is_in w (flat_map f db) ≡ false
     → is_in w (flat_map f (active_statements db (length db))) ≡ false
 none_active db f w e =
-    among_active db f w (λ j. is_active db j (length db)) (length db) 0
-    ∙ any_false (λ j. is_active db j (length db) && has_word db f w j) (length db) 0
+    word_of_active_is_any db f w (λ j. is_active db j (length db)) (length db) 0
+    ∙ none_passes_no_any (λ j. is_active db j (length db) && has_word db f w j) (length db) 0
     (λ j l. ap (λ b. is_active db j (length db) && b) (has_none db f w e j)
     ∙ and-false (is_active db j (length db)))
 
-never_open : (b : BlockLists) → length b.of ≤ never → is_open_in b never ≡ false
-never_open b h = ap (λ o. is_never (end_in b.ends o)) (slice_get_past b.of never h)
+never_open : (b : BlockLists) → length b.block_of ≤ never → is_open_in b never ≡ false
+never_open b h = ap (λ o. is_never (end_in b.ends o)) (slice_get_past b.block_of never h)
 
 module _ (db : List Statement) (b : BlockLists) (x : IsBlocks db b) (few : length db < never)
     (w : Bytes) where
@@ -117,7 +118,7 @@ knows_is db look labels b k few =
       active_variables = λ w. variable_active db b k.blocks few w (look w) (k.symbols w);
       labels_known = λ w. ap (λ xs. is_in w (flat_map label_words xs)) all ∙ k.labels_known w;
       typed =
-          λ w h. typed_in w (active_statements db (length db))
+          λ w h. typed_word_is_typing w (active_statements db (length db))
           ∙ typed_active db b k.blocks few w (look w) (k.symbols w);
       otherwise =
           λ c w h. ap (λ xs. list_any (gives_other_typecode c w) (flat_map typings_of xs)) all

@@ -18,7 +18,7 @@ use Rattle.mm_spec.proofs.LocalLaw.{get_front, get_at_seam}
 use Rattle.mm_spec.proofs.FaultlessLaw.{both_are_empty, faultless_label_is_new}
 use Rattle.mm_scope.specs.WordEntry.{label_after}
 use Rattle.mm_database.specs.Labels.{AreLabels}
-use Rattle.mm_outline.proofs.StatementsLaw.{is_there}
+use Rattle.mm_outline.proofs.StatementsLaw.{passing_lt_length}
 
 pub label_fresh : (n : Names) (d : ℕ) (s : Statement) → scope_faults n d s ≡ [] → (l : Token)
     → label_of s ≡ Some l → is_in l.word n.labels ≡ false
@@ -121,7 +121,7 @@ module _ (db : List Statement) (s : Statement) (find new : List ℕ → Option �
           → list_any (is_labelled w) (statement_at (db ++ s ∷ []) k) ≡ true → j < length db
           → length db ≤ k → ⊥
       no_earlier_label w j k e f l m =
-          let b = is_there (is_labelled w) (db ++ s ∷ []) k f in
+          let b = passing_lt_length (is_labelled w) (db ++ s ∷ []) k f in
           let same : k ≡ length db = omega (arith, b, m, length-append db (s ∷ [])) in
           let new : is_labelled w s ≡ true =
           sym (label_at_last w)
@@ -136,8 +136,8 @@ module _ (db : List Statement) (s : Statement) (find new : List ℕ → Option �
       only w j k e f (inl l) (inr m) = absurd (no_earlier_label w j k e f l m)
       only w j k e f (inr l) (inl m) = absurd (no_earlier_label w k j f e m l)
       only w j k e f (inr l) (inr m) =
-          let a = is_there (is_labelled w) (db ++ s ∷ []) j e in
-          let b = is_there (is_labelled w) (db ++ s ∷ []) k f in
+          let a = passing_lt_length (is_labelled w) (db ++ s ∷ []) j e in
+          let b = passing_lt_length (is_labelled w) (db ++ s ∷ []) k f in
           omega (arith, a, b, l, m, length-append db (s ∷ []))
 
 -- a label of a lawful statement stands for nothing yet

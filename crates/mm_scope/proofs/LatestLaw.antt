@@ -12,8 +12,8 @@ use Rattle.mm_spec.specs.Scope.{depth, is_block_open}
 use Rattle.mm_spec.proofs.LocalLaw.{get_front, get_at_seam}
 use Rattle.std.proofs.lemmas.Bool.{lt-ltb, cases_lt}
 use Rattle.mm_spec.proofs.FindsLaw.{range_any}
-use Rattle.mm_outline.proofs.AmongLaw.{any_false, among_active}
-use Rattle.mm_outline.proofs.BlocksLaw.{stays_last}
+use Rattle.mm_outline.proofs.AmongLaw.{none_passes_no_any, word_of_active_is_any}
+use Rattle.mm_outline.proofs.BlocksLaw.{open_after_one_more}
 use Rattle.mm_scope.specs.WordEntry.{Latest}
 use Rattle.mm_outline.specs.Typed.{has_word}
 
@@ -21,7 +21,7 @@ module _ (db : List Statement) (f : Statement → List Bytes) (w : Bytes) where
   pub latest_is : (last : ℕ) → Latest db f w last
       → is_in w (flat_map f (active_statements db (length db))) ≡ is_active db last (length db)
   latest_is last x =
-      among_active db f w (λ j. is_active db j (length db)) (length db) 0
+      word_of_active_is_any db f w (λ j. is_active db j (length db)) (length db) 0
       ∙ by_active (is_active db last (length db)) refl
     where
       q : ℕ → Bool
@@ -42,7 +42,7 @@ module _ (db : List Statement) (f : Statement → List Bytes) (w : Bytes) where
           range_any (λ j. is_active db j (length db) && has_word db f w j) (length db) 0 last
           (omega arith) (let l = x.before in omega (arith, l)) (ap₂ (λ a b. a && b) e x.there)
       by_active false e =
-          any_false (λ j. is_active db j (length db) && has_word db f w j) (length db) 0
+          none_passes_no_any (λ j. is_active db j (length db) && has_word db f w j) (length db) 0
           (λ j l. let m : j < length db = omega arith in
           none e j m (is_active db j (length db)) (has_word db f w j) refl refl)
 
@@ -67,7 +67,7 @@ module _ (db : List Statement) (s : Statement) where
       && nat_le (depth db j) (depth (db ++ s ∷ []) (length db + 1))))
       (sym (lt-ltb j (length db + 1) (omega arith)))
       ∙ ap₂ (λ o z. nat_lt j (length db + 1) && is_some_still_active o z)
-      (sym (get_front db (s ∷ []) j h)) (sym (stays_last db s j h))
+      (sym (get_front db (s ∷ []) j h)) (sym (open_after_one_more db s j h))
       ∙ e))
     where
       by_statement : (o : Option Statement) (a b : Bool) → is_some_still_active o (a && b) ≡ true
@@ -127,5 +127,6 @@ module _ (db : List Statement) (s : Statement) where
             (sym (range_any (λ i. is_active db i (length db) && has_word db f w i) (length db) 0 j
             (omega arith) (omega arith)
             (ap₂ (λ a b. a && b) (active_mono j l e) (sym (has-front j l) ∙ k)))
-            ∙ sym (among_active db f w (λ i. is_active db i (length db)) (length db) 0) ∙ n))
+            ∙ sym (word_of_active_is_any db f w (λ i. is_active db i (length db)) (length db) 0)
+            ∙ n))
         by_order j h k e (inr l) = omega (arith, h, l, length-append db (s ∷ []))

@@ -17,11 +17,11 @@ use Rattle.mm_spec.specs.Frame.{first_occurrences, symbol_names, index_of, formu
 use Rattle.mm_spec.specs.declared.Word as spec
 use Rattle.mm_database.specs.Numbered.{AreNumbered}
 use Rattle.mm_outline.specs.Parts.{between, token_at}
-use Rattle.mm_outline.proofs.TurnsLaw.{between_more, between_none}
+use Rattle.mm_outline.proofs.TurnsLaw.{between_with_one_more, nothing_between_place_and_itself}
 use Rattle.mm_lists.specs.Lists.{AreJoined, with_end}
 use Rattle.mm_database.specs.Names.{with_name}
 use Rattle.mm_lists.proofs.ListsLaw.{joined_with_one_more}
-use Rattle.mm_outline.proofs.StatementsLaw.{get_mapped}
+use Rattle.mm_outline.proofs.StatementsLaw.{element_of_mapped}
 use Rattle.std.proofs.lemmas.List.{length-map}
 use Rattle.mm_scope.specs.Formulas.{AreFormulas, numbers_in, judged, unjudged}
 use Rattle.mm_database.proofs.SymbolsLaw.{first_added, if_new, itself}
@@ -146,7 +146,7 @@ pub formulas_numbered : (db : List Statement) → AreNumbered db (map (formula_o
 formulas_numbered db = record {
   count = length-map db (formula_of db);
   formula = λ k l.
-      get_mapped (formula_of db) db k (opening 0) [] l
+      element_of_mapped (formula_of db) db k (opening 0) [] l
       ∙ sym (ap (λ o. flat_map (formula_of db) (elim o [ None ↦ [] | Some s ↦ s ∷ [] ]))
       (slice_get-get_or db k (opening 0) l)
       ∙ append-nil (formula_of db (get_or db k (opening 0))));
@@ -159,7 +159,7 @@ pub numbers_more : (text : List ℕ) (ws : List spec.Word) (ns : List Bytes) (fr
     → numbers_in ns (between text ws from (i + 1))
     ≡ numbers_in ns (between text ws from i) ++ index_of (token_at text ws i).word ns ∷ []
 numbers_more text ws ns from i l h =
-    ap (numbers_in ns) (between_more text ws from i l h)
+    ap (numbers_in ns) (between_with_one_more text ws from i l h)
     ∙ ap (map (λ w. index_of w ns))
     (map-append (λ (t : Token). t.word) (between text ws from i) (token_at text ws i ∷ []))
     ∙ map-append (λ (w : Bytes). index_of w ns) (words (between text ws from i))
@@ -167,13 +167,13 @@ numbers_more text ws ns from i l h =
 
 pub numbers_none : (text : List ℕ) (ws : List spec.Word) (ns : List Bytes) (from : ℕ)
     → [] ≡ numbers_in ns (between text ws from from)
-numbers_none text ws ns from = ap (numbers_in ns) (between_none text ws from)
+numbers_none text ws ns from = ap (numbers_in ns) (nothing_between_place_and_itself text ws from)
 
 pub words_more : (text : List ℕ) (ws : List spec.Word) (from i : ℕ) → from ≤ i → i < length ws
     → words (between text ws from i) ++ (token_at text ws i).word ∷ []
     ≡ words (between text ws from (i + 1))
 words_more text ws from i l h =
-    sym (ap words (between_more text ws from i l h)
+    sym (ap words (between_with_one_more text ws from i l h)
     ∙ map-append (λ (t : Token). t.word) (between text ws from i) (token_at text ws i ∷ []))
 
 pub names_more : (text : List ℕ) (ws : List spec.Word) (from i : ℕ) → from ≤ i → i < length ws

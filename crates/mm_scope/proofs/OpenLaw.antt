@@ -18,11 +18,11 @@ use Rattle.mm_outline.specs.Typed.{typed_words}
 pub open_is : (db : List Statement) (b : BlockLists) → IsBlocks db b → length db < never → (j : ℕ)
     → j < length db → is_block_open db j (length db) ≡ is_open_in b j
 open_is db b x few j h =
-    let of : slice_get b.of j ≡ Some (get_or b.of j 0) =
-    slice_get-get_or b.of j 0 (let c = x.count in omega (arith, c, h)) in
-    let end : slice_get b.ends (get_or b.of j 0) ≡ Some (end_of b j) =
-    slice_get-get_or b.ends (get_or b.of j 0) 0 (x.known j h) in
-    x.ended j (length db) h (le_refl (length db)) ∙ by_case (x.bounds j h) ∙ ap is_never (sym end)
+    let of : slice_get b.block_of j ≡ Some (get_or b.block_of j 0) =
+    slice_get-get_or b.block_of j 0 (let c = x.count in omega (arith, c, h)) in
+    let end : slice_get b.ends (get_or b.block_of j 0) ≡ Some (end_of b j) =
+    slice_get-get_or b.ends (get_or b.block_of j 0) 0 (x.blocks_have_ends j h) in
+    x.open_up_to_end j (length db) h (le_refl (length db)) ∙ by_case (x.ends_are_bounded j h) ∙ ap is_never (sym end)
     ∙ ap (λ o. is_never (end_in b.ends o)) (sym of)
   where
     by_case : (end_of b j ≡ never) ⊎ (end_of b j < length db)

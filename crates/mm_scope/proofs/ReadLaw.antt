@@ -21,14 +21,15 @@ use Rattle.mm_spec.proofs.StopsLaw.{text_fault, text_fault_is, no_text_fault, fi
 use Rattle.mm_spec.proofs.StopsLaw.{fault_at_end}
 use Rattle.mm_outline.specs.Parts.{as_tokens, progress, statement_between, depth_after, one_less}
 use Rattle.mm_outline.specs.Blocks.{BlockLists, IsBlocks, never}
-use Rattle.mm_outline.proofs.BlocksLaw.{depth_end, depth_plain, depth_opening, depth_closing}
+use Rattle.mm_outline.proofs.BlocksLaw.{depth_at_end, depth_after_other, depth_after_opening}
+use Rattle.mm_outline.proofs.BlocksLaw.{depth_after_closing}
 use Rattle.mm_outline.specs.declared.parts.Kind.{Kind}
 use Rattle.mm_outline.specs.declared.parts.Kind.TheVariants as kind
 use Rattle.mm_outline.specs.NextStatement.{Leads, tokens_from}
 use Rattle.mm_outline.specs.Statements.{lexed, end_fault_of}
 use Rattle.mm_outline.specs.declared.parts.Part.{Part}
 use Rattle.mm_outline.specs.declared.parts.Part.TheVariants.{Start, Labelled, Words, Formula, Proof}
-use Rattle.mm_outline.proofs.LeadsLaw.{leads_then}
+use Rattle.mm_outline.proofs.LeadsLaw.{leads_one_after_other}
 use Rattle.mm_spec.proofs.ShapeLaw.{count_of_list_and_last}
 
 pub record IsReadTo (text : List ℕ) (ws : List Word) (db : List Statement)
@@ -146,7 +147,7 @@ inside_block text ws db deep at r s d us l e =
     let o : count_by is_opening (db ++ s ∷ []) ≡ count_by is_opening db + 0 =
     count_of_list_and_last is_opening db s
     ∙ ap (λ b. count_by is_opening db + cond b 1 0) (not_both s e) in
-    let same = depth_end db s in
+    let same = depth_at_end db s in
     omega (arith, n, c, o, same)
   where
     take_one : (db : List Statement) (s : Statement) (more : List Statement)
@@ -182,25 +183,26 @@ depth_is : (text : List ℕ) (ws : List Word) (db : List Statement) (b : BlockLi
     → depth_after k (depth db (length db))
     ≡ depth (db ++ statement_between text ws k w m e ∷ []) (length db + 1)
 depth_is text ws db b x few kind.Open w m e =
-    (let y = depth_opening db (statement_between text ws kind.Open w m e) b x few refl refl in omega
+    (let y = depth_after_opening db (statement_between text ws kind.Open w m e) b x few refl refl in
+    omega
     (arith, y))
 depth_is text ws db b x few kind.Close w m e =
-    sym (depth_closing db (statement_between text ws kind.Close w m e) b x few refl refl
+    sym (depth_after_closing db (statement_between text ws kind.Close w m e) b x few refl refl
     ∙ less_one_is (depth db (length db)))
 depth_is text ws db b x few kind.Constants w m e =
-    sym (depth_plain db (statement_between text ws kind.Constants w m e) b x few refl refl)
+    sym (depth_after_other db (statement_between text ws kind.Constants w m e) b x few refl refl)
 depth_is text ws db b x few kind.Variables w m e =
-    sym (depth_plain db (statement_between text ws kind.Variables w m e) b x few refl refl)
+    sym (depth_after_other db (statement_between text ws kind.Variables w m e) b x few refl refl)
 depth_is text ws db b x few kind.Disjoint w m e =
-    sym (depth_plain db (statement_between text ws kind.Disjoint w m e) b x few refl refl)
+    sym (depth_after_other db (statement_between text ws kind.Disjoint w m e) b x few refl refl)
 depth_is text ws db b x few kind.Floating w m e =
-    sym (depth_plain db (statement_between text ws kind.Floating w m e) b x few refl refl)
+    sym (depth_after_other db (statement_between text ws kind.Floating w m e) b x few refl refl)
 depth_is text ws db b x few kind.Essential w m e =
-    sym (depth_plain db (statement_between text ws kind.Essential w m e) b x few refl refl)
+    sym (depth_after_other db (statement_between text ws kind.Essential w m e) b x few refl refl)
 depth_is text ws db b x few kind.Axiom w m e =
-    sym (depth_plain db (statement_between text ws kind.Axiom w m e) b x few refl refl)
+    sym (depth_after_other db (statement_between text ws kind.Axiom w m e) b x few refl refl)
 depth_is text ws db b x few kind.Theorem w m e =
-    sym (depth_plain db (statement_between text ws kind.Theorem w m e) b x few refl refl)
+    sym (depth_after_other db (statement_between text ws kind.Theorem w m e) b x few refl refl)
 
 pub reading_more : (text : List ℕ) (ws : List Word) (db : List Statement) (deep at : ℕ)
     → IsReadTo text ws db deep at → length ws < 2 ^ 31 → (b : BlockLists) → IsBlocks db b
@@ -211,7 +213,7 @@ pub reading_more : (text : List ℕ) (ws : List Word) (db : List Statement) (dee
     (statement_between text ws k w m e))
     → IsReadTo text ws (db ++ statement_between text ws k w m e ∷ []) (depth_after k deep) (e + 1)
 reading_more text ws db deep at r small b x k w m e later within l f = record {
-  leads = leads_then r.leads l;
+  leads = leads_one_after_other r.leads l;
   within = omega (arith, within);
   few = let n = r.few in omega (arith, n, long, later);
   shallow = after_le k deep at e r.shallow later;

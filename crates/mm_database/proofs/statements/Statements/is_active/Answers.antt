@@ -7,7 +7,7 @@ use Rattle.mm_spec.specs.Scope.{is_active}
 use Rattle.mm_outline.specs.Blocks.{end_of}
 use Rattle.mm_outline.specs.Parts.{statement_of}
 use Rattle.mm_outline.specs.Statements.{active_kind}
-use Rattle.mm_outline.proofs.ActiveLaw.{active_is}
+use Rattle.mm_outline.proofs.ActiveLaw.{active_test_is_activity}
 use Rattle.mm_database.specs.ParsedStatements.{ParsedStatements}
 use Rattle.mm_database.proofs.DatabaseLaw.{has_outline}
 use Rattle.mm_database.proofs.statements.Statements.is_active.Goals as goal
@@ -26,7 +26,8 @@ returns-then-statement-at g c =
     let at = c.requires.at in
     let k_le_length_os : k ≤ length os = omega (arith, n, m, at) in
     let there = has_outline f.text.now ws os b _ c.self.view_is j c.requires.statement in
-    let law = active_is f.text.now ws os b c.self.invariant.blocks j k there k_le_length_os o in
+    let law =
+    active_test_is_activity f.text.now ws os b c.self.invariant.blocks j k there k_le_length_os o in
     let test : (nat_lt j k && active_kind (get_or os j o).kind (nat_le k (end_of b j)))
     ≡ active_kind o.kind (nat_le k (end_of b j)) =
     ap₂ (λ t p. t && active_kind p.kind (nat_le k (end_of b j))) (lt-ltb j k c.if-statement-at.true)

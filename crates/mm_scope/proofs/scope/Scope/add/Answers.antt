@@ -6,7 +6,7 @@ use Rattle.mm_scope.proofs.scope.Scope.add.Goals as goal
 
 pub push-requires-clause-few_blocks : goal.push-requires-clause-few_blocks
 push-requires-clause-few_blocks g c =
-    let k = c.requires.keeps.1.blocks.few in
+    let k = c.requires.keeps.1.blocks.ends_le_statements in
     let m = c.requires.keeps.2 in
     omega (arith, k, m)
 
