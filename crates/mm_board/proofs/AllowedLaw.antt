@@ -81,14 +81,14 @@ claim_allowed n slots id me n_is_bounded nothing_open is_not_over share_is_posit
     )
   where
     count_is_n : me.0.count ≡ n
-    count = count_is n s r id me.0 me.0 has_view share_is_positive
+    count_is_n = count_is n s r id me.0 me.0 has_view share_is_positive
 
     rule_by_claim_word : (x : ℕ) → x ≡ get_or s.words 0 0 → (x < n) ⊎ (n ≤ x)
         → MeetsRule n (stepped s 0 (x + 1) id me.1 (after_claim me.0 x) keeps)
     rule_by_claim_word x x_is_word (inl x_lt_n) =
         let view_is : after_claim me.0 x ≡ record (me.0) { open_number = Some x } =
         ap (λ (b : Bool). cond b (record (me.0) { open_number = Some x })
-        (record (me.0) { over = true })) (lt-ltb x me.0.count (let count_is_n = count_is_n in
+        (record (me.0) { over = true })) (lt-ltb x me.0.count (let counts_equal = count_is_n in
         omega arith)) in
         subst (λ (w : View). MeetsRule n (stepped s 0 (x + 1) id me.1 w keeps)) (sym view_is)
         (claim_word_step_keeps_rule n s r id me.0 _ has_view share_is_positive (x + 1)
@@ -99,7 +99,7 @@ claim_allowed n slots id me n_is_bounded nothing_open is_not_over share_is_posit
     rule_by_claim_word x x_is_word (inr n_le_x) =
         let view_is : after_claim me.0 x ≡ record (me.0) { over = true } =
         ap (λ (b : Bool). cond b (record (me.0) { open_number = Some x })
-        (record (me.0) { over = true })) (le-ltb x me.0.count (let count_is_n = count_is_n in
+        (record (me.0) { over = true })) (le-ltb x me.0.count (let counts_equal = count_is_n in
         omega arith)) in
         subst (λ (w : View). MeetsRule n (stepped s 0 (x + 1) id me.1 w keeps)) (sym view_is)
         (claim_word_step_keeps_rule n s r id me.0 _ has_view share_is_positive (x + 1)

@@ -273,22 +273,22 @@ module _ (db : List Statement) (s : Statement) (b : BlockLists) (is_blocks : IsB
                 (rw (old_block_of_is_kept j j_lt_length)
                 (omega (arith, ended_before.0, ended_before.1, length_more db s)))
 
-        open_up_to_its_end : (j has_end : ℕ) → j < has_end → has_end ≤ length (more db s)
-            → is_block_open (more db s) j has_end
-            ≡ nat_le has_end (end_of (block_lists of_more ends opens) j)
-        open_up_to_its_end j has_end j_lt_k k_le_length =
-            open_by_order (cases_lt (length db) has_end)
+        open_up_to_its_end : (j k : ℕ) → j < k → k ≤ length (more db s)
+            → is_block_open (more db s) j k
+            ≡ nat_le k (end_of (block_lists of_more ends opens) j)
+        open_up_to_its_end j k j_lt_k k_le_length =
+            open_by_order (cases_lt (length db) k)
           where
-            open_up_to_old_end : j < length db → has_end ≤ length db → Becomes j
-                → nat_le has_end (end_of b j) ≡ nat_le has_end (get_or ends (get_or b.block_of j 0) 0)
+            open_up_to_old_end : j < length db → k ≤ length db → Becomes j
+                → nat_le k (end_of b j) ≡ nat_le k (get_or ends (get_or b.block_of j 0) 0)
             open_up_to_old_end j_lt_length k_le_length (inl (was_unended, inl is_open)) =
-                ap (nat_le has_end) (was_unended ∙ sym is_open.0)
+                ap (nat_le k) (was_unended ∙ sym is_open.0)
             open_up_to_old_end j_lt_length k_le_length (inl (was_unended, inr is_closed)) =
-                le-leb has_end (end_of b j) (omega (arith, was_unended, length_lt_never))
-                ∙ sym (le-leb has_end (get_or ends (get_or b.block_of j 0) 0)
+                le-leb k (end_of b j) (omega (arith, was_unended, length_lt_never))
+                ∙ sym (le-leb k (get_or ends (get_or b.block_of j 0) 0)
                 (omega (arith, is_closed.0)))
             open_up_to_old_end j_lt_length k_le_length (inr ended_before) =
-                ap (nat_le has_end) (sym ended_before.1)
+                ap (nat_le k) (sym ended_before.1)
 
             open_after_old : (j_lt_length : j < length db) → Becomes j
                 → (is_block_open db j (length db)
@@ -328,7 +328,7 @@ module _ (db : List Statement) (s : Statement) (b : BlockLists) (is_blocks : IsB
                 ∙ sym (lt-leb (length db + 1) (get_or ends (innermost b.open_blocks) 0)
                 (omega (arith, is_closed.0)))
 
-            open_at_last : (j < length db) ⊎ (length db ≤ j) → has_end ≡ length db + 1
+            open_at_last : (j < length db) ⊎ (length db ≤ j) → k ≡ length db + 1
                 → is_block_open (more db s) j (length db + 1)
                 ≡ nat_le (length db + 1) (end_of (block_lists of_more ends opens) j)
             open_at_last (inl j_order) k_is_end =
@@ -344,11 +344,11 @@ module _ (db : List Statement) (s : Statement) (b : BlockLists) (is_blocks : IsB
                 ∙ ap (λ q. nat_le (length db + 1) (get_or ends q 0))
                 (sym new_block_of_is_innermost))
 
-            open_by_order : (length db < has_end) ⊎ (has_end ≤ length db)
-                → is_block_open (more db s) j has_end
-                ≡ nat_le has_end (end_of (block_lists of_more ends opens) j)
+            open_by_order : (length db < k) ⊎ (k ≤ length db)
+                → is_block_open (more db s) j k
+                ≡ nat_le k (end_of (block_lists of_more ends opens) j)
             open_by_order (inl k_order) =
-                let k_is_end : has_end ≡ length db + 1 =
+                let k_is_end : k ≡ length db + 1 =
                 omega (arith, k_le_length, k_order, length_more db s) in
                 subst
                 (λ k. is_block_open (more db s) j k
@@ -356,10 +356,10 @@ module _ (db : List Statement) (s : Statement) (b : BlockLists) (is_blocks : IsB
                 (sym k_is_end) (open_at_last (cases_lt j (length db)) k_is_end)
             open_by_order (inr k_order) =
                 let j_lt_length : j < length db = omega arith in
-                open_before_is_kept db s j has_end j_lt_k k_order
-                ∙ is_blocks.open_up_to_end j has_end j_lt_k k_order
+                open_before_is_kept db s j k j_lt_k k_order
+                ∙ is_blocks.open_up_to_end j k j_lt_k k_order
                 ∙ open_up_to_old_end j_lt_length k_order (grows.old_blocks_become j j_lt_length)
-                ∙ ap (λ q. nat_le has_end (get_or ends q 0))
+                ∙ ap (λ q. nat_le k (get_or ends q 0))
                 (sym (old_block_of_is_kept j j_lt_length))
 
   -- the count of blocks after the statement
@@ -449,15 +449,15 @@ module _ (db : List Statement) (s : Statement) (b : BlockLists) (is_blocks : IsB
             omega (arith, brackets.0, brackets.1, closings_le_openings_before);
         stack_size_is =
             length-append b.open_blocks (length b.ends ∷ [])
-            ∙ (let stack_fact = is_blocks.stack_size_is in omega (arith, stack_fact, depth_is));
+            ∙ (let stack_size_before = is_blocks.stack_size_is in omega (arith, stack_size_before, depth_is));
         ends_only_grow = omega (arith, ends_have_one_more);
         ends_le_next =
             let brackets = is_blocks.ends_le_statements in
             omega (arith, brackets, ends_have_one_more);
         open_blocks_have_ends =
             λ l l_lt_longer. holds_of_each (λ k. k < length ends) l l_lt_longer
-            (λ l_lt_old. let stack_fact = is_blocks.open_blocks_have_ends l l_lt_old in
-            omega (arith, stack_fact, ends_have_one_more)) (omega (arith, ends_have_one_more));
+            (λ l_lt_old. let block_has_end = is_blocks.open_blocks_have_ends l l_lt_old in
+            omega (arith, block_has_end, ends_have_one_more)) (omega (arith, ends_have_one_more));
         open_blocks_are_unended =
             λ l l_lt_longer. holds_of_each (λ k. get_or ends k 0 ≡ never) l l_lt_longer
             (λ l_lt_old. old_ends_are_kept (get_or b.open_blocks l 0)
@@ -474,7 +474,7 @@ module _ (db : List Statement) (s : Statement) (b : BlockLists) (is_blocks : IsB
                   ∙ innermost_is_unended,
               omega (arith, depth_is),
               old_opens_are_kept (depth db (length db))
-                  (let stack_fact = is_blocks.stack_size_is in omega (arith, stack_fact))
+                  (let stack_size_before = is_blocks.stack_size_is in omega (arith, stack_size_before))
                   ∙ sym innermost_is_at_depth,
             );
       })
@@ -488,16 +488,16 @@ module _ (db : List Statement) (s : Statement) (b : BlockLists) (is_blocks : IsB
       ends_have_one_more : length (b.ends ++ never ∷ []) ≡ length b.ends + 1
       ends_have_one_more = length-append b.ends (never ∷ [])
 
-      old_ends_are_kept : (stack_fact : ℕ) → stack_fact < length b.ends
-          → get_or (b.ends ++ never ∷ []) stack_fact 0 ≡ get_or b.ends stack_fact 0
-      old_ends_are_kept stack_fact k_lt_length =
-          get_or_append_left b.ends (never ∷ []) 0 stack_fact k_lt_length
+      old_ends_are_kept : (k : ℕ) → k < length b.ends
+          → get_or (b.ends ++ never ∷ []) k 0 ≡ get_or b.ends k 0
+      old_ends_are_kept k k_lt_length =
+          get_or_append_left b.ends (never ∷ []) 0 k k_lt_length
 
-      old_opens_are_kept : (stack_fact : ℕ) → stack_fact < length b.open_blocks
-          → get_or (b.open_blocks ++ length b.ends ∷ []) stack_fact 0 ≡ get_or b.open_blocks
-          stack_fact 0
-      old_opens_are_kept stack_fact k_lt_length =
-          get_or_append_left b.open_blocks (length b.ends ∷ []) 0 stack_fact k_lt_length
+      old_opens_are_kept : (k : ℕ) → k < length b.open_blocks
+          → get_or (b.open_blocks ++ length b.ends ∷ []) k 0 ≡ get_or b.open_blocks
+          k 0
+      old_opens_are_kept k k_lt_length =
+          get_or_append_left b.open_blocks (length b.ends ∷ []) 0 k k_lt_length
 
       holds_of_each : (P : ℕ → Type 0) (l : ℕ) → l < length (b.open_blocks ++ length b.ends ∷ [])
           → (l < length b.open_blocks → P (get_or b.open_blocks l 0)) → P (length b.ends)
@@ -629,18 +629,18 @@ module _ (db : List Statement) (s : Statement) (b : BlockLists) (is_blocks : IsB
           (let stack_size_before = is_blocks.stack_size_is in omega (arith, stack_size_before)) in
           omega (arith, blocks_rise, is_innermost)
 
-      becomes_by_end : (l_lt_shorter_too : ℕ) → l_lt_shorter_too < length db
-          → (end_of b l_lt_shorter_too ≡ never) ⊎ (end_of b l_lt_shorter_too < length db)
-          → Becomes ends opens l_lt_shorter_too
-      becomes_by_end l_lt_shorter_too j_lt_length (inl is_unended) =
-          becomes_by_case (cases_eq (get_or b.block_of l_lt_shorter_too 0) (innermost b.open_blocks))
-          (is_blocks.unended_is_on_stack l_lt_shorter_too j_lt_length is_unended)
+      becomes_by_end : (j : ℕ) → j < length db
+          → (end_of b j ≡ never) ⊎ (end_of b j < length db)
+          → Becomes ends opens j
+      becomes_by_end j j_lt_length (inl is_unended) =
+          becomes_by_case (cases_eq (get_or b.block_of j 0) (innermost b.open_blocks))
+          (is_blocks.unended_is_on_stack j j_lt_length is_unended)
         where
-          becomes_by_case : (get_or b.block_of l_lt_shorter_too 0 ≡ innermost b.open_blocks)
-              ⊎ (get_or b.block_of l_lt_shorter_too 0 ≢ innermost b.open_blocks)
-              → (depth db l_lt_shorter_too ≤ depth db (length db))
-              × (get_or b.open_blocks (depth db l_lt_shorter_too) 0 ≡ get_or b.block_of l_lt_shorter_too
-              0) → Becomes ends opens l_lt_shorter_too
+          becomes_by_case : (get_or b.block_of j 0 ≡ innermost b.open_blocks)
+              ⊎ (get_or b.block_of j 0 ≢ innermost b.open_blocks)
+              → (depth db j ≤ depth db (length db))
+              × (get_or b.open_blocks (depth db j) 0 ≡ get_or b.block_of j
+              0) → Becomes ends opens j
           becomes_by_case (inl innermost_or_not) on_stack =
               inl (
                 is_unended,
@@ -649,17 +649,17 @@ module _ (db : List Statement) (s : Statement) (b : BlockLists) (is_blocks : IsB
                       ∙ get_or-set_same b.ends (innermost b.open_blocks) (length b.block_of) 0
                       innermost_has_end
                       ∙ is_blocks.count,
-                  depth_falls_below (cases_lt (depth db l_lt_shorter_too) (depth db (length db))),
+                  depth_falls_below (cases_lt (depth db j) (depth db (length db))),
                 ),
               )
             where
-              depth_falls_below : (depth db l_lt_shorter_too < depth db (length db)) ⊎
-                  (depth db (length db) ≤ depth db l_lt_shorter_too)
-                  → depth (more db s) (length db + 1) < depth db l_lt_shorter_too
+              depth_falls_below : (depth db j < depth db (length db)) ⊎
+                  (depth db (length db) ≤ depth db j)
+                  → depth (more db s) (length db + 1) < depth db j
               depth_falls_below (inl depth_order) =
                   absurd (let stack_size_before = is_blocks.stack_size_is in
                   let blocks_rise =
-                  is_blocks.open_blocks_rise (depth db l_lt_shorter_too) (depth db (length db))
+                  is_blocks.open_blocks_rise (depth db j) (depth db (length db))
                   depth_order (omega (arith, stack_size_before)) in
                   omega (arith, blocks_rise, on_stack.1, innermost_or_not, innermost_is_at_depth))
               depth_falls_below (inr depth_order) =
@@ -668,30 +668,30 @@ module _ (db : List Statement) (s : Statement) (b : BlockLists) (is_blocks : IsB
           becomes_by_case (inr innermost_or_not) on_stack =
               let stack_size_before = is_blocks.stack_size_is in
               let depth_is = depth_after_closing is_no_opening is_closing_s in
-              let depths_differ : depth db l_lt_shorter_too ≢ depth db (length db) =
+              let depths_differ : depth db j ≢ depth db (length db) =
               λ z. innermost_or_not
               (sym on_stack.1 ∙ ap (λ i. get_or b.open_blocks i 0) z ∙ sym innermost_is_at_depth) in
               let depth_le = on_stack.0 in
-              let depth_lt : depth db l_lt_shorter_too < depth db (length db) =
+              let depth_lt : depth db j < depth db (length db) =
               omega (arith, depth_le, depths_differ) in
               inl (
                 is_unended,
                 inl (
-                  get_or-set_other b.ends (innermost b.open_blocks) (get_or b.block_of l_lt_shorter_too 0)
+                  get_or-set_other b.ends (innermost b.open_blocks) (get_or b.block_of j 0)
                       (length b.block_of) 0 innermost_or_not
                       ∙ is_unended,
                   omega (arith, depth_is, depth_lt),
-                  kept_opens_are_equal (depth db l_lt_shorter_too)
+                  kept_opens_are_equal (depth db j)
                       (omega (arith, depth_lt, stack_size_before, opens_have_one_less))
                       ∙ on_stack.1,
                 ),
               )
-      becomes_by_end l_lt_shorter_too j_lt_length (inr ended_before) =
+      becomes_by_end j j_lt_length (inr ended_before) =
           inr (
             ended_before,
-            get_or-set_other b.ends (innermost b.open_blocks) (get_or b.block_of l_lt_shorter_too 0)
+            get_or-set_other b.ends (innermost b.open_blocks) (get_or b.block_of j 0)
             (length b.block_of) 0
-                (λ is_innermost. let is_unended : end_of b l_lt_shorter_too
+                (λ is_innermost. let is_unended : end_of b j
                 ≡ never = ap (λ k. get_or b.ends k 0) is_innermost ∙ innermost_is_unended in
                 omega (arith, is_unended, ended_before, length_lt_never)),
           )

@@ -24,7 +24,7 @@ nothing_read_leads_to_itself r us = record { statements = refl; stop = refl; res
 pub leads_one_after_other : {r q p : Progress} {us vs ws : List Token}
     {row later_row : List Statement}
     → Leads r us row q vs → Leads q vs later_row p ws → Leads r us (row ++ later_row) p ws
-leads_one_after_other {row = row} {more = later_row} first_leads second_leads =
+leads_one_after_other {row = row} {later_row = later_row} first_leads second_leads =
     grind (arith, common_steps, append_assoc)
 
 pub tokens_from_begin_with : (text : List ℕ) (ws : List Word) (i : ℕ) → i < length ws

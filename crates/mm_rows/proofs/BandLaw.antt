@@ -180,7 +180,7 @@ next_byte_is_written across bits byte_index bytes first n n_lt_64 written_before
   later_are_zero =
       λ k next_le_k k_lt_64. let k_is_not_n : k ≡ n → ⊥ = λ k_is_n. omega arith in
       get_or-set_other bytes n k byte 0 k_is_not_n
-      ∙ written_before.later_are_zero k (omega arith) lt;
+      ∙ written_before.later_are_zero k (omega arith) k_lt_64;
 }
   where
     byte : ℕ

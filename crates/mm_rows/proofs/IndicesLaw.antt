@@ -36,7 +36,7 @@ next_is_indexed list indices n is_statement_list n_lt_length statement_in_room i
 }
   where
     indices_after : List ℕ
-    new = slice_set indices (get_or list n 0) n
+    indices_after = slice_set indices (get_or list n 0) n
 
     index_of_new : get_or indices_after (get_or list n 0) NO_INDEX ≡ n
     index_of_new = get_or-set_same indices (get_or list n 0) n NO_INDEX statement_in_room

@@ -52,7 +52,7 @@ pub wave_with_citation : (c : Citing) (waves : List ℕ) (i : ℕ) (cited : List
     → (r < length waves) × WaveTo c waves i cited (n + 1) (max wave (get_or waves r 0 + 1))
 wave_with_citation c waves i cited n wave r is_file_order i_lt_theorems are_waves n_lt_length
     r_lt_theorems
-    theorem_is_cited wave_before = (
+    r_is_cited wave_before = (
   let size_is = are_waves.size in let r_lt_i = r_is_earlier in
       omega (arith, size_is, r_lt_i),
   wave_by_longer (cases_lt wave (get_or waves r 0 + 1)),
@@ -63,7 +63,7 @@ wave_with_citation c waves i cited n wave r is_file_order i_lt_theorems are_wave
 
     r_is_earlier : r < i
     r_is_earlier = earlier_row c i r n is_file_order i_lt_theorems listed r_lt_theorems
-        (theorem_is_cited ∙ ap (λ xs. get_or xs n 0) wave_before.cited_are_list)
+        (r_is_cited ∙ ap (λ xs. get_or xs n 0) wave_before.cited_are_list)
 
     cites : HasCitation c (theorem_at c i) (theorem_at c r)
     cites =
@@ -73,7 +73,7 @@ wave_with_citation c waves i cited n wave r is_file_order i_lt_theorems are_wave
           within = i_lt_theorems;
           listed = listed;
           theorem = refl;
-          cited = sym (theorem_is_cited ∙ ap (λ xs. get_or xs n 0) wave_before.cited_are_list);
+          cited = sym (r_is_cited ∙ ap (λ xs. get_or xs n 0) wave_before.cited_are_list);
         }
 
     longer_chain : TheoremChain (HasCitation c) (IsCitingTheorem c) (theorem_at c i)
@@ -81,22 +81,22 @@ wave_with_citation c waves i cited n wave r is_file_order i_lt_theorems are_wave
     longer_chain =
         (theorem_at c r, cites, (r, r_lt_theorems, refl), (are_waves.each r r_is_earlier).0)
 
-    next_is_above : (x : ℕ) → wave ≤ x → get_or waves r 0 + 1 ≤ x → (m size_is : ℕ) → m < n + 1
-        → size_is < length c.theorems → theorem_at c size_is ≡ get_or cited m 0 → get_or waves
-        size_is 0 + 1 ≤ x
-    next_is_above x wave_le_x x_above_r m size_is m_lt_next s_lt_theorems theorem_is_cited =
+    next_is_above : (x : ℕ) → wave ≤ x → get_or waves r 0 + 1 ≤ x → (m s : ℕ) → m < n + 1
+        → s < length c.theorems → theorem_at c s ≡ get_or cited m 0 → get_or waves
+        s 0 + 1 ≤ x
+    next_is_above x wave_le_x x_above_r m s m_lt_next s_lt_theorems theorem_is_cited =
         above_by_place (cases_eq m n)
       where
-        above_by_place : (m ≡ n) ⊎ (m ≡ n → ⊥) → get_or waves size_is 0 + 1 ≤ x
+        above_by_place : (m ≡ n) ⊎ (m ≡ n → ⊥) → get_or waves s 0 + 1 ≤ x
         above_by_place (inl m_is_or_not_n) =
-            let s_is_r : size_is ≡ r =
-            index_is_unique c.theorems size_is r is_file_order.rising s_lt_theorems r_lt_theorems
+            let s_is_r : s ≡ r =
+            index_is_unique c.theorems s r is_file_order.rising s_lt_theorems r_lt_theorems
             (theorem_is_cited ∙ ap (λ k. get_or cited k 0) m_is_or_not_n
-            ∙ sym theorem_is_cited) in
+            ∙ sym r_is_cited) in
             subst (λ k. get_or waves k 0 + 1 ≤ x) (sym s_is_r) x_above_r
         above_by_place (inr m_is_or_not_n) =
             let wave_is_above_cited =
-            wave_before.wave_is_above m size_is (omega arith) s_lt_theorems theorem_is_cited in
+            wave_before.wave_is_above m s (omega arith) s_lt_theorems theorem_is_cited in
             omega (arith, wave_is_above_cited, wave_le_x)
 
     wave_by_longer : (wave < get_or waves r 0 + 1) ⊎ (get_or waves r 0 + 1 ≤ wave)
@@ -293,16 +293,16 @@ sorted_rows_are_by_wave waves ps qs pairs_have_waves each_row_has_pair is_permut
         (λ (p : ℕ × ℕ). (p.1 < length waves) × (get_or waves p.1 0 ≡ p.0)) ps qs is_permutation
         pairs_have_waves
 
-    pair_exists : (i_lt_pairs : ℕ) → i_lt_pairs < length (map (λ (p : ℕ × ℕ). p.1) qs)
-        → i_lt_pairs < length qs
-    pair_exists i_lt_pairs k_lt_rows =
-        subst (λ n. i_lt_pairs < n) (length-map qs (λ (p : ℕ × ℕ). p.1)) k_lt_rows
+    pair_exists : (k : ℕ) → k < length (map (λ (p : ℕ × ℕ). p.1) qs)
+        → k < length qs
+    pair_exists k k_lt_rows =
+        subst (λ n. k < n) (length-map qs (λ (p : ℕ × ℕ). p.1)) k_lt_rows
 
-    entry_has_wave : (i_lt_pairs : ℕ) → i_lt_pairs < length (map (λ (p : ℕ × ℕ). p.1) qs)
-        → ((get_or qs i_lt_pairs (0, 0)).1 < length waves)
-        × (get_or waves (get_or qs i_lt_pairs (0, 0)).1 0 ≡ (get_or qs i_lt_pairs (0, 0)).0)
-    entry_has_wave i_lt_pairs k_lt_rows =
-        sorted_pairs_have_waves i_lt_pairs (0, 0) (pair_exists i_lt_pairs k_lt_rows)
+    entry_has_wave : (k : ℕ) → k < length (map (λ (p : ℕ × ℕ). p.1) qs)
+        → ((get_or qs k (0, 0)).1 < length waves)
+        × (get_or waves (get_or qs k (0, 0)).1 0 ≡ (get_or qs k (0, 0)).0)
+    entry_has_wave k k_lt_rows =
+        sorted_pairs_have_waves k (0, 0) (pair_exists k k_lt_rows)
 
 -- ---- the items that a map gives, by their indices
 

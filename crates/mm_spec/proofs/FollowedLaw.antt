@@ -208,8 +208,8 @@ blocks_balance s list d e m later_balance depth_moves_by_s =
     s list)
 
 pub statements_are_followed : (list : List Statement) (d : ℕ) → list_all is_complete list ≡ true
-    → ((closings_le_openings : ℕ) → count_by is_closing
-    (take closings_le_openings list) ≤ d + count_by is_opening (take closings_le_openings list))
+    → ((n : ℕ) → count_by is_closing
+    (take n list) ≤ d + count_by is_opening (take n list))
     → (e : ℕ) × (follow (Some (at_start d)) (flat_map spelling_of list) ≡ Some (at_start e))
     × (e + count_by is_closing list ≡ d + count_by is_opening list)
 statements_are_followed [] d are_complete closings_le_openings = (d, refl, refl)

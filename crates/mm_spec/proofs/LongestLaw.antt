@@ -378,8 +378,8 @@ rest_is_read_on (t ∷ us) r list part is_balanced part_is_read =
 
 statements_are_read : (list : List Statement) (d : ℕ) (ts : List Token)
     → list_all is_complete list ≡ true
-    → ((closings_le_openings : ℕ) → count_by is_closing
-    (take closings_le_openings list) ≤ d + count_by is_opening (take closings_le_openings list))
+    → ((n : ℕ) → count_by is_closing
+    (take n list) ≤ d + count_by is_opening (take n list))
     → (e : ℕ) × (e + count_by is_closing list ≡ d + count_by is_opening list)
     × (statements_from (start d) (flat_map spelling_of list ++ ts)
     ≡ list ++ statements_from (start e) ts)

@@ -35,9 +35,9 @@ pub known_lawful_is_sound : (db : List Statement) (look : List ℕ → Option Sy
     (labels : List ℕ → Option ℕ)
     → (b : BlockLists)
     → KnowsStatements db look labels b → length db < 2 ^ 31
-    → ((known_symbol : ℕ) → known_symbol < length db → scope_fault db known_symbol ≡ None)
-    → ((known_symbol : ℕ) → known_symbol < length db → All (λ s. s < length (symbol_names db))
-    (formula_at db known_symbol))
+    → ((k : ℕ) → k < length db → scope_fault db k ≡ None)
+    → ((k : ℕ) → k < length db → All (λ s. s < length (symbol_names db))
+    (formula_at db k))
     → IsSound db
 known_lawful_is_sound db look labels b knows_statements statements_lt_2_31 lawful
     symbols_have_numbers = record {
@@ -98,5 +98,5 @@ are_symbols db look labels b knows_statements names kinds names_are counts_equal
       let name_is = slice_get-get_or names s [] s_lt_count in
       kinds_are s w name_is ∙ marked_as_known (look w) ∙ sym (knows_statements.symbols w).variable
       ∙ ap (λ o. elim o [ None ↦ false | Some w ↦ is_in w (flat_map variables_of db) ])
-      (sym name_is ∙ ap (λ s_lt_count. slice_get s_lt_count s) names_are);
+      (sym name_is ∙ ap (λ xs. slice_get xs s) names_are);
 }
