@@ -42,22 +42,23 @@ module _ (n c f d : ℕ) (views after : List View) (rule : BoardRule n c f d vie
         record {
           le_count = rule.least.le_count;
           le_each_reported =
-              λ y p. rule.least.le_each_reported y (let k = regroups.reported y in omega arith);
+              λ y occurs. rule.least.le_each_reported y (let totals_equal = regroups.reported y in
+                  omega arith);
           is_count_or_reported = stays_count_or_reported f rule.least.is_count_or_reported;
         };
     settled = rule.settled ∙ sym regroups.settled;
-    skipped = λ x p. rule.skipped x (let k = regroups.skipped x in omega arith);
+    skipped = λ x occurs. rule.skipped x (let totals_equal = regroups.skipped x in omega arith);
     seats =
-        λ seat v e. let o = regroups.seats seat v e in
+        λ seat v has_view. let regrouped_fact = regroups.seats seat v has_view in
         record {
-          count = o.count;
-          floor = o.floor;
-          seen = λ p. stays_count_or_reported v.seen (o.seen p);
-          over = o.over;
-          spent = o.spent;
+          count = regrouped_fact.count;
+          floor = regrouped_fact.floor;
+          seen = λ occurs. stays_count_or_reported v.seen (regrouped_fact.seen occurs);
+          over = regrouped_fact.over;
+          spent = regrouped_fact.spent;
         };
     shares = regroups.shares ∙ rule.shares;
-    bound = let o = regroups.over in let b = rule.bound in omega arith;
+    bound = let regrouped_fact = regroups.over in let claim_word_bound = rule.bound in omega arith;
   }
 
 -- a total after a split
@@ -78,17 +79,21 @@ split_allowed n id v shares_to_give s r has_view = (
     once = λ x. total_after_split (times_recorded x) s.views id v has_view (record_split x);
     lengths =
         total_after_split record_length s.views id v has_view
-        (let a : record_length (after_split v) ≡ record_length v = refl in
-        let b : record_length (new_seat_view v) ≡ 0 = refl in omega arith);
+        (let record_is_kept : record_length (after_split v) ≡ record_length v = refl in
+        let new_record_is_zero : record_length (new_seat_view v) ≡ 0 = refl in omega arith);
     reported =
         λ x. total_after_split (λ u. times_in x u.reported) s.views id v has_view (omega arith);
     settled = total_after_split (λ u. length u.settled) s.views id v has_view (omega arith);
     skipped =
         λ x. total_after_split (λ u. times_in x u.skipped) s.views id v has_view (omega arith);
     shares = total_after_split (λ u. u.share) s.views id v has_view (omega arith);
-    over = let t = total_after_split over_share s.views id v has_view (over_share_split v.over) in
+    over =
+        let over_shares_add_up =
+        total_after_split over_share s.views id v has_view (over_share_split v.over) in
         omega arith;
-    seats = λ seat u e. elim (at_snoc (set s.views id (after_split v)) (new_seat_view v) u seat e) [
+    seats =
+        λ seat u has_view_after.
+        elim (at_snoc (set s.views id (after_split v)) (new_seat_view v) u seat has_view_after) [
       | inl h ↦ elim (at_set s.views id seat (after_split v) u h) [
         | inl p ↦ subst (SeatRule n s.views (get_or s.words 0 0) (get_or s.words 1 0)) p.1
             rule_of_old_seat
@@ -109,7 +114,9 @@ split_allowed n id v shares_to_give s r has_view = (
         let old_seat_keeps_record : times_recorded x (after_split v) ≡ times_recorded x v = refl in
         let new_seat_has_none : times_recorded x (new_seat_view v) ≡ 0 = refl in omega arith
 
-    over_share_split : (b : Bool) → cond b (v.share - 1) 0 + cond b 1 0 ≡ cond b v.share 0
+    over_share_split : (new_record_is_zero : Bool)
+        → cond new_record_is_zero (v.share - 1) 0 + cond new_record_is_zero 1 0
+        ≡ cond new_record_is_zero v.share 0
     over_share_split true = omega arith
     over_share_split false = refl
 
@@ -117,11 +124,11 @@ split_allowed n id v shares_to_give s r has_view = (
     rule_of_old_seat =
         let share_is_positive : 0 < v.share = omega arith in
         record {
-          count = λ p. old_seat_rule.count share_is_positive;
-          floor = λ p. old_seat_rule.floor share_is_positive;
-          seen = λ p. old_seat_rule.seen share_is_positive;
+          count = λ share_is_positive_there. old_seat_rule.count share_is_positive;
+          floor = λ share_is_positive_there. old_seat_rule.floor share_is_positive;
+          seen = λ share_is_positive_there. old_seat_rule.seen share_is_positive;
           over = old_seat_rule.over;
-          spent = λ e. absurd (omega arith);
+          spent = λ has_view_after. absurd (omega arith);
         }
 
     rule_of_new_seat : SeatRule n s.views (get_or s.words 0 0) (get_or s.words 1 0)
@@ -129,11 +136,11 @@ split_allowed n id v shares_to_give s r has_view = (
     rule_of_new_seat =
         let share_is_positive : 0 < v.share = omega arith in
         record {
-          count = λ p. old_seat_rule.count share_is_positive;
-          floor = λ p. old_seat_rule.floor share_is_positive;
-          seen = λ p. old_seat_rule.seen share_is_positive;
+          count = λ share_is_positive_there. old_seat_rule.count share_is_positive;
+          floor = λ share_is_positive_there. old_seat_rule.floor share_is_positive;
+          seen = λ share_is_positive_there. old_seat_rule.seen share_is_positive;
           over = old_seat_rule.over;
-          spent = λ e. absurd (omega arith);
+          spent = λ has_view_after. absurd (omega arith);
         }
 
 -- a total after a join
@@ -178,68 +185,73 @@ join_allowed n id v other_id w nothing_open first_share_positive second_share_po
   r.0,
   rule_regrouped n _ _ _ s.views _ r.1 record {
     once =
-        λ x. let t =
+        λ x. let totals_add_up =
             total_after_join (times_recorded x) s.views id v other_id w has_view other_has_view in
-        let a = times_in_append x v.settled w.settled in
-        let b = times_in_append x v.reported w.reported in
-        let c = times_in_append x v.skipped w.skipped in
-        let e : times_open x w.open_number
-        ≡ 0 = ap (λ (first_seat_rule : Option ℕ). times_open x first_seat_rule) nothing_open in
-        let i : times_recorded x (after_join v w)
+        let first_lists_add_up = times_in_append x v.settled w.settled in
+        let second_lists_add_up = times_in_append x v.reported w.reported in
+        let third_lists_add_up = times_in_append x v.skipped w.skipped in
+        let none_open_in_w : times_open x w.open_number
+        ≡ 0 = ap (λ (number : Option ℕ). times_open x number) nothing_open in
+        let joined_is : times_recorded x (after_join v w)
         ≡ times_open x v.open_number + times_in x (v.settled ++ w.settled)
         + times_in x (v.reported ++ w.reported) + times_in x (v.skipped ++ w.skipped) = refl in
-        let j : times_recorded x v
+        let first_is : times_recorded x v
         ≡ times_open x v.open_number + times_in x v.settled + times_in x v.reported
         + times_in x v.skipped = refl in
-        let second_seat_rule : times_recorded x w
+        let second_is : times_recorded x w
         ≡ times_open x w.open_number + times_in x w.settled + times_in x w.reported
         + times_in x w.skipped = refl in
-        let z : times_recorded x spent_view ≡ 0 = refl in omega arith;
+        let spent_is_zero : times_recorded x spent_view ≡ 0 = refl in omega arith;
     lengths =
-        let t = total_after_join record_length s.views id v other_id w has_view other_has_view in
-        let a = length-append v.settled w.settled in let b = length-append v.reported w.reported in
-        let c = length-append v.skipped w.skipped in
-        let e : open_count w.open_number
-        ≡ 0 = ap (λ (first_seat_rule : Option ℕ). open_count first_seat_rule) nothing_open in
-        let i : record_length (after_join v w)
+        let totals_add_up =
+        total_after_join record_length s.views id v other_id w has_view other_has_view in
+        let first_lists_add_up = length-append v.settled w.settled in
+        let second_lists_add_up = length-append v.reported w.reported in
+        let third_lists_add_up = length-append v.skipped w.skipped in
+        let none_open_in_w : open_count w.open_number
+        ≡ 0 = ap (λ (number : Option ℕ). open_count number) nothing_open in
+        let joined_is : record_length (after_join v w)
         ≡ open_count v.open_number + length (v.settled ++ w.settled)
         + length (v.reported ++ w.reported) + length (v.skipped ++ w.skipped) = refl in
-        let j : record_length v
+        let first_is : record_length v
         ≡ open_count v.open_number + length v.settled + length v.reported
         + length v.skipped = refl in
-        let second_seat_rule : record_length w
+        let second_is : record_length w
         ≡ open_count w.open_number + length w.settled + length w.reported
         + length w.skipped = refl in
-        let z : record_length spent_view ≡ 0 = refl in omega arith;
+        let spent_is_zero : record_length spent_view ≡ 0 = refl in omega arith;
     reported =
-        λ x. let t =
+        λ x. let totals_add_up =
         total_after_join (λ u. times_in x u.reported) s.views id v other_id w has_view
         other_has_view in
-        let a = times_in_append x v.reported w.reported in omega arith;
+        let first_lists_add_up = times_in_append x v.reported w.reported in omega arith;
     settled =
-        let t =
+        let totals_add_up =
         total_after_join (λ u. length u.settled) s.views id v other_id w has_view other_has_view in
-        let a = length-append v.settled w.settled in omega arith;
+        let first_lists_add_up = length-append v.settled w.settled in omega arith;
     skipped =
-        λ x. let t =
+        λ x. let totals_add_up =
         total_after_join (λ u. times_in x u.skipped) s.views id v other_id w has_view
         other_has_view in
-        let a = times_in_append x v.skipped w.skipped in omega arith;
+        let first_lists_add_up = times_in_append x v.skipped w.skipped in omega arith;
     shares =
-        let t = total_after_join (λ u. u.share) s.views id v other_id w has_view other_has_view in
+        let totals_add_up =
+        total_after_join (λ u. u.share) s.views id v other_id w has_view other_has_view in
         omega arith;
     over =
-        let t = total_after_join over_share s.views id v other_id w has_view other_has_view in
-        let e =
+        let totals_add_up =
+        total_after_join over_share s.views id v other_id w has_view other_has_view in
+        let none_open_in_w =
         over_share_joined v.over w.over in
-        let z : over_share spent_view ≡ 0 =
+        let spent_is_zero : over_share spent_view ≡ 0 =
         refl in
-        let i : over_share (after_join v w)
+        let joined_is : over_share (after_join v w)
         ≡ cond (v.over || w.over) (v.share + w.share) 0 = refl in
-        let j : over_share v ≡ cond v.over v.share 0 = refl in
-        let second_seat_rule : over_share w ≡ cond w.over w.share 0 = refl in omega arith;
+        let first_is : over_share v ≡ cond v.over v.share 0 = refl in
+        let second_is : over_share w ≡ cond w.over w.share 0 = refl in omega arith;
     seats =
-        λ seat u e. elim (at_set (set s.views id (after_join v w)) other_id seat spent_view u e) [
+        λ seat u has_view_after.
+        elim (at_set (set s.views id (after_join v w)) other_id seat spent_view u has_view_after) [
       | inl p ↦ subst (SeatRule n s.views (get_or s.words 0 0) (get_or s.words 1 0)) p.1
           rule_of_spent_seat
       | inr p ↦ elim (at_set s.views id seat (after_join v w) u p.1) [
@@ -251,8 +263,9 @@ join_allowed n id v other_id w nothing_open first_share_positive second_share_po
   },
 )
   where
-    over_share_joined : (a b : Bool) → cond a v.share 0 + cond b w.share 0
-        ≤ cond (a || b) (v.share + w.share) 0
+    over_share_joined : (first_lists_add_up second_lists_add_up : Bool)
+        → cond first_lists_add_up v.share 0 + cond second_lists_add_up w.share 0
+        ≤ cond (first_lists_add_up || second_lists_add_up) (v.share + w.share) 0
     over_share_joined true true = omega arith
     over_share_joined true false = omega arith
     over_share_joined false true = omega arith
@@ -273,11 +286,11 @@ join_allowed n id v other_id w nothing_open first_share_positive second_share_po
     rule_of_spent_seat : SeatRule n s.views (get_or s.words 0 0) (get_or s.words 1 0) spent_view
     rule_of_spent_seat =
         record {
-          count = λ p. absurd (omega arith);
-          floor = λ p. absurd (omega arith);
-          seen = λ p. absurd (omega arith);
-          over = λ e. absurd (cc);
-          spent = λ e. record {
+          count = λ share_is_positive. absurd (omega arith);
+          floor = λ share_is_positive. absurd (omega arith);
+          seen = λ share_is_positive. absurd (omega arith);
+          over = λ has_view_after. absurd (cc);
+          spent = λ has_view_after. record {
             nothing_open = refl;
             none_settled = refl;
             none_reported = refl;
@@ -294,21 +307,24 @@ join_allowed n id v other_id w nothing_open first_share_positive second_share_po
         let lesser_is : min v.seen w.seen ≡ w.seen = omega arith in
         rw lesser_is (second_seat_rule.seen second_share_positive)
 
-    either_over : (a b : Bool) → v.over ≡ a → w.over ≡ b → (a || b) ≡ true → n < get_or s.words 0 0
-    either_over true b first_over second_over either_is_over = first_seat_rule.over first_over
+    either_over : (first_lists_add_up second_lists_add_up : Bool) → v.over ≡ first_lists_add_up
+        → w.over ≡ second_lists_add_up → (first_lists_add_up || second_lists_add_up)
+        ≡ true → n < get_or s.words 0 0
+    either_over true second_lists_add_up first_over second_over either_is_over =
+        first_seat_rule.over first_over
     either_over false true first_over second_over either_is_over = second_seat_rule.over second_over
     either_over false false first_over second_over either_is_over = absurd (cc)
 
     rule_of_joined_seat : SeatRule n s.views (get_or s.words 0 0) (get_or s.words 1 0)
         (after_join v w)
     rule_of_joined_seat = record {
-      count = λ p. first_seat_rule.count first_share_positive;
+      count = λ share_is_positive. first_seat_rule.count first_share_positive;
       floor =
-          λ p. let a =
+          λ share_is_positive. let first_lists_add_up =
               first_seat_rule.floor first_share_positive in
-              let b = second_seat_rule.floor second_share_positive in
+              let second_lists_add_up = second_seat_rule.floor second_share_positive in
           omega arith;
-      seen = λ p. seen_of_joined (cases_lt v.seen w.seen);
-      over = λ e. either_over v.over w.over refl refl e;
-      spent = λ e. absurd (omega arith);
+      seen = λ share_is_positive. seen_of_joined (cases_lt v.seen w.seen);
+      over = λ has_view_after. either_over v.over w.over refl refl has_view_after;
+      spent = λ has_view_after. absurd (omega arith);
     }

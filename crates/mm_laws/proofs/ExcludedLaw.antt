@@ -54,7 +54,7 @@ module _ (c : Context) (all_complete : (l : ℕ) → HasCompleteFrame c (c.rule 
           let whole : all ≡ plain_parts.0 ++ l ∷ rest.0 =
           rest.1 ∙ ap (λ z. z ++ rest.0) q.1 ∙ append_assoc plain_parts.0 (l ∷ []) rest.0 in
           let labels : postfix s.forest ≡ plain_parts.0 =
-          s.is
+          s.labels_are
           ∙ plain_lists_are_equal c all_complete s.before [] [] s.labels plain_parts.0 s.plain
           plain_parts.2 in
           stopped_no_forest c all reason

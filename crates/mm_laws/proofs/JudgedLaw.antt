@@ -137,7 +137,7 @@ module _ (c : Context) (all_complete : (l : ℕ) → HasCompleteFrame c (c.rule 
             derivations = m.derivations;
             plain =
                 subst (λ x. Plain c [] [] x (postfix m.forest)) (sym s.same)
-                (subst (λ x. Plain c [] [] m.before x) (sym m.is) m.plain);
+                (subst (λ x. Plain c [] [] m.before x) (sym m.labels_are) m.plain);
             reason = e.reason;
             fails = m.fails;
             is = refl;

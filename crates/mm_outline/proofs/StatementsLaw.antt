@@ -19,8 +19,10 @@ module _ (text : List ℕ) (ws : List Word) where
 -- a statement that is there stands below the length
 pub passing_lt_length : (p : Statement → Bool) (db : List Statement) (k : ℕ)
     → list_any p (statement_at db k) ≡ true → k < length db
-passing_lt_length p [] zero passes_at_k = absurd (let e : false ≡ true = passes_at_k in cc)
-passing_lt_length p [] (suc k) passes_at_k = absurd (let e : false ≡ true = passes_at_k in cc)
+passing_lt_length p [] zero passes_at_k =
+    absurd (let false_is_true : false ≡ true = passes_at_k in cc)
+passing_lt_length p [] (suc k) passes_at_k =
+    absurd (let false_is_true : false ≡ true = passes_at_k in cc)
 passing_lt_length p (s ∷ db) zero passes_at_k = omega arith
 passing_lt_length p (s ∷ db) (suc k) passes_at_k =
     let k_lt_later = passing_lt_length p db k passes_at_k in omega (arith, k_lt_later)

@@ -267,8 +267,8 @@ module _ (db : List Statement) (k : ℕ)
 
       other_byte_is_fault : (b : Bool)
           → ¬ (at g.last.at (elim b [ true ↦ IncompleteProof ∷ [] | false ↦ BadLetter ∷ [] ]) ≡ [])
-      other_byte_is_fault true e = cc
-      other_byte_is_fault false e = cc
+      other_byte_is_fault true no_fault = cc
+      other_byte_is_fault false no_fault = cc
 
       good_by_letter : (a : Bool) → is_last g.last.byte ≡ a → (b : Bool) → (g.last.byte == 90) ≡ b
           → faults_of_group a b ++ faults_of_later_groups b ≡ []

@@ -326,82 +326,98 @@ pub labelled_plain_is_complete : (l : Token) (ws : List Token) → is_label l.wo
 labelled_plain_is_complete l ws is_label_l are_plain =
     ap₂ (λ x y. x && y && true) is_label_l are_plain
 
-next_state_is_reached : (q : State) (ts : List Token) (x : Reads q ts) (t : Token) (k : Class)
+next_state_is_reached : (q : State) (ts : List Token) (read_before : Reads q ts) (t : Token)
+    (k : Class)
     → Meaning k t.word → Reaches (next_state q k t.word) (ts ++ t ∷ [])
-next_state_is_reached (at_start d) ts x t constant_keyword word_has_meaning =
-    read_first_keyword d ts x t (codes "$c") word_has_meaning (constants t.at) (λ ws k. refl)
+next_state_is_reached (at_start d) ts read_before t constant_keyword word_has_meaning =
+    read_first_keyword d ts read_before t (codes "$c") word_has_meaning (constants t.at)
+    (λ ws k. refl)
     (λ ws k are_plain. true_and_true (is_plain ws) are_plain) (λ ws k are_plain. refl)
     (λ ws k. refl)
-next_state_is_reached (at_start d) ts x t variable_keyword word_has_meaning =
-    read_first_keyword d ts x t (codes "$v") word_has_meaning (variables t.at) (λ ws k. refl)
+next_state_is_reached (at_start d) ts read_before t variable_keyword word_has_meaning =
+    read_first_keyword d ts read_before t (codes "$v") word_has_meaning (variables t.at)
+    (λ ws k. refl)
     (λ ws k are_plain. true_and_true (is_plain ws) are_plain) (λ ws k are_plain. refl)
     (λ ws k. refl)
-next_state_is_reached (at_start d) ts x t disjoint_keyword word_has_meaning =
-    read_first_keyword d ts x t (codes "$d") word_has_meaning (disjoint t.at) (λ ws k. refl)
+next_state_is_reached (at_start d) ts read_before t disjoint_keyword word_has_meaning =
+    read_first_keyword d ts read_before t (codes "$d") word_has_meaning (disjoint t.at)
+    (λ ws k. refl)
     (λ ws k are_plain. true_and_true (is_plain ws) are_plain) (λ ws k are_plain. refl)
     (λ ws k. refl)
-next_state_is_reached (at_start d) ts x t open_block word_has_meaning =
-    read_at_start_if_completed d ts x.statements x.part (opening t.at) x.balanced x.is refl
+next_state_is_reached (at_start d) ts read_before t open_block word_has_meaning =
+    read_at_start_if_completed d ts read_before.statements read_before.part (opening t.at)
+    read_before.balanced read_before.tokens_are refl
     (λ are_plain. absurd (true≢false (sym are_plain))) t
-    (ap₂ (λ p v. p ++ token t.at v ∷ []) (sym x.is_part) (sym word_has_meaning)) (suc d) refl
-next_state_is_reached (at_start zero) ts x t close_block word_has_meaning = tt
-next_state_is_reached (at_start (suc d)) ts x t close_block word_has_meaning =
-    read_at_start_if_completed (suc d) ts x.statements x.part (closing t.at) x.balanced x.is refl
+    (ap₂ (λ p v. p ++ token t.at v ∷ []) (sym read_before.is_part) (sym word_has_meaning)) (suc d)
+    refl
+next_state_is_reached (at_start zero) ts read_before t close_block word_has_meaning = tt
+next_state_is_reached (at_start (suc d)) ts read_before t close_block word_has_meaning =
+    read_at_start_if_completed (suc d) ts read_before.statements read_before.part (closing t.at)
+    read_before.balanced read_before.tokens_are refl
     (λ are_plain. omega arith) t
-    (ap₂ (λ p v. p ++ token t.at v ∷ []) (sym x.is_part) (sym word_has_meaning)) d refl
-next_state_is_reached (at_start d) ts x t plain word_has_meaning =
+    (ap₂ (λ p v. p ++ token t.at v ∷ []) (sym read_before.is_part) (sym word_has_meaning)) d refl
+next_state_is_reached (at_start d) ts read_before t plain word_has_meaning =
     reached_by_test (is_label t.word) refl
   where
     reached_by_test : (b : Bool) → is_label t.word ≡ b → Reaches (label_at_start b d) (ts ++ t ∷ [])
     reached_by_test false test_is = tt
     reached_by_test true test_is =
-        read_with_one_more (at_start d) (at_label d) ts x t refl
-        (t, test_is, ap (λ p. p ++ t ∷ []) x.is_part)
-next_state_is_reached (at_label d) ts x t floating_keyword word_has_meaning =
-    read_keyword_after_label d ts x t (codes "$f") word_has_meaning (floating x.is_part.0 t.at)
+        read_with_one_more (at_start d) (at_label d) ts read_before t refl
+        (t, test_is, ap (λ p. p ++ t ∷ []) read_before.is_part)
+next_state_is_reached (at_label d) ts read_before t floating_keyword word_has_meaning =
+    read_keyword_after_label d ts read_before t (codes "$f") word_has_meaning
+    (floating read_before.is_part.0 t.at)
     (λ ws k. refl)
-    (λ ws k are_plain. labelled_plain_is_complete x.is_part.0 ws x.is_part.1 are_plain)
+    (λ ws k are_plain. labelled_plain_is_complete read_before.is_part.0 ws read_before.is_part.1
+    are_plain)
     (λ ws k are_plain. refl)
     (λ ws k. refl)
-next_state_is_reached (at_label d) ts x t essential_keyword word_has_meaning =
-    read_keyword_after_label d ts x t (codes "$e") word_has_meaning (essential x.is_part.0 t.at)
+next_state_is_reached (at_label d) ts read_before t essential_keyword word_has_meaning =
+    read_keyword_after_label d ts read_before t (codes "$e") word_has_meaning
+    (essential read_before.is_part.0 t.at)
     (λ ws k. refl)
-    (λ ws k are_plain. labelled_plain_is_complete x.is_part.0 ws x.is_part.1 are_plain)
+    (λ ws k are_plain. labelled_plain_is_complete read_before.is_part.0 ws read_before.is_part.1
+    are_plain)
     (λ ws k are_plain. refl)
     (λ ws k. refl)
-next_state_is_reached (at_label d) ts x t axiom_keyword word_has_meaning =
-    read_keyword_after_label d ts x t (codes "$a") word_has_meaning (axiomatic x.is_part.0 t.at)
+next_state_is_reached (at_label d) ts read_before t axiom_keyword word_has_meaning =
+    read_keyword_after_label d ts read_before t (codes "$a") word_has_meaning
+    (axiomatic read_before.is_part.0 t.at)
     (λ ws k. refl)
-    (λ ws k are_plain. labelled_plain_is_complete x.is_part.0 ws x.is_part.1 are_plain)
+    (λ ws k are_plain. labelled_plain_is_complete read_before.is_part.0 ws read_before.is_part.1
+    are_plain)
     (λ ws k are_plain. refl)
     (λ ws k. refl)
-next_state_is_reached (at_label d) ts x t theorem_keyword word_has_meaning =
-    read_with_one_more (at_label d) (in_formula d) ts x t refl
+next_state_is_reached (at_label d) ts read_before t theorem_keyword word_has_meaning =
+    read_with_one_more (at_label d) (in_formula d) ts read_before t refl
     (record {
-      label = x.is_part.0;
-      is_labelled = x.is_part.1;
+      label = read_before.is_part.0;
+      is_labelled = read_before.is_part.1;
       keyword = t.at;
       words = [];
       are_plain = refl;
-      is = ap₂ (λ p v. p ++ token t.at v ∷ []) x.is_part.2 word_has_meaning;
+      part_is = ap₂ (λ p v. p ++ token t.at v ∷ []) read_before.is_part.2 word_has_meaning;
     })
-next_state_is_reached (in_symbols d) ts x t plain word_has_meaning =
-    read_with_one_more (in_symbols d) (in_symbols d) ts x t refl
-    (words_part_with_one_more x.part x.is_part t word_has_meaning)
-next_state_is_reached (in_symbols d) ts x t dot word_has_meaning =
-    read_words_to_end d ts x.statements x.part x.is_part x.balanced x.is t word_has_meaning
-next_state_is_reached (in_formula d) ts x t plain word_has_meaning =
-    let part_read = x.is_part in read_with_one_more (in_formula d) (in_formula d) ts x t refl
+next_state_is_reached (in_symbols d) ts read_before t plain word_has_meaning =
+    read_with_one_more (in_symbols d) (in_symbols d) ts read_before t refl
+    (words_part_with_one_more read_before.part read_before.is_part t word_has_meaning)
+next_state_is_reached (in_symbols d) ts read_before t dot word_has_meaning =
+    read_words_to_end d ts read_before.statements read_before.part read_before.is_part
+    read_before.balanced read_before.tokens_are t word_has_meaning
+next_state_is_reached (in_formula d) ts read_before t plain word_has_meaning =
+    let part_read = read_before.is_part in
+    read_with_one_more (in_formula d) (in_formula d) ts read_before t refl
     (record {
       label = part_read.label;
       is_labelled = part_read.is_labelled;
       keyword = part_read.keyword;
       words = part_read.words ++ t ∷ [];
       are_plain = plain_with_one_more part_read.words t part_read.are_plain word_has_meaning;
-      is = ap (λ y. y ++ t ∷ []) part_read.is;
+      part_is = ap (λ y. y ++ t ∷ []) part_read.part_is;
     })
-next_state_is_reached (in_formula d) ts x t equals word_has_meaning =
-    let part_read = x.is_part in read_with_one_more (in_formula d) (in_proof d) ts x t refl
+next_state_is_reached (in_formula d) ts read_before t equals word_has_meaning =
+    let part_read = read_before.is_part in
+    read_with_one_more (in_formula d) (in_proof d) ts read_before t refl
     (record {
       front =
           part_read.label ∷ token part_read.keyword (codes "$part_read")
@@ -418,21 +434,22 @@ next_state_is_reached (in_formula d) ts x t equals word_has_meaning =
           (ap₂ (λ a b. a && b) part_read.is_labelled part_read.are_plain) are_plain;
       keeps_depth = λ ws k are_plain. refl;
       not_closing = λ ws k. refl;
-      is = ap₂ (λ y v. y ++ token t.at v ∷ []) part_read.is word_has_meaning ∙ sym (append-nil _);
+      part_is = ap₂ (λ y v. y ++ token t.at v ∷ []) part_read.part_is word_has_meaning ∙ sym (append-nil _);
     })
-next_state_is_reached (in_proof d) ts x t plain word_has_meaning =
-    read_with_one_more (in_proof d) (in_proof d) ts x t refl
-    (words_part_with_one_more x.part x.is_part t word_has_meaning)
-next_state_is_reached (in_proof d) ts x t dot word_has_meaning =
-    read_words_to_end d ts x.statements x.part x.is_part x.balanced x.is t word_has_meaning
-next_state_is_reached _ ts x t _ word_has_meaning = tt
+next_state_is_reached (in_proof d) ts read_before t plain word_has_meaning =
+    read_with_one_more (in_proof d) (in_proof d) ts read_before t refl
+    (words_part_with_one_more read_before.part read_before.is_part t word_has_meaning)
+next_state_is_reached (in_proof d) ts read_before t dot word_has_meaning =
+    read_words_to_end d ts read_before.statements read_before.part read_before.is_part
+    read_before.balanced read_before.tokens_are t word_has_meaning
+next_state_is_reached _ ts read_before t _ word_has_meaning = tt
 
 pub followed_state_is_reached : (us ts : List Token) (q : State) → Reads q ts
     → Reaches (follow (Some q) us) (ts ++ us)
-followed_state_is_reached [] ts q x = subst (Reads q) (sym (append-nil ts)) x
-followed_state_is_reached (u ∷ us) ts q x =
+followed_state_is_reached [] ts q read_so_far = subst (Reads q) (sym (append-nil ts)) read_so_far
+followed_state_is_reached (u ∷ us) ts q read_so_far =
     reached_by_state (next_state q (class u.word) u.word)
-    (next_state_is_reached q ts x u (class u.word) (class_has_meaning u.word))
+    (next_state_is_reached q ts read_so_far u (class u.word) (class_has_meaning u.word))
     (λ r y. followed_state_is_reached us (ts ++ u ∷ []) r y)
   where
     none_is_reached : (vs : List Token) (all : List Token) → Reaches (follow None vs) all
@@ -480,31 +497,36 @@ words_part_is_beginning d ts list part words_part is_balanced tokens_are =
     ∙ ap (λ y. y ++ token 0 (codes "$.") ∷ []) (sym words_part.part_is))
 
 pub read_tokens_are_beginning : (q : State) (ts : List Token) → Reads q ts → BeginStatements ts
-read_tokens_are_beginning (at_start d) ts x = (
-  x.statements,
-  x.balanced.are_statements,
+read_tokens_are_beginning (at_start d) ts tokens_read = (
+  tokens_read.statements,
+  tokens_read.balanced.are_statements,
   [],
-  sym (append-nil (flat_map spelling_of x.statements))
-      ∙ ap (λ p. flat_map spelling_of x.statements ++ p) (sym x.is_part) ∙ sym x.is
+  sym (append-nil (flat_map spelling_of tokens_read.statements))
+      ∙ ap (λ p. flat_map spelling_of tokens_read.statements ++ p) (sym tokens_read.is_part)
+      ∙ sym tokens_read.tokens_are
       ∙ sym (append-nil ts),
 )
-read_tokens_are_beginning (at_label d) ts x =
-    completed_is_beginning d ts x.statements x.part (axiomatic x.is_part.0 0 [] 0) x.balanced x.is
-    (labelled_plain_is_complete x.is_part.0 [] x.is_part.1 refl)
+read_tokens_are_beginning (at_label d) ts tokens_read =
+    completed_is_beginning d ts tokens_read.statements tokens_read.part
+    (axiomatic tokens_read.is_part.0 0 [] 0) tokens_read.balanced tokens_read.tokens_are
+    (labelled_plain_is_complete tokens_read.is_part.0 [] tokens_read.is_part.1 refl)
     (λ is_closing_s. absurd (true≢false (sym is_closing_s)))
     (token 0 (codes "$a") ∷ token 0 (codes "$.") ∷ [])
-    (ap (λ p. p ++ token 0 (codes "$a") ∷ token 0 (codes "$.") ∷ []) (sym x.is_part.2))
-read_tokens_are_beginning (in_symbols d) ts x =
-    words_part_is_beginning d ts x.statements x.part x.is_part x.balanced x.is
-read_tokens_are_beginning (in_formula d) ts x = let p = x.is_part in
-    completed_is_beginning d ts x.statements x.part (provable p.label p.keyword p.words 0 [] 0)
-    x.balanced x.is
-    (ap₂ (λ a b. a && b && true) p.is_labelled p.are_plain)
+    (ap (λ p. p ++ token 0 (codes "$a") ∷ token 0 (codes "$.") ∷ []) (sym tokens_read.is_part.2))
+read_tokens_are_beginning (in_symbols d) ts tokens_read =
+    words_part_is_beginning d ts tokens_read.statements tokens_read.part tokens_read.is_part
+    tokens_read.balanced tokens_read.tokens_are
+read_tokens_are_beginning (in_formula d) ts tokens_read = let part_read = tokens_read.is_part in
+    completed_is_beginning d ts tokens_read.statements tokens_read.part
+    (provable part_read.label part_read.keyword part_read.words 0 [] 0)
+    tokens_read.balanced tokens_read.tokens_are
+    (ap₂ (λ a b. a && b && true) part_read.is_labelled part_read.are_plain)
     (λ is_closing_s. absurd (true≢false (sym is_closing_s)))
     (token 0 (codes "$=") ∷ token 0 (codes "$.") ∷ [])
-    (ap (λ p. p ++ token 0 (codes "$=") ∷ token 0 (codes "$.") ∷ []) (sym p.is))
-read_tokens_are_beginning (in_proof d) ts x =
-    words_part_is_beginning d ts x.statements x.part x.is_part x.balanced x.is
+    (ap (λ p. p ++ token 0 (codes "$=") ∷ token 0 (codes "$.") ∷ []) (sym part_read.part_is))
+read_tokens_are_beginning (in_proof d) ts tokens_read =
+    words_part_is_beginning d ts tokens_read.statements tokens_read.part tokens_read.is_part
+    tokens_read.balanced tokens_read.tokens_are
 
 pub nothing_is_read : Reads (at_start 0) []
 nothing_is_read =

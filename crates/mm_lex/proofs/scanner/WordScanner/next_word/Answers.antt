@@ -71,7 +71,7 @@ module _ (c : Then-self-stop-eq1) where
       let start_facts = c.in_ok-start.ensures in
       found_bytes_are_word c.args.self.now.text.now c.in_ok-start.start
       (c.next_start.new.self.base + c.first_one-stop.result) start_facts.first.begins
-      (omega (arith, start_facts.first.start_lt_to, c.requires.start_lt_to)) start_le_stop
+      (omega (arith, start_facts.first.start_lt_to, c.requires.within)) start_le_stop
       (omega (arith, (stop_is_white c).0))
       none_white_to_stop (λ _. (stop_is_white c).1)
 
