@@ -154,7 +154,7 @@ module _ (c : Context) (all_complete : (l : ℕ) → HasCompleteFrame c (c.rule 
     plain = s.plain;
     forest = s.forest;
     derivations = s.derivations;
-    is = refl;
+    labels_are = refl;
     fails = s.fails;
   }
     where
