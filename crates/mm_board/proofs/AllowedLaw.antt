@@ -61,7 +61,7 @@ joined_read_allowed n slots id me share_is_positive s r _ has_view _ = (
   (refl, refl, claim_word n s r id me.0 me.0 has_view share_is_positive),
 )
 
-pub claim_allowed : (n slots id : ℕ) (me : TokenState) → n ≤ 2147483648 → me.0.open_number ≡ None
+pub claim_allowed : (n slots id : ℕ) (me : TokenState) → n ≤ 2 ^ 31 → me.0.open_number ≡ None
     → me.0.over ≡ false → 0 < me.0.share
     → Allows (MeetsRule n) slots id me 0 (λ x. (x + 1) % 2 ^ 64)
     (StepTells IsClaimWord after_claim (step slots 0 1 0 none) me)
@@ -182,7 +182,7 @@ report_allowed n slots id i me open_number_is share_is_positive s r _ has_view _
       (refl, refl, floor_word n s r id me.0 me.0 has_view share_is_positive),
     )
 
-pub settle_allowed : (n slots id i : ℕ) (me : TokenState) → n ≤ 2147483648
+pub settle_allowed : (n slots id i : ℕ) (me : TokenState) → n ≤ 2 ^ 31
     → me.0.open_number ≡ Some i → 0 < me.0.share
     → Allows (MeetsRule n) slots id me 2 (λ x. (x + 1) % 2 ^ 64)
     (StepTells IsSettledWord after_settle (step slots 2 1 0 none) me)

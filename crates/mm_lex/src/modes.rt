@@ -15,6 +15,9 @@ use crate::{Fault, TEXT_LIMIT, Word};
 use mm_spec::Role;
 use std::alloc::{AllocError, Allocator};
 
+/// For [`ModeReading::read_word`]: the word isn't known to be plain, so its bytes are tested.
+pub const NOT_KNOWN_PLAIN: bool = false;
+
 /// The comment that is open after a list of words: none, or one that began before them or in them.
 #[derive(Clone, Copy)]
 pub enum CommentState {
@@ -131,7 +134,7 @@ impl<A: Allocator + Copy> ModeReading<A> {
         }
         while let Some(found) = scanner.next_word(to) {
             if !found.is_plain {
-                self.read_word(text, found.word, false)?;
+                self.read_word(text, found.word, NOT_KNOWN_PLAIN)?;
                 if self.fault.is_some() {
                     return Ok(());
                 }

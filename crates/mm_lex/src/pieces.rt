@@ -11,7 +11,7 @@ ghost use Rattle.mm_spec.specs.Lexed.{fault_in, lexical_fault, tokens_of};
 ghost use Rattle.mm_spec.specs.Words.{words_between};
 
 use crate::ends::bounds;
-use crate::modes::{CommentState, ModeReading};
+use crate::modes::{CommentState, ModeReading, NOT_KNOWN_PLAIN};
 use crate::scanner::WordScanner;
 use crate::{Code, Fault, Lexed, TEXT_LIMIT, Word};
 use std::alloc::{AllocError, Allocator};
@@ -255,8 +255,8 @@ fn join_between<A: Allocator + Copy>(
             start: before.tail_start,
             end: after.head_end,
         };
-        outside.read_word(text, word, false)?;
-        inside.read_word(text, word, false)?;
+        outside.read_word(text, word, NOT_KNOWN_PLAIN)?;
+        inside.read_word(text, word, NOT_KNOWN_PLAIN)?;
     }
     outside.append_reading(&after.outside, &after.inside)?;
     inside.append_reading(&after.outside, &after.inside)?;

@@ -2,7 +2,7 @@
 //! lower waves.
 
 ghost use Rattle.std.specs.Prelude.{◌≡◌, ◌<◌, ◌≤◌, ◌+◌, ◌*◌, ℕ, List, length, slice_index};
-ghost use Rattle.std.specs.Prelude.{slice_index_or, IfOk, OnOk, All, true, false};
+ghost use Rattle.std.specs.Prelude.{◌^◌, slice_index_or, IfOk, OnOk, All, true, false};
 ghost use Rattle.std.specs.List.{AllZip, range_with_len};
 ghost use Rattle.mm_rows.specs.Bits.{words_for};
 ghost use Rattle.mm_cites.specs.Citing.{HasCitation, IsStatementList, theorem_at};
@@ -74,7 +74,7 @@ pub fn waves<A: Allocator + Copy>(
 
 /// Returns the rows of all theorems, those of the lowest wave first.
 fn rows_by_wave<A: Allocator + Copy>(alloc: A, waves: &[u32]) -> Result<Vec<u32, A>, AllocError>
-    requires { length waves.now < 2147483648 }
+    requires { length waves.now < 2 ^ 31 }
     ensures { IfOk result (λ v. IsByWave waves.now v.items) }
 {
     let mut pairs = Vec::with_capacity(alloc, waves.len())?;
@@ -253,7 +253,7 @@ fn fill_waves<R: Threads + Sync, A: Allocator + Copy + Send + Sync>(
     bits: &mut [u64],
 ) -> Result<(), AllocError>
     requires theorems { theorems.now ≡ citations.now.theorems }
-    requires small { length waves.now < 2147483648 }
+    requires small { length waves.now < 2 ^ 31 }
     requires waves { AreWaves citations.now (length citations.now.theorems) waves.now }
     requires size { length bits.old
         ≡ length citations.now.theorems * words_for (length columns.now) }

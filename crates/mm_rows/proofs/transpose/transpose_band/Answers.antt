@@ -50,8 +50,8 @@ loop-j-preserved c = record {
       c.args.w n) (omega arith) c.write_columns.ensures;
 }
 
-pub mark_columns-requires-clause-narrow : goal.mark_columns-requires-clause-narrow
-mark_columns-requires-clause-narrow c =
+pub mark_columns-requires-clause-few_words : goal.mark_columns-requires-clause-few_words
+mark_columns-requires-clause-few_words c =
     let width_is = c.requires.width in let columns_lt_2_31 = c.requires.table.few_columns in
     omega (arith, width_is, columns_lt_2_31)
 

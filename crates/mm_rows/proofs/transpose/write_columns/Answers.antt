@@ -114,8 +114,8 @@ overflow_mul-transposed c =
     let products_equal = ap (λ n. c.loop-j.j * n) c.div_ceil-down.ensures in
     omega (arith, word_lt_length, products_equal)
 
-pub row_bytes-bytes-requires-clause-narrow : goal.row_bytes-bytes-requires-clause-narrow
-row_bytes-bytes-requires-clause-narrow c =
+pub row_bytes-bytes-requires-clause-few_words : goal.row_bytes-bytes-requires-clause-few_words
+row_bytes-bytes-requires-clause-few_words c =
     let columns_lt_2_31 = c.requires.table.few_columns in let width_is = c.div_ceil.ensures in
     omega (arith, columns_lt_2_31, width_is)
 
