@@ -88,10 +88,10 @@ impl<A: Allocator + Copy> ModeReading<A> {
     /// Reads one further word. If `is_plain` is true, the word is known to be plain.
     #[inline(always)]
     pub fn read_word(&mut self, text: &[u8], word: Word, is_plain: bool) -> Result<(), AllocError>
-        requires order { word.start ≤ word.end }
-        requires within { word.end ≤ length text.now }
-        requires short { length text.now ≤ TEXT_LIMIT }
-        requires plain { is_plain ≡ true → IsPlainWord (bytes_of text.now word) }
+        requires start_le_end { word.start ≤ word.end }
+        requires end_le_length { word.end ≤ length text.now }
+        requires text_fits_limit { length text.now ≤ TEXT_LIMIT }
+        requires plain_if_known { is_plain ≡ true → IsPlainWord (bytes_of text.now word) }
         ensures { OnOk result
             ((p : ℕ)
             → side_reading p (side self.new)
@@ -120,9 +120,9 @@ impl<A: Allocator + Copy> ModeReading<A> {
         mut scanner: WordScanner<'_>,
         to: usize,
     ) -> Result<(), AllocError>
-        requires same { scanner.text.now ≡ text.now }
-        requires within { to ≤ length text.now }
-        requires short { length text.now ≤ TEXT_LIMIT }
+        requires texts_equal { scanner.text.now ≡ text.now }
+        requires to_le_length { to ≤ length text.now }
+        requires text_fits_limit { length text.now ≤ TEXT_LIMIT }
         ensures { OnOk result
             ((p : ℕ)
             → side_reading p (side self.new)

@@ -76,19 +76,19 @@ loop-scanner-preserved-then-ignores_plain-2 g c =
 
 pub new-scanner-requires : goal.new-scanner-requires
 new-scanner-requires g c =
-    let head_le_tail = c.requires.order in
-    let tail_le_length = c.requires.within in
+    let head_le_tail = c.requires.head_le_tail in
+    let tail_le_length = c.requires.tail_le_length in
     omega (arith, head_le_tail, tail_le_length)
 
-pub next_word-requires-clause-within : goal.next_word-requires-clause-within
-next_word-requires-clause-within g c =
+pub next_word-requires-clause-to_le_length : goal.next_word-requires-clause-to_le_length
+next_word-requires-clause-to_le_length g c =
     subst (λ (t : List ℕ). c.args.tail_start ≤ length t) (sym c.loop-scanner.invariant.texts_equal)
-    c.requires.within
+    c.requires.tail_le_length
 
-pub next_word-requires-clause-short : goal.next_word-requires-clause-short
-next_word-requires-clause-short g c =
+pub next_word-requires-clause-text_fits_limit : goal.next_word-requires-clause-text_fits_limit
+next_word-requires-clause-text_fits_limit g c =
     subst (λ (t : List ℕ). length t ≤ TEXT_LIMIT) (sym c.loop-scanner.invariant.texts_equal)
-    c.requires.short
+    c.requires.text_fits_limit
 
 pub returns-clause-readings : goal.returns-clause-readings
 returns-clause-readings g c =

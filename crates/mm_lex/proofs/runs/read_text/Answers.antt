@@ -43,12 +43,12 @@ returns-clause-to g c =
     (omega (arith, c.min-runs.ensures)) (omega (arith, c.min-runs.ensures))
     (omega arith) c.joining.invariant none_left
 
-pub read_runs-requires-clause-some : goal.read_runs-requires-clause-some
-read_runs-requires-clause-some g c κs =
+pub read_runs-requires-clause-some_runs : goal.read_runs-requires-clause-some_runs
+read_runs-requires-clause-some_runs g c κs =
     (let least_is = c.min-runs.ensures in omega (arith, least_is))
 
-pub read_runs-requires-clause-few : goal.read_runs-requires-clause-few
-read_runs-requires-clause-few g c κs =
+pub read_runs-requires-clause-runs_le_pieces : goal.read_runs-requires-clause-runs_le_pieces
+read_runs-requires-clause-runs_le_pieces g c κs =
     (let least_is = c.min-runs.ensures in omega (arith, least_is))
 
 pub remove-requires : goal.remove-requires

@@ -10,14 +10,14 @@ least_with_bit : (n : ℕ) (b : Bool) → min (1 - n) (bool_byte b) ≡ (if b th
 least_with_bit n true = omega arith
 least_with_bit n false = omega arith
 
-pub returns-clause-first : goal.returns-clause-first
-returns-clause-first c =
+pub returns-clause-first_bit : goal.returns-clause-first_bit
+returns-clause-first_bit c =
     first_start_bit c.args.white c.from.result c.ranges.white.fits
     (omega (arith, c.from.ensures, at_most_one c.args.may_begin_at_0))
     ∙ ap (min (1 - bit_at c.args.white 0)) c.from.ensures
     ∙ least_with_bit (bit_at c.args.white 0) c.args.may_begin_at_0
 
-pub returns-clause-next : goal.returns-clause-next
-returns-clause-next c =
+pub returns-clause-next_bits : goal.returns-clause-next_bits
+returns-clause-next_bits c =
     next_start_bit c.args.white c.from.result c.ranges.white.fits
     (omega (arith, c.from.ensures, at_most_one c.args.may_begin_at_0))

@@ -21,4 +21,4 @@ invariant_of-result g c =
     c.loop-i.invariant
     ∙ ap (λ n. map (λ i. c.args.len * (i + 1) / c.args.count) (range_with_len 0 n)) i_is_last in
     subst (λ (l : List ℕ). IsCutText (cut_text l c.args.len)) (sym places_are)
-    (equal_cuts_are_cuts c.args.len c.args.count c.requires.some)
+    (equal_cuts_are_cuts c.args.len c.args.count c.requires.some_pieces)

@@ -8,8 +8,8 @@ use Rattle.mm_lex.proofs.BlockLaw.{remaining_bit_is_other, other_bits_are_kept}
 use Rattle.mm_lex.proofs.BlockLaw.{holds_up_to_next_bit}
 use Rattle.mm_lex.proofs.scanner.WordScanner.next_start.Goals as goal
 
-pub returns-then-to-self-clause-first : goal.returns-then-to-self-clause-first
-returns-then-to-self-clause-first c =
+pub returns-then-to-self-clause-first_beginning : goal.returns-then-to-self-clause-first_beginning
+returns-then-to-self-clause-first_beginning c =
     let scanner = c.loop-self.self in
     let text = c.args.self.now.text.now in
     let invariant_before = c.loop-self.invariant in
@@ -22,7 +22,7 @@ returns-then-to-self-clause-first c =
     (λ k _ _. ap (λ (n : ℕ). bit_at n k) c.loop-self-test.true ∙ bit_at-zero k) scanner.begins_none
     i from_le_i
     i_lt_end
-    (omega (arith, c.requires.within)))
+    (omega (arith, c.requires.to_le_length)))
 
 pub loop-self-preserved : goal.loop-self-preserved
 loop-self-preserved c =
@@ -46,8 +46,8 @@ loop-self-preserved c =
           (omega (arith, c.next_block.ensures.from)) i_lt_to;
     }
 
-pub returns-then-to-start-clause-first : goal.returns-then-to-start-clause-first
-returns-then-to-start-clause-first c =
+pub returns-then-to-start-clause-first_beginning : goal.returns-then-to-start-clause-first_beginning
+returns-then-to-start-clause-first_beginning c =
     let scanner = c.loop-self.self in
     let text = c.args.self.now.text.now in
     let invariant_before = c.loop-self.invariant in
@@ -65,7 +65,7 @@ returns-then-to-start-clause-first c =
     (trailing_zeros w64 scanner.starts) invariant_before.texts_equal scanner.base_le_from
     (omega (arith, lowest_bit.0)) invariant_before.none_begins
     (λ k _ k_lt_place. lowest_bit.2 k k_lt_place) scanner.begins_none i from_le_i i_lt_end
-    (omega (arith, c.requires.within)))
+    (omega (arith, c.requires.to_le_length)))
 
 pub invariant_of-self-clause-begins : goal.invariant_of-self-clause-begins
 invariant_of-self-clause-begins c i i_lt_64 place_in_text bit_is_one =
@@ -102,8 +102,8 @@ invariant_of-self-clause-begins_none c i i_lt_64 place_in_text from_le_i bit_is_
     (λ i_is_place. omega (arith, i_is_place, from_le_i)))
     ∙ bit_is_zero)
 
-pub returns-clause-first : goal.returns-clause-first
-returns-clause-first c =
+pub returns-clause-first_beginning : goal.returns-clause-first_beginning
+returns-clause-first_beginning c =
     let scanner = c.loop-self.self in
     let text = c.args.self.now.text.now in
     let invariant_before = c.loop-self.invariant in
@@ -113,7 +113,7 @@ returns-clause-first c =
     let start_in_text : scanner.base + trailing_zeros w64 scanner.starts < length scanner.text.now =
     subst (λ (t : List ℕ). scanner.base + trailing_zeros w64 scanner.starts < length t)
     (sym invariant_before.texts_equal)
-    (omega (arith, c.requires.start_lt_to, c.if-to-start.false)) in
+    (omega (arith, c.requires.to_le_length, c.if-to-start.false)) in
     record {
       from_le_start =
           omega (arith, invariant_before.from_rises, scanner.starts_are_from_from
@@ -133,7 +133,7 @@ returns-clause-first c =
           invariant_before.texts_equal scanner.from_le_start
           (omega (arith, lowest_bit.0)) invariant_before.none_begins
           (λ k _ k_lt_place. lowest_bit.2 k k_lt_place) scanner.begins_none i from_le_i i_lt_end
-          (omega (arith, c.requires.start_lt_to, c.if-to-start.false));
+          (omega (arith, c.requires.to_le_length, c.if-to-start.false));
     }
 
 pub returns-clause-taken : goal.returns-clause-taken
@@ -145,7 +145,7 @@ returns-clause-taken c =
     let start_in_text : scanner.base + trailing_zeros w64 scanner.starts < length scanner.text.now =
     subst (λ (t : List ℕ). scanner.base + trailing_zeros w64 scanner.starts < length t)
     (sym c.loop-self.invariant.texts_equal)
-    (omega (arith, c.requires.start_lt_length, c.if-to-start.false)) in
+    (omega (arith, c.requires.to_le_length, c.if-to-start.false)) in
     record {
       from_is_next = refl;
       base_le_start = omega arith;
@@ -169,7 +169,7 @@ returns-then-to-self-clause-done c =
     (λ k _ _. ap (λ (n : ℕ). bit_at n k) c.loop-self-test.true ∙ bit_at-zero k) scanner.begins_none
     i from_le_i
     i_lt_end
-    (omega (arith, c.requires.within)))
+    (omega (arith, c.requires.to_le_length)))
 
 pub returns-then-to-start-clause-done : goal.returns-then-to-start-clause-done
 returns-then-to-start-clause-done c =
@@ -188,4 +188,4 @@ returns-then-to-start-clause-done c =
     (omega (arith, lowest_bit.0))
     (λ k from_le_k k_lt_from _. absurd (omega arith)) (λ k _ k_lt_place. lowest_bit.2 k k_lt_place)
     scanner.begins_none i from_le_i i_lt_end
-    (omega (arith, c.requires.within)))
+    (omega (arith, c.requires.to_le_length)))

@@ -70,8 +70,8 @@ module _ (c : Then-self-stop-eq1) where
   found_is_word =
       let start_facts = c.in_ok-start.ensures in
       found_bytes_are_word c.args.self.now.text.now c.in_ok-start.start
-      (c.next_start.new.self.base + c.first_one-stop.result) start_facts.first.begins
-      (omega (arith, start_facts.first.start_lt_to, c.requires.within)) start_le_stop
+      (c.next_start.new.self.base + c.first_one-stop.result) start_facts.first_beginning.begins
+      (omega (arith, start_facts.first_beginning.start_lt_to, c.requires.to_le_length)) start_le_stop
       (omega (arith, (stop_is_white c).0))
       none_white_to_stop (λ _. (stop_is_white c).1)
 
@@ -81,7 +81,7 @@ returns-then-self-stop-eq1-clause-words c =
     let start_facts = c.in_ok-start.ensures in
     words_begin_with_found c.args.self.now.text.now _ c.args.self.now.from
     c.next_start.new.self.from c.args.to
-    (found_is_word context) start_facts.first (record {
+    (found_is_word context) start_facts.first_beginning (record {
       start_lt_from = omega (arith, start_facts.taken.from_is_next);
       none_between =
           λ i start_lt_i i_lt_from. absurd (omega (arith, start_facts.taken.from_is_next));
@@ -100,7 +100,7 @@ returns-then-self-stop-eq1-clause-plain c _ =
 
 pub returns-then-self-stop-eq1-clause-onward : goal.returns-then-self-stop-eq1-clause-onward
 returns-then-self-stop-eq1-clause-onward c =
-    omega (arith, c.in_ok-start.ensures.first.from_le_start,
+    omega (arith, c.in_ok-start.ensures.first_beginning.from_le_start,
     c.in_ok-start.ensures.taken.from_is_next)
 
 -- ---- any other found_is_word
@@ -126,7 +126,7 @@ returns-clause-words c =
     let start_is = sym (found_word_from context).start_is in
     words_begin_with_found text _ c.args.self.now.from c.word_from.result.0.from c.args.to
     (found_word_from context).is_word
-    (subst (IsFirst text c.args.self.now.from c.args.to) start_is c.in_ok-start.ensures.first)
+    (subst (IsFirst text c.args.self.now.from c.args.to) start_is c.in_ok-start.ensures.first_beginning)
     (subst (λ (s : ℕ). IsPassed text s c.word_from.result.0.from) start_is
     (none_passed_to_from context))
 
@@ -138,5 +138,5 @@ returns-clause-plain c = (found_word_from (goal.at.returns-clause-plain c).After
 
 pub returns-clause-onward : goal.returns-clause-onward
 returns-clause-onward c =
-    omega (arith, c.in_ok-start.ensures.first.from_le_start,
+    omega (arith, c.in_ok-start.ensures.first_beginning.from_le_start,
     c.word_from.ensures.onward.start_lt_from)
