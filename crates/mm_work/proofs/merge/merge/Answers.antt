@@ -72,7 +72,7 @@ loop-position-preserved g c =
     (cited_more db c.args.essential
     (theorems db) k c.loop-position.lists c.get.result.now c.loop-position.invariant
     (list_cited db c.args.essential fs c.requires.found c.in_ok-positions.positions.items
-    c.deref-position-items.result.now k _ same h _ c.get.result.now there c.get.ensures.is))
+    c.deref-position-items.result.now k _ same h _ c.get.result.now there c.get.ensures.is_list))
 
 pub returns : goal.returns
 returns g c =

@@ -12,41 +12,41 @@ returns-then-from-to g c =
 pub index-requires : goal.index-requires
 index-requires g c =
     let from_ne_to = c.if-from-to.false in
-    let from_le_to = c.requires.order in
+    let from_le_to = c.requires.from_le_to in
     let to_is_within : c.args.to < length c.self.inside.places.items =
     place_exists _ _ _ c.self.view_is c.args.from _ (omega (arith, from_ne_to, from_le_to))
-    c.requires.within in
+    c.requires.to_le_count in
     rw c.self.inside.places.ok.0 (omega (arith, to_is_within, from_le_to))
 
 pub index-requires-2 : goal.index-requires-2
 index-requires-2 g c =
     let from_ne_to = c.if-from-to.false in
-    let from_le_to = c.requires.order in
+    let from_le_to = c.requires.from_le_to in
     rw c.self.inside.places.ok.0
     (place_exists _ _ _ c.self.view_is c.args.from _ (omega (arith, from_ne_to, from_le_to))
-    c.requires.within)
+    c.requires.to_le_count)
 
-pub items_between-requires-clause-order : goal.items_between-requires-clause-order
-items_between-requires-clause-order g c =
+pub items_between-requires-clause-from_le_to : goal.items_between-requires-clause-from_le_to
+items_between-requires-clause-from_le_to g c =
     let from_ne_to = c.if-from-to.false in
-    let from_le_to = c.requires.order in
+    let from_le_to = c.requires.from_le_to in
     (joined_lists_are_part _ _ _ c.self.invariant c.self.view_is _ _ _ _
     (omega (arith, from_ne_to, from_le_to))
-    c.requires.within c.index.ensures c.index-2.ensures).from_le_to
+    c.requires.to_le_count c.index.ensures c.index-2.ensures).from_le_to
 
-pub items_between-requires-clause-within : goal.items_between-requires-clause-within
-items_between-requires-clause-within g c =
+pub items_between-requires-clause-to_le_length : goal.items_between-requires-clause-to_le_length
+items_between-requires-clause-to_le_length g c =
     let from_ne_to = c.if-from-to.false in
-    let from_le_to = c.requires.order in
+    let from_le_to = c.requires.from_le_to in
     (joined_lists_are_part _ _ _ c.self.invariant c.self.view_is _ _ _ _
     (omega (arith, from_ne_to, from_le_to))
-    c.requires.within c.index.ensures c.index-2.ensures).to_le_length
+    c.requires.to_le_count c.index.ensures c.index-2.ensures).to_le_length
 
 pub returns : goal.returns
 returns g c =
     let from_ne_to = c.if-from-to.false in
-    let from_le_to = c.requires.order in
+    let from_le_to = c.requires.from_le_to in
     c.items_between.ensures
     ∙ (joined_lists_are_part _ _ _ c.self.invariant c.self.view_is _ _ _ _
     (omega (arith, from_ne_to, from_le_to))
-    c.requires.within c.index.ensures c.index-2.ensures).range_is_part
+    c.requires.to_le_count c.index.ensures c.index-2.ensures).range_is_part
