@@ -36,7 +36,7 @@ fn row_bytes(bits: &[u64], across: usize, rows: usize, w: usize, at: usize) -> [
     requires few_rows { rows < 2 ^ 31 }
     requires few_words { across ≤ 2 ^ 26 }
     requires band { 64 * w < rows }
-    requires within { at < 8 * across }
+    requires at_lt_row_bytes { at < 8 * across }
     ensures { AreRowBytes rows across bits.now w at result }
 {
     let mut bytes = [0u8; 64];
@@ -68,7 +68,7 @@ fn write_columns(
 )
     requires table { IsTable rows columns bits.now }
     requires band { 64 * w < rows }
-    requires within { at < 8 * words_for columns }
+    requires at_lt_row_bytes { at < 8 * words_for columns }
     requires written { ColumnsWritten rows columns bits.now transposed.old w (8 * at) }
     ensures { ColumnsWritten rows columns bits.now transposed.new w (8 * at + 8) }
 {

@@ -17,7 +17,7 @@ loop-i-init g c =
 pub loop-i-preserved : goal.loop-i-preserved
 loop-i-preserved g c =
     filled_below_next c.args.citations.now c.args.columns.now c.loop-i.bits c.fill_in_place.new.bits
-    c.loop-i.i c.fill_in_place.ensures.row (omega arith) c.fill_in_place.ensures.others
+    c.loop-i.i c.fill_in_place.ensures.row (omega arith) c.fill_in_place.ensures.others_kept
     c.loop-i.invariant
 
 pub returns : goal.returns

@@ -11,7 +11,7 @@ fill_row-requires-clause-ready g c =
     let i = c.args.theorem_index in
     cited_rows_stand_before c.args.citations.now c.args.columns.now c.args.bits.now
     c.split_at_mut-before.result.0.now c.split_at_mut-before.result.1.now i c.rows.ensures.order
-    c.requires.within (sym c.split_at_mut-before.ensures.value)
+    c.requires.index_lt_theorems (sym c.split_at_mut-before.ensures.value)
     (c.split_at_mut-before.ensures.front_len ∙ ap (λ w. i * w) c.words-width.ensures)
     c.requires.ready
 
@@ -26,8 +26,8 @@ returns-clause-row g c =
     (words_for (length c.args.columns.now)) i front_has_length c.fill_row.ensures.has_words))
     c.fill_row.ensures
 
-pub returns-clause-others : goal.returns-clause-others
-returns-clause-others g c = λ r r_is_not_i.
+pub returns-clause-others_kept : goal.returns-clause-others_kept
+returns-clause-others_kept g c = λ r r_is_not_i.
     let i = c.args.theorem_index in
     let width = words_for (length c.args.columns.now) in
     let before = c.split_at_mut-before.result.0.now in
@@ -44,20 +44,20 @@ returns-clause-others g c = λ r r_is_not_i.
 pub overflow_mul-theorem_index : goal.overflow_mul-theorem_index
 overflow_mul-theorem_index g c =
     let product_is = ap (λ w. c.args.theorem_index * w) c.words-width.ensures in
-    let row_fits = c.requires.fits in
+    let row_fits = c.requires.row_fits in
     omega (arith, product_is, row_fits)
 
 pub split_at_mut-before-requires : goal.split_at_mut-before-requires
 split_at_mut-before-requires g c =
     let product_is = ap (λ w. c.args.theorem_index * w) c.words-width.ensures in
-    let row_fits = c.requires.fits in
+    let row_fits = c.requires.row_fits in
     omega (arith, product_is, row_fits)
 
 pub slice_bounds-row-end : goal.slice_bounds-row-end
 slice_bounds-row-end g c =
     let product_is = ap (λ w. c.args.theorem_index * w) c.words-width.ensures in
     let width_is = c.words-width.ensures in
-    let row_fits = c.requires.fits in
+    let row_fits = c.requires.row_fits in
     let back_length_is = c.split_at_mut-before.ensures.back_len in
     omega (arith, product_is, width_is, row_fits, back_length_is)
 
@@ -65,7 +65,7 @@ pub slice_bounds-row-end-2 : goal.slice_bounds-row-end-2
 slice_bounds-row-end-2 g c =
     let product_is = ap (λ w. c.args.theorem_index * w) c.words-width.ensures in
     let width_is = c.words-width.ensures in
-    let row_fits = c.requires.fits in
+    let row_fits = c.requires.row_fits in
     let back_length_is = c.split_at_mut-before.ensures.back_len in
     sym (length-take-le c.words-width.result c.split_at_mut-before.result.1.now
     (omega (arith, product_is, width_is, row_fits, back_length_is)))

@@ -5,7 +5,7 @@ use Rattle.mm_rows.proofs.rows.mark_column.Goals as goal
 
 pub set-requires : goal.set-requires
 set-requires g c =
-    let row_has_words = c.requires.words in let column_is_found = c.in-Some.ensures.some.0 in
+    let row_has_words = c.requires.row_has_words in let column_is_found = c.in-Some.ensures.some.0 in
     omega (arith, row_has_words, column_is_found)
 
 pub returns-in-Some-clause-marks : goal.returns-in-Some-clause-marks
@@ -14,8 +14,8 @@ returns-in-Some-clause-marks g c =
     c.args.statement
     c.in-Some.ensures.rising c.in-Some.ensures.some c.set.ensures
 
-pub returns-in-Some-clause-past : goal.returns-in-Some-clause-past
-returns-in-Some-clause-past g c =
+pub returns-in-Some-clause-past_columns_kept : goal.returns-in-Some-clause-past_columns_kept
+returns-in-Some-clause-past_columns_kept g c =
     past_columns_are_kept c.args.columns.now c.args.row.now c.set.new.row c.in-Some.j
     c.args.statement
     c.in-Some.ensures.some c.set.ensures
@@ -24,5 +24,5 @@ pub returns-in_default-clause-marks : goal.returns-in_default-clause-marks
 returns-in_default-clause-marks g c =
     no_column_is_marked c.args.columns.now c.args.row.now c.args.statement c.in_default.ensures.none
 
-pub returns-in_default-clause-past : goal.returns-in_default-clause-past
-returns-in_default-clause-past g c = λ j columns_le_j. refl
+pub returns-in_default-clause-past_columns_kept : goal.returns-in_default-clause-past_columns_kept
+returns-in_default-clause-past_columns_kept g c = λ j columns_le_j. refl

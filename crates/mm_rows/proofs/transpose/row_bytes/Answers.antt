@@ -30,7 +30,7 @@ bounds-bits-w c =
     let end_is = c.min-k-end.ensures in
     let row_lt_rows : 64 * c.args.w + c.loop-k.k < c.args.rows =
     omega (arith, k_is_before_end, end_is) in
-    let column_in_row = c.requires.within in
+    let column_in_row = c.requires.at_lt_row_bytes in
     let word_lt_length =
     row_word_lt_length c.args.rows c.args.across (64 * c.args.w + c.loop-k.k) (c.args.at / 8)
     (length c.args.bits.now) c.requires.size row_lt_rows (omega (arith, column_in_row)) in
@@ -42,7 +42,7 @@ offset_bounds-bits-w c =
     let end_is = c.min-k-end.ensures in
     let row_lt_rows : 64 * c.args.w + c.loop-k.k < c.args.rows =
     omega (arith, k_is_before_end, end_is) in
-    let column_in_row = c.requires.within in
+    let column_in_row = c.requires.at_lt_row_bytes in
     let word_lt_length =
     row_word_lt_length c.args.rows c.args.across (64 * c.args.w + c.loop-k.k) (c.args.at / 8)
     (length c.args.bits.now) c.requires.size row_lt_rows (omega (arith, column_in_row)) in
@@ -54,7 +54,7 @@ overflow_add-word-in-loop-k c =
     let end_is = c.min-k-end.ensures in
     let row_lt_rows : 64 * c.args.w + c.loop-k.k < c.args.rows =
     omega (arith, k_is_before_end, end_is) in
-    let column_in_row = c.requires.within in
+    let column_in_row = c.requires.at_lt_row_bytes in
     let word_lt_length =
     row_word_lt_length c.args.rows c.args.across (64 * c.args.w + c.loop-k.k) (c.args.at / 8)
     (length c.args.bits.now) c.requires.size row_lt_rows (omega (arith, column_in_row)) in
@@ -66,7 +66,7 @@ overflow_mul-word-in-loop-k c =
     let end_is = c.min-k-end.ensures in
     let row_lt_rows : 64 * c.args.w + c.loop-k.k < c.args.rows =
     omega (arith, k_is_before_end, end_is) in
-    let column_in_row = c.requires.within in
+    let column_in_row = c.requires.at_lt_row_bytes in
     let word_lt_length =
     row_word_lt_length c.args.rows c.args.across (64 * c.args.w + c.loop-k.k) (c.args.at / 8)
     (length c.args.bits.now) c.requires.size row_lt_rows (omega (arith, column_in_row)) in

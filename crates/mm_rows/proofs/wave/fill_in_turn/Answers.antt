@@ -5,8 +5,8 @@ use Rattle.mm_rows.proofs.TransposeLaw.{row_end_le_length}
 use Rattle.mm_rows.proofs.WaveLaw.{one_more_is_filled, cited_rows_stay_known}
 use Rattle.mm_rows.proofs.wave.fill_in_turn.Goals as goal
 
-pub fill_in_place-requires-clause-fits : goal.fill_in_place-requires-clause-fits
-fill_in_place-requires-clause-fits g c =
+pub fill_in_place-requires-clause-row_fits : goal.fill_in_place-requires-clause-row_fits
+fill_in_place-requires-clause-row_fits g c =
     row_end_le_length (words_for (length c.args.columns.now)) (get_or c.args.rows.now c.loop-k.k 0)
     (length c.args.citations.now.theorems) (length c.loop-k.bits)
     (c.requires.ready c.loop-k.k 0 (omega arith)).0
@@ -27,4 +27,4 @@ loop-k-preserved g c =
     let row = row_at c.fill_in_place.new.bits (words_for (length c.args.columns.now)) i in
     one_more_is_filled c.args.citations.now c.args.columns.now rows k c.args.bits.now c.loop-k.bits
     c.fill_in_place.new.bits row i refl c.fill_in_place.ensures.row
-    (omega arith) refl c.fill_in_place.ensures.others c.loop-k.invariant
+    (omega arith) refl c.fill_in_place.ensures.others_kept c.loop-k.invariant

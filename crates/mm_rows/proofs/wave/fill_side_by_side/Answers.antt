@@ -15,16 +15,16 @@ index-requires g c =
     let length_is = zipped_by_index.0 in
     omega (arith, k_lt_rows, length_is)
 
-pub store-requires-clause-fits : goal.store-requires-clause-fits
-store-requires-clause-fits g c =
+pub store-requires-clause-row_fits : goal.store-requires-clause-row_fits
+store-requires-clause-row_fits g c =
     let i = get_or c.args.rows.now c.loop-k.k 0 in
     let n = length c.args.citations.now.theorems in
     row_end_le_length c.words-width.result i n (length c.loop-k.bits)
     (c.requires.ready c.loop-k.k 0 (omega arith)).0
     (c.loop-k.invariant.size ∙ c.requires.size ∙ sym (ap (λ w. n * w) c.words-width.ensures))
 
-pub store-requires-clause-words : goal.store-requires-clause-words
-store-requires-clause-words g c =
+pub store-requires-clause-row_has_words : goal.store-requires-clause-row_has_words
+store-requires-clause-row_has_words g c =
     let k = c.loop-k.k in
     let rows = c.args.rows.now in
     let i = get_or rows k 0 in
@@ -69,7 +69,7 @@ loop-k-preserved g c =
     let others_are_kept =
     subst (λ (w : ℕ). (r : ℕ) → (r ≡ i → ⊥)
     → row_at c.store.new.bits w r ≡ row_at c.loop-k.bits w r) c.words-width.ensures
-    c.store.ensures.others in
+    c.store.ensures.others_kept in
     one_more_is_filled c.args.citations.now c.args.columns.now rows k c.args.bits.now c.loop-k.bits
     c.store.new.bits c.in-Ok.row.items i refl is_bit_row (omega arith) row_is others_are_kept
     c.loop-k.invariant

@@ -15,12 +15,12 @@ fill_wave-requires-clause-ready g c κs k_lt_part = λ k d k_lt_part_length.
     let part = c.deref-in-loop-from.result.now in
     let rows_are = c.deref.ensures.value in
     let to_le_rows : to ≤ length rows =
-    subst (λ (xs : List ℕ). to ≤ length xs) rows_are c.wave_end-to.ensures.within in
+    subst (λ (xs : List ℕ). to ≤ length xs) rows_are c.wave_end-to.ensures.result_le_rows in
     let one_wave : (p : ℕ) → from ≤ p → p < to
     → get_or waves (get_or rows p 0) 0 ≡ get_or waves (get_or rows from 0) 0 =
     subst (λ (xs : List ℕ). (p : ℕ) → from ≤ p → p < to
     → get_or waves (get_or xs p 0) 0 ≡ get_or waves (get_or xs from 0) 0) rows_are
-    c.wave_end-to.ensures.same in
+    c.wave_end-to.ensures.one_wave in
     let part_is = c.deref-in-loop-from.ensures.value in
     let to_le_part : to ≤ length part =
     subst (λ (xs : List ℕ). to ≤ length xs) (sym part_is) to_le_rows in
@@ -47,8 +47,8 @@ loop-from-preserved g c =
     let to = c.wave_end-to.result in
     let part = c.deref-in-loop-from.result.now in
     let to_le_rows : to ≤ length rows =
-    subst (λ (xs : List ℕ). to ≤ length xs) c.deref.ensures.value c.wave_end-to.ensures.within in
-    let from_lt_to = c.wave_end-to.ensures.further in
+    subst (λ (xs : List ℕ). to ≤ length xs) c.deref.ensures.value c.wave_end-to.ensures.result_le_rows in
+    let from_lt_to = c.wave_end-to.ensures.from_lt_result in
     filled_with_wave c.args.citations.now c.args.columns.now rows
     (slice_range part from to) from to c.loop-from.bits c.fill_wave.new.bits
     c.loop-from.invariant to_le_rows

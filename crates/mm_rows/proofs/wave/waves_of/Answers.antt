@@ -11,8 +11,8 @@ loop-theorem_index-init g c = record {
       (no_waves c.args.citations.now);
 }
 
-pub wave_of_theorem-wave-requires-clause-within : goal.wave_of_theorem-wave-requires-clause-within
-wave_of_theorem-wave-requires-clause-within g c =
+pub wave_of_theorem-wave-requires-clause-index_lt_theorems : goal.wave_of_theorem-wave-requires-clause-index_lt_theorems
+wave_of_theorem-wave-requires-clause-index_lt_theorems g c =
     let index_test = c.loop-theorem_index-test.true in
     let rows_are = c.rows-theorem_index-end.ensures.rows in omega (arith, index_test, rows_are)
 
@@ -34,7 +34,7 @@ loop-theorem_index-preserved g c = record {
       (waves_with_one_more c.args.citations.now c.loop-theorem_index.theorem_index
       c.wave_of_theorem-wave.result c.loop-theorem_index.waves.items
       c.loop-theorem_index.invariant.waves c.wave_of_theorem-wave.ensures.wave
-      c.wave_of_theorem-wave.ensures.small);
+      c.wave_of_theorem-wave.ensures.wave_le_index);
 }
 
 pub returns : goal.returns

@@ -24,7 +24,7 @@ slice_bounds-write_cells-end g c =
     (sym c.self.view_is) c.self.invariant c.args.row _ c.requires.row words_are_row in
     let cells_fit_row =
     subst (λ (m : Marks). 64 * c.args.word + length c.args.into.now ≤ 64 * words_for m.columns)
-    (sym c.self.view_is) c.requires.within in
+    (sym c.self.view_is) c.requires.cells_fit_row in
     omega (arith, words_have_width, cells_fit_row)
 
 pub returns : goal.returns
@@ -35,5 +35,5 @@ returns g c =
     written_are_row_cells c.args.self.now c.self.inside.rows c.self.inside.columns
     c.self.inside.bits.items
     (sym c.self.view_is) c.self.invariant c.args.row c.args.word _ c.write_cells.new.into
-    c.args.into.now c.requires.row words_are_row c.requires.within c.requires.whole
+    c.args.into.now c.requires.row words_are_row c.requires.cells_fit_row c.requires.whole_words
     c.write_cells.ensures.length c.write_cells.ensures.each

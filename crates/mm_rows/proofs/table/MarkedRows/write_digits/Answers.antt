@@ -23,7 +23,7 @@ slice_bounds-write_digits-end g c =
     (sym c.self.view_is) c.self.invariant c.args.row _ c.requires.row words_are_row in
     let digits_fit_row =
     subst (λ (m : Marks). 16 * c.args.word + length c.args.into.now ≤ 16 * words_for m.columns)
-    (sym c.self.view_is) c.requires.within in
+    (sym c.self.view_is) c.requires.digits_fit_row in
     omega (arith, words_have_width, digits_fit_row)
 
 pub returns : goal.returns
@@ -34,5 +34,5 @@ returns g c =
     written_are_row_digits c.args.self.now c.self.inside.rows c.self.inside.columns
     c.self.inside.bits.items
     (sym c.self.view_is) c.self.invariant c.args.row c.args.word _ c.write_digits.new.into
-    c.args.into.now c.requires.row words_are_row c.requires.within c.requires.whole
+    c.args.into.now c.requires.row words_are_row c.requires.digits_fit_row c.requires.whole_words
     c.write_digits.ensures.length c.write_digits.ensures.each
