@@ -58,10 +58,10 @@ pub fn no_blocks<A: Allocator + Copy>(alloc: A) -> Result<Blocks<A>, AllocError>
 impl<A: Allocator> Blocks<A> {
     /// Appends a statement.
     pub fn push(&mut self, kind: Kind) -> Result<(), AllocError>
-        requires some { 0 < length self.old.open_blocks }
-        requires known { All (λ b. b < length self.old.ends) self.old.open_blocks }
-        requires few { length self.old.block_of < 2 ^ 31 }
-        requires few_blocks { length self.old.ends < 2 ^ 32 }
+        requires some_block_is_open { 0 < length self.old.open_blocks }
+        requires open_blocks_have_ends { All (λ b. b < length self.old.ends) self.old.open_blocks }
+        requires statements_lt_2_31 { length self.old.block_of < 2 ^ 31 }
+        requires blocks_lt_2_32 { length self.old.ends < 2 ^ 32 }
         ensures { OnOk result (self.new ≡ pushed kind self.old) }
     {
         let top = self.open_blocks[self.open_blocks.len() - 1];
@@ -105,8 +105,8 @@ impl<A: Allocator> Blocks<A> {
 
     /// The end of the block of the statement: the number of its `$}`, or `NEVER`.
     pub fn end_of(&self, statement: u32) -> u32
-        requires inside { statement < length self.now.block_of }
-        requires known { slice_index self.now.block_of statement < length self.now.ends }
+        requires statement_lt_count { statement < length self.now.block_of }
+        requires block_has_end { slice_index self.now.block_of statement < length self.now.ends }
         ensures { result ≡ end_of self.now statement }
     {
         self.ends[self.block_of[statement as usize] as usize]
@@ -114,8 +114,8 @@ impl<A: Allocator> Blocks<A> {
 
     /// Whether the block of the statement is open before the statement `at`, which comes later.
     pub fn is_open_at(&self, statement: u32, at: u32) -> bool
-        requires inside { statement < length self.now.block_of }
-        requires known { slice_index self.now.block_of statement < length self.now.ends }
+        requires statement_lt_count { statement < length self.now.block_of }
+        requires block_has_end { slice_index self.now.block_of statement < length self.now.ends }
         ensures { result ≡ nat_le at (end_of self.now statement) }
     {
         at <= self.end_of(statement)

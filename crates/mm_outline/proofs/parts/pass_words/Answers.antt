@@ -9,22 +9,22 @@ returns-in_default c =
     let keyword_found = c.next_keyword.ensures in
     let takes_words = takes_by_part c.args.part refl in
     record {
-      later = keyword_found.later;
-      within = keyword_found.within;
+      from_le_to = keyword_found.from_le_result;
+      to_le_count = keyword_found.result_le_count;
       is_part =
           part_stays_part c.args.part c.args.at c.next_keyword.result takes_words
-          keyword_found.later
+          keyword_found.from_le_result
           c.requires.part;
       leads =
           λ d. plain_words_are_passed_up_to c.args.text.now c.args.tokens.now d c.args.part
           c.args.at
-          c.next_keyword.result takes_words c.requires.part keyword_found.later keyword_found.within
-          keyword_found.plain;
+          c.next_keyword.result takes_words c.requires.part keyword_found.from_le_result
+          keyword_found.result_le_count keyword_found.plain;
     }
   where
     takes_by_part : (p : Part) → c.args.part ≡ p → TakesWords p
-    takes_by_part Start e = c.in_default.not-Start e
-    takes_by_part (Labelled l) e = c.in_default.not-Labelled l e
-    takes_by_part (Words k w) e = tt
-    takes_by_part (Formula w) e = tt
-    takes_by_part (Proof w q) e = tt
+    takes_by_part Start part_is = c.in_default.not-Start part_is
+    takes_by_part (Labelled l) part_is = c.in_default.not-Labelled l part_is
+    takes_by_part (Words k w) part_is = tt
+    takes_by_part (Formula w) part_is = tt
+    takes_by_part (Proof w q) part_is = tt

@@ -119,15 +119,15 @@ statements-preserved g c =
     let next =
     reading_more text ws db s.depth s.at s.invariant.reading c.requires.few b
     s.invariant.is_read_so_far.keeps.blocks o.kind o.keyword o.middle o.end
-    c.in-Whole.ensures.1.later
-    c.in-Whole.ensures.1.within c.in-Whole.ensures.1.leads lawful in
+    c.in-Whole.ensures.1.from_le_end
+    c.in-Whole.ensures.1.end_lt_count c.in-Whole.ensures.1.leads lawful in
     record {
       outlines =
           subst (λ (xs : List Outline). All (λ o. IsOutline o × (o.end < length ws)) xs)
           (sym taken.0)
           (All-push
           (λ o. IsOutline o × (o.end < length ws)) s.read.outlines.items o s.invariant.outlines
-          (c.in-Whole.ensures.0, c.in-Whole.ensures.1.within));
+          (c.in-Whole.ensures.0, c.in-Whole.ensures.1.end_lt_count));
       reading = rw (more, c.depth_after-depth.ensures) next;
       is_read_so_far = rw more taken.1;
       no_fault = sym none;
