@@ -493,13 +493,13 @@ digits t = digits_value 10 (without_leading_plus t)
 
 pub line_is_read : (words : List Text) (m : ArgMatches) → Finds words m → (line : Line) (n : ℕ)
     → line.plan.cuts ≡ Count n
-    → option_map digits (one_text (found_of m) (codes "pieces_are")) ≡ Some n → 1 ≤ n → n ≤ 64
-    → option_map digits (one_text (found_of m) (codes "workers_are")) ≡ Some line.plan.workers
+    → option_map digits (one_text (found_of m) (codes "pieces")) ≡ Some n → 1 ≤ n → n ≤ 64
+    → option_map digits (one_text (found_of m) (codes "workers")) ≡ Some line.plan.workers
     → 1 ≤ line.plan.workers → line.plan.workers ≤ 64
-    → only_of line.plan ≡ first_value (found_of m) (codes "only_is")
+    → only_of line.plan ≡ first_value (found_of m) (codes "only")
     → first_value (found_of m) (codes "report") ≡ Some (report_word line.plan.choice)
-    → first_value (found_of m) (codes "form_is") ≡ Some (form_word line.plan.form)
-    → IsFlag (one_text (found_of m) (codes "essential_is")) line.plan.essential
+    → first_value (found_of m) (codes "form") ≡ Some (form_word line.plan.form)
+    → IsFlag (one_text (found_of m) (codes "essential")) line.plan.essential
     → IsFlag (one_text (found_of m) (codes "open")) line.plan.with_open
     → option_map string_bytes line.file ≡ first_value (found_of m) (codes "FILE")
     → AreReadAs words line
@@ -514,14 +514,14 @@ line_is_read words m f line n cuts_are pieces_are one_le_pieces pieces_le_64 wor
       f.no_fault,
       record {
         pieces =
-            (n, cuts_are, ap (option_map digits) (sym (one_texts_are (codes "pieces_are")))
+            (n, cuts_are, ap (option_map digits) (sym (one_texts_are (codes "pieces")))
             ∙ pieces_are);
-        workers = ap (option_map digits) (sym (one_texts_are (codes "workers_are"))) ∙ workers_are;
-        only = sym (first_values_are (codes "only_is")) ∙ sym only_is;
+        workers = ap (option_map digits) (sym (one_texts_are (codes "workers"))) ∙ workers_are;
+        only = sym (first_values_are (codes "only")) ∙ sym only_is;
         choice = sym (first_values_are (codes "report")) ∙ choice_is;
-        form = sym (first_values_are (codes "form_is")) ∙ form_is;
+        form = sym (first_values_are (codes "form")) ∙ form_is;
         essential =
-            subst (λ entry. IsFlag entry line.plan.essential) (one_texts_are (codes "essential_is"))
+            subst (λ entry. IsFlag entry line.plan.essential) (one_texts_are (codes "essential"))
             essential_is;
         with_open =
             subst (λ entry. IsFlag entry line.plan.with_open) (one_texts_are (codes "open"))

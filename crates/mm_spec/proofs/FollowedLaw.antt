@@ -134,12 +134,12 @@ statement_is_followed (disjoint k xs t) d is_complete_s open_if_closing =
 statement_is_followed (floating l k xs t) d is_complete_s open_if_closing =
     let label_and_symbols = (and_parts (is_label l.word && is_plain xs) true is_complete_s).0 in
     label_is_followed d l (and_parts (is_label l.word) (is_plain xs) label_and_symbols).0
-    (token k (codes "$label_and_symbols") ∷ (xs ++ token t (codes "$.") ∷ []))
+    (token k (codes "$f") ∷ (xs ++ token t (codes "$.") ∷ []))
     ∙ body_is_followed d xs t (and_parts (is_label l.word) (is_plain xs) label_and_symbols).1
 statement_is_followed (essential l k xs t) d is_complete_s open_if_closing =
     let label_and_symbols = (and_parts (is_label l.word && is_plain xs) true is_complete_s).0 in
     label_is_followed d l (and_parts (is_label l.word) (is_plain xs) label_and_symbols).0
-    (token k (codes "$is_complete_s") ∷ (xs ++ token t (codes "$.") ∷ []))
+    (token k (codes "$e") ∷ (xs ++ token t (codes "$.") ∷ []))
     ∙ body_is_followed d xs t (and_parts (is_label l.word) (is_plain xs) label_and_symbols).1
 statement_is_followed (axiomatic l k xs t) d is_complete_s open_if_closing =
     let label_and_symbols = (and_parts (is_label l.word && is_plain xs) true is_complete_s).0 in

@@ -72,7 +72,7 @@ labelled_has_rule : (w : Bytes) (s : Statement) → is_labelled w s ≡ true →
 labelled_has_rule w (floating l k xs d) is_labelled_s = refl
 labelled_has_rule w (essential l k xs d) is_labelled_s = refl
 labelled_has_rule w (axiomatic l k xs d) is_labelled_s = refl
-labelled_has_rule w (provable l k xs is_labelled_s ps d) is_labelled_s = refl
+labelled_has_rule w (provable l k xs e ps d) is_labelled_s = refl
 labelled_has_rule w _ is_labelled_s = absurd (true≢false (sym is_labelled_s))
 
 floating_has_rule : (s : Statement) → is_floating s ≡ true → has_rule s ≡ true

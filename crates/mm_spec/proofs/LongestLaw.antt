@@ -93,13 +93,13 @@ statement_is_read (disjoint k xs t) d ts is_complete_s open_if_closing =
 statement_is_read (floating l k xs t) d ts is_complete_s open_if_closing =
     let label_and_symbols = (and_parts (is_label l.word && is_plain xs) true is_complete_s).0 in
     label_is_read d l
-    (token k (codes "$label_and_symbols") ∷ ((xs ++ token t (codes "$.") ∷ []) ++ ts))
+    (token k (codes "$f") ∷ ((xs ++ token t (codes "$.") ∷ []) ++ ts))
     (and_parts (is_label l.word) (is_plain xs) label_and_symbols).0
     ∙ body_is_read d (floating l k) xs t ts
     (and_parts (is_label l.word) (is_plain xs) label_and_symbols).1
 statement_is_read (essential l k xs t) d ts is_complete_s open_if_closing =
     let label_and_symbols = (and_parts (is_label l.word && is_plain xs) true is_complete_s).0 in
-    label_is_read d l (token k (codes "$is_complete_s") ∷ ((xs ++ token t (codes "$.") ∷ []) ++ ts))
+    label_is_read d l (token k (codes "$e") ∷ ((xs ++ token t (codes "$.") ∷ []) ++ ts))
     (and_parts (is_label l.word) (is_plain xs) label_and_symbols).0
     ∙ body_is_read d (essential l k) xs t ts
     (and_parts (is_label l.word) (is_plain xs) label_and_symbols).1

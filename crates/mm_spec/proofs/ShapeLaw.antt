@@ -420,13 +420,13 @@ next_state_is_reached (in_formula d) ts read_before t equals word_has_meaning =
     read_with_one_more (in_formula d) (in_proof d) ts read_before t refl
     (record {
       front =
-          part_read.label ∷ token part_read.keyword (codes "$part_read")
+          part_read.label ∷ token part_read.keyword (codes "$p")
           ∷ (part_read.words ++ token t.at (codes "$=") ∷ []);
       words = [];
       are_plain = refl;
       make = provable part_read.label part_read.keyword part_read.words t.at;
       spelling_is =
-          λ ws k. ap (λ y. part_read.label ∷ token part_read.keyword (codes "$part_read") ∷ y)
+          λ ws k. ap (λ y. part_read.label ∷ token part_read.keyword (codes "$p") ∷ y)
           (sym (append_assoc part_read.words (token t.at (codes "$=") ∷ [])
           (ws ++ token k (codes "$.") ∷ [])));
       is_complete_if_plain =
