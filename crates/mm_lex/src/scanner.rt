@@ -109,7 +109,7 @@ pub struct WordScanner<'a> {
         → white_at text.now (base + i) ≡ false },
     ghost begins: { (i : ℕ) → i < 64 → base + i < length text.now → bit_at starts i ≡ 1
         → begins_word text.now (base + i) ≡ true },
-    ghost starts_are_from_from: { (i : ℕ) → i < 64 → bit_at starts i ≡ 1 → from ≤ base + i },
+    ghost starts_ge_from: { (i : ℕ) → i < 64 → bit_at starts i ≡ 1 → from ≤ base + i },
     ghost begins_none: { (i : ℕ) → i < 64 → base + i < length text.now → from ≤ base + i
         → bit_at starts i ≡ 0 → begins_word text.now (base + i) ≡ false },
 }

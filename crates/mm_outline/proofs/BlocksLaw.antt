@@ -154,7 +154,8 @@ module _ (db : List Statement) (s : Statement) (b : BlockLists) (is_blocks : IsB
     abbrev Becomes : ℕ → Type 0
     Becomes j =
         ((end_of b j ≡ never)
-        × (IsOpen (get_or b.block_of j 0) (depth db j) ⊎ IsClosed (get_or b.block_of j 0) (depth db j)))
+        × (IsOpen (get_or b.block_of j 0) (depth db j)
+        ⊎ IsClosed (get_or b.block_of j 0) (depth db j)))
         ⊎ ((end_of b j < length db) × (get_or ends (get_or b.block_of j 0) 0 ≡ end_of b j))
 
     record Grows : Type 0 where
@@ -449,7 +450,8 @@ module _ (db : List Statement) (s : Statement) (b : BlockLists) (is_blocks : IsB
             omega (arith, brackets.0, brackets.1, closings_le_openings_before);
         stack_size_is =
             length-append b.open_blocks (length b.ends ∷ [])
-            ∙ (let stack_size_before = is_blocks.stack_size_is in omega (arith, stack_size_before, depth_is));
+            ∙ (let stack_size_before = is_blocks.stack_size_is in
+            omega (arith, stack_size_before, depth_is));
         ends_only_grow = omega (arith, ends_have_one_more);
         ends_le_next =
             let brackets = is_blocks.ends_le_statements in
@@ -474,7 +476,8 @@ module _ (db : List Statement) (s : Statement) (b : BlockLists) (is_blocks : IsB
                   ∙ innermost_is_unended,
               omega (arith, depth_is),
               old_opens_are_kept (depth db (length db))
-                  (let stack_size_before = is_blocks.stack_size_is in omega (arith, stack_size_before))
+                  (let stack_size_before = is_blocks.stack_size_is in
+                  omega (arith, stack_size_before))
                   ∙ sym innermost_is_at_depth,
             );
       })
@@ -566,7 +569,8 @@ module _ (db : List Statement) (s : Statement) (b : BlockLists) (is_blocks : IsB
             omega (arith, brackets.0, brackets.1, depth_at_end_is, some_block_is_open);
         stack_size_is =
             omega (arith, stack_size_before, depth_is, opens_have_one_less, some_block_is_open);
-        ends_only_grow = omega (arith, length-set b.ends (innermost b.open_blocks) (length b.block_of));
+        ends_only_grow =
+            omega (arith, length-set b.ends (innermost b.open_blocks) (length b.block_of));
         ends_le_next =
             let brackets = is_blocks.ends_le_statements in omega (
               arith,
@@ -579,7 +583,8 @@ module _ (db : List Statement) (s : Statement) (b : BlockLists) (is_blocks : IsB
                 omega (arith, l_lt_shorter, opens_have_one_less) in
             rw (kept_opens_are_equal l l_lt_shorter)
             (let has_end = is_blocks.open_blocks_have_ends l l_lt_old in
-            omega (arith, has_end, length-set b.ends (innermost b.open_blocks) (length b.block_of)));
+            omega (arith, has_end, length-set b.ends (innermost b.open_blocks)
+            (length b.block_of)));
         open_blocks_are_unended =
             λ l l_lt_shorter. let l_lt_old : l < length b.open_blocks =
                 omega (arith, l_lt_shorter, opens_have_one_less) in
@@ -598,7 +603,8 @@ module _ (db : List Statement) (s : Statement) (b : BlockLists) (is_blocks : IsB
             (is_blocks.ends_are_bounded j l_lt_shorter);
         new_block_becomes =
             inr (
-              get_or-set_same b.ends (innermost b.open_blocks) (length b.block_of) 0 innermost_has_end
+              get_or-set_same b.ends (innermost b.open_blocks) (length b.block_of) 0
+              innermost_has_end
                   ∙ is_blocks.count,
               omega (arith, depth_is, some_block_is_open),
             );

@@ -35,7 +35,8 @@ pushed Close blocks =
     (slice_set blocks.ends (innermost blocks.open_blocks) (length blocks.block_of))
     (take (length blocks.open_blocks - 1) blocks.open_blocks)
 pushed _ blocks =
-    block_lists (blocks.block_of ++ innermost blocks.open_blocks ∷ []) blocks.ends blocks.open_blocks
+    block_lists (blocks.block_of ++ innermost blocks.open_blocks ∷ []) blocks.ends
+    blocks.open_blocks
 
 abbrev pub end_of : BlockLists → ℕ → ℕ
 end_of blocks j = get_or blocks.ends (get_or blocks.block_of j 0) 0

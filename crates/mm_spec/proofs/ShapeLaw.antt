@@ -434,7 +434,9 @@ next_state_is_reached (in_formula d) ts read_before t equals word_has_meaning =
           (ap₂ (λ a b. a && b) part_read.is_labelled part_read.are_plain) are_plain;
       keeps_depth = λ ws k are_plain. refl;
       not_closing = λ ws k. refl;
-      part_is = ap₂ (λ y v. y ++ token t.at v ∷ []) part_read.part_is word_has_meaning ∙ sym (append-nil _);
+      part_is =
+          ap₂ (λ y v. y ++ token t.at v ∷ []) part_read.part_is word_has_meaning
+          ∙ sym (append-nil _);
     })
 next_state_is_reached (in_proof d) ts read_before t plain word_has_meaning =
     read_with_one_more (in_proof d) (in_proof d) ts read_before t refl

@@ -5,7 +5,8 @@ use Rattle.mm_rows.proofs.rows.mark_column.Goals as goal
 
 pub set-requires : goal.set-requires
 set-requires g c =
-    let row_has_words = c.requires.row_has_words in let column_is_found = c.in-Some.ensures.some.0 in
+    let row_has_words = c.requires.row_has_words in
+    let column_is_found = c.in-Some.ensures.some.0 in
     omega (arith, row_has_words, column_is_found)
 
 pub returns-in-Some-clause-marks : goal.returns-in-Some-clause-marks

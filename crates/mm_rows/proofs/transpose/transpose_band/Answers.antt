@@ -59,7 +59,8 @@ pub mark_columns-requires-clause-size : goal.mark_columns-requires-clause-size
 mark_columns-requires-clause-size c =
     c.requires.table.size ∙ ap (λ n. c.args.rows * n) (sym c.requires.width)
 
-pub write_columns-requires-clause-at_lt_row_bytes : goal.write_columns-requires-clause-at_lt_row_bytes
+pub write_columns-requires-clause-at_lt_row_bytes :
+    goal.write_columns-requires-clause-at_lt_row_bytes
 write_columns-requires-clause-at_lt_row_bytes c =
     let first_le_j = c.in-Some.ensures.some.0 in
     let j_lt_end = c.in-Some.ensures.some.1 in

@@ -123,7 +123,8 @@ pub row_bytes-bytes-requires-clause-size : goal.row_bytes-bytes-requires-clause-
 row_bytes-bytes-requires-clause-size c =
     c.requires.table.size ∙ ap (λ n. c.args.rows * n) (sym c.div_ceil.ensures)
 
-pub row_bytes-bytes-requires-clause-at_lt_row_bytes : goal.row_bytes-bytes-requires-clause-at_lt_row_bytes
+pub row_bytes-bytes-requires-clause-at_lt_row_bytes :
+    goal.row_bytes-bytes-requires-clause-at_lt_row_bytes
 row_bytes-bytes-requires-clause-at_lt_row_bytes c =
     let columns_fit_row = c.requires.at_lt_row_bytes in let width_is = c.div_ceil.ensures in
     omega (arith, columns_fit_row, width_is)

@@ -47,7 +47,8 @@ loop-from-preserved g c =
     let to = c.wave_end-to.result in
     let part = c.deref-in-loop-from.result.now in
     let to_le_rows : to ≤ length rows =
-    subst (λ (xs : List ℕ). to ≤ length xs) c.deref.ensures.value c.wave_end-to.ensures.result_le_rows in
+    subst (λ (xs : List ℕ). to ≤ length xs) c.deref.ensures.value
+    c.wave_end-to.ensures.result_le_rows in
     let from_lt_to = c.wave_end-to.ensures.from_lt_result in
     filled_with_wave c.args.citations.now c.args.columns.now rows
     (slice_range part from to) from to c.loop-from.bits c.fill_wave.new.bits

@@ -11,7 +11,8 @@ loop-theorem_index-init g c = record {
       (no_waves c.args.citations.now);
 }
 
-pub wave_of_theorem-wave-requires-clause-index_lt_theorems : goal.wave_of_theorem-wave-requires-clause-index_lt_theorems
+pub wave_of_theorem-wave-requires-clause-index_lt_theorems :
+    goal.wave_of_theorem-wave-requires-clause-index_lt_theorems
 wave_of_theorem-wave-requires-clause-index_lt_theorems g c =
     let index_test = c.loop-theorem_index-test.true in
     let rows_are = c.rows-theorem_index-end.ensures.rows in omega (arith, index_test, rows_are)

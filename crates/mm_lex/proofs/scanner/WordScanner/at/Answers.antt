@@ -47,4 +47,5 @@ invariant_of-result-clause-begins_none c i i_lt_64 place_in_text _ =
     subst (λ (bytes : List ℕ). marks.white ≡ mask is_white (take 64 bytes))
     (taken_dropped_is_all text c.args.base) c.marks_of-marks.ensures.white in
     zero_bit_begins_none text c.args.base marks.white c.starts_of.result c.may_begin.result white_is
-    c.may_begin.ensures c.starts_of.ensures.first_bit c.starts_of.ensures.next_bits i i_lt_64 place_in_text
+    c.may_begin.ensures c.starts_of.ensures.first_bit c.starts_of.ensures.next_bits i i_lt_64
+    place_in_text

@@ -7,8 +7,8 @@ invariant_of-result-clause-begins c i i_lt_64 place_in_text bit_is_one =
     c.at-block.result.begins i i_lt_64 place_in_text
     (kept_bit_is_above_k c.at-block.result.starts (c.args.from % 64) i i_lt_64 bit_is_one).1
 
-pub invariant_of-result-clause-starts_are_from_from : goal.invariant_of-result-clause-starts_are_from_from
-invariant_of-result-clause-starts_are_from_from c i i_lt_64 bit_is_one =
+pub invariant_of-result-clause-starts_ge_from : goal.invariant_of-result-clause-starts_ge_from
+invariant_of-result-clause-starts_ge_from c i i_lt_64 bit_is_one =
     let from_le_i =
     (kept_bit_is_above_k c.at-block.result.starts (c.args.from % 64) i i_lt_64 bit_is_one).0 in
     omega (arith, from_le_i, c.at-block.ensures.base)

@@ -56,7 +56,7 @@ returns-then-to-start-clause-first_beginning c =
     (omega arith) in
     no_words_between text c.args.self.now.from (scanner.base + trailing_zeros w64 scanner.starts)
     c.args.to
-    (omega (arith, invariant_before.from_rises, scanner.starts_are_from_from
+    (omega (arith, invariant_before.from_rises, scanner.starts_ge_from
     (trailing_zeros w64 scanner.starts) lowest_bit.0 lowest_bit.1))
     c.if-to-start.true
     (λ i from_le_i i_lt_end i_lt_to. holds_up_to_next_bit
@@ -78,8 +78,8 @@ invariant_of-self-clause-begins c i i_lt_64 place_in_text bit_is_one =
     i_lt_64
     bit_is_one).1
 
-pub invariant_of-self-clause-starts_are_from_from : goal.invariant_of-self-clause-starts_are_from_from
-invariant_of-self-clause-starts_are_from_from c i i_lt_64 bit_is_one =
+pub invariant_of-self-clause-starts_ge_from : goal.invariant_of-self-clause-starts_ge_from
+invariant_of-self-clause-starts_ge_from c i i_lt_64 bit_is_one =
     let scanner = c.loop-self.self in
     let lowest_bit =
     bit_at-trailing_zeros w64 scanner.starts (omega (arith, c.loop-self-test.false))
@@ -95,7 +95,7 @@ invariant_of-self-clause-begins_none c i i_lt_64 place_in_text from_le_i bit_is_
     bit_at-trailing_zeros w64 scanner.starts (omega (arith, c.loop-self-test.false))
     (omega arith) in
     scanner.begins_none i i_lt_64 place_in_text (omega
-    (arith, from_le_i, scanner.starts_are_from_from (trailing_zeros w64 scanner.starts) lowest_bit.0
+    (arith, from_le_i, scanner.starts_ge_from (trailing_zeros w64 scanner.starts) lowest_bit.0
     lowest_bit.1))
     (sym (other_bits_are_kept scanner.starts (trailing_zeros w64 scanner.starts) lowest_bit.0 i
     i_lt_64
@@ -116,7 +116,7 @@ returns-clause-first_beginning c =
     (omega (arith, c.requires.to_le_length, c.if-to-start.false)) in
     record {
       from_le_start =
-          omega (arith, invariant_before.from_rises, scanner.starts_are_from_from
+          omega (arith, invariant_before.from_rises, scanner.starts_ge_from
           (trailing_zeros w64 scanner.starts) lowest_bit.0 lowest_bit.1);
       start_lt_to = omega (arith, c.if-to-start.false);
       begins =
@@ -179,7 +179,7 @@ returns-then-to-start-clause-done c =
     bit_at-trailing_zeros w64 scanner.starts (omega (arith, c.loop-self-test.false))
     (omega arith) in
     no_words_between text scanner.from (scanner.base + trailing_zeros w64 scanner.starts) c.args.to
-    (scanner.starts_are_from_from (trailing_zeros w64 scanner.starts) lowest_bit.0 lowest_bit.1)
+    (scanner.starts_ge_from (trailing_zeros w64 scanner.starts) lowest_bit.0 lowest_bit.1)
     c.if-to-start.true
     (λ i from_le_i i_lt_end i_lt_to. holds_up_to_next_bit
     (λ t k. begins_word t k ≡ false) scanner.text.now text scanner.starts scanner.from scanner.from

@@ -71,7 +71,8 @@ module _ (c : Then-self-stop-eq1) where
       let start_facts = c.in_ok-start.ensures in
       found_bytes_are_word c.args.self.now.text.now c.in_ok-start.start
       (c.next_start.new.self.base + c.first_one-stop.result) start_facts.first_beginning.begins
-      (omega (arith, start_facts.first_beginning.start_lt_to, c.requires.to_le_length)) start_le_stop
+      (omega (arith, start_facts.first_beginning.start_lt_to, c.requires.to_le_length))
+      start_le_stop
       (omega (arith, (stop_is_white c).0))
       none_white_to_stop (λ _. (stop_is_white c).1)
 
@@ -126,7 +127,8 @@ returns-clause-words c =
     let start_is = sym (found_word_from context).start_is in
     words_begin_with_found text _ c.args.self.now.from c.word_from.result.0.from c.args.to
     (found_word_from context).is_word
-    (subst (IsFirst text c.args.self.now.from c.args.to) start_is c.in_ok-start.ensures.first_beginning)
+    (subst (IsFirst text c.args.self.now.from c.args.to) start_is
+    c.in_ok-start.ensures.first_beginning)
     (subst (λ (s : ℕ). IsPassed text s c.word_from.result.0.from) start_is
     (none_passed_to_from context))
 
