@@ -258,20 +258,20 @@ module _ (text : List ℕ) (base white starts : ℕ) (first : Bool)
 -- ---- a word goes on
 
 module _ (text : List ℕ) (base m : ℕ) (white_mask_is : m ≡ mask is_white (take 64 (drop base text)))
-    where
-  pub zero_bit_is_not_white : (i : ℕ) → i < 64 → base + i < length text → bit_at m i ≡ 0
-      → white_at text (base + i) ≡ false
-  unfolding white_at
-  zero_bit_is_not_white i i_lt_64 place_in_text bit_is_zero =
-      zero_bit_fails_block_test is_white text base i i_lt_64 place_in_text
-      (ap (λ (n : ℕ). bit_at n i) (sym white_mask_is) ∙ bit_is_zero)
+  where
+    pub zero_bit_is_not_white : (i : ℕ) → i < 64 → base + i < length text → bit_at m i ≡ 0
+        → white_at text (base + i) ≡ false
+    unfolding white_at
+    zero_bit_is_not_white i i_lt_64 place_in_text bit_is_zero =
+        zero_bit_fails_block_test is_white text base i i_lt_64 place_in_text
+        (ap (λ (n : ℕ). bit_at n i) (sym white_mask_is) ∙ bit_is_zero)
 
-  pub one_bit_is_white : (i : ℕ) → i < 64 → bit_at m i ≡ 1
-      → (base + i < length text) × (white_at text (base + i) ≡ true)
-  unfolding white_at
-  one_bit_is_white i i_lt_64 bit_is_one =
-      one_bit_passes_test is_white text base i i_lt_64
-      (ap (λ (n : ℕ). bit_at n i) (sym white_mask_is) ∙ bit_is_one)
+    pub one_bit_is_white : (i : ℕ) → i < 64 → bit_at m i ≡ 1
+        → (base + i < length text) × (white_at text (base + i) ≡ true)
+    unfolding white_at
+    one_bit_is_white i i_lt_64 bit_is_one =
+        one_bit_passes_test is_white text base i i_lt_64
+        (ap (λ (n : ℕ). bit_at n i) (sym white_mask_is) ∙ bit_is_one)
 
 -- what holds up to a place holds up to the next bit of a mask
 pub holds_up_to_next_bit : (Q : List ℕ → ℕ → Type 0) (t text : List ℕ) (m from at base found : ℕ)
@@ -316,7 +316,7 @@ module _ (n k : ℕ) (k_lt_64 : k < 64) where
   remaining_bit_is_other i i_lt_64 bit_is_one =
       let i_is_not_k : i ≡ k → ⊥ =
       λ i_is_k. let cleared_bit_is_zero : bit_at (bit_and n (bit_not w64 (1 * 2 ^ k % 2 ^ 64))) i
-          ≡ 0 =
+      ≡ 0 =
       ap (bit_at (bit_and n (bit_not w64 (1 * 2 ^ k % 2 ^ 64)))) i_is_k
       ∙ bit_at_clear_same w64 n k k_lt_64 in
       omega (arith, cleared_bit_is_zero, bit_is_one) in

@@ -182,8 +182,8 @@ module _ (text places : List ℕ) (n runs : ℕ) where
       (run_start n runs (joined_so_far.joined_runs + 0 + 1)))) (sym first_is_piece)
       (joined_so_far.unjoined_are_runs 0 (Ok piece) some_left) in (
         joined_so_far.whole_is_run.to_is_place
-        ∙ ap (λ (i : ℕ). cut_place text places (run_start n runs i))
-        (sym plus_zero_is)
+            ∙ ap (λ (i : ℕ). cut_place text places (run_start n runs i))
+            (sym plus_zero_is)
             ∙ sym next_is_run.from_is_place,
         next_is_run.has_summary,
       )

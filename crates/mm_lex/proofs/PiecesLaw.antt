@@ -140,8 +140,11 @@ append_reading_inside text ws p r later items reads_inside no_fault is_open item
     let appended_is : append_reading text (side_reading p r) ws
     ≡ with_tokens r.tokens (reading text (resolved p r.open_comment) ws) = append_reading_none text
     (side_reading p r) ws no_fault in
-    rw (items_are, resolved_carried p open_comment_is.0 r.open_comment later.open_comment
-    open_comment_is.1)
+    rw (
+      items_are,
+      resolved_carried p open_comment_is.0 r.open_comment later.open_comment
+          open_comment_is.1,
+    )
     (sym (appended_is ∙ ap (λ (c : Option ℕ). with_tokens r.tokens (reading text c ws))
     open_comment_is.1
     ∙ ap (with_tokens r.tokens) (reads_inside open_comment_is.0)))
@@ -344,8 +347,11 @@ module _ (text : List ℕ) (a b c : ℕ) where
       subst (λ (o : Option Between). MatchOption o (IsUnbroken text b c) (IsReadBetween text b c))
       second_is_none
       second_summary in
-      record { broken = broken_then_unbroken read_between.broken is_unbroken; readings =
-          read_between.readings }
+      record {
+        broken = broken_then_unbroken read_between.broken is_unbroken;
+        readings =
+            read_between.readings;
+      }
 
   pub piece_of_two_broken : (first second : Option Between)
       (first_between second_between between : Between)
@@ -362,7 +368,7 @@ module _ (text : List ℕ) (a b c : ℕ) where
       →
       IsReadBetween text a c between
   piece_of_two_broken first second first_between second_between between first_is second_is
-    first_summary
+      first_summary
       second_summary head_is tail_is readings_join =
       let first_read : IsReadBetween text a b first_between =
       subst (λ (o : Option Between). MatchOption o (IsUnbroken text a b) (IsReadBetween text a b))

@@ -175,15 +175,20 @@ module _ (db : List Statement) (s : Statement) (b : BlockLists) (is_blocks : IsB
     grows_keeps_blocks grows = record {
       count =
           let counts_equal = is_blocks.count in
-          omega (arith, counts_equal, length_more db s, length-append b.block_of
-          (innermost b.open_blocks ∷ []));
+          omega (
+            arith,
+            counts_equal,
+            length_more db s,
+            length-append b.block_of
+                (innermost b.open_blocks ∷ []),
+          );
       ends_le_statements =
           let grown_bound = grows.ends_le_next in omega (arith, grown_bound, length_more db s);
       closings_le_openings = grows.closings_le_openings;
       stack_size_is = rw (length_more db s) grows.stack_size_is;
       blocks_have_ends =
           λ j j_lt_longer. holds_of_old_and_new {P = λ j. get_or of_more j 0 < length ends} j
-              j_lt_longer
+          j_lt_longer
           (λ j j_lt_length. rw (old_block_of_is_kept j j_lt_length)
           (let has_end = is_blocks.blocks_have_ends j j_lt_length in
           let grown_bound = grows.ends_only_grow in omega (arith, has_end, grown_bound)))
@@ -195,7 +200,7 @@ module _ (db : List Statement) (s : Statement) (b : BlockLists) (is_blocks : IsB
       open_blocks_rise = grows.open_blocks_rise;
       unended_is_on_stack =
           λ j j_lt_longer is_unended. holds_of_old_and_new
-              {P = λ j. get_or ends (get_or of_more j 0) 0 ≡ never
+          {P = λ j. get_or ends (get_or of_more j 0) 0 ≡ never
           → (depth (more db s) j ≤ depth (more db s) (length (more db s)))
           × (get_or opens (depth (more db s) j) 0 ≡ get_or of_more j 0)} j j_lt_longer
           old_is_on_stack
@@ -203,7 +208,7 @@ module _ (db : List Statement) (s : Statement) (b : BlockLists) (is_blocks : IsB
       open_up_to_end = open_up_to_its_end;
       ends_are_bounded =
           λ j j_lt_longer. holds_of_old_and_new
-              {P = λ j. (get_or ends (get_or of_more j 0) 0 ≡ never)
+          {P = λ j. (get_or ends (get_or of_more j 0) 0 ≡ never)
           ⊎ (get_or ends (get_or of_more j 0) 0 < length (more db s))} j j_lt_longer
           old_end_is_bounded
           (new_end_is_bounded grows.new_block_becomes);
@@ -218,8 +223,11 @@ module _ (db : List Statement) (s : Statement) (b : BlockLists) (is_blocks : IsB
             → (depth (more db s) (length db) ≤ depth (more db s) (length (more db s)))
             × (get_or opens (depth (more db s) (length db)) 0 ≡ get_or of_more (length db) 0)
         new_is_on_stack (inl is_open) is_unended =
-            rw (length_more db s, depth_before_is_kept db s (length db) (le_refl (length db)),
-            new_block_of_is_innermost)
+            rw (
+              length_more db s,
+              depth_before_is_kept db s (length db) (le_refl (length db)),
+              new_block_of_is_innermost,
+            )
             (is_open.1, is_open.2)
         new_is_on_stack (inr is_closed) is_unended =
             absurd (let innermost_is_unended : get_or ends (innermost b.open_blocks) 0
@@ -237,9 +245,12 @@ module _ (db : List Statement) (s : Statement) (b : BlockLists) (is_blocks : IsB
                 → (depth (more db s) j ≤ depth (more db s) (length (more db s)))
                 × (get_or opens (depth (more db s) j) 0 ≡ get_or of_more j 0)
             on_stack_by_becomes (inl (was_unended, inl is_open)) is_unended =
-                rw (length_more db s, depth_before_is_kept db s j (omega (arith, j_lt_length)),
-                old_block_of_is_kept j
-                j_lt_length)
+                rw (
+                  length_more db s,
+                  depth_before_is_kept db s j (omega (arith, j_lt_length)),
+                  old_block_of_is_kept j
+                      j_lt_length,
+                )
                 (is_open.1, is_open.2)
             on_stack_by_becomes (inl (was_unended, inr is_closed)) is_unended =
                 absurd (omega (arith, is_closed.0, length_lt_never, is_unended))
@@ -432,9 +443,16 @@ module _ (db : List Statement) (s : Statement) (b : BlockLists) (is_blocks : IsB
           → Becomes b.ends b.open_blocks j
       becomes_by_end j j_lt_length (inl is_unended) =
           let on_stack = is_blocks.unended_is_on_stack j j_lt_length is_unended in
-          inl (is_unended, inl (is_unended, let end_or_depth = on_stack.0 in
-              let depth_is = depth_after_other is_no_opening is_no_closing in
-              omega (arith, depth_is, end_or_depth), on_stack.1))
+          inl (
+            is_unended,
+            inl (
+              is_unended,
+              let end_or_depth = on_stack.0 in
+                  let depth_is = depth_after_other is_no_opening is_no_closing in
+                  omega (arith, depth_is, end_or_depth),
+              on_stack.1,
+            ),
+          )
       becomes_by_end j j_lt_length (inr end_or_depth) = inr (end_or_depth, refl)
 
   pub blocks_after_opening : is_opening s ≡ true → is_closing s ≡ false
@@ -547,12 +565,15 @@ module _ (db : List Statement) (s : Statement) (b : BlockLists) (is_blocks : IsB
                   ∙ is_unended,
               omega (arith, depth_is, end_or_depth),
               old_opens_are_kept (depth db j) (omega (arith, stack_size_before, end_or_depth))
-              ∙ on_stack.1,
+                  ∙ on_stack.1,
             ),
           )
       becomes_by_end j j_lt_length (inr end_or_depth) =
-          inr (end_or_depth, old_ends_are_kept (get_or b.block_of j 0)
-          (is_blocks.blocks_have_ends j j_lt_length))
+          inr (
+            end_or_depth,
+            old_ends_are_kept (get_or b.block_of j 0)
+                (is_blocks.blocks_have_ends j j_lt_length),
+          )
 
   pub blocks_after_closing : is_opening s ≡ false → is_closing s ≡ true → 0 < depth db (length db)
       → IsBlocks (db ++ s ∷ [])
@@ -580,14 +601,18 @@ module _ (db : List Statement) (s : Statement) (b : BlockLists) (is_blocks : IsB
             );
         open_blocks_have_ends =
             λ l l_lt_shorter. let l_lt_old : l < length b.open_blocks =
-                omega (arith, l_lt_shorter, opens_have_one_less) in
+            omega (arith, l_lt_shorter, opens_have_one_less) in
             rw (kept_opens_are_equal l l_lt_shorter)
             (let has_end = is_blocks.open_blocks_have_ends l l_lt_old in
-            omega (arith, has_end, length-set b.ends (innermost b.open_blocks)
-            (length b.block_of)));
+            omega (
+              arith,
+              has_end,
+              length-set b.ends (innermost b.open_blocks)
+                  (length b.block_of),
+            ));
         open_blocks_are_unended =
             λ l l_lt_shorter. let l_lt_old : l < length b.open_blocks =
-                omega (arith, l_lt_shorter, opens_have_one_less) in
+            omega (arith, l_lt_shorter, opens_have_one_less) in
             ap (λ q. get_or ends q 0) (kept_opens_are_equal l l_lt_shorter)
             ∙ get_or-set_other b.ends (innermost b.open_blocks) (get_or b.open_blocks l 0)
             (length b.block_of) 0
@@ -595,7 +620,7 @@ module _ (db : List Statement) (s : Statement) (b : BlockLists) (is_blocks : IsB
             ∙ is_blocks.open_blocks_are_unended l l_lt_old;
         open_blocks_rise =
             λ l q l_lt_shorter i. let l_lt_shorter_too : l < length opens =
-                omega (arith, l_lt_shorter, i) in
+            omega (arith, l_lt_shorter, i) in
             rw (kept_opens_are_equal l l_lt_shorter_too, kept_opens_are_equal q i)
             (is_blocks.open_blocks_rise l q l_lt_shorter (omega (arith, i, opens_have_one_less)));
         old_blocks_become =
@@ -604,7 +629,7 @@ module _ (db : List Statement) (s : Statement) (b : BlockLists) (is_blocks : IsB
         new_block_becomes =
             inr (
               get_or-set_same b.ends (innermost b.open_blocks) (length b.block_of) 0
-              innermost_has_end
+                  innermost_has_end
                   ∙ is_blocks.count,
               omega (arith, depth_is, some_block_is_open),
             );
@@ -696,7 +721,7 @@ module _ (db : List Statement) (s : Statement) (b : BlockLists) (is_blocks : IsB
           inr (
             ended_before,
             get_or-set_other b.ends (innermost b.open_blocks) (get_or b.block_of j 0)
-            (length b.block_of) 0
+                (length b.block_of) 0
                 (λ is_innermost. let is_unended : end_of b j
                 ≡ never = ap (λ k. get_or b.ends k 0) is_innermost ∙ innermost_is_unended in
                 omega (arith, is_unended, ended_before, length_lt_never)),

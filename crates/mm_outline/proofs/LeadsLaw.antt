@@ -101,7 +101,7 @@ module _ (text : List ℕ) (ws : List Word) (d from i : ℕ) (part : Part) where
             (tokens_from_begin_with text ws i i_lt_length)
             ∙ stops.0,
         has_gone.stop ∙ ap (shape_fault_from (progress text ws d part i))
-        (tokens_from_begin_with text ws i i_lt_length)
+            (tokens_from_begin_with text ws i i_lt_length)
             ∙ stops.1
             ∙ ap (λ b. Some
             (fault (token_at text ws i).at (shape_code b (token_at text ws i).word)))

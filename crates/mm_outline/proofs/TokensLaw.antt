@@ -88,7 +88,7 @@ rising_words_rising_tokens text c ws words_rise =
     (λ w vs ts later_implies words_rise_there.
     let later_kept = later_implies (pairs_tail Later w vs words_rise_there) in (
       AllPairs-cons Later w ts (later_kept.1 w (pairs_head Later w vs words_rise_there))
-      later_kept.0,
+          later_kept.0,
       λ u later_than_u. All-cons
           (Later u) w ts (All-head (Later u) w vs later_than_u)
           (later_kept.1 u (All-tail (Later u) w vs later_than_u)),

@@ -34,11 +34,16 @@ byte_of_word : (word j : ℕ) → word < 2 ^ 64 → j < 8
 byte_of_word word j word_lt_2_64 j_lt_8 =
     let place_is_j : 8 * 0 + j ≡ j = omega arith in
     sym (ap (λ n. get_or (all_bytes word) n 0) place_is_j)
-    ∙ get_or_narrower (2 ^ 64) 8 256 64 (eight word) 0 j refl
-    (word_lt_2_64,
-    (word_lt_2_64,
-    (word_lt_2_64,
-    (word_lt_2_64, (word_lt_2_64, (word_lt_2_64, (word_lt_2_64, (word_lt_2_64, tt)))))))) j_lt_8
+    ∙ get_or_narrower (2 ^ 64) 8 256 64 (eight word) 0 j refl (
+      word_lt_2_64,
+      (
+        word_lt_2_64,
+        (
+          word_lt_2_64,
+          (word_lt_2_64, (word_lt_2_64, (word_lt_2_64, (word_lt_2_64, (word_lt_2_64, tt))))),
+        ),
+      ),
+    ) j_lt_8
     (omega arith)
 
 -- lane k takes byte k / 8 of the word, and tests its bit k % 8
@@ -166,8 +171,8 @@ module _ (m : Marks) (rows columns : ℕ) (words : List ℕ)
       → into ≡ map (λ j. digit_of (mark_at j (row_marks m i)))
       (range_with_len (64 * word) (length into_before))
   written_are_row_cells i word part into into_before row_lt_marks part_is_row cells_fit_marks
-    whole_words
-    lengths_equal
+      whole_words
+      lengths_equal
       digits_are =
       ext_get_or 0 into (map cell (range_with_len (64 * word) (length into_before)))
       (lengths_equal ∙ sym

@@ -57,16 +57,16 @@ pub filled_with_one_more : (c : Citing) (columns cited : List ℕ) (n : ℕ)
     → FilledFrom c columns cited (n + 1) filled
 filled_with_one_more c columns cited n row marked filled filled_before lengths_equal mid_decides
     mid_past_columns new_decides new_past_columns = record {
-  has_words = lengths_equal ∙ filled_before.has_words;
-  marks = λ j j_lt_columns. (
-    λ is_marked. marked_to_via j j_lt_columns ((new_decides j j_lt_columns).0 is_marked),
-    λ is_via. via_to_marked j j_lt_columns is_via.0 is_via.1 is_via.2
-        (cases_eq is_via.0 n),
-  );
-  none_past_columns =
-      λ j columns_le_j. new_past_columns j columns_le_j ∙ mid_past_columns j columns_le_j
-      ∙ filled_before.none_past_columns j columns_le_j;
-}
+      has_words = lengths_equal ∙ filled_before.has_words;
+      marks = λ j j_lt_columns. (
+        λ is_marked. marked_to_via j j_lt_columns ((new_decides j j_lt_columns).0 is_marked),
+        λ is_via. via_to_marked j j_lt_columns is_via.0 is_via.1 is_via.2
+            (cases_eq is_via.0 n),
+      );
+      none_past_columns =
+          λ j columns_le_j. new_past_columns j columns_le_j ∙ mid_past_columns j columns_le_j
+          ∙ filled_before.none_past_columns j columns_le_j;
+    }
   where
     via_one_more : (j : ℕ) → IsVia c cited n (get_or columns j 0)
         → IsVia c cited (n + 1) (get_or columns j 0)
@@ -111,7 +111,7 @@ filled_row_is_bit_row c columns i row is_file_order i_lt_theorems filled = recor
   marks =
       λ j j_lt_columns. (
         λ is_marked. via_gives_rests (get_or columns j 0)
-        ((filled.marks j j_lt_columns).0 is_marked),
+            ((filled.marks j j_lt_columns).0 is_marked),
         λ rests. (filled.marks j j_lt_columns).1
             (rests_gives_via (get_or columns j 0) rests),
       );
@@ -184,14 +184,13 @@ pub marks_of_or : (c : Citing) (columns : List ℕ) (t : ℕ) (old from ored : L
     × ((j : ℕ) → length columns ≤ j → is_bit ored j ≡ is_bit old j)
 marks_of_or c columns t old from ored is_bit_row lengths_equal old_has_words words_are_ored =
     let bits_are_ored =
-    or_bits ored old from lengths_equal (old_has_words ∙ sym is_bit_row.has_words) words_are_ored in
-    (
+    or_bits ored old from lengths_equal (old_has_words ∙ sym is_bit_row.has_words) words_are_ored in (
       (λ j j_lt_columns. Decides-at (is_bit ored j) (is_bit old j || is_bit from j)
-      (bits_are_ored j)
+          (bits_are_ored j)
           (Decides-or (is_bit old j) (is_bit from j) ((λ is_set. is_set), λ is_set. is_set)
           (is_bit_row.marks j j_lt_columns))),
       λ j columns_le_j. bits_are_ored j
-      ∙ or_with_false (is_bit old j) (is_bit from j) (is_bit_row.none_past_columns j columns_le_j),
+          ∙ or_with_false (is_bit old j) (is_bit from j) (is_bit_row.none_past_columns j columns_le_j),
     )
 
 -- before the first citation, no bit is set
@@ -284,7 +283,7 @@ found_column_is_marked columns row marked j s is_statement_list column_is_found 
     decided_by_column (inl k_is_j) = (
       λ is_set. inr (sym column_is_found.1 ∙ ap (λ i. get_or columns i 0) (sym k_is_j)),
       λ set_or_statement. bits_are_set k
-      ∙ ap (λ was_set. was_set || is_bit row k) (eq-eqb k j k_is_j),
+          ∙ ap (λ was_set. was_set || is_bit row k) (eq-eqb k j k_is_j),
     )
     decided_by_column (inr k_is_not_j) =
         let bits_equal : is_bit marked k ≡ is_bit row k =
@@ -308,6 +307,8 @@ past_columns_are_kept columns row marked j s column_is_found bits_are_set k colu
 pub no_column_is_marked : (columns row : List ℕ) (s : ℕ)
     → ((i : ℕ) → i < length columns → get_or columns i 0 ≡ s → ⊥) → (k : ℕ) → k < length columns
     → Decides (is_bit row k) ((is_bit row k ≡ true) ⊎ (s ≡ get_or columns k 0))
-no_column_is_marked columns row s no_column k k_lt_columns =
-    ((λ is_set. inl is_set), λ set_or_statement. ⊎_elim (λ was_set. was_set)
-    (λ statement_is. absurd (no_column k k_lt_columns (sym statement_is))) set_or_statement)
+no_column_is_marked columns row s no_column k k_lt_columns = (
+  (λ is_set. inl is_set),
+  λ set_or_statement. ⊎_elim (λ was_set. was_set)
+      (λ statement_is. absurd (no_column k k_lt_columns (sym statement_is))) set_or_statement,
+)

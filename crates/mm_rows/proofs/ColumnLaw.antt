@@ -143,7 +143,7 @@ typecode_is_compared db k x v w is_assertion_k typecode_is_x name_of_x =
             → bytes_eq v w ≡ list_any (has_typecode (Some w)) (statement_at db k)
         compared_by_symbols [] symbols_are =
             absurd (let none_is_typecode : None ≡ Some x = sym (typecode_is [] symbols_are)
-                ∙ typecode_is_x in cc)
+            ∙ typecode_is_x in cc)
         compared_by_symbols (t ∷ ts) symbols_are =
             let typecode_found : Some (index_of t.word (symbol_names db)) ≡ Some x =
             sym (typecode_is (t ∷ ts) symbols_are) ∙ typecode_is_x in

@@ -266,8 +266,15 @@ module _ (m : Marks) (rows columns : ℕ) (words : List ℕ)
       let mark_index_is : bit_of (mark_at (4 * k + 0) ms) ≡ bit_of (mark_at (4 * k) ms) =
       ap (λ n. bit_of (mark_at n ms)) (omega arith) in
       let number_is_digit : four_at (get_or row (k / 16) 0) (k % 16) ≡ digit_at k ms =
-      omega (arith, first_bit_is, second_bit_is, third_bit_is, fourth_bit_is, bit_index_is,
-      mark_index_is) in
+      omega (
+        arith,
+        first_bit_is,
+        second_bit_is,
+        third_bit_is,
+        fourth_bit_is,
+        bit_index_is,
+        mark_index_is,
+      ) in
       subst (λ (x : Marks). four_at (get_or part (k / 16) 0) (k % 16) ≡ digit_at k (row_marks x i))
       (sym marks_are)
       (ap (λ xs. four_at (get_or xs (k / 16) 0) (k % 16)) part_is_row ∙ number_is_digit)
@@ -293,7 +300,7 @@ module _ (m : Marks) (rows columns : ℕ) (words : List ℕ)
       → into ≡ map (λ k. hex_digit (digit_at k (row_marks m i)))
       (range_with_len (16 * word) (length into_before))
   written_are_row_digits i word part into into_before i_lt_marks part_is_row digits_fit_marks
-    whole_words
+      whole_words
       lengths_equal digits_written =
       ext_get_or 0 into (map digit (range_with_len (16 * word) (length into_before)))
       (lengths_equal ∙ sym

@@ -33,8 +33,11 @@ pub filled_below_next : (c : Citing) (columns bits_before bits_after : List ℕ)
     → FilledBelow c columns i bits_before → FilledBelow c columns (i + 1) bits_after
 filled_below_next c columns bits_before bits_after i has_row lengths_equal others_are_kept
     filled_before =
-    record { size = lengths_equal ∙ filled_before.size; filled = λ r r_lt_next. filled_by_row r
-        r_lt_next (cases_eq r i) }
+    record {
+      size = lengths_equal ∙ filled_before.size;
+      filled = λ r r_lt_next. filled_by_row r
+          r_lt_next (cases_eq r i);
+    }
   where
     filled_by_row : (r : ℕ) → r < i + 1 → (r ≡ i) ⊎ (r ≡ i → ⊥) → HasRow c columns bits_after r
     filled_by_row r r_lt_next (inl r_is_i) =
@@ -49,5 +52,8 @@ filled_below_next c columns bits_before bits_after i has_row lengths_equal other
 pub all_filled_are_bit_rows : (c : Citing) (columns bits : List ℕ) (n : ℕ) → length c.theorems ≤ n
     → FilledBelow c columns n bits → AreBitRows c columns (length c.theorems) bits
 all_filled_are_bit_rows c columns bits n theorems_le_n filled_below =
-    record { size = filled_below.size; each = λ r r_lt_theorems. filled_below.filled r
-        (omega (arith, r_lt_theorems, theorems_le_n)) }
+    record {
+      size = filled_below.size;
+      each = λ r r_lt_theorems. filled_below.filled r
+          (omega (arith, r_lt_theorems, theorems_le_n));
+    }

@@ -31,9 +31,9 @@ pub next_is_indexed : (list indices : List ℕ) (n : ℕ) → IsStatementList li
     → AreIndicesOf list (n + 1) (slice_set indices (get_or list n 0) n)
 next_is_indexed list indices n is_statement_list n_lt_length statement_in_room indices_before =
     record {
-  index_is_in_list = λ s. known_after_setting s (cases_eq s (get_or list n 0));
-  each_has_index = λ i i_lt_next. each_after_setting i i_lt_next (cases_eq i n);
-}
+      index_is_in_list = λ s. known_after_setting s (cases_eq s (get_or list n 0));
+      each_has_index = λ i i_lt_next. each_after_setting i i_lt_next (cases_eq i n);
+    }
   where
     indices_after : List ℕ
     indices_after = slice_set indices (get_or list n 0) n

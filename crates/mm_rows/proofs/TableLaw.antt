@@ -167,7 +167,7 @@ module _ (m : Marks) (j : ℕ) (users : List ℕ) (is_column : IsColumn m j user
           row_by_count (inl i_lt_rows) = i_lt_rows
           row_by_count (inr rows_le_i) =
               absurd (let true_is_false : true ≡ false = sym bit_is_set
-                  ∙ is_column.none_past_rows i rows_le_i in cc)
+              ∙ is_column.none_past_rows i rows_le_i in cc)
 
   pub no_bit_no_user : (after : Option ℕ) (from : ℕ) → from ≡ first_after after
       → ((k : ℕ) → from ≤ k → is_bit users k ≡ false)
@@ -205,10 +205,12 @@ bit_rows_are_matrix c columns bits rows width m are_bit_rows rows_is width_is m_
       transposed_are_columns = refl;
       marked =
           λ i j i_lt_theorems j_lt_columns. let row_decides =
-              (are_bit_rows.each i i_lt_theorems).marks j j_lt_columns in
+          (are_bit_rows.each i i_lt_theorems).marks j j_lt_columns in
           let bit_is_mark = row_bit_is_table_bit bits (words_for (length columns)) i j (omega arith)
           ∙ sym (mark_is_bit (length c.theorems) (length columns) bits i j i_lt_theorems
-          j_lt_columns) in
-          ((λ is_marked. row_decides.0 (bit_is_mark ∙ is_marked)), λ rests. sym bit_is_mark
-          ∙ row_decides.1 rests);
+          j_lt_columns) in (
+            (λ is_marked. row_decides.0 (bit_is_mark ∙ is_marked)),
+            λ rests. sym bit_is_mark
+                ∙ row_decides.1 rests,
+          );
     }

@@ -47,8 +47,14 @@ row_has_width_words words width i n i_lt_n words_have_size =
     let product_of_sum = add-mul i 1 width in
     ap (λ k. length (take k (drop (i * width) words))) row_width_is
     ∙ length-take-le width (drop (i * width) words)
-    (omega (arith, products_ordered, product_of_sum, words_have_size, length-drop (i * width)
-    words))
+    (omega (
+      arith,
+      products_ordered,
+      product_of_sum,
+      words_have_size,
+      length-drop (i * width)
+          words,
+    ))
 
 -- bits past the words of a row are not set
 pub no_bit_past_row : (words : List ℕ) (width i n j : ℕ) → i < n → length words ≡ n * width

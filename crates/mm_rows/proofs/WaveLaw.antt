@@ -53,10 +53,10 @@ pub wave_with_citation : (c : Citing) (waves : List ℕ) (i : ℕ) (cited : List
 wave_with_citation c waves i cited n wave r is_file_order i_lt_theorems are_waves n_lt_length
     r_lt_theorems
     r_is_cited wave_before = (
-  let size_is = are_waves.size in let r_lt_i = r_is_earlier in
-      omega (arith, size_is, r_lt_i),
-  wave_by_longer (cases_lt wave (get_or waves r 0 + 1)),
-)
+      let size_is = are_waves.size in let r_lt_i = r_is_earlier in
+          omega (arith, size_is, r_lt_i),
+      wave_by_longer (cases_lt wave (get_or waves r 0 + 1)),
+    )
   where
     listed : n < length (list_at c i)
     listed = subst (λ xs. n < length xs) wave_before.cited_are_list n_lt_length
@@ -260,32 +260,32 @@ pub sorted_rows_are_by_wave : (waves : List ℕ) (ps qs : List (ℕ × ℕ))
 sorted_rows_are_by_wave waves ps qs pairs_have_waves each_row_has_pair is_permutation
     sorted_by_wave =
     record {
-  rows_lt_waves =
-      λ k d row_lt_count. let entry_is = (entry_has_wave k row_lt_count) in
-      subst (λ r. r < length waves)
-      (sym (get_or-map (λ (p : ℕ × ℕ). p.1) qs k (0, 0) d (pair_exists k row_lt_count))) entry_is.0;
-  each_row_is_there =
-      λ r row_lt_count. let pair_place =
+      rows_lt_waves =
+          λ k d row_lt_count. let entry_is = (entry_has_wave k row_lt_count) in
+          subst (λ r. r < length waves)
+          (sym (get_or-map (λ (p : ℕ × ℕ). p.1) qs k (0, 0) d (pair_exists k row_lt_count))) entry_is.0;
+      each_row_is_there =
+          λ r row_lt_count. let pair_place =
           Contains-permutation ps qs (get_or waves r 0, r) is_permutation
           (each_row_has_pair r row_lt_count) in (
-    pair_place.0,
-    subst (λ n. pair_place.0 < n) (sym (length-map qs (λ (p : ℕ × ℕ). p.1))) pair_place.1,
-    get_or-map
-        (λ (p : ℕ × ℕ). p.1) qs pair_place.0 (get_or waves r 0, r) r pair_place.1
-        ∙ ap (λ (p : ℕ × ℕ). p.1) pair_place.2,
-  );
-  waves_rise = λ i j row_lt_count j_lt_rows.
-      let j_lt_pairs = pair_exists j j_lt_rows in
-      let i_lt_pairs : i < length qs = omega (arith, row_lt_count, j_lt_pairs) in
-      subst (λ x. get_or waves x 0 ≤ get_or waves (get_or (map (λ (p : ℕ × ℕ). p.1) qs) j 0) 0)
-      (sym (get_or-map (λ (p : ℕ × ℕ). p.1) qs i (0, 0) 0 i_lt_pairs))
-      (subst (λ x. get_or waves (get_or qs i (0, 0)).1 0 ≤ get_or waves x 0)
-      (sym (get_or-map (λ (p : ℕ × ℕ). p.1) qs j (0, 0) 0 j_lt_pairs))
-      (let first_entry_is = (sorted_pairs_have_waves i (0, 0) i_lt_pairs).1 in
-      let second_entry_is = (sorted_pairs_have_waves j (0, 0) j_lt_pairs).1 in
-      let waves_ordered = sorted_by_wave i j (0, 0) row_lt_count j_lt_pairs in
-      omega (arith, first_entry_is, second_entry_is, waves_ordered)));
-}
+            pair_place.0,
+            subst (λ n. pair_place.0 < n) (sym (length-map qs (λ (p : ℕ × ℕ). p.1))) pair_place.1,
+            get_or-map
+                (λ (p : ℕ × ℕ). p.1) qs pair_place.0 (get_or waves r 0, r) r pair_place.1
+                ∙ ap (λ (p : ℕ × ℕ). p.1) pair_place.2,
+          );
+      waves_rise = λ i j row_lt_count j_lt_rows.
+          let j_lt_pairs = pair_exists j j_lt_rows in
+          let i_lt_pairs : i < length qs = omega (arith, row_lt_count, j_lt_pairs) in
+          subst (λ x. get_or waves x 0 ≤ get_or waves (get_or (map (λ (p : ℕ × ℕ). p.1) qs) j 0) 0)
+          (sym (get_or-map (λ (p : ℕ × ℕ). p.1) qs i (0, 0) 0 i_lt_pairs))
+          (subst (λ x. get_or waves (get_or qs i (0, 0)).1 0 ≤ get_or waves x 0)
+          (sym (get_or-map (λ (p : ℕ × ℕ). p.1) qs j (0, 0) 0 j_lt_pairs))
+          (let first_entry_is = (sorted_pairs_have_waves i (0, 0) i_lt_pairs).1 in
+          let second_entry_is = (sorted_pairs_have_waves j (0, 0) j_lt_pairs).1 in
+          let waves_ordered = sorted_by_wave i j (0, 0) row_lt_count j_lt_pairs in
+          omega (arith, first_entry_is, second_entry_is, waves_ordered)));
+    }
   where
     sorted_pairs_have_waves : All (λ p. (p.1 < length waves) × (get_or waves p.1 0 ≡ p.0)) qs
     sorted_pairs_have_waves =
@@ -314,9 +314,11 @@ zipped_items_by_index P zero a [] all_zipped = (refl, λ k d k_lt_n. absurd (ome
 zipped_items_by_index P zero a (y ∷ ys) all_zipped = absurd all_zipped
 zipped_items_by_index P (suc n) a [] all_zipped = absurd all_zipped
 zipped_items_by_index P (suc n) a (y ∷ ys) all_zip =
-    let later_zipped = zipped_items_by_index P n (a + 1) ys all_zip.1 in
-    ((let length_is_n = later_zipped.0 in
-    omega (arith, length_is_n)), λ k d k_lt_n. holds_at_index k d k_lt_n later_zipped.1)
+    let later_zipped = zipped_items_by_index P n (a + 1) ys all_zip.1 in (
+      (let length_is_n = later_zipped.0 in
+          omega (arith, length_is_n)),
+      λ k d k_lt_n. holds_at_index k d k_lt_n later_zipped.1,
+    )
   where
     holds_at_index : (k : ℕ) (d : _) → k < suc n
         → ((k : ℕ) (d : _) → k < n → P (a + 1 + k) (get_or ys k d))
@@ -332,8 +334,12 @@ zipped_items_by_index P (suc n) a (y ∷ ys) all_zip =
 pub nothing_is_filled : (c : Citing) (columns rows bits : List ℕ)
     → AreFilled c columns rows 0 bits bits
 nothing_is_filled c columns rows bits =
-    record { size = refl; none_lost = λ r has_row. has_row; filled = λ m m_lt_zero. absurd
-        (omega arith) }
+    record {
+      size = refl;
+      none_lost = λ r has_row. has_row;
+      filled = λ m m_lt_zero. absurd
+          (omega arith);
+    }
 
 pub one_more_is_filled : (c : Citing) (columns rows : List ℕ) (k : ℕ)
     (first bits_before bits_after row : List ℕ) (i : ℕ)
@@ -438,7 +444,7 @@ wave_rows_can_be_filled c columns waves rows from to bits are_waves is_by_wave f
         before_the_wave place_of_r q_lt_rows waves_equal (inl q_from_order) = q_from_order
         before_the_wave place_of_r q_lt_rows waves_equal (inr q_from_order) =
             absurd (let waves_ordered = is_by_wave.waves_rise from place_of_r q_from_order
-                q_lt_rows in
+            q_lt_rows in
             let waves_are_equal = one_wave p from_le_p p_lt_to in
             omega (arith, waves_ordered, waves_are_equal, waves_equal, wave_is_lower))
 
@@ -490,17 +496,17 @@ pub all_rows_are_filled : (c : Citing) (columns waves rows bits : List ℕ) (fro
     → length rows ≤ from → AreBitRows c columns (length c.theorems) bits
 all_rows_are_filled c columns waves rows bits from are_waves is_by_wave filled_rows rows_le_from =
     record {
-  size = filled_rows.size;
-  each = λ r r_lt_theorems.
-      let place_of_r =
-      is_by_wave.each_row_is_there r (let size_is = are_waves.size in
-      omega (arith, size_is, r_lt_theorems)) in
-      let row_is_r : get_or rows place_of_r.0 0 ≡ r =
-      get_or_default rows place_of_r.0 0 r place_of_r.1 ∙ place_of_r.2 in
-      subst (HasRow c columns bits) row_is_r
+      size = filled_rows.size;
+      each = λ r r_lt_theorems.
+          let place_of_r =
+          is_by_wave.each_row_is_there r (let size_is = are_waves.size in
+          omega (arith, size_is, r_lt_theorems)) in
+          let row_is_r : get_or rows place_of_r.0 0 ≡ r =
+          get_or_default rows place_of_r.0 0 r place_of_r.1 ∙ place_of_r.2 in
+          subst (HasRow c columns bits) row_is_r
           (filled_rows.filled place_of_r.0 (let place_lt_rows = place_of_r.1 in
-      omega (arith, place_lt_rows, rows_le_from)));
-}
+          omega (arith, place_lt_rows, rows_le_from)));
+    }
 
 -- row i and its wave are appended to the pairs of the first i rows
 pub pairs_with_next_row : (waves : List ℕ) (ps appended : List (ℕ × ℕ)) (i : ℕ) → i < length waves
@@ -512,7 +518,7 @@ pub pairs_with_next_row : (waves : List ℕ) (ps appended : List (ℕ × ℕ)) (
 pairs_with_next_row waves ps appended i i_lt_waves pairs_before appended_is = (
   omega (arith, i_lt_waves),
   ap length appended_is ∙ length-append ps ((get_or waves i 0, i) ∷ [])
-    ∙ ap (λ n. n + 1) pairs_before.1,
+      ∙ ap (λ n. n + 1) pairs_before.1,
   λ p p_lt_next. ap (λ qs. get_or qs p (0, 0)) appended_is ∙ pair_by_row p p_lt_next (cases_lt p i),
 )
   where

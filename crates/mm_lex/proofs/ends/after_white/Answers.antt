@@ -12,8 +12,12 @@ loop-place-preserved c = record {
       (λ i_lt_place. block_not_white c.args.text.now
       (c.loop-place.place - 64) c.classes_of.result.white c.classes_of.ensures.white
       c.if-classes_of-eq0.true
-      (omega (arith, c.loop-place-test.true, c.loop-place.invariant.place_le_to,
-      c.requires.to_le_length))
+      (omega (
+        arith,
+        c.loop-place-test.true,
+        c.loop-place.invariant.place_le_to,
+        c.requires.to_le_length,
+      ))
       i from_le_i
       (omega (arith, i_lt_place, c.loop-place-test.true)))
       (λ place_le_i. c.loop-place.invariant.not_white i place_le_i i_lt_to)

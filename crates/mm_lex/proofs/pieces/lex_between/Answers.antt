@@ -123,7 +123,7 @@ returns-clause-readings g c =
             next_from ∙ sym no_words_after
                 ∙ ap (λ (b : WordScanner). words_between text b.from to) (sym w.scanner-is),
             λ p. append_reading_is_complete text _ _ _ (invariant_before.inside_reading p)
-            next_from,
+                next_from,
           )
     ] in
     record {

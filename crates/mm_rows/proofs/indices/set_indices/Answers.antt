@@ -13,7 +13,7 @@ loop-index-preserved c =
     let statement_has_room = c.requires.room c.loop-index.index c.loop-index-test.true in (
       length-set c.loop-index.indices _ _ ∙ size_is_kept,
       next_is_indexed c.args.statements.now c.loop-index.indices c.loop-index.index
-      c.requires.rising
+          c.requires.rising
           c.loop-index-test.true (omega (arith, statement_has_room, size_is_kept))
           c.loop-index.invariant.1,
     )

@@ -43,9 +43,9 @@ loop-j-preserved c =
     w (j + 1) =
     elim c.if-word-ne0.branch [
       | then-word-ne0 branch ↦ rw (branch.transposed-is, c.div_ceil-down.ensures)
-      word_is_written
+          word_is_written
       | else-word-ne0 branch ↦ rw branch.transposed-is
-      (zero_is_written branch.if-word-ne0.false)
+          (zero_is_written branch.if-word-ne0.false)
     ] in
     record { from = omega arith; within = omega arith; written = one_more_is_written }
 

@@ -11,8 +11,13 @@ collect-requires-clause-ready g c κs k_lt_length =
     let each_lt_length =
     nat_range-All (λ i. i < length c.args.rows.now) 0 (length c.args.rows.now)
     (λ i zero_le_i i_lt_length. i_lt_length) in
-    rw (c.with_min_len.ensures.base, c.map.ensures.base, c.map.ensures.f, range_ends_are.0,
-    range_ends_are.1)
+    rw (
+      c.with_min_len.ensures.base,
+      c.map.ensures.base,
+      c.map.ensures.f,
+      range_ends_are.0,
+      range_ends_are.1,
+    )
     (λ k d k_lt_count.
     ((each_lt_length k d k_lt_count, (c.requires.theorems, c.requires.ready)), λ y is_row. tt))
 

@@ -21,7 +21,7 @@ returns g c =
     let pairs_length : length ps ≡ length waves = pairs_are.1 ∙ row_is_count in
     let pair_is : (p : ℕ) → p < length ps → get_or ps p (0, 0) ≡ (get_or waves p 0, p) =
     λ p place_lt_length. pairs_are.2 p (let pairs_length_is = pairs_are.1 in
-        omega (arith, pairs_length_is, place_lt_length)) in
+    omega (arith, pairs_length_is, place_lt_length)) in
     let pairs_have_waves : All (λ (p : ℕ × ℕ). (p.1 < length waves) × (get_or waves p.1 0 ≡ p.0))
     ps =
     λ k d place_lt_length. subst (λ (q : ℕ × ℕ). (q.1 < length waves) × (get_or waves q.1 0 ≡ q.0))
@@ -29,9 +29,12 @@ returns g c =
     ((omega (arith, place_lt_length, pairs_length)), refl) in
     let each_row_has_pair : (r : ℕ) → r < length waves → Contains ps (get_or waves r 0, r) =
     λ r place_lt_length. let r_lt_pairs : r < length ps =
-    omega (arith, place_lt_length, pairs_length) in
-    (r, r_lt_pairs, get_or_default ps r (get_or waves r 0, r) (0, 0) r_lt_pairs
-    ∙ pair_is r r_lt_pairs) in
+    omega (arith, place_lt_length, pairs_length) in (
+      r,
+      r_lt_pairs,
+      get_or_default ps r (get_or waves r 0, r) (0, 0) r_lt_pairs
+          ∙ pair_is r r_lt_pairs,
+    ) in
     let sorted_by_wave =
     IsNonDecreasingBy-from_sort_by_key (λ (p : ℕ × ℕ). p.0) qs c.sort_unstable_by_key.ensures.sorted
     (λ a r q k. search rules) in

@@ -32,8 +32,12 @@ loop-self-preserved c =
     record {
       texts_equal = c.next_block.ensures.text ∙ invariant_before.texts_equal;
       from_rises =
-          omega (arith, invariant_before.from_rises, scanner.from_le_block_end,
-          c.next_block.ensures.from);
+          omega (
+            arith,
+            invariant_before.from_rises,
+            scanner.from_le_block_end,
+            c.next_block.ensures.from,
+          );
       none_begins =
           λ i from_le_i i_lt_end i_lt_to. holds_up_to_next_bit
           (λ t k. begins_word t k ≡ false) scanner.text.now text scanner.starts c.args.self.now.from
@@ -56,8 +60,12 @@ returns-then-to-start-clause-first_beginning c =
     (omega arith) in
     no_words_between text c.args.self.now.from (scanner.base + trailing_zeros w64 scanner.starts)
     c.args.to
-    (omega (arith, invariant_before.from_rises, scanner.starts_ge_from
-    (trailing_zeros w64 scanner.starts) lowest_bit.0 lowest_bit.1))
+    (omega (
+      arith,
+      invariant_before.from_rises,
+      scanner.starts_ge_from
+          (trailing_zeros w64 scanner.starts) lowest_bit.0 lowest_bit.1,
+    ))
     c.if-to-start.true
     (λ i from_le_i i_lt_end i_lt_to. holds_up_to_next_bit
     (λ t k. begins_word t k ≡ false) scanner.text.now text scanner.starts c.args.self.now.from
@@ -84,9 +92,12 @@ invariant_of-self-clause-starts_ge_from c i i_lt_64 bit_is_one =
     let lowest_bit =
     bit_at-trailing_zeros w64 scanner.starts (omega (arith, c.loop-self-test.false))
     (omega arith) in
-    omega (arith, remaining_bits_are_above scanner.starts (trailing_zeros w64 scanner.starts)
-    lowest_bit.0
-    lowest_bit.2 i i_lt_64 bit_is_one)
+    omega (
+      arith,
+      remaining_bits_are_above scanner.starts (trailing_zeros w64 scanner.starts)
+          lowest_bit.0
+          lowest_bit.2 i i_lt_64 bit_is_one,
+    )
 
 pub invariant_of-self-clause-begins_none : goal.invariant_of-self-clause-begins_none
 invariant_of-self-clause-begins_none c i i_lt_64 place_in_text from_le_i bit_is_zero =
@@ -94,9 +105,12 @@ invariant_of-self-clause-begins_none c i i_lt_64 place_in_text from_le_i bit_is_
     let lowest_bit =
     bit_at-trailing_zeros w64 scanner.starts (omega (arith, c.loop-self-test.false))
     (omega arith) in
-    scanner.begins_none i i_lt_64 place_in_text (omega
-    (arith, from_le_i, scanner.starts_ge_from (trailing_zeros w64 scanner.starts) lowest_bit.0
-    lowest_bit.1))
+    scanner.begins_none i i_lt_64 place_in_text (omega (
+      arith,
+      from_le_i,
+      scanner.starts_ge_from (trailing_zeros w64 scanner.starts) lowest_bit.0
+          lowest_bit.1,
+    ))
     (sym (other_bits_are_kept scanner.starts (trailing_zeros w64 scanner.starts) lowest_bit.0 i
     i_lt_64
     (λ i_is_place. omega (arith, i_is_place, from_le_i)))
@@ -116,8 +130,12 @@ returns-clause-first_beginning c =
     (omega (arith, c.requires.to_le_length, c.if-to-start.false)) in
     record {
       from_le_start =
-          omega (arith, invariant_before.from_rises, scanner.starts_ge_from
-          (trailing_zeros w64 scanner.starts) lowest_bit.0 lowest_bit.1);
+          omega (
+            arith,
+            invariant_before.from_rises,
+            scanner.starts_ge_from
+                (trailing_zeros w64 scanner.starts) lowest_bit.0 lowest_bit.1,
+          );
       start_lt_to = omega (arith, c.if-to-start.false);
       begins =
           subst (λ (t : List ℕ). begins_word t (scanner.base + trailing_zeros w64 scanner.starts)

@@ -60,8 +60,11 @@ module _ (c : Then-self-stop-eq1) where
 
   start_le_stop : c.in_ok-start.start ≤ c.next_start.new.self.base + c.first_one-stop.result
   start_le_stop =
-      omega (arith, c.first_one-stop.ensures.from_le_place,
-      c.in_ok-start.ensures.taken.base_le_start)
+      omega (
+        arith,
+        c.first_one-stop.ensures.from_le_place,
+        c.in_ok-start.ensures.taken.base_le_start,
+      )
 
   found_is_word : IsWord c.args.self.now.text.now (record {
     start = c.in_ok-start.start;
@@ -101,8 +104,11 @@ returns-then-self-stop-eq1-clause-plain c _ =
 
 pub returns-then-self-stop-eq1-clause-onward : goal.returns-then-self-stop-eq1-clause-onward
 returns-then-self-stop-eq1-clause-onward c =
-    omega (arith, c.in_ok-start.ensures.first_beginning.from_le_start,
-    c.in_ok-start.ensures.taken.from_is_next)
+    omega (
+      arith,
+      c.in_ok-start.ensures.first_beginning.from_le_start,
+      c.in_ok-start.ensures.taken.from_is_next,
+    )
 
 -- ---- any other found_is_word
 
@@ -140,5 +146,8 @@ returns-clause-plain c = (found_word_from (goal.at.returns-clause-plain c).After
 
 pub returns-clause-onward : goal.returns-clause-onward
 returns-clause-onward c =
-    omega (arith, c.in_ok-start.ensures.first_beginning.from_le_start,
-    c.word_from.ensures.onward.start_lt_from)
+    omega (
+      arith,
+      c.in_ok-start.ensures.first_beginning.from_le_start,
+      c.word_from.ensures.onward.start_lt_from,
+    )

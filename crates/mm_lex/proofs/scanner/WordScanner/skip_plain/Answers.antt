@@ -15,25 +15,35 @@ invariant_of-self-clause-begins c i i_lt_64 place_in_text bit_is_one =
 
 pub invariant_of-self-clause-starts_ge_from : goal.invariant_of-self-clause-starts_ge_from
 invariant_of-self-clause-starts_ge_from c i i_lt_64 bit_is_one =
-    omega
-    (arith, (kept_bit_is_above_k c.args.self.now.starts c.last_one-end.result i i_lt_64
-    bit_is_one).0)
+    omega (
+      arith,
+      (kept_bit_is_above_k c.args.self.now.starts c.last_one-end.result i i_lt_64
+          bit_is_one).0,
+    )
 
 pub invariant_of-self-clause-begins_none : goal.invariant_of-self-clause-begins_none
 invariant_of-self-clause-begins_none c i i_lt_64 place_in_text from_le_i bit_is_zero =
     let scanner = c.args.self.now in
     let lowest_bit = bit_at-trailing_zeros w64 scanner.starts (omega arith) (omega arith) in
     scanner.begins_none i i_lt_64 place_in_text
-    (omega (arith, c.if-place-end.true, scanner.starts_ge_from
-    (trailing_zeros w64 scanner.starts) lowest_bit.0 lowest_bit.1))
+    (omega (
+      arith,
+      c.if-place-end.true,
+      scanner.starts_ge_from
+          (trailing_zeros w64 scanner.starts) lowest_bit.0 lowest_bit.1,
+    ))
     (sym (bits_from scanner.starts c.last_one-end.result i i_lt_64 (omega arith)) ∙ bit_is_zero)
 
 pub returns-then-place-end-clause-onward : goal.returns-then-place-end-clause-onward
 returns-then-place-end-clause-onward c =
     let scanner = c.args.self.now in
     let lowest_bit = bit_at-trailing_zeros w64 scanner.starts (omega arith) (omega arith) in
-    omega (arith, c.if-place-end.true, scanner.starts_ge_from
-    (trailing_zeros w64 scanner.starts) lowest_bit.0 lowest_bit.1)
+    omega (
+      arith,
+      c.if-place-end.true,
+      scanner.starts_ge_from
+          (trailing_zeros w64 scanner.starts) lowest_bit.0 lowest_bit.1,
+    )
 
 pub returns-then-place-end-clause-plain : goal.returns-then-place-end-clause-plain
 returns-then-place-end-clause-plain c =

@@ -35,7 +35,7 @@ loop-stop-init c =
       white_at_stop = first_stop.ensures.one;
       plain_up_to_stop =
           λ known_plain. let stops_equal =
-              eqb-true c.first_one.result first_stop.result known_plain in
+          eqb-true c.first_one.result first_stop.result known_plain in
           holds_up_to_next_bit (λ t i. plain_at t i ≡ true) text text scanner.stops c.args.start
           c.args.start
           scanner.base
