@@ -30,7 +30,7 @@ look_without_skip v f o open_number_is open_number_is_kept none_is_skipped =
     ap (λ (number : Option ℕ). v.skipped ++ skipped_by_look number f) open_number_is
     ∙ ap (λ (numbers : List ℕ). v.skipped ++ numbers) none_is_skipped ∙ append-nil v.skipped in
     ap₂ (λ (a : Option ℕ) (b : List ℕ). record v { open_number = a; skipped = b; seen = f })
-        open_numbers_equal skipped_equal
+    open_numbers_equal skipped_equal
 
 look_with_skip : (v : View) (f i : ℕ) → v.open_number ≡ Some i → f < i
     → after_look v f ≡ record v { open_number = None; skipped = v.skipped ++ i ∷ []; seen = f }

@@ -114,8 +114,8 @@ module _ (n c f d : ℕ) (views : List View) (v : View) (rule : BoardRule n c f 
           le_count = rule.least.le_count;
           le_each_reported =
               λ y occurs. rule.least.le_each_reported y
-                  (let reports_equal = same_times_reported y in
-                  omega arith);
+              (let reports_equal = same_times_reported y in
+              omega arith);
           is_count_or_reported = stays_count_or_reported f rule.least.is_count_or_reported;
         };
     settled =
@@ -225,7 +225,7 @@ pub joined_records_are_disjoint : (v w : View) (x : ℕ) → w.open_number ≡ N
 joined_records_are_disjoint v w x nothing_open joined_at_most_once =
     let settled_add_up =
     times_in_append x v.settled w.settled in let reported_add_up =
-        times_in_append x v.reported w.reported in
+    times_in_append x v.reported w.reported in
     let skipped_add_up = times_in_append x v.skipped w.skipped in
     let none_open_in_w : times_open x w.open_number ≡ 0 =
     ap (λ (o : Option ℕ). times_open x o) nothing_open in

@@ -43,7 +43,7 @@ module _ (n c f d : ℕ) (views after : List View) (rule : BoardRule n c f d vie
           le_count = rule.least.le_count;
           le_each_reported =
               λ y occurs. rule.least.le_each_reported y (let totals_equal = regroups.reported y in
-                  omega arith);
+              omega arith);
           is_count_or_reported = stays_count_or_reported f rule.least.is_count_or_reported;
         };
     settled = rule.settled ∙ sym regroups.settled;
@@ -94,14 +94,14 @@ split_allowed n id v shares_to_give s r has_view = (
     seats =
         λ seat u has_view_after.
         elim (at_snoc (set s.views id (after_split v)) (new_seat_view v) u seat has_view_after) [
-      | inl h ↦ elim (at_set s.views id seat (after_split v) u h) [
-        | inl p ↦ subst (SeatRule n s.views (get_or s.words 0 0) (get_or s.words 1 0)) p.1
-            rule_of_old_seat
-        | inr p ↦ r.1.seats seat u p.1
-      ]
-      | inr h ↦
-          subst (SeatRule n s.views (get_or s.words 0 0) (get_or s.words 1 0)) h rule_of_new_seat
-    ];
+          | inl h ↦ elim (at_set s.views id seat (after_split v) u h) [
+            | inl p ↦ subst (SeatRule n s.views (get_or s.words 0 0) (get_or s.words 1 0)) p.1
+                rule_of_old_seat
+            | inr p ↦ r.1.seats seat u p.1
+          ]
+          | inr h ↦
+              subst (SeatRule n s.views (get_or s.words 0 0) (get_or s.words 1 0)) h rule_of_new_seat
+        ];
   },
 )
   where
@@ -182,86 +182,86 @@ pub join_allowed : (n id : ℕ) (v : View) (other_id : ℕ) (w : View) → w.ope
     → 0 < w.share → Joins (MeetsRule n) id v other_id w (after_join v w) spent_view
 join_allowed n id v other_id w nothing_open first_share_positive second_share_positive s r has_view
     ids_differ other_has_view = (
-  r.0,
-  rule_regrouped n _ _ _ s.views _ r.1 record {
-    once =
-        λ x. let totals_add_up =
+      r.0,
+      rule_regrouped n _ _ _ s.views _ r.1 record {
+        once =
+            λ x. let totals_add_up =
             total_after_join (times_recorded x) s.views id v other_id w has_view other_has_view in
-        let first_lists_add_up = times_in_append x v.settled w.settled in
-        let second_lists_add_up = times_in_append x v.reported w.reported in
-        let third_lists_add_up = times_in_append x v.skipped w.skipped in
-        let none_open_in_w : times_open x w.open_number
-        ≡ 0 = ap (λ (number : Option ℕ). times_open x number) nothing_open in
-        let joined_is : times_recorded x (after_join v w)
-        ≡ times_open x v.open_number + times_in x (v.settled ++ w.settled)
-        + times_in x (v.reported ++ w.reported) + times_in x (v.skipped ++ w.skipped) = refl in
-        let first_is : times_recorded x v
-        ≡ times_open x v.open_number + times_in x v.settled + times_in x v.reported
-        + times_in x v.skipped = refl in
-        let second_is : times_recorded x w
-        ≡ times_open x w.open_number + times_in x w.settled + times_in x w.reported
-        + times_in x w.skipped = refl in
-        let spent_is_zero : times_recorded x spent_view ≡ 0 = refl in omega arith;
-    lengths =
-        let totals_add_up =
-        total_after_join record_length s.views id v other_id w has_view other_has_view in
-        let first_lists_add_up = length-append v.settled w.settled in
-        let second_lists_add_up = length-append v.reported w.reported in
-        let third_lists_add_up = length-append v.skipped w.skipped in
-        let none_open_in_w : open_count w.open_number
-        ≡ 0 = ap (λ (number : Option ℕ). open_count number) nothing_open in
-        let joined_is : record_length (after_join v w)
-        ≡ open_count v.open_number + length (v.settled ++ w.settled)
-        + length (v.reported ++ w.reported) + length (v.skipped ++ w.skipped) = refl in
-        let first_is : record_length v
-        ≡ open_count v.open_number + length v.settled + length v.reported
-        + length v.skipped = refl in
-        let second_is : record_length w
-        ≡ open_count w.open_number + length w.settled + length w.reported
-        + length w.skipped = refl in
-        let spent_is_zero : record_length spent_view ≡ 0 = refl in omega arith;
-    reported =
-        λ x. let totals_add_up =
-        total_after_join (λ u. times_in x u.reported) s.views id v other_id w has_view
-        other_has_view in
-        let first_lists_add_up = times_in_append x v.reported w.reported in omega arith;
-    settled =
-        let totals_add_up =
-        total_after_join (λ u. length u.settled) s.views id v other_id w has_view other_has_view in
-        let first_lists_add_up = length-append v.settled w.settled in omega arith;
-    skipped =
-        λ x. let totals_add_up =
-        total_after_join (λ u. times_in x u.skipped) s.views id v other_id w has_view
-        other_has_view in
-        let first_lists_add_up = times_in_append x v.skipped w.skipped in omega arith;
-    shares =
-        let totals_add_up =
-        total_after_join (λ u. u.share) s.views id v other_id w has_view other_has_view in
-        omega arith;
-    over =
-        let totals_add_up =
-        total_after_join over_share s.views id v other_id w has_view other_has_view in
-        let none_open_in_w =
-        over_share_joined v.over w.over in
-        let spent_is_zero : over_share spent_view ≡ 0 =
-        refl in
-        let joined_is : over_share (after_join v w)
-        ≡ cond (v.over || w.over) (v.share + w.share) 0 = refl in
-        let first_is : over_share v ≡ cond v.over v.share 0 = refl in
-        let second_is : over_share w ≡ cond w.over w.share 0 = refl in omega arith;
-    seats =
-        λ seat u has_view_after.
-        elim (at_set (set s.views id (after_join v w)) other_id seat spent_view u has_view_after) [
-      | inl p ↦ subst (SeatRule n s.views (get_or s.words 0 0) (get_or s.words 1 0)) p.1
-          rule_of_spent_seat
-      | inr p ↦ elim (at_set s.views id seat (after_join v w) u p.1) [
-        | inl q ↦ subst (SeatRule n s.views (get_or s.words 0 0) (get_or s.words 1 0)) q.1
-            rule_of_joined_seat
-        | inr q ↦ r.1.seats seat u q.1
-      ]
-    ];
-  },
-)
+            let first_lists_add_up = times_in_append x v.settled w.settled in
+            let second_lists_add_up = times_in_append x v.reported w.reported in
+            let third_lists_add_up = times_in_append x v.skipped w.skipped in
+            let none_open_in_w : times_open x w.open_number
+            ≡ 0 = ap (λ (number : Option ℕ). times_open x number) nothing_open in
+            let joined_is : times_recorded x (after_join v w)
+            ≡ times_open x v.open_number + times_in x (v.settled ++ w.settled)
+            + times_in x (v.reported ++ w.reported) + times_in x (v.skipped ++ w.skipped) = refl in
+            let first_is : times_recorded x v
+            ≡ times_open x v.open_number + times_in x v.settled + times_in x v.reported
+            + times_in x v.skipped = refl in
+            let second_is : times_recorded x w
+            ≡ times_open x w.open_number + times_in x w.settled + times_in x w.reported
+            + times_in x w.skipped = refl in
+            let spent_is_zero : times_recorded x spent_view ≡ 0 = refl in omega arith;
+        lengths =
+            let totals_add_up =
+            total_after_join record_length s.views id v other_id w has_view other_has_view in
+            let first_lists_add_up = length-append v.settled w.settled in
+            let second_lists_add_up = length-append v.reported w.reported in
+            let third_lists_add_up = length-append v.skipped w.skipped in
+            let none_open_in_w : open_count w.open_number
+            ≡ 0 = ap (λ (number : Option ℕ). open_count number) nothing_open in
+            let joined_is : record_length (after_join v w)
+            ≡ open_count v.open_number + length (v.settled ++ w.settled)
+            + length (v.reported ++ w.reported) + length (v.skipped ++ w.skipped) = refl in
+            let first_is : record_length v
+            ≡ open_count v.open_number + length v.settled + length v.reported
+            + length v.skipped = refl in
+            let second_is : record_length w
+            ≡ open_count w.open_number + length w.settled + length w.reported
+            + length w.skipped = refl in
+            let spent_is_zero : record_length spent_view ≡ 0 = refl in omega arith;
+        reported =
+            λ x. let totals_add_up =
+            total_after_join (λ u. times_in x u.reported) s.views id v other_id w has_view
+            other_has_view in
+            let first_lists_add_up = times_in_append x v.reported w.reported in omega arith;
+        settled =
+            let totals_add_up =
+            total_after_join (λ u. length u.settled) s.views id v other_id w has_view other_has_view in
+            let first_lists_add_up = length-append v.settled w.settled in omega arith;
+        skipped =
+            λ x. let totals_add_up =
+            total_after_join (λ u. times_in x u.skipped) s.views id v other_id w has_view
+            other_has_view in
+            let first_lists_add_up = times_in_append x v.skipped w.skipped in omega arith;
+        shares =
+            let totals_add_up =
+            total_after_join (λ u. u.share) s.views id v other_id w has_view other_has_view in
+            omega arith;
+        over =
+            let totals_add_up =
+            total_after_join over_share s.views id v other_id w has_view other_has_view in
+            let none_open_in_w =
+            over_share_joined v.over w.over in
+            let spent_is_zero : over_share spent_view ≡ 0 =
+            refl in
+            let joined_is : over_share (after_join v w)
+            ≡ cond (v.over || w.over) (v.share + w.share) 0 = refl in
+            let first_is : over_share v ≡ cond v.over v.share 0 = refl in
+            let second_is : over_share w ≡ cond w.over w.share 0 = refl in omega arith;
+        seats =
+            λ seat u has_view_after.
+            elim (at_set (set s.views id (after_join v w)) other_id seat spent_view u has_view_after) [
+              | inl p ↦ subst (SeatRule n s.views (get_or s.words 0 0) (get_or s.words 1 0)) p.1
+                  rule_of_spent_seat
+              | inr p ↦ elim (at_set s.views id seat (after_join v w) u p.1) [
+                | inl q ↦ subst (SeatRule n s.views (get_or s.words 0 0) (get_or s.words 1 0)) q.1
+                    rule_of_joined_seat
+                | inr q ↦ r.1.seats seat u q.1
+              ]
+            ];
+      },
+    )
   where
     over_share_joined : (first_lists_add_up second_lists_add_up : Bool)
         → cond first_lists_add_up v.share 0 + cond second_lists_add_up w.share 0
@@ -276,9 +276,11 @@ join_allowed n id v other_id w nothing_open first_share_positive second_share_po
 
     second_seat_view : get_elem? s.views other_id ≡ some w
     second_seat_view =
-        elim (at_set s.views id other_id (after_join v w) w other_has_view)
-        [ inl is_that_seat ↦ absurd (ids_differ is_that_seat.0) | inr is_that_seat ↦
-        is_that_seat.1 ]
+        elim (at_set s.views id other_id (after_join v w) w other_has_view) [
+          | inl is_that_seat ↦ absurd (ids_differ is_that_seat.0)
+          | inr is_that_seat ↦
+              is_that_seat.1
+        ]
 
     second_seat_rule : SeatRule n s.views (get_or s.words 0 0) (get_or s.words 1 0) w
     second_seat_rule = r.1.seats other_id w second_seat_view
@@ -321,8 +323,8 @@ join_allowed n id v other_id w nothing_open first_share_positive second_share_po
       count = λ share_is_positive. first_seat_rule.count first_share_positive;
       floor =
           λ share_is_positive. let first_lists_add_up =
-              first_seat_rule.floor first_share_positive in
-              let second_lists_add_up = second_seat_rule.floor second_share_positive in
+          first_seat_rule.floor first_share_positive in
+          let second_lists_add_up = second_seat_rule.floor second_share_positive in
           omega arith;
       seen = λ share_is_positive. seen_of_joined (cases_lt v.seen w.seen);
       over = λ has_view_after. either_over v.over w.over refl refl has_view_after;

@@ -134,11 +134,11 @@ module _ (n a b c a' b' c' : ℕ) (v w : View) (views : List View) (id : ℕ)
     count = seat_rule.count;
     floor =
         λ p. let seat_bound =
-            seat_rule.floor p in let word_moves = moves.floor_word_falls in omega arith;
+        seat_rule.floor p in let word_moves = moves.floor_word_falls in omega arith;
     seen = λ p. stays_count_or_reported u.seen (seat_rule.seen p);
     over =
         λ p. let seat_bound =
-            seat_rule.over p in let word_moves = moves.claim_word_rises in omega arith;
+        seat_rule.over p in let word_moves = moves.claim_word_rises in omega arith;
     spent = seat_rule.spent;
   }
 
@@ -146,8 +146,8 @@ module _ (n a b c a' b' c' : ℕ) (v w : View) (views : List View) (id : ℕ)
   moves_keep_rule = record {
     once =
         λ x. let total_moves =
-            total_after_set (times_recorded x) views id v w has_view in let rule_before =
-                rule.once x in
+        total_after_set (times_recorded x) views id v w has_view in let rule_before =
+        rule.once x in
         let moved_part = moves.once x in omega arith;
     lengths =
         let total_moves = total_after_set record_length views id v w has_view in

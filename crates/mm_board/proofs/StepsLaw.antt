@@ -35,8 +35,8 @@ module _ (n : ℕ) (s : State (Unit {0}) View) (meets_rule : MeetsRule n s) (id 
         length-set s.words 0 z
             ∙ has_three_words,
         rw (claim_word_after, floor_word_after, settled_word_after)
-        (moves_keep_rule n _ _ _ _ _ _ v w s.views id meets_rule.1 has_view share_is_positive
-        moves),
+            (moves_keep_rule n _ _ _ _ _ _ v w s.views id meets_rule.1 has_view share_is_positive
+            moves),
       )
 
   pub floor_word_step_keeps_rule : (z : ℕ)
@@ -54,8 +54,8 @@ module _ (n : ℕ) (s : State (Unit {0}) View) (meets_rule : MeetsRule n s) (id 
         length-set s.words 1 z
             ∙ has_three_words,
         rw (claim_word_after, floor_word_after, settled_word_after)
-        (moves_keep_rule n _ _ _ _ _ _ v w s.views id meets_rule.1 has_view share_is_positive
-        moves),
+            (moves_keep_rule n _ _ _ _ _ _ v w s.views id meets_rule.1 has_view share_is_positive
+            moves),
       )
 
   pub settled_word_step_keeps_rule : (z : ℕ)
@@ -73,8 +73,8 @@ module _ (n : ℕ) (s : State (Unit {0}) View) (meets_rule : MeetsRule n s) (id 
         length-set s.words 2 z
             ∙ has_three_words,
         rw (claim_word_after, floor_word_after, settled_word_after)
-        (moves_keep_rule n _ _ _ _ _ _ v w s.views id meets_rule.1 has_view share_is_positive
-        moves),
+            (moves_keep_rule n _ _ _ _ _ _ v w s.views id meets_rule.1 has_view share_is_positive
+            moves),
       )
 
   -- what the rule says of the seat that steps
@@ -157,8 +157,8 @@ module _ (n b c : ℕ) (v : View) (floor : b ≤ v.seen) where
     share = refl;
     once =
         λ y. let once_below_moves =
-            once_below_moves_by_one y x n x_lt_n in let open_part_is =
-                none_open_times y nothing_open in
+        once_below_moves_by_one y x n x_lt_n in let open_part_is =
+        none_open_times y nothing_open in
         let record_after_is : times_recorded y (record v { open_number = Some x })
         ≡ cond (x == y) 1 0 + times_in y v.settled + times_in y v.reported
         + times_in y v.skipped = refl in
@@ -195,7 +195,7 @@ module _ (n b c : ℕ) (v : View) (floor : b ≤ v.seen) where
     share = refl;
     once =
         λ y. let least_is_n : min x n ≡ n =
-            omega arith in let next_least_is_n : min (x + 1) n ≡ n = omega arith in
+        omega arith in let next_least_is_n : min (x + 1) n ≡ n = omega arith in
         rw (least_is_n, next_least_is_n) refl;
     lengths =
         let lengths_equal : record_length (record v { over = true }) ≡ record_length v = refl in
@@ -224,7 +224,7 @@ module _ (n b c : ℕ) (v : View) (floor : b ≤ v.seen) where
     share = refl;
     once =
         λ y. let open_part_is =
-            times_of_open y i open_is in let parts_add_up = times_in_append y v.skipped (i ∷ []) in
+        times_of_open y i open_is in let parts_add_up = times_in_append y v.skipped (i ∷ []) in
         let record_after_is : times_recorded y
         (record v { open_number = None; skipped = v.skipped ++ i ∷ []; seen = b })
         ≡ 0 + times_in y v.settled + times_in y v.reported
@@ -280,7 +280,7 @@ module _ (n b c : ℕ) (v : View) (floor : b ≤ v.seen) where
     over = λ occurs_more. inl occurs_more;
     bound =
         λ t occurs_more. let over_shares_equal : over_share (record v { seen = b }) ≡ over_share v =
-            refl in omega arith;
+        refl in omega arith;
   }
 
   pub settles_number : (a i : ℕ) → v.open_number ≡ Some i
@@ -290,7 +290,7 @@ module _ (n b c : ℕ) (v : View) (floor : b ≤ v.seen) where
     share = refl;
     once =
         λ y. let open_part_is =
-            times_of_open y i open_is in let parts_add_up = times_in_append y v.settled (i ∷ []) in
+        times_of_open y i open_is in let parts_add_up = times_in_append y v.settled (i ∷ []) in
         let record_after_is : times_recorded y
         (record v { open_number = None; settled = v.settled ++ i ∷ [] })
         ≡ 0 + times_in y (v.settled ++ i ∷ []) + times_in y v.reported
@@ -333,7 +333,7 @@ module _ (n b c : ℕ) (v : View) (floor : b ≤ v.seen) where
     share = refl;
     once =
         λ y. let open_part_is =
-            times_of_open y i open_is in let parts_add_up = times_in_append y v.reported (i ∷ []) in
+        times_of_open y i open_is in let parts_add_up = times_in_append y v.reported (i ∷ []) in
         let record_after_is : times_recorded y
         (record v { open_number = None; reported = v.reported ++ i ∷ []; seen = min b i })
         ≡ 0 + times_in y v.settled + times_in y (v.reported ++ i ∷ [])

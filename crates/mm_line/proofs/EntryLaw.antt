@@ -33,7 +33,7 @@ pub empty_is_nil : {X : Type 0} (xs : List X) → is_empty xs ≡ true → xs �
 empty_is_nil [] is_empty_xs = refl
 empty_is_nil (x ∷ xs) is_empty_xs =
     absurd (let length_is_zero = eqb-true (length (x ∷ xs)) 0 is_empty_xs in
-        omega (arith, length_is_zero))
+    omega (arith, length_is_zero))
 
 not_some_option_is_none : {X : Type 0} (o : Option X) → not (is_some o) ≡ true → o ≡ None
 not_some_option_is_none None is_none = refl

@@ -291,170 +291,180 @@ module _ (names forms : Bor (List (Bor Text))) where
       ∷ form_rule forms ∷ flag_rule (codes "essential") ∷ flag_rule (codes "open") ∷ file_rule ∷ []
 
   module _ (c : Command) (app_is : app_of c ≡ command_of (report_rule names) (form_rule forms))
-      where
-    rules : map rule_of (args_of c) ≡ the_rules
-    unfolding command_of
-    rules = ap (λ (a : App). a.top.rules) app_is
+    where
+      rules : map rule_of (args_of c) ≡ the_rules
+      unfolding command_of
+      rules = ap (λ (a : App). a.top.rules) app_is
 
-    count : length (args_of c) ≡ length the_rules
-    count = sym (length-map (args_of c) rule_of) ∙ ap length rules
+      count : length (args_of c) ≡ length the_rules
+      count = sym (length-map (args_of c) rule_of) ∙ ap length rules
 
-    plain : (is_empty (out-Command c).groups.items ≡ true)
-        × (not (not (out-Command c).has_globals) ≡ false)
-    unfolding command_of
-    plain =
-        first_and_third (is_empty (out-Command c).groups.items)
-        (not (out-Command c).allow_external_subcommands) (not (out-Command c).has_globals) _
-        (ap (λ (a : App). a.top.is_plain) app_is)
+      plain : (is_empty (out-Command c).groups.items ≡ true)
+          × (not (not (out-Command c).has_globals) ≡ false)
+      unfolding command_of
+      plain =
+          first_and_third (is_empty (out-Command c).groups.items)
+          (not (out-Command c).allow_external_subcommands) (not (out-Command c).has_globals) _
+          (ap (λ (a : App). a.top.is_plain) app_is)
 
-    globals : (out-Command c).has_globals ≡ false
-    globals = sym (not-not (out-Command c).has_globals) ∙ plain.1
+      globals : (out-Command c).has_globals ≡ false
+      globals = sym (not-not (out-Command c).has_globals) ∙ plain.1
 
-    no_groups : groups_of c ≡ []
-    no_groups = empty_is_nil (out-Command c).groups.items plain.0
+      no_groups : groups_of c ≡ []
+      no_groups = empty_is_nil (out-Command c).groups.items plain.0
 
-    each_simple : (k : ℕ) (d : Arg) → k < length (args_of c)
-        → is_simple_arg (slice_index_or (args_of c) k d) ≡ true
-    each_simple =
-        each_argument_is_simple (args_of c) (ap (list_all (λ (r : Rule). r.is_simple)) rules)
+      each_simple : (k : ℕ) (d : Arg) → k < length (args_of c)
+          → is_simple_arg (slice_index_or (args_of c) k d) ≡ true
+      each_simple =
+          each_argument_is_simple (args_of c) (ap (list_all (λ (r : Rule). r.is_simple)) rules)
 
-    names_no_group : NamesNoGroup c
-    names_no_group k d k_lt_count =
-        (simple_leaves_out (slice_index_or (args_of c) k d) (each_simple k d k_lt_count)).groups
+      names_no_group : NamesNoGroup c
+      names_no_group k d k_lt_count =
+          (simple_leaves_out (slice_index_or (args_of c) k d) (each_simple k d k_lt_count)).groups
 
-    -- an argument with a default, by its rule
-    defaulted : (k : ℕ) (id value : Text) (q : ValueParser) → k < length the_rules
-        → ((a : Arg)
-        → slice_index_or the_rules k (rule_of a) ≡ slice_index_or the_rules k file_rule)
-        → (slice_index_or the_rules k file_rule).id ≡ id
-        → (slice_index_or the_rules k file_rule).action ≡ Some Set
-        → (slice_index_or the_rules k file_rule).range ≡ None
-        → (slice_index_or the_rules k file_rule).defaults ≡ value ∷ []
-        → (slice_index_or the_rules k file_rule).parser ≡ Some q
-        → ((j : ℕ) → j < length the_rules
-        → bytes_eq (slice_index_or the_rules j file_rule).id id ≡ true → j ≡ k)
-        → (id ≡ [] → ⊥) → ((id ≡ codes "help") ⊎ (id ≡ codes "version") → ⊥)
-        → (a : Arg) × Defaulted c k a id q
-        × (a.ignore_case ≡ (slice_index_or the_rules k file_rule).ignore_case)
-    defaulted k id value q k_lt_rules _ id_is action range default parser only_k_has_id
-        id_is_nonempty is_not_automatic =
-        let index_lt_count : k < length (args_of c) =
-        subst (λ (n : ℕ). k < n) (sym count) k_lt_rules in
-        let argument_there = argument_at_place (args_of c) k index_lt_count in
-        let a = argument_there.0 in
-        let rule_is : rule_of a ≡ slice_index_or the_rules k file_rule =
-        ap rule_of (sym argument_there.1)
-        ∙ rule_of_argument_is (args_of c) the_rules k a file_rule rules index_lt_count in
-        let id_of_argument_is : a.id.now ≡ id = ap (λ (r : Rule). r.id) rule_is ∙ id_is in (
-          a,
-          record {
-            index_lt_count = index_lt_count;
-            argument_is = argument_there.1;
-            id_is = id_of_argument_is;
-            simple =
-                subst (λ (y : Arg). is_simple_arg y ≡ true) argument_there.1
-                (each_simple k a index_lt_count);
-            action = ap (λ (r : Rule). r.action) rule_is ∙ action;
-            range = ap (λ (r : Rule). r.range) rule_is ∙ range;
-            default =
-                (let one_default : length (items_of a.default_vals)
-                ≡ 1 = sym (length-map (items_of a.default_vals) (λ s. s.now))
-                ∙ ap length (ap (λ (r : Rule). r.defaults) rule_is ∙ default) in
-                omega (arith, one_default));
-            parser = ap (λ (r : Rule). r.parser) rule_is ∙ parser;
-            id_is_unique =
-                λ j e j_lt_count j_has_id. only_k_has_id j
-                (subst (λ (n : ℕ). j < n) count j_lt_count)
-                (subst (λ (r : Rule). bytes_eq r.id id ≡ true)
-                (rule_of_argument_is (args_of c) the_rules j e file_rule rules j_lt_count)
-                j_has_id);
-            id_is_nonempty = id_is_nonempty;
-            is_not_automatic =
-                λ is_automatic. is_not_automatic
-                (elim is_automatic
-                [ inl h ↦ inl (sym id_of_argument_is ∙ h) | inr h ↦ inr
-                (sym id_of_argument_is ∙ h) ]);
-          },
-          ap (λ (r : Rule). r.ignore_case) rule_is,
-        )
+      -- an argument with a default, by its rule
+      defaulted : (k : ℕ) (id value : Text) (q : ValueParser) → k < length the_rules
+          → ((a : Arg)
+          → slice_index_or the_rules k (rule_of a) ≡ slice_index_or the_rules k file_rule)
+          → (slice_index_or the_rules k file_rule).id ≡ id
+          → (slice_index_or the_rules k file_rule).action ≡ Some Set
+          → (slice_index_or the_rules k file_rule).range ≡ None
+          → (slice_index_or the_rules k file_rule).defaults ≡ value ∷ []
+          → (slice_index_or the_rules k file_rule).parser ≡ Some q
+          → ((j : ℕ) → j < length the_rules
+          → bytes_eq (slice_index_or the_rules j file_rule).id id ≡ true → j ≡ k)
+          → (id ≡ [] → ⊥) → ((id ≡ codes "help") ⊎ (id ≡ codes "version") → ⊥)
+          → (a : Arg) × Defaulted c k a id q
+          × (a.ignore_case ≡ (slice_index_or the_rules k file_rule).ignore_case)
+      defaulted k id value q k_lt_rules _ id_is action range default parser only_k_has_id
+          id_is_nonempty is_not_automatic =
+          let index_lt_count : k < length (args_of c) =
+          subst (λ (n : ℕ). k < n) (sym count) k_lt_rules in
+          let argument_there = argument_at_place (args_of c) k index_lt_count in
+          let a = argument_there.0 in
+          let rule_is : rule_of a ≡ slice_index_or the_rules k file_rule =
+          ap rule_of (sym argument_there.1)
+          ∙ rule_of_argument_is (args_of c) the_rules k a file_rule rules index_lt_count in
+          let id_of_argument_is : a.id.now ≡ id = ap (λ (r : Rule). r.id) rule_is ∙ id_is in (
+            a,
+            record {
+              index_lt_count = index_lt_count;
+              argument_is = argument_there.1;
+              id_is = id_of_argument_is;
+              simple =
+                  subst (λ (y : Arg). is_simple_arg y ≡ true) argument_there.1
+                  (each_simple k a index_lt_count);
+              action = ap (λ (r : Rule). r.action) rule_is ∙ action;
+              range = ap (λ (r : Rule). r.range) rule_is ∙ range;
+              default =
+                  (let one_default : length (items_of a.default_vals)
+                  ≡ 1 = sym (length-map (items_of a.default_vals) (λ s. s.now))
+                  ∙ ap length (ap (λ (r : Rule). r.defaults) rule_is ∙ default) in
+                  omega (arith, one_default));
+              parser = ap (λ (r : Rule). r.parser) rule_is ∙ parser;
+              id_is_unique =
+                  λ j e j_lt_count j_has_id. only_k_has_id j
+                  (subst (λ (n : ℕ). j < n) count j_lt_count)
+                  (subst (λ (r : Rule). bytes_eq r.id id ≡ true)
+                  (rule_of_argument_is (args_of c) the_rules j e file_rule rules j_lt_count)
+                  j_has_id);
+              id_is_nonempty = id_is_nonempty;
+              is_not_automatic =
+                  λ is_automatic. is_not_automatic
+                  (elim is_automatic [
+                    | inl h ↦ inl (sym id_of_argument_is ∙ h)
+                    | inr h ↦ inr
+                        (sym id_of_argument_is ∙ h)
+                  ]);
+            },
+            ap (λ (r : Rule). r.ignore_case) rule_is,
+          )
 
-    module _ (m : ArgMatches) (p : IsParsedFrom c m) where
-      built_has_none : groups_of p.built ≡ []
-      built_has_none = (p.from.same_groups names_no_group).1 ∙ no_groups
+      module _ (m : ArgMatches) (p : IsParsedFrom c m) where
+        built_has_none : groups_of p.built ≡ []
+        built_has_none = (p.from.same_groups names_no_group).1 ∙ no_groups
 
-      workers_read : HasNumber m (codes "workers")
-      workers_read =
-          let argument =
-          defaulted 0 (codes "workers") (codes "4") (Signed (pos 1) (pos 64)) (omega arith)
-          (λ _. refl) refl refl refl refl refl
-          (listed_index_is_only the_rules file_rule (codes "workers") 0 refl)
-          (tested_different_differ _ _ refl)
-          (λ is_automatic_id. elim is_automatic_id
-          [ inl h ↦ tested_different_differ _ _ refl h | inr h ↦ tested_different_differ _ _ refl
-          h ]) in
-          let default_read =
-          default_is_read c m p globals built_has_none 0 argument.0 (codes "workers")
-          (Signed (pos 1) (pos 64)) argument.1 in
-          (default_read.text, default_read.text_is_read, default_read.text_is_accepted)
+        workers_read : HasNumber m (codes "workers")
+        workers_read =
+            let argument =
+            defaulted 0 (codes "workers") (codes "4") (Signed (pos 1) (pos 64)) (omega arith)
+            (λ _. refl) refl refl refl refl refl
+            (listed_index_is_only the_rules file_rule (codes "workers") 0 refl)
+            (tested_different_differ _ _ refl)
+            (λ is_automatic_id. elim is_automatic_id [
+              | inl h ↦ tested_different_differ _ _ refl h
+              | inr h ↦ tested_different_differ _ _ refl
+                  h
+            ]) in
+            let default_read =
+            default_is_read c m p globals built_has_none 0 argument.0 (codes "workers")
+            (Signed (pos 1) (pos 64)) argument.1 in
+            (default_read.text, default_read.text_is_read, default_read.text_is_accepted)
 
-      pieces_read : HasNumber m (codes "pieces")
-      pieces_read =
-          let argument =
-          defaulted 1 (codes "pieces") (codes "4") (Signed (pos 1) (pos 64)) (omega arith)
-          (λ _. refl) refl refl refl refl refl
-          (listed_index_is_only the_rules file_rule (codes "pieces") 1 refl)
-          (tested_different_differ _ _ refl)
-          (λ is_automatic_id. elim is_automatic_id
-          [ inl h ↦ tested_different_differ _ _ refl h | inr h ↦ tested_different_differ _ _ refl
-          h ]) in
-          let default_read =
-          default_is_read c m p globals built_has_none 1 argument.0 (codes "pieces")
-          (Signed (pos 1) (pos 64)) argument.1 in
-          (default_read.text, default_read.text_is_read, default_read.text_is_accepted)
+        pieces_read : HasNumber m (codes "pieces")
+        pieces_read =
+            let argument =
+            defaulted 1 (codes "pieces") (codes "4") (Signed (pos 1) (pos 64)) (omega arith)
+            (λ _. refl) refl refl refl refl refl
+            (listed_index_is_only the_rules file_rule (codes "pieces") 1 refl)
+            (tested_different_differ _ _ refl)
+            (λ is_automatic_id. elim is_automatic_id [
+              | inl h ↦ tested_different_differ _ _ refl h
+              | inr h ↦ tested_different_differ _ _ refl
+                  h
+            ]) in
+            let default_read =
+            default_is_read c m p globals built_has_none 1 argument.0 (codes "pieces")
+            (Signed (pos 1) (pos 64)) argument.1 in
+            (default_read.text, default_read.text_is_read, default_read.text_is_accepted)
 
-      report_read : map (λ n. n.now) names.now ≡ report_words → HasReport m
-      report_read names_are =
-          let argument =
-          defaulted 3 (codes "report") (codes "all") (Names names) (omega arith)
-          (λ _. refl) refl refl refl refl refl
-          (listed_index_is_only the_rules file_rule (codes "report") 3 refl)
-          (tested_different_differ _ _ refl)
-          (λ is_automatic_id. elim is_automatic_id
-          [ inl h ↦ tested_different_differ _ _ refl h | inr h ↦ tested_different_differ _ _ refl
-          h ]) in
-          let default_read =
-          default_is_read c m p globals built_has_none 3 argument.0 (codes "report") (Names names)
-          argument.1 in
-          let is_accepted : list_any (λ n. bytes_eq n.now default_read.text) names.now ≡ true =
-          rw argument.2 at default_read.text_is_accepted in
-          let word =
-          known_word_is_choice default_read.text
-          (ap (list_any (λ (w : Text). bytes_eq w default_read.text)) (sym names_are)
-          ∙ (sym (list_any-map (λ (w : Text). bytes_eq w default_read.text) (λ n. n.now) names.now)
-          ∙ is_accepted)) in
-          (word.0, default_read.text_is_first ∙ ap Some word.1)
+        report_read : map (λ n. n.now) names.now ≡ report_words → HasReport m
+        report_read names_are =
+            let argument =
+            defaulted 3 (codes "report") (codes "all") (Names names) (omega arith)
+            (λ _. refl) refl refl refl refl refl
+            (listed_index_is_only the_rules file_rule (codes "report") 3 refl)
+            (tested_different_differ _ _ refl)
+            (λ is_automatic_id. elim is_automatic_id [
+              | inl h ↦ tested_different_differ _ _ refl h
+              | inr h ↦ tested_different_differ _ _ refl
+                  h
+            ]) in
+            let default_read =
+            default_is_read c m p globals built_has_none 3 argument.0 (codes "report") (Names names)
+            argument.1 in
+            let is_accepted : list_any (λ n. bytes_eq n.now default_read.text) names.now ≡ true =
+            rw argument.2 at default_read.text_is_accepted in
+            let word =
+            known_word_is_choice default_read.text
+            (ap (list_any (λ (w : Text). bytes_eq w default_read.text)) (sym names_are)
+            ∙ (sym (list_any-map (λ (w : Text). bytes_eq w default_read.text) (λ n. n.now) names.now)
+            ∙ is_accepted)) in
+            (word.0, default_read.text_is_first ∙ ap Some word.1)
 
-      form_read : map (λ n. n.now) forms.now ≡ form_words → HasForm m
-      form_read names_are =
-          let argument =
-          defaulted 4 (codes "form") (codes "1") (Names forms) (omega arith)
-          (λ _. refl) refl refl refl refl refl
-          (listed_index_is_only the_rules file_rule (codes "form") 4 refl)
-          (tested_different_differ _ _ refl)
-          (λ is_automatic_id. elim is_automatic_id
-          [ inl h ↦ tested_different_differ _ _ refl h | inr h ↦ tested_different_differ _ _ refl
-          h ]) in
-          let default_read =
-          default_is_read c m p globals built_has_none 4 argument.0 (codes "form") (Names forms)
-          argument.1 in
-          let is_accepted : list_any (λ n. bytes_eq n.now default_read.text) forms.now ≡ true =
-          rw argument.2 at default_read.text_is_accepted in
-          let word =
-          known_word_is_form default_read.text
-          (ap (list_any (λ (w : Text). bytes_eq w default_read.text)) (sym names_are)
-          ∙ (sym (list_any-map (λ (w : Text). bytes_eq w default_read.text) (λ n. n.now) forms.now)
-          ∙ is_accepted)) in
-          (word.0, default_read.text_is_first ∙ ap Some word.1)
+        form_read : map (λ n. n.now) forms.now ≡ form_words → HasForm m
+        form_read names_are =
+            let argument =
+            defaulted 4 (codes "form") (codes "1") (Names forms) (omega arith)
+            (λ _. refl) refl refl refl refl refl
+            (listed_index_is_only the_rules file_rule (codes "form") 4 refl)
+            (tested_different_differ _ _ refl)
+            (λ is_automatic_id. elim is_automatic_id [
+              | inl h ↦ tested_different_differ _ _ refl h
+              | inr h ↦ tested_different_differ _ _ refl
+                  h
+            ]) in
+            let default_read =
+            default_is_read c m p globals built_has_none 4 argument.0 (codes "form") (Names forms)
+            argument.1 in
+            let is_accepted : list_any (λ n. bytes_eq n.now default_read.text) forms.now ≡ true =
+            rw argument.2 at default_read.text_is_accepted in
+            let word =
+            known_word_is_form default_read.text
+            (ap (list_any (λ (w : Text). bytes_eq w default_read.text)) (sym names_are)
+            ∙ (sym (list_any-map (λ (w : Text). bytes_eq w default_read.text) (λ n. n.now) forms.now)
+            ∙ is_accepted)) in
+            (word.0, default_read.text_is_first ∙ ap Some word.1)
 
 pub parsed_matches_are_found : (c : Command) (m : ArgMatches) (words : List Text)
     → IsCommand (app_of c)
@@ -513,9 +523,12 @@ line_is_read words m f line n cuts_are pieces_are one_le_pieces pieces_le_64 wor
       f.command,
       f.no_fault,
       record {
-        pieces =
-            (n, cuts_are, ap (option_map digits) (sym (one_texts_are (codes "pieces")))
-            ∙ pieces_are);
+        pieces = (
+          n,
+          cuts_are,
+          ap (option_map digits) (sym (one_texts_are (codes "pieces")))
+              ∙ pieces_are,
+        );
         workers = ap (option_map digits) (sym (one_texts_are (codes "workers"))) ∙ workers_are;
         only = sym (first_values_are (codes "only")) ∙ sym only_is;
         choice = sym (first_values_are (codes "report")) ∙ choice_is;
@@ -527,8 +540,10 @@ line_is_read words m f line n cuts_are pieces_are one_le_pieces pieces_le_64 wor
             subst (λ entry. IsFlag entry line.plan.with_open) (one_texts_are (codes "open"))
             with_open_is;
         file = sym (first_values_are (codes "FILE")) ∙ sym file_is;
-        lawful =
-            (subst IsLawfulCutting (sym cuts_are) (one_le_pieces, pieces_le_64), one_le_workers,
-            workers_le_64);
+        lawful = (
+          subst IsLawfulCutting (sym cuts_are) (one_le_pieces, pieces_le_64),
+          one_le_workers,
+          workers_le_64,
+        );
       },
     )

@@ -11,9 +11,9 @@ use Rattle.mm_lists.specs.Lists.{joined, cut, cut_at, with_end, AreEnds, ArePlac
 
 -- what stands between two places
 pub record IsPart {X : Type 0} (all : List X) (from to : ℕ) (part : List X) : Type 0 where
-  pub order : from ≤ to
-  pub within : to ≤ length all
-  pub is : slice_range all from to ≡ part
+  pub from_le_to : from ≤ to
+  pub to_le_length : to ≤ length all
+  pub range_is_part : slice_range all from to ≡ part
 
 -- ---- the places are within the one list, in order
 

@@ -41,15 +41,15 @@ pub known_lawful_is_sound : (db : List Statement) (look : List ℕ → Option Sy
     → IsSound db
 known_lawful_is_sound db look labels b knows_statements statements_lt_2_31 lawful
     symbols_have_numbers = record {
-  few = statements_lt_2_31;
-  lawful = lawful;
-  no_constant_is_variable =
-      λ w w_is_constant. let known_symbol =
+      few = statements_lt_2_31;
+      lawful = lawful;
+      no_constant_is_variable =
+          λ w w_is_constant. let known_symbol =
           knows_statements.symbols w in
           known_symbol.variable
           ∙ constant_is_no_variable (entry_of (look w)) (sym known_symbol.constant ∙ w_is_constant);
-  symbols_have_numbers = symbols_have_numbers;
-}
+      symbols_have_numbers = symbols_have_numbers;
+    }
 
 -- what has been read is lawful
 pub read_is_lawful : (len : ℕ) (x : LexedText) (db : List Statement) (fault : Option Fault)
@@ -91,12 +91,12 @@ pub are_symbols : (db : List Statement) (look : List ℕ → Option Symbol) (lab
     → AreSymbols db names kinds
 are_symbols db look labels b knows_statements names kinds names_are counts_equal kinds_are =
     record {
-  names_are = names_are;
-  count = counts_equal;
-  variable = λ s s_lt_count.
-      let w = get_or names s [] in
-      let name_is = slice_get-get_or names s [] s_lt_count in
-      kinds_are s w name_is ∙ marked_as_known (look w) ∙ sym (knows_statements.symbols w).variable
-      ∙ ap (λ o. elim o [ None ↦ false | Some w ↦ is_in w (flat_map variables_of db) ])
-      (sym name_is ∙ ap (λ xs. slice_get xs s) names_are);
-}
+      names_are = names_are;
+      count = counts_equal;
+      variable = λ s s_lt_count.
+          let w = get_or names s [] in
+          let name_is = slice_get-get_or names s [] s_lt_count in
+          kinds_are s w name_is ∙ marked_as_known (look w) ∙ sym (knows_statements.symbols w).variable
+          ∙ ap (λ o. elim o [ None ↦ false | Some w ↦ is_in w (flat_map variables_of db) ])
+          (sym name_is ∙ ap (λ xs. slice_get xs s) names_are);
+    }
