@@ -130,8 +130,7 @@ module _ (text places : List ℕ) (n runs : ℕ) where
       → IsJoinedSoFar text places n runs whole ps → 0 < length ps
       → Ok piece ≡ get_or ps 0 (Ok piece)
       → qs ≡ remove ps 0 →
-      joined.from_is_place ≡ whole.from_is_place → joined.to_is_place
-      ≡ piece.to_is_place → IsSummary text joined
+      joined.from ≡ whole.from → joined.to ≡ piece.to → IsSummary text joined
       → IsJoinedSoFar text places n runs joined qs
   next_run_is_joined ps qs whole piece joined joined_so_far some_left first_is_piece rest_is
       from_is_kept to_is_moved is_summary =
@@ -172,7 +171,7 @@ module _ (text places : List ℕ) (n runs : ℕ) where
   pub next_run_is_neighbour : (ps : List (Result Stretch AllocError)) (whole piece : Stretch)
       → IsJoinedSoFar text places n runs whole ps → 0 < length ps
       → Ok piece ≡ get_or ps 0 (Ok piece) →
-      (whole.to_is_place ≡ piece.from_is_place) × IsSummary text piece
+      (whole.to ≡ piece.from) × IsSummary text piece
   next_run_is_neighbour ps whole piece joined_so_far some_left first_is_piece =
       let plus_zero_is : joined_so_far.joined_runs + 0 ≡ joined_so_far.joined_runs = omega arith in
       let next_is_run : IsRun text places (run_start n runs (joined_so_far.joined_runs + 0))
@@ -192,7 +191,7 @@ module _ (text places : List ℕ) (n runs : ℕ) where
       → 0 < runs
       → runs ≤ n
       → n ≡ length places + 1 → IsJoinedSoFar text places n runs whole ps → length ps ≡ 0
-      → whole.to_is_place ≡ length text
+      → whole.to ≡ length text
   joined_run_is_whole_text ps whole runs_is_positive runs_le_n piece_count_is joined_so_far
       none_left =
       let all_are_joined : joined_so_far.joined_runs ≡ runs =

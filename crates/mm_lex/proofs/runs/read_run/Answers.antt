@@ -19,9 +19,9 @@ pub lex_piece-requires-in-loop-index-clause-from_le_to :
 lex_piece-requires-in-loop-index-clause-from_le_to g c =
     let places_rise =
     cut_places_rise c.args.text.now c.args.places.now c.requires.cuts c.loop-index.index in
-    let from_is_place : c.to_is_place.result ≡ cut_place c.args.text.now c.args.places.now
+    let from_is_place : c.to.result ≡ cut_place c.args.text.now c.args.places.now
     c.loop-index.index =
-    c.to_is_place.ensures ∙ c.loop-index.invariant.to_is_place in
+    c.to.ensures ∙ c.loop-index.invariant.to_is_place in
     rw (from_is_place, c.cut_place-to.ensures) places_rise
 
 pub lex_piece-requires-in-loop-index-clause-to_le_length :

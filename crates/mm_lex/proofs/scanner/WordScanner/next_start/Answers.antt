@@ -148,7 +148,7 @@ returns-clause-first_beginning c =
           scanner.text.now text
           scanner.starts
           c.args.self.now.from scanner.from scanner.base (trailing_zeros w64 scanner.starts)
-          invariant_before.texts_equal scanner.from_le_start
+          invariant_before.texts_equal scanner.base_le_from
           (omega (arith, lowest_bit.0)) invariant_before.none_begins
           (λ k _ k_lt_place. lowest_bit.2 k k_lt_place) scanner.begins_none i from_le_i i_lt_end
           (omega (arith, c.requires.to_le_length, c.if-to-start.false));
