@@ -73,7 +73,7 @@ pub enum Transition {
 }
 
 /// What a token of the class `class` does at `at`.
-#[tactic(auto, using(crate::proofs::TurnsLaw::between_more))]
+#[tactic(auto, using(crate::proofs::TurnsLaw::between_with_one_more))]
 fn transition_for(
     _text: &[u8],
     _tokens: &[Word],
