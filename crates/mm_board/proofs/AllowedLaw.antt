@@ -22,18 +22,20 @@ use Rattle.mm_board.proofs.StepsLaw.{settles_number, reports_number}
 
 look_without_skip : (v : View) (f : ℕ) (o : Option ℕ) → v.open_number ≡ o → open_after_look o f ≡ o
     → skipped_by_look o f ≡ [] → after_look v f ≡ record v { seen = f }
-look_without_skip v f o is kept none_new =
-    let p : open_after_look v.open_number f ≡ v.open_number =
-    ap (λ (q : Option ℕ). open_after_look q f) is ∙ kept ∙ sym is in
-    let q : v.skipped ++ skipped_by_look v.open_number f ≡ v.skipped =
-    ap (λ (q : Option ℕ). v.skipped ++ skipped_by_look q f) is
-    ∙ ap (λ (t : List ℕ). v.skipped ++ t) none_new ∙ append-nil v.skipped in
-    ap₂ (λ (a : Option ℕ) (b : List ℕ). record v { open_number = a; skipped = b; seen = f }) p q
+look_without_skip v f o open_number_is open_number_is_kept none_is_skipped =
+    let open_numbers_equal : open_after_look v.open_number f ≡ v.open_number =
+    ap (λ (number : Option ℕ). open_after_look number f) open_number_is ∙ open_number_is_kept
+    ∙ sym open_number_is in
+    let skipped_equal : v.skipped ++ skipped_by_look v.open_number f ≡ v.skipped =
+    ap (λ (number : Option ℕ). v.skipped ++ skipped_by_look number f) open_number_is
+    ∙ ap (λ (numbers : List ℕ). v.skipped ++ numbers) none_is_skipped ∙ append-nil v.skipped in
+    ap₂ (λ (a : Option ℕ) (b : List ℕ). record v { open_number = a; skipped = b; seen = f })
+    open_numbers_equal skipped_equal
 
 look_with_skip : (v : View) (f i : ℕ) → v.open_number ≡ Some i → f < i
     → after_look v f ≡ record v { open_number = None; skipped = v.skipped ++ i ∷ []; seen = f }
-look_with_skip v f i open_number_is f_below_i =
-    let below = lt-ltb f i f_below_i in
+look_with_skip v f i open_number_is f_lt_i =
+    let test_is_true = lt-ltb f i f_lt_i in
     ap (λ (q : Option ℕ). record v {
       open_number = open_after_look q f;
       skipped = v.skipped ++ skipped_by_look q f;
@@ -43,114 +45,124 @@ look_with_skip v f i open_number_is f_below_i =
       open_number = cond b None (Some i);
       skipped = v.skipped ++ cond b (i ∷ []) [];
       seen = f;
-    }) below
+    }) test_is_true
 
 pub joined_read_allowed : (n slots id : ℕ) (me : TokenState) → 0 < me.0.share
     → Allows (MeetsRule n) slots id me 0 (λ x. x)
     (StepTells IsClaimWord unchanged_view (step slots 0 0 0 none) me)
-joined_read_allowed n slots id me live s r _ at _ = (
+joined_read_allowed n slots id me share_is_positive s r _ has_view _ = (
   me.0,
   keeps,
   tt,
-  claim_word_step_keeps_rule n s r id me.0 me.0 at live (get_or s.words 0 0)
+  claim_word_step_keeps_rule n s r id me.0 me.0 has_view share_is_positive (get_or s.words 0 0)
       (reads_only n (get_or s.words 1 0) (get_or s.words 2 0) me.0
-      ((r.1.seats id me.0 at).floor live)
+      ((r.1.seats id me.0 has_view).floor share_is_positive)
       (get_or s.words 0 0)) me.1,
-  (refl, refl, claim_word n s r id me.0 me.0 at live),
+  (refl, refl, claim_word n s r id me.0 me.0 has_view share_is_positive),
 )
 
-pub claim_allowed : (n slots id : ℕ) (me : TokenState) → n ≤ 2147483648 → me.0.open_number ≡ None
+pub claim_allowed : (n slots id : ℕ) (me : TokenState) → n ≤ 2 ^ 31 → me.0.open_number ≡ None
     → me.0.over ≡ false → 0 < me.0.share
     → Allows (MeetsRule n) slots id me 0 (λ x. (x + 1) % 2 ^ 64)
     (StepTells IsClaimWord after_claim (step slots 0 1 0 none) me)
-claim_allowed n slots id me small closed isopen live s r _ at _ =
+claim_allowed n slots id me n_is_bounded nothing_open is_not_over share_is_positive s r _ has_view
+    _ =
     let x : ℕ = get_or s.words 0 0 in
-    let few = over_shares_at_most_shares s.views in let shares = r.1.shares in let b = r.1.bound in
-    let fits : x + 1 ≡ (x + 1) % 2 ^ 64 = omega arith in (
+    let over_shares_bound = over_shares_at_most_shares s.views in let shares_are = r.1.shares in
+    let claim_word_bound = r.1.bound in
+    let no_wrap : x + 1 ≡ (x + 1) % 2 ^ 64 = omega arith in (
       after_claim me.0 x,
       keeps,
       tt,
       subst
-          (λ (z : ℕ). MeetsRule n (stepped s 0 z id me.1 (after_claim me.0 x) keeps)) fits
-          (by_claim_word x refl (cases_lt x n)),
-      (refl, refl, claim_word n s r id me.0 me.0 at live),
+          (λ (z : ℕ). MeetsRule n (stepped s 0 z id me.1 (after_claim me.0 x) keeps)) no_wrap
+          (rule_by_claim_word x refl (cases_lt x n)),
+      (refl, refl, claim_word n s r id me.0 me.0 has_view share_is_positive),
     )
   where
-    count : me.0.count ≡ n
-    count = count_is n s r id me.0 me.0 at live
+    count_is_n : me.0.count ≡ n
+    count_is_n = count_is n s r id me.0 me.0 has_view share_is_positive
 
-    by_claim_word : (x : ℕ) → x ≡ get_or s.words 0 0 → (x < n) ⊎ (n ≤ x)
+    rule_by_claim_word : (x : ℕ) → x ≡ get_or s.words 0 0 → (x < n) ⊎ (n ≤ x)
         → MeetsRule n (stepped s 0 (x + 1) id me.1 (after_claim me.0 x) keeps)
-    by_claim_word x e (inl lt) =
-        let is : after_claim me.0 x ≡ record (me.0) { open_number = Some x } =
+    rule_by_claim_word x x_is_word (inl x_lt_n) =
+        let view_is : after_claim me.0 x ≡ record (me.0) { open_number = Some x } =
         ap (λ (b : Bool). cond b (record (me.0) { open_number = Some x })
-        (record (me.0) { over = true })) (lt-ltb x me.0.count (let c = count in omega arith)) in
-        subst (λ (w : View). MeetsRule n (stepped s 0 (x + 1) id me.1 w keeps)) (sym is)
-        (claim_word_step_keeps_rule n s r id me.0 _ at live (x + 1)
-        (rw (← e)
+        (record (me.0) { over = true })) (lt-ltb x me.0.count (let counts_equal = count_is_n in
+        omega arith)) in
+        subst (λ (w : View). MeetsRule n (stepped s 0 (x + 1) id me.1 w keeps)) (sym view_is)
+        (claim_word_step_keeps_rule n s r id me.0 _ has_view share_is_positive (x + 1)
+        (rw (← x_is_word)
         (claims_number n (get_or s.words 1 0) (get_or s.words 2 0) me.0
-        ((r.1.seats id me.0 at).floor live) x lt closed isopen)) me.1)
-    by_claim_word x e (inr le) =
-        let is : after_claim me.0 x ≡ record (me.0) { over = true } =
+        ((r.1.seats id me.0 has_view).floor share_is_positive) x x_lt_n nothing_open is_not_over))
+        me.1)
+    rule_by_claim_word x x_is_word (inr n_le_x) =
+        let view_is : after_claim me.0 x ≡ record (me.0) { over = true } =
         ap (λ (b : Bool). cond b (record (me.0) { open_number = Some x })
-        (record (me.0) { over = true })) (le-ltb x me.0.count (let c = count in omega arith)) in
-        subst (λ (w : View). MeetsRule n (stepped s 0 (x + 1) id me.1 w keeps)) (sym is)
-        (claim_word_step_keeps_rule n s r id me.0 _ at live (x + 1)
-        (rw (← e)
+        (record (me.0) { over = true })) (le-ltb x me.0.count (let counts_equal = count_is_n in
+        omega arith)) in
+        subst (λ (w : View). MeetsRule n (stepped s 0 (x + 1) id me.1 w keeps)) (sym view_is)
+        (claim_word_step_keeps_rule n s r id me.0 _ has_view share_is_positive (x + 1)
+        (rw (← x_is_word)
         (claims_none n (get_or s.words 1 0) (get_or s.words 2 0) me.0
-        ((r.1.seats id me.0 at).floor live) x le isopen live)) me.1)
+        ((r.1.seats id me.0 has_view).floor share_is_positive) x n_le_x is_not_over
+        share_is_positive)) me.1)
 
 pub look_allowed : (n slots id : ℕ) (me : TokenState) → 0 < me.0.share
     → Allows (MeetsRule n) slots id me 1 (λ x. x)
     (StepTells IsFloorWord after_look (step slots 1 0 0 none) me)
-look_allowed n slots id me live s r _ at _ = (
+look_allowed n slots id me share_is_positive s r _ has_view _ = (
   after_look me.0 (get_or s.words 1 0),
   keeps,
   tt,
-  by_open_number me.0.open_number refl,
-  (refl, refl, floor_word n s r id me.0 me.0 at live),
+  rule_by_open_number me.0.open_number refl,
+  (refl, refl, floor_word n s r id me.0 me.0 has_view share_is_positive),
 )
   where
-    without_skip : (o : Option ℕ) → me.0.open_number ≡ o → open_after_look o (get_or s.words 1 0)
+    rule_without_skip : (o : Option ℕ) → me.0.open_number ≡ o
+        → open_after_look o (get_or s.words 1 0)
         ≡ o
         → skipped_by_look o (get_or s.words 1 0) ≡ []
         → MeetsRule n
         (stepped s 1 (get_or s.words 1 0) id me.1 (after_look me.0 (get_or s.words 1 0)) keeps)
-    without_skip o is kept none_new =
+    rule_without_skip o open_number_is open_number_is_kept none_is_skipped =
         subst (λ (w : View). MeetsRule n (stepped s 1 (get_or s.words 1 0) id me.1 w keeps))
-        (sym (look_without_skip me.0 (get_or s.words 1 0) o is kept none_new))
-        (floor_word_step_keeps_rule n s r id me.0 _ at live (get_or s.words 1 0)
+        (sym (look_without_skip me.0 (get_or s.words 1 0) o open_number_is open_number_is_kept
+        none_is_skipped))
+        (floor_word_step_keeps_rule n s r id me.0 _ has_view share_is_positive (get_or s.words 1 0)
         (look_sees n (get_or s.words 1 0) (get_or s.words 2 0) me.0
-        ((r.1.seats id me.0 at).floor live) (get_or s.words 0 0)) me.1)
+        ((r.1.seats id me.0 has_view).floor share_is_positive) (get_or s.words 0 0)) me.1)
 
-    by_floor_word : (i : ℕ) → me.0.open_number ≡ Some i → (get_or s.words 1 0 < i)
+    rule_by_floor_word : (i : ℕ) → me.0.open_number ≡ Some i → (get_or s.words 1 0 < i)
         ⊎ (i ≤ get_or s.words 1 0)
         → MeetsRule n
         (stepped s 1 (get_or s.words 1 0) id me.1 (after_look me.0 (get_or s.words 1 0)) keeps)
-    by_floor_word i is (inl lt) =
+    rule_by_floor_word i open_number_is (inl floor_lt_i) =
         subst (λ (w : View). MeetsRule n (stepped s 1 (get_or s.words 1 0) id me.1 w keeps))
-        (sym (look_with_skip me.0 (get_or s.words 1 0) i is lt))
-        (floor_word_step_keeps_rule n s r id me.0 _ at live (get_or s.words 1 0)
+        (sym (look_with_skip me.0 (get_or s.words 1 0) i open_number_is floor_lt_i))
+        (floor_word_step_keeps_rule n s r id me.0 _ has_view share_is_positive (get_or s.words 1 0)
         (look_skips n (get_or s.words 1 0) (get_or s.words 2 0) me.0
-        ((r.1.seats id me.0 at).floor live) (get_or s.words 0 0) i lt is) me.1)
-    by_floor_word i is (inr le) =
-        without_skip (Some i) is
-        (ap (λ (b : Bool). cond b None (Some i)) (le-ltb (get_or s.words 1 0) i le))
-        (ap (λ (b : Bool). cond b (i ∷ []) []) (le-ltb (get_or s.words 1 0) i le))
+        ((r.1.seats id me.0 has_view).floor share_is_positive) (get_or s.words 0 0) i floor_lt_i
+        open_number_is) me.1)
+    rule_by_floor_word i open_number_is (inr i_le_floor) =
+        rule_without_skip (Some i) open_number_is
+        (ap (λ (b : Bool). cond b None (Some i)) (le-ltb (get_or s.words 1 0) i i_le_floor))
+        (ap (λ (b : Bool). cond b (i ∷ []) []) (le-ltb (get_or s.words 1 0) i i_le_floor))
 
-    by_open_number : (o : Option ℕ) → me.0.open_number ≡ o
+    rule_by_open_number : (o : Option ℕ) → me.0.open_number ≡ o
         → MeetsRule n
         (stepped s 1 (get_or s.words 1 0) id me.1 (after_look me.0 (get_or s.words 1 0)) keeps)
-    by_open_number None is = without_skip None is refl refl
-    by_open_number (Some i) is = by_floor_word i is (cases_lt (get_or s.words 1 0) i)
+    rule_by_open_number None open_number_is = rule_without_skip None open_number_is refl refl
+    rule_by_open_number (Some i) open_number_is =
+        rule_by_floor_word i open_number_is (cases_lt (get_or s.words 1 0) i)
 
 pub report_allowed : (n slots id i : ℕ) (me : TokenState) → me.0.open_number ≡ Some i
     → 0 < me.0.share
     → Allows (MeetsRule n) slots id me 1 (λ x. min x i)
     (StepTells IsFloorWord after_report (step slots 1 i 0 none) me)
-report_allowed n slots id i me is live s r _ at _ =
+report_allowed n slots id i me open_number_is share_is_positive s r _ has_view _ =
     let f : ℕ = get_or s.words 1 0 in
-    let w : after_report me.0 f
+    let view_is : after_report me.0 f
     ≡ record
     (me.0) { open_number = None; reported = me.0.reported ++ i ∷ []; seen = min f i } = ap
     (λ (o : Option ℕ). record
@@ -158,37 +170,39 @@ report_allowed n slots id i me is live s r _ at _ =
       open_number = None;
       reported = me.0.reported ++ open_list o;
       seen = min f (open_or_zero o);
-    }) is in (
+    }) open_number_is in (
       after_report me.0 f,
       keeps,
       tt,
-      subst (λ (w : View). MeetsRule n (stepped s 1 (min f i) id me.1 w keeps)) (sym w)
-          (floor_word_step_keeps_rule n s r id me.0 _ at live (min f i)
-          (reports_number n f (get_or s.words 2 0) me.0 ((r.1.seats id me.0 at).floor live)
-          (get_or s.words 0 0) i is) me.1),
-      (refl, refl, floor_word n s r id me.0 me.0 at live),
+      subst (λ (w : View). MeetsRule n (stepped s 1 (min f i) id me.1 w keeps)) (sym view_is)
+          (floor_word_step_keeps_rule n s r id me.0 _ has_view share_is_positive (min f i)
+          (reports_number n f (get_or s.words 2 0) me.0
+          ((r.1.seats id me.0 has_view).floor share_is_positive)
+          (get_or s.words 0 0) i open_number_is) me.1),
+      (refl, refl, floor_word n s r id me.0 me.0 has_view share_is_positive),
     )
 
-pub settle_allowed : (n slots id i : ℕ) (me : TokenState) → n ≤ 2147483648
+pub settle_allowed : (n slots id i : ℕ) (me : TokenState) → n ≤ 2 ^ 31
     → me.0.open_number ≡ Some i → 0 < me.0.share
     → Allows (MeetsRule n) slots id me 2 (λ x. (x + 1) % 2 ^ 64)
     (StepTells IsSettledWord after_settle (step slots 2 1 0 none) me)
-settle_allowed n slots id i me small is live s r _ at _ =
+settle_allowed n slots id i me n_is_bounded open_number_is share_is_positive s r _ has_view _ =
     let d : ℕ = get_or s.words 2 0 in
-    let few = settled_at_most_recorded s.views in let lengths = r.1.lengths in
-    let number : d ≡ _ = r.1.settled in
-    let fits : d + 1 ≡ (d + 1) % 2 ^ 64 = omega arith in
-    let w : after_settle me.0 d
+    let settled_le_recorded = settled_at_most_recorded s.views in let lengths_are = r.1.lengths in
+    let settled_word_is : d ≡ _ = r.1.settled in
+    let no_wrap : d + 1 ≡ (d + 1) % 2 ^ 64 = omega arith in
+    let view_is : after_settle me.0 d
     ≡ record (me.0) { open_number = None; settled = me.0.settled ++ i ∷ [] } = ap
     (λ (o : Option ℕ). record
-    (me.0) { open_number = None; settled = me.0.settled ++ open_list o }) is in (
+    (me.0) { open_number = None; settled = me.0.settled ++ open_list o }) open_number_is in (
       after_settle me.0 d,
       keeps,
       tt,
-      subst (λ (z : ℕ). MeetsRule n (stepped s 2 z id me.1 (after_settle me.0 d) keeps)) fits
-          (subst (λ (w : View). MeetsRule n (stepped s 2 (d + 1) id me.1 w keeps)) (sym w)
-          (settled_word_step_keeps_rule n s r id me.0 _ at live (d + 1)
-          (settles_number n (get_or s.words 1 0) d me.0 ((r.1.seats id me.0 at).floor live)
-          (get_or s.words 0 0) i is) me.1)),
-      (refl, refl, settled_word n s r id me.0 me.0 at live),
+      subst (λ (z : ℕ). MeetsRule n (stepped s 2 z id me.1 (after_settle me.0 d) keeps)) no_wrap
+          (subst (λ (w : View). MeetsRule n (stepped s 2 (d + 1) id me.1 w keeps)) (sym view_is)
+          (settled_word_step_keeps_rule n s r id me.0 _ has_view share_is_positive (d + 1)
+          (settles_number n (get_or s.words 1 0) d me.0
+          ((r.1.seats id me.0 has_view).floor share_is_positive)
+          (get_or s.words 0 0) i open_number_is) me.1)),
+      (refl, refl, settled_word n s r id me.0 me.0 has_view share_is_positive),
     )

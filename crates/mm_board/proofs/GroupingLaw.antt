@@ -14,24 +14,25 @@ use Rattle.mm_board.specs.Rule.{IsCountOrReported, SeatRule, BoardRule}
 use Rattle.mm_board.specs.Events.{after_split, new_seat_view, SplitKeepsRule, after_join}
 use Rattle.mm_board.specs.Events.{spent_view}
 use Rattle.mm_board.specs.Table.{MeetsRule}
-use Rattle.mm_board.proofs.SumsLaw.{total_set, total_snoc, times_in_append}
+use Rattle.mm_board.proofs.SumsLaw.{total_after_set, total_of_appended, times_in_append}
 
 -- The views become others, over which each total is the same
-record Regroups (n c f : ℕ) (views after : List View) : Type 0 where
-  once : (x : ℕ) → total (times_recorded x) after ≡ total (times_recorded x) views
-  lengths : total record_length after ≡ total record_length views
-  reported : (x : ℕ) → times_reported after x ≡ times_reported views x
-  settled : settled_count after ≡ settled_count views
-  skipped : (x : ℕ) → times_skipped after x ≡ times_skipped views x
-  shares : total (λ v. v.share) after ≡ total (λ v. v.share) views
-  over : total over_share views ≤ total over_share after
-  seats : (seat : ℕ) (v : View) → get_elem? after seat ≡ some v → SeatRule n views c f v
+record Regroups (n c f : ℕ) (views views_after : List View) : Type 0 where
+  once : (x : ℕ) → total (times_recorded x) views_after ≡ total (times_recorded x) views
+  lengths : total record_length views_after ≡ total record_length views
+  reported : (x : ℕ) → times_reported views_after x ≡ times_reported views x
+  settled : settled_count views_after ≡ settled_count views
+  skipped : (x : ℕ) → times_skipped views_after x ≡ times_skipped views x
+  shares : total (λ v. v.share) views_after ≡ total (λ v. v.share) views
+  over : total over_share views ≤ total over_share views_after
+  seats : (seat : ℕ) (v : View) → get_elem? views_after seat ≡ some v → SeatRule n views c f v
 
 module _ (n c f d : ℕ) (views after : List View) (rule : BoardRule n c f d views)
     (regroups : Regroups n c f views after) where
-  still_count_or_reported : (x : ℕ) → IsCountOrReported n views x → IsCountOrReported n after x
-  still_count_or_reported x (inl e) = inl e
-  still_count_or_reported x (inr p) = inr (let k = regroups.reported x in omega arith)
+  stays_count_or_reported : (x : ℕ) → IsCountOrReported n views x → IsCountOrReported n after x
+  stays_count_or_reported x (inl x_is_n) = inl x_is_n
+  stays_count_or_reported x (inr is_reported) =
+      inr (let reports_equal = regroups.reported x in omega arith)
 
   rule_regrouped : BoardRule n c f d after
   rule_regrouped = record {
@@ -39,23 +40,25 @@ module _ (n c f d : ℕ) (views after : List View) (rule : BoardRule n c f d vie
     lengths = regroups.lengths ∙ rule.lengths;
     least =
         record {
-          at_most = rule.least.at_most;
-          lowest = λ y p. rule.least.lowest y (let k = regroups.reported y in omega arith);
-          is_count_or_reported = still_count_or_reported f rule.least.is_count_or_reported;
+          le_count = rule.least.le_count;
+          le_each_reported =
+              λ y occurs. rule.least.le_each_reported y (let totals_equal = regroups.reported y in
+              omega arith);
+          is_count_or_reported = stays_count_or_reported f rule.least.is_count_or_reported;
         };
     settled = rule.settled ∙ sym regroups.settled;
-    skipped = λ x p. rule.skipped x (let k = regroups.skipped x in omega arith);
+    skipped = λ x occurs. rule.skipped x (let totals_equal = regroups.skipped x in omega arith);
     seats =
-        λ seat v e. let o = regroups.seats seat v e in
+        λ seat v has_view. let regrouped_fact = regroups.seats seat v has_view in
         record {
-          count = o.count;
-          floor = o.floor;
-          seen = λ p. still_count_or_reported v.seen (o.seen p);
-          over = o.over;
-          spent = o.spent;
+          count = regrouped_fact.count;
+          floor = regrouped_fact.floor;
+          seen = λ occurs. stays_count_or_reported v.seen (regrouped_fact.seen occurs);
+          over = regrouped_fact.over;
+          spent = regrouped_fact.spent;
         };
     shares = regroups.shares ∙ rule.shares;
-    bound = let o = regroups.over in let b = rule.bound in omega arith;
+    bound = let regrouped_fact = regroups.over in let claim_word_bound = rule.bound in omega arith;
   }
 
 -- a total after a split
@@ -63,203 +66,233 @@ total_after_split : (g : View → ℕ) (views : List View) (id : ℕ) (v : View)
     → get_elem? views id ≡ some v
     → g (after_split v) + g (new_seat_view v) ≡ g v
     → total g (set views id (after_split v) ++ new_seat_view v ∷ []) ≡ total g views
-total_after_split g views id v at e =
-    let t = total_set g views id v (after_split v) at in
-    let a = total_snoc g (set views id (after_split v)) (new_seat_view v) in omega arith
+total_after_split g views id v has_view parts_add_up =
+    let total_moves = total_after_set g views id v (after_split v) has_view in
+    let total_after_append = total_of_appended g (set views id (after_split v)) (new_seat_view v) in
+    omega arith
 
 pub split_allowed : (n id : ℕ) (v : View) → 1 < v.share
     → Splits (MeetsRule n) id v (after_split v) (new_seat_view v)
-split_allowed n id v more s r at = (
+split_allowed n id v shares_to_give s r has_view = (
   r.0,
   rule_regrouped n _ _ _ s.views _ r.1 record {
-    once = λ x. total_after_split (times_recorded x) s.views id v at (record_split x);
+    once = λ x. total_after_split (times_recorded x) s.views id v has_view (record_split x);
     lengths =
-        total_after_split record_length s.views id v at
-        (let a : record_length (after_split v) ≡ record_length v = refl in
-        let b : record_length (new_seat_view v) ≡ 0 = refl in omega arith);
-    reported = λ x. total_after_split (λ u. times_in x u.reported) s.views id v at (omega arith);
-    settled = total_after_split (λ u. length u.settled) s.views id v at (omega arith);
-    skipped = λ x. total_after_split (λ u. times_in x u.skipped) s.views id v at (omega arith);
-    shares = total_after_split (λ u. u.share) s.views id v at (omega arith);
-    over = let t = total_after_split over_share s.views id v at (over_share_split v.over) in
+        total_after_split record_length s.views id v has_view
+        (let record_is_kept : record_length (after_split v) ≡ record_length v = refl in
+        let new_record_is_zero : record_length (new_seat_view v) ≡ 0 = refl in omega arith);
+    reported =
+        λ x. total_after_split (λ u. times_in x u.reported) s.views id v has_view (omega arith);
+    settled = total_after_split (λ u. length u.settled) s.views id v has_view (omega arith);
+    skipped =
+        λ x. total_after_split (λ u. times_in x u.skipped) s.views id v has_view (omega arith);
+    shares = total_after_split (λ u. u.share) s.views id v has_view (omega arith);
+    over =
+        let over_shares_add_up =
+        total_after_split over_share s.views id v has_view (over_share_split v.over) in
         omega arith;
-    seats = λ seat u e. elim (at_snoc (set s.views id (after_split v)) (new_seat_view v) u seat e) [
-      | inl h ↦ elim (at_set s.views id seat (after_split v) u h) [
-        | inl p ↦ subst (SeatRule n s.views (get_or s.words 0 0) (get_or s.words 1 0)) p.1
-            rule_of_old_seat
-        | inr p ↦ r.1.seats seat u p.1
-      ]
-      | inr h ↦
-          subst (SeatRule n s.views (get_or s.words 0 0) (get_or s.words 1 0)) h rule_of_new_seat
-    ];
+    seats =
+        λ seat u has_view_after.
+        elim (at_snoc (set s.views id (after_split v)) (new_seat_view v) u seat has_view_after) [
+          | inl h ↦ elim (at_set s.views id seat (after_split v) u h) [
+            | inl p ↦ subst (SeatRule n s.views (get_or s.words 0 0) (get_or s.words 1 0)) p.1
+                rule_of_old_seat
+            | inr p ↦ r.1.seats seat u p.1
+          ]
+          | inr h ↦
+              subst (SeatRule n s.views (get_or s.words 0 0) (get_or s.words 1 0)) h rule_of_new_seat
+        ];
   },
 )
   where
     old_seat_rule : SeatRule n s.views (get_or s.words 0 0) (get_or s.words 1 0) v
-    old_seat_rule = r.1.seats id v at
+    old_seat_rule = r.1.seats id v has_view
 
     record_split : (x : ℕ)
         → times_recorded x (after_split v) + times_recorded x (new_seat_view v) ≡ times_recorded x v
     record_split x =
-        let a : times_recorded x (after_split v) ≡ times_recorded x v = refl in
-        let b : times_recorded x (new_seat_view v) ≡ 0 = refl in omega arith
+        let old_seat_keeps_record : times_recorded x (after_split v) ≡ times_recorded x v = refl in
+        let new_seat_has_none : times_recorded x (new_seat_view v) ≡ 0 = refl in omega arith
 
-    over_share_split : (b : Bool) → cond b (v.share - 1) 0 + cond b 1 0 ≡ cond b v.share 0
+    over_share_split : (new_record_is_zero : Bool)
+        → cond new_record_is_zero (v.share - 1) 0 + cond new_record_is_zero 1 0
+        ≡ cond new_record_is_zero v.share 0
     over_share_split true = omega arith
     over_share_split false = refl
 
     rule_of_old_seat : SeatRule n s.views (get_or s.words 0 0) (get_or s.words 1 0) (after_split v)
     rule_of_old_seat =
-        let live : 0 < v.share = omega arith in
+        let share_is_positive : 0 < v.share = omega arith in
         record {
-          count = λ p. old_seat_rule.count live;
-          floor = λ p. old_seat_rule.floor live;
-          seen = λ p. old_seat_rule.seen live;
+          count = λ share_is_positive_there. old_seat_rule.count share_is_positive;
+          floor = λ share_is_positive_there. old_seat_rule.floor share_is_positive;
+          seen = λ share_is_positive_there. old_seat_rule.seen share_is_positive;
           over = old_seat_rule.over;
-          spent = λ e. absurd (omega arith);
+          spent = λ has_view_after. absurd (omega arith);
         }
 
     rule_of_new_seat : SeatRule n s.views (get_or s.words 0 0) (get_or s.words 1 0)
         (new_seat_view v)
     rule_of_new_seat =
-        let live : 0 < v.share = omega arith in
+        let share_is_positive : 0 < v.share = omega arith in
         record {
-          count = λ p. old_seat_rule.count live;
-          floor = λ p. old_seat_rule.floor live;
-          seen = λ p. old_seat_rule.seen live;
+          count = λ share_is_positive_there. old_seat_rule.count share_is_positive;
+          floor = λ share_is_positive_there. old_seat_rule.floor share_is_positive;
+          seen = λ share_is_positive_there. old_seat_rule.seen share_is_positive;
           over = old_seat_rule.over;
-          spent = λ e. absurd (omega arith);
+          spent = λ has_view_after. absurd (omega arith);
         }
 
 -- a total after a join
-total_after_join : (g : View → ℕ) (views : List View) (id : ℕ) (v : View) (other : ℕ) (w : View)
-    → get_elem? views id ≡ some v → get_elem? (set views id (after_join v w)) other ≡ some w
-    → total g (set (set views id (after_join v w)) other spent_view) + g v + g w
+total_after_join : (g : View → ℕ) (views : List View) (id : ℕ) (v : View) (other_id : ℕ) (w : View)
+    → get_elem? views id ≡ some v → get_elem? (set views id (after_join v w)) other_id ≡ some w
+    → total g (set (set views id (after_join v w)) other_id spent_view) + g v + g w
     ≡ total g views + g (after_join v w) + g spent_view
-total_after_join g views id v other w at at_other =
-    let t = total_set g views id v (after_join v w) at in
-    let t' = total_set g (set views id (after_join v w)) other w spent_view at_other in omega arith
+total_after_join g views id v other_id w has_view other_has_view =
+    let total_after_first_set = total_after_set g views id v (after_join v w) has_view in
+    let total_after_second_set =
+    total_after_set g (set views id (after_join v w)) other_id w spent_view other_has_view in
+    omega arith
 
-at_middle : (before after : List View) (v : View)
+get_at_middle : (before after : List View) (v : View)
     → get_elem? (before ++ v ∷ after) (length before) ≡ some v
-at_middle [] after v = refl
-at_middle (u ∷ before) after v = at_middle before after v
+get_at_middle [] after v = refl
+get_at_middle (u ∷ before) after v = get_at_middle before after v
 
-set_middle : (before after : List View) (v w : View)
+set_at_middle : (before after : List View) (v w : View)
     → set (before ++ v ∷ after) (length before) w ≡ before ++ w ∷ after
-set_middle [] after v w = refl
-set_middle (u ∷ before) after v w = ap (λ l. u ∷ l) (set_middle before after v w)
+set_at_middle [] after v w = refl
+set_at_middle (u ∷ before) after v w = ap (λ l. u ∷ l) (set_at_middle before after v w)
 
 -- a split changes two views, and nothing else has to change
 pub split_keeps : (n : ℕ) (v : View) → 1 < v.share
     → SplitKeepsRule n v (after_split v) (new_seat_view v)
-split_keeps n v more c f d before after r =
+split_keeps n v shares_to_give c f d before after rule_before =
     let s : State (Unit {0}) View =
     record { words = c ∷ f ∷ d ∷ []; homes = []; views = before ++ v ∷ after } in
-    let same =
-    ap (λ l. l ++ new_seat_view v ∷ []) (set_middle before after v (after_split v))
+    let views_equal =
+    ap (λ l. l ++ new_seat_view v ∷ []) (set_at_middle before after v (after_split v))
     ∙ append_assoc before (after_split v ∷ after) (new_seat_view v ∷ []) in
-    subst (BoardRule n c f d) same
-    (split_allowed n (length before) v more s (refl, r) (at_middle before after v)).1
+    subst (BoardRule n c f d) views_equal
+    (split_allowed n (length before) v shares_to_give s (refl, rule_before)
+    (get_at_middle before after v)).1
 
-pub join_allowed : (n id : ℕ) (v : View) (other : ℕ) (w : View) → w.open_number ≡ None → 0 < v.share
-    → 0 < w.share → Joins (MeetsRule n) id v other w (after_join v w) spent_view
-join_allowed n id v other w closed live live_w s r at apart at_other = (
-  r.0,
-  rule_regrouped n _ _ _ s.views _ r.1 record {
-    once =
-        λ x. let t = total_after_join (times_recorded x) s.views id v other w at at_other in
-        let a = times_in_append x v.settled w.settled in
-        let b = times_in_append x v.reported w.reported in
-        let c = times_in_append x v.skipped w.skipped in
-        let e : times_open x w.open_number
-        ≡ 0 = ap (λ (first_seat_rule : Option ℕ). times_open x first_seat_rule) closed in
-        let i : times_recorded x (after_join v w)
-        ≡ times_open x v.open_number + times_in x (v.settled ++ w.settled)
-        + times_in x (v.reported ++ w.reported) + times_in x (v.skipped ++ w.skipped) = refl in
-        let j : times_recorded x v
-        ≡ times_open x v.open_number + times_in x v.settled + times_in x v.reported
-        + times_in x v.skipped = refl in
-        let second_seat_rule : times_recorded x w
-        ≡ times_open x w.open_number + times_in x w.settled + times_in x w.reported
-        + times_in x w.skipped = refl in
-        let z : times_recorded x spent_view ≡ 0 = refl in omega arith;
-    lengths =
-        let t = total_after_join record_length s.views id v other w at at_other in
-        let a = length-append v.settled w.settled in let b = length-append v.reported w.reported in
-        let c = length-append v.skipped w.skipped in
-        let e : open_count w.open_number
-        ≡ 0 = ap (λ (first_seat_rule : Option ℕ). open_count first_seat_rule) closed in
-        let i : record_length (after_join v w)
-        ≡ open_count v.open_number + length (v.settled ++ w.settled)
-        + length (v.reported ++ w.reported) + length (v.skipped ++ w.skipped) = refl in
-        let j : record_length v
-        ≡ open_count v.open_number + length v.settled + length v.reported
-        + length v.skipped = refl in
-        let second_seat_rule : record_length w
-        ≡ open_count w.open_number + length w.settled + length w.reported
-        + length w.skipped = refl in
-        let z : record_length spent_view ≡ 0 = refl in omega arith;
-    reported =
-        λ x. let t =
-        total_after_join (λ u. times_in x u.reported) s.views id v other w at at_other in
-        let a = times_in_append x v.reported w.reported in omega arith;
-    settled =
-        let t = total_after_join (λ u. length u.settled) s.views id v other w at at_other in
-        let a = length-append v.settled w.settled in omega arith;
-    skipped =
-        λ x. let t =
-        total_after_join (λ u. times_in x u.skipped) s.views id v other w at at_other in
-        let a = times_in_append x v.skipped w.skipped in omega arith;
-    shares = let t = total_after_join (λ u. u.share) s.views id v other w at at_other in
-        omega arith;
-    over =
-        let t = total_after_join over_share s.views id v other w at at_other in let e =
-        over_share_joined v.over w.over in
-        let z : over_share spent_view ≡ 0 =
-        refl in
-        let i : over_share (after_join v w)
-        ≡ cond (v.over || w.over) (v.share + w.share) 0 = refl in
-        let j : over_share v ≡ cond v.over v.share 0 = refl in
-        let second_seat_rule : over_share w ≡ cond w.over w.share 0 = refl in omega arith;
-    seats = λ seat u e. elim (at_set (set s.views id (after_join v w)) other seat spent_view u e) [
-      | inl p ↦ subst (SeatRule n s.views (get_or s.words 0 0) (get_or s.words 1 0)) p.1
-          rule_of_spent_seat
-      | inr p ↦ elim (at_set s.views id seat (after_join v w) u p.1) [
-        | inl q ↦ subst (SeatRule n s.views (get_or s.words 0 0) (get_or s.words 1 0)) q.1
-            rule_of_joined_seat
-        | inr q ↦ r.1.seats seat u q.1
-      ]
-    ];
-  },
-)
+pub join_allowed : (n id : ℕ) (v : View) (other_id : ℕ) (w : View) → w.open_number ≡ None
+    → 0 < v.share
+    → 0 < w.share → Joins (MeetsRule n) id v other_id w (after_join v w) spent_view
+join_allowed n id v other_id w nothing_open first_share_positive second_share_positive s r has_view
+    ids_differ other_has_view = (
+      r.0,
+      rule_regrouped n _ _ _ s.views _ r.1 record {
+        once =
+            λ x. let totals_add_up =
+            total_after_join (times_recorded x) s.views id v other_id w has_view other_has_view in
+            let first_lists_add_up = times_in_append x v.settled w.settled in
+            let second_lists_add_up = times_in_append x v.reported w.reported in
+            let third_lists_add_up = times_in_append x v.skipped w.skipped in
+            let none_open_in_w : times_open x w.open_number
+            ≡ 0 = ap (λ (number : Option ℕ). times_open x number) nothing_open in
+            let joined_is : times_recorded x (after_join v w)
+            ≡ times_open x v.open_number + times_in x (v.settled ++ w.settled)
+            + times_in x (v.reported ++ w.reported) + times_in x (v.skipped ++ w.skipped) = refl in
+            let first_is : times_recorded x v
+            ≡ times_open x v.open_number + times_in x v.settled + times_in x v.reported
+            + times_in x v.skipped = refl in
+            let second_is : times_recorded x w
+            ≡ times_open x w.open_number + times_in x w.settled + times_in x w.reported
+            + times_in x w.skipped = refl in
+            let spent_is_zero : times_recorded x spent_view ≡ 0 = refl in omega arith;
+        lengths =
+            let totals_add_up =
+            total_after_join record_length s.views id v other_id w has_view other_has_view in
+            let first_lists_add_up = length-append v.settled w.settled in
+            let second_lists_add_up = length-append v.reported w.reported in
+            let third_lists_add_up = length-append v.skipped w.skipped in
+            let none_open_in_w : open_count w.open_number
+            ≡ 0 = ap (λ (number : Option ℕ). open_count number) nothing_open in
+            let joined_is : record_length (after_join v w)
+            ≡ open_count v.open_number + length (v.settled ++ w.settled)
+            + length (v.reported ++ w.reported) + length (v.skipped ++ w.skipped) = refl in
+            let first_is : record_length v
+            ≡ open_count v.open_number + length v.settled + length v.reported
+            + length v.skipped = refl in
+            let second_is : record_length w
+            ≡ open_count w.open_number + length w.settled + length w.reported
+            + length w.skipped = refl in
+            let spent_is_zero : record_length spent_view ≡ 0 = refl in omega arith;
+        reported =
+            λ x. let totals_add_up =
+            total_after_join (λ u. times_in x u.reported) s.views id v other_id w has_view
+            other_has_view in
+            let first_lists_add_up = times_in_append x v.reported w.reported in omega arith;
+        settled =
+            let totals_add_up =
+            total_after_join (λ u. length u.settled) s.views id v other_id w has_view other_has_view in
+            let first_lists_add_up = length-append v.settled w.settled in omega arith;
+        skipped =
+            λ x. let totals_add_up =
+            total_after_join (λ u. times_in x u.skipped) s.views id v other_id w has_view
+            other_has_view in
+            let first_lists_add_up = times_in_append x v.skipped w.skipped in omega arith;
+        shares =
+            let totals_add_up =
+            total_after_join (λ u. u.share) s.views id v other_id w has_view other_has_view in
+            omega arith;
+        over =
+            let totals_add_up =
+            total_after_join over_share s.views id v other_id w has_view other_has_view in
+            let none_open_in_w =
+            over_share_joined v.over w.over in
+            let spent_is_zero : over_share spent_view ≡ 0 =
+            refl in
+            let joined_is : over_share (after_join v w)
+            ≡ cond (v.over || w.over) (v.share + w.share) 0 = refl in
+            let first_is : over_share v ≡ cond v.over v.share 0 = refl in
+            let second_is : over_share w ≡ cond w.over w.share 0 = refl in omega arith;
+        seats =
+            λ seat u has_view_after.
+            elim (at_set (set s.views id (after_join v w)) other_id seat spent_view u has_view_after) [
+              | inl p ↦ subst (SeatRule n s.views (get_or s.words 0 0) (get_or s.words 1 0)) p.1
+                  rule_of_spent_seat
+              | inr p ↦ elim (at_set s.views id seat (after_join v w) u p.1) [
+                | inl q ↦ subst (SeatRule n s.views (get_or s.words 0 0) (get_or s.words 1 0)) q.1
+                    rule_of_joined_seat
+                | inr q ↦ r.1.seats seat u q.1
+              ]
+            ];
+      },
+    )
   where
-    over_share_joined : (a b : Bool) → cond a v.share 0 + cond b w.share 0
-        ≤ cond (a || b) (v.share + w.share) 0
+    over_share_joined : (first_lists_add_up second_lists_add_up : Bool)
+        → cond first_lists_add_up v.share 0 + cond second_lists_add_up w.share 0
+        ≤ cond (first_lists_add_up || second_lists_add_up) (v.share + w.share) 0
     over_share_joined true true = omega arith
     over_share_joined true false = omega arith
     over_share_joined false true = omega arith
     over_share_joined false false = omega arith
 
     first_seat_rule : SeatRule n s.views (get_or s.words 0 0) (get_or s.words 1 0) v
-    first_seat_rule = r.1.seats id v at
+    first_seat_rule = r.1.seats id v has_view
 
-    second_seat_view : get_elem? s.views other ≡ some w
+    second_seat_view : get_elem? s.views other_id ≡ some w
     second_seat_view =
-        elim (at_set s.views id other (after_join v w) w at_other)
-        [ inl q ↦ absurd (apart q.0) | inr q ↦ q.1 ]
+        elim (at_set s.views id other_id (after_join v w) w other_has_view) [
+          | inl is_that_seat ↦ absurd (ids_differ is_that_seat.0)
+          | inr is_that_seat ↦
+              is_that_seat.1
+        ]
 
     second_seat_rule : SeatRule n s.views (get_or s.words 0 0) (get_or s.words 1 0) w
-    second_seat_rule = r.1.seats other w second_seat_view
+    second_seat_rule = r.1.seats other_id w second_seat_view
 
     rule_of_spent_seat : SeatRule n s.views (get_or s.words 0 0) (get_or s.words 1 0) spent_view
     rule_of_spent_seat =
         record {
-          count = λ p. absurd (omega arith);
-          floor = λ p. absurd (omega arith);
-          seen = λ p. absurd (omega arith);
-          over = λ e. absurd (cc);
-          spent = λ e. record {
+          count = λ share_is_positive. absurd (omega arith);
+          floor = λ share_is_positive. absurd (omega arith);
+          seen = λ share_is_positive. absurd (omega arith);
+          over = λ has_view_after. absurd (cc);
+          spent = λ has_view_after. record {
             nothing_open = refl;
             none_settled = refl;
             none_reported = refl;
@@ -269,23 +302,31 @@ join_allowed n id v other w closed live live_w s r at apart at_other = (
 
     seen_of_joined : (v.seen < w.seen) ⊎ (w.seen ≤ v.seen) → IsCountOrReported n s.views
         (min v.seen w.seen)
-    seen_of_joined (inl lt) = let is : min v.seen w.seen ≡ v.seen = omega arith in
-        rw is (first_seat_rule.seen live)
-    seen_of_joined (inr le) = let is : min v.seen w.seen ≡ w.seen = omega arith in
-        rw is (second_seat_rule.seen live_w)
+    seen_of_joined (inl first_saw_less) =
+        let lesser_is : min v.seen w.seen ≡ v.seen = omega arith in
+        rw lesser_is (first_seat_rule.seen first_share_positive)
+    seen_of_joined (inr second_saw_less) =
+        let lesser_is : min v.seen w.seen ≡ w.seen = omega arith in
+        rw lesser_is (second_seat_rule.seen second_share_positive)
 
-    either_over : (a b : Bool) → v.over ≡ a → w.over ≡ b → (a || b) ≡ true → n < get_or s.words 0 0
-    either_over true b ev ew h = first_seat_rule.over ev
-    either_over false true ev ew h = second_seat_rule.over ew
-    either_over false false ev ew h = absurd (cc)
+    either_over : (first_lists_add_up second_lists_add_up : Bool) → v.over ≡ first_lists_add_up
+        → w.over ≡ second_lists_add_up → (first_lists_add_up || second_lists_add_up)
+        ≡ true → n < get_or s.words 0 0
+    either_over true second_lists_add_up first_over second_over either_is_over =
+        first_seat_rule.over first_over
+    either_over false true first_over second_over either_is_over = second_seat_rule.over second_over
+    either_over false false first_over second_over either_is_over = absurd (cc)
 
     rule_of_joined_seat : SeatRule n s.views (get_or s.words 0 0) (get_or s.words 1 0)
         (after_join v w)
     rule_of_joined_seat = record {
-      count = λ p. first_seat_rule.count live;
-      floor = λ p. let a = first_seat_rule.floor live in let b = second_seat_rule.floor live_w in
+      count = λ share_is_positive. first_seat_rule.count first_share_positive;
+      floor =
+          λ share_is_positive. let first_lists_add_up =
+          first_seat_rule.floor first_share_positive in
+          let second_lists_add_up = second_seat_rule.floor second_share_positive in
           omega arith;
-      seen = λ p. seen_of_joined (cases_lt v.seen w.seen);
-      over = λ e. either_over v.over w.over refl refl e;
-      spent = λ e. absurd (omega arith);
+      seen = λ share_is_positive. seen_of_joined (cases_lt v.seen w.seen);
+      over = λ has_view_after. either_over v.over w.over refl refl has_view_after;
+      spent = λ has_view_after. absurd (omega arith);
     }

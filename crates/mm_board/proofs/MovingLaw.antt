@@ -9,7 +9,7 @@ use Rattle.mm_board.specs.declared.views.View.{View}
 use Rattle.mm_board.specs.Records.{times_in, times_recorded, record_length}
 use Rattle.mm_board.specs.Rule.{total, times_reported, times_skipped, once_below, over_share}
 use Rattle.mm_board.specs.Rule.{IsCountOrReported, IsLeastReported, SeatRule, BoardRule}
-use Rattle.mm_board.proofs.SumsLaw.{total_set, one_at_most_total}
+use Rattle.mm_board.proofs.SumsLaw.{total_after_set, one_at_most_total}
 
 -- The words go from a, b, c to a', b', c', and the view of one seat from v to w
 pub record Moves (n a b c a' b' c' : ℕ) (v w : View) : Type 0 where
@@ -18,124 +18,147 @@ pub record Moves (n a b c a' b' c' : ℕ) (v w : View) : Type 0 where
   pub once : (x : ℕ)
       → once_below x (min a n) + times_recorded x w ≡ once_below x (min a' n) + times_recorded x v
   pub lengths : min a n + record_length w ≡ min a' n + record_length v
-  pub later : a ≤ a'
-  pub lower : b' ≤ b
-  pub report_kept : (x : ℕ) → times_in x v.reported ≤ times_in x w.reported
-  pub report_new : (x : ℕ) → times_in x v.reported < times_in x w.reported → b' ≤ x
+  pub claim_word_rises : a ≤ a'
+  pub floor_word_falls : b' ≤ b
+  pub reports_are_kept : (x : ℕ) → times_in x v.reported ≤ times_in x w.reported
+  pub new_reports_ge_floor : (x : ℕ) → times_in x v.reported < times_in x w.reported → b' ≤ x
   pub floor : (b' ≡ b) ⊎ (0 < times_in b' w.reported)
   pub settled : c + length w.settled ≡ c' + length v.settled
-  pub skip_new : (x : ℕ) → times_in x v.skipped < times_in x w.skipped → b' < x
-  pub seen_floor : b' ≤ w.seen
+  pub new_skips_gt_floor : (x : ℕ) → times_in x v.skipped < times_in x w.skipped → b' < x
+  pub floor_le_seen : b' ≤ w.seen
   pub seen : (w.seen ≡ v.seen) ⊎ (w.seen ≡ b')
   pub over : w.over ≡ true → (v.over ≡ true) ⊎ (n < a')
   pub bound : (t : ℕ) → a ≤ n + t → a' + over_share v ≤ n + t + over_share w
 
 module _ (n a b c a' b' c' : ℕ) (v w : View) (views : List View) (id : ℕ)
-    (rule : BoardRule n a b c views) (at : get_elem? views id ≡ some v) (live : 0 < v.share)
+    (rule : BoardRule n a b c views) (has_view : get_elem? views id ≡ some v)
+    (share_is_positive : 0 < v.share)
     (moves : Moves n a b c a' b' c' v w) where
   abbrev after : List View
   after = set views id w
 
-  reports_set : (x : ℕ)
+  reports_after_set : (x : ℕ)
       → times_reported after x + times_in x v.reported
       ≡ times_reported views x + times_in x w.reported
-  reports_set x = total_set (λ u. times_in x u.reported) views id v w at
+  reports_after_set x = total_after_set (λ u. times_in x u.reported) views id v w has_view
 
-  skips_set : (x : ℕ)
+  skips_after_set : (x : ℕ)
       → times_skipped after x + times_in x v.skipped ≡ times_skipped views x + times_in x w.skipped
-  skips_set x = total_set (λ u. times_in x u.skipped) views id v w at
+  skips_after_set x = total_after_set (λ u. times_in x u.skipped) views id v w has_view
 
   reported_at_most_total : (x : ℕ) → times_in x v.reported ≤ times_reported views x
-  reported_at_most_total x = one_at_most_total (λ u. times_in x u.reported) views id v at
+  reported_at_most_total x = one_at_most_total (λ u. times_in x u.reported) views id v has_view
 
-  reported_still : (x : ℕ) → times_reported views x ≤ times_reported after x
-  reported_still x = let t = reports_set x in let k = moves.report_kept x in omega arith
+  reports_do_not_fall : (x : ℕ) → times_reported views x ≤ times_reported after x
+  reports_do_not_fall x =
+      let total_moves = reports_after_set x in let reports_kept = moves.reports_are_kept x in
+      omega arith
 
-  still_count_or_reported : (x : ℕ) → IsCountOrReported n views x → IsCountOrReported n after x
-  still_count_or_reported x (inl e) = inl e
-  still_count_or_reported x (inr p) = inr (let k = reported_still x in omega arith)
+  stays_count_or_reported : (x : ℕ) → IsCountOrReported n views x → IsCountOrReported n after x
+  stays_count_or_reported x (inl x_is_n) = inl x_is_n
+  stays_count_or_reported x (inr is_reported) =
+      inr (let total_rises = reports_do_not_fall x in omega arith)
 
   reported_by_moved_seat : (x : ℕ) → 0 < times_in x w.reported → 0 < times_reported after x
-  reported_by_moved_seat x p = let t = reports_set x in let l =
+  reported_by_moved_seat x is_reported =
+      let total_moves = reports_after_set x in let times_le_total =
       reported_at_most_total x in omega arith
 
   new_floor_is_count_or_reported : IsCountOrReported n after b'
-  new_floor_is_count_or_reported = by_floor moves.floor
+  new_floor_is_count_or_reported = valid_by_floor moves.floor
     where
-      by_floor : (b' ≡ b) ⊎ (0 < times_in b' w.reported) → IsCountOrReported n after b'
-      by_floor (inl e) =
-          subst (IsCountOrReported n after) (sym e)
-          (still_count_or_reported b rule.least.is_count_or_reported)
-      by_floor (inr p) = inr (reported_by_moved_seat b' p)
+      valid_by_floor : (b' ≡ b) ⊎ (0 < times_in b' w.reported) → IsCountOrReported n after b'
+      valid_by_floor (inl floor_is_kept) =
+          subst (IsCountOrReported n after) (sym floor_is_kept)
+          (stays_count_or_reported b rule.least.is_count_or_reported)
+      valid_by_floor (inr is_reported) = inr (reported_by_moved_seat b' is_reported)
 
   least : IsLeastReported n after b'
   least = record {
-    at_most = let l = moves.lower in let o = rule.least.at_most in omega arith;
-    lowest = λ y p. by_new_report y p (cases_lt (times_in y v.reported) (times_in y w.reported));
+    le_count =
+        let floor_falls = moves.floor_word_falls in let old_floor_le_n = rule.least.le_count in
+        omega arith;
+    le_each_reported =
+        λ y is_reported. floor_le_if_reported y is_reported
+        (cases_lt (times_in y v.reported) (times_in y w.reported));
     is_count_or_reported = new_floor_is_count_or_reported;
   }
     where
-      by_new_report : (y : ℕ) → 0 < times_reported after y
+      floor_le_if_reported : (y : ℕ) → 0 < times_reported after y
           → (times_in y v.reported < times_in y w.reported)
           ⊎ (times_in y w.reported ≤ times_in y v.reported) → b' ≤ y
-      by_new_report y p (inl lt) = moves.report_new y lt
-      by_new_report y p (inr le) =
-          let t = reports_set y in let o = rule.least.lowest y (omega arith) in
-          let l = moves.lower in
+      floor_le_if_reported y is_reported (inl reported_more) =
+          moves.new_reports_ge_floor y reported_more
+      floor_le_if_reported y is_reported (inr not_reported_more) =
+          let total_moves = reports_after_set y in
+          let old_floor_le_y = rule.least.le_each_reported y (omega arith) in
+          let floor_falls = moves.floor_word_falls in
           omega arith
 
   skipped : (x : ℕ) → 0 < times_skipped after x → b' < x
-  skipped x p = by_new_skip (cases_lt (times_in x v.skipped) (times_in x w.skipped))
+  skipped x is_skipped =
+      floor_lt_if_skipped (cases_lt (times_in x v.skipped) (times_in x w.skipped))
     where
-      by_new_skip : (times_in x v.skipped < times_in x w.skipped)
+      floor_lt_if_skipped : (times_in x v.skipped < times_in x w.skipped)
           ⊎ (times_in x w.skipped ≤ times_in x v.skipped) → b' < x
-      by_new_skip (inl lt) = moves.skip_new x lt
-      by_new_skip (inr le) =
-          let t = skips_set x in let o = rule.skipped x (omega arith) in
-          let l = moves.lower in omega arith
+      floor_lt_if_skipped (inl skipped_more) = moves.new_skips_gt_floor x skipped_more
+      floor_lt_if_skipped (inr not_skipped_more) =
+          let total_moves = skips_after_set x in
+          let old_floor_lt_x = rule.skipped x (omega arith) in
+          let floor_falls = moves.floor_word_falls in omega arith
 
   rule_of_moved_seat : SeatRule n after a' b' w
   rule_of_moved_seat = record {
-    count = λ p. moves.count ∙ (rule.seats id v at).count live;
-    floor = λ p. moves.seen_floor;
-    seen = λ p. by_seen moves.seen;
+    count = λ p. moves.count ∙ (rule.seats id v has_view).count share_is_positive;
+    floor = λ p. moves.floor_le_seen;
+    seen = λ p. seen_is_valid moves.seen;
     over = λ p. over_by_claim_word (moves.over p);
-    spent = λ p. let s = moves.share in absurd (omega arith);
+    spent = λ p. let shares_equal = moves.share in absurd (omega arith);
   }
     where
-      by_seen : (w.seen ≡ v.seen) ⊎ (w.seen ≡ b') → IsCountOrReported n after w.seen
-      by_seen (inl e) =
-          subst (IsCountOrReported n after) (sym e)
-          (still_count_or_reported v.seen ((rule.seats id v at).seen live))
-      by_seen (inr e) = subst (IsCountOrReported n after) (sym e) new_floor_is_count_or_reported
+      seen_is_valid : (w.seen ≡ v.seen) ⊎ (w.seen ≡ b') → IsCountOrReported n after w.seen
+      seen_is_valid (inl seen_is) =
+          subst (IsCountOrReported n after) (sym seen_is)
+          (stays_count_or_reported v.seen ((rule.seats id v has_view).seen share_is_positive))
+      seen_is_valid (inr seen_is) =
+          subst (IsCountOrReported n after) (sym seen_is) new_floor_is_count_or_reported
 
       over_by_claim_word : (v.over ≡ true) ⊎ (n < a') → n < a'
-      over_by_claim_word (inl h) = let o = (rule.seats id v at).over h in let l =
-          moves.later in omega arith
-      over_by_claim_word (inr h) = h
+      over_by_claim_word (inl over_or_past) =
+          let old_word_gt_n = (rule.seats id v has_view).over over_or_past in let word_rises =
+          moves.claim_word_rises in omega arith
+      over_by_claim_word (inr over_or_past) = over_or_past
 
   rule_of_other_seat : (u : View) → SeatRule n views a b u → SeatRule n after a' b' u
   rule_of_other_seat u seat_rule = record {
     count = seat_rule.count;
-    floor = λ p. let f = seat_rule.floor p in let l = moves.lower in omega arith;
-    seen = λ p. still_count_or_reported u.seen (seat_rule.seen p);
-    over = λ p. let f = seat_rule.over p in let l = moves.later in omega arith;
+    floor =
+        λ p. let seat_bound =
+        seat_rule.floor p in let word_moves = moves.floor_word_falls in omega arith;
+    seen = λ p. stays_count_or_reported u.seen (seat_rule.seen p);
+    over =
+        λ p. let seat_bound =
+        seat_rule.over p in let word_moves = moves.claim_word_rises in omega arith;
     spent = seat_rule.spent;
   }
 
-  pub moved : BoardRule n a' b' c' (set views id w)
-  moved = record {
+  pub moves_keep_rule : BoardRule n a' b' c' (set views id w)
+  moves_keep_rule = record {
     once =
-        λ x. let t = total_set (times_recorded x) views id v w at in let o = rule.once x in
-        let k = moves.once x in omega arith;
+        λ x. let total_moves =
+        total_after_set (times_recorded x) views id v w has_view in let rule_before =
+        rule.once x in
+        let moved_part = moves.once x in omega arith;
     lengths =
-        let t = total_set record_length views id v w at in let o = rule.lengths in
-        let k = moves.lengths in
+        let total_moves = total_after_set record_length views id v w has_view in
+        let rule_before = rule.lengths in
+        let moved_part = moves.lengths in
         omega arith;
     least = least;
     settled =
-        let t = total_set (λ u. length u.settled) views id v w at in let o = rule.settled in
-        let k = moves.settled in omega arith;
+        let total_moves = total_after_set (λ u. length u.settled) views id v w has_view in
+        let rule_before = rule.settled in
+        let moved_part = moves.settled in omega arith;
     skipped = skipped;
     seats =
         λ seat u e. elim (at_set views id seat w u e) [
@@ -144,10 +167,11 @@ module _ (n a b c a' b' c' : ℕ) (v w : View) (views : List View) (id : ℕ)
               rule_of_other_seat u (rule.seats seat u p.1)
         ];
     shares =
-        let t = total_set (λ u. u.share) views id v w at in let o = rule.shares in
-        let k = moves.share in
+        let total_moves = total_after_set (λ u. u.share) views id v w has_view in
+        let rule_before = rule.shares in
+        let moved_part = moves.share in
         omega arith;
     bound =
-        let t = total_set over_share views id v w at in
-        let k = moves.bound (total over_share views) rule.bound in omega arith;
+        let total_moves = total_after_set over_share views id v w has_view in
+        let moved_part = moves.bound (total over_share views) rule.bound in omega arith;
   }

@@ -13,27 +13,30 @@ use Rattle.mm_board.specs.Records.{times_in, times_open, times_recorded, open_co
 use Rattle.mm_board.specs.Rule.{over_share, BoardRule}
 use Rattle.mm_board.specs.Events.{IsClaimWord, IsFloorWord, IsSettledWord}
 use Rattle.mm_board.specs.Table.{MeetsRule}
-use Rattle.mm_board.proofs.SumsLaw.{once_below_next, times_in_append, counted_is_equal}
+use Rattle.mm_board.proofs.SumsLaw.{once_below_moves_by_one, times_in_append, counted_is_equal}
 use Rattle.mm_board.proofs.SumsLaw.{equal_is_counted}
-use Rattle.mm_board.proofs.MovingLaw.{Moves, moved}
+use Rattle.mm_board.proofs.MovingLaw.{Moves, moves_keep_rule}
 
 -- the three steps that change a word, and the rule of the new words
 module _ (n : ℕ) (s : State (Unit {0}) View) (meets_rule : MeetsRule n s) (id : ℕ) (v w : View)
-    (at : get_elem? s.views id ≡ some v) (live : 0 < v.share) where
+    (has_view : get_elem? s.views id ≡ some v) (share_is_positive : 0 < v.share) where
   pub claim_word_step_keeps_rule : (z : ℕ)
       → Moves n (get_or s.words 0 0) (get_or s.words 1 0) (get_or s.words 2 0) z
       (get_or s.words 1 0) (get_or s.words 2 0) v w
       → (carried : List (ℕ × Unit {0})) → MeetsRule n (stepped s 0 z id carried w keeps)
   claim_word_step_keeps_rule z moves carried =
-      let three = meets_rule.0 in
-      let a : get_or (set s.words 0 z) 0 0 ≡ z = get_or-set_same s.words 0 z 0 (omega arith) in
-      let b : get_or (set s.words 0 z) 1 0 ≡ get_or s.words 1 0 =
+      let has_three_words = meets_rule.0 in
+      let claim_word_after : get_or (set s.words 0 z) 0 0 ≡ z =
+      get_or-set_same s.words 0 z 0 (omega arith) in
+      let floor_word_after : get_or (set s.words 0 z) 1 0 ≡ get_or s.words 1 0 =
       get_or-set_other s.words 0 1 z 0 (λ e. omega arith) in
-      let c : get_or (set s.words 0 z) 2 0 ≡ get_or s.words 2 0 =
+      let settled_word_after : get_or (set s.words 0 z) 2 0 ≡ get_or s.words 2 0 =
       get_or-set_other s.words 0 2 z 0 (λ e. omega arith) in (
         length-set s.words 0 z
-            ∙ three,
-        rw (a, b, c) (moved n _ _ _ _ _ _ v w s.views id meets_rule.1 at live moves),
+            ∙ has_three_words,
+        rw (claim_word_after, floor_word_after, settled_word_after)
+            (moves_keep_rule n _ _ _ _ _ _ v w s.views id meets_rule.1 has_view share_is_positive
+            moves),
       )
 
   pub floor_word_step_keeps_rule : (z : ℕ)
@@ -41,15 +44,18 @@ module _ (n : ℕ) (s : State (Unit {0}) View) (meets_rule : MeetsRule n s) (id 
       (get_or s.words 0 0) z (get_or s.words 2 0) v w
       → (carried : List (ℕ × Unit {0})) → MeetsRule n (stepped s 1 z id carried w keeps)
   floor_word_step_keeps_rule z moves carried =
-      let three = meets_rule.0 in
-      let a : get_or (set s.words 1 z) 0 0 ≡ get_or s.words 0 0 =
+      let has_three_words = meets_rule.0 in
+      let claim_word_after : get_or (set s.words 1 z) 0 0 ≡ get_or s.words 0 0 =
       get_or-set_other s.words 1 0 z 0 (λ e. omega arith) in
-      let b : get_or (set s.words 1 z) 1 0 ≡ z = get_or-set_same s.words 1 z 0 (omega arith) in
-      let c : get_or (set s.words 1 z) 2 0 ≡ get_or s.words 2 0 =
+      let floor_word_after : get_or (set s.words 1 z) 1 0 ≡ z =
+      get_or-set_same s.words 1 z 0 (omega arith) in
+      let settled_word_after : get_or (set s.words 1 z) 2 0 ≡ get_or s.words 2 0 =
       get_or-set_other s.words 1 2 z 0 (λ e. omega arith) in (
         length-set s.words 1 z
-            ∙ three,
-        rw (a, b, c) (moved n _ _ _ _ _ _ v w s.views id meets_rule.1 at live moves),
+            ∙ has_three_words,
+        rw (claim_word_after, floor_word_after, settled_word_after)
+            (moves_keep_rule n _ _ _ _ _ _ v w s.views id meets_rule.1 has_view share_is_positive
+            moves),
       )
 
   pub settled_word_step_keeps_rule : (z : ℕ)
@@ -57,20 +63,23 @@ module _ (n : ℕ) (s : State (Unit {0}) View) (meets_rule : MeetsRule n s) (id 
       (get_or s.words 1 0) z v w
       → (carried : List (ℕ × Unit {0})) → MeetsRule n (stepped s 2 z id carried w keeps)
   settled_word_step_keeps_rule z moves carried =
-      let three = meets_rule.0 in
-      let a : get_or (set s.words 2 z) 0 0 ≡ get_or s.words 0 0 =
+      let has_three_words = meets_rule.0 in
+      let claim_word_after : get_or (set s.words 2 z) 0 0 ≡ get_or s.words 0 0 =
       get_or-set_other s.words 2 0 z 0 (λ e. omega arith) in
-      let b : get_or (set s.words 2 z) 1 0 ≡ get_or s.words 1 0 =
+      let floor_word_after : get_or (set s.words 2 z) 1 0 ≡ get_or s.words 1 0 =
       get_or-set_other s.words 2 1 z 0 (λ e. omega arith) in
-      let c : get_or (set s.words 2 z) 2 0 ≡ z = get_or-set_same s.words 2 z 0 (omega arith) in (
+      let settled_word_after : get_or (set s.words 2 z) 2 0 ≡ z =
+      get_or-set_same s.words 2 z 0 (omega arith) in (
         length-set s.words 2 z
-            ∙ three,
-        rw (a, b, c) (moved n _ _ _ _ _ _ v w s.views id meets_rule.1 at live moves),
+            ∙ has_three_words,
+        rw (claim_word_after, floor_word_after, settled_word_after)
+            (moves_keep_rule n _ _ _ _ _ _ v w s.views id meets_rule.1 has_view share_is_positive
+            moves),
       )
 
   -- what the rule says of the seat that steps
   pub count_is : v.count ≡ n
-  count_is = (meets_rule.1.seats id v at).count live
+  count_is = (meets_rule.1.seats id v has_view).count share_is_positive
 
   pub claim_word : IsClaimWord v (get_or s.words 0 0)
   claim_word = (
@@ -80,7 +89,7 @@ module _ (n : ℕ) (s : State (Unit {0}) View) (meets_rule : MeetsRule n s) (id 
     subst
         (λ (k : ℕ). BoardRule k (get_or s.words 0 0) (get_or s.words 1 0)
         (get_or s.words 2 0) s.views) (sym count_is) meets_rule.1,
-    (id, at),
+    (id, has_view),
   )
 
   pub floor_word : IsFloorWord v (get_or s.words 1 0)
@@ -91,7 +100,7 @@ module _ (n : ℕ) (s : State (Unit {0}) View) (meets_rule : MeetsRule n s) (id 
     subst
         (λ (k : ℕ). BoardRule k (get_or s.words 0 0) (get_or s.words 1 0)
         (get_or s.words 2 0) s.views) (sym count_is) meets_rule.1,
-    (id, at),
+    (id, has_view),
   )
 
   pub settled_word : IsSettledWord v (get_or s.words 2 0)
@@ -102,25 +111,25 @@ module _ (n : ℕ) (s : State (Unit {0}) View) (meets_rule : MeetsRule n s) (id 
     subst
         (λ (k : ℕ). BoardRule k (get_or s.words 0 0) (get_or s.words 1 0)
         (get_or s.words 2 0) s.views) (sym count_is) meets_rule.1,
-    (id, at),
+    (id, has_view),
   )
 
 module _ (n b c : ℕ) (v : View) (floor : b ≤ v.seen) where
   none_open_times : (y : ℕ) → v.open_number ≡ None → times_open y v.open_number ≡ 0
-  none_open_times y e = ap (λ (o : Option ℕ). times_open y o) e
+  none_open_times y nothing_open = ap (λ (o : Option ℕ). times_open y o) nothing_open
 
   none_open_count : v.open_number ≡ None → open_count v.open_number ≡ 0
-  none_open_count e = ap (λ (o : Option ℕ). open_count o) e
+  none_open_count nothing_open = ap (λ (o : Option ℕ). open_count o) nothing_open
 
   times_of_open : (y i : ℕ) → v.open_number ≡ Some i
       → times_open y v.open_number ≡ cond (i == y) 1 0
-  times_of_open y i e = ap (λ (o : Option ℕ). times_open y o) e
+  times_of_open y i open_number_is = ap (λ (o : Option ℕ). times_open y o) open_number_is
 
   one_open_count : (i : ℕ) → v.open_number ≡ Some i → open_count v.open_number ≡ 1
-  one_open_count i e = ap (λ (o : Option ℕ). open_count o) e
+  one_open_count i open_number_is = ap (λ (o : Option ℕ). open_count o) open_number_is
 
   not_over_no_share : v.over ≡ false → over_share v ≡ 0
-  not_over_no_share e = ap (λ (o : Bool). cond o v.share 0) e
+  not_over_no_share is_not_over = ap (λ (o : Bool). cond o v.share 0) is_not_over
 
   pub reads_only : (a : ℕ) → Moves n a b c a b c v v
   reads_only a = record {
@@ -128,115 +137,126 @@ module _ (n b c : ℕ) (v : View) (floor : b ≤ v.seen) where
     share = refl;
     once = λ x. refl;
     lengths = refl;
-    later = omega arith;
-    lower = omega arith;
-    report_kept = λ x. omega arith;
-    report_new = λ x h. omega arith;
+    claim_word_rises = omega arith;
+    floor_word_falls = omega arith;
+    reports_are_kept = λ x. omega arith;
+    new_reports_ge_floor = λ x occurs_more. omega arith;
     floor = inl refl;
     settled = refl;
-    skip_new = λ x h. omega arith;
-    seen_floor = floor;
+    new_skips_gt_floor = λ x occurs_more. omega arith;
+    floor_le_seen = floor;
     seen = inl refl;
-    over = λ h. inl h;
-    bound = λ t h. omega arith;
+    over = λ occurs_more. inl occurs_more;
+    bound = λ t occurs_more. omega arith;
   }
 
   pub claims_number : (x : ℕ) → x < n → v.open_number ≡ None → v.over ≡ false
       → Moves n x b c (x + 1) b c v (record v { open_number = Some x })
-  claims_number x x_below_n closed isopen = record {
+  claims_number x x_lt_n nothing_open is_not_over = record {
     count = refl;
     share = refl;
-    once = λ y. let o = once_below_next y x n x_below_n in let e = none_open_times y closed in
-        let is : times_recorded y (record v { open_number = Some x })
+    once =
+        λ y. let once_below_moves =
+        once_below_moves_by_one y x n x_lt_n in let open_part_is =
+        none_open_times y nothing_open in
+        let record_after_is : times_recorded y (record v { open_number = Some x })
         ≡ cond (x == y) 1 0 + times_in y v.settled + times_in y v.reported
         + times_in y v.skipped = refl in
-        let was : times_recorded y v
+        let record_before_is : times_recorded y v
         ≡ times_open y v.open_number + times_in y v.settled + times_in y v.reported
         + times_in y v.skipped = refl in omega arith;
-    lengths = let e = none_open_count closed in
-        let is : record_length (record v { open_number = Some x })
+    lengths = let open_part_is = none_open_count nothing_open in
+        let record_after_is : record_length (record v { open_number = Some x })
         ≡ 1 + length v.settled + length v.reported + length v.skipped = refl in
-        let was : record_length v
+        let record_before_is : record_length v
         ≡ open_count v.open_number + length v.settled + length v.reported
         + length v.skipped = refl in omega arith;
-    later = omega arith;
-    lower = omega arith;
-    report_kept = λ y. omega arith;
-    report_new = λ y h. omega arith;
+    claim_word_rises = omega arith;
+    floor_word_falls = omega arith;
+    reports_are_kept = λ y. omega arith;
+    new_reports_ge_floor = λ y occurs_more. omega arith;
     floor = inl refl;
     settled = refl;
-    skip_new = λ y h. omega arith;
-    seen_floor = floor;
+    new_skips_gt_floor = λ y occurs_more. omega arith;
+    floor_le_seen = floor;
     seen = inl refl;
-    over = λ h. inl h;
+    over = λ occurs_more. inl occurs_more;
     bound =
-        λ t h. let e = not_over_no_share isopen in
-        let same : over_share (record v { open_number = Some x }) ≡ over_share v = refl in
+        λ t occurs_more. let open_part_is = not_over_no_share is_not_over in
+        let over_shares_equal : over_share (record v { open_number = Some x }) ≡ over_share v =
+        refl in
         omega arith;
   }
 
   pub claims_none : (x : ℕ) → n ≤ x → v.over ≡ false → 0 < v.share
       → Moves n x b c (x + 1) b c v (record v { over = true })
-  claims_none x n_at_most_x isopen live = record {
+  claims_none x n_le_x is_not_over share_is_positive = record {
     count = refl;
     share = refl;
     once =
-        λ y. let a : min x n ≡ n = omega arith in let a' : min (x + 1) n ≡ n = omega arith in
-        rw (a, a') refl;
+        λ y. let least_is_n : min x n ≡ n =
+        omega arith in let next_least_is_n : min (x + 1) n ≡ n = omega arith in
+        rw (least_is_n, next_least_is_n) refl;
     lengths =
-        let same : record_length (record v { over = true }) ≡ record_length v = refl in omega arith;
-    later = omega arith;
-    lower = omega arith;
-    report_kept = λ y. omega arith;
-    report_new = λ y h. omega arith;
+        let lengths_equal : record_length (record v { over = true }) ≡ record_length v = refl in
+        omega arith;
+    claim_word_rises = omega arith;
+    floor_word_falls = omega arith;
+    reports_are_kept = λ y. omega arith;
+    new_reports_ge_floor = λ y occurs_more. omega arith;
     floor = inl refl;
     settled = refl;
-    skip_new = λ y h. omega arith;
-    seen_floor = floor;
+    new_skips_gt_floor = λ y occurs_more. omega arith;
+    floor_le_seen = floor;
     seen = inl refl;
-    over = λ h. inr (omega arith);
+    over = λ occurs_more. inr (omega arith);
     bound =
-        λ t h. let e = not_over_no_share isopen in
-        let now : over_share (record v { over = true }) ≡ v.share = refl in omega arith;
+        λ t occurs_more. let over_share_before = not_over_no_share is_not_over in
+        let over_share_after : over_share (record v { over = true }) ≡ v.share = refl in
+        omega arith;
   }
 
   pub look_skips : (a i : ℕ) → b < i → v.open_number ≡ Some i
       → Moves n a b c a b c v
       (record v { open_number = None; skipped = v.skipped ++ i ∷ []; seen = b })
-  look_skips a i b_below_i open_is = record {
+  look_skips a i b_lt_i open_is = record {
     count = refl;
     share = refl;
-    once = λ y. let e = times_of_open y i open_is in let t = times_in_append y v.skipped (i ∷ []) in
-        let is : times_recorded y
+    once =
+        λ y. let open_part_is =
+        times_of_open y i open_is in let parts_add_up = times_in_append y v.skipped (i ∷ []) in
+        let record_after_is : times_recorded y
         (record v { open_number = None; skipped = v.skipped ++ i ∷ []; seen = b })
         ≡ 0 + times_in y v.settled + times_in y v.reported
         + times_in y (v.skipped ++ i ∷ []) = refl in
-        let one : times_in y (i ∷ []) ≡ cond (i == y) 1 0 + 0 = refl in
-        let was : times_recorded y v
+        let one_of_single : times_in y (i ∷ []) ≡ cond (i == y) 1 0 + 0 = refl in
+        let record_before_is : times_recorded y v
         ≡ times_open y v.open_number + times_in y v.settled + times_in y v.reported
         + times_in y v.skipped = refl in omega arith;
-    lengths = let e = one_open_count i open_is in let t = length-append v.skipped (i ∷ []) in
-        let is : record_length
+    lengths =
+        let open_part_is = one_open_count i open_is in
+        let parts_add_up = length-append v.skipped (i ∷ []) in
+        let record_after_is : record_length
         (record v { open_number = None; skipped = v.skipped ++ i ∷ []; seen = b })
         ≡ 0 + length v.settled + length v.reported + length (v.skipped ++ i ∷ []) = refl in
-        let was : record_length v
+        let record_before_is : record_length v
         ≡ open_count v.open_number + length v.settled + length v.reported
         + length v.skipped = refl in omega arith;
-    later = omega arith;
-    lower = omega arith;
-    report_kept = λ y. omega arith;
-    report_new = λ y h. omega arith;
+    claim_word_rises = omega arith;
+    floor_word_falls = omega arith;
+    reports_are_kept = λ y. omega arith;
+    new_reports_ge_floor = λ y occurs_more. omega arith;
     floor = inl refl;
     settled = refl;
-    skip_new =
-        λ y h. let t = times_in_append y v.skipped (i ∷ []) in
-        let one : times_in y (i ∷ []) ≡ cond (i == y) 1 0 + 0 = refl in
-        let same = counted_is_equal y i (omega arith) in omega arith;
-    seen_floor = omega arith;
+    new_skips_gt_floor =
+        λ y occurs_more. let parts_add_up = times_in_append y v.skipped (i ∷ []) in
+        let one_of_single : times_in y (i ∷ []) ≡ cond (i == y) 1 0 + 0 = refl in
+        let i_is_y = counted_is_equal y i (omega arith) in omega arith;
+    floor_le_seen = omega arith;
     seen = inr refl;
-    over = λ h. inl h;
+    over = λ occurs_more. inl occurs_more;
     bound =
-        λ t h. let same : over_share
+        λ t occurs_more. let i_is_y : over_share
         (record v { open_number = None; skipped = v.skipped ++ i ∷ []; seen = b })
         ≡ over_share v = refl in
         omega arith;
@@ -248,18 +268,19 @@ module _ (n b c : ℕ) (v : View) (floor : b ≤ v.seen) where
     share = refl;
     once = λ x. refl;
     lengths = refl;
-    later = omega arith;
-    lower = omega arith;
-    report_kept = λ x. omega arith;
-    report_new = λ x h. omega arith;
+    claim_word_rises = omega arith;
+    floor_word_falls = omega arith;
+    reports_are_kept = λ x. omega arith;
+    new_reports_ge_floor = λ x occurs_more. omega arith;
     floor = inl refl;
     settled = refl;
-    skip_new = λ x h. omega arith;
-    seen_floor = omega arith;
+    new_skips_gt_floor = λ x occurs_more. omega arith;
+    floor_le_seen = omega arith;
     seen = inr refl;
-    over = λ h. inl h;
+    over = λ occurs_more. inl occurs_more;
     bound =
-        λ t h. let same : over_share (record v { seen = b }) ≡ over_share v = refl in omega arith;
+        λ t occurs_more. let over_shares_equal : over_share (record v { seen = b }) ≡ over_share v =
+        refl in omega arith;
   }
 
   pub settles_number : (a i : ℕ) → v.open_number ≡ Some i
@@ -267,32 +288,38 @@ module _ (n b c : ℕ) (v : View) (floor : b ≤ v.seen) where
   settles_number a i open_is = record {
     count = refl;
     share = refl;
-    once = λ y. let e = times_of_open y i open_is in let t = times_in_append y v.settled (i ∷ []) in
-        let is : times_recorded y (record v { open_number = None; settled = v.settled ++ i ∷ [] })
+    once =
+        λ y. let open_part_is =
+        times_of_open y i open_is in let parts_add_up = times_in_append y v.settled (i ∷ []) in
+        let record_after_is : times_recorded y
+        (record v { open_number = None; settled = v.settled ++ i ∷ [] })
         ≡ 0 + times_in y (v.settled ++ i ∷ []) + times_in y v.reported
         + times_in y v.skipped = refl in
-        let one : times_in y (i ∷ []) ≡ cond (i == y) 1 0 + 0 = refl in
-        let was : times_recorded y v
+        let one_of_single : times_in y (i ∷ []) ≡ cond (i == y) 1 0 + 0 = refl in
+        let record_before_is : times_recorded y v
         ≡ times_open y v.open_number + times_in y v.settled + times_in y v.reported
         + times_in y v.skipped = refl in omega arith;
-    lengths = let e = one_open_count i open_is in let t = length-append v.settled (i ∷ []) in
-        let is : record_length (record v { open_number = None; settled = v.settled ++ i ∷ [] })
+    lengths =
+        let open_part_is = one_open_count i open_is in
+        let parts_add_up = length-append v.settled (i ∷ []) in
+        let record_after_is : record_length
+        (record v { open_number = None; settled = v.settled ++ i ∷ [] })
         ≡ 0 + length (v.settled ++ i ∷ []) + length v.reported + length v.skipped = refl in
-        let was : record_length v
+        let record_before_is : record_length v
         ≡ open_count v.open_number + length v.settled + length v.reported
         + length v.skipped = refl in omega arith;
-    later = omega arith;
-    lower = omega arith;
-    report_kept = λ y. omega arith;
-    report_new = λ y h. omega arith;
+    claim_word_rises = omega arith;
+    floor_word_falls = omega arith;
+    reports_are_kept = λ y. omega arith;
+    new_reports_ge_floor = λ y occurs_more. omega arith;
     floor = inl refl;
-    settled = let t = length-append v.settled (i ∷ []) in omega arith;
-    skip_new = λ y h. omega arith;
-    seen_floor = floor;
+    settled = let parts_add_up = length-append v.settled (i ∷ []) in omega arith;
+    new_skips_gt_floor = λ y occurs_more. omega arith;
+    floor_le_seen = floor;
     seen = inl refl;
-    over = λ h. inl h;
+    over = λ occurs_more. inl occurs_more;
     bound =
-        λ t h. let same : over_share
+        λ t occurs_more. let over_shares_equal : over_share
         (record v { open_number = None; settled = v.settled ++ i ∷ [] })
         ≡ over_share v = refl in
         omega arith;
@@ -305,37 +332,40 @@ module _ (n b c : ℕ) (v : View) (floor : b ≤ v.seen) where
     count = refl;
     share = refl;
     once =
-        λ y. let e = times_of_open y i open_is in let t = times_in_append y v.reported (i ∷ []) in
-        let is : times_recorded y
+        λ y. let open_part_is =
+        times_of_open y i open_is in let parts_add_up = times_in_append y v.reported (i ∷ []) in
+        let record_after_is : times_recorded y
         (record v { open_number = None; reported = v.reported ++ i ∷ []; seen = min b i })
         ≡ 0 + times_in y v.settled + times_in y (v.reported ++ i ∷ [])
         + times_in y v.skipped = refl in
-        let one : times_in y (i ∷ []) ≡ cond (i == y) 1 0 + 0 = refl in
-        let was : times_recorded y v
+        let one_of_single : times_in y (i ∷ []) ≡ cond (i == y) 1 0 + 0 = refl in
+        let record_before_is : times_recorded y v
         ≡ times_open y v.open_number + times_in y v.settled + times_in y v.reported
         + times_in y v.skipped = refl in omega arith;
-    lengths = let e = one_open_count i open_is in let t = length-append v.reported (i ∷ []) in
-        let is : record_length
+    lengths =
+        let open_part_is = one_open_count i open_is in
+        let parts_add_up = length-append v.reported (i ∷ []) in
+        let record_after_is : record_length
         (record v { open_number = None; reported = v.reported ++ i ∷ []; seen = min b i })
         ≡ 0 + length v.settled + length (v.reported ++ i ∷ []) + length v.skipped = refl in
-        let was : record_length v
+        let record_before_is : record_length v
         ≡ open_count v.open_number + length v.settled + length v.reported
         + length v.skipped = refl in omega arith;
-    later = omega arith;
-    lower = omega arith;
-    report_kept = λ y. let t = times_in_append y v.reported (i ∷ []) in omega arith;
-    report_new =
-        λ y h. let t = times_in_append y v.reported (i ∷ []) in
-        let one : times_in y (i ∷ []) ≡ cond (i == y) 1 0 + 0 = refl in
-        let same = counted_is_equal y i (omega arith) in omega arith;
+    claim_word_rises = omega arith;
+    floor_word_falls = omega arith;
+    reports_are_kept = λ y. let parts_add_up = times_in_append y v.reported (i ∷ []) in omega arith;
+    new_reports_ge_floor =
+        λ y occurs_more. let parts_add_up = times_in_append y v.reported (i ∷ []) in
+        let one_of_single : times_in y (i ∷ []) ≡ cond (i == y) 1 0 + 0 = refl in
+        let i_is_y = counted_is_equal y i (omega arith) in omega arith;
     floor = floor_by_order (cases_lt i b);
     settled = refl;
-    skip_new = λ y h. omega arith;
-    seen_floor = omega arith;
+    new_skips_gt_floor = λ y occurs_more. omega arith;
+    floor_le_seen = omega arith;
     seen = inr refl;
-    over = λ h. inl h;
+    over = λ occurs_more. inl occurs_more;
     bound =
-        λ t h. let same : over_share
+        λ t occurs_more. let i_is_y : over_share
         (record v { open_number = None; reported = v.reported ++ i ∷ []; seen = min b i })
         ≡ over_share v = refl in
         omega arith;
@@ -343,12 +373,14 @@ module _ (n b c : ℕ) (v : View) (floor : b ≤ v.seen) where
     where
       i_is_reported : 0 < times_in i (v.reported ++ i ∷ [])
       i_is_reported =
-          let t = times_in_append i v.reported (i ∷ []) in
-          let one : times_in i (i ∷ []) ≡ cond (i == i) 1 0 + 0 = refl in let here =
+          let parts_add_up = times_in_append i v.reported (i ∷ []) in
+          let one_of_single : times_in i (i ∷ []) ≡ cond (i == i) 1 0 + 0 = refl in
+          let one_is_counted =
           equal_is_counted i in
           omega arith
 
       floor_by_order : (i < b) ⊎ (b ≤ i) → (min b i ≡ b)
           ⊎ (0 < times_in (min b i) (v.reported ++ i ∷ []))
-      floor_by_order (inl lt) = let is : min b i ≡ i = omega arith in inr (rw is i_is_reported)
-      floor_by_order (inr le) = inl (omega arith)
+      floor_by_order (inl i_lt_b) =
+          let lesser_is_i : min b i ≡ i = omega arith in inr (rw lesser_is_i i_is_reported)
+      floor_by_order (inr b_le_i) = inl (omega arith)

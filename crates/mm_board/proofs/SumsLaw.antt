@@ -8,22 +8,27 @@ use Rattle.mm_board.specs.declared.views.View.{View}
 use Rattle.mm_board.specs.Records.{times_in, open_count, record_length}
 use Rattle.mm_board.specs.Rule.{total, settled_count, once_below, over_share}
 
-pub total_set : (f : View → ℕ) (l : List View) (i : ℕ) (v w : View) → get_elem? l i ≡ some v
+pub total_after_set : (f : View → ℕ) (l : List View) (i : ℕ) (v w : View) → get_elem? l i ≡ some v
     → total f (set l i w) + f v ≡ total f l + f w
-total_set f [] i v w e = absurd (some-ne-none v (sym e))
-total_set f (x ∷ xs) zero v w e = let is : f x ≡ f v = ap f (some-injective x v e) in omega arith
-total_set f (x ∷ xs) (suc i) v w e = let r = total_set f xs i v w e in omega arith
+total_after_set f [] i v w has_view = absurd (some-ne-none v (sym has_view))
+total_after_set f (x ∷ xs) zero v w has_view =
+    let values_equal : f x ≡ f v = ap f (some-injective x v has_view) in omega arith
+total_after_set f (x ∷ xs) (suc i) v w has_view =
+    let later_total = total_after_set f xs i v w has_view in omega arith
 
-pub total_snoc : (f : View → ℕ) (l : List View) (v : View) → total f (l ++ v ∷ []) ≡ total f l + f v
-total_snoc f [] v = omega arith
-total_snoc f (x ∷ xs) v = let r = total_snoc f xs v in omega arith
+pub total_of_appended : (f : View → ℕ) (l : List View) (v : View)
+    → total f (l ++ v ∷ []) ≡ total f l + f v
+total_of_appended f [] v = omega arith
+total_of_appended f (x ∷ xs) v = let later_total = total_of_appended f xs v in omega arith
 
 pub one_at_most_total : (f : View → ℕ) (l : List View) (i : ℕ) (v : View) → get_elem? l i ≡ some v
     → f v ≤ total f l
-one_at_most_total f [] i v e = absurd (some-ne-none v (sym e))
-one_at_most_total f (x ∷ xs) zero v e = let is : f x ≡ f v = ap f (some-injective x v e) in
+one_at_most_total f [] i v has_view = absurd (some-ne-none v (sym has_view))
+one_at_most_total f (x ∷ xs) zero v has_view =
+    let values_equal : f x ≡ f v = ap f (some-injective x v has_view) in
     omega arith
-one_at_most_total f (x ∷ xs) (suc i) v e = let r = one_at_most_total f xs i v e in omega arith
+one_at_most_total f (x ∷ xs) (suc i) v has_view =
+    let later_bound = one_at_most_total f xs i v has_view in omega arith
 
 over_share_at_most_share : (v : View) → over_share v ≤ v.share
 over_share_at_most_share v =
@@ -31,21 +36,24 @@ over_share_at_most_share v =
 
 pub over_shares_at_most_shares : (l : List View) → total over_share l ≤ total (λ v. v.share) l
 over_shares_at_most_shares [] = omega arith
-over_shares_at_most_shares (x ∷ xs) = let r = over_shares_at_most_shares xs in let h =
+over_shares_at_most_shares (x ∷ xs) =
+    let later_bound = over_shares_at_most_shares xs in let first_bound =
     over_share_at_most_share x in omega arith
 
 pub times_in_append : (y : ℕ) (l m : List ℕ) → times_in y (l ++ m) ≡ times_in y l + times_in y m
 times_in_append y [] m = omega arith
-times_in_append y (x ∷ xs) m = let r = times_in_append y xs m in omega arith
+times_in_append y (x ∷ xs) m = let later_count = times_in_append y xs m in omega arith
 
-below_next : (y x : ℕ) → cond (nat_lt y x) 1 0 + cond (x == y) 1 0 ≡ cond (nat_lt y (x + 1)) 1 0
-below_next y x = grind (arith, nat_tests)
+below_moves_by_one : (y x : ℕ)
+    → cond (nat_lt y x) 1 0 + cond (x == y) 1 0 ≡ cond (nat_lt y (x + 1)) 1 0
+below_moves_by_one y x = grind (arith, nat_tests)
 
-pub once_below_next : (y x n : ℕ) → x < n
+pub once_below_moves_by_one : (y x n : ℕ) → x < n
     → once_below y (min x n) + cond (x == y) 1 0 ≡ once_below y (min (x + 1) n)
-once_below_next y x n h =
-    let a : min x n ≡ x = omega arith in let b : min (x + 1) n ≡ x + 1 = omega arith in
-    rw (a, b) (below_next y x)
+once_below_moves_by_one y x n x_lt_n =
+    let least_is_x : min x n ≡ x = omega arith in let next_least_is : min (x + 1) n ≡ x + 1 =
+    omega arith in
+    rw (least_is_x, next_least_is) (below_moves_by_one y x)
 
 pub below_by_once : (x n : ℕ) → 0 < once_below x n → x < n
 below_by_once x n = grind (arith, nat_tests)
@@ -63,38 +71,50 @@ counted_is_equal x y = grind (arith, nat_tests)
 pub equal_is_counted : (x : ℕ) → 0 < cond (x == x) 1 0
 equal_is_counted x = grind (arith, nat_tests)
 
-pub total_same : (f : View → ℕ) (g : View → ℕ) (l : List View) → ((v : View) → f v ≡ g v)
+pub equal_values_equal_totals : (f : View → ℕ) (g : View → ℕ) (l : List View)
+    → ((v : View) → f v ≡ g v)
     → total f l ≡ total g l
-total_same f g [] e = refl
-total_same f g (x ∷ xs) e = let r = total_same f g xs e in let h = e x in omega arith
+equal_values_equal_totals f g [] values_equal = refl
+equal_values_equal_totals f g (x ∷ xs) values_equal =
+    let later_equal = equal_values_equal_totals f g xs values_equal in
+    let first_equal = values_equal x in
+    omega arith
 
 -- the total over seats of which all but one are spent
 total_of_spent : (f : View → ℕ) (l : List View) → total (λ v. v.share) l ≡ 0
     → ((i : ℕ) (u : View) → get_elem? l i ≡ some u → u.share ≡ 0 → f u ≡ 0) → total f l ≡ 0
-total_of_spent f [] e z = refl
-total_of_spent f (x ∷ xs) e z =
-    let h = z 0 x refl (omega arith) in
-    let r = total_of_spent f xs (omega arith) (λ i u at. z (suc i) u at) in omega arith
+total_of_spent f [] no_shares spent_gives_zero = refl
+total_of_spent f (x ∷ xs) no_shares spent_gives_zero =
+    let first_is_zero = spent_gives_zero 0 x refl (omega arith) in
+    let later_is_zero =
+    total_of_spent f xs (omega arith) (λ i u has_view. spent_gives_zero (suc i) u has_view) in
+    omega arith
 
 pub total_of_only_seat : (f : View → ℕ) (l : List View) (i : ℕ) (v : View) → get_elem? l i ≡ some v
     → total (λ u. u.share) l ≡ v.share
     → ((j : ℕ) (u : View) → get_elem? l j ≡ some u → u.share ≡ 0 → f u ≡ 0) → total f l ≡ f v
-total_of_only_seat f [] i v at e z = absurd (some-ne-none v (sym at))
-total_of_only_seat f (x ∷ xs) zero v at e z =
-    let is : f x ≡ f v = ap f (some-injective x v at) in
-    let same : x.share ≡ v.share = ap (λ (u : View). u.share) (some-injective x v at) in
-    let r = total_of_spent f xs (omega arith) (λ j u there. z (suc j) u there) in omega arith
-total_of_only_seat f (x ∷ xs) (suc i) v at e z =
-    let much = one_at_most_total (λ u. u.share) xs i v at in
-    let h = z 0 x refl (omega arith) in
-    let r = total_of_only_seat f xs i v at (omega arith) (λ j u there. z (suc j) u there) in
+total_of_only_seat f [] i v has_view shares_are_its_own spent_gives_zero =
+    absurd (some-ne-none v (sym has_view))
+total_of_only_seat f (x ∷ xs) zero v has_view shares_are_its_own spent_gives_zero =
+    let values_equal : f x ≡ f v = ap f (some-injective x v has_view) in
+    let shares_equal : x.share ≡ v.share =
+    ap (λ (u : View). u.share) (some-injective x v has_view) in
+    let later_total =
+    total_of_spent f xs (omega arith)
+    (λ j u has_view_there. spent_gives_zero (suc j) u has_view_there) in omega arith
+total_of_only_seat f (x ∷ xs) (suc i) v has_view shares_are_its_own spent_gives_zero =
+    let share_le_later = one_at_most_total (λ u. u.share) xs i v has_view in
+    let first_is_zero = spent_gives_zero 0 x refl (omega arith) in
+    let later_total =
+    total_of_only_seat f xs i v has_view (omega arith)
+    (λ j u has_view_there. spent_gives_zero (suc j) u has_view_there) in
     omega arith
 
 pub settled_at_most_recorded : (l : List View) → settled_count l ≤ total record_length l
 settled_at_most_recorded [] = omega arith
 settled_at_most_recorded (x ∷ xs) =
-    let r : settled_count xs ≤ total record_length xs = settled_at_most_recorded xs in
-    let is : settled_count (x ∷ xs) ≡ length x.settled + settled_count xs = refl in
-    let all : record_length x
+    let later_bound : settled_count xs ≤ total record_length xs = settled_at_most_recorded xs in
+    let count_is : settled_count (x ∷ xs) ≡ length x.settled + settled_count xs = refl in
+    let record_length_is : record_length x
     ≡ open_count x.open_number + length x.settled + length x.reported
     + length x.skipped = refl in omega arith

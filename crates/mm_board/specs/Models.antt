@@ -23,7 +23,7 @@ pub record IsBoardTable (table : TableId) (key count : ℕ) : Type 0 where
   pub three_words : table.words ≡ 3
   pub no_slot : table.slots ≡ 0
   pub key_is : key ≡ count
-  pub small : count ≤ MOST_NUMBERS
+  pub count_le_most_numbers : count ≤ MOST_NUMBERS
 
 -- the fields that a seat has at run time agree with its view, and its token has no slot
 pub record ShowsView (view : View) (slots : List (ℕ × Unit {0})) (share : ℕ)
@@ -33,5 +33,5 @@ pub record ShowsView (view : View) (slots : List (ℕ × Unit {0})) (share : ℕ
   pub seen_is : seen ≡ view.seen
   pub over_is : over ≡ view.over
   pub some_share : 0 < share
-  pub few : share ≤ MOST_SEATS
+  pub share_le_most_seats : share ≤ MOST_SEATS
   pub no_slot : slots ≡ []

@@ -40,8 +40,8 @@ IsCountOrReported n views x = (x ≡ n) ⊎ (0 < times_reported views x)
 
 -- the least reported number, or n if there is none
 pub record IsLeastReported (n : ℕ) (views : List View) (x : ℕ) : Type 0 where
-  pub at_most : x ≤ n
-  pub lowest : (y : ℕ) → 0 < times_reported views y → x ≤ y
+  pub le_count : x ≤ n
+  pub le_each_reported : (y : ℕ) → 0 < times_reported views y → x ≤ y
   pub is_count_or_reported : IsCountOrReported n views x
 
 -- some seat has this view

@@ -6,8 +6,8 @@ use Rattle.mm_spec.specs.Statement.{Statement}
 use Rattle.mm_spec.specs.Derivation.{Trees, postfix, is_member}
 use Rattle.mm_spec.specs.Laws.Complete.{AreComplete}
 use Rattle.mm_spec.specs.Citation.{IsProof, Cites}
-use Rattle.mm_spec.proofs.CitedLaw.{proof_unique}
-use Rattle.mm_spec.proofs.NodesLaw.{all_labels}
+use Rattle.mm_spec.proofs.CitedLaw.{two_proofs_are_equal}
+use Rattle.mm_spec.proofs.NodesLaw.{node_label_iff_member}
 use Rattle.mm_rule.specs.Assertions.{is_assertion_at}
 
 -- the assertions among the labels of the proof are what the theorem cites
@@ -18,10 +18,10 @@ pub labels_are_cited : (db : List Statement) (t : ℕ) (d : Trees) (cites : List
 labels_are_cited db t d cites complete is_proof members_are a = (
   λ is_cited. let is_label_and_assertion =
       and_parts (is_member (postfix d) a) (is_assertion_at db a) (sym (members_are a) ∙ is_cited) in
-      (is_label_and_assertion.1, d, is_proof, (all_labels db d a).1 is_label_and_assertion.0),
+      (is_label_and_assertion.1, d, is_proof, (node_label_iff_member db d a).1 is_label_and_assertion.0),
   λ cites_a. members_are a
       ∙ and_from (is_member (postfix d) a) (is_assertion_at db a)
-      (subst (λ d'. is_member (postfix d') a ≡ true) (proof_unique db complete t cites_a.1 d
+      (subst (λ d'. is_member (postfix d') a ≡ true) (two_proofs_are_equal db complete t cites_a.1 d
       cites_a.2 is_proof)
-      ((all_labels db cites_a.1 a).0 cites_a.3)) cites_a.0,
+      ((node_label_iff_member db cites_a.1 a).0 cites_a.3)) cites_a.0,
 )

@@ -9,7 +9,7 @@ use Rattle.mm_spec.specs.Frame.{formula_at, frame_at}
 use Rattle.mm_spec.specs.Derivation.{Rule, hypothesis, assertion}
 use Rattle.mm_spec.specs.Citation.{context_at, rule_of, rule_at, is_assertion}
 use Rattle.mm_spec.specs.Laws.Stack.{IsCompleteRule, IsGoodStep}
-use Rattle.mm_spec.proofs.FindsLaw.{inside_of}
+use Rattle.mm_spec.proofs.FindsLaw.{got_lt_length}
 use Rattle.mm_spec.specs.Steps.{Step, label, marked}
 use Rattle.mm_rule.specs.Assertions.{is_assertion_at}
 use Rattle.mm_check.specs.Contract.{IsLabelBelow}
@@ -41,7 +41,7 @@ module _ (db : List Statement) (t j : ℕ) where
           }
 
   pub good_label_is_below : IsCompleteRule (context_at db t) (rule_at db t j) → j < length db
-  good_label_is_below is_complete = let labelled = good_label_has_statement is_complete in inside_of
+  good_label_is_below is_complete = let labelled = good_label_has_statement is_complete in got_lt_length
       db j labelled.statement labelled.statement_is
 
   assertion_flag_is : (s : Statement) (b : Bool) → slice_get db j ≡ Some s → is_assertion_at db j

@@ -16,7 +16,7 @@ use Rattle.mm_spec.specs.declared.Code.{Code}
 use Rattle.mm_spec.specs.Valid.{Derives, ProofEndFault, IsEndCode}
 use Rattle.mm_spec.specs.Frame.{formula_at}
 use Rattle.mm_spec.specs.Citation.{context_at, is_theorem, IsProof, Cites}
-use Rattle.mm_spec.proofs.FindsLaw.{inside_of}
+use Rattle.mm_spec.proofs.FindsLaw.{got_lt_length}
 use Rattle.mm_database.specs.Database.{end_at}
 use Rattle.mm_rules.specs.Rules.{RuleLists}
 use Rattle.mm_machine.specs.DisjointCache.{AreDisjointAt}
@@ -51,7 +51,7 @@ module _ (db : List Statement) (t : ℕ) (steps : List PlacedStep) where
       by_statement : (o : Option Statement) → slice_get db t ≡ o
           → list_any is_theorem (elim o [ None ↦ [] | Some s ↦ s ∷ [] ]) ≡ true → t < length db
       by_statement None statement_is is_theorem = absurd (true≢false (sym is_theorem))
-      by_statement (Some s) statement_is is_theorem = inside_of db t s statement_is
+      by_statement (Some s) statement_is is_theorem = got_lt_length db t s statement_is
 
   -- all steps are performed
   module _ (c d : CheckerState) (view : c ≡ d) (has_performed : HasPerformed db t steps (length

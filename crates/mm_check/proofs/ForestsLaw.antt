@@ -10,7 +10,7 @@ use Rattle.mm_spec.specs.Steps.{Step, label, marked}
 use Rattle.mm_spec.specs.Valid.{IsLastTree, Adds, Plain, Derives}
 use Rattle.mm_spec.specs.Laws.Complete.{HasCompleteFrame}
 use Rattle.mm_spec.proofs.UniqueLaw.{◌⧺◌}
-use Rattle.mm_spec.proofs.CheckedLaw.{same_forest}
+use Rattle.mm_spec.proofs.CheckedLaw.{same_labels_same_forest}
 
 -- the forest after the first n steps
 abbrev pub forest_at : List Trees → ℕ → Trees
@@ -214,7 +214,7 @@ module _ (c : Context) where
         same_from_push (postfix ts ++ postfix cs) (postfix forest) k l
         (append_assoc (postfix ts) (postfix cs) (k ∷ []) ∙ postfix_is) in
         let forest_splits =
-        same_forest c are_complete forest (ts ⧺ cs) derives (joined_forest_derives ts cs
+        same_labels_same_forest c are_complete forest (ts ⧺ cs) derives (joined_forest_derives ts cs
         next_derives.0 next_derives.1)
         (sym postfixes_equal.0 ∙ sym (postfix_join ts cs)) in (
           ts,
@@ -236,7 +236,7 @@ module _ (c : Context) where
         forest_is =
         let at_j = list_is_postfix lists forests j adds.0 are_lists adds.2 in
         let repeated = adds.3 in
-        let forests_equal = same_forest c are_complete (get_or forests j none) repeated.0 at_j.1
+        let forests_equal = same_labels_same_forest c are_complete (get_or forests j none) repeated.0 at_j.1
         repeated.1 (at_j.2 ∙ sym repeated.2)
         in
         copy repeated.0 repeated.1 repeated.3 forests_equal at_j.0
@@ -247,7 +247,7 @@ module _ (c : Context) where
         copy none derives_r is_last forests_equal j_lt_length_forests = absurd is_last
         copy (more ts l f cs) derives_r list_is_last_tree forests_equal j_lt_length_forests =
             let next_is : next_forest ≡ more forest l f cs =
-            same_forest c are_complete next_forest (more forest l f cs) next_derives (
+            same_labels_same_forest c are_complete next_forest (more forest l f cs) next_derives (
               derives,
               derives_r.1,
               derives_r.2,
@@ -352,7 +352,7 @@ module _ (c : Context) where
           ends_in_d =
               ap (forest_at (forests ++ [])) length_is
               ∙ forest_front forests [] (length forests) (omega arith) ∙ forest_is
-              ∙ sym (same_forest c are_complete d forest d_derives derives plain);
+              ∙ sym (same_labels_same_forest c are_complete d forest d_derives derives plain);
         }
     has_rest_from (s ∷ steps) lists forests forest d are_lists derives forest_is d_derives plain =
         let extension = plain_extends steps (lists ++ plain.0 ∷ []) plain.0 (postfix d) plain.2 in

@@ -14,7 +14,7 @@ use Rattle.mm_spec.specs.Derivation.{AreDerivations, is_member}
 use Rattle.mm_spec.specs.Steps.{Step, label, marked, PlacedStep, placed}
 use Rattle.mm_spec.specs.Valid.{Reason, code_of, Plain, Adds, Derives, StepFault, ProofEndFault}
 use Rattle.mm_spec.specs.Valid.{IsEndCode, IsLastTree}
-use Rattle.mm_spec.proofs.StepsLaw.{after_more, GrownForest, grows}
+use Rattle.mm_spec.proofs.StepsLaw.{ends_after_one_more, GrownForest, good_step_grows_forest}
 use Rattle.mm_spec.specs.Laws.Stack.{AreGoodSteps, IsGoodStep, step_entries, top}
 use Rattle.mm_spec.specs.Statement.{Statement, provable}
 use Rattle.mm_spec.specs.Citation.{context_at, is_theorem}
@@ -107,7 +107,7 @@ reached_after_step db t steps_so_far stack ends noted s out noted' is_reached is
     ap (step_entries c s ends) is_reached.entries_are ∙ entries_are in
     let grown =
     subst (GrownForest c is_reached.lists is_reached.forest s) entries_after_are
-    (grows c is_reached.lists ends is_reached.forest s is_reached.are_derivations
+    (good_step_grows_forest c is_reached.lists ends is_reached.forest s is_reached.are_derivations
     is_reached.lists_end_in_formulas is_good)
     in
     let members = members_after_step c is_reached.lists (postfix is_reached.forest) (postfix
@@ -118,7 +118,7 @@ reached_after_step db t steps_so_far stack ends noted s out noted' is_reached is
       are_derivations = grown.1;
       entries_are = grown.3;
       lists = is_reached.lists ++ postfix grown.0 ∷ [];
-      lists_end_in_formulas = after_more c is_reached.lists ends (postfix grown.0) (top out)
+      lists_end_in_formulas = ends_after_one_more c is_reached.lists ends (postfix grown.0) (top out)
           is_reached.lists_end_in_formulas
           (grown.0, grown.1, refl, grown.4);
       plain_from_start =
@@ -156,7 +156,7 @@ failing_step_refuses db t steps i stack ends noted reason i_lt_length_steps is_r
     ap (step_entries c s.step ends) is_reached.entries_are ∙ step_fails in
     let grown =
     subst (GrownForest c is_reached.lists is_reached.forest s.step) entries_fail
-    (grows c is_reached.lists ends is_reached.forest s.step is_reached.are_derivations
+    (good_step_grows_forest c is_reached.lists ends is_reached.forest s.step is_reached.are_derivations
     is_reached.lists_end_in_formulas
     is_good) in
     record {

@@ -19,7 +19,7 @@ use Rattle.mm_spec.specs.Valid.{Derives}
 use Rattle.mm_spec.specs.Laws.Complete.{AreComplete}
 use Rattle.mm_spec.specs.Citation.{context_at, rule_at, steps_at, IsProof, Cites}
 use Rattle.mm_spec.specs.Laws.Stack.{IsCompleteRule, AreGoodSteps, IsGoodStep}
-use Rattle.mm_spec.proofs.CitedLaw.{proof_unique}
+use Rattle.mm_spec.proofs.CitedLaw.{two_proofs_are_equal}
 use Rattle.mm_steps.specs.TheoremSteps.{step_at, IsEarlier}
 use Rattle.mm_rule.specs.Assertions.{is_assertion_at}
 use Rattle.mm_check.specs.Contract.{is_labelled_step}
@@ -488,7 +488,7 @@ module _ (db : List Statement) (t : ℕ) (steps : List PlacedStep) (is_complete 
       ),
       λ cites. by_membership ((are_found.found_iff a cites.0).0
           (subst (λ d. HasNode (child_counts db true) each_root d a)
-          (proof_unique db is_complete t cites.1 are_found.derivation cites.2 are_found.proof)
+          (two_proofs_are_equal db is_complete t cites.1 are_found.derivation cites.2 are_found.proof)
           cites.3)),
     )
       where

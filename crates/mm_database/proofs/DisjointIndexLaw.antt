@@ -17,7 +17,7 @@ use Rattle.mm_spec.proofs.BoolLaw.{same_tests}
 use Rattle.mm_outline.specs.Blocks.{BlockLists, IsBlocks, end_of}
 use Rattle.mm_database.specs.Pairs.{has_pair, IsBefore, is_pair_before, AreRising}
 use Rattle.mm_database.specs.DisjointIndex.{has_symbol, is_active_local, HaveBlocks}
-use Rattle.mm_outline.proofs.StatementsLaw.{is_there}
+use Rattle.mm_outline.proofs.StatementsLaw.{passing_lt_length}
 
 -- ---- pairs by their places
 
@@ -127,12 +127,12 @@ have_blocks db b blocks ps pairs_are_members p p_lt_length =
     let x = (get_or ps p (0, 0)).0 in
     let has_symbol_x_j = sym (pairs_are_members x j) ∙ has_pair_at_place ps p (0, 0) p_lt_length in
     let j_is_there =
-    is_there is_disjoint_statement db j
+    passing_lt_length is_disjoint_statement db j
     (and_parts (list_any is_disjoint_statement (statement_at db j))
     (is_member (formula_at db j) x) has_symbol_x_j).0 in (
       let block_count = blocks.count in
           omega (arith, block_count, j_is_there),
-      blocks.known j j_is_there,
+      blocks.blocks_have_ends j j_is_there,
     )
 
 -- ---- the pairs before that of a symbol and a statement

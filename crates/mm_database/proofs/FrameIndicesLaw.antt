@@ -14,7 +14,7 @@ use Rattle.mm_spec.specs.Statement.{Statement}
 use Rattle.mm_spec.specs.Scope.{statement_at}
 use Rattle.mm_spec.specs.Citation.{is_assertion}
 use Rattle.mm_outline.specs.Blocks.{never}
-use Rattle.mm_outline.proofs.StatementsLaw.{is_there}
+use Rattle.mm_outline.proofs.StatementsLaw.{passing_lt_length}
 use Rattle.mm_database.specs.Frames.{Mandatory, mandatory_at, mandatory_in, frame_or_none}
 use Rattle.mm_database.specs.Frames.{frames_before, frames_at, AreFrameIndices}
 use Rattle.mm_database.specs.declared.frames.Frame.{Frame}
@@ -25,7 +25,7 @@ pub frame_of_assertion : (db : List Statement) (k : ℕ) → list_any is_asserti
     → get_or (frames_before db (length db)) k None ≡ Some (mandatory_at db k)
 frame_of_assertion db k k_is_assertion =
     get_or-map-range_with_len (frame_or_none db) 0 (length db) k k None
-    (is_there is_assertion db k k_is_assertion) (omega arith)
+    (passing_lt_length is_assertion db k k_is_assertion) (omega arith)
     ∙ ap (λ b. if b then Some (mandatory_at db k) else None) k_is_assertion
 
 module _ {A : Type 0} (fs : List (Frame A)) where

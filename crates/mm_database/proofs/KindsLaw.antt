@@ -16,7 +16,7 @@ use Rattle.mm_spec.specs.Citation.{is_theorem, is_assertion}
 use Rattle.mm_spec.specs.Frame.{is_essential, is_floating, is_disjoint_statement}
 use Rattle.mm_spec.specs.Output.{is_column, theorems, columns}
 use Rattle.mm_spec.specs.declared.Word.{Word}
-use Rattle.mm_spec.proofs.ActivityLaw.{range_more}
+use Rattle.mm_spec.proofs.ActivityLaw.{range_with_one_more}
 use Rattle.mm_spec.proofs.OpenedLaw.{counted_length, got_axiom}
 use Rattle.mm_outline.specs.Parts.{statement_of}
 use Rattle.mm_outline.specs.Statements.{statements}
@@ -35,7 +35,7 @@ filter_range_push : (p : ℕ → Bool) (k : ℕ) (b : Bool) → p k ≡ b
 filter_range_push p k b p_k_is_b =
     let k_plus_1_is_suc : k + 1 ≡ suc k = omega arith in
     let zero_plus_k_is_k : 0 + k ≡ k = omega arith in
-    ap (λ n. filter p (range_with_len 0 n)) k_plus_1_is_suc ∙ ap (filter p) (range_more 0 k)
+    ap (λ n. filter p (range_with_len 0 n)) k_plus_1_is_suc ∙ ap (filter p) (range_with_one_more 0 k)
     ∙ ap (λ i. filter p (range_with_len 0 k ++ i ∷ [])) zero_plus_k_is_k
     ∙ filter-append p (range_with_len 0 k) (k ∷ [])
     ∙ ap (λ c. filter p (range_with_len 0 k) ++ cond c (k ∷ []) []) p_k_is_b

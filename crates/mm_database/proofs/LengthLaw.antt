@@ -8,7 +8,7 @@ use Rattle.mm_spec.specs.Statement.{Statement, constants, variables, disjoint, f
 use Rattle.mm_spec.specs.Statement.{axiomatic, provable, opening, closing, spelling_of}
 use Rattle.mm_spec.specs.Output.{IsRead}
 use Rattle.mm_outline.specs.Parts.{token_of}
-use Rattle.mm_outline.proofs.TokensLaw.{tokens_few}
+use Rattle.mm_outline.proofs.TokensLaw.{tokens_le_bytes_of_text}
 
 -- a statement has a token
 statement_has_token : (s : Statement) → 1 ≤ length (spelling_of s)
@@ -44,7 +44,7 @@ statements_le_bytes text db fault is_read =
     let tokens_length = ap length is_read.are_statements.splits in
     let statements_length = ap length is_read.splits in
     let mapped_length = length-map (tokens_of text) (token_of text) in
-    let tokens_le_bytes = tokens_few text in
+    let tokens_le_bytes = tokens_le_bytes_of_text text in
     omega (
       arith,
       statements_le_spelling,

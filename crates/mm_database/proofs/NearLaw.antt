@@ -12,7 +12,7 @@ use Rattle.mm_spec.specs.Frame.{formula_at, is_disjoint_statement, active_of}
 use Rattle.mm_outline.specs.declared.parts.Kind.TheVariants as kind
 use Rattle.mm_database.specs.Database.{kind_of}
 use Rattle.mm_database.specs.Together.{are_together_at}
-use Rattle.mm_spec.proofs.MemberLaw.{member_filter, member_range, any_of}
+use Rattle.mm_spec.proofs.MemberLaw.{member_filter, member_range, witness_makes_any}
 
 is_disjoint_kind : (s : Statement) → kind_of s ≡ kind.Disjoint → is_disjoint_statement s ≡ true
 is_disjoint_kind (disjoint k xs d) kind_is_disjoint = refl
@@ -41,7 +41,7 @@ pub near_are_together : (db : List Statement) (j k x y : ℕ)
     → is_member (formula_at db j) x ≡ true → is_member (formula_at db j) y ≡ true
     → are_together_at db k x y ≡ true
 near_are_together db j k x y j_is_disjoint active_at_k j_has_x j_has_y =
-    any_of (λ i. is_member (formula_at db i) x && is_member (formula_at db i) y)
+    witness_makes_any (λ i. is_member (formula_at db i) x && is_member (formula_at db i) y)
     (active_of is_disjoint_statement db k) j
     (member_filter (λ i. list_any is_disjoint_statement (statement_at db i)) (active db k) j
     ∙ ap₂ (λ p q. p && q) (is_disjoint_at db j j_is_disjoint)

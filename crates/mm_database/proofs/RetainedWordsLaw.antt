@@ -24,7 +24,7 @@ use Rattle.mm_outline.specs.Statements.{statements}
 use Rattle.mm_outline.specs.declared.parts.Kind.{Kind}
 use Rattle.mm_outline.specs.declared.parts.Kind.TheVariants as kind
 use Rattle.mm_outline.specs.declared.parts.Outline.{Outline}
-use Rattle.mm_outline.proofs.StatementsLaw.{get_mapped, statement_is}
+use Rattle.mm_outline.proofs.StatementsLaw.{element_of_mapped, statement_of_outline_is}
 use Rattle.mm_database.specs.Database.{Contents, contents, kind_of}
 use Rattle.mm_database.specs.RetainedWords.{AreRetained, IsRetained, retained_words, label_tokens}
 use Rattle.mm_outline.specs.Parts.{is_labelled_kind}
@@ -142,11 +142,11 @@ module _ (text : List ℕ) (ws : List Word) where
             slice_get_within (statements text ws os) k s s_is_statement_k in
             omega (arith, k_lt_statements_length, statements_length) in
             let some_statement_is_s : Some (statement_of text ws (get_or os k d)) ≡ Some s =
-            sym (statement_is text ws os k d k_lt_length_os) ∙ s_is_statement_k in
+            sym (statement_of_outline_is text ws os k d k_lt_length_os) ∙ s_is_statement_k in
             let statement_is_s : statement_of text ws (get_or os k d) ≡ s = cc in
             subst (λ t. IsRetained text t (get_or (map (retained_words ws) os) k [])) statement_is_s
             (subst (IsRetained text (statement_of text ws (get_or os k d)))
-            (sym (get_mapped (retained_words ws) os k d [] k_lt_length_os))
+            (sym (element_of_mapped (retained_words ws) os k d [] k_lt_length_os))
             (retained_words_are_of_statement (get_or os k d) (are_outlines k d k_lt_length_os)))
 
 -- ---- what the kept words of a statement answer

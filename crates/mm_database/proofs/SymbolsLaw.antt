@@ -10,7 +10,7 @@ use Rattle.std.proofs.Math.Bool.{or-true}
 use Rattle.std.proofs.lemmas.Bool.{or_parts}
 use Rattle.mm_spec.specs.Text.{Bytes, is_in}
 use Rattle.mm_spec.specs.Frame.{first_occurrences, index_of}
-use Rattle.mm_spec.proofs.FindsLaw.{same_word}
+use Rattle.mm_spec.proofs.FindsLaw.{equal_bytes_equal_words}
 use Rattle.mm_database.specs.declared.name.Name.{Name}
 use Rattle.mm_database.specs.Names.{are_distinct, with_name}
 
@@ -53,8 +53,8 @@ first_occurrences_append (v ∷ ws) e w =
     new_if_equal : is_in v e ≡ true → (b : Bool) → bytes_eq w v ≡ b
         → (is_in w e || is_in w ws) ≡ (is_in w e || (b || is_in w ws))
     new_if_equal v_in_e true w_eq_v =
-        ap (λ a. a || is_in w ws) (ap (λ x. is_in x e) (same_word w v w_eq_v) ∙ v_in_e)
-        ∙ sym (ap (λ a. a || (true || is_in w ws)) (ap (λ x. is_in x e) (same_word w v w_eq_v)
+        ap (λ a. a || is_in w ws) (ap (λ x. is_in x e) (equal_bytes_equal_words w v w_eq_v) ∙ v_in_e)
+        ∙ sym (ap (λ a. a || (true || is_in w ws)) (ap (λ x. is_in x e) (equal_bytes_equal_words w v w_eq_v)
         ∙ v_in_e))
     new_if_equal v_in_e false w_eq_v = refl
 
@@ -92,7 +92,7 @@ in_first_occurrences (v ∷ ws) e w w_not_in_e =
         → (b : Bool) → is_in v e ≡ b → (w_eq_v : Bool) → bytes_eq w v ≡ w_eq_v
         → is_in w (first_occurrences e (v ∷ ws)) ≡ (bytes_eq w v || is_in w ws)
     by_head without_v with_v true word_in_e true w_eq_v = absurd (true≢false
-        (sym (ap (λ x. is_in x e) (same_word w v w_eq_v) ∙ word_in_e) ∙ w_not_in_e))
+        (sym (ap (λ x. is_in x e) (equal_bytes_equal_words w v w_eq_v) ∙ word_in_e) ∙ w_not_in_e))
     by_head without_v with_v true word_in_e false w_eq_v =
         ap (is_in w) (first_occurrences_cons e v ws true word_in_e) ∙ without_v
         ∙ sym (ap (λ b. b || is_in w ws) w_eq_v)
@@ -121,7 +121,7 @@ not_in_first_occurrences (v ∷ ws) e w word_in_e =
     by_head without_v with_v true word_in_e w_eq_v w_eq_v_is_s =
         ap (is_in w) (first_occurrences_cons e v ws true word_in_e) ∙ without_v
     by_head without_v with_v false v_not_in_e true w_eq_v = absurd (true≢false
-        (sym word_in_e ∙ ap (λ x. is_in x e) (same_word w v w_eq_v) ∙ v_not_in_e))
+        (sym word_in_e ∙ ap (λ x. is_in x e) (equal_bytes_equal_words w v w_eq_v) ∙ v_not_in_e))
     by_head without_v with_v false v_not_in_e false w_eq_v =
         ap (is_in w) (first_occurrences_cons e v ws false v_not_in_e)
         ∙ ap (λ b. b || is_in w (first_occurrences (v ∷ e) ws)) w_eq_v
@@ -149,7 +149,7 @@ name_at_index_of (n ∷ ns) w w_in_ns = by_equality (name_at_index_of ns w) (byt
         → slice_get (n ∷ ns) (index_of w (n ∷ ns)) ≡ Some w
     by_equality in_rest true w_eq_n =
         ap (λ b. slice_get (n ∷ ns) (elim b [ true ↦ 0 | false ↦ suc (index_of w ns) ])) w_eq_n
-        ∙ ap Some (sym (same_word w n w_eq_n))
+        ∙ ap Some (sym (equal_bytes_equal_words w n w_eq_n))
     by_equality in_rest false w_eq_n =
         ap (λ b. slice_get (n ∷ ns) (elim b [ true ↦ 0 | false ↦ suc (index_of w ns) ])) w_eq_n
         ∙ in_rest (sym (ap (λ b. b || is_in w ns) w_eq_n) ∙ w_in_ns)
@@ -193,7 +193,7 @@ index_of_element (v ∷ ws) e s w element_is_w =
         by_equality : (b : Bool) → bytes_eq w v ≡ b → index_of w (v ∷ t) ≡ suc s
         by_equality true w_eq_v =
             absurd (true≢false
-            (sym (ap (λ x. is_in x t) (sym (same_word w v w_eq_v))
+            (sym (ap (λ x. is_in x t) (sym (equal_bytes_equal_words w v w_eq_v))
             ∙ element_is_in_names t s w element_is_w) ∙ v_not_in_t))
         by_equality false w_eq_v = ap (λ b. elim b [ true ↦ 0 | false ↦ suc (index_of w t) ]) w_eq_v
             ∙ ap suc (index_in_rest s element_is_w)
@@ -299,7 +299,7 @@ index_of_distinct (n ∷ ns) are_distinct_names (suc i) w element_i_is_w =
     by_equality true w_eq_n index_in_rest =
         absurd (true≢false
         (sym (element_is_in_names ns i w element_i_is_w)
-        ∙ ap (λ x. is_in x ns) (same_word w n w_eq_n)
+        ∙ ap (λ x. is_in x ns) (equal_bytes_equal_words w n w_eq_n)
         ∙ left_is_false (is_in n ns) (are_distinct ns) are_distinct_names))
     by_equality false w_eq_n index_in_rest = ap suc index_in_rest
 
@@ -318,7 +318,7 @@ distinct_push (n ∷ ns) w are_distinct_names w_not_in_ns =
   where
     n_ne_w : (b : Bool) → bytes_eq n w ≡ b → b ≡ false
     n_ne_w true n_eq_w =
-        sym (ap (λ x. bytes_eq x n) (sym (same_word n w n_eq_w)) ∙ bytes_eq_itself n)
+        sym (ap (λ x. bytes_eq x n) (sym (equal_bytes_equal_words n w n_eq_w)) ∙ bytes_eq_itself n)
         ∙ (or_parts (bytes_eq w n) (is_in w ns) w_not_in_ns).0
     n_ne_w false n_eq_w = refl
 

@@ -9,7 +9,8 @@ use Rattle.mm_spec.specs.Scope.{statement_at, is_block_open}
 use Rattle.mm_spec.specs.Derivation.{is_member}
 use Rattle.mm_spec.specs.Frame.{is_disjoint_statement, active_of, formula_at}
 use Rattle.mm_spec.proofs.BoolLaw.{same_tests}
-use Rattle.mm_spec.proofs.MemberLaw.{active_member, disjoint_local, any_witness, any_of}
+use Rattle.mm_spec.proofs.MemberLaw.{active_member, disjoint_local, passing_has_witness}
+use Rattle.mm_spec.proofs.MemberLaw.{witness_makes_any}
 use Rattle.mm_outline.specs.Blocks.{BlockLists, IsBlocks, end_of}
 use Rattle.mm_database.specs.DisjointIndex.{has_symbol, is_active_local}
 use Rattle.mm_database.specs.Pairs.{has_pair}
@@ -28,7 +29,7 @@ module _ (db : List Statement) (b : BlockLists) (blocks : IsBlocks db b) (k : �
           ≡ (nat_lt j k && (list_any is_disjoint_statement (statement_at db j)
           && is_block_open db j k))
       by_order (inl j_lt_k) = ap (λ c. nat_lt j k && c)
-          (sym (ap₂ (λ p q. p && q) j_is_disjoint (blocks.ended j k j_lt_k k_le_length)))
+          (sym (ap₂ (λ p q. p && q) j_is_disjoint (blocks.open_up_to_end j k j_lt_k k_le_length)))
       by_order (inr k_le_j) =
           ap (λ c. c && nat_le k (end_of b j)) (le-ltb j k k_le_j)
           ∙ sym (ap (λ c. c
@@ -67,7 +68,7 @@ module _ (db : List Statement) (b : BlockLists) (blocks : IsBlocks db b) (k : �
             let j_is_disjoint =
             (and_parts (list_any is_disjoint_statement (statement_at db j))
             (is_member (formula_at db j) x) has_symbol_x).0 in
-            any_of (λ i. is_member (formula_at db i) x && is_member (formula_at db i) y)
+            witness_makes_any (λ i. is_member (formula_at db i) x && is_member (formula_at db i) y)
             (active_of is_disjoint_statement db k) j (sym (active_local_is_active j j_is_disjoint)
             ∙ common.3)
             (ap₂ (λ p q. p && q)
@@ -80,7 +81,7 @@ module _ (db : List Statement) (b : BlockLists) (blocks : IsBlocks db b) (k : �
         right_to_left true r_true x_and_y_together = r_true
         right_to_left false r_false x_and_y_together =
             let common =
-            any_witness (λ j. is_member (formula_at db j) x && is_member (formula_at db j) y)
+            passing_has_witness (λ j. is_member (formula_at db j) x && is_member (formula_at db j) y)
             (active_of is_disjoint_statement db k) x_and_y_together in
             let j = common.0 in
             let j_is_disjoint = active_is_disjoint j common.1 in

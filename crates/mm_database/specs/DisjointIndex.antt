@@ -21,8 +21,8 @@ is_active_local blocks j k = nat_lt j k && nat_le k (end_of blocks j)
 abbrev pub HaveBlocks : BlockLists → List (ℕ × ℕ) → Type 0
 HaveBlocks blocks ps =
     (p : ℕ) → p < length ps
-    → ((get_or ps p (0, 0)).1 < length blocks.of)
-    × (get_or blocks.of (get_or ps p (0, 0)).1 0 < length blocks.ends)
+    → ((get_or ps p (0, 0)).1 < length blocks.block_of)
+    × (get_or blocks.block_of (get_or ps p (0, 0)).1 0 < length blocks.ends)
 
 -- pair p has the symbol of pair q, and a block that ends no later
 abbrev pub IsCovered : BlockLists → ℕ × ℕ → ℕ × ℕ → Type 0

@@ -16,7 +16,7 @@ use Rattle.mm_spec.specs.Statement.{Statement}
 use Rattle.mm_spec.specs.Scope.{statement_at}
 use Rattle.mm_spec.specs.Derivation.{is_member}
 use Rattle.mm_spec.specs.Frame.{symbol_names, is_disjoint_statement, formula_at}
-use Rattle.mm_outline.proofs.StatementsLaw.{is_there}
+use Rattle.mm_outline.proofs.StatementsLaw.{passing_lt_length}
 use Rattle.mm_spec.specs.Rising.{IsRisingFrom}
 use Rattle.mm_frame.specs.Chains.{IsLinkChain, AreLinked, HasChain, AreChains}
 use Rattle.mm_database.specs.DisjointIndex.{has_symbol}
@@ -298,7 +298,7 @@ no_chains_at_start db heads heads_are_0 x x_lt_length = record {
     by_values j true length_le_j_is_a false has_symbol_is_b = refl
     by_values j true length_le_j_is_a true has_symbol_x_j =
         let j_lt_length =
-        is_there is_disjoint_statement db j
+        passing_lt_length is_disjoint_statement db j
         (and_parts (list_any is_disjoint_statement (statement_at db j))
         (is_member (formula_at db j) x) has_symbol_x_j).0 in
         absurd (true≢false (sym length_le_j_is_a ∙ lt-leb (length db) j j_lt_length))
@@ -401,7 +401,7 @@ symbol_lt_symbol_count db sound x j j_has_x =
     let parts =
     and_parts (list_any is_disjoint_statement (statement_at db j)) (is_member (formula_at db j) x)
     j_has_x in
-    let j_lt_length = is_there is_disjoint_statement db j parts.0 in
+    let j_lt_length = passing_lt_length is_disjoint_statement db j parts.0 in
     member_lt_bound (length (symbol_names db)) x (formula_at db j)
     (sound.symbols_have_numbers j j_lt_length)
     parts.1

@@ -14,7 +14,7 @@ use Rattle.mm_spec.specs.Derivation.{Pair, pair, is_member}
 use Rattle.mm_spec.specs.Frame.{symbol_names, is_disjoint_statement, active_of, formula_at}
 use Rattle.mm_spec.specs.Frame.{mandatory_variables, mandatory_pairs, disjoint_at, pairs_of}
 use Rattle.mm_spec.proofs.BoolLaw.{same_tests}
-use Rattle.mm_spec.proofs.MemberLaw.{any_witness, any_of, member_range}
+use Rattle.mm_spec.proofs.MemberLaw.{passing_has_witness, witness_makes_any, member_range}
 use Rattle.mm_outline.specs.Blocks.{BlockLists, IsBlocks}
 use Rattle.mm_database.specs.DisjointIndex.{has_symbol, is_active_local}
 use Rattle.mm_database.specs.Pairs.{has_pair, IsBefore, AreRising}
@@ -408,7 +408,7 @@ module _ (db : List Statement) (b : BlockLists) (blocks : IsBlocks db b) (k : �
         let y_of_j = paired_is_active_member j y
         (and_parts (has_pair by_statement j y) (nat_lt x y) is_later_pair).0 in
         let some_active_has_both =
-        any_of (λ i. is_member (formula_at db i) x && is_member (formula_at db i) y)
+        witness_makes_any (λ i. is_member (formula_at db i) x && is_member (formula_at db i) y)
         (active_of is_disjoint_statement db k) j x_of_j.2 (ap₂ (λ a b. a && b) x_of_j.1 y_of_j.1) in
         let are_disjoint : disjoint_at db k x y ≡ true =
         ap₂ (λ a b. not a && b) (ne_eqb x y (λ x_is_y. absurd (omega (arith, x_is_y, x_lt_y))))
@@ -441,7 +441,7 @@ module _ (db : List Statement) (b : BlockLists) (blocks : IsBlocks db b) (k : �
         let x_lt_y_test = (and_parts (nat_lt x y) (is_member vs x) low_high_member).0 in
         let x_is_member = (and_parts (nat_lt x y) (is_member vs x) low_high_member).1 in
         let active_with_both =
-        any_witness (λ i. is_member (formula_at db i) x && is_member (formula_at db i) y)
+        passing_has_witness (λ i. is_member (formula_at db i) x && is_member (formula_at db i) y)
         (active_of is_disjoint_statement db k)
         (and_parts (not (nat_eq x y))
         (list_any (λ i. is_member (formula_at db i) x && is_member (formula_at db i) y)

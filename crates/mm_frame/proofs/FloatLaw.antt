@@ -23,11 +23,11 @@ use Rattle.mm_spec.specs.declared.Code.TheVariants.{BadFloating, TypedBefore, Ot
 use Rattle.mm_spec.specs.Frame.{symbol_names, index_of, is_variable_number, is_floating, formula_at}
 use Rattle.mm_spec.specs.Frame.{formula_of}
 use Rattle.mm_spec.proofs.FindsLaw.{range_any}
-use Rattle.mm_spec.proofs.FaultlessLaw.{append_none, least_none}
+use Rattle.mm_spec.proofs.FaultlessLaw.{both_are_empty, no_least_no_faults}
 use Rattle.mm_outline.specs.Typed.{has_word, typed_words}
 use Rattle.mm_database.specs.ParsedStatements.{IsSound, typed_variable_at}
-use Rattle.mm_outline.proofs.FaultlessLaw.{floating_new}
-use Rattle.mm_outline.proofs.AmongLaw.{typed_in, among_active}
+use Rattle.mm_outline.proofs.FaultlessLaw.{faultless_floating_is_new}
+use Rattle.mm_outline.proofs.AmongLaw.{typed_word_is_typing, word_of_active_is_any}
 
 -- a word that has a place is there
 pub word_at_index_of : (w : Bytes) (ws : List Bytes) → index_of w ws < length ws
@@ -71,7 +71,7 @@ module _ (db : List Statement) (is_sound : IsSound db) where
   lawful_has_no_faults : (k : ℕ) → k < length db → (s : Statement) → slice_get db k ≡ Some s
       → scope_faults (names_before db k) (depth db k) s ≡ []
   lawful_has_no_faults k k_lt_length s s_is_statement_k =
-      least_none (scope_faults (names_before db k) (depth db k) s)
+      no_least_no_faults (scope_faults (names_before db k) (depth db k) s)
       (sym (ap
       (λ o. elim o
       [ None ↦ None | Some s ↦ least (scope_faults (names_before db k) (depth db k) s) ])
@@ -133,7 +133,7 @@ module _ (db : List Statement) (is_sound : IsSound db) where
       o_is_floating second_symbol_is_v = absurd (cc)
   is_float_of_statement k v k_lt_length_db (Some (floating l a (c ∷ x ∷ y ∷ ys) d)) statement_k_is_o
       o_is_floating second_symbol_is_v =
-      absurd (let no_typing_fault = (append_none (label_faults (names_before db k) l)
+      absurd (let no_typing_fault = (both_are_empty (label_faults (names_before db k) l)
       (floating_faults (names_before db k) a (c ∷ x ∷ y ∷ ys))
       (lawful_has_no_faults k k_lt_length_db
       (floating l a (c ∷ x ∷ y ∷ ys) d) statement_k_is_o)).1 in
@@ -141,7 +141,7 @@ module _ (db : List Statement) (is_sound : IsSound db) where
   is_float_of_statement k v k_lt_length_db (Some (floating l a (c ∷ x ∷ []) d)) statement_k_is_o
       o_is_floating second_symbol_is_v =
       let no_typing_fault =
-      (append_none (label_faults (names_before db k) l)
+      (both_are_empty (label_faults (names_before db k) l)
       (floating_faults (names_before db k) a (c ∷ x ∷ []))
       (lawful_has_no_faults k k_lt_length_db (floating l a (c ∷ x ∷ []) d) statement_k_is_o)).1 in
       record {
@@ -152,7 +152,7 @@ module _ (db : List Statement) (is_sound : IsSound db) where
         dot = d;
         statement_is = statement_k_is_o;
         number_is_v = same_Some _ _ second_symbol_is_v;
-        variable_is_untyped = (floating_new (names_before db k) a c x no_typing_fault).1;
+        variable_is_untyped = (faultless_floating_is_new (names_before db k) a c x no_typing_fault).1;
         typecode_is_declared = typecode_is_constant (names_before db k) a c x no_typing_fault;
       }
 
@@ -209,13 +209,13 @@ module _ (db : List Statement) (is_sound : IsSound db) where
       by_statement (Some (closing a)) statement_k_is_o k_is_floating =
           absurd (true≢false (sym k_is_floating))
       by_statement (Some (floating l a [] d)) statement_k_is_o k_is_floating =
-          absurd (let no_typing_fault = (append_none (label_faults (names_before db k) l)
+          absurd (let no_typing_fault = (both_are_empty (label_faults (names_before db k) l)
           (floating_faults (names_before db k) a [])
           (lawful_has_no_faults k k_lt_length_db (floating l a [] d) statement_k_is_o)).1
           in
           cc)
       by_statement (Some (floating l a (c ∷ []) d)) statement_k_is_o k_is_floating =
-          absurd (let no_typing_fault = (append_none (label_faults (names_before db k) l)
+          absurd (let no_typing_fault = (both_are_empty (label_faults (names_before db k) l)
           (floating_faults (names_before db k) a (c ∷ []))
           (lawful_has_no_faults k k_lt_length_db (floating l a (c ∷ []) d) statement_k_is_o)).1 in
           cc)
@@ -301,5 +301,5 @@ module _ (db : List Statement) (is_sound : IsSound db) where
       (omega arith) (ap₂ (λ a b. a && b)
       (float_active_is_block_open j v j_lt_length j_is_float k j_lt_k
       ∙ j_is_open) j_types_w))
-      ∙ sym (among_active db typed_words w (λ j_lt_length. is_active db j_lt_length k) k 0)
-      ∙ sym (typed_in w (active_statements db k)) ∙ k_is_float.variable_is_untyped)
+      ∙ sym (word_of_active_is_any db typed_words w (λ j_lt_length. is_active db j_lt_length k) k 0)
+      ∙ sym (typed_word_is_typing w (active_statements db k)) ∙ k_is_float.variable_is_untyped)

@@ -17,8 +17,9 @@ use Rattle.mm_spec.specs.Frame.{symbol_names, index_of, is_variable_number, is_e
 use Rattle.mm_spec.specs.Frame.{is_floating, active_of, formula_at, mandatory_variables}
 use Rattle.mm_spec.specs.Frame.{mandatory_hypotheses}
 use Rattle.mm_spec.proofs.BoolLaw.{same_tests}
-use Rattle.mm_spec.proofs.MemberLaw.{any_witness, any_of, same_any, member_flat}
-use Rattle.mm_spec.proofs.ListLaw.{member_at}
+use Rattle.mm_spec.proofs.MemberLaw.{passing_has_witness, witness_makes_any, same_members_same_any}
+use Rattle.mm_spec.proofs.MemberLaw.{member_flat}
+use Rattle.mm_spec.proofs.ListLaw.{element_is_member}
 use Rattle.mm_outline.specs.Blocks.{never}
 use Rattle.mm_frame.specs.Latest.{is_staying}
 use Rattle.mm_database.specs.ParsedStatements.{IsSound, typed_variable_at}
@@ -93,7 +94,7 @@ module _ (db : List Statement) (k : ℕ) where
       (flat_map (formula_at db) (active_of is_essential db k))
       ∙ ap (λ b. is_member (formula_at db k) x || b)
       (member_flat (formula_at db) (active_of is_essential db k) x
-      ∙ sym (same_any (λ j. is_member (formula_at db j) x) xs
+      ∙ sym (same_members_same_any (λ j. is_member (formula_at db j) x) xs
       (active_of is_essential db k) essentials_are_active))))
 
   -- an active `$e` stands before the assertion
@@ -104,7 +105,7 @@ module _ (db : List Statement) (k : ℕ) where
       let j = get_or xs i 0 in
       let j_is_active =
       sym (active_member is_essential db essential_local k j) ∙ sym (essentials_are_active j)
-      ∙ member_at xs i 0 i_lt_length in
+      ∙ element_is_member xs i 0 i_lt_length in
       ltb-true j k (and_parts (nat_lt j k) (is_staying is_essential db j k) j_is_active).0
 
   -- a variable is one of the symbols
@@ -137,7 +138,7 @@ module _ (db : List Statement) (k : ℕ) where
       → All (λ s. s < length (symbol_names db)) xs
   variables_have_names xs are_mandatory i d i_lt_length =
       mandatory_has_name (get_or xs i d) (sym (are_mandatory (get_or xs i d))
-      ∙ member_at xs i d i_lt_length)
+      ∙ element_is_member xs i d i_lt_length)
 
   -- ---- hypotheses
 
@@ -184,7 +185,7 @@ module _ (db : List Statement) (k : ℕ) where
           let last_is_j = last_floats.open_is_last j v j_lt_k
           (variable_lt_symbol_count db is_sound j v j_lt_length_db float)
           floating.1 j_is_open in
-          any_of (is_float_of db k ts j) variables v (variables_are v ∙ variable_is_mandatory)
+          witness_makes_any (is_float_of db k ts j) variables v (variables_are v ∙ variable_is_mandatory)
           (ap₂ (λ p q. p && q) (eq-eqb j (get_or ts v 0) (sym last_is_j))
           (ap₂ (λ p q. not p && q)
           (ne_eqb (get_or ts v 0) never
@@ -198,7 +199,7 @@ module _ (db : List Statement) (k : ℕ) where
           → (is_active db j k ≡ true) × (list_any is_floating (statement_at db j) ≡ true)
           × (list_any (is_member (mandatory_variables db k)) (formula_at db j) ≡ true) × (j < k)
       found_is_active_float j j_is_found =
-          let witness = any_witness (is_float_of db k ts j) variables j_is_found in
+          let witness = passing_has_witness (is_float_of db k ts j) variables j_is_found in
           let v = witness.0 in
           let last_float = get_or ts v 0 in
           let j_is_t =

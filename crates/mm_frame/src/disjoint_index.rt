@@ -26,10 +26,10 @@ pub(crate) fn sort_and_dedup_pairs<A: Allocator>(pairs: &mut Vec<(u32, u32), A>)
 
 /// Whether `pair` has the symbol of the pair `covering`, and a block that ends no later.
 fn is_covered<A: Allocator>(blocks: &Blocks<A>, pair: (u32, u32), covering: (u32, u32)) -> bool
-    requires pair { (pair.1 < length blocks.now.of)
-        × (get_or blocks.now.of pair.1 0 < length blocks.now.ends) }
-    requires covering { (covering.1 < length blocks.now.of)
-        × (get_or blocks.now.of covering.1 0 < length blocks.now.ends) }
+    requires pair { (pair.1 < length blocks.now.block_of)
+        × (get_or blocks.now.block_of pair.1 0 < length blocks.now.ends) }
+    requires covering { (covering.1 < length blocks.now.block_of)
+        × (get_or blocks.now.block_of covering.1 0 < length blocks.now.ends) }
     ensures { result
         ≡ (nat_eq pair.0 covering.0
         && nat_le (end_of blocks.now pair.1) (end_of blocks.now covering.1)) }

@@ -9,11 +9,13 @@ use Rattle.mm_spec.specs.Derivation.{substitute, are_all_disjoint, Trees, none, 
 use Rattle.mm_spec.specs.Derivation.{AreDerivations}
 use Rattle.mm_spec.specs.Limits.{formula_limit}
 use Rattle.mm_spec.specs.Valid.{Reason, too_few, unmatched, not_disjoint, too_long, Fails}
-use Rattle.mm_spec.proofs.UnifyLaw.{same_equal, found_formula, found_disjoint}
+use Rattle.mm_spec.proofs.UnifyLaw.{tested_equal_are_equal, found_gives_formula}
+use Rattle.mm_spec.proofs.UnifyLaw.{found_keeps_disjoint}
 use Rattle.mm_spec.specs.Laws.Stack.{substitution_from, IsCompleteRule, step, apply, unless_failed}
 use Rattle.mm_spec.specs.Laws.Stack.{unless_too_long}
-use Rattle.mm_spec.proofs.MachineLaw.{proceed, run, AreGood, runs_forest, good_parts, no_other}
-use Rattle.mm_spec.proofs.MachineLaw.{run_outcome}
+use Rattle.mm_spec.proofs.MachineLaw.{proceed, run, AreGood, forest_is_run}
+use Rattle.mm_spec.proofs.MachineLaw.{good_append_is_good_parts, found_matches_if_any}
+use Rattle.mm_spec.proofs.MachineLaw.{run_has_outcome}
 use Rattle.mm_spec.proofs.MachineLaw.{RunOutcome, StoppedRun}
 
 -- the labels are the postfix list of a forest of derivations
@@ -46,7 +48,7 @@ module _ (c : Context) where
       (nat_le (length (substitute c σ a.formula)) formula_limit)
       (take (length es - length a.hypotheses) es ++ substitute c σ a.formula ∷ []))
       (le-leb (length a.hypotheses) (length es) fails.0)
-      (false_from_ne_true _ (λ test_is_true. fails.1 σ (same_equal _ _ test_is_true)))
+      (false_from_ne_true _ (λ test_is_true. fails.1 σ (tested_equal_are_equal _ _ test_is_true)))
   step_stops_if_fails (Some (assertion a)) es not_disjoint is_complete fails =
       let n = length es - length a.hypotheses in
       let ps = drop n es in
@@ -54,7 +56,7 @@ module _ (c : Context) where
       let substitutions_equal : substitution_from c a.hypotheses (map (substitute c fails.0)
       a.hypotheses) ≡ σ =
       ap (substitution_from c a.hypotheses) (sym fails.2) in
-      let pair_tests_equal = found_disjoint c a.hypotheses fails.0 a.pairs is_complete.pairs in
+      let pair_tests_equal = found_keeps_disjoint c a.hypotheses fails.0 a.pairs is_complete.pairs in
       let disjoint_tests_equal =
       subst (λ (s : Substitution). list_all (λ p. are_all_disjoint c (s p.low) (s p.high)) a.pairs
       ≡ list_all (λ p. are_all_disjoint c (fails.0 p.low) (fails.0 p.high)) a.pairs)
@@ -63,7 +65,7 @@ module _ (c : Context) where
       (list_all (λ p. are_all_disjoint c (σ p.low) (σ p.high)) a.pairs)
       (nat_le (length (substitute c σ a.formula)) formula_limit)
       (take n es ++ substitute c σ a.formula ∷ []))
-      (le-leb (length a.hypotheses) (length es) fails.1) (no_other c a ps fails.0 is_complete
+      (le-leb (length a.hypotheses) (length es) fails.1) (found_matches_if_any c a ps fails.0 is_complete
       fails.2)
       ∙ ap (λ k. unless_failed true true k
       (nat_le (length (substitute c σ a.formula)) formula_limit)
@@ -80,16 +82,16 @@ module _ (c : Context) where
       subst (λ (s : Substitution). list_all (λ p. are_all_disjoint c (s p.low) (s p.high)) a.pairs
       ≡ list_all (λ p. are_all_disjoint c (fails.0 p.low) (fails.0 p.high)) a.pairs)
       substitutions_equal
-      (found_disjoint c a.hypotheses fails.0 a.pairs is_complete.pairs) in
+      (found_keeps_disjoint c a.hypotheses fails.0 a.pairs is_complete.pairs) in
       let formulas_equal =
       subst (λ (s : Substitution). substitute c s a.formula ≡ substitute c fails.0 a.formula)
       substitutions_equal
-      (found_formula c a.hypotheses fails.0 a.formula is_complete.formula) in
+      (found_gives_formula c a.hypotheses fails.0 a.formula is_complete.formula) in
       ap₂ (λ b m. unless_failed b m
       (list_all (λ p. are_all_disjoint c (σ p.low) (σ p.high)) a.pairs)
       (nat_le (length (substitute c σ a.formula)) formula_limit)
       (take n es ++ substitute c σ a.formula ∷ []))
-      (le-leb (length a.hypotheses) (length es) fails.1) (no_other c a ps fails.0 is_complete
+      (le-leb (length a.hypotheses) (length es) fails.1) (found_matches_if_any c a ps fails.0 is_complete
       fails.2)
       ∙ ap₂ (λ k s. unless_failed true true k s (take n es ++ substitute c σ a.formula ∷ []))
       (disjoint_tests_equal ∙ fails.3)
@@ -102,7 +104,7 @@ module _ (c : Context) where
       let postfix_is_good : AreGood c (postfix forest) = subst (AreGood c) (sym labels_are) are_good
       in
       ap (λ x. run c 0 x []) (sym labels_are ∙ sym (append-nil (postfix forest)))
-      ∙ runs_forest c forest derives postfix_is_good 0 [] []
+      ∙ forest_is_run c forest derives postfix_is_good 0 [] []
 
   -- a run over the labels succeeds exactly if they are the postfix list of a forest of derivations
   pub run_succeeds_exactly_on_forests : (ls : List ℕ) → AreGood c ls
@@ -114,7 +116,7 @@ module _ (c : Context) where
           is_postfix.2,
     ),
     λ runs. let outcome = subst (RunOutcome c none ls) runs.1
-        (run_outcome c ls none 0 tt are_good) in
+        (run_has_outcome c ls none 0 tt are_good) in
         (outcome.0, outcome.1, outcome.2),
   )
 
@@ -127,7 +129,7 @@ module _ (c : Context) where
       let split_labels_are_good : AreGood c (stopped.before ++ stopped.label ∷ stopped.after) =
       subst
       (AreGood c) stopped.splits are_good in
-      let parts_are_good = good_parts c stopped.before (stopped.label ∷ stopped.after)
+      let parts_are_good = good_append_is_good_parts c stopped.before (stopped.label ∷ stopped.after)
       split_labels_are_good in
       let reached_are_good : AreGood c (postfix stopped.reached) = subst (AreGood c)
       (sym stopped.labels) parts_are_good.0 in
@@ -136,7 +138,7 @@ module _ (c : Context) where
       let indices_equal : 0 + length (postfix stopped.reached) ≡ length stopped.before =
       let lengths_equal = ap length stopped.labels in omega (arith, lengths_equal) in
       ap (λ x. run c 0 x []) labels_are
-      ∙ runs_forest c stopped.reached stopped.derivations reached_are_good 0 (stopped.label ∷
+      ∙ forest_is_run c stopped.reached stopped.derivations reached_are_good 0 (stopped.label ∷
       stopped.after) []
       ∙ ap (λ r. proceed r (0 + length (postfix stopped.reached))
       (run c (suc (0 + length (postfix stopped.reached))) stopped.after))

@@ -6,8 +6,8 @@ use Rattle.mm_spec.specs.Steps.{Step, label, marked}
 use Rattle.mm_spec.specs.Valid.{Reason, StepFails, Adds, Plain}
 use Rattle.mm_spec.specs.Laws.Complete.{HasCompleteFrame}
 use Rattle.mm_spec.proofs.MachineLaw.{AreGood}
-use Rattle.mm_spec.proofs.StepsLaw.{forest_good, StoppedSteps}
-use Rattle.mm_spec.proofs.CheckedLaw.{plain_unique}
+use Rattle.mm_spec.proofs.StepsLaw.{forest_labels_are_good, StoppedSteps}
+use Rattle.mm_spec.proofs.CheckedLaw.{plain_lists_are_equal}
 use Rattle.mm_laws.proofs.ExactLaw.{IsPostfixOfForest, stopped_no_forest}
 
 module _ (c : Context) (all_complete : (l : ℕ) → HasCompleteFrame c (c.rule l)) where
@@ -63,12 +63,12 @@ module _ (c : Context) (all_complete : (l : ℕ) → HasCompleteFrame c (c.rule 
           extension.1 ∙ ap (λ z. z ++ extension.0) plain_of_rest.1
           ∙ append_assoc plain_parts.0 (l ∷ []) extension.0 in
           let labels_are : postfix stopped.forest ≡ plain_parts.0 =
-          stopped.is
-          ∙ plain_unique c all_complete stopped.before [] [] stopped.labels plain_parts.0
+          stopped.labels_are
+          ∙ plain_lists_are_equal c all_complete stopped.before [] [] stopped.labels plain_parts.0
           stopped.plain
           plain_parts.2 in
           stopped_no_forest c all_labels reason
-          (subst (AreGood c) forest.2 (forest_good c all_complete forest.0 forest.1))
+          (subst (AreGood c) forest.2 (forest_labels_are_good c all_complete forest.0 forest.1))
           (record {
             before = plain_parts.0;
             label = l;

@@ -21,7 +21,8 @@ use Rattle.mm_laws.specs.Grammar.{AreCommentWords}
 use Rattle.mm_laws.specs.Grammar.{words_in, words_in_last_comment, tokens_in, IsWellBegun, IsFaulty}
 use Rattle.mm_laws.specs.Grammar.{IsReading}
 use Rattle.mm_spec.proofs.ReadingsLaw.{reading_opening, reading_closing, reading_comment}
-use Rattle.mm_spec.proofs.ReadingsLaw.{reading_faulty, reading_end, reading_one, reading_append}
+use Rattle.mm_spec.proofs.ReadingsLaw.{reading_faulty, reading_end, reading_of_token}
+use Rattle.mm_spec.proofs.ReadingsLaw.{reading_append}
 
 -- ---- the classes of words exclude each other
 
@@ -124,7 +125,7 @@ reading_lexemes : (text : List ℕ) (lexemes : List Lexeme) → AllByRecursion (
     ≡ record { tokens = flat_map tokens_in lexemes; fault = None; open_comment = None }
 reading_lexemes text [] are_lexemes = reading_end text None
 reading_lexemes text (Single w ∷ lexemes) (is_lexeme, are_lexemes) =
-    reading_one text None w _ (role_is_token _ is_lexeme)
+    reading_of_token text None w _ (role_is_token _ is_lexeme)
     ∙ ap (with_tokens (w ∷ [])) (reading_lexemes text lexemes are_lexemes)
 reading_lexemes text (Comment o ws c ∷ lexemes) (is_lexeme, are_lexemes) =
     reading_opening text None o _ (role_is_opening _ is_lexeme.0)
@@ -227,7 +228,7 @@ both_are_begun text (w ∷ ws) = record {
     by_role_outside : RoleOutside (bytes_of text w) → BothAreBegun text ws
         → IsBegunIfFaultless text (w ∷ ws) (reading text None (w ∷ ws))
     by_role_outside (token is_token_word role) later_are_begun =
-        subst (IsBegunIfFaultless text (w ∷ ws)) (sym (reading_one text None w ws role))
+        subst (IsBegunIfFaultless text (w ∷ ws)) (sym (reading_of_token text None w ws role))
         (λ no_fault. IsWellBegun_cons text (Single w) ws _ _ is_token_word
         (later_are_begun.outside_comment no_fault))
     by_role_outside (opening opens role) later_are_begun =
@@ -303,14 +304,14 @@ reading_is_split text c (x ∷ xs) f =
         → ((d : Option ℕ) → IsSplitIfFault text d xs f (reading text d xs))
         → IsSplitIfFault text c (x ∷ xs) f (reading text c (x ∷ xs))
     by_role roles.Token role_is later_is_split =
-        subst (IsSplitIfFault text c (x ∷ xs) f) (sym (reading_one text c x xs role_is)) (λ
+        subst (IsSplitIfFault text c (x ∷ xs) f) (sym (reading_of_token text c x xs role_is)) (λ
         has_fault.
         let split = later_is_split c has_fault in record {
           words_before = x ∷ split.words_before;
           w = split.w;
           words_after = split.words_after;
           words_split = ap (λ (us : List Word). x ∷ us) split.words_split;
-          front_is_read = reading_one text c x split.words_before role_is
+          front_is_read = reading_of_token text c x split.words_before role_is
               ∙ ap (with_tokens (x ∷ [])) split.front_is_read;
           role_is_faulty = split.role_is_faulty;
           fault_is = split.fault_is;

@@ -11,10 +11,10 @@ use Rattle.mm_spec.specs.Steps.{Step, PlacedStep}
 use Rattle.mm_spec.specs.Valid.{code_of, Plain, IsPlain, Derives, StepFault, ProofEndFault}
 use Rattle.mm_spec.specs.Valid.{IsEndCode}
 use Rattle.mm_spec.proofs.MachineLaw.{RunFailure}
-use Rattle.mm_spec.proofs.StepsLaw.{run_steps, StoppedSteps, StepsOutcome, steps_outcome}
+use Rattle.mm_spec.proofs.StepsLaw.{run_steps, StoppedSteps, StepsOutcome, steps_have_outcome}
 use Rattle.mm_spec.specs.Laws.Stack.{AreGoodSteps}
 use Rattle.mm_spec.specs.Laws.Complete.{HasCompleteFrame}
-use Rattle.mm_spec.proofs.CheckedLaw.{same_forest, plain_unique}
+use Rattle.mm_spec.proofs.CheckedLaw.{same_labels_same_forest, plain_lists_are_equal}
 use Rattle.mm_laws.proofs.ExcludedLaw.{excludes}
 use Rattle.mm_spec.specs.declared.Code.TheVariants.{NotOneEntry, OtherFormula}
 
@@ -129,7 +129,7 @@ module _ (c : Context) (all_complete : (l : ℕ) → HasCompleteFrame c (c.rule 
   pub verdict : AreGoodSteps c 0 (steps_of ps) → Verdict
   verdict are_good =
       by_result (run_steps c [] (steps_of ps) [])
-      (steps_outcome c (steps_of ps) [] [] none tt tt are_good)
+      (steps_have_outcome c (steps_of ps) [] [] none tt tt are_good)
     where
       by_result : (r : Result (List Formula) RunFailure) → StepsOutcome c [] [] (steps_of ps) r
           → Verdict
@@ -148,7 +148,7 @@ module _ (c : Context) (all_complete : (l : ℕ) → HasCompleteFrame c (c.rule 
             derivations = outcome.derivations;
             plain =
                 subst (λ x. Plain c [] [] x (postfix outcome.forest)) (sym split.front_is)
-                (subst (λ x. Plain c [] [] outcome.before x) (sym outcome.is) outcome.plain);
+                (subst (λ x. Plain c [] [] outcome.before x) (sym outcome.labels_are) outcome.plain);
             reason = e.reason;
             fails = outcome.fails;
             is = refl;
@@ -166,7 +166,7 @@ module _ (c : Context) (all_complete : (l : ℕ) → HasCompleteFrame c (c.rule 
     plain = step_fault_of_ps.plain;
     forest = step_fault_of_ps.forest;
     derivations = step_fault_of_ps.derivations;
-    is = refl;
+    labels_are = refl;
     fails = step_fault_of_ps.fails;
   }
     where
@@ -193,8 +193,8 @@ module _ (c : Context) (all_complete : (l : ℕ) → HasCompleteFrame c (c.rule 
       → ¬ ProofEndFault c ps formula end f
   no_end_fault d derives f end_fault_of_ps =
       let forests_equal : end_fault_of_ps.forest ≡ d =
-      same_forest c all_complete end_fault_of_ps.forest d end_fault_of_ps.derivations derives.3
-      (plain_unique c all_complete (steps_of ps) [] [] (postfix end_fault_of_ps.forest)
+      same_labels_same_forest c all_complete end_fault_of_ps.forest d end_fault_of_ps.derivations derives.3
+      (plain_lists_are_equal c all_complete (steps_of ps) [] [] (postfix end_fault_of_ps.forest)
       (postfix d) end_fault_of_ps.plain derives.4) in
       let formula_is_only_entry : formulas end_fault_of_ps.forest
       ≡ formula ∷ [] = ap formulas forests_equal ∙ ap formulas derives.2 in

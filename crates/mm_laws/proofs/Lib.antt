@@ -12,8 +12,8 @@
 -- (`SpelledStepsLaw.antt`), or by what `OpenedLaw` of `mm_spec` says of each selection.
 -- `long_texts_are_refused` (`LongTextLaw.antt`) gives the one output of a text above the limit.
 -- `ExamplesLaw.antt`, `VectorsLaw.antt` and `OutputsLaw.antt` work out small texts. Of `mm_spec` it
--- cites `AreWords_only`, `longest_unique`, `reads_complete`, `mandatory_typed` and
--- `counted_complete`.
+-- cites `words_are_words_of`, `longest_is_what_is_read`, `reads_complete`, `mandatory_is_typed`
+-- and `counted_complete`.
 pub mod ReaderLaw
 pub mod ReadLaw
 pub mod ExamplesLaw

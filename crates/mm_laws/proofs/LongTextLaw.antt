@@ -17,7 +17,7 @@ use Rattle.mm_spec.specs.Lexed.{LexedText, lexed_of}
 use Rattle.mm_spec.specs.Output.{IsRead, AllAreValid, FirstFault, IsOutput}
 use Rattle.mm_laws.specs.Laws.LongTexts.{LongTextsAreRefused, FrontsDecide}
 use Rattle.mm_spec.proofs.LexedLaw.{tokens_of_long, lexical_fault_long}
-use Rattle.mm_spec.proofs.LongestLaw.{is_longest}
+use Rattle.mm_spec.proofs.LongestLaw.{read_statements_are_longest}
 use Rattle.mm_spec.proofs.StopsLaw.{text_fault_is}
 use Rattle.mm_laws.proofs.OneOutputLaw.{output_is_unique_for_text}
 
@@ -40,7 +40,7 @@ nothing_is_read : (len : ℕ) → IsRead len unread [] (Some too_long)
 nothing_is_read len =
     record {
       statements = [];
-      are_statements = is_longest [];
+      are_statements = read_statements_are_longest [];
       rest = [];
       splits = refl;
       lawful = λ k k_lt_0. absurd (omega arith);

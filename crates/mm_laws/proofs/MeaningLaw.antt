@@ -22,7 +22,7 @@ use Rattle.mm_laws.specs.Laws.NamedSteps.{StepsAreNamed, StepsAreLabels}
 use Rattle.mm_laws.specs.Laws.WellFormed.{CompressedIsExact, NormalIsExact}
 use Rattle.mm_laws.specs.Laws.Meaning.{SaysCompressed, SaysNormal, Says}
 use Rattle.mm_laws.specs.Laws.Meaning.{IsProved, ValidOnTheMeaning}
-use Rattle.mm_spec.proofs.FindsLaw.{same_word}
+use Rattle.mm_spec.proofs.FindsLaw.{equal_bytes_equal_words}
 use Rattle.mm_laws.proofs.SpelledStepsLaw.{steps_are_named, steps_are_labels_where_read}
 use Rattle.mm_laws.proofs.SpelledStepsLaw.{named_steps_are_unique}
 use Rattle.mm_laws.proofs.WellSpelledLaw.{compressed_is_exact, normal_is_exact}
@@ -199,7 +199,7 @@ module _ (db : List Statement) (k : ℕ) where
         by_bracket : (b : Bool)
             → bytes_eq t.word (codes "(") ≡ b → (t.word ≡ codes "(" → Goal)
             → (t.word ≢ codes "(" → Goal) → Goal
-        by_bracket true is_bracket compressed_case normal_case = compressed_case (same_word t.word
+        by_bracket true is_bracket compressed_case normal_case = compressed_case (equal_bytes_equal_words t.word
             (codes "(") is_bracket)
         by_bracket false not_bracket compressed_case normal_case =
             normal_case (λ is_bracket_word. true≢false (sym ((bytes_eq-Decides t.word (codes "(")).1

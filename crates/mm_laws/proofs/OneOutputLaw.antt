@@ -37,10 +37,10 @@ use Rattle.mm_spec.specs.Laws.Complete.{HasCompleteFrame, AreComplete}
 use Rattle.mm_spec.specs.Opened.{counted}
 use Rattle.mm_spec.proofs.CompleteLaw.{reads_complete}
 use Rattle.mm_spec.proofs.OpenedLaw.{counted_complete}
-use Rattle.mm_spec.proofs.CheckedLaw.{same_forest, plain_unique}
+use Rattle.mm_spec.proofs.CheckedLaw.{same_labels_same_forest, plain_lists_are_equal}
 use Rattle.mm_laws.proofs.ExcludedLaw.{excludes}
 use Rattle.mm_laws.proofs.JudgedLaw.{stopped_steps, no_step_fault, no_end_fault, no_both_faults}
-use Rattle.mm_spec.proofs.LongestLaw.{longest_unique}
+use Rattle.mm_spec.proofs.LongestLaw.{longest_is_what_is_read}
 use Rattle.mm_spec.specs.declared.Code.TheVariants.{OpenStatement, OpenBlock}
 
 -- ---- two splits of one list
@@ -156,9 +156,9 @@ module _ (c : Context) (all_complete : (l : ℕ) → HasCompleteFrame c (c.rule 
           let is_plain = subst (λ x. IsPlain c (map (λ p. p.step) x) (postfix faults_f.forest))
           splits_equal.0 faults_f.plain in
           let forests_equal : faults_f.forest ≡ faults_g.forest =
-          same_forest c all_complete faults_f.forest faults_g.forest faults_f.derivations
+          same_labels_same_forest c all_complete faults_f.forest faults_g.forest faults_f.derivations
           faults_g.derivations
-          (plain_unique c all_complete (map (λ p. p.step) faults_g.before) [] [] (postfix
+          (plain_lists_are_equal c all_complete (map (λ p. p.step) faults_g.before) [] [] (postfix
           faults_f.forest)
           (postfix faults_g.forest) is_plain faults_g.plain) in
           let fails_by_reason =
@@ -186,9 +186,9 @@ module _ (c : Context) (all_complete : (l : ℕ) → HasCompleteFrame c (c.rule 
       → proof.ProofEndFault c ps formula end f → proof.ProofEndFault c ps formula end g → f ≡ g
   end_fault_is_unique ps formula end f g faults_f faults_g =
       let forests_equal : faults_f.forest ≡ faults_g.forest =
-      same_forest c all_complete faults_f.forest faults_g.forest faults_f.derivations
+      same_labels_same_forest c all_complete faults_f.forest faults_g.forest faults_f.derivations
       faults_g.derivations
-      (plain_unique c all_complete (map (λ p. p.step) ps) [] [] (postfix faults_f.forest)
+      (plain_lists_are_equal c all_complete (map (λ p. p.step) ps) [] [] (postfix faults_f.forest)
       (postfix faults_g.forest) faults_f.plain faults_g.plain) in
       faults_f.is ∙ ap (fault end)
       (code_is_unique (formulas faults_g.forest) formula faults_f.code faults_g.code
@@ -349,8 +349,8 @@ shape_fault_is_unique ts f g faults_f faults_g =
 
 longest_statements_equal : (ts : List Token) (a b : List Statement) → AreLongestStatements ts a
     → AreLongestStatements ts b → a ≡ b
-longest_statements_equal ts a b is_longest_a is_longest_b = sym (longest_unique ts a is_longest_a)
-    ∙ longest_unique ts b is_longest_b
+longest_statements_equal ts a b is_longest_a is_longest_b = sym (longest_is_what_is_read ts a is_longest_a)
+    ∙ longest_is_what_is_read ts b is_longest_b
 
 file_end_fault_is_unique : (len : ℕ) (ts : List Token) (f g : Fault) → FileEndFault len ts f
     → FileEndFault len ts g → f ≡ g

@@ -11,7 +11,7 @@ use Rattle.mm_spec.specs.Lexed.{lexed_of}
 use Rattle.mm_spec.specs.Output.{IsRead, AreValid, IsOutput}
 use Rattle.mm_spec.specs.declared.Code.TheVariants.{ConstantInBlock}
 use Rattle.mm_laws.proofs.ReaderLaw.{statements}
-use Rattle.mm_spec.proofs.LongestLaw.{is_longest}
+use Rattle.mm_spec.proofs.LongestLaw.{read_statements_are_longest}
 use Rattle.mm_spec.proofs.StopsLaw.{no_text_fault}
 
 -- ---- a `$c` in a block
@@ -37,7 +37,7 @@ front_read : IsRead 21 (lexed_of faulty) before_fault (Some (fault 11 ConstantIn
 unfolding statements
 front_read = record {
   statements = statements faulty;
-  are_statements = is_longest (lexed_of faulty).tokens;
+  are_statements = read_statements_are_longest (lexed_of faulty).tokens;
   rest = constants 11 (token 14 (codes "b") ∷ []) 16 ∷ closing 19 ∷ [];
   splits = refl;
   lawful = before_fault_lawful;
@@ -77,7 +77,7 @@ db_read : IsRead 18 (lexed_of sound) db None
 unfolding statements
 db_read = record {
   statements = db;
-  are_statements = is_longest (lexed_of sound).tokens;
+  are_statements = read_statements_are_longest (lexed_of sound).tokens;
   rest = [];
   splits = refl;
   lawful = db_lawful;

@@ -19,10 +19,10 @@ use Rattle.mm_spec.specs.Text.{Bytes}
 use Rattle.std.specs.List.Sorted.{IsStrictlyIncreasing}
 use Rattle.mm_laws.proofs.RisingListsLaw.{list_of}
 use Rattle.mm_laws.specs.Laws.Cells.{IsDecided}
-use Rattle.mm_spec.proofs.ChainsLaw.{rests_step}
-use Rattle.mm_spec.proofs.FindsLaw.{passing_statement, inside_of}
-use Rattle.mm_spec.proofs.CitedLaw.{cites_earlier, proof_theorem, proof_unique}
-use Rattle.mm_spec.proofs.NodesLaw.{node_labels, node_labels_are}
+use Rattle.mm_spec.proofs.ChainsLaw.{rests_by_one_step}
+use Rattle.mm_spec.proofs.FindsLaw.{passing_statement, got_lt_length}
+use Rattle.mm_spec.proofs.CitedLaw.{cited_lt_theorem, proved_is_theorem, two_proofs_are_equal}
+use Rattle.mm_spec.proofs.NodesLaw.{node_labels, node_iff_listed}
 
 -- ---- what is decided
 
@@ -82,7 +82,7 @@ module _ (db : List Statement) (by_essential : Bool) (all_complete : AreComplete
       if_valid is_valid =
           let is_listed = is_member (node_labels (child_counts db by_essential) each_root
           is_valid.1) a in
-          let labels_are = node_labels_are (child_counts db by_essential) each_root is_valid.1 a in (
+          let labels_are = node_iff_listed (child_counts db by_essential) each_root is_valid.1 a in (
             list_any is_assertion (statement_at db a) && is_listed,
             (
               (λ is_cited. let parts = and_parts (list_any is_assertion (statement_at db a))
@@ -90,7 +90,7 @@ module _ (db : List Statement) (by_essential : Bool) (all_complete : AreComplete
                   (parts.0, is_valid.1, is_valid.2, labels_are.1 parts.1)),
               λ cites_a. and_from (list_any is_assertion (statement_at db a)) is_listed cites_a.0
                   (labels_are.0 (subst (λ d. IsNodeLabel db by_essential d a)
-                  (proof_unique db all_complete t cites_a.1 is_valid.1 cites_a.2 is_valid.2)
+                  (two_proofs_are_equal db all_complete t cites_a.1 is_valid.1 cites_a.2 is_valid.2)
                   cites_a.3)),
             ),
           )
@@ -98,13 +98,13 @@ module _ (db : List Statement) (by_essential : Bool) (all_complete : AreComplete
       by_is_theorem : (b : Bool) → is_theorem_at db t ≡ b → IsDecided (Cites db by_essential t a)
       by_is_theorem true is_theorem_t =
           let found = passing_statement db is_theorem t is_theorem_t in
-          if_valid (are_valid t (inside_of db t found.0 found.1) is_theorem_t)
+          if_valid (are_valid t (got_lt_length db t found.0 found.1) is_theorem_t)
       by_is_theorem false not_theorem_t = (
         false,
         (
           (λ is_true. absurd (true≢false (sym is_true))),
           λ cites_a. absurd
-              (true≢false (sym (proof_theorem db t cites_a.1 cites_a.2) ∙ not_theorem_t)),
+              (true≢false (sym (proved_is_theorem db t cites_a.1 cites_a.2) ∙ not_theorem_t)),
         ),
       )
 
@@ -115,7 +115,7 @@ module _ (db : List Statement) (by_essential : Bool) (all_complete : AreComplete
       equivalent_is_decided (Cites db by_essential t a
       ⊎ ((b : ℕ) × (b < t) × (Cites db by_essential t b × RestsOn db by_essential b a)))
       (RestsOn db by_essential t a) rests_if_below
-      (λ rests_on. below_if_cited ((rests_step (Cites db by_essential) t a).0 rests_on))
+      (λ rests_on. below_if_cited ((rests_by_one_step (Cites db by_essential) t a).0 rests_on))
       (or_is_decided (Cites db by_essential t a)
       ((b : ℕ) × (b < t) × (Cites db by_essential t b × RestsOn db by_essential b a))
       (cites_is_decided t a)
@@ -127,8 +127,8 @@ module _ (db : List Statement) (by_essential : Bool) (all_complete : AreComplete
       rests_if_below : Cites db by_essential t a
           ⊎ ((b : ℕ) × (b < t) × (Cites db by_essential t b × RestsOn db by_essential b a))
           → RestsOn db by_essential t a
-      rests_if_below (inl cites_a) = (rests_step (Cites db by_essential) t a).1 (inl cites_a)
-      rests_if_below (inr cites_between) = (rests_step (Cites db by_essential) t a).1 (inr
+      rests_if_below (inl cites_a) = (rests_by_one_step (Cites db by_essential) t a).1 (inl cites_a)
+      rests_if_below (inr cites_between) = (rests_by_one_step (Cites db by_essential) t a).1 (inr
           (cites_between.0, cites_between.2.0, cites_between.2.1))
 
       below_if_cited : Cites db by_essential t a
@@ -138,7 +138,7 @@ module _ (db : List Statement) (by_essential : Bool) (all_complete : AreComplete
       below_if_cited (inl cites_a) = inl cites_a
       below_if_cited (inr cites_between) = inr (
         cites_between.0,
-        cites_earlier db by_essential t
+        cited_lt_theorem db by_essential t
             cites_between.0 cites_between.1,
         (cites_between.1, cites_between.2),
       )
@@ -187,7 +187,7 @@ module _ (db : List Statement) (by_essential : Bool) (all_complete : AreComplete
           (λ is_member_a. ((list.1.1 a).0 is_member_a).2),
           λ is_listed. (list.1.1 a).1 (
             omega arith,
-            (let a_lt_t = cites_earlier db by_essential t a is_listed.0 in omega
+            (let a_lt_t = cited_lt_theorem db by_essential t a is_listed.0 in omega
                 (arith, a_lt_t)),
             is_listed,
           ),

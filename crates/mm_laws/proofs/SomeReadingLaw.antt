@@ -9,7 +9,7 @@ use Rattle.mm_spec.specs.Laws.Table.{statements_of}
 use Rattle.mm_spec.specs.Lawful.{scope_fault}
 use Rattle.mm_spec.specs.Lexed.{LexedText}
 use Rattle.mm_laws.specs.Laws.SomeReading.{IsReadable}
-use Rattle.mm_spec.proofs.LongestLaw.{is_longest}
+use Rattle.mm_spec.proofs.LongestLaw.{read_statements_are_longest}
 use Rattle.mm_spec.proofs.StopsLaw.{text_fault, text_fault_is, no_text_fault}
 
 -- the first statements are lawful
@@ -39,7 +39,7 @@ module _ (len : ℕ) (x : LexedText) where
         None,
         record {
           statements = statements_of x.tokens;
-          are_statements = is_longest x.tokens;
+          are_statements = read_statements_are_longest x.tokens;
           rest = [];
           splits = statements_are;
           lawful = are_lawful;
@@ -51,7 +51,7 @@ module _ (len : ℕ) (x : LexedText) where
         Some f,
         record {
           statements = statements_of x.tokens;
-          are_statements = is_longest x.tokens;
+          are_statements = read_statements_are_longest x.tokens;
           rest = [];
           splits = statements_are;
           lawful = are_lawful;
@@ -75,7 +75,7 @@ module _ (len : ℕ) (x : LexedText) where
         Some f,
         record {
           statements = statements_of x.tokens;
-          are_statements = is_longest x.tokens;
+          are_statements = read_statements_are_longest x.tokens;
           rest = s ∷ later;
           splits = statements_are;
           lawful = are_lawful;

@@ -35,10 +35,11 @@ use Rattle.mm_laws.specs.Laws.NamedSteps.{StepsAreNamed, NamedStepsAreUnique}
 use Rattle.mm_laws.specs.Laws.NamedSteps.{StepsAreLabels}
 use Rattle.mm_spec.specs.declared.Code.TheVariants.{UnusableLabel}
 use Rattle.mm_spec.specs.declared.Code.TheVariants.{IncompleteProof}
-use Rattle.mm_spec.proofs.FindsLaw.{same_word, passing_statement, inside_of, declares}
-use Rattle.mm_spec.proofs.FaultlessLaw.{least_none, append_none, label_new}
+use Rattle.mm_spec.proofs.FindsLaw.{equal_bytes_equal_words, passing_statement, got_lt_length}
+use Rattle.mm_spec.proofs.FindsLaw.{later_place_knows_declared}
+use Rattle.mm_spec.proofs.FaultlessLaw.{no_least_no_faults, both_are_empty, faultless_label_is_new}
 use Rattle.mm_spec.proofs.OpenedLaw.{counted_any}
-use Rattle.mm_spec.proofs.ListLaw.{get_none}
+use Rattle.mm_spec.proofs.ListLaw.{got_none_is_past_end}
 use Rattle.mm_laws.proofs.ReadLaw.{read_statements_are_lawful}
 use Rattle.mm_laws.proofs.SpellingLaw.{bracketed_splits, AreFaultless, letters_are_faultless}
 use Rattle.mm_laws.proofs.SpellingLaw.{item_of}
@@ -243,7 +244,7 @@ module _ (hypotheses labels : List ℕ) where
       by_label_or_mark (Some j) is_label b at_mark =
           (label j, refl, label_is_named j (get_append hypotheses labels n j is_label))
       by_label_or_mark None not_label (Some i) is_mark =
-          let count_le_n = get_none (hypotheses ++ labels) n not_label in
+          let count_le_n = got_none_is_past_end (hypotheses ++ labels) n not_label in
           let counts_add = length-append hypotheses labels in (
             marked i,
             refl,
@@ -255,8 +256,8 @@ module _ (hypotheses labels : List ℕ) where
             ),
           )
       by_label_or_mark None not_label None not_mark =
-          let count_le_n = get_none (hypotheses ++ labels) n not_label in
-          let marks_le_n = get_none marks (n - length (hypotheses ++ labels)) not_mark in
+          let count_le_n = got_none_is_past_end (hypotheses ++ labels) n not_label in
+          let marks_le_n = got_none_is_past_end marks (n - length (hypotheses ++ labels)) not_mark in
           let counts_add = length-append hypotheses labels in
           absurd (omega arith)
 
@@ -358,22 +359,22 @@ module _ (hypotheses labels : List ℕ) where
 
 word_is_new : (n : KnownNames) (l : Token) (w : Bytes) → bytes_eq l.word w ≡ true
     → lawful.label_faults n l ≡ [] → is_in w n.labels ≡ false
-word_is_new n l w is_word no_fault = ap (λ v. is_in v n.labels) (sym (same_word l.word w is_word))
-    ∙ label_new n l no_fault
+word_is_new n l w is_word no_fault = ap (λ v. is_in v n.labels) (sym (equal_bytes_equal_words l.word w is_word))
+    ∙ faultless_label_is_new n l no_fault
 
 label_is_new : (n : KnownNames) (d : ℕ) (s : Statement) (w : Bytes) → scope_faults n d s ≡ []
     → is_labelled w s ≡ true → is_in w n.labels ≡ false
 label_is_new n d (floating l k xs e) w no_fault has_label =
-    word_is_new n l w has_label (append_none (lawful.label_faults n l) (floating_faults n k xs)
+    word_is_new n l w has_label (both_are_empty (lawful.label_faults n l) (floating_faults n k xs)
     no_fault).0
 label_is_new n d (essential l k xs e) w no_fault has_label =
-    word_is_new n l w has_label (append_none (lawful.label_faults n l) (formula_faults n xs e)
+    word_is_new n l w has_label (both_are_empty (lawful.label_faults n l) (formula_faults n xs e)
     no_fault).0
 label_is_new n d (axiomatic l k xs e) w no_fault has_label =
-    word_is_new n l w has_label (append_none (lawful.label_faults n l) (formula_faults n xs e)
+    word_is_new n l w has_label (both_are_empty (lawful.label_faults n l) (formula_faults n xs e)
     no_fault).0
 label_is_new n d (provable l k xs p ps e) w no_fault has_label =
-    word_is_new n l w has_label (append_none (lawful.label_faults n l) (formula_faults n xs p)
+    word_is_new n l w has_label (both_are_empty (lawful.label_faults n l) (formula_faults n xs p)
     no_fault).0
 label_is_new n d _ w no_fault has_label = absurd (true≢false (sym has_label))
 
@@ -386,7 +387,7 @@ label_is_word s w has_label = by_label (label_of s) has_label
     by_label None has_label = absurd (true≢false (sym has_label))
     by_label (Some l) has_label =
         or_left (bytes_eq w l.word) false
-        ((bytes_eq-Decides w l.word).1 (sym (same_word l.word w has_label)))
+        ((bytes_eq-Decides w l.word).1 (sym (equal_bytes_equal_words l.word w has_label)))
 
 -- the test finds nothing in a range, or one place
 at_most_one_in_range : (passes : ℕ → Bool) → ((i j : ℕ) → passes i ≡ true → passes j ≡ true → i
@@ -436,8 +437,8 @@ module _ (db : List Statement) (are_lawful : (k : ℕ) → k < length db → IsL
   statement_is_faultless : (k : ℕ) (s : Statement) → slice_get db k ≡ Some s
       → scope_faults (names_before db k) (depth db k) s ≡ []
   statement_is_faultless k s statement_is =
-      least_none (scope_faults (names_before db k) (depth db k) s)
-      (sym (ap first_fault statement_is) ∙ are_lawful k (inside_of db k s statement_is))
+      no_least_no_faults (scope_faults (names_before db k) (depth db k) s)
+      (sym (ap first_fault statement_is) ∙ are_lawful k (got_lt_length db k s statement_is))
     where
       first_fault : Option Statement → Option Fault
       first_fault o =
@@ -450,7 +451,7 @@ module _ (db : List Statement) (are_lawful : (k : ℕ) → k < length db → IsL
       let is_new : is_in w (names_before db j).labels ≡ false =
       label_is_new (names_before db j) (depth db j) labelled_j.0 w (statement_is_faultless j
       labelled_j.0 labelled_j.1) labelled_j.2 in
-      true≢false (sym (declares label_words db j i labelled_i.0 w labelled_i.1 i_lt_j (label_is_word
+      true≢false (sym (later_place_knows_declared label_words db j i labelled_i.0 w labelled_i.1 i_lt_j (label_is_word
       labelled_i.0 w labelled_i.2)) ∙ is_new)
 
   labels_are_distinct : LabelsDiffer db
@@ -524,11 +525,11 @@ module _ (db : List Statement) (labels_differ : LabelsDiffer db) where
     labels_are_usable (t ∷ ts) no_faults =
         let usable_statement =
         one_statement_is_usable t
-        (append_none (proof_label_faults db k t) (flat_map (proof_label_faults db k) ts)
+        (both_are_empty (proof_label_faults db k t) (flat_map (proof_label_faults db k) ts)
         no_faults).0 in
         let rest_usable =
         labels_are_usable ts
-        (append_none (proof_label_faults db k t) (flat_map (proof_label_faults db k) ts)
+        (both_are_empty (proof_label_faults db k t) (flat_map (proof_label_faults db k) ts)
         no_faults).1 in (
           usable_statement.0 ∷ rest_usable.0,
           (usable_statement.2, rest_usable.1),
@@ -551,9 +552,9 @@ module _ (db : List Statement) (labels_differ : LabelsDiffer db) where
         let faults_of_ts : List Fault = flat_map (λ u. own_faults u (bytes_eq u.word (codes "?")))
         ts in
         ap₂ (λ xs ys. xs ++ ys)
-        (by_question_mark (bytes_eq t.word (codes "?")) (append_none faults_of_t faults_of_ts
+        (by_question_mark (bytes_eq t.word (codes "?")) (both_are_empty faults_of_t faults_of_ts
         no_faults).0)
-        (labels_are_faultless ts (append_none faults_of_t faults_of_ts no_faults).1)
+        (labels_are_faultless ts (both_are_empty faults_of_t faults_of_ts no_faults).1)
       where
         by_question_mark : (b : Bool) → own_faults t b ≡ [] → proof_label_faults db k t ≡ []
         by_question_mark true no_fault = absurd (cc)
@@ -566,14 +567,14 @@ module _ (db : List Statement) (labels_differ : LabelsDiffer db) where
     steps_are_labels (t ∷ ts) no_faults =
         let usable_statement =
         one_statement_is_usable t
-        (append_none (proof_label_faults db k t) (flat_map (proof_label_faults db k) ts)
+        (both_are_empty (proof_label_faults db k t) (flat_map (proof_label_faults db k) ts)
         no_faults).0 in
         subst (λ js. AllZip (λ u s. (j : ℕ) × (s ≡ label j) × IsUsable db k u.word j) (t ∷ ts)
         (map (λ p. p.step) (map (λ j. placed t.at (label j)) js ++ normal_steps db k ts)))
         (sym usable_statement.1) (
           (usable_statement.0, refl, usable_statement.2),
           steps_are_labels ts
-              (append_none (proof_label_faults db k t) (flat_map (proof_label_faults db k) ts)
+              (both_are_empty (proof_label_faults db k t) (flat_map (proof_label_faults db k) ts)
               no_faults).1,
         )
 
@@ -602,7 +603,7 @@ module _ (db : List Statement) (labels_differ : LabelsDiffer db) where
         by_bracket : (b : Bool) → bytes_eq t.word (codes "(") ≡ b → faults b ≡ []
             → AllZip (λ u s. (j : ℕ) × (s ≡ label j) × IsUsable db k u.word j) (t ∷ ts)
             (map (λ p. p.step) (out b))
-        by_bracket true is_bracket no_faults = absurd (no_bracket (same_word t.word (codes "(")
+        by_bracket true is_bracket no_faults = absurd (no_bracket (equal_bytes_equal_words t.word (codes "(")
             is_bracket))
         by_bracket false not_bracket no_faults = steps_are_labels (t ∷ ts) (labels_are_faultless (t
             ∷ ts) no_faults)
@@ -618,11 +619,11 @@ module _ (db : List Statement) (labels_differ : LabelsDiffer db) where
         let label_count = length (mandatory_hypotheses db k) + length labels in
         let js =
         labels_are_usable labels
-        (append_none (flat_map (proof_label_faults db k) labels)
+        (both_are_empty (flat_map (proof_label_faults db k) labels)
         (letter_faults label_count end (letters_of letters)) no_faults).0 in
         let letters_faultless =
         letters_are_faultless label_count end (letters_of letters)
-        (append_none (flat_map (proof_label_faults db k) labels)
+        (both_are_empty (flat_map (proof_label_faults db k) labels)
         (letter_faults label_count end (letters_of letters)) no_faults).1 in
         let gs = (groups [] (letters_of letters)).0 in
         let groups_spell_letters : Spells (letters_in letters) (map item_of gs) =

@@ -23,8 +23,8 @@ use Rattle.mm_laws.specs.Spelling.{AreLettersOf, IsSpelled, Spells, letters_in}
 use Rattle.mm_laws.specs.Laws.Letters.{PartsAreUnique, SpellingIsUnique, ProofsAreSpelled}
 use Rattle.mm_spec.specs.declared.Code.TheVariants.{OpenBrackets, OpenNumber, MarkBeforeStep}
 use Rattle.mm_spec.specs.declared.Code.TheVariants.{NumberTooLarge, IncompleteProof, BadLetter}
-use Rattle.mm_spec.proofs.FindsLaw.{same_word}
-use Rattle.mm_spec.proofs.FaultlessLaw.{append_none, at_none, when_none}
+use Rattle.mm_spec.proofs.FindsLaw.{equal_bytes_equal_words}
+use Rattle.mm_spec.proofs.FaultlessLaw.{both_are_empty, no_faults_no_codes, no_code_if_false}
 
 -- ---- one spelling
 
@@ -239,7 +239,7 @@ bracketed_splits (t ∷ labels) closing letters is_closing no_label_closes =
         ≡ record { labels = labels; letters = Some letters }
         → bracketed_by t (labels ++ closing ∷ letters) b
         ≡ record { labels = t ∷ labels; letters = Some letters }
-    by_bracket true is_bracket rest_splits = absurd (no_label_closes.0 (same_word t.word (codes ")")
+    by_bracket true is_bracket rest_splits = absurd (no_label_closes.0 (equal_bytes_equal_words t.word (codes ")")
         is_bracket))
     by_bracket false not_bracket rest_splits = ap (with_label t) rest_splits
 
@@ -286,7 +286,7 @@ bracket_parts_of (t ∷ ts) letters letters_are =
           labels = [];
           closing = t;
           words_are = ap (λ xs. t ∷ xs) ts_is_letters;
-          closing_is = same_word t.word (codes ")") is_bracket;
+          closing_is = equal_bytes_equal_words t.word (codes ")") is_bracket;
           no_label_closes = tt;
         }
     by_bracket false not_bracket letters_are parts_of_rest =
@@ -375,28 +375,28 @@ groups_are_faultless (g ∷ gs) label_count marks count no_faults =
         absurd (omega arith)
     by_letter true is_last_letter false not_mark no_faults after_number after_mark =
         let not_too_large =
-        when_none (nat_lt (label_count + marks) (value g)) NumberTooLarge
-        (at_none (starts_at g) (when (nat_lt (label_count + marks) (value g)) NumberTooLarge)
-        (append_none (faults_of_group true false) (faults_of_later_groups false) no_faults).0) in
+        no_code_if_false (nat_lt (label_count + marks) (value g)) NumberTooLarge
+        (no_faults_no_codes (starts_at g) (when (nat_lt (label_count + marks) (value g)) NumberTooLarge)
+        (both_are_empty (faults_of_group true false) (faults_of_later_groups false) no_faults).0) in
         inl (
           is_last_letter,
           ltb-false (label_count + marks) (value g) not_too_large,
           after_number
-              (append_none (faults_of_group true false) (faults_of_later_groups false) no_faults).1,
+              (both_are_empty (faults_of_group true false) (faults_of_later_groups false) no_faults).1,
         )
     by_letter false not_last_letter true is_mark no_faults after_number after_mark =
         let no_faults_of_letter =
-        at_none g.last.at
+        no_faults_no_codes g.last.at
         (when (nat_lt 0 (length g.early)) OpenNumber ++ when (count == 0) MarkBeforeStep)
-        (append_none (faults_of_group false true) (faults_of_later_groups true) no_faults).0 in
+        (both_are_empty (faults_of_group false true) (faults_of_later_groups true) no_faults).0 in
         let no_open_number =
-        when_none (nat_lt 0 (length g.early)) OpenNumber
-        (append_none (when (nat_lt 0 (length g.early)) OpenNumber)
+        no_code_if_false (nat_lt 0 (length g.early)) OpenNumber
+        (both_are_empty (when (nat_lt 0 (length g.early)) OpenNumber)
         (when (count == 0) MarkBeforeStep) no_faults_of_letter).0 in
         let count_is_not_0 =
         eqb-false count 0
-        (when_none (count == 0) MarkBeforeStep
-        (append_none (when (nat_lt 0 (length g.early)) OpenNumber)
+        (no_code_if_false (count == 0) MarkBeforeStep
+        (both_are_empty (when (nat_lt 0 (length g.early)) OpenNumber)
         (when (count == 0) MarkBeforeStep) no_faults_of_letter).1) in
         inr (
           not_last_letter,
@@ -404,11 +404,11 @@ groups_are_faultless (g ∷ gs) label_count marks count no_faults =
           nil_if_not_positive g.early no_open_number,
           omega arith,
           after_mark
-              (append_none (faults_of_group false true) (faults_of_later_groups true) no_faults).1,
+              (both_are_empty (faults_of_group false true) (faults_of_later_groups true) no_faults).1,
         )
     by_letter false not_last_letter false not_mark no_faults after_number after_mark =
         absurd (other_byte_is_fault (g.last.byte == 63)
-        (append_none (faults_of_group false false) (faults_of_later_groups false) no_faults).0)
+        (both_are_empty (faults_of_group false false) (faults_of_later_groups false) no_faults).0)
 
 pub early_byte_is_digit : (b : ℕ) → is_early b ≡ true → IsEarlyDigit b (b - 84)
 early_byte_is_digit b is_early_byte =
@@ -586,13 +586,13 @@ letters_are_faultless label_count end [] no_faults = absurd (cc)
 letters_are_faultless label_count end (x ∷ xs) no_faults = record {
   has_faultless_groups =
       groups_are_faultless (groups [] (x ∷ xs)).0 label_count 0 0
-      (append_none (group_faults label_count 0 0 (groups [] (x ∷ xs)).0)
+      (both_are_empty (group_faults label_count 0 0 (groups [] (x ∷ xs)).0)
       (at end (when (nat_lt 0 (length (groups [] (x ∷ xs)).1)) OpenNumber)) no_faults).0;
   no_open_group =
       nil_if_not_positive (groups [] (x ∷ xs)).1
-      (when_none (nat_lt 0 (length (groups [] (x ∷ xs)).1)) OpenNumber
-      (at_none end (when (nat_lt 0 (length (groups [] (x ∷ xs)).1)) OpenNumber)
-      (append_none (group_faults label_count 0 0 (groups [] (x ∷ xs)).0)
+      (no_code_if_false (nat_lt 0 (length (groups [] (x ∷ xs)).1)) OpenNumber
+      (no_faults_no_codes end (when (nat_lt 0 (length (groups [] (x ∷ xs)).1)) OpenNumber)
+      (both_are_empty (group_faults label_count 0 0 (groups [] (x ∷ xs)).0)
       (at end (when (nat_lt 0 (length (groups [] (x ∷ xs)).1)) OpenNumber)) no_faults).1));
   has_letters = λ is_nil. cc;
 }
@@ -610,7 +610,7 @@ pub proof_is_faultless : (db : List Statement) (k end : ℕ) (t : Token) (ts : L
     → t.word ≡ codes "(" → reading_faults db k end (t ∷ ts) ≡ [] → IsFaultlessProof db k ts
 proof_is_faultless db k end t ts is_opening no_faults =
     by_letters (bracketed ts).letters refl
-    (append_none (flat_map (proof_label_faults db k) (bracketed ts).labels)
+    (both_are_empty (flat_map (proof_label_faults db k) (bracketed ts).labels)
     (faults_of_letters (bracketed ts).letters) compressed_faultless).1
   where
     label_count : ℕ
@@ -641,7 +641,7 @@ proof_is_faultless db k end t ts is_opening no_faults =
         record {
           letters = letters;
           letters_are = letters_are;
-          labels_are_usable = (append_none (flat_map (proof_label_faults db k) (bracketed
+          labels_are_usable = (both_are_empty (flat_map (proof_label_faults db k) (bracketed
               ts).labels)
               (faults_of_letters (bracketed ts).letters) compressed_faultless).0;
           has_faultless_letters = letters_are_faultless label_count end (letters_of letters)

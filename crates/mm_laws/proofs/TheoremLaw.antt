@@ -13,9 +13,9 @@ use Rattle.mm_laws.specs.Laws.Read.{WhereRead}
 use Rattle.mm_laws.specs.Laws.Derivations.{LabelsDetermine, ProofIsUnique}
 use Rattle.mm_laws.specs.Laws.Faults.{IsValidOrFaulty}
 use Rattle.mm_laws.specs.Laws.Faults.{IsNeverBoth, FaultIsUnique}
-use Rattle.mm_spec.proofs.CheckedLaw.{same_forest}
-use Rattle.mm_spec.proofs.CitedLaw.{proof_unique}
-use Rattle.mm_spec.proofs.GoodStepsLaw.{good_steps}
+use Rattle.mm_spec.proofs.CheckedLaw.{same_labels_same_forest}
+use Rattle.mm_spec.proofs.CitedLaw.{two_proofs_are_equal}
+use Rattle.mm_spec.proofs.GoodStepsLaw.{faultless_steps_are_good}
 use Rattle.mm_laws.proofs.ReadLaw.{frames_are_complete}
 use Rattle.mm_laws.proofs.JudgedLaw.{Verdict, verdict, valid, step_fault, end_fault}
 use Rattle.mm_laws.proofs.OneOutputLaw.{proof_fault_is_unique, valid_has_no_fault}
@@ -62,17 +62,17 @@ module _ (db : List Statement) (all_complete : AreComplete db) (k : ℕ) where
       by_reading_faults [] no_reading_faults =
           by_verdict no_reading_faults
           (verdict (context_at db k) (all_complete k) (steps_at db k) (formula_at db k) end
-          (good_steps db k (all_complete k) no_reading_faults))
+          (faultless_steps_are_good db k (all_complete k) no_reading_faults))
       by_reading_faults (f ∷ fs) reading_faults_are = let least_fault = some_fault_is_least f fs in
           inr (least_fault.0, inl (ap least reading_faults_are ∙ least_fault.1))
 
 pub labels_determine_derivations : WhereRead LabelsDetermine
 labels_determine_derivations len x db fault is_read with_open k =
-    same_forest (context_at (counted with_open db) k) (frames_are_complete len x db fault is_read
+    same_labels_same_forest (context_at (counted with_open db) k) (frames_are_complete len x db fault is_read
     with_open k)
 
 pub proof_is_unique : WhereRead ProofIsUnique
-proof_is_unique len x db fault is_read with_open k = proof_unique (counted with_open db)
+proof_is_unique len x db fault is_read with_open k = two_proofs_are_equal (counted with_open db)
     (frames_are_complete len x db fault is_read with_open) k
 
 pub theorem_is_valid_or_faulty : WhereRead IsValidOrFaulty

@@ -22,8 +22,9 @@ use Rattle.mm_spec.proofs.FindsLaw.{any_flat_map, any_filter, member_filter, fil
 use Rattle.mm_spec.proofs.FindsLaw.{passing_statement}
 use Rattle.mm_spec.proofs.FindsLaw.{statement_passes, passing_active, some_active_passes}
 use Rattle.mm_spec.proofs.FaultlessLaw.{has_formula}
-use Rattle.mm_spec.proofs.CompleteLaw.{Types, is_mandatory, is_mandatory_pair, mandatory_typed}
-use Rattle.mm_spec.proofs.CompleteLaw.{type_mandatory, of_formula, of_hypothesis, of_pair}
+use Rattle.mm_spec.proofs.CompleteLaw.{Types, is_mandatory, is_mandatory_pair, mandatory_is_typed}
+use Rattle.mm_spec.proofs.CompleteLaw.{typing_is_mandatory, formula_variable_is_mandatory}
+use Rattle.mm_spec.proofs.CompleteLaw.{hypothesis_variable_is_mandatory, pair_is_mandatory}
 use Rattle.mm_spec.proofs.OpenedLaw.{counted_any, counted_variable, counted_formula}
 use Rattle.mm_spec.proofs.OpenedLaw.{counted_mandatory, counted_hypotheses, counted_pairs}
 use Rattle.mm_laws.proofs.ReadLaw.{read_statements_are_lawful}
@@ -80,21 +81,21 @@ module _ (db : List Statement) (are_lawful : (k : ℕ) → k < length db → IsL
   variables_are_typed : VariablesAreTyped db k
   variables_are_typed is_assertion_k x is_mandatory_x =
       let statement_k = passing_statement db is_assertion k is_assertion_k in
-      let typing = mandatory_typed db are_lawful k x statement_k.0 statement_k.1
+      let typing = mandatory_is_typed db are_lawful k x statement_k.0 statement_k.1
       (assertion_has_formula statement_k.0 statement_k.2) is_mandatory_x in (
         typing.0,
-        is_mandatory_hypothesis typing.0 typing.1 (type_mandatory db are_lawful k typing.0 x
+        is_mandatory_hypothesis typing.0 typing.1 (typing_is_mandatory db are_lawful k typing.0 x
             typing.2 is_mandatory_x),
         is_typing typing.0 typing.2,
       )
     where
       is_typing : (i : ℕ) → Types db are_lawful i x → IsTyping db i x
       is_typing i types = record {
-        is_floating_statement = statement_passes db is_floating i types.statement types.stands
-            types.floats;
+        is_floating_statement = statement_passes db is_floating i types.statement types.statement_is_at
+            types.is_floating_statement;
         typecode = types.typecode;
-        formula_is = types.is;
-        typecode_is_constant = types.constant;
+        formula_is = types.formula_is;
+        typecode_is_constant = types.typecode_is_constant;
       }
 
   -- a symbol of the formula of a mandatory hypothesis is one of the hypotheses' symbols
@@ -156,10 +157,10 @@ module _ (db : List Statement) (are_lawful : (k : ℕ) → k < length db → IsL
           → ((x == p.low) ≡ true) ⊎ ((x == p.high) ≡ true) → IsMandatory x
       pair_symbol_is_mandatory p is_mandatory_p (inl x_is_low) =
           ap (is_member (mandatory_variables db k)) (eqb-true x p.low x_is_low)
-          ∙ (of_pair db are_lawful k p is_mandatory_p).0
+          ∙ (pair_is_mandatory db are_lawful k p is_mandatory_p).0
       pair_symbol_is_mandatory p is_mandatory_p (inr x_is_high) =
           ap (is_member (mandatory_variables db k)) (eqb-true x p.high x_is_high)
-          ∙ (of_pair db are_lawful k p is_mandatory_p).1
+          ∙ (pair_is_mandatory db are_lawful k p is_mandatory_p).1
 
       in_hypotheses_or_pairs : (in_hypotheses x ≡ true) ⊎ (in_pairs x ≡ true) → IsMandatory x
       in_hypotheses_or_pairs (inl x_is_in_hypotheses) =
@@ -168,7 +169,7 @@ module _ (db : List Statement) (are_lawful : (k : ℕ) → k < length db → IsL
           let found = passing_active db k (λ j. is_mandatory db k j && in_formula x j) some_active
           in
           let parts = and_parts (is_mandatory db k found.0) (in_formula x found.0) found.2 in
-          of_hypothesis db are_lawful k found.0 x found.1 parts.0 parts.1 is_variable_x
+          hypothesis_variable_is_mandatory db are_lawful k found.0 x found.1 parts.0 parts.1 is_variable_x
       in_hypotheses_or_pairs (inr x_is_in_pairs) =
           let found =
           one_passes (λ p. is_mandatory_pair db k p && in_pair x p) all_pairs
@@ -179,7 +180,7 @@ module _ (db : List Statement) (are_lawful : (k : ℕ) → k < length db → IsL
 
       in_formula_or_rest : (in_formula x k ≡ true) ⊎ ((in_hypotheses x || in_pairs x) ≡ true)
           → IsMandatory x
-      in_formula_or_rest (inl x_is_in_formula) = of_formula db are_lawful k x x_is_in_formula
+      in_formula_or_rest (inl x_is_in_formula) = formula_variable_is_mandatory db are_lawful k x x_is_in_formula
           is_variable_x
       in_formula_or_rest (inr x_is_in_rest) =
           in_hypotheses_or_pairs (or_cases (in_hypotheses x) (in_pairs x) x_is_in_rest)

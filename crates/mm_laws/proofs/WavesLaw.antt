@@ -14,11 +14,11 @@ use Rattle.mm_spec.specs.Lexed.{LexedText}
 use Rattle.mm_spec.specs.Output.{AreValid}
 use Rattle.mm_laws.specs.Laws.Cells.{IsDecided}
 use Rattle.mm_laws.specs.Laws.OneWave.{HaveWaves}
-use Rattle.mm_spec.proofs.ChainsLaw.{wave_unique}
+use Rattle.mm_spec.proofs.ChainsLaw.{two_waves_are_equal}
 use Rattle.mm_spec.specs.Opened.{counted}
 use Rattle.mm_spec.proofs.CompleteLaw.{reads_complete}
 use Rattle.mm_spec.proofs.OpenedLaw.{counted_complete}
-use Rattle.mm_spec.proofs.CitedLaw.{cites_earlier}
+use Rattle.mm_spec.proofs.CitedLaw.{cited_lt_theorem}
 use Rattle.mm_laws.proofs.RestsLaw.{cites_is_decided}
 
 module _ (db : List Statement) (by_essential : Bool) (all_complete : AreComplete db)
@@ -117,7 +117,7 @@ module _ (db : List Statement) (by_essential : Bool) (all_complete : AreComplete
           → m ≤ longest_below_t.0
       no_chain_is_longer zero is_chain = omega arith
       no_chain_is_longer (suc m) is_chain =
-          let m_lt_longest = longest_below_t.2 is_chain.0 (cites_earlier db by_essential t
+          let m_lt_longest = longest_below_t.2 is_chain.0 (cited_lt_theorem db by_essential t
           is_chain.0 is_chain.1) (is_chain.1, is_chain.2) m is_chain.3 in omega arith
 
   wave_below_exists : (n t : ℕ) → t < n → (w : ℕ) × IsWave db by_essential t w
@@ -138,6 +138,6 @@ have_waves len x with_open db has_no_fault by_essential t =
     in (
       wave.0,
       wave.1,
-      λ m is_wave. wave_unique (Cites statements by_essential) (IsTheorem statements) t m wave.0
+      λ m is_wave. two_waves_are_equal (Cites statements by_essential) (IsTheorem statements) t m wave.0
           is_wave wave.1,
     )

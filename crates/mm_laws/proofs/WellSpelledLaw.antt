@@ -26,8 +26,8 @@ use Rattle.mm_laws.specs.Laws.Read.{WhereRead}
 use Rattle.mm_laws.specs.Laws.WellFormed.{CompressedIsExact, NormalIsExact}
 use Rattle.mm_spec.specs.declared.Code.TheVariants.{OpenNumber, MarkBeforeStep, NumberTooLarge}
 use Rattle.mm_spec.specs.declared.Code.TheVariants.{UnusableLabel, IncompleteProof, BadLetter}
-use Rattle.mm_spec.proofs.FindsLaw.{same_word, is_before}
-use Rattle.mm_spec.proofs.FaultlessLaw.{append_none}
+use Rattle.mm_spec.proofs.FindsLaw.{equal_bytes_equal_words, active_lt_place}
+use Rattle.mm_spec.proofs.FaultlessLaw.{both_are_empty}
 use Rattle.mm_laws.proofs.SpellingLaw.{EndsItem, no_early, spelled_item_is_unique}
 use Rattle.mm_laws.proofs.SpellingLaw.{group_spells_its_value, early_byte_is_digit}
 use Rattle.mm_laws.proofs.SpellingLaw.{front_with_last_is_not_nil, bracket_parts_of}
@@ -475,7 +475,7 @@ usable_label_has_no_fault db k t j is_usable =
     by_usable (usable db k t.word)
     (λ is_nil. filter_is_not_nil
     (λ i. is_active db i k && list_any (is_labelled t.word) (statement_at db i)) k 0 j (omega arith)
-    (let j_lt_k = is_before db j k is_usable.statement_is_active in omega arith)
+    (let j_lt_k = active_lt_place db j k is_usable.statement_is_active in omega arith)
     (and_from (is_active db j k)
     (list_any (is_labelled t.word) (statement_at db j)) is_usable.statement_is_active
     is_usable.statement_has_label) is_nil)
@@ -634,9 +634,9 @@ module _ (db : List Statement) (differ : LabelsDiffer db) (k end : ℕ) where
   read_are_plain_words [] no_faults = tt
   read_are_plain_words (t ∷ ts) no_faults = (
     by_question_mark (bytes_eq t.word (codes "?")) refl
-        (append_none (faults_of_word t) (flat_map faults_of_word ts) no_faults).0,
+        (both_are_empty (faults_of_word t) (flat_map faults_of_word ts) no_faults).0,
     read_are_plain_words ts
-        (append_none (faults_of_word t) (flat_map faults_of_word ts) no_faults).1,
+        (both_are_empty (faults_of_word t) (flat_map faults_of_word ts) no_faults).1,
   )
     where
       by_question_mark : (b : Bool) → bytes_eq t.word (codes "?") ≡ b
@@ -659,7 +659,7 @@ module _ (db : List Statement) (differ : LabelsDiffer db) (k end : ℕ) where
     where
       by_question_mark : (b : Bool) → bytes_eq t.word (codes "?") ≡ b
           → own_faults db differ k t b ≡ []
-      by_question_mark true is_question_mark = absurd (are_plain_words.0.0 (same_word t.word (codes
+      by_question_mark true is_question_mark = absurd (are_plain_words.0.0 (equal_bytes_equal_words t.word (codes
           "?") is_question_mark))
       by_question_mark false not_question_mark = usable_label_has_no_fault db k t
           are_plain_words.0.1.0 are_plain_words.0.1.1
@@ -674,7 +674,7 @@ module _ (db : List Statement) (differ : LabelsDiffer db) (k end : ℕ) where
             | true ↦ compressed_faults db k end (bracketed ts)
             | false ↦ normal_faults db k end (t ∷ ts)
           ]) (flat_map faults_of_word (t ∷ ts))
-      by_bracket true is_bracket = absurd (no_bracket (same_word t.word (codes "(") is_bracket))
+      by_bracket true is_bracket = absurd (no_bracket (equal_bytes_equal_words t.word (codes "(") is_bracket))
       by_bracket false not_bracket = refl
 
 pub normal_is_exact : WhereRead NormalIsExact

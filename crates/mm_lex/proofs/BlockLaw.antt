@@ -19,425 +19,477 @@ use Rattle.mm_spec.specs.Readings.{bytes_of}
 use Rattle.mm_spec.specs.Roles.{is_clean}
 use Rattle.mm_spec.specs.Text.{has_dollar}
 use Rattle.mm_spec.specs.declared.Word.{Word}
-use Rattle.mm_spec.proofs.WordRunsLaw.{begins_word_inside, words_between_none, words_between_skips}
+use Rattle.mm_spec.proofs.WordRunsLaw.{none_begins_after_not_white, words_between_none}
+use Rattle.mm_spec.proofs.WordRunsLaw.{words_between_skips}
 use Rattle.mm_spec.proofs.WordRunsLaw.{words_between_take, word_at_not_white, word_at_nonempty}
-use Rattle.mm_spec.proofs.WordsLaw.{begins_word_boundary, begins_word_not_white, IsWord_is}
+use Rattle.mm_spec.proofs.WordsLaw.{begins_word_boundary, begins_word_not_white}
+use Rattle.mm_spec.proofs.WordsLaw.{word_at_start_is_word}
 use Rattle.mm_spec.proofs.BitLaw.{shifted}
 use Rattle.mm_lex.specs.Plain.{plain_at, IsPlainWord}
 use Rattle.mm_lex.specs.Beginnings.{ArePlain, IsFirst, IsPassed}
-use Rattle.mm_lex.proofs.MaskLaw.{all_from, bit_one, none_in, bit_zero, inside, low_bits}
-use Rattle.mm_lex.proofs.MaskLaw.{one_of, zero_of}
+use Rattle.mm_lex.proofs.MaskLaw.{range_passes_test, one_bit_passes_test, empty_mask_has_none}
+use Rattle.mm_lex.proofs.MaskLaw.{zero_bit_fails_block_test, block_test_in_text, low_bits_are_kept}
+use Rattle.mm_lex.proofs.MaskLaw.{value_one_is_true, value_zero_is_false}
 
 -- ---- bytes at which nothing stops
 
-neither : (a b : ℕ) → max a b ≡ 0 → (a ≡ 0) × (b ≡ 0)
-neither a b h = (omega (arith, h), omega (arith, h))
+both_are_zero : (a b : ℕ) → max a b ≡ 0 → (a ≡ 0) × (b ≡ 0)
+both_are_zero a b greater_is_zero = (omega (arith, greater_is_zero), omega (arith, greater_is_zero))
 
 plain_byte : (w p : Bool) (d : Bool) → w ≡ false → (not w && not p) ≡ false → d ≡ false
     → (p && not d) ≡ true
-plain_byte false true false w b d = refl
-plain_byte false false false w b d = absurd (true≢false b)
-plain_byte true p d w b e = absurd (true≢false w)
-plain_byte w p true v b e = absurd (true≢false e)
+plain_byte false true false is_not_white is_not_bad is_no_dollar = refl
+plain_byte false false false is_not_white is_not_bad is_no_dollar = absurd (true≢false is_not_bad)
+plain_byte true p d is_not_white is_not_bad is_no_dollar = absurd (true≢false is_not_white)
+plain_byte w p true is_not_white is_not_bad is_no_dollar = absurd (true≢false is_no_dollar)
 
-first_zero : (p : ℕ → Bool) (bytes : List ℕ) (i : ℕ) → i < 64 → i < length bytes → (m : ℕ)
+zero_bit_fails_test : (p : ℕ → Bool) (bytes : List ℕ) (i : ℕ) → i < 64 → i < length bytes → (m : ℕ)
     → m ≡ mask p (take 64 bytes) → bit_at m i ≡ 0 → p (get_or bytes i 0) ≡ false
-first_zero p bytes i low within m is none =
-    let same : 0 + i ≡ i = omega arith in
-    subst (λ (k : ℕ). p (get_or bytes k 0) ≡ false) same
-    (bit_zero p bytes 0 i low (omega arith) (ap (λ (n : ℕ). bit_at n i) (sym is) ∙ none))
+zero_bit_fails_test p bytes i i_lt_64 i_in_bytes m mask_is bit_is_zero =
+    let zero_plus_i : 0 + i ≡ i = omega arith in
+    subst (λ (k : ℕ). p (get_or bytes k 0) ≡ false) zero_plus_i
+    (zero_bit_fails_block_test p bytes 0 i i_lt_64 (omega arith)
+    (ap (λ (n : ℕ). bit_at n i) (sym mask_is) ∙ bit_is_zero))
 
-module _ (bytes : List ℕ) (white bad dollars : ℕ) (w : white ≡ mask is_white (take 64 bytes))
-    (b : bad ≡ mask is_bad (take 64 bytes))
-    (d : dollars ≡ mask (λ x. x == 36) (take 64 bytes)) where
-  pub stops_not_white : (i : ℕ) → i < 64 → i < length bytes
+module _ (bytes : List ℕ) (white bad dollars : ℕ)
+    (white_is : white ≡ mask is_white (take 64 bytes))
+    (bad_is : bad ≡ mask is_bad (take 64 bytes))
+    (dollars_are : dollars ≡ mask (λ x. x == 36) (take 64 bytes)) where
+  pub no_stop_is_not_white : (i : ℕ) → i < 64 → i < length bytes
       → bit_at (bit_or (bit_or white bad) dollars) i ≡ 0 → white_at bytes i ≡ false
   unfolding white_at
-  stops_not_white i low within none =
-      let outer =
-      neither (bit_at (bit_or white bad) i) (bit_at dollars i)
-      (sym (bit_at_or (bit_or white bad) dollars i) ∙ none) in
-      let inner = neither (bit_at white i) (bit_at bad i) (sym (bit_at_or white bad i) ∙ outer.0) in
-      first_zero is_white bytes i low within white w inner.0
+  no_stop_is_not_white i i_lt_64 i_in_bytes no_stop_at_i =
+      let not_class_nor_dollar =
+      both_are_zero (bit_at (bit_or white bad) i) (bit_at dollars i)
+      (sym (bit_at_or (bit_or white bad) dollars i) ∙ no_stop_at_i) in
+      let not_white_nor_bad =
+      both_are_zero (bit_at white i) (bit_at bad i)
+      (sym (bit_at_or white bad i) ∙ not_class_nor_dollar.0) in
+      zero_bit_fails_test is_white bytes i i_lt_64 i_in_bytes white white_is not_white_nor_bad.0
 
-  pub stops_plain : (i : ℕ) → i < 64 → i < length bytes
+  pub no_stop_is_plain : (i : ℕ) → i < 64 → i < length bytes
       → bit_at (bit_or (bit_or white bad) dollars) i ≡ 0 → plain_at bytes i ≡ true
   unfolding plain_at is_bad
-  stops_plain i low within none =
-      let outer =
-      neither (bit_at (bit_or white bad) i) (bit_at dollars i)
-      (sym (bit_at_or (bit_or white bad) dollars i) ∙ none) in
-      let inner = neither (bit_at white i) (bit_at bad i) (sym (bit_at_or white bad i) ∙ outer.0) in
+  no_stop_is_plain i i_lt_64 i_in_bytes no_stop_at_i =
+      let not_class_nor_dollar =
+      both_are_zero (bit_at (bit_or white bad) i) (bit_at dollars i)
+      (sym (bit_at_or (bit_or white bad) dollars i) ∙ no_stop_at_i) in
+      let not_white_nor_bad =
+      both_are_zero (bit_at white i) (bit_at bad i)
+      (sym (bit_at_or white bad i) ∙ not_class_nor_dollar.0) in
       plain_byte (is_white (get_or bytes i 0)) (is_printable (get_or bytes i 0))
       (get_or bytes i 0 == 36)
-      (first_zero is_white bytes i low within white w inner.0)
-      (first_zero is_bad bytes i low within bad b inner.1)
-      (first_zero (λ x. x == 36) bytes i low within dollars d outer.1)
+      (zero_bit_fails_test is_white bytes i i_lt_64 i_in_bytes white white_is not_white_nor_bad.0)
+      (zero_bit_fails_test is_bad bytes i i_lt_64 i_in_bytes bad bad_is not_white_nor_bad.1)
+      (zero_bit_fails_test (λ x. x == 36) bytes i i_lt_64 i_in_bytes dollars dollars_are
+      not_class_nor_dollar.1)
 
 -- bytes after a place
 
-pub dropped_white : (text : List ℕ) (base i : ℕ)
+pub white_at_dropped : (text : List ℕ) (base i : ℕ)
     → white_at (drop base text) i ≡ white_at text (base + i)
 unfolding white_at
-dropped_white text base i = ap is_white (get_or-drop base text i 0)
+white_at_dropped text base i = ap is_white (get_or-drop base text i 0)
 
-pub dropped_plain : (text : List ℕ) (base i : ℕ)
+pub plain_at_dropped : (text : List ℕ) (base i : ℕ)
     → plain_at (drop base text) i ≡ plain_at text (base + i)
 unfolding plain_at
-dropped_plain text base i =
+plain_at_dropped text base i =
     ap (λ (b : ℕ). is_printable b && not (b == 36)) (get_or-drop base text i 0)
 
-pub dropped_all : (text : List ℕ) (base : ℕ)
+pub taken_dropped_is_all : (text : List ℕ) (base : ℕ)
     → take (length text - base) (drop base text) ≡ drop base text
-dropped_all text base =
+taken_dropped_is_all text base =
     take_all (length text - base) (drop base text) (omega (arith, length-drop {A = ℕ}))
 
-pub dropped_long : (text : List ℕ) (base i : ℕ) → base + i < length text
+pub place_in_dropped : (text : List ℕ) (base i : ℕ) → base + i < length text
     → i < length (drop base text)
-dropped_long text base i lt = omega (arith, length-drop {A = ℕ})
+place_in_dropped text base i place_in_text = omega (arith, length-drop {A = ℕ})
 
 -- ---- zeros after ones
 
-module _ (white first : ℕ) (fits : white < 2 ^ 64) (small : first ≤ 1) where
-  pub starts_first : bit_at (bit_and (bit_not w64 white) (bit_or (white * 2 % 2 ^ 64) first)) 0
+module _ (white first : ℕ) (white_lt_2_64 : white < 2 ^ 64) (first_le_1 : first ≤ 1) where
+  pub first_start_bit : bit_at (bit_and (bit_not w64 white) (bit_or (white * 2 % 2 ^ 64) first)) 0
       ≡ min (1 - bit_at white 0) first
-  starts_first =
-      let turned : bit_at (bit_not w64 white) 0 ≡ 1 - bit_at white 0 =
-      bit_at_not w64 white 0 fits (omega arith) in
-      let even : bit_at (white * 2) 0 ≡ 0 = bit_at_lowest (white * 2) ∙ omega arith in
-      let one : bit_at first 0 ≡ first = bit_at_lowest first ∙ omega (arith, small) in
-      let moved : bit_at (white * 2 % 2 ^ 64) 0 ≡ 0 =
-      low_bits (white * 2) 64 0 (omega arith) ∙ even in
+  first_start_bit =
+      let negated_bit_is : bit_at (bit_not w64 white) 0 ≡ 1 - bit_at white 0 =
+      bit_at_not w64 white 0 white_lt_2_64 (omega arith) in
+      let shifted_bit_is_zero : bit_at (white * 2) 0 ≡ 0 =
+      bit_at_lowest (white * 2) ∙ omega arith in
+      let first_bit_is : bit_at first 0 ≡ first = bit_at_lowest first ∙ omega (arith, first_le_1) in
+      let shifted_low_bit_is : bit_at (white * 2 % 2 ^ 64) 0 ≡ 0 =
+      low_bits_are_kept (white * 2) 64 0 (omega arith) ∙ shifted_bit_is_zero in
       bit_at_and (bit_not w64 white) (bit_or (white * 2 % 2 ^ 64) first) 0
-      ∙ ap₂ min turned
-      (bit_at_or (white * 2 % 2 ^ 64) first 0 ∙ ap₂ max moved one ∙ omega arith)
+      ∙ ap₂ min negated_bit_is
+      (bit_at_or (white * 2 % 2 ^ 64) first 0 ∙ ap₂ max shifted_low_bit_is first_bit_is
+      ∙ omega arith)
 
-  pub starts_next : (i : ℕ) → i + 1 < 64
+  pub next_start_bit : (i : ℕ) → i + 1 < 64
       → bit_at (bit_and (bit_not w64 white) (bit_or (white * 2 % 2 ^ 64) first)) (i + 1)
       ≡ min (1 - bit_at white (i + 1)) (bit_at white i)
-  starts_next i lt =
-      let turned : bit_at (bit_not w64 white) (i + 1) ≡ 1 - bit_at white (i + 1) =
-      bit_at_not w64 white (i + 1) fits lt in
-      let more : i + 1 - 1 ≡ i = omega arith in
-      let same : white * 2 + 0 ≡ white * 2 = omega arith in
-      let up : bit_at (white * 2) (i + 1) ≡ bit_at white i =
-      ap (λ (n : ℕ). bit_at n (i + 1)) (sym same)
-      ∙ bit_at_cat_high white 1 0 (i + 1) (omega arith) (omega arith) ∙ ap (bit_at white) more in
-      let none : bit_at first (i + 1) ≡ 0 =
-      bit_at_above first 1 (i + 1) (omega (arith, small)) (omega arith) in
-      let moved : bit_at (white * 2 % 2 ^ 64) (i + 1) ≡ bit_at white i =
-      low_bits (white * 2) 64 (i + 1) lt ∙ up in
+  next_start_bit i next_lt_64 =
+      let negated_bit_is : bit_at (bit_not w64 white) (i + 1) ≡ 1 - bit_at white (i + 1) =
+      bit_at_not w64 white (i + 1) white_lt_2_64 next_lt_64 in
+      let pred_is_i : i + 1 - 1 ≡ i = omega arith in
+      let plus_zero_is : white * 2 + 0 ≡ white * 2 = omega arith in
+      let shifted_bit_is : bit_at (white * 2) (i + 1) ≡ bit_at white i =
+      ap (λ (n : ℕ). bit_at n (i + 1)) (sym plus_zero_is)
+      ∙ bit_at_cat_high white 1 0 (i + 1) (omega arith) (omega arith)
+      ∙ ap (bit_at white) pred_is_i in
+      let first_has_no_bit : bit_at first (i + 1) ≡ 0 =
+      bit_at_above first 1 (i + 1) (omega (arith, first_le_1)) (omega arith) in
+      let shifted_low_bit_is : bit_at (white * 2 % 2 ^ 64) (i + 1) ≡ bit_at white i =
+      low_bits_are_kept (white * 2) 64 (i + 1) next_lt_64 ∙ shifted_bit_is in
       bit_at_and (bit_not w64 white) (bit_or (white * 2 % 2 ^ 64) first) (i + 1)
-      ∙ ap₂ min turned
-      (bit_at_or (white * 2 % 2 ^ 64) first (i + 1) ∙ ap₂ max moved none ∙ omega arith)
+      ∙ ap₂ min negated_bit_is
+      (bit_at_or (white * 2 % 2 ^ 64) first (i + 1) ∙ ap₂ max shifted_low_bit_is first_has_no_bit
+      ∙ omega arith)
 
 -- the bits from a place on
 
 module _ (n k : ℕ) where
   pub bits_below : (i : ℕ) → i < 64 → i < k → bit_at (n / 2 ^ k * 2 ^ k % 2 ^ 64) i ≡ 0
-  bits_below i short lt =
-      let same : n / 2 ^ k * 2 ^ k + 0 ≡ n / 2 ^ k * 2 ^ k = omega arith in
-      low_bits (n / 2 ^ k * 2 ^ k) 64 i short ∙ ap (λ (m : ℕ). bit_at m i) (sym same)
-      ∙ bit_at_cat_low (n / 2 ^ k) k 0 i lt ∙ bit_at-zero i
+  bits_below i i_lt_64 i_lt_k =
+      let plus_zero_is : n / 2 ^ k * 2 ^ k + 0 ≡ n / 2 ^ k * 2 ^ k = omega arith in
+      low_bits_are_kept (n / 2 ^ k * 2 ^ k) 64 i i_lt_64
+      ∙ ap (λ (m : ℕ). bit_at m i) (sym plus_zero_is)
+      ∙ bit_at_cat_low (n / 2 ^ k) k 0 i i_lt_k ∙ bit_at-zero i
 
   pub bits_from : (i : ℕ) → i < 64 → k ≤ i → bit_at (n / 2 ^ k * 2 ^ k % 2 ^ 64) i ≡ bit_at n i
-  bits_from i short le =
-      let same : n / 2 ^ k * 2 ^ k + 0 ≡ n / 2 ^ k * 2 ^ k = omega arith in
-      let place : k + (i - k) ≡ i = omega arith in
-      low_bits (n / 2 ^ k * 2 ^ k) 64 i short ∙ ap (λ (m : ℕ). bit_at m i) (sym same)
-      ∙ bit_at_cat_high (n / 2 ^ k) k 0 i (pow_pos k) le
-      ∙ shifted n k (i - k) ∙ ap (bit_at n) place
+  bits_from i i_lt_64 k_le_i =
+      let plus_zero_is : n / 2 ^ k * 2 ^ k + 0 ≡ n / 2 ^ k * 2 ^ k = omega arith in
+      let place_is_i : k + (i - k) ≡ i = omega arith in
+      low_bits_are_kept (n / 2 ^ k * 2 ^ k) 64 i i_lt_64
+      ∙ ap (λ (m : ℕ). bit_at m i) (sym plus_zero_is)
+      ∙ bit_at_cat_high (n / 2 ^ k) k 0 i (pow_pos k) k_le_i
+      ∙ shifted n k (i - k) ∙ ap (bit_at n) place_is_i
 
-  pub bit_from_one : (i : ℕ) → i < 64 → bit_at (n / 2 ^ k * 2 ^ k % 2 ^ 64) i ≡ 1
+  pub kept_bit_is_above_k : (i : ℕ) → i < 64 → bit_at (n / 2 ^ k * 2 ^ k % 2 ^ 64) i ≡ 1
       → (k ≤ i) × (bit_at n i ≡ 1)
-  bit_from_one i short one =
+  kept_bit_is_above_k i i_lt_64 bit_is_one =
       ⊎_elim {C = (k ≤ i) × (bit_at n i ≡ 1)}
-      (λ lt. let clash : 0 ≡ 1 = sym (bits_below i short lt) ∙ one in absurd (omega (arith, clash)))
-      (λ le. (le, sym (bits_from i short le) ∙ one))
+      (λ i_lt_k. let zero_is_one : 0 ≡ 1 = sym (bits_below i i_lt_64 i_lt_k) ∙ bit_is_one in
+      absurd (omega (arith, zero_is_one)))
+      (λ k_le_i. (k_le_i, sym (bits_from i i_lt_64 k_le_i) ∙ bit_is_one))
       (cases_lt i k)
 
 -- ---- where words begin
 
-zero_first : (w first : Bool)
+first_start_test : (w first : Bool)
     → ◌≡◌ {A = ℕ} (if first then 1 - cond w 1 0 else 0) (cond (not w && first) 1 0)
-zero_first true true = refl
-zero_first true false = refl
-zero_first false true = refl
-zero_first false false = refl
+first_start_test true true = refl
+first_start_test true false = refl
+first_start_test false true = refl
+first_start_test false false = refl
 
-one_before : (w v : Bool) → ◌≡◌ {A = ℕ} (min (1 - cond w 1 0) (cond v 1 0)) (cond (not w && v) 1 0)
-one_before true true = refl
-one_before true false = refl
-one_before false true = refl
-one_before false false = refl
+next_start_test : (w v : Bool)
+    → ◌≡◌ {A = ℕ} (min (1 - cond w 1 0) (cond v 1 0)) (cond (not w && v) 1 0)
+next_start_test true true = refl
+next_start_test true false = refl
+next_start_test false true = refl
+next_start_test false false = refl
 
 module _ (text : List ℕ) (base white starts : ℕ) (first : Bool)
-    (is : white ≡ mask is_white (take 64 (drop base text)))
-    (before : first ≡ (base == 0 || white_at text (base - 1)))
-    (at_first : bit_at starts 0 ≡ (if first then 1 - bit_at white 0 else 0))
-    (at_next : (i : ℕ) → i + 1 < 64
+    (white_mask_is : white ≡ mask is_white (take 64 (drop base text)))
+    (first_may_begin : first ≡ (base == 0 || white_at text (base - 1)))
+    (first_bit_is : bit_at starts 0 ≡ (if first then 1 - bit_at white 0 else 0))
+    (next_bits_are : (i : ℕ) → i + 1 < 64
     → bit_at starts (i + 1) ≡ min (1 - bit_at white (i + 1)) (bit_at white i)) where
   white_bit : (i : ℕ) → i < 64 → base + i < length text
       → bit_at white i ≡ cond (white_at text (base + i)) 1 0
   unfolding white_at
-  white_bit i lt within =
-      ap (λ (m : ℕ). bit_at m i) is ∙ bit_mask_l (map is_white (take 64 (drop base text))) i
-      ∙ ap (λ (b : Bool). cond b 1 0) (inside is_white text base i lt within)
+  white_bit i i_lt_64 place_in_text =
+      ap (λ (m : ℕ). bit_at m i) white_mask_is
+      ∙ bit_mask_l (map is_white (take 64 (drop base text))) i
+      ∙ ap (λ (b : Bool). cond b 1 0)
+      (block_test_in_text is_white text base i i_lt_64 place_in_text)
 
-  begins_first : base < length text → bit_at starts 0 ≡ cond (begins_word text base) 1 0
+  first_bit_tells_beginning : base < length text
+      → bit_at starts 0 ≡ cond (begins_word text base) 1 0
   unfolding begins_word
-  begins_first within =
-      let same : base + 0 ≡ base = omega arith in
-      let here : bit_at white 0 ≡ cond (white_at text base) 1 0 =
-      subst (λ (k : ℕ). bit_at white 0 ≡ cond (white_at text k) 1 0) same
+  first_bit_tells_beginning base_in_text =
+      let base_plus_zero : base + 0 ≡ base = omega arith in
+      let white_bit_is : bit_at white 0 ≡ cond (white_at text base) 1 0 =
+      subst (λ (k : ℕ). bit_at white 0 ≡ cond (white_at text k) 1 0) base_plus_zero
       (white_bit 0 (omega arith) (omega arith)) in
-      at_first ∙ ap (λ (n : ℕ). if first then 1 - n else 0) here
-      ∙ zero_first (white_at text base) first
-      ∙ ap (λ (b : Bool). cond (not (white_at text base) && b) 1 0) before
+      first_bit_is ∙ ap (λ (n : ℕ). if first then 1 - n else 0) white_bit_is
+      ∙ first_start_test (white_at text base) first
+      ∙ ap (λ (b : Bool). cond (not (white_at text base) && b) 1 0) first_may_begin
 
-  begins_next : (i : ℕ) → i + 1 < 64 → base + (i + 1) < length text
+  next_bit_tells_beginning : (i : ℕ) → i + 1 < 64 → base + (i + 1) < length text
       → bit_at starts (i + 1) ≡ cond (begins_word text (base + (i + 1))) 1 0
   unfolding begins_word
-  begins_next i lt within =
-      let none : (base + (i + 1) == 0) ≡ false =
-      ne_eqb (base + (i + 1)) 0 (λ e. omega (arith, e)) in
-      let same : base + i ≡ base + (i + 1) - 1 = omega arith in
-      at_next i lt
-      ∙ ap₂ (λ (m n : ℕ). min (1 - m) n) (white_bit (i + 1) lt within)
+  next_bit_tells_beginning i next_lt_64 place_in_text =
+      let place_is_not_zero : (base + (i + 1) == 0) ≡ false =
+      ne_eqb (base + (i + 1)) 0 (λ place_is_zero. omega (arith, place_is_zero)) in
+      let pred_place_is : base + i ≡ base + (i + 1) - 1 = omega arith in
+      next_bits_are i next_lt_64
+      ∙ ap₂ (λ (m n : ℕ). min (1 - m) n) (white_bit (i + 1) next_lt_64 place_in_text)
       (white_bit i (omega arith) (omega arith))
-      ∙ one_before (white_at text (base + (i + 1))) (white_at text (base + i))
-      ∙ rw (none, same) refl
+      ∙ next_start_test (white_at text (base + (i + 1))) (white_at text (base + i))
+      ∙ rw (place_is_not_zero, pred_place_is) refl
 
-  begins_bit : (i : ℕ) → i < 64 → base + i < length text
+  bit_tells_beginning : (i : ℕ) → i < 64 → base + i < length text
       → bit_at starts i ≡ cond (begins_word text (base + i)) 1 0
-  begins_bit i lt within =
+  bit_tells_beginning i i_lt_64 place_in_text =
       ⊎_elim {C = bit_at starts i ≡ cond (begins_word text (base + i)) 1 0}
-      (λ low. let same : i - 1 + 1 ≡ i = omega arith in
-      subst (λ (k : ℕ). bit_at starts k ≡ cond (begins_word text (base + k)) 1 0) same
-      (begins_next (i - 1) (omega arith) (omega arith)))
-      (λ zero. let none : 0 ≡ i = omega arith in
-      let same : base ≡ base + 0 = omega arith in
-      subst (λ (k : ℕ). bit_at starts k ≡ cond (begins_word text (base + k)) 1 0) none
-      (begins_first (omega arith) ∙ ap (λ (k : ℕ). cond (begins_word text k) 1 0) same))
+      (λ i_is_positive. let numbers_equal : i - 1 + 1 ≡ i = omega arith in
+      subst (λ (k : ℕ). bit_at starts k ≡ cond (begins_word text (base + k)) 1 0) numbers_equal
+      (next_bit_tells_beginning (i - 1) (omega arith) (omega arith)))
+      (λ i_le_zero. let zero_is_i : 0 ≡ i = omega arith in
+      let numbers_equal : base ≡ base + 0 = omega arith in
+      subst (λ (k : ℕ). bit_at starts k ≡ cond (begins_word text (base + k)) 1 0) zero_is_i
+      (first_bit_tells_beginning (omega arith)
+      ∙ ap (λ (k : ℕ). cond (begins_word text k) 1 0) numbers_equal))
       (cases_lt 0 i)
 
-  pub begins_one : (i : ℕ) → i < 64 → base + i < length text → bit_at starts i ≡ 1
+  pub one_bit_begins_word : (i : ℕ) → i < 64 → base + i < length text → bit_at starts i ≡ 1
       → begins_word text (base + i) ≡ true
-  begins_one i lt within one =
-      one_of (begins_word text (base + i)) (sym (begins_bit i lt within) ∙ one)
+  one_bit_begins_word i i_lt_64 place_in_text bit_is_one =
+      value_one_is_true (begins_word text (base + i))
+      (sym (bit_tells_beginning i i_lt_64 place_in_text) ∙ bit_is_one)
 
-  pub begins_zero : (i : ℕ) → i < 64 → base + i < length text → bit_at starts i ≡ 0
+  pub zero_bit_begins_none : (i : ℕ) → i < 64 → base + i < length text → bit_at starts i ≡ 0
       → begins_word text (base + i) ≡ false
-  begins_zero i lt within none =
-      zero_of (begins_word text (base + i)) (sym (begins_bit i lt within) ∙ none)
+  zero_bit_begins_none i i_lt_64 place_in_text bit_is_zero =
+      value_zero_is_false (begins_word text (base + i))
+      (sym (bit_tells_beginning i i_lt_64 place_in_text) ∙ bit_is_zero)
 
 -- ---- a word goes on
 
-module _ (text : List ℕ) (base m : ℕ) (is : m ≡ mask is_white (take 64 (drop base text))) where
-  pub white_zero : (i : ℕ) → i < 64 → base + i < length text → bit_at m i ≡ 0
-      → white_at text (base + i) ≡ false
-  unfolding white_at
-  white_zero i lt within none =
-      bit_zero is_white text base i lt within (ap (λ (n : ℕ). bit_at n i) (sym is) ∙ none)
+module _ (text : List ℕ) (base m : ℕ) (white_mask_is : m ≡ mask is_white (take 64 (drop base text)))
+  where
+    pub zero_bit_is_not_white : (i : ℕ) → i < 64 → base + i < length text → bit_at m i ≡ 0
+        → white_at text (base + i) ≡ false
+    unfolding white_at
+    zero_bit_is_not_white i i_lt_64 place_in_text bit_is_zero =
+        zero_bit_fails_block_test is_white text base i i_lt_64 place_in_text
+        (ap (λ (n : ℕ). bit_at n i) (sym white_mask_is) ∙ bit_is_zero)
 
-  pub white_one : (i : ℕ) → i < 64 → bit_at m i ≡ 1
-      → (base + i < length text) × (white_at text (base + i) ≡ true)
-  unfolding white_at
-  white_one i lt one = bit_one is_white text base i lt (ap (λ (n : ℕ). bit_at n i) (sym is) ∙ one)
+    pub one_bit_is_white : (i : ℕ) → i < 64 → bit_at m i ≡ 1
+        → (base + i < length text) × (white_at text (base + i) ≡ true)
+    unfolding white_at
+    one_bit_is_white i i_lt_64 bit_is_one =
+        one_bit_passes_test is_white text base i i_lt_64
+        (ap (λ (n : ℕ). bit_at n i) (sym white_mask_is) ∙ bit_is_one)
 
 -- what holds up to a place holds up to the next bit of a mask
-pub run_on : (Q : List ℕ → ℕ → Type 0) (t text : List ℕ) (m from at base found : ℕ) → t ≡ text
+pub holds_up_to_next_bit : (Q : List ℕ → ℕ → Type 0) (t text : List ℕ) (m from at base found : ℕ)
+    → t ≡ text
     → base ≤ at → found ≤ 64 → ((i : ℕ) → from ≤ i → i < at → i < length text → Q text i) →
     ((i : ℕ) → at - base ≤ i → i < found → bit_at m i ≡ 0)
     → ((i : ℕ) → i < 64 → base + i < length t → at ≤ base + i → bit_at m i ≡ 0 → Q t (base + i))
     → (i : ℕ) → from ≤ i → i < base + found → i < length text → Q text i
-run_on Q t text m from at base found same low few before zeros tells i from_here lt within =
-    ⊎_elim {C = Q text i} (λ h. before i from_here h within)
-    (λ h.
-    let place : base + (i - base) ≡ i = omega arith in
-    let inside : base + (i - base) < length t =
-    subst (λ (s : List ℕ). base + (i - base) < length s) (sym same) (omega arith) in
-    subst (λ (s : List ℕ). Q s i) same
-    (subst (Q t) place
-    (tells (i - base) (omega arith) inside (omega arith)
-    (zeros (i - base) (omega arith) (omega arith)))))
+holds_up_to_next_bit Q t text m from at base found texts_equal base_le_at found_le_64
+    holds_before_at
+    no_bit_before_found zero_bit_tells i from_le_i i_lt_end i_in_text =
+    ⊎_elim {C = Q text i} (λ i_lt_at. holds_before_at i from_le_i i_lt_at i_in_text)
+    (λ at_le_i.
+    let place_is_i : base + (i - base) ≡ i = omega arith in
+    let place_in_t : base + (i - base) < length t =
+    subst (λ (s : List ℕ). base + (i - base) < length s) (sym texts_equal) (omega arith) in
+    subst (λ (s : List ℕ). Q s i) texts_equal
+    (subst (Q t) place_is_i
+    (zero_bit_tells (i - base) (omega arith) place_in_t (omega arith)
+    (no_bit_before_found (i - base) (omega arith) (omega arith)))))
     (cases_lt i at)
 
--- no word begins inside one
-pub none_inside : (text : List ℕ) (start upto : ℕ)
-    → ((i : ℕ) → start ≤ i → i + 1 < upto → white_at text i ≡ false) → (i : ℕ) → start < i
-    → i < upto → begins_word text i ≡ false
-none_inside text start upto not_white i low high =
-    let same : i - 1 + 1 ≡ i = omega arith in
-    subst (λ (k : ℕ). begins_word text k ≡ false) same
-    (begins_word_inside text (i - 1) (not_white (i - 1) (omega arith) (omega arith)))
+-- no word begins block_test_in_text one
+pub no_word_begins_inside : (text : List ℕ) (start end : ℕ)
+    → ((i : ℕ) → start ≤ i → i + 1 < end → white_at text i ≡ false) → (i : ℕ) → start < i
+    → i < end → begins_word text i ≡ false
+no_word_begins_inside text start end not_white i start_lt_i i_lt_end =
+    let place_is_i : i - 1 + 1 ≡ i = omega arith in
+    subst (λ (k : ℕ). begins_word text k ≡ false) place_is_i
+    (none_begins_after_not_white text (i - 1) (not_white (i - 1) (omega arith) (omega arith)))
 
 -- ---- one beginning less
 
-module _ (n k : ℕ) (low : k < 64) where
-  pub cleared_other : (i : ℕ) → i < 64 → (i ≡ k → ⊥)
+module _ (n k : ℕ) (k_lt_64 : k < 64) where
+  pub other_bits_are_kept : (i : ℕ) → i < 64 → (i ≡ k → ⊥)
       → bit_at (bit_and n (bit_not w64 (1 * 2 ^ k % 2 ^ 64))) i ≡ bit_at n i
-  cleared_other i lt other = bit_at_clear_other w64 n k low i lt other
+  other_bits_are_kept i i_lt_64 i_is_not_k = bit_at_clear_other w64 n k k_lt_64 i i_lt_64 i_is_not_k
 
-  pub cleared_one : (i : ℕ) → i < 64 → bit_at (bit_and n (bit_not w64 (1 * 2 ^ k % 2 ^ 64))) i ≡ 1
+  pub remaining_bit_is_other : (i : ℕ) → i < 64
+      → bit_at (bit_and n (bit_not w64 (1 * 2 ^ k % 2 ^ 64))) i ≡ 1
       → (i ≡ k → ⊥) × (bit_at n i ≡ 1)
-  cleared_one i lt one =
-      let other : i ≡ k → ⊥ =
-      λ e. let here : bit_at (bit_and n (bit_not w64 (1 * 2 ^ k % 2 ^ 64))) i ≡ 0 =
-      ap (bit_at (bit_and n (bit_not w64 (1 * 2 ^ k % 2 ^ 64)))) e
-      ∙ bit_at_clear_same w64 n k low in
-      omega (arith, here, one) in
-      (other, sym (cleared_other i lt other) ∙ one)
+  remaining_bit_is_other i i_lt_64 bit_is_one =
+      let i_is_not_k : i ≡ k → ⊥ =
+      λ i_is_k. let cleared_bit_is_zero : bit_at (bit_and n (bit_not w64 (1 * 2 ^ k % 2 ^ 64))) i
+      ≡ 0 =
+      ap (bit_at (bit_and n (bit_not w64 (1 * 2 ^ k % 2 ^ 64)))) i_is_k
+      ∙ bit_at_clear_same w64 n k k_lt_64 in
+      omega (arith, cleared_bit_is_zero, bit_is_one) in
+      (i_is_not_k, sym (other_bits_are_kept i i_lt_64 i_is_not_k) ∙ bit_is_one)
 
-  pub cleared_above : ((i : ℕ) → i < k → bit_at n i ≡ 0) → (i : ℕ) → i < 64
+  pub remaining_bits_are_above : ((i : ℕ) → i < k → bit_at n i ≡ 0) → (i : ℕ) → i < 64
       → bit_at (bit_and n (bit_not w64 (1 * 2 ^ k % 2 ^ 64))) i ≡ 1 → k < i
-  cleared_above zeros i lt one =
-      let kept = cleared_one i lt one in
-      ⊎_elim {C = k < i} (λ h. h)
-      (λ le. ⊎_elim {C = k < i}
-      (λ below. let clash : 0 ≡ 1 = sym (zeros i below) ∙ kept.1 in absurd (omega (arith, clash)))
-      (λ same. let e : i ≡ k = omega arith in absurd (kept.0 e))
+  remaining_bits_are_above no_bit_below_k i i_lt_64 bit_is_one =
+      let kept_bit = remaining_bit_is_other i i_lt_64 bit_is_one in
+      ⊎_elim {C = k < i} (λ k_lt_i. k_lt_i)
+      (λ i_le_k. ⊎_elim {C = k < i}
+      (λ i_lt_k. let zero_is_one : 0 ≡ 1 = sym (no_bit_below_k i i_lt_k) ∙ kept_bit.1 in
+      absurd (omega (arith, zero_is_one)))
+      (λ k_le_i. let i_is_k : i ≡ k = omega arith in absurd (kept_bit.0 i_is_k))
       (cases_lt i k))
       (cases_lt k i)
 
 -- ---- words between places
 
-pub between_on : (text : List ℕ) (from upto to : ℕ) → from ≤ upto
+pub words_between_skip_to : (text : List ℕ) (from upto to : ℕ) → from ≤ upto
     → ((i : ℕ) → from ≤ i → i < upto → i < to → begins_word text i ≡ false)
     → words_between text from to ≡ words_between text upto to
-between_on text from upto to le none =
+words_between_skip_to text from upto to from_le_upto none_begins =
     ⊎_elim {C = words_between text from to ≡ words_between text upto to}
-    (λ over. ⊎_elim {C = words_between text from to ≡ words_between text upto to}
-    (λ some. words_between_skips text (to - from) from to to (omega arith) (omega arith)
-    (λ j low high. none j low (omega arith) high)
+    (λ upto_lt_to. ⊎_elim {C = words_between text from to ≡ words_between text upto to}
+    (λ from_lt_to. words_between_skips text (to - from) from to to (omega arith) (omega arith)
+    (λ j from_le_j j_lt_end. none_begins j from_le_j (omega arith) j_lt_end)
     ∙ words_between_none text to to (omega arith)
     ∙ sym (words_between_none text upto to (omega arith)))
-    (λ past. words_between_none text from to past
+    (λ to_le_from. words_between_none text from to to_le_from
     ∙ sym (words_between_none text upto to (omega arith)))
     (cases_lt from to))
-    (λ inside. words_between_skips text (upto - from) from upto to (omega arith) inside
-    (λ j low high. none j low high (omega arith)))
+    (λ upto_le_to. words_between_skips text (upto - from) from upto to (omega arith) upto_le_to
+    (λ j from_le_j j_lt_end. none_begins j from_le_j j_lt_end (omega arith)))
     (cases_lt to upto)
 
-pub between_none : (text : List ℕ) (from upto to : ℕ) → from ≤ upto → to ≤ upto
+pub no_words_between : (text : List ℕ) (from upto to : ℕ) → from ≤ upto → to ≤ upto
     → ((i : ℕ) → from ≤ i → i < upto → i < to → begins_word text i ≡ false)
     → words_between text from to ≡ []
-between_none text from upto to le over none =
-    between_on text from upto to le none ∙ words_between_none text upto to over
+no_words_between text from upto to from_le_upto to_le_upto none_begins =
+    words_between_skip_to text from upto to from_le_upto none_begins
+    ∙ words_between_none text upto to to_le_upto
 
 module _ (text : List ℕ) (start end : ℕ) (begins : begins_word text start ≡ true)
-    (within : start < length text) (order : start ≤ end) (short : end ≤ length text)
-    (solid : (i : ℕ) → start ≤ i → i < end → white_at text i ≡ false)
-    (after : end < length text → white_at text end ≡ true) where
-  pub found_word : IsWord text (record { start = start; end = end })
-  found_word =
+    (place_is_in_text : start < length text) (start_le_end : start ≤ end)
+    (end_le_length : end ≤ length text)
+    (none_is_white : (i : ℕ) → start ≤ i → i < end → white_at text i ≡ false)
+    (white_after : end < length text → white_at text end ≡ true) where
+  pub found_bytes_are_word : IsWord text (record { start = start; end = end })
+  found_bytes_are_word =
       let not_white = begins_word_not_white text start begins in
-      let some : start < end = ⊎_elim {C = start < end} (λ h. h)
-      (λ h. let same : end ≡ start = omega (arith, order) in
-      absurd (true≢false (sym (after (omega arith)) ∙ ap (white_at text) same ∙ not_white)))
+      let start_lt_end : start < end =
+      ⊎_elim {C = start < end} (λ start_lt_end_there. start_lt_end_there)
+      (λ end_le_start. let end_is_start : end ≡ start = omega (arith, start_le_end) in
+      absurd
+      (true≢false (sym (white_after (omega arith)) ∙ ap (white_at text) end_is_start ∙ not_white)))
       (cases_lt start end) in
       record {
-        nonempty = some;
-        within = short;
-        no_white = solid;
-        white_before = λ i e. begins_word_boundary text start begins i e within not_white;
-        white_after = after;
+        nonempty = start_lt_end;
+        within = end_le_length;
+        no_white = none_is_white;
+        white_before =
+            λ i is_place_before. begins_word_boundary text start begins i is_place_before
+            place_is_in_text not_white;
+        white_after = white_after;
       }
 
 -- the words that begin from the place `from` on are this one, and those that begin from `upto` on
-pub found_next : (text : List ℕ) (w : Word) (from upto to : ℕ) → IsWord text w
+pub words_begin_with_found : (text : List ℕ) (w : Word) (from upto to : ℕ) → IsWord text w
     → IsFirst text from to w.start → IsPassed text w.start upto
     → words_between text from to ≡ w ∷ words_between text upto to
-found_next text w from upto to word first passed =
-    between_on text from w.start to first.low (λ i a b _. first.before i a b)
-    ∙ words_between_take text w.start to first.within first.begins
-    ∙ ap₂ (λ (v : Word) (ws : List Word). v ∷ ws) (IsWord_is word)
-    (between_on text (w.start + 1) upto to (omega (arith, passed.later))
-    (λ i a b _. passed.none i (omega arith) b))
+words_begin_with_found text w from upto to is_word is_first is_passed =
+    words_between_skip_to text from w.start to is_first.from_le_start
+    (λ i from_le_i i_lt_start _. is_first.none_before_start i from_le_i i_lt_start)
+    ∙ words_between_take text w.start to is_first.start_lt_to is_first.begins
+    ∙ ap₂ (λ (v : Word) (ws : List Word). v ∷ ws) (word_at_start_is_word is_word)
+    (words_between_skip_to text (w.start + 1) upto to (omega (arith, is_passed.start_lt_from))
+    (λ i from_le_i i_lt_start _. is_passed.none_between i (omega arith) i_lt_start))
 
 -- a word of plain bytes
-no_dollars : (xs : List ℕ) → list_all (λ x. not (x == 36)) xs ≡ true → has_dollar xs ≡ false
-no_dollars [] h = refl
-no_dollars (x ∷ xs) h =
-    let parts = and_parts (not (x == 36)) (list_all (λ y. not (y == 36)) xs) h in
-    rw (not-true (x == 36) parts.0) (no_dollars xs parts.1)
+no_byte_no_dollar : (xs : List ℕ) → list_all (λ x. not (x == 36)) xs ≡ true → has_dollar xs ≡ false
+no_byte_no_dollar [] no_byte_is_dollar = refl
+no_byte_no_dollar (x ∷ xs) no_byte_is_dollar =
+    let first_and_later =
+    and_parts (not (x == 36)) (list_all (λ y. not (y == 36)) xs) no_byte_is_dollar in
+    rw (not-true (x == 36) first_and_later.0) (no_byte_no_dollar xs first_and_later.1)
 
-pub plain_word : (text : List ℕ) (start end : ℕ) → start ≤ end → end ≤ length text
+pub plain_bytes_are_plain_word : (text : List ℕ) (start end : ℕ) → start ≤ end → end ≤ length text
     → ((i : ℕ) → start ≤ i → i < end → plain_at text i ≡ true)
     → IsPlainWord (bytes_of text (record { start = start; end = end }))
 unfolding plain_at is_clean
-plain_word text start end order short each = record {
+plain_bytes_are_plain_word text start end start_le_end end_le_length each_is_plain = record {
   clean =
-      all_from is_printable text start (end - start) (omega arith)
-      (λ i a b. (and_parts _ _ (each i a (omega arith))).0);
+      range_passes_test is_printable text start (end - start) (omega arith)
+      (λ i start_le_i i_lt_end. (and_parts _ _ (each_is_plain i start_le_i (omega arith))).0);
   no_dollar =
-      no_dollars (take (end - start) (drop start text))
-      (all_from (λ x. not (x == 36)) text start (end - start) (omega arith)
-      (λ i a b. (and_parts _ _ (each i a (omega arith))).1));
+      no_byte_no_dollar (take (end - start) (drop start text))
+      (range_passes_test (λ x. not (x == 36)) text start (end - start) (omega arith)
+      (λ i start_le_i i_lt_end. (and_parts _ _ (each_is_plain i start_le_i (omega arith))).1));
 }
 
 -- ---- words that are plain
 
 -- From `from` on up to a white byte at `upto` each byte is white or plain.
-module _ (text : List ℕ) (from upto : ℕ) (within : upto < length text)
-    (white : white_at text upto ≡ true)
-    (each : (i : ℕ) → from ≤ i → i < upto → white_at text i ≡ false → plain_at text i ≡ true) where
-  ends_there : (i : ℕ) → i ≤ upto → (word_at text i).end ≤ upto
-  ends_there i le =
+module _ (text : List ℕ) (from upto : ℕ) (place_is_in_text : upto < length text)
+    (upto_is_white : white_at text upto ≡ true)
+    (each_is_plain : (i : ℕ) → from ≤ i → i < upto → white_at text i ≡ false → plain_at text i
+    ≡ true) where
+  word_ends_before_white : (i : ℕ) → i ≤ upto → (word_at text i).end ≤ upto
+  word_ends_before_white i i_le_upto =
       ⊎_elim {C = (word_at text i).end ≤ upto}
-      (λ over. absurd (true≢false (sym white ∙ word_at_not_white text i upto le over)))
-      (λ h. h)
+      (λ upto_lt_end. absurd
+      (true≢false (sym upto_is_white ∙ word_at_not_white text i upto i_le_upto upto_lt_end)))
+      (λ end_le_upto. end_le_upto)
       (cases_lt upto (word_at text i).end)
 
-  pub plain_words : ArePlain text from upto
+  pub plain_bytes_are_plain_words : ArePlain text from upto
   unfolding word_at
-  plain_words i low high begins =
+  plain_bytes_are_plain_words i from_le_i i_lt_upto begins =
       let not_white = begins_word_not_white text i begins in
-      let end = ends_there i (omega arith) in
-      let some = word_at_nonempty text i (omega arith) not_white in
-      plain_word text i (word_at text i).end (omega (arith, some)) (omega (arith, end))
-      (λ k a b. each k (omega arith) (omega (arith, end)) (word_at_not_white text i k a b))
+      let end_le_upto = word_ends_before_white i (omega arith) in
+      let i_lt_end = word_at_nonempty text i (omega arith) not_white in
+      plain_bytes_are_plain_word text i (word_at text i).end (omega (arith, i_lt_end))
+      (omega (arith, end_le_upto))
+      (λ k i_le_k k_lt_end. each_is_plain k (omega arith) (omega (arith, end_le_upto))
+      (word_at_not_white text i k i_le_k k_lt_end))
 
 -- what a block's masks tell of the bytes between two of its places
-module _ (text : List ℕ) (base white stops place special : ℕ) (fits : white < 2 ^ 64)
-    (is : white ≡ mask is_white (take 64 (drop base text)))
-    (plain : (i : ℕ) → i < 64 → base + i < length text → bit_at stops i ≡ 0
+module _ (text : List ℕ) (base white stops place special : ℕ) (white_lt_2_64 : white < 2 ^ 64)
+    (white_mask_is : white ≡ mask is_white (take 64 (drop base text)))
+    (stops_tell_plain : (i : ℕ) → i < 64 → base + i < length text → bit_at stops i ≡ 0
     → plain_at text (base + i) ≡ true)
-    (zeros : (i : ℕ) → place ≤ i → i < special
+    (no_stop_before_special : (i : ℕ) → place ≤ i → i < special
     → bit_at (bit_and stops (bit_not w64 white)) i ≡ 0) where
-  plain_bit : (i : ℕ) → place ≤ i → i < special → i < 64 → base + i < length text
+  unstopped_byte_is_plain : (i : ℕ) → place ≤ i → i < special → i < 64 → base + i < length text
       → white_at text (base + i) ≡ false → plain_at text (base + i) ≡ true
-  plain_bit i low high lt within not_white =
-      let turned : bit_at (bit_not w64 white) i ≡ 1 - bit_at white i =
-      bit_at_not w64 white i fits lt in
-      let none : min (bit_at stops i) (1 - bit_at white i) ≡ 0 =
-      ap (min (bit_at stops i)) (sym turned)
-      ∙ sym (bit_at_and stops (bit_not w64 white) i) ∙ zeros i low high in
+  unstopped_byte_is_plain i place_le_i i_lt_special i_lt_64 place_in_text not_white =
+      let negated_bit_is : bit_at (bit_not w64 white) i ≡ 1 - bit_at white i =
+      bit_at_not w64 white i white_lt_2_64 i_lt_64 in
+      let no_stop_but_white : min (bit_at stops i) (1 - bit_at white i) ≡ 0 =
+      ap (min (bit_at stops i)) (sym negated_bit_is)
+      ∙ sym (bit_at_and stops (bit_not w64 white) i)
+      ∙ no_stop_before_special i place_le_i i_lt_special in
       ⊎_elim {C = plain_at text (base + i) ≡ true}
-      (λ some. absurd (true≢false
-      (sym (white_one text base white is i lt (omega (arith, bit_at-lt white i))).1 ∙ not_white)))
-      (λ zero. plain i lt within (omega (arith, none)))
+      (λ bit_is_positive. absurd (true≢false
+      (sym (one_bit_is_white text base white white_mask_is i i_lt_64
+      (omega (arith, bit_at-lt white i))).1
+      ∙ not_white)))
+      (λ bit_le_zero. stops_tell_plain i i_lt_64 place_in_text (omega (arith, no_stop_but_white)))
       (cases_lt 0 (bit_at white i))
 
-  pub skipped_plain : (end : ℕ) → end ≤ special → end < 64 → bit_at white end ≡ 1
+  pub skipped_words_are_plain : (end : ℕ) → end ≤ special → end < 64 → bit_at white end ≡ 1
       → ArePlain text (base + place) (base + end)
-  skipped_plain end le lt one =
-      let there = white_one text base white is end lt one in
-      plain_words text (base + place) (base + end) there.0 there.1
-      (λ k low high not_white.
-      let same : base + (k - base) ≡ k = omega arith in
-      subst (λ (i : ℕ). plain_at text i ≡ true) same
-      (plain_bit (k - base) (omega arith) (omega arith) (omega arith) (omega (arith, there.0))
-      (subst (λ (i : ℕ). white_at text i ≡ false) (sym same) not_white)))
+  skipped_words_are_plain end end_le_special end_lt_64 end_is_white =
+      let white_at_end =
+      one_bit_is_white text base white white_mask_is end end_lt_64 end_is_white in
+      plain_bytes_are_plain_words text (base + place) (base + end) white_at_end.0 white_at_end.1
+      (λ k start_le_k k_lt_end not_white.
+      let place_is_k : base + (k - base) ≡ k = omega arith in
+      subst (λ (i : ℕ). plain_at text i ≡ true) place_is_k
+      (unstopped_byte_is_plain (k - base) (omega arith) (omega arith) (omega arith)
+      (omega (arith, white_at_end.0))
+      (subst (λ (i : ℕ). white_at text i ≡ false) (sym place_is_k) not_white)))
 
 -- before them no word begins
-pub plain_after : (text : List ℕ) (from mid upto : ℕ)
+pub plain_with_none_before : (text : List ℕ) (from mid upto : ℕ)
     → ((i : ℕ) → from ≤ i → i < mid → begins_word text i ≡ false) → ArePlain text mid upto
     → ArePlain text from upto
-plain_after text from mid upto none plain i low high begins =
+plain_with_none_before text from mid upto none_begins_before_mid plain_from_mid i from_le_i
+    i_lt_upto begins =
     ⊎_elim {C = IsPlainWord (bytes_of text (word_at text i))}
-    (λ lt. absurd (true≢false (sym begins ∙ none i low lt)))
-    (λ le. plain i le high begins)
+    (λ i_lt_mid. absurd (true≢false (sym begins ∙ none_begins_before_mid i from_le_i i_lt_mid)))
+    (λ mid_le_i. plain_from_mid i mid_le_i i_lt_upto begins)
     (cases_lt i mid)
 
 -- ---- blocks without a white byte
@@ -446,7 +498,10 @@ pub block_not_white : (text : List ℕ) (base m : ℕ)
     → m ≡ mask is_white (take 64 (take (length text - base) (drop base text))) → m ≡ 0
     → base + 64 ≤ length text → (i : ℕ) → base ≤ i → i < base + 64 → white_at text i ≡ false
 unfolding white_at
-block_not_white text base m is empty within i low high =
-    let whole =
-    subst (λ (bytes : List ℕ). m ≡ mask is_white (take 64 bytes)) (dropped_all text base) is in
-    none_in is_white text base (sym whole ∙ empty) i low high (omega arith)
+block_not_white text base m mask_is mask_is_zero block_in_text i base_le_i i_lt_block_end =
+    let block_mask_is =
+    subst (λ (bytes : List ℕ). m ≡ mask is_white (take 64 bytes)) (taken_dropped_is_all text base)
+    mask_is in
+    empty_mask_has_none is_white text base (sym block_mask_is ∙ mask_is_zero) i base_le_i
+    i_lt_block_end
+    (omega arith)

@@ -15,75 +15,82 @@ use Rattle.mm_lex.specs.Cuts.{cut_place, run_start, IsRun}
 use Rattle.mm_lex.specs.Places.{cut_text, IsCutText}
 
 module _ (text places : List ℕ) (cuts : IsCutText (cut_text places (length text))) where
-  pub cut_place_within : (i : ℕ) → cut_place text places i ≤ length text
-  cut_place_within zero = omega arith
-  cut_place_within (suc i) =
+  pub cut_place_le_length : (i : ℕ) → cut_place text places i ≤ length text
+  cut_place_le_length zero = omega arith
+  cut_place_le_length (suc i) =
       ⊎_elim {C = get_or places i (length text) ≤ length text}
-      (λ lt. rw (get_or_default_zero places i (length text) lt) (cuts.within i lt))
-      (λ ge. rw (get_or_past places i (length text) ge) (omega arith))
+      (λ i_lt_count. rw (get_or_default_zero places i (length text) i_lt_count)
+      (cuts.places_le_length i i_lt_count))
+      (λ count_le_i. rw (get_or_past places i (length text) count_le_i) (omega arith))
       (cases_lt i (length places))
 
-  pub cut_place_rises : (i : ℕ) → cut_place text places i ≤ cut_place text places (i + 1)
-  cut_place_rises zero = omega arith
-  cut_place_rises (suc i) =
-      let next : suc i + 1 ≡ suc (suc i) = omega arith in
-      let more : i + 1 ≡ suc i = omega arith in
-      rw next
+  pub cut_places_rise : (i : ℕ) → cut_place text places i ≤ cut_place text places (i + 1)
+  cut_places_rise zero = omega arith
+  cut_places_rise (suc i) =
+      let next_is_suc : suc i + 1 ≡ suc (suc i) = omega arith in
+      let plus_one_is_suc : i + 1 ≡ suc i = omega arith in
+      rw next_is_suc
       (⊎_elim {C = get_or places i (length text) ≤ get_or places (suc i) (length text)}
-      (λ lt. let low : i < length places = omega (arith, lt) in
-      let rises : get_or places i 0 ≤ get_or places (suc i) 0 =
-      subst (λ (n : ℕ). get_or places i 0 ≤ get_or places n 0) more
-      (cuts.rising i (omega (arith, lt))) in
+      (λ next_lt_count. let i_lt_count : i < length places = omega (arith, next_lt_count) in
+      let place_le_next : get_or places i 0 ≤ get_or places (suc i) 0 =
+      subst (λ (n : ℕ). get_or places i 0 ≤ get_or places n 0) plus_one_is_suc
+      (cuts.places_rise i (omega (arith, next_lt_count))) in
       rw (
-        get_or_default_zero places i (length text) low,
+        get_or_default_zero places i (length text) i_lt_count,
         get_or_default_zero places (suc i)
-            (length text) lt,
-      ) rises)
-      (λ ge. rw (get_or_past places (suc i) (length text) ge) (cut_place_within (suc i)))
+            (length text) next_lt_count,
+      ) place_le_next)
+      (λ count_le_next. rw (get_or_past places (suc i) (length text) count_le_next)
+      (cut_place_le_length (suc i)))
       (cases_lt (suc i) (length places)))
 
-pub cut_place_last : (text places : List ℕ)
+pub last_cut_place_is_length : (text places : List ℕ)
     → cut_place text places (length places + 1) ≡ length text
-cut_place_last text places =
-    let next : length places + 1 ≡ suc (length places) = omega arith in
-    ap (cut_place text places) next ∙ get_or_past places (length places) (length text) (omega arith)
+last_cut_place_is_length text places =
+    let next_is_suc : length places + 1 ≡ suc (length places) = omega arith in
+    ap (cut_place text places) next_is_suc
+    ∙ get_or_past places (length places) (length text) (omega arith)
 
 -- ---- runs
 
-module _ (n runs : ℕ) (some : 0 < runs) (few : runs ≤ n) where
-  runs_cover : runs * (n / runs) + n % runs ≡ n
-  runs_cover = div-add-mod n runs
+module _ (n runs : ℕ) (runs_is_positive : 0 < runs) (runs_le_n : runs ≤ n) where
+  runs_cover_pieces : runs * (n / runs) + n % runs ≡ n
+  runs_cover_pieces = div-add-mod n runs
 
-  pub run_start_first : run_start n runs 0 ≡ 0
-  run_start_first = omega (arith, zero-mul (n / runs))
+  pub first_run_starts_at_zero : run_start n runs 0 ≡ 0
+  first_run_starts_at_zero = omega (arith, zero-mul (n / runs))
 
-  pub run_start_last : run_start n runs runs ≡ n
-  run_start_last = let low = mod-lt n some in omega (arith, low, runs_cover)
+  pub last_run_ends_at_n : run_start n runs runs ≡ n
+  last_run_ends_at_n =
+      let remainder_lt_runs = mod-lt n runs_is_positive in
+      omega (arith, remainder_lt_runs, runs_cover_pieces)
 
-  pub run_start_more : (i : ℕ) → run_start n runs i < run_start n runs (i + 1)
-  run_start_more i =
-      let one : 1 ≤ n / runs = (le-div_iff_mul-le some).1 (omega arith) in
-      let more : (i + 1) * (n / runs) ≡ i * (n / runs) + 1 * (n / runs) = add-mul i 1 (n / runs) in
-      omega (arith, one, more)
+  pub run_starts_rise : (i : ℕ) → run_start n runs i < run_start n runs (i + 1)
+  run_starts_rise i =
+      let quotient_is_positive : 1 ≤ n / runs =
+      (le-div_iff_mul-le runs_is_positive).1 (omega arith) in
+      let product_grows : (i + 1) * (n / runs) ≡ i * (n / runs) + 1 * (n / runs) =
+      add-mul i 1 (n / runs) in
+      omega (arith, quotient_is_positive, product_grows)
 
-  pub run_start_within : (i : ℕ) → i ≤ runs → run_start n runs i ≤ n
-  run_start_within i le =
-      let low = mul-le-mul_right {m = i} {n = runs} (n / runs) le in
-      omega (arith, low, runs_cover)
+  pub run_start_le_n : (i : ℕ) → i ≤ runs → run_start n runs i ≤ n
+  run_start_le_n i i_le_runs =
+      let product_le = mul-le-mul_right {m = i} {n = runs} (n / runs) i_le_runs in
+      omega (arith, product_le, runs_cover_pieces)
 
 -- the first runs make up whole, and these are the rest
 pub record IsJoinedSoFar (text places : List ℕ) (n runs : ℕ) (whole : Stretch)
-    (rest : List (Result Stretch AllocError)) : Type 0 where
+    (unjoined : List (Result Stretch AllocError)) : Type 0 where
   pub joined_runs : ℕ
-  pub count : joined_runs + length rest ≡ runs
-  pub run : IsRun text places 0 (run_start n runs joined_runs) whole
-  pub each : (k : ℕ) (x : Result Stretch AllocError) → k < length rest
-      → IfOk (get_or rest k x)
+  pub joined_and_unjoined_are_runs : joined_runs + length unjoined ≡ runs
+  pub whole_is_run : IsRun text places 0 (run_start n runs joined_runs) whole
+  pub unjoined_are_runs : (k : ℕ) (x : Result Stretch AllocError) → k < length unjoined
+      → IfOk (get_or unjoined k x)
       (IsRun text places (run_start n runs (joined_runs + k))
       (run_start n runs (joined_runs + k + 1)))
 
 module _ (text places : List ℕ) (n runs : ℕ) where
-  pub IsJoinedSoFar_first : (ps qs : List (Result Stretch AllocError)) (piece : Stretch) → 0 < runs
+  pub first_run_is_joined : (ps qs : List (Result Stretch AllocError)) (piece : Stretch) → 0 < runs
       → runs ≤ n → length ps ≡ runs →
       ((i : ℕ) (d : Result Stretch AllocError) → i < runs
       → IfOk (get_or ps i d)
@@ -91,94 +98,107 @@ module _ (text places : List ℕ) (n runs : ℕ) where
       →
       Ok piece ≡ get_or ps 0 (Ok piece) → qs ≡ remove ps 0
       → IsJoinedSoFar text places n runs piece qs
-  IsJoinedSoFar_first ps qs piece some few count each first rest =
-      let here : IsRun text places (run_start n runs 0) (run_start n runs 1) piece =
+  first_run_is_joined ps qs piece runs_is_positive runs_le_n count_is_runs each_is_run
+      first_is_piece rest_is =
+      let first_is_run : IsRun text places (run_start n runs 0) (run_start n runs 1) piece =
       subst (λ (r : Result Stretch AllocError). IfOk r
-      (IsRun text places (run_start n runs 0) (run_start n runs 1))) (sym first)
-      (each 0 (Ok piece) some) in
-      let from_start : IsRun text places 0 (run_start n runs 1) piece =
+      (IsRun text places (run_start n runs 0) (run_start n runs 1))) (sym first_is_piece)
+      (each_is_run 0 (Ok piece) runs_is_positive) in
+      let run_from_start : IsRun text places 0 (run_start n runs 1) piece =
       subst (λ (i : ℕ). IsRun text places i (run_start n runs 1) piece)
-      (run_start_first n runs some few) here in
-      let long : length qs + 1 ≡ length ps =
-      ap (λ (xs : List (Result Stretch AllocError)). length xs + 1) rest
-      ∙ length-remove ps 0 (omega (arith, some, count)) in
+      (first_run_starts_at_zero n runs runs_is_positive runs_le_n) first_is_run in
+      let length_is : length qs + 1 ≡ length ps =
+      ap (λ (xs : List (Result Stretch AllocError)). length xs + 1) rest_is
+      ∙ length-remove ps 0 (omega (arith, runs_is_positive, count_is_runs)) in
       record {
         joined_runs = 1;
-        count = omega (arith, long, count);
-        run = from_start;
-        each = λ k x h.
-            let shift : k + 1 ≡ 1 + k = omega arith in
-            let after : get_or qs k x ≡ get_or ps (k + 1) x =
-            ap (λ (xs : List (Result Stretch AllocError)). get_or xs k x) rest
-            ∙ get_or-remove_above ps 0 x k (omega arith) (omega (arith, some, count)) in
-            rw after
+        joined_and_unjoined_are_runs = omega (arith, length_is, count_is_runs);
+        whole_is_run = run_from_start;
+        unjoined_are_runs = λ k x k_is_left.
+            let indices_equal : k + 1 ≡ 1 + k = omega arith in
+            let element_is : get_or qs k x ≡ get_or ps (k + 1) x =
+            ap (λ (xs : List (Result Stretch AllocError)). get_or xs k x) rest_is
+            ∙ get_or-remove_above ps 0 x k (omega arith)
+            (omega (arith, runs_is_positive, count_is_runs)) in
+            rw element_is
             (subst (λ (i : ℕ). IfOk (get_or ps (k + 1) x)
-            (IsRun text places (run_start n runs i) (run_start n runs (i + 1)))) shift
-            (each (k + 1) x (omega (arith, long, count))));
+            (IsRun text places (run_start n runs i) (run_start n runs (i + 1)))) indices_equal
+            (each_is_run (k + 1) x (omega (arith, length_is, count_is_runs))));
       }
 
-  pub IsJoinedSoFar_next : (ps qs : List (Result Stretch AllocError)) (whole piece joined : Stretch)
+  pub next_run_is_joined : (ps qs : List (Result Stretch AllocError)) (whole piece joined : Stretch)
       → IsJoinedSoFar text places n runs whole ps → 0 < length ps
       → Ok piece ≡ get_or ps 0 (Ok piece)
       → qs ≡ remove ps 0 →
       joined.from ≡ whole.from → joined.to ≡ piece.to → IsSummary text joined
       → IsJoinedSoFar text places n runs joined qs
-  IsJoinedSoFar_next ps qs whole piece joined so_far some first rest from to summary =
-      let zero_more : so_far.joined_runs + 0 ≡ so_far.joined_runs = omega arith in
-      let here : IsRun text places (run_start n runs (so_far.joined_runs + 0))
-      (run_start n runs (so_far.joined_runs + 0 + 1)) piece =
+  next_run_is_joined ps qs whole piece joined joined_so_far some_left first_is_piece rest_is
+      from_is_kept to_is_moved is_summary =
+      let plus_zero_is : joined_so_far.joined_runs + 0 ≡ joined_so_far.joined_runs = omega arith in
+      let next_is_run : IsRun text places (run_start n runs (joined_so_far.joined_runs + 0))
+      (run_start n runs (joined_so_far.joined_runs + 0 + 1)) piece =
       subst (λ (r : Result Stretch AllocError). IfOk r
-      (IsRun text places (run_start n runs (so_far.joined_runs + 0))
-      (run_start n runs (so_far.joined_runs + 0 + 1)))) (sym first)
-      (so_far.each 0 (Ok piece) some) in
-      let long : length qs + 1 ≡ length ps =
-      ap (λ (xs : List (Result Stretch AllocError)). length xs + 1) rest
-      ∙ length-remove ps 0 some in
+      (IsRun text places (run_start n runs (joined_so_far.joined_runs + 0))
+      (run_start n runs (joined_so_far.joined_runs + 0 + 1)))) (sym first_is_piece)
+      (joined_so_far.unjoined_are_runs 0 (Ok piece) some_left) in
+      let length_is : length qs + 1 ≡ length ps =
+      ap (λ (xs : List (Result Stretch AllocError)). length xs + 1) rest_is
+      ∙ length-remove ps 0 some_left in
       record {
-        joined_runs = so_far.joined_runs + 1;
-        count = omega (arith, long, so_far.count);
-        run = record {
-          from = from ∙ so_far.run.from;
-          to =
-              to ∙ here.to
-              ∙ ap (λ (i : ℕ). cut_place text places (run_start n runs (i + 1))) zero_more;
-          summary = summary;
+        joined_runs = joined_so_far.joined_runs + 1;
+        joined_and_unjoined_are_runs =
+            omega (arith, length_is, joined_so_far.joined_and_unjoined_are_runs);
+        whole_is_run = record {
+          from_is_place = from_is_kept ∙ joined_so_far.whole_is_run.from_is_place;
+          to_is_place =
+              to_is_moved ∙ next_is_run.to_is_place
+              ∙ ap (λ (i : ℕ). cut_place text places (run_start n runs (i + 1))) plus_zero_is;
+          has_summary = is_summary;
         };
-        each = λ k x h.
-            let shift : so_far.joined_runs + (k + 1) ≡ so_far.joined_runs + 1 + k = omega arith in
-            let after : get_or qs k x ≡ get_or ps (k + 1) x =
-            ap (λ (xs : List (Result Stretch AllocError)). get_or xs k x) rest
-            ∙ get_or-remove_above ps 0 x k (omega arith) some in
-            rw after
+        unjoined_are_runs = λ k x k_is_left.
+            let indices_equal : joined_so_far.joined_runs + (k + 1)
+            ≡ joined_so_far.joined_runs + 1 + k = omega arith in
+            let element_is : get_or qs k x ≡ get_or ps (k + 1) x =
+            ap (λ (xs : List (Result Stretch AllocError)). get_or xs k x) rest_is
+            ∙ get_or-remove_above ps 0 x k (omega arith) some_left in
+            rw element_is
             (subst (λ (i : ℕ). IfOk (get_or ps (k + 1) x)
-            (IsRun text places (run_start n runs i) (run_start n runs (i + 1)))) shift
-            (so_far.each (k + 1) x (omega (arith, long))));
+            (IsRun text places (run_start n runs i) (run_start n runs (i + 1)))) indices_equal
+            (joined_so_far.unjoined_are_runs (k + 1) x (omega (arith, length_is))));
       }
 
   -- the next piece begins where those before it end
-  pub IsJoinedSoFar_neighbour : (ps : List (Result Stretch AllocError)) (whole piece : Stretch)
+  pub next_run_is_neighbour : (ps : List (Result Stretch AllocError)) (whole piece : Stretch)
       → IsJoinedSoFar text places n runs whole ps → 0 < length ps
       → Ok piece ≡ get_or ps 0 (Ok piece) →
       (whole.to ≡ piece.from) × IsSummary text piece
-  IsJoinedSoFar_neighbour ps whole piece so_far some first =
-      let zero_more : so_far.joined_runs + 0 ≡ so_far.joined_runs = omega arith in
-      let here : IsRun text places (run_start n runs (so_far.joined_runs + 0))
-      (run_start n runs (so_far.joined_runs + 0 + 1)) piece =
+  next_run_is_neighbour ps whole piece joined_so_far some_left first_is_piece =
+      let plus_zero_is : joined_so_far.joined_runs + 0 ≡ joined_so_far.joined_runs = omega arith in
+      let next_is_run : IsRun text places (run_start n runs (joined_so_far.joined_runs + 0))
+      (run_start n runs (joined_so_far.joined_runs + 0 + 1)) piece =
       subst (λ (r : Result Stretch AllocError). IfOk r
-      (IsRun text places (run_start n runs (so_far.joined_runs + 0))
-      (run_start n runs (so_far.joined_runs + 0 + 1)))) (sym first)
-      (so_far.each 0 (Ok piece) some) in (
-        so_far.run.to ∙ ap (λ (i : ℕ). cut_place text places (run_start n runs i)) (sym zero_more)
-            ∙ sym here.from,
-        here.summary,
+      (IsRun text places (run_start n runs (joined_so_far.joined_runs + 0))
+      (run_start n runs (joined_so_far.joined_runs + 0 + 1)))) (sym first_is_piece)
+      (joined_so_far.unjoined_are_runs 0 (Ok piece) some_left) in (
+        joined_so_far.whole_is_run.to_is_place
+            ∙ ap (λ (i : ℕ). cut_place text places (run_start n runs i))
+            (sym plus_zero_is)
+            ∙ sym next_is_run.from_is_place,
+        next_is_run.has_summary,
       )
 
-  pub IsJoinedSoFar_end : (ps : List (Result Stretch AllocError)) (whole : Stretch) → 0 < runs
+  pub joined_run_is_whole_text : (ps : List (Result Stretch AllocError)) (whole : Stretch)
+      → 0 < runs
       → runs ≤ n
       → n ≡ length places + 1 → IsJoinedSoFar text places n runs whole ps → length ps ≡ 0
       → whole.to ≡ length text
-  IsJoinedSoFar_end ps whole some few pieces so_far none =
-      let done : so_far.joined_runs ≡ runs = omega (arith, so_far.count, none) in
-      so_far.run.to ∙ ap (λ (i : ℕ). cut_place text places (run_start n runs i)) done
-      ∙ ap (cut_place text places) (run_start_last n runs some few ∙ pieces)
-      ∙ cut_place_last text places
+  joined_run_is_whole_text ps whole runs_is_positive runs_le_n piece_count_is joined_so_far
+      none_left =
+      let all_are_joined : joined_so_far.joined_runs ≡ runs =
+      omega (arith, joined_so_far.joined_and_unjoined_are_runs, none_left) in
+      joined_so_far.whole_is_run.to_is_place
+      ∙ ap (λ (i : ℕ). cut_place text places (run_start n runs i))
+      all_are_joined
+      ∙ ap (cut_place text places)
+      (last_run_ends_at_n n runs runs_is_positive runs_le_n ∙ piece_count_is)
+      ∙ last_cut_place_is_length text places

@@ -18,102 +18,113 @@ use Rattle.mm_bytes.specs.Masks.{mask}
 
 -- ---- the next bit that is 1
 
-at_place : (n k i : ℕ) → k ≤ i → bit_at n i ≡ bit_at (n / 2 ^ k) (i - k)
-at_place n k i le =
-    let same : k + (i - k) ≡ i = omega arith in
-    sym (shifted n k (i - k) ∙ ap (bit_at n) same)
+bit_of_shifted : (n k i : ℕ) → k ≤ i → bit_at n i ≡ bit_at (n / 2 ^ k) (i - k)
+bit_of_shifted n k i k_le_i =
+    let place_is_i : k + (i - k) ≡ i = omega arith in
+    sym (shifted n k (i - k) ∙ ap (bit_at n) place_is_i)
 
-pub none_left : (n k : ℕ) → n / 2 ^ k ≡ 0 → (i : ℕ) → k ≤ i → bit_at n i ≡ 0
-none_left n k empty i le =
-    at_place n k i le ∙ ap (λ (x : ℕ). bit_at x (i - k)) empty ∙ bit_at-zero (i - k)
+pub no_bits_left : (n k : ℕ) → n / 2 ^ k ≡ 0 → (i : ℕ) → k ≤ i → bit_at n i ≡ 0
+no_bits_left n k shifted_is_zero i k_le_i =
+    bit_of_shifted n k i k_le_i ∙ ap (λ (x : ℕ). bit_at x (i - k)) shifted_is_zero
+    ∙ bit_at-zero (i - k)
 
-module _ (n k : ℕ) (fits : n < 2 ^ 64) (rest : n / 2 ^ k < 2 ^ 64) (some : 0 < n / 2 ^ k) where
-  pub next_one : bit_at n (k + trailing_zeros w64 (n / 2 ^ k)) ≡ 1
-  next_one =
+module _ (n k : ℕ) (n_lt_2_64 : n < 2 ^ 64) (shifted_lt_2_64 : n / 2 ^ k < 2 ^ 64)
+    (shifted_is_positive : 0 < n / 2 ^ k) where
+  pub next_bit_is_one : bit_at n (k + trailing_zeros w64 (n / 2 ^ k)) ≡ 1
+  next_bit_is_one =
       sym (shifted n k (trailing_zeros w64 (n / 2 ^ k)))
-      ∙ (bit_at-trailing_zeros w64 (n / 2 ^ k) some rest).1
+      ∙ (bit_at-trailing_zeros w64 (n / 2 ^ k) shifted_is_positive shifted_lt_2_64).1
 
-  pub next_zeros : (i : ℕ) → k ≤ i → i < k + trailing_zeros w64 (n / 2 ^ k) → bit_at n i ≡ 0
-  next_zeros i le lt =
-      at_place n k i le ∙ (bit_at-trailing_zeros w64 (n / 2 ^ k) some rest).2 (i - k) (omega arith)
+  pub zero_bits_before_next : (i : ℕ) → k ≤ i → i < k + trailing_zeros w64 (n / 2 ^ k)
+      → bit_at n i ≡ 0
+  zero_bits_before_next i k_le_i i_lt_next =
+      bit_of_shifted n k i k_le_i
+      ∙ (bit_at-trailing_zeros w64 (n / 2 ^ k) shifted_is_positive shifted_lt_2_64).2 (i - k)
+      (omega arith)
 
-  pub next_within : k + trailing_zeros w64 (n / 2 ^ k) < 64
-  next_within =
-      ⊎_elim {C = k + trailing_zeros w64 (n / 2 ^ k) < 64} (λ h. h)
-      (λ h. absurd
-      (let clash : 0
-      ≡ 1 = sym (bit_at_above n 64 (k + trailing_zeros w64 (n / 2 ^ k)) fits h) ∙ next_one in
-      omega (arith, clash)))
+  pub next_bit_lt_64 : k + trailing_zeros w64 (n / 2 ^ k) < 64
+  next_bit_lt_64 =
+      ⊎_elim {C = k + trailing_zeros w64 (n / 2 ^ k) < 64} (λ next_lt_64. next_lt_64)
+      (λ next_ge_64. absurd
+      (let zero_is_one : 0
+      ≡ 1 =
+      sym (bit_at_above n 64 (k + trailing_zeros w64 (n / 2 ^ k)) n_lt_2_64 next_ge_64)
+      ∙ next_bit_is_one in
+      omega (arith, zero_is_one)))
       (cases_lt (k + trailing_zeros w64 (n / 2 ^ k)) 64)
 
 -- ---- the last bit that is 1
 
-pub low_bits : (n k i : ℕ) → i < k → bit_at (n % 2 ^ k) i ≡ bit_at n i
-low_bits n k i lt =
+pub low_bits_are_kept : (n k i : ℕ) → i < k → bit_at (n % 2 ^ k) i ≡ bit_at n i
+low_bits_are_kept n k i i_lt_k =
     sym (ap (λ (m : ℕ). bit_at m i) (sym (div-add-mod' n (2 ^ k)))
-    ∙ bit_at_cat_low (n / 2 ^ k) k (n % 2 ^ k) i lt)
+    ∙ bit_at_cat_low (n / 2 ^ k) k (n % 2 ^ k) i i_lt_k)
 
-top_bit : (m j : ℕ) → 2 ^ j ≤ m → m < 2 ^ suc j → bit_at m j ≡ 1
-top_bit m j low high =
-    let same : 1 * 2 ^ j + (m - 2 ^ j) ≡ m = omega arith in
-    let none : j - j ≡ 0 = omega arith in
-    ap (λ (n : ℕ). bit_at n j) (sym same)
+top_bit_of_power : (m j : ℕ) → 2 ^ j ≤ m → m < 2 ^ suc j → bit_at m j ≡ 1
+top_bit_of_power m j power_le_m m_lt_next_power =
+    let sum_is_m : 1 * 2 ^ j + (m - 2 ^ j) ≡ m = omega arith in
+    let difference_is_zero : j - j ≡ 0 = omega arith in
+    ap (λ (n : ℕ). bit_at n j) (sym sum_is_m)
     ∙ bit_at_cat_high 1 j (m - 2 ^ j) j (omega (arith, pow-suc 2 j)) (omega arith)
-    ∙ ap (bit_at 1) none
+    ∙ ap (bit_at 1) difference_is_zero
 
 -- the bits up to k, moved to the left end, and what lies left of the first of them that is 1
-module _ (n k : ℕ) (within : k < 64) (some : 0 < n * 2 ^ (63 - k) % 2 ^ 64) where
+module _ (n k : ℕ) (k_lt_64 : k < 64) (shifted_is_positive : 0 < n * 2 ^ (63 - k) % 2 ^ 64) where
   highest_moved : (j : ℕ)
       × (leading_zeros w64 (n * 2 ^ (63 - k) % 2 ^ 64) + suc j ≡ 64)
       × (63 - k ≤ j) × (bit_at n (j - (63 - k)) ≡ 1)
   highest_moved =
       let moved = n * 2 ^ (63 - k) in
-      let t = leading_top 64 (moved % 2 ^ 64) some (omega arith) in
-      let one : bit_at moved t.0 ≡ 1 =
-      sym (low_bits moved 64 t.0 (omega (arith, t.1))) ∙ top_bit (moved % 2 ^ 64) t.0 t.2 t.3 in
-      let same : moved + 0 ≡ moved = omega arith in
-      let whole : bit_at (moved + 0) t.0 ≡ 1 = ap (λ (m : ℕ). bit_at m t.0) same ∙ one in
-      let order : 63 - k ≤ t.0 = ⊎_elim {C = 63 - k ≤ t.0}
-      (λ lt. let clash : 0 ≡ 1 = sym (bit_at_cat_low n (63 - k) 0 t.0 lt ∙ bit_at-zero t.0)
-      ∙ whole in absurd (omega (arith, clash)))
-      (λ le. le)
-      (cases_lt t.0 (63 - k)) in (
-        t.0,
-        t.1,
-        order,
-        sym (bit_at_cat_high n (63 - k) 0 t.0 (pow_pos (63 - k)) order) ∙ whole,
+      let top = leading_top 64 (moved % 2 ^ 64) shifted_is_positive (omega arith) in
+      let top_bit_is_one : bit_at moved top.0 ≡ 1 =
+      sym (low_bits_are_kept moved 64 top.0 (omega (arith, top.1)))
+      ∙ top_bit_of_power (moved % 2 ^ 64) top.0 top.2 top.3 in
+      let plus_zero_is : moved + 0 ≡ moved = omega arith in
+      let top_bit_of_sum : bit_at (moved + 0) top.0 ≡ 1 =
+      ap (λ (m : ℕ). bit_at m top.0) plus_zero_is ∙ top_bit_is_one in
+      let shift_le_top : 63 - k ≤ top.0 = ⊎_elim {C = 63 - k ≤ top.0}
+      (λ top_lt_shift. let zero_is_one : 0
+      ≡ 1 = sym (bit_at_cat_low n (63 - k) 0 top.0 top_lt_shift ∙ bit_at-zero top.0)
+      ∙ top_bit_of_sum in absurd (omega (arith, zero_is_one)))
+      (λ shift_le_top_holds. shift_le_top_holds)
+      (cases_lt top.0 (63 - k)) in (
+        top.0,
+        top.1,
+        shift_le_top,
+        sym (bit_at_cat_high n (63 - k) 0 top.0 (pow_pos (63 - k)) shift_le_top) ∙ top_bit_of_sum,
       )
 
-  pub last_within : leading_zeros w64 (n * 2 ^ (63 - k) % 2 ^ 64) ≤ k
-  last_within = omega (arith, highest_moved.1, highest_moved.2)
+  pub last_place_le_k : leading_zeros w64 (n * 2 ^ (63 - k) % 2 ^ 64) ≤ k
+  last_place_le_k = omega (arith, highest_moved.1, highest_moved.2)
 
-  pub last_bit : bit_at n (k - leading_zeros w64 (n * 2 ^ (63 - k) % 2 ^ 64)) ≡ 1
-  last_bit =
-      let same : highest_moved.0 - (63 - k) ≡ k - leading_zeros w64 (n * 2 ^ (63 - k) % 2 ^ 64) =
+  pub last_bit_is_one : bit_at n (k - leading_zeros w64 (n * 2 ^ (63 - k) % 2 ^ 64)) ≡ 1
+  last_bit_is_one =
+      let place_is : highest_moved.0 - (63 - k) ≡ k - leading_zeros w64
+      (n * 2 ^ (63 - k) % 2 ^ 64) =
       omega (arith, highest_moved.1, highest_moved.2) in
-      ap (bit_at n) (sym same) ∙ highest_moved.3
+      ap (bit_at n) (sym place_is) ∙ highest_moved.3
 
 -- ---- bits of a block
 
-pub one_of : (b : Bool) → ◌≡◌ {A = ℕ} (cond b 1 0) 1 → b ≡ true
-one_of true h = refl
-one_of false h = absurd (omega (arith, h))
+pub value_one_is_true : (b : Bool) → ◌≡◌ {A = ℕ} (cond b 1 0) 1 → b ≡ true
+value_one_is_true true value_is_one = refl
+value_one_is_true false value_is_one = absurd (omega (arith, value_is_one))
 
-pub zero_of : (b : Bool) → ◌≡◌ {A = ℕ} (cond b 1 0) 0 → b ≡ false
-zero_of true h = absurd (omega (arith, h))
-zero_of false h = refl
+pub value_zero_is_false : (b : Bool) → ◌≡◌ {A = ℕ} (cond b 1 0) 0 → b ≡ false
+value_zero_is_false true value_is_zero = absurd (omega (arith, value_is_zero))
+value_zero_is_false false value_is_zero = refl
 
 module _ (p : ℕ → Bool) (text : List ℕ) (base : ℕ) where
-  pub inside : (i : ℕ) → i < 64 → base + i < length text
+  pub block_test_in_text : (i : ℕ) → i < 64 → base + i < length text
       → get_or (map p (take 64 (drop base text))) i false ≡ p (get_or text (base + i) 0)
-  inside i lt within =
+  block_test_in_text i i_lt_64 place_in_text =
       get_or-map p (take 64 (drop base text)) i 0 false
       (omega (arith, length-take {A = ℕ}, length-drop {A = ℕ}))
-      ∙ ap p (get_or-take 64 (drop base text) i 0 lt ∙ get_or-drop base text i 0)
+      ∙ ap p (get_or-take 64 (drop base text) i 0 i_lt_64 ∙ get_or-drop base text i 0)
 
-  outside : (i : ℕ) → length text ≤ base + i
+  block_test_past_text : (i : ℕ) → length text ≤ base + i
       → get_or (map p (take 64 (drop base text))) i false ≡ false
-  outside i past =
+  block_test_past_text i place_past_end =
       get_or_past (map p (take 64 (drop base text))) i false
       (omega (
         arith,
@@ -123,43 +134,47 @@ module _ (p : ℕ → Bool) (text : List ℕ) (base : ℕ) where
         length-drop {A = ℕ},
       ))
 
-  pub bit_one : (i : ℕ) → i < 64 → bit_at (mask p (take 64 (drop base text))) i ≡ 1
+  pub one_bit_passes_test : (i : ℕ) → i < 64 → bit_at (mask p (take 64 (drop base text))) i ≡ 1
       → (base + i < length text) × (p (get_or text (base + i) 0) ≡ true)
-  bit_one i lt one =
-      let set : get_or (map p (take 64 (drop base text))) i false ≡ true =
-      one_of _ (sym (bit_mask_l (map p (take 64 (drop base text))) i) ∙ one) in
+  one_bit_passes_test i i_lt_64 bit_is_one =
+      let test_is_true : get_or (map p (take 64 (drop base text))) i false ≡ true =
+      value_one_is_true _ (sym (bit_mask_l (map p (take 64 (drop base text))) i) ∙ bit_is_one) in
       ⊎_elim {C = (base + i < length text) × (p (get_or text (base + i) 0) ≡ true)}
-      (λ h. (h, sym (inside i lt h) ∙ set))
-      (λ h. absurd (true≢false (sym set ∙ outside i h)))
+      (λ place_in_text.
+      (place_in_text, sym (block_test_in_text i i_lt_64 place_in_text) ∙ test_is_true))
+      (λ place_past_end. absurd
+      (true≢false (sym test_is_true ∙ block_test_past_text i place_past_end)))
       (cases_lt (base + i) (length text))
 
-  pub bit_zero : (i : ℕ) → i < 64 → base + i < length text
+  pub zero_bit_fails_block_test : (i : ℕ) → i < 64 → base + i < length text
       → bit_at (mask p (take 64 (drop base text))) i ≡ 0 → p (get_or text (base + i) 0) ≡ false
-  bit_zero i lt within none =
-      sym (inside i lt within)
-      ∙ zero_of _ (sym (bit_mask_l (map p (take 64 (drop base text))) i) ∙ none)
+  zero_bit_fails_block_test i i_lt_64 place_in_text bit_is_zero =
+      sym (block_test_in_text i i_lt_64 place_in_text)
+      ∙ value_zero_is_false _ (sym (bit_mask_l (map p (take 64 (drop base text))) i) ∙ bit_is_zero)
 
   -- no byte of a block whose mask is 0
-  pub none_in : mask p (take 64 (drop base text)) ≡ 0 → (i : ℕ) → base ≤ i → i < base + 64
+  pub empty_mask_has_none : mask p (take 64 (drop base text)) ≡ 0 → (i : ℕ) → base ≤ i
+      → i < base + 64
       → i < length text → p (get_or text i 0) ≡ false
-  none_in empty i low high within =
-      let same : base + (i - base) ≡ i = omega arith in
-      let here =
-      bit_zero (i - base) (omega arith) (omega arith)
-      (ap (λ (n : ℕ). bit_at n (i - base)) empty ∙ bit_at-zero (i - base)) in
-      subst (λ (k : ℕ). p (get_or text k 0) ≡ false) same here
+  empty_mask_has_none mask_is_zero i base_le_i i_lt_block_end i_in_text =
+      let place_is_i : base + (i - base) ≡ i = omega arith in
+      let test_fails =
+      zero_bit_fails_block_test (i - base) (omega arith) (omega arith)
+      (ap (λ (n : ℕ). bit_at n (i - base)) mask_is_zero ∙ bit_at-zero (i - base)) in
+      subst (λ (k : ℕ). p (get_or text k 0) ≡ false) place_is_i test_fails
 
 -- every byte from a place on
-pub all_from : (p : ℕ → Bool) (text : List ℕ) (a n : ℕ) → a + n ≤ length text
+pub range_passes_test : (p : ℕ → Bool) (text : List ℕ) (a n : ℕ) → a + n ≤ length text
     → ((i : ℕ) → a ≤ i → i < a + n → p (get_or text i 0) ≡ true)
     → list_all p (take n (drop a text)) ≡ true
-all_from p text a zero within each = refl
-all_from p text a (suc n) within each =
-    let more : suc n ≡ n + 1 = omega arith in
-    let here : p (get_or (drop a text) n 0) ≡ true =
-    ap p (get_or-drop a text n 0) ∙ each (a + n) (omega arith) (omega arith) in
-    let rest : list_all p (take n (drop a text)) ≡ true =
-    all_from p text a n (omega arith) (λ i low high. each i low (omega arith)) in
-    ap (λ (k : ℕ). list_all p (take k (drop a text))) more
+range_passes_test p text a zero range_in_text each_passes = refl
+range_passes_test p text a (suc n) range_in_text each_passes =
+    let suc_is_plus_one : suc n ≡ n + 1 = omega arith in
+    let last_passes : p (get_or (drop a text) n 0) ≡ true =
+    ap p (get_or-drop a text n 0) ∙ each_passes (a + n) (omega arith) (omega arith) in
+    let earlier_pass : list_all p (take n (drop a text)) ≡ true =
+    range_passes_test p text a n (omega arith)
+    (λ i a_le_i i_lt_end. each_passes i a_le_i (omega arith)) in
+    ap (λ (k : ℕ). list_all p (take k (drop a text))) suc_is_plus_one
     ∙ list_all_more p (drop a text) n 0 (omega (arith, length-drop {A = ℕ}))
-    ∙ rw (rest, here) refl
+    ∙ rw (earlier_pass, last_passes) refl

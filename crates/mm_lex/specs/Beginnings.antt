@@ -9,23 +9,23 @@ use Rattle.mm_lex.specs.Plain.{IsPlainWord}
 module _ (text : List ℕ) where
   -- the first place from `from` on, and before `to`, at which a word begins
   pub record IsFirst (from to start : ℕ) : Type 0 where
-    pub low : from ≤ start
-    pub within : start < to
+    pub from_le_start : from ≤ start
+    pub start_lt_to : start < to
     pub begins : begins_word text start ≡ true
-    pub before : (i : ℕ) → from ≤ i → i < start → begins_word text i ≡ false
+    pub none_before_start : (i : ℕ) → from ≤ i → i < start → begins_word text i ≡ false
 
   -- A word begins at `start`, which isn't before the block at `base`, and of the words those that
   -- begin before `from`, the place after `start`, have been taken or left out.
   pub record IsTaken (base from start : ℕ) : Type 0 where
-    pub next : from ≡ start + 1
-    pub in_block : base ≤ start
-    pub within : start < length text
+    pub from_is_next : from ≡ start + 1
+    pub base_le_start : base ≤ start
+    pub start_lt_length : start < length text
     pub begins : begins_word text start ≡ true
 
   -- no word begins after `start` and before `from`, which is a later place
   pub record IsPassed (start from : ℕ) : Type 0 where
-    pub later : start < from
-    pub none : (i : ℕ) → start < i → i < from → begins_word text i ≡ false
+    pub start_lt_from : start < from
+    pub none_between : (i : ℕ) → start < i → i < from → begins_word text i ≡ false
 
   -- the word that begins at `start`; if `known_plain` is true, it is plain
   pub record IsWordFrom (start : ℕ) (word : Word) (known_plain : Bool) : Type 0 where

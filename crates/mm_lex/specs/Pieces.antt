@@ -50,8 +50,8 @@ side_reading p s =
 -- The two sides are the readings of the words, outside a comment, and inside one that began
 -- anywhere before.
 pub record AreReadings (text : List ℕ) (ws : List Word) (outside inside : Side) : Type 0 where
-  pub out : (p : ℕ) → reading text None ws ≡ side_reading p outside
-  pub within : (p : ℕ) → reading text (Some p) ws ≡ side_reading p inside
+  pub read_outside : (p : ℕ) → reading text None ws ≡ side_reading p outside
+  pub read_inside : (p : ℕ) → reading text (Some p) ws ≡ side_reading p inside
 
 -- head and tail of a stretch are known by its white space, and the words between them are read
 pub record IsReadBetween (text : List ℕ) (from to : ℕ) (b : Between) : Type 0 where
@@ -65,10 +65,10 @@ IsSummary text s =
 
 -- the stretch is a whole text that isn't too long, and this is its summary
 pub record IsWholeText (text : List ℕ) (s : Stretch) : Type 0 where
-  pub short : length text ≤ text_limit
+  pub length_le_limit : length text ≤ text_limit
   pub summary : IsSummary text s
-  pub begins : s.from ≡ 0
-  pub ends : s.to ≡ length text
+  pub from_is_zero : s.from ≡ 0
+  pub to_is_length : s.to ≡ length text
 
 -- ---- what its calls return
 

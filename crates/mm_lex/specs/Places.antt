@@ -19,8 +19,8 @@ abbrev pub IsWithin : CutText → Type 0
 IsWithin c = (i : ℕ) → i < length c.places → slice_index c.places i ≤ c.len
 
 pub record IsCutText (c : CutText) : Type 0 where
-  pub rising : Rises c.places
-  pub within : IsWithin c
+  pub places_rise : Rises c.places
+  pub places_le_length : IsWithin c
 
 -- why places are refused
 abbrev pub IsRefused : CutsFault → CutText → Type 0

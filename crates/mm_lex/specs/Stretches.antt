@@ -10,19 +10,19 @@ NoWhite text from to = (i : ℕ) → from ≤ i → i < to → white_at text i �
 
 -- A stretch without white space that touches neither end of the text: a part of a word, or empty.
 pub record IsUnbroken (text : List ℕ) (from to : ℕ) : Type 0 where
-  pub first : 0 < from
-  pub order : from ≤ to
-  pub last : to < length text
+  pub from_is_positive : 0 < from
+  pub from_le_to : from ≤ to
+  pub to_lt_length : to < length text
   pub no_white : NoWhite text from to
 
 -- Any other stretch. Its head goes from its beginning up to `head`, the first white-space byte; it
 -- is empty if the stretch begins the text. Its tail goes from `tail`, after the last white-space
 -- byte, to its end; it is empty if the stretch ends the text.
 pub record IsBroken (text : List ℕ) (from to head tail : ℕ) : Type 0 where
-  pub from_head : from ≤ head
-  pub order : head ≤ tail
-  pub tail_to : tail ≤ to
-  pub within : to ≤ length text
+  pub from_le_head : from ≤ head
+  pub head_le_tail : head ≤ tail
+  pub tail_le_to : tail ≤ to
+  pub to_le_length : to ≤ length text
   pub head_not_white : NoWhite text from head
   pub tail_not_white : NoWhite text tail to
   pub no_head : from ≡ 0 → head ≡ 0

@@ -41,7 +41,7 @@ impl<A: Allocator + Copy> Cuts<A> {
     /// lengths differ by at most one byte. Fails only if out of memory.
     pub fn equal(alloc: A, len: usize, count: u32) -> Result<Cuts<A>, AllocError>
         requires len { len ≤ 2 ^ 31 }
-        requires some { 0 < count }
+        requires some_pieces { 0 < count }
         requires count { count ≤ 65536 }
         ensures { IfOk result
             (λ c. c ≡ cut_text

@@ -11,10 +11,10 @@ use mm_bytes::is_white;
 /// The place of the first white-space byte from `from` on, or `to` if there is none before it.
 #[tactic(auto, unfolding(mm_spec::specs::Words::white_at))]
 fn first_white(text: &[u8], from: usize, to: usize) -> usize
-    requires order { from ≤ to }
-    requires within { to ≤ length text.now }
-    ensures from_here { from ≤ result }
-    ensures up_to { result ≤ to }
+    requires from_le_to { from ≤ to }
+    requires to_le_length { to ≤ length text.now }
+    ensures from_le_place { from ≤ result }
+    ensures place_le_to { result ≤ to }
     ensures no_white { NoWhite text.now from result }
     ensures white { result < to → white_at text.now result ≡ true }
 {
@@ -31,10 +31,10 @@ fn first_white(text: &[u8], from: usize, to: usize) -> usize
 /// The place after the last white-space byte before `to`, or `from` if there is none after it.
 #[tactic(auto, unfolding(mm_spec::specs::Words::white_at))]
 fn after_white(text: &[u8], from: usize, to: usize) -> usize
-    requires order { from ≤ to }
-    requires within { to ≤ length text.now }
-    ensures from_here { from ≤ result }
-    ensures up_to { result ≤ to }
+    requires from_le_to { from ≤ to }
+    requires to_le_length { to ≤ length text.now }
+    ensures from_le_place { from ≤ result }
+    ensures place_le_to { result ≤ to }
     ensures no_white { NoWhite text.now result to }
     ensures white { (i : ℕ) → i + 1 ≡ result → from ≤ i → white_at text.now i ≡ true }
 {
@@ -51,8 +51,8 @@ fn after_white(text: &[u8], from: usize, to: usize) -> usize
 /// The places between which the words of a stretch are known: the end of its head and the beginning
 /// of its tail. `None` if the stretch is unbroken.
 pub fn bounds(text: &[u8], from: usize, to: usize) -> Option<(usize, usize)>
-    requires order { from ≤ to }
-    requires within { to ≤ length text.now }
+    requires from_le_to { from ≤ to }
+    requires to_le_length { to ≤ length text.now }
     ensures { MatchOption result (IsUnbroken text.now from to)
         (λ b. IsBroken text.now from to b.0 b.1) }
 {

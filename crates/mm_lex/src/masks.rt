@@ -7,8 +7,8 @@ ghost use Rattle.std.specs.Int.{bit_at};
 #[inline(always)]
 pub fn first_one(mask: u64, from: usize) -> usize
     requires { from < 64 }
-    ensures from_here { from ≤ result }
-    ensures up_to { result ≤ 64 }
+    ensures from_le_place { from ≤ result }
+    ensures place_le_64 { result ≤ 64 }
     ensures zeros { (i : ℕ) → from ≤ i → i < result → bit_at mask i ≡ 0 }
     ensures one { result < 64 → bit_at mask result ≡ 1 }
 {
@@ -24,7 +24,7 @@ pub fn first_one(mask: u64, from: usize) -> usize
 #[inline(always)]
 pub fn last_one(mask: u64, upto: usize) -> usize
     requires { upto < 64 }
-    ensures up_to { result ≤ upto }
+    ensures place_le_upto { result ≤ upto }
     ensures one { 0 < result → bit_at mask result ≡ 1 }
 {
     let rest = mask << (63 - upto);

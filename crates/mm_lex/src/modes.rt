@@ -15,6 +15,9 @@ use crate::{Fault, TEXT_LIMIT, Word};
 use mm_spec::Role;
 use std::alloc::{AllocError, Allocator};
 
+/// For [`ModeReading::read_word`]: the word isn't known to be plain, so its bytes are tested.
+pub const NOT_KNOWN_PLAIN: bool = false;
+
 /// The comment that is open after a list of words: none, or one that began before them or in them.
 #[derive(Clone, Copy)]
 pub enum CommentState {
@@ -85,10 +88,10 @@ impl<A: Allocator + Copy> ModeReading<A> {
     /// Reads one further word. If `is_plain` is true, the word is known to be plain.
     #[inline(always)]
     pub fn read_word(&mut self, text: &[u8], word: Word, is_plain: bool) -> Result<(), AllocError>
-        requires order { word.start ≤ word.end }
-        requires within { word.end ≤ length text.now }
-        requires short { length text.now ≤ TEXT_LIMIT }
-        requires plain { is_plain ≡ true → IsPlainWord (bytes_of text.now word) }
+        requires start_le_end { word.start ≤ word.end }
+        requires end_le_length { word.end ≤ length text.now }
+        requires text_fits_limit { length text.now ≤ TEXT_LIMIT }
+        requires plain_if_known { is_plain ≡ true → IsPlainWord (bytes_of text.now word) }
         ensures { OnOk result
             ((p : ℕ)
             → side_reading p (side self.new)
@@ -117,9 +120,9 @@ impl<A: Allocator + Copy> ModeReading<A> {
         mut scanner: WordScanner<'_>,
         to: usize,
     ) -> Result<(), AllocError>
-        requires same { scanner.text.now ≡ text.now }
-        requires within { to ≤ length text.now }
-        requires short { length text.now ≤ TEXT_LIMIT }
+        requires texts_equal { scanner.text.now ≡ text.now }
+        requires to_le_length { to ≤ length text.now }
+        requires text_fits_limit { length text.now ≤ TEXT_LIMIT }
         ensures { OnOk result
             ((p : ℕ)
             → side_reading p (side self.new)
@@ -131,7 +134,7 @@ impl<A: Allocator + Copy> ModeReading<A> {
         }
         while let Some(found) = scanner.next_word(to) {
             if !found.is_plain {
-                self.read_word(text, found.word, false)?;
+                self.read_word(text, found.word, NOT_KNOWN_PLAIN)?;
                 if self.fault.is_some() {
                     return Ok(());
                 }

@@ -11,7 +11,7 @@ ghost use Rattle.mm_spec.specs.Lexed.{fault_in, lexical_fault, tokens_of};
 ghost use Rattle.mm_spec.specs.Words.{words_between};
 
 use crate::ends::bounds;
-use crate::modes::{CommentState, ModeReading};
+use crate::modes::{CommentState, ModeReading, NOT_KNOWN_PLAIN};
 use crate::scanner::WordScanner;
 use crate::{Code, Fault, Lexed, TEXT_LIMIT, Word};
 use std::alloc::{AllocError, Allocator};
@@ -154,9 +154,9 @@ fn lex_between<A: Allocator + Copy>(
     tail_start: usize,
     room: usize,
 ) -> Result<Between<A>, AllocError>
-    requires order { head_end ≤ tail_start }
-    requires within { tail_start ≤ length text.now }
-    requires short { length text.now ≤ TEXT_LIMIT }
+    requires head_le_tail { head_end ≤ tail_start }
+    requires tail_le_length { tail_start ≤ length text.now }
+    requires text_fits_limit { length text.now ≤ TEXT_LIMIT }
     ensures head_end { IfOk result (λ between. between.head_end ≡ head_end) }
     ensures tail_start { IfOk result (λ between. between.tail_start ≡ tail_start) }
     ensures readings { IfOk result
@@ -196,9 +196,9 @@ pub(crate) fn lex_piece_with_room<A: Allocator + Copy>(
     to: usize,
     room: usize,
 ) -> Result<Piece<A>, AllocError>
-    requires order { from ≤ to }
-    requires within { to ≤ length text.now }
-    requires short { length text.now ≤ TEXT_LIMIT }
+    requires from_le_to { from ≤ to }
+    requires to_le_length { to ≤ length text.now }
+    requires text_fits_limit { length text.now ≤ TEXT_LIMIT }
     ensures from { IfOk result (λ piece. piece.from ≡ from) }
     ensures to { IfOk result (λ piece. piece.to ≡ to) }
     ensures summary { IfOk result (IsSummary text.now) }
@@ -224,9 +224,9 @@ pub fn lex_piece<A: Allocator + Copy>(
     from: usize,
     to: usize,
 ) -> Result<Piece<A>, AllocError>
-    requires order { from ≤ to }
-    requires within { to ≤ length text.now }
-    requires short { length text.now ≤ TEXT_LIMIT }
+    requires from_le_to { from ≤ to }
+    requires to_le_length { to ≤ length text.now }
+    requires text_fits_limit { length text.now ≤ TEXT_LIMIT }
     ensures from { IfOk result (λ piece. piece.from ≡ from) }
     ensures to { IfOk result (λ piece. piece.to ≡ to) }
     ensures summary { IfOk result (IsSummary text.now) }
@@ -241,8 +241,8 @@ fn join_between<A: Allocator + Copy>(
     before: Between<A>,
     after: Between<A>,
 ) -> Result<Between<A>, AllocError>
-    requires within { after.head_end ≤ length text.now }
-    requires short { length text.now ≤ TEXT_LIMIT }
+    requires head_end_le_length { after.head_end ≤ length text.now }
+    requires text_fits_limit { length text.now ≤ TEXT_LIMIT }
     ensures head_end { IfOk result (λ between. between.head_end ≡ before.head_end) }
     ensures tail_start { IfOk result (λ between. between.tail_start ≡ after.tail_start) }
     ensures readings { IfOk result
@@ -255,8 +255,8 @@ fn join_between<A: Allocator + Copy>(
             start: before.tail_start,
             end: after.head_end,
         };
-        outside.read_word(text, word, false)?;
-        inside.read_word(text, word, false)?;
+        outside.read_word(text, word, NOT_KNOWN_PLAIN)?;
+        inside.read_word(text, word, NOT_KNOWN_PLAIN)?;
     }
     outside.append_reading(&after.outside, &after.inside)?;
     inside.append_reading(&after.outside, &after.inside)?;
@@ -276,9 +276,9 @@ pub fn join<A: Allocator + Copy>(
     first: Piece<A>,
     second: Piece<A>,
 ) -> Result<Piece<A>, AllocError>
-    requires short { length text.now ≤ TEXT_LIMIT }
-    requires first { IsSummary text.now first }
-    requires second { IsSummary text.now second }
+    requires text_fits_limit { length text.now ≤ TEXT_LIMIT }
+    requires first_has_summary { IsSummary text.now first }
+    requires second_has_summary { IsSummary text.now second }
     requires neighbours { first.to ≡ second.from }
     ensures from { IfOk result (λ piece. piece.from ≡ first.from) }
     ensures to { IfOk result (λ piece. piece.to ≡ second.to) }

@@ -29,8 +29,8 @@ fn cut_place(text: &[u8], places: &[u32], index: usize) -> usize
 /// The first piece of run `index`, if `count` pieces are grouped into `runs` runs, the longer ones
 /// first.
 fn run_start(count: usize, runs: usize, index: usize) -> usize
-    requires some { 0 < runs }
-    requires index { index ≤ runs }
+    requires some_runs { 0 < runs }
+    requires index_le_runs { index ≤ runs }
     ensures { result ≡ run_start count runs index }
 {
     index * (count / runs) + index.min(count % runs)
@@ -44,10 +44,10 @@ fn read_run<A: Allocator + Copy>(
     first: usize,
     after: usize,
 ) -> Result<Piece<A>, AllocError>
-    requires short { length text.now ≤ TEXT_LIMIT }
+    requires text_fits_limit { length text.now ≤ TEXT_LIMIT }
     requires cuts { IsCutText (cut_text places.now (length text.now)) }
-    requires some { first < after }
-    requires after { after ≤ length places.now + 1 }
+    requires first_lt_after { first < after }
+    requires after_le_count { after ≤ length places.now + 1 }
     ensures { IfOk result (IsRun text.now places.now first after) }
 {
     let mut run = lex_piece(
@@ -72,10 +72,10 @@ fn run_at<A: Allocator + Copy>(
     runs: usize,
     index: usize,
 ) -> Result<Piece<A>, AllocError>
-    requires short { length text.now ≤ TEXT_LIMIT }
+    requires text_fits_limit { length text.now ≤ TEXT_LIMIT }
     requires cuts { IsCutText (cut_text places.now (length text.now)) }
-    requires few { runs ≤ length places.now + 1 }
-    requires index { index < runs }
+    requires runs_le_pieces { runs ≤ length places.now + 1 }
+    requires index_lt_runs { index < runs }
     ensures { IfOk result (IsRunOf text.now places.now runs index) }
 {
     let count = places.len() + 1;
@@ -92,10 +92,10 @@ fn read_runs<R: Threads + Sync, A: Allocator + Copy + Send + Sync>(
     places: &[u32],
     runs: usize,
 ) -> Result<Vec<Result<Piece<A>, AllocError>, A>, AllocError>
-    requires short { length text.now ≤ TEXT_LIMIT }
+    requires text_fits_limit { length text.now ≤ TEXT_LIMIT }
     requires cuts { IsCutText (cut_text places.now (length text.now)) }
-    requires some { 0 < runs }
-    requires few { runs ≤ length places.now + 1 }
+    requires some_runs { 0 < runs }
+    requires runs_le_pieces { runs ≤ length places.now + 1 }
     ensures len { IfOk result (λ pieces. vec_len pieces ≡ runs) }
     ensures each { IfOk result
         (λ pieces. (i : ℕ) (d : Result Stretch AllocError)
@@ -117,7 +117,7 @@ pub fn read_text<R: Threads + Sync, A: Allocator + Copy + Send + Sync>(
     text: &[u8],
     places: &[u32],
 ) -> Result<Piece<A>, AllocError>
-    requires short { length text.now ≤ TEXT_LIMIT }
+    requires text_fits_limit { length text.now ≤ TEXT_LIMIT }
     requires cuts { IsCutText (cut_text places.now (length text.now)) }
     ensures from { IfOk result (λ piece. piece.from ≡ 0) }
     ensures to { IfOk result (λ piece. piece.to ≡ length text.now) }

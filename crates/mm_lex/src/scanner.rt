@@ -68,8 +68,8 @@ fn marks_of(bytes: &[u8]) -> Marks
 /// bit, and bit 0, if it is zero and a word may begin there.
 #[inline(always)]
 fn starts_of(white: u64, may_begin_at_0: bool) -> u64
-    ensures first { bit_at result 0 ≡ (if may_begin_at_0 then 1 - bit_at white 0 else 0) }
-    ensures next { (i : ℕ) → i + 1 < 64
+    ensures first_bit { bit_at result 0 ≡ (if may_begin_at_0 then 1 - bit_at white 0 else 0) }
+    ensures next_bits { (i : ℕ) → i + 1 < 64
         → bit_at result (i + 1) ≡ min (1 - bit_at white (i + 1)) (bit_at white i) }
 {
     !white & (white << 1 | u64::from(may_begin_at_0))
@@ -99,9 +99,9 @@ pub struct WordScanner<'a> {
     stops: u64,
     /// Where words begin, from `from` on. Bits after the text's end mean nothing.
     starts: u64,
-    ghost within: { base ≤ length text.now },
-    ghost low: { base ≤ from },
-    ghost high: { from ≤ base + 64 },
+    ghost base_le_length: { base ≤ length text.now },
+    ghost base_le_from: { base ≤ from },
+    ghost from_le_block_end: { from ≤ base + 64 },
     ghost white_is: { white ≡ mask is_white (take 64 (drop base text.now)) },
     ghost plain: { (i : ℕ) → i < 64 → base + i < length text.now → bit_at stops i ≡ 0
         → plain_at text.now (base + i) ≡ true },
@@ -109,7 +109,7 @@ pub struct WordScanner<'a> {
         → white_at text.now (base + i) ≡ false },
     ghost begins: { (i : ℕ) → i < 64 → base + i < length text.now → bit_at starts i ≡ 1
         → begins_word text.now (base + i) ≡ true },
-    ghost further: { (i : ℕ) → i < 64 → bit_at starts i ≡ 1 → from ≤ base + i },
+    ghost starts_ge_from: { (i : ℕ) → i < 64 → bit_at starts i ≡ 1 → from ≤ base + i },
     ghost begins_none: { (i : ℕ) → i < 64 → base + i < length text.now → from ≤ base + i
         → bit_at starts i ≡ 0 → begins_word text.now (base + i) ≡ false },
 }
@@ -173,7 +173,7 @@ impl<'a> WordScanner<'a> {
     /// block, and is the beginning that was taken last.
     fn word_from(self, start: usize) -> (WordScanner<'a>, FoundWord)
         requires taken { IsTaken self.text.now self.base self.from start }
-        requires short { length self.text.now ≤ TEXT_LIMIT }
+        requires text_fits_limit { length self.text.now ≤ TEXT_LIMIT }
         ensures text { result.0.text.now ≡ self.entry.text.now }
         ensures onward { IsPassed self.entry.text.now start result.0.from }
         ensures word { IsWordFrom self.entry.text.now start result.1.word result.1.is_plain }
@@ -198,10 +198,10 @@ impl<'a> WordScanner<'a> {
     /// Takes the first further place before `to` at which a word begins.
     #[inline(always)]
     fn next_start(&mut self, to: usize) -> Option<usize>
-        requires within { to ≤ length self.old.text.now }
-        requires short { length self.old.text.now ≤ TEXT_LIMIT }
+        requires to_le_length { to ≤ length self.old.text.now }
+        requires text_fits_limit { length self.old.text.now ≤ TEXT_LIMIT }
         ensures text { self.new.text.now ≡ self.old.text.now }
-        ensures first { MatchOption result
+        ensures first_beginning { MatchOption result
             (words_between self.old.text.now self.old.from to ≡ [])
             (IsFirst self.old.text.now self.old.from to) }
         ensures done { IfNone result (words_between self.old.text.now self.new.from to ≡ []) }
@@ -226,8 +226,8 @@ impl<'a> WordScanner<'a> {
     /// Takes the first further word that begins before `to`.
     #[inline(always)]
     pub fn next_word(&mut self, to: usize) -> Option<FoundWord>
-        requires within { to ≤ length self.old.text.now }
-        requires short { length self.old.text.now ≤ TEXT_LIMIT }
+        requires to_le_length { to ≤ length self.old.text.now }
+        requires text_fits_limit { length self.old.text.now ≤ TEXT_LIMIT }
         ensures text { self.new.text.now ≡ self.old.text.now }
         ensures words { MatchOption result
             (words_between self.old.text.now self.old.from to ≡ [])

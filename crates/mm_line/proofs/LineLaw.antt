@@ -48,8 +48,8 @@ use Rattle.mm_line.specs.Lines.{command_of, flag_rule, number_rule, only_rule, r
 use Rattle.mm_line.specs.Lines.{file_rule, form_rule, form_word, form_words, report_word}
 use Rattle.mm_line.specs.Lines.{report_words, AreReadAs}
 use Rattle.mm_line.specs.Found.{Finds, HasForm, HasNumber, HasReport, IsFor}
-use Rattle.mm_line.proofs.EntryLaw.{Defaulted, default_reads, nothing_in, rule_in_place}
-use Rattle.mm_line.proofs.EntryLaw.{simple_parts}
+use Rattle.mm_line.proofs.EntryLaw.{Defaulted, default_is_read, empty_is_nil, rule_of_argument_is}
+use Rattle.mm_line.proofs.EntryLaw.{simple_leaves_out}
 use Rattle.mm_plan.specs.declared.Cutting.TheVariants.{Count}
 use Rattle.mm_plan.specs.Plans.{IsLawfulCutting, only_of}
 use Rattle.mm_line.specs.declared.command_line.Line.{Line}
@@ -57,75 +57,90 @@ use Rattle.mm_line.specs.declared.command_line.LineRefused.{LineRefused}
 use Rattle.mm_line.specs.declared.command_line.LineRefused.TheVariants.{Help, Bad, Memory}
 
 -- a command with one rule more
-rule_added : (old new : Command) (a : Arg) (app : App) (r : Rule) → AddsArg old a new
-    → app_of old ≡ app → rule_of a ≡ r → r.is_simple ≡ true → app_of new ≡ with_rule app r
-rule_added old new a app r added is rule simple =
-    added.shape (simple_parts a (ap (λ (x : Rule). x.is_simple) rule ∙ simple)).global
-    ∙ ap (λ (x : App). with_rule x (rule_of a)) is ∙ ap (with_rule app) rule
+app_with_added_rule : (before after : Command) (a : Arg) (app : App) (r : Rule)
+    → AddsArg before a after
+    → app_of before ≡ app → rule_of a ≡ r → r.is_simple ≡ true → app_of after ≡ with_rule app r
+app_with_added_rule before after a app r is_added app_is rule rule_is_simple =
+    is_added.shape
+    (simple_leaves_out a (ap (λ (x : Rule). x.is_simple) rule ∙ rule_is_simple)).global
+    ∙ ap (λ (x : App). with_rule x (rule_of a)) app_is ∙ ap (with_rule app) rule
 
 abbrev pub with_rules : App → List Rule → App
 with_rules app [] = app
 with_rules app (r ∷ rules) = with_rules (with_rule app r) rules
 
 -- a command with a rule more for each argument
-pub rules_added : (args : List Arg) (rules : List Rule) (old new : Command) (app : App)
-    → AddsInTurn AddsArg old args new → app_of old ≡ app → map rule_of args ≡ rules
-    → list_all (λ (r : Rule). r.is_simple) rules ≡ true → app_of new ≡ with_rules app rules
-rules_added [] [] old new app added is same simple = ap app_of (sym added) ∙ is
-rules_added [] (r ∷ rules) old new app added is same simple = cc
-rules_added (a ∷ args) [] old new app added is same simple = cc
-rules_added (a ∷ args) (r ∷ rules) old new app added is same simple =
-    let parts = and_parts r.is_simple (list_all (λ (r : Rule). r.is_simple) rules) simple in
-    let rule : rule_of a ≡ r = cc in
-    let others : map rule_of args ≡ rules = cc in
-    rules_added args rules added.0 new (with_rule app r) added.2
-    (rule_added old added.0 a app r added.1 is rule parts.0) others parts.1
+pub app_with_added_rules : (args : List Arg) (rules : List Rule) (before after : Command)
+    (app : App)
+    → AddsInTurn AddsArg before args after → app_of before ≡ app → map rule_of args ≡ rules
+    → list_all (λ (r : Rule). r.is_simple) rules ≡ true → app_of after ≡ with_rules app rules
+app_with_added_rules [] [] before after app are_added app_is rules_are rules_are_simple =
+    ap app_of (sym are_added) ∙ app_is
+app_with_added_rules [] (r ∷ rules) before after app are_added app_is rules_are rules_are_simple =
+    cc
+app_with_added_rules (a ∷ args) [] before after app are_added app_is rules_are rules_are_simple = cc
+app_with_added_rules (a ∷ args) (r ∷ rules) before after app are_added app_is rules_are
+    rules_are_simple =
+    let first_and_later =
+    and_parts r.is_simple (list_all (λ (r : Rule). r.is_simple) rules) rules_are_simple in
+    let first_rule_is : rule_of a ≡ r = cc in
+    let later_rules_are : map rule_of args ≡ rules = cc in
+    app_with_added_rules args rules are_added.0 after (with_rule app r) are_added.2
+    (app_with_added_rule before are_added.0 a app r are_added.1 app_is first_rule_is
+    first_and_later.0)
+    later_rules_are first_and_later.1
 
-pub is_command : (c : Command) (report_option form_option : Rule) → IsReportRule report_option
+pub added_rules_are_command : (c : Command) (report_option form_option : Rule)
+    → IsReportRule report_option
     → IsFormRule form_option → app_of c ≡ command_of report_option form_option
     → IsCommand (app_of c)
-is_command c report_option form_option is is_form same =
+added_rules_are_command c report_option form_option is_report_rule is_form_rule app_is =
     record {
       report_option = report_option;
-      is_report = is;
+      is_report = is_report_rule;
       form_option = form_option;
-      is_form = is_form;
-      is = same;
+      is_form = is_form_rule;
+      is = app_is;
     }
 
-command_simple : (report form : Rule) → IsReportRule report → IsFormRule form
+command_is_simple_and_free : (report form : Rule) → IsReportRule report → IsFormRule form
     → is_simple_and_free (command_of report form) ≡ true
 unfolding command_of
-command_simple report form is is_form =
-    subst (λ (r : Rule). is_simple_and_free (command_of r form) ≡ true) (sym is.2)
-    (subst (λ (r : Rule). is_simple_and_free (command_of (report_rule is.0) r) ≡ true)
-    (sym is_form.2) refl)
+command_is_simple_and_free report form is_report_rule is_form_rule =
+    subst (λ (r : Rule). is_simple_and_free (command_of r form) ≡ true) (sym is_report_rule.2)
+    (subst (λ (r : Rule). is_simple_and_free (command_of (report_rule is_report_rule.0) r) ≡ true)
+    (sym is_form_rule.2) refl)
 
 pub simple : (app : App) → IsCommand app → is_simple_and_free app ≡ true
-simple app is =
-    subst (λ (a : App). is_simple_and_free a ≡ true) (sym is.is)
-    (command_simple is.report_option is.form_option is.is_report is.is_form)
+simple app is_command_app =
+    subst (λ (a : App). is_simple_and_free a ≡ true) (sym is_command_app.is)
+    (command_is_simple_and_free is_command_app.report_option is_command_app.form_option
+    is_command_app.is_report
+    is_command_app.is_form)
 
-not_memory : (kind : ErrorKind) → IsAsking kind → kind ≡ OutOfMemory → ⊥
-not_memory kind (inl h) m = let e : DisplayHelp ≡ OutOfMemory = sym h ∙ m in cc
-not_memory kind (inr h) m = let e : DisplayVersion ≡ OutOfMemory = sym h ∙ m in cc
+asking_is_not_memory : (kind : ErrorKind) → IsAsking kind → kind ≡ OutOfMemory → ⊥
+asking_is_not_memory kind (inl is_asking) is_memory =
+    let kinds_equal : DisplayHelp ≡ OutOfMemory = sym is_asking ∙ is_memory in cc
+asking_is_not_memory kind (inr is_asking) is_memory =
+    let kinds_equal : DisplayVersion ≡ OutOfMemory = sym is_asking ∙ is_memory in cc
 
-pub refusal_is : (app : App) (words : List Text) (e : Error) (r : LineRefused) → IsCommand app
+pub refusal_is_line_refusal : (app : App) (words : List Text) (e : Error) (r : LineRefused)
+    → IsCommand app
     → (takes app words ≡ true → kind_of e ≡ OutOfMemory)
     → HasKind (fault_of app words) e → IsFor (kind_of e) r → IsLineRefusal words r
-refusal_is app words e Memory is passes kind is_for = tt
-refusal_is app words e (Help text) is passes kind is_for =
-    (app, is, not_taken (takes app words) refl, kind_of e, among_faults kind, is_for)
+refusal_is_line_refusal app words e Memory app_is passes kind is_for = tt
+refusal_is_line_refusal app words e (Help text) app_is passes kind is_for =
+    (app, app_is, not_taken (takes app words) refl, kind_of e, among_faults kind, is_for)
   where
     not_taken : (b : Bool) → takes app words ≡ b → b ≡ false
-    not_taken true t = absurd (not_memory (kind_of e) is_for (passes t))
-    not_taken false t = refl
+    not_taken true test_is = absurd (asking_is_not_memory (kind_of e) is_for (passes test_is))
+    not_taken false test_is = refl
 
     among_faults : HasKind (fault_of app words) e → IsAmong (kind_of e) (fault_of app words)
-    among_faults (inl m) = absurd (not_memory (kind_of e) is_for m)
-    among_faults (inr k) = k
-refusal_is app words e (Bad text) is passes kind is_for =
-    (app, is, not_taken (takes app words) refl, kind_of e, among_faults kind, is_for.0)
+    among_faults (inl is_memory) = absurd (asking_is_not_memory (kind_of e) is_for is_memory)
+    among_faults (inr is_among) = is_among
+refusal_is_line_refusal app words e (Bad text) app_is passes kind is_for =
+    (app, app_is, not_taken (takes app words) refl, kind_of e, among_faults kind, is_for.0)
   where
     not_taken : (b : Bool) → takes app words ≡ b → b ≡ false
     not_taken true t = absurd (is_for.1 (passes t))
@@ -135,86 +150,91 @@ refusal_is app words e (Bad text) is passes kind is_for =
     among_faults (inl m) = absurd (is_for.1 m)
     among_faults (inr k) = k
 
-differ_by_test : (a b : Text) → bytes_eq a b ≡ false → a ≡ b → ⊥
-differ_by_test a b h e = true≢false (sym ((bytes_eq-Decides a b).1 e) ∙ h)
+tested_different_differ : (a b : Text) → bytes_eq a b ≡ false → a ≡ b → ⊥
+tested_different_differ a b tested_different texts_equal =
+    true≢false (sym ((bytes_eq-Decides a b).1 texts_equal) ∙ tested_different)
 
 -- ---- the entries of words that the command takes
 
-some_arg : (xs : List Arg) (k : ℕ) → k < length xs → (a : Arg) × (slice_index_or xs k a ≡ a)
-some_arg [] k lt = absurd (omega arith)
-some_arg (x ∷ xs) zero lt = (x, refl)
-some_arg (x ∷ xs) (suc k) lt = some_arg xs k (omega arith)
+argument_at_place : (xs : List Arg) (k : ℕ) → k < length xs
+    → (a : Arg) × (slice_index_or xs k a ≡ a)
+argument_at_place [] k k_lt_length = absurd (omega arith)
+argument_at_place (x ∷ xs) zero k_lt_length = (x, refl)
+argument_at_place (x ∷ xs) (suc k) k_lt_length = argument_at_place xs k (omega arith)
 
-all_simple : (xs : List Arg) → list_all (λ r. r.is_simple) (map rule_of xs) ≡ true
+each_argument_is_simple : (xs : List Arg) → list_all (λ r. r.is_simple) (map rule_of xs) ≡ true
     → (k : ℕ) (d : Arg) → k < length xs → is_simple_arg (slice_index_or xs k d) ≡ true
-all_simple [] h k d lt = absurd (omega arith)
-all_simple (x ∷ xs) h zero d lt =
-    (and_parts (is_simple_arg x) (list_all (λ r. r.is_simple) (map rule_of xs)) h).0
-all_simple (x ∷ xs) h (suc k) d lt =
-    all_simple xs
-    (and_parts (is_simple_arg x) (list_all (λ r. r.is_simple) (map rule_of xs)) h).1 k d
+each_argument_is_simple [] rules_are_simple k d k_lt_length = absurd (omega arith)
+each_argument_is_simple (x ∷ xs) rules_are_simple zero d k_lt_length =
+    (and_parts (is_simple_arg x) (list_all (λ r. r.is_simple) (map rule_of xs)) rules_are_simple).0
+each_argument_is_simple (x ∷ xs) rules_are_simple (suc k) d k_lt_length =
+    each_argument_is_simple xs
+    (and_parts (is_simple_arg x) (list_all (λ r. r.is_simple) (map rule_of xs)) rules_are_simple).1
+    k d
     (omega arith)
 
 first_and_third : (a b c d : Bool) → (a && (b && (c && d))) ≡ true → (a ≡ true) × (not c ≡ false)
-first_and_third true true true d h = (refl, refl)
-first_and_third false b c d h = absurd (true≢false (sym h))
-first_and_third true false c d h = absurd (true≢false (sym h))
-first_and_third true true false d h = absurd (true≢false (sym h))
+first_and_third true true true d all_four = (refl, refl)
+first_and_third false b c d all_four = absurd (true≢false (sym all_four))
+first_and_third true false c d all_four = absurd (true≢false (sym all_four))
+first_and_third true true false d all_four = absurd (true≢false (sym all_four))
 
-one_of_words : (t : Text) → list_any (λ (w : Text). bytes_eq w t) report_words ≡ true
+known_word_is_choice : (t : Text) → list_any (λ (w : Text). bytes_eq w t) report_words ≡ true
     → (choice : Choice) × (t ≡ report_word choice)
-one_of_words t h = by_all (or_cases (bytes_eq (codes "all") t) _ h)
+known_word_is_choice t is_some_word =
+    word_if_all (or_cases (bytes_eq (codes "all") t) _ is_some_word)
   where
     equal_word : (w : Text) → bytes_eq w t ≡ true → t ≡ w
-    equal_word w e = sym ((bytes_eq-Decides w t).0 e)
+    equal_word w tested_equal = sym ((bytes_eq-Decides w t).0 tested_equal)
 
-    by_citations : (bytes_eq (codes "citations") t ≡ true) ⊎ (false ≡ true)
+    word_if_citations : (bytes_eq (codes "citations") t ≡ true) ⊎ (false ≡ true)
         → (choice : Choice) × (t ≡ report_word choice)
-    by_citations (inl e) = (Citations, equal_word _ e)
-    by_citations (inr e) = absurd (true≢false (sym e))
+    word_if_citations (inl word_is) = (Citations, equal_word _ word_is)
+    word_if_citations (inr word_is) = absurd (true≢false (sym word_is))
 
-    by_usage : (bytes_eq (codes "usage") t ≡ true)
+    word_if_usage : (bytes_eq (codes "usage") t ≡ true)
         ⊎ ((bytes_eq (codes "citations") t || false) ≡ true)
         → (choice : Choice) × (t ≡ report_word choice)
-    by_usage (inl e) = (Usage, equal_word _ e)
-    by_usage (inr e) = by_citations (or_cases (bytes_eq (codes "citations") t) false e)
+    word_if_usage (inl word_is) = (Usage, equal_word _ word_is)
+    word_if_usage (inr word_is) =
+        word_if_citations (or_cases (bytes_eq (codes "citations") t) false word_is)
 
-    by_counts : (bytes_eq (codes "counts") t ≡ true)
+    word_if_counts : (bytes_eq (codes "counts") t ≡ true)
         ⊎ ((bytes_eq (codes "usage") t || (bytes_eq (codes "citations") t || false)) ≡ true)
         → (choice : Choice) × (t ≡ report_word choice)
-    by_counts (inl e) = (Counts, equal_word _ e)
-    by_counts (inr e) = by_usage (or_cases (bytes_eq (codes "usage") t) _ e)
+    word_if_counts (inl word_is) = (Counts, equal_word _ word_is)
+    word_if_counts (inr word_is) = word_if_usage (or_cases (bytes_eq (codes "usage") t) _ word_is)
 
-    by_matrix : (bytes_eq (codes "matrix") t ≡ true)
+    word_if_matrix : (bytes_eq (codes "matrix") t ≡ true)
         ⊎ ((bytes_eq (codes "counts") t
         || (bytes_eq (codes "usage") t || (bytes_eq (codes "citations") t || false)))
         ≡ true)
         → (choice : Choice) × (t ≡ report_word choice)
-    by_matrix (inl e) = (Matrix, equal_word _ e)
-    by_matrix (inr e) = by_counts (or_cases (bytes_eq (codes "counts") t) _ e)
+    word_if_matrix (inl word_is) = (Matrix, equal_word _ word_is)
+    word_if_matrix (inr word_is) = word_if_counts (or_cases (bytes_eq (codes "counts") t) _ word_is)
 
-    by_all : (bytes_eq (codes "all") t ≡ true)
+    word_if_all : (bytes_eq (codes "all") t ≡ true)
         ⊎ ((bytes_eq (codes "matrix") t
         || (bytes_eq (codes "counts") t
         || (bytes_eq (codes "usage") t || (bytes_eq (codes "citations") t || false))))
         ≡ true)
         → (choice : Choice) × (t ≡ report_word choice)
-    by_all (inl e) = (All, equal_word _ e)
-    by_all (inr e) = by_matrix (or_cases (bytes_eq (codes "matrix") t) _ e)
+    word_if_all (inl word_is) = (All, equal_word _ word_is)
+    word_if_all (inr word_is) = word_if_matrix (or_cases (bytes_eq (codes "matrix") t) _ word_is)
 
-one_of_forms : (t : Text) → list_any (λ (w : Text). bytes_eq w t) form_words ≡ true
+known_word_is_form : (t : Text) → list_any (λ (w : Text). bytes_eq w t) form_words ≡ true
     → (form : Form) × (t ≡ form_word form)
-one_of_forms t h = by_first_form (or_cases (bytes_eq (codes "1") t) _ h)
+known_word_is_form t is_some_form = form_if_first (or_cases (bytes_eq (codes "1") t) _ is_some_form)
   where
-    by_second_form : (bytes_eq (codes "2") t ≡ true) ⊎ (false ≡ true)
+    form_if_second : (bytes_eq (codes "2") t ≡ true) ⊎ (false ≡ true)
         → (form : Form) × (t ≡ form_word form)
-    by_second_form (inl e) = (Two, sym ((bytes_eq-Decides (codes "2") t).0 e))
-    by_second_form (inr e) = absurd (true≢false (sym e))
+    form_if_second (inl word_is) = (Two, sym ((bytes_eq-Decides (codes "2") t).0 word_is))
+    form_if_second (inr word_is) = absurd (true≢false (sym word_is))
 
-    by_first_form : (bytes_eq (codes "1") t ≡ true) ⊎ ((bytes_eq (codes "2") t || false) ≡ true)
+    form_if_first : (bytes_eq (codes "1") t ≡ true) ⊎ ((bytes_eq (codes "2") t || false) ≡ true)
         → (form : Form) × (t ≡ form_word form)
-    by_first_form (inl e) = (One, sym ((bytes_eq-Decides (codes "1") t).0 e))
-    by_first_form (inr e) = by_second_form (or_cases (bytes_eq (codes "2") t) false e)
+    form_if_first (inl word_is) = (One, sym ((bytes_eq-Decides (codes "1") t).0 word_is))
+    form_if_first (inr word_is) = form_if_second (or_cases (bytes_eq (codes "2") t) false word_is)
 
 -- the indices of the rules with this id, if the first rule has the index n
 abbrev indices_of : Text → ℕ → List Rule → List ℕ
@@ -229,40 +249,40 @@ indices_of id n (r ∷ rs) =
 index_is_listed : (id : Text) (rs : List Rule) (d : Rule) (n j : ℕ) → j < length rs
     → bytes_eq (slice_index_or rs j d).id id ≡ true
     → is_member (indices_of id n rs) (n + j) ≡ true
-index_is_listed id [] d n j lt h = absurd (omega arith)
-index_is_listed id (r ∷ rs) d n zero lt h =
+index_is_listed id [] d n j j_lt_length has_id = absurd (omega arith)
+index_is_listed id (r ∷ rs) d n zero j_lt_length has_id =
     subst (λ b. is_member
     (elim b [ true ↦ n ∷ indices_of id (suc n) rs | false ↦ indices_of id (suc n) rs ])
     (n + 0)
-    ≡ true) (sym h) (or_left (n + 0 == n) _ (eq-eqb (n + 0) n (omega arith)))
-index_is_listed id (r ∷ rs) d n (suc j) lt h =
-    by_head (bytes_eq r.id id)
-    (let e : suc n + j ≡ n + suc j = omega arith in
-    subst (λ k. is_member (indices_of id (suc n) rs) k ≡ true) e
-    (index_is_listed id rs d (suc n) j (omega arith) h))
+    ≡ true) (sym has_id) (or_left (n + 0 == n) _ (eq-eqb (n + 0) n (omega arith)))
+index_is_listed id (r ∷ rs) d n (suc j) j_lt_length has_id =
+    listed_by_head (bytes_eq r.id id)
+    (let index_is : suc n + j ≡ n + suc j = omega arith in
+    subst (λ k. is_member (indices_of id (suc n) rs) k ≡ true) index_is
+    (index_is_listed id rs d (suc n) j (omega arith) has_id))
   where
-    by_head : (b : Bool) → is_member (indices_of id (suc n) rs) (n + suc j) ≡ true
+    listed_by_head : (b : Bool) → is_member (indices_of id (suc n) rs) (n + suc j) ≡ true
         → is_member
         (elim b [ true ↦ n ∷ indices_of id (suc n) rs | false ↦ indices_of id (suc n) rs ])
         (n + suc j)
         ≡ true
-    by_head true m = or_right (n + suc j == n) _ m
-    by_head false m = m
+    listed_by_head true is_listed_later = or_right (n + suc j == n) _ is_listed_later
+    listed_by_head false is_listed_later = is_listed_later
 
 -- if only rule k has the id, each rule with the id is rule k
-only_index : (rs : List Rule) (d : Rule) (id : Text) (k : ℕ) → indices_of id 0 rs ≡ k ∷ []
+listed_index_is_only : (rs : List Rule) (d : Rule) (id : Text) (k : ℕ) → indices_of id 0 rs ≡ k ∷ []
     → (j : ℕ)
     → j < length rs → bytes_eq (slice_index_or rs j d).id id ≡ true → j ≡ k
-only_index rs d id k one j lt h =
-    at_only_index (or_cases (j == k) false
-    (subst (λ (l : List ℕ). is_member l j ≡ true) one
-    (let e : 0 + j ≡ j = omega arith in
-    subst (λ i. is_member (indices_of id 0 rs) i ≡ true) e
-    (index_is_listed id rs d 0 j lt h))))
+listed_index_is_only rs d id k only_k_has_id j j_lt_length has_id =
+    equal_if_listed (or_cases (j == k) false
+    (subst (λ (l : List ℕ). is_member l j ≡ true) only_k_has_id
+    (let zero_plus_j : 0 + j ≡ j = omega arith in
+    subst (λ i. is_member (indices_of id 0 rs) i ≡ true) zero_plus_j
+    (index_is_listed id rs d 0 j j_lt_length has_id))))
   where
-    at_only_index : ((j == k) ≡ true) ⊎ (false ≡ true) → j ≡ k
-    at_only_index (inl e) = eqb-true j k e
-    at_only_index (inr e) = absurd (true≢false (sym e))
+    equal_if_listed : ((j == k) ≡ true) ⊎ (false ≡ true) → j ≡ k
+    equal_if_listed (inl is_that_index) = eqb-true j k is_that_index
+    equal_if_listed (inr is_that_index) = absurd (true≢false (sym is_that_index))
 
 module _ (names forms : Bor (List (Bor Text))) where
   abbrev pub the_rules : List Rule
@@ -270,177 +290,213 @@ module _ (names forms : Bor (List (Bor Text))) where
       number_rule (codes "workers") ∷ number_rule (codes "pieces") ∷ only_rule ∷ report_rule names
       ∷ form_rule forms ∷ flag_rule (codes "essential") ∷ flag_rule (codes "open") ∷ file_rule ∷ []
 
-  module _ (c : Command) (is : app_of c ≡ command_of (report_rule names) (form_rule forms)) where
-    rules : map rule_of (args_of c) ≡ the_rules
-    unfolding command_of
-    rules = ap (λ (a : App). a.top.rules) is
+  module _ (c : Command) (app_is : app_of c ≡ command_of (report_rule names) (form_rule forms))
+    where
+      rules : map rule_of (args_of c) ≡ the_rules
+      unfolding command_of
+      rules = ap (λ (a : App). a.top.rules) app_is
 
-    count : length (args_of c) ≡ length the_rules
-    count = sym (length-map (args_of c) rule_of) ∙ ap length rules
+      count : length (args_of c) ≡ length the_rules
+      count = sym (length-map (args_of c) rule_of) ∙ ap length rules
 
-    plain : (is_empty (out-Command c).groups.items ≡ true)
-        × (not (not (out-Command c).has_globals) ≡ false)
-    unfolding command_of
-    plain =
-        first_and_third (is_empty (out-Command c).groups.items)
-        (not (out-Command c).allow_external_subcommands) (not (out-Command c).has_globals) _
-        (ap (λ (a : App). a.top.is_plain) is)
+      plain : (is_empty (out-Command c).groups.items ≡ true)
+          × (not (not (out-Command c).has_globals) ≡ false)
+      unfolding command_of
+      plain =
+          first_and_third (is_empty (out-Command c).groups.items)
+          (not (out-Command c).allow_external_subcommands) (not (out-Command c).has_globals) _
+          (ap (λ (a : App). a.top.is_plain) app_is)
 
-    globals : (out-Command c).has_globals ≡ false
-    globals = sym (not-not (out-Command c).has_globals) ∙ plain.1
+      globals : (out-Command c).has_globals ≡ false
+      globals = sym (not-not (out-Command c).has_globals) ∙ plain.1
 
-    no_groups : groups_of c ≡ []
-    no_groups = nothing_in (out-Command c).groups.items plain.0
+      no_groups : groups_of c ≡ []
+      no_groups = empty_is_nil (out-Command c).groups.items plain.0
 
-    each_simple : (k : ℕ) (d : Arg) → k < length (args_of c)
-        → is_simple_arg (slice_index_or (args_of c) k d) ≡ true
-    each_simple = all_simple (args_of c) (ap (list_all (λ (r : Rule). r.is_simple)) rules)
+      each_simple : (k : ℕ) (d : Arg) → k < length (args_of c)
+          → is_simple_arg (slice_index_or (args_of c) k d) ≡ true
+      each_simple =
+          each_argument_is_simple (args_of c) (ap (list_all (λ (r : Rule). r.is_simple)) rules)
 
-    names_no_group : NamesNoGroup c
-    names_no_group k d lt =
-        (simple_parts (slice_index_or (args_of c) k d) (each_simple k d lt)).groups
+      names_no_group : NamesNoGroup c
+      names_no_group k d k_lt_count =
+          (simple_leaves_out (slice_index_or (args_of c) k d) (each_simple k d k_lt_count)).groups
 
-    -- an argument with a default, by its rule
-    defaulted : (k : ℕ) (id value : Text) (q : ValueParser) → k < length the_rules
-        → ((a : Arg)
-        → slice_index_or the_rules k (rule_of a) ≡ slice_index_or the_rules k file_rule)
-        → (slice_index_or the_rules k file_rule).id ≡ id
-        → (slice_index_or the_rules k file_rule).action ≡ Some Set
-        → (slice_index_or the_rules k file_rule).range ≡ None
-        → (slice_index_or the_rules k file_rule).defaults ≡ value ∷ []
-        → (slice_index_or the_rules k file_rule).parser ≡ Some q
-        → ((j : ℕ) → j < length the_rules
-        → bytes_eq (slice_index_or the_rules j file_rule).id id ≡ true → j ≡ k)
-        → (id ≡ [] → ⊥) → ((id ≡ codes "help") ⊎ (id ≡ codes "version") → ⊥)
-        → (a : Arg) × Defaulted c k a id q
-        × (a.ignore_case ≡ (slice_index_or the_rules k file_rule).ignore_case)
-    defaulted k id value q lt _ id_is action range default parser only named own =
-        let inside : k < length (args_of c) = subst (λ (n : ℕ). k < n) (sym count) lt in
-        let some = some_arg (args_of c) k inside in
-        let a = some.0 in
-        let rule : rule_of a ≡ slice_index_or the_rules k file_rule =
-        ap rule_of (sym some.1) ∙ rule_in_place (args_of c) the_rules k a file_rule rules inside in
-        let same_id : a.id.now ≡ id = ap (λ (r : Rule). r.id) rule ∙ id_is in (
-          a,
-          record {
-            inside = inside;
-            at = some.1;
-            id_is = same_id;
-            simple = subst (λ (y : Arg). is_simple_arg y ≡ true) some.1 (each_simple k a inside);
-            action = ap (λ (r : Rule). r.action) rule ∙ action;
-            range = ap (λ (r : Rule). r.range) rule ∙ range;
-            default =
-                (let one : length (items_of a.default_vals)
-                ≡ 1 = sym (length-map (items_of a.default_vals) (λ s. s.now))
-                ∙ ap length (ap (λ (r : Rule). r.defaults) rule ∙ default) in omega (arith, one));
-            parser = ap (λ (r : Rule). r.parser) rule ∙ parser;
-            unique =
-                λ j e l h. only j (subst (λ (n : ℕ). j < n) count l)
-                (subst (λ (r : Rule). bytes_eq r.id id ≡ true)
-                (rule_in_place (args_of c) the_rules j e file_rule rules l) h);
-            named = named;
-            own =
-                λ auto. own
-                (elim auto [ inl h ↦ inl (sym same_id ∙ h) | inr h ↦ inr (sym same_id ∙ h) ]);
-          },
-          ap (λ (r : Rule). r.ignore_case) rule,
-        )
+      -- an argument with a default, by its rule
+      defaulted : (k : ℕ) (id value : Text) (q : ValueParser) → k < length the_rules
+          → ((a : Arg)
+          → slice_index_or the_rules k (rule_of a) ≡ slice_index_or the_rules k file_rule)
+          → (slice_index_or the_rules k file_rule).id ≡ id
+          → (slice_index_or the_rules k file_rule).action ≡ Some Set
+          → (slice_index_or the_rules k file_rule).range ≡ None
+          → (slice_index_or the_rules k file_rule).defaults ≡ value ∷ []
+          → (slice_index_or the_rules k file_rule).parser ≡ Some q
+          → ((j : ℕ) → j < length the_rules
+          → bytes_eq (slice_index_or the_rules j file_rule).id id ≡ true → j ≡ k)
+          → (id ≡ [] → ⊥) → ((id ≡ codes "help") ⊎ (id ≡ codes "version") → ⊥)
+          → (a : Arg) × Defaulted c k a id q
+          × (a.ignore_case ≡ (slice_index_or the_rules k file_rule).ignore_case)
+      defaulted k id value q k_lt_rules _ id_is action range default parser only_k_has_id
+          id_is_nonempty is_not_automatic =
+          let index_lt_count : k < length (args_of c) =
+          subst (λ (n : ℕ). k < n) (sym count) k_lt_rules in
+          let argument_there = argument_at_place (args_of c) k index_lt_count in
+          let a = argument_there.0 in
+          let rule_is : rule_of a ≡ slice_index_or the_rules k file_rule =
+          ap rule_of (sym argument_there.1)
+          ∙ rule_of_argument_is (args_of c) the_rules k a file_rule rules index_lt_count in
+          let id_of_argument_is : a.id.now ≡ id = ap (λ (r : Rule). r.id) rule_is ∙ id_is in (
+            a,
+            record {
+              index_lt_count = index_lt_count;
+              argument_is = argument_there.1;
+              id_is = id_of_argument_is;
+              simple =
+                  subst (λ (y : Arg). is_simple_arg y ≡ true) argument_there.1
+                  (each_simple k a index_lt_count);
+              action = ap (λ (r : Rule). r.action) rule_is ∙ action;
+              range = ap (λ (r : Rule). r.range) rule_is ∙ range;
+              default =
+                  (let one_default : length (items_of a.default_vals)
+                  ≡ 1 = sym (length-map (items_of a.default_vals) (λ s. s.now))
+                  ∙ ap length (ap (λ (r : Rule). r.defaults) rule_is ∙ default) in
+                  omega (arith, one_default));
+              parser = ap (λ (r : Rule). r.parser) rule_is ∙ parser;
+              id_is_unique =
+                  λ j e j_lt_count j_has_id. only_k_has_id j
+                  (subst (λ (n : ℕ). j < n) count j_lt_count)
+                  (subst (λ (r : Rule). bytes_eq r.id id ≡ true)
+                  (rule_of_argument_is (args_of c) the_rules j e file_rule rules j_lt_count)
+                  j_has_id);
+              id_is_nonempty = id_is_nonempty;
+              is_not_automatic =
+                  λ is_automatic. is_not_automatic
+                  (elim is_automatic [
+                    | inl h ↦ inl (sym id_of_argument_is ∙ h)
+                    | inr h ↦ inr
+                        (sym id_of_argument_is ∙ h)
+                  ]);
+            },
+            ap (λ (r : Rule). r.ignore_case) rule_is,
+          )
 
-    module _ (m : ArgMatches) (p : IsParsedFrom c m) where
-      built_has_none : groups_of p.built ≡ []
-      built_has_none = (p.from.same_groups names_no_group).1 ∙ no_groups
+      module _ (m : ArgMatches) (p : IsParsedFrom c m) where
+        built_has_none : groups_of p.built ≡ []
+        built_has_none = (p.from.same_groups names_no_group).1 ∙ no_groups
 
-      workers_read : HasNumber m (codes "workers")
-      workers_read =
-          let d =
-          defaulted 0 (codes "workers") (codes "4") (Signed (pos 1) (pos 64)) (omega arith)
-          (λ _. refl) refl refl refl refl refl
-          (only_index the_rules file_rule (codes "workers") 0 refl) (differ_by_test _ _ refl)
-          (λ e. elim e [ inl h ↦ differ_by_test _ _ refl h | inr h ↦ differ_by_test _ _ refl h ]) in
-          let r =
-          default_reads c m p globals built_has_none 0 d.0 (codes "workers")
-          (Signed (pos 1) (pos 64)) d.1 in
-          (r.text, r.one, r.accepted)
+        workers_read : HasNumber m (codes "workers")
+        workers_read =
+            let argument =
+            defaulted 0 (codes "workers") (codes "4") (Signed (pos 1) (pos 64)) (omega arith)
+            (λ _. refl) refl refl refl refl refl
+            (listed_index_is_only the_rules file_rule (codes "workers") 0 refl)
+            (tested_different_differ _ _ refl)
+            (λ is_automatic_id. elim is_automatic_id [
+              | inl h ↦ tested_different_differ _ _ refl h
+              | inr h ↦ tested_different_differ _ _ refl
+                  h
+            ]) in
+            let default_read =
+            default_is_read c m p globals built_has_none 0 argument.0 (codes "workers")
+            (Signed (pos 1) (pos 64)) argument.1 in
+            (default_read.text, default_read.text_is_read, default_read.text_is_accepted)
 
-      pieces_read : HasNumber m (codes "pieces")
-      pieces_read =
-          let d =
-          defaulted 1 (codes "pieces") (codes "4") (Signed (pos 1) (pos 64)) (omega arith)
-          (λ _. refl) refl refl refl refl refl
-          (only_index the_rules file_rule (codes "pieces") 1 refl) (differ_by_test _ _ refl)
-          (λ e. elim e [ inl h ↦ differ_by_test _ _ refl h | inr h ↦ differ_by_test _ _ refl h ]) in
-          let r =
-          default_reads c m p globals built_has_none 1 d.0 (codes "pieces")
-          (Signed (pos 1) (pos 64)) d.1 in
-          (r.text, r.one, r.accepted)
+        pieces_read : HasNumber m (codes "pieces")
+        pieces_read =
+            let argument =
+            defaulted 1 (codes "pieces") (codes "4") (Signed (pos 1) (pos 64)) (omega arith)
+            (λ _. refl) refl refl refl refl refl
+            (listed_index_is_only the_rules file_rule (codes "pieces") 1 refl)
+            (tested_different_differ _ _ refl)
+            (λ is_automatic_id. elim is_automatic_id [
+              | inl h ↦ tested_different_differ _ _ refl h
+              | inr h ↦ tested_different_differ _ _ refl
+                  h
+            ]) in
+            let default_read =
+            default_is_read c m p globals built_has_none 1 argument.0 (codes "pieces")
+            (Signed (pos 1) (pos 64)) argument.1 in
+            (default_read.text, default_read.text_is_read, default_read.text_is_accepted)
 
-      report_read : map (λ n. n.now) names.now ≡ report_words → HasReport m
-      report_read words =
-          let d =
-          defaulted 3 (codes "report") (codes "all") (Names names) (omega arith)
-          (λ _. refl) refl refl refl refl refl
-          (only_index the_rules file_rule (codes "report") 3 refl) (differ_by_test _ _ refl)
-          (λ e. elim e [ inl h ↦ differ_by_test _ _ refl h | inr h ↦ differ_by_test _ _ refl h ]) in
-          let r =
-          default_reads c m p globals built_has_none 3 d.0 (codes "report") (Names names) d.1 in
-          let taken : list_any (λ n. bytes_eq n.now r.text) names.now ≡ true =
-          rw d.2 at r.accepted in
-          let word =
-          one_of_words r.text
-          (ap (list_any (λ (w : Text). bytes_eq w r.text)) (sym words)
-          ∙ (sym (list_any-map (λ (w : Text). bytes_eq w r.text) (λ n. n.now) names.now)
-          ∙ taken)) in
-          (word.0, r.first ∙ ap Some word.1)
+        report_read : map (λ n. n.now) names.now ≡ report_words → HasReport m
+        report_read names_are =
+            let argument =
+            defaulted 3 (codes "report") (codes "all") (Names names) (omega arith)
+            (λ _. refl) refl refl refl refl refl
+            (listed_index_is_only the_rules file_rule (codes "report") 3 refl)
+            (tested_different_differ _ _ refl)
+            (λ is_automatic_id. elim is_automatic_id [
+              | inl h ↦ tested_different_differ _ _ refl h
+              | inr h ↦ tested_different_differ _ _ refl
+                  h
+            ]) in
+            let default_read =
+            default_is_read c m p globals built_has_none 3 argument.0 (codes "report") (Names names)
+            argument.1 in
+            let is_accepted : list_any (λ n. bytes_eq n.now default_read.text) names.now ≡ true =
+            rw argument.2 at default_read.text_is_accepted in
+            let word =
+            known_word_is_choice default_read.text
+            (ap (list_any (λ (w : Text). bytes_eq w default_read.text)) (sym names_are)
+            ∙ (sym (list_any-map (λ (w : Text). bytes_eq w default_read.text) (λ n. n.now) names.now)
+            ∙ is_accepted)) in
+            (word.0, default_read.text_is_first ∙ ap Some word.1)
 
-      form_read : map (λ n. n.now) forms.now ≡ form_words → HasForm m
-      form_read words =
-          let d =
-          defaulted 4 (codes "form") (codes "1") (Names forms) (omega arith)
-          (λ _. refl) refl refl refl refl refl
-          (only_index the_rules file_rule (codes "form") 4 refl)
-          (differ_by_test _ _ refl)
-          (λ e. elim e [ inl h ↦ differ_by_test _ _ refl h | inr h ↦ differ_by_test _ _ refl h ]) in
-          let r =
-          default_reads c m p globals built_has_none 4 d.0 (codes "form") (Names forms) d.1 in
-          let taken : list_any (λ n. bytes_eq n.now r.text) forms.now ≡ true =
-          rw d.2 at r.accepted in
-          let word =
-          one_of_forms r.text
-          (ap (list_any (λ (w : Text). bytes_eq w r.text)) (sym words)
-          ∙ (sym (list_any-map (λ (w : Text). bytes_eq w r.text) (λ n. n.now) forms.now)
-          ∙ taken)) in
-          (word.0, r.first ∙ ap Some word.1)
+        form_read : map (λ n. n.now) forms.now ≡ form_words → HasForm m
+        form_read names_are =
+            let argument =
+            defaulted 4 (codes "form") (codes "1") (Names forms) (omega arith)
+            (λ _. refl) refl refl refl refl refl
+            (listed_index_is_only the_rules file_rule (codes "form") 4 refl)
+            (tested_different_differ _ _ refl)
+            (λ is_automatic_id. elim is_automatic_id [
+              | inl h ↦ tested_different_differ _ _ refl h
+              | inr h ↦ tested_different_differ _ _ refl
+                  h
+            ]) in
+            let default_read =
+            default_is_read c m p globals built_has_none 4 argument.0 (codes "form") (Names forms)
+            argument.1 in
+            let is_accepted : list_any (λ n. bytes_eq n.now default_read.text) forms.now ≡ true =
+            rw argument.2 at default_read.text_is_accepted in
+            let word =
+            known_word_is_form default_read.text
+            (ap (list_any (λ (w : Text). bytes_eq w default_read.text)) (sym names_are)
+            ∙ (sym (list_any-map (λ (w : Text). bytes_eq w default_read.text) (λ n. n.now) forms.now)
+            ∙ is_accepted)) in
+            (word.0, default_read.text_is_first ∙ ap Some word.1)
 
-pub finds_matches : (c : Command) (m : ArgMatches) (words : List Text) → IsCommand (app_of c)
+pub parsed_matches_are_found : (c : Command) (m : ArgMatches) (words : List Text)
+    → IsCommand (app_of c)
     → IsParsedFrom c m → fault_of (app_of c) words ≡ [] → HasMatchesOf (app_of c) words m
     → Finds words m
-finds_matches c m words is p fault matches =
-    let names = is.is_report.0 in
-    let forms = is.is_form.0 in
-    let same : app_of c ≡ command_of (report_rule names) (form_rule forms) =
-    is.is ∙ ap₂ command_of is.is_report.2 is.is_form.2 in
+parsed_matches_are_found c m words is_command_app p no_fault has_matches =
+    let names = is_command_app.is_report.0 in
+    let forms = is_command_app.is_form.0 in
+    let app_is : app_of c ≡ command_of (report_rule names) (form_rule forms) =
+    is_command_app.is ∙ ap₂ command_of is_command_app.is_report.2 is_command_app.is_form.2 in
     record {
       app = app_of c;
-      command = is;
-      no_fault = fault;
+      command = is_command_app;
+      no_fault = no_fault;
       rows =
-          (matches
+          (has_matches
           (and_parts (is_simple (app_of c)) (is_free_app (built (app_of c)))
-          (simple (app_of c) is)).0).0;
-      workers = workers_read names forms c same m p;
-      pieces = pieces_read names forms c same m p;
-      report = report_read names forms c same m p is.is_report.1;
-      form = form_read names forms c same m p is.is_form.1;
+          (simple (app_of c) is_command_app)).0).0;
+      workers = workers_read names forms c app_is m p;
+      pieces = pieces_read names forms c app_is m p;
+      report = report_read names forms c app_is m p is_command_app.is_report.1;
+      form = form_read names forms c app_is m p is_command_app.is_form.1;
     }
 
 -- ---- what a line says
 
-module _ (f : Found) (rows : List Row) (is : rows_of f ≡ rows) where
-  first_is : (id : Text) → first_value f id ≡ first_of id rows
-  first_is id = first_value-rows f id ∙ ap (first_of id) is
+module _ (f : Found) (rows : List Row) (app_is : rows_of f ≡ rows) where
+  first_value_of_rows_is : (id : Text) → first_value f id ≡ first_of id rows
+  first_value_of_rows_is id = first_value-rows f id ∙ ap (first_of id) app_is
 
-  one_is : (id : Text) → one_text f id ≡ one_of id rows
-  one_is id = one_text-rows f id ∙ ap (one_of id) is
+  one_text_of_rows_is : (id : Text) → one_text f id ≡ one_of id rows
+  one_text_of_rows_is id = one_text-rows f id ∙ ap (one_of id) app_is
 
 abbrev digits : Text → ℕ
 digits t = digits_value 10 (without_leading_plus t)
@@ -457,25 +513,37 @@ pub line_is_read : (words : List Text) (m : ArgMatches) → Finds words m → (l
     → IsFlag (one_text (found_of m) (codes "open")) line.plan.with_open
     → option_map string_bytes line.file ≡ first_value (found_of m) (codes "FILE")
     → AreReadAs words line
-line_is_read words m f line n cuts pieces least most workers least_workers most_workers only choice
-    form essential with_open file =
+line_is_read words m f line n cuts_are pieces_are one_le_pieces pieces_le_64 workers_are
+    one_le_workers workers_le_64 only_is choice_is
+    form_is essential_is with_open_is file_is =
     let rows = matches_of f.app words in
-    let first = first_is (found_of m) rows f.rows in
-    let one = one_is (found_of m) rows f.rows in (
+    let first_values_are = first_value_of_rows_is (found_of m) rows f.rows in
+    let one_texts_are = one_text_of_rows_is (found_of m) rows f.rows in (
       f.app,
       f.command,
       f.no_fault,
       record {
-        pieces = (n, cuts, ap (option_map digits) (sym (one (codes "pieces"))) ∙ pieces);
-        workers = ap (option_map digits) (sym (one (codes "workers"))) ∙ workers;
-        only = sym (first (codes "only")) ∙ sym only;
-        choice = sym (first (codes "report")) ∙ choice;
-        form = sym (first (codes "form")) ∙ form;
+        pieces = (
+          n,
+          cuts_are,
+          ap (option_map digits) (sym (one_texts_are (codes "pieces")))
+              ∙ pieces_are,
+        );
+        workers = ap (option_map digits) (sym (one_texts_are (codes "workers"))) ∙ workers_are;
+        only = sym (first_values_are (codes "only")) ∙ sym only_is;
+        choice = sym (first_values_are (codes "report")) ∙ choice_is;
+        form = sym (first_values_are (codes "form")) ∙ form_is;
         essential =
-            subst (λ entry. IsFlag entry line.plan.essential) (one (codes "essential")) essential;
+            subst (λ entry. IsFlag entry line.plan.essential) (one_texts_are (codes "essential"))
+            essential_is;
         with_open =
-            subst (λ entry. IsFlag entry line.plan.with_open) (one (codes "open")) with_open;
-        file = sym (first (codes "FILE")) ∙ sym file;
-        lawful = (subst IsLawfulCutting (sym cuts) (least, most), least_workers, most_workers);
+            subst (λ entry. IsFlag entry line.plan.with_open) (one_texts_are (codes "open"))
+            with_open_is;
+        file = sym (first_values_are (codes "FILE")) ∙ sym file_is;
+        lawful = (
+          subst IsLawfulCutting (sym cuts_are) (one_le_pieces, pieces_le_64),
+          one_le_workers,
+          workers_le_64,
+        );
       },
     )

@@ -1,6 +1,6 @@
 -- The model of `Lists` is `cut_at 0 ends items`: the one list, cut at the ends. Its invariant is
--- `AreEnds`: the ends ascend, and the last is the length. `push` has both by `more_joined`; so has
--- a caller that concatenates its lists itself, with `none_joined` and `joined_all`, and then calls
--- `from_ends`. `get` and `between` are `part_of_one` and `part_between`. All are in
--- `ListsLaw.antt`.
+-- `AreEnds`: the ends ascend, and the last is the length. `push` has both by
+-- `joined_with_one_more`; so has a caller that concatenates its lists itself, with `none_joined`
+-- and `taken_joined_are_all_joined`, and then calls `from_ends`. `get` and `between` are
+-- `list_is_part` and `joined_lists_are_part`. All are in `ListsLaw.antt`.
 pub mod ListsLaw

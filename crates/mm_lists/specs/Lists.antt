@@ -8,13 +8,13 @@ module _ {X : Type 0} where
 
   -- the lists, from the place where the first begins and the places where they end
   abbrev pub cut_at : ℕ → List ℕ → List X → List (List X)
-  cut_at from [] all = []
-  cut_at from (end ∷ ends) all = slice_range all from end ∷ cut_at end ends all
+  cut_at from [] items = []
+  cut_at from (end ∷ ends) items = slice_range items from end ∷ cut_at end ends items
 
   -- the lists, each from its place up to the next
   abbrev pub cut : List ℕ → List X → List (List X)
-  cut [] all = []
-  cut (from ∷ ends) all = cut_at from ends all
+  cut [] items = []
+  cut (from ∷ ends) items = cut_at from ends items
 
 -- no place is less than the one before it, and the last is the length of the one list
 abbrev pub AreEnds : ℕ → List ℕ → ℕ → Type 0
@@ -32,7 +32,7 @@ with_end [] end = 0 ∷ end ∷ []
 with_end (place ∷ places) end = place ∷ places ++ end ∷ []
 
 -- `all` is the lists one after the other, between these places
-pub record AreJoined {X : Type 0} (lists : List (List X)) (all : List X)
+pub record AreJoined {X : Type 0} (lists : List (List X)) (items : List X)
     (places : List ℕ) : Type 0 where
-  pub order : ArePlaces places (length all)
-  pub are : cut places all ≡ lists
+  pub are_places : ArePlaces places (length items)
+  pub cut_is_lists : cut places items ≡ lists

@@ -61,8 +61,8 @@ pub fn end_list<T, A: Allocator>(
 /// The elements from place `from` up to, but not including, place `to`.
 #[inline(always)]
 fn items_between<T, A: Allocator>(items: &Vec<T, A>, from: usize, to: usize) -> &[T]
-    requires order { from ≤ to }
-    requires within { to ≤ length items.now.items }
+    requires from_le_to { from ≤ to }
+    requires to_le_length { to ≤ length items.now.items }
     ensures { result.now ≡ slice_range items.now.items from to }
 {
     &items[from..to]
@@ -138,8 +138,8 @@ impl<T, A: Allocator> Lists<T, A> {
     #[inline(always)]
     pub fn get(&self, index: usize) -> &[T]
         requires { index < length self.now }
-        ensures is { result.now ≡ slice_index_or self.now index [] }
-        ensures few { length result.now < 2 ^ 32 }
+        ensures is_list { result.now ≡ slice_index_or self.now index [] }
+        ensures length_lt_2_32 { length result.now < 2 ^ 32 }
     {
         // The end is read first: the test that its index is in range is one for the beginning too.
         let end = self.places[index + 1] as usize;
@@ -148,8 +148,8 @@ impl<T, A: Allocator> Lists<T, A> {
 
     /// The lists with indices from `from` up to, but not including, `to`, joined into one.
     pub fn between(&self, from: usize, to: usize) -> &[T]
-        requires order { from ≤ to }
-        requires within { to ≤ length self.now }
+        requires from_le_to { from ≤ to }
+        requires to_le_count { to ≤ length self.now }
         ensures { result.now ≡ joined (slice_range self.now from to) }
     {
         // Where there are no lists yet, there may be no places.

@@ -9,7 +9,7 @@ use Rattle.std.proofs.lemmas.List.{take-append-drop, take_all, take_more, drop_a
 use Rattle.std.proofs.lemmas.List.Elements.{All-from_recursion, recursion_from_All, All-push}
 use Rattle.std.proofs.lemmas.List.Elements.{All-take, All-drop, All-append, All-get_or, All-nil}
 use Rattle.mm_spec.specs.Derivation.{Formula}
-use Rattle.mm_spec.proofs.StepsLaw.{top_append}
+use Rattle.mm_spec.proofs.StepsLaw.{top_of_appended}
 use Rattle.mm_spec.specs.Laws.Stack.{top}
 use Rattle.mm_machine.specs.declared.arena.Span.{Span}
 use Rattle.mm_machine.specs.declared.arena.Store.{Store}
@@ -385,7 +385,7 @@ module _ (unmarked marked : List ℕ) (es : List Span) (last_index : ℕ) (e : S
       ≡ span_formula (arena unmarked marked) e
   top_is_last_formula =
       ap top formulas_split_before_last
-      ∙ top_append (span_formulas (arena unmarked marked) all_but_last)
+      ∙ top_of_appended (span_formulas (arena unmarked marked) all_but_last)
       (span_formula (arena unmarked marked) e)
 
   split_stack : IsStack unmarked marked (all_but_last ++ e ∷ [])

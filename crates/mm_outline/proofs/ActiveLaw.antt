@@ -13,44 +13,47 @@ use Rattle.mm_outline.specs.Parts.{statement_of, statement_between}
 use Rattle.mm_outline.specs.Blocks.{BlockLists, IsBlocks, end_of}
 use Rattle.mm_outline.specs.Statements.{statements, active_kind}
 
-kind_is : (text : List ℕ) (ws : List Word) (k : Kind) (w m e : ℕ) (b : Bool)
+active_kind_is_activity : (text : List ℕ) (ws : List Word) (k : Kind) (w m e : ℕ) (b : Bool)
     → active_kind k b ≡ is_still_active (statement_between text ws k w m e) b
-kind_is text ws kind.Constants w m e b = refl
-kind_is text ws kind.Axiom w m e b = refl
-kind_is text ws kind.Theorem w m e b = refl
-kind_is text ws kind.Open w m e b = refl
-kind_is text ws kind.Close w m e b = refl
-kind_is text ws kind.Variables w m e b = refl
-kind_is text ws kind.Disjoint w m e b = refl
-kind_is text ws kind.Floating w m e b = refl
-kind_is text ws kind.Essential w m e b = refl
+active_kind_is_activity text ws kind.Constants w m e b = refl
+active_kind_is_activity text ws kind.Axiom w m e b = refl
+active_kind_is_activity text ws kind.Theorem w m e b = refl
+active_kind_is_activity text ws kind.Open w m e b = refl
+active_kind_is_activity text ws kind.Close w m e b = refl
+active_kind_is_activity text ws kind.Variables w m e b = refl
+active_kind_is_activity text ws kind.Disjoint w m e b = refl
+active_kind_is_activity text ws kind.Floating w m e b = refl
+active_kind_is_activity text ws kind.Essential w m e b = refl
 
-pub get_map : {X Y : Type 0} (f : X → Y) (xs : List X) (i : ℕ) (d : X) → i < length xs
+pub got_of_mapped : {X Y : Type 0} (f : X → Y) (xs : List X) (i : ℕ) (d : X) → i < length xs
     → slice_get (map f xs) i ≡ Some (f (get_or xs i d))
-get_map f [] i d h = absurd (omega arith)
-get_map f (x ∷ xs) zero d h = refl
-get_map f (x ∷ xs) (suc i) d h = get_map f xs i d (omega arith)
+got_of_mapped f [] i d i_lt_length = absurd (omega arith)
+got_of_mapped f (x ∷ xs) zero d i_lt_length = refl
+got_of_mapped f (x ∷ xs) (suc i) d i_lt_length = got_of_mapped f xs i d (omega arith)
 
-pub active_is : (text : List ℕ) (ws : List Word) (os : List Outline) (b : BlockLists)
+pub active_test_is_activity : (text : List ℕ) (ws : List Word) (os : List Outline) (b : BlockLists)
     → IsBlocks (statements text ws os) b → (j k : ℕ) → j < length os → k ≤ length os → (d : Outline)
     → (nat_lt j k && active_kind (get_or os j d).kind (nat_le k (end_of b j)))
     ≡ is_active (statements text ws os) j k
-active_is text ws os b x j k h l d = by_order (cases_lt j k)
+active_test_is_activity text ws os b is_blocks j k j_lt_length k_le_length d =
+    active_by_order (cases_lt j k)
   where
-    by_order : (j < k) ⊎ (k ≤ j)
+    active_by_order : (j < k) ⊎ (k ≤ j)
         → (nat_lt j k && active_kind (get_or os j d).kind (nat_le k (end_of b j)))
         ≡ is_active (statements text ws os) j k
-    by_order (inr n) =
-        ap (λ t. t && active_kind (get_or os j d).kind (nat_le k (end_of b j))) (le-ltb j k n)
+    active_by_order (inr j_k_order) =
+        ap (λ t. t && active_kind (get_or os j d).kind (nat_le k (end_of b j)))
+        (le-ltb j k j_k_order)
         ∙ sym (ap
         (λ t. t && is_some_still_active (slice_get (statements text ws os) j)
-        (is_block_open (statements text ws os) j k)) (le-ltb j k n))
-    by_order (inl n) =
+        (is_block_open (statements text ws os) j k)) (le-ltb j k j_k_order))
+    active_by_order (inl j_k_order) =
         let o = get_or os j d in
         ap (λ t. nat_lt j k && t)
-        (kind_is text ws o.kind o.keyword o.middle o.end (nat_le k (end_of b j))
+        (active_kind_is_activity text ws o.kind o.keyword o.middle o.end (nat_le k (end_of b j))
         ∙ ap (is_still_active (statement_of text ws o))
-        (sym (x.ended j k n
-        (let m = length-map os (statement_of text ws) in omega (arith, m, l))))
+        (sym (is_blocks.open_up_to_end j k j_k_order
+        (let length_is = length-map os (statement_of text ws) in
+        omega (arith, length_is, k_le_length))))
         ∙ ap (λ q. is_some_still_active q (is_block_open (statements text ws os) j k))
-        (sym (get_map (statement_of text ws) os j d h)))
+        (sym (got_of_mapped (statement_of text ws) os j d j_lt_length)))

@@ -11,20 +11,21 @@ use Rattle.mm_spec.specs.Statement.{Statement}
 use Rattle.mm_spec.specs.Scope.{Typing, statement_at, typings_of}
 use Rattle.mm_outline.specs.Typed.{has_word, typed_words}
 
-pub any_false : (q : ℕ → Bool) (n a : ℕ) → ((j : ℕ) → j < a + n → q j ≡ false)
+pub none_passes_no_any : (q : ℕ → Bool) (n a : ℕ) → ((j : ℕ) → j < a + n → q j ≡ false)
     → list_any q (range_with_len a n) ≡ false
-any_false q zero a h = refl
-any_false q (suc n) a h =
-    ap₂ (λ x y. x || y) (h a (omega arith)) (any_false q n (a + 1) (λ j l. h j (omega arith)))
+none_passes_no_any q zero a none_passes = refl
+none_passes_no_any q (suc n) a none_passes =
+    ap₂ (λ x y. x || y) (none_passes a (omega arith))
+    (none_passes_no_any q n (a + 1) (λ j j_lt_end. none_passes j (omega arith)))
 
 module _ (db : List Statement) (f : Statement → List Bytes) (w : Bytes) where
-  pub among_active : (p : ℕ → Bool) (n a : ℕ)
+  pub word_of_active_is_any : (p : ℕ → Bool) (n a : ℕ)
       → is_in w (flat_map f (flat_map (statement_at db) (filter p (range_with_len a n))))
       ≡ list_any (λ j. p j && has_word db f w j) (range_with_len a n)
-  among_active p zero a = refl
-  among_active p (suc n) a = by_test (p a) (among_active p n (a + 1))
+  word_of_active_is_any p zero a = refl
+  word_of_active_is_any p (suc n) a = among_by_test (p a) (word_of_active_is_any p n (a + 1))
     where
-      by_test : (b : Bool)
+      among_by_test : (b : Bool)
           → is_in w (flat_map f (flat_map (statement_at db) (filter p (range_with_len (a + 1) n))))
           ≡ list_any (λ j. p j && has_word db f w j) (range_with_len (a + 1) n)
           → is_in w
@@ -33,26 +34,26 @@ module _ (db : List Statement) (f : Statement → List Bytes) (w : Bytes) where
           (cond b (a ∷ filter p (range_with_len (a + 1) n)) (filter p (range_with_len (a + 1) n)))))
           ≡ ((b && has_word db f w a)
           || list_any (λ j. p j && has_word db f w j) (range_with_len (a + 1) n))
-      by_test true r =
+      among_by_test true later_among =
           ap (is_in w)
           (flat_map-append f (statement_at db a)
           (flat_map (statement_at db) (filter p (range_with_len (a + 1) n))))
           ∙ list_any-append _ (flat_map f (statement_at db a))
           (flat_map f (flat_map (statement_at db) (filter p (range_with_len (a + 1) n))))
-          ∙ ap (λ b. has_word db f w a || b) r
-      by_test false r = r
+          ∙ ap (λ b. has_word db f w a || b) later_among
+      among_by_test false later_among = later_among
 
-any_map : (w : Bytes) (ts : List Typing)
+typed_variable_is_any : (w : Bytes) (ts : List Typing)
     → list_any (λ t. bytes_eq w t.variable) ts ≡ is_in w (map (λ t. t.variable) ts)
-any_map w [] = refl
-any_map w (t ∷ ts) = ap (λ b. bytes_eq w t.variable || b) (any_map w ts)
+typed_variable_is_any w [] = refl
+typed_variable_is_any w (t ∷ ts) = ap (λ b. bytes_eq w t.variable || b) (typed_variable_is_any w ts)
 
 -- whether a statement types a word
-pub typed_in : (w : Bytes) (xs : List Statement)
+pub typed_word_is_typing : (w : Bytes) (xs : List Statement)
     → list_any (λ t. bytes_eq w t.variable) (flat_map typings_of xs)
     ≡ is_in w (flat_map typed_words xs)
-typed_in w [] = refl
-typed_in w (s ∷ xs) =
+typed_word_is_typing w [] = refl
+typed_word_is_typing w (s ∷ xs) =
     grind (
       arith,
       common_steps,
@@ -60,7 +61,7 @@ typed_in w (s ∷ xs) =
       bytes_eq,
       typings_of,
       flat_map,
-      any_map,
+      typed_variable_is_any,
       typed_words,
-      (typed_in w xs),
+      (typed_word_is_typing w xs),
     )

@@ -10,8 +10,8 @@ use Rattle.std.proofs.Math.Seq.{get_or-append_seam}
 use Rattle.std.specs.List.{list_all, range_with_len}
 use Rattle.mm_spec.specs.Statement.{Statement, is_opening, is_closing}
 use Rattle.mm_spec.specs.Scope.{depth, is_block_open}
-use Rattle.mm_spec.proofs.ActivityLaw.{is_block_open_more}
-use Rattle.mm_spec.proofs.ShapeLaw.{count_end}
+use Rattle.mm_spec.proofs.ActivityLaw.{is_block_open_one_later}
+use Rattle.mm_spec.proofs.ShapeLaw.{count_of_list_and_last}
 use Rattle.mm_outline.specs.Blocks.{BlockLists, block_lists, never, innermost, end_of}
 use Rattle.mm_outline.specs.Blocks.{IsBlocks}
 
@@ -24,106 +24,121 @@ module _ (db : List Statement) (s : Statement) where
   length_more : length more ≡ length db + 1
   length_more = length-append db (s ∷ [])
 
-  pub depth_front : (i : ℕ) → i ≤ length db → depth more i ≡ depth db i
-  depth_front i h =
-      ap₂ (λ a b. a - b) (ap (count_by is_opening) (take-append-le i db (s ∷ []) h))
-      (ap (count_by is_closing) (take-append-le i db (s ∷ []) h))
+  pub depth_before_is_kept : (i : ℕ) → i ≤ length db → depth more i ≡ depth db i
+  depth_before_is_kept i i_le_length =
+      ap₂ (λ a b. a - b) (ap (count_by is_opening) (take-append-le i db (s ∷ []) i_le_length))
+      (ap (count_by is_closing) (take-append-le i db (s ∷ []) i_le_length))
 
-  pub depth_end : depth db (length db) ≡ count_by is_opening db - count_by is_closing db
-  depth_end =
+  pub depth_at_end : depth db (length db) ≡ count_by is_opening db - count_by is_closing db
+  depth_at_end =
       ap₂ (λ a b. a - b) (ap (count_by is_opening) (take_all (length db) db (le_refl (length db))))
       (ap (count_by is_closing) (take_all (length db) db (le_refl (length db))))
 
-  pub depth_last : depth more (length db + 1)
+  pub depth_after_one_more : depth more (length db + 1)
       ≡ (count_by is_opening db + cond (is_opening s) 1 0) -
       (count_by is_closing db + cond (is_closing s) 1 0)
-  depth_last =
-      let l : length more ≤ length db + 1 = omega (arith, length_more) in
+  depth_after_one_more =
+      let length_le : length more ≤ length db + 1 = omega (arith, length_more) in
       ap₂ (λ a b. a - b)
-      (ap (count_by is_opening) (take_all (length db + 1) more l) ∙ count_end is_opening db s)
-      (ap (count_by is_closing) (take_all (length db + 1) more l) ∙ count_end is_closing db s)
+      (ap (count_by is_opening) (take_all (length db + 1) more length_le)
+      ∙ count_of_list_and_last is_opening db s)
+      (ap (count_by is_closing) (take_all (length db + 1) more length_le)
+      ∙ count_of_list_and_last is_closing db s)
 
-  same_all : (d e : ℕ) (f g : ℕ → ℕ) (n a : ℕ) → d ≡ e → ((i : ℕ) → i < a + n → f i ≡ g i)
+  equal_values_equal_tests : (d e : ℕ) (f g : ℕ → ℕ) (n a : ℕ) → d ≡ e
+      → ((i : ℕ) → i < a + n → f i ≡ g i)
       → list_all (λ i. nat_le d (f i)) (range_with_len a n)
       ≡ list_all (λ i. nat_le e (g i)) (range_with_len a n)
-  same_all d e f g zero a h k = refl
-  same_all d e f g (suc n) a h k =
-      ap₂ (λ x y. x && y) (ap₂ nat_le h (k a (omega arith)))
-      (same_all d e f g n (a + 1) h (λ i l. k i (omega arith)))
+  equal_values_equal_tests d e f g zero a d_eq_e values_equal = refl
+  equal_values_equal_tests d e f g (suc n) a d_eq_e values_equal =
+      ap₂ (λ x y. x && y) (ap₂ nat_le d_eq_e (values_equal a (omega arith)))
+      (equal_values_equal_tests d e f g n (a + 1) d_eq_e
+      (λ i i_lt_end. values_equal i (omega arith)))
 
-  pub stays_front : (j k : ℕ) → j < k → k ≤ length db
+  pub open_before_is_kept : (j k : ℕ) → j < k → k ≤ length db
       → is_block_open more j k ≡ is_block_open db j k
-  stays_front j k h l =
-      same_all (depth more j) (depth db j) (depth more) (depth db) (k - j) (j + 1)
-      (depth_front j (omega arith)) (λ i m. depth_front i (omega arith))
+  open_before_is_kept j k j_lt_k k_le_length =
+      equal_values_equal_tests (depth more j) (depth db j) (depth more) (depth db) (k - j) (j + 1)
+      (depth_before_is_kept j (omega arith)) (λ i i_lt_end. depth_before_is_kept i (omega arith))
 
-  stays_here : (j : ℕ) → is_block_open more j j ≡ true
-  stays_here j =
-      let n : j - j ≡ 0 = omega arith in
-      ap (λ m. list_all (λ i. nat_le (depth more j) (depth more i)) (range_with_len (j + 1) m)) n
+  block_is_open_at_itself : (j : ℕ) → is_block_open more j j ≡ true
+  block_is_open_at_itself j =
+      let no_difference : j - j ≡ 0 = omega arith in
+      ap (λ m. list_all (λ i. nat_le (depth more j) (depth more i)) (range_with_len (j + 1) m))
+      no_difference
 
   -- the block of statement j is open after the new statement exactly if it is open before it, and
   -- the depth after it is no less than that at j
-  pub stays_last : (j : ℕ) → j < length db
+  pub open_after_one_more : (j : ℕ) → j < length db
       → is_block_open more j (length db + 1)
       ≡ (is_block_open db j (length db) && nat_le (depth db j) (depth more (length db + 1)))
-  stays_last j h =
-      let e : suc (length db) ≡ length db + 1 = omega arith in
+  open_after_one_more j j_lt_length =
+      let suc_is_plus_one : suc (length db) ≡ length db + 1 = omega arith in
       subst (λ n. is_block_open more j n
-      ≡ (is_block_open more j (length db) && nat_le (depth more j) (depth more n))) e
-      (is_block_open_more more j (length db) (omega arith))
+      ≡ (is_block_open more j (length db) && nat_le (depth more j) (depth more n))) suc_is_plus_one
+      (is_block_open_one_later more j (length db) (omega arith))
       ∙ ap₂ (λ a b. a && nat_le b (depth more (length db + 1)))
-      (stays_front j (length db) h (le_refl (length db))) (depth_front j (omega arith))
+      (open_before_is_kept j (length db) j_lt_length (le_refl (length db)))
+      (depth_before_is_kept j (omega arith))
 
-  pub stays_new : is_block_open more (length db) (length db + 1)
+  pub new_block_is_open : is_block_open more (length db) (length db + 1)
       ≡ nat_le (depth db (length db)) (depth more (length db + 1))
-  stays_new =
-      let e : suc (length db) ≡ length db + 1 = omega arith in
+  new_block_is_open =
+      let suc_is_plus_one : suc (length db) ≡ length db + 1 = omega arith in
       subst (λ n. is_block_open more (length db) n
       ≡ (is_block_open more (length db) (length db)
       && nat_le (depth more (length db)) (depth more n)))
-      e (is_block_open_more more (length db) (length db) (le_refl (length db)))
-      ∙ ap₂ (λ a b. a && nat_le b (depth more (length db + 1))) (stays_here (length db))
-      (depth_front (length db) (le_refl (length db)))
+      suc_is_plus_one (is_block_open_one_later more (length db) (length db) (le_refl (length db)))
+      ∙ ap₂ (λ a b. a && nat_le b (depth more (length db + 1)))
+      (block_is_open_at_itself (length db))
+      (depth_before_is_kept (length db) (le_refl (length db)))
 
-module _ (db : List Statement) (s : Statement) (b : BlockLists) (x : IsBlocks db b)
-    (few : length db < never) where
+module _ (db : List Statement) (s : Statement) (b : BlockLists) (is_blocks : IsBlocks db b)
+    (length_lt_never : length db < never) where
   t : ℕ
   t = innermost b.open_blocks
 
   abbrev of_more : List ℕ
-  of_more = b.of ++ innermost b.open_blocks ∷ []
+  of_more = b.block_of ++ innermost b.open_blocks ∷ []
 
-  of_front : (j : ℕ) → j < length db → get_or of_more j 0 ≡ get_or b.of j 0
-  of_front j h =
-      get_or_append_left b.of (innermost b.open_blocks ∷ []) 0 j
-      (let c = x.count in omega (arith, c, h))
+  old_block_of_is_kept : (j : ℕ) → j < length db → get_or of_more j 0 ≡ get_or b.block_of j 0
+  old_block_of_is_kept j j_lt_length =
+      get_or_append_left b.block_of (innermost b.open_blocks ∷ []) 0 j
+      (let counts_equal = is_blocks.count in omega (arith, counts_equal, j_lt_length))
 
-  of_last : get_or of_more (length db) 0 ≡ innermost b.open_blocks
-  of_last =
-      subst (λ n. get_or of_more n 0 ≡ innermost b.open_blocks) x.count
-      (get_or-append_seam b.of (innermost b.open_blocks) [] 0)
+  new_block_of_is_innermost : get_or of_more (length db) 0 ≡ innermost b.open_blocks
+  new_block_of_is_innermost =
+      subst (λ n. get_or of_more n 0 ≡ innermost b.open_blocks) is_blocks.count
+      (get_or-append_seam b.block_of (innermost b.open_blocks) [] 0)
 
   -- where a statement is: an old one or the new one
-  either : {P : ℕ → Type 0} (j : ℕ) → j < length (more db s) → ((i : ℕ) → i < length db → P i)
+  holds_of_old_and_new : {P : ℕ → Type 0} (j : ℕ) → j < length (more db s)
+      → ((i : ℕ) → i < length db → P i)
       → P (length db) → P j
-  either {P = P} j h old new = by_order (cases_lt j (length db))
+  holds_of_old_and_new {P = P} j j_lt_longer holds_before holds_of_new =
+      holds_by_order (cases_lt j (length db))
     where
-      by_order : (j < length db) ⊎ (length db ≤ j) → P j
-      by_order (inl l) = old j l
-      by_order (inr l) = let e : length db ≡ j = omega (arith, length_more db s) in subst P e new
+      holds_by_order : (j < length db) ⊎ (length db ≤ j) → P j
+      holds_by_order (inl j_order) = holds_before j j_order
+      holds_by_order (inr j_order) =
+          let length_is_j : length db ≡ j = omega (arith, length_more db s) in
+          subst P length_is_j holds_of_new
 
-  top_opened : innermost b.open_blocks < length b.ends
-  top_opened = let k = x.stack in x.opened (length b.open_blocks - 1) (omega (arith, k))
+  innermost_has_end : innermost b.open_blocks < length b.ends
+  innermost_has_end =
+      let stack_size_is = is_blocks.stack_size_is in
+      is_blocks.open_blocks_have_ends (length b.open_blocks - 1) (omega (arith, stack_size_is))
 
-  top_still : get_or b.ends (innermost b.open_blocks) 0 ≡ never
-  top_still = let k = x.stack in x.still (length b.open_blocks - 1) (omega (arith, k))
+  innermost_is_unended : get_or b.ends (innermost b.open_blocks) 0 ≡ never
+  innermost_is_unended =
+      let stack_size_is = is_blocks.stack_size_is in
+      is_blocks.open_blocks_are_unended (length b.open_blocks - 1) (omega (arith, stack_size_is))
 
-  top_at : innermost b.open_blocks ≡ get_or b.open_blocks (depth db (length db)) 0
-  top_at =
-      let k = x.stack in
-      let e : length b.open_blocks - 1 ≡ depth db (length db) = omega (arith, k) in
-      ap (λ n. get_or b.open_blocks n 0) e
+  innermost_is_at_depth : innermost b.open_blocks ≡ get_or b.open_blocks (depth db (length db)) 0
+  innermost_is_at_depth =
+      let stack_size_is = is_blocks.stack_size_is in
+      let top_is : length b.open_blocks - 1 ≡ depth db (length db) = omega (arith, stack_size_is) in
+      ap (λ n. get_or b.open_blocks n 0) top_is
 
   -- what becomes of a statement's block
   module _ (ends opens : List ℕ) where
@@ -139,267 +154,349 @@ module _ (db : List Statement) (s : Statement) (b : BlockLists) (x : IsBlocks db
     abbrev Becomes : ℕ → Type 0
     Becomes j =
         ((end_of b j ≡ never)
-        × (IsOpen (get_or b.of j 0) (depth db j) ⊎ IsClosed (get_or b.of j 0) (depth db j)))
-        ⊎ ((end_of b j < length db) × (get_or ends (get_or b.of j 0) 0 ≡ end_of b j))
+        × (IsOpen (get_or b.block_of j 0) (depth db j)
+        ⊎ IsClosed (get_or b.block_of j 0) (depth db j)))
+        ⊎ ((end_of b j < length db) × (get_or ends (get_or b.block_of j 0) 0 ≡ end_of b j))
 
     record Grows : Type 0 where
-      nested : count_by is_closing (more db s) ≤ count_by is_opening (more db s)
-      stack : length opens ≡ depth (more db s) (length db + 1) + 1
-      longer : length b.ends ≤ length ends
-      few-more : length ends ≤ length db + 2
-      opened : (l : ℕ) → l < length opens → get_or opens l 0 < length ends
-      still : (l : ℕ) → l < length opens → get_or ends (get_or opens l 0) 0 ≡ never
-      rising : (l m : ℕ) → l < m → m < length opens → get_or opens l 0 < get_or opens m 0
-      becomes : (j : ℕ) → j < length db → Becomes j
-      new : IsOpen (innermost b.open_blocks) (depth db (length db))
+      closings_le_openings : count_by is_closing (more db s) ≤ count_by is_opening (more db s)
+      stack_size_is : length opens ≡ depth (more db s) (length db + 1) + 1
+      ends_only_grow : length b.ends ≤ length ends
+      ends_le_next : length ends ≤ length db + 2
+      open_blocks_have_ends : (l : ℕ) → l < length opens → get_or opens l 0 < length ends
+      open_blocks_are_unended : (l : ℕ) → l < length opens
+          → get_or ends (get_or opens l 0) 0 ≡ never
+      open_blocks_rise : (l m : ℕ) → l < m → m < length opens → get_or opens l 0 < get_or opens m 0
+      old_blocks_become : (j : ℕ) → j < length db → Becomes j
+      new_block_becomes : IsOpen (innermost b.open_blocks) (depth db (length db))
           ⊎ IsClosed (innermost b.open_blocks) (depth db (length db))
 
-    grown : Grows → IsBlocks (more db s) (block_lists of_more ends opens)
-    grown g = record {
+    grows_keeps_blocks : Grows → IsBlocks (more db s) (block_lists of_more ends opens)
+    grows_keeps_blocks grows = record {
       count =
-          let c = x.count in
-          omega (arith, c, length_more db s, length-append b.of (innermost b.open_blocks ∷ []));
-      few = let m = g.few-more in omega (arith, m, length_more db s);
-      nested = g.nested;
-      stack = rw (length_more db s) g.stack;
-      known =
-          λ j h. either {P = λ j. get_or of_more j 0 < length ends} j h
-          (λ i l. rw (of_front i l)
-          (let k = x.known i l in let m = g.longer in omega (arith, k, m)))
-          (rw of_last (let k = top_opened in let m = g.longer in omega (arith, k, m)));
-      opened = g.opened;
-      still = g.still;
-      rising = g.rising;
-      at =
-          λ j h e. either {P = λ j. get_or ends (get_or of_more j 0) 0 ≡ never
+          let counts_equal = is_blocks.count in
+          omega (
+            arith,
+            counts_equal,
+            length_more db s,
+            length-append b.block_of
+                (innermost b.open_blocks ∷ []),
+          );
+      ends_le_statements =
+          let grown_bound = grows.ends_le_next in omega (arith, grown_bound, length_more db s);
+      closings_le_openings = grows.closings_le_openings;
+      stack_size_is = rw (length_more db s) grows.stack_size_is;
+      blocks_have_ends =
+          λ j j_lt_longer. holds_of_old_and_new {P = λ j. get_or of_more j 0 < length ends} j
+          j_lt_longer
+          (λ j j_lt_length. rw (old_block_of_is_kept j j_lt_length)
+          (let has_end = is_blocks.blocks_have_ends j j_lt_length in
+          let grown_bound = grows.ends_only_grow in omega (arith, has_end, grown_bound)))
+          (rw new_block_of_is_innermost (let has_end = innermost_has_end in
+          let grown_bound = grows.ends_only_grow in
+          omega (arith, has_end, grown_bound)));
+      open_blocks_have_ends = grows.open_blocks_have_ends;
+      open_blocks_are_unended = grows.open_blocks_are_unended;
+      open_blocks_rise = grows.open_blocks_rise;
+      unended_is_on_stack =
+          λ j j_lt_longer is_unended. holds_of_old_and_new
+          {P = λ j. get_or ends (get_or of_more j 0) 0 ≡ never
           → (depth (more db s) j ≤ depth (more db s) (length (more db s)))
-          × (get_or opens (depth (more db s) j) 0 ≡ get_or of_more j 0)} j h at-old
-          (at-new g.new) e;
-      ended = ended;
-      bounds =
-          λ j h. either {P = λ j. (get_or ends (get_or of_more j 0) 0 ≡ never)
-          ⊎ (get_or ends (get_or of_more j 0) 0 < length (more db s))} j h bounds-old
-          (bounds-new g.new);
+          × (get_or opens (depth (more db s) j) 0 ≡ get_or of_more j 0)} j j_lt_longer
+          old_is_on_stack
+          (new_is_on_stack grows.new_block_becomes) is_unended;
+      open_up_to_end = open_up_to_its_end;
+      ends_are_bounded =
+          λ j j_lt_longer. holds_of_old_and_new
+          {P = λ j. (get_or ends (get_or of_more j 0) 0 ≡ never)
+          ⊎ (get_or ends (get_or of_more j 0) 0 < length (more db s))} j j_lt_longer
+          old_end_is_bounded
+          (new_end_is_bounded grows.new_block_becomes);
     }
       where
         n : ℕ
         n = length db
 
-        at-new : IsOpen (innermost b.open_blocks) (depth db (length db))
+        new_is_on_stack : IsOpen (innermost b.open_blocks) (depth db (length db))
             ⊎ IsClosed (innermost b.open_blocks) (depth db (length db))
             → get_or ends (get_or of_more (length db) 0) 0 ≡ never
             → (depth (more db s) (length db) ≤ depth (more db s) (length (more db s)))
             × (get_or opens (depth (more db s) (length db)) 0 ≡ get_or of_more (length db) 0)
-        at-new (inl o) e =
-            rw (length_more db s, depth_front db s (length db) (le_refl (length db)), of_last)
-            (o.1, o.2)
-        at-new (inr c) e =
-            absurd (let f : get_or ends (innermost b.open_blocks) 0
-            ≡ never = ap (λ k. get_or ends k 0) (sym of_last) ∙ e in omega (arith, f, c.0, few))
+        new_is_on_stack (inl is_open) is_unended =
+            rw (
+              length_more db s,
+              depth_before_is_kept db s (length db) (le_refl (length db)),
+              new_block_of_is_innermost,
+            )
+            (is_open.1, is_open.2)
+        new_is_on_stack (inr is_closed) is_unended =
+            absurd (let innermost_is_unended : get_or ends (innermost b.open_blocks) 0
+            ≡ never = ap (λ k. get_or ends k 0) (sym new_block_of_is_innermost) ∙ is_unended in
+            omega (arith, innermost_is_unended, is_closed.0, length_lt_never))
 
-        at-old : (j : ℕ) → j < length db → get_or ends (get_or of_more j 0) 0 ≡ never
+        old_is_on_stack : (j : ℕ) → j < length db → get_or ends (get_or of_more j 0) 0 ≡ never
             → (depth (more db s) j ≤ depth (more db s) (length (more db s)))
             × (get_or opens (depth (more db s) j) 0 ≡ get_or of_more j 0)
-        at-old j h e =
-            by_becomes (g.becomes j h) (ap (λ k. get_or ends k 0) (sym (of_front j h)) ∙ e)
+        old_is_on_stack j j_lt_length is_unended =
+            on_stack_by_becomes (grows.old_blocks_become j j_lt_length)
+            (ap (λ k. get_or ends k 0) (sym (old_block_of_is_kept j j_lt_length)) ∙ is_unended)
           where
-            by_becomes : Becomes j → get_or ends (get_or b.of j 0) 0 ≡ never
+            on_stack_by_becomes : Becomes j → get_or ends (get_or b.block_of j 0) 0 ≡ never
                 → (depth (more db s) j ≤ depth (more db s) (length (more db s)))
                 × (get_or opens (depth (more db s) j) 0 ≡ get_or of_more j 0)
-            by_becomes (inl (f, inl o)) e =
-                rw (length_more db s, depth_front db s j (omega (arith, h)), of_front j h)
-                (o.1, o.2)
-            by_becomes (inl (f, inr c)) e = absurd (omega (arith, c.0, few, e))
-            by_becomes (inr p) e = absurd (omega (arith, p.0, p.1, few, e))
+            on_stack_by_becomes (inl (was_unended, inl is_open)) is_unended =
+                rw (
+                  length_more db s,
+                  depth_before_is_kept db s j (omega (arith, j_lt_length)),
+                  old_block_of_is_kept j
+                      j_lt_length,
+                )
+                (is_open.1, is_open.2)
+            on_stack_by_becomes (inl (was_unended, inr is_closed)) is_unended =
+                absurd (omega (arith, is_closed.0, length_lt_never, is_unended))
+            on_stack_by_becomes (inr ended_before) is_unended =
+                absurd (omega (arith, ended_before.0, ended_before.1, length_lt_never, is_unended))
 
-        bounds-new : IsOpen (innermost b.open_blocks) (depth db (length db))
+        new_end_is_bounded : IsOpen (innermost b.open_blocks) (depth db (length db))
             ⊎ IsClosed (innermost b.open_blocks) (depth db (length db))
             → (get_or ends (get_or of_more (length db) 0) 0 ≡ never)
             ⊎ (get_or ends (get_or of_more (length db) 0) 0 < length (more db s))
-        bounds-new (inl o) = inl (ap (λ k. get_or ends k 0) of_last ∙ o.0)
-        bounds-new (inr c) = inr (rw of_last (omega (arith, c.0, length_more db s)))
+        new_end_is_bounded (inl is_open) =
+            inl (ap (λ k. get_or ends k 0) new_block_of_is_innermost ∙ is_open.0)
+        new_end_is_bounded (inr is_closed) =
+            inr (rw new_block_of_is_innermost (omega (arith, is_closed.0, length_more db s)))
 
-        bounds-old : (j : ℕ) → j < length db
+        old_end_is_bounded : (j : ℕ) → j < length db
             → (get_or ends (get_or of_more j 0) 0 ≡ never)
             ⊎ (get_or ends (get_or of_more j 0) 0 < length (more db s))
-        bounds-old j h = by_becomes (g.becomes j h)
+        old_end_is_bounded j j_lt_length =
+            bounded_by_becomes (grows.old_blocks_become j j_lt_length)
           where
-            by_becomes : Becomes j
+            bounded_by_becomes : Becomes j
                 → (get_or ends (get_or of_more j 0) 0 ≡ never)
                 ⊎ (get_or ends (get_or of_more j 0) 0 < length (more db s))
-            by_becomes (inl (f, inl o)) = inl (ap (λ k. get_or ends k 0) (of_front j h) ∙ o.0)
-            by_becomes (inl (f, inr c)) =
-                inr (rw (of_front j h) (omega (arith, c.0, length_more db s)))
-            by_becomes (inr p) = inr (rw (of_front j h) (omega (arith, p.0, p.1, length_more db s)))
+            bounded_by_becomes (inl (was_unended, inl is_open)) =
+                inl (ap (λ k. get_or ends k 0) (old_block_of_is_kept j j_lt_length) ∙ is_open.0)
+            bounded_by_becomes (inl (was_unended, inr is_closed)) =
+                inr (rw (old_block_of_is_kept j j_lt_length)
+                (omega (arith, is_closed.0, length_more db s)))
+            bounded_by_becomes (inr ended_before) =
+                inr
+                (rw (old_block_of_is_kept j j_lt_length)
+                (omega (arith, ended_before.0, ended_before.1, length_more db s)))
 
-        ended : (j k : ℕ) → j < k → k ≤ length (more db s)
-            → is_block_open (more db s) j k ≡ nat_le k (end_of (block_lists of_more ends opens) j)
-        ended j k h l = by_order (cases_lt (length db) k)
+        open_up_to_its_end : (j k : ℕ) → j < k → k ≤ length (more db s)
+            → is_block_open (more db s) j k
+            ≡ nat_le k (end_of (block_lists of_more ends opens) j)
+        open_up_to_its_end j k j_lt_k k_le_length =
+            open_by_order (cases_lt (length db) k)
           where
-            old : j < length db → k ≤ length db → Becomes j
-                → nat_le k (end_of b j) ≡ nat_le k (get_or ends (get_or b.of j 0) 0)
-            old i m (inl (f, inl o)) = ap (nat_le k) (f ∙ sym o.0)
-            old i m (inl (f, inr c)) =
-                le-leb k (end_of b j) (omega (arith, f, few))
-                ∙ sym (le-leb k (get_or ends (get_or b.of j 0) 0) (omega (arith, c.0)))
-            old i m (inr p) = ap (nat_le k) (sym p.1)
+            open_up_to_old_end : j < length db → k ≤ length db → Becomes j
+                → nat_le k (end_of b j) ≡ nat_le k (get_or ends (get_or b.block_of j 0) 0)
+            open_up_to_old_end j_lt_length k_le_length (inl (was_unended, inl is_open)) =
+                ap (nat_le k) (was_unended ∙ sym is_open.0)
+            open_up_to_old_end j_lt_length k_le_length (inl (was_unended, inr is_closed)) =
+                le-leb k (end_of b j) (omega (arith, was_unended, length_lt_never))
+                ∙ sym (le-leb k (get_or ends (get_or b.block_of j 0) 0)
+                (omega (arith, is_closed.0)))
+            open_up_to_old_end j_lt_length k_le_length (inr ended_before) =
+                ap (nat_le k) (sym ended_before.1)
 
-            last : (i : j < length db) → Becomes j
+            open_after_old : (j_lt_length : j < length db) → Becomes j
                 → (is_block_open db j (length db)
                 && nat_le (depth db j) (depth (more db s) (length db + 1)))
-                ≡ nat_le (length db + 1) (get_or ends (get_or b.of j 0) 0)
-            last i (inl (f, inl o)) =
+                ≡ nat_le (length db + 1) (get_or ends (get_or b.block_of j 0) 0)
+            open_after_old j_lt_length (inl (was_unended, inl is_open)) =
                 ap₂ (λ a b. a && b)
-                (x.ended j (length db) i (le_refl (length db))
-                ∙ le-leb (length db) (end_of b j) (omega (arith, f, few)))
-                (le-leb (depth db j) (depth (more db s) (length db + 1)) o.1)
-                ∙ sym (le-leb (length db + 1) (get_or ends (get_or b.of j 0) 0)
-                (omega (arith, o.0, few)))
-            last i (inl (f, inr c)) =
+                (is_blocks.open_up_to_end j (length db) j_lt_length (le_refl (length db))
+                ∙ le-leb (length db) (end_of b j) (omega (arith, was_unended, length_lt_never)))
+                (le-leb (depth db j) (depth (more db s) (length db + 1)) is_open.1)
+                ∙ sym (le-leb (length db + 1) (get_or ends (get_or b.block_of j 0) 0)
+                (omega (arith, is_open.0, length_lt_never)))
+            open_after_old j_lt_length (inl (was_unended, inr is_closed)) =
                 ap₂ (λ a b. a && b)
-                (x.ended j (length db) i (le_refl (length db))
-                ∙ le-leb (length db) (end_of b j) (omega (arith, f, few)))
-                (lt-leb (depth db j) (depth (more db s) (length db + 1)) c.1)
-                ∙ sym (lt-leb (length db + 1) (get_or ends (get_or b.of j 0) 0)
-                (omega (arith, c.0)))
-            last i (inr p) =
+                (is_blocks.open_up_to_end j (length db) j_lt_length (le_refl (length db))
+                ∙ le-leb (length db) (end_of b j) (omega (arith, was_unended, length_lt_never)))
+                (lt-leb (depth db j) (depth (more db s) (length db + 1)) is_closed.1)
+                ∙ sym (lt-leb (length db + 1) (get_or ends (get_or b.block_of j 0) 0)
+                (omega (arith, is_closed.0)))
+            open_after_old j_lt_length (inr ended_before) =
                 ap (λ a. a && nat_le (depth db j) (depth (more db s) (length db + 1)))
-                (x.ended j (length db) i (le_refl (length db))
-                ∙ lt-leb (length db) (end_of b j) p.0)
-                ∙ sym (lt-leb (length db + 1) (get_or ends (get_or b.of j 0) 0)
-                (omega (arith, p.0, p.1)))
+                (is_blocks.open_up_to_end j (length db) j_lt_length (le_refl (length db))
+                ∙ lt-leb (length db) (end_of b j) ended_before.0)
+                ∙ sym (lt-leb (length db + 1) (get_or ends (get_or b.block_of j 0) 0)
+                (omega (arith, ended_before.0, ended_before.1)))
 
-            fresh : IsOpen (innermost b.open_blocks) (depth db (length db))
+            open_after_new : IsOpen (innermost b.open_blocks) (depth db (length db))
                 ⊎ IsClosed (innermost b.open_blocks) (depth db (length db))
                 → nat_le (depth db (length db)) (depth (more db s) (length db + 1))
                 ≡ nat_le (length db + 1) (get_or ends (innermost b.open_blocks) 0)
-            fresh (inl o) =
-                le-leb (depth db (length db)) (depth (more db s) (length db + 1)) o.1
+            open_after_new (inl is_open) =
+                le-leb (depth db (length db)) (depth (more db s) (length db + 1)) is_open.1
                 ∙ sym (le-leb (length db + 1) (get_or ends (innermost b.open_blocks) 0)
-                (omega (arith, o.0, few)))
-            fresh (inr c) =
-                lt-leb (depth db (length db)) (depth (more db s) (length db + 1)) c.1
+                (omega (arith, is_open.0, length_lt_never)))
+            open_after_new (inr is_closed) =
+                lt-leb (depth db (length db)) (depth (more db s) (length db + 1)) is_closed.1
                 ∙ sym (lt-leb (length db + 1) (get_or ends (innermost b.open_blocks) 0)
-                (omega (arith, c.0)))
+                (omega (arith, is_closed.0)))
 
-            at-last : (j < length db) ⊎ (length db ≤ j) → k ≡ length db + 1
+            open_at_last : (j < length db) ⊎ (length db ≤ j) → k ≡ length db + 1
                 → is_block_open (more db s) j (length db + 1)
                 ≡ nat_le (length db + 1) (end_of (block_lists of_more ends opens) j)
-            at-last (inl i) e =
-                stays_last db s j i ∙ last i (g.becomes j i)
-                ∙ ap (λ q. nat_le (length db + 1) (get_or ends q 0)) (sym (of_front j i))
-            at-last (inr i) e =
-                let same : length db ≡ j = omega (arith, h, e, i) in
+            open_at_last (inl j_order) k_is_end =
+                open_after_one_more db s j j_order
+                ∙ open_after_old j_order (grows.old_blocks_become j j_order)
+                ∙ ap (λ q. nat_le (length db + 1) (get_or ends q 0))
+                (sym (old_block_of_is_kept j j_order))
+            open_at_last (inr j_order) k_is_end =
+                let length_is_j : length db ≡ j = omega (arith, j_lt_k, k_is_end, j_order) in
                 subst (λ j. is_block_open (more db s) j (length db + 1)
-                ≡ nat_le (length db + 1) (end_of (block_lists of_more ends opens) j)) same
-                (stays_new db s ∙ fresh g.new
-                ∙ ap (λ q. nat_le (length db + 1) (get_or ends q 0)) (sym of_last))
+                ≡ nat_le (length db + 1) (end_of (block_lists of_more ends opens) j)) length_is_j
+                (new_block_is_open db s ∙ open_after_new grows.new_block_becomes
+                ∙ ap (λ q. nat_le (length db + 1) (get_or ends q 0))
+                (sym new_block_of_is_innermost))
 
-            by_order : (length db < k) ⊎ (k ≤ length db)
+            open_by_order : (length db < k) ⊎ (k ≤ length db)
                 → is_block_open (more db s) j k
                 ≡ nat_le k (end_of (block_lists of_more ends opens) j)
-            by_order (inl m) =
-                let e : k ≡ length db + 1 = omega (arith, l, m, length_more db s) in
+            open_by_order (inl k_order) =
+                let k_is_end : k ≡ length db + 1 =
+                omega (arith, k_le_length, k_order, length_more db s) in
                 subst
                 (λ k. is_block_open (more db s) j k
                 ≡ nat_le k (end_of (block_lists of_more ends opens) j))
-                (sym e) (at-last (cases_lt j (length db)) e)
-            by_order (inr m) =
-                let i : j < length db = omega arith in
-                stays_front db s j k h m ∙ x.ended j k h m ∙ old i m (g.becomes j i)
-                ∙ ap (λ q. nat_le k (get_or ends q 0)) (sym (of_front j i))
+                (sym k_is_end) (open_at_last (cases_lt j (length db)) k_is_end)
+            open_by_order (inr k_order) =
+                let j_lt_length : j < length db = omega arith in
+                open_before_is_kept db s j k j_lt_k k_order
+                ∙ is_blocks.open_up_to_end j k j_lt_k k_order
+                ∙ open_up_to_old_end j_lt_length k_order (grows.old_blocks_become j j_lt_length)
+                ∙ ap (λ q. nat_le k (get_or ends q 0))
+                (sym (old_block_of_is_kept j j_lt_length))
 
   -- the count of blocks after the statement
-  pub depth_plain : is_opening s ≡ false → is_closing s ≡ false
+  pub depth_after_other : is_opening s ≡ false → is_closing s ≡ false
       → depth (more db s) (length db + 1) ≡ depth db (length db)
-  depth_plain o c =
-      depth_last db s
-      ∙ ap₂ (λ p q. (count_by is_opening db + cond p 1 0) - (count_by is_closing db + cond q 1 0)) o
-      c
-      ∙ (let e = depth_end db s in omega (arith, e))
+  depth_after_other is_no_opening is_no_closing =
+      depth_after_one_more db s
+      ∙ ap₂ (λ p q. (count_by is_opening db + cond p 1 0) - (count_by is_closing db + cond q 1 0))
+      is_no_opening
+      is_no_closing
+      ∙ (let depth_at_end_is = depth_at_end db s in omega (arith, depth_at_end_is))
 
-  pub depth_opening : is_opening s ≡ true → is_closing s ≡ false
+  pub depth_after_opening : is_opening s ≡ true → is_closing s ≡ false
       → depth (more db s) (length db + 1) ≡ depth db (length db) + 1
-  depth_opening o c =
-      depth_last db s
-      ∙ ap₂ (λ p q. (count_by is_opening db + cond p 1 0) - (count_by is_closing db + cond q 1 0)) o
-      c
-      ∙ (let e = depth_end db s in let n = x.nested in omega (arith, e, n))
+  depth_after_opening is_opening_s is_no_closing =
+      depth_after_one_more db s
+      ∙ ap₂ (λ p q. (count_by is_opening db + cond p 1 0) - (count_by is_closing db + cond q 1 0))
+      is_opening_s
+      is_no_closing
+      ∙ (let depth_at_end_is = depth_at_end db s in
+      let closings_le_openings = is_blocks.closings_le_openings in
+      omega (arith, depth_at_end_is, closings_le_openings))
 
-  pub depth_closing : is_opening s ≡ false → is_closing s ≡ true
+  pub depth_after_closing : is_opening s ≡ false → is_closing s ≡ true
       → depth (more db s) (length db + 1) ≡ depth db (length db) - 1
-  depth_closing o c =
-      depth_last db s
-      ∙ ap₂ (λ p q. (count_by is_opening db + cond p 1 0) - (count_by is_closing db + cond q 1 0)) o
-      c
-      ∙ (let e = depth_end db s in let n = x.nested in omega (arith, e, n))
+  depth_after_closing is_no_opening is_closing_s =
+      depth_after_one_more db s
+      ∙ ap₂ (λ p q. (count_by is_opening db + cond p 1 0) - (count_by is_closing db + cond q 1 0))
+      is_no_opening
+      is_closing_s
+      ∙ (let depth_at_end_is = depth_at_end db s in
+      let closings_le_openings = is_blocks.closings_le_openings in
+      omega (arith, depth_at_end_is, closings_le_openings))
 
   brackets_counted : (p q : Bool) → is_opening s ≡ p → is_closing s ≡ q
       → (count_by is_opening (more db s) ≡ count_by is_opening db + cond p 1 0)
       × (count_by is_closing (more db s) ≡ count_by is_closing db + cond q 1 0)
-  brackets_counted p q o c = (
-    count_end is_opening db s
-        ∙ ap (λ r. count_by is_opening db + cond r 1 0) o,
-    count_end is_closing db s
-        ∙ ap (λ r. count_by is_closing db + cond r 1 0) c,
+  brackets_counted p q opening_test_is closing_test_is = (
+    count_of_list_and_last is_opening db s
+        ∙ ap (λ r. count_by is_opening db + cond r 1 0) opening_test_is,
+    count_of_list_and_last is_closing db s
+        ∙ ap (λ r. count_by is_closing db + cond r 1 0) closing_test_is,
   )
 
-  pub blocks_plain : is_opening s ≡ false → is_closing s ≡ false
+  pub blocks_after_other : is_opening s ≡ false → is_closing s ≡ false
       → IsBlocks (db ++ s ∷ []) (block_lists
-      (b.of ++ innermost b.open_blocks ∷ []) b.ends b.open_blocks)
-  blocks_plain o c =
-      let d = depth_plain o c in
-      let m = brackets_counted false false o c in
-      grown b.ends b.open_blocks (record {
-        nested = let n = x.nested in omega (arith, m.0, m.1, n);
-        stack = x.stack ∙ ap (λ n. n + 1) (sym d);
-        longer = le_refl (length b.ends);
-        few-more = let m = x.few in omega (arith, m);
-        opened = x.opened;
-        still = x.still;
-        rising = x.rising;
-        becomes = λ j h. by_end j h (x.bounds j h);
-        new = inl (top_still, omega (arith, d), sym top_at);
+      (b.block_of ++ innermost b.open_blocks ∷ []) b.ends b.open_blocks)
+  blocks_after_other is_no_opening is_no_closing =
+      let depth_is = depth_after_other is_no_opening is_no_closing in
+      let brackets = brackets_counted false false is_no_opening is_no_closing in
+      grows_keeps_blocks b.ends b.open_blocks (record {
+        closings_le_openings =
+            let closings_le_openings_before = is_blocks.closings_le_openings in
+            omega (arith, brackets.0, brackets.1, closings_le_openings_before);
+        stack_size_is = is_blocks.stack_size_is ∙ ap (λ n. n + 1) (sym depth_is);
+        ends_only_grow = le_refl (length b.ends);
+        ends_le_next = let brackets = is_blocks.ends_le_statements in omega (arith, brackets);
+        open_blocks_have_ends = is_blocks.open_blocks_have_ends;
+        open_blocks_are_unended = is_blocks.open_blocks_are_unended;
+        open_blocks_rise = is_blocks.open_blocks_rise;
+        old_blocks_become =
+            λ j j_lt_length. becomes_by_end j j_lt_length
+            (is_blocks.ends_are_bounded j j_lt_length);
+        new_block_becomes =
+            inl (innermost_is_unended, omega (arith, depth_is), sym innermost_is_at_depth);
       })
     where
-      by_end : (j : ℕ) → j < length db → (end_of b j ≡ never) ⊎ (end_of b j < length db)
+      becomes_by_end : (j : ℕ) → j < length db → (end_of b j ≡ never) ⊎ (end_of b j < length db)
           → Becomes b.ends b.open_blocks j
-      by_end j h (inl e) =
-          let y = x.at j h e in
-          inl (e, inl (e, let l = y.0 in let d = depth_plain o c in omega (arith, d, l), y.1))
-      by_end j h (inr l) = inr (l, refl)
-
-  pub blocks_opening : is_opening s ≡ true → is_closing s ≡ false
-      → IsBlocks (db ++ s ∷ [])
-      (block_lists (b.of ++ innermost b.open_blocks ∷ []) (b.ends ++ never ∷ [])
-      (b.open_blocks ++ length b.ends ∷ []))
-  blocks_opening o c =
-      let d = depth_opening o c in
-      let m = brackets_counted true false o c in
-      grown ends opens (record {
-        nested = let n = x.nested in omega (arith, m.0, m.1, n);
-        stack =
-            length-append b.open_blocks (length b.ends ∷ [])
-            ∙ (let k = x.stack in omega (arith, k, d));
-        longer = omega (arith, longer);
-        few-more = let m = x.few in omega (arith, m, longer);
-        opened =
-            λ l h. one_of (λ k. k < length ends) l h
-            (λ i. let k = x.opened l i in omega (arith, k, longer)) (omega (arith, longer));
-        still =
-            λ l h. one_of (λ k. get_or ends k 0 ≡ never) l h
-            (λ i. ends-front (get_or b.open_blocks l 0) (x.opened l i) ∙ x.still l i)
-            (get_or-append_seam b.ends never [] 0);
-        rising = rising;
-        becomes = λ j h. by_end j h (x.bounds j h);
-        new =
+      becomes_by_end j j_lt_length (inl is_unended) =
+          let on_stack = is_blocks.unended_is_on_stack j j_lt_length is_unended in
+          inl (
+            is_unended,
             inl (
-              ends-front (innermost b.open_blocks) top_opened
-                  ∙ top_still,
-              omega (arith, d),
-              opens-front (depth db (length db))
-                  (let k = x.stack in omega (arith, k))
-                  ∙ sym top_at,
+              is_unended,
+              let end_or_depth = on_stack.0 in
+                  let depth_is = depth_after_other is_no_opening is_no_closing in
+                  omega (arith, depth_is, end_or_depth),
+              on_stack.1,
+            ),
+          )
+      becomes_by_end j j_lt_length (inr end_or_depth) = inr (end_or_depth, refl)
+
+  pub blocks_after_opening : is_opening s ≡ true → is_closing s ≡ false
+      → IsBlocks (db ++ s ∷ [])
+      (block_lists (b.block_of ++ innermost b.open_blocks ∷ []) (b.ends ++ never ∷ [])
+      (b.open_blocks ++ length b.ends ∷ []))
+  blocks_after_opening is_opening_s is_no_closing =
+      let depth_is = depth_after_opening is_opening_s is_no_closing in
+      let brackets = brackets_counted true false is_opening_s is_no_closing in
+      grows_keeps_blocks ends opens (record {
+        closings_le_openings =
+            let closings_le_openings_before = is_blocks.closings_le_openings in
+            omega (arith, brackets.0, brackets.1, closings_le_openings_before);
+        stack_size_is =
+            length-append b.open_blocks (length b.ends ∷ [])
+            ∙ (let stack_size_before = is_blocks.stack_size_is in
+            omega (arith, stack_size_before, depth_is));
+        ends_only_grow = omega (arith, ends_have_one_more);
+        ends_le_next =
+            let brackets = is_blocks.ends_le_statements in
+            omega (arith, brackets, ends_have_one_more);
+        open_blocks_have_ends =
+            λ l l_lt_longer. holds_of_each (λ k. k < length ends) l l_lt_longer
+            (λ l_lt_old. let block_has_end = is_blocks.open_blocks_have_ends l l_lt_old in
+            omega (arith, block_has_end, ends_have_one_more)) (omega (arith, ends_have_one_more));
+        open_blocks_are_unended =
+            λ l l_lt_longer. holds_of_each (λ k. get_or ends k 0 ≡ never) l l_lt_longer
+            (λ l_lt_old. old_ends_are_kept (get_or b.open_blocks l 0)
+            (is_blocks.open_blocks_have_ends l l_lt_old)
+            ∙ is_blocks.open_blocks_are_unended l l_lt_old)
+            (get_or-append_seam b.ends never [] 0);
+        open_blocks_rise = opens_rise;
+        old_blocks_become =
+            λ j l_lt_longer. becomes_by_end j l_lt_longer
+            (is_blocks.ends_are_bounded j l_lt_longer);
+        new_block_becomes =
+            inl (
+              old_ends_are_kept (innermost b.open_blocks) innermost_has_end
+                  ∙ innermost_is_unended,
+              omega (arith, depth_is),
+              old_opens_are_kept (depth db (length db))
+                  (let stack_size_before = is_blocks.stack_size_is in
+                  omega (arith, stack_size_before))
+                  ∙ sym innermost_is_at_depth,
             );
       })
     where
@@ -409,174 +506,223 @@ module _ (db : List Statement) (s : Statement) (b : BlockLists) (x : IsBlocks db
       opens : List ℕ
       opens = b.open_blocks ++ length b.ends ∷ []
 
-      longer : length (b.ends ++ never ∷ []) ≡ length b.ends + 1
-      longer = length-append b.ends (never ∷ [])
+      ends_have_one_more : length (b.ends ++ never ∷ []) ≡ length b.ends + 1
+      ends_have_one_more = length-append b.ends (never ∷ [])
 
-      ends-front : (k : ℕ) → k < length b.ends
+      old_ends_are_kept : (k : ℕ) → k < length b.ends
           → get_or (b.ends ++ never ∷ []) k 0 ≡ get_or b.ends k 0
-      ends-front k h = get_or_append_left b.ends (never ∷ []) 0 k h
+      old_ends_are_kept k k_lt_length =
+          get_or_append_left b.ends (never ∷ []) 0 k k_lt_length
 
-      opens-front : (k : ℕ) → k < length b.open_blocks
-          → get_or (b.open_blocks ++ length b.ends ∷ []) k 0 ≡ get_or b.open_blocks k 0
-      opens-front k h = get_or_append_left b.open_blocks (length b.ends ∷ []) 0 k h
+      old_opens_are_kept : (k : ℕ) → k < length b.open_blocks
+          → get_or (b.open_blocks ++ length b.ends ∷ []) k 0 ≡ get_or b.open_blocks
+          k 0
+      old_opens_are_kept k k_lt_length =
+          get_or_append_left b.open_blocks (length b.ends ∷ []) 0 k k_lt_length
 
-      one_of : (P : ℕ → Type 0) (l : ℕ) → l < length (b.open_blocks ++ length b.ends ∷ [])
+      holds_of_each : (P : ℕ → Type 0) (l : ℕ) → l < length (b.open_blocks ++ length b.ends ∷ [])
           → (l < length b.open_blocks → P (get_or b.open_blocks l 0)) → P (length b.ends)
           → P (get_or (b.open_blocks ++ length b.ends ∷ []) l 0)
-      one_of P l h old new = by_order (cases_lt l (length b.open_blocks))
+      holds_of_each P l l_lt_longer holds_before holds_of_new =
+          holds_by_order (cases_lt l (length b.open_blocks))
         where
-          by_order : (l < length b.open_blocks) ⊎ (length b.open_blocks ≤ l)
+          holds_by_order : (l < length b.open_blocks) ⊎ (length b.open_blocks ≤ l)
               → P (get_or (b.open_blocks ++ length b.ends ∷ []) l 0)
-          by_order (inl i) = subst P (sym (opens-front l i)) (old i)
-          by_order (inr i) =
-              let e : length b.open_blocks ≡ l =
-              omega (arith, h, length-append b.open_blocks (length b.ends ∷ [])) in
+          holds_by_order (inl l_order) =
+              subst P (sym (old_opens_are_kept l l_order)) (holds_before l_order)
+          holds_by_order (inr l_order) =
+              let length_is_l : length b.open_blocks ≡ l =
+              omega (arith, l_lt_longer, length-append b.open_blocks (length b.ends ∷ [])) in
               subst P (sym
-              (subst (λ k. get_or (b.open_blocks ++ length b.ends ∷ []) k 0 ≡ length b.ends) e
-              (get_or-append_seam b.open_blocks (length b.ends) [] 0))) new
+              (subst (λ k. get_or (b.open_blocks ++ length b.ends ∷ []) k 0 ≡ length b.ends)
+              length_is_l
+              (get_or-append_seam b.open_blocks (length b.ends) [] 0))) holds_of_new
 
-      rising : (l m : ℕ) → l < m → m < length (b.open_blocks ++ length b.ends ∷ [])
+      opens_rise : (l brackets : ℕ) → l < brackets
+          → brackets < length (b.open_blocks ++ length b.ends ∷ [])
           → get_or (b.open_blocks ++ length b.ends ∷ []) l 0
-          < get_or (b.open_blocks ++ length b.ends ∷ []) m 0
-      rising l m h k =
-          let i : l < length b.open_blocks =
-          omega (arith, h, k, length-append b.open_blocks (length b.ends ∷ [])) in
-          one_of (λ q. get_or (b.open_blocks ++ length b.ends ∷ []) l 0 < q) m k
-          (λ j. rw (opens-front l i) (x.rising l m h j)) (rw (opens-front l i) (x.opened l i))
+          < get_or (b.open_blocks ++ length b.ends ∷ []) brackets 0
+      opens_rise l brackets l_lt_m m_lt_length =
+          let l_lt_old : l < length b.open_blocks =
+          omega (arith, l_lt_m, m_lt_length, length-append b.open_blocks (length b.ends ∷ [])) in
+          holds_of_each (λ q. get_or (b.open_blocks ++ length b.ends ∷ []) l 0 < q) brackets
+          m_lt_length
+          (λ m_lt_old. rw (old_opens_are_kept l l_lt_old)
+          (is_blocks.open_blocks_rise l brackets l_lt_m m_lt_old))
+          (rw (old_opens_are_kept l l_lt_old) (is_blocks.open_blocks_have_ends l l_lt_old))
 
-      by_end : (j : ℕ) → j < length db → (end_of b j ≡ never) ⊎ (end_of b j < length db)
+      becomes_by_end : (j : ℕ) → j < length db → (end_of b j ≡ never) ⊎ (end_of b j < length db)
           → Becomes ends opens j
-      by_end j h (inl e) =
-          let y = x.at j h e in
-          let d = depth_opening o c in
-          let k = x.stack in
-          let l = y.0 in
+      becomes_by_end j j_lt_length (inl is_unended) =
+          let on_stack = is_blocks.unended_is_on_stack j j_lt_length is_unended in
+          let depth_is = depth_after_opening is_opening_s is_no_closing in
+          let stack_size_before = is_blocks.stack_size_is in
+          let end_or_depth = on_stack.0 in
           inl (
-            e,
+            is_unended,
             inl (
-              ends-front (get_or b.of j 0) (x.known j h)
-                  ∙ e,
-              omega (arith, d, l),
-              opens-front (depth db j) (omega (arith, k, l)) ∙ y.1,
+              old_ends_are_kept (get_or b.block_of j 0) (is_blocks.blocks_have_ends j j_lt_length)
+                  ∙ is_unended,
+              omega (arith, depth_is, end_or_depth),
+              old_opens_are_kept (depth db j) (omega (arith, stack_size_before, end_or_depth))
+                  ∙ on_stack.1,
             ),
           )
-      by_end j h (inr l) = inr (l, ends-front (get_or b.of j 0) (x.known j h))
+      becomes_by_end j j_lt_length (inr end_or_depth) =
+          inr (
+            end_or_depth,
+            old_ends_are_kept (get_or b.block_of j 0)
+                (is_blocks.blocks_have_ends j j_lt_length),
+          )
 
-  pub blocks_closing : is_opening s ≡ false → is_closing s ≡ true → 0 < depth db (length db)
+  pub blocks_after_closing : is_opening s ≡ false → is_closing s ≡ true → 0 < depth db (length db)
       → IsBlocks (db ++ s ∷ [])
-      (block_lists (b.of ++ innermost b.open_blocks ∷ [])
-      (set b.ends (innermost b.open_blocks) (length b.of))
+      (block_lists (b.block_of ++ innermost b.open_blocks ∷ [])
+      (set b.ends (innermost b.open_blocks) (length b.block_of))
       (take (length b.open_blocks - 1) b.open_blocks))
-  blocks_closing o c deep =
-      let d = depth_closing o c in
-      let m = brackets_counted false true o c in
-      let k = x.stack in
-      grown ends opens (record {
-        nested = let e = depth_end db s in omega (arith, m.0, m.1, e, deep);
-        stack = omega (arith, k, d, shorter, deep);
-        longer = omega (arith, length-set b.ends (innermost b.open_blocks) (length b.of));
-        few-more =
-            let m = x.few in omega (
+  blocks_after_closing is_no_opening is_closing_s some_block_is_open =
+      let depth_is = depth_after_closing is_no_opening is_closing_s in
+      let brackets = brackets_counted false true is_no_opening is_closing_s in
+      let stack_size_before = is_blocks.stack_size_is in
+      grows_keeps_blocks ends opens (record {
+        closings_le_openings =
+            let depth_at_end_is = depth_at_end db s in
+            omega (arith, brackets.0, brackets.1, depth_at_end_is, some_block_is_open);
+        stack_size_is =
+            omega (arith, stack_size_before, depth_is, opens_have_one_less, some_block_is_open);
+        ends_only_grow =
+            omega (arith, length-set b.ends (innermost b.open_blocks) (length b.block_of));
+        ends_le_next =
+            let brackets = is_blocks.ends_le_statements in omega (
               arith,
-              m,
+              brackets,
               length-set b.ends (innermost b.open_blocks)
-                  (length b.of),
+                  (length b.block_of),
             );
-        opened =
-            λ l h. let i : l < length b.open_blocks = omega (arith, h, shorter) in
-            rw (opens-front l h)
-            (let z = x.opened l i in
-            omega (arith, z, length-set b.ends (innermost b.open_blocks) (length b.of)));
-        still =
-            λ l h. let i : l < length b.open_blocks = omega (arith, h, shorter) in
-            ap (λ q. get_or ends q 0) (opens-front l h)
+        open_blocks_have_ends =
+            λ l l_lt_shorter. let l_lt_old : l < length b.open_blocks =
+            omega (arith, l_lt_shorter, opens_have_one_less) in
+            rw (kept_opens_are_equal l l_lt_shorter)
+            (let has_end = is_blocks.open_blocks_have_ends l l_lt_old in
+            omega (
+              arith,
+              has_end,
+              length-set b.ends (innermost b.open_blocks)
+                  (length b.block_of),
+            ));
+        open_blocks_are_unended =
+            λ l l_lt_shorter. let l_lt_old : l < length b.open_blocks =
+            omega (arith, l_lt_shorter, opens_have_one_less) in
+            ap (λ q. get_or ends q 0) (kept_opens_are_equal l l_lt_shorter)
             ∙ get_or-set_other b.ends (innermost b.open_blocks) (get_or b.open_blocks l 0)
-            (length b.of) 0
-            (none_is_innermost l h)
-            ∙ x.still l i;
-        rising =
-            λ l q h i. let j : l < length opens = omega (arith, h, i) in
-            rw (opens-front l j, opens-front q i) (x.rising l q h (omega (arith, i, shorter)));
-        becomes = λ j h. by_end j h (x.bounds j h);
-        new =
+            (length b.block_of) 0
+            (none_is_innermost l l_lt_shorter)
+            ∙ is_blocks.open_blocks_are_unended l l_lt_old;
+        open_blocks_rise =
+            λ l q l_lt_shorter i. let l_lt_shorter_too : l < length opens =
+            omega (arith, l_lt_shorter, i) in
+            rw (kept_opens_are_equal l l_lt_shorter_too, kept_opens_are_equal q i)
+            (is_blocks.open_blocks_rise l q l_lt_shorter (omega (arith, i, opens_have_one_less)));
+        old_blocks_become =
+            λ j l_lt_shorter. becomes_by_end j l_lt_shorter
+            (is_blocks.ends_are_bounded j l_lt_shorter);
+        new_block_becomes =
             inr (
-              get_or-set_same b.ends (innermost b.open_blocks) (length b.of) 0 top_opened
-                  ∙ x.count,
-              omega (arith, d, deep),
+              get_or-set_same b.ends (innermost b.open_blocks) (length b.block_of) 0
+                  innermost_has_end
+                  ∙ is_blocks.count,
+              omega (arith, depth_is, some_block_is_open),
             );
       })
     where
       ends : List ℕ
-      ends = set b.ends (innermost b.open_blocks) (length b.of)
+      ends = set b.ends (innermost b.open_blocks) (length b.block_of)
 
       opens : List ℕ
       opens = take (length b.open_blocks - 1) b.open_blocks
 
-      shorter : length (take (length b.open_blocks - 1) b.open_blocks) ≡ length b.open_blocks - 1
-      shorter = length-take-le (length b.open_blocks - 1) b.open_blocks (omega arith)
+      opens_have_one_less : length (take (length b.open_blocks - 1) b.open_blocks)
+          ≡ length b.open_blocks - 1
+      opens_have_one_less = length-take-le (length b.open_blocks - 1) b.open_blocks (omega arith)
 
-      opens-front : (l : ℕ) → l < length (take (length b.open_blocks - 1) b.open_blocks)
+      kept_opens_are_equal : (l : ℕ) → l < length (take (length b.open_blocks - 1) b.open_blocks)
           → get_or (take (length b.open_blocks - 1) b.open_blocks) l 0 ≡ get_or b.open_blocks l 0
-      opens-front l h =
-          get_or-take (length b.open_blocks - 1) b.open_blocks l 0 (omega (arith, h, shorter))
+      kept_opens_are_equal l l_lt_shorter =
+          get_or-take (length b.open_blocks - 1) b.open_blocks l 0
+          (omega (arith, l_lt_shorter, opens_have_one_less))
 
       none_is_innermost : (l : ℕ) → l < length (take (length b.open_blocks - 1) b.open_blocks)
           → get_or b.open_blocks l 0 ≢ innermost b.open_blocks
-      none_is_innermost l h e =
-          let r = x.rising l (length b.open_blocks - 1) (omega (arith, h, shorter))
-          (let k = x.stack in omega (arith, k)) in
-          omega (arith, r, e)
+      none_is_innermost l l_lt_shorter is_innermost =
+          let blocks_rise =
+          is_blocks.open_blocks_rise l (length b.open_blocks - 1)
+          (omega (arith, l_lt_shorter, opens_have_one_less))
+          (let stack_size_before = is_blocks.stack_size_is in omega (arith, stack_size_before)) in
+          omega (arith, blocks_rise, is_innermost)
 
-      by_end : (j : ℕ) → j < length db → (end_of b j ≡ never) ⊎ (end_of b j < length db)
+      becomes_by_end : (j : ℕ) → j < length db
+          → (end_of b j ≡ never) ⊎ (end_of b j < length db)
           → Becomes ends opens j
-      by_end j h (inl e) =
-          by_case (cases_eq (get_or b.of j 0) (innermost b.open_blocks)) (x.at j h e)
+      becomes_by_end j j_lt_length (inl is_unended) =
+          becomes_by_case (cases_eq (get_or b.block_of j 0) (innermost b.open_blocks))
+          (is_blocks.unended_is_on_stack j j_lt_length is_unended)
         where
-          by_case : (get_or b.of j 0 ≡ innermost b.open_blocks)
-              ⊎ (get_or b.of j 0 ≢ innermost b.open_blocks)
+          becomes_by_case : (get_or b.block_of j 0 ≡ innermost b.open_blocks)
+              ⊎ (get_or b.block_of j 0 ≢ innermost b.open_blocks)
               → (depth db j ≤ depth db (length db))
-              × (get_or b.open_blocks (depth db j) 0 ≡ get_or b.of j 0) → Becomes ends opens j
-          by_case (inl q) y =
+              × (get_or b.open_blocks (depth db j) 0 ≡ get_or b.block_of j
+              0) → Becomes ends opens j
+          becomes_by_case (inl innermost_or_not) on_stack =
               inl (
-                e,
+                is_unended,
                 inr (
-                  ap (λ k. get_or ends k 0) q
-                      ∙ get_or-set_same b.ends (innermost b.open_blocks) (length b.of) 0 top_opened
-                      ∙ x.count,
-                  last (cases_lt (depth db j) (depth db (length db))),
+                  ap (λ k. get_or ends k 0) innermost_or_not
+                      ∙ get_or-set_same b.ends (innermost b.open_blocks) (length b.block_of) 0
+                      innermost_has_end
+                      ∙ is_blocks.count,
+                  depth_falls_below (cases_lt (depth db j) (depth db (length db))),
                 ),
               )
             where
-              last : (depth db j < depth db (length db)) ⊎ (depth db (length db) ≤ depth db j)
+              depth_falls_below : (depth db j < depth db (length db)) ⊎
+                  (depth db (length db) ≤ depth db j)
                   → depth (more db s) (length db + 1) < depth db j
-              last (inl l) =
-                  absurd (let k = x.stack in
-                  let r = x.rising (depth db j) (depth db (length db)) l (omega (arith, k)) in
-                  omega (arith, r, y.1, q, top_at))
-              last (inr l) = let d = depth_closing o c in omega (arith, d, deep, l)
-          by_case (inr q) y =
-              let k = x.stack in
-              let d = depth_closing o c in
-              let ne : depth db j ≢ depth db (length db) =
-              λ z. q (sym y.1 ∙ ap (λ i. get_or b.open_blocks i 0) z ∙ sym top_at) in
-              let l = y.0 in
-              let below : depth db j < depth db (length db) = omega (arith, l, ne) in
+              depth_falls_below (inl depth_order) =
+                  absurd (let stack_size_before = is_blocks.stack_size_is in
+                  let blocks_rise =
+                  is_blocks.open_blocks_rise (depth db j) (depth db (length db))
+                  depth_order (omega (arith, stack_size_before)) in
+                  omega (arith, blocks_rise, on_stack.1, innermost_or_not, innermost_is_at_depth))
+              depth_falls_below (inr depth_order) =
+                  let depth_is = depth_after_closing is_no_opening is_closing_s in
+                  omega (arith, depth_is, some_block_is_open, depth_order)
+          becomes_by_case (inr innermost_or_not) on_stack =
+              let stack_size_before = is_blocks.stack_size_is in
+              let depth_is = depth_after_closing is_no_opening is_closing_s in
+              let depths_differ : depth db j ≢ depth db (length db) =
+              λ z. innermost_or_not
+              (sym on_stack.1 ∙ ap (λ i. get_or b.open_blocks i 0) z ∙ sym innermost_is_at_depth) in
+              let depth_le = on_stack.0 in
+              let depth_lt : depth db j < depth db (length db) =
+              omega (arith, depth_le, depths_differ) in
               inl (
-                e,
+                is_unended,
                 inl (
-                  get_or-set_other b.ends (innermost b.open_blocks) (get_or b.of j 0)
-                      (length b.of) 0 q
-                      ∙ e,
-                  omega (arith, d, below),
-                  opens-front (depth db j)
-                      (omega (arith, below, k, shorter))
-                      ∙ y.1,
+                  get_or-set_other b.ends (innermost b.open_blocks) (get_or b.block_of j 0)
+                      (length b.block_of) 0 innermost_or_not
+                      ∙ is_unended,
+                  omega (arith, depth_is, depth_lt),
+                  kept_opens_are_equal (depth db j)
+                      (omega (arith, depth_lt, stack_size_before, opens_have_one_less))
+                      ∙ on_stack.1,
                 ),
               )
-      by_end j h (inr l) =
+      becomes_by_end j j_lt_length (inr ended_before) =
           inr (
-            l,
-            get_or-set_other b.ends (innermost b.open_blocks) (get_or b.of j 0) (length b.of) 0
-                (λ q. let e : end_of b j ≡ never = ap (λ k. get_or b.ends k 0) q ∙ top_still in
-                omega (arith, e, l, few)),
+            ended_before,
+            get_or-set_other b.ends (innermost b.open_blocks) (get_or b.block_of j 0)
+                (length b.block_of) 0
+                (λ is_innermost. let is_unended : end_of b j
+                ≡ never = ap (λ k. get_or b.ends k 0) is_innermost ∙ innermost_is_unended in
+                omega (arith, is_unended, ended_before, length_lt_never)),
           )

@@ -8,46 +8,52 @@ use Rattle.mm_spec.specs.Lawful.{at, at_each, when, constant_codes}
 use Rattle.mm_spec.specs.Lawful.{variable_codes, floating_faults, is_typed, is_typed_otherwise}
 use Rattle.mm_spec.specs.declared.Code.TheVariants.{DeclaredBefore, BadFloating, TypedBefore}
 use Rattle.mm_spec.specs.declared.Code.TheVariants.{OtherTypecode, LabelIsSymbol}
-use Rattle.mm_spec.proofs.FaultlessLaw.{append_none, at_none, when_none, each_none}
+use Rattle.mm_spec.proofs.FaultlessLaw.{both_are_empty, no_faults_no_codes, no_code_if_false}
+use Rattle.mm_spec.proofs.FaultlessLaw.{each_word_has_no_codes}
 
-or_none : (a b c : Bool) → (a || b || c) ≡ false → (a ≡ false) × (b ≡ false)
-or_none false false c e = (refl, refl)
-or_none false true c e = absurd (true≢false e)
-or_none true b c e = absurd (true≢false e)
+neither_of_first_two : (a b c : Bool) → (a || b || c) ≡ false → (a ≡ false) × (b ≡ false)
+neither_of_first_two false false c none_of_three = (refl, refl)
+neither_of_first_two false true c none_of_three = absurd (true≢false none_of_three)
+neither_of_first_two true b c none_of_three = absurd (true≢false none_of_three)
 
 module _ (n : Names) where
   -- a word of a `$c` is new
-  pub constant_new : (ts : List Token) → at_each (constant_codes n) [] ts ≡ [] → (w : Bytes)
+  pub faultless_constant_is_new : (ts : List Token) → at_each (constant_codes n) [] ts ≡ []
+      → (w : Bytes)
       → is_in w (words ts) ≡ true
       → (is_in w n.constants ≡ false) × (is_in w n.all_variables ≡ false)
-  constant_new ts h w i =
-      let none = each_none (constant_codes n) [] ts h w i in
-      or_none (is_in w n.constants) (is_in w n.all_variables) (is_in w none.0)
-      (when_none
-      (is_in w n.constants || is_in w n.all_variables || is_in w none.0) DeclaredBefore
-      (append_none
-      (when (is_in w n.constants || is_in w n.all_variables || is_in w none.0) DeclaredBefore)
-      (when (is_in w n.labels) LabelIsSymbol) none.1).0)
+  faultless_constant_is_new ts no_faults w is_word =
+      let no_codes_of_w = each_word_has_no_codes (constant_codes n) [] ts no_faults w is_word in
+      neither_of_first_two (is_in w n.constants) (is_in w n.all_variables) (is_in w no_codes_of_w.0)
+      (no_code_if_false
+      (is_in w n.constants || is_in w n.all_variables || is_in w no_codes_of_w.0) DeclaredBefore
+      (both_are_empty
+      (when (is_in w n.constants || is_in w n.all_variables || is_in w no_codes_of_w.0)
+      DeclaredBefore)
+      (when (is_in w n.labels) LabelIsSymbol) no_codes_of_w.1).0)
 
   -- a word of a `$v` is no constant and no active variable
-  pub variable_new : (ts : List Token) → at_each (variable_codes n) [] ts ≡ [] → (w : Bytes)
+  pub faultless_variable_is_new : (ts : List Token) → at_each (variable_codes n) [] ts ≡ []
+      → (w : Bytes)
       → is_in w (words ts) ≡ true
       → (is_in w n.constants ≡ false) × (is_in w n.active_variables ≡ false)
-  variable_new ts h w i =
-      let none = each_none (variable_codes n) [] ts h w i in
-      or_none (is_in w n.constants) (is_in w n.active_variables) (is_in w none.0)
-      (when_none
-      (is_in w n.constants || is_in w n.active_variables || is_in w none.0) DeclaredBefore
-      (append_none
-      (when (is_in w n.constants || is_in w n.active_variables || is_in w none.0)
-      DeclaredBefore) (when (is_in w n.labels) LabelIsSymbol) none.1).0)
+  faultless_variable_is_new ts no_faults w is_word =
+      let no_codes_of_w = each_word_has_no_codes (variable_codes n) [] ts no_faults w is_word in
+      neither_of_first_two (is_in w n.constants) (is_in w n.active_variables)
+      (is_in w no_codes_of_w.0)
+      (no_code_if_false
+      (is_in w n.constants || is_in w n.active_variables || is_in w no_codes_of_w.0) DeclaredBefore
+      (both_are_empty
+      (when (is_in w n.constants || is_in w n.active_variables || is_in w no_codes_of_w.0)
+      DeclaredBefore) (when (is_in w n.labels) LabelIsSymbol) no_codes_of_w.1).0)
 
   -- a `$f` types an active variable that has no active `$f` and no other typecode
-  pub floating_new : (keyword : ℕ) (c v : Token) → floating_faults n keyword (c ∷ v ∷ []) ≡ []
+  pub faultless_floating_is_new : (keyword : ℕ) (c v : Token)
+      → floating_faults n keyword (c ∷ v ∷ []) ≡ []
       → (is_in v.word n.active_variables ≡ true) × (is_typed n v.word ≡ false)
       × (is_typed_otherwise n c.word v.word ≡ false)
-  floating_new keyword c v h =
-      by_is_in (is_in c.word n.constants) (is_in v.word n.active_variables) refl h
+  faultless_floating_is_new keyword c v no_faults =
+      new_by_tests (is_in c.word n.constants) (is_in v.word n.active_variables) refl no_faults
     where
       codes : Bool → Bool → List Fault
       codes =
@@ -58,25 +64,25 @@ module _ (n : Names) where
             | false ↦ fault keyword BadFloating ∷ []
           ]
 
-      by_is_in : (a b : Bool) → is_in v.word n.active_variables ≡ b → codes a b ≡ []
+      new_by_tests : (a b : Bool) → is_in v.word n.active_variables ≡ b → codes a b ≡ []
           → (is_in v.word n.active_variables ≡ true) × (is_typed n v.word ≡ false)
           × (is_typed_otherwise n c.word v.word ≡ false)
-      by_is_in false b e h = absurd (cc)
-      by_is_in true false e h = absurd (cc)
-      by_is_in true true e h =
-          let none =
-          append_none (when (is_typed n v.word) TypedBefore)
+      new_by_tests false b activity_is no_faults = absurd (cc)
+      new_by_tests true false activity_is no_faults = absurd (cc)
+      new_by_tests true true activity_is no_faults =
+          let no_code_each =
+          both_are_empty (when (is_typed n v.word) TypedBefore)
           (when (is_typed_otherwise n c.word v.word) OtherTypecode)
-          (at_none v.at
+          (no_faults_no_codes v.at
           (when (is_typed n v.word) TypedBefore
-          ++ when (is_typed_otherwise n c.word v.word) OtherTypecode) h) in (
-            e,
-            when_none (is_typed n v.word) TypedBefore none.0,
-            when_none
-                (is_typed_otherwise n c.word v.word) OtherTypecode none.1,
+          ++ when (is_typed_otherwise n c.word v.word) OtherTypecode) no_faults) in (
+            activity_is,
+            no_code_if_false (is_typed n v.word) TypedBefore no_code_each.0,
+            no_code_if_false
+                (is_typed_otherwise n c.word v.word) OtherTypecode no_code_each.1,
           )
 
 -- the lesser of two faults
-abbrev pub pick : Bool → Fault → Fault → Fault
-pick true f g = f
-pick false f g = g
+abbrev pub picked_fault : Bool → Fault → Fault → Fault
+picked_fault true f g = f
+picked_fault false f g = g

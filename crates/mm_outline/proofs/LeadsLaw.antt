@@ -18,102 +18,108 @@ use Rattle.mm_outline.specs.NextStatement.{Leads, tokens_from, is_start}
 use Rattle.mm_outline.specs.declared.parts.Part.{Part}
 use Rattle.mm_outline.specs.declared.parts.Part.TheVariants.{Start, Labelled, Words, Formula, Proof}
 
-pub leads_none : (r : Progress) (us : List Token) → Leads r us [] r us
-leads_none r us = record { statements = refl; stop = refl; rest = refl }
+pub nothing_read_leads_to_itself : (r : Progress) (us : List Token) → Leads r us [] r us
+nothing_read_leads_to_itself r us = record { statements = refl; stop = refl; rest = refl }
 
-pub leads_then : {r q p : Progress} {us vs ws : List Token} {row more : List Statement}
-    → Leads r us row q vs → Leads q vs more p ws → Leads r us (row ++ more) p ws
-leads_then {row = row} {more = more} a b = grind (arith, common_steps, append_assoc)
+pub leads_one_after_other : {r q p : Progress} {us vs ws : List Token}
+    {row later_row : List Statement}
+    → Leads r us row q vs → Leads q vs later_row p ws → Leads r us (row ++ later_row) p ws
+leads_one_after_other {row = row} {later_row = later_row} first_leads second_leads =
+    grind (arith, common_steps, append_assoc)
 
-pub tokens_from_one : (text : List ℕ) (ws : List Word) (i : ℕ) → i < length ws
+pub tokens_from_begin_with : (text : List ℕ) (ws : List Word) (i : ℕ) → i < length ws
     → tokens_from text ws i ≡ token_at text ws i ∷ tokens_from text ws (i + 1)
-tokens_from_one text ws i h =
+tokens_from_begin_with text ws i i_lt_length =
     grind (arith, common_steps, drop, nth_word, add-one, drop-cons, start, as_tokens)
 
-pub leads_go : {r : Progress} {t : Token} {us : List Token} {q : Progress}
+pub continued_leads_on : {r : Progress} {t : Token} {us : List Token} {q : Progress}
     → table.continued q ≡ table.transition r (class t.word) t → Leads r (t ∷ us) [] q us
-leads_go {r = r} {t = t} {us = us} e = grind (arith, nat_tests)
+continued_leads_on {r = r} {t = t} {us = us} is_continued = grind (arith, nat_tests)
 
-pub leads_done : {r : Progress} {t : Token} {us : List Token} {d : ℕ} {s : Statement}
+pub completed_leads_to_start : {r : Progress} {t : Token} {us : List Token} {d : ℕ} {s : Statement}
     → table.completed d s ≡ table.transition r (class t.word) t
     → Leads r (t ∷ us) (s ∷ []) (start d) us
-leads_done {r = r} {t = t} {us = us} e = grind (arith, nat_tests)
+completed_leads_to_start {r = r} {t = t} {us = us} is_completed = grind (arith, nat_tests)
 
-pub leads_stop : (r : Progress) (t : Token) (us : List Token)
+pub unexpected_stops : (r : Progress) (t : Token) (us : List Token)
     → table.unexpected ≡ table.transition r (class t.word) t
     → (statements_from r (t ∷ us) ≡ [])
     × (shape_fault_from r (t ∷ us)
     ≡ Some (fault t.at (shape_code (is_between_statements r) t.word)))
-leads_stop r t us e = grind (arith, nat_tests)
+unexpected_stops r t us is_unexpected = grind (arith, nat_tests)
 
-pub is_start_begins : (text : List ℕ) (ws : List Word) (d i : ℕ) (part : Part)
+pub start_is_between_statements : (text : List ℕ) (ws : List Word) (d i : ℕ) (part : Part)
     → is_start part ≡ is_between_statements (progress text ws d part i)
-is_start_begins text ws d i Start = refl
-is_start_begins text ws d i (Labelled l) = refl
-is_start_begins text ws d i (Words k w) = refl
-is_start_begins text ws d i (Formula w) = refl
-is_start_begins text ws d i (Proof w e) = refl
+start_is_between_statements text ws d i Start = refl
+start_is_between_statements text ws d i (Labelled l) = refl
+start_is_between_statements text ws d i (Words k w) = refl
+start_is_between_statements text ws d i (Formula w) = refl
+start_is_between_statements text ws d i (Proof w e) = refl
 
 -- what has been read of a statement from a token on
-abbrev pub Goes : List ℕ → List Word → ℕ → ℕ → Part → ℕ → Type 0
-Goes text ws d from part i =
+abbrev pub HasGoneTo : List ℕ → List Word → ℕ → ℕ → Part → ℕ → Type 0
+HasGoneTo text ws d from part i =
     Leads (start d) (tokens_from text ws from) [] (progress text ws d part i)
     (tokens_from text ws i)
 
 module _ (text : List ℕ) (ws : List Word) (d from i : ℕ) (part : Part) where
-  abbrev pub LeadsOn : Transition → Type 0
-  LeadsOn o =
+  abbrev pub IsTransitionHere : Transition → Type 0
+  IsTransitionHere o =
       o ≡ table.transition (progress text ws d part i) (class (token_at text ws i).word)
       (token_at text ws i)
 
-  pub goes_go : Goes text ws d from part i → i < length ws → (q : Progress)
-      → LeadsOn (table.continued q)
+  pub has_gone_on : HasGoneTo text ws d from part i → i < length ws → (q : Progress)
+      → IsTransitionHere (table.continued q)
       → Leads (start d) (tokens_from text ws from) [] q (tokens_from text ws (i + 1))
-  goes_go g h q e =
-      leads_then g
+  has_gone_on has_gone i_lt_length q is_continued =
+      leads_one_after_other has_gone
       (subst (λ us. Leads (progress text ws d part i) us [] q (tokens_from text ws (i + 1)))
-      (sym (tokens_from_one text ws i h)) (leads_go e))
+      (sym (tokens_from_begin_with text ws i i_lt_length)) (continued_leads_on is_continued))
 
-  pub goes_done : Goes text ws d from part i → i < length ws → (s : Statement) (n : ℕ)
-      → LeadsOn (table.completed n s)
+  pub has_gone_to_end_of_statement : HasGoneTo text ws d from part i → i < length ws
+      → (s : Statement) (n : ℕ)
+      → IsTransitionHere (table.completed n s)
       → Leads (start d) (tokens_from text ws from) (s ∷ []) (start n) (tokens_from text ws (i + 1))
-  goes_done g h s n e =
-      leads_then g
+  has_gone_to_end_of_statement has_gone i_lt_length s n is_completed =
+      leads_one_after_other has_gone
       (subst (λ us. Leads (progress text ws d part i) us (s ∷ []) (start n)
       (tokens_from text ws (i + 1)))
-      (sym (tokens_from_one text ws i h)) (leads_done e))
+      (sym (tokens_from_begin_with text ws i i_lt_length)) (completed_leads_to_start is_completed))
 
-  pub goes_stop : Goes text ws d from part i → i < length ws → LeadsOn table.unexpected
+  pub has_gone_to_fault : HasGoneTo text ws d from part i → i < length ws
+      → IsTransitionHere table.unexpected
       → (f : Fault)
       → f ≡ fault (token_at text ws i).at (shape_code (is_start part) (token_at text ws i).word)
       → (statements_from (start d) (tokens_from text ws from) ≡ [])
       × (shape_fault_from (start d) (tokens_from text ws from) ≡ Some f)
-  goes_stop g h e f is =
-      let x =
-      leads_stop (progress text ws d part i) (token_at text ws i)
-      (tokens_from text ws (i + 1)) e in (
-        g.statements
-            ∙ ap (statements_from (progress text ws d part i)) (tokens_from_one text ws i h)
-            ∙ x.0,
-        g.stop ∙ ap (shape_fault_from (progress text ws d part i)) (tokens_from_one text ws i h)
-            ∙ x.1
+  has_gone_to_fault has_gone i_lt_length is_unexpected f fault_is =
+      let stops =
+      unexpected_stops (progress text ws d part i) (token_at text ws i)
+      (tokens_from text ws (i + 1)) is_unexpected in (
+        has_gone.statements
+            ∙ ap (statements_from (progress text ws d part i))
+            (tokens_from_begin_with text ws i i_lt_length)
+            ∙ stops.0,
+        has_gone.stop ∙ ap (shape_fault_from (progress text ws d part i))
+            (tokens_from_begin_with text ws i i_lt_length)
+            ∙ stops.1
             ∙ ap (λ b. Some
             (fault (token_at text ws i).at (shape_code b (token_at text ws i).word)))
-            (sym (is_start_begins text ws d i part))
-            ∙ ap Some (sym is),
+            (sym (start_is_between_statements text ws d i part))
+            ∙ ap Some (sym fault_is),
       )
 
-  pub goes_end : Goes text ws d from part i → i ≡ length ws
+  pub has_gone_to_end_of_tokens : HasGoneTo text ws d from part i → i ≡ length ws
       → (statements_from (start d) (tokens_from text ws from) ≡ [])
       × (shape_fault_from (start d) (tokens_from text ws from) ≡ None)
       × (progress_from (start d) (tokens_from text ws from) ≡ progress text ws d part (length ws))
-  goes_end g e =
-      let none : tokens_from text ws i ≡ [] =
-      ap (as_tokens text) (ap (λ k. drop k ws) e ∙ drop-all ws) in (
-        g.statements ∙ ap (statements_from (progress text ws d part i)) none,
-        g.stop ∙ ap (shape_fault_from (progress text ws d part i)) none,
-        g.rest ∙ ap (progress_from (progress text ws d part i)) none
-            ∙ ap (progress text ws d part) e,
+  has_gone_to_end_of_tokens has_gone i_is_length =
+      let no_tokens_left : tokens_from text ws i ≡ [] =
+      ap (as_tokens text) (ap (λ k. drop k ws) i_is_length ∙ drop-all ws) in (
+        has_gone.statements ∙ ap (statements_from (progress text ws d part i)) no_tokens_left,
+        has_gone.stop ∙ ap (shape_fault_from (progress text ws d part i)) no_tokens_left,
+        has_gone.rest ∙ ap (progress_from (progress text ws d part i)) no_tokens_left
+            ∙ ap (progress text ws d part) i_is_length,
       )
     where
       drop-all : (xs : List Word) → drop (length xs) xs ≡ []

@@ -7,25 +7,30 @@ use Rattle.mm_spec.specs.Scope.{statement_at}
 use Rattle.mm_spec.specs.declared.Word.{Word}
 use Rattle.mm_outline.specs.Parts.{statement_of}
 use Rattle.mm_outline.specs.Statements.{statements}
-use Rattle.mm_outline.proofs.ActiveLaw.{get_map}
+use Rattle.mm_outline.proofs.ActiveLaw.{got_of_mapped}
 use Rattle.mm_outline.specs.declared.parts.Outline.{Outline}
 
 module _ (text : List ℕ) (ws : List Word) where
-  pub statement_is : (os : List Outline) (k : ℕ) (d : Outline) → k < length os
+  pub statement_of_outline_is : (os : List Outline) (k : ℕ) (d : Outline) → k < length os
       → slice_get (statements text ws os) k ≡ Some (statement_of text ws (get_or os k d))
-  statement_is os k d h = get_map (statement_of text ws) os k d h
+  statement_of_outline_is os k d k_lt_length =
+      got_of_mapped (statement_of text ws) os k d k_lt_length
 
 -- a statement that is there stands below the length
-pub is_there : (p : Statement → Bool) (db : List Statement) (k : ℕ)
+pub passing_lt_length : (p : Statement → Bool) (db : List Statement) (k : ℕ)
     → list_any p (statement_at db k) ≡ true → k < length db
-is_there p [] zero h = absurd (let e : false ≡ true = h in cc)
-is_there p [] (suc k) h = absurd (let e : false ≡ true = h in cc)
-is_there p (s ∷ db) zero h = omega arith
-is_there p (s ∷ db) (suc k) h = let l = is_there p db k h in omega (arith, l)
+passing_lt_length p [] zero passes_at_k =
+    absurd (let false_is_true : false ≡ true = passes_at_k in cc)
+passing_lt_length p [] (suc k) passes_at_k =
+    absurd (let false_is_true : false ≡ true = passes_at_k in cc)
+passing_lt_length p (s ∷ db) zero passes_at_k = omega arith
+passing_lt_length p (s ∷ db) (suc k) passes_at_k =
+    let k_lt_later = passing_lt_length p db k passes_at_k in omega (arith, k_lt_later)
 
 -- an element of a mapped list
-pub get_mapped : {X Y : Type 0} (f : X → Y) (xs : List X) (i : ℕ) (d : X) (e : Y) → i < length xs
+pub element_of_mapped : {X Y : Type 0} (f : X → Y) (xs : List X) (i : ℕ) (d : X) (e : Y)
+    → i < length xs
     → get_or (map f xs) i e ≡ f (get_or xs i d)
-get_mapped f [] i d e h = absurd (omega arith)
-get_mapped f (x ∷ xs) zero d e h = refl
-get_mapped f (x ∷ xs) (suc i) d e h = get_mapped f xs i d e (omega arith)
+element_of_mapped f [] i d e i_lt_length = absurd (omega arith)
+element_of_mapped f (x ∷ xs) zero d e i_lt_length = refl
+element_of_mapped f (x ∷ xs) (suc i) d e i_lt_length = element_of_mapped f xs i d e (omega arith)

@@ -23,9 +23,9 @@ use Rattle.mm_spec.specs.Words.{begins_word, word_at, words_between, words_of}
 use Rattle.mm_spec.specs.Laws.Words.{IsWord}
 use Rattle.mm_spec.specs.Readings.{reading, bytes_of}
 use Rattle.mm_spec.specs.Lexed.{tokens_of, lexical_fault}
-use Rattle.mm_spec.proofs.WordsLaw.{words_of_AreWords}
+use Rattle.mm_spec.proofs.WordsLaw.{words_of_are_words}
 use Rattle.mm_spec.proofs.ReadingsLaw.{reading_opening, reading_closing, reading_comment}
-use Rattle.mm_spec.proofs.ReadingsLaw.{reading_faulty, reading_end, reading_one, read_as_token}
+use Rattle.mm_spec.proofs.ReadingsLaw.{reading_faulty, reading_end, reading_of_token, read_as_token}
 use Rattle.mm_spec.proofs.LexedLaw.{tokens_of_long, lexical_fault_long, tokens_of_read}
 use Rattle.mm_spec.proofs.ListLaw.{pairs_head, pairs_tail}
 use Rattle.mm_outline.specs.Parts.{AreWithin}
@@ -33,224 +33,266 @@ use Rattle.mm_outline.specs.Tokens.{AreTokens}
 
 -- a property of tokens among words: it holds of no tokens, and of one word more in front, whether
 -- that is a token or not
-module _ (Q : List Word → List Word → Type 0) (none : (ws : List Word) → Q ws [])
-    (taken : (w : Word) (ws ts : List Word) → Q ws ts → Q (w ∷ ws) (w ∷ ts))
-    (skipped : (w : Word) (ws ts : List Word) → Q ws ts → Q (w ∷ ws) ts) where
-  tokens_kept : (text : List ℕ) (c : Option ℕ) (ws : List Word) → Q ws (reading text c ws).tokens
-  tokens_kept text c [] = subst (λ r. Q [] r.tokens) (sym (reading_end text c)) (none [])
-  tokens_kept text c (w ∷ ws) =
-      by_role (role_of (is_some c) (bytes_of text w)) refl (λ d. tokens_kept text d ws)
+module _ (Q : List Word → List Word → Type 0) (holds_of_none : (ws : List Word) → Q ws [])
+    (holds_if_taken : (w : Word) (ws ts : List Word) → Q ws ts → Q (w ∷ ws) (w ∷ ts))
+    (holds_if_skipped : (w : Word) (ws ts : List Word) → Q ws ts → Q (w ∷ ws) ts) where
+  kept_by_reading : (text : List ℕ) (c : Option ℕ) (ws : List Word)
+      → Q ws (reading text c ws).tokens
+  kept_by_reading text c [] =
+      subst (λ r. Q [] r.tokens) (sym (reading_end text c)) (holds_of_none [])
+  kept_by_reading text c (w ∷ ws) =
+      kept_by_role (role_of (is_some c) (bytes_of text w)) refl (λ d. kept_by_reading text d ws)
     where
-      by_role : (r : Role) → role_of (is_some c) (bytes_of text w) ≡ r
+      kept_by_role : (r : Role) → role_of (is_some c) (bytes_of text w) ≡ r
           → ((d : Option ℕ) → Q ws (reading text d ws).tokens)
           → Q (w ∷ ws) (reading text c (w ∷ ws)).tokens
-      by_role Token e rest =
-          subst (λ r. Q (w ∷ ws) r.tokens) (sym (reading_one text c w ws e))
-          (taken w ws (reading text c ws).tokens (rest c))
-      by_role Opening e rest =
-          subst (λ r. Q (w ∷ ws) r.tokens) (sym (reading_opening text c w ws e))
-          (skipped w ws (reading text (Some w.start) ws).tokens (rest (Some w.start)))
-      by_role Closing e rest =
-          subst (λ r. Q (w ∷ ws) r.tokens) (sym (reading_closing text c w ws e))
-          (skipped w ws (reading text None ws).tokens (rest None))
-      by_role Comment e rest =
-          subst (λ r. Q (w ∷ ws) r.tokens) (sym (reading_comment text c w ws e))
-          (skipped w ws (reading text c ws).tokens (rest c))
-      by_role Faulty e rest =
-          subst (λ r. Q (w ∷ ws) r.tokens) (sym (reading_faulty text c w ws e)) (none (w ∷ ws))
+      kept_by_role Token role_is rest_is_kept =
+          subst (λ r. Q (w ∷ ws) r.tokens) (sym (reading_of_token text c w ws role_is))
+          (holds_if_taken w ws (reading text c ws).tokens (rest_is_kept c))
+      kept_by_role Opening role_is rest_is_kept =
+          subst (λ r. Q (w ∷ ws) r.tokens) (sym (reading_opening text c w ws role_is))
+          (holds_if_skipped w ws (reading text (Some w.start) ws).tokens
+          (rest_is_kept (Some w.start)))
+      kept_by_role Closing role_is rest_is_kept =
+          subst (λ r. Q (w ∷ ws) r.tokens) (sym (reading_closing text c w ws role_is))
+          (holds_if_skipped w ws (reading text None ws).tokens (rest_is_kept None))
+      kept_by_role Comment role_is rest_is_kept =
+          subst (λ r. Q (w ∷ ws) r.tokens) (sym (reading_comment text c w ws role_is))
+          (holds_if_skipped w ws (reading text c ws).tokens (rest_is_kept c))
+      kept_by_role Faulty role_is rest_is_kept =
+          subst (λ r. Q (w ∷ ws) r.tokens) (sym (reading_faulty text c w ws role_is))
+          (holds_of_none (w ∷ ws))
 
 -- the tokens are some of the words, in their order
-all_kept : (P : Word → Type 0) (text : List ℕ) (c : Option ℕ) (ws : List Word) → All P ws
+all_words_all_tokens : (P : Word → Type 0) (text : List ℕ) (c : Option ℕ) (ws : List Word)
+    → All P ws
     → All P (reading text c ws).tokens
-all_kept P text c ws =
-    tokens_kept (λ vs ts. All P vs → All P ts) (λ vs h. All-nil P)
-    (λ w vs ts r h. All-cons P w ts (All-head P w vs h) (r (All-tail P w vs h)))
-    (λ w vs ts r h. r (All-tail P w vs h)) text c ws
+all_words_all_tokens P text c ws =
+    kept_by_reading (λ vs ts. All P vs → All P ts) (λ vs all_words. All-nil P)
+    (λ w vs ts later_kept all_words. All-cons P w ts (All-head P w vs all_words)
+    (later_kept (All-tail P w vs all_words)))
+    (λ w vs ts later_kept all_words. later_kept (All-tail P w vs all_words)) text c ws
 
 abbrev Later : Word → Word → Type 0
 Later v w = v.end ≤ w.start
 
 -- with it, that the tokens are after whatever the words are after
-rising_kept : (text : List ℕ) (c : Option ℕ) (ws : List Word) → AllPairs Later ws
+rising_words_rising_tokens : (text : List ℕ) (c : Option ℕ) (ws : List Word) → AllPairs Later ws
     → AllPairs Later (reading text c ws).tokens
-rising_kept text c ws p =
-    (tokens_kept
+rising_words_rising_tokens text c ws words_rise =
+    (kept_by_reading
     (λ vs ts. AllPairs Later vs
     → AllPairs Later ts × ((u : Word) → All (Later u) vs → All (Later u) ts))
-    (λ vs h. (λ i j d l k. absurd (omega arith), λ u a. All-nil (Later u)))
-    (λ w vs ts r h.
-    let rest = r (pairs_tail Later w vs h) in (
-      AllPairs-cons Later w ts (rest.1 w (pairs_head Later w vs h)) rest.0,
-      λ u a. All-cons
-          (Later u) w ts (All-head (Later u) w vs a) (rest.1 u (All-tail (Later u) w vs a)),
+    (λ vs words_rise_there.
+    (λ i j d i_lt_j j_lt_length. absurd (omega arith), λ u later_than_u. All-nil (Later u)))
+    (λ w vs ts later_implies words_rise_there.
+    let later_kept = later_implies (pairs_tail Later w vs words_rise_there) in (
+      AllPairs-cons Later w ts (later_kept.1 w (pairs_head Later w vs words_rise_there))
+          later_kept.0,
+      λ u later_than_u. All-cons
+          (Later u) w ts (All-head (Later u) w vs later_than_u)
+          (later_kept.1 u (All-tail (Later u) w vs later_than_u)),
     ))
-    (λ w vs ts r h. let rest = r (pairs_tail Later w vs h) in
-    (rest.0, λ u a. rest.1 u (All-tail (Later u) w vs a))) text c ws p).0
+    (λ w vs ts later_implies words_rise_there. let later_kept = later_implies
+    (pairs_tail Later w vs words_rise_there) in
+    (later_kept.0, λ u later_than_u. later_kept.1 u (All-tail (Later u) w vs later_than_u))) text c
+    ws words_rise).0
 
-length_kept : (text : List ℕ) (c : Option ℕ) (ws : List Word)
+tokens_le_words_read : (text : List ℕ) (c : Option ℕ) (ws : List Word)
     → length (reading text c ws).tokens ≤ length ws
-length_kept text c ws =
-    tokens_kept (λ vs ts. length ts ≤ length vs) (λ vs. omega arith) (λ w vs ts h. omega (arith, h))
-    (λ w vs ts h. omega (arith, h)) text c ws
+tokens_le_words_read text c ws =
+    kept_by_reading (λ vs ts. length ts ≤ length vs) (λ vs. omega arith)
+    (λ w vs ts later_le. omega (arith, later_le))
+    (λ w vs ts later_le. omega (arith, later_le)) text c ws
 
-fewer : {X : Type 0} (p : X → Bool) (xs : List X) → length (filter p xs) ≤ length xs
-fewer p xs = let e = length-filter p xs in let n = count_by-le-length p xs in omega (arith, e, n)
+filtered_le_length : {X : Type 0} (p : X → Bool) (xs : List X) → length (filter p xs) ≤ length xs
+filtered_le_length p xs =
+    let filtered_length_is = length-filter p xs in let count_le_length = count_by-le-length p xs in
+    omega (arith, filtered_length_is, count_le_length)
 
 -- a text has no more words than bytes
-words_few : (text : List ℕ) → length (words_of text) ≤ length text
+words_le_bytes_of_text : (text : List ℕ) → length (words_of text) ≤ length text
 unfolding words_between
-words_few text =
+words_le_bytes_of_text text =
     let places = range_with_len 0 (length text - 0) in
-    let m : length (map (word_at text) (filter (begins_word text) places))
+    let mapped_length_is : length (map (word_at text) (filter (begins_word text) places))
     ≡ length (filter (begins_word text) places) = length-map (filter (begins_word text) places)
     (word_at text) in
-    let n = fewer (begins_word text) places in
-    let l : length places ≡ length text - 0 = length-range_with_len 0 (length text - 0) in
-    omega (arith, m, n, l)
+    let filtered_le = filtered_le_length (begins_word text) places in
+    let place_count_is : length places ≡ length text - 0 =
+    length-range_with_len 0 (length text - 0) in
+    omega (arith, mapped_length_is, filtered_le, place_count_is)
 
 -- what holds of the tokens of all texts, by those of the texts that are short
-by_limit : (P : List Word → Type 0) (text : List ℕ) → P []
+holds_of_tokens_by_limit : (P : List Word → Type 0) (text : List ℕ) → P []
     → P (reading text None (words_of text)).tokens → P (tokens_of text)
-by_limit P text none some = by_order (cases_lt text_limit (length text))
+holds_of_tokens_by_limit P text holds_of_none holds_of_read =
+    holds_by_order (cases_lt text_limit (length text))
   where
-    by_order : (text_limit < length text) ⊎ (length text ≤ text_limit) → P (tokens_of text)
-    by_order (inl h) = subst P (sym (tokens_of_long text h)) none
-    by_order (inr h) =
-        subst P (sym (tokens_of_read text (reading text None (words_of text)) h refl)) some
+    holds_by_order : (text_limit < length text) ⊎ (length text ≤ text_limit) → P (tokens_of text)
+    holds_by_order (inl text_and_limit) =
+        subst P (sym (tokens_of_long text text_and_limit)) holds_of_none
+    holds_by_order (inr text_and_limit) =
+        subst P (sym (tokens_of_read text (reading text None (words_of text)) text_and_limit refl))
+        holds_of_read
 
 -- each token is a word of the text
 pub tokens_are_words : (text : List ℕ) → All (IsWord text) (tokens_of text)
 tokens_are_words text =
-    by_limit (All (IsWord text)) text (All-nil (IsWord text))
-    (all_kept (IsWord text) text None (words_of text) (words_of_AreWords text).each)
+    holds_of_tokens_by_limit (All (IsWord text)) text (All-nil (IsWord text))
+    (all_words_all_tokens (IsWord text) text None (words_of text) (words_of_are_words text).each)
 
 -- each token ends before the next begins
-pub tokens_rising : (text : List ℕ) → AllPairs (λ v w. v.end ≤ w.start) (tokens_of text)
-tokens_rising text =
-    by_limit (AllPairs Later) text (λ i j d l k. absurd (omega arith))
-    (rising_kept text None (words_of text) (words_of_AreWords text).rising)
+pub tokens_rise : (text : List ℕ) → AllPairs (λ v w. v.end ≤ w.start) (tokens_of text)
+tokens_rise text =
+    holds_of_tokens_by_limit (AllPairs Later) text
+    (λ i j d i_lt_j j_lt_length. absurd (omega arith))
+    (rising_words_rising_tokens text None (words_of text) (words_of_are_words text).rising)
 
 -- the tokens stand in the text
-pub tokens_stand : (text : List ℕ) → AreWithin text (tokens_of text)
-tokens_stand text = grind (arith, common_steps, length, tokens_of, tokens_are_words)
+pub tokens_are_in_text : (text : List ℕ) → AreWithin text (tokens_of text)
+tokens_are_in_text text = grind (arith, common_steps, length, tokens_of, tokens_are_words)
 
 -- ---- a token with a `$` begins with it
 
-and_first : (a b c : Bool) → (a && b && c) ≡ true → b ≡ true
-and_first true true c e = refl
-and_first true false c e = absurd (cc)
-and_first false b c e = absurd (cc)
+middle_of_three : (a b c : Bool) → (a && b && c) ≡ true → b ≡ true
+middle_of_three true true c all_three = refl
+middle_of_three true false c all_three = absurd (cc)
+middle_of_three false b c all_three = absurd (cc)
 
-dollar_first : (b : ℕ) (w : List ℕ) → is_dollar_and b w ≡ true → (slice_index w 0 == 0x24) ≡ true
-unfolding is_dollar_and
-dollar_first b w e = and_first (length w == 2) (slice_index w 0 == 0x24) (slice_index w 1 == b) e
-
-any_first : (w bs : List ℕ) → list_any (λ b. is_dollar_and b w) bs ≡ true
+dollar_word_begins_with_dollar : (b : ℕ) (w : List ℕ) → is_dollar_and b w ≡ true
     → (slice_index w 0 == 0x24) ≡ true
-any_first w [] e = absurd (cc)
-any_first w (b ∷ bs) e = by_dollar_and (is_dollar_and b w) refl (λ h. any_first w bs h) e
+unfolding is_dollar_and
+dollar_word_begins_with_dollar b w is_dollar_word =
+    middle_of_three (length w == 2) (slice_index w 0 == 0x24) (slice_index w 1 == b) is_dollar_word
+
+some_dollar_word_begins_with_dollar : (w bs : List ℕ) → list_any (λ b. is_dollar_and b w) bs ≡ true
+    → (slice_index w 0 == 0x24) ≡ true
+some_dollar_word_begins_with_dollar w [] some_dollar_word = absurd (cc)
+some_dollar_word_begins_with_dollar w (b ∷ bs) some_dollar_word =
+    begins_by_test (is_dollar_and b w) refl
+    (λ later_is. some_dollar_word_begins_with_dollar w bs later_is) some_dollar_word
   where
-    by_dollar_and : (x : Bool) → is_dollar_and b w ≡ x
+    begins_by_test : (x : Bool) → is_dollar_and b w ≡ x
         → (list_any (λ b. is_dollar_and b w) bs ≡ true → (slice_index w 0 == 0x24) ≡ true)
         → (x || list_any (λ b. is_dollar_and b w) bs) ≡ true → (slice_index w 0 == 0x24) ≡ true
-    by_dollar_and true h rest e = dollar_first b w h
-    by_dollar_and false h rest e = rest e
+    begins_by_test true test_is later_begins one_is_true =
+        dollar_word_begins_with_dollar b w test_is
+    begins_by_test false test_is later_begins one_is_true = later_begins one_is_true
 
-keyword_first : (w : List ℕ) → is_keyword w ≡ true → (slice_index w 0 == 0x24) ≡ true
+keyword_begins_with_dollar : (w : List ℕ) → is_keyword w ≡ true → (slice_index w 0 == 0x24) ≡ true
 unfolding is_keyword
-keyword_first w e = any_first w (codes "cvfedap=.{}[]") e
+keyword_begins_with_dollar w is_keyword_w =
+    some_dollar_word_begins_with_dollar w (codes "cvfedap=.{}[]") is_keyword_w
 
-no_dollar_first : (w : List ℕ) → 0 < length w → has_dollar w ≡ false
+no_dollar_at_beginning : (w : List ℕ) → 0 < length w → has_dollar w ≡ false
     → (slice_index w 0 == 0x24) ≡ false
-no_dollar_first [] h e = absurd (omega arith)
-no_dollar_first (x ∷ w) h e = by_test (x == 0x24) e
+no_dollar_at_beginning [] w_is_nonempty no_dollar = absurd (omega arith)
+no_dollar_at_beginning (x ∷ w) w_is_nonempty no_dollar = false_by_test (x == 0x24) no_dollar
   where
-    by_test : (b : Bool) → (b || has_dollar w) ≡ false → b ≡ false
-    by_test true e = absurd (cc)
-    by_test false e = refl
+    false_by_test : (b : Bool) → (b || has_dollar w) ≡ false → b ≡ false
+    false_by_test true none_is_dollar = absurd (cc)
+    false_by_test false none_is_dollar = refl
 
-token_tells : (w : List ℕ) → 0 < length w → is_token w ≡ true
+first_byte_tells_dollar : (w : List ℕ) → 0 < length w → is_token w ≡ true
     → has_dollar w ≡ (slice_index w 0 == 0x24)
 unfolding is_token
-token_tells w h e = by_dollar (has_dollar w) refl (is_clean w) e
+first_byte_tells_dollar w w_is_nonempty is_token_w =
+    told_by_dollar (has_dollar w) refl (is_clean w) is_token_w
   where
-    by_dollar : (d : Bool) → has_dollar w ≡ d → (c : Bool) → (c && (not d || is_keyword w)) ≡ true
+    told_by_dollar : (d : Bool) → has_dollar w ≡ d → (c : Bool)
+        → (c && (not d || is_keyword w)) ≡ true
         → d ≡ (slice_index w 0 == 0x24)
-    by_dollar false n c e = sym (no_dollar_first w h n)
-    by_dollar true n true e = sym (keyword_first w e)
-    by_dollar true n false e = absurd (cc)
+    told_by_dollar false has_dollar_is c token_test =
+        sym (no_dollar_at_beginning w w_is_nonempty has_dollar_is)
+    told_by_dollar true has_dollar_is true token_test =
+        sym (keyword_begins_with_dollar w token_test)
+    told_by_dollar true has_dollar_is false token_test = absurd (cc)
 
 -- each token that is read is one
-tokens_tokens : (text : List ℕ) (c : Option ℕ) (ws : List Word)
+read_tokens_are_tokens : (text : List ℕ) (c : Option ℕ) (ws : List Word)
     → All (λ w. is_token (bytes_of text w) ≡ true) (reading text c ws).tokens
-tokens_tokens text c [] =
+read_tokens_are_tokens text c [] =
     subst (λ r. All (λ w. is_token (bytes_of text w) ≡ true) r.tokens) (sym (reading_end text c))
     (All-nil (λ w. is_token (bytes_of text w) ≡ true))
-tokens_tokens text c (w ∷ ws) =
-    by_role (role_of (is_some c) (bytes_of text w)) refl (λ d. tokens_tokens text d ws)
+read_tokens_are_tokens text c (w ∷ ws) =
+    tokens_by_role (role_of (is_some c) (bytes_of text w)) refl
+    (λ d. read_tokens_are_tokens text d ws)
   where
     P : Word → Type 0
     P w = is_token (bytes_of text w) ≡ true
 
-    by_role : (r : Role) → role_of (is_some c) (bytes_of text w) ≡ r
+    tokens_by_role : (r : Role) → role_of (is_some c) (bytes_of text w) ≡ r
         → ((d : Option ℕ) → All P (reading text d ws).tokens)
         → All P (reading text c (w ∷ ws)).tokens
-    by_role Token e rest =
-        subst (λ r. All P r.tokens) (sym (reading_one text c w ws e))
-        (All-cons P w (reading text c ws).tokens (read_as_token (is_some c) (bytes_of text w) e)
-        (rest c))
-    by_role Opening e rest =
-        subst (λ r. All P r.tokens) (sym (reading_opening text c w ws e)) (rest (Some w.start))
-    by_role Closing e rest =
-        subst (λ r. All P r.tokens) (sym (reading_closing text c w ws e)) (rest None)
-    by_role Comment e rest =
-        subst (λ r. All P r.tokens) (sym (reading_comment text c w ws e)) (rest c)
-    by_role Faulty e rest =
-        subst (λ r. All P r.tokens) (sym (reading_faulty text c w ws e)) (All-nil P)
+    tokens_by_role Token role_is later_are_tokens =
+        subst (λ r. All P r.tokens) (sym (reading_of_token text c w ws role_is))
+        (All-cons P w (reading text c ws).tokens
+        (read_as_token (is_some c) (bytes_of text w) role_is)
+        (later_are_tokens c))
+    tokens_by_role Opening role_is later_are_tokens =
+        subst (λ r. All P r.tokens) (sym (reading_opening text c w ws role_is))
+        (later_are_tokens (Some w.start))
+    tokens_by_role Closing role_is later_are_tokens =
+        subst (λ r. All P r.tokens) (sym (reading_closing text c w ws role_is))
+        (later_are_tokens None)
+    tokens_by_role Comment role_is later_are_tokens =
+        subst (λ r. All P r.tokens) (sym (reading_comment text c w ws role_is)) (later_are_tokens c)
+    tokens_by_role Faulty role_is later_are_tokens =
+        subst (λ r. All P r.tokens) (sym (reading_faulty text c w ws role_is)) (All-nil P)
 
 -- the first byte of each token tells whether it has a `$`
-pub tokens_tell : (text : List ℕ) → AreTokens text (tokens_of text)
-tokens_tell text = λ i d h.
-    let words = tokens_are_words text i d h in
-    let n = words.nonempty in
-    let b = words.within in
+pub tokens_are_told_by_first_byte : (text : List ℕ) → AreTokens text (tokens_of text)
+tokens_are_told_by_first_byte text = λ i d i_lt_count.
+    let is_word = tokens_are_words text i d i_lt_count in
+    let word_is_nonempty = is_word.nonempty in
+    let word_in_text = is_word.within in
     let w = get_or (tokens_of text) i d in
-    let rest = length-drop w.start text in
-    let size : length (bytes_of text w) ≡ w.end - w.start =
-    length-take-le (w.end - w.start) (drop w.start text) (omega (arith, rest, b)) in
-    let long : 0 < length (bytes_of text w) = omega (arith, n, size) in (
-      omega (arith, n),
-      b,
+    let dropped_length = length-drop w.start text in
+    let word_length_is : length (bytes_of text w) ≡ w.end - w.start =
+    length-take-le (w.end - w.start) (drop w.start text)
+    (omega (arith, dropped_length, word_in_text)) in
+    let word_length_positive : 0 < length (bytes_of text w) =
+    omega (arith, word_is_nonempty, word_length_is) in (
+      omega (arith, word_is_nonempty),
+      word_in_text,
       (
-        long,
-        token_tells (bytes_of text w) long
-            (by_limit (All (λ w. is_token (bytes_of text w) ≡ true)) text
+        word_length_positive,
+        first_byte_tells_dollar (bytes_of text w) word_length_positive
+            (holds_of_tokens_by_limit (All (λ w. is_token (bytes_of text w) ≡ true)) text
             (All-nil (λ w. is_token (bytes_of text w) ≡ true))
-            (tokens_tokens text None (words_of text)) i d h),
+            (read_tokens_are_tokens text None (words_of text)) i d i_lt_count),
       ),
     )
 
--- there are no more tokens than bytes, and fewer than the limit
-pub tokens_few : (text : List ℕ) → length (tokens_of text) ≤ length text
-tokens_few text =
-    by_limit (λ ts. length ts ≤ length text) text (omega arith)
-    (let a = length_kept text None (words_of text) in let b = words_few text in omega (arith, a, b))
+-- there are no more tokens than bytes, and filtered_le_length than the limit
+pub tokens_le_bytes_of_text : (text : List ℕ) → length (tokens_of text) ≤ length text
+tokens_le_bytes_of_text text =
+    holds_of_tokens_by_limit (λ ts. length ts ≤ length text) text (omega arith)
+    (let tokens_le_words = tokens_le_words_read text None (words_of text) in
+    let words_le_bytes = words_le_bytes_of_text text in
+    omega (arith, tokens_le_words, words_le_bytes))
 
-pub tokens_small : (text : List ℕ) → length (tokens_of text) < 2 ^ 31
-tokens_small text = by_order (cases_lt text_limit (length text))
+pub tokens_lt_2_31 : (text : List ℕ) → length (tokens_of text) < 2 ^ 31
+tokens_lt_2_31 text = small_by_order (cases_lt text_limit (length text))
   where
-    by_order : (text_limit < length text) ⊎ (length text ≤ text_limit)
+    small_by_order : (text_limit < length text) ⊎ (length text ≤ text_limit)
         → length (tokens_of text) < 2 ^ 31
-    by_order (inl h) =
-        let e : length (tokens_of text) ≡ 0 = ap length (tokens_of_long text h) in omega (arith, e)
-    by_order (inr h) = let n = tokens_few text in omega (arith, h, n)
+    small_by_order (inl text_and_limit) =
+        let no_tokens : length (tokens_of text) ≡ 0 =
+        ap length (tokens_of_long text text_and_limit) in omega (arith, no_tokens)
+    small_by_order (inr text_and_limit) =
+        let tokens_le_bytes = tokens_le_bytes_of_text text in
+        omega (arith, text_and_limit, tokens_le_bytes)
 
 -- a text without a lexical fault is short
-pub short_text : (text : List ℕ) → lexical_fault text ≡ None → length text ≤ text_limit
-short_text text e = by_order (cases_lt text_limit (length text))
+pub faultless_text_fits_limit : (text : List ℕ) → lexical_fault text ≡ None
+    → length text ≤ text_limit
+faultless_text_fits_limit text no_lexical_fault = short_by_order (cases_lt text_limit (length text))
   where
-    by_order : (text_limit < length text) ⊎ (length text ≤ text_limit) → length text ≤ text_limit
-    by_order (inl h) =
-        absurd (let f : Some (record { at = 0; code = TextTooLong })
-        ≡ None = sym (lexical_fault_long text h) ∙ e in cc)
-    by_order (inr h) = h
+    short_by_order : (text_limit < length text) ⊎ (length text ≤ text_limit)
+        → length text ≤ text_limit
+    short_by_order (inl text_and_limit) =
+        absurd (let too_long_is_none : Some (record { at = 0; code = TextTooLong })
+        ≡ None = sym (lexical_fault_long text text_and_limit) ∙ no_lexical_fault in cc)
+    short_by_order (inr text_and_limit) = text_and_limit

@@ -9,13 +9,14 @@ use Rattle.mm_outline.specs.declared.parts.Kind.TheVariants.{Open, Close}
 
 -- the block of each statement, the end of each block, the open blocks
 pub record BlockLists : Type 0 where
-  pub of : List ℕ
+  pub block_of : List ℕ
   pub ends : List ℕ
   pub open_blocks : List ℕ
 
 abbrev pub block_lists : List ℕ → List ℕ → List ℕ → BlockLists
-block_lists of ends opens = record { of = of; ends = ends; open_blocks = opens }
+block_lists block_of ends opens = record { block_of = block_of; ends = ends; open_blocks = opens }
 
+-- the end of a block that is still open: 2 ^ 32 - 1, the largest number of 32 bits
 abbrev pub never : ℕ
 never = 4294967295
 
@@ -27,17 +28,18 @@ innermost opens = slice_index opens (length opens - 1)
 
 abbrev pub pushed : Kind → BlockLists → BlockLists
 pushed Open blocks =
-    block_lists (blocks.of ++ innermost blocks.open_blocks ∷ []) (blocks.ends ++ never ∷ [])
+    block_lists (blocks.block_of ++ innermost blocks.open_blocks ∷ []) (blocks.ends ++ never ∷ [])
     (blocks.open_blocks ++ length blocks.ends ∷ [])
 pushed Close blocks =
-    block_lists (blocks.of ++ innermost blocks.open_blocks ∷ [])
-    (slice_set blocks.ends (innermost blocks.open_blocks) (length blocks.of))
+    block_lists (blocks.block_of ++ innermost blocks.open_blocks ∷ [])
+    (slice_set blocks.ends (innermost blocks.open_blocks) (length blocks.block_of))
     (take (length blocks.open_blocks - 1) blocks.open_blocks)
 pushed _ blocks =
-    block_lists (blocks.of ++ innermost blocks.open_blocks ∷ []) blocks.ends blocks.open_blocks
+    block_lists (blocks.block_of ++ innermost blocks.open_blocks ∷ []) blocks.ends
+    blocks.open_blocks
 
 abbrev pub end_of : BlockLists → ℕ → ℕ
-end_of blocks j = get_or blocks.ends (get_or blocks.of j 0) 0
+end_of blocks j = get_or blocks.ends (get_or blocks.block_of j 0) 0
 
 abbrev pub is_never : Option ℕ → Bool
 is_never None = false
@@ -49,22 +51,24 @@ end_in ends (Some block) = slice_get ends block
 
 -- whether the statement is known and its block is still open
 abbrev pub is_open_in : BlockLists → ℕ → Bool
-is_open_in blocks j = is_never (end_in blocks.ends (slice_get blocks.of j))
+is_open_in blocks j = is_never (end_in blocks.ends (slice_get blocks.block_of j))
 
 pub record IsBlocks (db : List Statement) (blocks : BlockLists) : Type 0 where
-  pub count : length blocks.of ≡ length db
-  pub few : length blocks.ends ≤ length db + 1
-  pub nested : count_by is_closing db ≤ count_by is_opening db
-  pub stack : length blocks.open_blocks ≡ depth db (length db) + 1
-  pub known : (j : ℕ) → j < length db → get_or blocks.of j 0 < length blocks.ends
-  pub opened : (l : ℕ) → l < length blocks.open_blocks
+  pub count : length blocks.block_of ≡ length db
+  pub ends_le_statements : length blocks.ends ≤ length db + 1
+  pub closings_le_openings : count_by is_closing db ≤ count_by is_opening db
+  pub stack_size_is : length blocks.open_blocks ≡ depth db (length db) + 1
+  pub blocks_have_ends : (j : ℕ) → j < length db → get_or blocks.block_of j 0 < length blocks.ends
+  pub open_blocks_have_ends : (l : ℕ) → l < length blocks.open_blocks
       → get_or blocks.open_blocks l 0 < length blocks.ends
-  pub still : (l : ℕ) → l < length blocks.open_blocks
+  pub open_blocks_are_unended : (l : ℕ) → l < length blocks.open_blocks
       → get_or blocks.ends (get_or blocks.open_blocks l 0) 0 ≡ never
-  pub rising : (l m : ℕ) → l < m → m < length blocks.open_blocks
+  pub open_blocks_rise : (l m : ℕ) → l < m → m < length blocks.open_blocks
       → get_or blocks.open_blocks l 0 < get_or blocks.open_blocks m 0
-  pub at : (j : ℕ) → j < length db → end_of blocks j ≡ never
+  pub unended_is_on_stack : (j : ℕ) → j < length db → end_of blocks j ≡ never
       → (depth db j ≤ depth db (length db))
-      × (get_or blocks.open_blocks (depth db j) 0 ≡ get_or blocks.of j 0)
-  pub ended : (j k : ℕ) → j < k → k ≤ length db → is_block_open db j k ≡ nat_le k (end_of blocks j)
-  pub bounds : (j : ℕ) → j < length db → (end_of blocks j ≡ never) ⊎ (end_of blocks j < length db)
+      × (get_or blocks.open_blocks (depth db j) 0 ≡ get_or blocks.block_of j 0)
+  pub open_up_to_end : (j k : ℕ) → j < k → k ≤ length db
+      → is_block_open db j k ≡ nat_le k (end_of blocks j)
+  pub ends_are_bounded : (j : ℕ) → j < length db
+      → (end_of blocks j ≡ never) ⊎ (end_of blocks j < length db)

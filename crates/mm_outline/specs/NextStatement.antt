@@ -23,10 +23,11 @@ pub record Leads (r : Progress) (us : List Token) (row : List Statement) (q : Pr
 abbrev pub tokens_from : List ℕ → List Word → ℕ → List Token
 tokens_from text ws i = as_tokens text (drop i ws)
 
+-- the tokens from `from` up to `end` spell one statement, after which `kind_depth` blocks are open
 pub record IsWhole (text : List ℕ) (ws : List Word) (d from kind_depth : ℕ) (s : Statement)
     (end : ℕ) : Type 0 where
-  pub later : from ≤ end
-  pub within : end < length ws
+  pub from_le_end : from ≤ end
+  pub end_lt_count : end < length ws
   pub leads : Leads (start d) (tokens_from text ws from) (s ∷ []) (start kind_depth)
       (tokens_from text ws (end + 1))
 

@@ -79,10 +79,11 @@ depth_after kind.Close d = one_less d
 depth_after _ d = d
 
 module _ (text : List ℕ) (ws : List Word) where
-  -- the label's token and the keyword's start_of
+  -- the token of the label of a statement, by the index of its keyword
   abbrev pub label_before : ℕ → Token
   label_before keyword = token_at text ws (keyword - 1)
 
+  -- the place where the word with this index begins
   abbrev pub start_of : ℕ → ℕ
   start_of i = (nth_word ws i).start
 

@@ -9,8 +9,8 @@ use Rattle.mm_outline.specs.declared.parts.Part.{Part}
 -- read: it is a part at `to` too, and to read on from there gives what reading from `from` gives,
 -- however many blocks are open.
 pub record ArePassed (text : List ℕ) (ws : List Word) (part : Part) (from to : ℕ) : Type 0 where
-  pub later : from ≤ to
-  pub within : to ≤ length ws
+  pub from_le_to : from ≤ to
+  pub to_le_count : to ≤ length ws
   pub is_part : IsPartBefore part to
   pub leads : (d : ℕ)
       → Leads (progress text ws d part from) (tokens_from text ws from) []

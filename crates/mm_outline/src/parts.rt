@@ -6,7 +6,8 @@ ghost use Rattle.mm_spec.specs.Statement.{shape_code};
 ghost use Rattle.mm_outline.specs.NextStatement.{IsNextStatement};
 ghost use Rattle.mm_outline.specs.NextStatement.{is_start as spec_is_start};
 ghost use Rattle.mm_spec.specs.Laws.Table.{class, transition};
-ghost use Rattle.mm_outline.specs.Parts.{IsPartBefore, IsTransitionAt, IfAtStart, class_of, outline, progress};
+ghost use Rattle.mm_outline.specs.Parts.{IsPartBefore, IsTransitionAt, IfAtStart, class_of};
+ghost use Rattle.mm_outline.specs.Parts.{outline, progress};
 ghost use Rattle.mm_outline.specs.Parts.{is_labelled_kind};
 ghost use Rattle.mm_outline.specs.Parts.{token_at, transition_of};
 ghost use Rattle.mm_outline.specs.declared.parts.Transition.TheVariants.{Complete};
@@ -72,7 +73,7 @@ pub enum Transition {
 }
 
 /// What a token of the class `class` does at `at`.
-#[tactic(auto, using(crate::proofs::TurnsLaw::between_more))]
+#[tactic(auto, using(crate::proofs::TurnsLaw::between_with_one_more))]
 fn transition_for(
     _text: &[u8],
     _tokens: &[Word],
@@ -82,11 +83,11 @@ fn transition_for(
     is_label: bool,
     at: u32,
 ) -> Transition
-    requires inside { at < length _tokens.now }
+    requires at_lt_count { at < length _tokens.now }
     requires part { IsPartBefore part at }
     requires label { IfAtStart part
         (is_label ≡ spec_is_label (token_at _text.now _tokens.now at).word) }
-    ensures same { transition_of _text.now _tokens.now deep at result
+    ensures transition_is { transition_of _text.now _tokens.now deep at result
         ≡ transition (progress _text.now _tokens.now deep part at) (class_of class)
         (token_at _text.now _tokens.now at) }
     ensures holds { IsTransitionAt at result }
@@ -173,9 +174,9 @@ fn is_label_at(part: Part, word: &[u8]) -> bool
 /// What the token with the index `at` does.
 fn transition_at(text: &[u8], tokens: &[Word], deep: u32, part: Part, at: u32) -> Transition
     requires tokens { AreTokens text.now tokens.now }
-    requires inside { at < length tokens.now }
+    requires at_lt_count { at < length tokens.now }
     requires part { IsPartBefore part at }
-    ensures same { transition_of text.now tokens.now deep at result
+    ensures transition_is { transition_of text.now tokens.now deep at result
         ≡ transition (progress text.now tokens.now deep part at)
         (class (token_at text.now tokens.now at).word) (token_at text.now tokens.now at) }
     ensures holds { IsTransitionAt at result }
@@ -223,7 +224,7 @@ fn is_start(part: Part) -> bool
 /// The fault of the token with the index `at`, which is not expected.
 fn unexpected(text: &[u8], tokens: &[Word], part: Part, at: u32) -> Fault
     requires tokens { AreTokens text.now tokens.now }
-    requires inside { at < length tokens.now }
+    requires at_lt_count { at < length tokens.now }
     ensures { result
         ≡ fault (token_at text.now tokens.now at).at
         (shape_code (spec_is_start part) (token_at text.now tokens.now at).word) }
@@ -239,10 +240,10 @@ fn unexpected(text: &[u8], tokens: &[Word], part: Part, at: u32) -> Fault
 /// The first token from `from` on that has a `$`, or the end of the tokens if none has.
 fn next_keyword(text: &[u8], tokens: &[Word], from: u32) -> u32
     requires tokens { AreTokens text.now tokens.now }
-    requires limit { length tokens.now < 2 ^ 31 }
-    requires inside { from ≤ length tokens.now }
-    ensures later { from ≤ result }
-    ensures within { result ≤ length tokens.now }
+    requires tokens_lt_2_31 { length tokens.now < 2 ^ 31 }
+    requires from_le_count { from ≤ length tokens.now }
+    ensures from_le_result { from ≤ result }
+    ensures result_le_count { result ≤ length tokens.now }
     ensures plain { (i : ℕ) → from ≤ i → i < result
         → has_dollar (token_at text.now tokens.now i).word ≡ false }
 {
@@ -258,8 +259,8 @@ fn next_keyword(text: &[u8], tokens: &[Word], from: u32) -> u32
 /// Where reading continues: words after a keyword are skipped, up to the next keyword.
 fn pass_words(text: &[u8], tokens: &[Word], part: Part, at: u32) -> u32
     requires tokens { AreTokens text.now tokens.now }
-    requires limit { length tokens.now < 2 ^ 31 }
-    requires inside { at ≤ length tokens.now }
+    requires tokens_lt_2_31 { length tokens.now < 2 ^ 31 }
+    requires at_le_count { at ≤ length tokens.now }
     requires part { IsPartBefore part at }
     ensures { ArePassed text.now tokens.now part at result }
 {
@@ -272,8 +273,8 @@ fn pass_words(text: &[u8], tokens: &[Word], part: Part, at: u32) -> u32
 /// Reads the next statement, from the token `from` on; `deep` blocks are open before it.
 pub fn next_statement(text: &[u8], tokens: &[Word], deep: u32, from: u32) -> NextStatement
     requires tokens { AreTokens text.now tokens.now }
-    requires limit { length tokens.now < 2 ^ 31 }
-    requires inside { from ≤ length tokens.now }
+    requires tokens_lt_2_31 { length tokens.now < 2 ^ 31 }
+    requires from_le_count { from ≤ length tokens.now }
     ensures { IsNextStatement text.now tokens.now deep from result }
 {
     let mut part = Part::Start;

@@ -20,7 +20,7 @@ use Rattle.mm_spec.specs.Lexed.{lexed_of}
 use Rattle.mm_spec.specs.Output.{IsRead}
 use Rattle.mm_spec.proofs.OpenedLaw.{theorem_read}
 use Rattle.mm_spec.proofs.ListLaw.{pairs_head, pairs_tail}
-use Rattle.mm_outline.proofs.TokensLaw.{tokens_rising, tokens_are_words}
+use Rattle.mm_outline.proofs.TokensLaw.{tokens_rise, tokens_are_words}
 use Rattle.mm_proof.specs.Letters.{AreInOrder}
 use Rattle.mm_proof.proofs.LeastLaw.{StandsEarlier, pairs_of_back}
 
@@ -137,7 +137,7 @@ proof_words_follow text db fault is_read k l p xs e ps d s_is_theorem_k =
     ∙ ap (λ z. stands_in.tokens_before ++ z)
     (append_assoc (spelling_of s) stands_in.tokens_after is_read.are_statements.rest) in
     let tokens_follow : AllPairs Follows ts =
-    words_follow text (lexed.tokens_of text) (tokens_are_words text) (tokens_rising text) in
+    words_follow text (lexed.tokens_of text) (tokens_are_words text) (tokens_rise text) in
     pairs_of_inner (ps ++ token d (codes "$.") ∷ []) (spelling_of s) proof_stands_in
     (pairs_of_inner (spelling_of s) ts
     (record {

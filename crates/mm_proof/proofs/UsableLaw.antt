@@ -7,7 +7,7 @@ use Rattle.mm_spec.specs.Text.{Bytes}
 use Rattle.mm_spec.specs.Statement.{Statement}
 use Rattle.mm_spec.specs.Scope.{is_active, statement_at}
 use Rattle.mm_spec.specs.NormalProof.{is_labelled, usable}
-use Rattle.mm_spec.proofs.FindsLaw.{is_before}
+use Rattle.mm_spec.proofs.FindsLaw.{active_lt_place}
 use Rattle.mm_spec.proofs.BoolLaw.{passes_alone}
 use Rattle.mm_spec.proofs.RisingLaw.{filter_is}
 
@@ -57,7 +57,7 @@ module _ (db : List Statement) (k : ℕ) (w : Bytes) where
       member_lt_k : (i : ℕ) → (nat_eq i j || false) ≡ true → i < 0 + k
       member_lt_k i i_is_member =
           let i_is_j : i ≡ j = eqb-true i j
-          (passes_alone (nat_eq i j) i_is_member) in let j_lt_k = is_before db j k
+          (passes_alone (nat_eq i j) i_is_member) in let j_lt_k = active_lt_place db j k
           active_at_k in
           omega (arith, i_is_j, j_lt_k)
 

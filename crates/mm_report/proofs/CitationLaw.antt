@@ -10,7 +10,7 @@ use Rattle.mm_spec.specs.Statement.{Statement}
 use Rattle.mm_spec.specs.Scope.{statement_at}
 use Rattle.mm_spec.specs.Output.{has_typecode, label_at}
 use Rattle.mm_spec.specs.Report.{separated}
-use Rattle.mm_rows.proofs.ColumnLaw.{filter_snoc}
+use Rattle.mm_rows.proofs.ColumnLaw.{filter_of_appended}
 use Rattle.mm_report.specs.Rows.{listed, next_label}
 
 -- a label added to a list of labels, with a space before it unless it is the first
@@ -45,7 +45,7 @@ module _ (db : List Statement) (only : Option Bytes) (cited : List ℕ) where
       → listed_before (i + 1) ≡ listed_before i ++ cond b (get_or cited i 0 ∷ []) []
   listed_before_push i i_lt_length b is_listed_is_b =
       ap (listed db only) (take_more cited i 0 i_lt_length)
-      ∙ filter_snoc is_listed (take i cited) (get_or cited i 0)
+      ∙ filter_of_appended is_listed (take i cited) (get_or cited i 0)
       ∙ ap (λ c. listed_before i ++ cond c (get_or cited i 0 ∷ []) []) is_listed_is_b
 
   -- a statement that is listed is added

@@ -19,7 +19,7 @@ use Rattle.mm_rows.specs.Bits.{is_bit, words_for, IsTable}
 use Rattle.mm_rows.specs.BitRows.{marks, row_at}
 use Rattle.mm_rows.specs.Marks.{Marks, row_marks}
 use Rattle.mm_rows.specs.declared.cells.TheConstants.{BYTES, BITS}
-use Rattle.mm_rows.proofs.DigitLaw.{row_mark}
+use Rattle.mm_rows.proofs.DigitLaw.{row_bit_is_mark}
 use lib.Lanes.{put_chunk, number_l, digits_l, zip2, sel_l, pick_l, top}
 
 -- a word in each of eight lanes
@@ -29,53 +29,62 @@ eight word = word ∷ word ∷ word ∷ word ∷ word ∷ word ∷ word ∷ word
 abbrev pub all_bytes : ℕ → List ℕ
 all_bytes word = digits_l 256 64 (number_l (2 ^ 64) (eight word))
 
-byte_at : (word j : ℕ) → word < 2 ^ 64 → j < 8
+byte_of_word : (word j : ℕ) → word < 2 ^ 64 → j < 8
     → get_or (all_bytes word) j 0 ≡ word / 256 ^ j % 256
-byte_at word j fits lt =
-    let here : 8 * 0 + j ≡ j = omega arith in
-    sym (ap (λ n. get_or (all_bytes word) n 0) here)
-    ∙ get_or_narrower (2 ^ 64) 8 256 64 (eight word) 0 j refl
-    (fits, (fits, (fits, (fits, (fits, (fits, (fits, (fits, tt)))))))) lt (omega arith)
+byte_of_word word j word_lt_2_64 j_lt_8 =
+    let place_is_j : 8 * 0 + j ≡ j = omega arith in
+    sym (ap (λ n. get_or (all_bytes word) n 0) place_is_j)
+    ∙ get_or_narrower (2 ^ 64) 8 256 64 (eight word) 0 j refl (
+      word_lt_2_64,
+      (
+        word_lt_2_64,
+        (
+          word_lt_2_64,
+          (word_lt_2_64, (word_lt_2_64, (word_lt_2_64, (word_lt_2_64, (word_lt_2_64, tt))))),
+        ),
+      ),
+    ) j_lt_8
+    (omega arith)
 
 -- lane k takes byte k / 8 of the word, and tests its bit k % 8
-byte_of : (k : ℕ) → k < 64 → get_or BYTES k 0 ≡ k / 8
-byte_of k lt =
+lane_takes_byte : (k : ℕ) → k < 64 → get_or BYTES k 0 ≡ k / 8
+lane_takes_byte k k_lt_64 =
     eqb-true _ _
-    (agree_below_at (λ x. eqb (get_or BYTES x 0) (x / 8)) (λ x. true) 64 k refl lt)
+    (agree_below_at (λ x. eqb (get_or BYTES x 0) (x / 8)) (λ x. true) 64 k refl k_lt_64)
 
-bit_of_byte : (k : ℕ) → k < 64 → get_or BITS k 0 ≡ 2 ^ (k % 8)
-bit_of_byte k lt =
+lane_tests_bit : (k : ℕ) → k < 64 → get_or BITS k 0 ≡ 2 ^ (k % 8)
+lane_tests_bit k k_lt_64 =
     eqb-true _ _
-    (agree_below_at (λ x. eqb (get_or BITS x 0) (2 ^ (x % 8))) (λ x. true) 64 k refl lt)
+    (agree_below_at (λ x. eqb (get_or BITS x 0) (2 ^ (x % 8))) (λ x. true) 64 k refl k_lt_64)
 
 -- a bit is tested by the number that has it alone
-bit_tested : (y b : ℕ) → y < 256 → b < 8 → eqb (bit_and y (2 ^ b)) (2 ^ b) ≡ eqb (bit_at y b) 1
-bit_tested y b small lt =
-    let q : (8 * y + b) / 8 ≡ y = omega arith in
-    let r : (8 * y + b) % 8 ≡ b = omega arith in
-    sym (ap₂ (λ m n. eqb (bit_and m (2 ^ n)) (2 ^ n)) q r)
+bit_test_is : (y b : ℕ) → y < 256 → b < 8 → eqb (bit_and y (2 ^ b)) (2 ^ b) ≡ eqb (bit_at y b) 1
+bit_test_is y b y_lt_256 b_lt_8 =
+    let quotient_is_y : (8 * y + b) / 8 ≡ y = omega arith in
+    let remainder_is_b : (8 * y + b) % 8 ≡ b = omega arith in
+    sym (ap₂ (λ m n. eqb (bit_and m (2 ^ n)) (2 ^ n)) quotient_is_y remainder_is_b)
     ∙ agree_below_at (λ n. eqb (bit_and (n / 8) (2 ^ (n % 8))) (2 ^ (n % 8)))
     (λ n. eqb (bit_at (n / 8) (n % 8)) 1) 2048 (8 * y + b) refl (omega arith)
-    ∙ ap₂ (λ m n. eqb (bit_at m n) 1) q r
+    ∙ ap₂ (λ m n. eqb (bit_at m n) 1) quotient_is_y remainder_is_b
 
 low_byte_bit : (n b : ℕ) → b < 8 → bit_at (n % 256) b ≡ bit_at n b
-low_byte_bit n b lt =
-    let whole : n / 256 * 2 ^ 8 + n % 256 ≡ n = omega arith in
-    sym (bit_at_cat_low (n / 256) 8 (n % 256) b lt) ∙ ap (λ x. bit_at x b) whole
+low_byte_bit n b b_lt_8 =
+    let parts_are_n : n / 256 * 2 ^ 8 + n % 256 ≡ n = omega arith in
+    sym (bit_at_cat_low (n / 256) 8 (n % 256) b b_lt_8) ∙ ap (λ x. bit_at x b) parts_are_n
 
 power_of_256 : (j : ℕ) → j < 8 → 256 ^ j ≡ 2 ^ (8 * j)
-power_of_256 j lt =
+power_of_256 j j_lt_8 =
     eqb-true _ _
-    (agree_below_at (λ x. eqb (256 ^ x) (2 ^ (8 * x))) (λ x. true) 8 j refl lt)
+    (agree_below_at (λ x. eqb (256 ^ x) (2 ^ (8 * x))) (λ x. true) 8 j refl j_lt_8)
 
-byte_bit : (word k : ℕ) → k < 64
+byte_bit_is_word_bit : (word k : ℕ) → k < 64
     → bit_at (word / 256 ^ (k / 8) % 256) (k % 8) ≡ bit_at word k
-byte_bit word k lt =
-    let is : 8 * (k / 8) + k % 8 ≡ k = omega arith in
+byte_bit_is_word_bit word k k_lt_64 =
+    let place_is_k : 8 * (k / 8) + k % 8 ≡ k = omega arith in
     low_byte_bit (word / 256 ^ (k / 8)) (k % 8) (omega arith)
     ∙ ap (λ p. bit_at (word / p) (k % 8)) (power_of_256 (k / 8) (omega arith))
     ∙ shifted word (8 * (k / 8)) (k % 8)
-    ∙ ap (bit_at word) is
+    ∙ ap (bit_at word) place_is_k
 
 -- for each of 64 lanes the byte of the word that its cell is in
 abbrev pub spread : ℕ → List ℕ
@@ -89,106 +98,116 @@ lanes word =
     sel_l (map (top 7) (zip2 (λ a b. cond (eqb a b) 255 0) (masked word) BITS)) (replicate 64 49)
     (replicate 64 48)
 
-spread_at : (word k : ℕ) → word < 2 ^ 64 → k < 64
+spread_byte_is : (word k : ℕ) → word < 2 ^ 64 → k < 64
     → get_or (spread word) k 0 ≡ word / 256 ^ (k / 8) % 256
-spread_at word k fits lt =
+spread_byte_is word k word_lt_2_64 k_lt_64 =
     ap (λ xs. get_or xs k 0) (pick_l_left 0 (all_bytes word) (all_bytes word) 64 BYTES refl tt)
-    ∙ get_or-map (λ n. get_or (all_bytes word) n 0) BYTES k 0 0 lt
-    ∙ ap (λ n. get_or (all_bytes word) n 0) (byte_of k lt)
-    ∙ byte_at word (k / 8) fits (omega arith)
+    ∙ get_or-map (λ n. get_or (all_bytes word) n 0) BYTES k 0 0 k_lt_64
+    ∙ ap (λ n. get_or (all_bytes word) n 0) (lane_takes_byte k k_lt_64)
+    ∙ byte_of_word word (k / 8) word_lt_2_64 (omega arith)
 
-shown : (b : Bool) → cond b 49 48 ≡ digit_of b
-shown true = refl
-shown false = refl
+digit_is_shown : (b : Bool) → cond b 49 48 ≡ digit_of b
+digit_is_shown true = refl
+digit_is_shown false = refl
 
-pub lane_is : (word k : ℕ) → word < 2 ^ 64 → k < 64
+pub lane_is_digit : (word k : ℕ) → word < 2 ^ 64 → k < 64
     → get_or (lanes word) k 0 ≡ digit_of (eqb (bit_at word k) 1)
-lane_is word k fits k_below_64 =
-    let y = word / 256 ^ (k / 8) % 256 in
-    let at : get_or (masked word) k 0 ≡ bit_and y (2 ^ (k % 8)) =
-    get_or-zip2 bit_and (spread word) BITS k 0 0 0 k_below_64 k_below_64
-    ∙ ap₂ bit_and (spread_at word k fits k_below_64) (bit_of_byte k k_below_64) in
+lane_is_digit word k word_lt_2_64 k_lt_64 =
+    let byte = word / 256 ^ (k / 8) % 256 in
+    let masked_byte_is : get_or (masked word) k 0 ≡ bit_and byte (2 ^ (k % 8)) =
+    get_or-zip2 bit_and (spread word) BITS k 0 0 0 k_lt_64 k_lt_64
+    ∙ ap₂ bit_and (spread_byte_is word k word_lt_2_64 k_lt_64) (lane_tests_bit k k_lt_64) in
     ap (λ ms. get_or (sel_l ms (replicate 64 49) (replicate 64 48)) k 0)
     (tops_compared w8 eqb (masked word) BITS)
-    ∙ get_or-sel_l (zip2 eqb (masked word) BITS) (replicate 64 49) (replicate 64 48) k 0 k_below_64
-    k_below_64 k_below_64
+    ∙ get_or-sel_l (zip2 eqb (masked word) BITS) (replicate 64 49) (replicate 64 48) k 0 k_lt_64
+    k_lt_64 k_lt_64
     ∙ ap₂ (cond (get_or (zip2 eqb (masked word) BITS) k false))
-    (get_or-replicate 64 k 49 0 k_below_64)
-    (get_or-replicate 64 k 48 0 k_below_64)
-    ∙ shown (get_or (zip2 eqb (masked word) BITS) k false)
+    (get_or-replicate 64 k 49 0 k_lt_64)
+    (get_or-replicate 64 k 48 0 k_lt_64)
+    ∙ digit_is_shown (get_or (zip2 eqb (masked word) BITS) k false)
     ∙ ap digit_of
-    (get_or-zip2 eqb (masked word) BITS k 0 0 false k_below_64 k_below_64
-    ∙ ap₂ eqb at (bit_of_byte k k_below_64)
-    ∙ bit_tested y (k % 8) (omega arith) (omega arith)
-    ∙ ap (λ n. eqb n 1) (byte_bit word k k_below_64))
+    (get_or-zip2 eqb (masked word) BITS k 0 0 false k_lt_64 k_lt_64
+    ∙ ap₂ eqb masked_byte_is (lane_tests_bit k k_lt_64)
+    ∙ bit_test_is byte (k % 8) (omega arith) (omega arith)
+    ∙ ap (λ n. eqb n 1) (byte_bit_is_word_bit word k k_lt_64))
 
 -- the cells of the first w words are written
 abbrev pub AreCells : List ℕ → List ℕ → ℕ → Type 0
 AreCells words into w =
     (i : ℕ) → i < 64 * w → get_or into i 0 ≡ digit_of (is_bit words i)
 
-pub cells_more : (words into lanes : List ℕ) (w : ℕ) → w < length words
+pub next_cells_are_written : (words into lanes : List ℕ) (w : ℕ) → w < length words
     → length into ≡ 64 * length words → length lanes ≡ 64
     → ((k : ℕ) → k < 64 → get_or lanes k 0 ≡ digit_of (eqb (bit_at (get_or words w 0) k) 1))
     → AreCells words into w → AreCells words (put_chunk (64 * w) into lanes) (w + 1)
-cells_more words into lanes w within size long each are_cells i lt = by_word (cases_lt i (64 * w))
+next_cells_are_written words into lanes w w_lt_length into_has_size lanes_are_64 lanes_are_digits
+    cells_before i
+    i_lt_end = cell_by_word (cases_lt i (64 * w))
   where
-    by_word : (i < 64 * w) ⊎ (64 * w ≤ i)
+    cell_by_word : (i < 64 * w) ⊎ (64 * w ≤ i)
         → get_or (put_chunk (64 * w) into lanes) i 0 ≡ digit_of (is_bit words i)
-    by_word (inl l) = get_or-put_chunk_below (64 * w) into lanes i 0 l ∙ are_cells i l
-    by_word (inr g) =
-        let is : 64 * w + (i - 64 * w) ≡ i = omega arith in
-        let q : w ≡ i / 64 = omega arith in
-        let r : i - 64 * w ≡ i % 64 = omega arith in
-        ap (λ n. get_or (put_chunk (64 * w) into lanes) n 0) (sym is)
-        ∙ get_or-put_chunk_at (64 * w) into lanes (i - 64 * w) 0 (omega (arith, long))
-        (omega (arith, long, size, within))
-        ∙ each (i - 64 * w) (omega arith)
-        ∙ ap₂ (λ a b. digit_of (eqb (bit_at (get_or words a 0) b) 1)) q r
+    cell_by_word (inl i_lt_block) =
+        get_or-put_chunk_below (64 * w) into lanes i 0 i_lt_block ∙ cells_before i i_lt_block
+    cell_by_word (inr block_le_i) =
+        let place_is_i : 64 * w + (i - 64 * w) ≡ i = omega arith in
+        let word_is : w ≡ i / 64 = omega arith in
+        let bit_is : i - 64 * w ≡ i % 64 = omega arith in
+        ap (λ n. get_or (put_chunk (64 * w) into lanes) n 0) (sym place_is_i)
+        ∙ get_or-put_chunk_at (64 * w) into lanes (i - 64 * w) 0 (omega (arith, lanes_are_64))
+        (omega (arith, lanes_are_64, into_has_size, w_lt_length))
+        ∙ lanes_are_digits (i - 64 * w) (omega arith)
+        ∙ ap₂ (λ a b. digit_of (eqb (bit_at (get_or words a 0) b) 1)) word_is bit_is
 
 module _ (m : Marks) (rows columns : ℕ) (words : List ℕ)
-    (view : m ≡ marks rows columns words) (is_table : IsTable rows columns words) where
+    (marks_are : m ≡ marks rows columns words) (is_table : IsTable rows columns words) where
   -- the cells that were written from word `word` of a row on are those of its columns
-  pub cells_are : (i word : ℕ) (part into old : List ℕ) → i < m.rows
+  pub written_are_row_cells : (i word : ℕ) (part into into_before : List ℕ) → i < m.rows
       → part ≡ row_at words (words_for columns) i
-      → 64 * word + length old ≤ 64 * words_for m.columns → length old % 64 ≡ 0
-      → length into ≡ length old
-      → ((k : ℕ) → k < length old
+      → 64 * word + length into_before ≤ 64 * words_for m.columns → length into_before % 64 ≡ 0
+      → length into ≡ length into_before
+      → ((k : ℕ) → k < length into_before
       → get_or into k 0
-      ≡ digit_of (is_bit (take (word + length old / 64 - word) (drop word part)) k))
+      ≡ digit_of (is_bit (take (word + length into_before / 64 - word) (drop word part)) k))
       → into ≡ map (λ j. digit_of (mark_at j (row_marks m i)))
-      (range_with_len (64 * word) (length old))
-  cells_are i word part into old lt part_is within whole into_length each =
-      ext_get_or 0 into (map cell (range_with_len (64 * word) (length old)))
-      (into_length ∙ sym
-      (length-map (range_with_len (64 * word) (length old)) cell
-      ∙ length-range_with_len (64 * word) (length old)))
-      (λ k less. cell_at_place k (omega (arith, into_length, less)))
+      (range_with_len (64 * word) (length into_before))
+  written_are_row_cells i word part into into_before row_lt_marks part_is_row cells_fit_marks
+      whole_words
+      lengths_equal
+      digits_are =
+      ext_get_or 0 into (map cell (range_with_len (64 * word) (length into_before)))
+      (lengths_equal ∙ sym
+      (length-map (range_with_len (64 * word) (length into_before)) cell
+      ∙ length-range_with_len (64 * word) (length into_before)))
+      (λ k k_lt_length. cell_at_place k (omega (arith, lengths_equal, k_lt_length)))
     where
       cell : ℕ → ℕ
       cell j = digit_of (mark_at j (row_marks m i))
 
       mark : (j : ℕ) → j < 64 * words_for columns
           → is_bit part j ≡ mark_at j (row_marks m i)
-      mark j inside =
-          let lt' = subst (λ (x : Marks). i < x.rows) view lt in
-          ap (λ xs. is_bit xs j) part_is
-          ∙ row_mark m rows columns words view is_table i j lt' inside
-          ∙ sym (ap (λ (x : Marks). mark_at j (row_marks x i)) view)
+      mark j j_in_row =
+          let row_lt_rows = subst (λ (x : Marks). i < x.rows) marks_are row_lt_marks in
+          ap (λ xs. is_bit xs j) part_is_row
+          ∙ row_bit_is_mark m rows columns words marks_are is_table i j row_lt_rows j_in_row
+          ∙ sym (ap (λ (x : Marks). mark_at j (row_marks x i)) marks_are)
 
-      cell_at_place : (k : ℕ) → k < length old
-          → get_or into k 0 ≡ get_or (map cell (range_with_len (64 * word) (length old))) k 0
-      cell_at_place k less =
-          let width : 64 * word + length old ≤ 64 * words_for columns =
-          subst (λ (x : Marks). 64 * word + length old ≤ 64 * words_for x.columns) view within in
-          let q : word + k / 64 ≡ (64 * word + k) / 64 = omega arith in
-          let r : k % 64 ≡ (64 * word + k) % 64 = omega arith in
-          let here : k / 64 < word + length old / 64 - word = omega (arith, less, whole) in
-          each k less
+      cell_at_place : (k : ℕ) → k < length into_before
+          → get_or into k 0 ≡ get_or (map cell (range_with_len (64 * word) (length into_before))) k
+          0
+      cell_at_place k k_lt_length =
+          let cells_fit_row : 64 * word + length into_before ≤ 64 * words_for columns =
+          subst (λ (x : Marks). 64 * word + length into_before ≤ 64 * words_for x.columns) marks_are
+          cells_fit_marks in
+          let word_is : word + k / 64 ≡ (64 * word + k) / 64 = omega arith in
+          let bit_is : k % 64 ≡ (64 * word + k) % 64 = omega arith in
+          let word_in_part : k / 64 < word + length into_before / 64 - word =
+          omega (arith, k_lt_length, whole_words) in
+          digits_are k k_lt_length
           ∙ ap (λ w. digit_of (eqb (bit_at w (k % 64)) 1))
-          (get_or-take (word + length old / 64 - word) (drop word part) (k / 64) 0 here
+          (get_or-take (word + length into_before / 64 - word) (drop word part) (k / 64) 0
+          word_in_part
           ∙ get_or-drop word part (k / 64) 0)
-          ∙ ap₂ (λ a b. digit_of (eqb (bit_at (get_or part a 0) b) 1)) q r
-          ∙ ap digit_of (mark (64 * word + k) (omega (arith, width, less)))
-          ∙ sym (get_or-map-range_with_len cell (64 * word) (length old) k
-          (64 * word + k) 0 less refl)
+          ∙ ap₂ (λ a b. digit_of (eqb (bit_at (get_or part a 0) b) 1)) word_is bit_is
+          ∙ ap digit_of (mark (64 * word + k) (omega (arith, cells_fit_row, k_lt_length)))
+          ∙ sym (get_or-map-range_with_len cell (64 * word) (length into_before) k
+          (64 * word + k) 0 k_lt_length refl)

@@ -14,19 +14,22 @@ use Rattle.std.proofs.lemmas.List.{length-take}
 use Rattle.mm_cites.specs.Citing.{Citing, HasCitation, IsStatementList, IsFileOrder}
 use Rattle.mm_cites.specs.Citing.{theorem_at, list_at}
 use Rattle.mm_spec.specs.Chains.{RestsOn}
-use Rattle.mm_spec.proofs.ChainsLaw.{rests_step}
+use Rattle.mm_spec.proofs.ChainsLaw.{rests_by_one_step}
 use Rattle.mm_spec.proofs.BoolLaw.{or_with_false}
 use Rattle.mm_rows.specs.BitRows.{IsBitRow, HasCitedRows, row_at}
 
 -- a rising list has a number once
 pub index_is_unique : (xs : List ℕ) (i j : ℕ) → IsStatementList xs → i < length xs → j < length xs
     → get_or xs i 0 ≡ get_or xs j 0 → i ≡ j
-index_is_unique xs i j is_statement_list p q e = by_order (cases_order i j)
+index_is_unique xs i j is_statement_list i_lt_length j_lt_length elements_equal =
+    equal_by_order (cases_order i j)
   where
-    by_order : (i ≡ j) ⊎ ((i < j) ⊎ (j < i)) → i ≡ j
-    by_order (inl h) = h
-    by_order (inr (inl l)) = let m = is_statement_list.rises i j l q in absurd (omega arith)
-    by_order (inr (inr g)) = let m = is_statement_list.rises j i g p in absurd (omega arith)
+    equal_by_order : (i ≡ j) ⊎ ((i < j) ⊎ (j < i)) → i ≡ j
+    equal_by_order (inl i_eq_j) = i_eq_j
+    equal_by_order (inr (inl i_lt_j)) =
+        let elements_rise = is_statement_list.rises i j i_lt_j j_lt_length in absurd (omega arith)
+    equal_by_order (inr (inr j_lt_i)) =
+        let elements_rise = is_statement_list.rises j i j_lt_i i_lt_length in absurd (omega arith)
 
 -- a place of a list below n whose statement is a, or rests on it
 abbrev pub IsVia : Citing → List ℕ → ℕ → ℕ → Type 0
@@ -35,244 +38,277 @@ IsVia c cited n a =
 
 -- the bits of a row that is filled from the first n citations
 pub record FilledFrom (c : Citing) (columns cited : List ℕ) (n : ℕ) (row : List ℕ) : Type 0 where
-  pub words : length row ≡ words_for (length columns)
+  pub has_words : length row ≡ words_for (length columns)
   pub marks : (j : ℕ) → j < length columns
       → Decides (is_bit row j) (IsVia c cited n (get_or columns j 0))
-  pub past : (j : ℕ) → length columns ≤ j → is_bit row j ≡ false
+  pub none_past_columns : (j : ℕ) → length columns ≤ j → is_bit row j ≡ false
 
-pub filled_more : (c : Citing) (columns cited : List ℕ) (n : ℕ) (row mid new : List ℕ)
+pub filled_with_one_more : (c : Citing) (columns cited : List ℕ) (n : ℕ)
+    (row marked filled : List ℕ)
     → FilledFrom c columns cited n row
-    → length new ≡ length row
+    → length filled ≡ length row
     → ((j : ℕ) → j < length columns
-    → Decides (is_bit mid j) ((is_bit row j ≡ true) ⊎ (get_or cited n 0 ≡ get_or columns j 0)))
-    → ((j : ℕ) → length columns ≤ j → is_bit mid j ≡ is_bit row j)
+    → Decides (is_bit marked j) ((is_bit row j ≡ true) ⊎ (get_or cited n 0 ≡ get_or columns j 0)))
+    → ((j : ℕ) → length columns ≤ j → is_bit marked j ≡ is_bit row j)
     → ((j : ℕ) → j < length columns
-    → Decides (is_bit new j)
-    ((is_bit mid j ≡ true) ⊎ RestsOn (HasCitation c) (get_or cited n 0) (get_or columns j 0)))
-    → ((j : ℕ) → length columns ≤ j → is_bit new j ≡ is_bit mid j)
-    → FilledFrom c columns cited (n + 1) new
-filled_more c columns cited n row mid new filled_from new_length a b d e = record {
-  words = new_length ∙ filled_from.words;
-  marks = λ j lt. (
-    λ t. marked_to_via j lt ((d j lt).0 t),
-    λ v. via_to_marked j lt v.0 v.1 v.2
-        (cases_eq v.0 n),
-  );
-  past = λ j le. e j le ∙ b j le ∙ filled_from.past j le;
-}
+    → Decides (is_bit filled j)
+    ((is_bit marked j ≡ true) ⊎ RestsOn (HasCitation c) (get_or cited n 0) (get_or columns j 0)))
+    → ((j : ℕ) → length columns ≤ j → is_bit filled j ≡ is_bit marked j)
+    → FilledFrom c columns cited (n + 1) filled
+filled_with_one_more c columns cited n row marked filled filled_before lengths_equal mid_decides
+    mid_past_columns new_decides new_past_columns = record {
+      has_words = lengths_equal ∙ filled_before.has_words;
+      marks = λ j j_lt_columns. (
+        λ is_marked. marked_to_via j j_lt_columns ((new_decides j j_lt_columns).0 is_marked),
+        λ is_via. via_to_marked j j_lt_columns is_via.0 is_via.1 is_via.2
+            (cases_eq is_via.0 n),
+      );
+      none_past_columns =
+          λ j columns_le_j. new_past_columns j columns_le_j ∙ mid_past_columns j columns_le_j
+          ∙ filled_before.none_past_columns j columns_le_j;
+    }
   where
-    via_next : (j : ℕ) → IsVia c cited n (get_or columns j 0)
+    via_one_more : (j : ℕ) → IsVia c cited n (get_or columns j 0)
         → IsVia c cited (n + 1) (get_or columns j 0)
-    via_next j v = let lt = v.1 in (v.0, omega arith, v.2)
+    via_one_more j is_via = let place_lt_n = is_via.1 in (is_via.0, omega arith, is_via.2)
 
     marked_to_via : (j : ℕ) → j < length columns
-        → (is_bit mid j ≡ true) ⊎ RestsOn (HasCitation c) (get_or cited n 0) (get_or columns j 0)
+        → (is_bit marked j ≡ true) ⊎ RestsOn (HasCitation c) (get_or cited n 0) (get_or columns j 0)
         → IsVia c cited (n + 1) (get_or columns j 0)
-    marked_to_via j lt (inr r) = (n, omega arith, inr r)
-    marked_to_via j lt (inl t) =
-        ⊎_elim (λ u. via_next j ((filled_from.marks j lt).0 u)) (λ is. (n, omega arith, inl is))
-        ((a j lt).0 t)
+    marked_to_via j j_lt_columns (inr rests_on) = (n, omega arith, inr rests_on)
+    marked_to_via j j_lt_columns (inl is_marked) =
+        ⊎_elim (λ was_marked. via_one_more j ((filled_before.marks j j_lt_columns).0 was_marked))
+        (λ is_cited. (n, omega arith, inl is_cited))
+        ((mid_decides j j_lt_columns).0 is_marked)
 
     marked_by_citation : (j : ℕ) → j < length columns
         → (get_or cited n 0 ≡ get_or columns j 0)
-        ⊎ RestsOn (HasCitation c) (get_or cited n 0) (get_or columns j 0) → is_bit new j ≡ true
-    marked_by_citation j lt (inl is) = (d j lt).1 (inl ((a j lt).1 (inr is)))
-    marked_by_citation j lt (inr r) = (d j lt).1 (inr r)
+        ⊎ RestsOn (HasCitation c) (get_or cited n 0) (get_or columns j 0) → is_bit filled j ≡ true
+    marked_by_citation j j_lt_columns (inl is_cited) =
+        (new_decides j j_lt_columns).1 (inl ((mid_decides j j_lt_columns).1 (inr is_cited)))
+    marked_by_citation j j_lt_columns (inr rests_on) = (new_decides j j_lt_columns).1 (inr rests_on)
 
     via_to_marked : (j : ℕ) → j < length columns → (m : ℕ) → m < n + 1
         → (get_or cited m 0 ≡ get_or columns j 0)
         ⊎ RestsOn (HasCitation c) (get_or cited m 0) (get_or columns j 0) → (m ≡ n) ⊎ (m ≡ n → ⊥)
-        → is_bit new j ≡ true
-    via_to_marked j lt m below v (inl is) =
-        marked_by_citation j lt
+        → is_bit filled j ≡ true
+    via_to_marked j j_lt_columns m m_lt_next is_via (inl m_is_n) =
+        marked_by_citation j j_lt_columns
         (subst (λ x. (get_or cited x 0 ≡ get_or columns j 0)
-        ⊎ RestsOn (HasCitation c) (get_or cited x 0) (get_or columns j 0)) is v)
-    via_to_marked j lt m below v (inr ne) =
-        (d j lt).1 (inl ((a j lt).1 (inl ((filled_from.marks j lt).1 (m, omega arith, v)))))
+        ⊎ RestsOn (HasCitation c) (get_or cited x 0) (get_or columns j 0)) m_is_n is_via)
+    via_to_marked j j_lt_columns m m_lt_next is_via (inr m_is_not_n) =
+        (new_decides j j_lt_columns).1
+        (inl
+        ((mid_decides j j_lt_columns).1
+        (inl ((filled_before.marks j j_lt_columns).1 (m, omega arith, is_via)))))
 
 -- after all citations of a theorem, its row is right
-pub filled_all : (c : Citing) (columns : List ℕ) (i : ℕ) (row : List ℕ) → IsFileOrder c
+pub filled_row_is_bit_row : (c : Citing) (columns : List ℕ) (i : ℕ) (row : List ℕ) → IsFileOrder c
     → i < length c.theorems → FilledFrom c columns (list_at c i) (length (list_at c i)) row
     → IsBitRow c columns (theorem_at c i) row
-filled_all c columns i row is_file_order within filled_from = record {
-  words = filled_from.words;
+filled_row_is_bit_row c columns i row is_file_order i_lt_theorems filled = record {
+  has_words = filled.has_words;
   marks =
-      λ j lt. (
-        λ t. marked_to_via (get_or columns j 0) ((filled_from.marks j lt).0 t),
-        λ r. (filled_from.marks j lt).1
-            (via_to_marked (get_or columns j 0) r),
+      λ j j_lt_columns. (
+        λ is_marked. via_gives_rests (get_or columns j 0)
+            ((filled.marks j j_lt_columns).0 is_marked),
+        λ rests. (filled.marks j j_lt_columns).1
+            (rests_gives_via (get_or columns j 0) rests),
       );
-  past = filled_from.past;
+  none_past_columns = filled.none_past_columns;
 }
   where
     cites_at : (m : ℕ) → m < length (list_at c i) → HasCitation c (theorem_at c i)
         (get_or (list_at c i) m 0)
-    cites_at m m_inside =
+    cites_at m m_lt_length =
         record {
           row = i;
           list_index = m;
-          within = within;
-          listed = m_inside;
+          within = i_lt_theorems;
+          listed = m_lt_length;
           theorem =
               refl;
           cited = refl;
         }
 
-    marked_to_via : (a : ℕ) → IsVia c (list_at c i) (length (list_at c i)) a
+    via_gives_rests : (a : ℕ) → IsVia c (list_at c i) (length (list_at c i)) a
         → RestsOn (HasCitation c) (theorem_at c i) a
-    marked_to_via a is_via =
-        let step = (rests_step (HasCitation c) (theorem_at c i) a).1 in
-        ⊎_elim (λ e. step
-        (inl (subst (HasCitation c (theorem_at c i)) e (cites_at is_via.0 is_via.1))))
-        (λ r. step (inr (get_or (list_at c i) is_via.0 0, cites_at is_via.0 is_via.1, r))) is_via.2
+    via_gives_rests a is_via =
+        let rests_if_step = (rests_by_one_step (HasCitation c) (theorem_at c i) a).1 in
+        ⊎_elim (λ cited_is_a. rests_if_step
+        (inl (subst (HasCitation c (theorem_at c i)) cited_is_a (cites_at is_via.0 is_via.1))))
+        (λ cited_rests. rests_if_step
+        (inr (get_or (list_at c i) is_via.0 0, cites_at is_via.0 is_via.1, cited_rests))) is_via.2
 
     via_of_citation : (b a : ℕ) → HasCitation c (theorem_at c i) b → (b ≡ a)
         ⊎ RestsOn (HasCitation c) b a
         → IsVia c (list_at c i) (length (list_at c i)) a
-    via_of_citation b a has_citation v =
-        let is : has_citation.row ≡ i = index_is_unique c.theorems has_citation.row i
+    via_of_citation b a has_citation is_or_rests =
+        let row_is_i : has_citation.row ≡ i = index_is_unique c.theorems has_citation.row i
         is_file_order.rising has_citation.within
-        within has_citation.theorem in
-        let listed : has_citation.list_index < length (list_at c i) =
-        subst (λ x. has_citation.list_index < length (list_at c x)) is has_citation.listed in
-        let cited : get_or (list_at c i) has_citation.list_index 0 ≡ b =
-        subst (λ x. get_or (list_at c x) has_citation.list_index 0 ≡ b) is has_citation.cited in (
+        i_lt_theorems has_citation.theorem in
+        let is_listed : has_citation.list_index < length (list_at c i) =
+        subst (λ x. has_citation.list_index < length (list_at c x)) row_is_i has_citation.listed in
+        let cited_is_b : get_or (list_at c i) has_citation.list_index 0 ≡ b =
+        subst (λ x. get_or (list_at c x) has_citation.list_index 0 ≡ b) row_is_i
+        has_citation.cited in (
           has_citation.list_index,
-          listed,
+          is_listed,
           subst (λ x. (x ≡ a) ⊎ RestsOn (HasCitation c) x a)
-              (sym cited) v,
+              (sym cited_is_b) is_or_rests,
         )
 
-    via_to_marked : (a : ℕ) → RestsOn (HasCitation c) (theorem_at c i) a
+    rests_gives_via : (a : ℕ) → RestsOn (HasCitation c) (theorem_at c i) a
         → IsVia c (list_at c i) (length (list_at c i)) a
-    via_to_marked a rests_on =
-        ⊎_elim (λ s. via_of_citation a a s (inl refl))
-        (λ filled_from. via_of_citation filled_from.0 a filled_from.1 (inr filled_from.2))
-        ((rests_step (HasCitation c) (theorem_at c i) a).0 rests_on)
+    rests_gives_via a rests_on =
+        ⊎_elim (λ cites_a. via_of_citation a a cites_a (inl refl))
+        (λ via_cited. via_of_citation via_cited.0 a via_cited.1 (inr via_cited.2))
+        ((rests_by_one_step (HasCitation c) (theorem_at c i) a).0 rests_on)
 
 -- what rests on nothing
 pub rests_on_nothing : (c : Citing) (t a : ℕ)
     → ((i : ℕ) → i < length c.theorems → get_or c.theorems i 0 ≡ t → ⊥)
     → RestsOn (HasCitation c) t a → ⊥
-rests_on_nothing c t a none r =
-    ⊎_elim (λ s. none s.row s.within s.theorem) (λ h. none h.1.row h.1.within h.1.theorem)
-    ((rests_step (HasCitation c) t a).0 r)
+rests_on_nothing c t a no_row rests_on =
+    ⊎_elim (λ cites. no_row cites.row cites.within cites.theorem)
+    (λ via_cited. no_row via_cited.1.row via_cited.1.within via_cited.1.theorem)
+    ((rests_by_one_step (HasCitation c) t a).0 rests_on)
 
 -- a finished row is or-ed into another
-pub marks_of_or : (c : Citing) (columns : List ℕ) (t : ℕ) (old from new : List ℕ)
-    → IsBitRow c columns t from → length new ≡ length old → length old ≡ words_for (length columns)
-    → ((k : ℕ) → k < length old → get_or new k 0 ≡ bit_or (get_or old k 0) (get_or from k 0))
+pub marks_of_or : (c : Citing) (columns : List ℕ) (t : ℕ) (old from ored : List ℕ)
+    → IsBitRow c columns t from → length ored ≡ length old → length old ≡ words_for (length columns)
+    → ((k : ℕ) → k < length old → get_or ored k 0 ≡ bit_or (get_or old k 0) (get_or from k 0))
     → ((j : ℕ) → j < length columns
-    → Decides (is_bit new j) ((is_bit old j ≡ true)
+    → Decides (is_bit ored j) ((is_bit old j ≡ true)
     ⊎ RestsOn (HasCitation c) t (get_or columns j 0)))
-    × ((j : ℕ) → length columns ≤ j → is_bit new j ≡ is_bit old j)
-marks_of_or c columns t old from new is_bit_row same words each =
-    let bits = or_bits new old from same (words ∙ sym is_bit_row.words) each in (
-      (λ j lt. Decides-at (is_bit new j) (is_bit old j || is_bit from j) (bits j)
-          (Decides-or (is_bit old j) (is_bit from j) ((λ e. e), λ e. e) (is_bit_row.marks j lt))),
-      λ j le. bits j ∙ or_with_false (is_bit old j) (is_bit from j) (is_bit_row.past j le),
+    × ((j : ℕ) → length columns ≤ j → is_bit ored j ≡ is_bit old j)
+marks_of_or c columns t old from ored is_bit_row lengths_equal old_has_words words_are_ored =
+    let bits_are_ored =
+    or_bits ored old from lengths_equal (old_has_words ∙ sym is_bit_row.has_words) words_are_ored in (
+      (λ j j_lt_columns. Decides-at (is_bit ored j) (is_bit old j || is_bit from j)
+          (bits_are_ored j)
+          (Decides-or (is_bit old j) (is_bit from j) ((λ is_set. is_set), λ is_set. is_set)
+          (is_bit_row.marks j j_lt_columns))),
+      λ j columns_le_j. bits_are_ored j
+          ∙ or_with_false (is_bit old j) (is_bit from j) (is_bit_row.none_past_columns j columns_le_j),
     )
 
 -- before the first citation, no bit is set
-pub filled_none : (c : Citing) (columns cited row : List ℕ) → length row
+pub filled_from_nothing : (c : Citing) (columns cited row : List ℕ) → length row
     ≡ words_for (length columns)
     → ((j : ℕ) → is_bit row j ≡ false) → FilledFrom c columns cited 0 row
-filled_none c columns cited row words empty = record {
-  words = words;
+filled_from_nothing c columns cited row row_has_words no_bit_is_set = record {
+  has_words = row_has_words;
   marks =
-      λ j lt. (
-        λ t. absurd (let no : true ≡ false = sym t ∙ empty j in cc),
-        λ v. let l = v.1 in
-            absurd (omega (arith, l)),
+      λ j j_lt_columns. (
+        λ is_set. absurd (let true_is_false : true ≡ false = sym is_set ∙ no_bit_is_set j in cc),
+        λ is_via. let place_lt_zero = is_via.1 in
+            absurd (omega (arith, place_lt_zero)),
       );
-  past = λ j le. empty j;
+  none_past_columns = λ j columns_le_j. no_bit_is_set j;
 }
 
 -- what is ready for one citation
-pub ready_at : (c : Citing) (columns bits : List ℕ) (i k : ℕ) (cited row : List ℕ)
+pub cited_row_is_ready : (c : Citing) (columns bits : List ℕ) (i k : ℕ) (cited row : List ℕ)
     → cited ≡ list_at c i → k < length cited → length row ≡ words_for (length columns)
     → HasCitedRows c columns bits i
     → (r : ℕ) → r < length c.theorems → theorem_at c r ≡ get_or cited k 0
     → IsBitRow c columns (get_or cited k 0) (row_at bits (length row) r)
-ready_at c columns bits i k cited row is lt words ready r within e =
-    let lt' : k < length (list_at c i) = subst (λ xs. k < length xs) is lt in
-    let e' : theorem_at c r ≡ get_or (list_at c i) k 0 = e ∙ ap (λ xs. get_or xs k 0) is in
-    subst (λ w. IsBitRow c columns (get_or cited k 0) (row_at bits w r)) (sym words)
-    (subst (λ t. IsBitRow c columns t (row_at bits (words_for (length columns)) r)) e
-    (ready r k within lt' e'))
+cited_row_is_ready c columns bits i k cited row cited_is k_lt_length row_has_words
+    cited_rows_are_known r
+    r_lt_theorems theorem_is =
+    let k_lt_list : k < length (list_at c i) = subst (λ xs. k < length xs) cited_is k_lt_length in
+    let theorem_is_cited : theorem_at c r ≡ get_or (list_at c i) k 0 =
+    theorem_is ∙ ap (λ xs. get_or xs k 0) cited_is in
+    subst (λ w. IsBitRow c columns (get_or cited k 0) (row_at bits w r)) (sym row_has_words)
+    (subst (λ t. IsBitRow c columns t (row_at bits (words_for (length columns)) r)) theorem_is
+    (cited_rows_are_known r k r_lt_theorems k_lt_list theorem_is_cited))
 
 -- a row as a part of longer words
-pub row_kept : (bits more : List ℕ) (width r : ℕ) → r * width + width ≤ length bits
-    → row_at (bits ++ more) width r ≡ row_at bits width r
-row_kept bits more width r le =
-    let w : r * width + width - r * width ≡ width = omega arith in
-    ap (λ n. take n (drop (r * width) (bits ++ more))) w
-    ∙ ap (take width) (drop-append-le (r * width) bits more (omega arith))
-    ∙ take-append-le width (drop (r * width) bits) more
+pub row_of_longer_is_kept : (bits later : List ℕ) (width r : ℕ) → r * width + width ≤ length bits
+    → row_at (bits ++ later) width r ≡ row_at bits width r
+row_of_longer_is_kept bits later width r row_end_le_length =
+    let row_width_is : r * width + width - r * width ≡ width = omega arith in
+    ap (λ n. take n (drop (r * width) (bits ++ later))) row_width_is
+    ∙ ap (take width) (drop-append-le (r * width) bits later (omega arith))
+    ∙ take-append-le width (drop (r * width) bits) later
     (omega (arith, length-drop (r * width) bits))
-    ∙ ap (λ n. take n (drop (r * width) bits)) (sym w)
+    ∙ ap (λ n. take n (drop (r * width) bits)) (sym row_width_is)
 
 -- a row that has its words ends within the words of all rows
-pub row_inside : (bits : List ℕ) (w r : ℕ) → length (slice_range bits (r * w) (r * w + w)) ≡ w
+pub row_end_le_words : (bits : List ℕ) (w r : ℕ) → length (slice_range bits (r * w) (r * w + w)) ≡ w
     → r * w + w ≤ length bits
-row_inside bits zero r e = omega arith
-row_inside bits (suc w) r e =
-    let l = length-take (r * suc w + suc w - r * suc w) (drop (r * suc w) bits) in
-    let d = length-drop (r * suc w) bits in
-    omega (arith, e, l, d)
+row_end_le_words bits zero r row_has_width = omega arith
+row_end_le_words bits (suc w) r row_has_width =
+    let taken_length = length-take (r * suc w + suc w - r * suc w) (drop (r * suc w) bits) in
+    let dropped_length = length-drop (r * suc w) bits in
+    omega (arith, row_has_width, taken_length, dropped_length)
 
 -- the row of a theorem that is ready
-pub ready_row : (c : Citing) (columns theorems bits : List ℕ) (t w r : ℕ) → theorems ≡ c.theorems
+pub found_row_is_known : (c : Citing) (columns theorems bits : List ℕ) (t w r : ℕ)
+    → theorems ≡ c.theorems
     → (r < length theorems) × (get_or theorems r 0 ≡ t)
     → ((q : ℕ) → q < length c.theorems → theorem_at c q ≡ t
     → IsBitRow c columns t (slice_range bits (q * w) (q * w + w)))
     → IsBitRow c columns t (slice_range bits (r * w) (r * w + w))
-ready_row c columns theorems bits t w r same found ready =
-    ready r (subst (λ xs. r < length xs) same found.0)
-    (subst (λ xs. get_or xs r 0 ≡ t) same found.1)
+found_row_is_known c columns theorems bits t w r theorems_are row_is_found rows_are_known =
+    rows_are_known r (subst (λ xs. r < length xs) theorems_are row_is_found.0)
+    (subst (λ xs. get_or xs r 0 ≡ t) theorems_are row_is_found.1)
 
-pub ready_inside : (c : Citing) (columns theorems bits : List ℕ) (t w r : ℕ) → theorems ≡ c.theorems
+pub found_row_end_le_words : (c : Citing) (columns theorems bits : List ℕ) (t w r : ℕ)
+    → theorems ≡ c.theorems
     → (r < length theorems) × (get_or theorems r 0 ≡ t)
     → ((q : ℕ) → q < length c.theorems → theorem_at c q ≡ t
     → IsBitRow c columns t (slice_range bits (q * w) (q * w + w)))
     → w ≡ words_for (length columns) → r * w + w ≤ length bits
-ready_inside c columns theorems bits t w r same found ready words =
-    row_inside bits w r
-    ((ready_row c columns theorems bits t w r same found ready).words ∙ sym words)
+found_row_end_le_words c columns theorems bits t w r theorems_are row_is_found rows_are_known
+    width_is =
+    row_end_le_words bits w r
+    ((found_row_is_known c columns theorems bits t w r theorems_are row_is_found
+    rows_are_known).has_words
+    ∙ sym width_is)
 
 -- the bit of the statement's column is set
-pub column_marked : (columns row new : List ℕ) (j s : ℕ) → IsStatementList columns
+pub found_column_is_marked : (columns row marked : List ℕ) (j s : ℕ) → IsStatementList columns
     → (j < length columns) × (get_or columns j 0 ≡ s)
-    → ((k : ℕ) → is_bit new k ≡ (eqb k j || is_bit row k))
+    → ((k : ℕ) → is_bit marked k ≡ (eqb k j || is_bit row k))
     → (k : ℕ) → k < length columns
-    → Decides (is_bit new k) ((is_bit row k ≡ true) ⊎ (s ≡ get_or columns k 0))
-column_marked columns row new j s rising found set k k_inside = by_column (cases_eq k j)
+    → Decides (is_bit marked k) ((is_bit row k ≡ true) ⊎ (s ≡ get_or columns k 0))
+found_column_is_marked columns row marked j s is_statement_list column_is_found bits_are_set k
+    k_lt_columns =
+    decided_by_column (cases_eq k j)
   where
-    by_column : (k ≡ j) ⊎ (k ≢ j)
-        → Decides (is_bit new k) ((is_bit row k ≡ true) ⊎ (s ≡ get_or columns k 0))
-    by_column (inl e) = (
-      λ t. inr (sym found.1 ∙ ap (λ i. get_or columns i 0) (sym e)),
-      λ h. set k ∙ ap (λ b. b || is_bit row k) (eq-eqb k j e),
+    decided_by_column : (k ≡ j) ⊎ (k ≢ j)
+        → Decides (is_bit marked k) ((is_bit row k ≡ true) ⊎ (s ≡ get_or columns k 0))
+    decided_by_column (inl k_is_j) = (
+      λ is_set. inr (sym column_is_found.1 ∙ ap (λ i. get_or columns i 0) (sym k_is_j)),
+      λ set_or_statement. bits_are_set k
+          ∙ ap (λ was_set. was_set || is_bit row k) (eq-eqb k j k_is_j),
     )
-    by_column (inr ne) =
-        let same : is_bit new k ≡ is_bit row k =
-        set k ∙ ap (λ b. b || is_bit row k) (ne_eqb k j ne) in (
-          λ t. inl (sym same ∙ t),
-          λ h. same ∙ ⊎_elim (λ b. b)
-              (λ e. absurd
-              (ne (index_is_unique columns k j rising k_inside found.0 (sym e ∙ sym found.1)))) h,
+    decided_by_column (inr k_is_not_j) =
+        let bits_equal : is_bit marked k ≡ is_bit row k =
+        bits_are_set k ∙ ap (λ was_set. was_set || is_bit row k) (ne_eqb k j k_is_not_j) in (
+          λ is_set. inl (sym bits_equal ∙ is_set),
+          λ set_or_statement. bits_equal ∙ ⊎_elim (λ was_set. was_set)
+              (λ statement_is. absurd
+              (k_is_not_j (index_is_unique columns k j is_statement_list k_lt_columns
+              column_is_found.0 (sym statement_is ∙ sym column_is_found.1)))) set_or_statement,
         )
 
-pub column_past : (columns row new : List ℕ) (j s : ℕ)
+pub past_columns_are_kept : (columns row marked : List ℕ) (j s : ℕ)
     → (j < length columns) × (get_or columns j 0 ≡ s)
-    → ((k : ℕ) → is_bit new k ≡ (eqb k j || is_bit row k))
-    → (k : ℕ) → length columns ≤ k → is_bit new k ≡ is_bit row k
-column_past columns row new j s found set k le =
-    let l = found.0 in
-    set k ∙ ap (λ b. b || is_bit row k) (ne_eqb k j (λ e. absurd (omega (arith, l, le, e))))
+    → ((k : ℕ) → is_bit marked k ≡ (eqb k j || is_bit row k))
+    → (k : ℕ) → length columns ≤ k → is_bit marked k ≡ is_bit row k
+past_columns_are_kept columns row marked j s column_is_found bits_are_set k columns_le_k =
+    let j_lt_columns = column_is_found.0 in
+    bits_are_set k ∙ ap (λ b. b || is_bit row k)
+    (ne_eqb k j (λ k_is_j. absurd (omega (arith, j_lt_columns, columns_le_k, k_is_j))))
 
-pub column_none : (columns row : List ℕ) (s : ℕ)
+pub no_column_is_marked : (columns row : List ℕ) (s : ℕ)
     → ((i : ℕ) → i < length columns → get_or columns i 0 ≡ s → ⊥) → (k : ℕ) → k < length columns
     → Decides (is_bit row k) ((is_bit row k ≡ true) ⊎ (s ≡ get_or columns k 0))
-column_none columns row s none k lt =
-    ((λ t. inl t), λ h. ⊎_elim (λ b. b) (λ e. absurd (none k lt (sym e))) h)
+no_column_is_marked columns row s no_column k k_lt_columns = (
+  (λ is_set. inl is_set),
+  λ set_or_statement. ⊎_elim (λ was_set. was_set)
+      (λ statement_is. absurd (no_column k k_lt_columns (sym statement_is))) set_or_statement,
+)

@@ -12,146 +12,164 @@ use Rattle.mm_spec.specs.Scope.{statement_at}
 use Rattle.mm_spec.specs.Citation.{is_assertion}
 use Rattle.mm_spec.specs.Output.{columns, has_typecode, is_column}
 use Rattle.mm_spec.specs.Frame.{symbol_names, index_of}
-use Rattle.mm_spec.proofs.FindsLaw.{passing_statement, statement_at_is, formula_at_is}
-use Rattle.mm_spec.proofs.FaultlessLaw.{index_of_get}
+use Rattle.mm_spec.proofs.FindsLaw.{passing_statement, statement_at_place, formula_at_place}
+use Rattle.mm_spec.proofs.FaultlessLaw.{symbol_of_number_is}
 use Rattle.mm_spec.proofs.BoolLaw.{passes_alone}
 use Rattle.mm_database.specs.Database.{typecode_of, is_labelled_kind, kind_of}
 
 -- a selection of a selection is the selection by both tests
-pub filter_filter : (p q r : ℕ → Bool) (xs : List ℕ) → ((x : ℕ) → r x ≡ (p x && q x))
+pub filter_of_filter : (p q r : ℕ → Bool) (xs : List ℕ) → ((x : ℕ) → r x ≡ (p x && q x))
     → filter q (filter p xs) ≡ filter r xs
-filter_filter p q r [] h = refl
-filter_filter p q r (x ∷ xs) h = by_test (p x) (h x) (filter_filter p q r xs h)
+filter_of_filter p q r [] both_tests = refl
+filter_of_filter p q r (x ∷ xs) both_tests =
+    filtered_by_test (p x) (both_tests x) (filter_of_filter p q r xs both_tests)
   where
-    by_test : (a : Bool) → r x ≡ (a && q x) → filter q (filter p xs) ≡ filter r xs
+    filtered_by_test : (a : Bool) → r x ≡ (a && q x) → filter q (filter p xs) ≡ filter r xs
         → filter q (cond a (x ∷ filter p xs) (filter p xs))
         ≡ cond (r x) (x ∷ filter r xs) (filter r xs)
-    by_test false e i = i ∙ sym (ap (λ c. cond c (x ∷ filter r xs) (filter r xs)) e)
-    by_test true e i = ap₂ (λ (c : Bool) (l : List ℕ). cond c (x ∷ l) l) (sym e) i
+    filtered_by_test false test_is later_filtered =
+        later_filtered ∙ sym (ap (λ c. cond c (x ∷ filter r xs) (filter r xs)) test_is)
+    filtered_by_test true test_is later_filtered =
+        ap₂ (λ (c : Bool) (l : List ℕ). cond c (x ∷ l) l) (sym test_is) later_filtered
 
 -- a selection of a list with one more element at its end
-pub filter_snoc : (p : ℕ → Bool) (xs : List ℕ) (x : ℕ)
+pub filter_of_appended : (p : ℕ → Bool) (xs : List ℕ) (x : ℕ)
     → filter p (xs ++ x ∷ []) ≡ filter p xs ++ cond (p x) (x ∷ []) []
-filter_snoc p xs x = filter-append p xs (x ∷ [])
+filter_of_appended p xs x = filter-append p xs (x ∷ [])
 
 -- an axiom is a column where it has the typecode
-column_split : (only : Option Bytes) (s : Statement)
-    → is_column only s ≡ (is_column None s && has_typecode only s)
-column_split only (axiomatic l k xs d) = refl
-column_split only (constants k xs d) = refl
-column_split only (variables k xs d) = refl
-column_split only (disjoint k xs d) = refl
-column_split only (floating l k xs d) = refl
-column_split only (essential l k xs d) = refl
-column_split only (provable l k xs e ps d) = refl
-column_split only (opening k) = refl
-column_split only (closing k) = refl
+column_is_axiom_with_typecode : (chosen_typecode : Option Bytes) (s : Statement)
+    → is_column chosen_typecode s ≡ (is_column None s && has_typecode chosen_typecode s)
+column_is_axiom_with_typecode chosen_typecode (axiomatic l k xs d) = refl
+column_is_axiom_with_typecode chosen_typecode (constants k xs d) = refl
+column_is_axiom_with_typecode chosen_typecode (variables k xs d) = refl
+column_is_axiom_with_typecode chosen_typecode (disjoint k xs d) = refl
+column_is_axiom_with_typecode chosen_typecode (floating l k xs d) = refl
+column_is_axiom_with_typecode chosen_typecode (essential l k xs d) = refl
+column_is_axiom_with_typecode chosen_typecode (provable l k xs e ps d) = refl
+column_is_axiom_with_typecode chosen_typecode (opening k) = refl
+column_is_axiom_with_typecode chosen_typecode (closing k) = refl
 
-pub columns_split : (only : Option Bytes) (db : List Statement) (j : ℕ)
-    → list_any (is_column only) (statement_at db j)
+pub columns_split : (chosen_typecode : Option Bytes) (db : List Statement) (j : ℕ)
+    → list_any (is_column chosen_typecode) (statement_at db j)
     ≡ (list_any (is_column None) (statement_at db j)
-    && list_any (has_typecode only) (statement_at db j))
-columns_split only db j = by_statement (slice_get db j)
+    && list_any (has_typecode chosen_typecode) (statement_at db j))
+columns_split chosen_typecode db j = split_if_stands (slice_get db j)
   where
     or_false_each : (a b : Bool) → ((a && b) || false) ≡ ((a || false) && (b || false))
     or_false_each true true = refl
     or_false_each true false = refl
     or_false_each false b = refl
 
-    by_statement : (o : Option Statement)
-        → list_any (is_column only) (elim o [ None ↦ [] | Some s ↦ s ∷ [] ])
+    split_if_stands : (o : Option Statement)
+        → list_any (is_column chosen_typecode) (elim o [ None ↦ [] | Some s ↦ s ∷ [] ])
         ≡ (list_any (is_column None) (elim o [ None ↦ [] | Some s ↦ s ∷ [] ])
-        && list_any (has_typecode only) (elim o [ None ↦ [] | Some s ↦ s ∷ [] ]))
-    by_statement None = refl
-    by_statement (Some s) =
-        ap (λ b. b || false) (column_split only s) ∙ or_false_each (is_column None s)
-        (has_typecode only s)
+        && list_any (has_typecode chosen_typecode) (elim o [ None ↦ [] | Some s ↦ s ∷ [] ]))
+    split_if_stands None = refl
+    split_if_stands (Some s) =
+        ap (λ b. b || false) (column_is_axiom_with_typecode chosen_typecode s)
+        ∙ or_false_each (is_column None s)
+        (has_typecode chosen_typecode s)
 
 -- the columns are the axioms with the typecode
-pub columns_are : (only : Option Bytes) (db : List Statement)
-    → filter (λ j. list_any (has_typecode only) (statement_at db j)) (columns db None)
-    ≡ columns db only
-columns_are only db =
-    filter_filter (λ j. list_any (is_column None) (statement_at db j))
-    (λ j. list_any (has_typecode only) (statement_at db j))
-    (λ j. list_any (is_column only) (statement_at db j)) (range_with_len 0 (length db))
-    (columns_split only db)
+pub columns_are_chosen_axioms : (chosen_typecode : Option Bytes) (db : List Statement)
+    → filter (λ j. list_any (has_typecode chosen_typecode) (statement_at db j)) (columns db None)
+    ≡ columns db chosen_typecode
+columns_are_chosen_axioms chosen_typecode db =
+    filter_of_filter (λ j. list_any (is_column None) (statement_at db j))
+    (λ j. list_any (has_typecode chosen_typecode) (statement_at db j))
+    (λ j. list_any (is_column chosen_typecode) (statement_at db j)) (range_with_len 0 (length db))
+    (columns_split chosen_typecode db)
 
 -- an axiom is an assertion
-pub axiom_asserts : (db : List Statement) (j : ℕ)
+pub axiom_is_assertion : (db : List Statement) (j : ℕ)
     → list_any (is_column None) (statement_at db j) ≡ true
     → list_any is_assertion (statement_at db j) ≡ true
-axiom_asserts db j h = by_statement (slice_get db j) h
+axiom_is_assertion db j is_axiom = assertion_if_stands (slice_get db j) is_axiom
   where
     column_is_assertion : (s : Statement) → is_column None s ≡ true → is_assertion s ≡ true
-    column_is_assertion (axiomatic l k xs d) e = refl
-    column_is_assertion (provable l k xs q ps d) e = refl
-    column_is_assertion (constants k xs d) e = absurd (true≢false (sym e))
-    column_is_assertion (variables k xs d) e = absurd (true≢false (sym e))
-    column_is_assertion (disjoint k xs d) e = absurd (true≢false (sym e))
-    column_is_assertion (floating l k xs d) e = absurd (true≢false (sym e))
-    column_is_assertion (essential l k xs d) e = absurd (true≢false (sym e))
-    column_is_assertion (opening k) e = absurd (true≢false (sym e))
-    column_is_assertion (closing k) e = absurd (true≢false (sym e))
+    column_is_assertion (axiomatic l k xs d) is_column_s = refl
+    column_is_assertion (provable l k xs q ps d) is_column_s = refl
+    column_is_assertion (constants k xs d) is_column_s = absurd (true≢false (sym is_column_s))
+    column_is_assertion (variables k xs d) is_column_s = absurd (true≢false (sym is_column_s))
+    column_is_assertion (disjoint k xs d) is_column_s = absurd (true≢false (sym is_column_s))
+    column_is_assertion (floating l k xs d) is_column_s = absurd (true≢false (sym is_column_s))
+    column_is_assertion (essential l k xs d) is_column_s = absurd (true≢false (sym is_column_s))
+    column_is_assertion (opening k) is_column_s = absurd (true≢false (sym is_column_s))
+    column_is_assertion (closing k) is_column_s = absurd (true≢false (sym is_column_s))
 
-    by_statement : (o : Option Statement)
+    assertion_if_stands : (o : Option Statement)
         → list_any (is_column None) (elim o [ None ↦ [] | Some s ↦ s ∷ [] ]) ≡ true
         → list_any is_assertion (elim o [ None ↦ [] | Some s ↦ s ∷ [] ]) ≡ true
-    by_statement None e = absurd (true≢false (sym e))
-    by_statement (Some s) e =
-        ap (λ b. b || false) (column_is_assertion s (passes_alone (is_column None s) e))
+    assertion_if_stands None some_axiom = absurd (true≢false (sym some_axiom))
+    assertion_if_stands (Some s) some_axiom =
+        ap (λ b. b || false) (column_is_assertion s (passes_alone (is_column None s) some_axiom))
 
 -- the typecode is compared by its name
-pub typecode_test : (db : List Statement) (k x : ℕ) (v w : Bytes)
+pub typecode_is_compared : (db : List Statement) (k x : ℕ) (v w : Bytes)
     → list_any is_assertion (statement_at db k) ≡ true → typecode_of db k ≡ Some x
     → slice_get (symbol_names db) x ≡ Some v
     → bytes_eq v w ≡ list_any (has_typecode (Some w)) (statement_at db k)
-typecode_test db k x v w is e n =
-    let f = passing_statement db is_assertion k is in by_kind f.0 f.1 f.2
+typecode_is_compared db k x v w is_assertion_k typecode_is_x name_of_x =
+    let statement_there = passing_statement db is_assertion k is_assertion_k in
+    compared_by_kind statement_there.0 statement_there.1 statement_there.2
   where
     -- a statement with a label, for each list of its symbols
-    labelled : (s : Statement) → slice_get db k ≡ Some s → is_labelled_kind (kind_of s) ≡ true
+    compared_if_labelled : (s : Statement) → slice_get db k ≡ Some s
+        → is_labelled_kind (kind_of s) ≡ true
         → (xs : List Token) → symbols_of s ≡ xs
         → bytes_eq v w ≡ list_any (has_typecode (Some w)) (statement_at db k)
-    labelled s g lab xs same = by_symbols xs same
+    compared_if_labelled s s_at_k has_label xs symbols_are = compared_by_symbols xs symbols_are
       where
         typecode_is : (xs : List Token) → symbols_of s ≡ xs
             → typecode_of db k ≡ slice_get (map (λ u. index_of u (symbol_names db)) (words xs)) 0
-        typecode_is xs same =
+        typecode_is xs symbols_are =
             ap₂ (λ ss f. if list_any
             (λ s. is_labelled_kind (kind_of s)) ss then slice_get f 0 else None)
-            (statement_at_is db k s g) (formula_at_is db k s g)
+            (statement_at_place db k s s_at_k) (formula_at_place db k s s_at_k)
             ∙ ap (λ b. if b
             || false then slice_get
-            (map (λ u. index_of u (symbol_names db)) (words (symbols_of s))) 0 else None) lab
-            ∙ ap (λ ys. slice_get (map (λ u. index_of u (symbol_names db)) (words ys)) 0) same
+            (map (λ u. index_of u (symbol_names db)) (words (symbols_of s))) 0 else None) has_label
+            ∙ ap (λ ys. slice_get (map (λ u. index_of u (symbol_names db)) (words ys)) 0)
+            symbols_are
 
         typecode_compared : (t : Token) (ts : List Token) → symbols_of s ≡ t ∷ ts
             → has_typecode (Some w) s ≡ bytes_eq t.word w
-        typecode_compared t ts same =
-            ap (λ (ys : List Token). elim ys [ [] ↦ false | u ∷ us ↦ bytes_eq u.word w ]) same
+        typecode_compared t ts symbols_are =
+            ap (λ (ys : List Token). elim ys [ [] ↦ false | u ∷ us ↦ bytes_eq u.word w ])
+            symbols_are
 
-        by_symbols : (xs : List Token) → symbols_of s ≡ xs
+        compared_by_symbols : (xs : List Token) → symbols_of s ≡ xs
             → bytes_eq v w ≡ list_any (has_typecode (Some w)) (statement_at db k)
-        by_symbols [] same = absurd (let no : None ≡ Some x = sym (typecode_is [] same) ∙ e in cc)
-        by_symbols (t ∷ ts) same =
-            let found : Some (index_of t.word (symbol_names db)) ≡ Some x =
-            sym (typecode_is (t ∷ ts) same) ∙ e in
-            let place : index_of t.word (symbol_names db) ≡ x = cc in
-            let word : v ≡ t.word =
-            index_of_get t.word v (symbol_names db) (ap (slice_get (symbol_names db)) place ∙ n) in
-            ap (λ u. bytes_eq u w) word
-            ∙ sym (ap (list_any (has_typecode (Some w))) (statement_at_is db k s g)
-            ∙ or-false (has_typecode (Some w) s) ∙ typecode_compared t ts same)
+        compared_by_symbols [] symbols_are =
+            absurd (let none_is_typecode : None ≡ Some x = sym (typecode_is [] symbols_are)
+            ∙ typecode_is_x in cc)
+        compared_by_symbols (t ∷ ts) symbols_are =
+            let typecode_found : Some (index_of t.word (symbol_names db)) ≡ Some x =
+            sym (typecode_is (t ∷ ts) symbols_are) ∙ typecode_is_x in
+            let number_is : index_of t.word (symbol_names db) ≡ x = cc in
+            let name_is : v ≡ t.word =
+            symbol_of_number_is t.word v (symbol_names db)
+            (ap (slice_get (symbol_names db)) number_is ∙ name_of_x) in
+            ap (λ u. bytes_eq u w) name_is
+            ∙ sym (ap (list_any (has_typecode (Some w))) (statement_at_place db k s s_at_k)
+            ∙ or-false (has_typecode (Some w) s) ∙ typecode_compared t ts symbols_are)
 
-    by_kind : (s : Statement) → slice_get db k ≡ Some s → is_assertion s ≡ true
+    compared_by_kind : (s : Statement) → slice_get db k ≡ Some s → is_assertion s ≡ true
         → bytes_eq v w ≡ list_any (has_typecode (Some w)) (statement_at db k)
-    by_kind (constants kw xs d) g c = absurd (true≢false (sym c))
-    by_kind (variables kw xs d) g c = absurd (true≢false (sym c))
-    by_kind (disjoint kw xs d) g c = absurd (true≢false (sym c))
-    by_kind (floating l kw xs d) g c = absurd (true≢false (sym c))
-    by_kind (essential l kw xs d) g c = absurd (true≢false (sym c))
-    by_kind (opening kw) g c = absurd (true≢false (sym c))
-    by_kind (closing kw) g c = absurd (true≢false (sym c))
-    by_kind (provable l kw xs q ps d) g c = labelled (provable l kw xs q ps d) g refl xs refl
-    by_kind (axiomatic l kw xs d) g c = labelled (axiomatic l kw xs d) g refl xs refl
+    compared_by_kind (constants kw xs d) s_at_k is_assertion_s =
+        absurd (true≢false (sym is_assertion_s))
+    compared_by_kind (variables kw xs d) s_at_k is_assertion_s =
+        absurd (true≢false (sym is_assertion_s))
+    compared_by_kind (disjoint kw xs d) s_at_k is_assertion_s =
+        absurd (true≢false (sym is_assertion_s))
+    compared_by_kind (floating l kw xs d) s_at_k is_assertion_s =
+        absurd (true≢false (sym is_assertion_s))
+    compared_by_kind (essential l kw xs d) s_at_k is_assertion_s =
+        absurd (true≢false (sym is_assertion_s))
+    compared_by_kind (opening kw) s_at_k is_assertion_s = absurd (true≢false (sym is_assertion_s))
+    compared_by_kind (closing kw) s_at_k is_assertion_s = absurd (true≢false (sym is_assertion_s))
+    compared_by_kind (provable l kw xs q ps d) s_at_k is_assertion_s =
+        compared_if_labelled (provable l kw xs q ps d) s_at_k refl xs refl
+    compared_by_kind (axiomatic l kw xs d) s_at_k is_assertion_s =
+        compared_if_labelled (axiomatic l kw xs d) s_at_k refl xs refl

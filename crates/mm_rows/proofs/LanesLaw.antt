@@ -17,24 +17,24 @@ lanes_total xs =
     (map (act1 (mircode.cast mircode.unsigned mircode.unsigned w64) (s_int w32) (s_int w64))
     (map (act1 mircode.count_ones (s_int w64) (s_int w32)) xs))
 
-lanes_sum : (a : ℕ) (xs : List ℕ)
+lanes_add_counts : (a : ℕ) (xs : List ℕ)
     → fold_l (act2 (mircode.add mircode.unsigned) (s_int w64) (s_int w64) (s_int w64)) a
     (map (act1 (mircode.cast mircode.unsigned mircode.unsigned w64) (s_int w32) (s_int w64))
     (map (act1 mircode.count_ones (s_int w64) (s_int w32)) xs))
     ≡ fold (λ b x. b + count_ones x) a xs
-lanes_sum a [] = refl
-lanes_sum a (x ∷ xs) = lanes_sum (a + count_ones x) xs
+lanes_add_counts a [] = refl
+lanes_add_counts a (x ∷ xs) = lanes_add_counts (a + count_ones x) xs
 
-pub lanes_are : (xs : List ℕ) → lanes_total xs ≡ sum_by count_ones xs
-lanes_are xs = lanes_sum 0 xs
+pub lanes_total_is_sum : (xs : List ℕ) → lanes_total xs ≡ sum_by count_ones xs
+lanes_total_is_sum xs = lanes_add_counts 0 xs
 
 -- the ones of eight more words are added
-pub eight_more : (row : List ℕ) (at : ℕ) → at + 8 ≤ length row
-    → sum_by count_ones (take (at + 8) row)
-    ≡ sum_by count_ones (take at row) + sum_by count_ones (take 8 (drop at row))
-eight_more row at fits =
-    let whole = sum_by-take-drop count_ones row at in
-    let longer = sum_by-take-drop count_ones row (at + 8) in
-    let rest = sum_by-take-drop count_ones (drop at row) 8 in
-    let same = ap (sum_by count_ones) (drop-drop 8 at row) in
-    omega (arith, whole, longer, rest, same)
+pub sum_of_eight_more : (row : List ℕ) (count : ℕ) → count + 8 ≤ length row
+    → sum_by count_ones (take (count + 8) row)
+    ≡ sum_by count_ones (take count row) + sum_by count_ones (take 8 (drop count row))
+sum_of_eight_more row count end_le_length =
+    let sum_splits_at = sum_by-take-drop count_ones row count in
+    let sum_splits_after = sum_by-take-drop count_ones row (count + 8) in
+    let rest_splits = sum_by-take-drop count_ones (drop count row) 8 in
+    let dropped_equal = ap (sum_by count_ones) (drop-drop 8 count row) in
+    omega (arith, sum_splits_at, sum_splits_after, rest_splits, dropped_equal)

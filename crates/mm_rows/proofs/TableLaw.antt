@@ -10,178 +10,207 @@ use Rattle.mm_cites.specs.Citing.{Citing, IsStatementList}
 use Rattle.mm_rows.specs.BitRows.{cells_of, marks, row_at, AreBitRows}
 use Rattle.mm_rows.specs.Marks.{Marks, mark, IsAbove, first_after, IsMatrix}
 use Rattle.mm_rows.specs.Users.{AreColumns, IsColumn}
-use Rattle.mm_rows.proofs.TransposeLaw.{row_bit, row_length, row_past, row_end, bit_index_within}
-use Rattle.mm_rows.proofs.CountLaw.{tally, tally_agree, tally_short}
-use Rattle.mm_rows.proofs.CountLaw.{all_counted, row_ones}
+use Rattle.mm_rows.proofs.TransposeLaw.{row_bit_is_table_bit, row_has_width_words, no_bit_past_row}
+use Rattle.mm_rows.proofs.TransposeLaw.{row_end_le_length, bit_word_lt_length}
+use Rattle.mm_rows.proofs.CountLaw.{tally, equal_tests_equal_tallies, tally_of_passing_range}
+use Rattle.mm_rows.proofs.CountLaw.{saturated_count_is_tally, ones_of_row_are_marks}
 
 -- within a table a mark is its bit
-pub mark_bit : (rows columns : ℕ) (bits : List ℕ) (i j : ℕ) → i < rows → j < columns
+pub mark_is_bit : (rows columns : ℕ) (bits : List ℕ) (i j : ℕ) → i < rows → j < columns
     → mark (marks rows columns bits) i j ≡ is_bit bits (bit_index (words_for columns) i j)
-mark_bit rows columns bits i j l k =
+mark_is_bit rows columns bits i j i_lt_rows j_lt_columns =
     ap (λ (r : List Bool). get_or r j false)
-    (get_or-map-range_with_len (cells_of columns bits) 0 rows i i [] l (omega arith))
+    (get_or-map-range_with_len (cells_of columns bits) 0 rows i i [] i_lt_rows (omega arith))
     ∙ get_or-map-range_with_len
-    (λ c. is_bit bits (bit_index (words_for columns) i c)) 0 columns j j false k (omega arith)
+    (λ c. is_bit bits (bit_index (words_for columns) i c)) 0 columns j j false j_lt_columns
+    (omega arith)
 
 module _ (m : Marks) (rows columns : ℕ) (words : List ℕ)
-    (view : m ≡ marks rows columns words) (is_table : IsTable rows columns words) where
-  pub row_fits : (i width : ℕ) (xs : List ℕ) → i < m.rows → width ≡ words_for columns → xs ≡ words
+    (marks_are : m ≡ marks rows columns words) (is_table : IsTable rows columns words) where
+  pub row_end_le_table : (i width : ℕ) (xs : List ℕ) → i < m.rows → width ≡ words_for columns
+      → xs ≡ words
       → i * width + width ≤ length xs
-  row_fits i width xs lt w e =
-      let lt' = subst (λ (x : Marks). i < x.rows) view lt in
-      row_end width i rows (length xs) lt' (ap length e ∙ is_table.size
-      ∙ sym (ap (λ a. rows * a) w))
+  row_end_le_table i width xs i_lt_marks width_is xs_are_words =
+      let i_lt_rows = subst (λ (x : Marks). i < x.rows) marks_are i_lt_marks in
+      row_end_le_length width i rows (length xs) i_lt_rows (ap length xs_are_words ∙ is_table.size
+      ∙ sym (ap (λ a. rows * a) width_is))
 
-  pub bit_index_fits : (i j width : ℕ) (xs : List ℕ) → i < m.rows → j < m.columns
+  pub cell_bit_lt_table : (i j width : ℕ) (xs : List ℕ) → i < m.rows → j < m.columns
       → width ≡ words_for columns → xs ≡ words → bit_index width i j / 64 < length xs
-  bit_index_fits i j width xs lt l w e =
-      let lt' = subst (λ (x : Marks). i < x.rows) view lt in
-      let l' = subst (λ (x : Marks). j < x.columns) view l in
-      bit_index_within width rows i j (length xs) lt' (omega (arith, w))
-      (ap length e ∙ is_table.size ∙ sym (ap (λ a. rows * a) w))
+  cell_bit_lt_table i j width xs i_lt_marks j_lt_marks width_is xs_are_words =
+      let i_lt_rows = subst (λ (x : Marks). i < x.rows) marks_are i_lt_marks in
+      let j_lt_columns = subst (λ (x : Marks). j < x.columns) marks_are j_lt_marks in
+      bit_word_lt_length width rows i j (length xs) i_lt_rows (omega (arith, width_is))
+      (ap length xs_are_words ∙ is_table.size ∙ sym (ap (λ a. rows * a) width_is))
 
   -- the bit that is read for a cell is its mark
-  pub cell_is : (i j width : ℕ) (xs : List ℕ) → i < m.rows → j < m.columns
+  pub cell_bit_is_mark : (i j width : ℕ) (xs : List ℕ) → i < m.rows → j < m.columns
       → width ≡ words_for columns → xs ≡ words → is_bit xs (bit_index width i j) ≡ mark m i j
-  cell_is i j width xs lt l w e =
-      let lt' = subst (λ (x : Marks). i < x.rows) view lt in
-      let l' = subst (λ (x : Marks). j < x.columns) view l in
-      ap₂ (λ ys n. is_bit ys (bit_index n i j)) e w ∙ sym (mark_bit rows columns words i j lt' l')
-      ∙ sym (ap (λ x. mark x i j) view)
+  cell_bit_is_mark i j width xs i_lt_marks j_lt_marks width_is xs_are_words =
+      let i_lt_rows = subst (λ (x : Marks). i < x.rows) marks_are i_lt_marks in
+      let j_lt_columns = subst (λ (x : Marks). j < x.columns) marks_are j_lt_marks in
+      ap₂ (λ ys n. is_bit ys (bit_index n i j)) xs_are_words width_is
+      ∙ sym (mark_is_bit rows columns words i j i_lt_rows j_lt_columns)
+      ∙ sym (ap (λ x. mark x i j) marks_are)
 
-  pub row_counted : (i result : ℕ) (part : List ℕ) → i < m.rows
+  pub row_count_is_marks : (i result : ℕ) (part : List ℕ) → i < m.rows
       → part ≡ row_at words (words_for columns) i
       → result ≡ min (tally (is_bit part) (64 * length part)) (2 ^ 64 - 1)
       → result ≡ count_by (λ j. mark m i j) (range_with_len 0 m.columns)
-  row_counted i result part lt part_is result_is =
-      let lt' = subst (λ (x : Marks). i < x.rows) view lt in
-      let few = is_table.few_columns in
-      let wide = ap length part_is
-      ∙ row_length words (words_for columns) i rows lt' is_table.size in
-      subst (λ (x : Marks). result ≡ tally (λ j. mark x i j) x.columns) (sym view)
-      (all_counted (is_bit part) (64 * length part) result (omega (arith, few, wide)) result_is
-      ∙ ap (λ xs. tally (is_bit xs) (64 * length xs)) part_is
-      ∙ row_ones words (words_for columns) i rows columns lt' is_table.size (omega arith)
-      (λ j le l. is_table.past i j lt' le l)
-      ∙ tally_agree (λ j. is_bit words (bit_index (words_for columns) i j))
+  row_count_is_marks i result part i_lt_marks part_is_row result_is =
+      let i_lt_rows = subst (λ (x : Marks). i < x.rows) marks_are i_lt_marks in
+      let columns_lt_2_31 = is_table.few_columns in
+      let part_has_width = ap length part_is_row
+      ∙ row_has_width_words words (words_for columns) i rows i_lt_rows is_table.size in
+      subst (λ (x : Marks). result ≡ tally (λ j. mark x i j) x.columns) (sym marks_are)
+      (saturated_count_is_tally (is_bit part) (64 * length part) result
+      (omega (arith, columns_lt_2_31, part_has_width)) result_is
+      ∙ ap (λ xs. tally (is_bit xs) (64 * length xs)) part_is_row
+      ∙ ones_of_row_are_marks words (words_for columns) i rows columns i_lt_rows is_table.size
+      (omega arith)
+      (λ j columns_le_j j_in_row. is_table.none_past_columns i j i_lt_rows columns_le_j j_in_row)
+      ∙ equal_tests_equal_tallies (λ j. is_bit words (bit_index (words_for columns) i j))
       (λ j. mark (marks rows columns words) i j) columns
-      (λ j l. sym (mark_bit rows columns words i j lt' l)))
+      (λ j j_in_row. sym (mark_is_bit rows columns words i j i_lt_rows j_in_row)))
 
   -- the transposed words are those of all columns
-  pub columns_are : (transposed : List ℕ) → AreTransposed rows columns words transposed
+  pub transposed_are_columns : (transposed : List ℕ) → AreTransposed rows columns words transposed
       → AreColumns m transposed
-  columns_are transposed are_transposed =
-      subst (λ (x : Marks). AreColumns x transposed) (sym view) record {
+  transposed_are_columns transposed are_transposed =
+      subst (λ (x : Marks). AreColumns x transposed) (sym marks_are) record {
         size = are_transposed.size;
         each =
-            λ j lt. record {
+            λ j j_lt_columns. record {
               few_rows = is_table.few_rows;
-              size = row_length transposed (words_for rows) j columns lt are_transposed.size;
-              same =
-                  λ i l. row_bit transposed (words_for rows) j i (omega arith)
-                  ∙ are_transposed.same i j l lt
-                  ∙ sym (mark_bit rows columns words i j l lt);
-              past = λ i le. past_last_row j lt i le (cases_lt i (64 * words_for rows));
+              size =
+                  row_has_width_words transposed (words_for rows) j columns j_lt_columns
+                  are_transposed.size;
+              bits_are_transposed =
+                  λ i i_lt_rows. row_bit_is_table_bit transposed (words_for rows) j i (omega arith)
+                  ∙ are_transposed.bits_are_transposed i j i_lt_rows j_lt_columns
+                  ∙ sym (mark_is_bit rows columns words i j i_lt_rows j_lt_columns);
+              past =
+                  λ i rows_le_i. past_last_row j j_lt_columns i rows_le_i
+                  (cases_lt i (64 * words_for rows));
             };
       }
     where
       past_last_row : (j : ℕ) → j < columns → (i : ℕ) → rows ≤ i
           → (i < 64 * words_for rows) ⊎ (64 * words_for rows ≤ i)
           → is_bit (row_at transposed (words_for rows) j) i ≡ false
-      past_last_row j lt i le (inl l) = row_bit transposed (words_for rows) j i l
-          ∙ are_transposed.past i j le l lt
-      past_last_row j lt i le (inr g) =
-          row_past transposed (words_for rows) j columns i lt are_transposed.size g
+      past_last_row j j_lt_columns i rows_le_i (inl i_in_words) =
+          row_bit_is_table_bit transposed (words_for rows) j i i_in_words
+          ∙ are_transposed.none_past_rows i j rows_le_i i_in_words j_lt_columns
+      past_last_row j j_lt_columns i rows_le_i (inr words_end_before) =
+          no_bit_past_row transposed (words_for rows) j columns i j_lt_columns are_transposed.size
+          words_end_before
 
 -- the words of a column end within the words of all columns
-pub column_fits : (m : Marks) (users : List ℕ) → AreColumns m users → (j width : ℕ) (xs : List ℕ)
+pub column_end_le_users : (m : Marks) (users : List ℕ) → AreColumns m users
+    → (j width : ℕ) (xs : List ℕ)
     → j < m.columns → width ≡ words_for m.rows → xs ≡ users → j * width + width ≤ length xs
-column_fits m users a j width xs lt w e =
-    row_end width j m.columns (length xs) lt
-    (ap length e ∙ a.size ∙ sym (ap (λ b. m.columns * b) w))
+column_end_le_users m users are_columns j width xs j_lt_columns width_is xs_are_users =
+    row_end_le_length width j m.columns (length xs) j_lt_columns
+    (ap length xs_are_users ∙ are_columns.size ∙ sym (ap (λ b. m.columns * b) width_is))
 
-from_first_if_above : (after : Option ℕ) (k : ℕ) → IsAbove after k → first_after after ≤ k
-from_first_if_above None k h = omega arith
-from_first_if_above (Some i) k h = omega arith
+above_is_from_first : (after : Option ℕ) (k : ℕ) → IsAbove after k → first_after after ≤ k
+above_is_from_first None k is_above = omega arith
+above_is_from_first (Some i) k is_above = omega arith
 
-above_if_from_first : (after : Option ℕ) (k : ℕ) → first_after after ≤ k → IsAbove after k
-above_if_from_first None k h = tt
-above_if_from_first (Some i) k h = omega arith
+from_first_is_above : (after : Option ℕ) (k : ℕ) → first_after after ≤ k → IsAbove after k
+from_first_is_above None k first_le_k = tt
+from_first_is_above (Some i) k first_le_k = omega arith
 
 -- the next user of a column: no row between is marked
-user_found : (m : Marks) (j : ℕ) (after : Option ℕ) (i from : ℕ) → from ≡ first_after after
+next_user_is_found : (m : Marks) (j : ℕ) (after : Option ℕ) (i from : ℕ) → from ≡ first_after after
     → i < m.rows → from ≤ i → mark m i j ≡ true
     → ((k : ℕ) → from ≤ k → k < i → mark m k j ≡ false)
     → (i < m.rows) × IsAbove after i × (mark m i j ≡ true)
     × ((k : ℕ) → IsAbove after k → k < i → mark m k j ≡ false)
-user_found m j after i from s inside le one none = (
-  inside,
-  above_if_from_first after i (omega (arith, s, le)),
-  one,
-  λ k up l. let u = from_first_if_above after k up in none k (omega arith) l,
+next_user_is_found m j after i from from_is i_lt_rows from_le_i is_marked none_between = (
+  i_lt_rows,
+  from_first_is_above after i (omega (arith, from_is, from_le_i)),
+  is_marked,
+  λ k k_is_above k_lt_i. let first_le_k =
+      above_is_from_first after k k_is_above in none_between k (omega arith) k_lt_i,
 )
 
 -- what is read off the bits of a column
 module _ (m : Marks) (j : ℕ) (users : List ℕ) (is_column : IsColumn m j users) where
-  pub column_counted : (result : ℕ)
+  pub column_count_is_marks : (result : ℕ)
       → result ≡ min (tally (is_bit users) (64 * length users)) (2 ^ 64 - 1)
       → result ≡ count_by (λ i. mark m i j) (range_with_len 0 m.rows)
-  column_counted result e =
-      let few = is_column.few_rows in
-      let long = is_column.size in
-      all_counted (is_bit users) (64 * length users) result (omega (arith, few, long)) e
-      ∙ tally_short (is_bit users) m.rows (64 * length users) (omega (arith, long)) is_column.past
-      ∙ tally_agree (is_bit users) (λ i. mark m i j) m.rows is_column.same
+  column_count_is_marks result result_is =
+      let rows_lt_2_31 = is_column.few_rows in
+      let users_have_size = is_column.size in
+      saturated_count_is_tally (is_bit users) (64 * length users) result
+      (omega (arith, rows_lt_2_31, users_have_size)) result_is
+      ∙ tally_of_passing_range (is_bit users) m.rows (64 * length users)
+      (omega (arith, users_have_size))
+      is_column.none_past_rows
+      ∙ equal_tests_equal_tallies (is_bit users) (λ i. mark m i j) m.rows is_column.bits_are_marks
 
-  pub user_some : (after : Option ℕ) (i from : ℕ) → from ≡ first_after after → from ≤ i
+  pub set_bit_is_next_user : (after : Option ℕ) (i from : ℕ) → from ≡ first_after after → from ≤ i
       → is_bit users i ≡ true → ((k : ℕ) → from ≤ k → k < i → is_bit users k ≡ false)
       → (i < m.rows) × IsAbove after i × (mark m i j ≡ true)
       × ((k : ℕ) → IsAbove after k → k < i → mark m k j ≡ false)
-  user_some after i from from_is from_at_most_i one none =
-      user_found m j after i from from_is user_is_row from_at_most_i
-      (sym (is_column.same i user_is_row) ∙ one)
-      (λ k up l. let into = user_is_row in sym (is_column.same k (omega arith)) ∙ none k up l)
+  set_bit_is_next_user after i from from_is from_le_i bit_is_set none_between =
+      next_user_is_found m j after i from from_is user_is_row from_le_i
+      (sym (is_column.bits_are_marks i user_is_row) ∙ bit_is_set)
+      (λ k from_le_k k_lt_i. let user_lt_rows = user_is_row in
+      sym (is_column.bits_are_marks k (omega arith)) ∙ none_between k from_le_k k_lt_i)
     where
       user_is_row : i < m.rows
-      user_is_row = by_row_count (cases_lt i m.rows)
+      user_is_row = row_by_count (cases_lt i m.rows)
         where
-          by_row_count : (i < m.rows) ⊎ (m.rows ≤ i) → i < m.rows
-          by_row_count (inl l) = l
-          by_row_count (inr g) = absurd (let no : true ≡ false = sym one ∙ is_column.past i g in cc)
+          row_by_count : (i < m.rows) ⊎ (m.rows ≤ i) → i < m.rows
+          row_by_count (inl i_lt_rows) = i_lt_rows
+          row_by_count (inr rows_le_i) =
+              absurd (let true_is_false : true ≡ false = sym bit_is_set
+              ∙ is_column.none_past_rows i rows_le_i in cc)
 
-  pub user_none : (after : Option ℕ) (from : ℕ) → from ≡ first_after after
+  pub no_bit_no_user : (after : Option ℕ) (from : ℕ) → from ≡ first_after after
       → ((k : ℕ) → from ≤ k → is_bit users k ≡ false)
       → (k : ℕ) → IsAbove after k → k < m.rows → mark m k j ≡ false
-  user_none after from s none k up l =
-      let u = from_first_if_above after k up in sym (is_column.same k l) ∙ none k (omega arith)
+  no_bit_no_user after from from_is none_is_set k k_is_above k_lt_rows =
+      let first_le_k = above_is_from_first after k k_is_above in
+      sym (is_column.bits_are_marks k k_lt_rows) ∙ none_is_set k (omega arith)
 
 -- the rows of all theorems are a table
-pub table_of : (c : Citing) (columns bits : List ℕ) (rows width : ℕ) → IsStatementList c.theorems
+pub bit_rows_are_table : (c : Citing) (columns bits : List ℕ) (rows width : ℕ)
+    → IsStatementList c.theorems
     → IsStatementList columns → AreBitRows c columns (length c.theorems) bits
     → rows ≡ length c.theorems
     → width ≡ length columns → IsTable rows width bits
-table_of c columns bits rows width rr rc are_bit_rows rows_is width_is =
+bit_rows_are_table c columns bits rows width theorems_are_list columns_are_list are_bit_rows rows_is
+    width_is =
     subst (λ n. IsTable n width bits) (sym rows_is)
     (subst (λ n. IsTable (length c.theorems) n bits) (sym width_is) record {
-      few_rows = rr.few;
-      few_columns = rc.few;
+      few_rows = theorems_are_list.few;
+      few_columns = columns_are_list.few;
       size = are_bit_rows.size;
-      past =
-          λ i j lt le l. sym (row_bit bits (words_for (length columns)) i j l)
-          ∙ (are_bit_rows.each i lt).past j le;
+      none_past_columns =
+          λ i j i_lt_theorems columns_le_j j_in_row.
+          sym (row_bit_is_table_bit bits (words_for (length columns)) i j j_in_row)
+          ∙ (are_bit_rows.each i i_lt_theorems).none_past_columns j columns_le_j;
     })
 
-pub matrix_of : (c : Citing) (columns bits : List ℕ) (rows width : ℕ) (m : Marks)
+pub bit_rows_are_matrix : (c : Citing) (columns bits : List ℕ) (rows width : ℕ) (m : Marks)
     → AreBitRows c columns (length c.theorems) bits → rows ≡ length c.theorems
     → width ≡ length columns → m ≡ marks rows width bits → IsMatrix c columns m
-matrix_of c columns bits rows width m are_bit_rows rows_is width_is m_is =
+bit_rows_are_matrix c columns bits rows width m are_bit_rows rows_is width_is m_is =
     subst (λ x. IsMatrix c columns x) (sym (m_is ∙ ap₂ (λ a b. marks a b bits) rows_is width_is))
     record {
       rows = refl;
-      columns_are = refl;
+      transposed_are_columns = refl;
       marked =
-          λ i j lt l. let d = (are_bit_rows.each i lt).marks j l in
-          let b = row_bit bits (words_for (length columns)) i j (omega arith)
-          ∙ sym (mark_bit (length c.theorems) (length columns) bits i j lt l) in
-          ((λ t. d.0 (b ∙ t)), λ r. sym b ∙ d.1 r);
+          λ i j i_lt_theorems j_lt_columns. let row_decides =
+          (are_bit_rows.each i i_lt_theorems).marks j j_lt_columns in
+          let bit_is_mark = row_bit_is_table_bit bits (words_for (length columns)) i j (omega arith)
+          ∙ sym (mark_is_bit (length c.theorems) (length columns) bits i j i_lt_theorems
+          j_lt_columns) in (
+            (λ is_marked. row_decides.0 (bit_is_mark ∙ is_marked)),
+            λ rests. sym bit_is_mark
+                ∙ row_decides.1 rests,
+          );
     }

@@ -9,10 +9,10 @@ use Rattle.mm_rows.specs.Marks.{Marks}
 
 -- the bits of statement t: which columns it rests on, and nothing past the last column
 pub record IsBitRow (c : Citing) (columns : List ℕ) (t : ℕ) (row : List ℕ) : Type 0 where
-  pub words : length row ≡ words_for (length columns)
+  pub has_words : length row ≡ words_for (length columns)
   pub marks : (j : ℕ) → j < length columns
       → Decides (is_bit row j) (RestsOn (HasCitation c) t (slice_index columns j))
-  pub past : (j : ℕ) → length columns ≤ j → is_bit row j ≡ false
+  pub none_past_columns : (j : ℕ) → length columns ≤ j → is_bit row j ≡ false
 
 -- the words of row r, if a row has `width` words
 abbrev pub row_at : List ℕ → ℕ → ℕ → List ℕ

@@ -8,8 +8,8 @@ use Rattle.mm_rows.specs.Marks.{Marks, mark}
 pub record IsColumn (m : Marks) (j : ℕ) (users : List ℕ) : Type 0 where
   pub few_rows : m.rows < 2 ^ 31
   pub size : length users ≡ words_for m.rows
-  pub same : (i : ℕ) → i < m.rows → is_bit users i ≡ mark m i j
-  pub past : (i : ℕ) → m.rows ≤ i → is_bit users i ≡ false
+  pub bits_are_marks : (i : ℕ) → i < m.rows → is_bit users i ≡ mark m i j
+  pub none_past_rows : (i : ℕ) → m.rows ≤ i → is_bit users i ≡ false
 
 -- the bits of all columns, column by column
 pub record AreColumns (m : Marks) (words : List ℕ) : Type 0 where

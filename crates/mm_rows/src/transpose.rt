@@ -3,7 +3,7 @@
 //! time would fetch the word again for each of its bits.
 
 ghost use Rattle.std.specs.Prelude.{◌≡◌, ◌<◌, ◌≤◌, ◌+◌, ◌*◌, ℕ, length, slice_index, IfOk, true};
-ghost use Rattle.std.specs.Prelude.{false};
+ghost use Rattle.std.specs.Prelude.{◌^◌, false};
 ghost use Rattle.std.specs.Int.{bit_at};
 ghost use Rattle.mm_rows.specs.Bits.{is_bit, words_for, AreTransposed, IsTable};
 ghost use Rattle.mm_rows.specs.Bands.{bit_in_rows, AreRowBytes, ColumnsWritten};
@@ -13,10 +13,11 @@ use std::alloc::{AllocError, Allocator};
 use std::simd::prelude::*;
 
 /// Sets in `has_mark` the bits of the columns in which a row of band w has a mark, and no others.
+/// There are at most 2 ^ 26 words in a row, so that its bits have numbers of 32 bits.
 fn mark_columns(has_mark: &mut [u64], bits: &[u64], rows: usize, w: usize)
     requires size { length bits.now ≡ rows * length has_mark.old }
-    requires few_rows { rows < 2147483648 }
-    requires narrow { length has_mark.old ≤ 67108864 }
+    requires few_rows { rows < 2 ^ 31 }
+    requires few_words { length has_mark.old ≤ 2 ^ 26 }
     requires band { 64 * w < rows }
     ensures { (k j : ℕ) → k < 64 → j < 64 * length has_mark.old
         → bit_in_rows rows (length has_mark.old) bits.now (64 * w + k) j ≡ true
@@ -32,10 +33,10 @@ fn mark_columns(has_mark: &mut [u64], bits: &[u64], rows: usize, w: usize)
 /// Returns byte `at` of each row of band w, and zeros past the last row.
 fn row_bytes(bits: &[u64], across: usize, rows: usize, w: usize, at: usize) -> [u8; 64]
     requires size { length bits.now ≡ rows * across }
-    requires few_rows { rows < 2147483648 }
-    requires narrow { across ≤ 67108864 }
+    requires few_rows { rows < 2 ^ 31 }
+    requires few_words { across ≤ 2 ^ 26 }
     requires band { 64 * w < rows }
-    requires within { at < 8 * across }
+    requires at_lt_row_bytes { at < 8 * across }
     ensures { AreRowBytes rows across bits.now w at result }
 {
     let mut bytes = [0u8; 64];
@@ -67,7 +68,7 @@ fn write_columns(
 )
     requires table { IsTable rows columns bits.now }
     requires band { 64 * w < rows }
-    requires within { at < 8 * words_for columns }
+    requires at_lt_row_bytes { at < 8 * words_for columns }
     requires written { ColumnsWritten rows columns bits.now transposed.old w (8 * at) }
     ensures { ColumnsWritten rows columns bits.now transposed.new w (8 * at + 8) }
 {

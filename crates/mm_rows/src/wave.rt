@@ -2,7 +2,7 @@
 //! lower waves.
 
 ghost use Rattle.std.specs.Prelude.{◌≡◌, ◌<◌, ◌≤◌, ◌+◌, ◌*◌, ℕ, List, length, slice_index};
-ghost use Rattle.std.specs.Prelude.{slice_index_or, IfOk, OnOk, All, true, false};
+ghost use Rattle.std.specs.Prelude.{◌^◌, slice_index_or, IfOk, OnOk, All, true, false};
 ghost use Rattle.std.specs.List.{AllZip, range_with_len};
 ghost use Rattle.mm_rows.specs.Bits.{words_for};
 ghost use Rattle.mm_cites.specs.Citing.{HasCitation, IsStatementList, theorem_at};
@@ -28,11 +28,11 @@ fn wave_of_theorem<A: Allocator>(
     theorem_index: u32,
 ) -> u32
     requires theorems { theorems.now ≡ citations.now.theorems }
-    requires within { theorem_index < length citations.now.theorems }
+    requires index_lt_theorems { theorem_index < length citations.now.theorems }
     requires waves { AreWaves citations.now theorem_index waves.now }
     ensures wave { IsWave (HasCitation citations.now) (IsCitingTheorem citations.now)
         (theorem_at citations.now theorem_index) result }
-    ensures small { result ≤ theorem_index }
+    ensures wave_le_index { result ≤ theorem_index }
 {
     let mut wave = 0u32;
     for statement in citations.of(theorem_index) {
@@ -74,7 +74,7 @@ pub fn waves<A: Allocator + Copy>(
 
 /// Returns the rows of all theorems, those of the lowest wave first.
 fn rows_by_wave<A: Allocator + Copy>(alloc: A, waves: &[u32]) -> Result<Vec<u32, A>, AllocError>
-    requires { length waves.now < 2147483648 }
+    requires { length waves.now < 2 ^ 31 }
     ensures { IfOk result (λ v. IsByWave waves.now v.items) }
 {
     let mut pairs = Vec::with_capacity(alloc, waves.len())?;
@@ -95,11 +95,11 @@ fn rows_by_wave<A: Allocator + Copy>(alloc: A, waves: &[u32]) -> Result<Vec<u32,
 
 /// Returns where the wave of the row at `from` ends, in a list of rows by wave.
 fn wave_end(waves: &[u32], rows: &[u32], from: usize) -> usize
-    requires known { All (λ r. r < length waves.now) rows.now }
+    requires rows_exist { All (λ r. r < length waves.now) rows.now }
     requires from { from < length rows.now }
-    ensures further { from < result }
-    ensures within { result ≤ length rows.now }
-    ensures same { (p : ℕ) → from ≤ p → p < result
+    ensures from_lt_result { from < result }
+    ensures result_le_rows { result ≤ length rows.now }
+    ensures one_wave { (p : ℕ) → from ≤ p → p < result
         → slice_index waves.now (slice_index rows.now p)
         ≡ slice_index waves.now (slice_index rows.now from) }
 {
@@ -112,10 +112,10 @@ fn wave_end(waves: &[u32], rows: &[u32], from: usize) -> usize
 
 /// Writes the words of the row with this index among those of all rows.
 fn store(bits: &mut [u64], width: usize, row_index: u32, row: &[u64])
-    requires fits { row_index * width + width ≤ length bits.old }
-    requires words { length row.now ≡ width }
+    requires row_fits { row_index * width + width ≤ length bits.old }
+    requires row_has_words { length row.now ≡ width }
     ensures written { row_at bits.new width row_index ≡ row.now }
-    ensures others { (r : ℕ) → (r ≡ row_index → ⊥)
+    ensures others_kept { (r : ℕ) → (r ≡ row_index → ⊥)
         → row_at bits.new width r ≡ row_at bits.old width r }
 {
     let begin = row_index as usize * width;
@@ -147,7 +147,7 @@ fn bit_rows<R: Threads + Sync, A: Allocator + Copy + Send + Sync>(
         .into_par_iter()
         .map(
             |k: usize| -> Result<Vec<u64, A>, AllocError>
-                requires within { k < length rows.now }
+                requires k_lt_rows { k < length rows.now }
                 requires theorems { theorems.now ≡ citations.now.theorems }
                 requires ready { All
                     (λ i. (i < length citations.now.theorems)
@@ -253,7 +253,7 @@ fn fill_waves<R: Threads + Sync, A: Allocator + Copy + Send + Sync>(
     bits: &mut [u64],
 ) -> Result<(), AllocError>
     requires theorems { theorems.now ≡ citations.now.theorems }
-    requires small { length waves.now < 2147483648 }
+    requires waves_lt_2_31 { length waves.now < 2 ^ 31 }
     requires waves { AreWaves citations.now (length citations.now.theorems) waves.now }
     requires size { length bits.old
         ≡ length citations.now.theorems * words_for (length columns.now) }

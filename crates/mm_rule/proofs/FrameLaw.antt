@@ -13,7 +13,7 @@ use Rattle.mm_spec.specs.Derivation.{Pair, is_member}
 use Rattle.mm_spec.specs.Frame.{symbol_names, is_variable_number, is_essential, is_floating}
 use Rattle.mm_spec.specs.Frame.{formula_at, mandatory_variables, mandatory_hypotheses}
 use Rattle.mm_spec.specs.Frame.{mandatory_pairs, disjoint_at, pairs_of}
-use Rattle.mm_spec.proofs.FindsLaw.{is_before, each_filter, each_any, member_filter}
+use Rattle.mm_spec.proofs.FindsLaw.{active_lt_place, each_filter, each_any, member_filter}
 use Rattle.mm_spec.proofs.BoolLaw.{middle_parts}
 use Rattle.mm_rule.specs.Assertions.{as_pairs}
 
@@ -59,7 +59,7 @@ hypotheses_lt_length db k k_le_length =
     (filter_keeps_all (λ h. h < length db) _ _
     (each_filter (λ h. h < length db) (λ j. is_active db j k) (range_with_len 0 k)
     (each_any (λ j. is_active db j k ≡ true → j < length db) (range_with_len 0 k)
-    (λ j j_is_active. let j_lt_k = is_before db j k j_is_active in omega (arith, j_lt_k)))))
+    (λ j j_is_active. let j_lt_k = active_lt_place db j k j_is_active in omega (arith, j_lt_k)))))
 
 -- a variable is one of the symbols
 variable_lt_symbol_count : (db : List Statement) (x : ℕ) → is_variable_number db x ≡ true

@@ -15,7 +15,7 @@ use Rattle.mm_spec.specs.declared.Choice.TheVariants.{Citations}
 use Rattle.mm_spec.specs.Output.{AreCited, IsCitingRowOf, theorems, columns, has_typecode, label_at}
 use Rattle.mm_spec.specs.Output.{IsReportOf}
 use Rattle.mm_spec.proofs.FindsLaw.{member_filter, filter_member}
-use Rattle.mm_spec.proofs.ListLaw.{member_at}
+use Rattle.mm_spec.proofs.ListLaw.{element_is_member}
 use Rattle.mm_work.specs.Citing.{Citing, theorem_at, list_at}
 use Rattle.mm_work.specs.Judged.{AllHaveCitations}
 use Rattle.mm_report.specs.Rows.{listed, citing_row, citing_rows, AreCitationsOf}
@@ -29,7 +29,7 @@ module _ (db : List Statement) (request : Request) (c : Citing)
     theorems_are = have_citations.theorems_are;
     assertions =
         λ i i_lt_count k d k_lt_length.
-        ((have_citations.lists_are_exact i i_lt_count (get_or (list_at c i) k d)).0 (member_at
+        ((have_citations.lists_are_exact i i_lt_count (get_or (list_at c i) k d)).0 (element_is_member
         (list_at c i) k d k_lt_length)).0;
   }
 

@@ -14,7 +14,7 @@ use Rattle.mm_spec.specs.declared.Choice.TheVariants.{All, Matrix, Counts, Usage
 use Rattle.mm_spec.specs.Output.{IsRowOf, theorems, columns, label_at, IsReportOf}
 use Rattle.mm_spec.specs.Output.{IsOutput}
 use Rattle.mm_database.specs.Database.{Contents}
-use Rattle.mm_spec.proofs.ChainsLaw.{chains_alike}
+use Rattle.mm_spec.proofs.ChainsLaw.{alike_relations_have_alike_chains}
 use Rattle.mm_work.specs.Citing.{Citing, HasCitation, theorem_at}
 use Rattle.mm_rows.specs.Marks.{Marks, mark, IsMatrix}
 use Rattle.mm_report.specs.Rows.{row_of, rows_of, marks_of, open_theorems, report_of}
@@ -66,7 +66,7 @@ module _ (db : List Statement) (request : Request) (c : Citing) (m : Marks)
       (sym theorems_are) i_lt_theorem_count in
       let decided =
       decides_through (mark m i j) (is_matrix.marked i j i_lt_count j_lt_length)
-      (chains_alike (HasCitation c) (proof.Cites db request.essential)
+      (alike_relations_have_alike_chains (HasCitation c) (proof.Cites db request.essential)
       cites_as_database.citations_agree (theorem_at c i)
       (get_or (columns db request.only) j 0)) in
       subst (λ b. Decides b

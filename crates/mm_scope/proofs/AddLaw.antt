@@ -16,7 +16,7 @@ use Rattle.mm_spec.specs.declared.Word as spec
 use Rattle.mm_spec.specs.declared.Code.TheVariants.{ConstantInBlock, EmptyDeclaration}
 use Rattle.std.specs.Prelude.{nat_lt}
 use Rattle.std.proofs.Math.Bool.{or-false, or-true}
-use Rattle.mm_spec.proofs.FaultlessLaw.{append_none, least_none}
+use Rattle.mm_spec.proofs.FaultlessLaw.{both_are_empty, no_least_no_faults}
 use Rattle.mm_outline.specs.Blocks.{BlockLists, IsBlocks, never, pushed}
 use Rattle.mm_scope.specs.WordEntry.{WordEntry, entry_of, declared_entry, typed_entry}
 use Rattle.mm_scope.specs.WordEntry.{IsEntryOf, gives_other_typecode, is_constant_entry}
@@ -27,11 +27,13 @@ use Rattle.mm_scope.specs.ReadSoFar.{KnowsStatements}
 use Rattle.mm_database.specs.declared.names.Symbol.{Symbol}
 use Rattle.mm_outline.specs.declared.parts.Kind.{Kind}
 use Rattle.mm_outline.specs.declared.parts.Kind.TheVariants as kind
-use Rattle.mm_outline.proofs.BlocksLaw.{blocks_plain, blocks_opening, blocks_closing}
+use Rattle.mm_outline.proofs.BlocksLaw.{blocks_after_other, blocks_after_opening}
+use Rattle.mm_outline.proofs.BlocksLaw.{blocks_after_closing}
 use Rattle.mm_scope.proofs.JudgeLaw.{bytes_eq_sym}
-use Rattle.mm_outline.proofs.FaultlessLaw.{constant_new, floating_new, variable_new}
+use Rattle.mm_outline.proofs.FaultlessLaw.{faultless_constant_is_new, faultless_floating_is_new}
+use Rattle.mm_outline.proofs.FaultlessLaw.{faultless_variable_is_new}
 use Rattle.mm_scope.proofs.KnowsLaw.{no_active_statement_has_word}
-use Rattle.mm_outline.proofs.AmongLaw.{typed_in}
+use Rattle.mm_outline.proofs.AmongLaw.{typed_word_is_typing}
 use Rattle.mm_scope.proofs.LabelsLaw.{labels_after_statement, label_stands_for_nothing}
 use Rattle.mm_scope.proofs.WordEntryLaw.{entry_is_unchanged, entry_of_new_constant}
 use Rattle.mm_scope.proofs.WordEntryLaw.{entry_of_new_variable, entry_of_typed_variable}
@@ -86,7 +88,7 @@ module _ (db : List Statement) (db_lt_never : length db < never) (w : Bytes) whe
           (in_append_nil (words xs) false w_in_xs) refl
           refl
       by_is_in true w_in_xs =
-          let undeclared = constant_new n xs no_fault w w_in_xs in
+          let undeclared = faultless_constant_is_new n xs no_fault w w_in_xs in
           fresh x x_is_entry (no_constant_entry x x_is_entry undeclared.0)
           (no_variable_entry x x_is_entry undeclared.1) w_in_xs
 
@@ -104,7 +106,7 @@ module _ (db : List Statement) (db_lt_never : length db < never) (w : Bytes) whe
           entry_is_unchanged db (variables k xs e) w x x_is_entry refl
           (in_append_nil (words xs) false w_in_xs) refl
       by_is_in true w_in_xs =
-          let undeclared = variable_new n xs no_fault w w_in_xs in
+          let undeclared = faultless_variable_is_new n xs no_fault w w_in_xs in
           entry_of_new_variable db (variables k xs e) w x x_is_entry
           (no_constant_entry x x_is_entry undeclared.0) undeclared.1 refl
           (in_append_nil (words xs) true w_in_xs) refl
@@ -119,14 +121,14 @@ module _ (db : List Statement) (db_lt_never : length db < never) (w : Bytes) whe
       typed : (x : Option WordEntry) → IsEntryOf db w x → v.word ≡ w
           → IsEntryOf (db ++ floating l k (c ∷ v ∷ []) e ∷ []) w (typed_entry (length db) c.word x)
       typed None x_is_entry v_is_w =
-          let untyped = floating_new n k c v no_fault in
+          let untyped = faultless_floating_is_new n k c v no_fault in
           absurd (true≢false
           (sym (ap (λ u. is_in u n.active_variables) (sym v_is_w) ∙ untyped.0)
           ∙ no_active_statement_has_word db variables_of w x_is_entry.variable_is_known))
       typed (Some o) x_is_entry v_is_w =
-          let untyped = floating_new n k c v no_fault in
+          let untyped = faultless_floating_is_new n k c v no_fault in
           entry_of_typed_variable db (floating l k (c ∷ v ∷ []) e) w o x_is_entry db_lt_never c.word
-          (sym (typed_in w (active_statements db (length db)))
+          (sym (typed_word_is_typing w (active_statements db (length db)))
           ∙ ap (λ u. list_any (λ t. bytes_eq u t.variable) n.active_typings) (sym v_is_w)
           ∙ untyped.1)
           (sym (ap (λ xs. list_any (gives_other_typecode c.word w) (flat_map typings_of xs))
@@ -148,24 +150,24 @@ module _ (db : List Statement) (db_lt_never : length db < never) (w : Bytes) whe
       → scope_faults n d s ≡ [] → IsEntryOf (db ++ s ∷ []) w (entry_after (length db) s w x)
   entry_after_statement (constants k xs e) d x x_is_entry no_fault =
       entry_after_constants k xs e x x_is_entry
-      (append_none
+      (both_are_empty
       (at k (when (nat_lt 0 d) ConstantInBlock) ++ at e (when (is_empty n xs) EmptyDeclaration))
       (at_each (constant_codes n) [] xs) no_fault).1
   entry_after_statement (variables k xs e) d x x_is_entry no_fault =
       entry_after_variables k xs e x x_is_entry
-      (append_none (at e (when (is_empty n xs) EmptyDeclaration))
+      (both_are_empty (at e (when (is_empty n xs) EmptyDeclaration))
       (at_each (variable_codes n) [] xs) no_fault).1
   entry_after_statement (floating l k [] e) d x x_is_entry no_fault =
       absurd (let floating_has_no_fault =
-      (append_none (label_faults n l) (floating_faults n k []) no_fault).1 in cc)
+      (both_are_empty (label_faults n l) (floating_faults n k []) no_fault).1 in cc)
   entry_after_statement (floating l k (c ∷ []) e) d x x_is_entry no_fault =
       absurd (let floating_has_no_fault =
-      (append_none (label_faults n l) (floating_faults n k (c ∷ [])) no_fault).1 in cc)
+      (both_are_empty (label_faults n l) (floating_faults n k (c ∷ [])) no_fault).1 in cc)
   entry_after_statement (floating l k (c ∷ v ∷ []) e) d x x_is_entry no_fault =
       entry_after_floating l k c v e x x_is_entry
-      (append_none (label_faults n l) (floating_faults n k (c ∷ v ∷ [])) no_fault).1
+      (both_are_empty (label_faults n l) (floating_faults n k (c ∷ v ∷ [])) no_fault).1
   entry_after_statement (floating l k (c ∷ v ∷ t ∷ ts) e) d x x_is_entry no_fault =
-      absurd (let floating_has_no_fault = (append_none (label_faults n l)
+      absurd (let floating_has_no_fault = (both_are_empty (label_faults n l)
       (floating_faults n k (c ∷ v ∷ t ∷ ts)) no_fault).1 in
       cc)
   entry_after_statement (disjoint k xs e) d x x_is_entry no_fault =
@@ -210,24 +212,24 @@ module _ (text : List ℕ) (ws : List spec.Word) (db : List Statement) (b : Bloc
       → (is_closing (statement_between text ws k p m e) ≡ true → 0 < depth db (length db))
       → IsBlocks (db ++ statement_between text ws k p m e ∷ []) (pushed k b)
   blocks_after kind.Open p m e deep =
-      blocks_opening db (statement_between text ws kind.Open p m e) b x db_lt_never refl refl
+      blocks_after_opening db (statement_between text ws kind.Open p m e) b x db_lt_never refl refl
   blocks_after kind.Close p m e deep =
-      blocks_closing db (statement_between text ws kind.Close p m e) b x db_lt_never refl refl
+      blocks_after_closing db (statement_between text ws kind.Close p m e) b x db_lt_never refl refl
       (deep refl)
   blocks_after kind.Constants p m e deep =
-      blocks_plain db (statement_between text ws kind.Constants p m e) b x db_lt_never refl refl
+      blocks_after_other db (statement_between text ws kind.Constants p m e) b x db_lt_never refl refl
   blocks_after kind.Variables p m e deep =
-      blocks_plain db (statement_between text ws kind.Variables p m e) b x db_lt_never refl refl
+      blocks_after_other db (statement_between text ws kind.Variables p m e) b x db_lt_never refl refl
   blocks_after kind.Disjoint p m e deep =
-      blocks_plain db (statement_between text ws kind.Disjoint p m e) b x db_lt_never refl refl
+      blocks_after_other db (statement_between text ws kind.Disjoint p m e) b x db_lt_never refl refl
   blocks_after kind.Floating p m e deep =
-      blocks_plain db (statement_between text ws kind.Floating p m e) b x db_lt_never refl refl
+      blocks_after_other db (statement_between text ws kind.Floating p m e) b x db_lt_never refl refl
   blocks_after kind.Essential p m e deep =
-      blocks_plain db (statement_between text ws kind.Essential p m e) b x db_lt_never refl refl
+      blocks_after_other db (statement_between text ws kind.Essential p m e) b x db_lt_never refl refl
   blocks_after kind.Axiom p m e deep =
-      blocks_plain db (statement_between text ws kind.Axiom p m e) b x db_lt_never refl refl
+      blocks_after_other db (statement_between text ws kind.Axiom p m e) b x db_lt_never refl refl
   blocks_after kind.Theorem p m e deep =
-      blocks_plain db (statement_between text ws kind.Theorem p m e) b x db_lt_never refl refl
+      blocks_after_other db (statement_between text ws kind.Theorem p m e) b x db_lt_never refl refl
 
 -- the code knows what it has to know after one lawful statement more
 pub knows_after_statement : (text : List ℕ) (ws : List spec.Word) (db : List Statement)
@@ -238,7 +240,7 @@ pub knows_after_statement : (text : List ℕ) (ws : List spec.Word) (db : List S
     ≡ None
     → (is_closing (statement_between text ws k p m e) ≡ true → 0 < depth db (length db))
     → (c : BlockLists)
-    → c ≡ pushed k b → (number : ℕ) → number ≡ length b.of
+    → c ≡ pushed k b → (number : ℕ) → number ≡ length b.block_of
     → (new : List ℕ → Option Symbol)
     → ((w : List ℕ)
     → entry_of (new w) ≡ entry_after number (statement_between text ws k p m e) w
@@ -265,7 +267,7 @@ knows_after_statement text ws db look labels b knows db_lt_never k p m e no_faul
           (depth db (length db))
           (entry_of (look w))
           (knows.symbols w)
-          (least_none
+          (no_least_no_faults
           (scope_faults (names_before db (length db)) (depth db (length db))
           (statement_between text ws k p m e))
           no_fault));
@@ -279,7 +281,7 @@ knows_after_statement text ws db look labels b knows db_lt_never k p m e no_faul
           (λ w. labels_after w
           ∙ ap (λ i. label_after i (label_of s) w (labels w)) number_is_db_length)
           (label_stands_for_nothing db labels knows.labels_known (depth db (length db)) s
-          (least_none (scope_faults (names_before db (length db)) (depth db (length db)) s)
+          (no_least_no_faults (scope_faults (names_before db (length db)) (depth db (length db)) s)
           no_fault));
     }
 

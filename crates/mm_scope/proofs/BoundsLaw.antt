@@ -13,10 +13,10 @@ use Rattle.mm_spec.specs.Statement.{axiomatic, provable, opening, closing, symbo
 use Rattle.mm_spec.specs.Scope.{constants_of, variables_of}
 use Rattle.mm_spec.specs.Lawful.{IsLawful}
 use Rattle.mm_spec.specs.Frame.{symbol_names, index_of, first_occurrences, formula_at}
-use Rattle.mm_spec.proofs.FindsLaw.{formula_at_is}
-use Rattle.mm_spec.proofs.SymbolLaw.{declared_here}
+use Rattle.mm_spec.proofs.FindsLaw.{formula_at_place}
+use Rattle.mm_spec.proofs.SymbolLaw.{lawful_symbols_are_declared}
 use Rattle.mm_database.proofs.SymbolsLaw.{bytes_eq_itself, in_first_occurrences, name_at_index_of}
-use Rattle.mm_outline.proofs.StatementsLaw.{get_mapped}
+use Rattle.mm_outline.proofs.StatementsLaw.{element_of_mapped}
 
 -- ---- symbols are declared
 
@@ -36,7 +36,7 @@ pub symbol_is_declared_name : (db : List Statement) → ((k : ℕ) → k < lengt
     → is_in w (words (symbols_of s)) ≡ true → is_in w (symbol_names db) ≡ true
 symbol_is_declared_name db all_lawful k k_lt_length s s_is_statement_k w w_in_symbols =
     in_first_occurrences (flat_map (λ s. constants_of s ++ variables_of s) db) [] w refl
-    ∙ declared_here db k s s_is_statement_k (all_lawful k k_lt_length) w w_in_symbols
+    ∙ lawful_symbols_are_declared db k s s_is_statement_k (all_lawful k k_lt_length) w w_in_symbols
 
 -- the symbols of a lawful statement are numbers of names
 pub symbols_have_names : (db : List Statement) → ((k : ℕ) → k < length db → IsLawful db k) → (k : ℕ)
@@ -44,7 +44,7 @@ pub symbols_have_names : (db : List Statement) → ((k : ℕ) → k < length db 
     → All (λ x. x < length (symbol_names db)) (formula_at db k)
 symbols_have_names db all_lawful k k_lt_length s s_is_statement_k =
     subst (λ (xs : List ℕ). All (λ x. x < length (symbol_names db)) xs)
-    (sym (formula_at_is db k s s_is_statement_k))
+    (sym (formula_at_place db k s s_is_statement_k))
     (λ i d i_lt_length.
     let ws = words (symbols_of s) in
     let i_lt_symbol_count : i < length ws =
@@ -57,7 +57,7 @@ symbols_have_names db all_lawful k k_lt_length s s_is_statement_k =
     slice_get_within (symbol_names db) (index_of w (symbol_names db)) w
     (name_at_index_of (symbol_names db) w w_in_names) in
     subst (λ x. x < length (symbol_names db))
-    (sym (get_mapped (λ w. index_of w (symbol_names db)) ws i [] d
+    (sym (element_of_mapped (λ w. index_of w (symbol_names db)) ws i [] d
     i_lt_symbol_count)) index_lt_length)
 
 -- ---- there are few

@@ -16,7 +16,7 @@ use Rattle.mm_spec.specs.Scope.{Names}
 use Rattle.mm_spec.specs.Lawful.{at, at_each, floating_faults, is_empty, least, lesser}
 use Rattle.mm_spec.specs.declared.Word as spec
 use Rattle.mm_outline.specs.Parts.{between, token_at, token_of, nth_word}
-use Rattle.mm_outline.proofs.TurnsLaw.{between_more, between_none}
+use Rattle.mm_outline.proofs.TurnsLaw.{between_with_one_more, nothing_between_place_and_itself}
 use Rattle.mm_spec.specs.declared.Code.{Code}
 use Rattle.mm_spec.specs.declared.Code.TheVariants.{BadFloating}
 
@@ -85,14 +85,14 @@ module _ (text : List ℕ) (ws : List spec.Word) (from i : ℕ) where
       ≡ at_each codes [] (between text ws from i)
       ++ at (token_at text ws i).at (codes earlier next_word)
   at_each_between_push from_le_i i_lt_length codes =
-      rw (between_more text ws from i from_le_i i_lt_length, at_each_snoc) refl
+      rw (between_with_one_more text ws from i from_le_i i_lt_length, at_each_snoc) refl
 
   -- a word is among the words with one more exactly if it is among the earlier ones or is that one
   pub in_between_push : from ≤ i → i < length ws → (w : Bytes)
       → is_in w (words (between text ws from (i + 1)))
       ≡ (is_in w (words (between text ws from i)) || (bytes_eq next_word w || false))
   in_between_push from_le_i i_lt_length w =
-      ap (λ ts. is_in w (words ts)) (between_more text ws from i from_le_i i_lt_length)
+      ap (λ ts. is_in w (words ts)) (between_with_one_more text ws from i from_le_i i_lt_length)
       ∙ ap (is_in w) (map-append (λ t. t.word) (between text ws from i) (token_at text ws i ∷ []))
       ∙ list_any-append (bytes_eq w) (words (between text ws from i)) (next_word ∷ [])
       ∙ ap (λ b. is_in w (words (between text ws from i)) || (b || false))
@@ -157,7 +157,7 @@ between_is_two_tokens text ws k j j_le_length width_is_3 =
       arith,
       between_first text ws (k + 1) j,
       between_first text ws (k + 2) j,
-      between_none text ws j,
+      nothing_between_place_and_itself text ws j,
     )
 
 no_length_is_empty : (n : Names) (xs : List Token) → nat_eq (length xs) 0 ≡ is_empty n xs

@@ -23,7 +23,7 @@ use Rattle.mm_scope.specs.ReadSoFar.{KnowsStatements}
 use Rattle.mm_database.specs.Names.{is_constant_in, is_variable_in}
 use Rattle.mm_database.specs.declared.names.Symbol.{Symbol}
 use Rattle.mm_scope.proofs.LatestLaw.{in_active_iff_latest_active}
-use Rattle.mm_outline.proofs.AmongLaw.{among_active, any_false, typed_in}
+use Rattle.mm_outline.proofs.AmongLaw.{word_of_active_is_any, none_passes_no_any, typed_word_is_typing}
 use Rattle.mm_scope.proofs.OpenLaw.{latest_active_is_open, declarations_are_local}
 use Rattle.mm_scope.proofs.OpenLaw.{typings_are_local}
 
@@ -45,16 +45,16 @@ pub no_active_statement_has_word : (db : List Statement) (f : Statement → List
     → is_in w (flat_map f db) ≡ false
     → is_in w (flat_map f (active_statements db (length db))) ≡ false
 no_active_statement_has_word db f w w_not_in_db =
-    among_active db f w (λ j. is_active db j (length db)) (length db) 0
-    ∙ any_false (λ j. is_active db j (length db) && has_word db f w j) (length db) 0
+    word_of_active_is_any db f w (λ j. is_active db j (length db)) (length db) 0
+    ∙ none_passes_no_any (λ j. is_active db j (length db) && has_word db f w j) (length db) 0
     (λ j j_lt_length. ap (λ b. is_active db j (length db) && b)
     (no_statement_has_word db f w w_not_in_db j)
     ∙ and-false (is_active db j (length db)))
 
 -- no block is open by the number that stands for no statement
-never_is_not_open : (b : BlockLists) → length b.of ≤ never → is_open_in b never ≡ false
+never_is_not_open : (b : BlockLists) → length b.block_of ≤ never → is_open_in b never ≡ false
 never_is_not_open b length_le_never =
-    ap (λ o. is_never (end_in b.ends o)) (slice_get_past b.of never length_le_never)
+    ap (λ o. is_never (end_in b.ends o)) (slice_get_past b.block_of never length_le_never)
 
 module _ (db : List Statement) (b : BlockLists) (x : IsBlocks db b)
     (db_lt_never : length db < never)
@@ -141,7 +141,7 @@ scope_knows_names db look labels b knows db_lt_never =
       labels_known = λ w. ap (λ xs. is_in w (flat_map label_words xs)) take_length_is_db
           ∙ knows.labels_known w;
       typed =
-          λ w is_active. typed_in w (active_statements db (length db))
+          λ w is_active. typed_word_is_typing w (active_statements db (length db))
           ∙ in_active_is_typed_here db b knows.blocks db_lt_never w (look w) (knows.symbols w);
       other_typecode =
           λ c w is_active. ap (λ xs. list_any (gives_other_typecode c w) (flat_map typings_of xs))

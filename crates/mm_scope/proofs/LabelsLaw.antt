@@ -14,27 +14,27 @@ use Rattle.mm_spec.specs.Statement.{axiomatic, provable, opening, closing, label
 use Rattle.mm_spec.specs.Scope.{Names, names_before, statement_at, label_words}
 use Rattle.mm_spec.specs.NormalProof.{is_labelled}
 use Rattle.mm_spec.specs.Lawful.{scope_faults, label_faults, formula_faults, floating_faults}
-use Rattle.mm_spec.proofs.LocalLaw.{get_front, get_seam}
-use Rattle.mm_spec.proofs.FaultlessLaw.{append_none, label_new}
+use Rattle.mm_spec.proofs.LocalLaw.{get_front, get_at_seam}
+use Rattle.mm_spec.proofs.FaultlessLaw.{both_are_empty, faultless_label_is_new}
 use Rattle.mm_scope.specs.WordEntry.{label_after}
 use Rattle.mm_database.specs.Labels.{AreLabels}
-use Rattle.mm_outline.proofs.StatementsLaw.{is_there}
+use Rattle.mm_outline.proofs.StatementsLaw.{passing_lt_length}
 
 -- a lawful statement's label is none of the earlier labels
 pub label_is_new : (n : Names) (d : ℕ) (s : Statement) → scope_faults n d s ≡ [] → (l : Token)
     → label_of s ≡ Some l → is_in l.word n.labels ≡ false
 label_is_new n d (floating m k xs e) no_fault l label_is_l =
     subst (λ (t : Token). is_in t.word n.labels ≡ false) (same_Some m l label_is_l)
-    (label_new n m (append_none (label_faults n m) (floating_faults n k xs) no_fault).0)
+    (faultless_label_is_new n m (both_are_empty (label_faults n m) (floating_faults n k xs) no_fault).0)
 label_is_new n d (essential m k xs e) no_fault l label_is_l =
     subst (λ (t : Token). is_in t.word n.labels ≡ false) (same_Some m l label_is_l)
-    (label_new n m (append_none (label_faults n m) (formula_faults n xs e) no_fault).0)
+    (faultless_label_is_new n m (both_are_empty (label_faults n m) (formula_faults n xs e) no_fault).0)
 label_is_new n d (axiomatic m k xs e) no_fault l label_is_l =
     subst (λ (t : Token). is_in t.word n.labels ≡ false) (same_Some m l label_is_l)
-    (label_new n m (append_none (label_faults n m) (formula_faults n xs e) no_fault).0)
+    (faultless_label_is_new n m (both_are_empty (label_faults n m) (formula_faults n xs e) no_fault).0)
 label_is_new n d (provable m k xs p ps e) no_fault l label_is_l =
     subst (λ (t : Token). is_in t.word n.labels ≡ false) (same_Some m l label_is_l)
-    (label_new n m (append_none (label_faults n m) (formula_faults n xs p) no_fault).0)
+    (faultless_label_is_new n m (both_are_empty (label_faults n m) (formula_faults n xs p) no_fault).0)
 label_is_new n d (constants k xs e) no_fault l label_is_l = absurd (cc)
 label_is_new n d (variables k xs e) no_fault l label_is_l = absurd (cc)
 label_is_new n d (disjoint k xs e) no_fault l label_is_l = absurd (cc)
@@ -56,7 +56,7 @@ module _ (db : List Statement) (s : Statement) (find new : List ℕ → Option �
   labelled_at_last_is_labelled : (w : Bytes)
       → list_any (is_labelled w) (statement_at (db ++ s ∷ []) (length db)) ≡ is_labelled w s
   labelled_at_last_is_labelled w =
-      ap (λ o. list_any (is_labelled w) (elim o [ None ↦ [] | Some t ↦ t ∷ [] ])) (get_seam db s [])
+      ap (λ o. list_any (is_labelled w) (elim o [ None ↦ [] | Some t ↦ t ∷ [] ])) (get_at_seam db s [])
       ∙ or-false (is_labelled w s)
 
   -- the statement has the label, or the map is the old one there
@@ -141,7 +141,7 @@ module _ (db : List Statement) (s : Statement) (find new : List ℕ → Option �
           → list_any (is_labelled w) (statement_at (db ++ s ∷ []) k) ≡ true → j < length db
           → length db ≤ k → ⊥
       no_earlier_label w j k w_labels_j w_labels_k j_lt_length length_le_k =
-          let k_is_there = is_there (is_labelled w) (db ++ s ∷ []) k w_labels_k in
+          let k_is_there = passing_lt_length (is_labelled w) (db ++ s ∷ []) k w_labels_k in
           let k_is_last : k ≡ length db =
           omega (arith, k_is_there, length_le_k, length-append db (s ∷ [])) in
           let w_labels_s : is_labelled w s ≡ true =
@@ -163,8 +163,8 @@ module _ (db : List Statement) (s : Statement) (find new : List ℕ → Option �
       label_is_unique_after w j k w_labels_j w_labels_k (inr j_order) (inl k_order) =
           absurd (no_earlier_label w k j w_labels_k w_labels_j k_order j_order)
       label_is_unique_after w j k w_labels_j w_labels_k (inr j_order) (inr k_order) =
-          let j_is_there = is_there (is_labelled w) (db ++ s ∷ []) j w_labels_j in
-          let k_is_there = is_there (is_labelled w) (db ++ s ∷ []) k w_labels_k in
+          let j_is_there = passing_lt_length (is_labelled w) (db ++ s ∷ []) j w_labels_j in
+          let k_is_there = passing_lt_length (is_labelled w) (db ++ s ∷ []) k w_labels_k in
           omega (arith, j_is_there, k_is_there, j_order, k_order, length-append db (s ∷ []))
 
 -- a label of a lawful statement stands for nothing yet

@@ -9,11 +9,11 @@ use Rattle.mm_spec.specs.Statement.{Statement}
 use Rattle.mm_spec.specs.Scope.{is_active, is_some_still_active, is_global, is_local}
 use Rattle.mm_spec.specs.Scope.{active_statements}
 use Rattle.mm_spec.specs.Scope.{depth, is_block_open}
-use Rattle.mm_spec.proofs.LocalLaw.{get_front, get_seam}
+use Rattle.mm_spec.proofs.LocalLaw.{get_front, get_at_seam}
 use Rattle.std.proofs.lemmas.Bool.{lt-ltb, cases_lt}
 use Rattle.mm_spec.proofs.FindsLaw.{range_any}
-use Rattle.mm_outline.proofs.AmongLaw.{any_false, among_active}
-use Rattle.mm_outline.proofs.BlocksLaw.{stays_last}
+use Rattle.mm_outline.proofs.AmongLaw.{none_passes_no_any, word_of_active_is_any}
+use Rattle.mm_outline.proofs.BlocksLaw.{open_after_one_more}
 use Rattle.mm_scope.specs.WordEntry.{Latest}
 use Rattle.mm_outline.specs.Typed.{has_word}
 
@@ -22,7 +22,7 @@ module _ (db : List Statement) (f : Statement → List Bytes) (w : Bytes) where
   pub in_active_iff_latest_active : (last : ℕ) → Latest db f w last
       → is_in w (flat_map f (active_statements db (length db))) ≡ is_active db last (length db)
   in_active_iff_latest_active last latest =
-      among_active db f w (λ j. is_active db j (length db)) (length db) 0
+      word_of_active_is_any db f w (λ j. is_active db j (length db)) (length db) 0
       ∙ by_active (is_active db last (length db)) refl
     where
       no_other_passes : is_active db last (length db) ≡ false → (j : ℕ) → j < length db
@@ -44,7 +44,7 @@ module _ (db : List Statement) (f : Statement → List Bytes) (w : Bytes) where
           (omega arith) (let j_lt_length = latest.last_lt_length in
           omega (arith, j_lt_length)) (ap₂ (λ a b. a && b) last_is_b latest.last_has_word)
       by_active false last_is_b =
-          any_false (λ j. is_active db j (length db) && has_word db f w j) (length db) 0
+          none_passes_no_any (λ j. is_active db j (length db) && has_word db f w j) (length db) 0
           (λ j j_lt_length. let j_lt_db_length : j < length db = omega arith in
           no_other_passes last_is_b j j_lt_db_length (is_active db j (length db))
           (has_word db f w j) refl refl)
@@ -73,7 +73,7 @@ module _ (db : List Statement) (s : Statement) where
       && nat_le (depth db j) (depth (db ++ s ∷ []) (length db + 1))))
       (sym (lt-ltb j (length db + 1) (omega arith)))
       ∙ ap₂ (λ o z. nat_lt j (length db + 1) && is_some_still_active o z)
-      (sym (get_front db (s ∷ []) j j_lt_length)) (sym (stays_last db s j j_lt_length))
+      (sym (get_front db (s ∷ []) j j_lt_length)) (sym (open_after_one_more db s j j_lt_length))
       ∙ j_is_active_after))
     where
       by_statement : (o : Option Statement) (a b : Bool) → is_some_still_active o (a && b) ≡ true
@@ -92,7 +92,7 @@ module _ (db : List Statement) (s : Statement) where
     -- the last statement has its own words
     has_word_at_end : has_word (db ++ s ∷ []) f w (length db) ≡ is_in w (f s ++ [])
     has_word_at_end =
-        ap (λ o. is_in w (flat_map f (elim o [ None ↦ [] | Some t ↦ t ∷ [] ]))) (get_seam db s [])
+        ap (λ o. is_in w (flat_map f (elim o [ None ↦ [] | Some t ↦ t ∷ [] ]))) (get_at_seam db s [])
 
     -- the statement has not the word
     pub latest_unchanged : (last : ℕ) → Latest db f w last → is_in w (f s ++ []) ≡ false
@@ -143,7 +143,7 @@ module _ (db : List Statement) (s : Statement) where
             (ap₂ (λ a b. a && b) (active_before_if_active_after j j_order j_is_active)
             (sym (has_word_in_front j j_order)
             ∙ j_has_word)))
-            ∙ sym (among_active db f w (λ i. is_active db i (length db)) (length db) 0)
+            ∙ sym (word_of_active_is_any db f w (λ i. is_active db i (length db)) (length db) 0)
             ∙ no_active_has_w))
         by_order j j_lt_new_length j_has_word j_is_active (inr j_order) =
             omega (arith, j_lt_new_length, j_order, length-append db (s ∷ []))

@@ -17,11 +17,11 @@ use Rattle.mm_spec.specs.Frame.{first_occurrences, symbol_names, index_of, formu
 use Rattle.mm_spec.specs.declared.Word as spec
 use Rattle.mm_database.specs.Numbered.{AreNumbered}
 use Rattle.mm_outline.specs.Parts.{between, token_at}
-use Rattle.mm_outline.proofs.TurnsLaw.{between_more, between_none}
+use Rattle.mm_outline.proofs.TurnsLaw.{between_with_one_more, nothing_between_place_and_itself}
 use Rattle.mm_lists.specs.Lists.{AreJoined, with_end}
 use Rattle.mm_database.specs.Names.{with_name}
-use Rattle.mm_lists.proofs.ListsLaw.{more_joined}
-use Rattle.mm_outline.proofs.StatementsLaw.{get_mapped}
+use Rattle.mm_lists.proofs.ListsLaw.{joined_with_one_more}
+use Rattle.mm_outline.proofs.StatementsLaw.{element_of_mapped}
 use Rattle.std.proofs.lemmas.List.{length-map}
 use Rattle.mm_scope.specs.Formulas.{AreFormulas, numbers_in, judged, unjudged}
 use Rattle.mm_database.proofs.SymbolsLaw.{first_occurrences_push, if_new, bytes_eq_itself}
@@ -154,7 +154,7 @@ module _ (db : List Statement) (lawful : (k : ℕ) → k < length db → scope_f
       rw symbols_are_appended
       (subst (λ fs. AreJoined fs (numbers ++ formula_of all s)
       (with_end places (length (numbers ++ formula_of all s)))) formulas_push
-      (more_joined (map (formula_of db) db) (formula_of all s) numbers places are_formulas))
+      (joined_with_one_more (map (formula_of db) db) (formula_of all s) numbers places are_formulas))
 
 -- ---- the formulas one by one
 
@@ -163,7 +163,7 @@ pub formulas_numbered : (db : List Statement) → AreNumbered db (map (formula_o
 formulas_numbered db = record {
   count = length-map db (formula_of db);
   formula = λ k k_lt_length.
-      get_mapped (formula_of db) db k (opening 0) [] k_lt_length
+      element_of_mapped (formula_of db) db k (opening 0) [] k_lt_length
       ∙ sym (ap (λ o. flat_map (formula_of db) (elim o [ None ↦ [] | Some s ↦ s ∷ [] ]))
       (slice_get-get_or db k (opening 0) k_lt_length)
       ∙ append-nil (formula_of db (get_or db k (opening 0))));
@@ -178,7 +178,7 @@ pub numbers_between_push : (text : List ℕ) (ws : List spec.Word) (ns : List By
     → numbers_in ns (between text ws from (i + 1))
     ≡ numbers_in ns (between text ws from i) ++ index_of (token_at text ws i).word ns ∷ []
 numbers_between_push text ws ns from i from_le_i i_lt_length =
-    ap (numbers_in ns) (between_more text ws from i from_le_i i_lt_length)
+    ap (numbers_in ns) (between_with_one_more text ws from i from_le_i i_lt_length)
     ∙ ap (map (λ w. index_of w ns))
     (map-append (λ (t : Token). t.word) (between text ws from i) (token_at text ws i ∷ []))
     ∙ map-append (λ (w : Bytes). index_of w ns) (words (between text ws from i))
@@ -187,7 +187,7 @@ numbers_between_push text ws ns from i from_le_i i_lt_length =
 -- there are no numbers of no words
 pub numbers_between_nothing : (text : List ℕ) (ws : List spec.Word) (ns : List Bytes) (from : ℕ)
     → [] ≡ numbers_in ns (between text ws from from)
-numbers_between_nothing text ws ns from = ap (numbers_in ns) (between_none text ws from)
+numbers_between_nothing text ws ns from = ap (numbers_in ns) (nothing_between_place_and_itself text ws from)
 
 -- the words up to i + 1 are those up to i and the next word
 pub words_between_push : (text : List ℕ) (ws : List spec.Word) (from i : ℕ) → from ≤ i
@@ -195,7 +195,7 @@ pub words_between_push : (text : List ℕ) (ws : List spec.Word) (from i : ℕ) 
     → words (between text ws from i) ++ (token_at text ws i).word ∷ []
     ≡ words (between text ws from (i + 1))
 words_between_push text ws from i from_le_i i_lt_length =
-    sym (ap words (between_more text ws from i from_le_i i_lt_length)
+    sym (ap words (between_with_one_more text ws from i from_le_i i_lt_length)
     ∙ map-append (λ (t : Token). t.word) (between text ws from i) (token_at text ws i ∷ []))
 
 -- the names after the words up to i + 1 are those up to i with the next word

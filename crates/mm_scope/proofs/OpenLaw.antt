@@ -20,13 +20,13 @@ pub block_open_is_open_in : (db : List Statement) (b : BlockLists) → IsBlocks 
     → length db < never → (j : ℕ)
     → j < length db → is_block_open db j (length db) ≡ is_open_in b j
 block_open_is_open_in db b are_blocks db_lt_never j j_lt_length =
-    let block_is_known : slice_get b.of j ≡ Some (get_or b.of j 0) =
-    slice_get-get_or b.of j 0 (let block_count = are_blocks.count in
+    let block_is_known : slice_get b.block_of j ≡ Some (get_or b.block_of j 0) =
+    slice_get-get_or b.block_of j 0 (let block_count = are_blocks.count in
     omega (arith, block_count, j_lt_length)) in
-    let end_is_known : slice_get b.ends (get_or b.of j 0) ≡ Some (end_of b j) =
-    slice_get-get_or b.ends (get_or b.of j 0) 0 (are_blocks.known j j_lt_length) in
-    are_blocks.ended j (length db) j_lt_length (le_refl (length db))
-    ∙ by_case (are_blocks.bounds j j_lt_length) ∙ ap is_never (sym end_is_known)
+    let end_is_known : slice_get b.ends (get_or b.block_of j 0) ≡ Some (end_of b j) =
+    slice_get-get_or b.ends (get_or b.block_of j 0) 0 (are_blocks.blocks_have_ends j j_lt_length) in
+    are_blocks.open_up_to_end j (length db) j_lt_length (le_refl (length db))
+    ∙ by_case (are_blocks.ends_are_bounded j j_lt_length) ∙ ap is_never (sym end_is_known)
     ∙ ap (λ o. is_never (end_in b.ends o)) (sym block_is_known)
   where
     by_case : (end_of b j ≡ never) ⊎ (end_of b j < length db)

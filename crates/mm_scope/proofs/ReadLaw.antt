@@ -15,21 +15,22 @@ use Rattle.mm_spec.specs.Laws.Table.{start, statements_from, statements_of, shap
 use Rattle.mm_spec.specs.Laws.Table.{progress_from}
 use Rattle.mm_spec.specs.declared.Word.{Word}
 use Rattle.mm_spec.specs.declared.Fault.{Fault}
-use Rattle.mm_spec.proofs.LocalLaw.{scope_fault_front, scope_fault_next}
-use Rattle.mm_spec.proofs.LongestLaw.{is_longest}
+use Rattle.mm_spec.proofs.LocalLaw.{scope_fault_front, scope_fault_of_next}
+use Rattle.mm_spec.proofs.LongestLaw.{read_statements_are_longest}
 use Rattle.mm_spec.proofs.StopsLaw.{text_fault, text_fault_is, no_text_fault, first_fault_of}
 use Rattle.mm_spec.proofs.StopsLaw.{fault_at_end}
 use Rattle.mm_outline.specs.Parts.{as_tokens, progress, statement_between, depth_after, one_less}
 use Rattle.mm_outline.specs.Blocks.{BlockLists, IsBlocks, never}
-use Rattle.mm_outline.proofs.BlocksLaw.{depth_end, depth_plain, depth_opening, depth_closing}
+use Rattle.mm_outline.proofs.BlocksLaw.{depth_at_end, depth_after_other, depth_after_opening}
+use Rattle.mm_outline.proofs.BlocksLaw.{depth_after_closing}
 use Rattle.mm_outline.specs.declared.parts.Kind.{Kind}
 use Rattle.mm_outline.specs.declared.parts.Kind.TheVariants as kind
 use Rattle.mm_outline.specs.NextStatement.{Leads, tokens_from}
 use Rattle.mm_outline.specs.Statements.{lexed, end_fault_of}
 use Rattle.mm_outline.specs.declared.parts.Part.{Part}
 use Rattle.mm_outline.specs.declared.parts.Part.TheVariants.{Start, Labelled, Words, Formula, Proof}
-use Rattle.mm_outline.proofs.LeadsLaw.{leads_then}
-use Rattle.mm_spec.proofs.ShapeLaw.{count_end}
+use Rattle.mm_outline.proofs.LeadsLaw.{leads_one_after_other}
+use Rattle.mm_spec.proofs.ShapeLaw.{count_of_list_and_last}
 
 -- the tokens before `token_index` are those of lawful statements, after which so many blocks are
 -- open
@@ -62,7 +63,7 @@ module _ (text : List ℕ) (ws : List Word) (len : ℕ) (lexical : Option Fault)
       is_read_to.leads.statements ∙ ap (λ y. db ++ y) leads_to_s.statements in
       record {
         statements = statements_of (as_tokens text ws);
-        are_statements = is_longest (as_tokens text ws);
+        are_statements = read_statements_are_longest (as_tokens text ws);
         rest = s ∷ rest_of_statements;
         splits = statements_are_db_s_rest;
         lawful =
@@ -72,7 +73,7 @@ module _ (text : List ℕ) (ws : List Word) (len : ℕ) (lexical : Option Fault)
         stops = (
           f_ne_none,
           ap (λ y. scope_fault y (length db)) statements_are_db_s_rest
-              ∙ scope_fault_next db s rest_of_statements
+              ∙ scope_fault_of_next db s rest_of_statements
               ∙ ap (λ d. least (scope_faults (names_before db (length db)) d s))
               (sym is_read_to.open_blocks_is_depth)
               ∙ sym f_is_least,
@@ -94,7 +95,7 @@ module _ (text : List ℕ) (ws : List Word) (len : ℕ) (lexical : Option Fault)
       is_read_to.leads.statements ∙ ap (λ y. db ++ y) no_statement_follows in
       record {
         statements = statements_of (as_tokens text ws);
-        are_statements = is_longest (as_tokens text ws);
+        are_statements = read_statements_are_longest (as_tokens text ws);
         rest = [];
         splits = statements_are_db;
         lawful = λ k k_lt_length. ap (λ y. scope_fault y k) statements_are_db
@@ -162,13 +163,13 @@ closing_is_inside_block text ws db open_blocks token_index is_read_to s d us lea
     (db ++ s ∷ []) =
     subst (λ y. count_by is_closing y ≤ count_by is_opening y)
     (ap (take (length db + 1)) statements_are_db_s_rest ∙ front_is_db_s)
-    ((is_longest (as_tokens text ws)).are_statements.nested (length db + 1)) in
+    ((read_statements_are_longest (as_tokens text ws)).are_statements.nested (length db + 1)) in
     let one_closing_more : count_by is_closing (db ++ s ∷ []) ≡ count_by is_closing db + 1 =
-    count_end is_closing db s ∙ ap (λ b. count_by is_closing db + cond b 1 0) s_is_closing in
+    count_of_list_and_last is_closing db s ∙ ap (λ b. count_by is_closing db + cond b 1 0) s_is_closing in
     let no_opening_more : count_by is_opening (db ++ s ∷ []) ≡ count_by is_opening db + 0 =
-    count_end is_opening db s
+    count_of_list_and_last is_opening db s
     ∙ ap (λ b. count_by is_opening db + cond b 1 0) (not_both s s_is_closing) in
-    let depth_at_end = depth_end db s in
+    let depth_at_end = depth_at_end db s in
     omega (arith, closings_le_openings, one_closing_more, no_opening_more, depth_at_end)
   where
     take_one : (db : List Statement) (s : Statement) (rest_of_statements : List Statement)
@@ -210,33 +211,33 @@ depth_after_is_depth : (text : List ℕ) (ws : List Word) (db : List Statement) 
     ≡ depth (db ++ statement_between text ws k w m e ∷ []) (length db + 1)
 depth_after_is_depth text ws db b are_blocks db_lt_never kind.Open w m e =
     (let depth_grows =
-    depth_opening db (statement_between text ws kind.Open w m e) b are_blocks db_lt_never refl
+    depth_after_opening db (statement_between text ws kind.Open w m e) b are_blocks db_lt_never refl
     refl in omega
     (arith, depth_grows))
 depth_after_is_depth text ws db b are_blocks db_lt_never kind.Close w m e =
-    sym (depth_closing db (statement_between text ws kind.Close w m e) b are_blocks db_lt_never refl
+    sym (depth_after_closing db (statement_between text ws kind.Close w m e) b are_blocks db_lt_never refl
     refl
     ∙ minus_one_is_one_less (depth db (length db)))
 depth_after_is_depth text ws db b are_blocks db_lt_never kind.Constants w m e =
-    sym (depth_plain db (statement_between text ws kind.Constants w m e) b are_blocks db_lt_never
+    sym (depth_after_other db (statement_between text ws kind.Constants w m e) b are_blocks db_lt_never
     refl refl)
 depth_after_is_depth text ws db b are_blocks db_lt_never kind.Variables w m e =
-    sym (depth_plain db (statement_between text ws kind.Variables w m e) b are_blocks db_lt_never
+    sym (depth_after_other db (statement_between text ws kind.Variables w m e) b are_blocks db_lt_never
     refl refl)
 depth_after_is_depth text ws db b are_blocks db_lt_never kind.Disjoint w m e =
-    sym (depth_plain db (statement_between text ws kind.Disjoint w m e) b are_blocks db_lt_never
+    sym (depth_after_other db (statement_between text ws kind.Disjoint w m e) b are_blocks db_lt_never
     refl refl)
 depth_after_is_depth text ws db b are_blocks db_lt_never kind.Floating w m e =
-    sym (depth_plain db (statement_between text ws kind.Floating w m e) b are_blocks db_lt_never
+    sym (depth_after_other db (statement_between text ws kind.Floating w m e) b are_blocks db_lt_never
     refl refl)
 depth_after_is_depth text ws db b are_blocks db_lt_never kind.Essential w m e =
-    sym (depth_plain db (statement_between text ws kind.Essential w m e) b are_blocks db_lt_never
+    sym (depth_after_other db (statement_between text ws kind.Essential w m e) b are_blocks db_lt_never
     refl refl)
 depth_after_is_depth text ws db b are_blocks db_lt_never kind.Axiom w m e =
-    sym (depth_plain db (statement_between text ws kind.Axiom w m e) b are_blocks db_lt_never refl
+    sym (depth_after_other db (statement_between text ws kind.Axiom w m e) b are_blocks db_lt_never refl
     refl)
 depth_after_is_depth text ws db b are_blocks db_lt_never kind.Theorem w m e =
-    sym (depth_plain db (statement_between text ws kind.Theorem w m e) b are_blocks db_lt_never refl
+    sym (depth_after_other db (statement_between text ws kind.Theorem w m e) b are_blocks db_lt_never refl
     refl)
 
 -- one lawful statement more is read
@@ -256,7 +257,7 @@ is_read_to_with_statement text ws db open_blocks token_index is_read_to length_l
     k w m e
     index_le_e
     e_lt_length leads_to_s no_fault = record {
-      leads = leads_then is_read_to.leads leads_to_s;
+      leads = leads_one_after_other is_read_to.leads leads_to_s;
       index_le_length = omega (arith, e_lt_length);
       length_db_le_index = let db_le_index = is_read_to.length_db_le_index in
           omega (arith, db_le_index, one_statement_more, index_le_e);
@@ -290,7 +291,7 @@ is_read_to_with_statement text ws db open_blocks token_index is_read_to length_l
         by_order (inr db_le_j) =
             let db_is_j : length db ≡ j = omega (arith, j_lt_length, db_le_j, one_statement_more) in
             subst (λ j. scope_fault (db ++ statement_between text ws k w m e ∷ []) j ≡ None) db_is_j
-            (scope_fault_next db (statement_between text ws k w m e) []
+            (scope_fault_of_next db (statement_between text ws k w m e) []
             ∙ ap (λ d. least
             (scope_faults (names_before db (length db)) d (statement_between text ws k w m e)))
             (sym is_read_to.open_blocks_is_depth)

@@ -3,34 +3,43 @@ use Rattle.std.proofs.Common.{◌≡◌, ℕ, List, [], ◌∷◌, ◌++◌, sym
 use Rattle.mm_spec.specs.Derivation.{Context, Trees, none, more, postfix, AreDerivations}
 use Rattle.mm_spec.specs.Steps.{Step, label, marked}
 use Rattle.mm_spec.specs.Valid.{IsLastTree, Adds, Plain}
-use Rattle.mm_spec.proofs.UniqueLaw.{unique}
-use Rattle.mm_spec.proofs.StepsLaw.{forest_good}
+use Rattle.mm_spec.proofs.UniqueLaw.{same_labels_same_derivations}
+use Rattle.mm_spec.proofs.StepsLaw.{forest_labels_are_good}
 use Rattle.mm_spec.specs.Laws.Complete.{HasCompleteFrame}
 
 module _ (c : Context) (all_complete : (l : ℕ) → HasCompleteFrame c (c.rule l)) where
   -- forests with the same labels are one forest
-  pub same_forest : (r s : Trees) → AreDerivations c r → AreDerivations c s → postfix r ≡ postfix s
+  pub same_labels_same_forest : (r s : Trees) → AreDerivations c r → AreDerivations c s
+      → postfix r ≡ postfix s
       → r ≡ s
-  same_forest r s d e same = unique c r s d e (forest_good c all_complete r d) same
+  same_labels_same_forest r s r_derives s_derives labels_equal =
+      same_labels_same_derivations c r s r_derives s_derives
+      (forest_labels_are_good c all_complete r r_derives) labels_equal
 
-  last_unique : (forest : Trees) (x y : List ℕ) → IsLastTree forest x → IsLastTree forest y → x ≡ y
-  last_unique none x y h k = absurd h
-  last_unique (more ts l f cs) x y h k = h ∙ sym k
+  last_trees_are_equal : (forest : Trees) (x y : List ℕ) → IsLastTree forest x → IsLastTree forest y
+      → x ≡ y
+  last_trees_are_equal none x y x_is_last y_is_last = absurd x_is_last
+  last_trees_are_equal (more ts l f cs) x y x_is_last y_is_last = x_is_last ∙ sym y_is_last
 
-  adds_unique : (lists : List (List ℕ)) (old : List ℕ) (s : Step) (a b : List ℕ)
-      → Adds c lists old s a → Adds c lists old s b → a ≡ b
-  adds_unique lists old (label l) a b h k = h ∙ sym k
-  adds_unique lists old (marked j) a b h k =
-      let e : h.0 ≡ k.0 = ap (λ o. unwrap_or o []) (sym h.2 ∙ k.2) in
-      let forests = same_forest h.3.0 k.3.0 h.3.1 k.3.1 (h.3.2 ∙ e ∙ sym k.3.2) in
-      let x : h.1 ≡ k.1 =
-      last_unique k.3.0 h.1 k.1 (subst (λ r. IsLastTree r h.1) forests h.3.3) k.3.3 in
-      h.4 ∙ ap (λ z. old ++ z) x ∙ sym k.4
+  added_lists_are_equal : (lists : List (List ℕ)) (before : List ℕ) (s : Step) (a b : List ℕ)
+      → Adds c lists before s a → Adds c lists before s b → a ≡ b
+  added_lists_are_equal lists before (label l) a b adds_a adds_b = adds_a ∙ sym adds_b
+  added_lists_are_equal lists before (marked j) a b adds_a adds_b =
+      let marked_lists_equal : adds_a.0 ≡ adds_b.0 =
+      ap (λ o. unwrap_or o []) (sym adds_a.2 ∙ adds_b.2) in
+      let forests_equal =
+      same_labels_same_forest adds_a.3.0 adds_b.3.0 adds_a.3.1 adds_b.3.1
+      (adds_a.3.2 ∙ marked_lists_equal ∙ sym adds_b.3.2) in
+      let last_trees_equal : adds_a.1 ≡ adds_b.1 =
+      last_trees_are_equal adds_b.3.0 adds_a.1 adds_b.1
+      (subst (λ r. IsLastTree r adds_a.1) forests_equal adds_a.3.3) adds_b.3.3 in
+      adds_a.4 ∙ ap (λ z. before ++ z) last_trees_equal ∙ sym adds_b.4
 
-  pub plain_unique : (steps : List Step) (lists : List (List ℕ)) (old a b : List ℕ)
-      → Plain c lists old steps a → Plain c lists old steps b → a ≡ b
-  plain_unique [] lists old a b h k = h ∙ sym k
-  plain_unique (s ∷ steps) lists old a b h k =
-      let e = adds_unique lists old s h.0 k.0 h.1 k.1 in
-      plain_unique steps (lists ++ k.0 ∷ []) k.0 a b
-      (subst (λ z. Plain c (lists ++ z ∷ []) z steps a) e h.2) k.2
+  pub plain_lists_are_equal : (steps : List Step) (lists : List (List ℕ)) (before a b : List ℕ)
+      → Plain c lists before steps a → Plain c lists before steps b → a ≡ b
+  plain_lists_are_equal [] lists before a b a_is_plain b_is_plain = a_is_plain ∙ sym b_is_plain
+  plain_lists_are_equal (s ∷ steps) lists before a b a_is_plain b_is_plain =
+      let next_lists_equal =
+      added_lists_are_equal lists before s a_is_plain.0 b_is_plain.0 a_is_plain.1 b_is_plain.1 in
+      plain_lists_are_equal steps (lists ++ b_is_plain.0 ∷ []) b_is_plain.0 a b
+      (subst (λ z. Plain c (lists ++ z ∷ []) z steps a) next_lists_equal a_is_plain.2) b_is_plain.2

@@ -12,60 +12,66 @@ use Rattle.mm_spec.specs.Citation.{steps_at, IsProof, Cites}
 use Rattle.mm_spec.specs.Laws.Complete.{AreComplete}
 use Rattle.mm_spec.specs.Output.{is_theorem_at}
 use Rattle.mm_spec.proofs.BoolLaw.{passes_alone}
-use Rattle.mm_spec.proofs.CheckedLaw.{same_forest, plain_unique}
-use Rattle.mm_spec.proofs.FindsLaw.{is_before}
-use Rattle.mm_spec.proofs.NodesLaw.{label_member}
+use Rattle.mm_spec.proofs.CheckedLaw.{same_labels_same_forest, plain_lists_are_equal}
+use Rattle.mm_spec.proofs.FindsLaw.{active_lt_place}
+use Rattle.mm_spec.proofs.NodesLaw.{node_label_is_member}
 
 member_append : (xs ys : List ℕ) (a : ℕ)
     → is_member (xs ++ ys) a ≡ (is_member xs a || is_member ys a)
 member_append xs ys a = list_any-append (λ y. a == y) xs ys
 
 -- a label of a derivation stands for something
-label_stands : (c : Context) (a : ℕ) (forest : Trees) → AreDerivations c forest
+no_label_without_rule : (c : Context) (a : ℕ) (forest : Trees) → AreDerivations c forest
     → is_member (postfix forest) a ≡ true → c.rule a ≡ None → ⊥
-label_stands c a none d m n = true≢false (sym m)
-label_stands c a (more ts l f cs) d m n =
-    in_earlier_or_last (or_cases (is_member (postfix ts) a) (is_member (postfix cs ++ l ∷ []) a)
-    (sym (member_append (postfix ts) (postfix cs ++ l ∷ []) a) ∙ m))
-    (λ h. label_stands c a ts d.0 h n) (λ h. label_stands c a cs d.1 h n)
+no_label_without_rule c a none are_derivations a_is_label no_rule = true≢false (sym a_is_label)
+no_label_without_rule c a (more ts l f cs) are_derivations a_is_label no_rule =
+    not_in_earlier_nor_last
+    (or_cases (is_member (postfix ts) a) (is_member (postfix cs ++ l ∷ []) a)
+    (sym (member_append (postfix ts) (postfix cs ++ l ∷ []) a) ∙ a_is_label))
+    (λ is_label_there. no_label_without_rule c a ts are_derivations.0 is_label_there no_rule)
+    (λ is_label_there. no_label_without_rule c a cs are_derivations.1 is_label_there no_rule)
   where
     not_the_root : (a == l) ≡ true → ⊥
-    not_the_root e =
+    not_the_root is_root =
         subst (λ (r : Option Rule). Follows c r (formulas cs) f)
-        (ap c.rule (sym (eqb-true a l e)) ∙ n) d.2
+        (ap c.rule (sym (eqb-true a l is_root)) ∙ no_rule) are_derivations.2
 
-    in_children_or_root : (is_member (postfix cs) a ≡ true) ⊎ (((a == l) || false) ≡ true)
+    not_in_children_nor_root : (is_member (postfix cs) a ≡ true) ⊎ (((a == l) || false) ≡ true)
         → (is_member (postfix cs) a ≡ true → ⊥) → ⊥
-    in_children_or_root (inl k) not_in_children = not_in_children k
-    in_children_or_root (inr k) not_in_children = not_the_root (passes_alone (a == l) k)
+    not_in_children_nor_root (inl is_in_place) not_in_children = not_in_children is_in_place
+    not_in_children_nor_root (inr is_in_place) not_in_children =
+        not_the_root (passes_alone (a == l) is_in_place)
 
-    in_earlier_or_last : (is_member (postfix ts) a ≡ true)
+    not_in_earlier_nor_last : (is_member (postfix ts) a ≡ true)
         ⊎ (is_member (postfix cs ++ l ∷ []) a ≡ true)
         → (is_member (postfix ts) a ≡ true → ⊥) → (is_member (postfix cs) a ≡ true → ⊥) → ⊥
-    in_earlier_or_last (inl h) not_earlier not_in_children = not_earlier h
-    in_earlier_or_last (inr h) not_earlier not_in_children =
-        in_children_or_root (or_cases (is_member (postfix cs) a) (is_member (l ∷ []) a)
-        (sym (member_append (postfix cs) (l ∷ []) a) ∙ h)) not_in_children
+    not_in_earlier_nor_last (inl is_in_place) not_earlier not_in_children = not_earlier is_in_place
+    not_in_earlier_nor_last (inr is_in_place) not_earlier not_in_children =
+        not_in_children_nor_root (or_cases (is_member (postfix cs) a) (is_member (l ∷ []) a)
+        (sym (member_append (postfix cs) (l ∷ []) a) ∙ is_in_place)) not_in_children
 
 module _ (db : List Statement) where
   -- a label of a theorem's proof is that of an earlier statement
-  pub cited_earlier : (t a : ℕ) (d : Trees) → IsProof db t d → is_member (postfix d) a ≡ true
+  pub label_lt_theorem : (t a : ℕ) (d : Trees) → IsProof db t d → is_member (postfix d) a ≡ true
       → a < t
-  cited_earlier t a d p m = grind (arith, common_steps, is_before, label_stands)
+  label_lt_theorem t a d is_proof a_is_label =
+      grind (arith, common_steps, active_lt_place, no_label_without_rule)
 
   -- what a theorem cites is earlier
-  pub cites_earlier : (by_essential : Bool) (t a : ℕ) → Cites db by_essential t a → a < t
-  cites_earlier by_essential t a c =
-      cited_earlier t a c.1 c.2 (label_member db by_essential c.1 a c.3)
+  pub cited_lt_theorem : (by_essential : Bool) (t a : ℕ) → Cites db by_essential t a → a < t
+  cited_lt_theorem by_essential t a cites =
+      label_lt_theorem t a cites.1 cites.2 (node_label_is_member db by_essential cites.1 a cites.3)
 
-  no_steps : (t : ℕ) (d : Trees) → steps_at db t ≡ [] → IsProof db t d → ⊥
-  no_steps t d e p = grind (arith, common_steps, length-append)
+  no_proof_without_steps : (t : ℕ) (d : Trees) → steps_at db t ≡ [] → IsProof db t d → ⊥
+  no_proof_without_steps t d steps_are_empty is_proof = grind (arith, common_steps, length-append)
 
   -- what has a proof is a theorem
-  pub proof_theorem : (t : ℕ) (d : Trees) → IsProof db t d → is_theorem_at db t ≡ true
-  proof_theorem t d p = grind (arith, common_steps, no_steps)
+  pub proved_is_theorem : (t : ℕ) (d : Trees) → IsProof db t d → is_theorem_at db t ≡ true
+  proved_is_theorem t d is_proof = grind (arith, common_steps, no_proof_without_steps)
 
 -- a theorem has one proof at most
-pub proof_unique : (db : List Statement) → AreComplete db → (t : ℕ) (d e : Trees) → IsProof db t d
+pub two_proofs_are_equal : (db : List Statement) → AreComplete db → (t : ℕ) (d e : Trees)
+    → IsProof db t d
     → IsProof db t e → d ≡ e
-proof_unique db all_complete t d e p q = grind (arith, common_steps, plain_unique, same_forest)
+two_proofs_are_equal db all_complete t d e d_is_proof e_is_proof =
+    grind (arith, common_steps, plain_lists_are_equal, same_labels_same_forest)

@@ -26,15 +26,20 @@ use Rattle.mm_spec.specs.Lexed.{LexedText}
 use Rattle.mm_spec.proofs.LocalLaw.{scope_fault_front}
 use Rattle.mm_spec.proofs.FindsLaw.{any_flat_map, any_map, any_filter, member_filter}
 use Rattle.mm_spec.proofs.FindsLaw.{filter_member, each_member, each_map, each_any, each_filter}
-use Rattle.mm_spec.proofs.FindsLaw.{inside_of, formula_at_is, passing_statement, statement_passes}
+use Rattle.mm_spec.proofs.FindsLaw.{got_lt_length, formula_at_place, passing_statement}
+use Rattle.mm_spec.proofs.FindsLaw.{statement_passes}
 use Rattle.mm_spec.proofs.FindsLaw.{passing_active}
-use Rattle.mm_spec.proofs.FindsLaw.{some_active_passes, same_word, declaring_statement, declares}
-use Rattle.mm_spec.proofs.FindsLaw.{declared_before}
-use Rattle.mm_spec.proofs.FaultlessLaw.{least_none, not_constant_and_variable, new_constant}
-use Rattle.mm_spec.proofs.FaultlessLaw.{new_variable}
+use Rattle.mm_spec.proofs.FindsLaw.{some_active_passes, equal_bytes_equal_words}
+use Rattle.mm_spec.proofs.FindsLaw.{declaring_statement, later_place_knows_declared}
+use Rattle.mm_spec.proofs.FindsLaw.{declared_before_is_declared}
+use Rattle.mm_spec.proofs.FaultlessLaw.{no_least_no_faults, not_constant_and_variable}
+use Rattle.mm_spec.proofs.FaultlessLaw.{constant_is_no_variable_before}
+use Rattle.mm_spec.proofs.FaultlessLaw.{variable_is_no_constant_before}
 use Rattle.mm_spec.proofs.FaultlessLaw.{has_formula}
-use Rattle.mm_spec.proofs.FaultlessLaw.{IsKnown, statement_known, floating_typing, typing_floats}
-use Rattle.mm_spec.proofs.FaultlessLaw.{variable_word, member_word, floating_local, essential_local}
+use Rattle.mm_spec.proofs.FaultlessLaw.{IsKnown, symbols_are_known, faultless_floating_is_typed}
+use Rattle.mm_spec.proofs.FaultlessLaw.{typed_is_floating}
+use Rattle.mm_spec.proofs.FaultlessLaw.{word_of_variable_number, word_of_member, floating_is_local}
+use Rattle.mm_spec.proofs.FaultlessLaw.{essential_is_local_kind}
 use Rattle.mm_spec.proofs.FaultlessLaw.{still_active}
 use Rattle.mm_spec.proofs.BoolLaw.{passes_alone, middle_parts}
 
@@ -54,226 +59,289 @@ is_mandatory_pair db k p =
     && is_member (mandatory_variables db k) p.high && disjoint_at db k p.low p.high
 
 module _ (db : List Statement) (lawful : (k : ℕ) → k < length db → IsLawful db k) where
-  faultless : (k : ℕ) (s : Statement) → slice_get db k ≡ Some s
+  lawful_is_faultless : (k : ℕ) (s : Statement) → slice_get db k ≡ Some s
       → scope_faults (names_before db k) (depth db k) s ≡ []
-  faultless k s e = grind (arith, common_steps, inside_of, least_none)
+  lawful_is_faultless k s s_at_k = grind (arith, common_steps, got_lt_length, no_least_no_faults)
 
   -- no constant is a variable
-  pub constant_apart : (w : Bytes) → is_in w (flat_map constants_of db) ≡ true
+  pub no_constant_is_variable : (w : Bytes) → is_in w (flat_map constants_of db) ≡ true
       → is_in w (flat_map variables_of db) ≡ true → ⊥
-  constant_apart w c v =
-      let a = declaring_statement constants_of db w c in
-      let b = declaring_statement variables_of db w v in
-      by_order a.0 b.0 a.1 b.1 a.2 b.2 a.3 b.3 (cases_order a.0 b.0)
+  no_constant_is_variable w is_constant is_variable =
+      let constant_place = declaring_statement constants_of db w is_constant in
+      let variable_place = declaring_statement variables_of db w is_variable in
+      absurd_by_order constant_place.0 variable_place.0 constant_place.1 variable_place.1
+      constant_place.2 variable_place.2 constant_place.3 variable_place.3
+      (cases_order constant_place.0 variable_place.0)
     where
-      by_order : (i j : ℕ) (s t : Statement) → slice_get db i ≡ Some s → slice_get db j ≡ Some t
+      absurd_by_order : (i j : ℕ) (s t : Statement) → slice_get db i ≡ Some s
+          → slice_get db j ≡ Some t
           → is_in w (constants_of s) ≡ true → is_in w (variables_of t) ≡ true
           → (i ≡ j) ⊎ ((i < j) ⊎ (j < i)) → ⊥
-      by_order i j s t e f m n (inl h) =
-          let same : s ≡ t = cc in
-          not_constant_and_variable t w (subst (λ x. is_in w (constants_of x) ≡ true) same m) n
-      by_order i j s t e f m n (inr (inl h)) =
+      absurd_by_order i j s t s_at_i t_at_j s_declares_constant t_declares_variable
+          (inl i_j_order) =
+          let s_is_t : s ≡ t = cc in
+          not_constant_and_variable t w
+          (subst (λ x. is_in w (constants_of x) ≡ true) s_is_t s_declares_constant)
+          t_declares_variable
+      absurd_by_order i j s t s_at_i t_at_j s_declares_constant t_declares_variable
+          (inr (inl i_j_order)) =
           true≢false
-          (sym (declares constants_of db j i s w e h m)
-          ∙ new_variable (names_before db j) (depth db j) t w (faultless j t f) n)
-      by_order i j s t e f m n (inr (inr h)) =
+          (sym (later_place_knows_declared constants_of db j i s w s_at_i i_j_order
+          s_declares_constant)
+          ∙ variable_is_no_constant_before (names_before db j) (depth db j) t w
+          (lawful_is_faultless j t t_at_j)
+          t_declares_variable)
+      absurd_by_order i j s t s_at_i t_at_j s_declares_constant t_declares_variable
+          (inr (inr i_j_order)) =
           true≢false
-          (sym (declares variables_of db i j t w f h n)
-          ∙ new_constant (names_before db i) (depth db i) s w (faultless i s e) m)
+          (sym (later_place_knows_declared variables_of db i j t w t_at_j i_j_order
+          t_declares_variable)
+          ∙ constant_is_no_variable_before (names_before db i) (depth db i) s w
+          (lawful_is_faultless i s s_at_i)
+          s_declares_constant)
 
-  constant_before : (k : ℕ) (w : Bytes) → is_in w (names_before db k).constants ≡ true
+  constant_is_no_variable : (k : ℕ) (w : Bytes) → is_in w (names_before db k).constants ≡ true
       → is_variable_number db (index_of w (symbol_names db)) ≡ false
-  constant_before k w c =
-      grind (arith, common_steps, constant_apart, declared_before, variable_word)
+  constant_is_no_variable k w is_constant =
+      grind (arith, common_steps, no_constant_is_variable, declared_before_is_declared,
+      word_of_variable_number)
 
   -- statement i is the `$f` of x
   pub record Types (i x : ℕ) : Type 0 where
     pub statement : Statement
-    pub stands : slice_get db i ≡ Some statement
-    pub floats : is_floating statement ≡ true
+    pub statement_is_at : slice_get db i ≡ Some statement
+    pub is_floating_statement : is_floating statement ≡ true
     pub typecode : ℕ
-    pub is : formula_at db i ≡ typecode ∷ x ∷ []
-    pub constant : is_variable_number db typecode ≡ false
+    pub formula_is : formula_at db i ≡ typecode ∷ x ∷ []
+    pub typecode_is_constant : is_variable_number db typecode ≡ false
 
   -- a `$f` is one of its variable
-  pub typing : (i : ℕ) (s : Statement) → slice_get db i ≡ Some s → is_floating s ≡ true
+  pub floating_types_its_variable : (i : ℕ) (s : Statement) → slice_get db i ≡ Some s
+      → is_floating s ≡ true
       → (w : Bytes) × Types i (index_of w (symbol_names db))
       × ((v : Bytes) → list_any (λ t. bytes_eq v t.variable) (typings_of s) ≡ true → v ≡ w)
-  typing i s e f =
-      let t = floating_typing (names_before db i) (depth db i) s f (faultless i s e) in (
-        t.variable.word,
+  floating_types_its_variable i s s_at_i is_floating_s =
+      let is_typing =
+      faultless_floating_is_typed (names_before db i) (depth db i) s is_floating_s
+      (lawful_is_faultless i s s_at_i) in (
+        is_typing.variable.word,
         record {
           statement = s;
-          stands = e;
-          floats = f;
-          typecode = index_of t.typecode.word (symbol_names db);
-          is = formula_at_is db i s e ∙ ap (formula_of db) t.is;
-          constant = constant_before i t.typecode.word t.constant;
+          statement_is_at = s_at_i;
+          is_floating_statement = is_floating_s;
+          typecode = index_of is_typing.typecode.word (symbol_names db);
+          formula_is =
+              formula_at_place db i s s_at_i ∙ ap (formula_of db) is_typing.is_floating_of;
+          typecode_is_constant =
+              constant_is_no_variable i is_typing.typecode.word is_typing.typecode_is_constant;
         },
-        λ v h. same_word v t.variable.word
-            (passes_alone (bytes_eq v t.variable.word)
-            (subst (λ x. list_any (λ u. bytes_eq v u.variable) (typings_of x) ≡ true) t.is h)),
+        λ v v_is_typed. equal_bytes_equal_words v is_typing.variable.word
+            (passes_alone (bytes_eq v is_typing.variable.word)
+            (subst (λ x. list_any (λ u. bytes_eq v u.variable) (typings_of x) ≡ true)
+            is_typing.is_floating_of
+            v_is_typed)),
       )
 
-  at_word : (i x : ℕ) (w v : Bytes) → Types i (index_of v (symbol_names db)) → w ≡ v
+  types_equal_word : (i x : ℕ) (w v : Bytes) → Types i (index_of v (symbol_names db)) → w ≡ v
       → x ≡ index_of w (symbol_names db) → Types i x
-  at_word i x w v t e is =
-      subst (Types i) (ap (λ u. index_of u (symbol_names db)) (sym e) ∙ sym is) t
+  types_equal_word i x w v types_v w_is_v x_is_number =
+      subst (Types i) (ap (λ u. index_of u (symbol_names db)) (sym w_is_v) ∙ sym x_is_number)
+      types_v
 
   -- each variable of a formula has an active `$f`
-  pub typed : (j x : ℕ) (s : Statement) → slice_get db j ≡ Some s → has_formula s ≡ true
+  pub formula_variable_is_typed : (j x : ℕ) (s : Statement) → slice_get db j ≡ Some s
+      → has_formula s ≡ true
       → is_member (formula_at db j) x ≡ true → is_variable_number db x ≡ true
       → (i : ℕ) × (is_active db i j ≡ true) × Types i x
-  typed j x s e f m v =
-      let w =
-      member_word (symbol_names db) (words (symbols_of s)) x
-      (ap (λ g. is_member g x) (sym (formula_at_is db j s e)) ∙ m) in
-      of_known_word w.0 w.2 (variable_word db w.0 (ap (is_variable_number db) (sym w.2) ∙ v))
-      (statement_known (names_before db j) (depth db j) s f (faultless j s e) w.0 w.1)
+  formula_variable_is_typed j x s s_at_j has_formula_s x_in_formula is_variable =
+      let word_of_x =
+      word_of_member (symbol_names db) (words (symbols_of s)) x
+      (ap (λ g. is_member g x) (sym (formula_at_place db j s s_at_j)) ∙ x_in_formula) in
+      typed_if_known word_of_x.0 word_of_x.2
+      (word_of_variable_number db word_of_x.0
+      (ap (is_variable_number db) (sym word_of_x.2) ∙ is_variable))
+      (symbols_are_known (names_before db j) (depth db j) s has_formula_s
+      (lawful_is_faultless j s s_at_j)
+      word_of_x.0 word_of_x.1)
     where
-      of_known_word : (w : Bytes) → x ≡ index_of w (symbol_names db)
-          → is_in w (flat_map variables_of db) ≡ true → IsKnown (names_before db j) w
+      typed_if_known : (word_of_x : Bytes) → x ≡ index_of word_of_x (symbol_names db)
+          → is_in word_of_x (flat_map variables_of db) ≡ true → IsKnown (names_before db j)
+          word_of_x
           → (i : ℕ) × (is_active db i j ≡ true) × Types i x
-      of_known_word w is v (inl c) =
-          absurd (constant_apart w (declared_before constants_of db j w c) v)
-      of_known_word w is v (inr t) =
-          let q : Typing → Bool = λ (t : Typing). bytes_eq w t.variable in
-          let a =
-          passing_active db j (λ i. list_any (λ s. list_any q (typings_of s)) (statement_at db i))
-          (sym (any_flat_map q typings_of (active_statements db j)
-          ∙ any_flat_map (λ s. list_any q (typings_of s)) (statement_at db) (active db j))
-          ∙ t) in
-          let s = passing_statement db (λ s. list_any q (typings_of s)) a.0 a.2 in
-          let y = typing a.0 s.0 s.1 (typing_floats q s.0 s.2) in
-          (a.0, a.1, at_word a.0 x w y.0 y.1 (y.2 w s.2) is)
+      typed_if_known word_of_x x_is_number is_declared (inl is_constant) =
+          absurd
+          (no_constant_is_variable word_of_x
+          (declared_before_is_declared constants_of db j word_of_x is_constant)
+          is_declared)
+      typed_if_known word_of_x x_is_number is_declared (inr is_typed) =
+          let types_w : Typing → Bool = λ (t : Typing). bytes_eq word_of_x t.variable in
+          let active_typing =
+          passing_active db j
+          (λ i. list_any (λ s. list_any types_w (typings_of s)) (statement_at db i))
+          (sym (any_flat_map types_w typings_of (active_statements db j)
+          ∙ any_flat_map (λ s. list_any types_w (typings_of s)) (statement_at db) (active db j))
+          ∙ is_typed) in
+          let typing_statement =
+          passing_statement db (λ s. list_any types_w (typings_of s)) active_typing.0
+          active_typing.2 in
+          let typing_of_statement =
+          floating_types_its_variable active_typing.0 typing_statement.0 typing_statement.1
+          (typed_is_floating types_w typing_statement.0 typing_statement.2) in
+          (active_typing.0, active_typing.1, types_equal_word active_typing.0 x word_of_x
+          typing_of_statement.0 typing_of_statement.1
+          (typing_of_statement.2 word_of_x typing_statement.2) x_is_number)
 
   -- each mandatory variable of a statement with a formula has a `$f` that is active there
-  pub mandatory_typed : (k x : ℕ) (s : Statement) → slice_get db k ≡ Some s → has_formula s ≡ true
+  pub mandatory_is_typed : (k x : ℕ) (s : Statement) → slice_get db k ≡ Some s
+      → has_formula s ≡ true
       → is_member (mandatory_variables db k) x ≡ true
       → (i : ℕ) × (is_active db i k ≡ true) × Types i x × (is_variable_number db x ≡ true)
-  mandatory_typed k x s e f m =
+  mandatory_is_typed k x s s_at_k has_formula_s x_is_mandatory =
       let essential_symbols = flat_map (formula_at db) (active_of is_essential db k) in
-      let p = member_filter (is_variable_number db) (formula_at db k ++ essential_symbols) x m in
-      in_formula_or_essential p.0
+      let variable_and_symbol =
+      member_filter (is_variable_number db) (formula_at db k ++ essential_symbols) x
+      x_is_mandatory in
+      typed_if_symbol variable_and_symbol.0
       (or_cases (is_member (formula_at db k) x) (is_member essential_symbols x)
-      (sym (list_any-append (λ y. x == y) (formula_at db k) essential_symbols) ∙ p.1))
+      (sym (list_any-append (λ y. x == y) (formula_at db k) essential_symbols)
+      ∙ variable_and_symbol.1))
     where
-      in_formula_or_essential : is_variable_number db x ≡ true
+      typed_if_symbol : is_variable_number db x ≡ true
           → (is_member (formula_at db k) x ≡ true)
           ⊎ (is_member (flat_map (formula_at db) (active_of is_essential db k)) x ≡ true)
           → (i : ℕ) × (is_active db i k ≡ true) × Types i x × (is_variable_number db x ≡ true)
-      in_formula_or_essential v (inl h) = let t = typed k x s e f h v in (t.0, t.1, t.2, v)
-      in_formula_or_essential v (inr h) =
-          let kind : ℕ → Bool = λ (j : ℕ). list_any is_essential (statement_at db j) in
-          let a =
-          passing_active db k (λ j. kind j && is_member (formula_at db j) x)
+      typed_if_symbol is_variable (inl x_is_there) =
+          let statement_there =
+          formula_variable_is_typed k x s s_at_k has_formula_s x_is_there is_variable in
+          (statement_there.0, statement_there.1, statement_there.2, is_variable)
+      typed_if_symbol is_variable (inr x_is_there) =
+          let is_essential_at : ℕ → Bool = λ (j : ℕ). list_any is_essential (statement_at db j) in
+          let active_essential =
+          passing_active db k (λ j. is_essential_at j && is_member (formula_at db j) x)
           (sym (any_flat_map (λ y. x == y) (formula_at db) (active_of is_essential db k)
-          ∙ any_filter kind (λ j. is_member (formula_at db j) x) (active db k))
-          ∙ h) in
-          let p = and_parts (kind a.0) (is_member (formula_at db a.0) x) a.2 in
-          let t = passing_statement db is_essential a.0 p.0 in
-          let y = typed a.0 x t.0 t.1 (essential_formula t.0 t.2) p.1 v in (
-            y.0,
-            still_active db y.0 a.0 k y.2.statement t.0 y.2.stands
-                (floating_local y.2.statement y.2.floats) t.1
-                (essential_local t.0 t.2) y.1 a.1,
-            y.2,
-            v,
+          ∙ any_filter is_essential_at (λ j. is_member (formula_at db j) x) (active db k))
+          ∙ x_is_there) in
+          let essential_has_x =
+          and_parts (is_essential_at active_essential.0)
+          (is_member (formula_at db active_essential.0) x) active_essential.2 in
+          let statement_there =
+          passing_statement db is_essential active_essential.0 essential_has_x.0 in
+          let typing_at_essential =
+          formula_variable_is_typed active_essential.0 x statement_there.0 statement_there.1
+          (essential_formula statement_there.0 statement_there.2) essential_has_x.1 is_variable in (
+            typing_at_essential.0,
+            still_active db typing_at_essential.0 active_essential.0 k
+            typing_at_essential.2.statement statement_there.0 typing_at_essential.2.statement_is_at
+                (floating_is_local typing_at_essential.2.statement
+                typing_at_essential.2.is_floating_statement) statement_there.1
+                (essential_is_local_kind statement_there.0 statement_there.2) typing_at_essential.1
+                active_essential.1,
+            typing_at_essential.2,
+            is_variable,
           )
         where
           essential_formula : (s : Statement) → is_essential s ≡ true → has_formula s ≡ true
-          essential_formula (essential l k xs d) e = refl
-          essential_formula _ e = absurd (true≢false (sym e))
+          essential_formula (essential l k xs d) is_essential_s = refl
+          essential_formula _ is_essential_s = absurd (true≢false (sym is_essential_s))
 
   -- the `$f` of a mandatory variable is mandatory
-  pub type_mandatory : (k i x : ℕ) → Types i x → is_member (mandatory_variables db k) x ≡ true
+  pub typing_is_mandatory : (k i x : ℕ) → Types i x → is_member (mandatory_variables db k) x ≡ true
       → is_mandatory db k i ≡ true
-  type_mandatory k i x t h =
+  typing_is_mandatory k i x types_x x_is_mandatory =
       grind (arith, common_steps, and_from, statement_passes, or_left, or_right)
 
   -- each variable of the formula is mandatory
-  pub of_formula : (k x : ℕ) → is_member (formula_at db k) x ≡ true → is_variable_number db x ≡ true
+  pub formula_variable_is_mandatory : (k x : ℕ) → is_member (formula_at db k) x ≡ true
+      → is_variable_number db x ≡ true
       → is_member (mandatory_variables db k) x ≡ true
-  of_formula k x h v = grind (arith, common_steps, filter_member, list_any-append, or_left)
+  formula_variable_is_mandatory k x x_in_formula is_variable =
+      grind (arith, common_steps, filter_member, list_any-append, or_left)
 
   -- each variable of a mandatory hypothesis is a mandatory variable
-  pub of_hypothesis : (k j x : ℕ) → is_active db j k ≡ true → is_mandatory db k j ≡ true
+  pub hypothesis_variable_is_mandatory : (k j x : ℕ) → is_active db j k ≡ true
+      → is_mandatory db k j ≡ true
       → is_member (formula_at db j) x ≡ true → is_variable_number db x ≡ true
       → is_member (mandatory_variables db k) x ≡ true
-  of_hypothesis k j x a t h v =
-      by_kind (or_cases (list_any is_essential (statement_at db j))
+  hypothesis_variable_is_mandatory k j x j_is_active j_is_mandatory x_in_hypothesis is_variable =
+      mandatory_by_kind (or_cases (list_any is_essential (statement_at db j))
       (list_any is_floating (statement_at db j)
-      && list_any (is_member (mandatory_variables db k)) (formula_at db j)) t)
+      && list_any (is_member (mandatory_variables db k)) (formula_at db j)) j_is_mandatory)
     where
       is_essential_at : ℕ → Bool
       is_essential_at i = list_any is_essential (statement_at db i)
 
-      among_essential : list_any is_essential (statement_at db j) ≡ true
+      x_among_essential : list_any is_essential (statement_at db j) ≡ true
           → is_member (flat_map (formula_at db) (active_of is_essential db k)) x ≡ true
-      among_essential g =
+      x_among_essential is_essential_j =
           any_flat_map (λ y. x == y) (formula_at db) (active_of is_essential db k)
           ∙ any_filter is_essential_at (λ i. is_member (formula_at db i) x) (active db k)
-          ∙ some_active_passes db k (λ i. is_essential_at i && is_member (formula_at db i) x) j a
-          (and_from (is_essential_at j) (is_member (formula_at db j) x) g h)
+          ∙ some_active_passes db k (λ i. is_essential_at i && is_member (formula_at db i) x) j
+          j_is_active
+          (and_from (is_essential_at j) (is_member (formula_at db j) x) is_essential_j
+          x_in_hypothesis)
 
       is_its_variable : (y : ℕ) → Types j y → x ≡ y
-      is_its_variable y t =
-          typecode_or_variable (or_cases (x == t.typecode) ((x == y) || false)
-          (ap (λ g. is_member g x) (sym t.is) ∙ h))
+      is_its_variable y types_y =
+          x_is_y_if_one (or_cases (x == types_y.typecode) ((x == y) || false)
+          (ap (λ g. is_member g x) (sym types_y.formula_is) ∙ x_in_hypothesis))
         where
-          typecode_or_variable : ((x == t.typecode) ≡ true) ⊎ (((x == y) || false) ≡ true) → x ≡ y
-          typecode_or_variable (inl g) =
+          x_is_y_if_one : ((x == types_y.typecode) ≡ true) ⊎ (((x == y) || false) ≡ true) → x ≡ y
+          x_is_y_if_one (inl x_is_one) =
               absurd (true≢false
-              (sym v ∙ ap (is_variable_number db) (eqb-true x t.typecode g) ∙ t.constant))
-          typecode_or_variable (inr g) = eqb-true x y (passes_alone (x == y) g)
+              (sym is_variable ∙ ap (is_variable_number db) (eqb-true x types_y.typecode x_is_one)
+              ∙ types_y.typecode_is_constant))
+          x_is_y_if_one (inr x_is_one) = eqb-true x y (passes_alone (x == y) x_is_one)
 
       mandatory_if_typed : (y : ℕ) → Types j y
           → list_any (is_member (mandatory_variables db k)) (formula_at db j) ≡ true
           → is_member (mandatory_variables db k) x ≡ true
-      mandatory_if_typed y t g =
-          typecode_or_variable (or_cases (is_member (mandatory_variables db k) t.typecode)
+      mandatory_if_typed y types_y some_is_mandatory =
+          mandatory_if_one (or_cases (is_member (mandatory_variables db k) types_y.typecode)
           (is_member (mandatory_variables db k) y || false)
-          (ap (list_any (is_member (mandatory_variables db k))) (sym t.is) ∙ g))
+          (ap (list_any (is_member (mandatory_variables db k))) (sym types_y.formula_is)
+          ∙ some_is_mandatory))
         where
           essential_symbols : List ℕ
           essential_symbols = flat_map (formula_at db) (active_of is_essential db k)
 
-          typecode_or_variable : (is_member (mandatory_variables db k) t.typecode ≡ true)
+          mandatory_if_one : (is_member (mandatory_variables db k) types_y.typecode ≡ true)
               ⊎ ((is_member (mandatory_variables db k) y || false) ≡ true)
               → is_member (mandatory_variables db k) x ≡ true
-          typecode_or_variable (inl g) =
+          mandatory_if_one (inl one_is_mandatory) =
               absurd (true≢false
               (sym (member_filter (is_variable_number db)
-              (formula_at db k ++ essential_symbols) t.typecode g).0
-              ∙ t.constant))
-          typecode_or_variable (inr g) =
-              ap (is_member (mandatory_variables db k)) (is_its_variable y t)
-              ∙ passes_alone (is_member (mandatory_variables db k) y) g
+              (formula_at db k ++ essential_symbols) types_y.typecode one_is_mandatory).0
+              ∙ types_y.typecode_is_constant))
+          mandatory_if_one (inr one_is_mandatory) =
+              ap (is_member (mandatory_variables db k)) (is_its_variable y types_y)
+              ∙ passes_alone (is_member (mandatory_variables db k) y) one_is_mandatory
 
-      by_kind : (list_any is_essential (statement_at db j) ≡ true)
+      mandatory_by_kind : (list_any is_essential (statement_at db j) ≡ true)
           ⊎ ((list_any is_floating (statement_at db j)
           && list_any (is_member (mandatory_variables db k)) (formula_at db j))
           ≡ true)
           → is_member (mandatory_variables db k) x ≡ true
-      by_kind (inl g) =
+      mandatory_by_kind (inl j_is_kind) =
           let essential_symbols = flat_map (formula_at db) (active_of is_essential db k) in
-          filter_member (is_variable_number db) (formula_at db k ++ essential_symbols) x v
+          filter_member (is_variable_number db) (formula_at db k ++ essential_symbols) x is_variable
           (list_any-append (λ y. x == y) (formula_at db k) essential_symbols
           ∙ or_right (is_member (formula_at db k) x) (is_member essential_symbols x)
-          (among_essential g))
-      by_kind (inr g) =
-          let p =
+          (x_among_essential j_is_kind))
+      mandatory_by_kind (inr j_is_kind) =
+          let floating_and_mandatory =
           and_parts (list_any is_floating (statement_at db j))
-          (list_any (is_member (mandatory_variables db k)) (formula_at db j)) g in
-          let s = passing_statement db is_floating j p.0 in
-          let y = typing j s.0 s.1 s.2 in
-          mandatory_if_typed (index_of y.0 (symbol_names db)) y.1 p.1
+          (list_any (is_member (mandatory_variables db k)) (formula_at db j)) j_is_kind in
+          let statement_there = passing_statement db is_floating j floating_and_mandatory.0 in
+          let typing_there =
+          floating_types_its_variable j statement_there.0 statement_there.1 statement_there.2 in
+          mandatory_if_typed (index_of typing_there.0 (symbol_names db)) typing_there.1
+          floating_and_mandatory.1
 
   -- both variables of a mandatory pair are mandatory variables
-  pub of_pair : (k : ℕ) (p : Pair) → is_mandatory_pair db k p ≡ true
+  pub pair_is_mandatory : (k : ℕ) (p : Pair) → is_mandatory_pair db k p ≡ true
       → (is_member (mandatory_variables db k) p.low ≡ true)
       × (is_member (mandatory_variables db k) p.high ≡ true)
-  of_pair k p h = grind (arith, common_steps, middle_parts)
+  pair_is_mandatory k p is_mandatory_p = grind (arith, common_steps, middle_parts)
 
   module _ (m k : ℕ) (s : Statement) (e : slice_get db k ≡ Some s) (f : has_formula s ≡ true) where
     abbrev frame_hypotheses : List Formula
@@ -283,25 +351,29 @@ module _ (db : List Statement) (lawful : (k : ℕ) → k < length db → IsLawfu
     hypothesis_binds : (x j : ℕ) → is_active db j k ≡ true → is_mandatory db k j ≡ true
         → binds (context_at db m) x (formula_at db j) ≡ true
         → IsBound (context_at db m) frame_hypotheses x
-    hypothesis_binds x j a t b =
+    hypothesis_binds x j j_is_active j_is_mandatory j_binds =
         any_map (binds (context_at db m) x) (formula_at db) (mandatory_hypotheses db k)
         ∙ any_filter (is_mandatory db k) (λ j. binds (context_at db m) x (formula_at db j))
         (active db k)
         ∙ some_active_passes db k
-        (λ j. is_mandatory db k j && binds (context_at db m) x (formula_at db j)) j a
-        (and_from (is_mandatory db k j) (binds (context_at db m) x (formula_at db j)) t b)
+        (λ j. is_mandatory db k j && binds (context_at db m) x (formula_at db j)) j j_is_active
+        (and_from (is_mandatory db k j) (binds (context_at db m) x (formula_at db j)) j_is_mandatory
+        j_binds)
 
-    types_binds : (i x : ℕ) → Types i x → is_variable_number db x ≡ true
+    typing_binds : (i x : ℕ) → Types i x → is_variable_number db x ≡ true
         → binds (context_at db m) x (formula_at db i) ≡ true
-    types_binds i x t v =
-        ap (binds (context_at db m) x) t.is ∙ ap₂ (λ b c. not b && (c && (x == x))) t.constant v
+    typing_binds i x types_x is_variable =
+        ap (binds (context_at db m) x) types_x.formula_is
+        ∙ ap₂ (λ b c. not b && (c && (x == x))) types_x.typecode_is_constant is_variable
         ∙ eq-eqb x x refl
 
-    mandatory_bound : (x : ℕ) → is_member (mandatory_variables db k) x ≡ true
+    mandatory_is_bound : (x : ℕ) → is_member (mandatory_variables db k) x ≡ true
         → IsBound (context_at db m) frame_hypotheses x
-    mandatory_bound x h =
-        let t = mandatory_typed k x s e f h in
-        hypothesis_binds x t.0 t.1 (type_mandatory k t.0 x t.2 h) (types_binds t.0 x t.2 t.3)
+    mandatory_is_bound x x_is_mandatory =
+        let typing_of_x = mandatory_is_typed k x s e f x_is_mandatory in
+        hypothesis_binds x typing_of_x.0 typing_of_x.1
+        (typing_is_mandatory k typing_of_x.0 x typing_of_x.2 x_is_mandatory)
+        (typing_binds typing_of_x.0 x typing_of_x.2 typing_of_x.3)
 
     pub complete : IsComplete (context_at db m) (frame_at db k)
     complete = record {
@@ -317,13 +389,18 @@ module _ (db : List Statement) (lawful : (k : ℕ) → k < length db → IsLawfu
           (each_any
           (λ j. is_active db j k ≡ true → is_mandatory db k j ≡ true
           → AreBound (context_at db m) frame_hypotheses (formula_at db j)) (range_with_len 0 k)
-          (λ j a t. each_member
+          (λ j j_is_active j_is_mandatory. each_member
           (λ x. is_variable_number db x ≡ true → IsBound (context_at db m) frame_hypotheses x)
-          (formula_at db j) (λ x h v. mandatory_bound x (of_hypothesis k j x a t h v))))));
+          (formula_at db j)
+          (λ x x_in_hypothesis is_variable. mandatory_is_bound x
+          (hypothesis_variable_is_mandatory k j x j_is_active j_is_mandatory x_in_hypothesis
+          is_variable))))));
       formula =
           each_member
           (λ x. is_variable_number db x ≡ true → IsBound (context_at db m) frame_hypotheses x)
-          (formula_at db k) (λ x h v. mandatory_bound x (of_formula k x h v));
+          (formula_at db k)
+          (λ x x_in_formula is_variable. mandatory_is_bound x
+          (formula_variable_is_mandatory k x x_in_formula is_variable));
       pairs =
           each_filter
           (λ p. IsBound (context_at db m) frame_hypotheses p.low
@@ -339,44 +416,47 @@ module _ (db : List Statement) (lawful : (k : ℕ) → k < length db → IsLawfu
         bound_pair : (p : Pair) → is_mandatory_pair db k p ≡ true
             → IsBound (context_at db m) frame_hypotheses p.low
             × IsBound (context_at db m) frame_hypotheses p.high
-        bound_pair p h =
-            let q = of_pair k p h in (mandatory_bound p.low q.0, mandatory_bound p.high q.1)
+        bound_pair p is_mandatory_p =
+            let both_mandatory = pair_is_mandatory k p is_mandatory_p in
+            (mandatory_is_bound p.low both_mandatory.0, mandatory_is_bound p.high both_mandatory.1)
 
   -- each rule that a lawful statement stands for has all variables that it names in its hypotheses
   pub lawful_complete : AreComplete db
-  lawful_complete m k = by_activity (is_active db k m)
+  lawful_complete m k = complete_if_active (is_active db k m)
     where
-      by_statement : (s : Statement) → slice_get db k ≡ Some s
+      complete_statement : (s : Statement) → slice_get db k ≡ Some s
           → HasCompleteFrame (context_at db m) (rule_of db k s)
-      by_statement (axiomatic l p xs d) e = complete m k (axiomatic l p xs d) e refl
-      by_statement (provable l p xs q ps d) e = complete m k (provable l p xs q ps d) e refl
-      by_statement (floating l p xs d) e = tt
-      by_statement (essential l p xs d) e = tt
-      by_statement (constants p xs d) e = tt
-      by_statement (variables p xs d) e = tt
-      by_statement (disjoint p xs d) e = tt
-      by_statement (opening p) e = tt
-      by_statement (closing p) e = tt
+      complete_statement (axiomatic l p xs d) s_at_k = complete m k (axiomatic l p xs d) s_at_k refl
+      complete_statement (provable l p xs q ps d) s_at_k =
+          complete m k (provable l p xs q ps d) s_at_k refl
+      complete_statement (floating l p xs d) s_at_k = tt
+      complete_statement (essential l p xs d) s_at_k = tt
+      complete_statement (constants p xs d) s_at_k = tt
+      complete_statement (variables p xs d) s_at_k = tt
+      complete_statement (disjoint p xs d) s_at_k = tt
+      complete_statement (opening p) s_at_k = tt
+      complete_statement (closing p) s_at_k = tt
 
-      at_k : (o : Option Statement) → slice_get db k ≡ o
+      complete_if_stands : (o : Option Statement) → slice_get db k ≡ o
           → HasCompleteFrame (context_at db m) (elim o [ None ↦ None | Some s ↦ rule_of db k s ])
-      at_k None e = tt
-      at_k (Some s) e = by_statement s e
+      complete_if_stands None o_at_k = tt
+      complete_if_stands (Some s) o_at_k = complete_statement s o_at_k
 
-      by_activity : (b : Bool)
+      complete_if_active : (b : Bool)
           → HasCompleteFrame (context_at db m)
           (elim b [
             | false ↦ None
             | true ↦ elim (slice_get db k) [ None ↦ None | Some s ↦ rule_of db k s ]
           ])
-      by_activity false = tt
-      by_activity true = at_k (slice_get db k) refl
+      complete_if_active false = tt
+      complete_if_active true = complete_if_stands (slice_get db k) refl
 
 -- the frames of all that is read are complete: a lawful `$e`, `$a` or `$p` has an active `$f` for
 -- each of its variables
 pub reads_complete : (len : ℕ) (x : LexedText) (db : List Statement) (fault : Option Fault)
     → IsRead len x db fault → AreComplete db
-reads_complete len x db fault r =
+reads_complete len x db fault is_read =
     lawful_complete db
-    (λ k h. sym (scope_fault_front db r.rest k h) ∙ ap (λ list. scope_fault list k) (sym r.splits)
-    ∙ r.lawful k h)
+    (λ k k_lt_length. sym (scope_fault_front db is_read.rest k k_lt_length)
+    ∙ ap (λ list. scope_fault list k) (sym is_read.splits)
+    ∙ is_read.lawful k k_lt_length)

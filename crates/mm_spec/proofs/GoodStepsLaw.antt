@@ -31,30 +31,33 @@ use Rattle.mm_spec.specs.declared.Code.TheVariants.{BadLetter}
 use Rattle.mm_spec.specs.Laws.Stack.{IsCompleteRule, AreGoodSteps, IsGoodStep}
 use Rattle.mm_spec.proofs.CompleteLaw.{is_mandatory}
 use Rattle.mm_spec.proofs.FindsLaw.{each_any, each_filter, passing_statement}
-use Rattle.mm_spec.proofs.FaultlessLaw.{append_none, at_none, when_none}
-use Rattle.mm_spec.proofs.ListLaw.{get_none}
+use Rattle.mm_spec.proofs.FaultlessLaw.{both_are_empty, no_faults_no_codes, no_code_if_false}
+use Rattle.mm_spec.proofs.ListLaw.{got_none_is_past_end}
 
 abbrev steps_of : List PlacedStep → List Step
 steps_of ps = map (λ p. p.step) ps
 
 -- ---- lists
 
-each_append : {X : Type 0} (P : X → Type 0) (xs ys : List X) → AllByRecursion P xs
+each_of_appended : {X : Type 0} (P : X → Type 0) (xs ys : List X) → AllByRecursion P xs
     → AllByRecursion P ys → AllByRecursion P (xs ++ ys)
-each_append P [] ys h k = k
-each_append P (x ∷ xs) ys h k = (h.0, each_append P xs ys h.1 k)
+each_of_appended P [] ys each_of_xs each_of_ys = each_of_ys
+each_of_appended P (x ∷ xs) ys each_of_xs each_of_ys =
+    (each_of_xs.0, each_of_appended P xs ys each_of_xs.1 each_of_ys)
 
-each_flat : {X Y : Type 0} (P : Y → Type 0) (f : X → List Y) (xs : List X)
+each_of_flat : {X Y : Type 0} (P : Y → Type 0) (f : X → List Y) (xs : List X)
     → ((x : X) → AllByRecursion P (f x)) → AllByRecursion P (flat_map f xs)
-each_flat P f [] h = tt
-each_flat P f (x ∷ xs) h = each_append P (f x) (flat_map f xs) (h x) (each_flat P f xs h)
+each_of_flat P f [] each_of_f = tt
+each_of_flat P f (x ∷ xs) each_of_f =
+    each_of_appended P (f x) (flat_map f xs) (each_of_f x) (each_of_flat P f xs each_of_f)
 
-each_get : {X : Type 0} (P : X → Type 0) (xs : List X) (n : ℕ) (x : X) → AllByRecursion P xs
+each_of_got : {X : Type 0} (P : X → Type 0) (xs : List X) (n : ℕ) (x : X) → AllByRecursion P xs
     → slice_get xs n ≡ Some x → P x
-each_get P [] zero x h e = absurd (cc)
-each_get P [] (suc n) x h e = absurd (cc)
-each_get P (y ∷ xs) zero x h e = let same : y ≡ x = cc in subst P same h.0
-each_get P (y ∷ xs) (suc n) x h e = each_get P xs n x h.1 e
+each_of_got P [] zero x each_of_xs got_x = absurd (cc)
+each_of_got P [] (suc n) x each_of_xs got_x = absurd (cc)
+each_of_got P (y ∷ xs) zero x each_of_xs got_x =
+    let y_is_x : y ≡ x = cc in subst P y_is_x each_of_xs.0
+each_of_got P (y ∷ xs) (suc n) x each_of_xs got_x = each_of_got P xs n x each_of_xs.1 got_x
 
 -- ---- labels
 
@@ -65,37 +68,38 @@ has_rule (axiomatic l k xs d) = true
 has_rule (provable l k xs e ps d) = true
 has_rule _ = false
 
-labelled_rule : (w : Bytes) (s : Statement) → is_labelled w s ≡ true → has_rule s ≡ true
-labelled_rule w (floating l k xs d) e = refl
-labelled_rule w (essential l k xs d) e = refl
-labelled_rule w (axiomatic l k xs d) e = refl
-labelled_rule w (provable l k xs e ps d) h = refl
-labelled_rule w _ e = absurd (true≢false (sym e))
+labelled_has_rule : (w : Bytes) (s : Statement) → is_labelled w s ≡ true → has_rule s ≡ true
+labelled_has_rule w (floating l k xs d) is_labelled_s = refl
+labelled_has_rule w (essential l k xs d) is_labelled_s = refl
+labelled_has_rule w (axiomatic l k xs d) is_labelled_s = refl
+labelled_has_rule w (provable l k xs e ps d) is_labelled_s = refl
+labelled_has_rule w _ is_labelled_s = absurd (true≢false (sym is_labelled_s))
 
-floating_rule : (s : Statement) → is_floating s ≡ true → has_rule s ≡ true
-floating_rule (floating l k xs d) e = refl
-floating_rule _ e = absurd (true≢false (sym e))
+floating_has_rule : (s : Statement) → is_floating s ≡ true → has_rule s ≡ true
+floating_has_rule (floating l k xs d) is_floating_s = refl
+floating_has_rule _ is_floating_s = absurd (true≢false (sym is_floating_s))
 
-essential_rule : (s : Statement) → is_essential s ≡ true → has_rule s ≡ true
-essential_rule (essential l k xs d) e = refl
-essential_rule _ e = absurd (true≢false (sym e))
+essential_has_rule : (s : Statement) → is_essential s ≡ true → has_rule s ≡ true
+essential_has_rule (essential l k xs d) is_essential_s = refl
+essential_has_rule _ is_essential_s = absurd (true≢false (sym is_essential_s))
 
-positive : (n b : ℕ) → 65 ≤ b → 0 < n * 20 + (b - 64)
-positive n b h = omega arith
+group_value_is_positive : (n b : ℕ) → 65 ≤ b → 0 < n * 20 + (b - 64)
+group_value_is_positive n b letter_le_b = omega arith
 
 -- each label is usable
-each_usable : (db : List Statement) (k : ℕ) (ts : List Token)
+faultless_labels_are_usable : (db : List Statement) (k : ℕ) (ts : List Token)
     → flat_map (proof_label_faults db k) ts ≡ []
     → length ts ≤ length (flat_map (λ t. usable db k t.word) ts)
-each_usable db k [] e = omega arith
-each_usable db k (t ∷ ts) e =
+faultless_labels_are_usable db k [] no_faults = omega arith
+faultless_labels_are_usable db k (t ∷ ts) no_faults =
     grind (
       arith,
       common_steps,
-      append_none,
+      both_are_empty,
       length-append,
-      each_usable db k ts
-          (append_none (proof_label_faults db k t) (flat_map (proof_label_faults db k) ts) e).1,
+      faultless_labels_are_usable db k ts
+          (both_are_empty (proof_label_faults db k t) (flat_map (proof_label_faults db k) ts)
+          no_faults).1,
     )
 
 module _ (db : List Statement) (k : ℕ)
@@ -103,12 +107,12 @@ module _ (db : List Statement) (k : ℕ)
   abbrev IsGoodLabel : ℕ → Type 0
   IsGoodLabel j = IsCompleteRule (context_at db k) (rule_at db k j)
 
-  good_label : (j : ℕ) (s : Statement) → is_active db j k ≡ true → slice_get db j ≡ Some s
+  active_label_is_good : (j : ℕ) (s : Statement) → is_active db j k ≡ true → slice_get db j ≡ Some s
       → has_rule s ≡ true → IsGoodLabel j
-  good_label j s a e h = grind (arith, common_steps)
+  active_label_is_good j s j_is_active s_at_j has_rule_s = grind (arith, common_steps)
 
-  usable_good : (w : Bytes) → AllByRecursion IsGoodLabel (usable db k w)
-  usable_good w =
+  usable_labels_are_good : (w : Bytes) → AllByRecursion IsGoodLabel (usable db k w)
+  usable_labels_are_good w =
       grind (
         arith,
         common_steps,
@@ -116,12 +120,12 @@ module _ (db : List Statement) (k : ℕ)
         each_any,
         each_filter,
         passing_statement,
-        good_label,
-        labelled_rule,
+        active_label_is_good,
+        labelled_has_rule,
       )
 
-  mandatory_good : AllByRecursion IsGoodLabel (mandatory_hypotheses db k)
-  mandatory_good =
+  mandatory_labels_are_good : AllByRecursion IsGoodLabel (mandatory_hypotheses db k)
+  mandatory_labels_are_good =
       each_filter IsGoodLabel (is_mandatory db k) (active db k)
       (each_filter (λ j. is_mandatory db k j ≡ true → IsGoodLabel j) (λ j. is_active db j k)
       (range_with_len 0 k)
@@ -130,88 +134,110 @@ module _ (db : List Statement) (k : ℕ)
     where
       active_mandatory_good : (j : ℕ) → is_active db j k ≡ true → is_mandatory db k j ≡ true
           → IsGoodLabel j
-      active_mandatory_good j a t =
-          by_kind (or_cases (list_any is_essential (statement_at db j))
+      active_mandatory_good j j_is_active j_is_mandatory =
+          good_by_kind (or_cases (list_any is_essential (statement_at db j))
           (list_any is_floating (statement_at db j)
-          && list_any (is_member (mandatory_variables db k)) (formula_at db j)) t)
+          && list_any (is_member (mandatory_variables db k)) (formula_at db j)) j_is_mandatory)
         where
-          by_kind : (list_any is_essential (statement_at db j) ≡ true)
+          good_by_kind : (list_any is_essential (statement_at db j) ≡ true)
               ⊎ ((list_any is_floating (statement_at db j)
               && list_any (is_member (mandatory_variables db k)) (formula_at db j))
               ≡ true)
               → IsGoodLabel j
-          by_kind (inl h) =
-              let s = passing_statement db is_essential j h in
-              good_label j s.0 a s.1 (essential_rule s.0 s.2)
-          by_kind (inr h) =
-              let s =
+          good_by_kind (inl j_is_kind) =
+              let statement_at_j = passing_statement db is_essential j j_is_kind in
+              active_label_is_good j statement_at_j.0 j_is_active statement_at_j.1
+              (essential_has_rule statement_at_j.0 statement_at_j.2)
+          good_by_kind (inr j_is_kind) =
+              let statement_at_j =
               passing_statement db is_floating j
               (and_parts (list_any is_floating (statement_at db j))
-              (list_any (is_member (mandatory_variables db k)) (formula_at db j)) h).0 in
-              good_label j s.0 a s.1 (floating_rule s.0 s.2)
+              (list_any (is_member (mandatory_variables db k)) (formula_at db j)) j_is_kind).0 in
+              active_label_is_good j statement_at_j.0 j_is_active statement_at_j.1
+              (floating_has_rule statement_at_j.0 statement_at_j.2)
 
   -- ---- normal proofs
 
-  good_labels_first : (js : List ℕ) (p n : ℕ) (rest : List PlacedStep)
+  labels_then_good_steps : (js : List ℕ) (p n : ℕ) (rest : List PlacedStep)
       → AllByRecursion IsGoodLabel js
       → ((m : ℕ) → AreGoodSteps (context_at db k) m (steps_of rest))
       → AreGoodSteps (context_at db k) n (steps_of (map (λ j. placed p (label j)) js ++ rest))
-  good_labels_first [] p n rest h r = r n
-  good_labels_first (j ∷ js) p n rest h r = (h.0, good_labels_first js p (suc n) rest h.1 r)
+  labels_then_good_steps [] p n rest are_good rest_is_good = rest_is_good n
+  labels_then_good_steps (j ∷ js) p n rest are_good rest_is_good =
+      (are_good.0, labels_then_good_steps js p (suc n) rest are_good.1 rest_is_good)
 
-  normal_good : (ts : List Token) (n : ℕ)
+  normal_steps_are_good : (ts : List Token) (n : ℕ)
       → AreGoodSteps (context_at db k) n (steps_of (normal_steps db k ts))
-  normal_good [] n = tt
-  normal_good (t ∷ ts) n =
-      good_labels_first (usable db k t.word) t.at n (normal_steps db k ts) (usable_good t.word)
-      (λ m. normal_good ts m)
+  normal_steps_are_good [] n = tt
+  normal_steps_are_good (t ∷ ts) n =
+      labels_then_good_steps (usable db k t.word) t.at n (normal_steps db k ts)
+      (usable_labels_are_good t.word)
+      (λ m. normal_steps_are_good ts m)
 
   -- ---- compressed proofs
 
   -- a number stands for a label, or for a mark of a step before it
-  number_good : (labels marks : List ℕ) (count label_count v : ℕ)
+  number_is_good_step : (labels marks : List ℕ) (count label_count v : ℕ)
       → AllByRecursion IsGoodLabel labels
       → AllByRecursion (λ i. i < count) marks → label_count ≤ length labels → 0 < v
       → v ≤ label_count + length marks
       → (s : Step) × (step_of labels marks v ≡ s ∷ []) × IsGoodStep (context_at db k) count s
-  number_good labels marks count label_count zero l m h z u = absurd (omega arith)
-  number_good labels marks count label_count (suc n) l m h z u =
-      by_label_or_mark (slice_get labels n) refl (slice_get marks (n - length labels)) refl
+  number_is_good_step labels marks count label_count zero labels_are_good marks_are_earlier
+    enough_labels
+      v_is_positive v_is_within = absurd (omega arith)
+  number_is_good_step labels marks count label_count (suc n) labels_are_good marks_are_earlier
+    enough_labels
+      v_is_positive v_is_within =
+      good_by_label_or_mark (slice_get labels n) refl (slice_get marks (n - length labels)) refl
     where
       steps_of_number : Option ℕ → Option ℕ → List Step
       steps_of_number a b =
           elim a [ Some j ↦ label j ∷ [] | None ↦ elim b [ Some i ↦ marked i ∷ [] | None ↦ [] ] ]
 
-      by_label_or_mark : (a : Option ℕ) → slice_get labels n ≡ a → (b : Option ℕ)
+      good_by_label_or_mark : (a : Option ℕ) → slice_get labels n ≡ a → (b : Option ℕ)
           → slice_get marks (n - length labels) ≡ b
           → (s : Step) × (steps_of_number a b ≡ s ∷ []) × IsGoodStep (context_at db k) count s
-      by_label_or_mark (Some j) e b f = (label j, refl, each_get IsGoodLabel labels n j l e)
-      by_label_or_mark None e (Some i) f =
-          (marked i, refl, each_get (λ i. i < count) marks (n - length labels) i m f)
-      by_label_or_mark None e None f =
-          let x = get_none labels n e in
-          let y = get_none marks (n - length labels) f in
+      good_by_label_or_mark (Some j) label_is b mark_is =
+          (label j, refl, each_of_got IsGoodLabel labels n j labels_are_good label_is)
+      good_by_label_or_mark None label_is (Some i) mark_is =
+          (marked i, refl, each_of_got (λ i. i < count) marks (n - length labels) i
+          marks_are_earlier
+          mark_is)
+      good_by_label_or_mark None label_is None mark_is =
+          let labels_le_n = got_none_is_past_end labels n label_is in
+          let marks_le_n = got_none_is_past_end marks (n - length labels) mark_is in
           absurd (omega arith)
 
-  groups_good : (gs : List Group) (labels marks : List ℕ) (label_count count : ℕ)
+  group_steps_are_good : (gs : List Group) (labels marks : List ℕ) (label_count count : ℕ)
       → AllByRecursion IsGoodLabel labels → AllByRecursion (λ i. i < count) marks
       → label_count ≤ length labels → group_faults label_count (length marks) count gs ≡ []
       → AreGoodSteps (context_at db k) count (steps_of (group_steps labels marks count gs))
-  groups_good [] labels marks label_count count l m h f = tt
-  groups_good (g ∷ gs) labels marks label_count count l m h f =
-      by_letter (is_last g.last.byte) refl (g.last.byte == 90) refl f
-      (λ e. groups_good gs labels marks label_count (count + 1) l (marks_still_earlier marks m) h e)
-      (λ p e. groups_good gs labels (marks ++ (count - 1) ∷ []) label_count count l
-      (each_append (λ i. i < count) marks ((count - 1) ∷ []) m (omega arith, tt)) h
-      (let same : length marks + 1
+  group_steps_are_good [] labels marks label_count count labels_are_good marks_are_earlier
+    enough_labels
+      no_faults = tt
+  group_steps_are_good (g ∷ gs) labels marks label_count count labels_are_good marks_are_earlier
+      enough_labels no_faults =
+      good_by_letter (is_last g.last.byte) refl (g.last.byte == 90) refl no_faults
+      (λ no_later_faults. group_steps_are_good gs labels marks label_count (count + 1)
+      labels_are_good
+      (marks_still_earlier marks marks_are_earlier) enough_labels no_later_faults)
+      (λ count_is_positive no_later_faults. group_steps_are_good gs labels
+      (marks ++ (count - 1) ∷ [])
+      label_count count labels_are_good
+      (each_of_appended (λ i. i < count) marks ((count - 1) ∷ []) marks_are_earlier
+      (omega arith, tt))
+      enough_labels
+      (let mark_count_is : length marks + 1
       ≡ length (marks ++ (count - 1) ∷ []) = omega
       (arith, length-append marks ((count - 1) ∷ [])) in
-      subst (λ z. group_faults label_count z count gs ≡ []) same e))
+      subst (λ z. group_faults label_count z count gs ≡ []) mark_count_is no_later_faults))
     where
       marks_still_earlier : (xs : List ℕ) → AllByRecursion (λ i. i < count) xs
           → AllByRecursion (λ i. i < count + 1) xs
-      marks_still_earlier [] h = tt
-      marks_still_earlier (x ∷ xs) h = let b = h.0 in (omega arith, marks_still_earlier xs h.1)
+      marks_still_earlier [] marks_are_earlier = tt
+      marks_still_earlier (x ∷ xs) marks_are_earlier =
+          let x_lt_count = marks_are_earlier.0 in
+          (omega arith, marks_still_earlier xs marks_are_earlier.1)
 
       faults_of_group : Bool → Bool → List Fault
       faults_of_group a b = elim a [
@@ -241,10 +267,10 @@ module _ (db : List Statement) (k : ℕ)
 
       other_byte_is_fault : (b : Bool)
           → ¬ (at g.last.at (elim b [ true ↦ IncompleteProof ∷ [] | false ↦ BadLetter ∷ [] ]) ≡ [])
-      other_byte_is_fault true e = cc
-      other_byte_is_fault false e = cc
+      other_byte_is_fault true no_fault = cc
+      other_byte_is_fault false no_fault = cc
 
-      by_letter : (a : Bool) → is_last g.last.byte ≡ a → (b : Bool) → (g.last.byte == 90) ≡ b
+      good_by_letter : (a : Bool) → is_last g.last.byte ≡ a → (b : Bool) → (g.last.byte == 90) ≡ b
           → faults_of_group a b ++ faults_of_later_groups b ≡ []
           → (group_faults label_count (length marks) (count + 1) gs ≡ []
           → AreGoodSteps (context_at db k) (count + 1)
@@ -253,55 +279,62 @@ module _ (db : List Statement) (k : ℕ)
           → AreGoodSteps (context_at db k) count
           (steps_of (group_steps labels (marks ++ (count - 1) ∷ []) count gs)))
           → AreGoodSteps (context_at db k) count (steps_of (steps_from_group a))
-      by_letter true p true q f after_number after_mark =
-          let u =
-          leb-true g.last.byte 84 (and_parts (nat_le 65 g.last.byte) (nat_le g.last.byte 84) p).1 in
-          let v = eqb-true g.last.byte 90 q in
+      good_by_letter true is_last_letter true is_mark_letter no_faults after_number after_mark =
+          let letter_le_84 =
+          leb-true g.last.byte 84
+          (and_parts (nat_le 65 g.last.byte) (nat_le g.last.byte 84) is_last_letter).1 in
+          let letter_is_90 = eqb-true g.last.byte 90 is_mark_letter in
           absurd (omega arith)
-      by_letter true p false q f after_number after_mark =
-          let low =
-          leb-true 65 g.last.byte (and_parts (nat_le 65 g.last.byte) (nat_le g.last.byte 84) p).0 in
-          let none =
-          when_none (nat_lt (label_count + length marks) (value g)) NumberTooLarge
-          (at_none (starts_at g)
+      good_by_letter true is_last_letter false is_mark_letter no_faults after_number after_mark =
+          let letter_ge_65 =
+          leb-true 65 g.last.byte
+          (and_parts (nat_le 65 g.last.byte) (nat_le g.last.byte 84) is_last_letter).0 in
+          let number_is_within =
+          no_code_if_false (nat_lt (label_count + length marks) (value g)) NumberTooLarge
+          (no_faults_no_codes (starts_at g)
           (when (nat_lt (label_count + length marks) (value g)) NumberTooLarge)
-          (append_none (faults_of_group true false) (faults_of_later_groups false) f).0) in
-          let s =
-          number_good labels marks count label_count (value g) l m h (positive _ g.last.byte low)
-          (ltb-false (label_count + length marks) (value g) none) in
-          let next = after_number
-          (append_none (faults_of_group true false) (faults_of_later_groups false) f).1 in
-          let one : suc count ≡ count + 1 = omega arith in
+          (both_are_empty (faults_of_group true false) (faults_of_later_groups false)
+          no_faults).0) in
+          let number_is_good =
+          number_is_good_step labels marks count label_count (value g) labels_are_good
+          marks_are_earlier
+          enough_labels (group_value_is_positive _ g.last.byte letter_ge_65)
+          (ltb-false (label_count + length marks) (value g) number_is_within) in
+          let later_are_good = after_number
+          (both_are_empty (faults_of_group true false) (faults_of_later_groups false)
+          no_faults).1 in
+          let suc_is_plus_one : suc count ≡ count + 1 = omega arith in
           subst (λ ss. AreGoodSteps (context_at db k) count
           (steps_of (map (placed (starts_at g)) ss ++ group_steps labels marks (count + 1) gs)))
-          (sym s.1) (
-            s.2,
+          (sym number_is_good.1) (
+            number_is_good.2,
             subst
                 (λ n. AreGoodSteps (context_at db k) n
-                (steps_of (group_steps labels marks (count + 1) gs))) (sym one) next,
+                (steps_of (group_steps labels marks (count + 1) gs))) (sym suc_is_plus_one)
+                later_are_good,
           )
-      by_letter false p true q f after_number after_mark =
-          let codes =
-          at_none g.last.at
+      good_by_letter false is_last_letter true is_mark_letter no_faults after_number after_mark =
+          let no_codes =
+          no_faults_no_codes g.last.at
           (when (nat_lt 0 (length g.early)) OpenNumber ++ when (count == 0) MarkBeforeStep)
-          (append_none (faults_of_group false true) (faults_of_later_groups true) f).0 in
-          let none =
+          (both_are_empty (faults_of_group false true) (faults_of_later_groups true) no_faults).0 in
+          let number_is_within =
           eqb-false count 0
-          (when_none (count == 0) MarkBeforeStep
-          (append_none (when (nat_lt 0 (length g.early)) OpenNumber)
-          (when (count == 0) MarkBeforeStep) codes).1) in
+          (no_code_if_false (count == 0) MarkBeforeStep
+          (both_are_empty (when (nat_lt 0 (length g.early)) OpenNumber)
+          (when (count == 0) MarkBeforeStep) no_codes).1) in
           after_mark (omega arith)
-          (append_none (faults_of_group false true) (faults_of_later_groups true) f).1
-      by_letter false p false q f after_number after_mark =
+          (both_are_empty (faults_of_group false true) (faults_of_later_groups true) no_faults).1
+      good_by_letter false is_last_letter false is_mark_letter no_faults after_number after_mark =
           absurd (other_byte_is_fault (g.last.byte == 63)
-          (append_none (faults_of_group false false) (faults_of_later_groups false) f).0)
+          (both_are_empty (faults_of_group false false) (faults_of_later_groups false) no_faults).0)
 
-  compressed_good : (end : ℕ) (p : Compressed) → compressed_faults db k end p ≡ []
+  compressed_steps_are_good : (end : ℕ) (p : Compressed) → compressed_faults db k end p ≡ []
       → AreGoodSteps (context_at db k) 0 (steps_of (compressed_steps db k p))
-  compressed_good end p f =
-      by_letters p.letters
-      (append_none (flat_map (proof_label_faults db k) p.labels)
-      (faults_of_letters p.letters) f).1
+  compressed_steps_are_good end p no_compressed_faults =
+      good_by_letters p.letters
+      (both_are_empty (flat_map (proof_label_faults db k) p.labels)
+      (faults_of_letters p.letters) no_compressed_faults).1
     where
       labels : List ℕ
       labels = mandatory_hypotheses db k ++ flat_map (λ t. usable db k t.word) p.labels
@@ -322,9 +355,10 @@ module _ (db : List Statement) (k : ℕ)
 
       labels_are_good : AllByRecursion IsGoodLabel labels
       labels_are_good =
-          each_append IsGoodLabel (mandatory_hypotheses db k)
-          (flat_map (λ t. usable db k t.word) p.labels) mandatory_good
-          (each_flat IsGoodLabel (λ t. usable db k t.word) p.labels (λ t. usable_good t.word))
+          each_of_appended IsGoodLabel (mandatory_hypotheses db k)
+          (flat_map (λ t. usable db k t.word) p.labels) mandatory_labels_are_good
+          (each_of_flat IsGoodLabel (λ t. usable db k t.word) p.labels
+          (λ t. usable_labels_are_good t.word))
 
       enough_labels : label_count ≤ length labels
       enough_labels =
@@ -332,31 +366,32 @@ module _ (db : List Statement) (k : ℕ)
             arith,
             length-append (mandatory_hypotheses db k)
                 (flat_map (λ t. usable db k t.word) p.labels),
-            each_usable db k p.labels
-                (append_none (flat_map (proof_label_faults db k) p.labels)
-                (faults_of_letters p.letters) f).0,
+            faultless_labels_are_usable db k p.labels
+                (both_are_empty (flat_map (proof_label_faults db k) p.labels)
+                (faults_of_letters p.letters) no_compressed_faults).0,
           )
 
       letters_good : (xs : List Letter) → letter_faults label_count end xs ≡ []
           → AreGoodSteps (context_at db k) 0 (steps_of (group_steps labels [] 0 (groups [] xs).0))
-      letters_good [] e = tt
-      letters_good (x ∷ xs) e =
-          groups_good
+      letters_good [] no_faults = tt
+      letters_good (x ∷ xs) no_faults =
+          group_steps_are_good
           (groups [] (x ∷ xs)).0 labels [] label_count 0 labels_are_good tt enough_labels
-          (append_none (group_faults label_count 0 0 (groups [] (x ∷ xs)).0)
-          (at end (when (nat_lt 0 (length (groups [] (x ∷ xs)).1)) OpenNumber)) e).0
+          (both_are_empty (group_faults label_count 0 0 (groups [] (x ∷ xs)).0)
+          (at end (when (nat_lt 0 (length (groups [] (x ∷ xs)).1)) OpenNumber)) no_faults).0
 
-      by_letters : (o : Option (List Token)) → faults_of_letters o ≡ []
+      good_by_letters : (o : Option (List Token)) → faults_of_letters o ≡ []
           → AreGoodSteps (context_at db k) 0 (steps_of (steps_of_letters o))
-      by_letters None e = tt
-      by_letters (Some ts) e = letters_good (letters_of ts) e
+      good_by_letters None no_faults = tt
+      good_by_letters (Some ts) no_faults = letters_good (letters_of ts) no_faults
 
   -- ---- the proof of a theorem
 
-  proof_good : (end : ℕ) (ts : List Token) → reading_faults db k end ts ≡ []
+  proof_steps_are_good : (end : ℕ) (ts : List Token) → reading_faults db k end ts ≡ []
       → AreGoodSteps (context_at db k) 0 (steps_of (steps db k ts))
-  proof_good end [] e = tt
-  proof_good end (t ∷ ts) e = by_bracket (bytes_eq t.word (codes "(")) e
+  proof_steps_are_good end [] no_reading_faults = tt
+  proof_steps_are_good end (t ∷ ts) no_reading_faults =
+      good_by_bracket (bytes_eq t.word (codes "(")) no_reading_faults
     where
       faults_by_bracket : Bool → List Fault
       faults_by_bracket b =
@@ -372,11 +407,11 @@ module _ (db : List Statement) (k : ℕ)
             | false ↦ normal_steps db k (t ∷ ts)
           ]
 
-      by_bracket : (b : Bool) → faults_by_bracket b ≡ []
+      good_by_bracket : (b : Bool) → faults_by_bracket b ≡ []
           → AreGoodSteps (context_at db k) 0 (steps_of (steps_by_bracket b))
-      by_bracket true e = compressed_good end (bracketed ts) e
-      by_bracket false e = normal_good (t ∷ ts) 0
+      good_by_bracket true no_faults = compressed_steps_are_good end (bracketed ts) no_faults
+      good_by_bracket false no_faults = normal_steps_are_good (t ∷ ts) 0
 
-  pub good_steps : reading_faults_at db k ≡ []
+  pub faultless_steps_are_good : reading_faults_at db k ≡ []
       → AreGoodSteps (context_at db k) 0 (steps_of (steps_at db k))
-  good_steps e = grind (arith, common_steps, proof_good)
+  faultless_steps_are_good no_reading_faults = grind (arith, common_steps, proof_steps_are_good)

@@ -8,19 +8,22 @@ use Rattle.mm_spec.specs.Limits.{text_limit}
 
 pub tokens_of_long : (text : List ℕ) → text_limit < length text → tokens_of text ≡ []
 unfolding tokens_of
-tokens_of_long text h = rw (lt-ltb text_limit (length text) h) refl
+tokens_of_long text text_is_too_long = rw (lt-ltb text_limit (length text) text_is_too_long) refl
 
 pub lexical_fault_long : (text : List ℕ) → text_limit < length text
     → lexical_fault text ≡ Some (record { at = 0; code = TextTooLong })
 unfolding lexical_fault
-lexical_fault_long text h = rw (lt-ltb text_limit (length text) h) refl
+lexical_fault_long text text_is_too_long =
+    rw (lt-ltb text_limit (length text) text_is_too_long) refl
 
 pub tokens_of_read : (text : List ℕ) (r : Reading) → length text ≤ text_limit
     → reading text None (words_of text) ≡ r → tokens_of text ≡ r.tokens
 unfolding tokens_of
-tokens_of_read text r h e = rw (le-ltb text_limit (length text) h, e) refl
+tokens_of_read text r text_fits_limit reading_is =
+    rw (le-ltb text_limit (length text) text_fits_limit, reading_is) refl
 
 pub lexical_fault_read : (text : List ℕ) (r : Reading) → length text ≤ text_limit
     → reading text None (words_of text) ≡ r → lexical_fault text ≡ fault_in r.fault r.open_comment
 unfolding lexical_fault
-lexical_fault_read text r h e = rw (le-ltb text_limit (length text) h, e) refl
+lexical_fault_read text r text_fits_limit reading_is =
+    rw (le-ltb text_limit (length text) text_fits_limit, reading_is) refl

@@ -22,99 +22,110 @@ use Rattle.mm_spec.specs.Laws.Table.{Transition}
 use Rattle.mm_spec.specs.Laws.Table.{unexpected, continued, completed, transition, statements_after}
 use Rattle.mm_spec.specs.Laws.Table.{label_transition, statements_from}
 use Rattle.mm_spec.specs.Laws.Table.{statements_of}
-use Rattle.mm_spec.proofs.FollowedLaw.{first_closes, fewer_closed_later, blocks_balance}
-use Rattle.mm_spec.proofs.FollowedLaw.{blocks_counted, depth_following, plain_word}
-use Rattle.mm_spec.proofs.FollowedLaw.{label_plain}
-use Rattle.mm_spec.proofs.ShapeLaw.{Meaning, meaning, Balanced, balanced_more, plain_more, and_true}
-use Rattle.mm_spec.proofs.ShapeLaw.{labelled_whole, balanced_nothing}
+use Rattle.mm_spec.proofs.FollowedLaw.{block_is_open_if_closing, closings_stay_below_openings}
+use Rattle.mm_spec.proofs.FollowedLaw.{blocks_balance}
+use Rattle.mm_spec.proofs.FollowedLaw.{depth_counts_blocks, depth_following}
+use Rattle.mm_spec.proofs.FollowedLaw.{word_without_dollar_is_plain}
+use Rattle.mm_spec.proofs.FollowedLaw.{label_has_no_dollar}
+use Rattle.mm_spec.proofs.ShapeLaw.{Meaning, class_has_meaning, Balanced, balanced_with_one_more}
+use Rattle.mm_spec.proofs.ShapeLaw.{plain_with_one_more, true_and_true}
+use Rattle.mm_spec.proofs.ShapeLaw.{labelled_plain_is_complete, balanced_nothing}
 
 -- ---- a whole statement is read
 
-read_words : (d : ℕ) (make : List Token → ℕ → Statement) (xs ws : List Token) (k : ℕ)
+words_are_read : (d : ℕ) (make : List Token → ℕ → Statement) (xs ws : List Token) (k : ℕ)
     → (ts : List Token)
     → is_plain xs ≡ true
     → statements_from (words d make ws) (xs ++ token k (codes "$.") ∷ ts)
     ≡ make (ws ++ xs) k ∷ statements_from (start d) ts
-read_words d make [] ws k ts e =
+words_are_read d make [] ws k ts are_plain =
     ap (λ x. make x k ∷ statements_from (start d) ts) (sym (append-nil ws))
-read_words d make (x ∷ xs) ws k ts e =
+words_are_read d make (x ∷ xs) ws k ts are_plain =
     grind (
       arith,
       common_steps,
       and_parts,
       append_assoc,
-      plain_word,
-      read_words d make xs
-          (ws ++ x ∷ []) k ts (and_parts (not (has_dollar x.word)) (is_plain xs) e).1,
+      word_without_dollar_is_plain,
+      words_are_read d make xs
+          (ws ++ x ∷ []) k ts (and_parts (not (has_dollar x.word)) (is_plain xs) are_plain).1,
     )
 
-read_formula : (d : ℕ) (l : Token) (k : ℕ) (xs ws : List Token) (q : ℕ) (ts : List Token)
+formula_is_read : (d : ℕ) (l : Token) (k : ℕ) (xs ws : List Token) (q : ℕ) (ts : List Token)
     → is_plain xs ≡ true
     → statements_from (formula d l k ws) (xs ++ token q (codes "$=") ∷ ts)
     ≡ statements_from (words d (provable l k (ws ++ xs) q) []) ts
-read_formula d l k [] ws q ts e =
+formula_is_read d l k [] ws q ts are_plain =
     ap (λ x. statements_from (words d (provable l k x q) []) ts) (sym (append-nil ws))
-read_formula d l k (x ∷ xs) ws q ts e =
+formula_is_read d l k (x ∷ xs) ws q ts are_plain =
     grind (
       arith,
       common_steps,
       and_parts,
       append_assoc,
-      plain_word,
-      read_formula d l k xs
-          (ws ++ x ∷ []) q ts (and_parts (not (has_dollar x.word)) (is_plain xs) e).1,
+      word_without_dollar_is_plain,
+      formula_is_read d l k xs
+          (ws ++ x ∷ []) q ts (and_parts (not (has_dollar x.word)) (is_plain xs) are_plain).1,
     )
 
-read_label : (d : ℕ) (l : Token) (ts : List Token) → is_label l.word ≡ true
+label_is_read : (d : ℕ) (l : Token) (ts : List Token) → is_label l.word ≡ true
     → statements_from (start d) (l ∷ ts) ≡ statements_from (labelled d l) ts
-read_label d l ts e = grind (arith, common_steps, label_plain, plain_word)
+label_is_read d l ts is_label_l =
+    grind (arith, common_steps, label_has_no_dollar, word_without_dollar_is_plain)
 
-read_body : (d : ℕ) (make : List Token → ℕ → Statement) (xs : List Token) (k : ℕ) (ts : List Token)
+body_is_read : (d : ℕ) (make : List Token → ℕ → Statement) (xs : List Token) (k : ℕ)
+    (ts : List Token)
     → is_plain xs ≡ true
     → statements_from (words d make []) ((xs ++ token k (codes "$.") ∷ []) ++ ts)
     ≡ make xs k ∷ statements_from (start d) ts
-read_body d make xs k ts e = grind (arith, common_steps, append_assoc, read_words)
+body_is_read d make xs k ts are_plain = grind (arith, common_steps, append_assoc, words_are_read)
 
-statement_read : (s : Statement) (d : ℕ) (ts : List Token) → is_complete s ≡ true
+statement_is_read : (s : Statement) (d : ℕ) (ts : List Token) → is_complete s ≡ true
     → (is_closing s ≡ true → 0 < d)
     → statements_from (start d) (spelling_of s ++ ts) ≡ s ∷ statements_from
     (start (depth_following s d)) ts
-statement_read (constants k xs t) d ts e h =
-    read_body d (constants k) xs t ts (and_parts (is_plain xs) true e).0
-statement_read (variables k xs t) d ts e h =
-    read_body d (variables k) xs t ts (and_parts (is_plain xs) true e).0
-statement_read (disjoint k xs t) d ts e h =
-    read_body d (disjoint k) xs t ts (and_parts (is_plain xs) true e).0
-statement_read (floating l k xs t) d ts e h =
-    let f = (and_parts (is_label l.word && is_plain xs) true e).0 in
-    read_label d l (token k (codes "$f") ∷ ((xs ++ token t (codes "$.") ∷ []) ++ ts))
-    (and_parts (is_label l.word) (is_plain xs) f).0
-    ∙ read_body d (floating l k) xs t ts (and_parts (is_label l.word) (is_plain xs) f).1
-statement_read (essential l k xs t) d ts e h =
-    let f = (and_parts (is_label l.word && is_plain xs) true e).0 in
-    read_label d l (token k (codes "$e") ∷ ((xs ++ token t (codes "$.") ∷ []) ++ ts))
-    (and_parts (is_label l.word) (is_plain xs) f).0
-    ∙ read_body d (essential l k) xs t ts (and_parts (is_label l.word) (is_plain xs) f).1
-statement_read (axiomatic l k xs t) d ts e h =
-    let f = (and_parts (is_label l.word && is_plain xs) true e).0 in
-    read_label d l (token k (codes "$a") ∷ ((xs ++ token t (codes "$.") ∷ []) ++ ts))
-    (and_parts (is_label l.word) (is_plain xs) f).0
-    ∙ read_body d (axiomatic l k) xs t ts (and_parts (is_label l.word) (is_plain xs) f).1
-statement_read (provable l k xs q ps t) d ts e h =
-    let f = (and_parts (is_label l.word && is_plain xs) (is_plain ps) e).0 in
-    read_label d l
+statement_is_read (constants k xs t) d ts is_complete_s open_if_closing =
+    body_is_read d (constants k) xs t ts (and_parts (is_plain xs) true is_complete_s).0
+statement_is_read (variables k xs t) d ts is_complete_s open_if_closing =
+    body_is_read d (variables k) xs t ts (and_parts (is_plain xs) true is_complete_s).0
+statement_is_read (disjoint k xs t) d ts is_complete_s open_if_closing =
+    body_is_read d (disjoint k) xs t ts (and_parts (is_plain xs) true is_complete_s).0
+statement_is_read (floating l k xs t) d ts is_complete_s open_if_closing =
+    let label_and_symbols = (and_parts (is_label l.word && is_plain xs) true is_complete_s).0 in
+    label_is_read d l
+    (token k (codes "$f") ∷ ((xs ++ token t (codes "$.") ∷ []) ++ ts))
+    (and_parts (is_label l.word) (is_plain xs) label_and_symbols).0
+    ∙ body_is_read d (floating l k) xs t ts
+    (and_parts (is_label l.word) (is_plain xs) label_and_symbols).1
+statement_is_read (essential l k xs t) d ts is_complete_s open_if_closing =
+    let label_and_symbols = (and_parts (is_label l.word && is_plain xs) true is_complete_s).0 in
+    label_is_read d l (token k (codes "$e") ∷ ((xs ++ token t (codes "$.") ∷ []) ++ ts))
+    (and_parts (is_label l.word) (is_plain xs) label_and_symbols).0
+    ∙ body_is_read d (essential l k) xs t ts
+    (and_parts (is_label l.word) (is_plain xs) label_and_symbols).1
+statement_is_read (axiomatic l k xs t) d ts is_complete_s open_if_closing =
+    let label_and_symbols = (and_parts (is_label l.word && is_plain xs) true is_complete_s).0 in
+    label_is_read d l (token k (codes "$a") ∷ ((xs ++ token t (codes "$.") ∷ []) ++ ts))
+    (and_parts (is_label l.word) (is_plain xs) label_and_symbols).0
+    ∙ body_is_read d (axiomatic l k) xs t ts
+    (and_parts (is_label l.word) (is_plain xs) label_and_symbols).1
+statement_is_read (provable l k xs q ps t) d ts is_complete_s open_if_closing =
+    let label_and_symbols =
+    (and_parts (is_label l.word && is_plain xs) (is_plain ps) is_complete_s).0 in
+    label_is_read d l
     (token k (codes "$p")
     ∷ ((xs ++ token q (codes "$=") ∷ (ps ++ token t (codes "$.") ∷ [])) ++ ts))
-    (and_parts (is_label l.word) (is_plain xs) f).0
+    (and_parts (is_label l.word) (is_plain xs) label_and_symbols).0
     ∙ ap (statements_from (formula d l k []))
     (append_assoc xs (token q (codes "$=") ∷ (ps ++ token t (codes "$.") ∷ [])) ts)
-    ∙ read_formula d l k xs [] q ((ps ++ token t (codes "$.") ∷ []) ++ ts)
-    (and_parts (is_label l.word) (is_plain xs) f).1
-    ∙ read_body d (provable l k xs q) ps t ts
-    (and_parts (is_label l.word && is_plain xs) (is_plain ps) e).1
-statement_read (opening k) d ts e h = refl
-statement_read (closing k) zero ts e h = absurd (let x = h refl in omega arith)
-statement_read (closing k) (suc d) ts e h = refl
+    ∙ formula_is_read d l k xs [] q ((ps ++ token t (codes "$.") ∷ []) ++ ts)
+    (and_parts (is_label l.word) (is_plain xs) label_and_symbols).1
+    ∙ body_is_read d (provable l k xs q) ps t ts
+    (and_parts (is_label l.word && is_plain xs) (is_plain ps) is_complete_s).1
+statement_is_read (opening k) d ts is_complete_s open_if_closing = refl
+statement_is_read (closing k) zero ts is_complete_s open_if_closing =
+    absurd (let zero_lt_zero = open_if_closing refl in omega arith)
+statement_is_read (closing k) (suc d) ts is_complete_s open_if_closing = refl
 
 -- ---- what is read is spelled so, and is a list
 
@@ -122,12 +133,13 @@ statement_read (closing k) (suc d) ts e h = refl
 record IsMadeOf (make : List Token → ℕ → Statement) (ws part : List Token) : Type 0 where
   front : List Token
   are_plain : is_plain ws ≡ true
-  spells : (xs : List Token) (k : ℕ)
+  spelling_is : (xs : List Token) (k : ℕ)
       → spelling_of (make xs k) ≡ front ++ (xs ++ token k (codes "$.") ∷ [])
-  whole : (xs : List Token) (k : ℕ) → is_plain xs ≡ true → is_complete (make xs k) ≡ true
+  is_complete_if_plain : (xs : List Token) (k : ℕ) → is_plain xs ≡ true
+      → is_complete (make xs k) ≡ true
   keeps_depth : (xs : List Token) (k d : ℕ) → depth_following (make xs k) d ≡ d
   not_closing : (xs : List Token) (k : ℕ) → is_closing (make xs k) ≡ false
-  is : part ≡ front ++ ws
+  part_is : part ≡ front ++ ws
 
 -- how many blocks are open
 abbrev depth_of_progress : Progress → ℕ
@@ -152,302 +164,339 @@ TransitionHolds d part (completed e s) =
     (spelling_of s ≡ part) × (is_complete s ≡ true) × (is_closing s ≡ true → 0 < d) ×
     (depth_following s d ≡ e)
 
-not_closing_at : (s : Statement) (d : ℕ) → is_closing s ≡ false → is_closing s ≡ true → 0 < d
-not_closing_at s d e f = absurd (true≢false (sym f ∙ e))
+open_if_not_closing : (s : Statement) (d : ℕ) → is_closing s ≡ false → is_closing s ≡ true → 0 < d
+open_if_not_closing s d not_closing is_closing_s =
+    absurd (true≢false (sym is_closing_s ∙ not_closing))
 
 transition_holds : (r : Progress) (part : List Token) (t : Token) (k : Class) → Meaning k t.word
     → IsPartRead r part → TransitionHolds (depth_of_progress r) (part ++ t ∷ []) (transition r k t)
-transition_holds (start d) part t constant_keyword m h = (
+transition_holds (start d) part t constant_keyword word_has_meaning part_is_read = (
   refl,
   record {
     front = token t.at (codes "$c") ∷ [];
     are_plain = refl;
-    spells = λ xs k. refl;
-    whole = λ xs k e. and_true (is_plain xs) e;
+    spelling_is = λ xs k. refl;
+    is_complete_if_plain = λ xs k are_plain. true_and_true (is_plain xs) are_plain;
     keeps_depth = λ xs k d. refl;
     not_closing = λ xs k. refl;
-    is = ap₂ (λ p v. p ++ token t.at v ∷ []) h m;
+    part_is = ap₂ (λ p v. p ++ token t.at v ∷ []) part_is_read word_has_meaning;
   },
 )
-transition_holds (start d) part t variable_keyword m h = (
+transition_holds (start d) part t variable_keyword word_has_meaning part_is_read = (
   refl,
   record {
     front = token t.at (codes "$v") ∷ [];
     are_plain = refl;
-    spells = λ xs k. refl;
-    whole = λ xs k e. and_true (is_plain xs) e;
+    spelling_is = λ xs k. refl;
+    is_complete_if_plain = λ xs k are_plain. true_and_true (is_plain xs) are_plain;
     keeps_depth = λ xs k d. refl;
     not_closing = λ xs k. refl;
-    is = ap₂ (λ p v. p ++ token t.at v ∷ []) h m;
+    part_is = ap₂ (λ p v. p ++ token t.at v ∷ []) part_is_read word_has_meaning;
   },
 )
-transition_holds (start d) part t disjoint_keyword m h = (
+transition_holds (start d) part t disjoint_keyword word_has_meaning part_is_read = (
   refl,
   record {
     front = token t.at (codes "$d") ∷ [];
     are_plain = refl;
-    spells = λ xs k. refl;
-    whole = λ xs k e. and_true (is_plain xs) e;
+    spelling_is = λ xs k. refl;
+    is_complete_if_plain = λ xs k are_plain. true_and_true (is_plain xs) are_plain;
     keeps_depth = λ xs k d. refl;
     not_closing = λ xs k. refl;
-    is = ap₂ (λ p v. p ++ token t.at v ∷ []) h m;
+    part_is = ap₂ (λ p v. p ++ token t.at v ∷ []) part_is_read word_has_meaning;
   },
 )
-transition_holds (start d) part t open_block m h = (
-  ap₂ (λ p v. p ++ token t.at v ∷ []) (sym h) (sym m),
+transition_holds (start d) part t open_block word_has_meaning part_is_read = (
+  ap₂ (λ p v. p ++ token t.at v ∷ []) (sym part_is_read) (sym word_has_meaning),
   refl,
-  not_closing_at
+  open_if_not_closing
       (opening t.at) d refl,
   refl,
 )
-transition_holds (start zero) part t close_block m h = tt
-transition_holds (start (suc d)) part t close_block m h =
-    (ap₂ (λ p v. p ++ token t.at v ∷ []) (sym h) (sym m), refl, (λ e. omega arith), refl)
-transition_holds (start d) part t plain m h = by_is_label (is_label t.word) refl
+transition_holds (start zero) part t close_block word_has_meaning part_is_read = tt
+transition_holds (start (suc d)) part t close_block word_has_meaning part_is_read =
+    (ap₂ (λ p v. p ++ token t.at v ∷ []) (sym part_is_read) (sym word_has_meaning), refl,
+    (λ are_plain. omega arith), refl)
+transition_holds (start d) part t plain word_has_meaning part_is_read =
+    holds_by_test (is_label t.word) refl
   where
-    by_is_label : (b : Bool) → is_label t.word ≡ b
+    holds_by_test : (b : Bool) → is_label t.word ≡ b
         → TransitionHolds d (part ++ t ∷ []) (label_transition b d t)
-    by_is_label true e = (refl, (e, ap (λ p. p ++ t ∷ []) h))
-    by_is_label false e = tt
-transition_holds (labelled d l) part t floating_keyword m h = (
+    holds_by_test true test_is = (refl, (test_is, ap (λ p. p ++ t ∷ []) part_is_read))
+    holds_by_test false test_is = tt
+transition_holds (labelled d l) part t floating_keyword word_has_meaning part_is_read = (
   refl,
   record {
     front = l ∷ token t.at (codes "$f") ∷ [];
     are_plain = refl;
-    spells = λ xs k. refl;
-    whole = λ xs k e. labelled_whole l xs h.0 e;
+    spelling_is = λ xs k. refl;
+    is_complete_if_plain =
+        λ xs k are_plain. labelled_plain_is_complete l xs part_is_read.0 are_plain;
     keeps_depth = λ xs k d. refl;
     not_closing = λ xs k. refl;
-    is = ap₂ (λ p v. p ++ token t.at v ∷ []) h.1 m;
+    part_is = ap₂ (λ p v. p ++ token t.at v ∷ []) part_is_read.1 word_has_meaning;
   },
 )
-transition_holds (labelled d l) part t essential_keyword m h = (
+transition_holds (labelled d l) part t essential_keyword word_has_meaning part_is_read = (
   refl,
   record {
     front = l ∷ token t.at (codes "$e") ∷ [];
     are_plain = refl;
-    spells = λ xs k. refl;
-    whole = λ xs k e. labelled_whole l xs h.0 e;
+    spelling_is = λ xs k. refl;
+    is_complete_if_plain =
+        λ xs k are_plain. labelled_plain_is_complete l xs part_is_read.0 are_plain;
     keeps_depth = λ xs k d. refl;
     not_closing = λ xs k. refl;
-    is = ap₂ (λ p v. p ++ token t.at v ∷ []) h.1 m;
+    part_is = ap₂ (λ p v. p ++ token t.at v ∷ []) part_is_read.1 word_has_meaning;
   },
 )
-transition_holds (labelled d l) part t axiom_keyword m h = (
+transition_holds (labelled d l) part t axiom_keyword word_has_meaning part_is_read = (
   refl,
   record {
     front = l ∷ token t.at (codes "$a") ∷ [];
     are_plain = refl;
-    spells = λ xs k. refl;
-    whole = λ xs k e. labelled_whole l xs h.0 e;
+    spelling_is = λ xs k. refl;
+    is_complete_if_plain =
+        λ xs k are_plain. labelled_plain_is_complete l xs part_is_read.0 are_plain;
     keeps_depth = λ xs k d. refl;
     not_closing = λ xs k. refl;
-    is = ap₂ (λ p v. p ++ token t.at v ∷ []) h.1 m;
+    part_is = ap₂ (λ p v. p ++ token t.at v ∷ []) part_is_read.1 word_has_meaning;
   },
 )
-transition_holds (labelled d l) part t theorem_keyword m h =
-    (refl, (h.0, refl, ap₂ (λ p v. p ++ token t.at v ∷ []) h.1 m))
-transition_holds (formula d l k ws) part t plain m h =
-    (refl, (h.0, plain_more ws t h.1 m, ap (λ p. p ++ t ∷ []) h.2))
-transition_holds (formula d l k ws) part t equals m h = (
+transition_holds (labelled d l) part t theorem_keyword word_has_meaning part_is_read =
+    (refl, (part_is_read.0, refl, ap₂ (λ p v. p ++ token t.at v ∷ []) part_is_read.1
+    word_has_meaning))
+transition_holds (formula d l k ws) part t plain word_has_meaning part_is_read =
+    (refl, (part_is_read.0, plain_with_one_more ws t part_is_read.1 word_has_meaning,
+    ap (λ p. p ++ t ∷ [])
+    part_is_read.2))
+transition_holds (formula d l k ws) part t equals word_has_meaning part_is_read = (
   refl,
   record {
     front = l ∷ token k (codes "$p") ∷ (ws ++ token t.at (codes "$=") ∷ []);
     are_plain = refl;
-    spells =
+    spelling_is =
         λ xs q. ap (λ y. l ∷ token k (codes "$p") ∷ y)
         (sym (append_assoc ws (token t.at (codes "$=") ∷ []) (xs ++ token q (codes "$.") ∷ [])));
-    whole = λ xs q e. ap₂ (λ a b. a && b) (ap₂ (λ a b. a && b) h.0 h.1) e;
+    is_complete_if_plain =
+        λ xs q are_plain. ap₂ (λ a b. a && b) (ap₂ (λ a b. a && b) part_is_read.0 part_is_read.1)
+        are_plain;
     keeps_depth = λ xs q d. refl;
     not_closing = λ xs q. refl;
-    is = ap₂ (λ y v. y ++ token t.at v ∷ []) h.2 m ∙ sym (append-nil _);
+    part_is =
+        ap₂ (λ y v. y ++ token t.at v ∷ []) part_is_read.2 word_has_meaning ∙ sym (append-nil _);
   },
 )
-transition_holds (words d make ws) part t plain m h = (
+transition_holds (words d make ws) part t plain word_has_meaning part_is_read = (
   refl,
   record {
-    front = h.front;
-    are_plain = plain_more ws t h.are_plain m;
-    spells = h.spells;
-    whole = h.whole;
-    keeps_depth = h.keeps_depth;
-    not_closing = h.not_closing;
-    is = ap (λ y. y ++ t ∷ []) h.is ∙ append_assoc h.front ws (t ∷ []);
+    front = part_is_read.front;
+    are_plain = plain_with_one_more ws t part_is_read.are_plain word_has_meaning;
+    spelling_is = part_is_read.spelling_is;
+    is_complete_if_plain = part_is_read.is_complete_if_plain;
+    keeps_depth = part_is_read.keeps_depth;
+    not_closing = part_is_read.not_closing;
+    part_is =
+        ap (λ y. y ++ t ∷ []) part_is_read.part_is ∙ append_assoc part_is_read.front ws (t ∷ []);
   },
 )
-transition_holds (words d make ws) part t dot m h = (
-  h.spells ws t.at ∙ sym (append_assoc h.front ws (token t.at (codes "$.") ∷ []))
-      ∙ ap₂ (λ y v. y ++ token t.at v ∷ []) (sym h.is) (sym m),
-  h.whole ws t.at h.are_plain,
-  not_closing_at (make ws t.at) d (h.not_closing ws t.at),
-  h.keeps_depth ws t.at d,
+transition_holds (words d make ws) part t dot word_has_meaning part_is_read = (
+  part_is_read.spelling_is ws t.at
+    ∙ sym (append_assoc part_is_read.front ws (token t.at (codes "$.") ∷ []))
+      ∙ ap₂ (λ y v. y ++ token t.at v ∷ []) (sym part_is_read.part_is) (sym word_has_meaning),
+  part_is_read.is_complete_if_plain ws t.at part_is_read.are_plain,
+  open_if_not_closing (make ws t.at) d (part_is_read.not_closing ws t.at),
+  part_is_read.keeps_depth ws t.at d,
 )
-transition_holds _ part t _ m h = tt
+transition_holds _ part t _ word_has_meaning part_is_read = tt
 
 -- the statements read from a place on
-record ReadOn (list : List Statement) (r : Progress) (part us : List Token) : Type 0 where
+record ReadFurther (list : List Statement) (r : Progress) (part us : List Token) : Type 0 where
   rest : List Token
   depth : ℕ
   balanced : Balanced depth (list ++ statements_from r us)
-  is : part ++ us ≡ flat_map spelling_of (statements_from r us) ++ rest
+  tokens_are : part ++ us ≡ flat_map spelling_of (statements_from r us) ++ rest
 
-read_on : (us : List Token) (r : Progress) (list : List Statement) (part : List Token)
-    → Balanced (depth_of_progress r) list → IsPartRead r part → ReadOn list r part us
-read_on [] r list part b h =
+rest_is_read_on : (us : List Token) (r : Progress) (list : List Statement) (part : List Token)
+    → Balanced (depth_of_progress r) list → IsPartRead r part → ReadFurther list r part us
+rest_is_read_on [] r list part is_balanced part_is_read =
     record {
       rest = part;
       depth = depth_of_progress r;
-      balanced = subst (Balanced (depth_of_progress r)) (sym (append-nil list)) b;
-      is = append-nil part;
+      balanced = subst (Balanced (depth_of_progress r)) (sym (append-nil list)) is_balanced;
+      tokens_are = append-nil part;
     }
-read_on (t ∷ us) r list part b h =
-    let x =
-    by_transition (transition r (class t.word) t)
-    (transition_holds r part t (class t.word) (meaning t.word) h)
-    (λ q list' part' c k. read_on us q list' part' c k) in
-    record { rest = x.0; depth = x.1; balanced = x.2; is = x.3 }
+rest_is_read_on (t ∷ us) r list part is_balanced part_is_read =
+    let read_further =
+    read_by_transition (transition r (class t.word) t)
+    (transition_holds r part t (class t.word) (class_has_meaning t.word) part_is_read)
+    (λ q list' part' is_balanced_next part_is_read_next. rest_is_read_on us q list' part'
+    is_balanced_next
+    part_is_read_next) in
+    record { rest = read_further.0; depth = read_further.1; balanced = read_further.2; tokens_are =
+        read_further.3 }
   where
-    by_transition : (o : Transition) → TransitionHolds (depth_of_progress r) (part ++ t ∷ []) o
+    read_by_transition : (o : Transition) → TransitionHolds (depth_of_progress r) (part ++ t ∷ []) o
         → ((q : Progress) (list' : List Statement) (part' : List Token)
         → Balanced (depth_of_progress q) list'
-        → IsPartRead q part' → ReadOn list' q part' us)
+        → IsPartRead q part' → ReadFurther list' q part' us)
         → (rest : List Token) × (depth : ℕ)
         × Balanced depth (list ++ statements_after o (λ q. statements_from q us))
         × (part ++ t ∷ us
         ≡ flat_map spelling_of (statements_after o (λ q. statements_from q us)) ++ rest)
-    by_transition unexpected k of_the_rest = (
+    read_by_transition unexpected transition_is rest_is_read = (
       part ++ t
           ∷ us,
       depth_of_progress r,
       subst (Balanced (depth_of_progress r))
-          (sym (append-nil list)) b,
+          (sym (append-nil list)) is_balanced,
       refl,
     )
-    by_transition (continued q) k of_the_rest =
-        let x = of_the_rest q list (part ++ t ∷ [])
-        (subst (λ n. Balanced n list) (sym k.0) b) k.1 in
-        (x.rest, x.depth, x.balanced, sym (append_assoc part (t ∷ []) us) ∙ x.is)
-    by_transition (completed e s) k of_the_rest =
-        let x =
-        of_the_rest (start e) (list ++ s ∷ []) []
-        (subst (λ n. Balanced n (list ++ s ∷ [])) k.3
-        (balanced_more (depth_of_progress r) list s b k.1 k.2)) refl in (
-          x.rest,
-          x.depth,
-          subst (Balanced x.depth)
-              (append_assoc list (s ∷ []) (statements_from (start e) us)) x.balanced,
-          sym (append_assoc part (t ∷ []) us) ∙ ap₂ (λ y z. y ++ z) (sym k.0) x.is
+    read_by_transition (continued q) transition_is rest_is_read =
+        let read_later = rest_is_read q list (part ++ t ∷ [])
+        (subst (λ n. Balanced n list) (sym transition_is.0) is_balanced) transition_is.1 in
+        (read_later.rest, read_later.depth, read_later.balanced, sym (append_assoc part (t ∷ []) us)
+        ∙ read_later.tokens_are)
+    read_by_transition (completed e s) transition_is rest_is_read =
+        let read_later =
+        rest_is_read (start e) (list ++ s ∷ []) []
+        (subst (λ n. Balanced n (list ++ s ∷ [])) transition_is.3
+        (balanced_with_one_more (depth_of_progress r) list s is_balanced transition_is.1
+        transition_is.2))
+        refl in (
+          read_later.rest,
+          read_later.depth,
+          subst (Balanced read_later.depth)
+              (append_assoc list (s ∷ []) (statements_from (start e) us)) read_later.balanced,
+          sym (append_assoc part (t ∷ []) us)
+          ∙ ap₂ (λ y z. y ++ z) (sym transition_is.0) read_later.tokens_are
               ∙ sym (append_assoc (spelling_of s)
-              (flat_map spelling_of (statements_from (start e) us)) x.rest),
+              (flat_map spelling_of (statements_from (start e) us)) read_later.rest),
         )
 
 -- ---- the longest list, and no other
 
-statements_read : (list : List Statement) (d : ℕ) (ts : List Token)
+statements_are_read : (list : List Statement) (d : ℕ) (ts : List Token)
     → list_all is_complete list ≡ true
-    → ((n : ℕ) → count_by is_closing (take n list) ≤ d + count_by is_opening (take n list))
+    → ((n : ℕ) → count_by is_closing
+    (take n list) ≤ d + count_by is_opening (take n list))
     → (e : ℕ) × (e + count_by is_closing list ≡ d + count_by is_opening list)
     × (statements_from (start d) (flat_map spelling_of list ++ ts)
     ≡ list ++ statements_from (start e) ts)
-statements_read [] d ts w n = (d, refl, refl)
-statements_read (s ∷ list) d ts w n =
-    let first : is_closing s ≡ true → 0 < d = first_closes s d (n 1) in
-    let step = blocks_counted s d first in
-    let x =
-    statements_read list (depth_following s d) ts
-    (and_parts (is_complete s) (list_all is_complete list) w).1
-    (λ k. fewer_closed_later s d (depth_following s d) (take k list) (n (suc k)) step) in (
-      x.0,
-      blocks_balance s list d x.0 (depth_following s d) x.1 step,
+statements_are_read [] d ts are_complete closings_le_openings = (d, refl, refl)
+statements_are_read (s ∷ list) d ts are_complete closings_le_openings =
+    let open_if_closing : is_closing s ≡ true → 0 < d =
+    block_is_open_if_closing s d (closings_le_openings 1) in
+    let depth_step = depth_counts_blocks s d open_if_closing in
+    let later_read =
+    statements_are_read list (depth_following s d) ts
+    (and_parts (is_complete s) (list_all is_complete list) are_complete).1
+    (λ k. closings_stay_below_openings s d (depth_following s d) (take k list)
+    (closings_le_openings (suc k))
+    depth_step) in (
+      later_read.0,
+      blocks_balance s list d later_read.0 (depth_following s d) later_read.1 depth_step,
       ap (statements_from (start d)) (append_assoc (spelling_of s) (flat_map spelling_of list) ts)
-          ∙ statement_read s d (flat_map spelling_of list ++ ts)
-          (and_parts (is_complete s) (list_all is_complete list) w).0 first
-          ∙ ap (λ y. s ∷ y) x.2,
+          ∙ statement_is_read s d (flat_map spelling_of list ++ ts)
+          (and_parts (is_complete s) (list_all is_complete list) are_complete).0 open_if_closing
+          ∙ ap (λ y. s ∷ y) later_read.2,
     )
 
-pub statements_read_at_start : (list : List Statement) (ts : List Token) → AreStatements list
+pub statements_are_read_at_start : (list : List Statement) (ts : List Token) → AreStatements list
     → (e : ℕ) × (e + count_by is_closing list ≡ 0 + count_by is_opening list)
     × (statements_of (flat_map spelling_of list ++ ts) ≡ list ++ statements_from (start e) ts)
-statements_read_at_start list ts r =
-    statements_read list 0 ts r.whole (λ n. let m = r.nested n in omega (arith, m))
+statements_are_read_at_start list ts are_statements =
+    statements_are_read list 0 ts are_statements.whole
+        (λ n. let closings_le_openings = are_statements.nested n in
+        omega (arith, closings_le_openings))
 
 -- the statements that are read are the longest list
-pub is_longest : (ts : List Token) → AreLongestStatements ts (statements_of ts)
-is_longest ts =
+pub read_statements_are_longest : (ts : List Token) → AreLongestStatements ts (statements_of ts)
+read_statements_are_longest ts =
     record {
       are_statements = read.balanced.are_statements;
       rest = read.rest;
-      splits = read.is;
-      longest = no_more;
+      splits = read.tokens_are;
+      longest = no_longer_list;
     }
   where
-    read : ReadOn [] (start 0) [] ts
-    read = read_on ts (start 0) [] [] balanced_nothing refl
+    read : ReadFurther [] (start 0) [] ts
+    read = rest_is_read_on ts (start 0) [] [] balanced_nothing refl
 
     too_long : (list more : List Statement) (s : Statement) → ¬ (list ≡ (list ++ s ∷ []) ++ more)
-    too_long list more s e =
-        let n = ap length e in
-        omega (arith, n, length-append (list ++ s ∷ []) more, length-append list (s ∷ []))
+    too_long list more s lists_equal =
+        let lengths_equal = ap length lists_equal in
+        omega (arith, lengths_equal, length-append (list ++ s ∷ []) more, length-append list
+        (s ∷ []))
 
-    no_more : (s : Statement) (more : List Token) → AreStatements (statements_of ts ++ s ∷ [])
+    no_longer_list : (s : Statement) (more : List Token)
+        → AreStatements (statements_of ts ++ s ∷ [])
         → ¬ (read.rest ≡ spelling_of s ++ more)
-    no_more s more r e =
+    no_longer_list s more are_statements rest_is =
         let list = statements_of ts in
-        let x = statements_read_at_start (list ++ s ∷ []) more r in
-        let is : ts ≡ flat_map spelling_of (list ++ s ∷ []) ++ more =
-        read.is ∙ ap (λ y. flat_map spelling_of list ++ y) e
+        let read_again = statements_are_read_at_start (list ++ s ∷ []) more are_statements in
+        let tokens_are : ts ≡ flat_map spelling_of (list ++ s ∷ []) ++ more =
+        read.tokens_are ∙ ap (λ y. flat_map spelling_of list ++ y) rest_is
         ∙ sym (append_assoc (flat_map spelling_of list) (spelling_of s) more)
         ∙ ap (λ y. (flat_map spelling_of list ++ y) ++ more) (sym (append-nil (spelling_of s)))
         ∙ ap (λ y. y ++ more) (sym (flat_map-append spelling_of list (s ∷ []))) in
-        too_long list (statements_from (start x.0) more) s (ap statements_of is ∙ x.2)
+        too_long list (statements_from (start read_again.0) more) s
+        (ap statements_of tokens_are ∙ read_again.2)
 
 -- a front of a list is one
 front_are_statements : (xs ys : List Statement) → AreStatements (xs ++ ys) → AreStatements xs
-front_are_statements xs ys r =
-    record { whole = whole xs r.whole; nested = λ n. nested n (leb n (length xs)) refl }
+front_are_statements xs ys are_statements =
+    record { whole = whole xs are_statements.whole; nested = λ n. nested n (leb n (length xs))
+        refl }
   where
     whole : (zs : List Statement) → list_all is_complete (zs ++ ys) ≡ true
         → list_all is_complete zs ≡ true
-    whole [] e = refl
-    whole (z ∷ zs) e =
-        ap₂ (λ a b. a && b) (and_parts (is_complete z) (list_all is_complete (zs ++ ys)) e).0
-        (whole zs (and_parts (is_complete z) (list_all is_complete (zs ++ ys)) e).1)
+    whole [] are_complete = refl
+    whole (z ∷ zs) are_complete =
+        ap₂ (λ a b. a && b)
+        (and_parts (is_complete z) (list_all is_complete (zs ++ ys)) are_complete).0
+        (whole zs (and_parts (is_complete z) (list_all is_complete (zs ++ ys)) are_complete).1)
 
     nested_within : (n : ℕ) → n ≤ length xs
         → count_by is_closing (take n xs) ≤ count_by is_opening (take n xs)
-    nested_within n h =
-        let m = r.nested n in
-        subst (λ z. count_by is_closing z ≤ count_by is_opening z) (take-append-le n xs ys h) m
+    nested_within n n_le_length =
+        let closings_le_openings = are_statements.nested n in
+        subst (λ z. count_by is_closing z ≤ count_by is_opening z)
+        (take-append-le n xs ys n_le_length) closings_le_openings
 
     nested : (n : ℕ) (b : Bool) → leb n (length xs) ≡ b
         → count_by is_closing (take n xs) ≤ count_by is_opening (take n xs)
-    nested n true e = nested_within n (leb-true n (length xs) e)
-    nested n false e =
-        let long : length xs ≤ n = let l = leb-false n (length xs) e in omega (arith, l) in
+    nested n true test_is = nested_within n (leb-true n (length xs) test_is)
+    nested n false test_is =
+        let length_le_n : length xs ≤ n = let length_lt_n = leb-false n (length xs) test_is in
+        omega (arith, length_lt_n) in
         subst (λ z. count_by is_closing z ≤ count_by is_opening z)
-        (take_all (length xs) xs (le_refl (length xs)) ∙ sym (take_all n xs long))
+        (take_all (length xs) xs (le_refl (length xs)) ∙ sym (take_all n xs length_le_n))
         (nested_within (length xs) (le_refl (length xs)))
 
-pub longest_unique : (ts : List Token) (list : List Statement) → AreLongestStatements ts list
+pub longest_is_what_is_read : (ts : List Token) (list : List Statement)
+    → AreLongestStatements ts list
     → statements_of ts ≡ list
-longest_unique ts list r =
-    let x = statements_read_at_start list r.rest r.are_statements in
-    let b : Balanced x.0 list =
-    record { are_statements = r.are_statements; count = x.1 ∙ zero-add (count_by is_opening list) }
+longest_is_what_is_read ts list longest =
+    let read_again = statements_are_read_at_start list longest.rest longest.are_statements in
+    let is_balanced : Balanced read_again.0 list =
+    record { are_statements = longest.are_statements; count = read_again.1
+        ∙ zero-add (count_by is_opening list) }
     in
-    let of_the_rest = read_on r.rest (start x.0) list [] b refl in
-    ap statements_of r.splits ∙ x.2
+    let read_of_rest = rest_is_read_on longest.rest (start read_again.0) list [] is_balanced refl in
+    ap statements_of longest.splits ∙ read_again.2
     ∙ ap (λ y. list ++ y)
     (no_more_statements
     (statements_from
-    (start x.0) r.rest) of_the_rest.rest of_the_rest.balanced.are_statements of_the_rest.is)
+    (start read_again.0) longest.rest) read_of_rest.rest read_of_rest.balanced.are_statements
+    read_of_rest.tokens_are)
     ∙ append-nil list
   where
     no_more_statements : (more : List Statement) (rest : List Token) → AreStatements (list ++ more)
-        → r.rest ≡ flat_map spelling_of more ++ rest → more ≡ []
-    no_more_statements [] rest b is = refl
-    no_more_statements (s ∷ more) rest b is =
-        absurd (r.longest s (flat_map spelling_of more ++ rest)
+        → longest.rest ≡ flat_map spelling_of more ++ rest → more ≡ []
+    no_more_statements [] rest are_statements rest_is = refl
+    no_more_statements (s ∷ more) rest are_statements rest_is =
+        absurd (longest.longest s (flat_map spelling_of more ++ rest)
         (front_are_statements (list ++ s ∷ []) more
-        (subst AreStatements (sym (append_assoc list (s ∷ []) more)) b))
-        (is ∙ append_assoc (spelling_of s) (flat_map spelling_of more) rest))
+        (subst AreStatements (sym (append_assoc list (s ∷ []) more)) are_statements))
+        (rest_is ∙ append_assoc (spelling_of s) (flat_map spelling_of more) rest))

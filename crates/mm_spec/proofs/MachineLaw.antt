@@ -13,8 +13,9 @@ use Rattle.mm_spec.specs.Derivation.{Substitution, substitute, Matches, KeepsDis
 use Rattle.mm_spec.specs.Derivation.{Follows, Trees, none, more, formulas, postfix, AreDerivations}
 use Rattle.mm_spec.specs.Limits.{formula_limit}
 use Rattle.mm_spec.specs.Valid.{Reason, Fails}
-use Rattle.mm_spec.proofs.UnifyLaw.{same_equal, equal_same, found_formula, found_all}
-use Rattle.mm_spec.proofs.UnifyLaw.{found_disjoint}
+use Rattle.mm_spec.proofs.UnifyLaw.{tested_equal_are_equal, equal_are_tested_equal}
+use Rattle.mm_spec.proofs.UnifyLaw.{found_gives_formula, found_gives_formulas}
+use Rattle.mm_spec.proofs.UnifyLaw.{found_keeps_disjoint}
 use Rattle.mm_spec.specs.Laws.Stack.{substitution_from, are_equal, unless_failed, unless_too_long}
 use Rattle.mm_spec.specs.Laws.Stack.{apply, step, IsCompleteRule}
 use Rattle.mm_spec.specs.Laws.Complete.{IsComplete}
@@ -37,76 +38,84 @@ module _ (c : Context) where
   run n (l ∷ ls) es = proceed (step c (c.rule l) es) n (run (suc n) ls)
 
   -- a step that a derivation makes is made
-  takes_assertion : (a : Frame) (es : List Formula) (τ : Substitution) → IsComplete c a
+  assertion_is_taken : (a : Frame) (es : List Formula) (τ : Substitution) → IsComplete c a
       → KeepsDisjoint c a τ → length (substitute c τ a.formula) ≤ formula_limit
       → step c (Some (assertion a)) (es ++ map (substitute c τ) a.hypotheses)
       ≡ Ok (es ++ substitute c τ a.formula ∷ [])
-  takes_assertion a es τ good keeps_disjoint short =
+  assertion_is_taken a es τ is_complete keeps_disjoint formula_le_limit =
       let hs = a.hypotheses in
       let ps = map (substitute c τ) hs in
-      let count : length (es ++ ps) ≡ length es + length hs =
+      let length_is : length (es ++ ps) ≡ length es + length hs =
       length-append es ps ∙ ap (λ n. length es + n) (length-map hs (substitute c τ)) in
-      let below : length es ≡ length (es ++ ps) - length hs = omega arith in
-      let enough : length hs ≤ length (es ++ ps) = omega arith in
+      let rest_length_is : length es ≡ length (es ++ ps) - length hs = omega arith in
+      let hypotheses_le_length : length hs ≤ length (es ++ ps) = omega arith in
       let σ = substitution_from c hs ps in
-      let f : substitute c σ a.formula ≡ substitute c τ a.formula =
-      found_formula c hs τ a.formula good.formula in
+      let formulas_equal : substitute c σ a.formula ≡ substitute c τ a.formula =
+      found_gives_formula c hs τ a.formula is_complete.formula in
       let apply_at : List Formula → List Formula → Result (List Formula) Reason = apply c a true in
       ap (λ b. apply c a b (take (length (es ++ ps) - length hs) (es ++ ps))
       (drop (length (es ++ ps) - length hs) (es ++ ps)))
-      (le-leb (length hs) (length (es ++ ps)) enough)
-      ∙ ap₂ apply_at (take_at es ps (length (es ++ ps) - length hs) below)
-      (drop_at es ps (length (es ++ ps) - length hs) below)
-      ∙ all_pass (equal_same ps (map (substitute c σ) hs) (found_all c hs τ hs good.hypotheses))
-      (found_disjoint c hs τ a.pairs good.pairs ∙ keeps_disjoint)
-      (ap (λ g. nat_le (length g) formula_limit) f
-      ∙ le-leb (length (substitute c τ a.formula)) formula_limit short)
-      ∙ ap (λ g. Ok (es ++ g ∷ [])) f
+      (le-leb (length hs) (length (es ++ ps)) hypotheses_le_length)
+      ∙ ap₂ apply_at (take_at es ps (length (es ++ ps) - length hs) rest_length_is)
+      (drop_at es ps (length (es ++ ps) - length hs) rest_length_is)
+      ∙ all_pass (equal_are_tested_equal ps (map (substitute c σ) hs)
+      (found_gives_formulas c hs τ hs is_complete.hypotheses))
+      (found_keeps_disjoint c hs τ a.pairs is_complete.pairs ∙ keeps_disjoint)
+      (ap (λ g. nat_le (length g) formula_limit) formulas_equal
+      ∙ le-leb (length (substitute c τ a.formula)) formula_limit formula_le_limit)
+      ∙ ap (λ g. Ok (es ++ g ∷ [])) formulas_equal
     where
       all_pass : {p q r : Bool} {out : List Formula} → p ≡ true → q ≡ true → r ≡ true
           → unless_failed true p q r out ≡ Ok out
-      all_pass {r = r} {out = out} x y z =
-          ap₂ (λ p q. unless_failed true p q r out) x y ∙ ap (λ r. unless_too_long r out) z
+      all_pass {r = r} {out = out} p_is_true q_is_true r_is_true =
+          ap₂ (λ p q. unless_failed true p q r out) p_is_true q_is_true
+          ∙ ap (λ r. unless_too_long r out) r_is_true
 
-  pub takes : (r : Option Rule) (es ps : List Formula) (f : Formula) → IsCompleteRule c r
+  pub follows_is_taken : (r : Option Rule) (es ps : List Formula) (f : Formula) → IsCompleteRule c r
       → Follows c r ps f
       → step c r (es ++ ps) ≡ Ok (es ++ f ∷ [])
-  takes None es ps f good h = absurd h
-  takes (Some (hypothesis g)) es ps f good h = grind (arith, common_steps, append-nil, le-leb)
-  takes (Some (assertion a)) es ps f good h = grind (arith, common_steps, takes_assertion)
+  follows_is_taken None es ps f is_complete follows = absurd follows
+  follows_is_taken (Some (hypothesis g)) es ps f is_complete follows =
+      grind (arith, common_steps, append-nil, le-leb)
+  follows_is_taken (Some (assertion a)) es ps f is_complete follows =
+      grind (arith, common_steps, assertion_is_taken)
 
   -- each label is good
   abbrev pub AreGood : List ℕ → Type 0
   AreGood ls = AllByRecursion (λ l. IsCompleteRule c (c.rule l)) ls
 
-  pub good_parts : (xs ys : List ℕ) → AreGood (xs ++ ys) → AreGood xs × AreGood ys
-  good_parts [] ys g = (tt, g)
-  good_parts (x ∷ xs) ys g = let h = good_parts xs ys g.1 in ((g.0, h.0), h.1)
+  pub good_append_is_good_parts : (xs ys : List ℕ) → AreGood (xs ++ ys) → AreGood xs × AreGood ys
+  good_append_is_good_parts [] ys all_are_good = (tt, all_are_good)
+  good_append_is_good_parts (x ∷ xs) ys all_are_good =
+      let later_parts = good_append_is_good_parts xs ys all_are_good.1 in
+      ((all_are_good.0, later_parts.0), later_parts.1)
 
   -- a forest's derivations are run, and leave their formulas
-  pub runs_forest : (forest : Trees) → AreDerivations c forest → AreGood (postfix forest)
+  pub forest_is_run : (forest : Trees) → AreDerivations c forest → AreGood (postfix forest)
       → (n : ℕ) (ls : List ℕ) (es : List Formula)
       → run n (postfix forest ++ ls) es
       ≡ run (n + length (postfix forest)) ls (es ++ formulas forest)
-  runs_forest none d good n ls es =
-      let count : n ≡ n + 0 = omega arith in
-      ap₂ (λ k x. run k ls x) count (sym (append-nil es))
-  runs_forest (more ts l f cs) d good n ls es =
+  forest_is_run none are_derivations are_good n ls es =
+      let count_is : n ≡ n + 0 = omega arith in
+      ap₂ (λ k x. run k ls x) count_is (sym (append-nil es))
+  forest_is_run (more ts l f cs) are_derivations are_good n ls es =
       let p = postfix ts in
       let q = postfix cs in
       let k = n + length p + length q in
       let regroup : (p ++ (q ++ l ∷ [])) ++ ls ≡ p ++ (q ++ l ∷ ls) =
       append_assoc p (q ++ l ∷ []) ls ∙ ap (λ x. p ++ x) (append_assoc q (l ∷ []) ls) in
-      let count : suc k ≡ n + length (p ++ (q ++ l ∷ [])) =
+      let count_is : suc k ≡ n + length (p ++ (q ++ l ∷ [])) =
       omega (arith, length-append p (q ++ l ∷ []), length-append q (l ∷ [])) in
-      let outer = good_parts p (q ++ l ∷ []) good in
-      let inner = good_parts q (l ∷ []) outer.1 in
+      let split_at_children = good_append_is_good_parts p (q ++ l ∷ []) are_good in
+      let split_at_label = good_append_is_good_parts q (l ∷ []) split_at_children.1 in
       ap (λ x. run n x es) regroup
-      ∙ runs_forest ts d.0 outer.0 n (q ++ l ∷ ls) es
-      ∙ runs_forest cs d.1 inner.0 (n + length p) (l ∷ ls) (es ++ formulas ts)
+      ∙ forest_is_run ts are_derivations.0 split_at_children.0 n (q ++ l ∷ ls) es
+      ∙ forest_is_run cs are_derivations.1 split_at_label.0 (n + length p) (l ∷ ls)
+      (es ++ formulas ts)
       ∙ ap (λ r. proceed r k (run (suc k) ls))
-      (takes (c.rule l) (es ++ formulas ts) (formulas cs) f inner.1.0 d.2)
-      ∙ ap₂ (λ m x. run m ls x) count (append_assoc es (formulas ts) (f ∷ []))
+      (follows_is_taken (c.rule l) (es ++ formulas ts) (formulas cs) f split_at_label.1.0
+      are_derivations.2)
+      ∙ ap₂ (λ m x. run m ls x) count_is (append_assoc es (formulas ts) (f ∷ []))
 
   -- a forest in two parts, the last of which has n trees
   record SplitForest (forest : Trees) (n : ℕ) : Type 0 where
@@ -120,34 +129,38 @@ module _ (c : Context) where
 
   split_forest : (forest : Trees) (n : ℕ) → AreDerivations c forest → n ≤ length (formulas forest)
       → SplitForest forest n
-  split_forest forest zero d e =
+  split_forest forest zero are_derivations n_le_length =
       record {
         before = forest;
         last = none;
-        before_derivations = d;
+        before_derivations = are_derivations;
         last_derivations = tt;
         all_formulas = sym (append-nil (formulas forest));
         all_labels = sym (append-nil (postfix forest));
         count = refl;
       }
-  split_forest none (suc n) d e = absurd (omega arith)
-  split_forest (more ts l f cs) (suc n) d e =
-      let fits : n ≤ length (formulas ts) = omega (arith, length-append (formulas ts) (f ∷ [])) in
-      let p = split_forest ts n d.0 fits in
+  split_forest none (suc n) are_derivations n_le_length = absurd (omega arith)
+  split_forest (more ts l f cs) (suc n) are_derivations n_le_length =
+      let n_le_earlier : n ≤ length (formulas ts) =
+      omega (arith, length-append (formulas ts) (f ∷ [])) in
+      let earlier_split = split_forest ts n are_derivations.0 n_le_earlier in
       record {
-        before = p.before;
-        last = more p.last l f cs;
-        before_derivations = p.before_derivations;
-        last_derivations = (p.last_derivations, d.1, d.2);
+        before = earlier_split.before;
+        last = more earlier_split.last l f cs;
+        before_derivations = earlier_split.before_derivations;
+        last_derivations = (earlier_split.last_derivations, are_derivations.1, are_derivations.2);
         all_formulas =
-            ap (λ x. x ++ f ∷ []) p.all_formulas
-            ∙ append_assoc (formulas p.before) (formulas p.last) (f ∷ []);
+            ap (λ x. x ++ f ∷ []) earlier_split.all_formulas
+            ∙ append_assoc (formulas earlier_split.before) (formulas earlier_split.last) (f ∷ []);
         all_labels =
-            ap (λ x. x ++ (postfix cs ++ l ∷ [])) p.all_labels
-            ∙ append_assoc (postfix p.before) (postfix p.last) (postfix cs ++ l ∷ []);
+            ap (λ x. x ++ (postfix cs ++ l ∷ [])) earlier_split.all_labels
+            ∙ append_assoc (postfix earlier_split.before) (postfix earlier_split.last)
+            (postfix cs ++ l ∷ []);
         count =
-            let e : suc n ≡ suc (length (formulas p.last)) = ap suc (sym p.count) in
-            omega (arith, length-append (formulas p.last) (f ∷ []), p.count);
+            let n_le_length : suc n ≡ suc (length (formulas earlier_split.last)) =
+            ap suc (sym earlier_split.count) in
+            omega (arith, length-append (formulas earlier_split.last) (f ∷ []),
+            earlier_split.count);
       }
 
   -- what the answer of a step means: premises on top of the entries, and a formula that follows
@@ -158,30 +171,31 @@ module _ (c : Context) where
       × (out ≡ take (length es - n) es ++ f ∷ [])
   StepOutcome r es (Err reason) = Fails c r es reason
 
-  hypothesis_outcome : (g : Formula) (es : List Formula) (b : Bool)
+  hypothesis_has_outcome : (g : Formula) (es : List Formula) (b : Bool)
       → nat_le (length g) formula_limit ≡ b
       → StepOutcome (Some (hypothesis g)) es (unless_too_long b (es ++ g ∷ []))
-  hypothesis_outcome g es true e =
+  hypothesis_has_outcome g es true test_is =
       grind (arith, common_steps, drop_of_length-le, leb-true, take_all)
-  hypothesis_outcome g es false e = leb-false (length g) formula_limit e
+  hypothesis_has_outcome g es false test_is = leb-false (length g) formula_limit test_is
 
   -- premises that some substitution gives are given by the one that is found
-  pub no_other : (a : Frame) (ps : List Formula) (τ : Substitution) → IsComplete c a
+  pub found_matches_if_any : (a : Frame) (ps : List Formula) (τ : Substitution) → IsComplete c a
       → Matches c a ps τ
       → are_equal ps (map (substitute c (substitution_from c a.hypotheses ps)) a.hypotheses) ≡ true
-  no_other a ps τ good e = grind (arith, common_steps, equal_same, found_all)
+  found_matches_if_any a ps τ is_complete matches =
+      grind (arith, common_steps, equal_are_tested_equal, found_gives_formulas)
 
-  assertion_outcome : (a : Frame) (es : List Formula) → IsComplete c a
+  assertion_has_outcome : (a : Frame) (es : List Formula) → IsComplete c a
       → StepOutcome (Some (assertion a)) es (step c (Some (assertion a)) es)
-  assertion_outcome a es good =
-      grind (arith, common_steps, leb-false, leb-true, no_other, same_equal)
+  assertion_has_outcome a es is_complete =
+      grind (arith, common_steps, leb-false, leb-true, found_matches_if_any, tested_equal_are_equal)
 
-  pub step_outcome : (r : Option Rule) (es : List Formula) → IsCompleteRule c r
+  pub step_has_outcome : (r : Option Rule) (es : List Formula) → IsCompleteRule c r
       → StepOutcome r es (step c r es)
-  step_outcome None es good = absurd good
-  step_outcome (Some (hypothesis g)) es good =
-      hypothesis_outcome g es (nat_le (length g) formula_limit) refl
-  step_outcome (Some (assertion a)) es good = assertion_outcome a es good
+  step_has_outcome None es is_complete = absurd is_complete
+  step_has_outcome (Some (hypothesis g)) es is_complete =
+      hypothesis_has_outcome g es (nat_le (length g) formula_limit) refl
+  step_has_outcome (Some (assertion a)) es is_complete = assertion_has_outcome a es is_complete
 
   -- a run after a forest that stops: at the label the step fails, before it a longer forest is
   -- reached
@@ -203,76 +217,85 @@ module _ (c : Context) where
   RunOutcome forest ls (Err e) = StoppedRun forest ls e.reason
 
   -- a step after a forest gives one more forest
-  pub forest_grown : (forest : Trees) (l : ℕ) (n : ℕ) (f : Formula) → AreDerivations c forest
+  pub step_grows_forest : (forest : Trees) (l : ℕ) (n : ℕ) (f : Formula) → AreDerivations c forest
       → n ≤ length (formulas forest)
       → Follows c (c.rule l) (drop (length (formulas forest) - n) (formulas forest)) f
       → (next : Trees) × AreDerivations c next × (postfix next ≡ postfix forest ++ l ∷ [])
       × (formulas next ≡ take (length (formulas forest) - n) (formulas forest) ++ f ∷ [])
-  forest_grown forest l n f d e h =
-      let p = split_forest forest n d e in
+  step_grows_forest forest l n f are_derivations n_le_length follows =
+      let parts = split_forest forest n are_derivations n_le_length in
       let k = length (formulas forest) - n in
-      let count : length (formulas p.before) ≡ k =
+      let count_of_before : length (formulas parts.before) ≡ k =
       omega (
         arith,
-        p.count,
-        ap length p.all_formulas,
-        length-append (formulas p.before)
-            (formulas p.last),
+        parts.count,
+        ap length parts.all_formulas,
+        length-append (formulas parts.before)
+            (formulas parts.last),
       ) in
-      let last : drop k (formulas forest) ≡ formulas p.last =
-      ap (drop k) p.all_formulas ∙ drop_at (formulas p.before) (formulas p.last) k count in
-      let first : take k (formulas forest) ≡ formulas p.before =
-      ap (take k) p.all_formulas ∙ take_at (formulas p.before) (formulas p.last) k count in (
-        more p.before l f p.last,
-        (p.before_derivations, p.last_derivations, subst (λ x. Follows c (c.rule l) x f) last h),
-        sym (append_assoc (postfix p.before) (postfix p.last) (l ∷ []))
-            ∙ ap (λ x. x ++ l ∷ []) (sym p.all_labels),
-        ap (λ x. x ++ f ∷ []) (sym first),
+      let last_formulas_are : drop k (formulas forest) ≡ formulas parts.last =
+      ap (drop k) parts.all_formulas
+      ∙ drop_at (formulas parts.before) (formulas parts.last) k count_of_before in
+      let first_formulas_are : take k (formulas forest) ≡ formulas parts.before =
+      ap (take k) parts.all_formulas
+      ∙ take_at (formulas parts.before) (formulas parts.last) k count_of_before in (
+        more parts.before l f parts.last,
+        (parts.before_derivations, parts.last_derivations, subst (λ x. Follows c (c.rule l) x f)
+        last_formulas_are follows),
+        sym (append_assoc (postfix parts.before) (postfix parts.last) (l ∷ []))
+            ∙ ap (λ x. x ++ l ∷ []) (sym parts.all_labels),
+        ap (λ x. x ++ f ∷ []) (sym first_formulas_are),
       )
 
   -- a run after a forest is that of a longer forest, or stops where a label fails
-  pub run_outcome : (ls : List ℕ) (forest : Trees) (n : ℕ) → AreDerivations c forest → AreGood ls
+  pub run_has_outcome : (ls : List ℕ) (forest : Trees) (n : ℕ) → AreDerivations c forest
+      → AreGood ls
       → RunOutcome forest ls (run n ls (formulas forest))
-  run_outcome [] forest n d good = (forest, d, sym (append-nil (postfix forest)), refl)
-  run_outcome (l ∷ ls) forest n d good =
-      by_result (step c (c.rule l) (formulas forest))
-      (step_outcome (c.rule l) (formulas forest) good.0)
-      (λ next h. run_outcome ls next (suc n) h good.1)
+  run_has_outcome [] forest n are_derivations are_good =
+      (forest, are_derivations, sym (append-nil (postfix forest)), refl)
+  run_has_outcome (l ∷ ls) forest n are_derivations are_good =
+      outcome_by_result (step c (c.rule l) (formulas forest))
+      (step_has_outcome (c.rule l) (formulas forest) are_good.0)
+      (λ next next_derivations. run_has_outcome ls next (suc n) next_derivations are_good.1)
     where
-      later : (next : Trees) → postfix next ≡ postfix forest ++ l ∷ []
+      outcome_of_rest : (next : Trees) → postfix next ≡ postfix forest ++ l ∷ []
           → (r : Result (List Formula) RunFailure) → RunOutcome next ls r
           → RunOutcome forest (l ∷ ls) r
-      later next e (Ok out) h =
-          (h.0, h.1, h.2 ∙ ap (λ x. x ++ ls) e ∙ append_assoc (postfix forest) (l ∷ []) ls, h.3)
-      later next e (Err x) h = record {
-        before = l ∷ h.before;
-        label = h.label;
-        after = h.after;
-        splits = ap (λ x. l ∷ x) h.splits;
-        reached = h.reached;
-        derivations = h.derivations;
+      outcome_of_rest next labels_are (Ok out) outcome_later =
+          (outcome_later.0, outcome_later.1, outcome_later.2 ∙ ap (λ x. x ++ ls) labels_are
+          ∙ append_assoc (postfix forest) (l ∷ []) ls, outcome_later.3)
+      outcome_of_rest next labels_are (Err x) outcome_later = record {
+        before = l ∷ outcome_later.before;
+        label = outcome_later.label;
+        after = outcome_later.after;
+        splits = ap (λ x. l ∷ x) outcome_later.splits;
+        reached = outcome_later.reached;
+        derivations = outcome_later.derivations;
         labels =
-            h.labels ∙ ap (λ x. x ++ h.before) e ∙ append_assoc (postfix forest) (l ∷ []) h.before;
-        fails = h.fails;
+            outcome_later.labels ∙ ap (λ x. x ++ outcome_later.before) labels_are
+            ∙ append_assoc (postfix forest) (l ∷ []) outcome_later.before;
+        fails = outcome_later.fails;
       }
 
-      by_result : (r : Result (List Formula) Reason) → StepOutcome (c.rule l) (formulas forest) r
+      outcome_by_result : (r : Result (List Formula) Reason)
+          → StepOutcome (c.rule l) (formulas forest) r
           → ((next : Trees) → AreDerivations c next
           → RunOutcome next ls (run (suc n) ls (formulas next)))
           → RunOutcome forest (l ∷ ls) (proceed r n (run (suc n) ls))
-      by_result (Err x) outcome of_the_rest =
+      outcome_by_result (Err x) outcome rest_has_outcome =
           record {
             before = [];
             label = l;
             after = ls;
             splits = refl;
             reached = forest;
-            derivations = d;
+            derivations = are_derivations;
             labels = sym (append-nil (postfix forest));
             fails = outcome;
           }
-      by_result (Ok out) outcome of_the_rest =
-          let next = forest_grown forest l outcome.0 outcome.1 d outcome.2 outcome.3 in
-          later next.0 next.2 (run (suc n) ls out)
+      outcome_by_result (Ok out) outcome rest_has_outcome =
+          let next =
+          step_grows_forest forest l outcome.0 outcome.1 are_derivations outcome.2 outcome.3 in
+          outcome_of_rest next.0 next.2 (run (suc n) ls out)
           (subst (λ x. RunOutcome next.0 ls (run (suc n) ls x)) (next.3 ∙ sym outcome.4)
-          (of_the_rest next.0 next.1))
+          (rest_has_outcome next.0 next.1))

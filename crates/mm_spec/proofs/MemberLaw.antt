@@ -28,32 +28,38 @@ member_filter p (x ∷ xs) i =
     grind (arith, common_steps, cases_eq, eq-eqb, ne_eqb, member_filter p xs i)
 
 pub member_range : (n a i : ℕ) → a ≤ i → is_member (range_with_len a n) i ≡ nat_lt i (a + n)
-member_range zero a i h = sym (le-ltb i (a + 0) (omega arith))
-member_range (suc n) a i h = at_first_or_later (cases_eq i a) (λ l. member_range n (a + 1) i l)
+member_range zero a i a_le_i = sym (le-ltb i (a + 0) (omega arith))
+member_range (suc n) a i a_le_i =
+    at_first_or_later (cases_eq i a) (λ a_lt_i. member_range n (a + 1) i a_lt_i)
   where
     at_first_or_later : (i ≡ a) ⊎ (i ≢ a)
         → (a + 1 ≤ i → is_member (range_with_len (a + 1) n) i ≡ nat_lt i (a + 1 + n))
         → (nat_eq i a || is_member (range_with_len (a + 1) n) i) ≡ nat_lt i (a + suc n)
-    at_first_or_later (inl e) r =
-        ap (λ b. b || is_member (range_with_len (a + 1) n) i) (eq-eqb i a e)
+    at_first_or_later (inl at_first) later_members =
+        ap (λ b. b || is_member (range_with_len (a + 1) n) i) (eq-eqb i a at_first)
         ∙ sym (lt-ltb i (a + suc n) (omega arith))
-    at_first_or_later (inr e) r =
-        ap (λ b. b || is_member (range_with_len (a + 1) n) i) (ne_eqb i a e) ∙ r (omega arith)
-        ∙ (let s : a + 1 + n ≡ a + suc n = omega arith in ap (nat_lt i) s)
+    at_first_or_later (inr at_first) later_members =
+        ap (λ b. b || is_member (range_with_len (a + 1) n) i) (ne_eqb i a at_first)
+        ∙ later_members (omega arith)
+        ∙ (let same_end : a + 1 + n ≡ a + suc n = omega arith in ap (nat_lt i) same_end)
 
-pub any_witness : (q : ℕ → Bool) (xs : List ℕ) → list_any q xs ≡ true
+pub passing_has_witness : (q : ℕ → Bool) (xs : List ℕ) → list_any q xs ≡ true
     → (v : ℕ) × (is_member xs v ≡ true) × (q v ≡ true)
-any_witness q [] e = absurd (true≢false (sym e))
-any_witness q (x ∷ xs) e = grind (arith, common_steps, eq-eqb, or-true, any_witness q xs)
+passing_has_witness q [] some_passes = absurd (true≢false (sym some_passes))
+passing_has_witness q (x ∷ xs) some_passes =
+    grind (arith, common_steps, eq-eqb, or-true, passing_has_witness q xs)
 
-pub any_of : (q : ℕ → Bool) (xs : List ℕ) (v : ℕ) → is_member xs v ≡ true → q v ≡ true
+pub witness_makes_any : (q : ℕ → Bool) (xs : List ℕ) (v : ℕ) → is_member xs v ≡ true → q v ≡ true
     → list_any q xs ≡ true
-any_of q [] v m e = absurd (true≢false (sym m))
-any_of q (x ∷ xs) v m e = grind (arith, common_steps, eqb-true, or-true, any_of q xs v)
+witness_makes_any q [] v v_is_member v_passes = absurd (true≢false (sym v_is_member))
+witness_makes_any q (x ∷ xs) v v_is_member v_passes =
+    grind (arith, common_steps, eqb-true, or-true, witness_makes_any q xs v)
 
-pub same_any : (q : ℕ → Bool) (xs ys : List ℕ) → ((i : ℕ) → is_member xs i ≡ is_member ys i)
+pub same_members_same_any : (q : ℕ → Bool) (xs ys : List ℕ)
+    → ((i : ℕ) → is_member xs i ≡ is_member ys i)
     → list_any q xs ≡ list_any q ys
-same_any q xs ys h = grind (arith, common_steps, any_of, any_witness, same_tests)
+same_members_same_any q xs ys members_equal =
+    grind (arith, common_steps, witness_makes_any, passing_has_witness, same_tests)
 
 pub member_flat : (f : ℕ → List ℕ) (xs : List ℕ) (x : ℕ)
     → is_member (flat_map f xs) x ≡ list_any (λ j. is_member (f j) x) xs
@@ -70,28 +76,28 @@ module _ (test : Statement → Bool) (db : List Statement) where
   pub active_member : IsLocalTest test → (k i : ℕ)
       → is_member (active_of test db k) i
       ≡ (nat_lt i k && (list_any test (statement_at db i) && is_block_open db i k))
-  active_member local k i =
+  active_member is_local k i =
       grind (arith, common_steps, and-false, and-true, member_filter, member_range)
 
 pub essential_local : (s : Statement) (b : Bool) → is_essential s ≡ true → is_still_active s b ≡ b
-essential_local (essential l k xs d) b h = refl
-essential_local (constants k xs d) b h = absurd (true≢false (sym h))
-essential_local (variables k xs d) b h = absurd (true≢false (sym h))
-essential_local (disjoint k xs d) b h = absurd (true≢false (sym h))
-essential_local (floating l k xs d) b h = absurd (true≢false (sym h))
-essential_local (axiomatic l k xs d) b h = absurd (true≢false (sym h))
-essential_local (provable l k xs e ps d) b h = absurd (true≢false (sym h))
-essential_local (opening k) b h = absurd (true≢false (sym h))
-essential_local (closing k) b h = absurd (true≢false (sym h))
+essential_local (essential l k xs d) b is_kind = refl
+essential_local (constants k xs d) b is_kind = absurd (true≢false (sym is_kind))
+essential_local (variables k xs d) b is_kind = absurd (true≢false (sym is_kind))
+essential_local (disjoint k xs d) b is_kind = absurd (true≢false (sym is_kind))
+essential_local (floating l k xs d) b is_kind = absurd (true≢false (sym is_kind))
+essential_local (axiomatic l k xs d) b is_kind = absurd (true≢false (sym is_kind))
+essential_local (provable l k xs e ps d) b is_kind = absurd (true≢false (sym is_kind))
+essential_local (opening k) b is_kind = absurd (true≢false (sym is_kind))
+essential_local (closing k) b is_kind = absurd (true≢false (sym is_kind))
 
 pub disjoint_local : (s : Statement) (b : Bool) → is_disjoint_statement s ≡ true
     → is_still_active s b ≡ b
-disjoint_local (disjoint k xs d) b h = refl
-disjoint_local (constants k xs d) b h = absurd (true≢false (sym h))
-disjoint_local (variables k xs d) b h = absurd (true≢false (sym h))
-disjoint_local (essential l k xs d) b h = absurd (true≢false (sym h))
-disjoint_local (floating l k xs d) b h = absurd (true≢false (sym h))
-disjoint_local (axiomatic l k xs d) b h = absurd (true≢false (sym h))
-disjoint_local (provable l k xs e ps d) b h = absurd (true≢false (sym h))
-disjoint_local (opening k) b h = absurd (true≢false (sym h))
-disjoint_local (closing k) b h = absurd (true≢false (sym h))
+disjoint_local (disjoint k xs d) b is_kind = refl
+disjoint_local (constants k xs d) b is_kind = absurd (true≢false (sym is_kind))
+disjoint_local (variables k xs d) b is_kind = absurd (true≢false (sym is_kind))
+disjoint_local (essential l k xs d) b is_kind = absurd (true≢false (sym is_kind))
+disjoint_local (floating l k xs d) b is_kind = absurd (true≢false (sym is_kind))
+disjoint_local (axiomatic l k xs d) b is_kind = absurd (true≢false (sym is_kind))
+disjoint_local (provable l k xs e ps d) b is_kind = absurd (true≢false (sym is_kind))
+disjoint_local (opening k) b is_kind = absurd (true≢false (sym is_kind))
+disjoint_local (closing k) b is_kind = absurd (true≢false (sym is_kind))

@@ -13,48 +13,52 @@ use Rattle.mm_spec.proofs.BoolLaw.{passes_alone}
 -- ---- where each child counts, the labels are those of all nodes
 
 -- each node that counts is a node
-pub node_member : (counts : ℕ → ℕ → Bool) (root_counts : ℕ → Bool) (ts : Trees) (a : ℕ)
+pub node_is_member : (counts : ℕ → ℕ → Bool) (root_counts : ℕ → Bool) (ts : Trees) (a : ℕ)
     → HasNode counts root_counts ts a → is_member (postfix ts) a ≡ true
-node_member counts root_counts none a h = absurd h
-node_member counts root_counts (more ts l f cs) a (inl h) =
-    grind (arith, common_steps, list_any-append, or_left, node_member counts root_counts ts a h)
-node_member counts root_counts (more ts l f cs) a (inr (t, inl e)) =
+node_is_member counts root_counts none a has_node = absurd has_node
+node_is_member counts root_counts (more ts l f cs) a (inl has_node) =
+    grind (arith, common_steps, list_any-append, or_left, node_is_member counts root_counts ts a
+    has_node)
+node_is_member counts root_counts (more ts l f cs) a (inr (root_counts_last, inl is_root)) =
     grind (arith, common_steps, eq-eqb, list_any-append, or_left, or_right)
-node_member counts root_counts (more ts l f cs) a (inr (t, inr h)) =
+node_is_member counts root_counts (more ts l f cs) a (inr (root_counts_last, inr has_node)) =
     grind (
       arith,
       common_steps,
       list_any-append,
       or_left,
       or_right,
-      node_member counts
-          (counts l) cs a h,
+      node_is_member counts
+          (counts l) cs a has_node,
     )
 
-member_node : (ts : Trees) (a : ℕ) → is_member (postfix ts) a ≡ true
+member_has_node : (ts : Trees) (a : ℕ) → is_member (postfix ts) a ≡ true
     → HasNode (λ l. each_root) each_root ts a
-member_node none a e = absurd (true≢false (sym e))
-member_node (more ts l f cs) a e =
-    in_earlier_or_last (or_cases (is_member (postfix ts) a) (is_member (postfix cs ++ l ∷ []) a)
-    (sym (list_any-append (λ y. a == y) (postfix ts) (postfix cs ++ l ∷ [])) ∙ e))
-    (λ h. member_node ts a h) (λ h. member_node cs a h)
+member_has_node none a is_label = absurd (true≢false (sym is_label))
+member_has_node (more ts l f cs) a is_label =
+    node_in_earlier_or_last
+    (or_cases (is_member (postfix ts) a) (is_member (postfix cs ++ l ∷ []) a)
+    (sym (list_any-append (λ y. a == y) (postfix ts) (postfix cs ++ l ∷ [])) ∙ is_label))
+    (λ is_there. member_has_node ts a is_there) (λ is_there. member_has_node cs a is_there)
   where
-    in_children_or_root : (is_member (postfix cs) a ≡ true) ⊎ (is_member (l ∷ []) a ≡ true)
+    node_in_children_or_root : (is_member (postfix cs) a ≡ true) ⊎ (is_member (l ∷ []) a ≡ true)
         → (is_member (postfix cs) a ≡ true → HasNode (λ l. each_root) each_root cs a)
         → HasNode (λ l. each_root) each_root (more ts l f cs) a
-    in_children_or_root (inl h) of_the_rest = inr (refl, inr (of_the_rest h))
-    in_children_or_root (inr h) of_the_rest =
-        inr (refl, inl (eqb-true a l (passes_alone (a == l) h)))
+    node_in_children_or_root (inl is_there) node_in_children =
+        inr (refl, inr (node_in_children is_there))
+    node_in_children_or_root (inr is_there) node_in_children =
+        inr (refl, inl (eqb-true a l (passes_alone (a == l) is_there)))
 
-    in_earlier_or_last : (is_member (postfix ts) a ≡ true)
+    node_in_earlier_or_last : (is_member (postfix ts) a ≡ true)
         ⊎ (is_member (postfix cs ++ l ∷ []) a ≡ true)
         → (is_member (postfix ts) a ≡ true → HasNode (λ l. each_root) each_root ts a)
         → (is_member (postfix cs) a ≡ true → HasNode (λ l. each_root) each_root cs a)
         → HasNode (λ l. each_root) each_root (more ts l f cs) a
-    in_earlier_or_last (inl h) of_the_rest in_children = inl (of_the_rest h)
-    in_earlier_or_last (inr h) of_the_rest in_children =
-        in_children_or_root (or_cases (is_member (postfix cs) a) (is_member (l ∷ []) a)
-        (sym (list_any-append (λ y. a == y) (postfix cs) (l ∷ [])) ∙ h)) in_children
+    node_in_earlier_or_last (inl is_there) node_earlier node_in_children =
+        inl (node_earlier is_there)
+    node_in_earlier_or_last (inr is_there) node_earlier node_in_children =
+        node_in_children_or_root (or_cases (is_member (postfix cs) a) (is_member (l ∷ []) a)
+        (sym (list_any-append (λ y. a == y) (postfix cs) (l ∷ [])) ∙ is_there)) node_in_children
 
 -- ---- the labels as a list
 
@@ -68,83 +72,86 @@ node_labels counts root_counts (more ts l f cs) =
       | false ↦ []
     ]
 
-node_listed : (counts : ℕ → ℕ → Bool) (root_counts : ℕ → Bool) (ts : Trees) (a : ℕ)
+node_is_listed : (counts : ℕ → ℕ → Bool) (root_counts : ℕ → Bool) (ts : Trees) (a : ℕ)
     → HasNode counts root_counts ts a → is_member (node_labels counts root_counts ts) a ≡ true
-node_listed counts root_counts none a h = absurd h
-node_listed counts root_counts (more ts l f cs) a (inl h) =
+node_is_listed counts root_counts none a has_node = absurd has_node
+node_is_listed counts root_counts (more ts l f cs) a (inl has_node) =
     list_any-append (λ y. a == y) (node_labels counts root_counts ts) _
     ∙ or_left (is_member (node_labels counts root_counts ts) a) _
-    (node_listed counts root_counts ts a h)
-node_listed counts root_counts (more ts l f cs) a (inr (t, h)) =
+    (node_is_listed counts root_counts ts a has_node)
+node_is_listed counts root_counts (more ts l f cs) a (inr (root_counts_last, has_node)) =
     list_any-append (λ y. a == y) (node_labels counts root_counts ts) _
     ∙ or_right (is_member (node_labels counts root_counts ts) a) _
     (subst (λ b. is_member
     (elim b [ true ↦ l ∷ node_labels counts (counts l) cs | false ↦ [] ]) a
-    ≡ true) (sym t) (at_root_or_below h (λ k. node_listed counts (counts l) cs a k)))
+    ≡ true) (sym root_counts_last)
+    (listed_at_root_or_below has_node (λ is_below. node_is_listed counts (counts l) cs a is_below)))
   where
-    at_root_or_below : (a ≡ l) ⊎ HasNode counts (counts l) cs a
+    listed_at_root_or_below : (a ≡ l) ⊎ HasNode counts (counts l) cs a
         → (HasNode counts (counts l) cs a → is_member (node_labels counts (counts l) cs) a ≡ true)
         → is_member (l ∷ node_labels counts (counts l) cs) a ≡ true
-    at_root_or_below (inl e) of_the_rest =
-        or_left (a == l) (is_member (node_labels counts (counts l) cs) a) (eq-eqb a l e)
-    at_root_or_below (inr k) of_the_rest =
-        or_right (a == l) (is_member (node_labels counts (counts l) cs) a) (of_the_rest k)
+    listed_at_root_or_below (inl is_root) listed_below =
+        or_left (a == l) (is_member (node_labels counts (counts l) cs) a) (eq-eqb a l is_root)
+    listed_at_root_or_below (inr is_below) listed_below =
+        or_right (a == l) (is_member (node_labels counts (counts l) cs) a) (listed_below is_below)
 
-listed_node : (counts : ℕ → ℕ → Bool) (root_counts : ℕ → Bool) (ts : Trees) (a : ℕ)
+listed_has_node : (counts : ℕ → ℕ → Bool) (root_counts : ℕ → Bool) (ts : Trees) (a : ℕ)
     → is_member (node_labels counts root_counts ts) a ≡ true → HasNode counts root_counts ts a
-listed_node counts root_counts none a e = absurd (true≢false (sym e))
-listed_node counts root_counts (more ts l f cs) a e =
-    in_earlier_or_last
+listed_has_node counts root_counts none a is_listed = absurd (true≢false (sym is_listed))
+listed_has_node counts root_counts (more ts l f cs) a is_listed =
+    node_in_earlier_or_last
     (or_cases (is_member (node_labels counts root_counts ts) a)
     (is_member (labels_of_last (root_counts (tree_count ts))) a)
     (sym (list_any-append (λ y. a == y) (node_labels counts root_counts ts)
     (labels_of_last (root_counts (tree_count ts))))
-    ∙ e)) (λ k. listed_node counts root_counts ts a k) (λ k. listed_node counts (counts l) cs a k)
+    ∙ is_listed)) (λ is_listed_there. listed_has_node counts root_counts ts a is_listed_there)
+    (λ is_listed_there. listed_has_node counts (counts l) cs a is_listed_there)
   where
     labels_of_last : Bool → List ℕ
     labels_of_last b = elim b [ true ↦ l ∷ node_labels counts (counts l) cs | false ↦ [] ]
 
-    by_root_counts : (b : Bool) → root_counts (tree_count ts) ≡ b
+    node_in_last : (b : Bool) → root_counts (tree_count ts) ≡ b
         → is_member (labels_of_last b) a ≡ true
         → (is_member (node_labels counts (counts l) cs) a ≡ true → HasNode counts (counts l) cs a)
         → HasNode counts root_counts (more ts l f cs) a
-    by_root_counts false p k of_the_rest = absurd (true≢false (sym k))
-    by_root_counts true p k of_the_rest =
+    node_in_last false root_counts_is is_listed node_below = absurd (true≢false (sym is_listed))
+    node_in_last true root_counts_is is_listed node_below =
         inr (
-          p,
-          at_root_or_below
-              (or_cases (a == l) (is_member (node_labels counts (counts l) cs) a) k),
+          root_counts_is,
+          root_or_node_below
+              (or_cases (a == l) (is_member (node_labels counts (counts l) cs) a) is_listed),
         )
       where
-        at_root_or_below : ((a == l) ≡ true)
+        root_or_node_below : ((a == l) ≡ true)
             ⊎ (is_member (node_labels counts (counts l) cs) a ≡ true)
             → (a ≡ l) ⊎ HasNode counts (counts l) cs a
-        at_root_or_below (inl q) = inl (eqb-true a l q)
-        at_root_or_below (inr q) = inr (of_the_rest q)
+        root_or_node_below (inl is_there) = inl (eqb-true a l is_there)
+        root_or_node_below (inr is_there) = inr (node_below is_there)
 
-    in_earlier_or_last : (is_member (node_labels counts root_counts ts) a ≡ true)
+    node_in_earlier_or_last : (is_member (node_labels counts root_counts ts) a ≡ true)
         ⊎ (is_member (labels_of_last (root_counts (tree_count ts))) a ≡ true)
         → (is_member (node_labels counts root_counts ts) a ≡ true → HasNode counts root_counts ts a)
         → (is_member (node_labels counts (counts l) cs) a ≡ true → HasNode counts (counts l) cs a)
         → HasNode counts root_counts (more ts l f cs) a
-    in_earlier_or_last (inl k) of_the_rest in_children = inl (of_the_rest k)
-    in_earlier_or_last (inr k) of_the_rest in_children =
-        by_root_counts (root_counts (tree_count ts)) refl k in_children
+    node_in_earlier_or_last (inl is_listed) node_earlier node_below = inl (node_earlier is_listed)
+    node_in_earlier_or_last (inr is_listed) node_earlier node_below =
+        node_in_last (root_counts (tree_count ts)) refl is_listed node_below
 
 -- there is such a node exactly if its label is in the list of the labels of such nodes
-pub node_labels_are : (counts : ℕ → ℕ → Bool) (root_counts : ℕ → Bool) (ts : Trees) (a : ℕ)
+pub node_iff_listed : (counts : ℕ → ℕ → Bool) (root_counts : ℕ → Bool) (ts : Trees) (a : ℕ)
     → HasNode counts root_counts ts a ↔ (is_member (node_labels counts root_counts ts) a ≡ true)
-node_labels_are counts root_counts ts a =
-    (node_listed counts root_counts ts a, listed_node counts root_counts ts a)
+node_iff_listed counts root_counts ts a =
+    (node_is_listed counts root_counts ts a, listed_has_node counts root_counts ts a)
 
 -- ---- of a proof
 
 -- an essential node is a node
-pub label_member : (db : List Statement) (essential : Bool) (d : Trees) (a : ℕ)
+pub node_label_is_member : (db : List Statement) (essential : Bool) (d : Trees) (a : ℕ)
     → IsNodeLabel db essential d a → is_member (postfix d) a ≡ true
-label_member db essential d a h = node_member (child_counts db essential) each_root d a h
+node_label_is_member db essential d a is_node_label =
+    node_is_member (child_counts db essential) each_root d a is_node_label
 
 -- without the flag each label counts
-pub all_labels : (db : List Statement) (d : Trees) (a : ℕ)
+pub node_label_iff_member : (db : List Statement) (d : Trees) (a : ℕ)
     → IsNodeLabel db false d a ↔ (is_member (postfix d) a ≡ true)
-all_labels db d a = (label_member db false d a, member_node d a)
+node_label_iff_member db d a = (node_label_is_member db false d a, member_has_node d a)

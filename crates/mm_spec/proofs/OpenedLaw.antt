@@ -40,15 +40,15 @@ IsAlike f =
 
 pub as_axiom_keeps : {X : Type 0} (f : Statement → X) → IsAlike f → (s : Statement)
     → f (as_axiom s) ≡ f s
-as_axiom_keeps f h (constants k xs d) = refl
-as_axiom_keeps f h (variables k xs d) = refl
-as_axiom_keeps f h (disjoint k xs d) = refl
-as_axiom_keeps f h (floating l k xs d) = refl
-as_axiom_keeps f h (essential l k xs d) = refl
-as_axiom_keeps f h (axiomatic l k xs d) = refl
-as_axiom_keeps f h (provable l k xs e ps d) = grind (arith, common_steps)
-as_axiom_keeps f h (opening k) = refl
-as_axiom_keeps f h (closing k) = refl
+as_axiom_keeps f is_alike (constants k xs d) = refl
+as_axiom_keeps f is_alike (variables k xs d) = refl
+as_axiom_keeps f is_alike (disjoint k xs d) = refl
+as_axiom_keeps f is_alike (floating l k xs d) = refl
+as_axiom_keeps f is_alike (essential l k xs d) = refl
+as_axiom_keeps f is_alike (axiomatic l k xs d) = refl
+as_axiom_keeps f is_alike (provable l k xs e ps d) = grind (arith, common_steps)
+as_axiom_keeps f is_alike (opening k) = refl
+as_axiom_keeps f is_alike (closing k) = refl
 
 -- ---- lists
 
@@ -62,32 +62,34 @@ got_axiom [] (suc j) = refl
 got_axiom (s ∷ db) zero = refl
 got_axiom (s ∷ db) (suc j) = got_axiom db j
 
-at_mapped : (db : List Statement) (j : ℕ)
+statement_at_is_mapped : (db : List Statement) (j : ℕ)
     → statement_at (axioms_of db) j ≡ map as_axiom (statement_at db j)
-at_mapped db j = grind (arith, common_steps, got_axiom)
+statement_at_is_mapped db j = grind (arith, common_steps, got_axiom)
 
-count_kept : (p : Statement → Bool) → IsAlike p → (db : List Statement)
+count_is_kept : (p : Statement → Bool) → IsAlike p → (db : List Statement)
     → count_by p (axioms_of db) ≡ count_by p db
-count_kept p h [] = refl
-count_kept p h (s ∷ db) =
-    grind (arith, common_steps, as_axiom_keeps, sum_by-cons, count_kept p h db)
+count_is_kept p is_alike [] = refl
+count_is_kept p is_alike (s ∷ db) =
+    grind (arith, common_steps, as_axiom_keeps, sum_by-cons, count_is_kept p is_alike db)
 
-flat_kept : {X : Type 0} (f : Statement → List X) → IsAlike f → (db : List Statement)
+flat_is_kept : {X : Type 0} (f : Statement → List X) → IsAlike f → (db : List Statement)
     → flat_map f (axioms_of db) ≡ flat_map f db
-flat_kept f h db =
-    flat_map-map f as_axiom db ∙ ap (λ g. flat_map g db) (fun_ext (as_axiom_keeps f h))
+flat_is_kept f is_alike db =
+    flat_map-map f as_axiom db ∙ ap (λ g. flat_map g db) (fun_ext (as_axiom_keeps f is_alike))
 
-flat_at : {X : Type 0} (f : Statement → List X) → IsAlike f → (db : List Statement) (j : ℕ)
+flat_at_is_kept : {X : Type 0} (f : Statement → List X) → IsAlike f → (db : List Statement) (j : ℕ)
     → flat_map f (statement_at (axioms_of db) j) ≡ flat_map f (statement_at db j)
-flat_at f h db j = ap (flat_map f) (at_mapped db j) ∙ flat_kept f h (statement_at db j)
+flat_at_is_kept f is_alike db j =
+    ap (flat_map f) (statement_at_is_mapped db j) ∙ flat_is_kept f is_alike (statement_at db j)
 
-any_at : (p : Statement → Bool) → IsAlike p → (db : List Statement) (j : ℕ)
+any_at_is_kept : (p : Statement → Bool) → IsAlike p → (db : List Statement) (j : ℕ)
     → list_any p (statement_at (axioms_of db) j) ≡ list_any p (statement_at db j)
-any_at p h db j = grind (arith, common_steps, any_map, at_mapped, fun_ext, as_axiom_keeps)
+any_at_is_kept p is_alike db j =
+    grind (arith, common_steps, any_map, statement_at_is_mapped, fun_ext, as_axiom_keeps)
 
-got_kept : {X : Type 0} (f : Statement → X) → IsAlike f → (db : List Statement) (j : ℕ)
+got_is_kept : {X : Type 0} (f : Statement → X) → IsAlike f → (db : List Statement) (j : ℕ)
     → option_map f (slice_get (axioms_of db) j) ≡ option_map f (slice_get db j)
-got_kept f h db j = grind (arith, common_steps, got_axiom, as_axiom_keeps)
+got_is_kept f is_alike db j = grind (arith, common_steps, got_axiom, as_axiom_keeps)
 
 -- ---- scope
 
@@ -95,118 +97,123 @@ module _ (db : List Statement) where
   abbrev as_axioms : List Statement
   as_axioms = axioms_of db
 
-  depth_kept : depth as_axioms ≡ depth db
-  depth_kept = grind (arith, common_steps, count_kept, fun_ext, take-map)
+  depth_is_kept : depth as_axioms ≡ depth db
+  depth_is_kept = grind (arith, common_steps, count_is_kept, fun_ext, take-map)
 
-  stays_kept : is_block_open as_axioms ≡ is_block_open db
-  stays_kept =
+  open_blocks_are_kept : is_block_open as_axioms ≡ is_block_open db
+  open_blocks_are_kept =
       fun_ext (λ j. fun_ext
       (λ k. ap
       (λ (f : ℕ → ℕ). list_all (λ i. nat_le (f j) (f i)) (range_with_len (j + 1) (k - j)))
-      depth_kept))
+      depth_is_kept))
 
-  is_active_kept : is_active as_axioms ≡ is_active db
-  is_active_kept = fun_ext (λ j. fun_ext (λ k.
+  activity_is_kept : is_active as_axioms ≡ is_active db
+  activity_is_kept = fun_ext (λ j. fun_ext (λ k.
       ap (λ o. nat_lt j k && is_some_still_active o (is_block_open as_axioms j k)) (got_axiom db j)
-      ∙ ap (λ b. nat_lt j k && b) (by_statement (slice_get db j) (is_block_open as_axioms j k))
+      ∙ ap (λ b. nat_lt j k && b) (still_active_kept (slice_get db j) (is_block_open as_axioms j k))
       ∙ ap (λ (s : ℕ → ℕ → Bool). nat_lt j k && is_some_still_active (slice_get db j) (s j k))
-      stays_kept))
+      open_blocks_are_kept))
     where
-      by_statement : (o : Option Statement) (b : Bool)
+      still_active_kept : (o : Option Statement) (b : Bool)
           → is_some_still_active (option_map as_axiom o) b ≡ is_some_still_active o b
-      by_statement None b = refl
-      by_statement (Some s) b = as_axiom_keeps (λ s. is_still_active s b) (λ l k xs e ps d. refl) s
+      still_active_kept None b = refl
+      still_active_kept (Some s) b =
+          as_axiom_keeps (λ s. is_still_active s b) (λ l k xs e ps d. refl) s
 
-  active_kept : active as_axioms ≡ active db
-  active_kept =
+  active_are_kept : active as_axioms ≡ active db
+  active_are_kept =
       fun_ext (λ k. ap
-      (λ (t : ℕ → ℕ → Bool). filter (λ j. t j k) (range_with_len 0 k)) is_active_kept)
+      (λ (t : ℕ → ℕ → Bool). filter (λ j. t j k) (range_with_len 0 k)) activity_is_kept)
 
   -- ---- symbols and frames
 
-  names_kept : symbol_names as_axioms ≡ symbol_names db
-  names_kept = grind (arith, common_steps, flat_kept)
+  names_are_kept : symbol_names as_axioms ≡ symbol_names db
+  names_are_kept = grind (arith, common_steps, flat_is_kept)
 
-  formula_kept : formula_at as_axioms ≡ formula_at db
-  formula_kept = grind (arith, common_steps, flat_at, fun_ext, names_kept)
+  formulas_are_kept : formula_at as_axioms ≡ formula_at db
+  formulas_are_kept = grind (arith, common_steps, flat_at_is_kept, fun_ext, names_are_kept)
 
-  variable_kept : is_variable_number as_axioms ≡ is_variable_number db
-  variable_kept = grind (arith, common_steps, flat_kept, fun_ext, names_kept)
+  variables_are_kept : is_variable_number as_axioms ≡ is_variable_number db
+  variables_are_kept = grind (arith, common_steps, flat_is_kept, fun_ext, names_are_kept)
 
   active_of_kept : (kind : Statement → Bool) → IsAlike kind
       → active_of kind as_axioms ≡ active_of kind db
-  active_of_kept kind h =
+  active_of_kept kind is_alike =
       fun_ext (λ k. ap₂ (λ (t : ℕ → Bool) (a : ℕ → List ℕ). filter t (a k))
-      (fun_ext (any_at kind h db)) active_kept)
+      (fun_ext (any_at_is_kept kind is_alike db)) active_are_kept)
 
-  mandatory_kept : mandatory_variables as_axioms ≡ mandatory_variables db
-  mandatory_kept = fun_ext (λ k.
+  mandatory_are_kept : mandatory_variables as_axioms ≡ mandatory_variables db
+  mandatory_are_kept = fun_ext (λ k.
       ap (λ (v : ℕ → Bool). filter v
       (formula_at as_axioms k
-      ++ flat_map (formula_at as_axioms) (active_of is_essential as_axioms k))) variable_kept
+      ++ flat_map (formula_at as_axioms) (active_of is_essential as_axioms k))) variables_are_kept
       ∙ ap₂ (λ (f : ℕ → Formula) (a : ℕ → List ℕ). filter (is_variable_number db)
-      (f k ++ flat_map f (a k))) formula_kept
+      (f k ++ flat_map f (a k))) formulas_are_kept
       (active_of_kept is_essential (λ l k xs e ps d. refl)))
 
-  hypotheses_kept : mandatory_hypotheses as_axioms ≡ mandatory_hypotheses db
-  hypotheses_kept = fun_ext (λ k.
+  hypotheses_are_kept : mandatory_hypotheses as_axioms ≡ mandatory_hypotheses db
+  hypotheses_are_kept = fun_ext (λ k.
       ap₂ (λ (e f : ℕ → Bool). filter
       (λ j. e j
       || (f j && list_any (is_member (mandatory_variables as_axioms k))
       (formula_at as_axioms j))) (active as_axioms k))
-      (fun_ext (any_at is_essential (λ l k xs e ps d. refl) db))
-      (fun_ext (any_at is_floating (λ l k xs e ps d. refl) db))
+      (fun_ext (any_at_is_kept is_essential (λ l k xs e ps d. refl) db))
+      (fun_ext (any_at_is_kept is_floating (λ l k xs e ps d. refl) db))
       ∙ ap₂ (λ (m : ℕ → List ℕ) (f : ℕ → Formula). filter
       (λ j. list_any is_essential (statement_at db j)
       || (list_any is_floating (statement_at db j) && list_any (is_member (m k)) (f j)))
-      (active as_axioms k)) mandatory_kept formula_kept
+      (active as_axioms k)) mandatory_are_kept formulas_are_kept
       ∙ ap (λ (a : ℕ → List ℕ). filter
       (λ j. list_any is_essential (statement_at db j)
       || (list_any is_floating (statement_at db j)
-      && list_any (is_member (mandatory_variables db k)) (formula_at db j))) (a k)) active_kept)
+      && list_any (is_member (mandatory_variables db k)) (formula_at db j))) (a k)) active_are_kept)
 
-  disjoint_kept : disjoint_at as_axioms ≡ disjoint_at db
-  disjoint_kept =
+  disjoint_are_kept : disjoint_at as_axioms ≡ disjoint_at db
+  disjoint_are_kept =
       fun_ext (λ k. fun_ext
       (λ x. fun_ext
       (λ y. ap₂
       (λ (f : ℕ → Formula) (a : ℕ → List ℕ). not (x == y)
-      && list_any (λ j. is_member (f j) x && is_member (f j) y) (a k)) formula_kept
+      && list_any (λ j. is_member (f j) x && is_member (f j) y) (a k)) formulas_are_kept
       (active_of_kept is_disjoint_statement (λ l k xs e ps d. refl)))))
 
-  pairs_kept : mandatory_pairs as_axioms ≡ mandatory_pairs db
-  pairs_kept = fun_ext (λ k.
+  pairs_are_kept : mandatory_pairs as_axioms ≡ mandatory_pairs db
+  pairs_are_kept = fun_ext (λ k.
       ap₂ (λ (m : ℕ → List ℕ) (j : ℕ → ℕ → ℕ → Bool). filter
       (λ p. nat_lt p.low p.high && is_member (m k) p.low && is_member (m k) p.high
-      && j k p.low p.high) (pairs_of (length (symbol_names as_axioms)))) mandatory_kept
-      disjoint_kept
+      && j k p.low p.high) (pairs_of (length (symbol_names as_axioms)))) mandatory_are_kept
+      disjoint_are_kept
       ∙ ap (λ (ns : List Bytes). filter
       (λ p. nat_lt p.low p.high && is_member (mandatory_variables db k) p.low
       && is_member (mandatory_variables db k) p.high && disjoint_at db k p.low p.high)
-      (pairs_of (length ns))) names_kept)
+      (pairs_of (length ns))) names_are_kept)
 
   abbrev frame : List Formula → List Pair → Formula → Frame
   frame hs ps f = record { hypotheses = hs; pairs = ps; formula = f }
 
-  frame_kept : frame_at as_axioms ≡ frame_at db
-  frame_kept = fun_ext (λ k.
+  frames_are_kept : frame_at as_axioms ≡ frame_at db
+  frames_are_kept = fun_ext (λ k.
       ap₂ (λ (f : ℕ → Formula) (h : ℕ → List ℕ). frame (map f (h k)) (mandatory_pairs as_axioms k)
-      (f k)) formula_kept hypotheses_kept
+      (f k)) formulas_are_kept hypotheses_are_kept
       ∙ ap (λ (p : ℕ → List Pair). frame (map (formula_at db) (mandatory_hypotheses db k)) (p k)
-      (formula_at db k)) pairs_kept)
+      (formula_at db k)) pairs_are_kept)
 
   -- ---- what a proof is made over
 
-  rule_same : (j : ℕ) (s : Statement) → rule_of as_axioms j s ≡ rule_of db j s
-  rule_same j (constants k xs d) = refl
-  rule_same j (variables k xs d) = refl
-  rule_same j (disjoint k xs d) = refl
-  rule_same j (floating l k xs d) = ap (λ (f : ℕ → Formula). Some (hypothesis (f j))) formula_kept
-  rule_same j (essential l k xs d) = ap (λ (f : ℕ → Formula). Some (hypothesis (f j))) formula_kept
-  rule_same j (axiomatic l k xs d) = ap (λ (f : ℕ → Frame). Some (assertion (f j))) frame_kept
-  rule_same j (provable l k xs e ps d) = ap (λ (f : ℕ → Frame). Some (assertion (f j))) frame_kept
-  rule_same j (opening k) = refl
-  rule_same j (closing k) = refl
+  rules_are_equal : (j : ℕ) (s : Statement) → rule_of as_axioms j s ≡ rule_of db j s
+  rules_are_equal j (constants k xs d) = refl
+  rules_are_equal j (variables k xs d) = refl
+  rules_are_equal j (disjoint k xs d) = refl
+  rules_are_equal j (floating l k xs d) =
+      ap (λ (f : ℕ → Formula). Some (hypothesis (f j))) formulas_are_kept
+  rules_are_equal j (essential l k xs d) =
+      ap (λ (f : ℕ → Formula). Some (hypothesis (f j))) formulas_are_kept
+  rules_are_equal j (axiomatic l k xs d) =
+      ap (λ (f : ℕ → Frame). Some (assertion (f j))) frames_are_kept
+  rules_are_equal j (provable l k xs e ps d) =
+      ap (λ (f : ℕ → Frame). Some (assertion (f j))) frames_are_kept
+  rules_are_equal j (opening k) = refl
+  rules_are_equal j (closing k) = refl
 
   abbrev rule_if_any : ℕ → Option Statement → Option Rule
   rule_if_any j o = elim o [ None ↦ None | Some s ↦ rule_of db j s ]
@@ -217,62 +224,67 @@ module _ (db : List Statement) where
   abbrev if_active : Bool → Option Rule → Option Rule
   if_active b r = elim b [ false ↦ None | true ↦ r ]
 
-  rule_kept : rule_at as_axioms ≡ rule_at db
-  rule_kept = fun_ext (λ k. fun_ext (λ j.
+  rules_are_kept : rule_at as_axioms ≡ rule_at db
+  rules_are_kept = fun_ext (λ k. fun_ext (λ j.
       ap (λ (t : ℕ → ℕ → Bool). if_active (t j k) (axiom_rule_if_any j (slice_get as_axioms j)))
-      is_active_kept
+      activity_is_kept
       ∙ ap (if_active (is_active db j k))
-      (ap (axiom_rule_if_any j) (got_axiom db j) ∙ by_statement j (slice_get db j))))
+      (ap (axiom_rule_if_any j) (got_axiom db j) ∙ rule_kept_if_any j (slice_get db j))))
     where
-      by_statement : (j : ℕ) (o : Option Statement)
+      rule_kept_if_any : (j : ℕ) (o : Option Statement)
           → axiom_rule_if_any j (option_map as_axiom o) ≡ rule_if_any j o
-      by_statement j None = refl
-      by_statement j (Some s) =
-          as_axiom_keeps (rule_of as_axioms j) (λ l k xs e ps d. refl) s ∙ rule_same j s
+      rule_kept_if_any j None = refl
+      rule_kept_if_any j (Some s) =
+          as_axiom_keeps (rule_of as_axioms j) (λ l k xs e ps d. refl) s ∙ rules_are_equal j s
 
   abbrev context : (ℕ → Bool) → (ℕ → ℕ → Bool) → (ℕ → Option Rule) → Context
   context v d r = record { is_variable = v; is_disjoint = d; rule = r }
 
-  context_kept : context_at as_axioms ≡ context_at db
-  context_kept = fun_ext (λ k.
+  contexts_are_kept : context_at as_axioms ≡ context_at db
+  contexts_are_kept = fun_ext (λ k.
       ap₂ (λ (v : ℕ → Bool) (r : ℕ → ℕ → Option Rule). context v (disjoint_at as_axioms k) (r k))
-      variable_kept rule_kept
+      variables_are_kept rules_are_kept
       ∙ ap (λ (d : ℕ → ℕ → ℕ → Bool). context (is_variable_number db) (d k) (rule_at db k))
-      disjoint_kept)
+      disjoint_are_kept)
 
 -- ---- the statements as they count, with the flag or without
 
-for_either : {X : Type 0} (F : List Statement → X)
+kept_in_either_case : {X : Type 0} (F : List Statement → X)
     → ((db : List Statement) → F (axioms_of db) ≡ F db)
     → (w : Bool) (db : List Statement) → F (counted w db) ≡ F db
-for_either F h true db = h db
-for_either F h false db = refl
+kept_in_either_case F kept_as_axioms true db = kept_as_axioms db
+kept_in_either_case F kept_as_axioms false db = refl
 
 module _ (w : Bool) (db : List Statement) where
   pub counted_length : length (counted w db) ≡ length db
-  counted_length = for_either length (λ db. length-map db as_axiom) w db
+  counted_length = kept_in_either_case length (λ db. length-map db as_axiom) w db
 
   pub counted_count : (p : Statement → Bool) → IsAlike p → count_by p (counted w db) ≡ count_by p db
-  counted_count p h = for_either (count_by p) (count_kept p h) w db
+  counted_count p is_alike = kept_in_either_case (count_by p) (count_is_kept p is_alike) w db
 
   pub counted_any : (p : Statement → Bool) → IsAlike p → (j : ℕ)
       → list_any p (statement_at (counted w db) j) ≡ list_any p (statement_at db j)
-  counted_any p h j = for_either (λ db. list_any p (statement_at db j)) (λ db. any_at p h db j) w db
+  counted_any p is_alike j =
+      kept_in_either_case (λ db. list_any p (statement_at db j))
+      (λ db. any_at_is_kept p is_alike db j) w db
 
   pub counted_flat : {X : Type 0} (f : Statement → List X) → IsAlike f → (j : ℕ)
       → flat_map f (statement_at (counted w db) j) ≡ flat_map f (statement_at db j)
-  counted_flat f h j =
-      for_either (λ db. flat_map f (statement_at db j)) (λ db. flat_at f h db j) w db
+  counted_flat f is_alike j =
+      kept_in_either_case (λ db. flat_map f (statement_at db j))
+      (λ db. flat_at_is_kept f is_alike db j) w db
 
   pub counted_got : {X : Type 0} (f : Statement → X) → IsAlike f → (j : ℕ)
       → option_map f (slice_get (counted w db) j) ≡ option_map f (slice_get db j)
-  counted_got f h j =
-      for_either (λ db. option_map f (slice_get db j)) (λ db. got_kept f h db j) w db
+  counted_got f is_alike j =
+      kept_in_either_case (λ db. option_map f (slice_get db j)) (λ db. got_is_kept f is_alike db j)
+      w db
 
   pub counted_then : {X : Type 0} (f : Statement → Option X) → IsAlike f → (j : ℕ)
       → option_and_then f (slice_get (counted w db) j) ≡ option_and_then f (slice_get db j)
-  counted_then {X} f h j =
-      sym (flat_map_is_and_then (slice_get (counted w db) j)) ∙ ap flatten (counted_got f h j)
+  counted_then {X} f is_alike j =
+      sym (flat_map_is_and_then (slice_get (counted w db) j))
+      ∙ ap flatten (counted_got f is_alike j)
       ∙ flat_map_is_and_then (slice_get db j)
     where
       flatten : Option (Option X) → Option X
@@ -283,54 +295,54 @@ module _ (w : Bool) (db : List Statement) where
       flat_map_is_and_then (Some s) = refl
 
   pub counted_depth : depth (counted w db) ≡ depth db
-  counted_depth = for_either depth depth_kept w db
+  counted_depth = kept_in_either_case depth depth_is_kept w db
 
   pub counted_stays : is_block_open (counted w db) ≡ is_block_open db
-  counted_stays = for_either is_block_open stays_kept w db
+  counted_stays = kept_in_either_case is_block_open open_blocks_are_kept w db
 
   pub counted_active : is_active (counted w db) ≡ is_active db
-  counted_active = for_either is_active is_active_kept w db
+  counted_active = kept_in_either_case is_active activity_is_kept w db
 
   pub counted_names : symbol_names (counted w db) ≡ symbol_names db
-  counted_names = for_either symbol_names names_kept w db
+  counted_names = kept_in_either_case symbol_names names_are_kept w db
 
   pub counted_variable : is_variable_number (counted w db) ≡ is_variable_number db
-  counted_variable = for_either is_variable_number variable_kept w db
+  counted_variable = kept_in_either_case is_variable_number variables_are_kept w db
 
   pub counted_formula : formula_at (counted w db) ≡ formula_at db
-  counted_formula = for_either formula_at formula_kept w db
+  counted_formula = kept_in_either_case formula_at formulas_are_kept w db
 
   pub counted_label : label_at (counted w db) ≡ label_at db
   counted_label =
       fun_ext (λ j. ap (flat_map (λ v. v)) (counted_flat label_words (λ l k xs e ps d. refl) j))
 
   pub counted_mandatory : mandatory_variables (counted w db) ≡ mandatory_variables db
-  counted_mandatory = for_either mandatory_variables mandatory_kept w db
+  counted_mandatory = kept_in_either_case mandatory_variables mandatory_are_kept w db
 
   pub counted_hypotheses : mandatory_hypotheses (counted w db) ≡ mandatory_hypotheses db
-  counted_hypotheses = for_either mandatory_hypotheses hypotheses_kept w db
+  counted_hypotheses = kept_in_either_case mandatory_hypotheses hypotheses_are_kept w db
 
   pub counted_pairs : mandatory_pairs (counted w db) ≡ mandatory_pairs db
-  counted_pairs = for_either mandatory_pairs pairs_kept w db
+  counted_pairs = kept_in_either_case mandatory_pairs pairs_are_kept w db
 
   pub counted_context : context_at (counted w db) ≡ context_at db
-  counted_context = for_either context_at context_kept w db
+  counted_context = kept_in_either_case context_at contexts_are_kept w db
 
   pub counted_complete : AreComplete db → AreComplete (counted w db)
-  counted_complete h k l =
+  counted_complete are_complete k l =
       subst (λ (c : ℕ → Context). HasCompleteFrame (c k) ((c k).rule l)) (sym counted_context)
-      (h k l)
+      (are_complete k l)
 
 -- a theorem among the counted statements is the same statement in what was read
 pub theorem_read : (w : Bool) (db : List Statement) (j : ℕ) (l : Token) (k : ℕ) (xs : List Token)
     → (e : ℕ) (ps : List Token) (d : ℕ)
     → slice_get (counted w db) j ≡ Some (provable l k xs e ps d)
     → slice_get db j ≡ Some (provable l k xs e ps d)
-theorem_read false db j l k xs e ps d h = h
-theorem_read true db j l k xs e ps d h = grind (arith, common_steps, got_axiom)
+theorem_read false db j l k xs e ps d theorem_is_at_j = theorem_is_at_j
+theorem_read true db j l k xs e ps d theorem_is_at_j = grind (arith, common_steps, got_axiom)
 
 pub theorem_still : (w : Bool) (db : List Statement) (j : ℕ)
     → list_any is_theorem (statement_at (counted w db) j) ≡ true
     → list_any is_theorem (statement_at db j) ≡ true
-theorem_still w db j h =
+theorem_still w db j is_theorem_at_j =
     grind (arith, common_steps, statement_passes, passing_statement, theorem_read)

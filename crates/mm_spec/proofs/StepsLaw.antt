@@ -9,90 +9,96 @@ use Rattle.mm_spec.specs.Derivation.{none, more, formulas, postfix, AreDerivatio
 use Rattle.mm_spec.specs.Steps.{Step, label, marked}
 use Rattle.mm_spec.specs.Valid.{Reason, StepFails, Adds, Plain}
 use Rattle.mm_spec.specs.Laws.Complete.{HasCompleteFrame}
-use Rattle.mm_spec.proofs.MachineLaw.{RunFailure, proceed, AreGood, StepOutcome, step_outcome}
-use Rattle.mm_spec.proofs.MachineLaw.{forest_grown}
+use Rattle.mm_spec.proofs.MachineLaw.{RunFailure, proceed, AreGood, StepOutcome, step_has_outcome}
+use Rattle.mm_spec.proofs.MachineLaw.{step_grows_forest}
 use Rattle.mm_spec.specs.Laws.Stack.{IsCompleteRule, top, IsLastFormula, EndsInFormula}
 use Rattle.mm_spec.specs.Laws.Stack.{step_entries, IsGoodStep}
 use Rattle.mm_spec.specs.Laws.Stack.{AreGoodSteps}
 
-pub top_append : (fs : List Formula) (f : Formula) → top (fs ++ f ∷ []) ≡ f
-top_append [] f = refl
-top_append (g ∷ []) f = refl
-top_append (g ∷ h ∷ fs) f = top_append (h ∷ fs) f
+pub top_of_appended : (fs : List Formula) (f : Formula) → top (fs ++ f ∷ []) ≡ f
+top_of_appended [] f = refl
+top_of_appended (g ∷ []) f = refl
+top_of_appended (g ∷ h ∷ fs) f = top_of_appended (h ∷ fs) f
 
 module _ (c : Context) where
-  follows_good : (r : Option Rule) (ps : List Formula) (f : Formula) → HasCompleteFrame c r
+  followed_rule_is_complete : (r : Option Rule) (ps : List Formula) (f : Formula)
+      → HasCompleteFrame c r
       → Follows c r ps f
       → IsCompleteRule c r
-  follows_good None ps f all_complete h = h
-  follows_good (Some (hypothesis g)) ps f all_complete h = tt
-  follows_good (Some (assertion a)) ps f all_complete h = all_complete
+  followed_rule_is_complete None ps f all_complete follows = follows
+  followed_rule_is_complete (Some (hypothesis g)) ps f all_complete follows = tt
+  followed_rule_is_complete (Some (assertion a)) ps f all_complete follows = all_complete
 
-  good_append : (xs ys : List ℕ) → AreGood c xs → AreGood c ys → AreGood c (xs ++ ys)
-  good_append [] ys g h = h
-  good_append (x ∷ xs) ys g h = (g.0, good_append xs ys g.1 h)
+  appended_are_good : (xs ys : List ℕ) → AreGood c xs → AreGood c ys → AreGood c (xs ++ ys)
+  appended_are_good [] ys xs_are_good ys_are_good = ys_are_good
+  appended_are_good (x ∷ xs) ys xs_are_good ys_are_good =
+      (xs_are_good.0, appended_are_good xs ys xs_are_good.1 ys_are_good)
 
   -- in a forest of derivations each label stands for something
-  pub forest_good : ((l : ℕ) → HasCompleteFrame c (c.rule l)) → (forest : Trees)
+  pub forest_labels_are_good : ((l : ℕ) → HasCompleteFrame c (c.rule l)) → (forest : Trees)
       → AreDerivations c forest
       → AreGood c (postfix forest)
-  forest_good all_complete none d = tt
-  forest_good all_complete (more ts l f cs) d =
+  forest_labels_are_good all_complete none are_derivations = tt
+  forest_labels_are_good all_complete (more ts l f cs) are_derivations =
       grind (
         arith,
         common_steps,
-        follows_good,
-        good_append,
-        forest_good all_complete ts d.0,
-        forest_good all_complete cs d.1,
+        followed_rule_is_complete,
+        appended_are_good,
+        forest_labels_are_good all_complete ts are_derivations.0,
+        forest_labels_are_good all_complete cs are_derivations.1,
       )
 
-  after_at : (lists : List (List ℕ)) (ends : List Formula) (j : ℕ)
-      → AllZip (EndsInFormula c) lists ends
-      → j < length ends
-      → (then : List ℕ) × (f : Formula) × (slice_get lists j ≡ Some then)
-      × (slice_get ends j ≡ Some f) × EndsInFormula c then f
-  after_at [] [] j b h = absurd (omega arith)
-  after_at [] (f ∷ fs) j b h = absurd b
-  after_at (x ∷ xs) [] j b h = absurd b
-  after_at (x ∷ xs) (f ∷ fs) zero b h = (x, f, refl, refl, b.0)
-  after_at (x ∷ xs) (f ∷ fs) (suc j) b h = after_at xs fs j b.1 (omega arith)
+  end_after_step : (lists : List (List ℕ)) (last_formulas : List Formula) (j : ℕ)
+      → AllZip (EndsInFormula c) lists last_formulas
+      → j < length last_formulas
+      → (earlier_labels : List ℕ) × (f : Formula) × (slice_get lists j ≡ Some earlier_labels)
+      × (slice_get last_formulas j ≡ Some f) × EndsInFormula c earlier_labels f
+  end_after_step [] [] j each_ends j_lt_length = absurd (omega arith)
+  end_after_step [] (f ∷ fs) j each_ends j_lt_length = absurd each_ends
+  end_after_step (x ∷ xs) [] j each_ends j_lt_length = absurd each_ends
+  end_after_step (x ∷ xs) (f ∷ fs) zero each_ends j_lt_length = (x, f, refl, refl, each_ends.0)
+  end_after_step (x ∷ xs) (f ∷ fs) (suc j) each_ends j_lt_length =
+      end_after_step xs fs j each_ends.1 (omega arith)
 
-  pub after_more : (lists : List (List ℕ)) (ends : List Formula) (x : List ℕ) (f : Formula)
-      → AllZip (EndsInFormula c) lists ends → EndsInFormula c x f
-      → AllZip (EndsInFormula c) (lists ++ x ∷ []) (ends ++ f ∷ [])
-  after_more [] [] x f b h = (h, tt)
-  after_more [] (g ∷ gs) x f b h = absurd b
-  after_more (y ∷ ys) [] x f b h = absurd b
-  after_more (y ∷ ys) (g ∷ gs) x f b h = (b.0, after_more ys gs x f b.1 h)
+  pub ends_after_one_more : (lists : List (List ℕ)) (last_formulas : List Formula) (x : List ℕ)
+      (f : Formula)
+      → AllZip (EndsInFormula c) lists last_formulas → EndsInFormula c x f
+      → AllZip (EndsInFormula c) (lists ++ x ∷ []) (last_formulas ++ f ∷ [])
+  ends_after_one_more [] [] x f each_ends ends_in_f = (ends_in_f, tt)
+  ends_after_one_more [] (g ∷ gs) x f each_ends ends_in_f = absurd each_ends
+  ends_after_one_more (y ∷ ys) [] x f each_ends ends_in_f = absurd each_ends
+  ends_after_one_more (y ∷ ys) (g ∷ gs) x f each_ends ends_in_f =
+      (each_ends.0, ends_after_one_more ys gs x f each_ends.1 ends_in_f)
 
   -- the run over steps; ends are the formulas after the steps so far
   abbrev pub run_steps : List Formula → List Step → List Formula → Result (List Formula) RunFailure
-  run_steps ends [] es = Ok es
-  run_steps ends (s ∷ steps) es =
-      proceed (step_entries c s ends es) (length ends)
-      (λ out. run_steps (ends ++ top out ∷ []) steps out)
+  run_steps last_formulas [] es = Ok es
+  run_steps last_formulas (s ∷ steps) es =
+      proceed (step_entries c s last_formulas es) (length last_formulas)
+      (λ out. run_steps (last_formulas ++ top out ∷ []) steps out)
 
   -- a step that fails after a forest
-  pub record StoppedSteps (lists : List (List ℕ)) (old : List ℕ) (steps : List Step)
+  pub record StoppedSteps (lists : List (List ℕ)) (labels_before : List ℕ) (steps : List Step)
       (reason : Reason) : Type 0 where
     pub before : List Step
     pub first : Step
     pub after : List Step
     pub splits : steps ≡ before ++ first ∷ after
     pub labels : List ℕ
-    pub plain : Plain c lists old before labels
+    pub plain : Plain c lists labels_before before labels
     pub forest : Trees
     pub derivations : AreDerivations c forest
-    pub is : postfix forest ≡ labels
+    pub labels_are : postfix forest ≡ labels
     pub fails : StepFails c first (formulas forest) reason
 
   abbrev pub StepsOutcome : List (List ℕ) → List ℕ → List Step → Result (List Formula) RunFailure
       → Type 0
-  StepsOutcome lists old steps (Ok out) =
-      (all : List ℕ) × Plain c lists old steps all × (forest : Trees) × AreDerivations c forest
+  StepsOutcome lists labels_before steps (Ok out) =
+      (all : List ℕ) × Plain c lists labels_before steps all × (forest : Trees) × AreDerivations c
+      forest
       × (postfix forest ≡ all) × (formulas forest ≡ out)
-  StepsOutcome lists old steps (Err e) = StoppedSteps lists old steps e.reason
+  StepsOutcome lists labels_before steps (Err e) = StoppedSteps lists labels_before steps e.reason
 
   -- a step after a forest is one more tree, or fails
   abbrev pub GrownForest : List (List ℕ) → Trees → Step → Result (List Formula) Reason → Type 0
@@ -101,94 +107,116 @@ module _ (c : Context) where
       × (formulas next ≡ out) × IsLastFormula next (top out)
   GrownForest lists forest s (Err reason) = StepFails c s (formulas forest) reason
 
-  last_top : (forest : Trees) (fs : List Formula) (f : Formula) → formulas forest ≡ fs ++ f ∷ []
+  last_formula_is_top : (forest : Trees) (fs : List Formula) (f : Formula)
+      → formulas forest ≡ fs ++ f ∷ []
       → IsLastFormula forest (top (formulas forest))
-  last_top none [] f e = cc
-  last_top none (g ∷ fs) f e = cc
-  last_top (more ts l f cs) fs g e = sym (top_append (formulas ts) f)
+  last_formula_is_top none [] f formulas_are = cc
+  last_formula_is_top none (g ∷ fs) f formulas_are = cc
+  last_formula_is_top (more ts l f cs) fs g formulas_are = sym (top_of_appended (formulas ts) f)
 
-  grows_label : (lists : List (List ℕ)) (forest : Trees) (l : ℕ) (r : Result (List Formula) Reason)
+  label_grows_forest : (lists : List (List ℕ)) (forest : Trees) (l : ℕ)
+      (r : Result (List Formula) Reason)
       → AreDerivations c forest → StepOutcome c (c.rule l) (formulas forest) r
       → GrownForest lists forest (label l) r
-  grows_label lists forest l (Err reason) d outcome = outcome
-  grows_label lists forest l (Ok out) d outcome =
-      grind (arith, common_steps, forest_grown, last_top)
+  label_grows_forest lists forest l (Err reason) are_derivations outcome = outcome
+  label_grows_forest lists forest l (Ok out) are_derivations outcome =
+      grind (arith, common_steps, step_grows_forest, last_formula_is_top)
 
   -- a marked step adds a copy of the last tree of an earlier forest
-  grows_marked : (lists : List (List ℕ)) (ends : List Formula) (forest : Trees) (j : ℕ)
-      → AreDerivations c forest → AllZip (EndsInFormula c) lists ends → j < length ends
-      → GrownForest lists forest (marked j) (step_entries c (marked j) ends (formulas forest))
-  grows_marked lists ends forest j d b h =
-      let at = after_at lists ends j b h in
+  marked_step_grows_forest : (lists : List (List ℕ)) (last_formulas : List Formula) (forest : Trees)
+      (j : ℕ)
+      → AreDerivations c forest → AllZip (EndsInFormula c) lists last_formulas → j < length
+      last_formulas
+      → GrownForest lists forest (marked j)
+      (step_entries c (marked j) last_formulas (formulas forest))
+  marked_step_grows_forest lists last_formulas forest j are_derivations each_ends j_lt_length =
+      let earlier = end_after_step lists last_formulas j each_ends j_lt_length in
       subst (λ o. GrownForest lists forest (marked j)
-      (elim o [ None ↦ Ok (formulas forest) | Some f ↦ Ok (formulas forest ++ f ∷ []) ])) (sym at.3)
-      (copy at.4.0 at.4.1 at.4.2 at.4.3)
+      (elim o [ None ↦ Ok (formulas forest) | Some f ↦ Ok (formulas forest ++ f ∷ []) ]))
+      (sym earlier.3)
+      (copied_tree_grows earlier.4.0 earlier.4.1 earlier.4.2 earlier.4.3)
     where
-      copy : (then : Trees) → AreDerivations c then → postfix then ≡ (after_at lists ends j b h).0
-          → IsLastFormula then (after_at lists ends j b h).1
+      copied_tree_grows : (earlier_forest : Trees) → AreDerivations c earlier_forest
+          → postfix earlier_forest ≡ (end_after_step lists last_formulas j each_ends j_lt_length).0
+          → IsLastFormula earlier_forest
+          (end_after_step lists last_formulas j each_ends j_lt_length).1
           → GrownForest lists forest (marked j)
-          (Ok (formulas forest ++ (after_at lists ends j b h).1 ∷ []))
-      copy none e p last = absurd last
-      copy (more ts l f cs) e p last =
-          let at = after_at lists ends j b h in
-          let is : formulas forest ++ f ∷ [] ≡ formulas forest ++ at.1 ∷ [] =
-          ap (λ x. formulas forest ++ x ∷ []) last in (
+          (Ok (formulas forest ++ (end_after_step lists last_formulas j each_ends j_lt_length).1
+          ∷ []))
+      copied_tree_grows none are_derivations_there labels_there last_formula = absurd last_formula
+      copied_tree_grows (more ts l f cs) are_derivations_there labels_there last_formula =
+          let earlier = end_after_step lists last_formulas j each_ends j_lt_length in
+          let formulas_equal : formulas forest ++ f ∷ [] ≡ formulas forest ++ earlier.1 ∷ [] =
+          ap (λ x. formulas forest ++ x ∷ []) last_formula in (
             more forest l f cs,
-            (d, e.1, e.2),
-            (at.0, postfix cs ++ l ∷ [], at.2, (more ts l f cs, e, p, refl), refl),
-            is,
-            subst (λ x. IsLastFormula (more forest l f cs) (top x)) is
-                (sym (top_append (formulas forest) f)),
+            (are_derivations, are_derivations_there.1, are_derivations_there.2),
+            (earlier.0, postfix cs ++ l ∷ [], earlier.2,
+            (more ts l f cs, are_derivations_there, labels_there, refl), refl),
+            formulas_equal,
+            subst (λ x. IsLastFormula (more forest l f cs) (top x)) formulas_equal
+                (sym (top_of_appended (formulas forest) f)),
           )
 
-  pub grows : (lists : List (List ℕ)) (ends : List Formula) (forest : Trees) (s : Step)
-      → AreDerivations c forest → AllZip (EndsInFormula c) lists ends → IsGoodStep c (length ends) s
-      → GrownForest lists forest s (step_entries c s ends (formulas forest))
-  grows lists ends forest (label l) d b good =
-      grind (arith, common_steps, grows_label, step_outcome)
-  grows lists ends forest (marked j) d b good = grows_marked lists ends forest j d b good
+  pub good_step_grows_forest : (lists : List (List ℕ)) (last_formulas : List Formula)
+      (forest : Trees) (s : Step)
+      → AreDerivations c forest → AllZip (EndsInFormula c) lists last_formulas → IsGoodStep c
+      (length last_formulas) s
+      → GrownForest lists forest s (step_entries c s last_formulas (formulas forest))
+  good_step_grows_forest lists last_formulas forest (label l) are_derivations each_ends is_good =
+      grind (arith, common_steps, label_grows_forest, step_has_outcome)
+  good_step_grows_forest lists last_formulas forest (marked j) are_derivations each_ends is_good =
+      marked_step_grows_forest lists last_formulas forest j are_derivations each_ends is_good
 
   -- what a run over steps means
-  pub steps_outcome : (steps : List Step) (lists : List (List ℕ)) (ends : List Formula)
+  pub steps_have_outcome : (steps : List Step) (lists : List (List ℕ))
+      (last_formulas : List Formula)
       (forest : Trees)
-      → AreDerivations c forest → AllZip (EndsInFormula c) lists ends
-      → AreGoodSteps c (length ends) steps
-      → StepsOutcome lists (postfix forest) steps (run_steps ends steps (formulas forest))
-  steps_outcome [] lists ends forest d b good = (postfix forest, refl, forest, d, refl, refl)
-  steps_outcome (s ∷ steps) lists ends forest d b good =
-      by_result (step_entries c s ends (formulas forest)) (grows lists ends forest s d b good.0)
-      (λ next f e h. steps_outcome steps (lists ++ postfix next ∷ []) (ends ++ f ∷ []) next e
-      (after_more lists ends (postfix next) f b (next, e, refl, h))
-      (subst (λ n. AreGoodSteps c n steps) (one_more f) good.1))
+      → AreDerivations c forest → AllZip (EndsInFormula c) lists last_formulas
+      → AreGoodSteps c (length last_formulas) steps
+      → StepsOutcome lists (postfix forest) steps (run_steps last_formulas steps (formulas forest))
+  steps_have_outcome [] lists last_formulas forest are_derivations each_ends are_good =
+      (postfix forest, refl, forest, are_derivations, refl, refl)
+  steps_have_outcome (s ∷ steps) lists last_formulas forest are_derivations each_ends are_good =
+      outcome_by_result (step_entries c s last_formulas (formulas forest))
+      (good_step_grows_forest lists last_formulas forest s are_derivations each_ends are_good.0)
+      (λ next f next_derivations is_last_formula. steps_have_outcome steps
+      (lists ++ postfix next ∷ [])
+      (last_formulas ++ f ∷ []) next next_derivations
+      (ends_after_one_more lists last_formulas (postfix next) f each_ends
+      (next, next_derivations, refl, is_last_formula))
+      (subst (λ n. AreGoodSteps c n steps) (one_more_end f) are_good.1))
     where
-      one_more : (f : Formula) → suc (length ends) ≡ length (ends ++ f ∷ [])
-      one_more f = omega (arith, length-append ends (f ∷ []))
+      one_more_end : (f : Formula) → suc (length last_formulas) ≡ length (last_formulas ++ f ∷ [])
+      one_more_end f = omega (arith, length-append last_formulas (f ∷ []))
 
-      later : (new : List ℕ) → Adds c lists (postfix forest) s new
+      outcome_of_rest : (labels_after : List ℕ) → Adds c lists (postfix forest) s labels_after
           → (r : Result (List Formula) RunFailure)
-          → StepsOutcome (lists ++ new ∷ []) new steps r
+          → StepsOutcome (lists ++ labels_after ∷ []) labels_after steps r
           → StepsOutcome lists (postfix forest) (s ∷ steps) r
-      later new adds (Ok out) h = (h.0, (new, adds, h.1), h.2, h.3, h.4, h.5)
-      later new adds (Err e) h = record {
-        before = s ∷ h.before;
-        first = h.first;
-        after = h.after;
-        splits = ap (λ x. s ∷ x) h.splits;
-        labels = h.labels;
-        plain = (new, adds, h.plain);
-        forest = h.forest;
-        derivations = h.derivations;
-        is = h.is;
-        fails = h.fails;
+      outcome_of_rest labels_after adds_labels (Ok out) later_outcome =
+          (later_outcome.0, (labels_after, adds_labels, later_outcome.1), later_outcome.2,
+          later_outcome.3, later_outcome.4, later_outcome.5)
+      outcome_of_rest labels_after adds_labels (Err e) later_outcome = record {
+        before = s ∷ later_outcome.before;
+        first = later_outcome.first;
+        after = later_outcome.after;
+        splits = ap (λ x. s ∷ x) later_outcome.splits;
+        labels = later_outcome.labels;
+        plain = (labels_after, adds_labels, later_outcome.plain);
+        forest = later_outcome.forest;
+        derivations = later_outcome.derivations;
+        labels_are = later_outcome.labels_are;
+        fails = later_outcome.fails;
       }
 
-      by_result : (r : Result (List Formula) Reason) → GrownForest lists forest s r
+      outcome_by_result : (r : Result (List Formula) Reason) → GrownForest lists forest s r
           → ((next : Trees) (f : Formula) → AreDerivations c next → IsLastFormula next f
           → StepsOutcome (lists ++ postfix next ∷ []) (postfix next) steps
-          (run_steps (ends ++ f ∷ []) steps (formulas next)))
+          (run_steps (last_formulas ++ f ∷ []) steps (formulas next)))
           → StepsOutcome lists (postfix forest) (s ∷ steps)
-          (proceed r (length ends) (λ out. run_steps (ends ++ top out ∷ []) steps out))
-      by_result (Err reason) h of_the_rest =
+          (proceed r (length last_formulas)
+          (λ out. run_steps (last_formulas ++ top out ∷ []) steps out))
+      outcome_by_result (Err reason) forest_grown rest_has_outcome =
           record {
             before = [];
             first = s;
@@ -197,11 +225,14 @@ module _ (c : Context) where
             labels = postfix forest;
             plain = refl;
             forest = forest;
-            derivations = d;
-            is = refl;
-            fails = h;
+            derivations = are_derivations;
+            labels_are = refl;
+            fails = forest_grown;
           }
-      by_result (Ok out) h of_the_rest =
-          later (postfix h.0) h.2 (run_steps (ends ++ top out ∷ []) steps out)
-          (subst (λ x. StepsOutcome (lists ++ postfix h.0 ∷ []) (postfix h.0) steps
-          (run_steps (ends ++ top out ∷ []) steps x)) h.3 (of_the_rest h.0 (top out) h.1 h.4))
+      outcome_by_result (Ok out) forest_grown rest_has_outcome =
+          outcome_of_rest (postfix forest_grown.0) forest_grown.2
+          (run_steps (last_formulas ++ top out ∷ []) steps out)
+          (subst (λ x. StepsOutcome (lists ++ postfix forest_grown.0 ∷ []) (postfix forest_grown.0)
+          steps
+          (run_steps (last_formulas ++ top out ∷ []) steps x)) forest_grown.3
+          (rest_has_outcome forest_grown.0 (top out) forest_grown.1 forest_grown.4))

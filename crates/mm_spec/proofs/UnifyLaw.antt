@@ -12,22 +12,23 @@ use Rattle.mm_spec.specs.Derivation.{Formula, Pair, Context, Substitution, subst
 use Rattle.mm_spec.specs.Derivation.{are_all_disjoint}
 use Rattle.mm_spec.specs.Laws.Stack.{are_equal, tail, substitution_from}
 
-pub same_equal : (ps qs : List Formula) → are_equal ps qs ≡ true → ps ≡ qs
-same_equal [] [] e = refl
-same_equal [] (q ∷ qs) e = absurd (true≢false (sym e))
-same_equal (p ∷ ps) [] e = absurd (true≢false (sym e))
-same_equal (p ∷ ps) (q ∷ qs) e =
+pub tested_equal_are_equal : (ps qs : List Formula) → are_equal ps qs ≡ true → ps ≡ qs
+tested_equal_are_equal [] [] tested_equal = refl
+tested_equal_are_equal [] (q ∷ qs) tested_equal = absurd (true≢false (sym tested_equal))
+tested_equal_are_equal (p ∷ ps) [] tested_equal = absurd (true≢false (sym tested_equal))
+tested_equal_are_equal (p ∷ ps) (q ∷ qs) tested_equal =
     grind (
       arith,
       common_steps,
       and_parts,
       bytes_eq-Decides,
-      same_equal ps qs
-          (and_parts (bytes_eq p q) (are_equal ps qs) e).1,
+      tested_equal_are_equal ps qs
+          (and_parts (bytes_eq p q) (are_equal ps qs) tested_equal).1,
     )
 
-pub equal_same : (ps qs : List Formula) → ps ≡ qs → are_equal ps qs ≡ true
-equal_same ps qs e = subst (λ z. are_equal ps z ≡ true) e (equal_to_itself ps)
+pub equal_are_tested_equal : (ps qs : List Formula) → ps ≡ qs → are_equal ps qs ≡ true
+equal_are_tested_equal ps qs lists_equal =
+    subst (λ z. are_equal ps z ≡ true) lists_equal (equal_to_itself ps)
   where
     equal_to_itself : (xs : List Formula) → are_equal xs xs ≡ true
     equal_to_itself [] = refl
@@ -36,49 +37,57 @@ equal_same ps qs e = subst (λ z. are_equal ps z ≡ true) e (equal_to_itself ps
         (equal_to_itself xs)
 
 module _ (c : Context) where
-  binder_value : (σ : Substitution) (x : ℕ) (h : Formula) → binds c x h ≡ true
+  binder_has_value : (σ : Substitution) (x : ℕ) (h : Formula) → binds c x h ≡ true
       → tail (substitute c σ h) ≡ σ x
-  binder_value σ x [] e = absurd (true≢false (sym e))
-  binder_value σ x (t ∷ []) e = absurd (true≢false (sym e))
-  binder_value σ x (t ∷ y ∷ z ∷ zs) e = absurd (true≢false (sym e))
-  binder_value σ x (t ∷ y ∷ []) e =
+  binder_has_value σ x [] h_binds_x = absurd (true≢false (sym h_binds_x))
+  binder_has_value σ x (t ∷ []) h_binds_x = absurd (true≢false (sym h_binds_x))
+  binder_has_value σ x (t ∷ y ∷ z ∷ zs) h_binds_x = absurd (true≢false (sym h_binds_x))
+  binder_has_value σ x (t ∷ y ∷ []) h_binds_x =
       grind (arith, common_steps, and_parts, append-nil, eqb-true, not-true)
 
-  pub found_is : (hs : List Formula) (σ : Substitution) (x : ℕ) → IsBound c hs x
+  pub found_has_value : (hs : List Formula) (σ : Substitution) (x : ℕ) → IsBound c hs x
       → substitution_from c hs (map (substitute c σ) hs) x ≡ σ x
-  found_is [] σ x e = absurd (true≢false (sym e))
-  found_is (h ∷ hs) σ x e = grind (arith, common_steps, binder_value, found_is hs σ x)
+  found_has_value [] σ x x_is_bound = absurd (true≢false (sym x_is_bound))
+  found_has_value (h ∷ hs) σ x x_is_bound =
+      grind (arith, common_steps, binder_has_value, found_has_value hs σ x)
 
-  pub agree : (σ τ : Substitution) (f : Formula)
+  pub same_values_same_formula : (σ τ : Substitution) (f : Formula)
       → AllByRecursion (λ x. IsTrue (c.is_variable x) → σ x ≡ τ x) f
       → substitute c σ f ≡ substitute c τ f
-  agree σ τ [] e = refl
-  agree σ τ (x ∷ f) e = grind (arith, common_steps, agree σ τ f e.1)
+  same_values_same_formula σ τ [] same_values = refl
+  same_values_same_formula σ τ (x ∷ f) same_values =
+      grind (arith, common_steps, same_values_same_formula σ τ f same_values.1)
 
   -- the found substitution does to bound formulas what any that matches does
   module _ (hs : List Formula) (τ : Substitution) where
     abbrev σ : Substitution
     σ = substitution_from c hs (map (substitute c τ) hs)
 
-    bound_agree : (f : Formula) → AreBound c hs f
+    bound_have_same_values : (f : Formula) → AreBound c hs f
         → AllByRecursion (λ x. IsTrue (c.is_variable x) → σ x ≡ τ x) f
-    bound_agree [] b = tt
-    bound_agree (x ∷ f) b = (λ v. found_is hs τ x (b.0 v), bound_agree f b.1)
+    bound_have_same_values [] is_bound = tt
+    bound_have_same_values (x ∷ f) is_bound =
+        (λ is_variable. found_has_value hs τ x (is_bound.0 is_variable), bound_have_same_values f
+        is_bound.1)
 
-    pub found_formula : (f : Formula) → AreBound c hs f → substitute c σ f ≡ substitute c τ f
-    found_formula f b = agree σ τ f (bound_agree f b)
+    pub found_gives_formula : (f : Formula) → AreBound c hs f → substitute c σ f ≡ substitute c τ f
+    found_gives_formula f is_bound =
+        same_values_same_formula σ τ f (bound_have_same_values f is_bound)
 
-    pub found_all : (fs : List Formula) → AllByRecursion (AreBound c hs) fs
+    pub found_gives_formulas : (fs : List Formula) → AllByRecursion (AreBound c hs) fs
         → map (substitute c τ) fs ≡ map (substitute c σ) fs
-    found_all [] b = refl
-    found_all (f ∷ fs) b = ap₂ (λ x xs. x ∷ xs) (sym (found_formula f b.0)) (found_all fs b.1)
+    found_gives_formulas [] are_bound = refl
+    found_gives_formulas (f ∷ fs) are_bound =
+        ap₂ (λ x xs. x ∷ xs) (sym (found_gives_formula f are_bound.0))
+        (found_gives_formulas fs are_bound.1)
 
-    pub found_disjoint : (ps : List Pair)
+    pub found_keeps_disjoint : (ps : List Pair)
         → AllByRecursion (λ p. IsBound c hs p.low × IsBound c hs p.high) ps
         → list_all (λ p. are_all_disjoint c (σ p.low) (σ p.high)) ps
         ≡ list_all (λ p. are_all_disjoint c (τ p.low) (τ p.high)) ps
-    found_disjoint [] b = refl
-    found_disjoint (p ∷ ps) b =
+    found_keeps_disjoint [] are_bound = refl
+    found_keeps_disjoint (p ∷ ps) are_bound =
         ap₂ (λ x y. x && y)
-        (ap₂ (are_all_disjoint c) (found_is hs τ p.low b.0.0) (found_is hs τ p.high b.0.1))
-        (found_disjoint ps b.1)
+        (ap₂ (are_all_disjoint c) (found_has_value hs τ p.low are_bound.0.0)
+        (found_has_value hs τ p.high are_bound.0.1))
+        (found_keeps_disjoint ps are_bound.1)

@@ -5,9 +5,9 @@ use Rattle.std.proofs.lemmas.List.{length-map}
 use Rattle.mm_spec.specs.Nodes.{tree_count}
 use Rattle.mm_spec.specs.Derivation.{Formula, Rule, hypothesis, assertion, Context, substitute}
 use Rattle.mm_spec.specs.Derivation.{Follows, Trees, none, more, formulas, postfix, AreDerivations}
-use Rattle.mm_spec.proofs.UnifyLaw.{found_formula}
+use Rattle.mm_spec.proofs.UnifyLaw.{found_gives_formula}
 use Rattle.mm_spec.specs.Laws.Stack.{substitution_from, IsCompleteRule}
-use Rattle.mm_spec.proofs.MachineLaw.{AreGood, good_parts}
+use Rattle.mm_spec.proofs.MachineLaw.{AreGood, good_append_is_good_parts}
 
 -- two forests, one after the other
 infixl 40 ◌⧺◌
@@ -45,19 +45,19 @@ module _ (c : Context) where
   follows_arity : (r : Option Rule) (ps : List Formula) (f : Formula) → Follows c r ps f
       → length ps ≡ arity r
   unfolding arity
-  follows_arity None ps f h = absurd h
-  follows_arity (Some (hypothesis g)) ps f h = ap length h.0
-  follows_arity (Some (assertion a)) ps f h =
-      ap length h.1 ∙ length-map a.hypotheses (substitute c h.0)
+  follows_arity None ps f follows = absurd follows
+  follows_arity (Some (hypothesis g)) ps f follows = ap length follows.0
+  follows_arity (Some (assertion a)) ps f follows =
+      ap length follows.1 ∙ length-map a.hypotheses (substitute c follows.0)
 
   follows_result : (r : Option Rule) (ps : List Formula) (f : Formula) → IsCompleteRule c r
       → Follows c r ps f → result r ps ≡ f
   unfolding result
-  follows_result None ps f good h = absurd h
-  follows_result (Some (hypothesis g)) ps f good h = sym h.1
-  follows_result (Some (assertion a)) ps f good h =
-      ap (λ x. substitute c (substitution_from c a.hypotheses x) a.formula) h.1
-      ∙ found_formula c a.hypotheses h.0 a.formula good.formula ∙ sym h.3
+  follows_result None ps f is_complete follows = absurd follows
+  follows_result (Some (hypothesis g)) ps f is_complete follows = sym follows.1
+  follows_result (Some (assertion a)) ps f is_complete follows =
+      ap (λ x. substitute c (substitution_from c a.hypotheses x) a.formula) follows.1
+      ∙ found_gives_formula c a.hypotheses follows.0 a.formula is_complete.formula ∙ sym follows.3
 
   -- the forest that the labels make of a forest
   abbrev grow : ℕ → Trees × Trees → Trees
@@ -67,37 +67,43 @@ module _ (c : Context) where
   build [] forest = forest
   build (l ∷ ls) forest = build ls (grow l (split_last (arity (c.rule l)) forest))
 
-  builds : (forest : Trees) → AreDerivations c forest → AreGood c (postfix forest)
+  labels_build_forest : (forest : Trees) → AreDerivations c forest → AreGood c (postfix forest)
       → (ls : List ℕ) (base : Trees) → build (postfix forest ++ ls) base ≡ build ls (base ⧺ forest)
-  builds none d good ls base = refl
-  builds (more ts l f cs) d good ls base =
-      let p = postfix ts in
-      let q = postfix cs in
-      let outer = good_parts c p (q ++ l ∷ []) good in
-      let inner = good_parts c q (l ∷ []) outer.1 in
-      let regroup : (p ++ (q ++ l ∷ [])) ++ ls ≡ p ++ (q ++ l ∷ ls) =
-      append_assoc p (q ++ l ∷ []) ls ∙ ap (λ x. p ++ x) (append_assoc q (l ∷ []) ls) in
-      let n : arity (c.rule l) ≡ tree_count cs =
-      sym (follows_arity (c.rule l) (formulas cs) f d.2) ∙ tree_count_formulas cs in
+  labels_build_forest none are_derivations are_good ls base = refl
+  labels_build_forest (more ts l f cs) are_derivations are_good ls base =
+      let early_labels = postfix ts in
+      let child_labels = postfix cs in
+      let split_at_children =
+      good_append_is_good_parts c early_labels (child_labels ++ l ∷ []) are_good in
+      let split_at_label = good_append_is_good_parts c child_labels (l ∷ []) split_at_children.1 in
+      let regroup : (early_labels ++ (child_labels ++ l ∷ [])) ++ ls
+      ≡ early_labels ++ (child_labels ++ l ∷ ls) =
+      append_assoc early_labels (child_labels ++ l ∷ []) ls
+      ∙ ap (λ x. early_labels ++ x) (append_assoc child_labels (l ∷ []) ls) in
+      let arity_is_tree_count : arity (c.rule l) ≡ tree_count cs =
+      sym (follows_arity (c.rule l) (formulas cs) f are_derivations.2) ∙ tree_count_formulas cs in
       ap (λ x. build x base) regroup
-      ∙ builds ts d.0 outer.0 (q ++ l ∷ ls) base
-      ∙ builds cs d.1 inner.0 (l ∷ ls) (base ⧺ ts)
+      ∙ labels_build_forest ts are_derivations.0 split_at_children.0 (child_labels ++ l ∷ ls) base
+      ∙ labels_build_forest cs are_derivations.1 split_at_label.0 (l ∷ ls) (base ⧺ ts)
       ∙ ap (λ x. build ls (grow l x))
-      (ap (λ k. split_last k ((base ⧺ ts) ⧺ cs)) n ∙ split_last_join (base ⧺ ts) cs)
+      (ap (λ k. split_last k ((base ⧺ ts) ⧺ cs)) arity_is_tree_count
+      ∙ split_last_join (base ⧺ ts) cs)
       ∙ ap (λ g. build ls (more (base ⧺ ts) l g cs))
-      (follows_result (c.rule l) (formulas cs) f inner.1.0 d.2)
+      (follows_result (c.rule l) (formulas cs) f split_at_label.1.0 are_derivations.2)
 
   -- after no trees stands the forest itself
-  none_in_front : (forest : Trees) → none ⧺ forest ≡ forest
-  none_in_front none = refl
-  none_in_front (more ts l f cs) = ap (λ x. more x l f cs) (none_in_front ts)
+  none_before_is_itself : (forest : Trees) → none ⧺ forest ≡ forest
+  none_before_is_itself none = refl
+  none_before_is_itself (more ts l f cs) = ap (λ x. more x l f cs) (none_before_is_itself ts)
 
-  pub unique : (r s : Trees) → AreDerivations c r → AreDerivations c s → AreGood c (postfix r)
+  pub same_labels_same_derivations : (r s : Trees) → AreDerivations c r → AreDerivations c s
+      → AreGood c (postfix r)
       → postfix r ≡ postfix s → r ≡ s
-  unique r s d e good same =
-      sym (is_built r d good) ∙ ap (λ x. build (x ++ []) none) same
-      ∙ is_built s e (subst (AreGood c) same good)
+  same_labels_same_derivations r s r_derives s_derives are_good labels_equal =
+      sym (is_built r r_derives are_good) ∙ ap (λ x. build (x ++ []) none) labels_equal
+      ∙ is_built s s_derives (subst (AreGood c) labels_equal are_good)
     where
       is_built : (forest : Trees) → AreDerivations c forest → AreGood c (postfix forest)
           → build (postfix forest ++ []) none ≡ forest
-      is_built forest d good = builds forest d good [] none ∙ none_in_front forest
+      is_built forest are_derivations are_good =
+          labels_build_forest forest are_derivations are_good [] none ∙ none_before_is_itself forest

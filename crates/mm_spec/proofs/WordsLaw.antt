@@ -13,7 +13,7 @@ use Rattle.mm_spec.specs.declared.Word.{Word}
 use Rattle.mm_spec.specs.Bytes.{is_white}
 use Rattle.mm_spec.specs.Words.{white_at, begins_word, word_at, words_between, words_of}
 use Rattle.mm_spec.proofs.WordRunsLaw.{IsBoundary, words_between_skip, words_between_take}
-use Rattle.mm_spec.proofs.WordRunsLaw.{words_between_none, IsWord_word_at, begins_word_first}
+use Rattle.mm_spec.proofs.WordRunsLaw.{words_between_none, IsWord_word_at, boundary_begins_word}
 use Rattle.mm_spec.specs.Laws.Words.{AreWords, IsWord}
 use Rattle.mm_spec.proofs.ListLaw.{pairs_tail}
 
@@ -21,244 +21,266 @@ use Rattle.mm_spec.proofs.ListLaw.{pairs_tail}
 pub begins_word_not_white : (text : List ℕ) (i : ℕ) → begins_word text i ≡ true
     → white_at text i ≡ false
 unfolding begins_word
-begins_word_not_white text i h = not-true _ (and_parts (not (white_at text i)) _ h).0
+begins_word_not_white text i begins = not-true _ (and_parts (not (white_at text i)) _ begins).0
 
 pub begins_word_boundary : (text : List ℕ) (i : ℕ) → begins_word text i ≡ true → IsBoundary text i
 unfolding begins_word
-begins_word_boundary text i h j e _ _ =
+begins_word_boundary text i begins j is_place_before _ _ =
     ⊎_elim {C = white_at text j ≡ true}
-    (λ at_zero. let z : i ≡ 0 = eqb-true i 0 at_zero in absurd (omega arith))
-    (λ before. let same : i - 1 ≡ j = omega arith in
-    subst (λ (k : ℕ). white_at text k ≡ true) same before)
-    (or_cases (i == 0) (white_at text (i - 1)) (and_parts (not (white_at text i)) _ h).1)
+    (λ i_is_zero. let i_eq_zero : i ≡ 0 = eqb-true i 0 i_is_zero in absurd (omega arith))
+    (λ white_before. let pred_is_j : i - 1 ≡ j = omega arith in
+    subst (λ (k : ℕ). white_at text k ≡ true) pred_is_j white_before)
+    (or_cases (i == 0) (white_at text (i - 1)) (and_parts (not (white_at text i)) _ begins).1)
 
 -- a word begins at its start, and is the word there
 pub IsWord_begins : {text : List ℕ} {w : Word} → IsWord text w → begins_word text w.start ≡ true
-IsWord_begins {text} {w} word =
-    begins_word_first text w.start (omega (arith, word.within, word.nonempty))
-    (word.no_white w.start (omega arith) (omega (arith, word.nonempty)))
-    (λ i e _ _. word.white_before i e)
+IsWord_begins {text} {w} is_word =
+    boundary_begins_word text w.start (omega (arith, is_word.within, is_word.nonempty))
+    (is_word.no_white w.start (omega arith) (omega (arith, is_word.nonempty)))
+    (λ i is_place_before _ _. is_word.white_before i is_place_before)
 
-pub IsWord_is : {text : List ℕ} {w : Word} → IsWord text w → word_at text w.start ≡ w
+pub word_at_start_is_word : {text : List ℕ} {w : Word} → IsWord text w → word_at text w.start ≡ w
 unfolding word_at white_at
-IsWord_is {text} {w} word =
-    let p : ℕ → Bool = λ b. not (is_white b) in
+word_at_start_is_word {text} {w} is_word =
+    let is_not_white : ℕ → Bool = λ b. not (is_white b) in
     let n : ℕ = w.end - w.start in
-    let long : length (drop w.start text) ≡ length text - w.start = length-drop w.start text in
-    let same : w.start + (w.end - w.start) ≡ w.end = omega (arith, word.nonempty) in
-    let at : (k : ℕ)
+    let dropped_length : length (drop w.start text) ≡ length text - w.start =
+    length-drop w.start text in
+    let end_is : w.start + (w.end - w.start) ≡ w.end = omega (arith, is_word.nonempty) in
+    let byte_is : (k : ℕ)
     → not (is_white (get_or (drop w.start text) k 0))
     ≡ not (is_white (get_or text (w.start + k) 0)) = λ k. ap (λ (b : ℕ). not (is_white b))
     (get_or-drop w.start text k 0) in
     let not_white : (k : ℕ) → k < w.end - w.start
     → not (is_white (get_or (drop w.start text) k 0)) ≡ true =
-    λ k h. at k ∙ ap not (word.no_white (w.start + k) (omega arith) (omega arith)) in
-    let after : w.end - w.start < length (drop w.start text)
+    λ k k_lt_word. byte_is k
+    ∙ ap not (is_word.no_white (w.start + k) (omega arith) (omega arith)) in
+    let white_after : w.end - w.start < length (drop w.start text)
     → not (is_white (get_or (drop w.start text) (w.end - w.start) 0)) ≡ false =
-    λ h. at (w.end - w.start)
+    λ word_lt_length. byte_is (w.end - w.start)
     ∙ ap not
-    (subst (λ (k : ℕ). is_white (get_or text k 0) ≡ true) (sym same)
-    (word.white_after (omega arith))) in
-    let len : prefix_len p (drop w.start text) ≡ w.end - w.start =
-    prefix_len_is p (drop w.start text) (w.end - w.start) 0
-    (omega (arith, word.within)) not_white after in
-    let e : w.start + prefix_len p (drop w.start text) ≡ w.end = omega (arith, word.nonempty) in
-    ap (λ (x : ℕ). let v : Word = record { start = w.start; end = x } in v) e
+    (subst (λ (k : ℕ). is_white (get_or text k 0) ≡ true) (sym end_is)
+    (is_word.white_after (omega arith))) in
+    let prefix_is_word : prefix_len is_not_white (drop w.start text) ≡ w.end - w.start =
+    prefix_len_is is_not_white (drop w.start text) (w.end - w.start) 0
+    (omega (arith, is_word.within)) not_white white_after in
+    let place_is_end : w.start + prefix_len is_not_white (drop w.start text) ≡ w.end =
+    omega (arith, is_word.nonempty) in
+    ap (λ (x : ℕ). let v : Word = record { start = w.start; end = x } in v) place_is_end
 
 word_at_start : (text : List ℕ) (i : ℕ) → (word_at text i).start ≡ i
 unfolding word_at
 word_at_start text i = refl
 
 -- two words don't overlap
-pub IsWord_apart : {text : List ℕ} {v w : Word} → IsWord text v → IsWord text w → v.start < w.start
+pub words_do_not_overlap : {text : List ℕ} {v w : Word} → IsWord text v → IsWord text w
+    → v.start < w.start
     → v.end ≤ w.start
-IsWord_apart {text} {v} {w} one other h =
+words_do_not_overlap {text} {v} {w} v_is_word w_is_word v_begins_first =
     ⊎_elim {C = v.end ≤ w.start}
-    (λ inside. absurd
+    (λ w_begins_inside. absurd
     (true≢false
-    (sym (other.white_before (w.start - 1) (omega arith))
-    ∙ one.no_white (w.start - 1) (omega arith) (omega arith))))
-    (λ le. le)
+    (sym (w_is_word.white_before (w.start - 1) (omega arith))
+    ∙ v_is_word.no_white (w.start - 1) (omega arith) (omega arith))))
+    (λ v_end_le_start. v_end_le_start)
     (cases_lt w.start v.end)
 
 Contains_head : {X : Type 0} (x : X) (xs : List X) → Contains (x ∷ xs) x
 Contains_head x xs = (0, (omega arith), refl)
 
 Contains_tail : {X : Type 0} (x y : X) (xs : List X) → Contains xs y → Contains (x ∷ xs) y
-Contains_tail x y xs (k, h, e) = (suc k, (omega arith), e)
+Contains_tail x y xs (k, k_lt_length, got_y) = (suc k, (omega arith), got_y)
 
 -- a place either begins a word or doesn't, and what that says of the words
 pub words_between_cases : (text : List ℕ) (i to : ℕ) → i < to →
     ((begins_word text i ≡ true)
     × (words_between text i to ≡ word_at text i ∷ words_between text (i + 1) to))
     ⊎ ((begins_word text i ≡ false) × (words_between text i to ≡ words_between text (i + 1) to))
-words_between_cases text i to h =
+words_between_cases text i to i_lt_to =
     grind (arith, common_steps, words_between_skip, words_between_take)
 
-IsWord_here : (text : List ℕ) (i : ℕ) → i < length text → begins_word text i ≡ true
+begun_word_is_word : (text : List ℕ) (i : ℕ) → i < length text → begins_word text i ≡ true
     → IsWord text (word_at text i)
-IsWord_here text i h begins =
-    IsWord_word_at text i h (begins_word_not_white text i begins)
+begun_word_is_word text i i_lt_length begins =
+    IsWord_word_at text i i_lt_length (begins_word_not_white text i begins)
     (begins_word_boundary text i begins)
 
 abbrev IsWordFrom : List ℕ → ℕ → Word → Type 0
 IsWordFrom text low w = IsWord text w × (low ≤ w.start)
 
 -- each of the words between two places is a word of the text, and begins at `low` or later
-pub words_between_each : (text : List ℕ) (low n i to : ℕ) → i + n ≡ to → to ≤ length text → low ≤ i
+pub each_between_is_word : (text : List ℕ) (low n i to : ℕ) → i + n ≡ to → to ≤ length text
+    → low ≤ i
     → All (IsWordFrom text low) (words_between text i to)
-words_between_each text low zero i to e le lo =
+each_between_is_word text low zero i to i_plus_n to_le_length low_le_i =
     subst (All (IsWordFrom text low)) (sym (words_between_none text i to (omega arith)))
     (All-nil (IsWordFrom text low))
-words_between_each text low (suc n) i to e le lo =
-    let rest : All (IsWordFrom text low) (words_between text (i + 1) to) =
-    words_between_each text low n (i + 1) to (omega arith) le (omega arith) in
+each_between_is_word text low (suc n) i to i_plus_n to_le_length low_le_i =
+    let each_later : All (IsWordFrom text low) (words_between text (i + 1) to) =
+    each_between_is_word text low n (i + 1) to (omega arith) to_le_length (omega arith) in
     ⊎_elim {C = All (IsWordFrom text low) (words_between text i to)}
-    (λ taken. subst (All (IsWordFrom text low)) (sym taken.1)
+    (λ is_taken. subst (All (IsWordFrom text low)) (sym is_taken.1)
     (All-cons (IsWordFrom text low) _ _
-    (IsWord_here text i (omega arith) taken.0, (omega (arith, word_at_start text i))) rest))
-    (λ skipped. subst (All (IsWordFrom text low)) (sym skipped.1) rest)
+    (begun_word_is_word text i (omega arith) is_taken.0, (omega (arith, word_at_start text i)))
+    each_later))
+    (λ is_skipped. subst (All (IsWordFrom text low)) (sym is_skipped.1) each_later)
     (words_between_cases text i to (omega arith))
 
 -- none is left out
-pub words_between_all : (text : List ℕ) (n i to : ℕ) → i + n ≡ to → (w : Word) → IsWord text w
+pub words_between_have_each : (text : List ℕ) (n i to : ℕ) → i + n ≡ to → (w : Word) → IsWord text w
     → i ≤ w.start → w.start < to → Contains (words_between text i to) w
-words_between_all text zero i to e w word low high = absurd (omega arith)
-words_between_all text (suc n) i to e w word low high =
+words_between_have_each text zero i to i_plus_n w is_word i_le_start start_lt_to =
+    absurd (omega arith)
+words_between_have_each text (suc n) i to i_plus_n w is_word i_le_start start_lt_to =
     ⊎_elim {C = Contains (words_between text i to) w}
-    (λ same. subst (λ (ws : List Word). Contains ws w)
+    (λ start_is_i. subst (λ (ws : List Word). Contains ws w)
     (sym (words_between_take text i to (omega arith)
-    (ap (begins_word text) (sym same) ∙ IsWord_begins word)))
+    (ap (begins_word text) (sym start_is_i) ∙ IsWord_begins is_word)))
     (subst (λ (v : Word). Contains (v ∷ words_between text (i + 1) to) w)
-    (sym (IsWord_is word) ∙ ap (word_at text) same) (Contains_head w _)))
-    (λ apart.
-    let rest : Contains (words_between text (i + 1) to) w =
-    words_between_all text n (i + 1) to (omega arith) w word (omega arith) high in
+    (sym (word_at_start_is_word is_word) ∙ ap (word_at text) start_is_i) (Contains_head w _)))
+    (λ start_is_not_i.
+    let contained_later : Contains (words_between text (i + 1) to) w =
+    words_between_have_each text n (i + 1) to (omega arith) w is_word (omega arith) start_lt_to in
     ⊎_elim {C = Contains (words_between text i to) w}
-    (λ taken. subst (λ (ws : List Word). Contains ws w) (sym taken.1)
-    (Contains_tail (word_at text i) w _ rest))
-    (λ skipped. subst (λ (ws : List Word). Contains ws w) (sym skipped.1) rest)
+    (λ is_taken. subst (λ (ws : List Word). Contains ws w) (sym is_taken.1)
+    (Contains_tail (word_at text i) w _ contained_later))
+    (λ is_skipped. subst (λ (ws : List Word). Contains ws w) (sym is_skipped.1) contained_later)
     (words_between_cases text i to (omega arith)))
     (cases_eq w.start i)
 
 abbrev EndsBefore : Word → Word → Type 0
 EndsBefore v w = v.end ≤ w.start
 
-pub words_between_rising : (text : List ℕ) (n i to : ℕ) → i + n ≡ to → to ≤ length text
+pub words_between_rise : (text : List ℕ) (n i to : ℕ) → i + n ≡ to → to ≤ length text
     → AllPairs EndsBefore (words_between text i to)
-words_between_rising text zero i to e le =
+words_between_rise text zero i to i_plus_n to_le_length =
     subst (AllPairs EndsBefore) (sym (words_between_none text i to (omega arith)))
-    (λ j k d lt h. absurd (omega arith))
-words_between_rising text (suc n) i to e le =
-    let rest : AllPairs EndsBefore (words_between text (i + 1) to) =
-    words_between_rising text n (i + 1) to (omega arith) le in
-    let each : All (IsWordFrom text (i + 1)) (words_between text (i + 1) to) =
-    words_between_each text (i + 1) n (i + 1) to (omega arith) le (omega arith) in
+    (λ j k d j_lt_k k_lt_length. absurd (omega arith))
+words_between_rise text (suc n) i to i_plus_n to_le_length =
+    let later_rise : AllPairs EndsBefore (words_between text (i + 1) to) =
+    words_between_rise text n (i + 1) to (omega arith) to_le_length in
+    let each_later : All (IsWordFrom text (i + 1)) (words_between text (i + 1) to) =
+    each_between_is_word text (i + 1) n (i + 1) to (omega arith) to_le_length (omega arith) in
     ⊎_elim {C = AllPairs EndsBefore (words_between text i to)}
-    (λ taken. subst (AllPairs EndsBefore) (sym taken.1)
+    (λ is_taken. subst (AllPairs EndsBefore) (sym is_taken.1)
     (AllPairs-cons EndsBefore (word_at text i) _
     (All-weaker (IsWordFrom text (i + 1)) (EndsBefore (word_at text i))
-    (λ w from. IsWord_apart (IsWord_here text i (omega arith) taken.0) from.0
-    (omega (arith, from.1, word_at_start text i))) _ each)
-    rest))
-    (λ skipped. subst (AllPairs EndsBefore) (sym skipped.1) rest)
+    (λ w is_word_from. words_do_not_overlap (begun_word_is_word text i (omega arith) is_taken.0)
+    is_word_from.0
+    (omega (arith, is_word_from.1, word_at_start text i))) _ each_later)
+    later_rise))
+    (λ is_skipped. subst (AllPairs EndsBefore) (sym is_skipped.1) later_rise)
     (words_between_cases text i to (omega arith))
 
-pub words_of_AreWords : (text : List ℕ) → AreWords text (words_of text)
-words_of_AreWords text = record {
-  rising = words_between_rising text (length text) 0 (length text) (omega arith) (omega arith);
+pub words_of_are_words : (text : List ℕ) → AreWords text (words_of text)
+words_of_are_words text = record {
+  rising = words_between_rise text (length text) 0 (length text) (omega arith) (omega arith);
   each =
-      All-weaker (IsWordFrom text 0) (IsWord text) (λ w from. from.0) _
-      (words_between_each text 0 (length text) 0 (length text) (omega arith) (omega arith)
+      All-weaker (IsWordFrom text 0) (IsWord text) (λ w is_word_from. is_word_from.0) _
+      (each_between_is_word text 0 (length text) 0 (length text) (omega arith) (omega arith)
       (omega arith));
   all =
-      λ w word. words_between_all text (length text) 0 (length text) (omega arith) w word
-      (omega arith) (omega (arith, word.within, word.nonempty));
+      λ w is_word. words_between_have_each text (length text) 0 (length text) (omega arith) w
+      is_word
+      (omega arith) (omega (arith, is_word.within, is_word.nonempty));
 }
 
 -- ---- two rising lists of the same words are one list
 
-Contains_first : {X : Type 0} (x : X) (xs : List X) (y : X) → Contains (x ∷ xs) y
+contained_is_head_or_later : {X : Type 0} (x : X) (xs : List X) (y : X) → Contains (x ∷ xs) y
     → (x ≡ y) ⊎ Contains xs y
-Contains_first x xs y (zero, h, e) = inl e
-Contains_first x xs y (suc k, h, e) = inr (k, (omega arith), e)
+contained_is_head_or_later x xs y (zero, k_lt_length, got_y) = inl got_y
+contained_is_head_or_later x xs y (suc k, k_lt_length, got_y) = inr (k, (omega arith), got_y)
 
 -- in a list of words that follow each other, each one after the first begins after the end of the
 -- first
-after_head : (w : Word) (ws : List Word) → AllPairs EndsBefore (w ∷ ws) → (v : Word)
+later_begins_after_head : (w : Word) (ws : List Word) → AllPairs EndsBefore (w ∷ ws) → (v : Word)
     → Contains ws v → w.end ≤ v.start
-after_head w ws all v (k, h, e) =
-    subst (λ (u : Word). w.end ≤ u.start) e (all 0 (suc k) v (omega arith) (omega arith))
+later_begins_after_head w ws words_rise v (k, k_lt_length, got_v) =
+    subst (λ (u : Word). w.end ≤ u.start) got_v (words_rise 0 (suc k) v (omega arith) (omega arith))
 
 -- each word of ws is in vs
 abbrev AreIn : List Word → List Word → Type 0
 AreIn ws vs = (w : Word) → Contains ws w → Contains vs w
 
-nonempty_in : (text : List ℕ) (ws : List Word) → All (IsWord text) ws → (w : Word) → Contains ws w
+contained_is_nonempty : (text : List ℕ) (ws : List Word) → All (IsWord text) ws → (w : Word)
+    → Contains ws w
     → w.start < w.end
-nonempty_in text ws all w has = (All-contains (IsWord text) ws w all has).nonempty
+contained_is_nonempty text ws are_words w contains_w =
+    (All-contains (IsWord text) ws w are_words contains_w).nonempty
 
-same_head : (text : List ℕ) (w v : Word) (ws vs : List Word) → All (IsWord text) (w ∷ ws)
+equal_words_equal_heads : (text : List ℕ) (w v : Word) (ws vs : List Word)
+    → All (IsWord text) (w ∷ ws)
     → All (IsWord text) (v ∷ vs) → AllPairs EndsBefore (w ∷ ws) → AllPairs EndsBefore (v ∷ vs) →
     AreIn (w ∷ ws) (v ∷ vs) → AreIn (v ∷ vs) (w ∷ ws) → w ≡ v
-same_head text w v ws vs are_w are_v rise_w rise_v in_vs in_ws =
+equal_words_equal_heads text w v ws vs are_w are_v rise_w rise_v in_vs in_ws =
     ⊎_elim {C = w ≡ v}
     sym
-    (λ later. ⊎_elim {C = w ≡ v}
-    (λ same. same)
-    (λ after.
-    let a : v.end ≤ w.start = after_head v vs rise_v w later in
-    let b : w.end ≤ v.start = after_head w ws rise_w v after in
-    let m : w.start < w.end = nonempty_in text (w ∷ ws) are_w w (Contains_head w ws) in
-    let n : v.start < v.end = nonempty_in text (v ∷ vs) are_v v (Contains_head v vs) in
+    (λ w_in_vs. ⊎_elim {C = w ≡ v}
+    (λ v_is_w. v_is_w)
+    (λ v_in_ws.
+    let v_end_le_w : v.end ≤ w.start = later_begins_after_head v vs rise_v w w_in_vs in
+    let w_end_le_v : w.end ≤ v.start = later_begins_after_head w ws rise_w v v_in_ws in
+    let w_is_nonempty : w.start < w.end =
+    contained_is_nonempty text (w ∷ ws) are_w w (Contains_head w ws) in
+    let v_is_nonempty : v.start < v.end =
+    contained_is_nonempty text (v ∷ vs) are_v v (Contains_head v vs) in
     absurd (omega arith))
-    (Contains_first w ws v (in_ws v (Contains_head v vs))))
-    (Contains_first v vs w (in_vs w (Contains_head w ws)))
+    (contained_is_head_or_later w ws v (in_ws v (Contains_head v vs))))
+    (contained_is_head_or_later v vs w (in_vs w (Contains_head w ws)))
 
 -- if two lists begin with the same word, and the first has only words of the second, the same is
 -- true of what follows that word
-same_tail : (text : List ℕ) (w : Word) (ws vs : List Word) → All (IsWord text) (w ∷ ws)
+equal_words_equal_tails : (text : List ℕ) (w : Word) (ws vs : List Word)
+    → All (IsWord text) (w ∷ ws)
     → AllPairs EndsBefore (w ∷ ws) → AreIn (w ∷ ws) (w ∷ vs) → AreIn ws vs
-same_tail text w ws vs are rise in_vs u has =
+equal_words_equal_tails text w ws vs are_words words_rise in_vs u contains_u =
     ⊎_elim {C = Contains vs u}
-    (λ same.
-    let a : w.end ≤ u.start = after_head w ws rise u has in
-    let b : w.end ≤ w.start = subst (λ (x : Word). w.end ≤ x.start) (sym same) a in
-    let m : w.start < w.end = nonempty_in text (w ∷ ws) are w (Contains_head w ws) in
+    (λ w_is_u.
+    let w_end_le_u : w.end ≤ u.start = later_begins_after_head w ws words_rise u contains_u in
+    let w_end_le_w : w.end ≤ w.start =
+    subst (λ (x : Word). w.end ≤ x.start) (sym w_is_u) w_end_le_u in
+    let w_is_nonempty : w.start < w.end =
+    contained_is_nonempty text (w ∷ ws) are_words w (Contains_head w ws) in
     absurd (omega arith))
-    (λ h. h)
-    (Contains_first w vs u (in_vs u (Contains_tail w u ws has)))
+    (λ u_in_vs. u_in_vs)
+    (contained_is_head_or_later w vs u (in_vs u (Contains_tail w u ws contains_u)))
 
-empty_contains : (w : Word) → Contains {X = Word} [] w → ⊥
-empty_contains w (k, h, e) = omega arith
+empty_contains_none : (w : Word) → Contains {X = Word} [] w → ⊥
+empty_contains_none w (k, k_lt_zero, got_w) = omega arith
 
-same_words : (text : List ℕ) (ws vs : List Word) → All (IsWord text) ws → All (IsWord text) vs
+equal_words_equal_lists : (text : List ℕ) (ws vs : List Word) → All (IsWord text) ws
+    → All (IsWord text) vs
     → AllPairs EndsBefore ws → AllPairs EndsBefore vs → AreIn ws vs → AreIn vs ws → ws ≡ vs
-same_words text [] [] are_w are_v rise_w rise_v in_vs in_ws = refl
-same_words text [] (v ∷ vs) are_w are_v rise_w rise_v in_vs in_ws =
-    absurd (empty_contains v (in_ws v (Contains_head v vs)))
-same_words text (w ∷ ws) [] are_w are_v rise_w rise_v in_vs in_ws =
-    absurd (empty_contains w (in_vs w (Contains_head w ws)))
-same_words text (w ∷ ws) (v ∷ vs) are_w are_v rise_w rise_v in_vs in_ws =
-    let head : w ≡ v = same_head text w v ws vs are_w are_v rise_w rise_v in_vs in_ws in
+equal_words_equal_lists text [] [] are_w are_v rise_w rise_v in_vs in_ws = refl
+equal_words_equal_lists text [] (v ∷ vs) are_w are_v rise_w rise_v in_vs in_ws =
+    absurd (empty_contains_none v (in_ws v (Contains_head v vs)))
+equal_words_equal_lists text (w ∷ ws) [] are_w are_v rise_w rise_v in_vs in_ws =
+    absurd (empty_contains_none w (in_vs w (Contains_head w ws)))
+equal_words_equal_lists text (w ∷ ws) (v ∷ vs) are_w are_v rise_w rise_v in_vs in_ws =
+    let heads_equal : w ≡ v =
+    equal_words_equal_heads text w v ws vs are_w are_v rise_w rise_v in_vs in_ws in
     let in_vs' : AreIn (w ∷ ws) (w ∷ vs) =
-    subst (λ (x : Word). AreIn (w ∷ ws) (x ∷ vs)) (sym head) in_vs in
+    subst (λ (x : Word). AreIn (w ∷ ws) (x ∷ vs)) (sym heads_equal) in_vs in
     let in_ws' : AreIn (w ∷ vs) (w ∷ ws) =
-    subst (λ (x : Word). AreIn (x ∷ vs) (w ∷ ws)) (sym head) in_ws in
+    subst (λ (x : Word). AreIn (x ∷ vs) (w ∷ ws)) (sym heads_equal) in_ws in
     let are_v' : All (IsWord text) (w ∷ vs) =
-    subst (λ (x : Word). All (IsWord text) (x ∷ vs)) (sym head) are_v in
+    subst (λ (x : Word). All (IsWord text) (x ∷ vs)) (sym heads_equal) are_v in
     let rise_v' : AllPairs EndsBefore (w ∷ vs) =
-    subst (λ (x : Word). AllPairs EndsBefore (x ∷ vs)) (sym head) rise_v in
+    subst (λ (x : Word). AllPairs EndsBefore (x ∷ vs)) (sym heads_equal) rise_v in
     ap (λ (us : List Word). w ∷ us)
-    (same_words text ws vs (All-tail (IsWord text) w ws are_w)
+    (equal_words_equal_lists text ws vs (All-tail (IsWord text) w ws are_w)
     (All-tail (IsWord text) w vs are_v')
     (pairs_tail EndsBefore w ws rise_w) (pairs_tail EndsBefore w vs rise_v')
-    (same_tail text w ws vs are_w rise_w in_vs') (same_tail text w vs ws are_v' rise_v' in_ws'))
-    ∙ ap (λ (x : Word). x ∷ vs) head
+    (equal_words_equal_tails text w ws vs are_w rise_w in_vs')
+    (equal_words_equal_tails text w vs ws are_v' rise_v' in_ws'))
+    ∙ ap (λ (x : Word). x ∷ vs) heads_equal
 
-pub AreWords_only : (text : List ℕ) (ws : List Word) → AreWords text ws → ws ≡ words_of text
-AreWords_only text ws words =
-    let are = words_of_AreWords text in
-    same_words text ws (words_of text) words.each are.each words.rising are.rising
-    (λ w has. are.all w (All-contains (IsWord text) ws w words.each has))
-    (λ w has. words.all w (All-contains (IsWord text) (words_of text) w are.each has))
+pub words_are_words_of : (text : List ℕ) (ws : List Word) → AreWords text ws → ws ≡ words_of text
+words_are_words_of text ws are_words =
+    let read_words = words_of_are_words text in
+    equal_words_equal_lists text ws (words_of text) are_words.each read_words.each are_words.rising
+    read_words.rising
+    (λ w contains_w. read_words.all w (All-contains (IsWord text) ws w are_words.each contains_w))
+    (λ w contains_w. are_words.all w
+    (All-contains (IsWord text) (words_of text) w read_words.each contains_w))

@@ -145,12 +145,12 @@ citation_report request open_theorems axioms rows =
     ++ section true (codes "citations") (flat_map citation_line rows) ++ line (codes "end")
 
 -- how many bytes there are after the last line feed, with n before these bytes
-abbrev pub after_line_feed_from : ℕ → List ℕ → ℕ
-after_line_feed_from n [] = n
-after_line_feed_from n (b ∷ bs) = after_line_feed_from (if b == 10 then 0 else n + 1) bs
+abbrev pub bytes_after_line_feed_from : ℕ → List ℕ → ℕ
+bytes_after_line_feed_from n [] = n
+bytes_after_line_feed_from n (b ∷ bs) = bytes_after_line_feed_from (if b == 10 then 0 else n + 1) bs
 
 abbrev pub bytes_after_line_feed : List ℕ → ℕ
-bytes_after_line_feed bytes = after_line_feed_from 0 bytes
+bytes_after_line_feed bytes = bytes_after_line_feed_from 0 bytes
 
 -- a number below 100 in two digits
 abbrev pub two_digits : ℕ → List ℕ
@@ -158,7 +158,7 @@ two_digits n = if length (decimal n) == 1 then 48 ∷ decimal n else decimal n
 
 -- the refusal of a text for a fault, by line, column and code
 abbrev pub refusal : List ℕ → Fault → List ℕ
-refusal text f = let before = take f.at text in
-    line (codes "refused " ++ decimal (count_by (λ b. b == 10) before + 1)
-    ++ 58 ∷ (decimal (bytes_after_line_feed before + 1)
+refusal text f = let text_before = take f.at text in
+    line (codes "refused " ++ decimal (count_by (λ b. b == 10) text_before + 1)
+    ++ 58 ∷ (decimal (bytes_after_line_feed text_before + 1)
     ++ codes " E" ++ two_digits (code_number f.code)))

@@ -20,8 +20,8 @@ pub data Statement : Type 0 where
   provable : (label : Token) (keyword : ℕ) (symbols : List Token) (equals : ℕ) (proof : List Token)
       → (dot : ℕ)
       → Statement
-  opening : (at : ℕ) → Statement
-  closing : (at : ℕ) → Statement
+  opening : (keyword : ℕ) → Statement
+  closing : (keyword : ℕ) → Statement
 
 -- the tokens that spell a statement
 abbrev pub spelling_of : Statement → List Token
@@ -90,8 +90,8 @@ pub record AreStatements (statements : List Statement) : Type 0 where
 -- some such list of statements begins with the tokens
 abbrev pub BeginStatements : List Token → Type 0
 BeginStatements ts =
-    (statements : List Statement) × AreStatements statements × (more : List Token)
-    × (flat_map spelling_of statements ≡ ts ++ more)
+    (statements : List Statement) × AreStatements statements × (continuation : List Token)
+    × (flat_map spelling_of statements ≡ ts ++ continuation)
 
 -- the tokens spell such a list, so the next one begins a statement
 abbrev pub IsBetween : List Token → Type 0
@@ -131,8 +131,8 @@ pub record AreLongestStatements (tokens : List Token) (statements : List Stateme
   pub are_statements : AreStatements statements
   pub rest : List Token
   pub splits : tokens ≡ flat_map spelling_of statements ++ rest
-  pub longest : (s : Statement) (more : List Token) → AreStatements (statements ++ s ∷ [])
-      → ¬ (rest ≡ spelling_of s ++ more)
+  pub longest : (s : Statement) (continuation : List Token) → AreStatements (statements ++ s ∷ [])
+      → ¬ (rest ≡ spelling_of s ++ continuation)
 
 -- The fault at the end of a text of `len` bytes that has no other fault of shape: after the longest
 -- list part of a statement is left (E08), or nothing is left and a block is open (E10).

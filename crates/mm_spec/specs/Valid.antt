@@ -26,16 +26,18 @@ module _ (c : Context) where
   -- A step appends its label to the plain list, or the postfix list of the tree that an earlier
   -- step ended. `lists` has the plain list after each step so far.
   abbrev pub Adds : List (List ℕ) → List ℕ → Step → List ℕ → Type 0
-  Adds lists old (label l) new = new ≡ old ++ l ∷ []
-  Adds lists old (marked j) new =
-      (then : List ℕ) × (x : List ℕ) × (slice_get lists j ≡ Some then) × EndsIn then x
-      × (new ≡ old ++ x)
+  Adds lists labels_before (label l) labels_after = labels_after ≡ labels_before ++ l ∷ []
+  Adds lists labels_before (marked j) labels_after =
+      (earlier_labels : List ℕ) × (x : List ℕ) × (slice_get lists j ≡ Some earlier_labels) × EndsIn
+      earlier_labels x
+      × (labels_after ≡ labels_before ++ x)
 
-  -- `all` is the plain list after the steps, `old` the one before them
+  -- `all_labels` is the plain list after the steps, `labels_before` the one before them
   abbrev pub Plain : List (List ℕ) → List ℕ → List Step → List ℕ → Type 0
-  Plain lists old [] all = all ≡ old
-  Plain lists old (s ∷ steps) all =
-      (new : List ℕ) × Adds lists old s new × Plain (lists ++ new ∷ []) new steps all
+  Plain lists labels_before [] all_labels = all_labels ≡ labels_before
+  Plain lists labels_before (s ∷ steps) all_labels =
+      (labels_after : List ℕ) × Adds lists labels_before s labels_after × Plain
+      (lists ++ labels_after ∷ []) labels_after steps all_labels
 
   -- these labels are the plain list for which the steps stand
   abbrev pub IsPlain : List Step → List ℕ → Type 0

@@ -15,37 +15,44 @@ use Rattle.mm_database.specs.ParsedStatements.{IsSound}
 use Rattle.mm_database.specs.declared.names.Symbol.{Symbol}
 use Rattle.mm_outline.specs.declared.parts.Outline.{Outline}
 use Rattle.mm_scope.proofs.BoundsLaw.{symbols_le_tokens}
-use Rattle.mm_stmt.proofs.SoundLaw.{sound_read}
+use Rattle.mm_stmt.proofs.SoundLaw.{read_is_sound}
 
 -- the words lent are those of the text
-pub is_read : (text : List ℕ) (ws vs : List Word) (os : List Outline) (lexical fault : Option Fault)
+pub lent_words_are_read : (text : List ℕ) (ws vs : List Word) (os : List Outline)
+    (lexical fault : Option Fault)
     → ws ≡ vs → vs ≡ spec.tokens_of text → lexical ≡ spec.lexical_fault text
     → IsRead (length text) (lexed text ws lexical) (statements text ws os) fault
     → IsRead (length text) (lexed_of text) (statements text vs os) fault
-is_read text ws vs os lexical fault e f l h =
-    subst (λ x. IsRead (length text) x (statements text vs os) fault) (ap₂ (lexed text) f l)
-    (subst (λ us. IsRead (length text) (lexed text us lexical) (statements text us os) fault) e h)
+lent_words_are_read text ws vs os lexical fault words_are words_are_tokens lexical_is
+    is_read_there =
+    subst (λ x. IsRead (length text) x (statements text vs os) fault)
+    (ap₂ (lexed text) words_are_tokens lexical_is)
+    (subst (λ us. IsRead (length text) (lexed text us lexical) (statements text us os) fault)
+    words_are is_read_there)
 
 module _ (text : List ℕ) (ws : List Word) (os : List Outline) (lexical fault : Option Fault)
-    (r : IsRead (length text) (lexed text ws lexical) (statements text ws os) fault)
-    (small : length ws < 2 ^ 31) where
+    (is_read_here : IsRead (length text) (lexed text ws lexical) (statements text ws os) fault)
+    (words_lt_2_31 : length ws < 2 ^ 31) where
   -- there are few symbols
-  pub names_few : (names : List (List ℕ)) → names ≡ symbol_names (statements text ws os)
+  pub names_lt_2_31 : (names : List (List ℕ)) → names ≡ symbol_names (statements text ws os)
       → length names < 2 ^ 31
-  names_few names e =
-      let n = ap length e in
-      let f =
-      symbols_le_tokens (lexed text ws lexical).tokens r.are_statements.rest r.statements
-      r.are_statements.splits
-      (statements text ws os) r.rest r.splits in
-      let w = length-map ws (token_of text) in
-      omega (arith, n, f, w, small)
+  names_lt_2_31 names names_are =
+      let lengths_equal = ap length names_are in
+      let symbols_are_few =
+      symbols_le_tokens (lexed text ws lexical).tokens is_read_here.are_statements.rest
+      is_read_here.statements
+      is_read_here.are_statements.splits
+      (statements text ws os) is_read_here.rest is_read_here.splits in
+      let token_count_is = length-map ws (token_of text) in
+      omega (arith, lengths_equal, symbols_are_few, token_count_is, words_lt_2_31)
 
-  -- they are sound
-  pub sound : (look : List ℕ → Option Symbol) (labels : List ℕ → Option ℕ) (b : BlockLists)
+  -- they are statements_are_sound
+  pub statements_are_sound : (look : List ℕ → Option Symbol) (labels : List ℕ → Option ℕ)
+      (b : BlockLists)
       → KnowsStatements (statements text ws os) look labels b → length os < 2 ^ 31
       → IsSound (statements text ws os)
-  sound look labels b keeps few =
-      let m = length-map os (statement_of text ws) in
-      sound_read (length text) (lexed text ws lexical)
-      (statements text ws os) fault r look labels b keeps (omega (arith, m, few))
+  statements_are_sound look labels b keeps outlines_are_few =
+      let statement_count_is = length-map os (statement_of text ws) in
+      read_is_sound (length text) (lexed text ws lexical)
+      (statements text ws os) fault is_read_here look labels b keeps
+      (omega (arith, statement_count_is, outlines_are_few))

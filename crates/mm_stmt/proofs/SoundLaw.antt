@@ -21,49 +21,58 @@ use Rattle.mm_database.specs.ParsedStatements.{IsSound}
 use Rattle.mm_database.specs.declared.names.Symbol.{Symbol}
 use Rattle.mm_scope.proofs.BoundsLaw.{symbols_have_names}
 
-one_kind : (x : Option WordEntry) → is_constant_entry x ≡ true → is_variable_entry x ≡ false
-one_kind None e = refl
-one_kind (Some e) h = by_values e.is_variable h
+constant_is_no_variable : (x : Option WordEntry) → is_constant_entry x ≡ true
+    → is_variable_entry x ≡ false
+constant_is_no_variable None is_constant = refl
+constant_is_no_variable (Some is_constant) is_constant_e =
+    no_variable_by_value is_constant.is_variable is_constant_e
   where
-    by_values : (b : Bool) → not b ≡ true → b ≡ false
-    by_values true h = absurd (true≢false (sym h))
-    by_values false h = refl
+    no_variable_by_value : (b : Bool) → not b ≡ true → b ≡ false
+    no_variable_by_value true is_no_variable = absurd (true≢false (sym is_no_variable))
+    no_variable_by_value false is_no_variable = refl
 
-pub sound_is : (db : List Statement) (look : List ℕ → Option Symbol) (labels : List ℕ → Option ℕ)
+pub known_lawful_is_sound : (db : List Statement) (look : List ℕ → Option Symbol)
+    (labels : List ℕ → Option ℕ)
     → (b : BlockLists)
     → KnowsStatements db look labels b → length db < 2 ^ 31
     → ((k : ℕ) → k < length db → scope_fault db k ≡ None)
-    → ((k : ℕ) → k < length db → All (λ s. s < length (symbol_names db)) (formula_at db k))
+    → ((k : ℕ) → k < length db → All (λ s. s < length (symbol_names db))
+    (formula_at db k))
     → IsSound db
-sound_is db look labels b x few lawful below = record {
-  few_statements = few;
-  lawful = lawful;
-  no_constant_is_variable =
-      λ w e. let k = x.symbols w in k.variable ∙ one_kind (entry_of (look w)) (sym k.constant ∙ e);
-  symbols_have_numbers = below;
-}
+known_lawful_is_sound db look labels b knows_statements statements_lt_2_31 lawful
+    symbols_have_numbers = record {
+      few_statements = statements_lt_2_31;
+      lawful = lawful;
+      no_constant_is_variable =
+          λ w w_is_constant. let known_symbol =
+          knows_statements.symbols w in
+          known_symbol.variable
+          ∙ constant_is_no_variable (entry_of (look w)) (sym known_symbol.constant ∙ w_is_constant);
+      symbols_have_numbers = symbols_have_numbers;
+    }
 
 -- what has been read is lawful
-pub lawful_is : (len : ℕ) (x : LexedText) (db : List Statement) (fault : Option Fault)
+pub read_is_lawful : (len : ℕ) (x : LexedText) (db : List Statement) (fault : Option Fault)
     → IsRead len x db fault → (k : ℕ) → k < length db → scope_fault db k ≡ None
-lawful_is len x db fault r k h =
-    sym (scope_fault_front db r.rest k h) ∙ ap (λ list. scope_fault list k) (sym r.splits)
-    ∙ r.lawful k h
+read_is_lawful len x db fault is_read k k_lt_length =
+    sym (scope_fault_front db is_read.rest k k_lt_length)
+    ∙ ap (λ list. scope_fault list k) (sym is_read.splits)
+    ∙ is_read.lawful k k_lt_length
 
-pub sound_read : (len : ℕ) (x : LexedText) (db : List Statement) (fault : Option Fault)
+pub read_is_sound : (len : ℕ) (x : LexedText) (db : List Statement) (fault : Option Fault)
     → IsRead len x db fault
     → (look : List ℕ → Option Symbol) (labels : List ℕ → Option ℕ) (b : BlockLists)
     → KnowsStatements db look labels b → length db < 2 ^ 31 → IsSound db
-sound_read len x db fault r look labels b keeps few =
-    let lawful = lawful_is len x db fault r in
-    sound_is db look labels b keeps few lawful
-    (λ k h. symbols_have_names db lawful k h (get_or db k (opening 0))
-    (slice_get-get_or db k (opening 0) h))
+read_is_sound len x db fault is_read look labels b keeps statements_lt_2_31 =
+    let lawful = read_is_lawful len x db fault is_read in
+    known_lawful_is_sound db look labels b keeps statements_lt_2_31 lawful
+    (λ k k_lt_length. symbols_have_names db lawful k k_lt_length (get_or db k (opening 0))
+    (slice_get-get_or db k (opening 0) k_lt_length))
 
 -- the marks of the variables are those that the map has
-known_as : (x : Option Symbol) → is_variable_in x ≡ is_variable_entry (entry_of x)
-known_as None = refl
-known_as (Some s) = refl
+marked_as_known : (x : Option Symbol) → is_variable_in x ≡ is_variable_entry (entry_of x)
+marked_as_known None = refl
+marked_as_known (Some s) = refl
 
 -- the names of the symbols, and which of them are variables
 pub record AreSymbols (db : List Statement) (names : List (List ℕ))
@@ -80,13 +89,14 @@ pub are_symbols : (db : List Statement) (look : List ℕ → Option Symbol) (lab
     → ((s : ℕ) (w : List ℕ) → slice_get names s ≡ Some w
     → get_or kinds s false ≡ is_variable_in (look w))
     → AreSymbols db names kinds
-are_symbols db look labels b x names kinds e length_kinds_is_length_names h = record {
-  names_are = e;
-  count = length_kinds_is_length_names;
-  variable = λ s l.
-      let w = get_or names s [] in
-      let there = slice_get-get_or names s [] l in
-      h s w there ∙ known_as (look w) ∙ sym (x.symbols w).variable
-      ∙ ap (λ o. elim o [ None ↦ false | Some w ↦ is_in w (flat_map variables_of db) ])
-      (sym there ∙ ap (λ l. slice_get l s) e);
-}
+are_symbols db look labels b knows_statements names kinds names_are counts_equal kinds_are =
+    record {
+      names_are = names_are;
+      count = counts_equal;
+      variable = λ s s_lt_count.
+          let w = get_or names s [] in
+          let name_is = slice_get-get_or names s [] s_lt_count in
+          kinds_are s w name_is ∙ marked_as_known (look w) ∙ sym (knows_statements.symbols w).variable
+          ∙ ap (λ o. elim o [ None ↦ false | Some w ↦ is_in w (flat_map variables_of db) ])
+          (sym name_is ∙ ap (λ xs. slice_get xs s) names_are);
+    }

@@ -11,9 +11,9 @@ use Rattle.mm_spec.specs.Citation.{is_theorem, IsValid}
 use Rattle.mm_spec.specs.Citation as proof
 use Rattle.mm_spec.specs.Laws.Complete.{AreComplete}
 use Rattle.mm_spec.specs.Output.{theorems, is_theorem_at, AreValid}
-use Rattle.mm_spec.proofs.FindsLaw.{filter_member, passing_statement, inside_of}
-use Rattle.mm_spec.proofs.CitedLaw.{cites_earlier, proof_theorem}
-use Rattle.mm_spec.proofs.ListLaw.{member_at}
+use Rattle.mm_spec.proofs.FindsLaw.{filter_member, passing_statement, got_lt_length}
+use Rattle.mm_spec.proofs.CitedLaw.{cited_lt_theorem, proved_is_theorem}
+use Rattle.mm_spec.proofs.ListLaw.{element_is_member}
 use Rattle.mm_cites.specs.Citing.{Citing, citing, HasCitation, IsStatementList, IsFileOrder}
 use Rattle.mm_cites.proofs.RisingLaw.{filtered_range_is_statement_list}
 use Rattle.mm_work.specs.Judged.{HasCitations, HaveCitationsUpTo, CitesAsDatabase}
@@ -57,7 +57,7 @@ index_of_theorem db t t_is_theorem =
     (filter_member (λ j. list_any is_theorem (statement_at db j))
     (range_with_len 0 (length db)) t t_is_theorem
     (member_of_range (length db) 0 t (omega arith)
-    (let t_lt_length = inside_of db t passing.0 passing.1 in omega (arith, t_lt_length))))
+    (let t_lt_length = got_lt_length db t passing.0 passing.1 in omega (arith, t_lt_length))))
 
 -- a theorem with citations is valid
 pub valid_if_has_citations : (db : List Statement) (by_essential : Bool) (t : ℕ) (cites : List ℕ)
@@ -118,10 +118,10 @@ module _ (db : List Statement) (length_lt_limit : length db < 2 ^ 31) (are_compl
         rising = theorems_rise;
         each = have_citations.list_count_is;
         earlier =
-            λ i k i_lt_count k_lt_length. cites_earlier db by_essential (get_or (theorems db) i 0) _
+            λ i k i_lt_count k_lt_length. cited_lt_theorem db by_essential (get_or (theorems db) i 0) _
             (((have_citations.each_has_citations i i_lt_count).is_checked.cites_are_exact (get_or
             (get_or lists i []) k 0)).0
-            (member_at (get_or lists i []) k 0 k_lt_length));
+            (element_is_member (get_or lists i []) k 0 k_lt_length));
       }
 
       pub cites_as_database : CitesAsDatabase db by_essential c
@@ -140,11 +140,11 @@ module _ (db : List Statement) (length_lt_limit : length db < 2 ^ 31) (are_compl
               (subst (λ y. proof.Cites db by_essential y b) has_citation.theorem
               (((have_citations.each_has_citations has_citation.row
               has_citation.within).is_checked.cites_are_exact b).0
-              (member_at l has_citation.list_index 0 has_citation.listed)))
+              (element_is_member l has_citation.list_index 0 has_citation.listed)))
 
           has_citation_if_cites : (t a : ℕ) → proof.Cites db by_essential t a → HasCitation c t a
           has_citation_if_cites t a cites_a =
-              let indexed = index_of_theorem db t (proof_theorem db t cites_a.1 cites_a.2) in
+              let indexed = index_of_theorem db t (proved_is_theorem db t cites_a.1 cites_a.2) in
               let l = get_or lists indexed.0 [] in
               let a_is_member : is_member l a ≡ true =
               ((have_citations.each_has_citations indexed.0 indexed.1).is_checked.cites_are_exact

@@ -36,18 +36,18 @@ IsLastFormula none g = ⊥
 IsLastFormula (more ts l f cs) g = f ≡ g
 
 -- the entries after a step, unless the formula that it adds is too long
-abbrev pub unless_too_long : (short : Bool) → List Formula → Result (List Formula) Reason
+abbrev pub unless_too_long : (fits_limit : Bool) → List Formula → Result (List Formula) Reason
 unless_too_long false out = Err too_long
 unless_too_long true out = Ok out
 
 -- the entries after the step of an assertion, or the reason why it fails: the first of its four
 -- tests that fails
-abbrev pub unless_failed : (enough matched disjoint short : Bool) → List Formula
+abbrev pub unless_failed : (enough matched disjoint fits_limit : Bool) → List Formula
     → Result (List Formula) Reason
-unless_failed false matched disjoint short out = Err too_few
-unless_failed true false disjoint short out = Err unmatched
-unless_failed true true false short out = Err not_disjoint
-unless_failed true true true short out = unless_too_long short out
+unless_failed false matched disjoint fits_limit out = Err too_few
+unless_failed true false disjoint fits_limit out = Err unmatched
+unless_failed true true false fits_limit out = Err not_disjoint
+unless_failed true true true fits_limit out = unless_too_long fits_limit out
 
 module _ (c : Context) where
   -- what replaces a variable: the premise for its `$f`, without the typecode

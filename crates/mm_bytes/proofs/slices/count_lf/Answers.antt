@@ -13,24 +13,26 @@ count_after_block : (c : After-lf_mask)
     → c.loop-at.count + count_ones c.lf_mask.result
     ≡ count_by (λ b. b == 10) (take (c.loop-at.at + 64) c.args.bytes.now)
 count_after_block c =
-    let s = c.args.bytes.now in
-    let block : count_ones c.lf_mask.result ≡ count_by (λ b. b == 10) (chunk c.loop-at.at 64 s) =
-    ap count_ones c.lf_mask.ensures ∙ ones-mask_l (λ b. b == 10) (chunk c.loop-at.at 64 s) in
+    let bytes = c.args.bytes.now in
+    let block_count_is : count_ones c.lf_mask.result ≡ count_by (λ b. b == 10)
+    (chunk c.loop-at.at 64 bytes) =
+    ap count_ones c.lf_mask.ensures ∙ ones-mask_l (λ b. b == 10) (chunk c.loop-at.at 64 bytes) in
     omega (
       arith,
       count_by_chunk
-          (λ b. b == 10) c.loop-at.at 64 s,
-      block,
+          (λ b. b == 10) c.loop-at.at 64 bytes,
+      block_count_is,
       c.loop-at.invariant.counted,
     )
 
 pub overflow_add-count : goal.overflow_add-count
 overflow_add-count c =
-    let counted = count_after_block c in
-    let count_is_at_most = count_by-le-length (λ b. b == 10)
+    let count_after_is = count_after_block c in
+    let count_le_taken_length = count_by-le-length (λ b. b == 10)
     (take (c.loop-at.at + 64) c.args.bytes.now) in
-    let within : c.loop-at.count + count_ones c.lf_mask.result
-    ≤ length c.args.bytes.now = omega (arith, counted, count_is_at_most, length-take {A = ℕ}) in
+    let count_le_length : c.loop-at.count + count_ones c.lf_mask.result
+    ≤ length c.args.bytes.now =
+    omega (arith, count_after_is, count_le_taken_length, length-take {A = ℕ}) in
     record { fits = omega arith }
 
 pub loop-at-preserved : goal.loop-at-preserved

@@ -2,7 +2,7 @@ use Rattle.std.proofs.Common.{◌≡◌, nat_eq}
 use Rattle.std.specs.List.{dedup}
 use Rattle.std.proofs.lemmas.List.Filters.{dedup_is}
 use Rattle.std.proofs.lemmas.Map.Keys.{IsStrictlyIncreasing-dedup}
-use Rattle.mm_spec.proofs.ListLaw.{sort_and_dedup_same}
+use Rattle.mm_spec.proofs.ListLaw.{sort_and_dedup_keeps_members}
 use Rattle.mm_frame.proofs.hypotheses.sort_and_dedup_numbers.Goals as goal
 
 pub returns-clause-rising : goal.returns-clause-rising
@@ -14,6 +14,6 @@ returns-clause-rising g c =
 
 pub returns-clause-same : goal.returns-clause-same
 returns-clause-same g c =
-    sort_and_dedup_same c.args.numbers.now.items c.sort_unstable.new.self.items
+    sort_and_dedup_keeps_members c.args.numbers.now.items c.sort_unstable.new.self.items
     c.dedup.new.self.items
     c.sort_unstable.ensures.permutation (dedup_is nat_eq _ _ c.dedup.ensures.filtered)

@@ -6,14 +6,20 @@ use Rattle.mm_lex.proofs.ends.after_white.Goals as goal
 
 pub loop-place-preserved : goal.loop-place-preserved
 loop-place-preserved c = record {
-  low = omega (arith, c.loop-place-test.true);
-  high = omega (arith, c.loop-place.invariant.high);
-  not_white = λ i low high. ⊎_elim {C = white_at c.args.text.now i ≡ false}
-      (λ here. block_not_white c.args.text.now
+  from_le_place = omega (arith, c.loop-place-test.true);
+  place_le_to = omega (arith, c.loop-place.invariant.place_le_to);
+  not_white = λ i from_le_i i_lt_to. ⊎_elim {C = white_at c.args.text.now i ≡ false}
+      (λ i_lt_place. block_not_white c.args.text.now
       (c.loop-place.place - 64) c.classes_of.result.white c.classes_of.ensures.white
       c.if-classes_of-eq0.true
-      (omega (arith, c.loop-place-test.true, c.loop-place.invariant.high, c.requires.within)) i low
-      (omega (arith, here, c.loop-place-test.true)))
-      (λ after. c.loop-place.invariant.not_white i after high)
+      (omega (
+        arith,
+        c.loop-place-test.true,
+        c.loop-place.invariant.place_le_to,
+        c.requires.to_le_length,
+      ))
+      i from_le_i
+      (omega (arith, i_lt_place, c.loop-place-test.true)))
+      (λ place_le_i. c.loop-place.invariant.not_white i place_le_i i_lt_to)
       (cases_lt i c.loop-place.place);
 }

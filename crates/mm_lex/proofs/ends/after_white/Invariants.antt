@@ -5,8 +5,8 @@ use Rattle.mm_lex.proofs.ends.after_white.Given as goal
 abbrev pub invariant-loop-place : goal.invariant-loop-place
 invariant-loop-place l =
     record {
-      low : l.from ≤ l.place;
-      high : l.place ≤ l.to;
+      from_le_place : l.from ≤ l.place;
+      place_le_to : l.place ≤ l.to;
       not_white : NoWhite l.text l.place l.to;
     }
 
@@ -16,8 +16,8 @@ decreases-loop-place l = l.place
 abbrev pub invariant-loop-place-2 : goal.invariant-loop-place-2
 invariant-loop-place-2 l =
     record {
-      low : l.from ≤ l.place;
-      high : l.place ≤ l.to;
+      from_le_place : l.from ≤ l.place;
+      place_le_to : l.place ≤ l.to;
       not_white : NoWhite l.text l.place l.to;
     }
 

@@ -6,13 +6,13 @@ use Rattle.mm_lex.proofs.ends.first_white.Goals as goal
 
 pub loop-place-preserved : goal.loop-place-preserved
 loop-place-preserved c = record {
-  low = omega (arith, c.loop-place.invariant.low);
-  high = omega (arith, c.loop-place-test.true, c.loop-place.invariant.high);
+  from_le_place = omega (arith, c.loop-place.invariant.from_le_place);
+  place_le_to = omega (arith, c.loop-place-test.true, c.loop-place.invariant.place_le_to);
   not_white =
-      λ i low high. ⊎_elim {C = white_at c.args.text.now i ≡ false}
-      (λ before. c.loop-place.invariant.not_white i low before)
-      (λ here. block_not_white c.args.text.now c.loop-place.place c.classes_of.result.white
+      λ i from_le_i i_lt_to. ⊎_elim {C = white_at c.args.text.now i ≡ false}
+      (λ i_lt_place. c.loop-place.invariant.not_white i from_le_i i_lt_place)
+      (λ place_le_i. block_not_white c.args.text.now c.loop-place.place c.classes_of.result.white
       c.classes_of.ensures.white c.if-classes_of-eq0.true
-      (omega (arith, c.loop-place-test.true, c.requires.within)) i here high)
+      (omega (arith, c.loop-place-test.true, c.requires.to_le_length)) i place_le_i i_lt_to)
       (cases_lt i c.loop-place.place);
 }

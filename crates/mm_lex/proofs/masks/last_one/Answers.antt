@@ -1,11 +1,11 @@
 use Rattle.std.proofs.Common.{arith}
-use Rattle.mm_lex.proofs.MaskLaw.{last_bit, last_within}
+use Rattle.mm_lex.proofs.MaskLaw.{last_bit_is_one, last_place_le_k}
 use Rattle.mm_lex.proofs.masks.last_one.Goals as goal
 
 pub overflow_sub-result : goal.overflow_sub-result
 overflow_sub-result c =
-    last_within c.args.mask c.args.upto c.requires (omega (arith, c.if-rest-eq0.false))
+    last_place_le_k c.args.mask c.args.upto c.requires (omega (arith, c.if-rest-eq0.false))
 
 pub returns-else-rest-eq0-clause-one : goal.returns-else-rest-eq0-clause-one
 returns-else-rest-eq0-clause-one c _ =
-    last_bit c.args.mask c.args.upto c.requires (omega (arith, c.if-rest-eq0.false))
+    last_bit_is_one c.args.mask c.args.upto c.requires (omega (arith, c.if-rest-eq0.false))

@@ -3,13 +3,13 @@ use Rattle.mm_spec.specs.Laws.Readings.{append_reading}
 use Rattle.mm_lex.specs.Pieces.{side_reading}
 use Rattle.mm_lex.specs.Between.{side}
 use Rattle.mm_lex.specs.Stretches.{joined_word}
-use Rattle.mm_lex.proofs.PiecesLaw.{append_reading_three, append_reading_nil}
+use Rattle.mm_lex.proofs.PiecesLaw.{readings_of_three_lists, append_reading_nil}
 use Rattle.mm_lex.proofs.pieces.join_between.Goals as goal
 use Rattle.mm_lex.proofs.pieces.join_between.Goals.{then-before-after+in_ok-read_word+in_ok-read_word-2}
 use Rattle.mm_lex.proofs.pieces.join_between.Goals.{else-before-after}
 
 pub returns-clause-readings : goal.returns-clause-readings
-returns-clause-readings g c ws us before after =
+returns-clause-readings g c ws us readings_before readings_after =
     let outside_joined : (p : ℕ)
     → side_reading p (side c.if-before-after.outside)
     ≡ append_reading c.args.text.now (side_reading p (side c.args.before.outside))
@@ -31,12 +31,14 @@ returns-clause-readings g c ws us before after =
           (sym (append_reading_nil _ _))
     ] in
     record {
-      out =
-          λ p. append_reading_three c.args.text.now _ _ _ _ ws _ us (before.out p)
+      read_outside =
+          λ p. readings_of_three_lists c.args.text.now _ _ _ _ ws _ us
+          (readings_before.read_outside p)
           (outside_joined p)
-          (c.in_ok-append_reading.ensures c.args.text.now us after p);
-      within =
-          λ p. append_reading_three c.args.text.now _ _ _ _ ws _ us (before.within p)
+          (c.in_ok-append_reading.ensures c.args.text.now us readings_after p);
+      read_inside =
+          λ p. readings_of_three_lists c.args.text.now _ _ _ _ ws _ us
+          (readings_before.read_inside p)
           (inside_joined p)
-          (c.in_ok-append_reading-2.ensures c.args.text.now us after p);
+          (c.in_ok-append_reading-2.ensures c.args.text.now us readings_after p);
     }

@@ -9,7 +9,7 @@ use Rattle.mm_lex.proofs.pieces.lex_between.Given as goal
 -- Each of the two readings, continued with the remaining words, gives what all words give.
 abbrev pub invariant-loop-scanner : goal.invariant-loop-scanner
 invariant-loop-scanner g l = record {
-  same_text : l.scanner.text.now ≡ l.text;
+  texts_equal : l.scanner.text.now ≡ l.text;
   outside_reading : (p : ℕ)
       → reading l.text None (words_between l.text l.head_end l.tail_start)
       ≡ append_reading l.text (side_reading p (side l.outside))

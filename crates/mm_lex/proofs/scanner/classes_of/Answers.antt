@@ -6,10 +6,11 @@ use Rattle.mm_lex.proofs.scanner.classes_of.Goals as goal
 
 pub returns-in-None-clause-white : goal.returns-in-None-clause-white
 returns-in-None-clause-white c =
-    let short : length c.args.bytes.now ≤ 64 = omega (arith, c.in-None.ensures.cases) in
-    c.class_tail.ensures.white ∙ ap (mask is_white) (sym (take_all 64 c.args.bytes.now short))
+    let length_le_64 : length c.args.bytes.now ≤ 64 = omega (arith, c.in-None.ensures.cases) in
+    c.class_tail.ensures.white
+    ∙ ap (mask is_white) (sym (take_all 64 c.args.bytes.now length_le_64))
 
 pub returns-in-None-clause-bad : goal.returns-in-None-clause-bad
 returns-in-None-clause-bad c =
-    let short : length c.args.bytes.now ≤ 64 = omega (arith, c.in-None.ensures.cases) in
-    c.class_tail.ensures.bad ∙ ap (mask is_bad) (sym (take_all 64 c.args.bytes.now short))
+    let length_le_64 : length c.args.bytes.now ≤ 64 = omega (arith, c.in-None.ensures.cases) in
+    c.class_tail.ensures.bad ∙ ap (mask is_bad) (sym (take_all 64 c.args.bytes.now length_le_64))

@@ -6,9 +6,9 @@ use Rattle.mm_outline.proofs.parts.next_statement.Given as goal
 
 abbrev pub invariant-loop-at : goal.invariant-loop-at
 invariant-loop-at l = record {
-  part : IsPartBefore l.part l.at;
-  later : l.from ≤ l.at;
-  within : l.at ≤ length l.tokens;
+  is_part : IsPartBefore l.part l.at;
+  from_le_at : l.from ≤ l.at;
+  at_le_count : l.at ≤ length l.tokens;
   leads : Leads (start l.deep) (tokens_from l.text l.tokens l.from) []
       (progress l.text l.tokens l.deep l.part l.at) (tokens_from l.text l.tokens l.at);
 }

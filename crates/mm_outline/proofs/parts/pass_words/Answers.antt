@@ -1,26 +1,30 @@
 use Rattle.std.proofs.Common.{◌≡◌, refl}
 use Rattle.mm_outline.specs.declared.parts.Part.{Part}
 use Rattle.mm_outline.specs.declared.parts.Part.TheVariants.{Start, Labelled, Words, Formula, Proof}
-use Rattle.mm_outline.proofs.PassedLaw.{TakesWords, passed_upto, part_later}
+use Rattle.mm_outline.proofs.PassedLaw.{TakesWords, plain_words_are_passed_up_to, part_stays_part}
 use Rattle.mm_outline.proofs.parts.pass_words.Goals as goal
 
 pub returns-in_default : goal.returns-in_default
 returns-in_default c =
-    let found = c.next_keyword.ensures in
-    let takes = by_part c.args.part refl in
+    let keyword_found = c.next_keyword.ensures in
+    let takes_words = takes_by_part c.args.part refl in
     record {
-      later = found.later;
-      within = found.within;
+      from_le_to = keyword_found.from_le_result;
+      to_le_count = keyword_found.result_le_count;
       is_part =
-          part_later c.args.part c.args.at c.next_keyword.result takes found.later c.requires.part;
+          part_stays_part c.args.part c.args.at c.next_keyword.result takes_words
+          keyword_found.from_le_result
+          c.requires.part;
       leads =
-          λ d. passed_upto c.args.text.now c.args.tokens.now d c.args.part c.args.at
-          c.next_keyword.result takes c.requires.part found.later found.within found.plain;
+          λ d. plain_words_are_passed_up_to c.args.text.now c.args.tokens.now d c.args.part
+          c.args.at
+          c.next_keyword.result takes_words c.requires.part keyword_found.from_le_result
+          keyword_found.result_le_count keyword_found.plain;
     }
   where
-    by_part : (p : Part) → c.args.part ≡ p → TakesWords p
-    by_part Start e = c.in_default.not-Start e
-    by_part (Labelled l) e = c.in_default.not-Labelled l e
-    by_part (Words k w) e = tt
-    by_part (Formula w) e = tt
-    by_part (Proof w q) e = tt
+    takes_by_part : (p : Part) → c.args.part ≡ p → TakesWords p
+    takes_by_part Start part_is = c.in_default.not-Start part_is
+    takes_by_part (Labelled l) part_is = c.in_default.not-Labelled l part_is
+    takes_by_part (Words k w) part_is = tt
+    takes_by_part (Formula w) part_is = tt
+    takes_by_part (Proof w q) part_is = tt

@@ -10,10 +10,10 @@ transition_for-requires-clause-label c =
     c.bytes-word.ensures
     c.is_label_at-is_label.ensures
 
-pub returns-clause-same : goal.returns-clause-same
-returns-clause-same c =
+pub returns-clause-transition_is : goal.returns-clause-transition_is
+returns-clause-transition_is c =
     let text = c.args.text.now in
     let ws = c.args.tokens.now in
-    c.transition_for.ensures.same
+    c.transition_for.ensures.transition_is
     ∙ ap (λ k. table.transition (progress text ws c.args.deep c.args.part c.args.at) k
     (token_at text ws c.args.at)) (c.classify-class.ensures ∙ ap table.class c.bytes-word.ensures)

@@ -12,7 +12,7 @@ use Rattle.mm_proof.specs.declared.refused.ProofRefused.TheVariants.{Memory}
 use Rattle.mm_proof.specs.Letters.{letters_state}
 use Rattle.mm_proof.specs.Refused.{StartsWith}
 use Rattle.mm_spec.specs.Citation.{is_theorem}
-use Rattle.mm_outline.proofs.StatementsLaw.{is_there}
+use Rattle.mm_outline.proofs.StatementsLaw.{passing_lt_length}
 use Rattle.std.proofs.lemmas.List.Elements.{All-drop}
 use Rattle.mm_proof.proofs.compressed.read_compressed.Goals as goal
 
@@ -138,7 +138,7 @@ returns-in_err-read_all-clause-fault g c =
 
 pub read_labels-requires-clause-theorem : goal.read_labels-requires-clause-theorem
 read_labels-requires-clause-theorem g c =
-    is_there is_theorem c.args.database.now.statements c.args.theorem c.requires.theorem
+    passing_lt_length is_theorem c.args.database.now.statements c.args.theorem c.requires.theorem
 
 pub read_all-requires-clause-within : goal.read_all-requires-clause-within
 read_all-requires-clause-within g c =

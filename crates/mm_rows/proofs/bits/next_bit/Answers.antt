@@ -1,22 +1,23 @@
 use Rattle.std.proofs.Common.{◌+◌, ◌*◌, ◌/◌, ◌%◌, ◌^◌, arith, ap, sym, subst, ◌∙◌, w64}
 use Rattle.std.proofs.lemmas.Nat.Bits.{bit_at-trailing_zeros, bit_at-zero}
 use Rattle.std.specs.Int.{bit_at}
-use Rattle.mm_rows.proofs.BitLaw.{Seeking, row_of_sought, seeking_first_sought, seeking_next_sought}
-use Rattle.mm_rows.proofs.BitLaw.{bit_found}
-use Rattle.mm_rows.proofs.BitLaw.{none_below, is_sought, is_not_sought}
+use Rattle.mm_rows.proofs.BitLaw.{IsSeeking, row_of_sought, search_begins_for_sought}
+use Rattle.mm_rows.proofs.BitLaw.{search_goes_on_for_sought}
+use Rattle.mm_rows.proofs.BitLaw.{lowest_bit_is_sought}
+use Rattle.mm_rows.proofs.BitLaw.{no_bit_up_to_next_word, is_sought, is_not_sought}
 use Rattle.mm_rows.proofs.bits.next_bit.Goals as goal
 
 pub loop-word-init : goal.loop-word-init
 loop-word-init c =
     let from = c.args.from in
     record {
-      within = c.if-row-at.false;
-      few = c.requires;
-      begun = omega arith;
-      seeking =
-          subst (λ w. Seeking (row_of_sought c.args.set c.args.row.now) from (from / 64)
+      at_lt_length = c.if-row-at.false;
+      length_le_2_31 = c.requires;
+      from_lt_next = omega arith;
+      is_seeking =
+          subst (λ w. IsSeeking (row_of_sought c.args.set c.args.row.now) from (from / 64)
           (w / 2 ^ (from % 64) * 2 ^ (from % 64) % 2 ^ 64)) (sym c.sought_bits.ensures)
-          (seeking_first_sought c.args.set c.args.row.now from c.if-row-at.false
+          (search_begins_for_sought c.args.set c.args.row.now from c.if-row-at.false
           (c.type_inv.row _).fits);
     }
 
@@ -24,42 +25,45 @@ pub returns-then-word-ne0-clause-some : goal.returns-then-word-ne0-clause-some
 returns-then-word-ne0-clause-some c =
     let row = c.args.row.now in
     let set = c.args.set in
-    let within = c.loop-word.invariant.within in
-    let t =
-    bit_at-trailing_zeros w64 c.loop-word.word (omega arith) c.loop-word.invariant.seeking.fits in
-    let f =
-    bit_found (row_of_sought set row) c.args.from c.loop-word.at c.loop-word.word _
-    c.loop-word.invariant.seeking t.0 t.1 t.2 in
-    let small = t.0 in (
-      f.0,
+    let at_in_row = c.loop-word.invariant.at_lt_length in
+    let lowest_bit =
+    bit_at-trailing_zeros w64 c.loop-word.word (omega arith)
+    c.loop-word.invariant.is_seeking.word_lt_2_64 in
+    let found_bit =
+    lowest_bit_is_sought (row_of_sought set row) c.args.from c.loop-word.at c.loop-word.word _
+    c.loop-word.invariant.is_seeking lowest_bit.0 lowest_bit.1 lowest_bit.2 in
+    let bit_lt_64 = lowest_bit.0 in (
+      found_bit.0,
       omega arith,
-      is_sought set row _ (omega (arith, small, within)) (c.type_inv.row _).fits f.1,
-      λ k lo hi.
-          is_not_sought set row k (omega (arith, small, hi, within)) (c.type_inv.row _).fits
-          (f.2 k lo hi),
+      is_sought set row _ (omega (arith, bit_lt_64, at_in_row)) (c.type_inv.row _).fits found_bit.1,
+      λ k from_le_k k_lt_end.
+          is_not_sought set row k (omega (arith, bit_lt_64, k_lt_end, at_in_row))
+          (c.type_inv.row _).fits
+          (found_bit.2 k from_le_k k_lt_end),
     )
 
 pub returns-then-row-at-2-clause-none : goal.returns-then-row-at-2-clause-none
-returns-then-row-at-2-clause-none c = λ k lo hi.
+returns-then-row-at-2-clause-none c = λ k from_le_k k_lt_end.
     let row = c.args.row.now in
-    let end = c.if-row-at-2.true in
-    is_not_sought c.args.set row k (omega (arith, hi)) (c.type_inv.row _).fits
-    (none_below (row_of_sought c.args.set row) c.args.from c.loop-word.at c.loop-word.word
-    c.loop-word.invariant.seeking
-    (λ b lt. ap (λ x. bit_at x b) c.if-word-ne0.false ∙ bit_at-zero b) k lo
-    (omega (arith, hi, end)))
+    let row_ends_at = c.if-row-at-2.true in
+    is_not_sought c.args.set row k (omega (arith, k_lt_end)) (c.type_inv.row _).fits
+    (no_bit_up_to_next_word (row_of_sought c.args.set row) c.args.from c.loop-word.at
+    c.loop-word.word
+    c.loop-word.invariant.is_seeking
+    (λ b b_lt_64. ap (λ x. bit_at x b) c.if-word-ne0.false ∙ bit_at-zero b) k from_le_k
+    (omega (arith, k_lt_end, row_ends_at)))
 
 pub loop-word-preserved : goal.loop-word-preserved
 loop-word-preserved c =
     let row = c.args.row.now in
     record {
-      within = c.if-row-at-2.false;
-      few = c.requires;
-      begun = let b = c.loop-word.invariant.begun in omega arith;
-      seeking =
-          subst (Seeking (row_of_sought c.args.set row) c.args.from (c.loop-word.at + 1))
+      at_lt_length = c.if-row-at-2.false;
+      length_le_2_31 = c.requires;
+      from_lt_next = let from_bound = c.loop-word.invariant.from_lt_next in omega arith;
+      is_seeking =
+          subst (IsSeeking (row_of_sought c.args.set row) c.args.from (c.loop-word.at + 1))
           (sym c.sought_bits-word.ensures)
-          (seeking_next_sought c.args.set row c.args.from c.loop-word.at c.loop-word.word
-          c.if-row-at-2.false (c.type_inv.row _).fits c.loop-word.invariant.begun
-          c.loop-word.invariant.seeking c.if-word-ne0.false);
+          (search_goes_on_for_sought c.args.set row c.args.from c.loop-word.at c.loop-word.word
+          c.if-row-at-2.false (c.type_inv.row _).fits c.loop-word.invariant.from_lt_next
+          c.loop-word.invariant.is_seeking c.if-word-ne0.false);
     }

@@ -1,13 +1,13 @@
-use Rattle.std.proofs.Common.{◌<◌, ◌≤◌, ◌+◌, ◌-◌, ◌*◌, length}
-use Rattle.mm_rows.proofs.BitLaw.{Seeking, row_of_sought}
+use Rattle.std.proofs.Common.{◌^◌, ◌<◌, ◌≤◌, ◌+◌, ◌-◌, ◌*◌, length}
+use Rattle.mm_rows.proofs.BitLaw.{IsSeeking, row_of_sought}
 use Rattle.mm_rows.proofs.bits.next_bit.Given as goal
 
 abbrev pub invariant-loop-word : goal.invariant-loop-word
 invariant-loop-word l = record {
-  within : l.at < length l.row;
-  few : length l.row ≤ 2147483648;
-  begun : l.from < 64 * (l.at + 1);
-  seeking : Seeking (row_of_sought l.set l.row) l.from l.at l.word;
+  at_lt_length : l.at < length l.row;
+  length_le_2_31 : length l.row ≤ 2 ^ 31;
+  from_lt_next : l.from < 64 * (l.at + 1);
+  is_seeking : IsSeeking (row_of_sought l.set l.row) l.from l.at l.word;
 }
 
 abbrev pub decreases-loop-word : goal.decreases-loop-word

@@ -1,14 +1,15 @@
 use Rattle.std.proofs.Common.{arith, ◌∙◌}
-use Rattle.mm_rows.proofs.DigitLaw.{digits_more}
+use Rattle.mm_rows.proofs.DigitLaw.{next_digits_are_written}
 use Rattle.mm_rows.proofs.digits.write_digits.Goals as goal
 
 pub loop-w-preserved : goal.loop-w-preserved
 loop-w-preserved c =
-    digits_more c.args.words.now c.loop-w.into c.word_digits.result c.loop-w.w c.loop-w-test.true
+    next_digits_are_written c.args.words.now c.loop-w.into c.word_digits.result c.loop-w.w
+    c.loop-w-test.true
     (c.loop-w.auto.into ∙ c.requires) c.word_digits.ensures.length c.word_digits.ensures.each
     c.loop-w.invariant
 
 pub returns-clause-each : goal.returns-clause-each
 returns-clause-each c =
-    λ i lt. let e = c.requires in let end = c.loop-w-test.false in
-    c.loop-w.invariant i (omega (arith, lt, e, end))
+    λ i i_lt_length. let into_has_size = c.requires in let words_are_ended = c.loop-w-test.false in
+    c.loop-w.invariant i (omega (arith, i_lt_length, into_has_size, words_are_ended))

@@ -1,24 +1,27 @@
 use Rattle.std.proofs.Common.{arith}
-use Rattle.mm_rows.proofs.InOrderLaw.{filled_below_none, filled_below_more, filled_below_all}
-use Rattle.mm_rows.proofs.InOrderLaw.{ready_in_order}
+use Rattle.mm_rows.proofs.InOrderLaw.{nothing_filled_below_zero, filled_below_next}
+use Rattle.mm_rows.proofs.InOrderLaw.{all_filled_are_bit_rows}
+use Rattle.mm_rows.proofs.InOrderLaw.{cited_rows_are_filled_in_order}
 use Rattle.mm_rows.proofs.in_order.fill_in_order.Goals as goal
 
 pub fill_in_place-requires-clause-ready : goal.fill_in_place-requires-clause-ready
 fill_in_place-requires-clause-ready g c =
-    ready_in_order c.args.citations.now c.args.columns.now c.loop-i.bits c.loop-i.i
+    cited_rows_are_filled_in_order c.args.citations.now c.args.columns.now c.loop-i.bits c.loop-i.i
     c.rows-i-end.ensures.order (omega arith) c.loop-i.invariant
 
 pub loop-i-init : goal.loop-i-init
 loop-i-init g c =
-    filled_below_none c.args.citations.now c.args.columns.now c.args.bits.now c.requires.size
+    nothing_filled_below_zero c.args.citations.now c.args.columns.now c.args.bits.now
+    c.requires.size
 
 pub loop-i-preserved : goal.loop-i-preserved
 loop-i-preserved g c =
-    filled_below_more c.args.citations.now c.args.columns.now c.loop-i.bits c.fill_in_place.new.bits
-    c.loop-i.i c.fill_in_place.ensures.row (omega arith) c.fill_in_place.ensures.others
+    filled_below_next c.args.citations.now c.args.columns.now c.loop-i.bits c.fill_in_place.new.bits
+    c.loop-i.i c.fill_in_place.ensures.row (omega arith) c.fill_in_place.ensures.others_kept
     c.loop-i.invariant
 
 pub returns : goal.returns
 returns g c =
-    filled_below_all c.args.citations.now c.args.columns.now c.loop-i.bits c.loop-i.i (omega arith)
+    all_filled_are_bit_rows c.args.citations.now c.args.columns.now c.loop-i.bits c.loop-i.i
+    (omega arith)
     c.loop-i.invariant

@@ -1,67 +1,73 @@
 use Rattle.std.proofs.Common.{◌*◌, arith, ◌<◌, ◌+◌, ◌/◌, length}
-use Rattle.mm_rows.proofs.BandLaw.{bytes_none, bytes_more, all_bytes, word_in_row}
+use Rattle.mm_rows.proofs.BandLaw.{no_bytes_written, next_byte_is_written}
+use Rattle.mm_rows.proofs.BandLaw.{written_bytes_are_row_bytes, row_word_lt_length}
 use Rattle.mm_rows.proofs.transpose.row_bytes.Goals as goal
 
 pub loop-k-init : goal.loop-k-init
 loop-k-init c =
     record {
-      within = omega arith;
-      bytes = bytes_none c.args.across c.args.bits.now c.args.at (64 * c.args.w);
+      last_le_rows = omega arith;
+      bytes = no_bytes_written c.args.across c.args.bits.now c.args.at (64 * c.args.w);
     }
 
 pub loop-k-preserved : goal.loop-k-preserved
 loop-k-preserved c =
     record {
-      within = omega arith;
-      bytes = bytes_more c.args.across c.args.bits.now c.args.at c.loop-k.bytes
+      last_le_rows = omega arith;
+      bytes = next_byte_is_written c.args.across c.args.bits.now c.args.at c.loop-k.bytes
           (64 * c.args.w) c.loop-k.k (omega arith) c.loop-k.invariant.bytes;
     }
 
 pub returns : goal.returns
 returns c =
-    all_bytes c.args.rows c.args.across c.args.bits.now c.args.w c.args.at c.loop-k.bytes c.loop-k.k
-    (omega arith) c.loop-k.invariant.within c.loop-k.invariant.bytes
+    written_bytes_are_row_bytes c.args.rows c.args.across c.args.bits.now c.args.w c.args.at
+    c.loop-k.bytes c.loop-k.k
+    (omega arith) c.loop-k.invariant.last_le_rows c.loop-k.invariant.bytes
 
 pub bounds-bits-w : goal.bounds-bits-w
 bounds-bits-w c =
-    let t = c.loop-k-test.true in
-    let end = c.min-k-end.ensures in
-    let in_file : 64 * c.args.w + c.loop-k.k < c.args.rows = omega (arith, t, end) in
-    let a = c.requires.within in
-    let h =
-    word_in_row c.args.rows c.args.across (64 * c.args.w + c.loop-k.k) (c.args.at / 8)
-    (length c.args.bits.now) c.requires.size in_file (omega (arith, a)) in
-    omega (arith, h)
+    let k_is_before_end = c.loop-k-test.true in
+    let end_is = c.min-k-end.ensures in
+    let row_lt_rows : 64 * c.args.w + c.loop-k.k < c.args.rows =
+    omega (arith, k_is_before_end, end_is) in
+    let column_in_row = c.requires.at_lt_row_bytes in
+    let word_lt_length =
+    row_word_lt_length c.args.rows c.args.across (64 * c.args.w + c.loop-k.k) (c.args.at / 8)
+    (length c.args.bits.now) c.requires.size row_lt_rows (omega (arith, column_in_row)) in
+    omega (arith, word_lt_length)
 
 pub offset_bounds-bits-w : goal.offset_bounds-bits-w
 offset_bounds-bits-w c =
-    let t = c.loop-k-test.true in
-    let end = c.min-k-end.ensures in
-    let in_file : 64 * c.args.w + c.loop-k.k < c.args.rows = omega (arith, t, end) in
-    let a = c.requires.within in
-    let h =
-    word_in_row c.args.rows c.args.across (64 * c.args.w + c.loop-k.k) (c.args.at / 8)
-    (length c.args.bits.now) c.requires.size in_file (omega (arith, a)) in
-    omega (arith, h)
+    let k_is_before_end = c.loop-k-test.true in
+    let end_is = c.min-k-end.ensures in
+    let row_lt_rows : 64 * c.args.w + c.loop-k.k < c.args.rows =
+    omega (arith, k_is_before_end, end_is) in
+    let column_in_row = c.requires.at_lt_row_bytes in
+    let word_lt_length =
+    row_word_lt_length c.args.rows c.args.across (64 * c.args.w + c.loop-k.k) (c.args.at / 8)
+    (length c.args.bits.now) c.requires.size row_lt_rows (omega (arith, column_in_row)) in
+    omega (arith, word_lt_length)
 
 pub overflow_add-word-in-loop-k : goal.overflow_add-word-in-loop-k
 overflow_add-word-in-loop-k c =
-    let t = c.loop-k-test.true in
-    let end = c.min-k-end.ensures in
-    let in_file : 64 * c.args.w + c.loop-k.k < c.args.rows = omega (arith, t, end) in
-    let a = c.requires.within in
-    let h =
-    word_in_row c.args.rows c.args.across (64 * c.args.w + c.loop-k.k) (c.args.at / 8)
-    (length c.args.bits.now) c.requires.size in_file (omega (arith, a)) in
-    omega (arith, h)
+    let k_is_before_end = c.loop-k-test.true in
+    let end_is = c.min-k-end.ensures in
+    let row_lt_rows : 64 * c.args.w + c.loop-k.k < c.args.rows =
+    omega (arith, k_is_before_end, end_is) in
+    let column_in_row = c.requires.at_lt_row_bytes in
+    let word_lt_length =
+    row_word_lt_length c.args.rows c.args.across (64 * c.args.w + c.loop-k.k) (c.args.at / 8)
+    (length c.args.bits.now) c.requires.size row_lt_rows (omega (arith, column_in_row)) in
+    omega (arith, word_lt_length)
 
 pub overflow_mul-word-in-loop-k : goal.overflow_mul-word-in-loop-k
 overflow_mul-word-in-loop-k c =
-    let t = c.loop-k-test.true in
-    let end = c.min-k-end.ensures in
-    let in_file : 64 * c.args.w + c.loop-k.k < c.args.rows = omega (arith, t, end) in
-    let a = c.requires.within in
-    let h =
-    word_in_row c.args.rows c.args.across (64 * c.args.w + c.loop-k.k) (c.args.at / 8)
-    (length c.args.bits.now) c.requires.size in_file (omega (arith, a)) in
-    omega (arith, h)
+    let k_is_before_end = c.loop-k-test.true in
+    let end_is = c.min-k-end.ensures in
+    let row_lt_rows : 64 * c.args.w + c.loop-k.k < c.args.rows =
+    omega (arith, k_is_before_end, end_is) in
+    let column_in_row = c.requires.at_lt_row_bytes in
+    let word_lt_length =
+    row_word_lt_length c.args.rows c.args.across (64 * c.args.w + c.loop-k.k) (c.args.at / 8)
+    (length c.args.bits.now) c.requires.size row_lt_rows (omega (arith, column_in_row)) in
+    omega (arith, word_lt_length)

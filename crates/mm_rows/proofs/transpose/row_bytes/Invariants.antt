@@ -5,6 +5,6 @@ use Rattle.mm_rows.proofs.transpose.row_bytes.Given as goal
 abbrev pub invariant-loop-k : goal.invariant-loop-k
 invariant-loop-k l =
     record {
-      within : 64 * l.w + l.k ≤ l.rows;
+      last_le_rows : 64 * l.w + l.k ≤ l.rows;
       bytes : BytesTo l.across l.bits l.at l.bytes (64 * l.w) l.k;
     }

@@ -5,7 +5,7 @@ use Rattle.mm_rows.proofs.transpose.transpose_band.Given as goal
 abbrev pub invariant-loop-j : goal.invariant-loop-j
 invariant-loop-j l =
     record {
-      within : l.at ≤ 8 * length l.has_mark;
+      at_le_end : l.at ≤ 8 * length l.has_mark;
       written : ColumnsWritten l.rows l.columns l.bits l.transposed l.w (8 * l.at);
     }
 

@@ -1,13 +1,13 @@
 use Rattle.std.proofs.Common.{◌∙◌, length, get_or, arith, refl}
 use Rattle.mm_rows.specs.Bits.{words_for}
 use Rattle.mm_rows.specs.BitRows.{row_at}
-use Rattle.mm_rows.proofs.TransposeLaw.{row_end}
-use Rattle.mm_rows.proofs.WaveLaw.{filled_more, ready_still}
+use Rattle.mm_rows.proofs.TransposeLaw.{row_end_le_length}
+use Rattle.mm_rows.proofs.WaveLaw.{one_more_is_filled, cited_rows_stay_known}
 use Rattle.mm_rows.proofs.wave.fill_in_turn.Goals as goal
 
-pub fill_in_place-requires-clause-fits : goal.fill_in_place-requires-clause-fits
-fill_in_place-requires-clause-fits g c =
-    row_end (words_for (length c.args.columns.now)) (get_or c.args.rows.now c.loop-k.k 0)
+pub fill_in_place-requires-clause-row_fits : goal.fill_in_place-requires-clause-row_fits
+fill_in_place-requires-clause-row_fits g c =
+    row_end_le_length (words_for (length c.args.columns.now)) (get_or c.args.rows.now c.loop-k.k 0)
     (length c.args.citations.now.theorems) (length c.loop-k.bits)
     (c.requires.ready c.loop-k.k 0 (omega arith)).0
     (c.loop-k.invariant.size ∙ c.requires.size)
@@ -15,7 +15,7 @@ fill_in_place-requires-clause-fits g c =
 pub fill_in_place-requires-clause-ready : goal.fill_in_place-requires-clause-ready
 fill_in_place-requires-clause-ready g c =
     let k = c.loop-k.k in
-    ready_still c.args.citations.now c.args.columns.now c.args.rows.now k c.args.bits.now
+    cited_rows_stay_known c.args.citations.now c.args.columns.now c.args.rows.now k c.args.bits.now
     c.loop-k.bits c.loop-k.invariant (get_or c.args.rows.now k 0)
     (c.requires.ready k 0 (omega arith)).1
 
@@ -25,6 +25,6 @@ loop-k-preserved g c =
     let rows = c.args.rows.now in
     let i = get_or rows k 0 in
     let row = row_at c.fill_in_place.new.bits (words_for (length c.args.columns.now)) i in
-    filled_more c.args.citations.now c.args.columns.now rows k c.args.bits.now c.loop-k.bits
+    one_more_is_filled c.args.citations.now c.args.columns.now rows k c.args.bits.now c.loop-k.bits
     c.fill_in_place.new.bits row i refl c.fill_in_place.ensures.row
-    (omega arith) refl c.fill_in_place.ensures.others c.loop-k.invariant
+    (omega arith) refl c.fill_in_place.ensures.others_kept c.loop-k.invariant

@@ -1,6 +1,6 @@
 use Rattle.std.proofs.Common.{◌<◌, length, All, ap, sym, ◌∙◌, subst, arith}
 use Rattle.mm_spec.specs.Citation.{is_assertion}
-use Rattle.mm_outline.proofs.StatementsLaw.{is_there}
+use Rattle.mm_outline.proofs.StatementsLaw.{passing_lt_length}
 use Rattle.mm_rule.proofs.FrameLaw.{hypotheses_lt_length, hypotheses_le_k}
 use Rattle.mm_rule.proofs.frames.hyps.Goals as goal
 
@@ -8,7 +8,7 @@ pub returns-clause-below : goal.returns-clause-below
 returns-clause-below g c =
     let db = c.args.database.now.statements in
     let assertion_lt_length : c.args.assertion < length db =
-    is_there is_assertion db c.args.assertion c.requires
+    passing_lt_length is_assertion db c.args.assertion c.requires
     in
     subst (All (λ h. h < length db)) (sym (c.as_slice.ensures.value ∙ c.frame.ensures.hypotheses))
     (hypotheses_lt_length db c.args.assertion (omega (arith, assertion_lt_length)))
@@ -17,7 +17,7 @@ pub returns-clause-few : goal.returns-clause-few
 returns-clause-few g c =
     let db = c.args.database.now.statements in
     let assertion_lt_length : c.args.assertion < length db =
-    is_there is_assertion db c.args.assertion c.requires
+    passing_lt_length is_assertion db c.args.assertion c.requires
     in
     let lengths_equal = ap length (c.as_slice.ensures.value ∙ c.frame.ensures.hypotheses) in
     let hypotheses_le_assertion = hypotheses_le_k db c.args.assertion in

@@ -5,7 +5,7 @@ use Rattle.std.proofs.lemmas.List.Elements.{All-push}
 use Rattle.mm_spec.specs.Scope.{names_before}
 use Rattle.mm_spec.specs.Lawful.{least, scope_faults}
 use Rattle.mm_spec.specs.Laws.Table.{start, statements_from, statements_of}
-use Rattle.mm_spec.proofs.LongestLaw.{is_longest}
+use Rattle.mm_spec.proofs.LongestLaw.{read_statements_are_longest}
 use Rattle.mm_outline.specs.Parts.{statement_of, token_of, as_tokens, depth_after, IsOutline}
 use Rattle.mm_outline.specs.declared.parts.Outline.{Outline}
 use Rattle.mm_outline.specs.NextStatement.{tokens_from}
@@ -32,7 +32,7 @@ add_if_lawful-requires-clause-next g c =
     let statements_are_db_s_rest : statements_of ts ≡ (db ++ s ∷ []) ++ rest =
     is_read_to.leads.statements ∙ ap (λ y. db ++ y) c.in-Whole.ensures.1.leads.statements
     ∙ sym (append_assoc db (s ∷ []) rest) in
-    let longest = is_longest ts in
+    let longest = read_statements_are_longest ts in
     let db_le_index = is_read_to.length_db_le_index in
     let index_le_length = is_read_to.index_le_length in
     let tokens_lt_2_31 = c.requires.few_tokens in
@@ -133,8 +133,8 @@ statements-preserved g c =
     blocks
     loop.invariant.is_read_so_far.keeps.blocks outline.kind outline.keyword outline.middle
     outline.end
-    c.in-Whole.ensures.1.later
-    c.in-Whole.ensures.1.within c.in-Whole.ensures.1.leads none_is_least in
+    c.in-Whole.ensures.1.from_le_end
+    c.in-Whole.ensures.1.end_lt_count c.in-Whole.ensures.1.leads none_is_least in
     record {
       outlines =
           subst (λ (xs : List Outline). All (λ outline. IsOutline outline
@@ -143,7 +143,7 @@ statements-preserved g c =
           (All-push
           (λ outline. IsOutline outline × (outline.end < length ws)) loop.read.outlines.items
           outline loop.invariant.outlines
-          (c.in-Whole.ensures.0, c.in-Whole.ensures.1.within));
+          (c.in-Whole.ensures.0, c.in-Whole.ensures.1.end_lt_count));
       reading = rw (statements_are_db_and_statement, c.depth_after-depth.ensures) is_read_to_next;
       is_read_so_far = rw statements_are_db_and_statement taken_if_lawful.1;
       no_fault = sym none_is_fault;

@@ -6,7 +6,8 @@ use Rattle.mm_spec.specs.Output.{IsRead}
 use Rattle.mm_outline.specs.Parts.{AreWithin, statement_of}
 use Rattle.mm_outline.specs.Statements.{statements}
 use Rattle.mm_outline.specs.Tokens.{AreTokens}
-use Rattle.mm_outline.proofs.TokensLaw.{tokens_stand, tokens_tell, tokens_small, short_text}
+use Rattle.mm_outline.proofs.TokensLaw.{tokens_are_in_text, tokens_are_told_by_first_byte}
+use Rattle.mm_outline.proofs.TokensLaw.{tokens_lt_2_31, faultless_text_fits_limit}
 use Rattle.mm_database.specs.Names.{names_of}
 use Rattle.mm_database.specs.FrameTables.{AreFrameTables}
 use Rattle.mm_database.specs.Database.{Contents, IsDatabase, AreStatementLists}
@@ -15,32 +16,35 @@ use Rattle.mm_database.proofs.RetainedWordsLaw.{retained_words_are_of_statements
 use Rattle.mm_scope.specs.ReadSoFar.{IsReadSoFar, read_so_far}
 use Rattle.mm_database.specs.ParsedStatements.{IsSound}
 use Rattle.mm_spec.specs.Opened.{counted}
-use Rattle.mm_stmt.proofs.AssembleLaw.{is_read, names_few, sound}
+use Rattle.mm_stmt.proofs.AssembleLaw.{lent_words_are_read, names_lt_2_31, statements_are_sound}
 use Rattle.mm_stmt.proofs.reader.read_owned.Goals as goal
 
 pub outline_statements-requires-clause-words : goal.outline_statements-requires-clause-words
 outline_statements-requires-clause-words g c =
     subst (AreWithin c.args.text.now)
-    (sym (c.as_slice-words.ensures.value ∙ c.requires.tokens)) (tokens_stand c.args.text.now)
+    (sym (c.as_slice-words.ensures.value ∙ c.requires.tokens)) (tokens_are_in_text c.args.text.now)
 
 pub outline_statements-requires-clause-tokens : goal.outline_statements-requires-clause-tokens
 outline_statements-requires-clause-tokens g c =
     subst (AreTokens c.args.text.now)
-    (sym (c.as_slice-words.ensures.value ∙ c.requires.tokens)) (tokens_tell c.args.text.now)
+    (sym (c.as_slice-words.ensures.value ∙ c.requires.tokens))
+    (tokens_are_told_by_first_byte c.args.text.now)
 
 pub outline_statements-requires-clause-few_tokens : goal.outline_statements-requires-clause-few_tokens
 outline_statements-requires-clause-few_tokens g c =
     subst (λ (ws : List Word). length ws < 2 ^ 31)
-    (sym (c.as_slice-words.ensures.value ∙ c.requires.tokens)) (tokens_small c.args.text.now)
+    (sym (c.as_slice-words.ensures.value ∙ c.requires.tokens)) (tokens_lt_2_31 c.args.text.now)
 
 pub outline_statements-requires-clause-few_bytes : goal.outline_statements-requires-clause-few_bytes
-outline_statements-requires-clause-few_bytes g c e =
-    let s = short_text c.args.text.now (sym c.requires.fault ∙ e) in omega (arith, s)
+outline_statements-requires-clause-few_bytes g c no_lexical_fault =
+    let text_fits_limit =
+    faultless_text_fits_limit c.args.text.now (sym c.requires.fault ∙ no_lexical_fault) in
+    omega (arith, text_fits_limit)
 
 pub list_statements-requires-clause-words : goal.list_statements-requires-clause-words
 list_statements-requires-clause-words g c =
     subst (AreWithin c.args.text.now)
-    (sym (c.as_slice-words.ensures.value ∙ c.requires.tokens)) (tokens_stand c.args.text.now)
+    (sym (c.as_slice-words.ensures.value ∙ c.requires.tokens)) (tokens_are_in_text c.args.text.now)
 
 pub list_statements-requires-clause-outlines : goal.list_statements-requires-clause-outlines
 list_statements-requires-clause-outlines g c =
@@ -57,21 +61,25 @@ pub reading_of-requires : goal.reading_of-requires
 reading_of-requires g c =
     let text = c.args.text.now in
     let ws = c.as_slice-words.result.now in
-    let read = c.in_ok-outlined.outlined in
-    let os = read.outlines.items in
-    let lent = c.as_slice-words.ensures.value ∙ c.requires.tokens in
+    let outlined_text = c.in_ok-outlined.outlined in
+    let os = outlined_text.outlines.items in
+    let words_are_tokens = c.as_slice-words.ensures.value ∙ c.requires.tokens in
     let outlined = c.in_ok-outlined.ensures in
-    let small = subst (λ (ws : List Word). length ws < 2 ^ 31) (sym lent) (tokens_small text) in
+    let words_lt_2_31 =
+    subst (λ (ws : List Word). length ws < 2 ^ 31) (sym words_are_tokens) (tokens_lt_2_31 text) in
     record {
-      sound =
-          subst (λ (ws : List Word). IsSound (statements text ws os)) lent
-          (sound text ws os _ _ outlined.read small _ _ _ outlined.is_read_so_far.keeps
+      statements_are_sound =
+          subst (λ (ws : List Word). IsSound (statements text ws os)) words_are_tokens
+          (statements_are_sound text ws os _ _ outlined.read words_lt_2_31 _ _ _
+          outlined.is_read_so_far.keeps
           outlined.few_outlines);
       is_read_so_far =
-          subst (λ (ws : List Word). IsReadSoFar (statements text ws os) (read_so_far read)) lent
+          subst (λ (ws : List Word). IsReadSoFar (statements text ws os)
+          (read_so_far outlined_text)) words_are_tokens
           outlined.is_read_so_far;
       few_symbols =
-          names_few text ws os _ _ outlined.read small (names_of read.scope.names.symbols)
+          names_lt_2_31 text ws os _ _ outlined.read words_lt_2_31
+          (names_of outlined_text.scope.names.symbols)
           outlined.is_read_so_far.names_are;
     }
 
@@ -83,35 +91,37 @@ new-requires g c =
     let outlined = c.in_ok-outlined.ensures in
     let os = c.in_ok-outlined.outlined.outlines.items in
     let w = c.args.with_open in
-    let lent : ws ≡ words = c.as_slice-words.ensures.value ∙ c.requires.tokens in
+    let words_are_tokens : ws ≡ words = c.as_slice-words.ensures.value ∙ c.requires.tokens in
     let is_read_so_far =
     subst (λ (us : List Word). IsReadSoFar (statements text us os)
     (read_so_far c.in_ok-outlined.outlined))
-    lent outlined.is_read_so_far in
+    words_are_tokens outlined.is_read_so_far in
     let statement_lists =
     subst (λ (us : List Word). AreStatementLists (counted w (statements text us os))
     c.in_ok-statement_lists.statement_lists)
-    lent (rw (sym c.deref.ensures.value) c.in_ok-statement_lists.ensures) in
-    let same = c.in_ok-reading.ensures in
+    words_are_tokens (rw (sym c.deref.ensures.value) c.in_ok-statement_lists.ensures) in
+    let reading_is = c.in_ok-reading.ensures in
     subst (λ (r : Reading _). IsDatabase w r (record {
       frame_tables = c.in_ok-frame_tables.frame_tables;
       statement_lists = c.in_ok-statement_lists.statement_lists;
       retained_words = c.in_ok-retained_words.retained_words;
-    })) (sym same)
+    })) (sym reading_is)
     (record {
-      few_statements = let n = length-map os (statement_of text words) in
-          let few = outlined.few_outlines in omega (arith, n, few);
-      read = is_read text ws words os _ _ lent refl c.requires.fault outlined.read;
+      few_outlines = let outline_count_is = length-map os (statement_of text words) in
+          let outlines_are_few = outlined.few_outlines in omega (arith, outline_count_is, outlines_are_few);
+      read =
+          lent_words_are_read text ws words os _ _ words_are_tokens refl c.requires.fault
+          outlined.read;
       labels = is_read_so_far.keeps.labels_are;
       names_are = is_read_so_far.names_are;
       frame_tables_are =
           subst (λ (r : Reading _). AreFrameTables r.statements.list r.statements.blocks
-          c.in_ok-frame_tables.frame_tables) same c.in_ok-frame_tables.ensures;
+          c.in_ok-frame_tables.frame_tables) reading_is c.in_ok-frame_tables.ensures;
       lists_are = statement_lists;
       retained_are =
-          rw (c.in_ok-retained_words.ensures, c.deref-2.ensures.value, lent)
-          (retained_words_are_of_statements text words (tokens_stand text) os
-          (rw (sym lent) outlined.outlines));
+          rw (c.in_ok-retained_words.ensures, c.deref-2.ensures.value, words_are_tokens)
+          (retained_words_are_of_statements text words (tokens_are_in_text text) os
+          (rw (sym words_are_tokens) outlined.outlines));
     })
 
 pub returns : goal.returns
@@ -119,18 +129,21 @@ returns g c =
     let text = c.args.text.now in
     let words = words_of text in
     let os = c.in_ok-outlined.outlined.outlines.items in
-    let is =
-    is_read text c.as_slice-words.result.now words os _ _
+    let is_read_text =
+    lent_words_are_read text c.as_slice-words.result.now words os _ _
     (c.as_slice-words.ensures.value ∙ c.requires.tokens) refl c.requires.fault
     c.in_ok-outlined.ensures.read in
-    let same = c.in_ok-reading.ensures in
-    let made = c.new.ensures in
+    let reading_is = c.in_ok-reading.ensures in
+    let contents_are = c.new.ensures in
     record {
-      text = ap (λ (d : Contents). d.text) made ∙ ap (λ (r : Reading _). r.statements.text) same;
-      flag = ap (λ (d : Contents). d.with_open) made;
+      text =
+          ap (λ (d : Contents). d.text) contents_are
+          ∙ ap (λ (r : Reading _). r.statements.text) reading_is;
+      flag = ap (λ (d : Contents). d.with_open) contents_are;
       read =
-          subst (λ (d : Contents). IsRead (length text) (lexed_of text) d.read d.fault) (sym made)
+          subst (λ (d : Contents). IsRead (length text) (lexed_of text) d.read d.fault)
+          (sym contents_are)
           (subst (λ (r : Reading _). IsRead (length text) (lexed_of text)
-          r.statements.list r.fault) (sym same) is);
-      counted = rw made refl;
+          r.statements.list r.fault) (sym reading_is) is_read_text);
+      counted = rw contents_are refl;
     }

@@ -16,17 +16,17 @@ into_reading-requires g c =
     c.in_ok-variable_flags.variable_flags.items is_read_so_far.names_are
     c.in_ok-variable_flags.ensures.count
     c.in_ok-variable_flags.ensures.each in
-    let names = ap length is_read_so_far.names_are in
-    let few = c.requires.few_symbols in
-    let count = c.in_ok-variable_flags.ensures.count in
+    let name_count_is = ap length is_read_so_far.names_are in
+    let symbols_are_few = c.requires.few_symbols in
+    let flag_count_is = c.in_ok-variable_flags.ensures.count in
     record {
-      places = is_read_so_far.formulas.order;
+      places = is_read_so_far.formulas.are_places;
       parts = record {
         sound = c.requires.sound;
         blocks = is_read_so_far.keeps.blocks;
-        numbered = rw is_read_so_far.formulas.are (formulas_numbered db);
-        few_symbols = omega (arith, few, count);
-        count = omega (arith, count, names);
-        variable = λ s l. symbols.variable s (omega (arith, l, names));
+        numbered = rw is_read_so_far.formulas.cut_is_lists (formulas_numbered db);
+        few_symbols = omega (arith, symbols_are_few, flag_count_is);
+        count = omega (arith, flag_count_is, name_count_is);
+        variable = λ s s_lt_count. symbols.variable s (omega (arith, s_lt_count, name_count_is));
       };
     }

@@ -3,7 +3,7 @@ use Rattle.std.proofs.Common.{append_assoc, arith}
 use Rattle.std.proofs.lemmas.List.{take_more, map-append}
 use Rattle.mm_spec.specs.Output.{label_at}
 use Rattle.mm_outline.specs.Statements.{statements}
-use Rattle.mm_lists.proofs.ListsLaw.{joined_all, more_joined, none_joined}
+use Rattle.mm_lists.proofs.ListsLaw.{taken_joined_are_all_joined, joined_with_one_more, none_joined}
 use Rattle.mm_stmt.proofs.spaced_labels.spaced_labels_of.Goals as goal
 
 pub label_of-requires-clause-theorem : goal.label_of-requires-clause-theorem
@@ -18,15 +18,15 @@ loop-theorem-preserved g c =
     let name : ℕ → List ℕ =
     λ k. 32 ∷ label_at (statements c.args.text.now c.args.tokens.now c.args.outlines.now) k in
     let bytes = c.loop-theorem.bytes.items in
-    let more : map name (take (i + 1) ks) ≡ map name (take i ks) ++ name k ∷ [] =
+    let one_more_is_taken : map name (take (i + 1) ks) ≡ map name (take i ks) ++ name k ∷ [] =
     ap (map name) (take_more ks i 0 (omega arith)) ∙ map-append name (take i ks) (k ∷ []) in
-    let longer : c.extend_from_slice.new.self.items ≡ bytes ++ name k =
+    let bytes_have_label : c.extend_from_slice.new.self.items ≡ bytes ++ name k =
     c.in_ok-extend_from_slice.ensures.items
     ∙ ap (λ l. l ++ c.label_of.result.now) c.in_ok-push.ensures.items
     ∙ append_assoc bytes (32 ∷ []) c.label_of.result.now
     ∙ ap (λ l. bytes ++ 32 ∷ l) c.label_of.ensures in
-    rw (more, c.in_ok-end_list.ensures.ok, longer)
-    (more_joined (map name (take i ks)) (name k) bytes c.loop-theorem.ends.items
+    rw (one_more_is_taken, c.in_ok-end_list.ensures.ok, bytes_have_label)
+    (joined_with_one_more (map name (take i ks)) (name k) bytes c.loop-theorem.ends.items
     c.loop-theorem.invariant)
 
 pub loop-theorem-init : goal.loop-theorem-init
@@ -34,19 +34,21 @@ loop-theorem-init g c = none_joined _ _ c.new-bytes.ensures.items c.new-ends.ens
 
 pub from_ends-requires : goal.from_ends-requires
 from_ends-requires g c =
-    let end = c.loop-theorem.auto.theorem-index-end in
-    let test = c.loop-theorem-test.false in
-    (joined_all
+    let index_bound = c.loop-theorem.auto.theorem-index-end in
+    let index_is_past_end = c.loop-theorem-test.false in
+    (taken_joined_are_all_joined
     (λ k. 32 ∷ label_at (statements c.args.text.now c.args.tokens.now c.args.outlines.now) k)
-    c.args.theorems.now c.loop-theorem.theorem-index _ _ (omega (arith, end, test))
-    c.loop-theorem.invariant).order
+    c.args.theorems.now c.loop-theorem.theorem-index _ _
+    (omega (arith, index_bound, index_is_past_end))
+    c.loop-theorem.invariant).are_places
 
 pub returns : goal.returns
 returns g c =
-    let end = c.loop-theorem.auto.theorem-index-end in
-    let test = c.loop-theorem-test.false in
+    let index_bound = c.loop-theorem.auto.theorem-index-end in
+    let index_is_past_end = c.loop-theorem-test.false in
     c.from_ends.ensures
-    ∙ (joined_all
+    ∙ (taken_joined_are_all_joined
     (λ k. 32 ∷ label_at (statements c.args.text.now c.args.tokens.now c.args.outlines.now) k)
-    c.args.theorems.now c.loop-theorem.theorem-index _ _ (omega (arith, end, test))
-    c.loop-theorem.invariant).are
+    c.args.theorems.now c.loop-theorem.theorem-index _ _
+    (omega (arith, index_bound, index_is_past_end))
+    c.loop-theorem.invariant).cut_is_lists

@@ -16,30 +16,31 @@ pub spaced_labels_of-requires-clause-theorems : goal.spaced_labels_of-requires-c
 spaced_labels_of-requires-clause-theorems g c =
     let w = c.args.with_open in
     let db = statements c.args.text.now c.args.tokens.now c.args.outlines.now in
-    let statement_lists =
+    let theorems_are_listed =
     c.deref-2.ensures.value ∙ c.in_ok-theorems.ensures.theorems
     ∙ theorems_by_kind (counted w db) c.deref.result.now
     (c.deref.ensures.value ∙ c.in_ok-kinds.ensures) in
-    subst (λ (ks : List ℕ). All (λ k. IsTrue (is_theorem_at db k)) ks) (sym statement_lists)
-    (λ i d l. theorem_still w db _ (theorems_are (counted w db) i d l))
+    subst (λ (ks : List ℕ). All (λ k. IsTrue (is_theorem_at db k)) ks) (sym theorems_are_listed)
+    (λ i d i_lt_count. theorem_still w db _ (theorems_are (counted w db) i d i_lt_count))
 
 pub returns : goal.returns
 returns g c =
     let w = c.args.with_open in
     let db = statements c.args.text.now c.args.tokens.now c.args.outlines.now in
-    let kinds = c.deref.ensures.value ∙ c.in_ok-kinds.ensures in
-    let statement_lists : c.deref-2.result.now ≡ theorems (counted w db) =
+    let kinds_are_listed = c.deref.ensures.value ∙ c.in_ok-kinds.ensures in
+    let theorems_are_listed : c.deref-2.result.now ≡ theorems (counted w db) =
     c.deref-2.ensures.value ∙ c.in_ok-theorems.ensures.theorems
-    ∙ theorems_by_kind (counted w db) c.deref.result.now kinds in
+    ∙ theorems_by_kind (counted w db) c.deref.result.now kinds_are_listed in
     record {
       kinds_are = c.in_ok-kinds.ensures;
       theorems_are =
           c.in_ok-theorems.ensures.theorems ∙ theorems_by_kind (counted w
-          db) c.deref.result.now kinds;
+          db) c.deref.result.now kinds_are_listed;
       axioms_are =
-          c.in_ok-theorems.ensures.axioms ∙ axioms_by_kind (counted w db) c.deref.result.now kinds;
+          c.in_ok-theorems.ensures.axioms
+          ∙ axioms_by_kind (counted w db) c.deref.result.now kinds_are_listed;
       spaced_labels_are =
-          c.in_ok-spaced_labels.ensures ∙ ap (map (λ k. 32 ∷ label_at db k)) statement_lists
+          c.in_ok-spaced_labels.ensures ∙ ap (map (λ k. 32 ∷ label_at db k)) theorems_are_listed
           ∙ ap (λ (f : ℕ → List ℕ). map (λ k. 32 ∷ f k) (theorems (counted w db)))
           (sym (counted_label w db));
     }

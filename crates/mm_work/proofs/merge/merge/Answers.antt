@@ -86,7 +86,7 @@ loop-position-preserved g c =
     (list_has_citations db c.args.essential fs c.requires.are_findings
     c.in_ok-positions.positions.items
     c.deref-position-items.result.now k _ positions_are has_position _ c.get.result.now findings_are
-    c.get.ensures.is))
+    c.get.ensures.is_list))
 
 pub returns : goal.returns
 returns g c =

@@ -1,7 +1,7 @@
 use Rattle.std.proofs.Common.{subst, sym, ap}
 use Rattle.mm_spec.specs.Citation.{context_at}
 use Rattle.mm_spec.specs.Laws.Stack.{AreGoodSteps}
-use Rattle.mm_spec.proofs.GoodStepsLaw.{good_steps}
+use Rattle.mm_spec.proofs.GoodStepsLaw.{faultless_steps_are_good}
 use Rattle.mm_check.specs.Reached.{steps_of}
 use Rattle.mm_check.proofs.checker.Checker.check.Goals as goal
 
@@ -17,6 +17,6 @@ run-requires-clause-steps g c =
       no_reading_faults = c.requires.no_reading_faults;
       are_good =
           subst (λ ps. AreGoodSteps (context_at db t) 0 (steps_of ps)) (sym steps_are)
-          (good_steps db t (c.requires.made_for.frames_are_complete t)
+          (faultless_steps_are_good db t (c.requires.made_for.frames_are_complete t)
           c.requires.no_reading_faults);
     }

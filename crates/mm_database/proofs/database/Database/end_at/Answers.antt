@@ -10,7 +10,7 @@ get-words-requires g c =
 pub overflow_sub-result : goal.overflow_sub-result
 overflow_sub-result g c =
     some_are_retained _ _ _ _ _ c.self.view_is _ c.requires _ c.self.invariant.retained_are
-    c.get-words.result.now c.get-words.ensures.is
+    c.get-words.result.now c.get-words.ensures.is_list
 
 pub bounds-words-words : goal.bounds-words-words
 bounds-words-words g c = let words_gt_0 = overflow_sub-result g c in omega (arith, words_gt_0)
@@ -18,4 +18,4 @@ bounds-words-words g c = let words_gt_0 = overflow_sub-result g c in omega (arit
 pub returns : goal.returns
 returns g c =
     last_is_retained _ _ _ _ _ c.self.view_is _ c.requires _ c.self.invariant.retained_are
-    c.get-words.result.now c.get-words.ensures.is (record { start = 0; end = 0 })
+    c.get-words.result.now c.get-words.ensures.is_list (record { start = 0; end = 0 })

@@ -21,17 +21,17 @@ pub bounds-get-0 : goal.bounds-get-0
 bounds-get-0 g c =
     some_are_retained _ _ _ _ _ c.self.view_is _ c.requires _ c.self.invariant.retained_are
     c.get.result.now
-    c.get.ensures.is
+    c.get.ensures.is_list
 
 pub bytes-requires : goal.bytes-requires
 bytes-requires g c =
     let word_is_within =
     words_are_within _ _ _ _ _ c.self.view_is _ c.requires _ c.self.invariant.retained_are
     c.get.result.now
-    c.get.ensures.is 0 (record { start = 0; end = 0 })
+    c.get.ensures.is_list 0 (record { start = 0; end = 0 })
     (some_are_retained _ _ _ _ _ c.self.view_is _ c.requires _ c.self.invariant.retained_are
     c.get.result.now
-    c.get.ensures.is) in
+    c.get.ensures.is_list) in
     let text_lengths_equal = ap (λ (n : Contents). length n.text) c.self.view_is in
     let lent_length = ap length c.text.ensures in
     let end_le_length = word_is_within.1 in
@@ -49,7 +49,7 @@ returns-then-has_label g c =
     (c.text.ensures ∙ sym (ap (λ (n : Contents). n.text) c.self.view_is))
     ∙ label_is_retained _ _ _ _ _ c.self.view_is _ c.requires _ c.self.invariant.retained_are
     c.get.result.now
-    c.get.ensures.is _ c.kind.ensures (sym c.has_label.ensures ∙ c.if-has_label.true)
+    c.get.ensures.is_list _ c.kind.ensures (sym c.has_label.ensures ∙ c.if-has_label.true)
     (record { start = 0; end = 0 })
 
 pub returns-else-has_label : goal.returns-else-has_label

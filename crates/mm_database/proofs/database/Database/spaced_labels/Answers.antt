@@ -6,8 +6,8 @@ use Rattle.mm_database.specs.Database.{spaced_labels, Contents}
 use Rattle.mm_database.proofs.SpacedLaw.{spaced_slice}
 use Rattle.mm_database.proofs.database.Database.spaced_labels.Goals as goal
 
-pub between-requires-clause-within : goal.between-requires-clause-within
-between-requires-clause-within g c =
+pub between-requires-clause-to_le_count : goal.between-requires-clause-to_le_count
+between-requires-clause-to_le_count g c =
     let db = c.args.self.now.statements in
     let spaced_count =
     ap length

@@ -8,9 +8,9 @@ use Rattle.mm_lex.proofs.modes.ModeReading.read_rest.Given as goal
 -- The reading has no fault, and continued with the remaining words it gives what all words give.
 abbrev pub invariant-loop-found : goal.invariant-loop-found
 invariant-loop-found g l = record {
-  same_text : l.scanner.text.now ≡ l.text;
+  texts_equal : l.scanner.text.now ≡ l.text;
   no_fault : l.self.fault ≡ None;
-  same_reading : (p : ℕ)
+  readings_equal : (p : ℕ)
       → append_reading l.text (side_reading p (side l.fn.self))
       (words_between l.text l.fn.scanner.from l.to)
       ≡ append_reading l.text (side_reading p (side l.self))

@@ -3,143 +3,207 @@ use Rattle.std.proofs.Common.{subst, arith, w64}
 use Rattle.std.specs.Int.{bit_at, trailing_zeros}
 use Rattle.std.proofs.lemmas.Nat.Bits.{bit_at-trailing_zeros, bit_at-zero}
 use Rattle.mm_spec.specs.Words.{begins_word}
-use Rattle.mm_lex.proofs.BlockLaw.{between_none, cleared_above, cleared_one, cleared_other}
-use Rattle.mm_lex.proofs.BlockLaw.{run_on}
+use Rattle.mm_lex.proofs.BlockLaw.{no_words_between, remaining_bits_are_above}
+use Rattle.mm_lex.proofs.BlockLaw.{remaining_bit_is_other, other_bits_are_kept}
+use Rattle.mm_lex.proofs.BlockLaw.{holds_up_to_next_bit}
 use Rattle.mm_lex.proofs.scanner.WordScanner.next_start.Goals as goal
 
-pub returns-then-to-self-clause-first : goal.returns-then-to-self-clause-first
-returns-then-to-self-clause-first c =
-    let b = c.loop-self.self in
+pub returns-then-to-self-clause-first_beginning : goal.returns-then-to-self-clause-first_beginning
+returns-then-to-self-clause-first_beginning c =
+    let scanner = c.loop-self.self in
     let text = c.args.self.now.text.now in
-    let before = c.loop-self.invariant in
-    between_none text c.args.self.now.from (b.base + 64) c.args.to
-    (omega (arith, before.rises, b.high)) c.if-to-self.true
-    (λ i low high lt. run_on
-    (λ t k. begins_word t k ≡ false) b.text.now text b.starts c.args.self.now.from b.from b.base
-    64 before.same_text b.low (omega arith) before.none_begins
-    (λ k _ _. ap (λ (n : ℕ). bit_at n k) c.loop-self-test.true ∙ bit_at-zero k) b.begins_none i low
-    high
-    (omega (arith, c.requires.within)))
+    let invariant_before = c.loop-self.invariant in
+    no_words_between text c.args.self.now.from (scanner.base + 64) c.args.to
+    (omega (arith, invariant_before.from_rises, scanner.from_le_block_end)) c.if-to-self.true
+    (λ i from_le_i i_lt_end i_lt_to. holds_up_to_next_bit
+    (λ t k. begins_word t k ≡ false) scanner.text.now text scanner.starts c.args.self.now.from
+    scanner.from scanner.base
+    64 invariant_before.texts_equal scanner.base_le_from (omega arith) invariant_before.none_begins
+    (λ k _ _. ap (λ (n : ℕ). bit_at n k) c.loop-self-test.true ∙ bit_at-zero k) scanner.begins_none
+    i from_le_i
+    i_lt_end
+    (omega (arith, c.requires.to_le_length)))
 
 pub loop-self-preserved : goal.loop-self-preserved
 loop-self-preserved c =
-    let b = c.loop-self.self in
+    let scanner = c.loop-self.self in
     let text = c.args.self.now.text.now in
-    let before = c.loop-self.invariant in
+    let invariant_before = c.loop-self.invariant in
     record {
-      same_text = c.next_block.ensures.text ∙ before.same_text;
-      rises = omega (arith, before.rises, b.high, c.next_block.ensures.from);
+      texts_equal = c.next_block.ensures.text ∙ invariant_before.texts_equal;
+      from_rises =
+          omega (
+            arith,
+            invariant_before.from_rises,
+            scanner.from_le_block_end,
+            c.next_block.ensures.from,
+          );
       none_begins =
-          λ i low high lt. run_on
-          (λ t k. begins_word t k ≡ false) b.text.now text b.starts c.args.self.now.from b.from
-          b.base 64 before.same_text b.low (omega arith) before.none_begins
-          (λ k _ _. ap (λ (n : ℕ). bit_at n k) c.loop-self-test.true ∙ bit_at-zero k) b.begins_none
-          i low
-          (omega (arith, c.next_block.ensures.from)) lt;
+          λ i from_le_i i_lt_end i_lt_to. holds_up_to_next_bit
+          (λ t k. begins_word t k ≡ false) scanner.text.now text scanner.starts c.args.self.now.from
+          scanner.from
+          scanner.base 64 invariant_before.texts_equal scanner.base_le_from (omega arith)
+          invariant_before.none_begins
+          (λ k _ _. ap (λ (n : ℕ). bit_at n k) c.loop-self-test.true ∙ bit_at-zero k)
+          scanner.begins_none
+          i from_le_i
+          (omega (arith, c.next_block.ensures.from)) i_lt_to;
     }
 
-pub returns-then-to-start-clause-first : goal.returns-then-to-start-clause-first
-returns-then-to-start-clause-first c =
-    let b = c.loop-self.self in
+pub returns-then-to-start-clause-first_beginning : goal.returns-then-to-start-clause-first_beginning
+returns-then-to-start-clause-first_beginning c =
+    let scanner = c.loop-self.self in
     let text = c.args.self.now.text.now in
-    let before = c.loop-self.invariant in
-    let place =
-    bit_at-trailing_zeros w64 b.starts (omega (arith, c.loop-self-test.false)) (omega arith) in
-    between_none text c.args.self.now.from (b.base + trailing_zeros w64 b.starts) c.args.to
-    (omega (arith, before.rises, b.further (trailing_zeros w64 b.starts) place.0 place.1))
+    let invariant_before = c.loop-self.invariant in
+    let lowest_bit =
+    bit_at-trailing_zeros w64 scanner.starts (omega (arith, c.loop-self-test.false))
+    (omega arith) in
+    no_words_between text c.args.self.now.from (scanner.base + trailing_zeros w64 scanner.starts)
+    c.args.to
+    (omega (
+      arith,
+      invariant_before.from_rises,
+      scanner.starts_ge_from
+          (trailing_zeros w64 scanner.starts) lowest_bit.0 lowest_bit.1,
+    ))
     c.if-to-start.true
-    (λ i low high lt. run_on
-    (λ t k. begins_word t k ≡ false) b.text.now text b.starts c.args.self.now.from b.from b.base
-    (trailing_zeros w64 b.starts) before.same_text b.low (omega (arith, place.0)) before.none_begins
-    (λ k _ under. place.2 k under) b.begins_none i low high (omega (arith, c.requires.within)))
+    (λ i from_le_i i_lt_end i_lt_to. holds_up_to_next_bit
+    (λ t k. begins_word t k ≡ false) scanner.text.now text scanner.starts c.args.self.now.from
+    scanner.from scanner.base
+    (trailing_zeros w64 scanner.starts) invariant_before.texts_equal scanner.base_le_from
+    (omega (arith, lowest_bit.0)) invariant_before.none_begins
+    (λ k _ k_lt_place. lowest_bit.2 k k_lt_place) scanner.begins_none i from_le_i i_lt_end
+    (omega (arith, c.requires.to_le_length)))
 
 pub invariant_of-self-clause-begins : goal.invariant_of-self-clause-begins
-invariant_of-self-clause-begins c i lt within one =
-    let b = c.loop-self.self in
-    let place =
-    bit_at-trailing_zeros w64 b.starts (omega (arith, c.loop-self-test.false)) (omega arith) in
-    b.begins i lt within (cleared_one b.starts (trailing_zeros w64 b.starts) place.0 i lt one).1
+invariant_of-self-clause-begins c i i_lt_64 place_in_text bit_is_one =
+    let scanner = c.loop-self.self in
+    let lowest_bit =
+    bit_at-trailing_zeros w64 scanner.starts (omega (arith, c.loop-self-test.false))
+    (omega arith) in
+    scanner.begins i i_lt_64 place_in_text
+    (remaining_bit_is_other scanner.starts (trailing_zeros w64 scanner.starts) lowest_bit.0 i
+    i_lt_64
+    bit_is_one).1
 
-pub invariant_of-self-clause-further : goal.invariant_of-self-clause-further
-invariant_of-self-clause-further c i lt one =
-    let b = c.loop-self.self in
-    let place =
-    bit_at-trailing_zeros w64 b.starts (omega (arith, c.loop-self-test.false)) (omega arith) in
-    omega (arith, cleared_above b.starts (trailing_zeros w64 b.starts) place.0 place.2 i lt one)
+pub invariant_of-self-clause-starts_ge_from : goal.invariant_of-self-clause-starts_ge_from
+invariant_of-self-clause-starts_ge_from c i i_lt_64 bit_is_one =
+    let scanner = c.loop-self.self in
+    let lowest_bit =
+    bit_at-trailing_zeros w64 scanner.starts (omega (arith, c.loop-self-test.false))
+    (omega arith) in
+    omega (
+      arith,
+      remaining_bits_are_above scanner.starts (trailing_zeros w64 scanner.starts)
+          lowest_bit.0
+          lowest_bit.2 i i_lt_64 bit_is_one,
+    )
 
 pub invariant_of-self-clause-begins_none : goal.invariant_of-self-clause-begins_none
-invariant_of-self-clause-begins_none c i lt within le none =
-    let b = c.loop-self.self in
-    let place =
-    bit_at-trailing_zeros w64 b.starts (omega (arith, c.loop-self-test.false)) (omega arith) in
-    b.begins_none i lt within (omega
-    (arith, le, b.further (trailing_zeros w64 b.starts) place.0 place.1))
-    (sym (cleared_other b.starts (trailing_zeros w64 b.starts) place.0 i lt
-    (λ e. omega (arith, e, le)))
-    ∙ none)
+invariant_of-self-clause-begins_none c i i_lt_64 place_in_text from_le_i bit_is_zero =
+    let scanner = c.loop-self.self in
+    let lowest_bit =
+    bit_at-trailing_zeros w64 scanner.starts (omega (arith, c.loop-self-test.false))
+    (omega arith) in
+    scanner.begins_none i i_lt_64 place_in_text (omega (
+      arith,
+      from_le_i,
+      scanner.starts_ge_from (trailing_zeros w64 scanner.starts) lowest_bit.0
+          lowest_bit.1,
+    ))
+    (sym (other_bits_are_kept scanner.starts (trailing_zeros w64 scanner.starts) lowest_bit.0 i
+    i_lt_64
+    (λ i_is_place. omega (arith, i_is_place, from_le_i)))
+    ∙ bit_is_zero)
 
-pub returns-clause-first : goal.returns-clause-first
-returns-clause-first c =
-    let b = c.loop-self.self in
+pub returns-clause-first_beginning : goal.returns-clause-first_beginning
+returns-clause-first_beginning c =
+    let scanner = c.loop-self.self in
     let text = c.args.self.now.text.now in
-    let before = c.loop-self.invariant in
-    let place =
-    bit_at-trailing_zeros w64 b.starts (omega (arith, c.loop-self-test.false)) (omega arith) in
-    let within : b.base + trailing_zeros w64 b.starts < length b.text.now =
-    subst (λ (t : List ℕ). b.base + trailing_zeros w64 b.starts < length t) (sym before.same_text)
-    (omega (arith, c.requires.within, c.if-to-start.false)) in
+    let invariant_before = c.loop-self.invariant in
+    let lowest_bit =
+    bit_at-trailing_zeros w64 scanner.starts (omega (arith, c.loop-self-test.false))
+    (omega arith) in
+    let start_in_text : scanner.base + trailing_zeros w64 scanner.starts < length scanner.text.now =
+    subst (λ (t : List ℕ). scanner.base + trailing_zeros w64 scanner.starts < length t)
+    (sym invariant_before.texts_equal)
+    (omega (arith, c.requires.to_le_length, c.if-to-start.false)) in
     record {
-      low =
-          omega (arith, before.rises, b.further (trailing_zeros w64 b.starts) place.0 place.1);
-      within = omega (arith, c.if-to-start.false);
+      from_le_start =
+          omega (
+            arith,
+            invariant_before.from_rises,
+            scanner.starts_ge_from
+                (trailing_zeros w64 scanner.starts) lowest_bit.0 lowest_bit.1,
+          );
+      start_lt_to = omega (arith, c.if-to-start.false);
       begins =
-          subst (λ (t : List ℕ). begins_word t (b.base + trailing_zeros w64 b.starts) ≡ true)
-          before.same_text (b.begins (trailing_zeros w64 b.starts) place.0 within place.1);
-      before =
-          λ i low high. run_on (λ t k. begins_word t k ≡ false) b.text.now text b.starts
-          c.args.self.now.from b.from b.base (trailing_zeros w64 b.starts) before.same_text b.low
-          (omega (arith, place.0)) before.none_begins
-          (λ k _ under. place.2 k under) b.begins_none i low high
-          (omega (arith, c.requires.within, c.if-to-start.false));
+          subst (λ (t : List ℕ). begins_word t (scanner.base + trailing_zeros w64 scanner.starts)
+          ≡ true)
+          invariant_before.texts_equal
+          (scanner.begins (trailing_zeros w64 scanner.starts) lowest_bit.0 start_in_text
+          lowest_bit.1);
+      none_before_start =
+          λ i from_le_i i_lt_end. holds_up_to_next_bit (λ t k. begins_word t k ≡ false)
+          scanner.text.now text
+          scanner.starts
+          c.args.self.now.from scanner.from scanner.base (trailing_zeros w64 scanner.starts)
+          invariant_before.texts_equal scanner.base_le_from
+          (omega (arith, lowest_bit.0)) invariant_before.none_begins
+          (λ k _ k_lt_place. lowest_bit.2 k k_lt_place) scanner.begins_none i from_le_i i_lt_end
+          (omega (arith, c.requires.to_le_length, c.if-to-start.false));
     }
 
 pub returns-clause-taken : goal.returns-clause-taken
 returns-clause-taken c =
-    let b = c.loop-self.self in
-    let place =
-    bit_at-trailing_zeros w64 b.starts (omega (arith, c.loop-self-test.false)) (omega arith) in
-    let within : b.base + trailing_zeros w64 b.starts < length b.text.now =
-    subst (λ (t : List ℕ). b.base + trailing_zeros w64 b.starts < length t)
-    (sym c.loop-self.invariant.same_text) (omega (arith, c.requires.within, c.if-to-start.false)) in
+    let scanner = c.loop-self.self in
+    let lowest_bit =
+    bit_at-trailing_zeros w64 scanner.starts (omega (arith, c.loop-self-test.false))
+    (omega arith) in
+    let start_in_text : scanner.base + trailing_zeros w64 scanner.starts < length scanner.text.now =
+    subst (λ (t : List ℕ). scanner.base + trailing_zeros w64 scanner.starts < length t)
+    (sym c.loop-self.invariant.texts_equal)
+    (omega (arith, c.requires.to_le_length, c.if-to-start.false)) in
     record {
-      next = refl;
-      in_block = omega arith;
-      within = within;
-      begins = b.begins (trailing_zeros w64 b.starts) place.0 within place.1;
+      from_is_next = refl;
+      base_le_start = omega arith;
+      start_lt_length = start_in_text;
+      begins =
+          scanner.begins (trailing_zeros w64 scanner.starts) lowest_bit.0 start_in_text
+          lowest_bit.1;
     }
 
 pub returns-then-to-self-clause-done : goal.returns-then-to-self-clause-done
 returns-then-to-self-clause-done c =
-    let b = c.loop-self.self in
+    let scanner = c.loop-self.self in
     let text = c.args.self.now.text.now in
-    between_none text b.from (b.base + 64) c.args.to b.high c.if-to-self.true
-    (λ i low high lt. run_on
-    (λ t k. begins_word t k ≡ false) b.text.now text b.starts b.from b.from b.base 64
-    c.loop-self.invariant.same_text b.low (omega arith) (λ k a h _. absurd (omega arith))
-    (λ k _ _. ap (λ (n : ℕ). bit_at n k) c.loop-self-test.true ∙ bit_at-zero k) b.begins_none i low
-    high
-    (omega (arith, c.requires.within)))
+    no_words_between text scanner.from (scanner.base + 64) c.args.to scanner.from_le_block_end
+    c.if-to-self.true
+    (λ i from_le_i i_lt_end i_lt_to. holds_up_to_next_bit
+    (λ t k. begins_word t k ≡ false) scanner.text.now text scanner.starts scanner.from scanner.from
+    scanner.base 64
+    c.loop-self.invariant.texts_equal scanner.base_le_from (omega arith)
+    (λ k from_le_k k_lt_from _. absurd (omega arith))
+    (λ k _ _. ap (λ (n : ℕ). bit_at n k) c.loop-self-test.true ∙ bit_at-zero k) scanner.begins_none
+    i from_le_i
+    i_lt_end
+    (omega (arith, c.requires.to_le_length)))
 
 pub returns-then-to-start-clause-done : goal.returns-then-to-start-clause-done
 returns-then-to-start-clause-done c =
-    let b = c.loop-self.self in
+    let scanner = c.loop-self.self in
     let text = c.args.self.now.text.now in
-    let place =
-    bit_at-trailing_zeros w64 b.starts (omega (arith, c.loop-self-test.false)) (omega arith) in
-    between_none text b.from (b.base + trailing_zeros w64 b.starts) c.args.to
-    (b.further (trailing_zeros w64 b.starts) place.0 place.1) c.if-to-start.true
-    (λ i low high lt. run_on
-    (λ t k. begins_word t k ≡ false) b.text.now text b.starts b.from b.from b.base
-    (trailing_zeros w64 b.starts) c.loop-self.invariant.same_text b.low (omega (arith, place.0))
-    (λ k a h _. absurd (omega arith)) (λ k _ under. place.2 k under) b.begins_none i low high
-    (omega (arith, c.requires.within)))
+    let lowest_bit =
+    bit_at-trailing_zeros w64 scanner.starts (omega (arith, c.loop-self-test.false))
+    (omega arith) in
+    no_words_between text scanner.from (scanner.base + trailing_zeros w64 scanner.starts) c.args.to
+    (scanner.starts_ge_from (trailing_zeros w64 scanner.starts) lowest_bit.0 lowest_bit.1)
+    c.if-to-start.true
+    (λ i from_le_i i_lt_end i_lt_to. holds_up_to_next_bit
+    (λ t k. begins_word t k ≡ false) scanner.text.now text scanner.starts scanner.from scanner.from
+    scanner.base
+    (trailing_zeros w64 scanner.starts) c.loop-self.invariant.texts_equal scanner.base_le_from
+    (omega (arith, lowest_bit.0))
+    (λ k from_le_k k_lt_from _. absurd (omega arith)) (λ k _ k_lt_place. lowest_bit.2 k k_lt_place)
+    scanner.begins_none i from_le_i i_lt_end
+    (omega (arith, c.requires.to_le_length)))

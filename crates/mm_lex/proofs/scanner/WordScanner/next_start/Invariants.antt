@@ -5,8 +5,8 @@ use Rattle.mm_lex.proofs.scanner.WordScanner.next_start.Given as goal
 -- No word begins from the place at which the call began up to the place of the scanner.
 abbrev pub invariant-loop-self : goal.invariant-loop-self
 invariant-loop-self l = record {
-  same_text : l.self.text.now ≡ l.fn.self.text.now;
-  rises : l.fn.self.from ≤ l.self.from;
+  texts_equal : l.self.text.now ≡ l.fn.self.text.now;
+  from_rises : l.fn.self.from ≤ l.self.from;
   none_begins : (i : ℕ) → l.fn.self.from ≤ i → i < l.self.from → i < length l.fn.self.text.now
       → begins_word l.fn.self.text.now i ≡ false;
 }

@@ -1,49 +1,52 @@
 use Rattle.std.proofs.Common.{◌<◌, ◌∙◌, ap, arith, length}
 use Rattle.std.specs.List.{slice_range}
 use Rattle.mm_lists.specs.Lists.{joined}
-use Rattle.mm_lists.proofs.ListsLaw.{part_between, place_within, none_between}
+use Rattle.mm_lists.proofs.ListsLaw.{joined_lists_are_part, place_exists, none_joined_at_one_place}
 use Rattle.mm_lists.proofs.lists.Lists.between.Goals as goal
 
 pub returns-then-from-to : goal.returns-then-from-to
 returns-then-from-to g c =
-    none_between c.args.self.now c.args.from
+    none_joined_at_one_place c.args.self.now c.args.from
     ∙ ap (λ to. joined (slice_range c.args.self.now c.args.from to)) c.if-from-to.true
 
 pub index-requires : goal.index-requires
 index-requires g c =
-    let not_equal = c.if-from-to.false in
-    let order = c.requires.order in
+    let from_ne_to = c.if-from-to.false in
+    let from_le_to = c.requires.from_le_to in
     let to_is_within : c.args.to < length c.self.inside.places.items =
-    place_within _ _ _ c.self.view_is c.args.from _ (omega (arith, not_equal, order))
-    c.requires.within in
-    rw c.self.inside.places.ok.0 (omega (arith, to_is_within, order))
+    place_exists _ _ _ c.self.view_is c.args.from _ (omega (arith, from_ne_to, from_le_to))
+    c.requires.to_le_count in
+    rw c.self.inside.places.ok.0 (omega (arith, to_is_within, from_le_to))
 
 pub index-requires-2 : goal.index-requires-2
 index-requires-2 g c =
-    let not_equal = c.if-from-to.false in
-    let order = c.requires.order in
+    let from_ne_to = c.if-from-to.false in
+    let from_le_to = c.requires.from_le_to in
     rw c.self.inside.places.ok.0
-    (place_within _ _ _ c.self.view_is c.args.from _ (omega (arith, not_equal, order))
-    c.requires.within)
+    (place_exists _ _ _ c.self.view_is c.args.from _ (omega (arith, from_ne_to, from_le_to))
+    c.requires.to_le_count)
 
-pub items_between-requires-clause-order : goal.items_between-requires-clause-order
-items_between-requires-clause-order g c =
-    let not_equal = c.if-from-to.false in
-    let order = c.requires.order in
-    (part_between _ _ _ c.self.invariant c.self.view_is _ _ _ _ (omega (arith, not_equal, order))
-    c.requires.within c.index.ensures c.index-2.ensures).order
+pub items_between-requires-clause-from_le_to : goal.items_between-requires-clause-from_le_to
+items_between-requires-clause-from_le_to g c =
+    let from_ne_to = c.if-from-to.false in
+    let from_le_to = c.requires.from_le_to in
+    (joined_lists_are_part _ _ _ c.self.invariant c.self.view_is _ _ _ _
+    (omega (arith, from_ne_to, from_le_to))
+    c.requires.to_le_count c.index.ensures c.index-2.ensures).from_le_to
 
-pub items_between-requires-clause-within : goal.items_between-requires-clause-within
-items_between-requires-clause-within g c =
-    let not_equal = c.if-from-to.false in
-    let order = c.requires.order in
-    (part_between _ _ _ c.self.invariant c.self.view_is _ _ _ _ (omega (arith, not_equal, order))
-    c.requires.within c.index.ensures c.index-2.ensures).within
+pub items_between-requires-clause-to_le_length : goal.items_between-requires-clause-to_le_length
+items_between-requires-clause-to_le_length g c =
+    let from_ne_to = c.if-from-to.false in
+    let from_le_to = c.requires.from_le_to in
+    (joined_lists_are_part _ _ _ c.self.invariant c.self.view_is _ _ _ _
+    (omega (arith, from_ne_to, from_le_to))
+    c.requires.to_le_count c.index.ensures c.index-2.ensures).to_le_length
 
 pub returns : goal.returns
 returns g c =
-    let not_equal = c.if-from-to.false in
-    let order = c.requires.order in
+    let from_ne_to = c.if-from-to.false in
+    let from_le_to = c.requires.from_le_to in
     c.items_between.ensures
-    ∙ (part_between _ _ _ c.self.invariant c.self.view_is _ _ _ _ (omega (arith, not_equal, order))
-    c.requires.within c.index.ensures c.index-2.ensures).is
+    ∙ (joined_lists_are_part _ _ _ c.self.invariant c.self.view_is _ _ _ _
+    (omega (arith, from_ne_to, from_le_to))
+    c.requires.to_le_count c.index.ensures c.index-2.ensures).range_is_part

@@ -7,7 +7,8 @@ use Rattle.mm_spec.specs.Scope.{statement_at}
 use Rattle.mm_spec.specs.Output.{columns, has_typecode, is_column}
 use Rattle.mm_cites.specs.Citing.{IsStatementList}
 use Rattle.mm_cites.proofs.RisingLaw.{filtered_passes, filtered_range_is_statement_list}
-use Rattle.mm_rows.proofs.ColumnLaw.{filter_snoc, columns_are, axiom_asserts}
+use Rattle.mm_rows.proofs.ColumnLaw.{filter_of_appended, columns_are_chosen_axioms}
+use Rattle.mm_rows.proofs.ColumnLaw.{axiom_is_assertion}
 use Rattle.mm_rows.proofs.columns.Columns.new.Goals as goal
 use Rattle.mm_rows.proofs.columns.Columns.new.Goals.{then-has_chosen_typecode+in_ok-push}
 use Rattle.mm_rows.proofs.columns.Columns.new.Goals.{else-has_chosen_typecode}
@@ -15,52 +16,58 @@ use Rattle.mm_rows.proofs.columns.Columns.new.Goals.{else-has_chosen_typecode}
 pub has_chosen_typecode-requires : goal.has_chosen_typecode-requires
 has_chosen_typecode-requires g c =
     let db = c.args.database.now.statements in
-    let p = λ (j : ℕ). list_any (is_column None) (statement_at db j) in
+    let is_axiom = λ (j : ℕ). list_any (is_column None) (statement_at db j) in
     let i = c.loop-statement.statement-index in
-    let there : i < length c.axioms-axioms.result.now = omega arith in
-    axiom_asserts db (get_or c.axioms-axioms.result.now i 0)
+    let i_lt_axioms : i < length c.axioms-axioms.result.now = omega arith in
+    axiom_is_assertion db (get_or c.axioms-axioms.result.now i 0)
     (subst (λ (l : List ℕ). list_any (is_column None) (statement_at db (get_or l i 0)) ≡ true)
     (sym c.axioms-axioms.ensures.axioms)
-    (filtered_passes p (range_with_len 0 (length db)) i 0
-    (subst (λ (l : List ℕ). i < length l) c.axioms-axioms.ensures.axioms there)))
+    (filtered_passes is_axiom (range_with_len 0 (length db)) i 0
+    (subst (λ (l : List ℕ). i < length l) c.axioms-axioms.ensures.axioms i_lt_axioms)))
 
 pub loop-statement-preserved : goal.loop-statement-preserved
 loop-statement-preserved g c =
     let db = c.args.database.now.statements in
-    let q =
+    let is_chosen =
     λ (j : ℕ). list_any (has_typecode (option_map (λ w. w.now) c.args.only)) (statement_at db j) in
-    let xs = c.axioms-axioms.result.now in
+    let axioms = c.axioms-axioms.result.now in
     let i = c.loop-statement.statement-index in
-    let x = get_or xs i 0 in
-    let more : filter q (take (i + 1) xs) ≡ filter q (take i xs) ++ cond (q x) (x ∷ []) [] =
-    ap (filter q) (take_more xs i 0 (omega arith)) ∙ filter_snoc q (take i xs) x in
+    let x = get_or axioms i 0 in
+    let one_more_is_taken : filter is_chosen (take (i + 1) axioms)
+    ≡ filter is_chosen (take i axioms) ++ cond (is_chosen x) (x ∷ []) [] =
+    ap (filter is_chosen) (take_more axioms i 0 (omega arith))
+    ∙ filter_of_appended is_chosen (take i axioms) x in
     elim c.if-has_chosen_typecode.branch [
       | then-has_chosen_typecode+in_ok-push w ↦
-          let yes : q x ≡ true =
+          let x_is_chosen : is_chosen x ≡ true =
           sym c.has_chosen_typecode.ensures ∙ w.if-has_chosen_typecode.true in
           ap (λ v. v.items) w.statements-is ∙ w.in_ok-push.ensures.items
           ∙ ap (λ l. l ++ x ∷ []) c.loop-statement.invariant
-          ∙ sym (more ∙ ap (λ (b : Bool). filter q (take i xs) ++ cond b (x ∷ []) []) yes)
+          ∙ sym (one_more_is_taken
+          ∙ ap (λ (b : Bool). filter is_chosen (take i axioms) ++ cond b (x ∷ []) []) x_is_chosen)
       | else-has_chosen_typecode w ↦
-          let no : q x ≡ false =
+          let x_is_not_chosen : is_chosen x ≡ false =
           sym c.has_chosen_typecode.ensures ∙ w.if-has_chosen_typecode.false in
           ap (λ v. v.items) w.statements-is ∙ c.loop-statement.invariant
-          ∙ sym (more ∙ ap (λ (b : Bool). filter q (take i xs) ++ cond b (x ∷ []) []) no
-          ∙ append-nil (filter q (take i xs)))
+          ∙ sym (one_more_is_taken
+          ∙ ap (λ (b : Bool). filter is_chosen (take i axioms) ++ cond b (x ∷ []) [])
+          x_is_not_chosen
+          ∙ append-nil (filter is_chosen (take i axioms)))
     ]
 
 pub invariant_of-result : goal.invariant_of-result
 invariant_of-result g c =
     let db = c.args.database.now.statements in
     let only = option_map (λ w. w.now) c.args.only in
-    let q = λ (j : ℕ). list_any (has_typecode only) (statement_at db j) in
-    let xs = c.axioms-axioms.result.now in
-    let all : take c.loop-statement.statement-index xs ≡ xs =
-    take_all c.loop-statement.statement-index xs (omega arith) in
-    let same : c.loop-statement.statements.items ≡ columns db only =
-    c.loop-statement.invariant ∙ ap (filter q) (all ∙ c.axioms-axioms.ensures.axioms)
-    ∙ columns_are only db in
-    subst IsStatementList (sym same)
+    let is_chosen = λ (j : ℕ). list_any (has_typecode only) (statement_at db j) in
+    let axioms = c.axioms-axioms.result.now in
+    let taken_are_all : take c.loop-statement.statement-index axioms ≡ axioms =
+    take_all c.loop-statement.statement-index axioms (omega arith) in
+    let statements_are_columns : c.loop-statement.statements.items ≡ columns db only =
+    c.loop-statement.invariant
+    ∙ ap (filter is_chosen) (taken_are_all ∙ c.axioms-axioms.ensures.axioms)
+    ∙ columns_are_chosen_axioms only db in
+    subst IsStatementList (sym statements_are_columns)
     (filtered_range_is_statement_list (λ j. list_any (is_column only) (statement_at db j))
     (length db) c.axioms-axioms.ensures.few)
 
@@ -68,9 +75,10 @@ pub returns : goal.returns
 returns g c =
     let db = c.args.database.now.statements in
     let only = option_map (λ w. w.now) c.args.only in
-    let q = λ (j : ℕ). list_any (has_typecode only) (statement_at db j) in
-    let xs = c.axioms-axioms.result.now in
-    let all : take c.loop-statement.statement-index xs ≡ xs =
-    take_all c.loop-statement.statement-index xs (omega arith) in
-    c.loop-statement.invariant ∙ ap (filter q) (all ∙ c.axioms-axioms.ensures.axioms)
-    ∙ columns_are only db
+    let is_chosen = λ (j : ℕ). list_any (has_typecode only) (statement_at db j) in
+    let axioms = c.axioms-axioms.result.now in
+    let taken_are_all : take c.loop-statement.statement-index axioms ≡ axioms =
+    take_all c.loop-statement.statement-index axioms (omega arith) in
+    c.loop-statement.invariant
+    ∙ ap (filter is_chosen) (taken_are_all ∙ c.axioms-axioms.ensures.axioms)
+    ∙ columns_are_chosen_axioms only db

@@ -4,7 +4,7 @@ use Rattle.std.proofs.lemmas.Result.{IfOk-from_err, on_ok_weaker}
 use Rattle.mm_spec.specs.Frame.{formula_at, mandatory_hypotheses}
 use Rattle.mm_spec.specs.Citation.{context_at, is_assertion}
 use Rattle.mm_spec.specs.Laws.Complete.{AreBound}
-use Rattle.mm_outline.proofs.StatementsLaw.{is_there}
+use Rattle.mm_outline.proofs.StatementsLaw.{passing_lt_length}
 use Rattle.mm_rules.specs.Rules.{AreFirstNumbers, numbered_parts}
 use Rattle.mm_rules.proofs.RuleLaw.{covered, covered_all, is_compiled_rule, written_back}
 use Rattle.mm_rules.proofs.RuleLaw.{numbered_parts_are_parts}
@@ -18,7 +18,8 @@ compile_hypotheses-requires-clause-bound g c =
     (map (formula_at db) h)) (sym c.hyps-hyps.ensures.are) c.requires.complete.hypotheses)
 
 pub formula-requires : goal.formula-requires
-formula-requires g c = is_there is_assertion c.args.database.now.statements c.args.assertion
+formula-requires g c =
+    passing_lt_length is_assertion c.args.database.now.statements c.args.assertion
     c.requires.assertion
 
 pub returns-clause-compiled_rule : goal.returns-clause-compiled_rule

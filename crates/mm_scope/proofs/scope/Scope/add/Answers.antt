@@ -4,9 +4,9 @@ use Rattle.mm_outline.specs.Blocks.{never}
 use Rattle.mm_scope.proofs.AddLaw.{knows_after_statement, on_ok_both}
 use Rattle.mm_scope.proofs.scope.Scope.add.Goals as goal
 
-pub push-requires-clause-few_blocks : goal.push-requires-clause-few_blocks
-push-requires-clause-few_blocks g c =
-    let blocks_le_length = c.requires.keeps.1.blocks.few in
+pub push-requires-clause-blocks_lt_2_32 : goal.push-requires-clause-blocks_lt_2_32
+push-requires-clause-blocks_lt_2_32 g c =
+    let blocks_le_length = c.requires.keeps.1.blocks.ends_le_statements in
     let length_lt_2_31 = c.requires.keeps.2 in
     omega (arith, blocks_le_length, length_lt_2_31)
 
