@@ -35,7 +35,7 @@ module _ (db : List Statement) (t j : ℕ) where
       by_activity true active_at_t (Some s) statement_is is_complete =
           record {
             statement = s;
-            stands = statement_is;
+            statement_is = statement_is;
             rule_is = ap (λ b. out b (slice_get db j)) active_at_t
                 ∙ ap (λ o. out true o) statement_is;
           }
@@ -54,11 +54,11 @@ module _ (db : List Statement) (t j : ℕ) where
   pub assertion_rule : is_assertion_at db j ≡ true
       → IsCompleteRule (context_at db t) (rule_at db t j)
       → rule_at db t j ≡ Some (assertion (frame_at db j))
-  assertion_rule is_assertion is_complete =
+  assertion_rule labels_assertion is_complete =
       let labelled = good_label_has_statement is_complete in labelled.rule_is
       ∙ by_statement labelled.statement (assertion_flag_is labelled.statement true
       labelled.statement_is
-      is_assertion)
+      labels_assertion)
     where
       by_statement : (s : Statement) → list_any is_assertion (s ∷ []) ≡ true
           → rule_of db j s ≡ Some (assertion (frame_at db j))

@@ -41,7 +41,7 @@ module _ (db : List Statement) (t : ℕ) (steps : List PlacedStep) where
       record {
         is_at_theorem = record {
           made_for = rw machine_is of_database;
-          theorem_lt_length = by_statement (slice_get db t) refl steps_are.theorem;
+          theorem_lt_length = by_statement (slice_get db t) refl steps_are.is_theorem;
           pairs_are_disjoint = are_disjoint_at;
         };
         are_steps = steps_are;
@@ -89,7 +89,7 @@ module _ (db : List Statement) (t : ℕ) (steps : List PlacedStep) where
         derivation = all_reached.forest;
         is_proof = is_proof.1;
         cites_rise = cites_rise;
-        noted_are_cites_are_exact = λ a. subst (λ b. Decides b (Cites db essential t a)) (sym
+        cites_are_exact = λ a. subst (λ b. Decides b (Cites db essential t a)) (sym
             (members_are a)) (noted_are_exact a);
       }
 

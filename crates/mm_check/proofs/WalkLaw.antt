@@ -165,7 +165,7 @@ module _ (db : List Statement) (t : ℕ) (steps : List PlacedStep) (i : ℕ) (ws
   }
     where
       are_flags : AreFlags db t b l cs f is_good follows (taken_flags db b (label l))
-      taken_flags_are_flags = taken_flags_are_flags db t b l cs f is_good follows
+      are_flags = taken_flags_are_flags db t b l cs f is_good follows
 
       flag_count_is : length ws ≡ tree_count ts
       flag_count_is = let entry_flags_fit = are_found.entry_flags_fit in omega (
@@ -488,7 +488,11 @@ module _ (db : List Statement) (t : ℕ) (steps : List PlacedStep) (is_complete 
       ),
       λ cites. by_membership ((are_found.found_iff a cites.0).0
           (subst (λ d. HasNode (child_counts db true) each_root d a)
+<<<<<<< HEAD
           (two_proofs_are_equal db is_complete t cites.1 are_found.derivation cites.2 are_found.proof)
+=======
+          (proof_unique db is_complete t cites.1 are_found.derivation cites.2 are_found.is_proof)
+>>>>>>> eca1467c4789b8e65b2f4e8caf94716451186f19
           cites.3)),
     )
       where

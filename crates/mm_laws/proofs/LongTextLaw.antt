@@ -71,7 +71,7 @@ long_text_is_refused text request is_long =
       refl,
     )
 
-refusal_is : (text : List ℕ) → refusal text too_long ≡ line (codes "long_text_is_refused 1:1 E00")
+refusal_is : (text : List ℕ) → refusal text too_long ≡ line (codes "refused 1:1 E00")
 unfolding digits
 refusal_is text = refl
 

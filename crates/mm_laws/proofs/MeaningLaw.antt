@@ -140,7 +140,7 @@ module _ (db : List Statement) (k : ℕ) where
             well_spelled.items no_faults well_spelled.is_compressed well_spelled.items_are_spelled
             in
             let statements_equal : says_steps.js ≡ named.0 = usable_statements_are_unique
-            well_spelled.labels_name_js says_steps.js named.0 says_steps.labels_name_js named.1 in
+            well_spelled.labels says_steps.js named.0 says_steps.labels_name_js named.1 in
             let hypotheses = mandatory_hypotheses db k in
             let are_steps : AreSteps hypotheses named.0 well_spelled.items ss =
             subst (λ is. AreSteps hypotheses is well_spelled.items ss) statements_equal
