@@ -488,11 +488,8 @@ module _ (db : List Statement) (t : ℕ) (steps : List PlacedStep) (is_complete 
       ),
       λ cites. by_membership ((are_found.found_iff a cites.0).0
           (subst (λ d. HasNode (child_counts db true) each_root d a)
-<<<<<<< HEAD
-          (two_proofs_are_equal db is_complete t cites.1 are_found.derivation cites.2 are_found.proof)
-=======
-          (proof_unique db is_complete t cites.1 are_found.derivation cites.2 are_found.is_proof)
->>>>>>> eca1467c4789b8e65b2f4e8caf94716451186f19
+          (two_proofs_are_equal db is_complete t cites.1 are_found.derivation cites.2
+          are_found.is_proof)
           cites.3)),
     )
       where
