@@ -103,8 +103,13 @@ module _ (db : List Statement) (lawful : (k : ℕ) → k < length db → IsLawfu
   constant_is_no_variable : (k : ℕ) (w : Bytes) → is_in w (names_before db k).constants ≡ true
       → is_variable_number db (index_of w (symbol_names db)) ≡ false
   constant_is_no_variable k w is_constant =
-      grind (arith, common_steps, no_constant_is_variable, declared_before_is_declared,
-      word_of_variable_number)
+      grind (
+        arith,
+        common_steps,
+        no_constant_is_variable,
+        declared_before_is_declared,
+        word_of_variable_number,
+      )
 
   -- statement i is the `$f` of x
   pub record Types (i x : ℕ) : Type 0 where
@@ -186,10 +191,13 @@ module _ (db : List Statement) (lawful : (k : ℕ) → k < length db → IsLawfu
           active_typing.2 in
           let typing_of_statement =
           floating_types_its_variable active_typing.0 typing_statement.0 typing_statement.1
-          (typed_is_floating types_w typing_statement.0 typing_statement.2) in
-          (active_typing.0, active_typing.1, types_equal_word active_typing.0 x word_of_x
-          typing_of_statement.0 typing_of_statement.1
-          (typing_of_statement.2 word_of_x typing_statement.2) x_is_number)
+          (typed_is_floating types_w typing_statement.0 typing_statement.2) in (
+            active_typing.0,
+            active_typing.1,
+            types_equal_word active_typing.0 x word_of_x
+                typing_of_statement.0 typing_of_statement.1
+                (typing_of_statement.2 word_of_x typing_statement.2) x_is_number,
+          )
 
   -- each mandatory variable of a statement with a formula has a `$f` that is active there
   pub mandatory_is_typed : (k x : ℕ) (s : Statement) → slice_get db k ≡ Some s
@@ -231,7 +239,7 @@ module _ (db : List Statement) (lawful : (k : ℕ) → k < length db → IsLawfu
           (essential_formula statement_there.0 statement_there.2) essential_has_x.1 is_variable in (
             typing_at_essential.0,
             still_active db typing_at_essential.0 active_essential.0 k
-            typing_at_essential.2.statement statement_there.0 typing_at_essential.2.statement_is_at
+                typing_at_essential.2.statement statement_there.0 typing_at_essential.2.statement_is_at
                 (floating_is_local typing_at_essential.2.statement
                 typing_at_essential.2.is_floating_statement) statement_there.1
                 (essential_is_local_kind statement_there.0 statement_there.2) typing_at_essential.1

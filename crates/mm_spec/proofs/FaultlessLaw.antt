@@ -90,16 +90,28 @@ pub constant_is_no_variable_before : (n : Names) (d : ℕ) (s : Statement) (w : 
     → scope_faults n d s ≡ []
     → is_in w (constants_of s) ≡ true → is_in w n.all_variables ≡ false
 constant_is_no_variable_before n d (constants k xs e) w no_faults declares_w =
-    grind (arith, common_steps, both_are_empty, each_word_has_no_codes, second_of_three,
-    no_code_if_false)
+    grind (
+      arith,
+      common_steps,
+      both_are_empty,
+      each_word_has_no_codes,
+      second_of_three,
+      no_code_if_false,
+    )
 constant_is_no_variable_before n d _ w no_faults declares_w = absurd (true≢false (sym declares_w))
 
 pub variable_is_no_constant_before : (n : Names) (d : ℕ) (s : Statement) (w : Bytes)
     → scope_faults n d s ≡ []
     → is_in w (variables_of s) ≡ true → is_in w n.constants ≡ false
 variable_is_no_constant_before n d (variables k xs e) w no_faults declares_w =
-    grind (arith, common_steps, both_are_empty, each_word_has_no_codes, first_of_three,
-    no_code_if_false)
+    grind (
+      arith,
+      common_steps,
+      both_are_empty,
+      each_word_has_no_codes,
+      first_of_three,
+      no_code_if_false,
+    )
 variable_is_no_constant_before n d _ w no_faults declares_w = absurd (true≢false (sym declares_w))
 
 -- ---- formulas
@@ -261,9 +273,11 @@ word_of_member names (v ∷ ws) x x_is_number =
           (index_of v names) is_there,
     )
     word_if_there (inr is_there) word_if_later =
-        let later_word = word_if_later is_there in
-        (later_word.0, or_right (bytes_eq later_word.0 v) (is_in later_word.0 ws) later_word.1,
-        later_word.2)
+        let later_word = word_if_later is_there in (
+          later_word.0,
+          or_right (bytes_eq later_word.0 v) (is_in later_word.0 ws) later_word.1,
+          later_word.2,
+        )
 
 -- ---- activity of what is local
 

@@ -207,9 +207,15 @@ later_place_knows_declared f (x ∷ db) zero i s w s_at_i i_lt_k s_declares_w = 
 later_place_knows_declared f (x ∷ db) (suc k) zero s w s_at_i i_lt_k s_declares_w =
     grind (arith, common_steps, list_any-append, or_left)
 later_place_knows_declared f (x ∷ db) (suc k) (suc i) s w s_at_i i_lt_k s_declares_w =
-    grind (arith, common_steps, list_any-append, or_right, later_place_knows_declared f db k i s w
-    s_at_i
-    (omega arith) s_declares_w)
+    grind (
+      arith,
+      common_steps,
+      list_any-append,
+      or_right,
+      later_place_knows_declared f db k i s w
+          s_at_i
+          (omega arith) s_declares_w,
+    )
 
 pub declared_before_is_declared : (f : Statement → List Bytes) (db : List Statement) (k : ℕ)
     (w : Bytes)

@@ -194,18 +194,28 @@ pub closings_stay_below_openings : (s : Statement) (d m : ℕ) (front : List Sta
     → m + cond (is_closing s) 1 0 ≡ d + cond (is_opening s) 1 0
     → count_by is_closing front ≤ m + count_by is_opening front
 closings_stay_below_openings s d m front closings_le_depth depth_moves_by_s =
-    omega (arith, closings_le_depth, depth_moves_by_s, count_of_first_and_rest is_closing s front,
-    count_of_first_and_rest
-    is_opening s front)
+    omega (
+      arith,
+      closings_le_depth,
+      depth_moves_by_s,
+      count_of_first_and_rest is_closing s front,
+      count_of_first_and_rest
+          is_opening s front,
+    )
 
 pub blocks_balance : (s : Statement) (list : List Statement) (d e m : ℕ)
     → e + count_by is_closing list ≡ m + count_by is_opening list
     → m + cond (is_closing s) 1 0 ≡ d + cond (is_opening s) 1 0
     → e + count_by is_closing (s ∷ list) ≡ d + count_by is_opening (s ∷ list)
 blocks_balance s list d e m later_balance depth_moves_by_s =
-    omega (arith, later_balance, depth_moves_by_s, count_of_first_and_rest is_closing s list,
-    count_of_first_and_rest is_opening
-    s list)
+    omega (
+      arith,
+      later_balance,
+      depth_moves_by_s,
+      count_of_first_and_rest is_closing s list,
+      count_of_first_and_rest is_opening
+          s list,
+    )
 
 pub statements_are_followed : (list : List Statement) (d : ℕ) → list_all is_complete list ≡ true
     → ((n : ℕ) → count_by is_closing
@@ -246,8 +256,8 @@ beginnings_are_followed ts beginning = followed_by_state (follow (Some (at_start
         × (e + count_by is_closing beginning.0 ≡ 0 + count_by is_opening beginning.0)
     list_followed =
         statements_are_followed beginning.0 0 beginning.1.whole
-            (λ n. let closings_le_openings = beginning.1.nested n in
-            omega (arith, closings_le_openings))
+        (λ n. let closings_le_openings = beginning.1.nested n in
+        omega (arith, closings_le_openings))
 
     followed_by_state : (o : Option State) → follow (Some (at_start 0)) ts ≡ o
         → (q : State) × (o ≡ Some q)

@@ -183,10 +183,10 @@ module _ (db : List Statement) (k : ℕ)
       → v ≤ label_count + length marks
       → (s : Step) × (step_of labels marks v ≡ s ∷ []) × IsGoodStep (context_at db k) count s
   number_is_good_step labels marks count label_count zero labels_are_good marks_are_earlier
-    enough_labels
+      enough_labels
       v_is_positive v_is_within = absurd (omega arith)
   number_is_good_step labels marks count label_count (suc n) labels_are_good marks_are_earlier
-    enough_labels
+      enough_labels
       v_is_positive v_is_within =
       good_by_label_or_mark (slice_get labels n) refl (slice_get marks (n - length labels)) refl
     where
@@ -199,10 +199,13 @@ module _ (db : List Statement) (k : ℕ)
           → (s : Step) × (steps_of_number a b ≡ s ∷ []) × IsGoodStep (context_at db k) count s
       good_by_label_or_mark (Some j) label_is b mark_is =
           (label j, refl, each_of_got IsGoodLabel labels n j labels_are_good label_is)
-      good_by_label_or_mark None label_is (Some i) mark_is =
-          (marked i, refl, each_of_got (λ i. i < count) marks (n - length labels) i
-          marks_are_earlier
-          mark_is)
+      good_by_label_or_mark None label_is (Some i) mark_is = (
+        marked i,
+        refl,
+        each_of_got (λ i. i < count) marks (n - length labels) i
+            marks_are_earlier
+            mark_is,
+      )
       good_by_label_or_mark None label_is None mark_is =
           let labels_le_n = got_none_is_past_end labels n label_is in
           let marks_le_n = got_none_is_past_end marks (n - length labels) mark_is in
@@ -213,7 +216,7 @@ module _ (db : List Statement) (k : ℕ)
       → label_count ≤ length labels → group_faults label_count (length marks) count gs ≡ []
       → AreGoodSteps (context_at db k) count (steps_of (group_steps labels marks count gs))
   group_steps_are_good [] labels marks label_count count labels_are_good marks_are_earlier
-    enough_labels
+      enough_labels
       no_faults = tt
   group_steps_are_good (g ∷ gs) labels marks label_count count labels_are_good marks_are_earlier
       enough_labels no_faults =

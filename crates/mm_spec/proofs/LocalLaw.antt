@@ -26,8 +26,12 @@ list_all_alike : (d e : ℕ) (f g : ℕ → ℕ) (n a : ℕ) → d ≡ e → ((i
     ≡ list_all (λ i. nat_le e (g i)) (range_with_len a n)
 list_all_alike d e f g zero a d_eq_e values_equal = refl
 list_all_alike d e f g (suc n) a d_eq_e values_equal =
-    grind (arith, common_steps, list_all_alike d e f g n (a + 1) d_eq_e
-    (λ i i_lt_end. values_equal i (omega arith)))
+    grind (
+      arith,
+      common_steps,
+      list_all_alike d e f g n (a + 1) d_eq_e
+          (λ i i_lt_end. values_equal i (omega arith)),
+    )
 
 filter_alike : {X : Type 0} (p q : ℕ → Bool) (f g : ℕ → List X) (n a : ℕ)
     → ((i : ℕ) → i < a + n → p i ≡ q i) → ((i : ℕ) → i < a + n → f i ≡ g i)

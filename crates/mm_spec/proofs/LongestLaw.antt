@@ -214,9 +214,12 @@ transition_holds (start d) part t open_block word_has_meaning part_is_read = (
   refl,
 )
 transition_holds (start zero) part t close_block word_has_meaning part_is_read = tt
-transition_holds (start (suc d)) part t close_block word_has_meaning part_is_read =
-    (ap₂ (λ p v. p ++ token t.at v ∷ []) (sym part_is_read) (sym word_has_meaning), refl,
-    (λ are_plain. omega arith), refl)
+transition_holds (start (suc d)) part t close_block word_has_meaning part_is_read = (
+  ap₂ (λ p v. p ++ token t.at v ∷ []) (sym part_is_read) (sym word_has_meaning),
+  refl,
+  (λ are_plain. omega arith),
+  refl,
+)
 transition_holds (start d) part t plain word_has_meaning part_is_read =
     holds_by_test (is_label t.word) refl
   where
@@ -263,13 +266,24 @@ transition_holds (labelled d l) part t axiom_keyword word_has_meaning part_is_re
     part_is = ap₂ (λ p v. p ++ token t.at v ∷ []) part_is_read.1 word_has_meaning;
   },
 )
-transition_holds (labelled d l) part t theorem_keyword word_has_meaning part_is_read =
-    (refl, (part_is_read.0, refl, ap₂ (λ p v. p ++ token t.at v ∷ []) part_is_read.1
-    word_has_meaning))
-transition_holds (formula d l k ws) part t plain word_has_meaning part_is_read =
-    (refl, (part_is_read.0, plain_with_one_more ws t part_is_read.1 word_has_meaning,
+transition_holds (labelled d l) part t theorem_keyword word_has_meaning part_is_read = (
+  refl,
+  (
+    part_is_read.0,
+    refl,
+    ap₂ (λ p v. p ++ token t.at v ∷ []) part_is_read.1
+        word_has_meaning,
+  ),
+)
+transition_holds (formula d l k ws) part t plain word_has_meaning part_is_read = (
+  refl,
+  (
+    part_is_read.0,
+    plain_with_one_more ws t part_is_read.1 word_has_meaning,
     ap (λ p. p ++ t ∷ [])
-    part_is_read.2))
+        part_is_read.2,
+  ),
+)
 transition_holds (formula d l k ws) part t equals word_has_meaning part_is_read = (
   refl,
   record {
@@ -302,7 +316,7 @@ transition_holds (words d make ws) part t plain word_has_meaning part_is_read = 
 )
 transition_holds (words d make ws) part t dot word_has_meaning part_is_read = (
   part_is_read.spelling_is ws t.at
-    ∙ sym (append_assoc part_is_read.front ws (token t.at (codes "$.") ∷ []))
+      ∙ sym (append_assoc part_is_read.front ws (token t.at (codes "$.") ∷ []))
       ∙ ap₂ (λ y v. y ++ token t.at v ∷ []) (sym part_is_read.part_is) (sym word_has_meaning),
   part_is_read.is_complete_if_plain ws t.at part_is_read.are_plain,
   open_if_not_closing (make ws t.at) d (part_is_read.not_closing ws t.at),
@@ -333,8 +347,13 @@ rest_is_read_on (t ∷ us) r list part is_balanced part_is_read =
     (λ q list' part' is_balanced_next part_is_read_next. rest_is_read_on us q list' part'
     is_balanced_next
     part_is_read_next) in
-    record { rest = read_further.0; depth = read_further.1; balanced = read_further.2; tokens_are =
-        read_further.3 }
+    record {
+      rest = read_further.0;
+      depth = read_further.1;
+      balanced = read_further.2;
+      tokens_are =
+          read_further.3;
+    }
   where
     read_by_transition : (o : Transition) → TransitionHolds (depth_of_progress r) (part ++ t ∷ []) o
         → ((q : Progress) (list' : List Statement) (part' : List Token)
@@ -354,9 +373,13 @@ rest_is_read_on (t ∷ us) r list part is_balanced part_is_read =
     )
     read_by_transition (continued q) transition_is rest_is_read =
         let read_later = rest_is_read q list (part ++ t ∷ [])
-        (subst (λ n. Balanced n list) (sym transition_is.0) is_balanced) transition_is.1 in
-        (read_later.rest, read_later.depth, read_later.balanced, sym (append_assoc part (t ∷ []) us)
-        ∙ read_later.tokens_are)
+        (subst (λ n. Balanced n list) (sym transition_is.0) is_balanced) transition_is.1 in (
+          read_later.rest,
+          read_later.depth,
+          read_later.balanced,
+          sym (append_assoc part (t ∷ []) us)
+              ∙ read_later.tokens_are,
+        )
     read_by_transition (completed e s) transition_is rest_is_read =
         let read_later =
         rest_is_read (start e) (list ++ s ∷ []) []
@@ -369,7 +392,7 @@ rest_is_read_on (t ∷ us) r list part is_balanced part_is_read =
           subst (Balanced read_later.depth)
               (append_assoc list (s ∷ []) (statements_from (start e) us)) read_later.balanced,
           sym (append_assoc part (t ∷ []) us)
-          ∙ ap₂ (λ y z. y ++ z) (sym transition_is.0) read_later.tokens_are
+              ∙ ap₂ (λ y z. y ++ z) (sym transition_is.0) read_later.tokens_are
               ∙ sym (append_assoc (spelling_of s)
               (flat_map spelling_of (statements_from (start e) us)) read_later.rest),
         )
@@ -407,8 +430,8 @@ pub statements_are_read_at_start : (list : List Statement) (ts : List Token) →
     × (statements_of (flat_map spelling_of list ++ ts) ≡ list ++ statements_from (start e) ts)
 statements_are_read_at_start list ts are_statements =
     statements_are_read list 0 ts are_statements.whole
-        (λ n. let closings_le_openings = are_statements.nested n in
-        omega (arith, closings_le_openings))
+    (λ n. let closings_le_openings = are_statements.nested n in
+    omega (arith, closings_le_openings))
 
 -- the statements that are read are the longest list
 pub read_statements_are_longest : (ts : List Token) → AreLongestStatements ts (statements_of ts)
@@ -426,8 +449,13 @@ read_statements_are_longest ts =
     too_long : (list more : List Statement) (s : Statement) → ¬ (list ≡ (list ++ s ∷ []) ++ more)
     too_long list more s lists_equal =
         let lengths_equal = ap length lists_equal in
-        omega (arith, lengths_equal, length-append (list ++ s ∷ []) more, length-append list
-        (s ∷ []))
+        omega (
+          arith,
+          lengths_equal,
+          length-append (list ++ s ∷ []) more,
+          length-append list
+              (s ∷ []),
+        )
 
     no_longer_list : (s : Statement) (more : List Token)
         → AreStatements (statements_of ts ++ s ∷ [])
@@ -446,8 +474,11 @@ read_statements_are_longest ts =
 -- a front of a list is one
 front_are_statements : (xs ys : List Statement) → AreStatements (xs ++ ys) → AreStatements xs
 front_are_statements xs ys are_statements =
-    record { whole = whole xs are_statements.whole; nested = λ n. nested n (leb n (length xs))
-        refl }
+    record {
+      whole = whole xs are_statements.whole;
+      nested = λ n. nested n (leb n (length xs))
+          refl;
+    }
   where
     whole : (zs : List Statement) → list_all is_complete (zs ++ ys) ≡ true
         → list_all is_complete zs ≡ true
@@ -480,8 +511,11 @@ pub longest_is_what_is_read : (ts : List Token) (list : List Statement)
 longest_is_what_is_read ts list longest =
     let read_again = statements_are_read_at_start list longest.rest longest.are_statements in
     let is_balanced : Balanced read_again.0 list =
-    record { are_statements = longest.are_statements; count = read_again.1
-        ∙ zero-add (count_by is_opening list) }
+    record {
+      are_statements = longest.are_statements;
+      count = read_again.1
+          ∙ zero-add (count_by is_opening list);
+    }
     in
     let read_of_rest = rest_is_read_on longest.rest (start read_again.0) list [] is_balanced refl in
     ap statements_of longest.splits ∙ read_again.2

@@ -159,8 +159,11 @@ module _ (c : Context) where
         count =
             let n_le_length : suc n ≡ suc (length (formulas earlier_split.last)) =
             ap suc (sym earlier_split.count) in
-            omega (arith, length-append (formulas earlier_split.last) (f ∷ []),
-            earlier_split.count);
+            omega (
+              arith,
+              length-append (formulas earlier_split.last) (f ∷ []),
+              earlier_split.count,
+            );
       }
 
   -- what the answer of a step means: premises on top of the entries, and a formula that follows
@@ -240,8 +243,12 @@ module _ (c : Context) where
       ap (take k) parts.all_formulas
       ∙ take_at (formulas parts.before) (formulas parts.last) k count_of_before in (
         more parts.before l f parts.last,
-        (parts.before_derivations, parts.last_derivations, subst (λ x. Follows c (c.rule l) x f)
-        last_formulas_are follows),
+        (
+          parts.before_derivations,
+          parts.last_derivations,
+          subst (λ x. Follows c (c.rule l) x f)
+              last_formulas_are follows,
+        ),
         sym (append_assoc (postfix parts.before) (postfix parts.last) (l ∷ []))
             ∙ ap (λ x. x ++ l ∷ []) (sym parts.all_labels),
         ap (λ x. x ++ f ∷ []) (sym first_formulas_are),
@@ -261,9 +268,13 @@ module _ (c : Context) where
       outcome_of_rest : (next : Trees) → postfix next ≡ postfix forest ++ l ∷ []
           → (r : Result (List Formula) RunFailure) → RunOutcome next ls r
           → RunOutcome forest (l ∷ ls) r
-      outcome_of_rest next labels_are (Ok out) outcome_later =
-          (outcome_later.0, outcome_later.1, outcome_later.2 ∙ ap (λ x. x ++ ls) labels_are
-          ∙ append_assoc (postfix forest) (l ∷ []) ls, outcome_later.3)
+      outcome_of_rest next labels_are (Ok out) outcome_later = (
+        outcome_later.0,
+        outcome_later.1,
+        outcome_later.2 ∙ ap (λ x. x ++ ls) labels_are
+            ∙ append_assoc (postfix forest) (l ∷ []) ls,
+        outcome_later.3,
+      )
       outcome_of_rest next labels_are (Err x) outcome_later = record {
         before = l ∷ outcome_later.before;
         label = outcome_later.label;

@@ -17,8 +17,14 @@ pub node_is_member : (counts : ℕ → ℕ → Bool) (root_counts : ℕ → Bool
     → HasNode counts root_counts ts a → is_member (postfix ts) a ≡ true
 node_is_member counts root_counts none a has_node = absurd has_node
 node_is_member counts root_counts (more ts l f cs) a (inl has_node) =
-    grind (arith, common_steps, list_any-append, or_left, node_is_member counts root_counts ts a
-    has_node)
+    grind (
+      arith,
+      common_steps,
+      list_any-append,
+      or_left,
+      node_is_member counts root_counts ts a
+          has_node,
+    )
 node_is_member counts root_counts (more ts l f cs) a (inr (root_counts_last, inl is_root)) =
     grind (arith, common_steps, eq-eqb, list_any-append, or_left, or_right)
 node_is_member counts root_counts (more ts l f cs) a (inr (root_counts_last, inr has_node)) =

@@ -196,19 +196,19 @@ read_at_start_if_completed : (d : ℕ) (ts : List Token) (list : List Statement)
 read_at_start_if_completed d ts list part s is_balanced tokens_are is_complete_s open_if_closing t
     spelling_of_s d_after
     depth_after_is = record {
-  statements = list ++ s ∷ [];
-  balanced =
-      subst (λ k. Balanced k (list ++ s ∷ [])) depth_after_is
-      (balanced_with_one_more d list s is_balanced is_complete_s open_if_closing);
-  part = [];
-  is_part = refl;
-  tokens_are =
-      ap (λ x. x ++ t ∷ []) tokens_are ∙ append_assoc (flat_map spelling_of list) part (t ∷ [])
-      ∙ ap (λ x. flat_map spelling_of list ++ x)
-      (sym spelling_of_s ∙ sym (append-nil (spelling_of s)))
-      ∙ sym (flat_map-append spelling_of list (s ∷ []))
-      ∙ sym (append-nil (flat_map spelling_of (list ++ s ∷ [])));
-}
+      statements = list ++ s ∷ [];
+      balanced =
+          subst (λ k. Balanced k (list ++ s ∷ [])) depth_after_is
+          (balanced_with_one_more d list s is_balanced is_complete_s open_if_closing);
+      part = [];
+      is_part = refl;
+      tokens_are =
+          ap (λ x. x ++ t ∷ []) tokens_are ∙ append_assoc (flat_map spelling_of list) part (t ∷ [])
+          ∙ ap (λ x. flat_map spelling_of list ++ x)
+          (sym spelling_of_s ∙ sym (append-nil (spelling_of s)))
+          ∙ sym (flat_map-append spelling_of list (s ∷ []))
+          ∙ sym (append-nil (flat_map spelling_of (list ++ s ∷ [])));
+    }
 
 -- a token more in a statement
 read_with_one_more : (q r : State) (ts : List Token) (read_before : Reads q ts) (t : Token)
@@ -475,14 +475,14 @@ completed_is_beginning : (d : ℕ) (ts : List Token) (list : List Statement) (pa
     → BeginStatements ts
 completed_is_beginning d ts list part s is_balanced tokens_are is_complete_s open_if_closing rest
     spelling_of_s = (
-  list ++ s ∷ [],
-  (balanced_with_one_more d list s is_balanced is_complete_s open_if_closing).are_statements,
-  rest,
-  flat_map-append spelling_of list (s ∷ [])
-      ∙ ap (λ x. flat_map spelling_of list ++ x) (append-nil (spelling_of s) ∙ spelling_of_s)
-      ∙ sym (append_assoc (flat_map spelling_of list) part rest)
-      ∙ ap (λ x. x ++ rest) (sym tokens_are),
-)
+      list ++ s ∷ [],
+      (balanced_with_one_more d list s is_balanced is_complete_s open_if_closing).are_statements,
+      rest,
+      flat_map-append spelling_of list (s ∷ [])
+          ∙ ap (λ x. flat_map spelling_of list ++ x) (append-nil (spelling_of s) ∙ spelling_of_s)
+          ∙ sym (append_assoc (flat_map spelling_of list) part rest)
+          ∙ ap (λ x. x ++ rest) (sym tokens_are),
+    )
 
 words_part_is_beginning : (d : ℕ) (ts : List Token) (list : List Statement) (part : List Token)
     → WordsPart part
@@ -532,8 +532,14 @@ read_tokens_are_beginning (in_proof d) ts tokens_read =
 
 pub nothing_is_read : Reads (at_start 0) []
 nothing_is_read =
-    record { statements = []; balanced = balanced_nothing; part = []; is_part = refl; tokens_are =
-        refl }
+    record {
+      statements = [];
+      balanced = balanced_nothing;
+      part = [];
+      is_part = refl;
+      tokens_are =
+          refl;
+    }
 
 -- some list begins with the tokens exactly where the table goes through them
 pub beginnings_iff_followed : (ts : List Token)

@@ -150,8 +150,13 @@ module _ (c : Context) where
           ap (λ x. formulas forest ++ x ∷ []) last_formula in (
             more forest l f cs,
             (are_derivations, are_derivations_there.1, are_derivations_there.2),
-            (earlier.0, postfix cs ++ l ∷ [], earlier.2,
-            (more ts l f cs, are_derivations_there, labels_there, refl), refl),
+            (
+              earlier.0,
+              postfix cs ++ l ∷ [],
+              earlier.2,
+              (more ts l f cs, are_derivations_there, labels_there, refl),
+              refl,
+            ),
             formulas_equal,
             subst (λ x. IsLastFormula (more forest l f cs) (top x)) formulas_equal
                 (sym (top_of_appended (formulas forest) f)),
@@ -193,9 +198,14 @@ module _ (c : Context) where
           → (r : Result (List Formula) RunFailure)
           → StepsOutcome (lists ++ labels_after ∷ []) labels_after steps r
           → StepsOutcome lists (postfix forest) (s ∷ steps) r
-      outcome_of_rest labels_after adds_labels (Ok out) later_outcome =
-          (later_outcome.0, (labels_after, adds_labels, later_outcome.1), later_outcome.2,
-          later_outcome.3, later_outcome.4, later_outcome.5)
+      outcome_of_rest labels_after adds_labels (Ok out) later_outcome = (
+        later_outcome.0,
+        (labels_after, adds_labels, later_outcome.1),
+        later_outcome.2,
+        later_outcome.3,
+        later_outcome.4,
+        later_outcome.5,
+      )
       outcome_of_rest labels_after adds_labels (Err e) later_outcome = record {
         before = s ∷ later_outcome.before;
         first = later_outcome.first;

@@ -136,50 +136,50 @@ first_unexpected (t ∷ ts) r f has_fault =
         }
     first_by_transition (continued q) transition_is has_fault first_of_rest =
         let later = first_of_rest q has_fault in record {
-      before = t ∷ later.before;
-      first = later.first;
-      after = later.after;
-      splits = ap (λ y. t ∷ y) later.splits;
-      expected_before =
-          ap (λ a. shape_fault_after a
-          (Some (fault t.at (shape_code (is_between_statements r) t.word)))
-          (λ q. shape_fault_from q later.before)) transition_is
-          ∙ later.expected_before;
-      is_unexpected =
-          ap (λ a. transition (progress_after a (λ q. progress_from q later.before) r)
-          (class later.first.word) later.first) transition_is
-          ∙ later.is_unexpected;
-      fault_is =
-          later.fault_is ∙ ap
-          (λ a. fault later.first.at
-          (shape_code
-          (is_between_statements
-          (progress_after a (λ q. progress_from q later.before) r)) later.first.word))
-          (sym transition_is);
-    }
+          before = t ∷ later.before;
+          first = later.first;
+          after = later.after;
+          splits = ap (λ y. t ∷ y) later.splits;
+          expected_before =
+              ap (λ a. shape_fault_after a
+              (Some (fault t.at (shape_code (is_between_statements r) t.word)))
+              (λ q. shape_fault_from q later.before)) transition_is
+              ∙ later.expected_before;
+          is_unexpected =
+              ap (λ a. transition (progress_after a (λ q. progress_from q later.before) r)
+              (class later.first.word) later.first) transition_is
+              ∙ later.is_unexpected;
+          fault_is =
+              later.fault_is ∙ ap
+              (λ a. fault later.first.at
+              (shape_code
+              (is_between_statements
+              (progress_after a (λ q. progress_from q later.before) r)) later.first.word))
+              (sym transition_is);
+        }
     first_by_transition (completed d s) transition_is has_fault first_of_rest =
         let later = first_of_rest (start d) has_fault in record {
-      before = t ∷ later.before;
-      first = later.first;
-      after = later.after;
-      splits = ap (λ y. t ∷ y) later.splits;
-      expected_before =
-          ap (λ a. shape_fault_after a
-          (Some (fault t.at (shape_code (is_between_statements r) t.word)))
-          (λ q. shape_fault_from q later.before)) transition_is
-          ∙ later.expected_before;
-      is_unexpected =
-          ap (λ a. transition (progress_after a (λ q. progress_from q later.before) r)
-          (class later.first.word) later.first) transition_is
-          ∙ later.is_unexpected;
-      fault_is =
-          later.fault_is ∙ ap
-          (λ a. fault later.first.at
-          (shape_code
-          (is_between_statements
-          (progress_after a (λ q. progress_from q later.before) r)) later.first.word))
-          (sym transition_is);
-    }
+          before = t ∷ later.before;
+          first = later.first;
+          after = later.after;
+          splits = ap (λ y. t ∷ y) later.splits;
+          expected_before =
+              ap (λ a. shape_fault_after a
+              (Some (fault t.at (shape_code (is_between_statements r) t.word)))
+              (λ q. shape_fault_from q later.before)) transition_is
+              ∙ later.expected_before;
+          is_unexpected =
+              ap (λ a. transition (progress_after a (λ q. progress_from q later.before) r)
+              (class later.first.word) later.first) transition_is
+              ∙ later.is_unexpected;
+          fault_is =
+              later.fault_is ∙ ap
+              (λ a. fault later.first.at
+              (shape_code
+              (is_between_statements
+              (progress_after a (λ q. progress_from q later.before) r)) later.first.word))
+              (sym transition_is);
+        }
 
 -- if a statement may begin after the tokens, they are a list of statements, otherwise not
 start_is_between_statements : (ts : List Token) (r : Progress) (b : Bool)
@@ -205,8 +205,8 @@ within_is_not_between : (ts : List Token) (r : Progress) (b : Bool)
 within_is_not_between ts r b state_is within_statement is_between =
     let list_followed =
     statements_are_followed is_between.0 0 is_between.1.whole
-        (λ n. let closings_le_openings = is_between.1.nested n in
-        omega (arith, closings_le_openings)) in
+    (λ n. let closings_le_openings = is_between.1.nested n in
+    omega (arith, closings_le_openings)) in
     not_at_start r b
     (sym state_is ∙ ap (follow (Some (at_start 0))) (sym is_between.2) ∙ list_followed.1)
     within_statement
@@ -231,9 +231,10 @@ shape_fault ts f has_fault =
       after = first_one.after;
       splits = first_one.splits;
       begins =
-          (beginnings_iff_followed first_one.before).1
-          (state_of followed_before.0 (progress_from (start 0) first_one.before),
-          followed_before.1);
+          (beginnings_iff_followed first_one.before).1 (
+            state_of followed_before.0 (progress_from (start 0) first_one.before),
+            followed_before.1,
+          );
       no_more =
           λ beginning. begins_no_list first_one.before first_one.first
           (progress_from (start 0) first_one.before) followed_before.0 followed_before.1
@@ -264,11 +265,17 @@ shape_fault ts f has_fault =
         → (IsBetween before × (f ≡ fault first.at (shape_code true first.word)))
         ⊎ ((¬ IsBetween before) × (f ≡ fault first.at (shape_code false first.word)))
     code_by_place before first r b state_is fault_is true test_is =
-        inl (start_is_between_statements before r b state_is test_is, fault_is
-        ∙ ap (λ c. fault first.at (shape_code c first.word)) test_is)
+        inl (
+          start_is_between_statements before r b state_is test_is,
+          fault_is
+              ∙ ap (λ c. fault first.at (shape_code c first.word)) test_is,
+        )
     code_by_place before first r b state_is fault_is false test_is =
-        inr (within_is_not_between before r b state_is test_is, fault_is
-        ∙ ap (λ c. fault first.at (shape_code c first.word)) test_is)
+        inr (
+          within_is_not_between before r b state_is test_is,
+          fault_is
+              ∙ ap (λ c. fault first.at (shape_code c first.word)) test_is,
+        )
 
 pub no_shape_fault : (ts : List Token) → shape_fault_from (start 0) ts ≡ None
     → ¬ ((g : Fault) × ShapeFault ts g)
@@ -377,9 +384,11 @@ end_fault len ts f no_shape has_fault =
         record {
           statements = statements_of ts;
           are_statements = read_statements_are_longest ts;
-          code = inr
-              (at_end.rest (read_statements_are_longest ts), omega (arith, block_count),
-              sym (same_Some (fault len OpenBlock) f has_fault));
+          code = inr (
+            at_end.rest (read_statements_are_longest ts),
+            omega (arith, block_count),
+            sym (same_Some (fault len OpenBlock) f has_fault),
+          );
         }
     fault_by_progress (labelled d l) b state_is has_fault =
         within_statement (labelled d l) b state_is refl has_fault
@@ -399,7 +408,7 @@ no_end_fault len ts no_shape no_fault_at_end f has_end_fault =
         → (are_longest.rest ≡ []) × (count_by is_closing list ≡ count_by is_opening list)
     nothing_left_or_open list are_longest lists_equal at_end = (
       subst (λ list. (are_longest : AreLongestStatements ts list) → are_longest.rest ≡ [])
-      lists_equal at_end.rest are_longest,
+          lists_equal at_end.rest are_longest,
       subst (λ z. count_by is_closing z ≡ count_by is_opening z) lists_equal
           (let block_count = at_end.count in omega (arith, block_count)),
     )

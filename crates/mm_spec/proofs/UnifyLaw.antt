@@ -66,9 +66,11 @@ module _ (c : Context) where
     bound_have_same_values : (f : Formula) → AreBound c hs f
         → AllByRecursion (λ x. IsTrue (c.is_variable x) → σ x ≡ τ x) f
     bound_have_same_values [] is_bound = tt
-    bound_have_same_values (x ∷ f) is_bound =
-        (λ is_variable. found_has_value hs τ x (is_bound.0 is_variable), bound_have_same_values f
-        is_bound.1)
+    bound_have_same_values (x ∷ f) is_bound = (
+      λ is_variable. found_has_value hs τ x (is_bound.0 is_variable),
+      bound_have_same_values f
+          is_bound.1,
+    )
 
     pub found_gives_formula : (f : Formula) → AreBound c hs f → substitute c σ f ≡ substitute c τ f
     found_gives_formula f is_bound =

@@ -112,8 +112,11 @@ pub word_at_nonempty : (text : List ℕ) (i : ℕ) → i < length text → white
     → i < (word_at text i).end
 unfolding word_at white_at
 word_at_nonempty text i i_lt_length not_white =
-    omega (arith, prefix_len-drop_yes (λ b. not (is_white b)) text i 0 i_lt_length
-    (rw not_white refl))
+    omega (
+      arith,
+      prefix_len-drop_yes (λ b. not (is_white b)) text i 0 i_lt_length
+          (rw not_white refl),
+    )
 
 -- where a word begins
 pub IsWord_word_at : (text : List ℕ) (i : ℕ) → i < length text → white_at text i ≡ false
@@ -179,7 +182,7 @@ next_word_is text i e to i_lt_to to_le_length not_white starts_at_boundary ends_
       subst (IsWord text) word_is is_word,
       e_le_to,
       words_between_take text i to i_lt_to
-      (boundary_begins_word text i (omega arith) not_white starts_at_boundary)
+          (boundary_begins_word text i (omega arith) not_white starts_at_boundary)
           ∙ ap (λ w. w ∷ words_between text (i + 1) to) word_is
           ∙ ap (λ ws. record { start = i; end = e } ∷ ws)
           (words_between_skips text (e - (i + 1)) (i + 1) e to (omega arith) e_le_to
