@@ -147,7 +147,7 @@ module _ (db : List Statement) (t : ℕ) (steps : List PlacedStep) (i : ℕ) (ws
       → IsUndone s
   step_is_undone (label l) (ts, f, cs, forest_is, forest_before_is, follows) is_good = record {
     entry_flags_fit =
-        let premise_count_is = are_flags.count in
+        let premise_count_is = are_flags.flag_count_is in
         omega (
           arith,
           flag_count_is,
@@ -184,7 +184,7 @@ module _ (db : List Statement) (t : ℕ) (steps : List PlacedStep) (i : ℕ) (ws
           label_back (child_counts db true)
           (forest_at are_found.forests) i ws step_flags flag b b_is a l ts f cs forest_is
           forest_before_is flag_count_is
-          (taken_flags db b (label l)) are_flags.from are_flags.to
+          (taken_flags db b (label l)) are_flags.flagged_is_counted are_flags.counted_is_flagged
 
       left_to_right : (a : ℕ) → ((b ≡ true) × (a ≡ l)) ⊎ IsFoundBefore (label l) a
           → ((b ≡ true) × ((a == l) ≡ true)) ⊎ IsFoundBefore (label l) a

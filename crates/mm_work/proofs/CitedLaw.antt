@@ -63,9 +63,9 @@ index_of_theorem db t t_is_theorem =
 pub valid_if_has_citations : (db : List Statement) (by_essential : Bool) (t : ℕ) (cites : List ℕ)
     → HasCitations db by_essential t cites → IsValid db t
 valid_if_has_citations db by_essential t cites has_citations = (
-  has_citations.read,
-  has_citations.checked.derivation,
-  has_citations.checked.proof,
+  has_citations.no_reading_faults,
+  has_citations.is_checked.derivation,
+  has_citations.is_checked.is_proof,
 )
 
 module _ (db : List Statement) (length_lt_limit : length db < 2 ^ 31) (are_complete : AreComplete
