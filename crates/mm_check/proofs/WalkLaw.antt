@@ -279,15 +279,15 @@ module _ (db : List Statement) (t : ℕ) (steps : List PlacedStep) (i : ℕ) (ws
           → (is_member noted a ≡ true)
           ⊎ ((b && (is_labelled_step s a && is_assertion_at db a)) ≡ true)
           → is_assertion_at db a ≡ true
-      noted_is_assertion a (inl noted) = are_found.are_assertions a noted
-      noted_is_assertion a (inr noted) =
+      noted_is_assertion a (inl a_is_noted) = are_found.are_assertions a a_is_noted
+      noted_is_assertion a (inr is_noted_here) =
           (and_parts (is_labelled_step s a) (is_assertion_at db a)
-          (and_parts b (is_labelled_step s a && is_assertion_at db a) noted).1).1
+          (and_parts b (is_labelled_step s a && is_assertion_at db a) is_noted_here).1).1
 
       noted_stays : (a : ℕ) → is_member noted a ≡ true → is_member out a ≡ true
-      noted_stays a noted =
+      noted_stays a a_is_noted =
           members_are a ∙ or_left (is_member noted a)
-          (b && (is_labelled_step s a && is_assertion_at db a)) noted
+          (b && (is_labelled_step s a && is_assertion_at db a)) a_is_noted
 
       label_is_noted : (a : ℕ) → is_assertion_at db a ≡ true → b ≡ true → is_labelled_step s a
           ≡ true

@@ -104,7 +104,7 @@ module _ (db : List Statement) (length_lt_limit : length db < 2 ^ 31) (are_compl
   all_valid by_essential lists have_citations j j_lt_length j_is_theorem =
       let indexed = index_of_theorem db j j_is_theorem in
       subst (λ t. IsValid db t) indexed.2 (valid_if_has_citations db by_essential _ _
-      (have_citations.each indexed.0 indexed.1))
+      (have_citations.each_has_citations indexed.0 indexed.1))
 
   module _ (by_essential : Bool) (lists : List (List ℕ))
       (have_citations : HaveCitationsUpTo db by_essential (theorems db) (length (theorems db))
