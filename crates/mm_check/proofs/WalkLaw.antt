@@ -147,7 +147,7 @@ module _ (db : List Statement) (t : ℕ) (steps : List PlacedStep) (i : ℕ) (ws
       → IsUndone s
   step_is_undone (label l) (ts, f, cs, forest_is, forest_before_is, follows) is_good = record {
     entry_flags_fit =
-        let premise_count_is = are_flags.count in
+        let premise_count_is = are_flags.flag_count_is in
         omega (
           arith,
           flag_count_is,
@@ -184,7 +184,7 @@ module _ (db : List Statement) (t : ℕ) (steps : List PlacedStep) (i : ℕ) (ws
           label_back (child_counts db true)
           (forest_at are_found.forests) i ws step_flags flag b b_is a l ts f cs forest_is
           forest_before_is flag_count_is
-          (taken_flags db b (label l)) are_flags.from are_flags.to
+          (taken_flags db b (label l)) are_flags.flagged_is_counted are_flags.counted_is_flagged
 
       left_to_right : (a : ℕ) → ((b ≡ true) × (a ≡ l)) ⊎ IsFoundBefore (label l) a
           → ((b ≡ true) × ((a == l) ≡ true)) ⊎ IsFoundBefore (label l) a
@@ -279,15 +279,15 @@ module _ (db : List Statement) (t : ℕ) (steps : List PlacedStep) (i : ℕ) (ws
           → (is_member noted a ≡ true)
           ⊎ ((b && (is_labelled_step s a && is_assertion_at db a)) ≡ true)
           → is_assertion_at db a ≡ true
-      noted_is_assertion a (inl noted) = are_found.are_assertions a noted
-      noted_is_assertion a (inr noted) =
+      noted_is_assertion a (inl a_is_noted) = are_found.are_assertions a a_is_noted
+      noted_is_assertion a (inr is_noted_here) =
           (and_parts (is_labelled_step s a) (is_assertion_at db a)
-          (and_parts b (is_labelled_step s a && is_assertion_at db a) noted).1).1
+          (and_parts b (is_labelled_step s a && is_assertion_at db a) is_noted_here).1).1
 
       noted_stays : (a : ℕ) → is_member noted a ≡ true → is_member out a ≡ true
-      noted_stays a noted =
+      noted_stays a a_is_noted =
           members_are a ∙ or_left (is_member noted a)
-          (b && (is_labelled_step s a && is_assertion_at db a)) noted
+          (b && (is_labelled_step s a && is_assertion_at db a)) a_is_noted
 
       label_is_noted : (a : ℕ) → is_assertion_at db a ≡ true → b ≡ true → is_labelled_step s a
           ≡ true

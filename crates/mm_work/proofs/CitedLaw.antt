@@ -63,9 +63,9 @@ index_of_theorem db t t_is_theorem =
 pub valid_if_has_citations : (db : List Statement) (by_essential : Bool) (t : ℕ) (cites : List ℕ)
     → HasCitations db by_essential t cites → IsValid db t
 valid_if_has_citations db by_essential t cites has_citations = (
-  has_citations.read,
-  has_citations.checked.derivation,
-  has_citations.checked.proof,
+  has_citations.no_reading_faults,
+  has_citations.is_checked.derivation,
+  has_citations.is_checked.is_proof,
 )
 
 module _ (db : List Statement) (length_lt_limit : length db < 2 ^ 31) (are_complete : AreComplete
@@ -104,7 +104,7 @@ module _ (db : List Statement) (length_lt_limit : length db < 2 ^ 31) (are_compl
   all_valid by_essential lists have_citations j j_lt_length j_is_theorem =
       let indexed = index_of_theorem db j j_is_theorem in
       subst (λ t. IsValid db t) indexed.2 (valid_if_has_citations db by_essential _ _
-      (have_citations.each indexed.0 indexed.1))
+      (have_citations.each_has_citations indexed.0 indexed.1))
 
   module _ (by_essential : Bool) (lists : List (List ℕ))
       (have_citations : HaveCitationsUpTo db by_essential (theorems db) (length (theorems db))
