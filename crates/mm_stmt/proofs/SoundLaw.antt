@@ -39,7 +39,8 @@ sound_is db look labels b x few lawful below = record {
   few_statements = few;
   lawful = lawful;
   no_constant_is_variable =
-      λ w e. let k = x.symbols w in k.variable ∙ one_kind (entry_of (look w)) (sym k.constant ∙ e);
+      λ w e. let k = x.symbols w in k.variable_is_known
+      ∙ one_kind (entry_of (look w)) (sym k.constant_is_known ∙ e);
   symbols_have_numbers = below;
 }
 
@@ -86,7 +87,7 @@ are_symbols db look labels b x names kinds e length_kinds_is_length_names h = re
   variable = λ s l.
       let w = get_or names s [] in
       let there = slice_get-get_or names s [] l in
-      h s w there ∙ known_as (look w) ∙ sym (x.symbols w).variable
+      h s w there ∙ known_as (look w) ∙ sym (x.symbols w).variable_is_known
       ∙ ap (λ o. elim o [ None ↦ false | Some w ↦ is_in w (flat_map variables_of db) ])
       (sym there ∙ ap (λ l. slice_get l s) e);
 }
