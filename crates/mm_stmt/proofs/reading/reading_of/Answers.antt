@@ -20,7 +20,7 @@ into_reading-requires g c =
     let few = c.requires.few_symbols in
     let count = c.in_ok-variable_flags.ensures.count in
     record {
-      places = is_read_so_far.formulas.order;
+      ends = is_read_so_far.formulas.order;
       parts = record {
         sound = c.requires.sound;
         blocks = is_read_so_far.keeps.blocks;
