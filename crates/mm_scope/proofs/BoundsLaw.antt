@@ -62,9 +62,11 @@ symbols_have_names db all_lawful k k_lt_length s s_is_statement_k =
 
 -- ---- lengths
 
+-- a list is no longer than with one item before it and one after it
 length_le_with_two : (t u : Token) (xs : List Token) → length xs ≤ length (t ∷ (xs ++ u ∷ []))
 length_le_with_two t u xs = omega (arith, length-append xs (u ∷ []))
 
+-- a list is no longer than with two items before it and one after it
 length_le_with_three : (l t u : Token) (xs : List Token)
     → length xs ≤ length (l ∷ t ∷ (xs ++ u ∷ []))
 length_le_with_three l t u xs = omega (arith, length-append xs (u ∷ []))

@@ -10,6 +10,7 @@ use Rattle.mm_outline.specs.Parts.{between, token_at}
 use Rattle.mm_scope.specs.WordEntry.{WordEntry, entry_of, declared_entry}
 use Rattle.mm_scope.proofs.JudgeLaw.{in_between_push}
 
+-- declaring a word twice gives the same entry as declaring it once
 declared_twice_is_once : (v : Bool) (n : ℕ) (w : List ℕ) (e : Option WordEntry)
     → declared_entry v n w (declared_entry v n w e) ≡ declared_entry v n w e
 declared_twice_is_once v n w None = refl
@@ -17,9 +18,11 @@ declared_twice_is_once v n w (Some e) = refl
 
 module _ (text : List ℕ) (ws : List Word) (from i : ℕ) (from_le_i : from ≤ i)
     (i_lt_length : i < length ws) where
+  -- the words up to i
   abbrev so_far : List (List ℕ)
   so_far = words (between text ws from i)
 
+  -- the word at i
   abbrev next_word : List ℕ
   next_word = (token_at text ws i).word
 
