@@ -180,14 +180,14 @@ pub record AddsFromEnd (b : BlockLists) (ps : List (ℕ × ℕ)) (x at start end
       → nat_le at (end_of b (get_or ps p (0, 0)).1) ≡ true
       → has_pair pairs_so_far (get_or ps p (0, 0)).1 x ≡ true
 
-module _ (b : BlockLists) (ps : List (ℕ × ℕ)) (rising : AreRising ps) (x at start : ℕ)
-    (parted : IsPartedAt ps x at start)
+module _ (b : BlockLists) (ps : List (ℕ × ℕ)) (ps_are_rising : AreRising ps) (x at start : ℕ)
+    (is_parted : IsPartedAt ps x at start)
   where
     -- before the place, where the symbol is that
     pub is_before : (p : ℕ) → p < start → (get_or ps p (0, 0)).0 ≡ x → (get_or ps p (0, 0)).1 < at
     is_before p p_lt_start symbol_is_x =
         by_symbol (is_before_from_test (get_or ps p (0, 0)) x at
-        (parted.earlier_are_before p p_lt_start))
+        (is_parted.earlier_are_before p p_lt_start))
       where
         by_symbol : IsBefore (get_or ps p (0, 0)).0 (get_or ps p (0, 0)).1 x at
             → (get_or ps p (0, 0)).1 < at
@@ -252,7 +252,7 @@ module _ (b : BlockLists) (ps : List (ℕ × ℕ)) (rising : AreRising ps) (x at
               y_is_x,
               ap₂ (λ u v. has_pair ps u v) (sym last_symbol_is_x) j_is_last_statement
                   ∙ has_pair_at_place ps (end - 1) (0, 0) (let start_le_length =
-                  parted.start_le_length in
+                  is_parted.start_le_length in
                   omega (arith, last_lt_start, start_le_length)),
               ap₂ (λ u v. u && v)
                   (ap (λ j. nat_lt j at) j_is_last_statement
@@ -324,7 +324,7 @@ module _ (b : BlockLists) (ps : List (ℕ × ℕ)) (rising : AreRising ps) (x at
         symbol_le_x : (q : ℕ) → q < start → (get_or ps q (0, 0)).0 ≤ x
         symbol_le_x q q_lt_start =
             symbol_le (is_before_from_test (get_or ps q (0, 0)) x at
-            (parted.earlier_are_before q q_lt_start))
+            (is_parted.earlier_are_before q q_lt_start))
           where
             symbol_le : IsBefore (get_or ps q (0, 0)).0 (get_or ps q (0, 0)).1 x at
                 → (get_or ps q (0, 0)).0 ≤ x
@@ -342,9 +342,9 @@ module _ (b : BlockLists) (ps : List (ℕ × ℕ)) (rising : AreRising ps) (x at
         by_equality (inl p_is_last) = last_symbol_ne_x (omega (arith, p_lt_end))
             (sym (ap (λ i. (get_or ps i (0, 0)).0) p_is_last) ∙ symbol_is_x)
         by_equality (inr p_ne_last) =
-            let start_le_length = parted.start_le_length in
+            let start_le_length = is_parted.start_le_length in
             let x_le_last_symbol =
-            symbol_ge (earlier_is_before ps rising p (end - 1) (0, 0)
+            symbol_ge (earlier_is_before ps ps_are_rising p (end - 1) (0, 0)
             (omega (arith, p_lt_end, p_ne_last))
             (omega (arith, p_lt_end, end_le_start, start_le_length))) in
             let last_symbol_le_x = symbol_le_x (end - 1) (omega (arith, p_lt_end, end_le_start)) in
@@ -362,7 +362,7 @@ module _ (b : BlockLists) (ps : List (ℕ × ℕ)) (rising : AreRising ps) (x at
         by_order (inr p_order) =
             absurd (true≢false
             (sym (is_pair_before_if (get_or ps p (0, 0)) x at (inr (symbol_is_x, statement_lt_at)))
-            ∙ parted.later_are_not_before p p_order p_lt_length_ps))
+            ∙ is_parted.later_are_not_before p p_order p_lt_length_ps))
 
     -- at the end exactly the active `$d` with the symbol have been added
     pub all_are_added : (end : ℕ) (earlier_pairs pairs_so_far : List (ℕ × ℕ))
@@ -436,7 +436,7 @@ pub record NoneInCommon (b : BlockLists) (ps : List (ℕ × ℕ)) (x y at x_end 
       → (get_or ps q (0, 0)).0 ≡ y → (get_or ps p (0, 0)).1 ≡ (get_or ps q (0, 0)).1
       → is_active_local b (get_or ps p (0, 0)).1 at ≡ true → (p < x_end) × (q < y_end)
 
-module _ (b : BlockLists) (ps : List (ℕ × ℕ)) (rising : AreRising ps) (x y at : ℕ) where
+module _ (b : BlockLists) (ps : List (ℕ × ℕ)) (ps_are_rising : AreRising ps) (x y at : ℕ) where
   -- before any pair is looked at, all common ones are before the ends
   pub none_at_start : (x_end y_end : ℕ) → x_end ≤ length ps → y_end ≤ length ps
       → ((p : ℕ) → p < x_end → is_pair_before (get_or ps p (0, 0)) x at ≡ true)
@@ -452,14 +452,14 @@ module _ (b : BlockLists) (ps : List (ℕ × ℕ)) (rising : AreRising ps) (x y 
             ltb-true (get_or ps p (0, 0)).1 at
             (and_parts (nat_lt (get_or ps p (0, 0)).1 at)
             (nat_le at (end_of b (get_or ps p (0, 0)).1)) is_active).0 in (
-              pair_lt_start b ps rising x at x_end (record {
+              pair_lt_start b ps ps_are_rising x at x_end (record {
                 start_le_length = x_end_le_length_ps;
                 earlier_are_before =
                     earlier_are_before_x;
                 later_are_not_before = later_are_not_before_x;
               }) p p_lt_length
                   p_has_x statement_lt_at,
-              pair_lt_start b ps rising y at y_end (record {
+              pair_lt_start b ps ps_are_rising y at y_end (record {
                 start_le_length = y_end_le_length_ps;
                 earlier_are_before =
                     earlier_are_before_y;
@@ -480,7 +480,8 @@ module _ (b : BlockLists) (ps : List (ℕ × ℕ)) (rising : AreRising ps) (x y 
           ap (λ i. (get_or ps i (0, 0)).1) q_is_r in
           omega (arith, statements_equal)
       by_equality (inr q_ne_r) =
-          statement_le (earlier_is_before ps rising q r (0, 0) (omega (arith, q_le_r, q_ne_r))
+          statement_le (earlier_is_before ps ps_are_rising q r (0, 0)
+          (omega (arith, q_le_r, q_ne_r))
           r_lt_length_ps)
         where
           statement_le : IsBefore (get_or ps q (0, 0)).0 (get_or ps q (0, 0)).1

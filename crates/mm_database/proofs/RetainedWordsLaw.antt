@@ -82,13 +82,13 @@ module _ (text : List ℕ) (ws : List Word) where
   last_word_is_end kind.Essential k m e has_end = ap (λ i. (nth_word ws i).start) (sym has_end)
   last_word_is_end kind.Axiom k m e has_end = ap (λ i. (nth_word ws i).start) (sym has_end)
 
-  module _ (words : AreWithin text ws) where
+  module _ (words_are_within : AreWithin text ws) where
     abbrev IsInside : Word → Type 0
     IsInside w = (w.start ≤ w.end) × (w.end ≤ length text)
 
     one_word_is_within : (i : ℕ) → i < length ws → AreWithin text (nth_word ws i ∷ [])
     one_word_is_within i i_lt_length zero d zero_lt_1 =
-        words i (record { start = 0; end = 0 }) i_lt_length
+        words_are_within i (record { start = 0; end = 0 }) i_lt_length
     one_word_is_within i i_lt_length (suc n) d suc_n_lt_1 = absurd (omega arith)
 
     label_is_within : (o : Outline) → IsOutline o × (o.end < length ws)
@@ -115,7 +115,7 @@ module _ (text : List ℕ) (ws : List Word) where
           All-append IsInside (label_word ws o) _ (label_is_within o is_outline)
           (All-append IsInside (slice_range ws (o.middle + 1) o.end) _
           (All-take IsInside (o.end - (o.middle + 1)) (drop (o.middle + 1) ws)
-          (All-drop IsInside (o.middle + 1) ws words))
+          (All-drop IsInside (o.middle + 1) ws words_are_within))
           (one_word_is_within o.end is_outline.1));
       label_is = label_word_is_label o.kind o.keyword o.middle o.end;
       proof_is = between_is_proof o.kind o.keyword o.middle o.end is_outline.0.4;
@@ -276,14 +276,15 @@ module _ (text : List ℕ) (db : List Statement) (w : Bool) (fault : Option Faul
             ∙ ap (option_map end_at) s_is_statement_k
             ∙ ap Some (sym retained_k.last_is) ∙ ap (λ x. Some x.start) (sym last_of_words))
 
-        module _ (x : Kind) (kind : kind_of s ≡ x) (of_kind : is_labelled_kind x ≡ true) where
-          labelled : is_labelled_kind (kind_of s) ≡ true
-          labelled = ap is_labelled_kind kind ∙ of_kind
+        module _ (x : Kind) (kind_is_x : kind_of s ≡ x)
+            (x_is_labelled : is_labelled_kind x ≡ true) where
+          s_is_labelled : is_labelled_kind (kind_of s) ≡ true
+          s_is_labelled = ap is_labelled_kind kind_is_x ∙ x_is_labelled
 
           first_is_label : (v : Word) × (retained_k.label ≡ v ∷ [])
-              × (token_of text v ≡ (has_label s labelled).0)
+              × (token_of text v ≡ (has_label s s_is_labelled).0)
           first_is_label =
-              let label_of_s = has_label s labelled in
+              let label_of_s = has_label s s_is_labelled in
               only_word text retained_k.label label_of_s.0
               (retained_k.label_is
               ∙ ap (λ o. elim o [ None ↦ [] | Some l ↦ l ∷ [] ]) label_of_s.1)
@@ -301,7 +302,7 @@ module _ (text : List ℕ) (db : List Statement) (w : Bool) (fault : Option Faul
               ap (λ ys. Some (token_of text (get_or ys 0 d)).word) words_begin_with_label
               ∙ ap (λ t. Some t.word) first_is_label.2
               ∙ sym (counted_label_is_label
-              ∙ ap (option_map (λ t. t.word)) (has_label s labelled).1)
+              ∙ ap (option_map (λ t. t.word)) (has_label s s_is_labelled).1)
 
           word_count_with_label : length words ≡ suc (length retained_k.proof + 1)
           word_count_with_label =

@@ -112,7 +112,7 @@ starts_of_all_pairs ps n starts length_le_n starts_to_n x = by_order (cases_lt x
 
 -- ---- among the pairs of one symbol
 
-module _ (ps : List (ℕ × ℕ)) (rising : AreRising ps) (x at from to : ℕ)
+module _ (ps : List (ℕ × ℕ)) (ps_are_rising : AreRising ps) (x at from to : ℕ)
     (from_starts_x : IsStart ps x from) (to_ends_x : IsStart ps (x + 1) to) where
   -- the pairs between the two starts are those of the symbol
   symbol_is_x : (p : ℕ) (d : ℕ × ℕ) → from ≤ p → p < to → (get_or ps p d).0 ≡ x
@@ -168,7 +168,7 @@ module _ (ps : List (ℕ × ℕ)) (rising : AreRising ps) (x at from to : ℕ)
           let j_lt_width_here = j_lt_width in
           let i_lt_width : i < to - from = omega (arith, i_lt_j_here, j_lt_width_here) in
           let statement_i_lt_j = statement_lt i_lt_j_here
-          (earlier_is_before ps rising (from + i) (from + j) d (omega (arith, i_lt_j_here))
+          (earlier_is_before ps ps_are_rising (from + i) (from + j) d (omega (arith, i_lt_j_here))
           j_lt_pairs) in
           let statement_j_lt_at =
           ltb-true (get_or ps (from + j) d).1 at
@@ -179,7 +179,7 @@ module _ (ps : List (ℕ × ℕ)) (rising : AreRising ps) (x at from to : ℕ)
           (omega (arith, statement_i_lt_j, statement_j_lt_at))
 
   module _ (n : ℕ) (bound : n ≤ length (slice_range ps from to))
-      (point : IsPartitionPoint (λ y. nat_lt y.1 at ≡ true) (λ y. nat_lt y.1 at ≡ false)
+      (is_point : IsPartitionPoint (λ y. nat_lt y.1 at ≡ true) (λ y. nat_lt y.1 at ≡ false)
       (slice_range ps from to) n) where
     -- so with n of them the pairs before are counted, and no others
     pub pair_before_point_is_before : (p : ℕ) → p < from + n
@@ -200,7 +200,7 @@ module _ (ps : List (ℕ × ℕ)) (rising : AreRising ps) (x at from to : ℕ)
             (ap (λ (q : ℕ × ℕ). nat_lt q.1 at)
             (sym (element_of_slice (p - from) (0, 0) index_lt_width
             ∙ ap (λ i. get_or ps i (0, 0)) from_plus_index_is_p))
-            ∙ point.0 (p - from) (0, 0) (omega arith) (omega (arith, p_order, p_lt_point))) in
+            ∙ is_point.0 (p - from) (0, 0) (omega arith) (omega (arith, p_order, p_lt_point))) in
             is_pair_before_if (get_or ps p (0, 0)) x at
             (inr (
               symbol_is_x p (0, 0) p_order (omega (arith, index_lt_width, p_order)),
@@ -244,5 +244,5 @@ module _ (ps : List (ℕ × ℕ)) (rising : AreRising ps) (x at from to : ℕ)
                 ∙ ap (λ (q : ℕ × ℕ). nat_lt q.1 at)
                 (sym (element_of_slice (p - from) (0, 0) index_lt_width
                 ∙ ap (λ i. get_or ps i (0, 0)) from_plus_index_is_p))
-                ∙ point.1 (p - from) (0, 0) (omega (arith, point_le_p, from_le_p))
+                ∙ is_point.1 (p - from) (0, 0) (omega (arith, point_le_p, from_le_p))
                 (omega (arith, index_lt_width, width)))

@@ -222,11 +222,11 @@ pub position_is_index : (w : Bytes) (ks : List (Name))
 position_is_index w ks =
     sym (is_position_or_len (λ (xs : List (Name)). index_of w (map (λ k. k.bytes.now) xs))
     (λ k. bytes_eq w k.bytes.now) refl
-    (λ x xs. step (bytes_eq w x.bytes.now) (index_of w (map (λ k. k.bytes.now) xs))) ks)
+    (λ x xs. elim_is_cond (bytes_eq w x.bytes.now) (index_of w (map (λ k. k.bytes.now) xs))) ks)
   where
-    step : (b : Bool) (n : ℕ) → elim b [ true ↦ 0 | false ↦ suc n ] ≡ cond b 0 (1 + n)
-    step true n = refl
-    step false n = omega arith
+    elim_is_cond : (b : Bool) (n : ℕ) → elim b [ true ↦ 0 | false ↦ suc n ] ≡ cond b 0 (1 + n)
+    elim_is_cond true n = refl
+    elim_is_cond false n = omega arith
 
 -- a key that equals the word is a name that does
 pub key_is_name : (w : Bytes) (ks : List (Name))

@@ -16,7 +16,7 @@ use Rattle.mm_database.specs.DisjointIndex.{has_symbol, is_active_local}
 use Rattle.mm_database.specs.Pairs.{has_pair}
 use Rattle.mm_database.specs.Together.{are_together_at}
 
-module _ (db : List Statement) (b : BlockLists) (blocks : IsBlocks db b) (k : ℕ)
+module _ (db : List Statement) (b : BlockLists) (are_blocks : IsBlocks db b) (k : ℕ)
     (k_le_length : k ≤ length db) where
   -- a `$d` is active exactly if it is before k and its block is open there
   pub active_local_is_active : (j : ℕ) → list_any is_disjoint_statement (statement_at db j) ≡ true
@@ -29,7 +29,7 @@ module _ (db : List Statement) (b : BlockLists) (blocks : IsBlocks db b) (k : �
           ≡ (nat_lt j k && (list_any is_disjoint_statement (statement_at db j)
           && is_block_open db j k))
       by_order (inl j_lt_k) = ap (λ c. nat_lt j k && c)
-          (sym (ap₂ (λ p q. p && q) j_is_disjoint (blocks.open_up_to_end j k j_lt_k k_le_length)))
+          (sym (ap₂ (λ p q. p && q) j_is_disjoint (are_blocks.open_up_to_end j k j_lt_k k_le_length)))
       by_order (inr k_le_j) =
           ap (λ c. c && nat_le k (end_of b j)) (le-ltb j k k_le_j)
           ∙ sym (ap (λ c. c

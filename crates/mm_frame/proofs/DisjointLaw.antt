@@ -62,7 +62,7 @@ pub record AddsLater (by_statement : List (ℕ × ℕ)) (place at : ℕ)
         → has_pair pairs_so_far (get_or by_statement place (0, 0)).1
         (get_or by_statement p (0, 0)).1 ≡ true
 
-module _ (by_statement : List (ℕ × ℕ)) (rising : AreRising by_statement) (place : ℕ)
+module _ (by_statement : List (ℕ × ℕ)) (pairs_are_rising : AreRising by_statement) (place : ℕ)
     (place_lt_length : place < length by_statement) where
   -- the statement at the place
   abbrev j : ℕ
@@ -189,7 +189,7 @@ module _ (by_statement : List (ℕ × ℕ)) (rising : AreRising by_statement) (p
     where
       later_is_higher : (p : ℕ) → place < p → p < at → low < (get_or by_statement p (0, 0)).1
       later_is_higher p place_lt_p p_lt_at =
-          variable_lt (earlier_is_before by_statement rising place p (0, 0) place_lt_p
+          variable_lt (earlier_is_before by_statement pairs_are_rising place p (0, 0) place_lt_p
           (let at_le_length = adds.at_le_length in omega (arith, p_lt_at, at_le_length)))
         where
           variable_lt : IsBefore j low (get_or by_statement p (0, 0)).0
@@ -239,7 +239,8 @@ module _ (by_statement : List (ℕ × ℕ)) (rising : AreRising by_statement) (p
               omega (arith, variables_equal, low_lt_variable))
           place_lt_p (inr (inl place_order)) = place_order
           place_lt_p (inr (inr place_order)) =
-              absurd (not_before (earlier_is_before by_statement rising p place (0, 0) place_order
+              absurd (not_before (earlier_is_before by_statement pairs_are_rising p place (0, 0)
+              place_order
               place_lt_length))
 
           at_not_before : at < length by_statement → at ≤ p
@@ -264,7 +265,7 @@ module _ (by_statement : List (ℕ × ℕ)) (rising : AreRising by_statement) (p
                   ap (λ i. (get_or by_statement i (0, 0)).0) at_is_p in
                   omega (arith, statements_equal, statement_lt, statement_is_j)
               not_at_or_later (inr at_ne_p) =
-                  p_not_before (earlier_is_before by_statement rising at p (0, 0)
+                  p_not_before (earlier_is_before by_statement pairs_are_rising at p (0, 0)
                   (omega (arith, at_le_p, at_ne_p))
                   p_lt_length_by_statement)
 
@@ -272,7 +273,7 @@ module _ (by_statement : List (ℕ × ℕ)) (rising : AreRising by_statement) (p
           by_order (inl p_order) = p_order
           by_order (inr p_order) =
               absurd (at_not_before (omega (arith, p_order, p_lt_length_by_statement)) p_order
-              (earlier_is_before by_statement rising place at (0, 0) adds.place_lt_at
+              (earlier_is_before by_statement pairs_are_rising place at (0, 0) adds.place_lt_at
               (omega (arith, p_order, p_lt_length_by_statement))))
 
       right_to_left : (c : Bool) → has_pair earlier_pairs x y ≡ c
@@ -322,7 +323,7 @@ or_with_next_symbol false m q r l y s q_is_r = by_equality (cases_eq y s)
 
 -- ---- the mandatory pairs
 
-module _ (db : List Statement) (b : BlockLists) (blocks : IsBlocks db b) (k : ℕ)
+module _ (db : List Statement) (b : BlockLists) (are_blocks : IsBlocks db b) (k : ℕ)
     (k_le_length : k ≤ length db) (ps : List (ℕ × ℕ))
     (pairs_are_members : (x j : ℕ) → has_pair ps x j ≡ has_symbol db x j) (variables : List ℕ)
     (by_statement : List (ℕ × ℕ))
@@ -370,7 +371,7 @@ module _ (db : List Statement) (b : BlockLists) (blocks : IsBlocks db b) (k : �
               is_paired).0,
           (and_parts (list_any is_disjoint_statement (statement_at db j))
               (is_member (formula_at db j) y) j_has_y).1,
-          sym (active_local_is_active db b blocks k k_le_length j j_is_disjoint)
+          sym (active_local_is_active db b are_blocks k k_le_length j j_is_disjoint)
               ∙ (and_parts (has_pair ps y j) (is_active_local b j k) is_active_pair).1,
         )
 
@@ -379,11 +380,11 @@ module _ (db : List Statement) (b : BlockLists) (blocks : IsBlocks db b) (k : �
         → is_member (active_of is_disjoint_statement db k) j ≡ true → has_pair by_statement j y
         ≡ true
     active_member_is_paired j y y_is_member j_has_y j_is_active =
-        let j_is_disjoint = active_is_disjoint db b blocks k k_le_length j j_is_active in
+        let j_is_disjoint = active_is_disjoint db b are_blocks k k_le_length j j_is_active in
         paired_is j y
         ∙ ap₂ (λ p q. p && q) (variables_are y ∙ y_is_member)
         (ap₂ (λ p q. p && q) (pairs_are_members y j ∙ ap₂ (λ p q. p && q) j_is_disjoint j_has_y)
-        (active_local_is_active db b blocks k k_le_length j j_is_disjoint ∙ j_is_active))
+        (active_local_is_active db b are_blocks k k_le_length j j_is_disjoint ∙ j_is_active))
 
     left_to_right : (x y : ℕ) → together x y ≡ true
         → (wanted (pair x y)

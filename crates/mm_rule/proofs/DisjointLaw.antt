@@ -69,10 +69,11 @@ module _ (db : List Statement) (k : ℕ) where
       → All (λ (p : ℕ × ℕ). are_disjoint (context_at db k) p.0 p.1 ≡ true) ps
   frame_pairs_are_disjoint ps ps_are_mandatory =
       All-from_recursion (λ (p : ℕ × ℕ). are_disjoint (context_at db k) p.0 p.1 ≡ true) ps
-      (of_pairs ps (subst (AllByRecursion Is) (sym ps_are_mandatory) all_are_disjoint))
+      (each_pair_is_disjoint ps
+      (subst (AllByRecursion IsDisjointPair) (sym ps_are_mandatory) all_are_disjoint))
     where
-      Is : Pair → Type 0
-      Is p = are_disjoint (context_at db k) p.low p.high ≡ true
+      IsDisjointPair : Pair → Type 0
+      IsDisjointPair p = are_disjoint (context_at db k) p.low p.high ≡ true
 
       last_holds : (a b c d : Bool) → (a && b && c && d) ≡ true → d ≡ true
       last_holds true true true d all_hold = all_hold
@@ -85,16 +86,18 @@ module _ (db : List Statement) (k : ℕ) where
           nat_lt p.low p.high && is_member (mandatory_variables db k) p.low
           && is_member (mandatory_variables db k) p.high && disjoint_at db k p.low p.high
 
-      all_are_disjoint : AllByRecursion Is (mandatory_pairs db k)
+      all_are_disjoint : AllByRecursion IsDisjointPair (mandatory_pairs db k)
       all_are_disjoint =
-          each_filter Is in_order (pairs_of (length (symbol_names db)))
-          (each_any (λ p. in_order p ≡ true → Is p) (pairs_of (length (symbol_names db)))
+          each_filter IsDisjointPair in_order (pairs_of (length (symbol_names db)))
+          (each_any (λ p. in_order p ≡ true
+          → IsDisjointPair p) (pairs_of (length (symbol_names db)))
           (λ p p_is_in_order. disjoint_at_are_disjoint p.low p.high
           (last_holds (nat_lt p.low p.high) (is_member (mandatory_variables db k) p.low)
           (is_member (mandatory_variables db k) p.high)
           (disjoint_at db k p.low p.high) p_is_in_order)))
 
-      of_pairs : (ps : List (ℕ × ℕ)) → AllByRecursion Is (as_pairs ps)
+      each_pair_is_disjoint : (ps : List (ℕ × ℕ)) → AllByRecursion IsDisjointPair (as_pairs ps)
           → AllByRecursion (λ (p : ℕ × ℕ). are_disjoint (context_at db k) p.0 p.1 ≡ true) ps
-      of_pairs [] each_is_disjoint = tt
-      of_pairs (p ∷ ps) each_is_disjoint = (each_is_disjoint.0, of_pairs ps each_is_disjoint.1)
+      each_pair_is_disjoint [] each_is_disjoint = tt
+      each_pair_is_disjoint (p ∷ ps) each_is_disjoint =
+          (each_is_disjoint.0, each_pair_is_disjoint ps each_is_disjoint.1)

@@ -87,7 +87,7 @@ pub pairs_lt_symbol_count : (db : List Statement) (k : ℕ) (ps : List (ℕ × �
 pairs_lt_symbol_count db k ps ps_are_mandatory =
     All-from_recursion
     (λ (p : ℕ × ℕ). (p.0 < length (symbol_names db)) × (p.1 < length (symbol_names db))) ps
-    (of_pairs ps (subst (AllByRecursion IsLow) (sym ps_are_mandatory) mandatory_are_low))
+    (each_pair_is_low ps (subst (AllByRecursion IsLow) (sym ps_are_mandatory) mandatory_are_low))
   where
     IsLow : Pair → Type 0
     IsLow p = (p.low < length (symbol_names db)) × (p.high < length (symbol_names db))
@@ -110,8 +110,8 @@ pairs_lt_symbol_count db k ps ps_are_mandatory =
               members.1,
         )))
 
-    of_pairs : (ps : List (ℕ × ℕ)) → AllByRecursion IsLow (as_pairs ps)
+    each_pair_is_low : (ps : List (ℕ × ℕ)) → AllByRecursion IsLow (as_pairs ps)
         → AllByRecursion
         (λ (p : ℕ × ℕ). (p.0 < length (symbol_names db)) × (p.1 < length (symbol_names db))) ps
-    of_pairs [] each_is_low = tt
-    of_pairs (p ∷ ps) each_is_low = (each_is_low.0, of_pairs ps each_is_low.1)
+    each_pair_is_low [] each_is_low = tt
+    each_pair_is_low (p ∷ ps) each_is_low = (each_is_low.0, each_pair_is_low ps each_is_low.1)

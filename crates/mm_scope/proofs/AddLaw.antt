@@ -118,14 +118,14 @@ module _ (db : List Statement) (db_lt_never : length db < never) (w : Bytes) whe
       (entry_after (length db) (floating l k (c ∷ v ∷ []) e) w x)
   entry_after_floating l k c v e x x_is_entry no_fault = by_equality (bytes_eq v.word w) refl
     where
-      typed : (x : Option WordEntry) → IsEntryOf db w x → v.word ≡ w
+      typed_word_has_entry : (x : Option WordEntry) → IsEntryOf db w x → v.word ≡ w
           → IsEntryOf (db ++ floating l k (c ∷ v ∷ []) e ∷ []) w (typed_entry (length db) c.word x)
-      typed None x_is_entry v_is_w =
+      typed_word_has_entry None x_is_entry v_is_w =
           let untyped = faultless_floating_is_new n k c v no_fault in
           absurd (true≢false
           (sym (ap (λ u. is_in u n.active_variables) (sym v_is_w) ∙ untyped.0)
           ∙ no_active_statement_has_word db variables_of w x_is_entry.variable_is_known))
-      typed (Some o) x_is_entry v_is_w =
+      typed_word_has_entry (Some o) x_is_entry v_is_w =
           let untyped = faultless_floating_is_new n k c v no_fault in
           entry_of_typed_variable db (floating l k (c ∷ v ∷ []) e) w o x_is_entry db_lt_never c.word
           (sym (typed_word_is_typing w (active_statements db (length db)))
@@ -143,7 +143,8 @@ module _ (db : List Statement) (db_lt_never : length db < never) (w : Bytes) whe
       by_equality false v_eq_w =
           entry_is_unchanged db (floating l k (c ∷ v ∷ []) e) w x x_is_entry refl refl
           (ap (λ b. b || false) (bytes_eq_sym w v.word ∙ v_eq_w))
-      by_equality true v_eq_w = typed x x_is_entry ((bytes_eq-Decides v.word w).0 v_eq_w)
+      by_equality true v_eq_w =
+          typed_word_has_entry x x_is_entry ((bytes_eq-Decides v.word w).0 v_eq_w)
 
   -- what is known of the word after a lawful statement
   pub entry_after_statement : (s : Statement) (d : ℕ) (x : Option WordEntry) → IsEntryOf db w x
@@ -206,30 +207,39 @@ module _ (db : List Statement) (db_lt_never : length db < never) (w : Bytes) whe
           ∙ ap (λ b. is_some (if b then Some m else o)) (bytes_eq_sym w l.word)
 
 module _ (text : List ℕ) (ws : List spec.Word) (db : List Statement) (b : BlockLists)
-    (x : IsBlocks db b) (db_lt_never : length db < never) where
+    (are_blocks : IsBlocks db b) (db_lt_never : length db < never) where
   -- the blocks after a statement
   blocks_after : (k : Kind) (p m e : ℕ)
       → (is_closing (statement_between text ws k p m e) ≡ true → 0 < depth db (length db))
       → IsBlocks (db ++ statement_between text ws k p m e ∷ []) (pushed k b)
-  blocks_after kind.Open p m e deep =
-      blocks_after_opening db (statement_between text ws kind.Open p m e) b x db_lt_never refl refl
-  blocks_after kind.Close p m e deep =
-      blocks_after_closing db (statement_between text ws kind.Close p m e) b x db_lt_never refl refl
-      (deep refl)
-  blocks_after kind.Constants p m e deep =
-      blocks_after_other db (statement_between text ws kind.Constants p m e) b x db_lt_never refl refl
-  blocks_after kind.Variables p m e deep =
-      blocks_after_other db (statement_between text ws kind.Variables p m e) b x db_lt_never refl refl
-  blocks_after kind.Disjoint p m e deep =
-      blocks_after_other db (statement_between text ws kind.Disjoint p m e) b x db_lt_never refl refl
-  blocks_after kind.Floating p m e deep =
-      blocks_after_other db (statement_between text ws kind.Floating p m e) b x db_lt_never refl refl
-  blocks_after kind.Essential p m e deep =
-      blocks_after_other db (statement_between text ws kind.Essential p m e) b x db_lt_never refl refl
-  blocks_after kind.Axiom p m e deep =
-      blocks_after_other db (statement_between text ws kind.Axiom p m e) b x db_lt_never refl refl
-  blocks_after kind.Theorem p m e deep =
-      blocks_after_other db (statement_between text ws kind.Theorem p m e) b x db_lt_never refl refl
+  blocks_after kind.Open p m e closed_block_was_open =
+      blocks_after_opening db (statement_between text ws kind.Open p m e) b are_blocks db_lt_never
+      refl refl
+  blocks_after kind.Close p m e closed_block_was_open =
+      blocks_after_closing db (statement_between text ws kind.Close p m e) b are_blocks db_lt_never
+      refl refl
+      (closed_block_was_open refl)
+  blocks_after kind.Constants p m e closed_block_was_open =
+      blocks_after_other db (statement_between text ws kind.Constants p m e) b are_blocks db_lt_never
+      refl refl
+  blocks_after kind.Variables p m e closed_block_was_open =
+      blocks_after_other db (statement_between text ws kind.Variables p m e) b are_blocks db_lt_never
+      refl refl
+  blocks_after kind.Disjoint p m e closed_block_was_open =
+      blocks_after_other db (statement_between text ws kind.Disjoint p m e) b are_blocks db_lt_never
+      refl refl
+  blocks_after kind.Floating p m e closed_block_was_open =
+      blocks_after_other db (statement_between text ws kind.Floating p m e) b are_blocks db_lt_never
+      refl refl
+  blocks_after kind.Essential p m e closed_block_was_open =
+      blocks_after_other db (statement_between text ws kind.Essential p m e) b are_blocks db_lt_never
+      refl refl
+  blocks_after kind.Axiom p m e closed_block_was_open =
+      blocks_after_other db (statement_between text ws kind.Axiom p m e) b are_blocks db_lt_never
+      refl refl
+  blocks_after kind.Theorem p m e closed_block_was_open =
+      blocks_after_other db (statement_between text ws kind.Theorem p m e) b are_blocks db_lt_never
+      refl refl
 
 -- the code knows what it has to know after one lawful statement more
 pub knows_after_statement : (text : List ℕ) (ws : List spec.Word) (db : List Statement)

@@ -60,20 +60,25 @@ symbols_have_names db all_lawful k k_lt_length s s_is_statement_k =
     (sym (element_of_mapped (λ w. index_of w (symbol_names db)) ws i [] d
     i_lt_symbol_count)) index_lt_length)
 
--- ---- there are few
+-- ---- lengths
 
-within : (t u : Token) (xs : List Token) → length xs ≤ length (t ∷ (xs ++ u ∷ []))
-within t u xs = omega (arith, length-append xs (u ∷ []))
+-- a list is no longer than with one item before it and one after it
+length_le_with_two : (t u : Token) (xs : List Token) → length xs ≤ length (t ∷ (xs ++ u ∷ []))
+length_le_with_two t u xs = omega (arith, length-append xs (u ∷ []))
 
+-- a list is no longer than with two items before it and one after it
 length_le_with_three : (l t u : Token) (xs : List Token)
     → length xs ≤ length (l ∷ t ∷ (xs ++ u ∷ []))
 length_le_with_three l t u xs = omega (arith, length-append xs (u ∷ []))
 
 -- a statement's symbols are among its tokens
 symbols_spelled : (s : Statement) → length (symbols_of s) ≤ length (spelling_of s)
-symbols_spelled (constants k xs d) = within (token k (codes "$c")) (token d (codes "$.")) xs
-symbols_spelled (variables k xs d) = within (token k (codes "$v")) (token d (codes "$.")) xs
-symbols_spelled (disjoint k xs d) = within (token k (codes "$d")) (token d (codes "$.")) xs
+symbols_spelled (constants k xs d) =
+    length_le_with_two (token k (codes "$c")) (token d (codes "$.")) xs
+symbols_spelled (variables k xs d) =
+    length_le_with_two (token k (codes "$v")) (token d (codes "$.")) xs
+symbols_spelled (disjoint k xs d) =
+    length_le_with_two (token k (codes "$d")) (token d (codes "$.")) xs
 symbols_spelled (floating l k xs d) =
     length_le_with_three l (token k (codes "$f")) (token d (codes "$.")) xs
 symbols_spelled (essential l k xs d) =
@@ -109,14 +114,14 @@ declared_spelled (opening k) = omega arith
 declared_spelled (closing k) = omega arith
 
 -- if f gives no more of each statement than g, then no more of all of them
-shorter : {X Y : Type 0} (f : Statement → List X) (g : Statement → List Y)
+flat_map_no_longer : {X Y : Type 0} (f : Statement → List X) (g : Statement → List Y)
     → ((s : Statement) → length (f s) ≤ length (g s)) → (xs : List Statement)
     → length (flat_map f xs) ≤ length (flat_map g xs)
-shorter f g f_le_g [] = omega arith
-shorter f g f_le_g (x ∷ xs) =
+flat_map_no_longer f g f_le_g [] = omega arith
+flat_map_no_longer f g f_le_g (x ∷ xs) =
     let f_append_length = length-append (f x) (flat_map f xs) in
     let g_append_length = length-append (g x) (flat_map g xs) in
-    let fx_le_gx = f_le_g x in let rest_le = shorter f g f_le_g xs in
+    let fx_le_gx = f_le_g x in let rest_le = flat_map_no_longer f g f_le_g xs in
     omega (arith, f_append_length, g_append_length, fx_le_gx, rest_le)
 
 -- what f gives of the first statements is no more than what it gives of all
@@ -163,6 +168,6 @@ module _ (ts later_tokens : List Token) (list : List Statement)
       let names_le_words = first_occurrences_no_longer []
       (flat_map (λ s. constants_of s ++ variables_of s) db) in
       let words_le_spelling =
-      shorter (λ s. constants_of s ++ variables_of s) spelling_of declared_spelled db in
+      flat_map_no_longer (λ s. constants_of s ++ variables_of s) spelling_of declared_spelled db in
       let spelling_le_tokens = spelled_le_tokens in
       omega (arith, names_le_words, words_le_spelling, spelling_le_tokens)

@@ -10,16 +10,19 @@ use Rattle.mm_outline.specs.Parts.{between, token_at}
 use Rattle.mm_scope.specs.WordEntry.{WordEntry, entry_of, declared_entry}
 use Rattle.mm_scope.proofs.JudgeLaw.{in_between_push}
 
-twice : (v : Bool) (n : ℕ) (w : List ℕ) (e : Option WordEntry)
+-- declaring a word twice gives the same entry as declaring it once
+declared_twice_is_once : (v : Bool) (n : ℕ) (w : List ℕ) (e : Option WordEntry)
     → declared_entry v n w (declared_entry v n w e) ≡ declared_entry v n w e
-twice v n w None = refl
-twice v n w (Some e) = refl
+declared_twice_is_once v n w None = refl
+declared_twice_is_once v n w (Some e) = refl
 
 module _ (text : List ℕ) (ws : List Word) (from i : ℕ) (from_le_i : from ≤ i)
     (i_lt_length : i < length ws) where
+  -- the words up to i
   abbrev so_far : List (List ℕ)
   so_far = words (between text ws from i)
 
+  -- the word at i
   abbrev next_word : List ℕ
   next_word = (token_at text ws i).word
 
@@ -44,7 +47,7 @@ module _ (text : List ℕ) (ws : List Word) (from i : ℕ) (from_le_i : from ≤
     where
       declaring_after_choice_is_once : (b : Bool) (o : Option WordEntry)
           → declared_entry v n w (if b then declared_entry v n w o else o) ≡ declared_entry v n w o
-      declaring_after_choice_is_once true o = twice v n w o
+      declaring_after_choice_is_once true o = declared_twice_is_once v n w o
       declaring_after_choice_is_once false o = refl
 
       by_equality : (b : Bool) → bytes_eq next_word w ≡ b

@@ -29,10 +29,12 @@ abbrev pub lesser_fault : Option Fault → Option Fault → Option Fault
 lesser_fault None g = g
 lesser_fault (Some f) g = lesser f g
 
+-- the lesser of three faults doesn't depend on how they are grouped
 lesser_fault_assoc : (a b c : Option Fault)
     → lesser_fault (lesser_fault a b) c ≡ lesser_fault a (lesser_fault b c)
 lesser_fault_assoc a b c = grind (arith, nat_tests)
 
+-- the least fault of two lists is the lesser of their least faults
 least_append : (xs ys : List Fault) → least (xs ++ ys) ≡ lesser_fault (least xs) (least ys)
 least_append [] ys = refl
 least_append (f ∷ xs) ys =
@@ -160,6 +162,7 @@ between_is_two_tokens text ws k j j_le_length width_is_3 =
       nothing_between_place_and_itself text ws j,
     )
 
+-- a list without length is empty
 no_length_is_empty : (n : Names) (xs : List Token) → nat_eq (length xs) 0 ≡ is_empty n xs
 no_length_is_empty n [] = refl
 no_length_is_empty n (x ∷ xs) = grind arith

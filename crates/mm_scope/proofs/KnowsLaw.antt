@@ -56,7 +56,7 @@ never_is_not_open : (b : BlockLists) → length b.block_of ≤ never → is_open
 never_is_not_open b length_le_never =
     ap (λ o. is_never (end_in b.ends o)) (slice_get_past b.block_of never length_le_never)
 
-module _ (db : List Statement) (b : BlockLists) (x : IsBlocks db b)
+module _ (db : List Statement) (b : BlockLists) (are_blocks : IsBlocks db b)
     (db_lt_never : length db < never)
     (w : Bytes) where
   -- a word is an active variable exactly if its entry says so
@@ -73,7 +73,7 @@ module _ (db : List Statement) (b : BlockLists) (x : IsBlocks db b)
       by_test true is_variable_is_v =
           let last_declares_w = is_entry.declaration_is_latest is_variable_is_v in
           in_active_iff_latest_active db variables_of w s.declared last_declares_w
-          ∙ latest_active_is_open db b x db_lt_never variables_of w
+          ∙ latest_active_is_open db b are_blocks db_lt_never variables_of w
           (declarations_are_local w) s.declared last_declares_w
       by_test false is_variable_is_v =
           no_active_statement_has_word db variables_of w
@@ -94,12 +94,12 @@ module _ (db : List Statement) (b : BlockLists) (x : IsBlocks db b)
           no_active_statement_has_word db typed_words w
           (is_entry.untyped_has_no_typing typed_is_never)
           ∙ sym (ap (is_open_in b) typed_is_never
-          ∙ never_is_not_open b (let block_count = x.count in
+          ∙ never_is_not_open b (let block_count = are_blocks.count in
           omega (arith, block_count, db_lt_never)))
       by_case (inr typed_ne_never) =
           let last_types_w = is_entry.typing_is_latest typed_ne_never in
           in_active_iff_latest_active db typed_words w s.typed last_types_w
-          ∙ latest_active_is_open db b x db_lt_never typed_words w
+          ∙ latest_active_is_open db b are_blocks db_lt_never typed_words w
           (typings_are_local w) s.typed last_types_w
 
 constant_entry_is_constant_in : (o : Option Symbol)

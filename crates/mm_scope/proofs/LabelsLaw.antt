@@ -46,6 +46,7 @@ module _ (db : List Statement) (s : Statement) (find new : List ℕ → Option �
   abbrev at_label : ℕ → Option Token → Bytes → Bool
   at_label k o w = elim o [ None ↦ false | Some l ↦ bytes_eq l.word w ]
 
+  -- a statement before the last has the same label as without the last
   labelled_before_is_unchanged : (w : Bytes) (k : ℕ) → k < length db
       → list_any (is_labelled w) (statement_at (db ++ s ∷ []) k)
       ≡ list_any (is_labelled w) (statement_at db k)
@@ -53,6 +54,7 @@ module _ (db : List Statement) (s : Statement) (find new : List ℕ → Option �
       ap (λ o. list_any (is_labelled w) (elim o [ None ↦ [] | Some t ↦ t ∷ [] ]))
       (get_front db (s ∷ []) k k_lt_length)
 
+  -- the last statement is the new one
   labelled_at_last_is_labelled : (w : Bytes)
       → list_any (is_labelled w) (statement_at (db ++ s ∷ []) (length db)) ≡ is_labelled w s
   labelled_at_last_is_labelled w =

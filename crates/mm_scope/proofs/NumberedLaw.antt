@@ -125,36 +125,40 @@ maps_equal f g (x ∷ xs) values_equal =
 
 module _ (db : List Statement) (lawful : (k : ℕ) → k < length db → scope_fault db k ≡ None)
     (s : Statement) where
-  abbrev all : List Statement
-  all = db ++ s ∷ []
+  -- the database with one statement more
+  abbrev longer_db : List Statement
+  longer_db = db ++ s ∷ []
 
   -- a statement's formula is the same with one statement more
   formula_is_unchanged : (k : ℕ) (t : Statement) → slice_get db k ≡ Some t
-      → formula_of all t ≡ formula_of db t
+      → formula_of longer_db t ≡ formula_of db t
   formula_is_unchanged k t t_is_statement_k =
       let names_grow = symbol_names_grow db s in
-      indices_equal (symbol_names all) (symbol_names db) (words (symbols_of t))
+      indices_equal (symbol_names longer_db) (symbol_names db) (words (symbols_of t))
       (λ w w_in_symbols. ap (index_of w) names_grow.1
       ∙ index_of_in_front w (symbol_names db) names_grow.0
       (symbol_is_declared_name db lawful k (slice_get_within db k t t_is_statement_k) t
       t_is_statement_k w w_in_symbols))
 
-  formulas_push : map (formula_of db) db ++ formula_of all s ∷ [] ≡ map (formula_of all) all
+  -- the formulas of the longer database are those of the database and that of the new statement
+  formulas_push : map (formula_of db) db ++ formula_of longer_db s ∷ []
+      ≡ map (formula_of longer_db) longer_db
   formulas_push =
-      ap (λ fs. fs ++ formula_of all s ∷ [])
-      (maps_equal (formula_of db) (formula_of all) db
+      ap (λ fs. fs ++ formula_of longer_db s ∷ [])
+      (maps_equal (formula_of db) (formula_of longer_db) db
       (λ k t t_is_statement_k. sym (formula_is_unchanged k t t_is_statement_k)))
-      ∙ sym (map-append (formula_of all) db (s ∷ []))
+      ∙ sym (map-append (formula_of longer_db) db (s ∷ []))
 
   -- formulas of statements stay such with that of one statement more
   pub formulas_with_statement : (numbers places : List ℕ) → AreFormulas db numbers places
       → (added : List ℕ)
-      → added ≡ numbers ++ formula_of all s → AreFormulas all added (with_end places (length added))
+      → added ≡ numbers ++ formula_of longer_db s
+      → AreFormulas longer_db added (with_end places (length added))
   formulas_with_statement numbers places are_formulas added symbols_are_appended =
       rw symbols_are_appended
-      (subst (λ fs. AreJoined fs (numbers ++ formula_of all s)
-      (with_end places (length (numbers ++ formula_of all s)))) formulas_push
-      (joined_with_one_more (map (formula_of db) db) (formula_of all s) numbers places are_formulas))
+      (subst (λ fs. AreJoined fs (numbers ++ formula_of longer_db s)
+      (with_end places (length (numbers ++ formula_of longer_db s)))) formulas_push
+      (joined_with_one_more (map (formula_of db) db) (formula_of longer_db s) numbers places are_formulas))
 
 -- ---- the formulas one by one
 

@@ -9,7 +9,6 @@ use Rattle.mm_spec.specs.Statement.{disjoint, floating, essential, axiomatic, pr
 use Rattle.mm_spec.specs.Statement.{closing}
 use Rattle.mm_spec.specs.Scope.{depth, names_before}
 use Rattle.mm_spec.specs.Lawful.{scope_fault, scope_faults, least}
-use Rattle.mm_spec.specs.Lexed.{LexedText}
 use Rattle.mm_spec.specs.Output.{IsRead, StopsReading}
 use Rattle.mm_spec.specs.Laws.Table.{start, statements_from, statements_of, shape_fault_from}
 use Rattle.mm_spec.specs.Laws.Table.{progress_from}
@@ -46,9 +45,6 @@ pub record IsReadTo (text : List ℕ) (ws : List Word) (db : List Statement)
 
 module _ (text : List ℕ) (ws : List Word) (len : ℕ) (lexical : Option Fault) (db : List Statement)
     (open_blocks token_index : ℕ) (is_read_to : IsReadTo text ws db open_blocks token_index) where
-  abbrev x : LexedText
-  x = lexed text ws lexical
-
   -- an unlawful statement
   pub read_unlawful : (s : Statement) (d : ℕ) (us : List _)
       → Leads (start open_blocks) (tokens_from text ws token_index) (s ∷ []) (start d) us
@@ -191,6 +187,7 @@ closing_is_inside_block text ws db open_blocks token_index is_read_to s d us lea
     not_both (axiomatic l k xs d) s_is_closing = refl
     not_both (provable l k xs q ps d) s_is_closing = refl
 
+-- to take 1 away is to be one less
 minus_one_is_one_less : (d : ℕ) → d - 1 ≡ one_less d
 minus_one_is_one_less zero = omega arith
 minus_one_is_one_less (suc d) = omega arith

@@ -188,23 +188,23 @@ module _ (db : List Statement) (s : Statement) (w : Bytes) where
         other_typecode = other_typecode_after;
       }
     where
-      self : bytes_eq w w ≡ true
-      self = (bytes_eq-Decides w w).1 refl
+      w_is_w : bytes_eq w w ≡ true
+      w_is_w = (bytes_eq-Decides w w).1 refl
 
       s_has_typing : is_in w (typed_words s ++ []) ≡ true
       s_has_typing = ap (λ ts. is_in w (map (λ t. t.variable) ts ++ [])) s_types_w
-          ∙ ap (λ b. b || false) self
+          ∙ ap (λ b. b || false) w_is_w
 
       other_in_s : (d : Bytes) → list_any (gives_other_typecode d w) (typings_of s ++ [])
           ≡ not (bytes_eq d c)
       other_in_s d =
           ap (λ ts. list_any (gives_other_typecode d w) (ts ++ [])) s_types_w
-          ∙ ap (λ b. (b && not (bytes_eq d c)) || false) self ∙ or-false (not (bytes_eq d c))
+          ∙ ap (λ b. (b && not (bytes_eq d c)) || false) w_is_w ∙ or-false (not (bytes_eq d c))
 
-      absorbs : (a b y : Bool) → (a && b) ≡ false → ((a && y) || y) ≡ y
-      absorbs true b true a_and_b_is_false = refl
-      absorbs true b false a_and_b_is_false = refl
-      absorbs false b y a_and_b_is_false = refl
+      or_absorbs : (a b y : Bool) → (a && b) ≡ false → ((a && y) || y) ≡ y
+      or_absorbs true b true a_and_b_is_false = refl
+      or_absorbs true b false a_and_b_is_false = refl
+      or_absorbs false b y a_and_b_is_false = refl
 
       -- the typecode that an earlier `$f` gave is this one
       earlier_typecode_is_c : (d : Bytes) → (t : Bool) → nat_eq e.typed never ≡ t
@@ -219,11 +219,11 @@ module _ (db : List Statement) (s : Statement) (w : Bytes) where
           by_equality true equality_is_b typecode_is_same =
               ap (λ y. not (bytes_eq d y) || not (bytes_eq d c))
               (sym ((bytes_eq-Decides c e.typecode).0 equality_is_b))
-              ∙ twice (not (bytes_eq d c))
+              ∙ or_with_itself (not (bytes_eq d c))
             where
-              twice : (y : Bool) → (y || y) ≡ y
-              twice true = refl
-              twice false = refl
+              or_with_itself : (y : Bool) → (y || y) ≡ y
+              or_with_itself true = refl
+              or_with_itself false = refl
           by_equality false equality_is_b typecode_is_same = absurd (true≢false typecode_is_same)
 
       other_typecode_after : (d : Bytes)

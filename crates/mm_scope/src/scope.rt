@@ -248,8 +248,14 @@ impl<'a, A: Allocator + Copy> Scope<'a, A> {
     {
         let from = outline.keyword + 1;
         match outline.kind {
-            Kind::Constants => self.declare(text, tokens, outline, false, number),
-            Kind::Variables => self.declare(text, tokens, outline, true, number),
+            Kind::Constants => {
+                let is_variable = false;
+                self.declare(text, tokens, outline, is_variable, number)
+            }
+            Kind::Variables => {
+                let is_variable = true;
+                self.declare(text, tokens, outline, is_variable, number)
+            }
             Kind::Floating => {
                 self.give_label(text, tokens, outline.keyword, number)?;
                 if outline.middle - outline.keyword == 3 {

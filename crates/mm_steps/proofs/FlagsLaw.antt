@@ -55,14 +55,15 @@ pub flags_with_marked_step : (ps qs : List Placed) (p q : Placed) (j : ℕ) → 
     → p.is_marked ≡ false → step_by p.kind p.number ≡ marked j → j < length ps
     → placed_of q ≡ placed_of (get_or qs j no_step) → q.is_marked ≡ true
     → AreFlags (slice_set qs j q)
-flags_with_marked_step ps qs p q j old_flags is_appended not_marked repeats_j j_within same_step
+flags_with_marked_step ps qs p q j old_flags is_appended not_marked repeats_j j_lt_length
+    steps_equal
     q_is_marked i =
     by_equality (i == j) refl
   where
-    marked_now : is_marked (placed_steps (slice_set qs j q)) i
+    marked_after : is_marked (placed_steps (slice_set qs j q)) i
         ≡ (is_marked (placed_steps ps) i || (i == j))
-    marked_now =
-        ap (λ z. is_marked z i) (placed_steps_unchanged_by_set qs j q same_step)
+    marked_after =
+        ap (λ z. is_marked z i) (placed_steps_unchanged_by_set qs j q steps_equal)
         ∙ ap (λ z. is_marked (placed_steps z) i) is_appended
         ∙ marked_by_one_more ps p i
         ∙ ap (λ s. is_marked (placed_steps ps) i || takes_up i s) repeats_j
@@ -76,11 +77,12 @@ flags_with_marked_step ps qs p q j old_flags is_appended not_marked repeats_j j_
         (get_or-set_same qs j q no_step
         (let pushed_length = ap length is_appended in
         omega (arith, pushed_length, length-append ps (p ∷ []))))
-        ∙ q_is_marked ∙ sym (marked_now ∙ or_right (is_marked (placed_steps ps) i) (i == j) i_is_j)
+        ∙ q_is_marked ∙ sym (marked_after
+        ∙ or_right (is_marked (placed_steps ps) i) (i == j) i_is_j)
     by_equality false i_is_j =
         ap (λ z. z.is_marked)
         (get_or-set_other qs j i q no_step (λ i_eq_j. true≢false (sym (eq-eqb i j i_eq_j)
         ∙ i_is_j)))
         ∙ ap (λ z. (get_or z i no_step).is_marked) is_appended
         ∙ flag_unchanged_by_unmarked ps p i not_marked ∙ old_flags i
-        ∙ sym (marked_now ∙ or_with_false (is_marked (placed_steps ps) i) (i == j) i_is_j)
+        ∙ sym (marked_after ∙ or_with_false (is_marked (placed_steps ps) i) (i == j) i_is_j)

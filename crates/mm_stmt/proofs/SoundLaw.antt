@@ -46,8 +46,8 @@ known_lawful_is_sound db look labels b knows_statements statements_lt_2_31 lawfu
       no_constant_is_variable =
           λ w w_is_constant. let known_symbol =
           knows_statements.symbols w in
-          known_symbol.variable
-          ∙ constant_is_no_variable (entry_of (look w)) (sym known_symbol.constant ∙ w_is_constant);
+          known_symbol.variable_is_known
+          ∙ constant_is_no_variable (entry_of (look w)) (sym known_symbol.constant_is_known ∙ w_is_constant);
       symbols_have_numbers = symbols_have_numbers;
     }
 
@@ -93,10 +93,10 @@ are_symbols db look labels b knows_statements names kinds names_are counts_equal
     record {
       names_are = names_are;
       count = counts_equal;
-      variable = λ s s_lt_count.
+      variable_is_known = λ s s_lt_count.
           let w = get_or names s [] in
           let name_is = slice_get-get_or names s [] s_lt_count in
-          kinds_are s w name_is ∙ marked_as_known (look w) ∙ sym (knows_statements.symbols w).variable
+          kinds_are s w name_is ∙ marked_as_known (look w) ∙ sym (knows_statements.symbols w).variable_is_known
           ∙ ap (λ o. elim o [ None ↦ false | Some w ↦ is_in w (flat_map variables_of db) ])
           (sym name_is ∙ ap (λ xs. slice_get xs s) names_are);
     }
