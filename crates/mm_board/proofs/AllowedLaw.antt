@@ -56,7 +56,7 @@ joined_read_allowed n slots id me share_is_positive s r _ has_view _ = (
   tt,
   claim_word_step_keeps_rule n s r id me.0 me.0 has_view share_is_positive (get_or s.words 0 0)
       (reads_only n (get_or s.words 1 0) (get_or s.words 2 0) me.0
-      ((r.1.seats id me.0 has_view).floor share_is_positive)
+      ((r.1.seats_obey_rule id me.0 has_view).floor_le_seen share_is_positive)
       (get_or s.words 0 0)) me.1,
   (refl, refl, claim_word n s r id me.0 me.0 has_view share_is_positive),
 )
@@ -68,8 +68,9 @@ pub claim_allowed : (n slots id : ℕ) (me : TokenState) → n ≤ 2 ^ 31 → me
 claim_allowed n slots id me n_is_bounded nothing_open is_not_over share_is_positive s r _ has_view
     _ =
     let x : ℕ = get_or s.words 0 0 in
-    let over_shares_bound = over_shares_at_most_shares s.views in let shares_are = r.1.shares in
-    let claim_word_bound = r.1.bound in
+    let over_shares_bound = over_shares_at_most_shares s.views in
+    let shares_are = r.1.shares_are_most_seats in
+    let claim_word_bound = r.1.claim_word_is_bounded in
     let no_wrap : x + 1 ≡ (x + 1) % 2 ^ 64 = omega arith in (
       after_claim me.0 x,
       keeps,
@@ -94,7 +95,8 @@ claim_allowed n slots id me n_is_bounded nothing_open is_not_over share_is_posit
         (claim_word_step_keeps_rule n s r id me.0 _ has_view share_is_positive (x + 1)
         (rw (← x_is_word)
         (claims_number n (get_or s.words 1 0) (get_or s.words 2 0) me.0
-        ((r.1.seats id me.0 has_view).floor share_is_positive) x x_lt_n nothing_open is_not_over))
+        ((r.1.seats_obey_rule id me.0 has_view).floor_le_seen share_is_positive) x x_lt_n
+        nothing_open is_not_over))
         me.1)
     rule_by_claim_word x x_is_word (inr n_le_x) =
         let view_is : after_claim me.0 x ≡ record (me.0) { over = true } =
@@ -105,7 +107,8 @@ claim_allowed n slots id me n_is_bounded nothing_open is_not_over share_is_posit
         (claim_word_step_keeps_rule n s r id me.0 _ has_view share_is_positive (x + 1)
         (rw (← x_is_word)
         (claims_none n (get_or s.words 1 0) (get_or s.words 2 0) me.0
-        ((r.1.seats id me.0 has_view).floor share_is_positive) x n_le_x is_not_over
+        ((r.1.seats_obey_rule id me.0 has_view).floor_le_seen share_is_positive) x n_le_x
+        is_not_over
         share_is_positive)) me.1)
 
 pub look_allowed : (n slots id : ℕ) (me : TokenState) → 0 < me.0.share
@@ -131,7 +134,8 @@ look_allowed n slots id me share_is_positive s r _ has_view _ = (
         none_is_skipped))
         (floor_word_step_keeps_rule n s r id me.0 _ has_view share_is_positive (get_or s.words 1 0)
         (look_sees n (get_or s.words 1 0) (get_or s.words 2 0) me.0
-        ((r.1.seats id me.0 has_view).floor share_is_positive) (get_or s.words 0 0)) me.1)
+        ((r.1.seats_obey_rule id me.0 has_view).floor_le_seen share_is_positive)
+        (get_or s.words 0 0)) me.1)
 
     rule_by_floor_word : (i : ℕ) → me.0.open_number ≡ Some i → (get_or s.words 1 0 < i)
         ⊎ (i ≤ get_or s.words 1 0)
@@ -142,7 +146,8 @@ look_allowed n slots id me share_is_positive s r _ has_view _ = (
         (sym (look_with_skip me.0 (get_or s.words 1 0) i open_number_is floor_lt_i))
         (floor_word_step_keeps_rule n s r id me.0 _ has_view share_is_positive (get_or s.words 1 0)
         (look_skips n (get_or s.words 1 0) (get_or s.words 2 0) me.0
-        ((r.1.seats id me.0 has_view).floor share_is_positive) (get_or s.words 0 0) i floor_lt_i
+        ((r.1.seats_obey_rule id me.0 has_view).floor_le_seen share_is_positive)
+        (get_or s.words 0 0) i floor_lt_i
         open_number_is) me.1)
     rule_by_floor_word i open_number_is (inr i_le_floor) =
         rule_without_skip (Some i) open_number_is
@@ -177,7 +182,7 @@ report_allowed n slots id i me open_number_is share_is_positive s r _ has_view _
       subst (λ (w : View). MeetsRule n (stepped s 1 (min f i) id me.1 w keeps)) (sym view_is)
           (floor_word_step_keeps_rule n s r id me.0 _ has_view share_is_positive (min f i)
           (reports_number n f (get_or s.words 2 0) me.0
-          ((r.1.seats id me.0 has_view).floor share_is_positive)
+          ((r.1.seats_obey_rule id me.0 has_view).floor_le_seen share_is_positive)
           (get_or s.words 0 0) i open_number_is) me.1),
       (refl, refl, floor_word n s r id me.0 me.0 has_view share_is_positive),
     )
@@ -188,8 +193,9 @@ pub settle_allowed : (n slots id i : ℕ) (me : TokenState) → n ≤ 2 ^ 31
     (StepTells IsSettledWord after_settle (step slots 2 1 0 none) me)
 settle_allowed n slots id i me n_is_bounded open_number_is share_is_positive s r _ has_view _ =
     let d : ℕ = get_or s.words 2 0 in
-    let settled_le_recorded = settled_at_most_recorded s.views in let lengths_are = r.1.lengths in
-    let settled_word_is : d ≡ _ = r.1.settled in
+    let settled_le_recorded = settled_at_most_recorded s.views in
+    let lengths_are = r.1.record_lengths_are_claimed in
+    let settled_word_is : d ≡ _ = r.1.settled_word_is_count in
     let no_wrap : d + 1 ≡ (d + 1) % 2 ^ 64 = omega arith in
     let view_is : after_settle me.0 d
     ≡ record (me.0) { open_number = None; settled = me.0.settled ++ i ∷ [] } = ap
@@ -202,7 +208,7 @@ settle_allowed n slots id i me n_is_bounded open_number_is share_is_positive s r
           (subst (λ (w : View). MeetsRule n (stepped s 2 (d + 1) id me.1 w keeps)) (sym view_is)
           (settled_word_step_keeps_rule n s r id me.0 _ has_view share_is_positive (d + 1)
           (settles_number n (get_or s.words 1 0) d me.0
-          ((r.1.seats id me.0 has_view).floor share_is_positive)
+          ((r.1.seats_obey_rule id me.0 has_view).floor_le_seen share_is_positive)
           (get_or s.words 0 0) i open_number_is) me.1)),
       (refl, refl, settled_word n s r id me.0 me.0 has_view share_is_positive),
     )

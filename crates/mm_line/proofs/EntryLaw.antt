@@ -226,7 +226,7 @@ module _ (c : Command) (m : ArgMatches) (p : IsParsedFrom c m)
                 first_text_is (found_of m) id e.1 (reading_of q) _ matched_is reading
                 first_value_found.1;
             text_is_first = first_value_is (found_of m) id e.1 _ matched_is first_value_found.2;
-            accepted = accepts first_value_found.0.now first_value_found.3;
+            text_is_accepted = accepts first_value_found.0.now first_value_found.3;
           }
 
     pub default_is_read : IsReadWith id q a.ignore_case
