@@ -115,7 +115,7 @@ module _ (n c f d : ℕ) (views : List View) (v : View) (rule : BoardRule n c f 
         record {
           le_count = rule.floor_is_least_reported.le_count;
           le_each_reported =
-              λ y occurs. rule.floor_is_least_reported.le_each_reported y
+              λ y is_reported. rule.floor_is_least_reported.le_each_reported y
               (let reports_equal = same_times_reported y in
               omega arith);
           is_count_or_reported =
@@ -129,7 +129,7 @@ module _ (n c f d : ℕ) (views : List View) (v : View) (rule : BoardRule n c f 
         has_all_shares in
         omega arith;
     skipped_gt_floor =
-        λ x occurs. rule.skipped_gt_floor x
+        λ x is_skipped. rule.skipped_gt_floor x
         (let total_is_own_times : times_skipped views x
         ≡ times_in x v.skipped = total_is_own (λ (u : View). times_in x u.skipped)
         (λ u has_empty_record. ap (λ (l : List ℕ). times_in x l) has_empty_record.none_skipped)

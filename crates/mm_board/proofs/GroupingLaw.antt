@@ -44,7 +44,7 @@ module _ (n c f d : ℕ) (views after : List View) (rule : BoardRule n c f d vie
         record {
           le_count = rule.floor_is_least_reported.le_count;
           le_each_reported =
-              λ y occurs. rule.floor_is_least_reported.le_each_reported y
+              λ y is_reported. rule.floor_is_least_reported.le_each_reported y
               (let totals_equal = regroups.times_reported_kept y in
               omega arith);
           is_count_or_reported =
@@ -52,7 +52,7 @@ module _ (n c f d : ℕ) (views after : List View) (rule : BoardRule n c f d vie
         };
     settled_word_is_count = rule.settled_word_is_count ∙ sym regroups.settled_count_kept;
     skipped_gt_floor =
-        λ x occurs. rule.skipped_gt_floor x (let totals_equal = regroups.times_skipped_kept x in
+        λ x is_skipped. rule.skipped_gt_floor x (let totals_equal = regroups.times_skipped_kept x in
         omega arith);
     seats_obey_rule =
         λ seat v has_view. let seat_rule = regroups.seats_obey_rule seat v has_view in
@@ -83,9 +83,9 @@ total_after_split g views id v has_view parts_add_up =
 
 pub split_allowed : (n id : ℕ) (v : View) → 1 < v.share
     → Splits (MeetsRule n) id v (after_split v) (new_seat_view v)
-split_allowed n id v shares_to_give s r has_view = (
-  r.0,
-  rule_regrouped n _ _ _ s.views _ r.1 record {
+split_allowed n id v shares_to_give s meets_rule has_view = (
+  meets_rule.0,
+  rule_regrouped n _ _ _ s.views _ meets_rule.1 record {
     times_recorded_kept =
         λ x. total_after_split (times_recorded x) s.views id v has_view (record_split x);
     record_lengths_kept =
@@ -106,20 +106,21 @@ split_allowed n id v shares_to_give s r has_view = (
     seats_obey_rule =
         λ seat u has_view_after.
         elim (at_snoc (set s.views id (after_split v)) (new_seat_view v) u seat has_view_after) [
-          | inl h ↦ elim (at_set s.views id seat (after_split v) u h) [
-            | inl p ↦ subst (SeatRule n s.views (get_or s.words 0 0) (get_or s.words 1 0)) p.1
-                rule_of_old_seat
-            | inr p ↦ r.1.seats_obey_rule seat u p.1
+          | inl was_there ↦ elim (at_set s.views id seat (after_split v) u was_there) [
+            | inl is_split_seat ↦
+                subst (SeatRule n s.views (get_or s.words 0 0) (get_or s.words 1 0))
+                is_split_seat.1 rule_of_old_seat
+            | inr is_other_seat ↦ meets_rule.1.seats_obey_rule seat u is_other_seat.1
           ]
-          | inr h ↦
-              subst (SeatRule n s.views (get_or s.words 0 0) (get_or s.words 1 0)) h
+          | inr is_new_view ↦
+              subst (SeatRule n s.views (get_or s.words 0 0) (get_or s.words 1 0)) is_new_view
               rule_of_new_seat
         ];
   },
 )
   where
     old_seat_rule : SeatRule n s.views (get_or s.words 0 0) (get_or s.words 1 0) v
-    old_seat_rule = r.1.seats_obey_rule id v has_view
+    old_seat_rule = meets_rule.1.seats_obey_rule id v has_view
 
     record_split : (x : ℕ)
         → times_recorded x (after_split v) + times_recorded x (new_seat_view v) ≡ times_recorded x v
@@ -127,9 +128,8 @@ split_allowed n id v shares_to_give s r has_view = (
         let old_seat_keeps_record : times_recorded x (after_split v) ≡ times_recorded x v = refl in
         let new_seat_has_none : times_recorded x (new_seat_view v) ≡ 0 = refl in omega arith
 
-    over_share_split : (new_record_is_zero : Bool)
-        → cond new_record_is_zero (v.share - 1) 0 + cond new_record_is_zero 1 0
-        ≡ cond new_record_is_zero v.share 0
+    over_share_split : (over : Bool)
+        → cond over (v.share - 1) 0 + cond over 1 0 ≡ cond over v.share 0
     over_share_split true = omega arith
     over_share_split false = refl
 
@@ -195,10 +195,11 @@ split_keeps n v shares_to_give c f d before after rule_before =
 pub join_allowed : (n id : ℕ) (v : View) (other_id : ℕ) (w : View) → w.open_number ≡ None
     → 0 < v.share
     → 0 < w.share → Joins (MeetsRule n) id v other_id w (after_join v w) spent_view
-join_allowed n id v other_id w nothing_open first_share_positive second_share_positive s r has_view
+join_allowed n id v other_id w nothing_open first_share_positive second_share_positive s meets_rule
+    has_view
     ids_differ other_has_view = (
-      r.0,
-      rule_regrouped n _ _ _ s.views _ r.1 record {
+      meets_rule.0,
+      rule_regrouped n _ _ _ s.views _ meets_rule.1 record {
         times_recorded_kept =
             λ x. let totals_add_up =
             total_after_join (times_recorded x) s.views id v other_id w has_view other_has_view in
@@ -257,8 +258,7 @@ join_allowed n id v other_id w nothing_open first_share_positive second_share_po
         over_shares_do_not_fall =
             let totals_add_up =
             total_after_join over_share s.views id v other_id w has_view other_has_view in
-            let none_open_in_w =
-            over_share_joined v.over w.over in
+            let over_shares_add_up = over_share_joined v.over w.over in
             let spent_is_zero : over_share spent_view ≡ 0 =
             refl in
             let joined_is : over_share (after_join v w)
@@ -269,27 +269,30 @@ join_allowed n id v other_id w nothing_open first_share_positive second_share_po
             λ seat u has_view_after.
             elim (at_set (set s.views id (after_join v w)) other_id seat spent_view u
             has_view_after) [
-              | inl p ↦ subst (SeatRule n s.views (get_or s.words 0 0) (get_or s.words 1 0)) p.1
-                  rule_of_spent_seat
-              | inr p ↦ elim (at_set s.views id seat (after_join v w) u p.1) [
-                | inl q ↦ subst (SeatRule n s.views (get_or s.words 0 0) (get_or s.words 1 0)) q.1
-                    rule_of_joined_seat
-                | inr q ↦ r.1.seats_obey_rule seat u q.1
-              ]
+              | inl is_spent_seat ↦
+                  subst (SeatRule n s.views (get_or s.words 0 0) (get_or s.words 1 0))
+                  is_spent_seat.1 rule_of_spent_seat
+              | inr not_spent_seat ↦
+                  elim (at_set s.views id seat (after_join v w) u not_spent_seat.1) [
+                    | inl is_joined_seat ↦
+                        subst (SeatRule n s.views (get_or s.words 0 0) (get_or s.words 1 0))
+                        is_joined_seat.1 rule_of_joined_seat
+                    | inr is_other_seat ↦ meets_rule.1.seats_obey_rule seat u is_other_seat.1
+                  ]
             ];
       },
     )
   where
-    over_share_joined : (first_lists_add_up second_lists_add_up : Bool)
-        → cond first_lists_add_up v.share 0 + cond second_lists_add_up w.share 0
-        ≤ cond (first_lists_add_up || second_lists_add_up) (v.share + w.share) 0
+    over_share_joined : (first_over second_over : Bool)
+        → cond first_over v.share 0 + cond second_over w.share 0
+        ≤ cond (first_over || second_over) (v.share + w.share) 0
     over_share_joined true true = omega arith
     over_share_joined true false = omega arith
     over_share_joined false true = omega arith
     over_share_joined false false = omega arith
 
     first_seat_rule : SeatRule n s.views (get_or s.words 0 0) (get_or s.words 1 0) v
-    first_seat_rule = r.1.seats_obey_rule id v has_view
+    first_seat_rule = meets_rule.1.seats_obey_rule id v has_view
 
     second_seat_view : get_elem? s.views other_id ≡ some w
     second_seat_view =
@@ -300,7 +303,7 @@ join_allowed n id v other_id w nothing_open first_share_positive second_share_po
         ]
 
     second_seat_rule : SeatRule n s.views (get_or s.words 0 0) (get_or s.words 1 0) w
-    second_seat_rule = r.1.seats_obey_rule other_id w second_seat_view
+    second_seat_rule = meets_rule.1.seats_obey_rule other_id w second_seat_view
 
     rule_of_spent_seat : SeatRule n s.views (get_or s.words 0 0) (get_or s.words 1 0) spent_view
     rule_of_spent_seat =
@@ -326,10 +329,10 @@ join_allowed n id v other_id w nothing_open first_share_positive second_share_po
         let lesser_is : min v.seen w.seen ≡ w.seen = omega arith in
         rw lesser_is (second_seat_rule.seen_is_count_or_reported second_share_positive)
 
-    either_over : (first_lists_add_up second_lists_add_up : Bool) → v.over ≡ first_lists_add_up
-        → w.over ≡ second_lists_add_up → (first_lists_add_up || second_lists_add_up)
+    either_over : (first_flag second_flag : Bool) → v.over ≡ first_flag
+        → w.over ≡ second_flag → (first_flag || second_flag)
         ≡ true → n < get_or s.words 0 0
-    either_over true second_lists_add_up first_over second_over either_is_over =
+    either_over true second_flag first_over second_over either_is_over =
         first_seat_rule.over_only_past_count first_over
     either_over false true first_over second_over either_is_over =
         second_seat_rule.over_only_past_count second_over
