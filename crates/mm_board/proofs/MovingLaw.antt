@@ -129,11 +129,11 @@ module _ (n a b c a' b' c' : ℕ) (v w : View) (views : List View) (id : ℕ)
           subst (IsCountOrReported n after) (sym seen_is) new_floor_is_count_or_reported
 
       over_by_claim_word : (v.over ≡ true) ⊎ (n < a') → n < a'
-      over_by_claim_word (inl over_or_past) =
+      over_by_claim_word (inl was_over) =
           let old_word_gt_n =
-          (rule.seats_obey_rule id v has_view).over_only_past_count over_or_past in let word_rises =
+          (rule.seats_obey_rule id v has_view).over_only_past_count was_over in let word_rises =
           moves.claim_word_rises in omega arith
-      over_by_claim_word (inr over_or_past) = over_or_past
+      over_by_claim_word (inr n_lt_claim_word) = n_lt_claim_word
 
   rule_of_other_seat : (u : View) → SeatRule n views a b u → SeatRule n after a' b' u
   rule_of_other_seat u seat_rule = record {

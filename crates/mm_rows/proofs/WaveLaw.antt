@@ -88,13 +88,13 @@ wave_with_citation c waves i cited n wave r is_file_order i_lt_theorems are_wave
         above_by_place (cases_eq m n)
       where
         above_by_place : (m ≡ n) ⊎ (m ≡ n → ⊥) → get_or waves s 0 + 1 ≤ x
-        above_by_place (inl m_is_or_not_n) =
+        above_by_place (inl m_is_n) =
             let s_is_r : s ≡ r =
             index_is_unique c.theorems s r is_file_order.rising s_lt_theorems r_lt_theorems
-            (theorem_is_cited ∙ ap (λ k. get_or cited k 0) m_is_or_not_n
+            (theorem_is_cited ∙ ap (λ k. get_or cited k 0) m_is_n
             ∙ sym r_is_cited) in
             subst (λ k. get_or waves k 0 + 1 ≤ x) (sym s_is_r) x_above_r
-        above_by_place (inr m_is_or_not_n) =
+        above_by_place (inr m_is_not_n) =
             let wave_is_above_cited =
             wave_before.wave_is_above m s (omega arith) s_lt_theorems theorem_is_cited in
             omega (arith, wave_is_above_cited, wave_le_x)
@@ -144,11 +144,11 @@ wave_without_citation c waves i cited n wave cites_no_theorem wave_before =
     above_by_place : (m r : ℕ) → m < n + 1 → r < length c.theorems
         → theorem_at c r ≡ get_or cited m 0
         → (m ≡ n) ⊎ (m ≡ n → ⊥) → get_or waves r 0 + 1 ≤ wave
-    above_by_place m r m_lt_next r_lt_theorems theorem_is_cited (inl m_is_or_not_n) =
+    above_by_place m r m_lt_next r_lt_theorems theorem_is_cited (inl m_is_n) =
         absurd
         (cites_no_theorem r r_lt_theorems
-        (theorem_is_cited ∙ ap (λ k. get_or cited k 0) m_is_or_not_n))
-    above_by_place m r m_lt_next r_lt_theorems theorem_is_cited (inr m_is_or_not_n) =
+        (theorem_is_cited ∙ ap (λ k. get_or cited k 0) m_is_n))
+    above_by_place m r m_lt_next r_lt_theorems theorem_is_cited (inr m_is_not_n) =
         wave_before.wave_is_above m r (omega arith) r_lt_theorems theorem_is_cited
 
 -- the wave from all citations of theorem i is its wave
