@@ -42,9 +42,9 @@ not_some_option_is_none (Some x) is_none = absurd (true≢false (sym is_none))
 -- what a simple argument leaves out
 pub record LeavesOptionsOut (a : Arg) : Type 0 where
   pub no_default_ifs : a.default_vals_ifs.items ≡ []
-  pub groups : a.groups.items ≡ []
-  pub val_delim : a.val_delim ≡ None
-  pub global : a.global ≡ false
+  pub no_groups : a.groups.items ≡ []
+  pub no_delimiter : a.val_delim ≡ None
+  pub not_global : a.global ≡ false
 
 -- each test of `is_simple_arg` passes, in its order; `from_` names the tests from one on
 pub simple_leaves_out : (a : Arg) → is_simple_arg a ≡ true → LeavesOptionsOut a
@@ -62,11 +62,11 @@ simple_leaves_out a is_simple_a =
       no_default_ifs =
           empty_is_nil a.default_vals_ifs.items
           (and_parts (is_empty a.default_vals_ifs.items) _ from_ifs).0;
-      groups = empty_is_nil a.groups.items (and_parts (is_empty a.groups.items) _ from_groups).0;
-      val_delim =
+      no_groups = empty_is_nil a.groups.items (and_parts (is_empty a.groups.items) _ from_groups).0;
+      no_delimiter =
           not_some_option_is_none a.val_delim
           (and_parts (not (is_some a.val_delim)) _ from_delimiter).0;
-      global = not-true a.global from_global;
+      not_global = not-true a.global from_global;
     }
 
 -- the argument at a place, and its rule
@@ -195,7 +195,7 @@ module _ (c : Command) (m : ArgMatches) (p : IsParsedFrom c m)
                   absurd (omega arith)
               | inr has ↦
                   let absurd_equation : false ≡ true =
-                  rw (rules_agree.val_delim, (simple_leaves_out a d.simple).val_delim) at has in
+                  rw (rules_agree.val_delim, (simple_leaves_out a d.simple).no_delimiter) at has in
                   cc
             ]
       ]
