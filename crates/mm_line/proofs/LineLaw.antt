@@ -373,9 +373,8 @@ module _ (names forms : Bor (List (Bor Text))) where
               is_not_automatic =
                   λ is_automatic. is_not_automatic
                   (elim is_automatic [
-                    | inl h ↦ inl (sym id_of_argument_is ∙ h)
-                    | inr h ↦ inr
-                        (sym id_of_argument_is ∙ h)
+                    | inl is_help ↦ inl (sym id_of_argument_is ∙ is_help)
+                    | inr is_version ↦ inr (sym id_of_argument_is ∙ is_version)
                   ]);
             },
             ap (λ (r : Rule). r.ignore_case) rule_is,
@@ -393,9 +392,8 @@ module _ (names forms : Bor (List (Bor Text))) where
             (listed_index_is_only the_rules file_rule (codes "workers") 0 refl)
             (tested_different_differ _ _ refl)
             (λ is_automatic_id. elim is_automatic_id [
-              | inl h ↦ tested_different_differ _ _ refl h
-              | inr h ↦ tested_different_differ _ _ refl
-                  h
+              | inl is_help ↦ tested_different_differ _ _ refl is_help
+              | inr is_version ↦ tested_different_differ _ _ refl is_version
             ]) in
             let default_read =
             default_is_read c m p has_no_globals built_has_none 0 argument.0 (codes "workers")
@@ -410,9 +408,8 @@ module _ (names forms : Bor (List (Bor Text))) where
             (listed_index_is_only the_rules file_rule (codes "pieces") 1 refl)
             (tested_different_differ _ _ refl)
             (λ is_automatic_id. elim is_automatic_id [
-              | inl h ↦ tested_different_differ _ _ refl h
-              | inr h ↦ tested_different_differ _ _ refl
-                  h
+              | inl is_help ↦ tested_different_differ _ _ refl is_help
+              | inr is_version ↦ tested_different_differ _ _ refl is_version
             ]) in
             let default_read =
             default_is_read c m p has_no_globals built_has_none 1 argument.0 (codes "pieces")
@@ -427,9 +424,8 @@ module _ (names forms : Bor (List (Bor Text))) where
             (listed_index_is_only the_rules file_rule (codes "report") 3 refl)
             (tested_different_differ _ _ refl)
             (λ is_automatic_id. elim is_automatic_id [
-              | inl h ↦ tested_different_differ _ _ refl h
-              | inr h ↦ tested_different_differ _ _ refl
-                  h
+              | inl is_help ↦ tested_different_differ _ _ refl is_help
+              | inr is_version ↦ tested_different_differ _ _ refl is_version
             ]) in
             let default_read =
             default_is_read c m p has_no_globals built_has_none 3 argument.0 (codes "report")
@@ -453,9 +449,8 @@ module _ (names forms : Bor (List (Bor Text))) where
             (listed_index_is_only the_rules file_rule (codes "form") 4 refl)
             (tested_different_differ _ _ refl)
             (λ is_automatic_id. elim is_automatic_id [
-              | inl h ↦ tested_different_differ _ _ refl h
-              | inr h ↦ tested_different_differ _ _ refl
-                  h
+              | inl is_help ↦ tested_different_differ _ _ refl is_help
+              | inr is_version ↦ tested_different_differ _ _ refl is_version
             ]) in
             let default_read =
             default_is_read c m p has_no_globals built_has_none 4 argument.0 (codes "form")
