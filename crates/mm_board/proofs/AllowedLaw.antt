@@ -50,26 +50,29 @@ look_with_skip v f i open_number_is f_lt_i =
 pub joined_read_allowed : (n slots id : ℕ) (me : TokenState) → 0 < me.0.share
     → Allows (MeetsRule n) slots id me 0 (λ x. x)
     (StepTells IsClaimWord unchanged_view (step slots 0 0 0 none) me)
-joined_read_allowed n slots id me share_is_positive s r _ has_view _ = (
+joined_read_allowed n slots id me share_is_positive s meets_rule _ has_view _ = (
   me.0,
   keeps,
   tt,
-  claim_word_step_keeps_rule n s r id me.0 me.0 has_view share_is_positive (get_or s.words 0 0)
+  claim_word_step_keeps_rule n s meets_rule id me.0 me.0 has_view share_is_positive
+      (get_or s.words 0 0)
       (reads_only n (get_or s.words 1 0) (get_or s.words 2 0) me.0
-      ((r.1.seats id me.0 has_view).floor share_is_positive)
+      ((meets_rule.1.seats_obey_rule id me.0 has_view).floor_le_seen share_is_positive)
       (get_or s.words 0 0)) me.1,
-  (refl, refl, claim_word n s r id me.0 me.0 has_view share_is_positive),
+  (refl, refl, claim_word n s meets_rule id me.0 me.0 has_view share_is_positive),
 )
 
 pub claim_allowed : (n slots id : ℕ) (me : TokenState) → n ≤ 2 ^ 31 → me.0.open_number ≡ None
     → me.0.over ≡ false → 0 < me.0.share
     → Allows (MeetsRule n) slots id me 0 (λ x. (x + 1) % 2 ^ 64)
     (StepTells IsClaimWord after_claim (step slots 0 1 0 none) me)
-claim_allowed n slots id me n_is_bounded nothing_open is_not_over share_is_positive s r _ has_view
+claim_allowed n slots id me n_is_bounded nothing_open is_not_over share_is_positive s meets_rule _
+    has_view
     _ =
     let x : ℕ = get_or s.words 0 0 in
-    let over_shares_bound = over_shares_at_most_shares s.views in let shares_are = r.1.shares in
-    let claim_word_bound = r.1.bound in
+    let over_shares_bound = over_shares_at_most_shares s.views in
+    let shares_are = meets_rule.1.shares_are_most_seats in
+    let claim_word_bound = meets_rule.1.claim_word_is_bounded in
     let no_wrap : x + 1 ≡ (x + 1) % 2 ^ 64 = omega arith in (
       after_claim me.0 x,
       keeps,
@@ -77,11 +80,11 @@ claim_allowed n slots id me n_is_bounded nothing_open is_not_over share_is_posit
       subst
           (λ (z : ℕ). MeetsRule n (stepped s 0 z id me.1 (after_claim me.0 x) keeps)) no_wrap
           (rule_by_claim_word x refl (cases_lt x n)),
-      (refl, refl, claim_word n s r id me.0 me.0 has_view share_is_positive),
+      (refl, refl, claim_word n s meets_rule id me.0 me.0 has_view share_is_positive),
     )
   where
     count_is_n : me.0.count ≡ n
-    count_is_n = count_is n s r id me.0 me.0 has_view share_is_positive
+    count_is_n = count_is n s meets_rule id me.0 me.0 has_view share_is_positive
 
     rule_by_claim_word : (x : ℕ) → x ≡ get_or s.words 0 0 → (x < n) ⊎ (n ≤ x)
         → MeetsRule n (stepped s 0 (x + 1) id me.1 (after_claim me.0 x) keeps)
@@ -91,10 +94,11 @@ claim_allowed n slots id me n_is_bounded nothing_open is_not_over share_is_posit
         (record (me.0) { over = true })) (lt-ltb x me.0.count (let counts_equal = count_is_n in
         omega arith)) in
         subst (λ (w : View). MeetsRule n (stepped s 0 (x + 1) id me.1 w keeps)) (sym view_is)
-        (claim_word_step_keeps_rule n s r id me.0 _ has_view share_is_positive (x + 1)
+        (claim_word_step_keeps_rule n s meets_rule id me.0 _ has_view share_is_positive (x + 1)
         (rw (← x_is_word)
         (claims_number n (get_or s.words 1 0) (get_or s.words 2 0) me.0
-        ((r.1.seats id me.0 has_view).floor share_is_positive) x x_lt_n nothing_open is_not_over))
+        ((meets_rule.1.seats_obey_rule id me.0 has_view).floor_le_seen share_is_positive) x x_lt_n
+        nothing_open is_not_over))
         me.1)
     rule_by_claim_word x x_is_word (inr n_le_x) =
         let view_is : after_claim me.0 x ≡ record (me.0) { over = true } =
@@ -102,21 +106,22 @@ claim_allowed n slots id me n_is_bounded nothing_open is_not_over share_is_posit
         (record (me.0) { over = true })) (le-ltb x me.0.count (let counts_equal = count_is_n in
         omega arith)) in
         subst (λ (w : View). MeetsRule n (stepped s 0 (x + 1) id me.1 w keeps)) (sym view_is)
-        (claim_word_step_keeps_rule n s r id me.0 _ has_view share_is_positive (x + 1)
+        (claim_word_step_keeps_rule n s meets_rule id me.0 _ has_view share_is_positive (x + 1)
         (rw (← x_is_word)
         (claims_none n (get_or s.words 1 0) (get_or s.words 2 0) me.0
-        ((r.1.seats id me.0 has_view).floor share_is_positive) x n_le_x is_not_over
+        ((meets_rule.1.seats_obey_rule id me.0 has_view).floor_le_seen share_is_positive) x n_le_x
+        is_not_over
         share_is_positive)) me.1)
 
 pub look_allowed : (n slots id : ℕ) (me : TokenState) → 0 < me.0.share
     → Allows (MeetsRule n) slots id me 1 (λ x. x)
     (StepTells IsFloorWord after_look (step slots 1 0 0 none) me)
-look_allowed n slots id me share_is_positive s r _ has_view _ = (
+look_allowed n slots id me share_is_positive s meets_rule _ has_view _ = (
   after_look me.0 (get_or s.words 1 0),
   keeps,
   tt,
   rule_by_open_number me.0.open_number refl,
-  (refl, refl, floor_word n s r id me.0 me.0 has_view share_is_positive),
+  (refl, refl, floor_word n s meets_rule id me.0 me.0 has_view share_is_positive),
 )
   where
     rule_without_skip : (o : Option ℕ) → me.0.open_number ≡ o
@@ -129,9 +134,11 @@ look_allowed n slots id me share_is_positive s r _ has_view _ = (
         subst (λ (w : View). MeetsRule n (stepped s 1 (get_or s.words 1 0) id me.1 w keeps))
         (sym (look_without_skip me.0 (get_or s.words 1 0) o open_number_is open_number_is_kept
         none_is_skipped))
-        (floor_word_step_keeps_rule n s r id me.0 _ has_view share_is_positive (get_or s.words 1 0)
+        (floor_word_step_keeps_rule n s meets_rule id me.0 _ has_view share_is_positive
+        (get_or s.words 1 0)
         (look_sees n (get_or s.words 1 0) (get_or s.words 2 0) me.0
-        ((r.1.seats id me.0 has_view).floor share_is_positive) (get_or s.words 0 0)) me.1)
+        ((meets_rule.1.seats_obey_rule id me.0 has_view).floor_le_seen share_is_positive)
+        (get_or s.words 0 0)) me.1)
 
     rule_by_floor_word : (i : ℕ) → me.0.open_number ≡ Some i → (get_or s.words 1 0 < i)
         ⊎ (i ≤ get_or s.words 1 0)
@@ -140,9 +147,11 @@ look_allowed n slots id me share_is_positive s r _ has_view _ = (
     rule_by_floor_word i open_number_is (inl floor_lt_i) =
         subst (λ (w : View). MeetsRule n (stepped s 1 (get_or s.words 1 0) id me.1 w keeps))
         (sym (look_with_skip me.0 (get_or s.words 1 0) i open_number_is floor_lt_i))
-        (floor_word_step_keeps_rule n s r id me.0 _ has_view share_is_positive (get_or s.words 1 0)
+        (floor_word_step_keeps_rule n s meets_rule id me.0 _ has_view share_is_positive
+        (get_or s.words 1 0)
         (look_skips n (get_or s.words 1 0) (get_or s.words 2 0) me.0
-        ((r.1.seats id me.0 has_view).floor share_is_positive) (get_or s.words 0 0) i floor_lt_i
+        ((meets_rule.1.seats_obey_rule id me.0 has_view).floor_le_seen share_is_positive)
+        (get_or s.words 0 0) i floor_lt_i
         open_number_is) me.1)
     rule_by_floor_word i open_number_is (inr i_le_floor) =
         rule_without_skip (Some i) open_number_is
@@ -160,7 +169,7 @@ pub report_allowed : (n slots id i : ℕ) (me : TokenState) → me.0.open_number
     → 0 < me.0.share
     → Allows (MeetsRule n) slots id me 1 (λ x. min x i)
     (StepTells IsFloorWord after_report (step slots 1 i 0 none) me)
-report_allowed n slots id i me open_number_is share_is_positive s r _ has_view _ =
+report_allowed n slots id i me open_number_is share_is_positive s meets_rule _ has_view _ =
     let f : ℕ = get_or s.words 1 0 in
     let view_is : after_report me.0 f
     ≡ record
@@ -175,21 +184,23 @@ report_allowed n slots id i me open_number_is share_is_positive s r _ has_view _
       keeps,
       tt,
       subst (λ (w : View). MeetsRule n (stepped s 1 (min f i) id me.1 w keeps)) (sym view_is)
-          (floor_word_step_keeps_rule n s r id me.0 _ has_view share_is_positive (min f i)
+          (floor_word_step_keeps_rule n s meets_rule id me.0 _ has_view share_is_positive (min f i)
           (reports_number n f (get_or s.words 2 0) me.0
-          ((r.1.seats id me.0 has_view).floor share_is_positive)
+          ((meets_rule.1.seats_obey_rule id me.0 has_view).floor_le_seen share_is_positive)
           (get_or s.words 0 0) i open_number_is) me.1),
-      (refl, refl, floor_word n s r id me.0 me.0 has_view share_is_positive),
+      (refl, refl, floor_word n s meets_rule id me.0 me.0 has_view share_is_positive),
     )
 
 pub settle_allowed : (n slots id i : ℕ) (me : TokenState) → n ≤ 2 ^ 31
     → me.0.open_number ≡ Some i → 0 < me.0.share
     → Allows (MeetsRule n) slots id me 2 (λ x. (x + 1) % 2 ^ 64)
     (StepTells IsSettledWord after_settle (step slots 2 1 0 none) me)
-settle_allowed n slots id i me n_is_bounded open_number_is share_is_positive s r _ has_view _ =
+settle_allowed n slots id i me n_is_bounded open_number_is share_is_positive s meets_rule _ has_view
+    _ =
     let d : ℕ = get_or s.words 2 0 in
-    let settled_le_recorded = settled_at_most_recorded s.views in let lengths_are = r.1.lengths in
-    let settled_word_is : d ≡ _ = r.1.settled in
+    let settled_le_recorded = settled_at_most_recorded s.views in
+    let lengths_are = meets_rule.1.record_lengths_are_claimed in
+    let settled_word_is : d ≡ _ = meets_rule.1.settled_word_is_count in
     let no_wrap : d + 1 ≡ (d + 1) % 2 ^ 64 = omega arith in
     let view_is : after_settle me.0 d
     ≡ record (me.0) { open_number = None; settled = me.0.settled ++ i ∷ [] } = ap
@@ -200,9 +211,9 @@ settle_allowed n slots id i me n_is_bounded open_number_is share_is_positive s r
       tt,
       subst (λ (z : ℕ). MeetsRule n (stepped s 2 z id me.1 (after_settle me.0 d) keeps)) no_wrap
           (subst (λ (w : View). MeetsRule n (stepped s 2 (d + 1) id me.1 w keeps)) (sym view_is)
-          (settled_word_step_keeps_rule n s r id me.0 _ has_view share_is_positive (d + 1)
+          (settled_word_step_keeps_rule n s meets_rule id me.0 _ has_view share_is_positive (d + 1)
           (settles_number n (get_or s.words 1 0) d me.0
-          ((r.1.seats id me.0 has_view).floor share_is_positive)
+          ((meets_rule.1.seats_obey_rule id me.0 has_view).floor_le_seen share_is_positive)
           (get_or s.words 0 0) i open_number_is) me.1)),
-      (refl, refl, settled_word n s r id me.0 me.0 has_view share_is_positive),
+      (refl, refl, settled_word n s meets_rule id me.0 me.0 has_view share_is_positive),
     )

@@ -25,20 +25,20 @@ module _ (n c f d : ℕ) (views : List View) (v : View) (rule : BoardRule n c f 
   pub recorded_lt_claim_word : (x : ℕ) → 0 < times_recorded x v → x < min c n
   recorded_lt_claim_word x is_recorded =
       let times_le_total = one_at_most_total (times_recorded x) views seat_view.0 v seat_view.1 in
-      let total_is_once = rule.once x in
+      let total_is_once = rule.each_recorded_once x in
       below_by_once x (min c n) (omega arith)
 
   pub recorded_at_most_once : (x : ℕ) → times_recorded x v ≤ 1
   recorded_at_most_once x =
       let times_le_total = one_at_most_total (times_recorded x) views seat_view.0 v seat_view.1 in
-      let total_is_once = rule.once x in
+      let total_is_once = rule.each_recorded_once x in
       let once_le_one = once_below_at_most_one x (min c n) in omega arith
 
   pub share_at_most_all : v.share ≤ 64
   share_at_most_all =
       let share_le_total =
       one_at_most_total (λ (u : View). u.share) views seat_view.0 v seat_view.1 in
-      let shares_are = rule.shares in
+      let shares_are = rule.shares_are_most_seats in
       omega arith
 
   pub floor_at_most_reported : (x : ℕ) → 0 < times_in x v.reported → f ≤ x
@@ -46,24 +46,26 @@ module _ (n c f d : ℕ) (views : List View) (v : View) (rule : BoardRule n c f 
       let times_le_total : times_in x v.reported
       ≤ times_reported views x = one_at_most_total
       (λ (u : View). times_in x u.reported) views seat_view.0 v seat_view.1 in
-      rule.least.le_each_reported x (omega arith)
+      rule.floor_is_least_reported.le_each_reported x (omega arith)
 
   pub floor_at_most_seen : 0 < v.share → f ≤ v.seen
   floor_at_most_seen share_is_positive =
-      (rule.seats seat_view.0 v seat_view.1).floor share_is_positive
+      (rule.seats_obey_rule seat_view.0 v seat_view.1).floor_le_seen share_is_positive
 
   pub settled_at_most_count : d ≤ n
   settled_at_most_count =
-      let settled_le_recorded = settled_at_most_recorded views in let lengths_are = rule.lengths in
+      let settled_le_recorded = settled_at_most_recorded views in
+      let lengths_are = rule.record_lengths_are_claimed in
       let settled_is =
-      rule.settled in omega arith
+      rule.settled_word_is_count in omega arith
 
   -- a seat of all shares: its record is that of all seats
   total_is_own : (g : View → ℕ) → ((u : View) → HasEmptyRecord u → g u ≡ 0) → v.share ≡ 64
       → total g views ≡ g v
   total_is_own g empty_gives_zero has_all_shares =
-      total_of_only_seat g views seat_view.0 v seat_view.1 (rule.shares ∙ sym has_all_shares)
-      (λ j u at z. empty_gives_zero u ((rule.seats j u at).spent z))
+      total_of_only_seat g views seat_view.0 v seat_view.1
+      (rule.shares_are_most_seats ∙ sym has_all_shares)
+      (λ j u at z. empty_gives_zero u ((rule.seats_obey_rule j u at).spent_has_empty_record z))
 
   spent_over_share : (u : View) → u.share ≡ 0 → over_share u ≡ 0
   spent_over_share u share_is_zero =
@@ -101,45 +103,46 @@ module _ (n c f d : ℕ) (views : List View) (v : View) (rule : BoardRule n c f 
   -- the rule of all seats is then the rule of that one seat
   pub rule_of_whole_seat : v.share ≡ 64 → BoardRule n c f d (v ∷ [])
   rule_of_whole_seat has_all_shares = record {
-    once =
-        λ x. let total_over_all = rule.once x in
+    each_recorded_once =
+        λ x. let total_over_all = rule.each_recorded_once x in
         let total_is_own_times = total_is_own (times_recorded x) (empty_record x) has_all_shares in
         omega arith;
-    lengths =
-        let total_over_all = rule.lengths in
+    record_lengths_are_claimed =
+        let total_over_all = rule.record_lengths_are_claimed in
         let total_is_own_times = total_is_own record_length empty_length has_all_shares in
         omega arith;
-    least =
+    floor_is_least_reported =
         record {
-          le_count = rule.least.le_count;
+          le_count = rule.floor_is_least_reported.le_count;
           le_each_reported =
-              λ y occurs. rule.least.le_each_reported y
+              λ y is_reported. rule.floor_is_least_reported.le_each_reported y
               (let reports_equal = same_times_reported y in
               omega arith);
-          is_count_or_reported = stays_count_or_reported f rule.least.is_count_or_reported;
+          is_count_or_reported =
+              stays_count_or_reported f rule.floor_is_least_reported.is_count_or_reported;
         };
-    settled =
-        let total_over_all : d ≡ settled_count views = rule.settled in
+    settled_word_is_count =
+        let total_over_all : d ≡ settled_count views = rule.settled_word_is_count in
         let total_is_own_times : settled_count views
         ≡ length v.settled = total_is_own (λ (u : View). length u.settled)
         (λ u has_empty_record. ap (λ (l : List ℕ). length l) has_empty_record.none_settled)
         has_all_shares in
         omega arith;
-    skipped =
-        λ x occurs. rule.skipped x
+    skipped_gt_floor =
+        λ x is_skipped. rule.skipped_gt_floor x
         (let total_is_own_times : times_skipped views x
         ≡ times_in x v.skipped = total_is_own (λ (u : View). times_in x u.skipped)
         (λ u has_empty_record. ap (λ (l : List ℕ). times_in x l) has_empty_record.none_skipped)
         has_all_shares in
         let single_total_is : times_skipped (v ∷ []) x ≡ times_in x v.skipped + 0 = refl in
         omega arith);
-    seats = rules_of_only_seat;
-    shares = omega arith;
-    bound =
-        let claim_word_bound = rule.bound in
+    seats_obey_rule = rules_of_only_seat;
+    shares_are_most_seats = omega arith;
+    claim_word_is_bounded =
+        let claim_word_bound = rule.claim_word_is_bounded in
         let total_is_own_times =
         total_of_only_seat over_share views seat_view.0 v seat_view.1
-        (rule.shares ∙ sym has_all_shares)
+        (rule.shares_are_most_seats ∙ sym has_all_shares)
         (λ j u there share_is_zero. spent_over_share u share_is_zero) in
         omega arith;
   }
@@ -161,13 +164,15 @@ module _ (n c f d : ℕ) (views : List View) (v : View) (rule : BoardRule n c f 
 
       rule_of_only_seat : SeatRule n (v ∷ []) c f v
       rule_of_only_seat =
-          let seat_rule = rule.seats seat_view.0 v seat_view.1 in
+          let seat_rule = rule.seats_obey_rule seat_view.0 v seat_view.1 in
           record {
-            count = seat_rule.count;
-            floor = seat_rule.floor;
-            seen = λ occurs. stays_count_or_reported v.seen (seat_rule.seen occurs);
-            over = seat_rule.over;
-            spent = seat_rule.spent;
+            count_is_n = seat_rule.count_is_n;
+            floor_le_seen = seat_rule.floor_le_seen;
+            seen_is_count_or_reported =
+                λ share_is_positive. stays_count_or_reported v.seen
+                (seat_rule.seen_is_count_or_reported share_is_positive);
+            over_only_past_count = seat_rule.over_only_past_count;
+            spent_has_empty_record = seat_rule.spent_has_empty_record;
           }
 
       rules_of_only_seat : (seat : ℕ) (u : View) → get_elem? (v ∷ []) seat ≡ some u
@@ -177,11 +182,11 @@ module _ (n c f d : ℕ) (views : List View) (v : View) (rule : BoardRule n c f 
       rules_of_only_seat (suc seat) u has_view = absurd (some-ne-none u (sym has_view))
 
   pub floor_of_whole_seat : v.share ≡ 64 → IsLeastReported n (v ∷ []) f
-  floor_of_whole_seat has_all_shares = (rule_of_whole_seat has_all_shares).least
+  floor_of_whole_seat has_all_shares = (rule_of_whole_seat has_all_shares).floor_is_least_reported
 
   pub settled_of_whole_seat : v.share ≡ 64 → d ≡ length v.settled
   settled_of_whole_seat has_all_shares =
-      let settled_is = (rule_of_whole_seat has_all_shares).settled in
+      let settled_is = (rule_of_whole_seat has_all_shares).settled_word_is_count in
       let single_total_is : settled_count (v ∷ []) ≡ length v.settled + 0 = refl in omega arith
 
   pub whole_seat_has_settled_all : v.share ≡ 64 → v.over ≡ true → v.open_number ≡ None → (x : ℕ)
@@ -189,10 +194,12 @@ module _ (n c f d : ℕ) (views : List View) (v : View) (rule : BoardRule n c f 
       → times_in x v.settled ≡ 1
   whole_seat_has_settled_all has_all_shares is_over nothing_open x x_lt_floor =
       let own_rule = rule_of_whole_seat has_all_shares in
-      let claim_word_gt_n = (rule.seats seat_view.0 v seat_view.1).over is_over in
-      let floor_le_n = rule.least.le_count in
+      let claim_word_gt_n =
+      (rule.seats_obey_rule seat_view.0 v seat_view.1).over_only_past_count is_over in
+      let floor_le_n = rule.floor_is_least_reported.le_count in
       let once_is_one = once_below_is_one x (min c n) (omega arith) in
-      let recorded_once : times_recorded x v + 0 ≡ once_below x (min c n) = own_rule.once x in
+      let recorded_once : times_recorded x v + 0 ≡ once_below x (min c n) =
+      own_rule.each_recorded_once x in
       let none_open_there : times_open x v.open_number ≡ 0 =
       ap (λ (q : Option ℕ). times_open x q) nothing_open in
       let record_is : times_recorded x v
@@ -215,7 +222,7 @@ module _ (n c f d : ℕ) (views : List View) (v : View) (rule : BoardRule n c f 
             let times_le_total : times_in x v.skipped ≤ times_skipped views x =
             one_at_most_total (λ (u : View). times_in x u.skipped) views seat_view.0 v
             seat_view.1 in
-            let skipped_gt_floor = rule.skipped x (omega arith) in absurd (omega arith)
+            let skipped_gt_floor = rule.skipped_gt_floor x (omega arith) in absurd (omega arith)
       ]
 
 pub joined_records_are_disjoint : (v w : View) (x : ℕ) → w.open_number ≡ None
@@ -263,7 +270,7 @@ floor_under_seen v f is_floor_word share_is_positive =
     is_floor_word.4 share_is_positive
 
 pub floor_under_count : (v : View) (f : ℕ) → IsFloorWord v f → f ≤ v.count
-floor_under_count v f is_floor_word = is_floor_word.3.least.le_count
+floor_under_count v f is_floor_word = is_floor_word.3.floor_is_least_reported.le_count
 
 pub floor_under_reported : (v : View) (f x : ℕ) → IsFloorWord v f → 0
     < times_in x v.reported → f ≤ x

@@ -18,47 +18,57 @@ use Rattle.mm_board.proofs.SumsLaw.{total_after_set, total_of_appended, times_in
 
 -- The views become others, over which each total is the same
 record Regroups (n c f : ℕ) (views views_after : List View) : Type 0 where
-  once : (x : ℕ) → total (times_recorded x) views_after ≡ total (times_recorded x) views
-  lengths : total record_length views_after ≡ total record_length views
-  reported : (x : ℕ) → times_reported views_after x ≡ times_reported views x
-  settled : settled_count views_after ≡ settled_count views
-  skipped : (x : ℕ) → times_skipped views_after x ≡ times_skipped views x
-  shares : total (λ v. v.share) views_after ≡ total (λ v. v.share) views
-  over : total over_share views ≤ total over_share views_after
-  seats : (seat : ℕ) (v : View) → get_elem? views_after seat ≡ some v → SeatRule n views c f v
+  times_recorded_kept : (x : ℕ)
+      → total (times_recorded x) views_after ≡ total (times_recorded x) views
+  record_lengths_kept : total record_length views_after ≡ total record_length views
+  times_reported_kept : (x : ℕ) → times_reported views_after x ≡ times_reported views x
+  settled_count_kept : settled_count views_after ≡ settled_count views
+  times_skipped_kept : (x : ℕ) → times_skipped views_after x ≡ times_skipped views x
+  shares_kept : total (λ v. v.share) views_after ≡ total (λ v. v.share) views
+  over_shares_do_not_fall : total over_share views ≤ total over_share views_after
+  seats_obey_rule : (seat : ℕ) (v : View) → get_elem? views_after seat ≡ some v
+      → SeatRule n views c f v
 
 module _ (n c f d : ℕ) (views after : List View) (rule : BoardRule n c f d views)
     (regroups : Regroups n c f views after) where
   stays_count_or_reported : (x : ℕ) → IsCountOrReported n views x → IsCountOrReported n after x
   stays_count_or_reported x (inl x_is_n) = inl x_is_n
   stays_count_or_reported x (inr is_reported) =
-      inr (let reports_equal = regroups.reported x in omega arith)
+      inr (let reports_equal = regroups.times_reported_kept x in omega arith)
 
   rule_regrouped : BoardRule n c f d after
   rule_regrouped = record {
-    once = λ x. regroups.once x ∙ rule.once x;
-    lengths = regroups.lengths ∙ rule.lengths;
-    least =
+    each_recorded_once = λ x. regroups.times_recorded_kept x ∙ rule.each_recorded_once x;
+    record_lengths_are_claimed = regroups.record_lengths_kept ∙ rule.record_lengths_are_claimed;
+    floor_is_least_reported =
         record {
-          le_count = rule.least.le_count;
+          le_count = rule.floor_is_least_reported.le_count;
           le_each_reported =
-              λ y occurs. rule.least.le_each_reported y (let totals_equal = regroups.reported y in
+              λ y is_reported. rule.floor_is_least_reported.le_each_reported y
+              (let totals_equal = regroups.times_reported_kept y in
               omega arith);
-          is_count_or_reported = stays_count_or_reported f rule.least.is_count_or_reported;
+          is_count_or_reported =
+              stays_count_or_reported f rule.floor_is_least_reported.is_count_or_reported;
         };
-    settled = rule.settled ∙ sym regroups.settled;
-    skipped = λ x occurs. rule.skipped x (let totals_equal = regroups.skipped x in omega arith);
-    seats =
-        λ seat v has_view. let regrouped_fact = regroups.seats seat v has_view in
+    settled_word_is_count = rule.settled_word_is_count ∙ sym regroups.settled_count_kept;
+    skipped_gt_floor =
+        λ x is_skipped. rule.skipped_gt_floor x (let totals_equal = regroups.times_skipped_kept x in
+        omega arith);
+    seats_obey_rule =
+        λ seat v has_view. let seat_rule = regroups.seats_obey_rule seat v has_view in
         record {
-          count = regrouped_fact.count;
-          floor = regrouped_fact.floor;
-          seen = λ occurs. stays_count_or_reported v.seen (regrouped_fact.seen occurs);
-          over = regrouped_fact.over;
-          spent = regrouped_fact.spent;
+          count_is_n = seat_rule.count_is_n;
+          floor_le_seen = seat_rule.floor_le_seen;
+          seen_is_count_or_reported =
+              λ share_is_positive. stays_count_or_reported v.seen
+              (seat_rule.seen_is_count_or_reported share_is_positive);
+          over_only_past_count = seat_rule.over_only_past_count;
+          spent_has_empty_record = seat_rule.spent_has_empty_record;
         };
-    shares = regroups.shares ∙ rule.shares;
-    bound = let regrouped_fact = regroups.over in let claim_word_bound = rule.bound in omega arith;
+    shares_are_most_seats = regroups.shares_kept ∙ rule.shares_are_most_seats;
+    claim_word_is_bounded =
+        let over_shares_do_not_fall = regroups.over_shares_do_not_fall in
+        let claim_word_bound = rule.claim_word_is_bounded in omega arith;
   }
 
 -- a total after a split
@@ -73,40 +83,44 @@ total_after_split g views id v has_view parts_add_up =
 
 pub split_allowed : (n id : ℕ) (v : View) → 1 < v.share
     → Splits (MeetsRule n) id v (after_split v) (new_seat_view v)
-split_allowed n id v shares_to_give s r has_view = (
-  r.0,
-  rule_regrouped n _ _ _ s.views _ r.1 record {
-    once = λ x. total_after_split (times_recorded x) s.views id v has_view (record_split x);
-    lengths =
+split_allowed n id v shares_to_give s meets_rule has_view = (
+  meets_rule.0,
+  rule_regrouped n _ _ _ s.views _ meets_rule.1 record {
+    times_recorded_kept =
+        λ x. total_after_split (times_recorded x) s.views id v has_view (record_split x);
+    record_lengths_kept =
         total_after_split record_length s.views id v has_view
         (let record_is_kept : record_length (after_split v) ≡ record_length v = refl in
         let new_record_is_zero : record_length (new_seat_view v) ≡ 0 = refl in omega arith);
-    reported =
+    times_reported_kept =
         λ x. total_after_split (λ u. times_in x u.reported) s.views id v has_view (omega arith);
-    settled = total_after_split (λ u. length u.settled) s.views id v has_view (omega arith);
-    skipped =
+    settled_count_kept =
+        total_after_split (λ u. length u.settled) s.views id v has_view (omega arith);
+    times_skipped_kept =
         λ x. total_after_split (λ u. times_in x u.skipped) s.views id v has_view (omega arith);
-    shares = total_after_split (λ u. u.share) s.views id v has_view (omega arith);
-    over =
+    shares_kept = total_after_split (λ u. u.share) s.views id v has_view (omega arith);
+    over_shares_do_not_fall =
         let over_shares_add_up =
         total_after_split over_share s.views id v has_view (over_share_split v.over) in
         omega arith;
-    seats =
+    seats_obey_rule =
         λ seat u has_view_after.
         elim (at_snoc (set s.views id (after_split v)) (new_seat_view v) u seat has_view_after) [
-          | inl h ↦ elim (at_set s.views id seat (after_split v) u h) [
-            | inl p ↦ subst (SeatRule n s.views (get_or s.words 0 0) (get_or s.words 1 0)) p.1
-                rule_of_old_seat
-            | inr p ↦ r.1.seats seat u p.1
+          | inl was_there ↦ elim (at_set s.views id seat (after_split v) u was_there) [
+            | inl is_split_seat ↦
+                subst (SeatRule n s.views (get_or s.words 0 0) (get_or s.words 1 0))
+                is_split_seat.1 rule_of_old_seat
+            | inr is_other_seat ↦ meets_rule.1.seats_obey_rule seat u is_other_seat.1
           ]
-          | inr h ↦
-              subst (SeatRule n s.views (get_or s.words 0 0) (get_or s.words 1 0)) h rule_of_new_seat
+          | inr is_new_view ↦
+              subst (SeatRule n s.views (get_or s.words 0 0) (get_or s.words 1 0)) is_new_view
+              rule_of_new_seat
         ];
   },
 )
   where
     old_seat_rule : SeatRule n s.views (get_or s.words 0 0) (get_or s.words 1 0) v
-    old_seat_rule = r.1.seats id v has_view
+    old_seat_rule = meets_rule.1.seats_obey_rule id v has_view
 
     record_split : (x : ℕ)
         → times_recorded x (after_split v) + times_recorded x (new_seat_view v) ≡ times_recorded x v
@@ -114,9 +128,8 @@ split_allowed n id v shares_to_give s r has_view = (
         let old_seat_keeps_record : times_recorded x (after_split v) ≡ times_recorded x v = refl in
         let new_seat_has_none : times_recorded x (new_seat_view v) ≡ 0 = refl in omega arith
 
-    over_share_split : (new_record_is_zero : Bool)
-        → cond new_record_is_zero (v.share - 1) 0 + cond new_record_is_zero 1 0
-        ≡ cond new_record_is_zero v.share 0
+    over_share_split : (over : Bool)
+        → cond over (v.share - 1) 0 + cond over 1 0 ≡ cond over v.share 0
     over_share_split true = omega arith
     over_share_split false = refl
 
@@ -124,11 +137,12 @@ split_allowed n id v shares_to_give s r has_view = (
     rule_of_old_seat =
         let share_is_positive : 0 < v.share = omega arith in
         record {
-          count = λ share_is_positive_there. old_seat_rule.count share_is_positive;
-          floor = λ share_is_positive_there. old_seat_rule.floor share_is_positive;
-          seen = λ share_is_positive_there. old_seat_rule.seen share_is_positive;
-          over = old_seat_rule.over;
-          spent = λ has_view_after. absurd (omega arith);
+          count_is_n = λ share_is_positive_after. old_seat_rule.count_is_n share_is_positive;
+          floor_le_seen = λ share_is_positive_after. old_seat_rule.floor_le_seen share_is_positive;
+          seen_is_count_or_reported =
+              λ share_is_positive_after. old_seat_rule.seen_is_count_or_reported share_is_positive;
+          over_only_past_count = old_seat_rule.over_only_past_count;
+          spent_has_empty_record = λ share_is_zero. absurd (omega arith);
         }
 
     rule_of_new_seat : SeatRule n s.views (get_or s.words 0 0) (get_or s.words 1 0)
@@ -136,11 +150,12 @@ split_allowed n id v shares_to_give s r has_view = (
     rule_of_new_seat =
         let share_is_positive : 0 < v.share = omega arith in
         record {
-          count = λ share_is_positive_there. old_seat_rule.count share_is_positive;
-          floor = λ share_is_positive_there. old_seat_rule.floor share_is_positive;
-          seen = λ share_is_positive_there. old_seat_rule.seen share_is_positive;
-          over = old_seat_rule.over;
-          spent = λ has_view_after. absurd (omega arith);
+          count_is_n = λ share_is_positive_after. old_seat_rule.count_is_n share_is_positive;
+          floor_le_seen = λ share_is_positive_after. old_seat_rule.floor_le_seen share_is_positive;
+          seen_is_count_or_reported =
+              λ share_is_positive_after. old_seat_rule.seen_is_count_or_reported share_is_positive;
+          over_only_past_count = old_seat_rule.over_only_past_count;
+          spent_has_empty_record = λ share_is_zero. absurd (omega arith);
         }
 
 -- a total after a join
@@ -180,11 +195,12 @@ split_keeps n v shares_to_give c f d before after rule_before =
 pub join_allowed : (n id : ℕ) (v : View) (other_id : ℕ) (w : View) → w.open_number ≡ None
     → 0 < v.share
     → 0 < w.share → Joins (MeetsRule n) id v other_id w (after_join v w) spent_view
-join_allowed n id v other_id w nothing_open first_share_positive second_share_positive s r has_view
+join_allowed n id v other_id w nothing_open first_share_positive second_share_positive s meets_rule
+    has_view
     ids_differ other_has_view = (
-      r.0,
-      rule_regrouped n _ _ _ s.views _ r.1 record {
-        once =
+      meets_rule.0,
+      rule_regrouped n _ _ _ s.views _ meets_rule.1 record {
+        times_recorded_kept =
             λ x. let totals_add_up =
             total_after_join (times_recorded x) s.views id v other_id w has_view other_has_view in
             let first_lists_add_up = times_in_append x v.settled w.settled in
@@ -202,7 +218,7 @@ join_allowed n id v other_id w nothing_open first_share_positive second_share_po
             ≡ times_open x w.open_number + times_in x w.settled + times_in x w.reported
             + times_in x w.skipped = refl in
             let spent_is_zero : times_recorded x spent_view ≡ 0 = refl in omega arith;
-        lengths =
+        record_lengths_kept =
             let totals_add_up =
             total_after_join record_length s.views id v other_id w has_view other_has_view in
             let first_lists_add_up = length-append v.settled w.settled in
@@ -220,59 +236,63 @@ join_allowed n id v other_id w nothing_open first_share_positive second_share_po
             ≡ open_count w.open_number + length w.settled + length w.reported
             + length w.skipped = refl in
             let spent_is_zero : record_length spent_view ≡ 0 = refl in omega arith;
-        reported =
+        times_reported_kept =
             λ x. let totals_add_up =
             total_after_join (λ u. times_in x u.reported) s.views id v other_id w has_view
             other_has_view in
             let first_lists_add_up = times_in_append x v.reported w.reported in omega arith;
-        settled =
+        settled_count_kept =
             let totals_add_up =
-            total_after_join (λ u. length u.settled) s.views id v other_id w has_view other_has_view in
+            total_after_join (λ u. length u.settled) s.views id v other_id w has_view
+            other_has_view in
             let first_lists_add_up = length-append v.settled w.settled in omega arith;
-        skipped =
+        times_skipped_kept =
             λ x. let totals_add_up =
             total_after_join (λ u. times_in x u.skipped) s.views id v other_id w has_view
             other_has_view in
             let first_lists_add_up = times_in_append x v.skipped w.skipped in omega arith;
-        shares =
+        shares_kept =
             let totals_add_up =
             total_after_join (λ u. u.share) s.views id v other_id w has_view other_has_view in
             omega arith;
-        over =
+        over_shares_do_not_fall =
             let totals_add_up =
             total_after_join over_share s.views id v other_id w has_view other_has_view in
-            let none_open_in_w =
-            over_share_joined v.over w.over in
+            let over_shares_add_up = over_share_joined v.over w.over in
             let spent_is_zero : over_share spent_view ≡ 0 =
             refl in
             let joined_is : over_share (after_join v w)
             ≡ cond (v.over || w.over) (v.share + w.share) 0 = refl in
             let first_is : over_share v ≡ cond v.over v.share 0 = refl in
             let second_is : over_share w ≡ cond w.over w.share 0 = refl in omega arith;
-        seats =
+        seats_obey_rule =
             λ seat u has_view_after.
-            elim (at_set (set s.views id (after_join v w)) other_id seat spent_view u has_view_after) [
-              | inl p ↦ subst (SeatRule n s.views (get_or s.words 0 0) (get_or s.words 1 0)) p.1
-                  rule_of_spent_seat
-              | inr p ↦ elim (at_set s.views id seat (after_join v w) u p.1) [
-                | inl q ↦ subst (SeatRule n s.views (get_or s.words 0 0) (get_or s.words 1 0)) q.1
-                    rule_of_joined_seat
-                | inr q ↦ r.1.seats seat u q.1
-              ]
+            elim (at_set (set s.views id (after_join v w)) other_id seat spent_view u
+            has_view_after) [
+              | inl is_spent_seat ↦
+                  subst (SeatRule n s.views (get_or s.words 0 0) (get_or s.words 1 0))
+                  is_spent_seat.1 rule_of_spent_seat
+              | inr not_spent_seat ↦
+                  elim (at_set s.views id seat (after_join v w) u not_spent_seat.1) [
+                    | inl is_joined_seat ↦
+                        subst (SeatRule n s.views (get_or s.words 0 0) (get_or s.words 1 0))
+                        is_joined_seat.1 rule_of_joined_seat
+                    | inr is_other_seat ↦ meets_rule.1.seats_obey_rule seat u is_other_seat.1
+                  ]
             ];
       },
     )
   where
-    over_share_joined : (first_lists_add_up second_lists_add_up : Bool)
-        → cond first_lists_add_up v.share 0 + cond second_lists_add_up w.share 0
-        ≤ cond (first_lists_add_up || second_lists_add_up) (v.share + w.share) 0
+    over_share_joined : (first_over second_over : Bool)
+        → cond first_over v.share 0 + cond second_over w.share 0
+        ≤ cond (first_over || second_over) (v.share + w.share) 0
     over_share_joined true true = omega arith
     over_share_joined true false = omega arith
     over_share_joined false true = omega arith
     over_share_joined false false = omega arith
 
     first_seat_rule : SeatRule n s.views (get_or s.words 0 0) (get_or s.words 1 0) v
-    first_seat_rule = r.1.seats id v has_view
+    first_seat_rule = meets_rule.1.seats_obey_rule id v has_view
 
     second_seat_view : get_elem? s.views other_id ≡ some w
     second_seat_view =
@@ -283,16 +303,16 @@ join_allowed n id v other_id w nothing_open first_share_positive second_share_po
         ]
 
     second_seat_rule : SeatRule n s.views (get_or s.words 0 0) (get_or s.words 1 0) w
-    second_seat_rule = r.1.seats other_id w second_seat_view
+    second_seat_rule = meets_rule.1.seats_obey_rule other_id w second_seat_view
 
     rule_of_spent_seat : SeatRule n s.views (get_or s.words 0 0) (get_or s.words 1 0) spent_view
     rule_of_spent_seat =
         record {
-          count = λ share_is_positive. absurd (omega arith);
-          floor = λ share_is_positive. absurd (omega arith);
-          seen = λ share_is_positive. absurd (omega arith);
-          over = λ has_view_after. absurd (cc);
-          spent = λ has_view_after. record {
+          count_is_n = λ share_is_positive. absurd (omega arith);
+          floor_le_seen = λ share_is_positive. absurd (omega arith);
+          seen_is_count_or_reported = λ share_is_positive. absurd (omega arith);
+          over_only_past_count = λ is_over_after. absurd (cc);
+          spent_has_empty_record = λ share_is_zero. record {
             nothing_open = refl;
             none_settled = refl;
             none_reported = refl;
@@ -304,29 +324,30 @@ join_allowed n id v other_id w nothing_open first_share_positive second_share_po
         (min v.seen w.seen)
     seen_of_joined (inl first_saw_less) =
         let lesser_is : min v.seen w.seen ≡ v.seen = omega arith in
-        rw lesser_is (first_seat_rule.seen first_share_positive)
+        rw lesser_is (first_seat_rule.seen_is_count_or_reported first_share_positive)
     seen_of_joined (inr second_saw_less) =
         let lesser_is : min v.seen w.seen ≡ w.seen = omega arith in
-        rw lesser_is (second_seat_rule.seen second_share_positive)
+        rw lesser_is (second_seat_rule.seen_is_count_or_reported second_share_positive)
 
-    either_over : (first_lists_add_up second_lists_add_up : Bool) → v.over ≡ first_lists_add_up
-        → w.over ≡ second_lists_add_up → (first_lists_add_up || second_lists_add_up)
+    either_over : (first_flag second_flag : Bool) → v.over ≡ first_flag
+        → w.over ≡ second_flag → (first_flag || second_flag)
         ≡ true → n < get_or s.words 0 0
-    either_over true second_lists_add_up first_over second_over either_is_over =
-        first_seat_rule.over first_over
-    either_over false true first_over second_over either_is_over = second_seat_rule.over second_over
+    either_over true second_flag first_over second_over either_is_over =
+        first_seat_rule.over_only_past_count first_over
+    either_over false true first_over second_over either_is_over =
+        second_seat_rule.over_only_past_count second_over
     either_over false false first_over second_over either_is_over = absurd (cc)
 
     rule_of_joined_seat : SeatRule n s.views (get_or s.words 0 0) (get_or s.words 1 0)
         (after_join v w)
     rule_of_joined_seat = record {
-      count = λ share_is_positive. first_seat_rule.count first_share_positive;
-      floor =
-          λ share_is_positive. let first_lists_add_up =
-          first_seat_rule.floor first_share_positive in
-          let second_lists_add_up = second_seat_rule.floor second_share_positive in
+      count_is_n = λ share_is_positive. first_seat_rule.count_is_n first_share_positive;
+      floor_le_seen =
+          λ share_is_positive. let floor_le_first_seen =
+          first_seat_rule.floor_le_seen first_share_positive in
+          let floor_le_second_seen = second_seat_rule.floor_le_seen second_share_positive in
           omega arith;
-      seen = λ share_is_positive. seen_of_joined (cases_lt v.seen w.seen);
-      over = λ has_view_after. either_over v.over w.over refl refl has_view_after;
-      spent = λ has_view_after. absurd (omega arith);
+      seen_is_count_or_reported = λ share_is_positive. seen_of_joined (cases_lt v.seen w.seen);
+      over_only_past_count = λ is_over_after. either_over v.over w.over refl refl is_over_after;
+      spent_has_empty_record = λ share_is_zero. absurd (omega arith);
     }

@@ -13,22 +13,22 @@ use Rattle.mm_board.proofs.SumsLaw.{total_after_set, one_at_most_total}
 
 -- The words go from a, b, c to a', b', c', and the view of one seat from v to w
 pub record Moves (n a b c a' b' c' : ℕ) (v w : View) : Type 0 where
-  pub count : w.count ≡ v.count
-  pub share : w.share ≡ v.share
-  pub once : (x : ℕ)
+  pub count_kept : w.count ≡ v.count
+  pub share_kept : w.share ≡ v.share
+  pub record_follows_claim_word : (x : ℕ)
       → once_below x (min a n) + times_recorded x w ≡ once_below x (min a' n) + times_recorded x v
-  pub lengths : min a n + record_length w ≡ min a' n + record_length v
+  pub record_length_follows_claim_word : min a n + record_length w ≡ min a' n + record_length v
   pub claim_word_rises : a ≤ a'
   pub floor_word_falls : b' ≤ b
   pub reports_are_kept : (x : ℕ) → times_in x v.reported ≤ times_in x w.reported
   pub new_reports_ge_floor : (x : ℕ) → times_in x v.reported < times_in x w.reported → b' ≤ x
-  pub floor : (b' ≡ b) ⊎ (0 < times_in b' w.reported)
-  pub settled : c + length w.settled ≡ c' + length v.settled
+  pub floor_kept_or_reported : (b' ≡ b) ⊎ (0 < times_in b' w.reported)
+  pub settled_word_follows_view : c + length w.settled ≡ c' + length v.settled
   pub new_skips_gt_floor : (x : ℕ) → times_in x v.skipped < times_in x w.skipped → b' < x
   pub floor_le_seen : b' ≤ w.seen
-  pub seen : (w.seen ≡ v.seen) ⊎ (w.seen ≡ b')
-  pub over : w.over ≡ true → (v.over ≡ true) ⊎ (n < a')
-  pub bound : (t : ℕ) → a ≤ n + t → a' + over_share v ≤ n + t + over_share w
+  pub seen_kept_or_floor : (w.seen ≡ v.seen) ⊎ (w.seen ≡ b')
+  pub over_kept_or_past_count : w.over ≡ true → (v.over ≡ true) ⊎ (n < a')
+  pub claim_word_stays_bounded : (t : ℕ) → a ≤ n + t → a' + over_share v ≤ n + t + over_share w
 
 module _ (n a b c a' b' c' : ℕ) (v w : View) (views : List View) (id : ℕ)
     (rule : BoardRule n a b c views) (has_view : get_elem? views id ≡ some v)
@@ -65,18 +65,19 @@ module _ (n a b c a' b' c' : ℕ) (v w : View) (views : List View) (id : ℕ)
       reported_at_most_total x in omega arith
 
   new_floor_is_count_or_reported : IsCountOrReported n after b'
-  new_floor_is_count_or_reported = valid_by_floor moves.floor
+  new_floor_is_count_or_reported = valid_by_floor moves.floor_kept_or_reported
     where
       valid_by_floor : (b' ≡ b) ⊎ (0 < times_in b' w.reported) → IsCountOrReported n after b'
       valid_by_floor (inl floor_is_kept) =
           subst (IsCountOrReported n after) (sym floor_is_kept)
-          (stays_count_or_reported b rule.least.is_count_or_reported)
+          (stays_count_or_reported b rule.floor_is_least_reported.is_count_or_reported)
       valid_by_floor (inr is_reported) = inr (reported_by_moved_seat b' is_reported)
 
-  least : IsLeastReported n after b'
-  least = record {
+  floor_is_least_reported : IsLeastReported n after b'
+  floor_is_least_reported = record {
     le_count =
-        let floor_falls = moves.floor_word_falls in let old_floor_le_n = rule.least.le_count in
+        let floor_falls = moves.floor_word_falls in
+        let old_floor_le_n = rule.floor_is_least_reported.le_count in
         omega arith;
     le_each_reported =
         λ y is_reported. floor_le_if_reported y is_reported
@@ -91,12 +92,12 @@ module _ (n a b c a' b' c' : ℕ) (v w : View) (views : List View) (id : ℕ)
           moves.new_reports_ge_floor y reported_more
       floor_le_if_reported y is_reported (inr not_reported_more) =
           let total_moves = reports_after_set y in
-          let old_floor_le_y = rule.least.le_each_reported y (omega arith) in
+          let old_floor_le_y = rule.floor_is_least_reported.le_each_reported y (omega arith) in
           let floor_falls = moves.floor_word_falls in
           omega arith
 
-  skipped : (x : ℕ) → 0 < times_skipped after x → b' < x
-  skipped x is_skipped =
+  skipped_gt_floor : (x : ℕ) → 0 < times_skipped after x → b' < x
+  skipped_gt_floor x is_skipped =
       floor_lt_if_skipped (cases_lt (times_in x v.skipped) (times_in x w.skipped))
     where
       floor_lt_if_skipped : (times_in x v.skipped < times_in x w.skipped)
@@ -104,74 +105,86 @@ module _ (n a b c a' b' c' : ℕ) (v w : View) (views : List View) (id : ℕ)
       floor_lt_if_skipped (inl skipped_more) = moves.new_skips_gt_floor x skipped_more
       floor_lt_if_skipped (inr not_skipped_more) =
           let total_moves = skips_after_set x in
-          let old_floor_lt_x = rule.skipped x (omega arith) in
+          let old_floor_lt_x = rule.skipped_gt_floor x (omega arith) in
           let floor_falls = moves.floor_word_falls in omega arith
 
   rule_of_moved_seat : SeatRule n after a' b' w
   rule_of_moved_seat = record {
-    count = λ p. moves.count ∙ (rule.seats id v has_view).count share_is_positive;
-    floor = λ p. moves.floor_le_seen;
-    seen = λ p. seen_is_valid moves.seen;
-    over = λ p. over_by_claim_word (moves.over p);
-    spent = λ p. let shares_equal = moves.share in absurd (omega arith);
+    count_is_n =
+        λ _. moves.count_kept ∙ (rule.seats_obey_rule id v has_view).count_is_n share_is_positive;
+    floor_le_seen = λ _. moves.floor_le_seen;
+    seen_is_count_or_reported = λ _. seen_is_valid moves.seen_kept_or_floor;
+    over_only_past_count =
+        λ is_over_after. over_by_claim_word (moves.over_kept_or_past_count is_over_after);
+    spent_has_empty_record =
+        λ share_is_zero. let shares_equal = moves.share_kept in absurd (omega arith);
   }
     where
       seen_is_valid : (w.seen ≡ v.seen) ⊎ (w.seen ≡ b') → IsCountOrReported n after w.seen
       seen_is_valid (inl seen_is) =
           subst (IsCountOrReported n after) (sym seen_is)
-          (stays_count_or_reported v.seen ((rule.seats id v has_view).seen share_is_positive))
+          (stays_count_or_reported v.seen
+          ((rule.seats_obey_rule id v has_view).seen_is_count_or_reported share_is_positive))
       seen_is_valid (inr seen_is) =
           subst (IsCountOrReported n after) (sym seen_is) new_floor_is_count_or_reported
 
       over_by_claim_word : (v.over ≡ true) ⊎ (n < a') → n < a'
-      over_by_claim_word (inl over_or_past) =
-          let old_word_gt_n = (rule.seats id v has_view).over over_or_past in let word_rises =
+      over_by_claim_word (inl was_over) =
+          let old_word_gt_n =
+          (rule.seats_obey_rule id v has_view).over_only_past_count was_over in let word_rises =
           moves.claim_word_rises in omega arith
-      over_by_claim_word (inr over_or_past) = over_or_past
+      over_by_claim_word (inr n_lt_claim_word) = n_lt_claim_word
 
   rule_of_other_seat : (u : View) → SeatRule n views a b u → SeatRule n after a' b' u
   rule_of_other_seat u seat_rule = record {
-    count = seat_rule.count;
-    floor =
-        λ p. let seat_bound =
-        seat_rule.floor p in let word_moves = moves.floor_word_falls in omega arith;
-    seen = λ p. stays_count_or_reported u.seen (seat_rule.seen p);
-    over =
-        λ p. let seat_bound =
-        seat_rule.over p in let word_moves = moves.claim_word_rises in omega arith;
-    spent = seat_rule.spent;
+    count_is_n = seat_rule.count_is_n;
+    floor_le_seen =
+        λ share_is_positive_there. let seat_bound =
+        seat_rule.floor_le_seen share_is_positive_there in
+        let word_moves = moves.floor_word_falls in omega arith;
+    seen_is_count_or_reported =
+        λ share_is_positive_there. stays_count_or_reported u.seen
+        (seat_rule.seen_is_count_or_reported share_is_positive_there);
+    over_only_past_count =
+        λ seat_is_over. let seat_bound =
+        seat_rule.over_only_past_count seat_is_over in let word_moves = moves.claim_word_rises in
+        omega arith;
+    spent_has_empty_record = seat_rule.spent_has_empty_record;
   }
 
   pub moves_keep_rule : BoardRule n a' b' c' (set views id w)
   moves_keep_rule = record {
-    once =
+    each_recorded_once =
         λ x. let total_moves =
         total_after_set (times_recorded x) views id v w has_view in let rule_before =
-        rule.once x in
-        let moved_part = moves.once x in omega arith;
-    lengths =
+        rule.each_recorded_once x in
+        let moved_part = moves.record_follows_claim_word x in omega arith;
+    record_lengths_are_claimed =
         let total_moves = total_after_set record_length views id v w has_view in
-        let rule_before = rule.lengths in
-        let moved_part = moves.lengths in
+        let rule_before = rule.record_lengths_are_claimed in
+        let moved_part = moves.record_length_follows_claim_word in
         omega arith;
-    least = least;
-    settled =
+    floor_is_least_reported = floor_is_least_reported;
+    settled_word_is_count =
         let total_moves = total_after_set (λ u. length u.settled) views id v w has_view in
-        let rule_before = rule.settled in
-        let moved_part = moves.settled in omega arith;
-    skipped = skipped;
-    seats =
-        λ seat u e. elim (at_set views id seat w u e) [
-          | inl p ↦ subst (SeatRule n after a' b') p.1 rule_of_moved_seat
-          | inr p ↦
-              rule_of_other_seat u (rule.seats seat u p.1)
+        let rule_before = rule.settled_word_is_count in
+        let moved_part = moves.settled_word_follows_view in omega arith;
+    skipped_gt_floor = skipped_gt_floor;
+    seats_obey_rule =
+        λ seat u has_view_after. elim (at_set views id seat w u has_view_after) [
+          | inl is_moved_seat ↦
+              subst (SeatRule n after a' b') is_moved_seat.1 rule_of_moved_seat
+          | inr is_other_seat ↦
+              rule_of_other_seat u (rule.seats_obey_rule seat u is_other_seat.1)
         ];
-    shares =
+    shares_are_most_seats =
         let total_moves = total_after_set (λ u. u.share) views id v w has_view in
-        let rule_before = rule.shares in
-        let moved_part = moves.share in
+        let rule_before = rule.shares_are_most_seats in
+        let moved_part = moves.share_kept in
         omega arith;
-    bound =
+    claim_word_is_bounded =
         let total_moves = total_after_set over_share views id v w has_view in
-        let moved_part = moves.bound (total over_share views) rule.bound in omega arith;
+        let moved_part =
+        moves.claim_word_stays_bounded (total over_share views) rule.claim_word_is_bounded in
+        omega arith;
   }

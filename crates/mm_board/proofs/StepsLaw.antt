@@ -79,7 +79,7 @@ module _ (n : ℕ) (s : State (Unit {0}) View) (meets_rule : MeetsRule n s) (id 
 
   -- what the rule says of the seat that steps
   pub count_is : v.count ≡ n
-  count_is = (meets_rule.1.seats id v has_view).count share_is_positive
+  count_is = (meets_rule.1.seats_obey_rule id v has_view).count_is_n share_is_positive
 
   pub claim_word : IsClaimWord v (get_or s.words 0 0)
   claim_word = (
@@ -114,7 +114,7 @@ module _ (n : ℕ) (s : State (Unit {0}) View) (meets_rule : MeetsRule n s) (id 
     (id, has_view),
   )
 
-module _ (n b c : ℕ) (v : View) (floor : b ≤ v.seen) where
+module _ (n b c : ℕ) (v : View) (floor_le_seen : b ≤ v.seen) where
   none_open_times : (y : ℕ) → v.open_number ≡ None → times_open y v.open_number ≡ 0
   none_open_times y nothing_open = ap (λ (o : Option ℕ). times_open y o) nothing_open
 
@@ -133,29 +133,29 @@ module _ (n b c : ℕ) (v : View) (floor : b ≤ v.seen) where
 
   pub reads_only : (a : ℕ) → Moves n a b c a b c v v
   reads_only a = record {
-    count = refl;
-    share = refl;
-    once = λ x. refl;
-    lengths = refl;
+    count_kept = refl;
+    share_kept = refl;
+    record_follows_claim_word = λ x. refl;
+    record_length_follows_claim_word = refl;
     claim_word_rises = omega arith;
     floor_word_falls = omega arith;
     reports_are_kept = λ x. omega arith;
-    new_reports_ge_floor = λ x occurs_more. omega arith;
-    floor = inl refl;
-    settled = refl;
-    new_skips_gt_floor = λ x occurs_more. omega arith;
-    floor_le_seen = floor;
-    seen = inl refl;
-    over = λ occurs_more. inl occurs_more;
-    bound = λ t occurs_more. omega arith;
+    new_reports_ge_floor = λ x is_reported_more_often. omega arith;
+    floor_kept_or_reported = inl refl;
+    settled_word_follows_view = refl;
+    new_skips_gt_floor = λ x is_skipped_more_often. omega arith;
+    floor_le_seen = floor_le_seen;
+    seen_kept_or_floor = inl refl;
+    over_kept_or_past_count = λ is_over_after. inl is_over_after;
+    claim_word_stays_bounded = λ t claim_word_le_bound. omega arith;
   }
 
   pub claims_number : (x : ℕ) → x < n → v.open_number ≡ None → v.over ≡ false
       → Moves n x b c (x + 1) b c v (record v { open_number = Some x })
   claims_number x x_lt_n nothing_open is_not_over = record {
-    count = refl;
-    share = refl;
-    once =
+    count_kept = refl;
+    share_kept = refl;
+    record_follows_claim_word =
         λ y. let once_below_moves =
         once_below_moves_by_one y x n x_lt_n in let open_part_is =
         none_open_times y nothing_open in
@@ -165,7 +165,7 @@ module _ (n b c : ℕ) (v : View) (floor : b ≤ v.seen) where
         let record_before_is : times_recorded y v
         ≡ times_open y v.open_number + times_in y v.settled + times_in y v.reported
         + times_in y v.skipped = refl in omega arith;
-    lengths = let open_part_is = none_open_count nothing_open in
+    record_length_follows_claim_word = let open_part_is = none_open_count nothing_open in
         let record_after_is : record_length (record v { open_number = Some x })
         ≡ 1 + length v.settled + length v.reported + length v.skipped = refl in
         let record_before_is : record_length v
@@ -174,15 +174,15 @@ module _ (n b c : ℕ) (v : View) (floor : b ≤ v.seen) where
     claim_word_rises = omega arith;
     floor_word_falls = omega arith;
     reports_are_kept = λ y. omega arith;
-    new_reports_ge_floor = λ y occurs_more. omega arith;
-    floor = inl refl;
-    settled = refl;
-    new_skips_gt_floor = λ y occurs_more. omega arith;
-    floor_le_seen = floor;
-    seen = inl refl;
-    over = λ occurs_more. inl occurs_more;
-    bound =
-        λ t occurs_more. let open_part_is = not_over_no_share is_not_over in
+    new_reports_ge_floor = λ y is_reported_more_often. omega arith;
+    floor_kept_or_reported = inl refl;
+    settled_word_follows_view = refl;
+    new_skips_gt_floor = λ y is_skipped_more_often. omega arith;
+    floor_le_seen = floor_le_seen;
+    seen_kept_or_floor = inl refl;
+    over_kept_or_past_count = λ is_over_after. inl is_over_after;
+    claim_word_stays_bounded =
+        λ t claim_word_le_bound. let open_part_is = not_over_no_share is_not_over in
         let over_shares_equal : over_share (record v { open_number = Some x }) ≡ over_share v =
         refl in
         omega arith;
@@ -191,27 +191,27 @@ module _ (n b c : ℕ) (v : View) (floor : b ≤ v.seen) where
   pub claims_none : (x : ℕ) → n ≤ x → v.over ≡ false → 0 < v.share
       → Moves n x b c (x + 1) b c v (record v { over = true })
   claims_none x n_le_x is_not_over share_is_positive = record {
-    count = refl;
-    share = refl;
-    once =
+    count_kept = refl;
+    share_kept = refl;
+    record_follows_claim_word =
         λ y. let least_is_n : min x n ≡ n =
         omega arith in let next_least_is_n : min (x + 1) n ≡ n = omega arith in
         rw (least_is_n, next_least_is_n) refl;
-    lengths =
+    record_length_follows_claim_word =
         let lengths_equal : record_length (record v { over = true }) ≡ record_length v = refl in
         omega arith;
     claim_word_rises = omega arith;
     floor_word_falls = omega arith;
     reports_are_kept = λ y. omega arith;
-    new_reports_ge_floor = λ y occurs_more. omega arith;
-    floor = inl refl;
-    settled = refl;
-    new_skips_gt_floor = λ y occurs_more. omega arith;
-    floor_le_seen = floor;
-    seen = inl refl;
-    over = λ occurs_more. inr (omega arith);
-    bound =
-        λ t occurs_more. let over_share_before = not_over_no_share is_not_over in
+    new_reports_ge_floor = λ y is_reported_more_often. omega arith;
+    floor_kept_or_reported = inl refl;
+    settled_word_follows_view = refl;
+    new_skips_gt_floor = λ y is_skipped_more_often. omega arith;
+    floor_le_seen = floor_le_seen;
+    seen_kept_or_floor = inl refl;
+    over_kept_or_past_count = λ is_over_after. inr (omega arith);
+    claim_word_stays_bounded =
+        λ t claim_word_le_bound. let over_share_before = not_over_no_share is_not_over in
         let over_share_after : over_share (record v { over = true }) ≡ v.share = refl in
         omega arith;
   }
@@ -220,9 +220,9 @@ module _ (n b c : ℕ) (v : View) (floor : b ≤ v.seen) where
       → Moves n a b c a b c v
       (record v { open_number = None; skipped = v.skipped ++ i ∷ []; seen = b })
   look_skips a i b_lt_i open_is = record {
-    count = refl;
-    share = refl;
-    once =
+    count_kept = refl;
+    share_kept = refl;
+    record_follows_claim_word =
         λ y. let open_part_is =
         times_of_open y i open_is in let parts_add_up = times_in_append y v.skipped (i ∷ []) in
         let record_after_is : times_recorded y
@@ -233,7 +233,7 @@ module _ (n b c : ℕ) (v : View) (floor : b ≤ v.seen) where
         let record_before_is : times_recorded y v
         ≡ times_open y v.open_number + times_in y v.settled + times_in y v.reported
         + times_in y v.skipped = refl in omega arith;
-    lengths =
+    record_length_follows_claim_word =
         let open_part_is = one_open_count i open_is in
         let parts_add_up = length-append v.skipped (i ∷ []) in
         let record_after_is : record_length
@@ -245,18 +245,18 @@ module _ (n b c : ℕ) (v : View) (floor : b ≤ v.seen) where
     claim_word_rises = omega arith;
     floor_word_falls = omega arith;
     reports_are_kept = λ y. omega arith;
-    new_reports_ge_floor = λ y occurs_more. omega arith;
-    floor = inl refl;
-    settled = refl;
+    new_reports_ge_floor = λ y is_reported_more_often. omega arith;
+    floor_kept_or_reported = inl refl;
+    settled_word_follows_view = refl;
     new_skips_gt_floor =
-        λ y occurs_more. let parts_add_up = times_in_append y v.skipped (i ∷ []) in
+        λ y is_skipped_more_often. let parts_add_up = times_in_append y v.skipped (i ∷ []) in
         let one_of_single : times_in y (i ∷ []) ≡ cond (i == y) 1 0 + 0 = refl in
         let i_is_y = counted_is_equal y i (omega arith) in omega arith;
     floor_le_seen = omega arith;
-    seen = inr refl;
-    over = λ occurs_more. inl occurs_more;
-    bound =
-        λ t occurs_more. let i_is_y : over_share
+    seen_kept_or_floor = inr refl;
+    over_kept_or_past_count = λ is_over_after. inl is_over_after;
+    claim_word_stays_bounded =
+        λ t claim_word_le_bound. let over_shares_equal : over_share
         (record v { open_number = None; skipped = v.skipped ++ i ∷ []; seen = b })
         ≡ over_share v = refl in
         omega arith;
@@ -264,31 +264,32 @@ module _ (n b c : ℕ) (v : View) (floor : b ≤ v.seen) where
 
   pub look_sees : (a : ℕ) → Moves n a b c a b c v (record v { seen = b })
   look_sees a = record {
-    count = refl;
-    share = refl;
-    once = λ x. refl;
-    lengths = refl;
+    count_kept = refl;
+    share_kept = refl;
+    record_follows_claim_word = λ x. refl;
+    record_length_follows_claim_word = refl;
     claim_word_rises = omega arith;
     floor_word_falls = omega arith;
     reports_are_kept = λ x. omega arith;
-    new_reports_ge_floor = λ x occurs_more. omega arith;
-    floor = inl refl;
-    settled = refl;
-    new_skips_gt_floor = λ x occurs_more. omega arith;
+    new_reports_ge_floor = λ x is_reported_more_often. omega arith;
+    floor_kept_or_reported = inl refl;
+    settled_word_follows_view = refl;
+    new_skips_gt_floor = λ x is_skipped_more_often. omega arith;
     floor_le_seen = omega arith;
-    seen = inr refl;
-    over = λ occurs_more. inl occurs_more;
-    bound =
-        λ t occurs_more. let over_shares_equal : over_share (record v { seen = b }) ≡ over_share v =
+    seen_kept_or_floor = inr refl;
+    over_kept_or_past_count = λ is_over_after. inl is_over_after;
+    claim_word_stays_bounded =
+        λ t claim_word_le_bound. let over_shares_equal : over_share (record v { seen = b })
+        ≡ over_share v =
         refl in omega arith;
   }
 
   pub settles_number : (a i : ℕ) → v.open_number ≡ Some i
       → Moves n a b c a b (c + 1) v (record v { open_number = None; settled = v.settled ++ i ∷ [] })
   settles_number a i open_is = record {
-    count = refl;
-    share = refl;
-    once =
+    count_kept = refl;
+    share_kept = refl;
+    record_follows_claim_word =
         λ y. let open_part_is =
         times_of_open y i open_is in let parts_add_up = times_in_append y v.settled (i ∷ []) in
         let record_after_is : times_recorded y
@@ -299,7 +300,7 @@ module _ (n b c : ℕ) (v : View) (floor : b ≤ v.seen) where
         let record_before_is : times_recorded y v
         ≡ times_open y v.open_number + times_in y v.settled + times_in y v.reported
         + times_in y v.skipped = refl in omega arith;
-    lengths =
+    record_length_follows_claim_word =
         let open_part_is = one_open_count i open_is in
         let parts_add_up = length-append v.settled (i ∷ []) in
         let record_after_is : record_length
@@ -311,15 +312,15 @@ module _ (n b c : ℕ) (v : View) (floor : b ≤ v.seen) where
     claim_word_rises = omega arith;
     floor_word_falls = omega arith;
     reports_are_kept = λ y. omega arith;
-    new_reports_ge_floor = λ y occurs_more. omega arith;
-    floor = inl refl;
-    settled = let parts_add_up = length-append v.settled (i ∷ []) in omega arith;
-    new_skips_gt_floor = λ y occurs_more. omega arith;
-    floor_le_seen = floor;
-    seen = inl refl;
-    over = λ occurs_more. inl occurs_more;
-    bound =
-        λ t occurs_more. let over_shares_equal : over_share
+    new_reports_ge_floor = λ y is_reported_more_often. omega arith;
+    floor_kept_or_reported = inl refl;
+    settled_word_follows_view = let parts_add_up = length-append v.settled (i ∷ []) in omega arith;
+    new_skips_gt_floor = λ y is_skipped_more_often. omega arith;
+    floor_le_seen = floor_le_seen;
+    seen_kept_or_floor = inl refl;
+    over_kept_or_past_count = λ is_over_after. inl is_over_after;
+    claim_word_stays_bounded =
+        λ t claim_word_le_bound. let over_shares_equal : over_share
         (record v { open_number = None; settled = v.settled ++ i ∷ [] })
         ≡ over_share v = refl in
         omega arith;
@@ -329,9 +330,9 @@ module _ (n b c : ℕ) (v : View) (floor : b ≤ v.seen) where
       → Moves n a b c a (min b i) c v
       (record v { open_number = None; reported = v.reported ++ i ∷ []; seen = min b i })
   reports_number a i open_is = record {
-    count = refl;
-    share = refl;
-    once =
+    count_kept = refl;
+    share_kept = refl;
+    record_follows_claim_word =
         λ y. let open_part_is =
         times_of_open y i open_is in let parts_add_up = times_in_append y v.reported (i ∷ []) in
         let record_after_is : times_recorded y
@@ -342,7 +343,7 @@ module _ (n b c : ℕ) (v : View) (floor : b ≤ v.seen) where
         let record_before_is : times_recorded y v
         ≡ times_open y v.open_number + times_in y v.settled + times_in y v.reported
         + times_in y v.skipped = refl in omega arith;
-    lengths =
+    record_length_follows_claim_word =
         let open_part_is = one_open_count i open_is in
         let parts_add_up = length-append v.reported (i ∷ []) in
         let record_after_is : record_length
@@ -355,17 +356,17 @@ module _ (n b c : ℕ) (v : View) (floor : b ≤ v.seen) where
     floor_word_falls = omega arith;
     reports_are_kept = λ y. let parts_add_up = times_in_append y v.reported (i ∷ []) in omega arith;
     new_reports_ge_floor =
-        λ y occurs_more. let parts_add_up = times_in_append y v.reported (i ∷ []) in
+        λ y is_reported_more_often. let parts_add_up = times_in_append y v.reported (i ∷ []) in
         let one_of_single : times_in y (i ∷ []) ≡ cond (i == y) 1 0 + 0 = refl in
         let i_is_y = counted_is_equal y i (omega arith) in omega arith;
-    floor = floor_by_order (cases_lt i b);
-    settled = refl;
-    new_skips_gt_floor = λ y occurs_more. omega arith;
+    floor_kept_or_reported = floor_by_order (cases_lt i b);
+    settled_word_follows_view = refl;
+    new_skips_gt_floor = λ y is_skipped_more_often. omega arith;
     floor_le_seen = omega arith;
-    seen = inr refl;
-    over = λ occurs_more. inl occurs_more;
-    bound =
-        λ t occurs_more. let i_is_y : over_share
+    seen_kept_or_floor = inr refl;
+    over_kept_or_past_count = λ is_over_after. inl is_over_after;
+    claim_word_stays_bounded =
+        λ t claim_word_le_bound. let over_shares_equal : over_share
         (record v { open_number = None; reported = v.reported ++ i ∷ []; seen = min b i })
         ≡ over_share v = refl in
         omega arith;

@@ -51,31 +51,31 @@ IsSeatView views v = (seat : ℕ) × (get_elem? views seat ≡ some v)
 -- what the rule requires of one seat, at the claim word and the floor word
 pub record SeatRule (n : ℕ) (views : List View) (claim_word floor_word : ℕ)
     (v : View) : Type 0 where
-  pub count : 0 < v.share → v.count ≡ n
+  pub count_is_n : 0 < v.share → v.count ≡ n
   -- what it has seen is at least the floor, and is n or reported
-  pub floor : 0 < v.share → floor_word ≤ v.seen
-  pub seen : 0 < v.share → IsCountOrReported n views v.seen
+  pub floor_le_seen : 0 < v.share → floor_word ≤ v.seen
+  pub seen_is_count_or_reported : 0 < v.share → IsCountOrReported n views v.seen
   -- it is over only if the claim word is above n
-  pub over : v.over ≡ true → n < claim_word
-  pub spent : v.share ≡ 0 → HasEmptyRecord v
+  pub over_only_past_count : v.over ≡ true → n < claim_word
+  pub spent_has_empty_record : v.share ≡ 0 → HasEmptyRecord v
 
 -- the rule, of the claim word, the floor word, the settled word and the views of all seats
 pub record BoardRule (n claim_word floor_word settled_word : ℕ) (views : List View) : Type 0 where
   -- each number below both the claim word and n is in one record, once, and no other number is in
   -- any
-  pub once : (x : ℕ) → total (times_recorded x) views ≡ once_below x (min claim_word n)
-  -- all records together have that many numbers: it follows from `once`, but stands here since the
-  -- proof would have to count the numbers
-  pub lengths : total record_length views ≡ min claim_word n
+  pub each_recorded_once : (x : ℕ) → total (times_recorded x) views ≡ once_below x (min claim_word n)
+  -- all records together have that many numbers: it follows from `each_recorded_once`, but stands here
+  -- since the proof would have to count the numbers
+  pub record_lengths_are_claimed : total record_length views ≡ min claim_word n
   -- the floor word is the least reported number, or n
-  pub least : IsLeastReported n views floor_word
+  pub floor_is_least_reported : IsLeastReported n views floor_word
   -- the settled word is the number of settled numbers
-  pub settled : settled_word ≡ settled_count views
+  pub settled_word_is_count : settled_word ≡ settled_count views
   -- each skipped number is above the floor
-  pub skipped : (x : ℕ) → 0 < times_skipped views x → floor_word < x
-  pub seats : (seat : ℕ) (v : View) → get_elem? views seat ≡ some v
+  pub skipped_gt_floor : (x : ℕ) → 0 < times_skipped views x → floor_word < x
+  pub seats_obey_rule : (seat : ℕ) (v : View) → get_elem? views seat ≡ some v
       → SeatRule n views claim_word floor_word v
   -- the shares add up to all seats, and the claim word is at most n plus the shares of the seats
   -- that are over: no word wraps
-  pub shares : total (λ v. v.share) views ≡ MOST_SEATS
-  pub bound : claim_word ≤ n + total over_share views
+  pub shares_are_most_seats : total (λ v. v.share) views ≡ MOST_SEATS
+  pub claim_word_is_bounded : claim_word ≤ n + total over_share views

@@ -42,9 +42,9 @@ not_some_option_is_none (Some x) is_none = absurd (true≢false (sym is_none))
 -- what a simple argument leaves out
 pub record LeavesOptionsOut (a : Arg) : Type 0 where
   pub no_default_ifs : a.default_vals_ifs.items ≡ []
-  pub groups : a.groups.items ≡ []
-  pub val_delim : a.val_delim ≡ None
-  pub global : a.global ≡ false
+  pub no_groups : a.groups.items ≡ []
+  pub no_delimiter : a.val_delim ≡ None
+  pub not_global : a.global ≡ false
 
 -- each test of `is_simple_arg` passes, in its order; `from_` names the tests from one on
 pub simple_leaves_out : (a : Arg) → is_simple_arg a ≡ true → LeavesOptionsOut a
@@ -62,11 +62,11 @@ simple_leaves_out a is_simple_a =
       no_default_ifs =
           empty_is_nil a.default_vals_ifs.items
           (and_parts (is_empty a.default_vals_ifs.items) _ from_ifs).0;
-      groups = empty_is_nil a.groups.items (and_parts (is_empty a.groups.items) _ from_groups).0;
-      val_delim =
+      no_groups = empty_is_nil a.groups.items (and_parts (is_empty a.groups.items) _ from_groups).0;
+      no_delimiter =
           not_some_option_is_none a.val_delim
           (and_parts (not (is_some a.val_delim)) _ from_delimiter).0;
-      global = not-true a.global from_global;
+      not_global = not-true a.global from_global;
     }
 
 -- the argument at a place, and its rule
@@ -175,36 +175,46 @@ module _ (c : Command) (m : ArgMatches) (p : IsParsedFrom c m)
               absurd (omega arith)
 
       values : All (λ v. PassesArg p.built e.0.now v.now) e.1.vals.items
-      values = elim pass.0 [ inl g ↦ absurd (no_group g) | inr vs ↦ vs ]
+      values = elim pass.0 [
+        | inl is_group ↦ absurd (no_group is_group)
+        | inr values_pass ↦ values_pass
+      ]
 
       nonempty : 0 < length e.1.vals.items
       nonempty = elim pass.1 [
-        | inl h ↦ absurd (no_group h.0)
-        | inr (inl v) ↦ v
-        | inr (inr (inl h)) ↦
-            let any = h.1 in
-            let rules_agree = same_rules any.0 any.1 any.2 any.3 (has_same_id any.1 any.4.0) in
-            let is_set : any.1.action ≡ Some Set = rules_agree.action Set d.action in
-            let absurd_equation : Set ≡ Count = rw is_set at any.4.1 in
+        | inl group_entry ↦ absurd (no_group group_entry.0)
+        | inr (inl has_values) ↦ has_values
+        | inr (inr (inl counts)) ↦
+            let counting = counts.1 in
+            let rules_agree =
+            same_rules counting.0 counting.1 counting.2 counting.3
+            (has_same_id counting.1 counting.4.0) in
+            let is_set : counting.1.action ≡ Some Set = rules_agree.action Set d.action in
+            let absurd_equation : Set ≡ Count = rw is_set at counting.4.1 in
             cc
-        | inr (inr (inr h)) ↦
-            let rules_agree = same_rules h.0 h.1 h.2 h.3 (has_same_id h.1 h.4.0) in
-            elim h.4.1 [
-              | inl none ↦
+        | inr (inr (inr may_be_empty)) ↦
+            let rules_agree =
+            same_rules may_be_empty.0 may_be_empty.1 may_be_empty.2 may_be_empty.3
+            (has_same_id may_be_empty.1 may_be_empty.4.0) in
+            elim may_be_empty.4.1 [
+              | inl none_needed ↦
                   let least_is_one = rules_agree.least d.action one_at_least in
                   absurd (omega arith)
-              | inr has ↦
+              | inr has_delimiter ↦
                   let absurd_equation : false ≡ true =
-                  rw (rules_agree.val_delim, (simple_leaves_out a d.simple).val_delim) at has in
+                  rw (rules_agree.val_delim, (simple_leaves_out a d.simple).no_delimiter) at
+                  has_delimiter in
                   cc
             ]
       ]
 
       reading : e.1.reading ≡ reading_of q
       reading = elim pass.4 [
-        | inl g ↦ absurd (no_group g)
-        | inr h ↦ sym h.4.1
-            ∙ ap reading_of (parser_is h.1 (same_rules h.0 h.1 h.2 h.3 (has_same_id h.1 h.4.0)))
+        | inl is_group ↦ absurd (no_group is_group)
+        | inr read_by ↦ sym read_by.4.1
+            ∙ ap reading_of
+            (parser_is read_by.1 (same_rules read_by.0 read_by.1 read_by.2 read_by.3
+            (has_same_id read_by.1 read_by.4.0)))
       ]
 
       accepts : (t : Text) → PassesArg p.built e.0.now t → Accepts a.ignore_case q t
@@ -226,7 +236,7 @@ module _ (c : Command) (m : ArgMatches) (p : IsParsedFrom c m)
                 first_text_is (found_of m) id e.1 (reading_of q) _ matched_is reading
                 first_value_found.1;
             text_is_first = first_value_is (found_of m) id e.1 _ matched_is first_value_found.2;
-            accepted = accepts first_value_found.0.now first_value_found.3;
+            text_is_accepted = accepts first_value_found.0.now first_value_found.3;
           }
 
     pub default_is_read : IsReadWith id q a.ignore_case

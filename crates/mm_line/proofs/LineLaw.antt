@@ -62,7 +62,7 @@ app_with_added_rule : (before after : Command) (a : Arg) (app : App) (r : Rule)
     → app_of before ≡ app → rule_of a ≡ r → r.is_simple ≡ true → app_of after ≡ with_rule app r
 app_with_added_rule before after a app r is_added app_is rule rule_is_simple =
     is_added.shape
-    (simple_leaves_out a (ap (λ (x : Rule). x.is_simple) rule ∙ rule_is_simple)).global
+    (simple_leaves_out a (ap (λ (x : Rule). x.is_simple) rule ∙ rule_is_simple)).not_global
     ∙ ap (λ (x : App). with_rule x (rule_of a)) app_is ∙ ap (with_rule app) rule
 
 abbrev pub with_rules : App → List Rule → App
@@ -100,7 +100,7 @@ added_rules_are_command c report_option form_option is_report_rule is_form_rule 
       is_report = is_report_rule;
       form_option = form_option;
       is_form = is_form_rule;
-      is = app_is;
+      app_is_command = app_is;
     }
 
 command_is_simple_and_free : (report form : Rule) → IsReportRule report → IsFormRule form
@@ -111,9 +111,9 @@ command_is_simple_and_free report form is_report_rule is_form_rule =
     (subst (λ (r : Rule). is_simple_and_free (command_of (report_rule is_report_rule.0) r) ≡ true)
     (sym is_form_rule.2) refl)
 
-pub simple : (app : App) → IsCommand app → is_simple_and_free app ≡ true
-simple app is_command_app =
-    subst (λ (a : App). is_simple_and_free a ≡ true) (sym is_command_app.is)
+pub command_app_is_simple_and_free : (app : App) → IsCommand app → is_simple_and_free app ≡ true
+command_app_is_simple_and_free app is_command_app =
+    subst (λ (a : App). is_simple_and_free a ≡ true) (sym is_command_app.app_is_command)
     (command_is_simple_and_free is_command_app.report_option is_command_app.form_option
     is_command_app.is_report
     is_command_app.is_form)
@@ -143,12 +143,12 @@ refusal_is_line_refusal app words e (Bad text) app_is passes kind is_for =
     (app, app_is, not_taken (takes app words) refl, kind_of e, among_faults kind, is_for.0)
   where
     not_taken : (b : Bool) → takes app words ≡ b → b ≡ false
-    not_taken true t = absurd (is_for.1 (passes t))
-    not_taken false t = refl
+    not_taken true test_is = absurd (is_for.1 (passes test_is))
+    not_taken false test_is = refl
 
     among_faults : HasKind (fault_of app words) e → IsAmong (kind_of e) (fault_of app words)
-    among_faults (inl m) = absurd (is_for.1 m)
-    among_faults (inr k) = k
+    among_faults (inl is_memory) = absurd (is_for.1 is_memory)
+    among_faults (inr is_among) = is_among
 
 tested_different_differ : (a b : Text) → bytes_eq a b ≡ false → a ≡ b → ⊥
 tested_different_differ a b tested_different texts_equal =
@@ -292,35 +292,36 @@ module _ (names forms : Bor (List (Bor Text))) where
 
   module _ (c : Command) (app_is : app_of c ≡ command_of (report_rule names) (form_rule forms))
     where
-      rules : map rule_of (args_of c) ≡ the_rules
+      rules_are : map rule_of (args_of c) ≡ the_rules
       unfolding command_of
-      rules = ap (λ (a : App). a.top.rules) app_is
+      rules_are = ap (λ (a : App). a.top.rules) app_is
 
-      count : length (args_of c) ≡ length the_rules
-      count = sym (length-map (args_of c) rule_of) ∙ ap length rules
+      counts_equal : length (args_of c) ≡ length the_rules
+      counts_equal = sym (length-map (args_of c) rule_of) ∙ ap length rules_are
 
-      plain : (is_empty (out-Command c).groups.items ≡ true)
+      top_is_plain : (is_empty (out-Command c).groups.items ≡ true)
           × (not (not (out-Command c).has_globals) ≡ false)
       unfolding command_of
-      plain =
+      top_is_plain =
           first_and_third (is_empty (out-Command c).groups.items)
           (not (out-Command c).allow_external_subcommands) (not (out-Command c).has_globals) _
           (ap (λ (a : App). a.top.is_plain) app_is)
 
-      globals : (out-Command c).has_globals ≡ false
-      globals = sym (not-not (out-Command c).has_globals) ∙ plain.1
+      has_no_globals : (out-Command c).has_globals ≡ false
+      has_no_globals = sym (not-not (out-Command c).has_globals) ∙ top_is_plain.1
 
       no_groups : groups_of c ≡ []
-      no_groups = empty_is_nil (out-Command c).groups.items plain.0
+      no_groups = empty_is_nil (out-Command c).groups.items top_is_plain.0
 
-      each_simple : (k : ℕ) (d : Arg) → k < length (args_of c)
+      each_is_simple : (k : ℕ) (d : Arg) → k < length (args_of c)
           → is_simple_arg (slice_index_or (args_of c) k d) ≡ true
-      each_simple =
-          each_argument_is_simple (args_of c) (ap (list_all (λ (r : Rule). r.is_simple)) rules)
+      each_is_simple =
+          each_argument_is_simple (args_of c) (ap (list_all (λ (r : Rule). r.is_simple)) rules_are)
 
       names_no_group : NamesNoGroup c
       names_no_group k d k_lt_count =
-          (simple_leaves_out (slice_index_or (args_of c) k d) (each_simple k d k_lt_count)).groups
+          (simple_leaves_out (slice_index_or (args_of c) k d)
+          (each_is_simple k d k_lt_count)).no_groups
 
       -- an argument with a default, by its rule
       defaulted : (k : ℕ) (id value : Text) (q : ValueParser) → k < length the_rules
@@ -339,12 +340,12 @@ module _ (names forms : Bor (List (Bor Text))) where
       defaulted k id value q k_lt_rules _ id_is action range default parser only_k_has_id
           id_is_nonempty is_not_automatic =
           let index_lt_count : k < length (args_of c) =
-          subst (λ (n : ℕ). k < n) (sym count) k_lt_rules in
+          subst (λ (n : ℕ). k < n) (sym counts_equal) k_lt_rules in
           let argument_there = argument_at_place (args_of c) k index_lt_count in
           let a = argument_there.0 in
           let rule_is : rule_of a ≡ slice_index_or the_rules k file_rule =
           ap rule_of (sym argument_there.1)
-          ∙ rule_of_argument_is (args_of c) the_rules k a file_rule rules index_lt_count in
+          ∙ rule_of_argument_is (args_of c) the_rules k a file_rule rules_are index_lt_count in
           let id_of_argument_is : a.id.now ≡ id = ap (λ (r : Rule). r.id) rule_is ∙ id_is in (
             a,
             record {
@@ -353,7 +354,7 @@ module _ (names forms : Bor (List (Bor Text))) where
               id_is = id_of_argument_is;
               simple =
                   subst (λ (y : Arg). is_simple_arg y ≡ true) argument_there.1
-                  (each_simple k a index_lt_count);
+                  (each_is_simple k a index_lt_count);
               action = ap (λ (r : Rule). r.action) rule_is ∙ action;
               range = ap (λ (r : Rule). r.range) rule_is ∙ range;
               default =
@@ -364,17 +365,16 @@ module _ (names forms : Bor (List (Bor Text))) where
               parser = ap (λ (r : Rule). r.parser) rule_is ∙ parser;
               id_is_unique =
                   λ j e j_lt_count j_has_id. only_k_has_id j
-                  (subst (λ (n : ℕ). j < n) count j_lt_count)
+                  (subst (λ (n : ℕ). j < n) counts_equal j_lt_count)
                   (subst (λ (r : Rule). bytes_eq r.id id ≡ true)
-                  (rule_of_argument_is (args_of c) the_rules j e file_rule rules j_lt_count)
+                  (rule_of_argument_is (args_of c) the_rules j e file_rule rules_are j_lt_count)
                   j_has_id);
               id_is_nonempty = id_is_nonempty;
               is_not_automatic =
                   λ is_automatic. is_not_automatic
                   (elim is_automatic [
-                    | inl h ↦ inl (sym id_of_argument_is ∙ h)
-                    | inr h ↦ inr
-                        (sym id_of_argument_is ∙ h)
+                    | inl is_help ↦ inl (sym id_of_argument_is ∙ is_help)
+                    | inr is_version ↦ inr (sym id_of_argument_is ∙ is_version)
                   ]);
             },
             ap (λ (r : Rule). r.ignore_case) rule_is,
@@ -392,12 +392,11 @@ module _ (names forms : Bor (List (Bor Text))) where
             (listed_index_is_only the_rules file_rule (codes "workers") 0 refl)
             (tested_different_differ _ _ refl)
             (λ is_automatic_id. elim is_automatic_id [
-              | inl h ↦ tested_different_differ _ _ refl h
-              | inr h ↦ tested_different_differ _ _ refl
-                  h
+              | inl is_help ↦ tested_different_differ _ _ refl is_help
+              | inr is_version ↦ tested_different_differ _ _ refl is_version
             ]) in
             let default_read =
-            default_is_read c m p globals built_has_none 0 argument.0 (codes "workers")
+            default_is_read c m p has_no_globals built_has_none 0 argument.0 (codes "workers")
             (Signed (pos 1) (pos 64)) argument.1 in
             (default_read.text, default_read.text_is_read, default_read.text_is_accepted)
 
@@ -409,12 +408,11 @@ module _ (names forms : Bor (List (Bor Text))) where
             (listed_index_is_only the_rules file_rule (codes "pieces") 1 refl)
             (tested_different_differ _ _ refl)
             (λ is_automatic_id. elim is_automatic_id [
-              | inl h ↦ tested_different_differ _ _ refl h
-              | inr h ↦ tested_different_differ _ _ refl
-                  h
+              | inl is_help ↦ tested_different_differ _ _ refl is_help
+              | inr is_version ↦ tested_different_differ _ _ refl is_version
             ]) in
             let default_read =
-            default_is_read c m p globals built_has_none 1 argument.0 (codes "pieces")
+            default_is_read c m p has_no_globals built_has_none 1 argument.0 (codes "pieces")
             (Signed (pos 1) (pos 64)) argument.1 in
             (default_read.text, default_read.text_is_read, default_read.text_is_accepted)
 
@@ -426,19 +424,20 @@ module _ (names forms : Bor (List (Bor Text))) where
             (listed_index_is_only the_rules file_rule (codes "report") 3 refl)
             (tested_different_differ _ _ refl)
             (λ is_automatic_id. elim is_automatic_id [
-              | inl h ↦ tested_different_differ _ _ refl h
-              | inr h ↦ tested_different_differ _ _ refl
-                  h
+              | inl is_help ↦ tested_different_differ _ _ refl is_help
+              | inr is_version ↦ tested_different_differ _ _ refl is_version
             ]) in
             let default_read =
-            default_is_read c m p globals built_has_none 3 argument.0 (codes "report") (Names names)
+            default_is_read c m p has_no_globals built_has_none 3 argument.0 (codes "report")
+            (Names names)
             argument.1 in
             let is_accepted : list_any (λ n. bytes_eq n.now default_read.text) names.now ≡ true =
             rw argument.2 at default_read.text_is_accepted in
             let word =
             known_word_is_choice default_read.text
             (ap (list_any (λ (w : Text). bytes_eq w default_read.text)) (sym names_are)
-            ∙ (sym (list_any-map (λ (w : Text). bytes_eq w default_read.text) (λ n. n.now) names.now)
+            ∙ (sym (list_any-map (λ (w : Text). bytes_eq w default_read.text) (λ n. n.now)
+            names.now)
             ∙ is_accepted)) in
             (word.0, default_read.text_is_first ∙ ap Some word.1)
 
@@ -450,19 +449,20 @@ module _ (names forms : Bor (List (Bor Text))) where
             (listed_index_is_only the_rules file_rule (codes "form") 4 refl)
             (tested_different_differ _ _ refl)
             (λ is_automatic_id. elim is_automatic_id [
-              | inl h ↦ tested_different_differ _ _ refl h
-              | inr h ↦ tested_different_differ _ _ refl
-                  h
+              | inl is_help ↦ tested_different_differ _ _ refl is_help
+              | inr is_version ↦ tested_different_differ _ _ refl is_version
             ]) in
             let default_read =
-            default_is_read c m p globals built_has_none 4 argument.0 (codes "form") (Names forms)
+            default_is_read c m p has_no_globals built_has_none 4 argument.0 (codes "form")
+            (Names forms)
             argument.1 in
             let is_accepted : list_any (λ n. bytes_eq n.now default_read.text) forms.now ≡ true =
             rw argument.2 at default_read.text_is_accepted in
             let word =
             known_word_is_form default_read.text
             (ap (list_any (λ (w : Text). bytes_eq w default_read.text)) (sym names_are)
-            ∙ (sym (list_any-map (λ (w : Text). bytes_eq w default_read.text) (λ n. n.now) forms.now)
+            ∙ (sym (list_any-map (λ (w : Text). bytes_eq w default_read.text) (λ n. n.now)
+            forms.now)
             ∙ is_accepted)) in
             (word.0, default_read.text_is_first ∙ ap Some word.1)
 
@@ -474,7 +474,8 @@ parsed_matches_are_found c m words is_command_app p no_fault has_matches =
     let names = is_command_app.is_report.0 in
     let forms = is_command_app.is_form.0 in
     let app_is : app_of c ≡ command_of (report_rule names) (form_rule forms) =
-    is_command_app.is ∙ ap₂ command_of is_command_app.is_report.2 is_command_app.is_form.2 in
+    is_command_app.app_is_command
+    ∙ ap₂ command_of is_command_app.is_report.2 is_command_app.is_form.2 in
     record {
       app = app_of c;
       command = is_command_app;

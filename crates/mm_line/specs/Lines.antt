@@ -124,7 +124,7 @@ pub record IsCommand (app : App) : Type 0 where
   pub is_report : IsReportRule report_option
   pub form_option : Rule
   pub is_form : IsFormRule form_option
-  pub is : app ≡ command_of report_option form_option
+  pub app_is_command : app ≡ command_of report_option form_option
 
 -- the number that an entry spells
 abbrev pub number_of : Text → List Row → Option ℕ

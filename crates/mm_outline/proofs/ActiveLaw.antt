@@ -41,18 +41,18 @@ active_test_is_activity text ws os b is_blocks j k j_lt_length k_le_length d =
     active_by_order : (j < k) ⊎ (k ≤ j)
         → (nat_lt j k && active_kind (get_or os j d).kind (nat_le k (end_of b j)))
         ≡ is_active (statements text ws os) j k
-    active_by_order (inr j_k_order) =
+    active_by_order (inr k_le_j) =
         ap (λ t. t && active_kind (get_or os j d).kind (nat_le k (end_of b j)))
-        (le-ltb j k j_k_order)
+        (le-ltb j k k_le_j)
         ∙ sym (ap
         (λ t. t && is_some_still_active (slice_get (statements text ws os) j)
-        (is_block_open (statements text ws os) j k)) (le-ltb j k j_k_order))
-    active_by_order (inl j_k_order) =
+        (is_block_open (statements text ws os) j k)) (le-ltb j k k_le_j))
+    active_by_order (inl j_lt_k) =
         let o = get_or os j d in
         ap (λ t. nat_lt j k && t)
         (active_kind_is_activity text ws o.kind o.keyword o.middle o.end (nat_le k (end_of b j))
         ∙ ap (is_still_active (statement_of text ws o))
-        (sym (is_blocks.open_up_to_end j k j_k_order
+        (sym (is_blocks.open_up_to_end j k j_lt_k
         (let length_is = length-map os (statement_of text ws) in
         omega (arith, length_is, k_le_length))))
         ∙ ap (λ q. is_some_still_active q (is_block_open (statements text ws os) j k))

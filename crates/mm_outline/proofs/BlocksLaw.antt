@@ -119,8 +119,8 @@ module _ (db : List Statement) (s : Statement) (b : BlockLists) (is_blocks : IsB
       holds_by_order (cases_lt j (length db))
     where
       holds_by_order : (j < length db) ⊎ (length db ≤ j) → P j
-      holds_by_order (inl j_order) = holds_before j j_order
-      holds_by_order (inr j_order) =
+      holds_by_order (inl j_lt_old_length) = holds_before j j_lt_old_length
+      holds_by_order (inr old_length_le_j) =
           let length_is_j : length db ≡ j = omega (arith, length_more db s) in
           subst P length_is_j holds_of_new
 
@@ -343,13 +343,14 @@ module _ (db : List Statement) (s : Statement) (b : BlockLists) (is_blocks : IsB
             open_at_last : (j < length db) ⊎ (length db ≤ j) → k ≡ length db + 1
                 → is_block_open (more db s) j (length db + 1)
                 ≡ nat_le (length db + 1) (end_of (block_lists of_more ends opens) j)
-            open_at_last (inl j_order) k_is_end =
-                open_after_one_more db s j j_order
-                ∙ open_after_old j_order (grows.old_blocks_become j j_order)
+            open_at_last (inl j_lt_old_length) k_is_end =
+                open_after_one_more db s j j_lt_old_length
+                ∙ open_after_old j_lt_old_length (grows.old_blocks_become j j_lt_old_length)
                 ∙ ap (λ q. nat_le (length db + 1) (get_or ends q 0))
-                (sym (old_block_of_is_kept j j_order))
-            open_at_last (inr j_order) k_is_end =
-                let length_is_j : length db ≡ j = omega (arith, j_lt_k, k_is_end, j_order) in
+                (sym (old_block_of_is_kept j j_lt_old_length))
+            open_at_last (inr old_length_le_j) k_is_end =
+                let length_is_j : length db ≡ j =
+                omega (arith, j_lt_k, k_is_end, old_length_le_j) in
                 subst (λ j. is_block_open (more db s) j (length db + 1)
                 ≡ nat_le (length db + 1) (end_of (block_lists of_more ends opens) j)) length_is_j
                 (new_block_is_open db s ∙ open_after_new grows.new_block_becomes
@@ -359,18 +360,19 @@ module _ (db : List Statement) (s : Statement) (b : BlockLists) (is_blocks : IsB
             open_by_order : (length db < k) ⊎ (k ≤ length db)
                 → is_block_open (more db s) j k
                 ≡ nat_le k (end_of (block_lists of_more ends opens) j)
-            open_by_order (inl k_order) =
+            open_by_order (inl old_length_lt_k) =
                 let k_is_end : k ≡ length db + 1 =
-                omega (arith, k_le_length, k_order, length_more db s) in
+                omega (arith, k_le_length, old_length_lt_k, length_more db s) in
                 subst
                 (λ k. is_block_open (more db s) j k
                 ≡ nat_le k (end_of (block_lists of_more ends opens) j))
                 (sym k_is_end) (open_at_last (cases_lt j (length db)) k_is_end)
-            open_by_order (inr k_order) =
+            open_by_order (inr k_le_old_length) =
                 let j_lt_length : j < length db = omega arith in
-                open_before_is_kept db s j k j_lt_k k_order
-                ∙ is_blocks.open_up_to_end j k j_lt_k k_order
-                ∙ open_up_to_old_end j_lt_length k_order (grows.old_blocks_become j j_lt_length)
+                open_before_is_kept db s j k j_lt_k k_le_old_length
+                ∙ is_blocks.open_up_to_end j k j_lt_k k_le_old_length
+                ∙ open_up_to_old_end j_lt_length k_le_old_length
+                (grows.old_blocks_become j j_lt_length)
                 ∙ ap (λ q. nat_le k (get_or ends q 0))
                 (sym (old_block_of_is_kept j j_lt_length))
 
@@ -421,14 +423,14 @@ module _ (db : List Statement) (s : Statement) (b : BlockLists) (is_blocks : IsB
       (b.block_of ++ innermost b.open_blocks ∷ []) b.ends b.open_blocks)
   blocks_after_other is_no_opening is_no_closing =
       let depth_is = depth_after_other is_no_opening is_no_closing in
-      let brackets = brackets_counted false false is_no_opening is_no_closing in
+      let bracket_counts_are = brackets_counted false false is_no_opening is_no_closing in
       grows_keeps_blocks b.ends b.open_blocks (record {
         closings_le_openings =
             let closings_le_openings_before = is_blocks.closings_le_openings in
-            omega (arith, brackets.0, brackets.1, closings_le_openings_before);
+            omega (arith, bracket_counts_are.0, bracket_counts_are.1, closings_le_openings_before);
         stack_size_is = is_blocks.stack_size_is ∙ ap (λ n. n + 1) (sym depth_is);
         ends_only_grow = le_refl (length b.ends);
-        ends_le_next = let brackets = is_blocks.ends_le_statements in omega (arith, brackets);
+        ends_le_next = let ends_le_old = is_blocks.ends_le_statements in omega (arith, ends_le_old);
         open_blocks_have_ends = is_blocks.open_blocks_have_ends;
         open_blocks_are_unended = is_blocks.open_blocks_are_unended;
         open_blocks_rise = is_blocks.open_blocks_rise;
@@ -447,13 +449,13 @@ module _ (db : List Statement) (s : Statement) (b : BlockLists) (is_blocks : IsB
             is_unended,
             inl (
               is_unended,
-              let end_or_depth = on_stack.0 in
+              let depth_le_last = on_stack.0 in
                   let depth_is = depth_after_other is_no_opening is_no_closing in
-                  omega (arith, depth_is, end_or_depth),
+                  omega (arith, depth_is, depth_le_last),
               on_stack.1,
             ),
           )
-      becomes_by_end j j_lt_length (inr end_or_depth) = inr (end_or_depth, refl)
+      becomes_by_end j j_lt_length (inr has_ended) = inr (has_ended, refl)
 
   pub blocks_after_opening : is_opening s ≡ true → is_closing s ≡ false
       → IsBlocks (db ++ s ∷ [])
@@ -461,19 +463,19 @@ module _ (db : List Statement) (s : Statement) (b : BlockLists) (is_blocks : IsB
       (b.open_blocks ++ length b.ends ∷ []))
   blocks_after_opening is_opening_s is_no_closing =
       let depth_is = depth_after_opening is_opening_s is_no_closing in
-      let brackets = brackets_counted true false is_opening_s is_no_closing in
+      let bracket_counts_are = brackets_counted true false is_opening_s is_no_closing in
       grows_keeps_blocks ends opens (record {
         closings_le_openings =
             let closings_le_openings_before = is_blocks.closings_le_openings in
-            omega (arith, brackets.0, brackets.1, closings_le_openings_before);
+            omega (arith, bracket_counts_are.0, bracket_counts_are.1, closings_le_openings_before);
         stack_size_is =
             length-append b.open_blocks (length b.ends ∷ [])
             ∙ (let stack_size_before = is_blocks.stack_size_is in
             omega (arith, stack_size_before, depth_is));
         ends_only_grow = omega (arith, ends_have_one_more);
         ends_le_next =
-            let brackets = is_blocks.ends_le_statements in
-            omega (arith, brackets, ends_have_one_more);
+            let ends_le_old = is_blocks.ends_le_statements in
+            omega (arith, ends_le_old, ends_have_one_more);
         open_blocks_have_ends =
             λ l l_lt_longer. holds_of_each (λ k. k < length ends) l l_lt_longer
             (λ l_lt_old. let block_has_end = is_blocks.open_blocks_have_ends l l_lt_old in
@@ -528,9 +530,9 @@ module _ (db : List Statement) (s : Statement) (b : BlockLists) (is_blocks : IsB
         where
           holds_by_order : (l < length b.open_blocks) ⊎ (length b.open_blocks ≤ l)
               → P (get_or (b.open_blocks ++ length b.ends ∷ []) l 0)
-          holds_by_order (inl l_order) =
-              subst P (sym (old_opens_are_kept l l_order)) (holds_before l_order)
-          holds_by_order (inr l_order) =
+          holds_by_order (inl l_lt_old_count) =
+              subst P (sym (old_opens_are_kept l l_lt_old_count)) (holds_before l_lt_old_count)
+          holds_by_order (inr old_count_le_l) =
               let length_is_l : length b.open_blocks ≡ l =
               omega (arith, l_lt_longer, length-append b.open_blocks (length b.ends ∷ [])) in
               subst P (sym
@@ -538,17 +540,17 @@ module _ (db : List Statement) (s : Statement) (b : BlockLists) (is_blocks : IsB
               length_is_l
               (get_or-append_seam b.open_blocks (length b.ends) [] 0))) holds_of_new
 
-      opens_rise : (l brackets : ℕ) → l < brackets
-          → brackets < length (b.open_blocks ++ length b.ends ∷ [])
+      opens_rise : (l m : ℕ) → l < m
+          → m < length (b.open_blocks ++ length b.ends ∷ [])
           → get_or (b.open_blocks ++ length b.ends ∷ []) l 0
-          < get_or (b.open_blocks ++ length b.ends ∷ []) brackets 0
-      opens_rise l brackets l_lt_m m_lt_length =
+          < get_or (b.open_blocks ++ length b.ends ∷ []) m 0
+      opens_rise l m l_lt_m m_lt_length =
           let l_lt_old : l < length b.open_blocks =
           omega (arith, l_lt_m, m_lt_length, length-append b.open_blocks (length b.ends ∷ [])) in
-          holds_of_each (λ q. get_or (b.open_blocks ++ length b.ends ∷ []) l 0 < q) brackets
+          holds_of_each (λ q. get_or (b.open_blocks ++ length b.ends ∷ []) l 0 < q) m
           m_lt_length
           (λ m_lt_old. rw (old_opens_are_kept l l_lt_old)
-          (is_blocks.open_blocks_rise l brackets l_lt_m m_lt_old))
+          (is_blocks.open_blocks_rise l m l_lt_m m_lt_old))
           (rw (old_opens_are_kept l l_lt_old) (is_blocks.open_blocks_have_ends l l_lt_old))
 
       becomes_by_end : (j : ℕ) → j < length db → (end_of b j ≡ never) ⊎ (end_of b j < length db)
@@ -557,20 +559,20 @@ module _ (db : List Statement) (s : Statement) (b : BlockLists) (is_blocks : IsB
           let on_stack = is_blocks.unended_is_on_stack j j_lt_length is_unended in
           let depth_is = depth_after_opening is_opening_s is_no_closing in
           let stack_size_before = is_blocks.stack_size_is in
-          let end_or_depth = on_stack.0 in
+          let depth_le_last = on_stack.0 in
           inl (
             is_unended,
             inl (
               old_ends_are_kept (get_or b.block_of j 0) (is_blocks.blocks_have_ends j j_lt_length)
                   ∙ is_unended,
-              omega (arith, depth_is, end_or_depth),
-              old_opens_are_kept (depth db j) (omega (arith, stack_size_before, end_or_depth))
+              omega (arith, depth_is, depth_le_last),
+              old_opens_are_kept (depth db j) (omega (arith, stack_size_before, depth_le_last))
                   ∙ on_stack.1,
             ),
           )
-      becomes_by_end j j_lt_length (inr end_or_depth) =
+      becomes_by_end j j_lt_length (inr has_ended) =
           inr (
-            end_or_depth,
+            has_ended,
             old_ends_are_kept (get_or b.block_of j 0)
                 (is_blocks.blocks_have_ends j j_lt_length),
           )
@@ -582,20 +584,26 @@ module _ (db : List Statement) (s : Statement) (b : BlockLists) (is_blocks : IsB
       (take (length b.open_blocks - 1) b.open_blocks))
   blocks_after_closing is_no_opening is_closing_s some_block_is_open =
       let depth_is = depth_after_closing is_no_opening is_closing_s in
-      let brackets = brackets_counted false true is_no_opening is_closing_s in
+      let bracket_counts_are = brackets_counted false true is_no_opening is_closing_s in
       let stack_size_before = is_blocks.stack_size_is in
       grows_keeps_blocks ends opens (record {
         closings_le_openings =
             let depth_at_end_is = depth_at_end db s in
-            omega (arith, brackets.0, brackets.1, depth_at_end_is, some_block_is_open);
+            omega (
+              arith,
+              bracket_counts_are.0,
+              bracket_counts_are.1,
+              depth_at_end_is,
+              some_block_is_open,
+            );
         stack_size_is =
             omega (arith, stack_size_before, depth_is, opens_have_one_less, some_block_is_open);
         ends_only_grow =
             omega (arith, length-set b.ends (innermost b.open_blocks) (length b.block_of));
         ends_le_next =
-            let brackets = is_blocks.ends_le_statements in omega (
+            let ends_le_old = is_blocks.ends_le_statements in omega (
               arith,
-              brackets,
+              ends_le_old,
               length-set b.ends (innermost b.open_blocks)
                   (length b.block_of),
             );
@@ -672,11 +680,11 @@ module _ (db : List Statement) (s : Statement) (b : BlockLists) (is_blocks : IsB
               → (depth db j ≤ depth db (length db))
               × (get_or b.open_blocks (depth db j) 0 ≡ get_or b.block_of j
               0) → Becomes ends opens j
-          becomes_by_case (inl innermost_or_not) on_stack =
+          becomes_by_case (inl is_innermost) on_stack =
               inl (
                 is_unended,
                 inr (
-                  ap (λ k. get_or ends k 0) innermost_or_not
+                  ap (λ k. get_or ends k 0) is_innermost
                       ∙ get_or-set_same b.ends (innermost b.open_blocks) (length b.block_of) 0
                       innermost_has_end
                       ∙ is_blocks.count,
@@ -687,21 +695,22 @@ module _ (db : List Statement) (s : Statement) (b : BlockLists) (is_blocks : IsB
               depth_falls_below : (depth db j < depth db (length db)) ⊎
                   (depth db (length db) ≤ depth db j)
                   → depth (more db s) (length db + 1) < depth db j
-              depth_falls_below (inl depth_order) =
+              depth_falls_below (inl depth_is_below) =
                   absurd (let stack_size_before = is_blocks.stack_size_is in
                   let blocks_rise =
                   is_blocks.open_blocks_rise (depth db j) (depth db (length db))
-                  depth_order (omega (arith, stack_size_before)) in
-                  omega (arith, blocks_rise, on_stack.1, innermost_or_not, innermost_is_at_depth))
-              depth_falls_below (inr depth_order) =
+                  depth_is_below (omega (arith, stack_size_before)) in
+                  omega (arith, blocks_rise, on_stack.1, is_innermost, innermost_is_at_depth))
+              depth_falls_below (inr depth_is_not_below) =
                   let depth_is = depth_after_closing is_no_opening is_closing_s in
-                  omega (arith, depth_is, some_block_is_open, depth_order)
-          becomes_by_case (inr innermost_or_not) on_stack =
+                  omega (arith, depth_is, some_block_is_open, depth_is_not_below)
+          becomes_by_case (inr not_innermost) on_stack =
               let stack_size_before = is_blocks.stack_size_is in
               let depth_is = depth_after_closing is_no_opening is_closing_s in
               let depths_differ : depth db j ≢ depth db (length db) =
-              λ z. innermost_or_not
-              (sym on_stack.1 ∙ ap (λ i. get_or b.open_blocks i 0) z ∙ sym innermost_is_at_depth) in
+              λ depths_equal. not_innermost
+              (sym on_stack.1 ∙ ap (λ i. get_or b.open_blocks i 0) depths_equal
+              ∙ sym innermost_is_at_depth) in
               let depth_le = on_stack.0 in
               let depth_lt : depth db j < depth db (length db) =
               omega (arith, depth_le, depths_differ) in
@@ -709,7 +718,7 @@ module _ (db : List Statement) (s : Statement) (b : BlockLists) (is_blocks : IsB
                 is_unended,
                 inl (
                   get_or-set_other b.ends (innermost b.open_blocks) (get_or b.block_of j 0)
-                      (length b.block_of) 0 innermost_or_not
+                      (length b.block_of) 0 not_innermost
                       ∙ is_unended,
                   omega (arith, depth_is, depth_lt),
                   kept_opens_are_equal (depth db j)

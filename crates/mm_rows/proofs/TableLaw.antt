@@ -85,11 +85,11 @@ module _ (m : Marks) (rows columns : ℕ) (words : List ℕ)
               size =
                   row_has_width_words transposed (words_for rows) j columns j_lt_columns
                   are_transposed.size;
-              bits_are_transposed =
+              bits_are_marks =
                   λ i i_lt_rows. row_bit_is_table_bit transposed (words_for rows) j i (omega arith)
                   ∙ are_transposed.bits_are_transposed i j i_lt_rows j_lt_columns
                   ∙ sym (mark_is_bit rows columns words i j i_lt_rows j_lt_columns);
-              past =
+              none_past_rows =
                   λ i rows_le_i. past_last_row j j_lt_columns i rows_le_i
                   (cases_lt i (64 * words_for rows));
             };
@@ -202,7 +202,7 @@ bit_rows_are_matrix c columns bits rows width m are_bit_rows rows_is width_is m_
     subst (λ x. IsMatrix c columns x) (sym (m_is ∙ ap₂ (λ a b. marks a b bits) rows_is width_is))
     record {
       rows = refl;
-      transposed_are_columns = refl;
+      columns_are = refl;
       marked =
           λ i j i_lt_theorems j_lt_columns. let row_decides =
           (are_bit_rows.each i i_lt_theorems).marks j j_lt_columns in

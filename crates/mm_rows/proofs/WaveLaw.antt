@@ -88,13 +88,13 @@ wave_with_citation c waves i cited n wave r is_file_order i_lt_theorems are_wave
         above_by_place (cases_eq m n)
       where
         above_by_place : (m ≡ n) ⊎ (m ≡ n → ⊥) → get_or waves s 0 + 1 ≤ x
-        above_by_place (inl m_is_or_not_n) =
+        above_by_place (inl m_is_n) =
             let s_is_r : s ≡ r =
             index_is_unique c.theorems s r is_file_order.rising s_lt_theorems r_lt_theorems
-            (theorem_is_cited ∙ ap (λ k. get_or cited k 0) m_is_or_not_n
+            (theorem_is_cited ∙ ap (λ k. get_or cited k 0) m_is_n
             ∙ sym r_is_cited) in
             subst (λ k. get_or waves k 0 + 1 ≤ x) (sym s_is_r) x_above_r
-        above_by_place (inr m_is_or_not_n) =
+        above_by_place (inr m_is_not_n) =
             let wave_is_above_cited =
             wave_before.wave_is_above m s (omega arith) s_lt_theorems theorem_is_cited in
             omega (arith, wave_is_above_cited, wave_le_x)
@@ -106,7 +106,7 @@ wave_with_citation c waves i cited n wave r is_file_order i_lt_theorems are_wave
         let suc_is_greater : suc (get_or waves r 0) ≡ max wave (get_or waves r 0 + 1) =
         omega arith in
         let r_is_earlier_here = r_is_earlier in
-        let wave_of_r_le = are_waves.wave_le_i r r_is_earlier in
+        let wave_of_r_le = are_waves.wave_le_row r r_is_earlier in
         record {
           cited_are_list = wave_before.cited_are_list;
           has_chain = subst (TheoremChain (HasCitation c) (IsCitingTheorem c) (theorem_at c i))
@@ -144,11 +144,11 @@ wave_without_citation c waves i cited n wave cites_no_theorem wave_before =
     above_by_place : (m r : ℕ) → m < n + 1 → r < length c.theorems
         → theorem_at c r ≡ get_or cited m 0
         → (m ≡ n) ⊎ (m ≡ n → ⊥) → get_or waves r 0 + 1 ≤ wave
-    above_by_place m r m_lt_next r_lt_theorems theorem_is_cited (inl m_is_or_not_n) =
+    above_by_place m r m_lt_next r_lt_theorems theorem_is_cited (inl m_is_n) =
         absurd
         (cites_no_theorem r r_lt_theorems
-        (theorem_is_cited ∙ ap (λ k. get_or cited k 0) m_is_or_not_n))
-    above_by_place m r m_lt_next r_lt_theorems theorem_is_cited (inr m_is_or_not_n) =
+        (theorem_is_cited ∙ ap (λ k. get_or cited k 0) m_is_n))
+    above_by_place m r m_lt_next r_lt_theorems theorem_is_cited (inr m_is_not_n) =
         wave_before.wave_is_above m r (omega arith) r_lt_theorems theorem_is_cited
 
 -- the wave from all citations of theorem i is its wave
@@ -419,7 +419,7 @@ wave_rows_can_be_filled c columns waves rows from to bits are_waves is_by_wave f
     )
   where
     row_lt_theorems : get_or rows p 0 < length c.theorems
-    rows_lt_waves =
+    row_lt_theorems =
         let size_is = are_waves.size in
         let row_lt_waves = is_by_wave.rows_lt_waves p 0 (omega arith) in
         omega (arith, size_is, row_lt_waves)
@@ -441,10 +441,10 @@ wave_rows_can_be_filled c columns waves rows from to bits are_waves is_by_wave f
         before_the_wave : (place_of_r : ℕ) → place_of_r < length rows
             → get_or waves (get_or rows place_of_r 0) 0 ≡ get_or waves r 0
             → (place_of_r < from) ⊎ (from ≤ place_of_r) → place_of_r < from
-        before_the_wave place_of_r q_lt_rows waves_equal (inl q_from_order) = q_from_order
-        before_the_wave place_of_r q_lt_rows waves_equal (inr q_from_order) =
-            absurd (let waves_ordered = is_by_wave.waves_rise from place_of_r q_from_order
-            q_lt_rows in
+        before_the_wave place_of_r place_lt_rows waves_equal (inl place_lt_from) = place_lt_from
+        before_the_wave place_of_r place_lt_rows waves_equal (inr from_le_place) =
+            absurd (let waves_ordered = is_by_wave.waves_rise from place_of_r from_le_place
+            place_lt_rows in
             let waves_are_equal = one_wave p from_le_p p_lt_to in
             omega (arith, waves_ordered, waves_are_equal, waves_equal, wave_is_lower))
 
@@ -477,18 +477,18 @@ filled_with_wave c columns rows part from to bits_before bits_after filled_befor
   where
     filled_by_place : (p : ℕ) → p < to → (p < from) ⊎ (from ≤ p)
         → HasRow c columns bits_after (get_or rows p 0)
-    filled_by_place p p_lt_to (inl p_from_order) =
-        part_is_filled.none_lost (get_or rows p 0) (filled_before.filled p p_from_order)
-    filled_by_place p p_lt_to (inr p_from_order) =
+    filled_by_place p p_lt_to (inl p_lt_from) =
+        part_is_filled.none_lost (get_or rows p 0) (filled_before.filled p p_lt_from)
+    filled_by_place p p_lt_to (inr from_le_p) =
         let part_has_length : length part ≡ to - from =
         ap (λ xs. length xs) part_is_range ∙ range_has_length rows from to to_le_rows in
-        let place_is_p : from + (p - from) ≡ p = omega (arith, p_from_order) in
+        let place_is_p : from + (p - from) ≡ p = omega (arith, from_le_p) in
         let part_row_is : get_or part (p - from) 0 ≡ get_or rows p 0 =
         ap (λ xs. get_or xs (p - from) 0) part_is_range
-        ∙ range_element_is rows from to (p - from) 0 (omega (arith, p_lt_to, p_from_order))
+        ∙ range_element_is rows from to (p - from) 0 (omega (arith, p_lt_to, from_le_p))
         ∙ ap (λ x. get_or rows x 0) place_is_p in
         subst (HasRow c columns bits_after) part_row_is
-        (part_is_filled.filled (p - from) (omega (arith, part_has_length, p_lt_to, p_from_order)))
+        (part_is_filled.filled (p - from) (omega (arith, part_has_length, p_lt_to, from_le_p)))
 
 pub all_rows_are_filled : (c : Citing) (columns waves rows bits : List ℕ) (from : ℕ)
     → AreWaves c (length c.theorems) waves → IsByWave waves rows
@@ -524,12 +524,12 @@ pairs_with_next_row waves ps appended i i_lt_waves pairs_before appended_is = (
   where
     pair_by_row : (p : ℕ) → p < i + 1 → (p < i) ⊎ (i ≤ p)
         → get_or (ps ++ (get_or waves i 0, i) ∷ []) p (0, 0) ≡ (get_or waves p 0, p)
-    pair_by_row p p_lt_next (inl p_i_order) =
+    pair_by_row p p_lt_next (inl p_lt_i) =
         let pairs_length = pairs_before.1 in
         get_or_append_left ps ((get_or waves i 0, i) ∷ []) (0, 0) p
-        (omega (arith, p_i_order, pairs_length)) ∙ pairs_before.2 p p_i_order
-    pair_by_row p p_lt_next (inr p_i_order) =
-        let i_is_p : i ≡ p = omega (arith, p_lt_next, p_i_order) in
+        (omega (arith, p_lt_i, pairs_length)) ∙ pairs_before.2 p p_lt_i
+    pair_by_row p p_lt_next (inr i_le_p) =
+        let i_is_p : i ≡ p = omega (arith, p_lt_next, i_le_p) in
         ap (λ j. get_or (ps ++ (get_or waves i 0, i) ∷ []) j (0, 0)) (sym (pairs_before.1 ∙ i_is_p))
         ∙ get_or-append_seam ps (get_or waves i 0, i) [] (0, 0)
         ∙ ap (λ j. (get_or waves j 0, j)) i_is_p

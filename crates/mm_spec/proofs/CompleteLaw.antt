@@ -78,23 +78,23 @@ module _ (db : List Statement) (lawful : (k : ℕ) → k < length db → IsLawfu
           → is_in w (constants_of s) ≡ true → is_in w (variables_of t) ≡ true
           → (i ≡ j) ⊎ ((i < j) ⊎ (j < i)) → ⊥
       absurd_by_order i j s t s_at_i t_at_j s_declares_constant t_declares_variable
-          (inl i_j_order) =
+          (inl i_is_j) =
           let s_is_t : s ≡ t = cc in
           not_constant_and_variable t w
           (subst (λ x. is_in w (constants_of x) ≡ true) s_is_t s_declares_constant)
           t_declares_variable
       absurd_by_order i j s t s_at_i t_at_j s_declares_constant t_declares_variable
-          (inr (inl i_j_order)) =
+          (inr (inl i_lt_j)) =
           true≢false
-          (sym (later_place_knows_declared constants_of db j i s w s_at_i i_j_order
+          (sym (later_place_knows_declared constants_of db j i s w s_at_i i_lt_j
           s_declares_constant)
           ∙ variable_is_no_constant_before (names_before db j) (depth db j) t w
           (lawful_is_faultless j t t_at_j)
           t_declares_variable)
       absurd_by_order i j s t s_at_i t_at_j s_declares_constant t_declares_variable
-          (inr (inr i_j_order)) =
+          (inr (inr j_lt_i)) =
           true≢false
-          (sym (later_place_knows_declared variables_of db i j t w t_at_j i_j_order
+          (sym (later_place_knows_declared variables_of db i j t w t_at_j j_lt_i
           t_declares_variable)
           ∙ constant_is_no_variable_before (names_before db i) (depth db i) s w
           (lawful_is_faultless i s s_at_i)

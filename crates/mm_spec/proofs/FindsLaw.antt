@@ -56,11 +56,11 @@ range_any p (suc n) a i a_le_i i_lt_end i_passes =
   where
     passes_if_there : (a ≡ i) ⊎ (a < i) → (a < i → list_any p (range_with_len (a + 1) n) ≡ true)
         → (p a || list_any p (range_with_len (a + 1) n)) ≡ true
-    passes_if_there (inl a_i_order) later_passes =
+    passes_if_there (inl a_is_i) later_passes =
         or_left (p a) (list_any p (range_with_len (a + 1) n))
-        (subst (λ x. p x ≡ true) (sym a_i_order) i_passes)
-    passes_if_there (inr a_i_order) later_passes =
-        or_right (p a) (list_any p (range_with_len (a + 1) n)) (later_passes a_i_order)
+        (subst (λ x. p x ≡ true) (sym a_is_i) i_passes)
+    passes_if_there (inr a_lt_i) later_passes =
+        or_right (p a) (list_any p (range_with_len (a + 1) n)) (later_passes a_lt_i)
 
 -- ---- members
 
