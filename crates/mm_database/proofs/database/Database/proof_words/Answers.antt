@@ -13,14 +13,14 @@ pub overflow_sub-result : goal.overflow_sub-result
 overflow_sub-result g c =
     let two_le_words =
     theorem_has_two_words _ _ _ _ _ c.self.view_is _ c.requires _ c.self.invariant.retained_are
-    c.get-words.result.now c.get-words.ensures.is_list (c.kind.ensures ∙ ap Some c.in-Theorem.is_list) in
+    c.get-words.result.now c.get-words.ensures.is_list (c.kind.ensures ∙ ap Some c.in-Theorem.is) in
     omega (arith, two_le_words)
 
 pub slice_bounds-result-count : goal.slice_bounds-result-count
 slice_bounds-result-count g c =
     let two_le_words =
     theorem_has_two_words _ _ _ _ _ c.self.view_is _ c.requires _ c.self.invariant.retained_are
-    c.get-words.result.now c.get-words.ensures.is_list (c.kind.ensures ∙ ap Some c.in-Theorem.is_list) in
+    c.get-words.result.now c.get-words.ensures.is_list (c.kind.ensures ∙ ap Some c.in-Theorem.is) in
     omega (arith, two_le_words)
 
 pub slice_bounds-result-start : goal.slice_bounds-result-start
