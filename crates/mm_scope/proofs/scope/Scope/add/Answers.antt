@@ -4,7 +4,7 @@ use Rattle.mm_outline.specs.Blocks.{never}
 use Rattle.mm_scope.proofs.AddLaw.{keeps_after, on_both}
 use Rattle.mm_scope.proofs.scope.Scope.add.Goals as goal
 
-pub push-requires-clause-blocks_lt_2_32 : goal.push-requires-clause-few_blocks
+pub push-requires-clause-blocks_lt_2_32 : goal.push-requires-clause-blocks_lt_2_32
 push-requires-clause-blocks_lt_2_32 g c =
     let k = c.requires.keeps.1.blocks.ends_le_statements in
     let m = c.requires.keeps.2 in
