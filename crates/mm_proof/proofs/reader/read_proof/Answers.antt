@@ -186,10 +186,10 @@ returns-then-eq-clause-sound g c =
 
 pub read_compressed-requires-clause-within : goal.read_compressed-requires-clause-within
 read_compressed-requires-clause-within g c =
-    let within =
+    let words_are_within =
     subst (AreWithin c.args.database.now.text) c.in-Some.ensures.cases.0
     c.proof_words-words.ensures.within in
-    λ i d l. within (suc i) d (omega (arith, l))
+    λ i d i_lt_length. words_are_within (suc i) d (omega (arith, i_lt_length))
 
 pub returns-in_default-clause-fault : goal.returns-in_default-clause-fault
 returns-in_default-clause-fault g c =
