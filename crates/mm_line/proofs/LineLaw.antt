@@ -483,7 +483,7 @@ parsed_matches_are_found c m words is_command_app p no_fault has_matches =
       rows =
           (has_matches
           (and_parts (is_simple (app_of c)) (is_free_app (built (app_of c)))
-          (simple (app_of c) is_command_app)).0).0;
+          (command_app_is_simple_and_free (app_of c) is_command_app)).0).0;
       workers = workers_read names forms c app_is m p;
       pieces = pieces_read names forms c app_is m p;
       report = report_read names forms c app_is m p is_command_app.is_report.1;
