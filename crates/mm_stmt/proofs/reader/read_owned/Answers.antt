@@ -68,7 +68,7 @@ reading_of-requires g c =
     let words_lt_2_31 =
     subst (λ (ws : List Word). length ws < 2 ^ 31) (sym words_are_tokens) (tokens_lt_2_31 text) in
     record {
-      statements_are_sound =
+      sound =
           subst (λ (ws : List Word). IsSound (statements text ws os)) words_are_tokens
           (statements_are_sound text ws os _ _ outlined.read words_lt_2_31 _ _ _
           outlined.is_read_so_far.keeps
