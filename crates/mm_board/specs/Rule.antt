@@ -63,8 +63,10 @@ pub record SeatRule (n : ℕ) (views : List View) (claim_word floor_word : ℕ)
 pub record BoardRule (n claim_word floor_word settled_word : ℕ) (views : List View) : Type 0 where
   -- each number below both the claim word and n is in one record, once, and no other number is in
   -- any
-  pub each_recorded_once : (x : ℕ) → total (times_recorded x) views ≡ once_below x (min claim_word n)
-  -- all records together have that many numbers: it follows from `each_recorded_once`, but stands here
+  pub each_recorded_once : (x : ℕ) → total (times_recorded x) views
+      ≡ once_below x (min claim_word n)
+  -- all records together have that many numbers: it follows from `each_recorded_once`, but stands
+  -- here
   -- since the proof would have to count the numbers
   pub record_lengths_are_claimed : total record_length views ≡ min claim_word n
   -- the floor word is the least reported number, or n

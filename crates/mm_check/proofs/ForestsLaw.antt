@@ -162,7 +162,8 @@ module _ (c : Context) where
   plain_extends [] lists labels all_labels plain = ([], plain ∙ sym (append-nil labels))
   plain_extends (s ∷ steps) lists labels all_labels plain =
       let extended = adds_at_end lists labels s plain.0 plain.1 in
-      let extended_again = plain_extends steps (lists ++ plain.0 ∷ []) plain.0 all_labels plain.2 in (
+      let extended_again = plain_extends steps (lists ++ plain.0 ∷ []) plain.0 all_labels plain.2 in
+      (
         extended.0 ++ extended_again.0,
         extended_again.1 ∙ ap (λ z. z ++ extended_again.0) extended.1
             ∙ append_assoc labels extended.0 extended_again.0,
@@ -236,7 +237,8 @@ module _ (c : Context) where
         forest_is =
         let at_j = list_is_postfix lists forests j adds.0 are_lists adds.2 in
         let repeated = adds.3 in
-        let forests_equal = same_labels_same_forest c are_complete (get_or forests j none) repeated.0 at_j.1
+        let forests_equal = same_labels_same_forest c are_complete
+        (get_or forests j none) repeated.0 at_j.1
         repeated.1 (at_j.2 ∙ sym repeated.2)
         in
         copy repeated.0 repeated.1 repeated.3 forests_equal at_j.0

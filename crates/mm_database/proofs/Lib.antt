@@ -3,7 +3,8 @@
 -- (`SymbolsLaw.antt`) and `names_inserted` (`NamesLaw.antt`), where a word longer than the longest
 -- is none (`none_longer_with_name`, `LongestLaw.antt`); kinds by `test_by_kind`, and theorems by
 -- `theorems_by_kind` (`KindsLaw.antt`). Lists that are kept one after the other are the lists that
--- were joined (`joined_with_one_more`, `joined_lists_are_part`, `ListsLaw.antt` of `mm_lists`): labels and proofs
+-- were joined (`joined_with_one_more`, `joined_lists_are_part`, `ListsLaw.antt` of `mm_lists`):
+-- labels and proofs
 -- (`label_is_retained` and `proof_is_retained`, `RetainedWordsLaw.antt`), and the labels of
 -- theorems (`spaced_slice`, `SpacedLaw.antt`). A frame is found by its index, which stays its own
 -- as frames are added (`frame_at_index` and `frames_at_push_frame`, `FrameIndicesLaw.antt`).

@@ -29,7 +29,8 @@ module _ (db : List Statement) (b : BlockLists) (are_blocks : IsBlocks db b) (k 
           ≡ (nat_lt j k && (list_any is_disjoint_statement (statement_at db j)
           && is_block_open db j k))
       by_order (inl j_lt_k) = ap (λ c. nat_lt j k && c)
-          (sym (ap₂ (λ p q. p && q) j_is_disjoint (are_blocks.open_up_to_end j k j_lt_k k_le_length)))
+          (sym (ap₂ (λ p q. p && q) j_is_disjoint
+              (are_blocks.open_up_to_end j k j_lt_k k_le_length)))
       by_order (inr k_le_j) =
           ap (λ c. c && nat_le k (end_of b j)) (le-ltb j k k_le_j)
           ∙ sym (ap (λ c. c
@@ -81,7 +82,8 @@ module _ (db : List Statement) (b : BlockLists) (are_blocks : IsBlocks db b) (k 
         right_to_left true r_true x_and_y_together = r_true
         right_to_left false r_false x_and_y_together =
             let common =
-            passing_has_witness (λ j. is_member (formula_at db j) x && is_member (formula_at db j) y)
+            passing_has_witness (λ j. is_member (formula_at db j) x
+                && is_member (formula_at db j) y)
             (active_of is_disjoint_statement db k) x_and_y_together in
             let j = common.0 in
             let j_is_disjoint = active_is_disjoint j common.1 in

@@ -152,7 +152,8 @@ module _ (db : List Statement) (is_sound : IsSound db) where
         dot = d;
         statement_is = statement_k_is_o;
         number_is_v = same_Some _ _ second_symbol_is_v;
-        variable_is_untyped = (faultless_floating_is_new (names_before db k) a c x no_typing_fault).1;
+        variable_is_untyped = (faultless_floating_is_new
+            (names_before db k) a c x no_typing_fault).1;
         typecode_is_declared = typecode_is_constant (names_before db k) a c x no_typing_fault;
       }
 

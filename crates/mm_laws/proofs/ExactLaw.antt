@@ -56,7 +56,8 @@ module _ (c : Context) where
       let substitutions_equal : substitution_from c a.hypotheses (map (substitute c fails.0)
       a.hypotheses) ≡ σ =
       ap (substitution_from c a.hypotheses) (sym fails.2) in
-      let pair_tests_equal = found_keeps_disjoint c a.hypotheses fails.0 a.pairs is_complete.pairs in
+      let pair_tests_equal = found_keeps_disjoint c a.hypotheses fails.0 a.pairs is_complete.pairs
+      in
       let disjoint_tests_equal =
       subst (λ (s : Substitution). list_all (λ p. are_all_disjoint c (s p.low) (s p.high)) a.pairs
       ≡ list_all (λ p. are_all_disjoint c (fails.0 p.low) (fails.0 p.high)) a.pairs)
@@ -65,7 +66,8 @@ module _ (c : Context) where
       (list_all (λ p. are_all_disjoint c (σ p.low) (σ p.high)) a.pairs)
       (nat_le (length (substitute c σ a.formula)) formula_limit)
       (take n es ++ substitute c σ a.formula ∷ []))
-      (le-leb (length a.hypotheses) (length es) fails.1) (found_matches_if_any c a ps fails.0 is_complete
+      (le-leb (length a.hypotheses) (length es) fails.1)
+          (found_matches_if_any c a ps fails.0 is_complete
       fails.2)
       ∙ ap (λ k. unless_failed true true k
       (nat_le (length (substitute c σ a.formula)) formula_limit)
@@ -91,7 +93,8 @@ module _ (c : Context) where
       (list_all (λ p. are_all_disjoint c (σ p.low) (σ p.high)) a.pairs)
       (nat_le (length (substitute c σ a.formula)) formula_limit)
       (take n es ++ substitute c σ a.formula ∷ []))
-      (le-leb (length a.hypotheses) (length es) fails.1) (found_matches_if_any c a ps fails.0 is_complete
+      (le-leb (length a.hypotheses) (length es) fails.1)
+          (found_matches_if_any c a ps fails.0 is_complete
       fails.2)
       ∙ ap₂ (λ k s. unless_failed true true k s (take n es ++ substitute c σ a.formula ∷ []))
       (disjoint_tests_equal ∙ fails.3)
@@ -129,7 +132,8 @@ module _ (c : Context) where
       let split_labels_are_good : AreGood c (stopped.before ++ stopped.label ∷ stopped.after) =
       subst
       (AreGood c) stopped.splits are_good in
-      let parts_are_good = good_append_is_good_parts c stopped.before (stopped.label ∷ stopped.after)
+      let parts_are_good = good_append_is_good_parts c stopped.before
+      (stopped.label ∷ stopped.after)
       split_labels_are_good in
       let reached_are_good : AreGood c (postfix stopped.reached) = subst (AreGood c)
       (sym stopped.labels) parts_are_good.0 in

@@ -199,7 +199,8 @@ module _ (db : List Statement) (k : ℕ) where
         by_bracket : (b : Bool)
             → bytes_eq t.word (codes "(") ≡ b → (t.word ≡ codes "(" → Goal)
             → (t.word ≢ codes "(" → Goal) → Goal
-        by_bracket true is_bracket compressed_case normal_case = compressed_case (equal_bytes_equal_words t.word
+        by_bracket true is_bracket compressed_case normal_case =
+            compressed_case (equal_bytes_equal_words t.word
             (codes "(") is_bracket)
         by_bracket false not_bracket compressed_case normal_case =
             normal_case (λ is_bracket_word. true≢false (sym ((bytes_eq-Decides t.word (codes "(")).1

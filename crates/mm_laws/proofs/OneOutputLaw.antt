@@ -156,7 +156,8 @@ module _ (c : Context) (all_complete : (l : ℕ) → HasCompleteFrame c (c.rule 
           let is_plain = subst (λ x. IsPlain c (map (λ p. p.step) x) (postfix faults_f.forest))
           splits_equal.0 faults_f.plain in
           let forests_equal : faults_f.forest ≡ faults_g.forest =
-          same_labels_same_forest c all_complete faults_f.forest faults_g.forest faults_f.derivations
+          same_labels_same_forest c all_complete faults_f.forest faults_g.forest
+              faults_f.derivations
           faults_g.derivations
           (plain_lists_are_equal c all_complete (map (λ p. p.step) faults_g.before) [] [] (postfix
           faults_f.forest)
@@ -349,7 +350,8 @@ shape_fault_is_unique ts f g faults_f faults_g =
 
 longest_statements_equal : (ts : List Token) (a b : List Statement) → AreLongestStatements ts a
     → AreLongestStatements ts b → a ≡ b
-longest_statements_equal ts a b is_longest_a is_longest_b = sym (longest_is_what_is_read ts a is_longest_a)
+longest_statements_equal ts a b is_longest_a is_longest_b =
+    sym (longest_is_what_is_read ts a is_longest_a)
     ∙ longest_is_what_is_read ts b is_longest_b
 
 file_end_fault_is_unique : (len : ℕ) (ts : List Token) (f g : Fault) → FileEndFault len ts f

@@ -257,7 +257,8 @@ module _ (hypotheses labels : List ℕ) where
           )
       by_label_or_mark None not_label None not_mark =
           let count_le_n = got_none_is_past_end (hypotheses ++ labels) n not_label in
-          let marks_le_n = got_none_is_past_end marks (n - length (hypotheses ++ labels)) not_mark in
+          let marks_le_n = got_none_is_past_end marks
+          (n - length (hypotheses ++ labels)) not_mark in
           let counts_add = length-append hypotheses labels in
           absurd (omega arith)
 
@@ -359,7 +360,8 @@ module _ (hypotheses labels : List ℕ) where
 
 word_is_new : (n : KnownNames) (l : Token) (w : Bytes) → bytes_eq l.word w ≡ true
     → lawful.label_faults n l ≡ [] → is_in w n.labels ≡ false
-word_is_new n l w is_word no_fault = ap (λ v. is_in v n.labels) (sym (equal_bytes_equal_words l.word w is_word))
+word_is_new n l w is_word no_fault = ap (λ v. is_in v n.labels)
+    (sym (equal_bytes_equal_words l.word w is_word))
     ∙ faultless_label_is_new n l no_fault
 
 label_is_new : (n : KnownNames) (d : ℕ) (s : Statement) (w : Bytes) → scope_faults n d s ≡ []
@@ -451,7 +453,8 @@ module _ (db : List Statement) (are_lawful : (k : ℕ) → k < length db → IsL
       let is_new : is_in w (names_before db j).labels ≡ false =
       label_is_new (names_before db j) (depth db j) labelled_j.0 w (statement_is_faultless j
       labelled_j.0 labelled_j.1) labelled_j.2 in
-      true≢false (sym (later_place_knows_declared label_words db j i labelled_i.0 w labelled_i.1 i_lt_j (label_is_word
+      true≢false (sym (later_place_knows_declared label_words db j i labelled_i.0 w labelled_i.1
+          i_lt_j (label_is_word
       labelled_i.0 w labelled_i.2)) ∙ is_new)
 
   labels_are_distinct : LabelsDiffer db
@@ -603,7 +606,8 @@ module _ (db : List Statement) (labels_differ : LabelsDiffer db) where
         by_bracket : (b : Bool) → bytes_eq t.word (codes "(") ≡ b → faults b ≡ []
             → AllZip (λ u s. (j : ℕ) × (s ≡ label j) × IsUsable db k u.word j) (t ∷ ts)
             (map (λ p. p.step) (out b))
-        by_bracket true is_bracket no_faults = absurd (no_bracket (equal_bytes_equal_words t.word (codes "(")
+        by_bracket true is_bracket no_faults =
+            absurd (no_bracket (equal_bytes_equal_words t.word (codes "(")
             is_bracket))
         by_bracket false not_bracket no_faults = steps_are_labels (t ∷ ts) (labels_are_faultless (t
             ∷ ts) no_faults)

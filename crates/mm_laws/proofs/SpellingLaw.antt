@@ -239,7 +239,8 @@ bracketed_splits (t ∷ labels) closing letters is_closing no_label_closes =
         ≡ record { labels = labels; letters = Some letters }
         → bracketed_by t (labels ++ closing ∷ letters) b
         ≡ record { labels = t ∷ labels; letters = Some letters }
-    by_bracket true is_bracket rest_splits = absurd (no_label_closes.0 (equal_bytes_equal_words t.word (codes ")")
+    by_bracket true is_bracket rest_splits = absurd
+        (no_label_closes.0 (equal_bytes_equal_words t.word (codes ")")
         is_bracket))
     by_bracket false not_bracket rest_splits = ap (with_label t) rest_splits
 
@@ -376,13 +377,15 @@ groups_are_faultless (g ∷ gs) label_count marks count no_faults =
     by_letter true is_last_letter false not_mark no_faults after_number after_mark =
         let not_too_large =
         no_code_if_false (nat_lt (label_count + marks) (value g)) NumberTooLarge
-        (no_faults_no_codes (starts_at g) (when (nat_lt (label_count + marks) (value g)) NumberTooLarge)
+        (no_faults_no_codes (starts_at g) (when
+            (nat_lt (label_count + marks) (value g)) NumberTooLarge)
         (both_are_empty (faults_of_group true false) (faults_of_later_groups false) no_faults).0) in
         inl (
           is_last_letter,
           ltb-false (label_count + marks) (value g) not_too_large,
           after_number
-              (both_are_empty (faults_of_group true false) (faults_of_later_groups false) no_faults).1,
+              (both_are_empty (faults_of_group true false)
+                  (faults_of_later_groups false) no_faults).1,
         )
     by_letter false not_last_letter true is_mark no_faults after_number after_mark =
         let no_faults_of_letter =
@@ -404,7 +407,8 @@ groups_are_faultless (g ∷ gs) label_count marks count no_faults =
           nil_if_not_positive g.early no_open_number,
           omega arith,
           after_mark
-              (both_are_empty (faults_of_group false true) (faults_of_later_groups true) no_faults).1,
+              (both_are_empty (faults_of_group false true)
+                  (faults_of_later_groups true) no_faults).1,
         )
     by_letter false not_last_letter false not_mark no_faults after_number after_mark =
         absurd (other_byte_is_fault (g.last.byte == 63)

@@ -91,7 +91,8 @@ module _ (db : List Statement) (are_lawful : (k : ℕ) → k < length db → IsL
     where
       is_typing : (i : ℕ) → Types db are_lawful i x → IsTyping db i x
       is_typing i types = record {
-        is_floating_statement = statement_passes db is_floating i types.statement types.statement_is_at
+        is_floating_statement = statement_passes db is_floating i types.statement
+            types.statement_is_at
             types.is_floating_statement;
         typecode = types.typecode;
         formula_is = types.formula_is;
@@ -169,7 +170,8 @@ module _ (db : List Statement) (are_lawful : (k : ℕ) → k < length db → IsL
           let found = passing_active db k (λ j. is_mandatory db k j && in_formula x j) some_active
           in
           let parts = and_parts (is_mandatory db k found.0) (in_formula x found.0) found.2 in
-          hypothesis_variable_is_mandatory db are_lawful k found.0 x found.1 parts.0 parts.1 is_variable_x
+          hypothesis_variable_is_mandatory db are_lawful k found.0 x found.1 parts.0 parts.1
+              is_variable_x
       in_hypotheses_or_pairs (inr x_is_in_pairs) =
           let found =
           one_passes (λ p. is_mandatory_pair db k p && in_pair x p) all_pairs
@@ -180,7 +182,8 @@ module _ (db : List Statement) (are_lawful : (k : ℕ) → k < length db → IsL
 
       in_formula_or_rest : (in_formula x k ≡ true) ⊎ ((in_hypotheses x || in_pairs x) ≡ true)
           → IsMandatory x
-      in_formula_or_rest (inl x_is_in_formula) = formula_variable_is_mandatory db are_lawful k x x_is_in_formula
+      in_formula_or_rest (inl x_is_in_formula) =
+          formula_variable_is_mandatory db are_lawful k x x_is_in_formula
           is_variable_x
       in_formula_or_rest (inr x_is_in_rest) =
           in_hypotheses_or_pairs (or_cases (in_hypotheses x) (in_pairs x) x_is_in_rest)

@@ -138,6 +138,7 @@ have_waves len x with_open db has_no_fault by_essential t =
     in (
       wave.0,
       wave.1,
-      λ m is_wave. two_waves_are_equal (Cites statements by_essential) (IsTheorem statements) t m wave.0
+      λ m is_wave. two_waves_are_equal (Cites statements by_essential)
+          (IsTheorem statements) t m wave.0
           is_wave wave.1,
     )

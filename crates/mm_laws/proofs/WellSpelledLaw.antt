@@ -659,7 +659,8 @@ module _ (db : List Statement) (differ : LabelsDiffer db) (k end : ℕ) where
     where
       by_question_mark : (b : Bool) → bytes_eq t.word (codes "?") ≡ b
           → own_faults db differ k t b ≡ []
-      by_question_mark true is_question_mark = absurd (are_plain_words.0.0 (equal_bytes_equal_words t.word (codes
+      by_question_mark true is_question_mark =
+          absurd (are_plain_words.0.0 (equal_bytes_equal_words t.word (codes
           "?") is_question_mark))
       by_question_mark false not_question_mark = usable_label_has_no_fault db k t
           are_plain_words.0.1.0 are_plain_words.0.1.1
@@ -674,7 +675,8 @@ module _ (db : List Statement) (differ : LabelsDiffer db) (k end : ℕ) where
             | true ↦ compressed_faults db k end (bracketed ts)
             | false ↦ normal_faults db k end (t ∷ ts)
           ]) (flat_map faults_of_word (t ∷ ts))
-      by_bracket true is_bracket = absurd (no_bracket (equal_bytes_equal_words t.word (codes "(") is_bracket))
+      by_bracket true is_bracket = absurd (no_bracket
+          (equal_bytes_equal_words t.word (codes "(") is_bracket))
       by_bracket false not_bracket = refl
 
 pub normal_is_exact : WhereRead NormalIsExact

@@ -24,7 +24,8 @@ module _ {X : Type 0} (xs added : List X) (s : IndexRange) where
       }
 
   elements_stay : IsIndexRange (length xs) s → elements_in (xs ++ added) s ≡ elements_in xs s
-  elements_stay is_range = stretch_of_longer_list xs added s.start s.end is_range.rising is_range.within
+  elements_stay is_range = stretch_of_longer_list xs added s.start s.end is_range.rising
+      is_range.within
 
   module _ (start_is : s.start ≡ length xs) (end_is : s.end ≡ length (xs ++ added)) where
     added_range_is_range : IsIndexRange (length (xs ++ added)) s

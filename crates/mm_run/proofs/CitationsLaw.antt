@@ -29,7 +29,8 @@ module _ (db : List Statement) (request : Request) (c : Citing)
     theorems_are = have_citations.theorems_are;
     assertions =
         λ i i_lt_count k d k_lt_length.
-        ((have_citations.lists_are_exact i i_lt_count (get_or (list_at c i) k d)).0 (element_is_member
+        ((have_citations.lists_are_exact i i_lt_count (get_or (list_at c i) k d)).0
+            (element_is_member
         (list_at c i) k d k_lt_length)).0;
   }
 

@@ -158,7 +158,8 @@ module _ (db : List Statement) (lawful : (k : ℕ) → k < length db → scope_f
       rw symbols_are_appended
       (subst (λ fs. AreJoined fs (numbers ++ formula_of longer_db s)
       (with_end places (length (numbers ++ formula_of longer_db s)))) formulas_push
-      (joined_with_one_more (map (formula_of db) db) (formula_of longer_db s) numbers places are_formulas))
+      (joined_with_one_more (map (formula_of db) db)
+          (formula_of longer_db s) numbers places are_formulas))
 
 -- ---- the formulas one by one
 
@@ -191,7 +192,8 @@ numbers_between_push text ws ns from i from_le_i i_lt_length =
 -- there are no numbers of no words
 pub numbers_between_nothing : (text : List ℕ) (ws : List spec.Word) (ns : List Bytes) (from : ℕ)
     → [] ≡ numbers_in ns (between text ws from from)
-numbers_between_nothing text ws ns from = ap (numbers_in ns) (nothing_between_place_and_itself text ws from)
+numbers_between_nothing text ws ns from = ap (numbers_in ns)
+    (nothing_between_place_and_itself text ws from)
 
 -- the words up to i + 1 are those up to i and the next word
 pub words_between_push : (text : List ℕ) (ws : List spec.Word) (from i : ℕ) → from ≤ i

@@ -47,7 +47,8 @@ known_lawful_is_sound db look labels b knows_statements statements_lt_2_31 lawfu
           λ w w_is_constant. let known_symbol =
           knows_statements.symbols w in
           known_symbol.variable_is_known
-          ∙ constant_is_no_variable (entry_of (look w)) (sym known_symbol.constant_is_known ∙ w_is_constant);
+          ∙ constant_is_no_variable (entry_of (look w))
+              (sym known_symbol.constant_is_known ∙ w_is_constant);
       symbols_have_numbers = symbols_have_numbers;
     }
 
@@ -79,7 +80,8 @@ pub record AreSymbols (db : List Statement) (names : List (List ℕ))
     (kinds : List Bool) : Type 0 where
   pub names_are : names ≡ symbol_names db
   pub count : length kinds ≡ length names
-  pub variable : (s : ℕ) → s < length names → get_or kinds s false ≡ is_variable_number db s
+  pub kinds_tell_variables : (s : ℕ) → s < length names
+      → get_or kinds s false ≡ is_variable_number db s
 
 pub are_symbols : (db : List Statement) (look : List ℕ → Option Symbol) (labels : List ℕ → Option ℕ)
     → (b : BlockLists)
@@ -93,10 +95,11 @@ are_symbols db look labels b knows_statements names kinds names_are counts_equal
     record {
       names_are = names_are;
       count = counts_equal;
-      variable_is_known = λ s s_lt_count.
+      kinds_tell_variables = λ s s_lt_count.
           let w = get_or names s [] in
           let name_is = slice_get-get_or names s [] s_lt_count in
-          kinds_are s w name_is ∙ marked_as_known (look w) ∙ sym (knows_statements.symbols w).variable_is_known
+          kinds_are s w name_is ∙ marked_as_known (look w)
+              ∙ sym (knows_statements.symbols w).variable_is_known
           ∙ ap (λ o. elim o [ None ↦ false | Some w ↦ is_in w (flat_map variables_of db) ])
           (sym name_is ∙ ap (λ xs. slice_get xs s) names_are);
     }

@@ -71,7 +71,8 @@ valid_if_has_citations db by_essential t cites has_citations = (
 module _ (db : List Statement) (length_lt_limit : length db < 2 ^ 31) (are_complete : AreComplete
     db) where
   pub theorems_rise : IsStatementList (theorems db)
-  theorems_rise = filtered_range_is_statement_list (λ j. list_any is_theorem (statement_at db j)) (length db)
+  theorems_rise = filtered_range_is_statement_list (λ j. list_any is_theorem (statement_at db j))
+      (length db)
       length_lt_limit
 
   -- the theorems before theorem i are valid
@@ -118,7 +119,8 @@ module _ (db : List Statement) (length_lt_limit : length db < 2 ^ 31) (are_compl
         rising = theorems_rise;
         each = have_citations.list_count_is;
         earlier =
-            λ i k i_lt_count k_lt_length. cited_lt_theorem db by_essential (get_or (theorems db) i 0) _
+            λ i k i_lt_count k_lt_length. cited_lt_theorem db by_essential
+                (get_or (theorems db) i 0) _
             (((have_citations.each_has_citations i i_lt_count).is_checked.cites_are_exact (get_or
             (get_or lists i []) k 0)).0
             (element_is_member (get_or lists i []) k 0 k_lt_length));

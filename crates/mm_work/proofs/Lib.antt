@@ -1,6 +1,7 @@
 -- Between two theorems a worker keeps `IsBetweenTheorems`: its seat settled what it found valid,
 -- and reported its fault. It begins by `between_at_start`; `drawn_after_claim`, and then
--- `between_after_skip`, `between_after_settle` or `between_after_report`, lead over one theorem, and
+-- `between_after_skip`, `between_after_settle` or `between_after_report`, lead over one theorem,
+-- and
 -- `unrecorded_drops_after_draw` ends
 -- the loop (`WorkersLaw.antt`). `join_all` keeps `AreGathered` by `gathered_of_first` and
 -- `gathered_with_next`. After the board's `close`, `floor_is_found_faulty` and `valid_below_floor`

@@ -30,7 +30,8 @@ outline_statements-requires-clause-tokens g c =
     (sym (c.as_slice-words.ensures.value ∙ c.requires.tokens))
     (tokens_are_told_by_first_byte c.args.text.now)
 
-pub outline_statements-requires-clause-few_tokens : goal.outline_statements-requires-clause-few_tokens
+pub outline_statements-requires-clause-few_tokens :
+    goal.outline_statements-requires-clause-few_tokens
 outline_statements-requires-clause-few_tokens g c =
     subst (λ (ws : List Word). length ws < 2 ^ 31)
     (sym (c.as_slice-words.ensures.value ∙ c.requires.tokens)) (tokens_lt_2_31 c.args.text.now)
@@ -107,8 +108,9 @@ new-requires g c =
       retained_words = c.in_ok-retained_words.retained_words;
     })) (sym reading_is)
     (record {
-      few_outlines = let outline_count_is = length-map os (statement_of text words) in
-          let outlines_are_few = outlined.few_outlines in omega (arith, outline_count_is, outlines_are_few);
+      few_statements = let outline_count_is = length-map os (statement_of text words) in
+          let outlines_are_few = outlined.few_outlines in
+          omega (arith, outline_count_is, outlines_are_few);
       read =
           lent_words_are_read text ws words os _ _ words_are_tokens refl c.requires.fault
           outlined.read;

@@ -27,6 +27,7 @@ into_reading-requires g c =
         numbered = rw is_read_so_far.formulas.cut_is_lists (formulas_numbered db);
         few_symbols = omega (arith, symbols_are_few, flag_count_is);
         count = omega (arith, flag_count_is, name_count_is);
-        variable = λ s s_lt_count. symbols.variable s (omega (arith, s_lt_count, name_count_is));
+        variable = λ s s_lt_count. symbols.kinds_tell_variables s
+            (omega (arith, s_lt_count, name_count_is));
       };
     }

@@ -15,7 +15,8 @@ returns-in-Err-clause-fault g c =
     rw c.refusal.ensures
     (refused_step_refuses c.args.database.now.statements c.args.theorem c.args.steps.now.steps
     c.args.i
-    c.args.self.now c.requires.performed c.requires.i_lt_length (as_step c.step.result) c.step.ensures
+    c.args.self.now c.requires.performed c.requires.i_lt_length
+        (as_step c.step.result) c.step.ensures
     c.place.result c.in-Err.refused c.place.ensures c.in-Err.ensures.refused)
 
 pub returns-in_ok-mark-clause-performed : goal.returns-in_ok-mark-clause-performed
@@ -37,7 +38,8 @@ pub returns-else-is_marked-clause-performed : goal.returns-else-is_marked-clause
 returns-else-is_marked-clause-performed g c =
     has_performed_after_step c.args.database.now.statements c.args.theorem c.args.steps.now.steps
     c.args.i
-    c.args.self.now c.requires.performed c.requires.i_lt_length (as_step c.step.result) c.step.ensures
+    c.args.self.now c.requires.performed c.requires.i_lt_length
+        (as_step c.step.result) c.step.ensures
     c.perform.new.self c.perform.new.self.machine false
     (sym c.is_marked.ensures ∙ c.if-is_marked.false) c.in_default.ensures.performs
     c.perform.ensures.at_theorem refl refl
