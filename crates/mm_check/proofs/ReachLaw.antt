@@ -158,7 +158,7 @@ failing_step_refuses db t steps i stack ends noted reason i_lt_length_steps is_r
     let grown =
     subst (GrownForest c is_reached.lists is_reached.forest s.step) entries_fail
     (good_step_grows_forest c is_reached.lists ends is_reached.forest s.step
-        is_reached.are_derivations
+    is_reached.are_derivations
     is_reached.lists_end_in_formulas
     is_good) in
     record {

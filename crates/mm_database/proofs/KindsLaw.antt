@@ -36,7 +36,7 @@ filter_range_push p k b p_k_is_b =
     let k_plus_1_is_suc : k + 1 ≡ suc k = omega arith in
     let zero_plus_k_is_k : 0 + k ≡ k = omega arith in
     ap (λ n. filter p (range_with_len 0 n)) k_plus_1_is_suc
-        ∙ ap (filter p) (range_with_one_more 0 k)
+    ∙ ap (filter p) (range_with_one_more 0 k)
     ∙ ap (λ i. filter p (range_with_len 0 k ++ i ∷ [])) zero_plus_k_is_k
     ∙ filter-append p (range_with_len 0 k) (k ∷ [])
     ∙ ap (λ c. filter p (range_with_len 0 k) ++ cond c (k ∷ []) []) p_k_is_b

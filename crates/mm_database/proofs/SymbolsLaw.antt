@@ -54,9 +54,9 @@ first_occurrences_append (v ∷ ws) e w =
         → (is_in w e || is_in w ws) ≡ (is_in w e || (b || is_in w ws))
     new_if_equal v_in_e true w_eq_v =
         ap (λ a. a || is_in w ws) (ap (λ x. is_in x e) (equal_bytes_equal_words w v w_eq_v)
-            ∙ v_in_e)
+        ∙ v_in_e)
         ∙ sym (ap (λ a. a || (true || is_in w ws))
-            (ap (λ x. is_in x e) (equal_bytes_equal_words w v w_eq_v)
+        (ap (λ x. is_in x e) (equal_bytes_equal_words w v w_eq_v)
         ∙ v_in_e))
     new_if_equal v_in_e false w_eq_v = refl
 

@@ -30,7 +30,7 @@ module _ (db : List Statement) (b : BlockLists) (are_blocks : IsBlocks db b) (k 
           && is_block_open db j k))
       by_order (inl j_lt_k) = ap (λ c. nat_lt j k && c)
           (sym (ap₂ (λ p q. p && q) j_is_disjoint
-              (are_blocks.open_up_to_end j k j_lt_k k_le_length)))
+          (are_blocks.open_up_to_end j k j_lt_k k_le_length)))
       by_order (inr k_le_j) =
           ap (λ c. c && nat_le k (end_of b j)) (le-ltb j k k_le_j)
           ∙ sym (ap (λ c. c
@@ -83,7 +83,7 @@ module _ (db : List Statement) (b : BlockLists) (are_blocks : IsBlocks db b) (k 
         right_to_left false r_false x_and_y_together =
             let common =
             passing_has_witness (λ j. is_member (formula_at db j) x
-                && is_member (formula_at db j) y)
+            && is_member (formula_at db j) y)
             (active_of is_disjoint_statement db k) x_and_y_together in
             let j = common.0 in
             let j_is_disjoint = active_is_disjoint j common.1 in

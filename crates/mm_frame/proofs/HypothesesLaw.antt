@@ -186,7 +186,7 @@ module _ (db : List Statement) (k : ℕ) where
           (variable_lt_symbol_count db is_sound j v j_lt_length_db float)
           floating.1 j_is_open in
           witness_makes_any (is_float_of db k ts j) variables v
-              (variables_are v ∙ variable_is_mandatory)
+          (variables_are v ∙ variable_is_mandatory)
           (ap₂ (λ p q. p && q) (eq-eqb j (get_or ts v 0) (sym last_is_j))
           (ap₂ (λ p q. not p && q)
           (ne_eqb (get_or ts v 0) never

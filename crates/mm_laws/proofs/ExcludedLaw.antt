@@ -22,8 +22,7 @@ module _ (c : Context) (all_complete : (l : ℕ) → HasCompleteFrame c (c.rule 
   plain_extends [] lists labels all_labels plain = ([], plain ∙ sym (append-nil labels))
   plain_extends (s ∷ steps) lists labels all_labels plain =
       let extended = adds_at_end lists labels s plain.0 plain.1 in
-      let extended_again = plain_extends steps (lists ++ plain.0 ∷ []) plain.0 all_labels plain.2 in
-      (
+      let extended_again = plain_extends steps (lists ++ plain.0 ∷ []) plain.0 all_labels plain.2 in (
         extended.0 ++ extended_again.0,
         extended_again.1 ∙ ap (λ z. z ++ extended_again.0) extended.1
             ∙ append_assoc labels extended.0 extended_again.0,

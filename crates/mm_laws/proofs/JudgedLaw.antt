@@ -149,7 +149,7 @@ module _ (c : Context) (all_complete : (l : ℕ) → HasCompleteFrame c (c.rule 
             plain =
                 subst (λ x. Plain c [] [] x (postfix outcome.forest)) (sym split.front_is)
                 (subst (λ x. Plain c [] [] outcome.before x)
-                    (sym outcome.labels_are) outcome.plain);
+                (sym outcome.labels_are) outcome.plain);
             reason = e.reason;
             fails = outcome.fails;
             is = refl;
@@ -195,7 +195,7 @@ module _ (c : Context) (all_complete : (l : ℕ) → HasCompleteFrame c (c.rule 
   no_end_fault d derives f end_fault_of_ps =
       let forests_equal : end_fault_of_ps.forest ≡ d =
       same_labels_same_forest c all_complete end_fault_of_ps.forest d end_fault_of_ps.derivations
-          derives.3
+      derives.3
       (plain_lists_are_equal c all_complete (steps_of ps) [] [] (postfix end_fault_of_ps.forest)
       (postfix d) end_fault_of_ps.plain derives.4) in
       let formula_is_only_entry : formulas end_fault_of_ps.forest

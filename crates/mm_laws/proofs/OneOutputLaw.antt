@@ -157,7 +157,7 @@ module _ (c : Context) (all_complete : (l : ℕ) → HasCompleteFrame c (c.rule 
           splits_equal.0 faults_f.plain in
           let forests_equal : faults_f.forest ≡ faults_g.forest =
           same_labels_same_forest c all_complete faults_f.forest faults_g.forest
-              faults_f.derivations
+          faults_f.derivations
           faults_g.derivations
           (plain_lists_are_equal c all_complete (map (λ p. p.step) faults_g.before) [] [] (postfix
           faults_f.forest)

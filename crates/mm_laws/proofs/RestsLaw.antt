@@ -82,8 +82,7 @@ module _ (db : List Statement) (by_essential : Bool) (all_complete : AreComplete
       if_valid is_valid =
           let is_listed = is_member (node_labels (child_counts db by_essential) each_root
           is_valid.1) a in
-          let labels_are = node_iff_listed (child_counts db by_essential) each_root is_valid.1 a in
-          (
+          let labels_are = node_iff_listed (child_counts db by_essential) each_root is_valid.1 a in (
             list_any is_assertion (statement_at db a) && is_listed,
             (
               (λ is_cited. let parts = and_parts (list_any is_assertion (statement_at db a))

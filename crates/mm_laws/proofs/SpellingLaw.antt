@@ -378,14 +378,14 @@ groups_are_faultless (g ∷ gs) label_count marks count no_faults =
         let not_too_large =
         no_code_if_false (nat_lt (label_count + marks) (value g)) NumberTooLarge
         (no_faults_no_codes (starts_at g) (when
-            (nat_lt (label_count + marks) (value g)) NumberTooLarge)
+        (nat_lt (label_count + marks) (value g)) NumberTooLarge)
         (both_are_empty (faults_of_group true false) (faults_of_later_groups false) no_faults).0) in
         inl (
           is_last_letter,
           ltb-false (label_count + marks) (value g) not_too_large,
           after_number
               (both_are_empty (faults_of_group true false)
-                  (faults_of_later_groups false) no_faults).1,
+              (faults_of_later_groups false) no_faults).1,
         )
     by_letter false not_last_letter true is_mark no_faults after_number after_mark =
         let no_faults_of_letter =
@@ -408,7 +408,7 @@ groups_are_faultless (g ∷ gs) label_count marks count no_faults =
           omega arith,
           after_mark
               (both_are_empty (faults_of_group false true)
-                  (faults_of_later_groups true) no_faults).1,
+              (faults_of_later_groups true) no_faults).1,
         )
     by_letter false not_last_letter false not_mark no_faults after_number after_mark =
         absurd (other_byte_is_fault (g.last.byte == 63)

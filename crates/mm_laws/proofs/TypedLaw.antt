@@ -171,7 +171,7 @@ module _ (db : List Statement) (are_lawful : (k : ℕ) → k < length db → IsL
           in
           let parts = and_parts (is_mandatory db k found.0) (in_formula x found.0) found.2 in
           hypothesis_variable_is_mandatory db are_lawful k found.0 x found.1 parts.0 parts.1
-              is_variable_x
+          is_variable_x
       in_hypotheses_or_pairs (inr x_is_in_pairs) =
           let found =
           one_passes (λ p. is_mandatory_pair db k p && in_pair x p) all_pairs

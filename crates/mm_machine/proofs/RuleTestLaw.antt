@@ -53,7 +53,7 @@ module _ (db : List Statement) (t : ℕ) (hs : List Formula) (xs : Arena) (es : 
       (get_or es j no_symbols).end is_in.start_le_end
       ∙ ap tail (span_formula_is_at xs es j (omega (arith, j_lt_length_hs, counts_equal)))
       ∙ sym (substitution_is_tail_at_index db t hs
-          (span_formulas xs es) x formula_counts_equal is_bound)
+      (span_formulas xs es) x formula_counts_equal is_bound)
 
   pub replaced_is_substituted : (f : Formula) → AreBound (context_at db t) hs f
       → replaced xs es (parts_of db hs f) ≡ substitute (context_at db t) σ f

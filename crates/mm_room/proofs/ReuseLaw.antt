@@ -81,7 +81,7 @@ module _ (A : RattleType) (g : Ghosts A.Denot) {M : Type 1} {𝓤 : Ura M} {𝓛
       refl $
       in_a_block t x.address (λ (p : Ptr). block_at (g.dealloc_token h) (block_units s) p)
       (fst∗ 𝓤 (never 𝓤) (sem 𝓛 (g.dealloc_token h (units (block_units s)) null_ptr)))
-          (λ b o address_is.
+      (λ b o address_is.
       if_block b o (subst (λ (k : ℕ). s ≤ k * 16) is_block.1 is_block.2) is_block.3
       (ap only value_is ∙ ap (λ (ws : List Val). live 1 (of_list ws)) (parts_are
       ∙ ap (λ (ws : List Val). ws ++ []) (block_is x.address vss.0 is_fields))

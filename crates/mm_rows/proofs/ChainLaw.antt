@@ -184,15 +184,14 @@ pub marks_of_or : (c : Citing) (columns : List ℕ) (t : ℕ) (old from ored : L
     × ((j : ℕ) → length columns ≤ j → is_bit ored j ≡ is_bit old j)
 marks_of_or c columns t old from ored is_bit_row lengths_equal old_has_words words_are_ored =
     let bits_are_ored =
-    or_bits ored old from lengths_equal (old_has_words ∙ sym is_bit_row.has_words) words_are_ored in
-        (
+    or_bits ored old from lengths_equal (old_has_words ∙ sym is_bit_row.has_words) words_are_ored in (
       (λ j j_lt_columns. Decides-at (is_bit ored j) (is_bit old j || is_bit from j)
           (bits_are_ored j)
           (Decides-or (is_bit old j) (is_bit from j) ((λ is_set. is_set), λ is_set. is_set)
           (is_bit_row.marks j j_lt_columns))),
       λ j columns_le_j. bits_are_ored j
           ∙ or_with_false (is_bit old j) (is_bit from j)
-              (is_bit_row.none_past_columns j columns_le_j),
+          (is_bit_row.none_past_columns j columns_le_j),
     )
 
 -- before the first citation, no bit is set

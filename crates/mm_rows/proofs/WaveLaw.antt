@@ -264,7 +264,7 @@ sorted_rows_are_by_wave waves ps qs pairs_have_waves each_row_has_pair is_permut
           λ k d row_lt_count. let entry_is = (entry_has_wave k row_lt_count) in
           subst (λ r. r < length waves)
           (sym (get_or-map (λ (p : ℕ × ℕ). p.1) qs k (0, 0) d (pair_exists k row_lt_count)))
-              entry_is.0;
+          entry_is.0;
       each_row_is_there =
           λ r row_lt_count. let pair_place =
           Contains-permutation ps qs (get_or waves r 0, r) is_permutation

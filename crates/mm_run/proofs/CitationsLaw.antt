@@ -30,7 +30,7 @@ module _ (db : List Statement) (request : Request) (c : Citing)
     assertions =
         λ i i_lt_count k d k_lt_length.
         ((have_citations.lists_are_exact i i_lt_count (get_or (list_at c i) k d)).0
-            (element_is_member
+        (element_is_member
         (list_at c i) k d k_lt_length)).0;
   }
 

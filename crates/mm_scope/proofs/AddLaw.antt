@@ -221,11 +221,11 @@ module _ (text : List ℕ) (ws : List spec.Word) (db : List Statement) (b : Bloc
       (closed_block_was_open refl)
   blocks_after kind.Constants p m e closed_block_was_open =
       blocks_after_other db (statement_between text ws kind.Constants p m e) b are_blocks
-          db_lt_never
+      db_lt_never
       refl refl
   blocks_after kind.Variables p m e closed_block_was_open =
       blocks_after_other db (statement_between text ws kind.Variables p m e) b are_blocks
-          db_lt_never
+      db_lt_never
       refl refl
   blocks_after kind.Disjoint p m e closed_block_was_open =
       blocks_after_other db (statement_between text ws kind.Disjoint p m e) b are_blocks db_lt_never
@@ -235,7 +235,7 @@ module _ (text : List ℕ) (ws : List spec.Word) (db : List Statement) (b : Bloc
       refl refl
   blocks_after kind.Essential p m e closed_block_was_open =
       blocks_after_other db (statement_between text ws kind.Essential p m e) b are_blocks
-          db_lt_never
+      db_lt_never
       refl refl
   blocks_after kind.Axiom p m e closed_block_was_open =
       blocks_after_other db (statement_between text ws kind.Axiom p m e) b are_blocks db_lt_never

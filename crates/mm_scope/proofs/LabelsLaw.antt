@@ -26,19 +26,19 @@ pub label_is_new : (n : Names) (d : ℕ) (s : Statement) → scope_faults n d s 
 label_is_new n d (floating m k xs e) no_fault l label_is_l =
     subst (λ (t : Token). is_in t.word n.labels ≡ false) (same_Some m l label_is_l)
     (faultless_label_is_new n m (both_are_empty (label_faults n m)
-        (floating_faults n k xs) no_fault).0)
+    (floating_faults n k xs) no_fault).0)
 label_is_new n d (essential m k xs e) no_fault l label_is_l =
     subst (λ (t : Token). is_in t.word n.labels ≡ false) (same_Some m l label_is_l)
     (faultless_label_is_new n m (both_are_empty (label_faults n m)
-        (formula_faults n xs e) no_fault).0)
+    (formula_faults n xs e) no_fault).0)
 label_is_new n d (axiomatic m k xs e) no_fault l label_is_l =
     subst (λ (t : Token). is_in t.word n.labels ≡ false) (same_Some m l label_is_l)
     (faultless_label_is_new n m (both_are_empty (label_faults n m)
-        (formula_faults n xs e) no_fault).0)
+    (formula_faults n xs e) no_fault).0)
 label_is_new n d (provable m k xs p ps e) no_fault l label_is_l =
     subst (λ (t : Token). is_in t.word n.labels ≡ false) (same_Some m l label_is_l)
     (faultless_label_is_new n m (both_are_empty (label_faults n m)
-        (formula_faults n xs p) no_fault).0)
+    (formula_faults n xs p) no_fault).0)
 label_is_new n d (constants k xs e) no_fault l label_is_l = absurd (cc)
 label_is_new n d (variables k xs e) no_fault l label_is_l = absurd (cc)
 label_is_new n d (disjoint k xs e) no_fault l label_is_l = absurd (cc)
@@ -63,7 +63,7 @@ module _ (db : List Statement) (s : Statement) (find new : List ℕ → Option �
       → list_any (is_labelled w) (statement_at (db ++ s ∷ []) (length db)) ≡ is_labelled w s
   labelled_at_last_is_labelled w =
       ap (λ o. list_any (is_labelled w) (elim o [ None ↦ [] | Some t ↦ t ∷ [] ]))
-          (get_at_seam db s [])
+      (get_at_seam db s [])
       ∙ or-false (is_labelled w s)
 
   -- the statement has the label, or the map is the old one there

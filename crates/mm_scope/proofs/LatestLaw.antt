@@ -93,7 +93,7 @@ module _ (db : List Statement) (s : Statement) where
     has_word_at_end : has_word (db ++ s ∷ []) f w (length db) ≡ is_in w (f s ++ [])
     has_word_at_end =
         ap (λ o. is_in w (flat_map f (elim o [ None ↦ [] | Some t ↦ t ∷ [] ])))
-            (get_at_seam db s [])
+        (get_at_seam db s [])
 
     -- the statement has not the word
     pub latest_unchanged : (last : ℕ) → Latest db f w last → is_in w (f s ++ []) ≡ false

@@ -159,7 +159,7 @@ module _ (db : List Statement) (lawful : (k : ℕ) → k < length db → scope_f
       (subst (λ fs. AreJoined fs (numbers ++ formula_of longer_db s)
       (with_end places (length (numbers ++ formula_of longer_db s)))) formulas_push
       (joined_with_one_more (map (formula_of db) db)
-          (formula_of longer_db s) numbers places are_formulas))
+      (formula_of longer_db s) numbers places are_formulas))
 
 -- ---- the formulas one by one
 

@@ -162,7 +162,7 @@ closing_is_inside_block text ws db open_blocks token_index is_read_to s d us lea
     ((read_statements_are_longest (as_tokens text ws)).are_statements.nested (length db + 1)) in
     let one_closing_more : count_by is_closing (db ++ s ∷ []) ≡ count_by is_closing db + 1 =
     count_of_list_and_last is_closing db s ∙ ap
-        (λ b. count_by is_closing db + cond b 1 0) s_is_closing in
+    (λ b. count_by is_closing db + cond b 1 0) s_is_closing in
     let no_opening_more : count_by is_opening (db ++ s ∷ []) ≡ count_by is_opening db + 0 =
     count_of_list_and_last is_opening db s
     ∙ ap (λ b. count_by is_opening db + cond b 1 0) (not_both s s_is_closing) in
@@ -214,36 +214,36 @@ depth_after_is_depth text ws db b are_blocks db_lt_never kind.Open w m e =
     (arith, depth_grows))
 depth_after_is_depth text ws db b are_blocks db_lt_never kind.Close w m e =
     sym (depth_after_closing db (statement_between text ws kind.Close w m e) b are_blocks
-        db_lt_never refl
+    db_lt_never refl
     refl
     ∙ minus_one_is_one_less (depth db (length db)))
 depth_after_is_depth text ws db b are_blocks db_lt_never kind.Constants w m e =
     sym (depth_after_other db (statement_between text ws kind.Constants w m e) b are_blocks
-        db_lt_never
+    db_lt_never
     refl refl)
 depth_after_is_depth text ws db b are_blocks db_lt_never kind.Variables w m e =
     sym (depth_after_other db (statement_between text ws kind.Variables w m e) b are_blocks
-        db_lt_never
+    db_lt_never
     refl refl)
 depth_after_is_depth text ws db b are_blocks db_lt_never kind.Disjoint w m e =
     sym (depth_after_other db (statement_between text ws kind.Disjoint w m e) b are_blocks
-        db_lt_never
+    db_lt_never
     refl refl)
 depth_after_is_depth text ws db b are_blocks db_lt_never kind.Floating w m e =
     sym (depth_after_other db (statement_between text ws kind.Floating w m e) b are_blocks
-        db_lt_never
+    db_lt_never
     refl refl)
 depth_after_is_depth text ws db b are_blocks db_lt_never kind.Essential w m e =
     sym (depth_after_other db (statement_between text ws kind.Essential w m e) b are_blocks
-        db_lt_never
+    db_lt_never
     refl refl)
 depth_after_is_depth text ws db b are_blocks db_lt_never kind.Axiom w m e =
     sym (depth_after_other db (statement_between text ws kind.Axiom w m e) b are_blocks db_lt_never
-        refl
+    refl
     refl)
 depth_after_is_depth text ws db b are_blocks db_lt_never kind.Theorem w m e =
     sym (depth_after_other db (statement_between text ws kind.Theorem w m e) b are_blocks
-        db_lt_never refl
+    db_lt_never refl
     refl)
 
 -- one lawful statement more is read

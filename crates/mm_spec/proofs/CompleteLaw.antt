@@ -240,7 +240,7 @@ module _ (db : List Statement) (lawful : (k : ℕ) → k < length db → IsLawfu
             typing_at_essential.0,
             still_active db typing_at_essential.0 active_essential.0 k
                 typing_at_essential.2.statement statement_there.0
-                    typing_at_essential.2.statement_is_at
+                typing_at_essential.2.statement_is_at
                 (floating_is_local typing_at_essential.2.statement
                 typing_at_essential.2.is_floating_statement) statement_there.1
                 (essential_is_local_kind statement_there.0 statement_there.2) typing_at_essential.1

@@ -48,7 +48,7 @@ known_lawful_is_sound db look labels b knows_statements statements_lt_2_31 lawfu
           knows_statements.symbols w in
           known_symbol.variable_is_known
           ∙ constant_is_no_variable (entry_of (look w))
-              (sym known_symbol.constant_is_known ∙ w_is_constant);
+          (sym known_symbol.constant_is_known ∙ w_is_constant);
       symbols_have_numbers = symbols_have_numbers;
     }
 
@@ -99,7 +99,7 @@ are_symbols db look labels b knows_statements names kinds names_are counts_equal
           let w = get_or names s [] in
           let name_is = slice_get-get_or names s [] s_lt_count in
           kinds_are s w name_is ∙ marked_as_known (look w)
-              ∙ sym (knows_statements.symbols w).variable_is_known
+          ∙ sym (knows_statements.symbols w).variable_is_known
           ∙ ap (λ o. elim o [ None ↦ false | Some w ↦ is_in w (flat_map variables_of db) ])
           (sym name_is ∙ ap (λ xs. slice_get xs s) names_are);
     }

@@ -120,7 +120,7 @@ module _ (db : List Statement) (length_lt_limit : length db < 2 ^ 31) (are_compl
         each = have_citations.list_count_is;
         earlier =
             λ i k i_lt_count k_lt_length. cited_lt_theorem db by_essential
-                (get_or (theorems db) i 0) _
+            (get_or (theorems db) i 0) _
             (((have_citations.each_has_citations i i_lt_count).is_checked.cites_are_exact (get_or
             (get_or lists i []) k 0)).0
             (element_is_member (get_or lists i []) k 0 k_lt_length));

@@ -78,7 +78,7 @@ module _ {A : Type 0} (db : List Statement) (by_essential : Bool) where
         each_has_citations =
             λ k k_lt_length. rw (valid_is, cites_is)
             (by_index k (subst (λ n. k < n) (ap length valid_is
-                ∙ length-append f.valid.items (i ∷ []))
+            ∙ length-append f.valid.items (i ∷ []))
             k_lt_length)
             (cases_lt k (length f.valid.items)));
         fault_is_found = subst (λ (o : Option IndexedFault). IsFaultFound db o)

@@ -41,7 +41,7 @@ formula-requires g c =
     c.part-item.result c.in-Variable.number c.replacement_of.result c.requires.premises
     c.requires.formula
     c.loop-part-test.true c.part-item.is (sym c.symbol.ensures ∙ c.in-Variable.is)
-        c.replacement_of.ensures
+    c.replacement_of.ensures
 
 pub returns-then-len-gt-FORMULA_LIMIT-clause-list_is_formula :
     goal.returns-then-len-gt-FORMULA_LIMIT-clause-list_is_formula
@@ -69,7 +69,7 @@ loop-part-preserved g c =
           rw (w.list-is, w.in_ok-push-in-Constant.ensures.items)
           (ap₂ (λ u v. u ++ v) c.loop-part.invariant
           (sym (ap (replaced_part xs es) (sym c.symbol.ensures ∙ w.in-Constant.is)))
-              ∙ sym replaced_next)
+          ∙ sym replaced_next)
     ]
 
 pub returns-clause-tells_length_le_limit : goal.returns-clause-tells_length_le_limit

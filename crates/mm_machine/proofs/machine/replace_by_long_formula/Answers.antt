@@ -17,7 +17,7 @@ formula_is : (g : Over) (c : After-replace_from g)
     c.args.formula.now
 formula_is g c =
     c.deref-in-Ok-true.ensures.value ∙ c.in-Ok-true.ensures.list_is_formula
-        c.in-Ok-true.field-0-test
+    c.in-Ok-true.field-0-test
     ∙ replaced_by_value c.args.unmarked.now c.args.marked.now c.args.stack.now.items c.args.below
     c.args.formula.now c.as_slice.result.now c.deref.result.now c.as_slice.ensures
     c.deref.ensures.value
@@ -43,7 +43,7 @@ pub returns-in-Ok-clause-entries : goal.returns-in-Ok-clause-entries
 returns-in-Ok-clause-entries g c =
     let formula_is_built =
     c.deref-in-Ok-true.ensures.value ∙ c.in-Ok-true.ensures.list_is_formula
-        c.in-Ok-true.field-0-test in
+    c.in-Ok-true.field-0-test in
     entries_if_short c.args.unmarked.now c.args.marked.now c.args.stack.now.items c.args.below
     c.args.formula.now
     c.deref-in-Ok-true.result.now

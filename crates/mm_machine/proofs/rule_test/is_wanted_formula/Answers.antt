@@ -95,7 +95,7 @@ loop-part-preserved c =
                 c.loop-part.invariant.test_is_rest_test
                 ∙ fit_splits arena es xs w i a e i_lt_length_w c.part-item.result (s ∷ [])
                 (sym c.part-item.is) (ap (replaced_part arena es)
-                    (sym c.symbol.ensures ∙ b.in-Constant.is))
+                (sym c.symbol.ensures ∙ b.in-Constant.is))
                 ∙ ap (λ z. z && rest_is_wanted arena es xs w i a e i_lt_length_w 1) begins_is_true;
           })
     ]
@@ -107,7 +107,7 @@ begins_with-requires-clause-span c =
     c.part-item.result c.in-Variable.number c.replacement_of-span.result c.requires.premises
     c.requires.wanted
     c.loop-part-test.true c.part-item.is (sym c.symbol.ensures ∙ c.in-Variable.is)
-        c.replacement_of-span.ensures
+    c.replacement_of-span.ensures
 
 pub overflow_sub-at : goal.overflow_sub-at
 overflow_sub-at c =

@@ -35,7 +35,7 @@ returns-then-is_none-clause-over_stays g c = ap (λ (v : View). v.over) c.look.e
 pub returns-then-check_theorem-clause-is_between : goal.returns-then-check_theorem-clause-is_between
 returns-then-check_theorem-clause-is_between g c =
     between_after_settle c.args.job.now c.args.index c.args.state.now c.requires.has_drawn
-        c.look.new.seat
+    c.look.new.seat
     c.look.result c.look.ensures.event.1 c.settle.new.seat c.settle.ensures.event.0
     c.check_theorem.new.findings
     (ap (λ (o : Option ℕ). is_some o) (sym c.held.ensures) ∙ c.is_none.ensures
@@ -56,7 +56,7 @@ returns-then-check_theorem-clause-record_stays g c = λ i. c.settle.ensures.same
 pub returns-else-check_theorem-clause-is_between : goal.returns-else-check_theorem-clause-is_between
 returns-else-check_theorem-clause-is_between g c =
     between_after_report c.args.job.now c.args.index c.args.state.now c.requires.has_drawn
-        c.look.new.seat
+    c.look.new.seat
     c.look.result c.look.ensures.event.1 c.report.new.seat c.report.ensures.event.0
     c.check_theorem.new.findings
     (ap (λ (o : Option ℕ). is_some o) (sym c.held.ensures) ∙ c.is_none.ensures

@@ -16,7 +16,7 @@ returns-in-Err-clause-fault g c =
     (refused_step_refuses c.args.database.now.statements c.args.theorem c.args.steps.now.steps
     c.args.i
     c.args.self.now c.requires.performed c.requires.i_lt_length
-        (as_step c.step.result) c.step.ensures
+    (as_step c.step.result) c.step.ensures
     c.place.result c.in-Err.refused c.place.ensures c.in-Err.ensures.refused)
 
 pub returns-in_ok-mark-clause-performed : goal.returns-in_ok-mark-clause-performed
@@ -39,7 +39,7 @@ returns-else-is_marked-clause-performed g c =
     has_performed_after_step c.args.database.now.statements c.args.theorem c.args.steps.now.steps
     c.args.i
     c.args.self.now c.requires.performed c.requires.i_lt_length
-        (as_step c.step.result) c.step.ensures
+    (as_step c.step.result) c.step.ensures
     c.perform.new.self c.perform.new.self.machine false
     (sym c.is_marked.ensures ∙ c.if-is_marked.false) c.in_default.ensures.performs
     c.perform.ensures.at_theorem refl refl

@@ -30,7 +30,7 @@ returns-then-statement-at g c =
     has_outline fields.text.now ws os blocks _ c.self.view_is j c.requires.statement in
     let is_active_is_kind_active =
     active_test_is_activity fields.text.now ws os blocks c.self.invariant.blocks j k
-        outline_is_there
+    outline_is_there
     k_le_length_os o in
     let test_is_kind_active :
     (nat_lt j k && active_kind (get_or os j o).kind (nat_le k (end_of blocks j)))
