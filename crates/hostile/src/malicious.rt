@@ -10,7 +10,8 @@ use std::fmt::Write;
 use std::sync::Wait;
 use std::thread::Threads;
 
-/// The lengths of the prefixes of the first text that are accepted.
+/// The lengths of the prefixes of the first text that are accepted: 0, and the end of each
+/// statement, before and after its line feed.
 const ACCEPTED: [usize; 15] = [
     0, 19, 20, 29, 30, 44, 45, 59, 60, 83, 84, 117, 118, 169, 170,
 ];

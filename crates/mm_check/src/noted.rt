@@ -77,7 +77,7 @@ impl<A: Allocator> NotedAssertions<A> {
         Ok(())
     }
 
-    /// Adds the assertion that a step applied_step_performs, if it applied_step_performs one.
+    /// Adds the assertion that a step applies, if it applies one.
     pub fn add_applied(&mut self, database: &Database<A>, step: Step) -> Result<(), AllocError>
         requires label_is_below { IsLabelBelow (as_step step) (length database.now.statements) }
         ensures { OnOk result

@@ -1,4 +1,4 @@
--- Frames by the indices where they are frames_at_push.
+-- Frames by the indices where they are kept.
 use Rattle.std.proofs.Common.{◌≡◌, ℕ, suc, ◌<◌, ◌≤◌, ◌⊎◌, inl, inr, List, [], ◌∷◌, ◌++◌}
 use Rattle.std.proofs.Common.{length, get_or, slice_index, Option, Some, None, refl, sym, ap, ap₂}
 use Rattle.std.proofs.Common.{◌∙◌, arith, true, true≢false, IsSome, is_some, slice_get}

@@ -18,7 +18,7 @@ use Rattle.mm_spec.specs.Readings.{Reading, reading, with_tokens, bytes_of}
 use Rattle.mm_spec.specs.Laws.Readings.{append_reading}
 use Rattle.mm_laws.specs.Grammar.{Lexeme, Single, Comment, LastComment, IsLexeme, IsLastComment}
 use Rattle.mm_laws.specs.Grammar.{AreCommentWords}
-use Rattle.mm_laws.specs.Grammar.{words_in, words_in_last_comment, tokens_in, IsWellBegun, IsFaulty}
+use Rattle.mm_laws.specs.Grammar.{words_in, words_in_last_comment, tokens_in, IsWellBegun, IsFirstFaultyWord}
 use Rattle.mm_laws.specs.Grammar.{IsReading}
 use Rattle.mm_spec.proofs.ReadingsLaw.{reading_opening, reading_closing, reading_comment}
 use Rattle.mm_spec.proofs.ReadingsLaw.{reading_faulty, reading_end, reading_of_token}
@@ -344,7 +344,7 @@ reading_is_split text c (x ∷ xs) f =
 
 faulty_word : (text : List ℕ) (ws : List Word) (f : Fault) (r : Reading)
     → IsSplit text None ws f r →
-    (w : Word) × IsFaulty text ws w r.tokens r.open_comment
+    (w : Word) × IsFirstFaultyWord text ws w r.tokens r.open_comment
     × (f ≡ fault_of (is_some r.open_comment) w.start (bytes_of text w))
 faulty_word text ws f r split = (
   split.w,

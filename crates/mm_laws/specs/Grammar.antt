@@ -59,7 +59,7 @@ pub record IsWellBegun (text : List ℕ) (ws : List Word) (tokens : List Word)
 
 -- w is the first word such that the words up to and including it aren't well begun: those before it
 -- are, with these tokens and this open comment, and with it they aren't.
-pub record IsFaulty (text : List ℕ) (ws : List Word) (w : Word) (tokens : List Word)
+pub record IsFirstFaultyWord (text : List ℕ) (ws : List Word) (w : Word) (tokens : List Word)
     (open_comment : Option ℕ) : Type 0 where
   pub words_before : List Word
   pub words_after : List Word
@@ -76,5 +76,5 @@ pub record IsReading (text : List ℕ) (ws : List Word) (r : Reading) : Type 0 w
       → r ≡ record { tokens = ts; fault = None; open_comment = c }
   -- a fault is that of the first faulty word, and the tokens are those before it
   pub fault_is_first : (f : Fault) → r.fault ≡ Some f
-      → (w : Word) × IsFaulty text ws w r.tokens r.open_comment
+      → (w : Word) × IsFirstFaultyWord text ws w r.tokens r.open_comment
       × (f ≡ fault_of (is_some r.open_comment) w.start (bytes_of text w))

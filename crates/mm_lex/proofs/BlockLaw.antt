@@ -294,7 +294,7 @@ holds_up_to_next_bit Q t text m from at base found texts_equal base_le_at found_
     (no_bit_before_found (i - base) (omega arith) (omega arith)))))
     (cases_lt i at)
 
--- no word begins block_test_in_text one
+-- no word begins inside one
 pub no_word_begins_inside : (text : List ℕ) (start end : ℕ)
     → ((i : ℕ) → start ≤ i → i + 1 < end → white_at text i ≡ false) → (i : ℕ) → start < i
     → i < end → begins_word text i ≡ false

@@ -5,7 +5,7 @@ use Rattle.mm_spec.specs.Statement.{Statement}
 use Rattle.mm_spec.specs.Derivation.{are_disjoint}
 use Rattle.mm_spec.specs.Citation.{context_at}
 use Rattle.mm_rule.proofs.DisjointLaw.{are_disjoint_symmetric}
-use Rattle.mm_machine.specs.DisjointCache.{AreDisjointAt, HasPair, InsertsPair}
+use Rattle.mm_machine.specs.DisjointCache.{AreDisjointAt, HasPair, MayInsertPair}
 
 module _ (db : List Statement) (t : ℕ) (ps : List (ℕ × ℕ)) (pairs_are_disjoint : AreDisjointAt db t
     ps) where
@@ -23,7 +23,7 @@ module _ (db : List Statement) (t : ℕ) (ps : List (ℕ × ℕ)) (pairs_are_dis
       (pair_of_cache_is_disjoint b a
       pair_is_there)
 
-  pub insert_keeps_disjoint : (a b : ℕ) (qs : List (ℕ × ℕ)) → Disjoint a b → InsertsPair ps a b qs
+  pub insert_keeps_disjoint : (a b : ℕ) (qs : List (ℕ × ℕ)) → Disjoint a b → MayInsertPair ps a b qs
       → AreDisjointAt db t qs
   insert_keeps_disjoint a b qs is_disjoint (inl qs_are) = subst (AreDisjointAt db t) (sym qs_are)
       pairs_are_disjoint
@@ -33,7 +33,7 @@ module _ (db : List Statement) (t : ℕ) (ps : List (ℕ × ℕ)) (pairs_are_dis
       ≡ true) ps (a, b) pairs_are_disjoint is_disjoint)
 
   pub either_insert_keeps_disjoint : (a b : ℕ) (qs : List (ℕ × ℕ)) → Disjoint a b
-      → InsertsPair ps a b qs ⊎ InsertsPair ps b a qs → AreDisjointAt db t qs
+      → MayInsertPair ps a b qs ⊎ MayInsertPair ps b a qs → AreDisjointAt db t qs
   either_insert_keeps_disjoint a b qs is_disjoint (inl inserted) = insert_keeps_disjoint a b qs
       is_disjoint inserted
   either_insert_keeps_disjoint a b qs is_disjoint (inr inserted) =

@@ -413,7 +413,7 @@ module _ (unmarked marked : List ℕ) (es : List Span) (last_index : ℕ) (e : S
   marked_formula_is_top e_is_marked = marked_entry_formulas_equal [] unmarked marked e
       (last_is_marked_entry e_is_marked) ∙ sym top_is_last_formula
 
-  -- the top entry is the last_index unmarked one
+  -- the top entry is the last unmarked one
   module _ (e_is_unmarked : e.store ≡ Unmarked) where
     first_unmarked_is_start : first_unmarked (e ∷ []) (length unmarked) ≡ e.start
     first_unmarked_is_start = ap (λ p. begin_by_store p e [] (length unmarked)) e_is_unmarked

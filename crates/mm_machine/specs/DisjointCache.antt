@@ -10,8 +10,8 @@ HasPair ps s t =
     (n : ℕ) × (n < length ps) × ((get_or ps n (s, t)).0 ≡ s) × ((get_or ps n (s, t)).1 ≡ t)
 
 -- the list stays, or the pair of symbols is appended, in this order
-abbrev pub InsertsPair : List (ℕ × ℕ) → ℕ → ℕ → List (ℕ × ℕ) → Type 0
-InsertsPair ps s t qs = (qs ≡ ps) ⊎ (qs ≡ ps ++ (s, t) ∷ [])
+abbrev pub MayInsertPair : List (ℕ × ℕ) → ℕ → ℕ → List (ℕ × ℕ) → Type 0
+MayInsertPair ps s t qs = (qs ≡ ps) ⊎ (qs ≡ ps ++ (s, t) ∷ [])
 
 -- each of the pairs of symbols is disjoint at the theorem
 abbrev pub AreDisjointAt : List Statement → ℕ → List (ℕ × ℕ) → Type 0

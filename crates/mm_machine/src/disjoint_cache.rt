@@ -1,7 +1,7 @@
 //! Pairs of symbols that are known to be disjoint at a theorem.
 
 ghost use Rattle.std.specs.Prelude.{◌≡◌, ◌⊎◌, [], true, IfOk};
-ghost use Rattle.mm_machine.specs.DisjointCache.{AreDisjointAt, HasPair, InsertsPair};
+ghost use Rattle.mm_machine.specs.DisjointCache.{AreDisjointAt, HasPair, MayInsertPair};
 ghost use Rattle.mm_rule.specs.Assertions.{is_assertion_at};
 
 use mm_database::{Database, Sym};
@@ -75,7 +75,7 @@ impl<A: Allocator> DisjointCache<A> {
 
     /// Adds a pair of disjoint symbols, the lower first, if there is room for it.
     fn insert_pair(&mut self, low: Sym, high: Sym)
-        ensures { InsertsPair self.old low high self.new }
+        ensures { MayInsertPair self.old low high self.new }
     {
         let index = self.pairs.len();
         if index < PAIR_SLOTS {
@@ -88,8 +88,8 @@ impl<A: Allocator> DisjointCache<A> {
 
     /// Adds a pair of disjoint symbols, given in either order, if there is room for it.
     pub fn insert(&mut self, first: Sym, second: Sym)
-        ensures { InsertsPair self.old first second self.new
-            ⊎ InsertsPair self.old second first self.new }
+        ensures { MayInsertPair self.old first second self.new
+            ⊎ MayInsertPair self.old second first self.new }
     {
         if first.number() < second.number() {
             self.insert_pair(first, second);

@@ -1,4 +1,4 @@
--- Words after a keyword are plain_words_are_passed over.
+-- Words after a keyword are passed over.
 use Rattle.std.proofs.Common.{◌≡◌, ℕ, zero, suc, ◌+◌, ◌-◌, ◌<◌, ◌≤◌, true, false, List, [], ◌∷◌}
 use Rattle.std.proofs.Common.{length, sym, ap, ◌∙◌, subst, arith}
 use Rattle.mm_spec.specs.Text.{has_dollar}

@@ -265,7 +265,7 @@ tokens_are_told_by_first_byte text = λ i d i_lt_count.
       ),
     )
 
--- there are no more tokens than bytes, and filtered_le_length than the limit
+-- there are no more tokens than bytes, and fewer than the limit
 pub tokens_le_bytes_of_text : (text : List ℕ) → length (tokens_of text) ≤ length text
 tokens_le_bytes_of_text text =
     holds_of_tokens_by_limit (λ ts. length ts ≤ length text) text (omega arith)

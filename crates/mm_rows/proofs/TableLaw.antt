@@ -161,11 +161,11 @@ module _ (m : Marks) (j : ℕ) (users : List ℕ) (is_column : IsColumn m j user
       sym (is_column.bits_are_marks k (omega arith)) ∙ none_between k from_le_k k_lt_i)
     where
       user_is_row : i < m.rows
-      user_is_row = row_by_count (cases_lt i m.rows)
+      user_is_row = row_unless_past_rows (cases_lt i m.rows)
         where
-          row_by_count : (i < m.rows) ⊎ (m.rows ≤ i) → i < m.rows
-          row_by_count (inl i_lt_rows) = i_lt_rows
-          row_by_count (inr rows_le_i) =
+          row_unless_past_rows : (i < m.rows) ⊎ (m.rows ≤ i) → i < m.rows
+          row_unless_past_rows (inl i_lt_rows) = i_lt_rows
+          row_unless_past_rows (inr rows_le_i) =
               absurd (let true_is_false : true ≡ false = sym bit_is_set
               ∙ is_column.none_past_rows i rows_le_i in cc)
 

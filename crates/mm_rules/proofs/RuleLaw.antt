@@ -36,7 +36,7 @@ pub map_take_more : {X Y : Type 0} (f : X → Y) (xs : List X) (i : ℕ) (d : X)
     → map f (take (i + 1) xs) ≡ map f (take i xs) ++ f (get_or xs i d) ∷ []
 map_take_more f xs i d h = ap (map f) (take_more xs i d h) ∙ map_push f (take i xs) (get_or xs i d)
 
--- the same for a list that is what it old_is at the start, and what came of the elements so far
+-- the same for a list that is what it was at the start, and what came of the elements so far
 pub map_more_after : {X Y : Type 0} (f : X → Y) (xs : List X) (i : ℕ) (d : X)
     → (start old new : List Y) (y : Y) → i < length xs → old ≡ start ++ map f (take i xs)
     → new ≡ old ++ y ∷ [] → y ≡ f (get_or xs i d) → new ≡ start ++ map f (take (i + 1) xs)

@@ -155,8 +155,8 @@ impl<'a, A: Allocator + Copy> Scope<'a, A> {
         }
     }
 
-    /// Returns the fault of a `$c`, `$v` or `$d` that isn't one of its symbols: that it stands in a
-    /// block, or has too few symbols.
+    /// Returns the fault of a `$c`, `$v` or `$d` that isn't one of its symbols: that a `$c` stands
+    /// in a block, or that there are too few symbols.
     fn whole_statement_fault(
         _text: &[u8],
         tokens: &[Word],

@@ -195,7 +195,7 @@ declaring_statement f (x ∷ db) w some_declares =
         let later_declaring = later_declares declared_there in
         (suc later_declaring.0, later_declaring.1, later_declaring.2, later_declaring.3)
 
--- a word that statement i later_place_knows_declared is declared before each later statement
+-- a word that statement i declares is declared before each later statement
 pub later_place_knows_declared : (f : Statement → List Bytes) (db : List Statement) (k i : ℕ)
     (s : Statement)
     → (w : Bytes)

@@ -52,50 +52,51 @@ as_axiom_keeps f is_alike (closing k) = refl
 
 -- ---- lists
 
-abbrev pub axioms_of : List Statement → List Statement
-axioms_of db = map as_axiom db
+-- all the statements, of which those that are open theorems have become axioms
+abbrev pub with_open_as_axioms : List Statement → List Statement
+with_open_as_axioms db = map as_axiom db
 
 pub got_axiom : (db : List Statement) (j : ℕ)
-    → slice_get (axioms_of db) j ≡ option_map as_axiom (slice_get db j)
+    → slice_get (with_open_as_axioms db) j ≡ option_map as_axiom (slice_get db j)
 got_axiom [] zero = refl
 got_axiom [] (suc j) = refl
 got_axiom (s ∷ db) zero = refl
 got_axiom (s ∷ db) (suc j) = got_axiom db j
 
 statement_at_is_mapped : (db : List Statement) (j : ℕ)
-    → statement_at (axioms_of db) j ≡ map as_axiom (statement_at db j)
+    → statement_at (with_open_as_axioms db) j ≡ map as_axiom (statement_at db j)
 statement_at_is_mapped db j = grind (arith, common_steps, got_axiom)
 
 count_is_kept : (p : Statement → Bool) → IsAlike p → (db : List Statement)
-    → count_by p (axioms_of db) ≡ count_by p db
+    → count_by p (with_open_as_axioms db) ≡ count_by p db
 count_is_kept p is_alike [] = refl
 count_is_kept p is_alike (s ∷ db) =
     grind (arith, common_steps, as_axiom_keeps, sum_by-cons, count_is_kept p is_alike db)
 
 flat_is_kept : {X : Type 0} (f : Statement → List X) → IsAlike f → (db : List Statement)
-    → flat_map f (axioms_of db) ≡ flat_map f db
+    → flat_map f (with_open_as_axioms db) ≡ flat_map f db
 flat_is_kept f is_alike db =
     flat_map-map f as_axiom db ∙ ap (λ g. flat_map g db) (fun_ext (as_axiom_keeps f is_alike))
 
 flat_at_is_kept : {X : Type 0} (f : Statement → List X) → IsAlike f → (db : List Statement) (j : ℕ)
-    → flat_map f (statement_at (axioms_of db) j) ≡ flat_map f (statement_at db j)
+    → flat_map f (statement_at (with_open_as_axioms db) j) ≡ flat_map f (statement_at db j)
 flat_at_is_kept f is_alike db j =
     ap (flat_map f) (statement_at_is_mapped db j) ∙ flat_is_kept f is_alike (statement_at db j)
 
 any_at_is_kept : (p : Statement → Bool) → IsAlike p → (db : List Statement) (j : ℕ)
-    → list_any p (statement_at (axioms_of db) j) ≡ list_any p (statement_at db j)
+    → list_any p (statement_at (with_open_as_axioms db) j) ≡ list_any p (statement_at db j)
 any_at_is_kept p is_alike db j =
     grind (arith, common_steps, any_map, statement_at_is_mapped, fun_ext, as_axiom_keeps)
 
 got_is_kept : {X : Type 0} (f : Statement → X) → IsAlike f → (db : List Statement) (j : ℕ)
-    → option_map f (slice_get (axioms_of db) j) ≡ option_map f (slice_get db j)
+    → option_map f (slice_get (with_open_as_axioms db) j) ≡ option_map f (slice_get db j)
 got_is_kept f is_alike db j = grind (arith, common_steps, got_axiom, as_axiom_keeps)
 
 -- ---- scope
 
 module _ (db : List Statement) where
   abbrev as_axioms : List Statement
-  as_axioms = axioms_of db
+  as_axioms = with_open_as_axioms db
 
   depth_is_kept : depth as_axioms ≡ depth db
   depth_is_kept = grind (arith, common_steps, count_is_kept, fun_ext, take-map)
@@ -250,7 +251,7 @@ module _ (db : List Statement) where
 -- ---- the statements as they count, with the flag or without
 
 kept_in_either_case : {X : Type 0} (F : List Statement → X)
-    → ((db : List Statement) → F (axioms_of db) ≡ F db)
+    → ((db : List Statement) → F (with_open_as_axioms db) ≡ F db)
     → (w : Bool) (db : List Statement) → F (counted w db) ≡ F db
 kept_in_either_case F kept_as_axioms true db = kept_as_axioms db
 kept_in_either_case F kept_as_axioms false db = refl

@@ -25,7 +25,7 @@ use Rattle.mm_spec.proofs.FaultlessLaw.{no_code_if_false}
 use Rattle.mm_spec.proofs.FaultlessLaw.{each_word_has_no_codes}
 
 -- what is known of a symbol of a statement: a constant, an active variable, or one that the
--- statement later_place_knows_declared
+-- statement declares
 pub data IsNamed (n : Names) (s : Statement) (w : Bytes) : Type 0 where
   constant : is_in w n.constants ≡ true → IsNamed n s w
   variable : is_in w n.active_variables ≡ true → IsNamed n s w

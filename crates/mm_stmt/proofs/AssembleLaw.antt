@@ -46,7 +46,7 @@ module _ (text : List ℕ) (ws : List Word) (os : List Outline) (lexical fault :
       let token_count_is = length-map ws (token_of text) in
       omega (arith, lengths_equal, symbols_are_few, token_count_is, words_lt_2_31)
 
-  -- they are statements_are_sound
+  -- they are sound
   pub statements_are_sound : (look : List ℕ → Option Symbol) (labels : List ℕ → Option ℕ)
       (b : BlockLists)
       → KnowsStatements (statements text ws os) look labels b → length os < 2 ^ 31

@@ -126,7 +126,7 @@ fn options_choose_workers_pieces_columns_and_sections(rt: HostRuntime) {
 
 #[test]
 fn words_that_are_no_line(rt: HostRuntime) {
-    for (words, number) in [
+    for (words, exit_status) in [
         (["mmdepend", "--workers", "65", "x.mm"].as_slice(), 2u8),
         (&["mmdepend", "--workers", "0"], 2),
         (&["mmdepend", "--pieces", "65", "x.mm"], 2),
@@ -136,10 +136,10 @@ fn words_that_are_no_line(rt: HostRuntime) {
     ] {
         match refusal(rt.alloc(), words) {
             Some((true, help)) => {
-                assert!(&rt; is_run_of(&rt, words, FIRST, number, help.as_bytes(), b""));
+                assert!(&rt; is_run_of(&rt, words, FIRST, exit_status, help.as_bytes(), b""));
             }
-            Some((false, told)) => {
-                assert!(&rt; is_run_of(&rt, words, FIRST, number, b"", told.as_bytes()));
+            Some((false, message)) => {
+                assert!(&rt; is_run_of(&rt, words, FIRST, exit_status, b"", message.as_bytes()));
             }
             None => assert!(&rt; false),
         }
@@ -210,7 +210,7 @@ fn an_output_that_is_closed(rt: HostRuntime) {
 #[test]
 fn a_message_that_cannot_be_written_leaves_the_status(rt: HostRuntime) {
     let alloc = rt.alloc();
-    for (words, number) in [
+    for (words, exit_status) in [
         (["mmdepend", "--pieces", "0"].as_slice(), 2u8),
         (&["mmdepend", "no/such/file.mm"], 3),
         (&["mmdepend", "/"], 3),

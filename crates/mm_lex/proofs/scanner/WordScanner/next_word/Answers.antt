@@ -12,7 +12,7 @@ use Rattle.mm_lex.proofs.scanner.WordScanner.next_word.Goals as goal
 use Rattle.mm_lex.proofs.scanner.WordScanner.next_word.Goals.{Then-self-stop-eq1}
 use Rattle.mm_lex.proofs.scanner.WordScanner.next_word.Goals.{After-word_from}
 
--- ---- a found_is_word that is plain and ends in the block
+-- ---- a word that is plain and ends in the block
 
 stop_is_white : (c : Then-self-stop-eq1)
     → (c.next_start.new.self.base + c.first_one-stop.result < length c.args.self.now.text.now)
@@ -110,7 +110,7 @@ returns-then-self-stop-eq1-clause-onward c =
       c.in_ok-start.ensures.taken.from_is_next,
     )
 
--- ---- any other found_is_word
+-- ---- any other word
 
 module _ (c : After-word_from) where
   found_word_from : IsWordFrom c.args.self.now.text.now c.in_ok-start.start
