@@ -24,8 +24,7 @@ use Rattle.mm_spec.specs.declared.Code.TheVariants.{RepeatedVariable, NotDisjoin
 
 abbrev axioms_text : List ℕ
 axioms_text =
-    codes "$c wff |- ( -> ) $. $v p q $. wp $f wff p $. wq $f wff q $. wi $a wff
-        ( p -> q ) $. ax-1 $a |- ( p -> ( q -> p ) ) $. "
+    codes "$c wff |- ( -> ) $. $v p q $. wp $f wff p $. wq $f wff q $. wi $a wff ( p -> q ) $. ax-1 $a |- ( p -> ( q -> p ) ) $. "
 
 -- comments are no tokens
 comments_are_no_tokens : lexed (codes "$c a $( $c $. b $) $. $( c")

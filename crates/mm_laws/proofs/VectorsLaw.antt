@@ -19,8 +19,7 @@ use Rattle.mm_spec.specs.declared.Code.TheVariants.{MarkBeforeStep, NumberTooLar
 
 abbrev axioms_text : List ℕ
 axioms_text =
-    codes "$c wff |- ( -> ) $. $v p q $. wp $f wff p $. wq $f wff q $. wi $a wff
-        ( p -> q ) $. ax-1 $a |- ( p -> ( q -> p ) ) $. "
+    codes "$c wff |- ( -> ) $. $v p q $. wp $f wff p $. wq $f wff q $. wi $a wff ( p -> q ) $. ax-1 $a |- ( p -> ( q -> p ) ) $. "
 
 abbrev axioms_and_rule_text : List ℕ
 axioms_and_rule_text =
