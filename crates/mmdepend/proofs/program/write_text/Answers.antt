@@ -9,5 +9,5 @@ returns-in-Ok-clause-beginning g c =
       length bytes,
       subst
           (Appends (g.W.Write.contents c.args.to.now) (g.W.Write.contents c.write_whole.new.to))
-          (sym (take-length bytes)) c.in-Ok.ensures.whole,
+          (sym (take-length bytes)) c.in-Ok.ensures.piece_is_written,
     )
