@@ -81,7 +81,7 @@ fn is_run_of<R: Threads + Wait + Files + Sync + AllocGlobal, I: Read + Drop>(
     rt: &R,
     words: &[&str],
     mut input: I,
-    number: u8,
+    exit_status: u8,
     output: &[u8],
     errors: &[u8],
 ) -> bool {
@@ -95,7 +95,7 @@ fn is_run_of<R: Threads + Wait + Files + Sync + AllocGlobal, I: Read + Drop>(
         &mut written,
         &mut message,
     );
-    ended_with == number && written.as_slice() == output && message.as_slice() == errors
+    ended_with == exit_status && written.as_slice() == output && message.as_slice() == errors
 }
 
 #[test]
@@ -218,7 +218,7 @@ fn a_message_that_cannot_be_written_leaves_the_status(rt: HostRuntime) {
         let mut text = FIRST;
         let mut written = Vec::new(alloc);
         let ended_with = status(&rt, alloc, words, &mut text, &mut written, &mut closed());
-        assert_eq!(rt; ended_with, number);
+        assert_eq!(rt; ended_with, exit_status);
         assert_eq!(rt; written.len(), 0);
     }
 }
