@@ -10,8 +10,10 @@ ghost use Rattle.mm_spec.specs.Laws.Blocks.{InBlock};
 /// The statements of a text are the longest list of complete statements, without a `$}` too many,
 /// at the beginning of its tokens, and no other list is the longest.
 pub fn statements_are_the_longest()
-    ensures are_longest { (tokens : List Token) → AreLongestStatements tokens (statements_of tokens) }
-    ensures no_other_list { (tokens : List Token) (list : List Statement) → AreLongestStatements tokens list
+    ensures are_longest { (tokens : List Token)
+        → AreLongestStatements tokens (statements_of tokens) }
+    ensures no_other_list { (tokens : List Token) (list : List Statement)
+        → AreLongestStatements tokens list
         → list ≡ statements_of tokens }
 {}
 

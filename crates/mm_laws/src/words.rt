@@ -13,7 +13,8 @@ ghost use Rattle.mm_laws.specs.Lexing.{IsLexed};
 /// other list is the list of these runs.
 pub fn words_are_the_longest_runs()
     ensures are_words { (text : List ℕ) → AreWords text (words_of text) }
-    ensures no_other_list { (text : List ℕ) (ws : List Word) → AreWords text ws → ws ≡ words_of text }
+    ensures no_other_list { (text : List ℕ) (ws : List Word)
+        → AreWords text ws → ws ≡ words_of text }
 {}
 
 /// A reading follows the grammar of tokens and comments, up to the first word with which the words

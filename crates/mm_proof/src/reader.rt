@@ -64,7 +64,8 @@ pub fn read_proof<A: Allocator + Copy>(
     theorem: u32,
 ) -> Result<Steps<A>, ProofRefused>
     requires { IsTrue (is_theorem_at database.now.statements theorem) }
-    ensures steps { IfOk result (λ s. s ≡ theorem_steps theorem (steps_at database.now.statements theorem)) }
+    ensures steps { IfOk result
+        (λ s. s ≡ theorem_steps theorem (steps_at database.now.statements theorem)) }
     ensures sound { IfOk result (λ s. reading_faults_at database.now.statements theorem ≡ []) }
     ensures fault { IfErr result
         (λ e. IsProofRefusal (reading_faults_at database.now.statements theorem) e) }

@@ -25,7 +25,10 @@ pub struct PackedSymbol(u32);
 
 impl Model for PackedSymbol {
     ghost use Rattle.mm_rule.specs.declared.rule.RuleSymbol.{RuleSymbol};
-    ghost use Rattle.mm_rule.specs.Packed.{packed, packed_unpacked, unpacked};
+    ghost use Rattle.mm_rule.specs.declared.rule.RuleSymbol.TheVariants.{Constant, Variable};
+    ghost use Rattle.mm_rule.specs.Packed.{first_variable, packed, unpacked};
+    ghost use Rattle.std.proofs.Common.{◌≡◌, ◌-◌, true, false, nat_lt, cond, refl, arith};
+    ghost use Rattle.std.proofs.lemmas.Bool.{ltb-false};
 
     ghost Value = { RuleSymbol };
 
@@ -33,7 +36,12 @@ impl Model for PackedSymbol {
 
     ghost inverse = { λ s. record { 0 = packed s } };
 
-    ghost inverse_ok = { λ s h i. record { 0 = packed_unpacked s.0 i } };
+    ghost inverse_ok = { λ s h i. record {
+      0 = (elim (nat_lt s.0 first_variable) as (λ b. nat_lt s.0 first_variable ≡ b
+          → packed (cond b (Constant s.0) (Variable (s.0 - first_variable))) ≡ s.0)
+          [ true ↦ λ e. refl | false ↦ λ e. omega (arith, ltb-false s.0 first_variable e) ]
+          refl) i;
+    } };
 }
 
 impl PackedSymbol {

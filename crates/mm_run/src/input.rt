@@ -38,7 +38,8 @@ pub fn read_all<R: Read, A: Allocator>(
     text: &mut Vec<u8, A>,
 ) -> Result<(), ReadRefused>
     requires { vec_len text.old ≡ 0 }
-    ensures gave_text { OnOk result (Gave (R.remaining from.old) (R.remaining from.new) text.new.items) }
+    ensures gave_text { OnOk result
+        (Gave (R.remaining from.old) (R.remaining from.new) text.new.items) }
     ensures length_le_limit { OnOk result (length text.new.items ≤ reading_limit) }
 {
     let mut piece = [0u8; PIECE_LEN];

@@ -22,7 +22,8 @@ pub(crate) fn judged_valid<'a, A: Allocator + Copy>(
     essential: bool,
     lists: Lists<u32, A>,
 ) -> Result<Judged<A>, AllocError>
-    requires { HaveCitationsUpTo database.now.statements essential (theorems database.now.statements)
+    requires { HaveCitationsUpTo database.now.statements essential
+        (theorems database.now.statements)
         (length (theorems database.now.statements)) lists }
     ensures { IfOk result (λ judged. IsJudgement database.now.statements essential judged) }
 {

@@ -76,7 +76,8 @@ pub(crate) fn merge<'d, A: Allocator + Copy>(
     requires each_is_found_valid { (i : ℕ) → i < length (theorems database.now.statements)
         → IsFoundValid all_findings.now i }
     ensures { IfOk result
-        (λ lists. HaveCitationsUpTo database.now.statements essential (theorems database.now.statements)
+        (λ lists. HaveCitationsUpTo database.now.statements essential
+        (theorems database.now.statements)
         (length (theorems database.now.statements)) lists) }
 {
     // Only the contract uses `essential`: it says by which nodes the citations were found.

@@ -42,7 +42,8 @@ fn add_findings<A: Allocator>(
     all_findings: &mut Vec<Findings<A>, A>,
     findings: Findings<A>,
 ) -> Result<(), AllocError>
-    ensures adds_findings { OnOk result (all_findings.new.items ≡ all_findings.old.items ++ findings ∷ []) }
+    ensures adds_findings { OnOk result
+        (all_findings.new.items ≡ all_findings.old.items ++ findings ∷ []) }
     ensures has_memory { OnOk result (findings.short_of_memory ≡ false) }
 {
     if findings.short_of_memory {

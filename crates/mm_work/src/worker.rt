@@ -68,7 +68,8 @@ impl<A: Allocator> Findings<A> {
 
     /// Adds a theorem whose proof is valid, and what it cites.
     fn add_valid(&mut self, index: u32, cites: &[u32]) -> Result<(), AllocError>
-        ensures adds_index { OnOk result (self.new.valid.items ≡ self.old.valid.items ++ index ∷ []) }
+        ensures adds_index { OnOk result
+            (self.new.valid.items ≡ self.old.valid.items ++ index ∷ []) }
         ensures adds_cites { OnOk result (self.new.cites ≡ self.old.cites ++ cites.now ∷ []) }
         ensures fault_stays { self.new.faulty ≡ self.old.faulty }
         ensures memory_flag_stays { self.new.short_of_memory ≡ self.old.short_of_memory }
@@ -98,7 +99,8 @@ fn check_theorem<A: Allocator + Copy>(
     requires index { index < length (theorems job.now.database.now.statements) }
     requires made_for { IsMadeFor job.now.database.now.statements checker.old }
     ensures made_for { IsMadeFor job.now.database.now.statements checker.new }
-    ensures memory_lasted { findings.new.short_of_memory ≡ false → findings.old.short_of_memory ≡ false }
+    ensures memory_lasted { findings.new.short_of_memory ≡ false
+        → findings.old.short_of_memory ≡ false }
     ensures finds_valid { findings.new.short_of_memory ≡ false → result ≡ true
         → FindsValid job.now index findings.old findings.new }
     ensures finds_fault { findings.new.short_of_memory ≡ false → result ≡ false
