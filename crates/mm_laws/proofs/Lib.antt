@@ -34,6 +34,7 @@ pub mod SomeOutputLaw
 pub mod WavesLaw
 pub mod SpellingLaw
 pub mod SpelledStepsLaw
+pub mod UniqueStepsLaw
 pub mod WellSpelledLaw
 pub mod MeaningLaw
 pub mod NumeralsLaw

@@ -24,7 +24,7 @@ use Rattle.mm_laws.specs.Laws.Meaning.{SaysCompressed, SaysNormal, Says}
 use Rattle.mm_laws.specs.Laws.Meaning.{IsProved, ValidOnTheMeaning}
 use Rattle.mm_spec.proofs.FindsLaw.{equal_bytes_equal_words}
 use Rattle.mm_laws.proofs.SpelledStepsLaw.{steps_are_named, steps_are_labels_where_read}
-use Rattle.mm_laws.proofs.SpelledStepsLaw.{named_steps_are_unique}
+use Rattle.mm_laws.proofs.UniqueStepsLaw.{named_steps_are_unique}
 use Rattle.mm_laws.proofs.WellSpelledLaw.{compressed_is_exact, normal_is_exact}
 
 module _ (db : List Statement) (k : ℕ) where
