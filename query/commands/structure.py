@@ -25,7 +25,7 @@ Lists the headers of a database. A header is a comment whose title stands betwee
 #*#*, =-=- or -.-., the outermost level first. The first row is of the whole database.
 
 number           that of the header
-theorems         how many theorems stand from it to the next header of its level
+theorems         how many theorems stand from it to the next header of its level or of an outer one
 rest on AXIOM    how many of these rest on the axiom
 first on AXIOM   the first of these that does
 title            that of the header
