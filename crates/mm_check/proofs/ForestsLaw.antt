@@ -10,7 +10,7 @@ use Rattle.mm_spec.specs.Steps.{Step, label, marked}
 use Rattle.mm_spec.specs.Valid.{IsLastTree, Adds, Plain, Derives}
 use Rattle.mm_spec.specs.Laws.Complete.{HasCompleteFrame}
 use Rattle.mm_spec.proofs.UniqueLaw.{◌⧺◌}
-use Rattle.mm_spec.proofs.CheckedLaw.{same_labels_same_forest}
+use Rattle.mm_spec.proofs.CheckedLaw.{plain_extends, same_labels_same_forest}
 
 -- the forest after the first n steps
 abbrev pub forest_at : List Trees → ℕ → Trees
@@ -150,23 +150,6 @@ module _ (c : Context) where
       by_cut (inr cut) row_of_part in_children =
           row_in_children cut.0 cut.1 (cut_two_ways (postfix cs) (l ∷ []) cut.0 rest_labels cut.2)
           in_children
-
-  -- the plain list only grows
-  adds_at_end : (lists : List (List ℕ)) (labels : List ℕ) (s : Step) (new_labels : List ℕ)
-      → Adds c lists labels s new_labels → (added : List ℕ) × (new_labels ≡ labels ++ added)
-  adds_at_end lists labels (label l) new_labels adds = (l ∷ [], adds)
-  adds_at_end lists labels (marked j) new_labels adds = (adds.1, adds.4)
-
-  plain_extends : (steps : List Step) (lists : List (List ℕ)) (labels all_labels : List ℕ)
-      → Plain c lists labels steps all_labels → (added : List ℕ) × (all_labels ≡ labels ++ added)
-  plain_extends [] lists labels all_labels plain = ([], plain ∙ sym (append-nil labels))
-  plain_extends (s ∷ steps) lists labels all_labels plain =
-      let extended = adds_at_end lists labels s plain.0 plain.1 in
-      let extended_again = plain_extends steps (lists ++ plain.0 ∷ []) plain.0 all_labels plain.2 in (
-        extended.0 ++ extended_again.0,
-        extended_again.1 ∙ ap (λ z. z ++ extended_again.0) extended.1
-            ∙ append_assoc labels extended.0 extended_again.0,
-      )
 
   -- the lists after the steps so far are those of these forests
   abbrev AreListsOf : List (List ℕ) → List Trees → Type 0
@@ -356,7 +339,7 @@ module _ (c : Context) where
               ∙ sym (same_labels_same_forest c are_complete d forest d_derives derives plain);
         }
     has_rest_from (s ∷ steps) lists forests forest d are_lists derives forest_is d_derives plain =
-        let extension = plain_extends steps (lists ++ plain.0 ∷ []) plain.0 (postfix d) plain.2 in
+        let extension = plain_extends c steps (lists ++ plain.0 ∷ []) plain.0 (postfix d) plain.2 in
         let row = row_of_front d plain.0 extension.0 d_derives extension.1 in
         rest_after_step lists forests forest d s steps are_lists derives forest_is plain.0 plain.1
         row.0 row.1 row.2

@@ -10,8 +10,8 @@ use Rattle.std.proofs.lemmas.List.{length-map, get_or-map, get_or-replicate}
 use Rattle.mm_spec.specs.Statement.{Statement}
 use Rattle.mm_spec.specs.Scope.{statement_at}
 use Rattle.mm_spec.specs.Frame.{is_essential, mandatory_hypotheses, formula_at, frame_at}
-use Rattle.mm_spec.specs.Derivation.{Context, Formula, hypothesis, assertion, Follows, Trees, none}
-use Rattle.mm_spec.specs.Derivation.{more, tree, formulas, is_member}
+use Rattle.mm_spec.specs.Derivation.{Context, Formula, hypothesis, assertion, Follows, Trees}
+use Rattle.mm_spec.specs.Derivation.{tree, formulas, is_member}
 use Rattle.mm_spec.specs.Nodes.{tree_count, HasNode, each_root, child_counts}
 use Rattle.mm_spec.specs.Nodes.{is_essential_hypothesis}
 use Rattle.mm_spec.specs.Steps.{Step, label, marked, PlacedStep, placed}
@@ -20,6 +20,7 @@ use Rattle.mm_spec.specs.Laws.Complete.{AreComplete}
 use Rattle.mm_spec.specs.Citation.{context_at, rule_at, steps_at, IsProof, Cites}
 use Rattle.mm_spec.specs.Laws.Stack.{IsCompleteRule, AreGoodSteps, IsGoodStep}
 use Rattle.mm_spec.proofs.CitedLaw.{two_proofs_are_equal}
+use Rattle.mm_spec.proofs.UniqueLaw.{tree_count_formulas}
 use Rattle.mm_steps.specs.TheoremSteps.{step_at, IsEarlier}
 use Rattle.mm_rule.specs.Assertions.{is_assertion_at}
 use Rattle.mm_check.specs.Contract.{is_labelled_step}
@@ -50,11 +51,6 @@ pub record AreFoundFrom (db : List Statement) (t : ℕ) (steps : List PlacedStep
 
 -- ---- the premises of a label
 
-formula_count_is : (cs : Trees) → length (formulas cs) ≡ tree_count cs
-formula_count_is none = refl
-formula_count_is (more ts l f cs) =
-    omega (arith, length-append (formulas ts) (f ∷ []), formula_count_is ts)
-
 -- the flag of a premise
 flag_of_premise : (b : Bool) (e : ℕ → Bool) (hs : List ℕ) (n : ℕ)
     → flag_at (map (λ h. b && e h) hs) n
@@ -84,7 +80,7 @@ module _ (db : List Statement) (t : ℕ) (b : Bool) (l : ℕ) (cs : Trees) (f : 
     flag_count_is =
         length-map hs _ ∙ sym (length-map hs (formula_at db))
         ∙ sym (length-map (map (formula_at db) hs) _) ∙ sym (ap length rule_follows.1)
-        ∙ formula_count_is cs;
+        ∙ tree_count_formulas cs;
     flagged_is_counted =
         λ n flag_is_set. and_parts b (is_essential_hypothesis db l n) (sym (flag_of_premise b needed
         hs n) ∙ flag_is_set);
@@ -103,10 +99,10 @@ module _ (db : List Statement) (t : ℕ) (b : Bool) (l : ℕ) (cs : Trees) (f : 
           subst (λ r. Follows (context_at db t) r (formulas cs) f)
           (assertion_rule db t l is_assertion rule_is_complete) follows
   flags_by_kind false is_assertion = record {
-    flag_count_is = sym (ap length rule_follows.0) ∙ formula_count_is cs;
+    flag_count_is = sym (ap length rule_follows.0) ∙ tree_count_formulas cs;
     flagged_is_counted = λ n flag_is_set. absurd (no_flag n flag_is_set);
     counted_is_flagged = λ n n_lt_count b_is_true is_counted. absurd (let flag_count_is = sym (ap
-        length rule_follows.0) ∙ formula_count_is cs in omega (arith, flag_count_is, n_lt_count));
+        length rule_follows.0) ∙ tree_count_formulas cs in omega (arith, flag_count_is, n_lt_count));
   }
     where
       rule_follows : Follows (context_at db t) (Some (hypothesis (formula_at db l))) (formulas cs) f

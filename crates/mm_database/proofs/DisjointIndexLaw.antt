@@ -6,7 +6,6 @@ use Rattle.std.proofs.lemmas.Bool.{cases_lt, cases_eq, cases_order, lt-ltb, ltb-
 use Rattle.std.proofs.lemmas.Bool.{eq-eqb, eqb-true}
 use Rattle.std.proofs.lemmas.List.Folds.{list_any-append}
 use Rattle.std.specs.List.{list_any}
-use Rattle.std.specs.List.Sorted.{IsPartitionedBy}
 use Rattle.std.proofs.Math.Bool.{or-false, or-true}
 use Rattle.std.proofs.lemmas.Bool.{and_parts, false_from_ne_true}
 use Rattle.mm_spec.specs.Statement.{Statement}
@@ -91,31 +90,6 @@ is_pair_before_if p x y (inl lower) =
 is_pair_before_if p x y (inr (p0_is_x, lower)) =
     ap (λ b. nat_lt p.0 x || b) (ap₂ (λ a b. a && b) (eq-eqb p.0 x p0_is_x) (lt-ltb p.1 y lower))
     ∙ or-true (nat_lt p.0 x)
-
--- a pair before one that is before a third is before the third
-before_is_transitive : (a b c d e f : ℕ) → IsBefore a b c d → IsBefore c d e f → IsBefore a b e f
-before_is_transitive a b c d e f (inl first_lower) (inl second_lower) = inl (omega arith)
-before_is_transitive a b c d e f (inl first_lower) (inr (first_equal, second_lower)) =
-    inl (omega arith)
-before_is_transitive a b c d e f (inr (first_equal, first_lower)) (inl second_lower) =
-    inl (omega arith)
-before_is_transitive a b c d e f (inr (first_equal, first_lower))
-    (inr (second_equal, second_lower)) = inr (omega arith, omega arith)
-
--- in a list in ascending order, the pairs before a pair stand first
-pub is_partitioned_by_before : (ps : List (ℕ × ℕ)) → AreRising ps → (x y : ℕ)
-    → IsPartitionedBy (λ p. is_pair_before p x y) ps
-is_partitioned_by_before ps are_rising x y i j d i_lt_j j_lt_length j_is_before =
-    by_equality (cases_eq i j)
-  where
-    by_equality : (i ≡ j) ⊎ (i ≢ j) → is_pair_before (get_or ps i d) x y ≡ true
-    by_equality (inl i_is_j) = ap (λ k. is_pair_before (get_or ps k d) x y) i_is_j ∙ j_is_before
-    by_equality (inr i_ne_j) =
-        is_pair_before_if (get_or ps i d) x y
-        (before_is_transitive (get_or ps i d).0 (get_or ps i d).1 (get_or ps j d).0
-        (get_or ps j d).1 x y
-        (earlier_is_before ps are_rising i j d (omega arith) j_lt_length)
-        (is_before_from_test (get_or ps j d) x y j_is_before))
 
 -- ---- the blocks of the pairs
 
@@ -437,38 +411,6 @@ pub record NoneInCommon (b : BlockLists) (ps : List (ℕ × ℕ)) (x y at x_end 
       → is_active_local b (get_or ps p (0, 0)).1 at ≡ true → (p < x_end) × (q < y_end)
 
 module _ (b : BlockLists) (ps : List (ℕ × ℕ)) (ps_are_rising : AreRising ps) (x y at : ℕ) where
-  -- before any pair is looked at, all common ones are before the ends
-  pub none_at_start : (x_end y_end : ℕ) → x_end ≤ length ps → y_end ≤ length ps
-      → ((p : ℕ) → p < x_end → is_pair_before (get_or ps p (0, 0)) x at ≡ true)
-      → ((p : ℕ) → x_end ≤ p → p < length ps → is_pair_before (get_or ps p (0, 0)) x at ≡ false)
-      → ((p : ℕ) → p < y_end → is_pair_before (get_or ps p (0, 0)) y at ≡ true)
-      → ((p : ℕ) → y_end ≤ p → p < length ps → is_pair_before (get_or ps p (0, 0)) y at ≡ false)
-      → NoneInCommon b ps x y at x_end y_end
-  none_at_start x_end y_end x_end_le_length_ps y_end_le_length_ps earlier_are_before_x
-      later_are_not_before_x earlier_are_before_y later_are_not_before_y = record {
-        common_pairs_are_before_ends =
-            λ p q p_lt_length q_lt_length p_has_x q_has_y statements_equal is_active.
-            let statement_lt_at =
-            ltb-true (get_or ps p (0, 0)).1 at
-            (and_parts (nat_lt (get_or ps p (0, 0)).1 at)
-            (nat_le at (end_of b (get_or ps p (0, 0)).1)) is_active).0 in (
-              pair_lt_start b ps ps_are_rising x at x_end (record {
-                start_le_length = x_end_le_length_ps;
-                earlier_are_before =
-                    earlier_are_before_x;
-                later_are_not_before = later_are_not_before_x;
-              }) p p_lt_length
-                  p_has_x statement_lt_at,
-              pair_lt_start b ps ps_are_rising y at y_end (record {
-                start_le_length = y_end_le_length_ps;
-                earlier_are_before =
-                    earlier_are_before_y;
-                later_are_not_before = later_are_not_before_y;
-              }) q
-                  q_lt_length q_has_y (omega (arith, statement_lt_at, statements_equal)),
-            );
-      }
-
   -- of two pairs of one symbol, the earlier has no greater statement
   statements_ascend : (q r : ℕ) → q ≤ r → r < length ps
       → (get_or ps q (0, 0)).0 ≡ (get_or ps r (0, 0)).0

@@ -16,15 +16,6 @@ pub record StartsTo (ps : List (ℕ × ℕ)) (n : ℕ) (starts : List ℕ) : Typ
   pub starts_are : (x : ℕ) → x < length starts → IsStart ps x (get_or starts x 0)
   pub symbols_have_starts : (p : ℕ) → p < n → (get_or ps p (0, 0)).0 < length starts
 
--- no pairs have no starts
-pub starts_of_no_pairs : (ps : List (ℕ × ℕ)) → StartsTo ps 0 []
-starts_of_no_pairs ps =
-    record {
-      starts_are = λ x lt_zero. absurd (omega arith);
-      symbols_have_starts =
-          λ p lt_zero. absurd (omega arith);
-    }
-
 -- later pairs are of no earlier symbol
 symbols_ascend : (ps : List (ℕ × ℕ)) → AreRising ps → (i j : ℕ) → i ≤ j → j < length ps
     → (get_or ps i (0, 0)).0 ≤ (get_or ps j (0, 0)).0
@@ -75,21 +66,6 @@ starts_push ps n starts are_rising n_lt_length starts_le_symbol starts_to_n = re
         omega (arith, x_lt_pushed_length, pushed_length, x_ne_last) in
         subst (IsStart ps x) (sym (get_or_append_left starts (n ∷ []) 0 x x_lt_length_starts))
         (starts_to_n.starts_are x x_lt_length_starts)
-
--- a pair more, whose symbol has a start
-pub starts_with_pair : (ps : List (ℕ × ℕ)) (n : ℕ) (starts : List ℕ)
-    → (get_or ps n (0, 0)).0 < length starts → StartsTo ps n starts → StartsTo ps (n + 1) starts
-starts_with_pair ps n starts symbol_has_start starts_to_n = record {
-  starts_are = starts_to_n.starts_are;
-  symbols_have_starts = λ p l. by_equality p l (cases_eq p n);
-}
-  where
-    by_equality : (p : ℕ) → p < n + 1 → (p ≡ n) ⊎ (p ≡ n → ⊥) → (get_or ps p (0, 0)).0
-        < length starts
-    by_equality p p_le_n (inl p_is_n) = let symbols_equal =
-        ap (λ k. (get_or ps k (0, 0)).0) p_is_n in
-        omega (arith, symbols_equal, symbol_has_start)
-    by_equality p p_le_n (inr p_ne_n) = starts_to_n.symbols_have_starts p (omega arith)
 
 -- the starts for the first n pairs are those for all pairs, if there are no more than n
 pub starts_of_all_pairs : (ps : List (ℕ × ℕ)) (n : ℕ) (starts : List ℕ) → length ps ≤ n

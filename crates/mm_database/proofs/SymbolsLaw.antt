@@ -107,28 +107,6 @@ in_first_occurrences (v ∷ ws) e w w_not_in_e =
         ∙ ap (λ b. b || is_in w (first_occurrences (v ∷ e) ws)) w_eq_v
         ∙ with_v (ap₂ (λ a b. a || b) w_eq_v w_not_in_e) ∙ sym (ap (λ b. b || is_in w ws) w_eq_v)
 
--- an earlier word is no first occurrence
-not_in_first_occurrences : (ws e : List Bytes) (w : Bytes) → is_in w e ≡ true
-    → is_in w (first_occurrences e ws) ≡ false
-not_in_first_occurrences [] e w word_in_e = refl
-not_in_first_occurrences (v ∷ ws) e w word_in_e =
-    by_head (not_in_first_occurrences ws e w word_in_e) (not_in_first_occurrences ws (v ∷ e) w)
-    (is_in v e) refl (bytes_eq w v)
-    refl
-  where
-    by_head : is_in w (first_occurrences e ws) ≡ false
-        → (is_in w (v ∷ e) ≡ true → is_in w (first_occurrences (v ∷ e) ws) ≡ false) → (b : Bool)
-        → is_in v e ≡ b → (w_eq_v : Bool) → bytes_eq w v ≡ w_eq_v
-        → is_in w (first_occurrences e (v ∷ ws)) ≡ false
-    by_head without_v with_v true word_in_e w_eq_v w_eq_v_is_s =
-        ap (is_in w) (first_occurrences_cons e v ws true word_in_e) ∙ without_v
-    by_head without_v with_v false v_not_in_e true w_eq_v = absurd (true≢false
-        (sym word_in_e ∙ ap (λ x. is_in x e) (equal_bytes_equal_words w v w_eq_v) ∙ v_not_in_e))
-    by_head without_v with_v false v_not_in_e false w_eq_v =
-        ap (is_in w) (first_occurrences_cons e v ws false v_not_in_e)
-        ∙ ap (λ b. b || is_in w (first_occurrences (v ∷ e) ws)) w_eq_v
-        ∙ with_v (ap (λ a. a || is_in w e) w_eq_v ∙ word_in_e)
-
 -- the names with a word more
 abbrev pub added : List Bytes → Bytes → List Bytes
 added ns w = ns ++ if_new (is_in w ns) w
@@ -168,55 +146,6 @@ element_is_in_names (n ∷ ns) zero w element_is_w =
     ap (λ b. b || is_in w ns) (ap (bytes_eq w) n_is_w ∙ bytes_eq_itself w)
 element_is_in_names (n ∷ ns) (suc s) w element_is_w =
     ap (λ b. bytes_eq w n || b) (element_is_in_names ns s w element_is_w) ∙ or-true (bytes_eq w n)
-
--- each name stands once
-pub index_of_element : (ws e : List Bytes) (s : ℕ) (w : Bytes)
-    → slice_get (first_occurrences e ws) s ≡ Some w → index_of w (first_occurrences e ws) ≡ s
-index_of_element [] e zero w element_is_w = absurd (let none_is_w : None ≡ Some w = element_is_w in
-    cc)
-index_of_element [] e (suc s) w element_is_w =
-    absurd (let none_is_w : None ≡ Some w = element_is_w in cc)
-index_of_element (v ∷ ws) e s w element_is_w =
-    by_membership (λ place. index_of_element ws e place w)
-    (λ place. index_of_element ws (v ∷ e) place w)
-    (is_in v e) refl s
-    element_is_w
-  where
-    index_in_cons : (t : List Bytes) (s : ℕ) → slice_get (v ∷ t) s ≡ Some w → is_in v t ≡ false
-        → ((index_in_rest : ℕ) → slice_get t index_in_rest ≡ Some w → index_of w t ≡ index_in_rest)
-        → index_of w (v ∷ t) ≡ s
-    index_in_cons t zero element_is_w v_not_in_t index_in_rest =
-        ap (λ b. elim b [ true ↦ 0 | false ↦ suc (index_of w t) ])
-        (ap (bytes_eq w) (let some_v_is_w : Some v ≡ Some w = element_is_w in
-        let v_is_w : v ≡ w = cc in
-        v_is_w) ∙ bytes_eq_itself w)
-    index_in_cons t (suc s) element_is_w v_not_in_t index_in_rest = by_equality (bytes_eq w v) refl
-      where
-        by_equality : (b : Bool) → bytes_eq w v ≡ b → index_of w (v ∷ t) ≡ suc s
-        by_equality true w_eq_v =
-            absurd (true≢false
-            (sym (ap (λ x. is_in x t) (sym (equal_bytes_equal_words w v w_eq_v))
-            ∙ element_is_in_names t s w element_is_w) ∙ v_not_in_t))
-        by_equality false w_eq_v = ap (λ b. elim b [ true ↦ 0 | false ↦ suc (index_of w t) ]) w_eq_v
-            ∙ ap suc (index_in_rest s element_is_w)
-
-    by_membership : ((r : ℕ) → slice_get (first_occurrences e ws) r ≡ Some w
-        → index_of w (first_occurrences e ws) ≡ r)
-        → ((r : ℕ) → slice_get (first_occurrences (v ∷ e) ws) r ≡ Some w
-        → index_of w (first_occurrences (v ∷ e) ws) ≡ r)
-        → (b : Bool) → is_in v e ≡ b → (s : ℕ) → slice_get (first_occurrences e (v ∷ ws)) s ≡ Some w
-        → index_of w (first_occurrences e (v ∷ ws)) ≡ s
-    by_membership without_v with_v true word_in_e s element_is_w =
-        ap (index_of w) (first_occurrences_cons e v ws true word_in_e)
-        ∙ without_v s (sym (ap (λ l. slice_get l s) (first_occurrences_cons e v ws true word_in_e))
-        ∙ element_is_w)
-    by_membership without_v with_v false v_not_in_e s element_is_w =
-        ap (index_of w) (first_occurrences_cons e v ws false v_not_in_e)
-        ∙ index_in_cons (first_occurrences (v ∷ e) ws) s
-        (sym (ap (λ l. slice_get l s) (first_occurrences_cons e v ws false v_not_in_e))
-        ∙ element_is_w)
-        (not_in_first_occurrences ws (v ∷ e) v (ap (λ b. b || is_in v e) (bytes_eq_itself v)))
-        with_v
 
 -- where the code finds a name
 pub position_is_index : (w : Bytes) (ks : List (Name))

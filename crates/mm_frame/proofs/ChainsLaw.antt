@@ -99,53 +99,6 @@ chain_for_equal_test passes equal_test a b links n a_le_b tests_equal has_chain 
 
 -- ---- a statement in front of a chain
 
-module _ (heads : List ℕ) (links : List (ℕ × ℕ)) (x k : ℕ) (x_lt_length : x < length heads) where
-  -- a link more keeps all within the list
-  pub linked_with_link : AreLinked heads links
-      → AreLinked (set heads x (length links + 1)) (links ++ (k, get_or heads x 0) ∷ [])
-  linked_with_link are_linked = record {
-    heads_le_length = λ y y_lt_length. head_le_length y y_lt_length (cases_eq y x);
-    next_le_index = λ i i_lt_length. next_le_link i i_lt_length (cases_eq i (length links));
-  }
-    where
-      pushed_length : length (links ++ (k, get_or heads x 0) ∷ []) ≡ length links + 1
-      pushed_length = length-append links ((k, get_or heads x 0) ∷ [])
-
-      head_le_length : (y : ℕ) → y < length (set heads x (length links + 1)) → (y ≡ x) ⊎ (y ≢ x)
-          → get_or (set heads x (length links + 1)) y 0
-          ≤ length (links ++ (k, get_or heads x 0) ∷ [])
-      head_le_length y y_lt_set_length (inl y_is_x) =
-          let head_is_set =
-          ap (λ z. get_or (set heads x (length links + 1)) z 0) y_is_x
-          ∙ get_or-set_same heads x (length links + 1) 0 x_lt_length in
-          let pushed_length_here = pushed_length in
-          omega (arith, head_is_set, pushed_length_here)
-      head_le_length y y_lt_set_length (inr y_ne_x) =
-          let head_is_set = get_or-set_other heads x y (length links + 1) 0 y_ne_x in
-          let pushed_length_here = pushed_length in
-          let set_length = length-set heads x (length links + 1) in
-          let head_le = are_linked.heads_le_length y (omega (arith, y_lt_set_length, set_length)) in
-          omega (arith, head_is_set, pushed_length_here, head_le)
-
-      next_le_link : (i : ℕ) → i < length (links ++ (k, get_or heads x 0) ∷ [])
-          → (i ≡ length links) ⊎ (i ≢ length links)
-          → (get_or (links ++ (k, get_or heads x 0) ∷ []) i (0, 0)).1 ≤ i
-      next_le_link i i_lt_pushed_length (inl i_is_last) =
-          let next_is_head =
-          ap (λ (q : ℕ × ℕ). q.1)
-          (get_or_push links (k, get_or heads x 0) (0, 0) i (sym i_is_last)) in
-          let head_le = are_linked.heads_le_length x x_lt_length in
-          omega (arith, next_is_head, head_le, i_is_last)
-      next_le_link i i_lt_pushed_length (inr i_ne_last) =
-          let pushed_length_here = pushed_length in
-          let i_lt_length_links : i < length links =
-          omega (arith, i_lt_pushed_length, pushed_length_here, i_ne_last) in
-          let next_is_head =
-          ap (λ (q : ℕ × ℕ). q.1)
-          (get_or_append_left links ((k, get_or heads x 0) ∷ []) (0, 0) i i_lt_length_links) in
-          let next_le = are_linked.next_le_index i i_lt_length_links in
-          omega (arith, next_is_head, next_le)
-
 module _ (passes : ℕ → ℕ → Bool) (heads : List ℕ) (links : List (ℕ × ℕ)) (s x k : ℕ) (s_is_x : s
     ≡ x)
     (x_lt_length : x < length heads)
@@ -420,18 +373,6 @@ pub record IsRest (links : List (ℕ × ℕ)) (symbol number : ℕ)
 
 module _ (links : List (ℕ × ℕ)) (symbol : ℕ) (earlier_pairs pairs_so_far : List (ℕ × ℕ))
     (all_statements : List ℕ) where
-  -- before the first link the whole chain remains
-  pub rest_is_all : (number : ℕ) → IsLinkChain links number all_statements
-      → earlier_pairs ≡ pairs_so_far
-      → IsRest links symbol number earlier_pairs pairs_so_far all_statements
-  rest_is_all number is_chain earlier_is_so_far =
-      record {
-        remaining = all_statements;
-        chain = is_chain;
-        pairs =
-            ap (λ ps. ps ++ map (λ j. (symbol, j)) all_statements) earlier_is_so_far;
-      }
-
   -- after a link the rest of the chain remains
   pub rest_after_link : (number : ℕ) → 0 < number
       → IsRest links symbol number earlier_pairs pairs_so_far all_statements
@@ -602,15 +543,3 @@ pairs_with_symbol db x n links ps qs chain are_pairs_to qs_are_pushed =
         ∙ or-false (nat_lt y x && has_symbol db y j)
         ∙ sym (ap (λ b. (nat_lt y x || b) && has_symbol db y j) (ne_eqb y x y_ne_x)
         ∙ ap (λ b. b && has_symbol db y j) (or-false (nat_lt y x)))
-
--- there are no other symbols
-pub pairs_of_all_symbols : (db : List Statement) (x : ℕ) (ps : List (ℕ × ℕ))
-    → ((y j : ℕ) → has_symbol db y j ≡ true → y < x) → ArePairsTo db x ps
-    → (y j : ℕ) → has_pair ps y j ≡ has_symbol db y j
-pairs_of_all_symbols db x ps symbols_lt_x are_pairs y j =
-    are_pairs.members_are y j ∙ by_has_symbol (has_symbol db y j) refl
-  where
-    by_has_symbol : (b : Bool) → has_symbol db y j ≡ b → (nat_lt y x && b) ≡ b
-    by_has_symbol false has_symbol_is_b = and-false (nat_lt y x)
-    by_has_symbol true has_symbol_is_b =
-        ap (λ b. b && true) (lt-ltb y x (symbols_lt_x y j has_symbol_is_b))

@@ -3,7 +3,7 @@ use Rattle.std.proofs.Common.{◌≡◌, ◌≢◌, ℕ, ◌+◌, ◌<◌, ◌�
 use Rattle.std.proofs.Common.{cond, List, [], ◌∷◌, ◌++◌, length, nat_eq, nat_lt}
 use Rattle.std.proofs.Common.{refl, sym, ap, ap₂, ◌∙◌, subst, arith, ◌⊎◌, inl, inr}
 use Rattle.std.proofs.Common.{true≢false, eqb-true, get_or, length-append}
-use Rattle.std.proofs.lemmas.Bool.{cases_lt, cases_eq, cases_order, lt-ltb, le-ltb, eq-eqb, ne_eqb}
+use Rattle.std.proofs.lemmas.Bool.{cases_lt, cases_eq, cases_order, lt-ltb, le-ltb, eq-eqb}
 use Rattle.std.proofs.lemmas.List.{get_or_append_left}
 use Rattle.std.proofs.Math.Seq.{get_or-append_seam}
 use Rattle.std.specs.List.{list_any}
@@ -131,35 +131,6 @@ module _ (test : Statement → Bool) (db : List Statement) where
           ap (λ b. b && is_block_open db i (k + 1))
           (ap (λ i. list_any test (statement_at db i)) i_is_k ∙ k_is_other)
 
-  -- before the first statement there is no latest
-  pub no_latest_at_start : (last : ℕ) → last ≡ never → IsLatest test db 0 last
-  no_latest_at_start last last_is_never =
-      record {
-        last_is_found =
-            λ last_ne_never. absurd (last_ne_never last_is_never);
-        later_are_not_staying =
-            λ i i_lt_0 later_than_last. absurd (omega arith);
-      }
-
-  -- the next on the way is nearer to the start
-  pub next_height_lt_height : (k last next : ℕ) → last ≢ never → IsLatest test db last next
-      → height next < height last
-  next_height_lt_height k last next last_ne_never is_latest = by_presence (cases_eq next never)
-    where
-      height_is_last_plus_1 : height last ≡ last + 1
-      height_is_last_plus_1 = ap (λ b. cond b 0 (last + 1)) (ne_eqb last never last_ne_never)
-
-      by_presence : (next ≡ never) ⊎ (next ≢ never) → height next < height last
-      by_presence (inl next_is_never) =
-          let height_of_next : height next ≡ 0 =
-          ap (λ b. cond b 0 (next + 1)) (eq-eqb next never next_is_never) in
-          omega (arith, height_of_next, height_is_last_plus_1)
-      by_presence (inr next_ne_never) =
-          let height_of_next : height next ≡ next + 1 =
-          ap (λ b. cond b 0 (next + 1)) (ne_eqb next never next_ne_never) in
-          let next_lt_last = (is_latest.last_is_found next_ne_never).0 in
-          omega (arith, height_of_next, height_is_last_plus_1, next_lt_last)
-
   -- ---- the walk
 
   -- the list has only ones that are active at k, and all of these that are after `last`
@@ -170,28 +141,6 @@ module _ (test : Statement → Bool) (db : List Statement) where
         → (i < k) × (is_staying test db i k ≡ true)
     pub staying_are_members : (i : ℕ) → i < k → is_staying test db i k ≡ true
         → (is_member xs i ≡ true) ⊎ ((last ≢ never) × (i ≤ last))
-
-  -- the walk begins at the latest
-  pub walked_from_latest : (k last : ℕ) → IsLatest test db k last → IsWalked k [] last
-  walked_from_latest k last is_latest = record {
-    last_is_found = is_latest.last_is_found;
-    members_are_staying = λ i i_stays. absurd (true≢false (sym i_stays));
-    staying_are_members =
-        λ i i_lt_k i_stays. inr
-        (by_presence i i_lt_k i_stays (cases_eq last never) (cases_lt last i));
-  }
-    where
-      by_presence : (i : ℕ) → i < k → is_staying test db i k ≡ true → (last ≡ never)
-          ⊎ (last ≢ never)
-          → (last < i) ⊎ (i ≤ last) → (last ≢ never) × (i ≤ last)
-      by_presence i i_lt_k i_stays (inl last_is_never) order =
-          absurd (true≢false (sym i_stays
-          ∙ is_latest.later_are_not_staying i i_lt_k (inr last_is_never)))
-      by_presence i i_lt_k i_stays (inr last_ne_never) (inl last_lt_i) =
-          absurd (true≢false (sym i_stays
-          ∙ is_latest.later_are_not_staying i i_lt_k (inl last_lt_i)))
-      by_presence i i_lt_k i_stays (inr last_ne_never) (inr i_le_last) =
-          (last_ne_never, i_le_last)
 
   -- the walk goes on with the next
   pub walked_with_last : (k : ℕ) (xs : List ℕ) (last next : ℕ) → k ≤ length db

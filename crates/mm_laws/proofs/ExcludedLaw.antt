@@ -1,33 +1,16 @@
 -- Steps of which one fails have no derivation.
-use Rattle.std.proofs.Common.{◌≡◌, ℕ, List, [], ◌∷◌, ◌++◌, refl, sym, ap, ◌∙◌, subst, append-nil}
+use Rattle.std.proofs.Common.{◌≡◌, ℕ, List, [], ◌∷◌, ◌++◌, refl, ap, ◌∙◌, subst}
 use Rattle.std.proofs.Common.{append_assoc}
 use Rattle.mm_spec.specs.Derivation.{Context, formulas, postfix}
 use Rattle.mm_spec.specs.Steps.{Step, label, marked}
-use Rattle.mm_spec.specs.Valid.{Reason, StepFails, Adds, Plain}
+use Rattle.mm_spec.specs.Valid.{Reason, StepFails, Plain}
 use Rattle.mm_spec.specs.Laws.Complete.{HasCompleteFrame}
 use Rattle.mm_spec.proofs.MachineLaw.{AreGood}
 use Rattle.mm_spec.proofs.StepsLaw.{forest_labels_are_good, StoppedSteps}
-use Rattle.mm_spec.proofs.CheckedLaw.{plain_lists_are_equal}
+use Rattle.mm_spec.proofs.CheckedLaw.{plain_extends, plain_lists_are_equal}
 use Rattle.mm_laws.proofs.ExactLaw.{IsPostfixOfForest, stopped_no_forest}
 
 module _ (c : Context) (all_complete : (l : ℕ) → HasCompleteFrame c (c.rule l)) where
-  -- the plain list only grows
-  adds_at_end : (lists : List (List ℕ)) (labels : List ℕ) (s : Step) (new_labels : List ℕ)
-      → Adds c lists labels s new_labels → (added : List ℕ) × (new_labels ≡ labels ++ added)
-  adds_at_end lists labels (label l) new_labels adds = (l ∷ [], adds)
-  adds_at_end lists labels (marked j) new_labels adds = (adds.1, adds.4)
-
-  plain_extends : (steps : List Step) (lists : List (List ℕ)) (labels all_labels : List ℕ)
-      → Plain c lists labels steps all_labels → (added : List ℕ) × (all_labels ≡ labels ++ added)
-  plain_extends [] lists labels all_labels plain = ([], plain ∙ sym (append-nil labels))
-  plain_extends (s ∷ steps) lists labels all_labels plain =
-      let extended = adds_at_end lists labels s plain.0 plain.1 in
-      let extended_again = plain_extends steps (lists ++ plain.0 ∷ []) plain.0 all_labels plain.2 in (
-        extended.0 ++ extended_again.0,
-        extended_again.1 ∙ ap (λ z. z ++ extended_again.0) extended.1
-            ∙ append_assoc labels extended.0 extended_again.0,
-      )
-
   -- the plain list of a front
   plain_splits : (front steps : List Step) (lists : List (List ℕ)) (labels all_labels : List ℕ)
       → Plain c lists labels (front ++ steps) all_labels
@@ -57,7 +40,7 @@ module _ (c : Context) (all_complete : (l : ℕ) → HasCompleteFrame c (c.rule 
           → Plain c plain_parts.1 plain_parts.0 (first_step ∷ stopped.after) all_labels → ⊥
       by_step (marked j) fails plain_of_rest = fails
       by_step (label l) fails plain_of_rest =
-          let extension = plain_extends stopped.after (plain_parts.1 ++ plain_of_rest.0 ∷ [])
+          let extension = plain_extends c stopped.after (plain_parts.1 ++ plain_of_rest.0 ∷ [])
           plain_of_rest.0 all_labels plain_of_rest.2 in
           let all_labels_are : all_labels ≡ plain_parts.0 ++ l ∷ extension.0 =
           extension.1 ∙ ap (λ z. z ++ extension.0) plain_of_rest.1

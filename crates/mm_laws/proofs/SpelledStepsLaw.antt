@@ -1,5 +1,5 @@
 -- The steps of a proof are what its numbers or its labels name.
-use Rattle.std.proofs.Common.{cond, ◌≡◌, ◌≢◌, ℕ, zero, suc, ◌+◌, ◌-◌, ◌*◌, ◌<◌, ◌≤◌, Bool, true}
+use Rattle.std.proofs.Common.{cond, ◌≡◌, ◌≢◌, ℕ, zero, suc, ◌+◌, ◌-◌, ◌<◌, ◌≤◌, Bool, true}
 use Rattle.std.proofs.Common.{false, ◌&&◌, ◌⊎◌, inl, inr, List, [], ◌∷◌, ◌++◌, map, length}
 use Rattle.std.proofs.Common.{flat_map, count_by, Option, Some, None, slice_get, nat_le, bytes_eq}
 use Rattle.std.proofs.Common.{codes, refl, sym, ap, ap₂, ◌∙◌, subst, true≢false, arith, leb-true}
@@ -13,7 +13,7 @@ use Rattle.mm_spec.specs.declared.Fault.{Fault}
 use Rattle.mm_spec.specs.Statement.{Statement, floating, essential, axiomatic, provable, label_of}
 use Rattle.mm_spec.specs.Scope.{Names as KnownNames, names_before, depth, is_active, statement_at}
 use Rattle.mm_spec.specs.Scope.{label_words}
-use Rattle.mm_spec.specs.Lawful.{floating_faults, formula_faults, scope_faults, least}
+use Rattle.mm_spec.specs.Lawful.{floating_faults, formula_faults, scope_faults}
 use Rattle.mm_spec.specs.Lawful.{IsLawful}
 use Rattle.mm_spec.specs.Lawful as lawful
 use Rattle.mm_spec.specs.Opened.{counted}
@@ -31,20 +31,21 @@ use Rattle.mm_laws.specs.Spelling.{Item, number, mark, is_number, is_mark_item, 
 use Rattle.mm_laws.specs.Spelling.{IsCompressed, IsMark, NamesStep, AreSteps, IsUsable}
 use Rattle.mm_laws.specs.Laws.Read.{WhereRead}
 use Rattle.mm_laws.specs.Laws.BareSteps.{bare_steps}
-use Rattle.mm_laws.specs.Laws.NamedSteps.{StepsAreNamed, NamedStepsAreUnique}
+use Rattle.mm_laws.specs.Laws.NamedSteps.{StepsAreNamed}
 use Rattle.mm_laws.specs.Laws.NamedSteps.{StepsAreLabels}
 use Rattle.mm_spec.specs.declared.Code.TheVariants.{UnusableLabel}
 use Rattle.mm_spec.specs.declared.Code.TheVariants.{IncompleteProof}
-use Rattle.mm_spec.proofs.FindsLaw.{equal_bytes_equal_words, passing_statement, got_lt_length}
+use Rattle.mm_spec.proofs.FindsLaw.{equal_bytes_equal_words, passing_statement}
 use Rattle.mm_spec.proofs.FindsLaw.{later_place_knows_declared}
-use Rattle.mm_spec.proofs.FaultlessLaw.{no_least_no_faults, both_are_empty, faultless_label_is_new}
+use Rattle.mm_spec.proofs.FaultlessLaw.{both_are_empty, faultless_label_is_new}
 use Rattle.mm_spec.proofs.OpenedLaw.{counted_any}
+use Rattle.mm_spec.proofs.CompleteLaw.{lawful_is_faultless}
+use Rattle.mm_spec.proofs.GoodStepsLaw.{group_value_is_positive}
+use Rattle.mm_spec.proofs.GroupsLaw.{AreFaultless}
 use Rattle.mm_spec.proofs.ListLaw.{got_none_is_past_end}
 use Rattle.mm_laws.proofs.ReadLaw.{read_statements_are_lawful}
-use Rattle.mm_laws.proofs.SpellingLaw.{bracketed_splits, AreFaultless, letters_are_faultless}
-use Rattle.mm_laws.proofs.SpellingLaw.{item_of}
-use Rattle.mm_laws.proofs.SpellingLaw.{groups_spell}
-use Rattle.mm_laws.proofs.SpellingLaw.{bytes_of_letters, spelled_items_are_unique}
+use Rattle.mm_laws.proofs.SpellingLaw.{bracketed_splits, letters_are_faultless, item_of}
+use Rattle.mm_laws.proofs.SpellingLaw.{groups_spell, bytes_of_letters, spelled_items_are_unique}
 
 -- ---- lists
 
@@ -265,9 +266,6 @@ module _ (hypotheses labels : List ℕ) where
   abbrev steps_of : List PlacedStep → List Step
   steps_of ps = map (λ p. p.step) ps
 
-  value_gt_0 : (n b : ℕ) → 65 ≤ b → 0 < n * 20 + (b - 64)
-  value_gt_0 n b last_digit_ge = omega arith
-
   -- the steps of groups are what their items name
   steps_from_groups : (gs : List Group) (items_before : List Item) (marks : List ℕ) (count : ℕ)
       → count ≡ count_by is_number items_before → length marks ≡ count_by is_mark_item items_before
@@ -324,7 +322,7 @@ module _ (hypotheses labels : List ℕ) where
           let byte_ge_65 =
           leb-true 65 g.last.byte
           (and_parts (nat_le 65 g.last.byte) (nat_le g.last.byte 84) is_number_group.0).0 in
-          let named = number_names_step items_before marks (value g) (value_gt_0 _ g.last.byte
+          let named = number_names_step items_before marks (value g) (group_value_is_positive _ g.last.byte
           byte_ge_65) is_number_group.1 are_marks in
           let are_steps =
           steps_from_number items_before (map item_of gs)
@@ -436,23 +434,13 @@ abbrev pub LabelsDiffer : List Statement → Type 0
 LabelsDiffer db = (w : Bytes) (i j : ℕ) → HasLabel db w i → HasLabel db w j → i ≡ j
 
 module _ (db : List Statement) (are_lawful : (k : ℕ) → k < length db → IsLawful db k) where
-  statement_is_faultless : (k : ℕ) (s : Statement) → slice_get db k ≡ Some s
-      → scope_faults (names_before db k) (depth db k) s ≡ []
-  statement_is_faultless k s statement_is =
-      no_least_no_faults (scope_faults (names_before db k) (depth db k) s)
-      (sym (ap first_fault statement_is) ∙ are_lawful k (got_lt_length db k s statement_is))
-    where
-      first_fault : Option Statement → Option Fault
-      first_fault o =
-          elim o [ None ↦ None | Some s ↦ least (scope_faults (names_before db k) (depth db k) s) ]
-
   label_not_twice : (w : Bytes) (i j : ℕ) → i < j → HasLabel db w i → HasLabel db w j → ⊥
   label_not_twice w i j i_lt_j labels_i labels_j =
       let labelled_i = passing_statement db (is_labelled w) i labels_i in
       let labelled_j = passing_statement db (is_labelled w) j labels_j in
       let is_new : is_in w (names_before db j).labels ≡ false =
-      label_is_new (names_before db j) (depth db j) labelled_j.0 w (statement_is_faultless j
-      labelled_j.0 labelled_j.1) labelled_j.2 in
+      label_is_new (names_before db j) (depth db j) labelled_j.0 w
+      (lawful_is_faultless db are_lawful j labelled_j.0 labelled_j.1) labelled_j.2 in
       true≢false (sym (later_place_knows_declared label_words db j i labelled_i.0 w labelled_i.1
       i_lt_j (label_is_word
       labelled_i.0 w labelled_i.2)) ∙ is_new)

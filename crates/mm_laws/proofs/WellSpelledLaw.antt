@@ -33,7 +33,8 @@ use Rattle.mm_laws.proofs.SpellingLaw.{group_spells_its_value, early_byte_is_dig
 use Rattle.mm_laws.proofs.SpellingLaw.{front_with_last_is_not_nil, bracket_parts_of}
 use Rattle.mm_laws.proofs.SpellingLaw.{bracketed_splits, bytes_of, AreEarly}
 use Rattle.mm_laws.proofs.SpellingLaw.{item_of}
-use Rattle.mm_laws.proofs.SpellingLaw.{AreFaultless, groups_spell, bytes_of_letters}
+use Rattle.mm_spec.proofs.GroupsLaw.{AreFaultless}
+use Rattle.mm_laws.proofs.SpellingLaw.{groups_spell, bytes_of_letters}
 use Rattle.mm_laws.proofs.SpellingLaw.{proof_is_faultless}
 use Rattle.mm_laws.proofs.SpelledStepsLaw.{count_append, LabelsDiffer, labels_differ}
 use Rattle.mm_laws.proofs.SpelledStepsLaw.{one_statement_is_usable, labels_are_usable, own_faults}

@@ -4,7 +4,7 @@ use Rattle.std.proofs.Common.{Result, Ok, sym, ap, subst, ◌∙◌, ⊎_elim, a
 use Rattle.std.specs.Prelude.{IfOk}
 use Rattle.std.specs.List.{remove}
 use Rattle.std.specs.declared.alloc.AllocError.{AllocError}
-use Rattle.std.proofs.Math.Nat.{div-add-mod, mod-lt, le-div_iff_mul-le, mul-le-mul_right, add-mul}
+use Rattle.std.proofs.Math.Nat.{div-add-mod, mod-lt}
 use Rattle.std.proofs.Math.Nat.{zero-mul}
 use Rattle.std.proofs.lemmas.Bool.{cases_lt}
 use Rattle.std.proofs.lemmas.Grind.{get_or_default_zero}
@@ -64,19 +64,6 @@ module _ (n runs : ℕ) (runs_is_positive : 0 < runs) (runs_le_n : runs ≤ n) w
   last_run_ends_at_n =
       let remainder_lt_runs = mod-lt n runs_is_positive in
       omega (arith, remainder_lt_runs, runs_cover_pieces)
-
-  pub run_starts_rise : (i : ℕ) → run_start n runs i < run_start n runs (i + 1)
-  run_starts_rise i =
-      let quotient_is_positive : 1 ≤ n / runs =
-      (le-div_iff_mul-le runs_is_positive).1 (omega arith) in
-      let product_grows : (i + 1) * (n / runs) ≡ i * (n / runs) + 1 * (n / runs) =
-      add-mul i 1 (n / runs) in
-      omega (arith, quotient_is_positive, product_grows)
-
-  pub run_start_le_n : (i : ℕ) → i ≤ runs → run_start n runs i ≤ n
-  run_start_le_n i i_le_runs =
-      let product_le = mul-le-mul_right {m = i} {n = runs} (n / runs) i_le_runs in
-      omega (arith, product_le, runs_cover_pieces)
 
 -- the first runs make up whole, and these are the rest
 pub record IsJoinedSoFar (text places : List ℕ) (n runs : ℕ) (whole : Stretch)

@@ -7,7 +7,7 @@ use Rattle.mm_spec.specs.Request.{Request}
 use Rattle.mm_spec.specs.Output.{IsOutput}
 use Rattle.mm_library.specs.Calls.{lengths_of}
 use Rattle.mm_library.specs.Calls.{Asks, Call, CallEnds, HasVerdict, Refuses, HasOutputs}
-use Rattle.mm_library.specs.Calls.{WritingEnds, status_number}
+use Rattle.mm_library.specs.Calls.{WritingEnds}
 use Rattle.mm_library.specs.declared.status.Status.{Status}
 use Rattle.mm_library.specs.declared.status.Status.TheVariants.{Accepted, Refused, TypecodeNotUtf8}
 use Rattle.mm_library.specs.declared.status.Status.TheVariants.{OutTooShort, RoomTooSmall}
@@ -128,15 +128,3 @@ ends_if_refused RoomTooSmall call requests_for text lengths out refuses lengths_
     refuses
 ends_if_refused NoSuchRequest call requests_for text lengths out refuses lengths_sum_is_0 =
     (refuses, lengths_sum_is_0)
-
--- a call that ends so returns the status's number
-pub number_is_told : (status : Status) (number : ℕ) (call : Call) (requests_for : Request
-    → List Request)
-    (text lengths out : List ℕ) → number ≡ status_number status
-    → CallEnds status call requests_for text lengths out
-    → (s : Status) × (number ≡ status_number s) × CallEnds s call requests_for text lengths out
-number_is_told status number call requests_for text lengths out number_is call_ends = (
-  status,
-  number_is,
-  call_ends,
-)

@@ -3,7 +3,7 @@ use Rattle.std.proofs.Common.{◌≡◌, ℕ, zero, suc, ◌-◌, ◌<◌, ◌�
 use Rattle.std.proofs.Common.{drop, get_or, slice_range, refl, sym, ap, ap₂, ◌∙◌, subst, arith, All}
 use Rattle.std.proofs.Common.{length-append}
 use Rattle.std.specs.List.{AllByRecursion}
-use Rattle.std.proofs.lemmas.List.{drop_at, take_all, take_at}
+use Rattle.std.proofs.lemmas.List.{drop_at, take_all}
 use Rattle.std.proofs.lemmas.List.Elements.{All-from_recursion, recursion_from_All, All-weaker}
 use Rattle.std.proofs.lemmas.List.Elements.{All-take, All-append, All-drop, All-nil, All-get_or}
 use Rattle.mm_machine.specs.declared.arena.Span.{Span}
@@ -218,12 +218,6 @@ replaced_in_range n a es f unmarked_in_range marked_in_range parts_in_range = sy
     symbol_by_symbol (p ∷ f) parts_are_below = All-append (λ s. s < n) _ _ (part_in_range p
         parts_are_below.0) (symbol_by_symbol
         f parts_are_below.1)
-
--- a table written back
-pub take_written_back : {X : Type 0} (new_table old_table : List X) (n : ℕ) → length new_table ≡ n
-    → take n (new_table ++ drop (length new_table) old_table) ≡ new_table
-take_written_back new_table old_table n length_is_n = take_at new_table (drop (length new_table)
-    old_table) n length_is_n
 
 -- a stretch of entries that are in the arena
 pub slice_entries_are_in : (a : Arena) (es : List Span) (start end : ℕ) → All (IsIn a) es

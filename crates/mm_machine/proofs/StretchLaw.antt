@@ -100,12 +100,6 @@ begins_with_first xs a e s a_lt_e e_le_length_xs = by_first_symbol (e - a) (drop
         ap (λ z. starts_with nat_eq (take (suc n) z) (s ∷ [])) ys_is
         ∙ and-true (nat_eq s (get_or xs a 0))
 
-pub empty_begins_with_none : (xs : List ℕ) (a e s : ℕ) → e ≤ a
-    → starts_with nat_eq (slice_range xs a e) (s ∷ []) ≡ false
-empty_begins_with_none xs a e s e_le_a =
-    let difference_is_0 : e - a ≡ 0 = omega arith in ap (λ n. starts_with nat_eq (take n (drop a
-    xs)) (s ∷ [])) difference_is_0
-
 -- a stretch begins with a longer one never
 pub begins_with_length : (xs : List ℕ) (a e : ℕ) (u : List ℕ) → a ≤ e
     → starts_with nat_eq (slice_range xs a e) u ≡ true → a + length u ≤ e
@@ -162,9 +156,3 @@ typed_test_is l a e t a_lt_e e_le_length =
     ap₂ (λ u n. bytes_eq u (t ∷ slice_range l n e)) (slice_is_cons l a e a_lt_e e_le_length) min_is
     ∙ ap (λ b. nat_eq (get_or l a 0) t && b) (bytes_eq_self (slice_range l (a + 1) e))
     ∙ and-true (nat_eq (get_or l a 0) t)
-
-pub empty_is_not_typed : (l : List ℕ) (a e t : ℕ) (u : List ℕ) → e ≤ a
-    → bytes_eq (slice_range l a e) (t ∷ u) ≡ false
-empty_is_not_typed l a e t u e_le_a =
-    let difference_is_0 : e - a ≡ 0 = omega arith in ap (λ n. bytes_eq (take n (drop a l)) (t ∷ u))
-    difference_is_0

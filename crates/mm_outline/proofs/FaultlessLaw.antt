@@ -81,8 +81,3 @@ module _ (n : Names) where
             no_code_if_false
                 (is_typed_otherwise n c.word v.word) OtherTypecode no_code_each.1,
           )
-
--- the lesser of two faults
-abbrev pub picked_fault : Bool → Fault → Fault → Fault
-picked_fault true f g = f
-picked_fault false f g = g

@@ -15,6 +15,7 @@ use Rattle.std.proofs.lemmas.List.FromFn.{sum_by-map-range_with_len_more}
 use Rattle.mm_spec.specs.Text.{Bytes}
 use Rattle.mm_spec.specs.Report.{Row, separated, mark_at, users, usage_line, usage_lines}
 use Rattle.mm_rows.specs.Marks.{Marks, mark, IsAbove, first_after}
+use Rattle.mm_rows.proofs.TableLaw.{above_is_from_first, from_first_is_above}
 use Rattle.mm_report.specs.Rows.{row_of, after_label}
 use Rattle.mm_report.proofs.SentLaw.{range_append}
 
@@ -141,18 +142,6 @@ module _ (m : Marks) (labels : ℕ → Bytes) (j : ℕ) (j_lt_columns : j < m.co
       (λ k n_le_k k_lt_end. row_has_mark k ∙ none_marked k n_le_k k_lt_end))
       ∙ append-nil (users_before m labels j n)
 
-  -- what isn't before the first theorem after the last sent is above the last sent
-  above_if_not_before_first : (last_sent : Option ℕ) (k : ℕ) → first_after last_sent ≤ k
-      → IsAbove last_sent k
-  above_if_not_before_first None k first_le_k = tt
-  above_if_not_before_first (Some i) k first_le_k = omega arith
-
-  -- what is above the last sent isn't before the first theorem after it
-  first_le_if_above : (last_sent : Option ℕ) (i : ℕ) → IsAbove last_sent i
-      → first_after last_sent ≤ i
-  first_le_if_above None i is_above = omega arith
-  first_le_if_above (Some l) i is_above = omega arith
-
   -- up to the next marked theorem nothing is added
   users_before_next_user : (last_sent : Option ℕ) (n : ℕ) → first_after last_sent ≤ n
       → ((k : ℕ) → IsAbove last_sent k → k < n → mark m k j ≡ false)
@@ -161,7 +150,7 @@ module _ (m : Marks) (labels : ℕ → Bytes) (j : ℕ) (j_lt_columns : j < m.co
       let end_is_n : first_after last_sent + (n - first_after last_sent) ≡ n = omega arith in
       ap (users_before m labels j) (sym end_is_n)
       ∙ users_before_gap (first_after last_sent) (n - first_after last_sent)
-      (λ k first_le_k k_lt_end. none_marked k (above_if_not_before_first last_sent k first_le_k)
+      (λ k first_le_k k_lt_end. none_marked k (from_first_is_above last_sent k first_le_k)
       (omega arith))
 
   -- after a marked theorem there is a user
@@ -188,7 +177,7 @@ module _ (m : Marks) (labels : ℕ → Bytes) (j : ℕ) (j_lt_columns : j < m.co
   users_with_run last_sent first end last_is_marked first_is_above first_le_end none_marked
       run_is_marked =
       text_by_last last_sent last_is_marked (users_before_next_user last_sent first
-      (first_le_if_above last_sent first first_is_above) none_marked)
+      (above_is_from_first last_sent first first_is_above) none_marked)
     where
       users_before_end : users_before m labels j end
           ≡ users_before m labels j first ++ run m labels j first end

@@ -113,11 +113,12 @@ column_end_le_users m users are_columns j width xs j_lt_columns width_is xs_are_
     row_end_le_length width j m.columns (length xs) j_lt_columns
     (ap length xs_are_users ∙ are_columns.size ∙ sym (ap (λ b. m.columns * b) width_is))
 
-above_is_from_first : (after : Option ℕ) (k : ℕ) → IsAbove after k → first_after after ≤ k
+-- what is above a row is from the first row after it on
+pub above_is_from_first : (after : Option ℕ) (k : ℕ) → IsAbove after k → first_after after ≤ k
 above_is_from_first None k is_above = omega arith
 above_is_from_first (Some i) k is_above = omega arith
 
-from_first_is_above : (after : Option ℕ) (k : ℕ) → first_after after ≤ k → IsAbove after k
+pub from_first_is_above : (after : Option ℕ) (k : ℕ) → first_after after ≤ k → IsAbove after k
 from_first_is_above None k first_le_k = tt
 from_first_is_above (Some i) k first_le_k = omega arith
 

@@ -332,16 +332,6 @@ zipped_items_by_index P (suc n) a (y ∷ ys) all_zip =
 
 -- ---- rows that are filled
 
-pub nothing_is_filled : (c : Citing) (columns rows bits : List ℕ)
-    → AreFilled c columns rows 0 bits bits
-nothing_is_filled c columns rows bits =
-    record {
-      size = refl;
-      none_lost = λ r has_row. has_row;
-      filled = λ m m_lt_zero. absurd
-          (omega arith);
-    }
-
 pub one_more_is_filled : (c : Citing) (columns rows : List ℕ) (k : ℕ)
     (first bits_before bits_after row : List ℕ) (i : ℕ)
     → i ≡ get_or rows k 0 → IsBitRow c columns (theorem_at c i) row → length bits_after

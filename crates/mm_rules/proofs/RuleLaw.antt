@@ -1,12 +1,12 @@
 -- Rules as they are made.
 use Rattle.std.proofs.Common.{◌≡◌, ℕ, suc, ◌+◌, ◌<◌, ◌≤◌, Bool, true, false, List, [], ◌∷◌, ◌++◌}
 use Rattle.std.proofs.Common.{length, drop, take, map, get_or, refl, sym, ap, ap₂, ◌∙◌, subst}
-use Rattle.std.proofs.Common.{slice_set, ◌^◌, length-set, arith}
+use Rattle.std.proofs.Common.{arith}
 use Rattle.std.proofs.Common.{All, cond, length-append, length-drop, append-nil, append_assoc}
 use Rattle.std.specs.List.{AllByRecursion}
 use Rattle.std.proofs.lemmas.List.{take_more, take_all, take_at, take-append-le, drop-append-le}
 use Rattle.std.proofs.lemmas.List.{length-map}
-use Rattle.std.proofs.lemmas.List.Elements.{All-from_recursion, recursion_from_All, All-set}
+use Rattle.std.proofs.lemmas.List.Elements.{All-from_recursion, recursion_from_All}
 use Rattle.mm_spec.specs.Statement.{Statement}
 use Rattle.mm_spec.specs.Derivation.{Formula, Pair}
 use Rattle.mm_spec.specs.Laws.Complete.{IsBound, AreBound, IsComplete}
@@ -21,7 +21,7 @@ use Rattle.mm_rule.specs.Rule.{floating_index, parts_of, part_count, hypothesis_
 use Rattle.mm_rule.specs.Rule.{total_part_count, IsVariableBelow, IsConstantBelow}
 use Rattle.mm_rule.specs.Rule.{compiled_rule, IsCompiled}
 use Rattle.mm_rules.specs.Rules.{AreCovered, AreFirstNumbers, AreCompiled, numbered_parts}
-use Rattle.mm_rules.specs.Rules.{numbered_pairs, AreShortNumbers}
+use Rattle.mm_rules.specs.Rules.{numbered_pairs}
 use Rattle.mm_rule.specs.Assertions.{as_pairs}
 use Rattle.mm_rule.specs.Assertions.{is_assertion_at}
 use Rattle.mm_rule.proofs.FirstLaw.{floating_index_lt_length}
@@ -314,16 +314,6 @@ module _ (db : List Statement) (a : ℕ) (is_assertion : is_assertion_at db a �
       are_first_numbers)
       pairs_made
       (subst (λ (h : List ℕ). formula ≡ parts_of db (map (formula_at db) h) f) hyps_is formula_made)
-
--- numbers stay short if one of them is set to a short one
-pub short_numbers_set : (numbers : List ℕ) (symbol number : ℕ) → number < 2 ^ 31
-    → AreShortNumbers numbers → AreShortNumbers (slice_set numbers symbol number)
-short_numbers_set numbers symbol number number_is_short numbers_are_short = record {
-  few = omega (arith, numbers_are_short.few, length-set numbers symbol number);
-  each_is_short =
-      All-set (λ n. n < 2 ^ 31) numbers symbol number number_is_short
-      numbers_are_short.each_is_short;
-}
 
 -- the numbers in a list to which they were written back
 pub written_back : (db : List Statement) (hs : List Formula) (new old : List ℕ) (n : ℕ)

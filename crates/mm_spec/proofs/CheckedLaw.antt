@@ -1,11 +1,30 @@
 -- Labels are those of one forest of derivations at most, and steps stand for one plain list.
 use Rattle.std.proofs.Common.{◌≡◌, ℕ, List, [], ◌∷◌, ◌++◌, sym, ap, ◌∙◌, subst, unwrap_or}
+use Rattle.std.proofs.Common.{append-nil, append_assoc}
 use Rattle.mm_spec.specs.Derivation.{Context, Trees, none, more, postfix, AreDerivations}
 use Rattle.mm_spec.specs.Steps.{Step, label, marked}
 use Rattle.mm_spec.specs.Valid.{IsLastTree, Adds, Plain}
 use Rattle.mm_spec.proofs.UniqueLaw.{same_labels_same_derivations}
 use Rattle.mm_spec.proofs.StepsLaw.{forest_labels_are_good}
 use Rattle.mm_spec.specs.Laws.Complete.{HasCompleteFrame}
+
+module _ (c : Context) where
+  -- the plain list only grows
+  adds_at_end : (lists : List (List ℕ)) (labels : List ℕ) (s : Step) (new_labels : List ℕ)
+      → Adds c lists labels s new_labels → (added : List ℕ) × (new_labels ≡ labels ++ added)
+  adds_at_end lists labels (label l) new_labels adds = (l ∷ [], adds)
+  adds_at_end lists labels (marked j) new_labels adds = (adds.1, adds.4)
+
+  pub plain_extends : (steps : List Step) (lists : List (List ℕ)) (labels all_labels : List ℕ)
+      → Plain c lists labels steps all_labels → (added : List ℕ) × (all_labels ≡ labels ++ added)
+  plain_extends [] lists labels all_labels plain = ([], plain ∙ sym (append-nil labels))
+  plain_extends (s ∷ steps) lists labels all_labels plain =
+      let extended = adds_at_end lists labels s plain.0 plain.1 in
+      let extended_again = plain_extends steps (lists ++ plain.0 ∷ []) plain.0 all_labels plain.2 in (
+        extended.0 ++ extended_again.0,
+        extended_again.1 ∙ ap (λ z. z ++ extended_again.0) extended.1
+            ∙ append_assoc labels extended.0 extended_again.0,
+      )
 
 module _ (c : Context) (all_complete : (l : ℕ) → HasCompleteFrame c (c.rule l)) where
   -- forests with the same labels are one forest

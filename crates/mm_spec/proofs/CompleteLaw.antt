@@ -59,7 +59,7 @@ is_mandatory_pair db k p =
     && is_member (mandatory_variables db k) p.high && disjoint_at db k p.low p.high
 
 module _ (db : List Statement) (lawful : (k : ℕ) → k < length db → IsLawful db k) where
-  lawful_is_faultless : (k : ℕ) (s : Statement) → slice_get db k ≡ Some s
+  pub lawful_is_faultless : (k : ℕ) (s : Statement) → slice_get db k ≡ Some s
       → scope_faults (names_before db k) (depth db k) s ≡ []
   lawful_is_faultless k s s_at_k = grind (arith, common_steps, got_lt_length, no_least_no_faults)
 

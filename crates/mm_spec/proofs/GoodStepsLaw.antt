@@ -1,13 +1,13 @@
 -- Each step of a proof without reading faults is a label that stands for something, or a mark of an
 -- earlier step.
 use Rattle.std.proofs.lemmas.Grind.{common_steps}
-use Rattle.std.proofs.Common.{◌≡◌, ℕ, zero, suc, ◌+◌, ◌-◌, ◌*◌, ◌==◌, ◌<◌, ◌≤◌, Bool, true, false}
+use Rattle.std.proofs.Common.{◌≡◌, ℕ, zero, suc, ◌+◌, ◌-◌, ◌*◌, ◌<◌, ◌≤◌, Bool, true, false}
 use Rattle.std.proofs.Common.{◌&&◌, ◌⊎◌, inl, inr, List, [], ◌∷◌, ◌++◌, map, length, flat_map}
 use Rattle.std.proofs.Common.{Option, Some, None, slice_get, nat_le, nat_lt, bytes_eq, codes, refl}
-use Rattle.std.proofs.Common.{sym, subst, true≢false, arith, leb-true, ltb-false, eqb-true}
+use Rattle.std.proofs.Common.{sym, subst, true≢false, arith, leb-true}
 use Rattle.std.proofs.Common.{length-append}
 use Rattle.std.specs.List.{list_any, range_with_len, AllByRecursion}
-use Rattle.std.proofs.lemmas.Bool.{or_cases, and_parts, eqb-false}
+use Rattle.std.proofs.lemmas.Bool.{or_cases, and_parts}
 use Rattle.mm_spec.specs.Text.{Bytes, Token, Fault, fault}
 use Rattle.mm_spec.specs.Statement.{Statement, floating, essential, axiomatic, provable}
 use Rattle.mm_spec.specs.Scope.{is_active, active, statement_at}
@@ -25,13 +25,12 @@ use Rattle.mm_spec.specs.CompressedProof.{compressed_steps}
 use Rattle.mm_spec.specs.Proof.{steps, reading_faults}
 use Rattle.mm_spec.specs.Citation.{rule_at, context_at, steps_at, reading_faults_at}
 use Rattle.mm_spec.specs.Laws.Complete.{HasCompleteFrame}
-use Rattle.mm_spec.specs.declared.Code.TheVariants.{OpenBrackets, OpenNumber, MarkBeforeStep}
-use Rattle.mm_spec.specs.declared.Code.TheVariants.{NumberTooLarge, IncompleteProof}
-use Rattle.mm_spec.specs.declared.Code.TheVariants.{BadLetter}
+use Rattle.mm_spec.specs.declared.Code.TheVariants.{OpenBrackets, OpenNumber}
 use Rattle.mm_spec.specs.Laws.Stack.{IsCompleteRule, AreGoodSteps, IsGoodStep}
 use Rattle.mm_spec.proofs.CompleteLaw.{is_mandatory}
 use Rattle.mm_spec.proofs.FindsLaw.{each_any, each_filter, passing_statement}
-use Rattle.mm_spec.proofs.FaultlessLaw.{both_are_empty, no_faults_no_codes, no_code_if_false}
+use Rattle.mm_spec.proofs.FaultlessLaw.{both_are_empty}
+use Rattle.mm_spec.proofs.GroupsLaw.{AreFaultless, groups_are_faultless}
 use Rattle.mm_spec.proofs.ListLaw.{got_none_is_past_end}
 
 abbrev steps_of : List PlacedStep → List Step
@@ -83,7 +82,7 @@ essential_has_rule : (s : Statement) → is_essential s ≡ true → has_rule s 
 essential_has_rule (essential l k xs d) is_essential_s = refl
 essential_has_rule _ is_essential_s = absurd (true≢false (sym is_essential_s))
 
-group_value_is_positive : (n b : ℕ) → 65 ≤ b → 0 < n * 20 + (b - 64)
+pub group_value_is_positive : (n b : ℕ) → 65 ≤ b → 0 < n * 20 + (b - 64)
 group_value_is_positive n b letter_le_b = omega arith
 
 -- each label is usable
@@ -213,18 +212,18 @@ module _ (db : List Statement) (k : ℕ)
 
   group_steps_are_good : (gs : List Group) (labels marks : List ℕ) (label_count count : ℕ)
       → AllByRecursion IsGoodLabel labels → AllByRecursion (λ i. i < count) marks
-      → label_count ≤ length labels → group_faults label_count (length marks) count gs ≡ []
+      → label_count ≤ length labels → AreFaultless label_count (length marks) count gs
       → AreGoodSteps (context_at db k) count (steps_of (group_steps labels marks count gs))
   group_steps_are_good [] labels marks label_count count labels_are_good marks_are_earlier
       enough_labels
-      no_faults = tt
+      are_faultless = tt
   group_steps_are_good (g ∷ gs) labels marks label_count count labels_are_good marks_are_earlier
-      enough_labels no_faults =
-      good_by_letter (is_last g.last.byte) refl (g.last.byte == 90) refl no_faults
-      (λ no_later_faults. group_steps_are_good gs labels marks label_count (count + 1)
+      enough_labels are_faultless =
+      good_number_or_mark are_faultless
+      (λ rest_is_faultless. group_steps_are_good gs labels marks label_count (count + 1)
       labels_are_good
-      (marks_still_earlier marks marks_are_earlier) enough_labels no_later_faults)
-      (λ count_is_positive no_later_faults. group_steps_are_good gs labels
+      (marks_still_earlier marks marks_are_earlier) enough_labels rest_is_faultless)
+      (λ count_is_positive rest_is_faultless. group_steps_are_good gs labels
       (marks ++ (count - 1) ∷ [])
       label_count count labels_are_good
       (each_of_appended (λ i. i < count) marks ((count - 1) ∷ []) marks_are_earlier
@@ -233,7 +232,7 @@ module _ (db : List Statement) (k : ℕ)
       (let mark_count_is : length marks + 1
       ≡ length (marks ++ (count - 1) ∷ []) = omega
       (arith, length-append marks ((count - 1) ∷ [])) in
-      subst (λ z. group_faults label_count z count gs ≡ []) mark_count_is no_later_faults))
+      subst (λ z. AreFaultless label_count z count gs) mark_count_is rest_is_faultless))
     where
       marks_still_earlier : (xs : List ℕ) → AllByRecursion (λ i. i < count) xs
           → AllByRecursion (λ i. i < count + 1) xs
@@ -242,95 +241,51 @@ module _ (db : List Statement) (k : ℕ)
           let x_lt_count = marks_are_earlier.0 in
           (omega arith, marks_still_earlier xs marks_are_earlier.1)
 
-      faults_of_group : Bool → Bool → List Fault
-      faults_of_group a b = elim a [
-        | true ↦ at (starts_at g)
-            (when (nat_lt (label_count + length marks) (value g)) NumberTooLarge)
-        | false ↦ elim b [
-          | true ↦ at g.last.at
-              (when (nat_lt 0 (length g.early)) OpenNumber ++ when (count == 0) MarkBeforeStep)
-          | false ↦ at g.last.at
-              (elim (g.last.byte == 63) [ true ↦ IncompleteProof ∷ [] | false ↦ BadLetter ∷ [] ])
-        ]
-      ]
-
-      faults_of_later_groups : Bool → List Fault
-      faults_of_later_groups b =
-          elim b [
-            | true ↦ group_faults label_count (length marks + 1) count gs
-            | false ↦ group_faults label_count (length marks) (count + 1) gs
-          ]
-
       steps_from_group : Bool → List PlacedStep
-      steps_from_group a = elim a [
+      steps_from_group is_number = elim is_number [
         | true ↦ map (placed (starts_at g)) (step_of labels marks (value g))
             ++ group_steps labels marks (count + 1) gs
         | false ↦ group_steps labels (marks ++ (count - 1) ∷ []) count gs
       ]
 
-      other_byte_is_fault : (b : Bool)
-          → ¬ (at g.last.at (elim b [ true ↦ IncompleteProof ∷ [] | false ↦ BadLetter ∷ [] ]) ≡ [])
-      other_byte_is_fault true no_fault = cc
-      other_byte_is_fault false no_fault = cc
-
-      good_by_letter : (a : Bool) → is_last g.last.byte ≡ a → (b : Bool) → (g.last.byte == 90) ≡ b
-          → faults_of_group a b ++ faults_of_later_groups b ≡ []
-          → (group_faults label_count (length marks) (count + 1) gs ≡ []
+      good_number_or_mark : AreFaultless label_count (length marks) count (g ∷ gs)
+          → (AreFaultless label_count (length marks) (count + 1) gs
           → AreGoodSteps (context_at db k) (count + 1)
           (steps_of (group_steps labels marks (count + 1) gs)))
-          → (0 < count → group_faults label_count (length marks + 1) count gs ≡ []
+          → (0 < count → AreFaultless label_count (length marks + 1) count gs
           → AreGoodSteps (context_at db k) count
           (steps_of (group_steps labels (marks ++ (count - 1) ∷ []) count gs)))
-          → AreGoodSteps (context_at db k) count (steps_of (steps_from_group a))
-      good_by_letter true is_last_letter true is_mark_letter no_faults after_number after_mark =
-          let letter_le_84 =
-          leb-true g.last.byte 84
-          (and_parts (nat_le 65 g.last.byte) (nat_le g.last.byte 84) is_last_letter).1 in
-          let letter_is_90 = eqb-true g.last.byte 90 is_mark_letter in
-          absurd (omega arith)
-      good_by_letter true is_last_letter false is_mark_letter no_faults after_number after_mark =
+          → AreGoodSteps (context_at db k) count (steps_of (steps_from_group (is_last g.last.byte)))
+      good_number_or_mark (inl (is_number, value_is_within, rest_is_faultless)) after_number
+          after_mark =
           let letter_ge_65 =
           leb-true 65 g.last.byte
-          (and_parts (nat_le 65 g.last.byte) (nat_le g.last.byte 84) is_last_letter).0 in
-          let number_is_within =
-          no_code_if_false (nat_lt (label_count + length marks) (value g)) NumberTooLarge
-          (no_faults_no_codes (starts_at g)
-          (when (nat_lt (label_count + length marks) (value g)) NumberTooLarge)
-          (both_are_empty (faults_of_group true false) (faults_of_later_groups false)
-          no_faults).0) in
+          (and_parts (nat_le 65 g.last.byte) (nat_le g.last.byte 84) is_number).0 in
           let number_is_good =
           number_is_good_step labels marks count label_count (value g) labels_are_good
           marks_are_earlier
-          enough_labels (group_value_is_positive _ g.last.byte letter_ge_65)
-          (ltb-false (label_count + length marks) (value g) number_is_within) in
-          let later_are_good = after_number
-          (both_are_empty (faults_of_group true false) (faults_of_later_groups false)
-          no_faults).1 in
+          enough_labels (group_value_is_positive _ g.last.byte letter_ge_65) value_is_within in
           let suc_is_plus_one : suc count ≡ count + 1 = omega arith in
-          subst (λ ss. AreGoodSteps (context_at db k) count
+          subst (λ b. AreGoodSteps (context_at db k) count (steps_of (steps_from_group b)))
+          (sym is_number)
+          (subst (λ ss. AreGoodSteps (context_at db k) count
           (steps_of (map (placed (starts_at g)) ss ++ group_steps labels marks (count + 1) gs)))
           (sym number_is_good.1) (
             number_is_good.2,
             subst
                 (λ n. AreGoodSteps (context_at db k) n
                 (steps_of (group_steps labels marks (count + 1) gs))) (sym suc_is_plus_one)
-                later_are_good,
-          )
-      good_by_letter false is_last_letter true is_mark_letter no_faults after_number after_mark =
-          let no_codes =
-          no_faults_no_codes g.last.at
-          (when (nat_lt 0 (length g.early)) OpenNumber ++ when (count == 0) MarkBeforeStep)
-          (both_are_empty (faults_of_group false true) (faults_of_later_groups true) no_faults).0 in
-          let number_is_within =
-          eqb-false count 0
-          (no_code_if_false (count == 0) MarkBeforeStep
-          (both_are_empty (when (nat_lt 0 (length g.early)) OpenNumber)
-          (when (count == 0) MarkBeforeStep) no_codes).1) in
-          after_mark (omega arith)
-          (both_are_empty (faults_of_group false true) (faults_of_later_groups true) no_faults).1
-      good_by_letter false is_last_letter false is_mark_letter no_faults after_number after_mark =
-          absurd (other_byte_is_fault (g.last.byte == 63)
-          (both_are_empty (faults_of_group false false) (faults_of_later_groups false) no_faults).0)
+                (after_number rest_is_faultless),
+          ))
+      good_number_or_mark (inr (
+        is_no_number,
+        is_mark,
+        is_alone,
+        count_is_positive,
+        rest_is_faultless,
+      )) after_number after_mark =
+          subst (λ b. AreGoodSteps (context_at db k) count (steps_of (steps_from_group b)))
+          (sym is_no_number) (after_mark count_is_positive rest_is_faultless)
 
   compressed_steps_are_good : (end : ℕ) (p : Compressed) → compressed_faults db k end p ≡ []
       → AreGoodSteps (context_at db k) 0 (steps_of (compressed_steps db k p))
@@ -380,8 +335,9 @@ module _ (db : List Statement) (k : ℕ)
       letters_good (x ∷ xs) no_faults =
           group_steps_are_good
           (groups [] (x ∷ xs)).0 labels [] label_count 0 labels_are_good tt enough_labels
+          (groups_are_faultless (groups [] (x ∷ xs)).0 label_count 0 0
           (both_are_empty (group_faults label_count 0 0 (groups [] (x ∷ xs)).0)
-          (at end (when (nat_lt 0 (length (groups [] (x ∷ xs)).1)) OpenNumber)) no_faults).0
+          (at end (when (nat_lt 0 (length (groups [] (x ∷ xs)).1)) OpenNumber)) no_faults).0)
 
       good_by_letters : (o : Option (List Token)) → faults_of_letters o ≡ []
           → AreGoodSteps (context_at db k) 0 (steps_of (steps_of_letters o))

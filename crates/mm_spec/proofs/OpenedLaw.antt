@@ -260,9 +260,6 @@ module _ (w : Bool) (db : List Statement) where
   pub counted_length : length (counted w db) ≡ length db
   counted_length = kept_in_either_case length (λ db. length-map db as_axiom) w db
 
-  pub counted_count : (p : Statement → Bool) → IsAlike p → count_by p (counted w db) ≡ count_by p db
-  counted_count p is_alike = kept_in_either_case (count_by p) (count_is_kept p is_alike) w db
-
   pub counted_any : (p : Statement → Bool) → IsAlike p → (j : ℕ)
       → list_any p (statement_at (counted w db) j) ≡ list_any p (statement_at db j)
   counted_any p is_alike j =
@@ -294,12 +291,6 @@ module _ (w : Bool) (db : List Statement) where
       flat_map_is_and_then : (o : Option Statement) → flatten (option_map f o) ≡ option_and_then f o
       flat_map_is_and_then None = refl
       flat_map_is_and_then (Some s) = refl
-
-  pub counted_depth : depth (counted w db) ≡ depth db
-  counted_depth = kept_in_either_case depth depth_is_kept w db
-
-  pub counted_stays : is_block_open (counted w db) ≡ is_block_open db
-  counted_stays = kept_in_either_case is_block_open open_blocks_are_kept w db
 
   pub counted_active : is_active (counted w db) ≡ is_active db
   counted_active = kept_in_either_case is_active activity_is_kept w db

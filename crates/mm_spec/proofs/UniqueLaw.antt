@@ -26,7 +26,7 @@ split_last_join ts none = refl
 split_last_join ts (more cs l f ds) =
     ap {A = Trees × Trees} {B = Trees × Trees} (λ p. (p.0, more p.1 l f ds)) (split_last_join ts cs)
 
-tree_count_formulas : (cs : Trees) → length (formulas cs) ≡ tree_count cs
+pub tree_count_formulas : (cs : Trees) → length (formulas cs) ≡ tree_count cs
 tree_count_formulas none = refl
 tree_count_formulas (more cs l f ds) =
     omega (arith, length-append (formulas cs) (f ∷ []), tree_count_formulas cs)

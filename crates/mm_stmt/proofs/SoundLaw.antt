@@ -1,7 +1,7 @@
 -- The statements that reading keeps are sound.
-use Rattle.std.proofs.Common.{◌≡◌, ℕ, ◌<◌, ◌^◌, Bool, true, false, not, List, All, length, get_or}
+use Rattle.std.proofs.Common.{◌≡◌, ℕ, ◌<◌, ◌^◌, Bool, true, false, List, All, length, get_or}
 use Rattle.std.proofs.Common.{slice_get, flat_map, [], Option, None, Some, refl, sym, ap, ◌∙◌}
-use Rattle.std.proofs.Common.{true≢false}
+use Rattle.std.proofs.lemmas.Bool.{not-true}
 use Rattle.std.proofs.lemmas.Option.{slice_get-get_or}
 use Rattle.mm_spec.specs.Text.{is_in}
 use Rattle.mm_spec.specs.Scope.{variables_of}
@@ -25,11 +25,7 @@ constant_is_no_variable : (x : Option WordEntry) → is_constant_entry x ≡ tru
     → is_variable_entry x ≡ false
 constant_is_no_variable None is_constant = refl
 constant_is_no_variable (Some is_constant) is_constant_e =
-    no_variable_by_value is_constant.is_variable is_constant_e
-  where
-    no_variable_by_value : (b : Bool) → not b ≡ true → b ≡ false
-    no_variable_by_value true is_no_variable = absurd (true≢false (sym is_no_variable))
-    no_variable_by_value false is_no_variable = refl
+    not-true is_constant.is_variable is_constant_e
 
 pub known_lawful_is_sound : (db : List Statement) (look : List ℕ → Option Symbol)
     (labels : List ℕ → Option ℕ)

@@ -8,7 +8,7 @@ use Rattle.mm_spec.specs.Laws.Complete.{AreComplete}
 use Rattle.mm_spec.specs.Citation.{IsValid}
 use Rattle.mm_spec.specs.Output.{theorems}
 use Rattle.mm_spec.specs.declared.Fault.{Fault}
-use Rattle.mm_proof.proofs.TheoremsLaw.{theorems_are}
+use Rattle.mm_database.proofs.SpacedLaw.{theorems_are}
 use Rattle.mm_cites.specs.Citing.{citing, IsFileOrder}
 use Rattle.mm_work.specs.Judged.{HasCitations, HaveCitationsUpTo, AllHaveCitations, IsFirstFault}
 use Rattle.mm_work.specs.Judged.{HasFault}

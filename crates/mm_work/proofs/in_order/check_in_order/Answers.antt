@@ -1,6 +1,6 @@
 use Rattle.std.proofs.Common.{◌≡◌, ℕ, List, length, get_or, sym, ap, subst, arith, IsTrue}
 use Rattle.mm_spec.specs.Output.{theorems, is_theorem_at}
-use Rattle.mm_proof.proofs.TheoremsLaw.{theorems_are}
+use Rattle.mm_database.proofs.SpacedLaw.{theorems_are}
 use Rattle.mm_work.specs.Judged.{HaveCitationsUpTo, HasFault, IsRefusalOf, HasCitations}
 use Rattle.mm_work.specs.Judged.{IsFirstFault}
 use Rattle.mm_spec.specs.declared.Fault.{Fault}

@@ -1,7 +1,7 @@
 use Rattle.std.proofs.Common.{ℕ, ◌++◌, ◌∷◌, [], List, Option, get_or, sym, ap, ◌∙◌, subst, refl}
 use Rattle.std.proofs.Common.{IsTrue, ◌<◌, length, true≢false}
 use Rattle.mm_spec.specs.Output.{is_theorem_at}
-use Rattle.mm_proof.proofs.TheoremsLaw.{theorems_are}
+use Rattle.mm_database.proofs.SpacedLaw.{theorems_are}
 use Rattle.mm_work.specs.Judged.{IsRefusalOf, HasFault, HasCitations}
 use Rattle.mm_work.specs.declared.proof.VerifyRefused.{VerifyRefused}
 use Rattle.mm_work.specs.declared.worker.IndexedFault.{IndexedFault}

@@ -1,6 +1,6 @@
 use Rattle.std.proofs.Common.{ℕ, List, length, get_or, sym, ap, subst, arith, IsTrue}
 use Rattle.mm_spec.specs.Output.{is_theorem_at}
-use Rattle.mm_proof.proofs.TheoremsLaw.{theorems_are}
+use Rattle.mm_database.proofs.SpacedLaw.{theorems_are}
 use Rattle.hostile.proofs.growth.proofs.first_theorem.Goals as goal
 
 pub returns-then-theorems-gt0 : goal.returns-then-theorems-gt0
