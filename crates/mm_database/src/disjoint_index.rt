@@ -79,11 +79,11 @@ fn start_of(pairs: &[(u32, u32)], starts: &[usize], symbol: usize) -> usize
 /// Returns the number of pairs before the pair of `symbol` and the statement `at`.
 fn count_before(pairs: &[(u32, u32)], starts: &[usize], symbol: u32, at: u32) -> usize
     requires rising { AreRising pairs.now }
-    requires starts { AreStarts pairs.now starts.now }
-    ensures within { result ≤ length pairs.now }
-    ensures before { (p : ℕ)
+    requires are_starts { AreStarts pairs.now starts.now }
+    ensures result_le_length { result ≤ length pairs.now }
+    ensures earlier_are_before { (p : ℕ)
         → p < result → is_pair_before (get_or pairs.now p (0, 0)) symbol at ≡ true }
-    ensures after { (p : ℕ) → result ≤ p → p < length pairs.now
+    ensures later_are_not_before { (p : ℕ) → result ≤ p → p < length pairs.now
         → is_pair_before (get_or pairs.now p (0, 0)) symbol at ≡ false }
 {
     let from = start_of(pairs, starts, symbol as usize);
@@ -99,8 +99,10 @@ fn count_before(pairs: &[(u32, u32)], starts: &[usize], symbol: u32, at: u32) ->
 /// Whether the last of the first `end` pairs, if there is one, has the symbol.
 fn ends_with(pairs: &[(u32, u32)], end: usize, symbol: u32) -> bool
     requires { end ≤ length pairs.now }
-    ensures some { result ≡ true → (0 < end) × ((get_or pairs.now (end - 1) (0, 0)).0 ≡ symbol) }
-    ensures none { result ≡ false → 0 < end → (get_or pairs.now (end - 1) (0, 0)).0 ≢ symbol }
+    ensures ends_if_true { result ≡ true
+        → (0 < end) × ((get_or pairs.now (end - 1) (0, 0)).0 ≡ symbol) }
+    ensures differs_if_false { result ≡ false → 0 < end
+        → (get_or pairs.now (end - 1) (0, 0)).0 ≢ symbol }
 {
     end > 0 && pairs[end - 1].0 == symbol
 }
@@ -114,11 +116,11 @@ fn skip_last<A: Allocator>(
     end: usize,
     at: u32,
 ) -> usize
-    requires some { 0 < end }
-    requires within { end ≤ length disjoint_index.now.pairs }
+    requires end_gt_0 { 0 < end }
+    requires end_le_length { end ≤ length disjoint_index.now.pairs }
     requires ordered { IsOrdered blocks.now disjoint_index.now }
-    ensures less { result < end }
-    ensures passed { (p : ℕ) → result ≤ p → p + 1 < end
+    ensures result_lt_end { result < end }
+    ensures skipped_are_closed { (p : ℕ) → result ≤ p → p + 1 < end
         → nat_le at (end_of blocks.now (get_or disjoint_index.now.pairs p (0, 0)).1) ≡ false }
 {
     if blocks.is_open_at(disjoint_index.pairs[end - 1].1, at) {
@@ -167,11 +169,11 @@ pub(crate) fn are_together<A: Allocator>(
     at: u32,
 ) -> bool
     requires ordered { IsOrdered blocks.now disjoint_index.now }
-    ensures found { result ≡ true
+    ensures are_together_if_true { result ≡ true
         → (j : ℕ) × (has_pair disjoint_index.now.pairs x j ≡ true)
         × (has_pair disjoint_index.now.pairs y j ≡ true)
         × (is_active_local blocks.now j at ≡ true) }
-    ensures none { result ≡ false → (j : ℕ) → has_pair disjoint_index.now.pairs x j ≡ true
+    ensures none_if_false { result ≡ false → (j : ℕ) → has_pair disjoint_index.now.pairs x j ≡ true
         → has_pair disjoint_index.now.pairs y j ≡ true → is_active_local blocks.now j at ≡ false }
 {
     let pairs = disjoint_index.pairs.as_slice();

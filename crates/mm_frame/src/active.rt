@@ -17,11 +17,11 @@ fn last_open<A: Allocator>(
     candidate: u32,
     at: u32,
 ) -> u32
-    requires at { at ≤ length statements.now.list }
-    requires long { at ≤ length latest.now }
-    requires latest { (k : ℕ) → k < at
+    requires at_le_length { at ≤ length statements.now.list }
+    requires at_lt_latest { at ≤ length latest.now }
+    requires are_latest { (k : ℕ) → k < at
         → IsLatest is_essential statements.now.list k (slice_index latest.now k) }
-    requires candidate { IsCandidate is_essential statements.now.list at candidate }
+    requires is_candidate { IsCandidate is_essential statements.now.list at candidate }
     ensures { IsLatest is_essential statements.now.list at result }
 {
     let mut last = candidate;
@@ -59,8 +59,8 @@ pub(crate) fn active_essentials<A: Allocator>(
     at: u32,
     into: &mut Vec<u32, A>,
 ) -> Result<(), AllocError>
-    requires at { at ≤ length statements.now.list }
-    requires latest { AreLatest is_essential statements.now.list latest.now }
+    requires at_le_length { at ≤ length statements.now.list }
+    requires are_latest { AreLatest is_essential statements.now.list latest.now }
     ensures { OnOk result
         ((i : ℕ)
         → is_member into.new.items i

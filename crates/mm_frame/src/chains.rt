@@ -33,9 +33,9 @@ impl<A: Allocator> Drop for Chains<A> {
 /// Whether the chain from a link on begins with the statement.
 fn begins_with(links: &[(u32, usize)], number: usize, statement: u32) -> bool
     requires { number ≤ length links.now }
-    ensures some { result ≡ true
+    ensures begins_if_true { result ≡ true
         → (0 < number) × ((get_or links.now (number - 1) (0, 0)).0 ≡ statement) }
-    ensures none { result ≡ false → 0 < number
+    ensures differs_if_false { result ≡ false → 0 < number
         → (get_or links.now (number - 1) (0, 0)).0 ≢ statement }
 {
     number > 0 && links[number - 1].0 == statement
@@ -47,11 +47,12 @@ fn add_link<A: Allocator>(
     statement: u32,
     chains: &mut Chains<A>,
 ) -> Result<(), AllocError>
-    requires symbol { symbol < length chains.old.heads.items }
-    requires linked { AreLinked chains.old.heads.items chains.old.links.items }
-    ensures count { OnOk result (length chains.new.heads.items ≡ length chains.old.heads.items) }
-    ensures linked { OnOk result (AreLinked chains.new.heads.items chains.new.links.items) }
-    ensures chains { OnOk result
+    requires symbol_lt_count { symbol < length chains.old.heads.items }
+    requires are_linked { AreLinked chains.old.heads.items chains.old.links.items }
+    ensures head_count_stays { OnOk result
+        (length chains.new.heads.items ≡ length chains.old.heads.items) }
+    ensures are_linked { OnOk result (AreLinked chains.new.heads.items chains.new.links.items) }
+    ensures adds_in_front { OnOk result
         (AddsInFront (λ x. nat_eq x symbol) statement chains.old chains.new) }
 {
     let index = symbol.number() as usize;
@@ -69,11 +70,12 @@ fn add_links<A: Allocator>(
     statement: u32,
     chains: &mut Chains<A>,
 ) -> Result<(), AllocError>
-    requires symbols { All (λ s. s < length chains.old.heads.items) symbols.now }
-    requires linked { AreLinked chains.old.heads.items chains.old.links.items }
-    ensures count { OnOk result (length chains.new.heads.items ≡ length chains.old.heads.items) }
-    ensures linked { OnOk result (AreLinked chains.new.heads.items chains.new.links.items) }
-    ensures chains { OnOk result
+    requires symbols_lt_count { All (λ s. s < length chains.old.heads.items) symbols.now }
+    requires are_linked { AreLinked chains.old.heads.items chains.old.links.items }
+    ensures head_count_stays { OnOk result
+        (length chains.new.heads.items ≡ length chains.old.heads.items) }
+    ensures are_linked { OnOk result (AreLinked chains.new.heads.items chains.new.links.items) }
+    ensures adds_in_front { OnOk result
         (AddsInFront (is_member symbols.now) statement chains.old chains.new) }
 {
     for symbol in symbols {
@@ -87,12 +89,12 @@ fn chains_of<A: Allocator + Copy>(
     alloc: A,
     statements: &Statements<A>,
 ) -> Result<Chains<A>, AllocError>
-    ensures count { IfOk result
+    ensures head_count_is { IfOk result
         (λ c. length c.heads.items ≡ length (symbol_names statements.now.list)) }
-    ensures all { IfOk result
+    ensures symbols_have_heads { IfOk result
         (λ c. (x j : ℕ) → has_symbol statements.now.list x j ≡ true → x < length c.heads.items) }
-    ensures linked { IfOk result (λ c. AreLinked c.heads.items c.links.items) }
-    ensures chains { IfOk result
+    ensures are_linked { IfOk result (λ c. AreLinked c.heads.items c.links.items) }
+    ensures are_chains { IfOk result
         (λ c. AreChains (has_symbol statements.now.list) 0 c.heads.items c.links.items) }
 {
     let heads = vec![in alloc; 0; statements.symbol_count() as usize]?;
@@ -116,8 +118,8 @@ fn add_chain<A: Allocator>(
     symbol: u32,
     pairs: &mut Vec<(u32, u32), A>,
 ) -> Result<(), AllocError>
-    requires symbol { symbol < length chains.now.heads.items }
-    requires linked { AreLinked chains.now.heads.items chains.now.links.items }
+    requires symbol_lt_count { symbol < length chains.now.heads.items }
+    requires are_linked { AreLinked chains.now.heads.items chains.now.links.items }
     ensures { OnOk result
         ((statements : List ℕ) → IsChainOf chains.now symbol statements
         → pairs.new.items ≡ pairs.old.items ++ map (λ j. (symbol, j)) statements) }

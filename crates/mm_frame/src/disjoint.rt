@@ -24,7 +24,7 @@ fn add_later_pairs<A: Allocator>(
     pairs: &mut Vec<(u32, u32), A>,
 ) -> Result<(), AllocError>
     requires rising { AreRising by_statement.now }
-    requires index { index < length by_statement.now }
+    requires index_lt_length { index < length by_statement.now }
     ensures { OnOk result
         ((x y : ℕ)
         → has_pair pairs.new.items x y
@@ -108,9 +108,9 @@ pub(crate) fn mandatory_pairs<A: Allocator + Copy>(
     variables_by_statement: &mut Vec<(u32, u32), A>,
     pairs_by_statement: &mut Vec<(u32, u32), A>,
 ) -> Result<Vec<(Sym, Sym), A>, AllocError>
-    requires sources { AreSources sources.now }
-    requires assertion { assertion < length sources.now.statements.now.list }
-    requires variables { (x : ℕ)
+    requires are_sources { AreSources sources.now }
+    requires assertion_lt_length { assertion < length sources.now.statements.now.list }
+    requires are_mandatory { (x : ℕ)
         → is_member variables.now x
         ≡ is_member (mandatory_variables sources.now.statements.now.list assertion) x }
     ensures { IfOk result

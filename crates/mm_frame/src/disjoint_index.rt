@@ -18,7 +18,7 @@ use std::alloc::{AllocError, Allocator};
 /// Sorts the pairs, and removes duplicates.
 pub(crate) fn sort_and_dedup_pairs<A: Allocator>(pairs: &mut Vec<(u32, u32), A>)
     ensures rising { AreRising pairs.new.items }
-    ensures same { (x y : ℕ) → has_pair pairs.new.items x y ≡ has_pair pairs.old.items x y }
+    ensures members_stay { (x y : ℕ) → has_pair pairs.new.items x y ≡ has_pair pairs.old.items x y }
 {
     pairs.sort_unstable();
     pairs.dedup();
@@ -26,9 +26,9 @@ pub(crate) fn sort_and_dedup_pairs<A: Allocator>(pairs: &mut Vec<(u32, u32), A>)
 
 /// Whether `pair` has the symbol of the pair `covering`, and a block that ends no later.
 fn is_covered<A: Allocator>(blocks: &Blocks<A>, pair: (u32, u32), covering: (u32, u32)) -> bool
-    requires pair { (pair.1 < length blocks.now.block_of)
+    requires pair_has_block { (pair.1 < length blocks.now.block_of)
         × (get_or blocks.now.block_of pair.1 0 < length blocks.now.ends) }
-    requires covering { (covering.1 < length blocks.now.block_of)
+    requires covering_has_block { (covering.1 < length blocks.now.block_of)
         × (get_or blocks.now.block_of covering.1 0 < length blocks.now.ends) }
     ensures { result
         ≡ (nat_eq pair.0 covering.0
@@ -43,7 +43,7 @@ fn skips_of<A: Allocator + Copy>(
     blocks: &Blocks<A>,
     pairs: &[(u32, u32)],
 ) -> Result<Vec<usize, A>, AllocError>
-    requires known { HaveBlocks blocks.now pairs.now }
+    requires all_have_blocks { HaveBlocks blocks.now pairs.now }
     ensures { IfOk result (λ v. AreSkips blocks.now pairs.now v.items) }
 {
     let mut skips = Vec::new(alloc);

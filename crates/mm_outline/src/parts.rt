@@ -84,13 +84,13 @@ fn transition_for(
     at: u32,
 ) -> Transition
     requires at_lt_count { at < length _tokens.now }
-    requires part { IsPartBefore part at }
-    requires label { IfAtStart part
+    requires is_part_before { IsPartBefore part at }
+    requires label_is_told { IfAtStart part
         (is_label ≡ spec_is_label (token_at _text.now _tokens.now at).word) }
     ensures transition_is { transition_of _text.now _tokens.now deep at result
         ≡ transition (progress _text.now _tokens.now deep part at) (class_of class)
         (token_at _text.now _tokens.now at) }
-    ensures holds { IsTransitionAt at result }
+    ensures is_transition_at { IsTransitionAt at result }
 {
     match part {
         Part::Start => match class {
@@ -173,13 +173,13 @@ fn is_label_at(part: Part, word: &[u8]) -> bool
 
 /// What the token with the index `at` does.
 fn transition_at(text: &[u8], tokens: &[Word], deep: u32, part: Part, at: u32) -> Transition
-    requires tokens { AreTokens text.now tokens.now }
+    requires are_tokens { AreTokens text.now tokens.now }
     requires at_lt_count { at < length tokens.now }
-    requires part { IsPartBefore part at }
+    requires is_part_before { IsPartBefore part at }
     ensures transition_is { transition_of text.now tokens.now deep at result
         ≡ transition (progress text.now tokens.now deep part at)
         (class (token_at text.now tokens.now at).word) (token_at text.now tokens.now at) }
-    ensures holds { IsTransitionAt at result }
+    ensures is_transition_at { IsTransitionAt at result }
 {
     let token = tokens[at as usize];
     let word = token.bytes(text);
@@ -223,7 +223,7 @@ fn is_start(part: Part) -> bool
 
 /// The fault of the token with the index `at`, which is not expected.
 fn unexpected(text: &[u8], tokens: &[Word], part: Part, at: u32) -> Fault
-    requires tokens { AreTokens text.now tokens.now }
+    requires are_tokens { AreTokens text.now tokens.now }
     requires at_lt_count { at < length tokens.now }
     ensures { result
         ≡ fault (token_at text.now tokens.now at).at
@@ -239,12 +239,12 @@ fn unexpected(text: &[u8], tokens: &[Word], part: Part, at: u32) -> Fault
 
 /// The first token from `from` on that has a `$`, or the end of the tokens if none has.
 fn next_keyword(text: &[u8], tokens: &[Word], from: u32) -> u32
-    requires tokens { AreTokens text.now tokens.now }
+    requires are_tokens { AreTokens text.now tokens.now }
     requires tokens_lt_2_31 { length tokens.now < 2 ^ 31 }
     requires from_le_count { from ≤ length tokens.now }
     ensures from_le_result { from ≤ result }
     ensures result_le_count { result ≤ length tokens.now }
-    ensures plain { (i : ℕ) → from ≤ i → i < result
+    ensures none_has_dollar { (i : ℕ) → from ≤ i → i < result
         → has_dollar (token_at text.now tokens.now i).word ≡ false }
 {
     for at in from..tokens.len() as u32 {
@@ -258,10 +258,10 @@ fn next_keyword(text: &[u8], tokens: &[Word], from: u32) -> u32
 
 /// Where reading continues: words after a keyword are skipped, up to the next keyword.
 fn pass_words(text: &[u8], tokens: &[Word], part: Part, at: u32) -> u32
-    requires tokens { AreTokens text.now tokens.now }
+    requires are_tokens { AreTokens text.now tokens.now }
     requires tokens_lt_2_31 { length tokens.now < 2 ^ 31 }
     requires at_le_count { at ≤ length tokens.now }
-    requires part { IsPartBefore part at }
+    requires is_part_before { IsPartBefore part at }
     ensures { ArePassed text.now tokens.now part at result }
 {
     match part {
@@ -272,7 +272,7 @@ fn pass_words(text: &[u8], tokens: &[Word], part: Part, at: u32) -> u32
 
 /// Reads the next statement, from the token `from` on; `deep` blocks are open before it.
 pub fn next_statement(text: &[u8], tokens: &[Word], deep: u32, from: u32) -> NextStatement
-    requires tokens { AreTokens text.now tokens.now }
+    requires are_tokens { AreTokens text.now tokens.now }
     requires tokens_lt_2_31 { length tokens.now < 2 ^ 31 }
     requires from_le_count { from ≤ length tokens.now }
     ensures { IsNextStatement text.now tokens.now deep from result }

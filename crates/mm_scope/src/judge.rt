@@ -33,14 +33,14 @@ impl<'a, A: Allocator + Copy> Scope<'a, A> {
         to: u32,
         numbers: &mut Vec<Sym, A>,
     ) -> Result<Option<Fault>, AllocError>
-        requires words { AreWithin text.now tokens.now }
+        requires tokens_within { AreWithin text.now tokens.now }
         requires from_le_to { from ≤ to }
         requires to_le_length { to ≤ length tokens.now }
         requires few_names { length (names_in self.now) < 2 ^ 31 }
-        ensures fault { IfOk result
+        ensures fault_is_least { IfOk result
             (IsLeastFault self.now
             (λ n. at_each (symbol_codes n) [] (between text.now tokens.now from to))) }
-        ensures numbers { OnOk result
+        ensures numbers_are_added { OnOk result
             (numbers.new.items
             ≡ numbers.old.items
             ++ numbers_in (names_in self.now) (between text.now tokens.now from to)) }
@@ -68,7 +68,7 @@ impl<'a, A: Allocator + Copy> Scope<'a, A> {
         from: u32,
         to: u32,
     ) -> Result<Option<Fault>, AllocError>
-        requires words { AreWithin text.now tokens.now }
+        requires tokens_within { AreWithin text.now tokens.now }
         requires from_le_to { from ≤ to }
         requires to_lt_length { to < length tokens.now }
         ensures { IfOk result
@@ -98,15 +98,15 @@ impl<'a, A: Allocator + Copy> Scope<'a, A> {
         to: u32,
         numbers: &mut Vec<Sym, A>,
     ) -> Result<Option<Fault>, AllocError>
-        requires words { AreWithin text.now tokens.now }
+        requires tokens_within { AreWithin text.now tokens.now }
         requires from_le_to { from ≤ to }
         requires to_lt_length { to < length tokens.now }
         requires few_names { length (names_in self.now) < 2 ^ 31 }
-        ensures fault { IfOk result
+        ensures fault_is_least { IfOk result
             (IsLeastFault self.now
             (λ n. formula_faults n (between text.now tokens.now from to)
             (nth_word tokens.now to).start)) }
-        ensures numbers { OnOk result
+        ensures numbers_are_added { OnOk result
             (numbers.new.items
             ≡ numbers.old.items
             ++ numbers_in (names_in self.now) (between text.now tokens.now from to)) }
@@ -124,7 +124,7 @@ impl<'a, A: Allocator + Copy> Scope<'a, A> {
 
     /// Returns the fault of the label at the token `token_index`.
     fn label_fault(&self, text: &[u8], tokens: &[Word], token_index: u32) -> Option<Fault>
-        requires words { AreWithin text.now tokens.now }
+        requires tokens_within { AreWithin text.now tokens.now }
         requires index_lt_length { token_index < length tokens.now }
         ensures { IsLeastFault self.now
             (λ n. label_faults n (token_at text.now tokens.now token_index)) result }
@@ -135,7 +135,7 @@ impl<'a, A: Allocator + Copy> Scope<'a, A> {
 
     /// Returns the fault of the symbols of a `$f`.
     fn floating_fault(&self, text: &[u8], tokens: &[Word], keyword: u32, to: u32) -> Option<Fault>
-        requires words { AreWithin text.now tokens.now }
+        requires tokens_within { AreWithin text.now tokens.now }
         requires keyword_lt_to { keyword < to }
         requires to_lt_length { to < length tokens.now }
         ensures { IsLeastFault self.now
@@ -163,9 +163,9 @@ impl<'a, A: Allocator + Copy> Scope<'a, A> {
         depth: u32,
         outline: Outline,
     ) -> Option<Fault>
-        requires among { IsAmong _text.now tokens.now outline }
+        requires is_among_tokens { IsAmong _text.now tokens.now outline }
         requires keyword_lt_middle { outline.keyword < outline.middle }
-        requires lists { lists_symbols outline.kind ≡ true }
+        requires kind_lists_symbols { lists_symbols outline.kind ≡ true }
         ensures { (n : DeclaredNames)
             → (faults : List SpecFault)
             × (result ≡ least faults)
@@ -207,14 +207,14 @@ impl<'a, A: Allocator + Copy> Scope<'a, A> {
         outline: Outline,
         numbers: &mut Vec<Sym, A>,
     ) -> Result<Option<Fault>, AllocError>
-        requires among { IsAmong text.now tokens.now outline }
+        requires is_among_tokens { IsAmong text.now tokens.now outline }
         requires few_names { length (names_in self.now) < 2 ^ 31 }
-        ensures numbers { OnOk result
+        ensures numbers_are_added { OnOk result
             (numbers.new.items
             ≡ numbers.old.items
             ++ judged (names_in self.now)
             (statement_of text.now tokens.now outline)) }
-        ensures fault { IfOk result
+        ensures fault_is_least { IfOk result
             (IsLeastFault self.now
             (λ n. scope_faults n depth (statement_of text.now tokens.now outline))) }
     {
@@ -249,17 +249,17 @@ impl<'a, A: Allocator + Copy> Scope<'a, A> {
         outline: Outline,
         numbers: &mut Vec<Sym, A>,
     ) -> Result<Option<Fault>, AllocError>
-        requires among { IsAmong text.now tokens.now outline }
-        requires label { 0 < outline.keyword }
+        requires is_among_tokens { IsAmong text.now tokens.now outline }
+        requires keyword_gt_0 { 0 < outline.keyword }
         requires keyword_lt_middle { outline.keyword < outline.middle }
         requires few_names { length (names_in self.now) < 2 ^ 31 }
-        ensures fault { IfOk result
+        ensures fault_is_least { IfOk result
             (IsLeastFault self.now
             (λ n. label_faults n (token_at text.now tokens.now (outline.keyword - 1))
             ++ formula_faults n
             (between text.now tokens.now (outline.keyword + 1) outline.middle)
             (nth_word tokens.now outline.middle).start)) }
-        ensures numbers { OnOk result
+        ensures numbers_are_added { OnOk result
             (numbers.new.items
             ≡ numbers.old.items
             ++ numbers_in (names_in self.now)
@@ -280,9 +280,9 @@ impl<'a, A: Allocator + Copy> Scope<'a, A> {
         depth: u32,
         outline: Outline,
     ) -> Result<Option<Fault>, AllocError>
-        requires among { IsAmong text.now tokens.now outline }
+        requires is_among_tokens { IsAmong text.now tokens.now outline }
         requires keyword_lt_middle { outline.keyword < outline.middle }
-        requires lists { lists_symbols outline.kind ≡ true }
+        requires kind_lists_symbols { lists_symbols outline.kind ≡ true }
         ensures { IfOk result
             (IsLeastFault self.now
             (λ n. scope_faults n depth (statement_of text.now tokens.now outline))) }
@@ -352,7 +352,7 @@ const MAX_WORDS_COMPARED: u32 = 16;
 
 /// Whether the word at `token_index` is among the words before it, from `from` on.
 fn is_among(text: &[u8], tokens: &[Word], from: u32, token_index: u32) -> bool
-    requires words { AreWithin text.now tokens.now }
+    requires tokens_within { AreWithin text.now tokens.now }
     requires from_le_index { from ≤ token_index }
     requires index_lt_length { token_index < length tokens.now }
     ensures { result
@@ -380,16 +380,16 @@ fn is_repeated<'a, A: Allocator + Copy>(
     from: u32,
     token_index: u32,
 ) -> Result<bool, AllocError>
-    requires words { AreWithin text.now tokens.now }
+    requires tokens_within { AreWithin text.now tokens.now }
     requires from_le_index { from ≤ token_index }
     requires index_lt_length { token_index < length tokens.now }
-    requires seen { is_short ≡ false → (w : List ℕ)
+    requires seen_has_earlier_words { is_short ≡ false → (w : List ℕ)
         → is_some (find seen.old.entries w)
         ≡ is_in w (words (between text.now tokens.now from token_index)) }
-    ensures repeated { IfOk result
+    ensures tells_repeated { IfOk result
         (λ b. b ≡ is_in (token_at text.now tokens.now token_index).word
         (words (between text.now tokens.now from token_index))) }
-    ensures seen { OnOk result
+    ensures word_is_seen { OnOk result
         (is_short ≡ false → (w : List ℕ)
         → is_some (find seen.new.entries w)
         ≡ is_in w (words (between text.now tokens.now from (token_index + 1)))) }
@@ -408,7 +408,7 @@ fn insert_word<'a, A: Allocator + Copy>(
     word: &'a [u8],
 ) -> Result<bool, AllocError>
     ensures was_seen { IfOk result (λ b. b ≡ is_some (find seen.old.entries word.now)) }
-    ensures inserted { OnOk result
+    ensures word_is_inserted { OnOk result
         ((w : List ℕ)
         → find seen.new.entries w
         ≡ (if bytes_eq word.now w then Some 0 else find seen.old.entries w)) }

@@ -207,12 +207,13 @@ impl<'a, A: Allocator + Copy> Scope<'a, A> {
         tokens: &[Word],
         outline: Outline,
     ) -> Result<(), AllocError>
-        requires among { IsAmong text.now tokens.now outline }
+        requires is_among_tokens { IsAmong text.now tokens.now outline }
         requires few_tokens { length tokens.now < 2 ^ 31 }
-        requires keeps { (db : List Statement) × IsScopeAfter db self.old × (length db < 2 ^ 31) }
-        ensures keeps { OnOk result
+        requires is_scope_after { (db : List Statement)
+            × IsScopeAfter db self.old × (length db < 2 ^ 31) }
+        ensures is_next_scope { OnOk result
             (IsNextScope self.old self.new (statement_of text.now tokens.now outline)) }
-        ensures names { OnOk result
+        ensures names_are_declared { OnOk result
             (Declares self.old self.new
             (declared_words (statement_of text.now tokens.now outline))) }
     {
@@ -229,20 +230,20 @@ impl<'a, A: Allocator + Copy> Scope<'a, A> {
         outline: Outline,
         number: u32,
     ) -> Result<(), AllocError>
-        requires among { IsAmong text.now tokens.now outline }
+        requires is_among_tokens { IsAmong text.now tokens.now outline }
         requires few_tokens { length tokens.now < 2 ^ 31 }
-        ensures symbols { OnOk result
+        ensures symbols_are_added { OnOk result
             ((w : List ℕ)
             → entry_in self.new w
             ≡ entry_after number (statement_of text.now tokens.now outline) w
             (entry_in self.old w)) }
-        ensures labels { OnOk result
+        ensures label_is_added { OnOk result
             ((w : List ℕ)
             → label_in self.new w
             ≡ label_after number (label_of (statement_of text.now tokens.now outline)) w
             (label_in self.old w)) }
-        ensures blocks { self.new.blocks ≡ self.old.blocks }
-        ensures names { OnOk result
+        ensures blocks_stay { self.new.blocks ≡ self.old.blocks }
+        ensures names_are_declared { OnOk result
             (Declares self.old self.new
             (declared_words (statement_of text.now tokens.now outline))) }
     {
@@ -278,16 +279,16 @@ impl<'a, A: Allocator + Copy> Scope<'a, A> {
         keyword: u32,
         number: u32,
     ) -> Result<(), AllocError>
-        requires words { AreWithin text.now tokens.now }
-        requires label { 0 < keyword }
+        requires tokens_within { AreWithin text.now tokens.now }
+        requires keyword_gt_0 { 0 < keyword }
         requires keyword_lt_length { keyword < length tokens.now }
-        ensures labels { OnOk result
+        ensures label_is_added { OnOk result
             ((w : List ℕ)
             → label_in self.new w
             ≡ label_after number (Some (token_at text.now tokens.now (keyword - 1))) w
             (label_in self.old w)) }
-        ensures symbols { OnOk result (self.new.names.symbols ≡ self.old.names.symbols) }
-        ensures blocks { self.new.blocks ≡ self.old.blocks }
+        ensures symbols_stay { OnOk result (self.new.names.symbols ≡ self.old.names.symbols) }
+        ensures blocks_stay { self.new.blocks ≡ self.old.blocks }
     {
         let token = tokens[keyword as usize - 1];
         self.names.set_label(token.bytes(text), number)
@@ -301,17 +302,17 @@ impl<'a, A: Allocator + Copy> Scope<'a, A> {
         from: u32,
         number: u32,
     ) -> Result<(), AllocError>
-        requires words { AreWithin text.now tokens.now }
+        requires tokens_within { AreWithin text.now tokens.now }
         requires next_lt_length { from + 1 < length tokens.now }
-        ensures labels { OnOk result
+        ensures labels_stay { OnOk result
             ((w : List ℕ) → label_in self.new w ≡ label_in self.old w) }
-        ensures symbols { OnOk result
+        ensures variable_is_typed { OnOk result
             ((w : List ℕ)
             → entry_in self.new w
             ≡ after_typing number (token_at text.now tokens.now from).word
             (token_at text.now tokens.now (from + 1)).word (entry_in self.old) w) }
-        ensures blocks { self.new.blocks ≡ self.old.blocks }
-        ensures names { OnOk result
+        ensures blocks_stay { self.new.blocks ≡ self.old.blocks }
+        ensures names_stay { OnOk result
             (names_in self.new ≡ names_in self.old) }
     {
         let first = tokens[from as usize];
@@ -341,17 +342,17 @@ impl<'a, A: Allocator + Copy> Scope<'a, A> {
         is_variable: bool,
         number: u32,
     ) -> Result<(), AllocError>
-        requires among { IsAmong text.now tokens.now outline }
+        requires is_among_tokens { IsAmong text.now tokens.now outline }
         requires keyword_lt_middle { outline.keyword < outline.middle }
-        ensures labels { OnOk result
+        ensures labels_stay { OnOk result
             ((w : List ℕ) → label_in self.new w ≡ label_in self.old w) }
-        ensures symbols { OnOk result
+        ensures symbols_are_declared { OnOk result
             ((w : List ℕ)
             → entry_in self.new w
             ≡ after_declaring is_variable number (listed_words text.now tokens.now outline) w
             (entry_in self.old w)) }
-        ensures blocks { self.new.blocks ≡ self.old.blocks }
-        ensures names { OnOk result
+        ensures blocks_stay { self.new.blocks ≡ self.old.blocks }
+        ensures names_are_declared { OnOk result
             (Declares self.old self.new (listed_words text.now tokens.now outline)) }
     {
         for token_index in outline.keyword + 1..outline.middle {

@@ -75,10 +75,10 @@ impl<A: Allocator> Steps<A> {
     /// nothing was appended.
     pub fn push(&mut self, at: u32, step: Step) -> Result<(), AllocError>
         requires { IsEarlier (as_step step) (length self.old.steps) }
-        ensures ok { OnOk result
+        ensures step_is_added { OnOk result
             (self.new
             ≡ theorem_steps self.old.theorem (self.old.steps ++ placed at (as_step step) ∷ [])) }
-        ensures err { OnErr result (self.new ≡ self.old) }
+        ensures nothing_changes { OnErr result (self.new ≡ self.old) }
     {
         match step {
             Step::Label(number) => self.steps.push(Placed {

@@ -26,8 +26,8 @@ pub fn read<'a, A: Allocator + Copy>(
     lexed: &Lexed<A>,
     with_open: bool,
 ) -> Result<Database<'a, A>, AllocError>
-    requires tokens { lexed.now.tokens.items ≡ tokens_of text.now }
-    requires fault { lexed.now.fault ≡ lexical_fault text.now }
+    requires tokens_of_text { lexed.now.tokens.items ≡ tokens_of text.now }
+    requires fault_of_text { lexed.now.fault ≡ lexical_fault text.now }
     ensures text { IfOk result (λ database. database.text ≡ text.now) }
     ensures flag { IfOk result (λ database. database.with_open ≡ with_open) }
     ensures read { IfOk result
@@ -51,8 +51,8 @@ pub fn read_owned<'a, A: Allocator + Copy>(
     lexed: Lexed<A>,
     with_open: bool,
 ) -> Result<Database<'a, A>, AllocError>
-    requires tokens { lexed.tokens.items ≡ tokens_of text.now }
-    requires fault { lexed.fault ≡ lexical_fault text.now }
+    requires tokens_of_text { lexed.tokens.items ≡ tokens_of text.now }
+    requires fault_of_text { lexed.fault ≡ lexical_fault text.now }
     ensures text { IfOk result (λ database. database.text ≡ text.now) }
     ensures flag { IfOk result (λ database. database.with_open ≡ with_open) }
     ensures read { IfOk result

@@ -21,13 +21,13 @@ loop-pairs-preserved g c =
     c.as_slice-pairs.ensures.value ∙ ap (λ (i : PairLists). i.pairs) c.disjoint_index.view_is in
     let parted_index = c.count_before-end.ensures in
     let parted = parted_by_values _ ps _ x pairs_are_ps c.number.ensures at start
-    parted_index.within parted_index.before parted_index.after
+    parted_index.result_le_length parted_index.earlier_are_before parted_index.later_are_not_before
     in
-    let last_has_symbol = c.ends_with.ensures.some c.loop-pairs-test.true in
+    let last_has_symbol = c.ends_with.ensures.ends_if_true c.loop-pairs-test.true in
     let last_symbol_is_x =
     symbol_by_values _ ps _ x pairs_are_ps c.number-in-loop-pairs.ensures
     (end - 1) last_has_symbol.1 in
-    let next_lt_end = c.skip_last-end.ensures.less in
+    let next_lt_end = c.skip_last-end.ensures.result_lt_end in
     let end_le_length = c.loop-pairs.invariant.0 in
     let next_le_length : c.skip_last-end.result ≤ length ps =
     omega (arith, next_lt_end, end_le_length) in
@@ -49,7 +49,7 @@ loop-pairs-preserved g c =
                 (added_open blocks ps c.requires.ordered.rising x at start parted end
                 c.skip_last-end.result c.args.into.now.items c.loop-pairs.into.items
                 c.loop-pairs.invariant.1 last_has_symbol.0 last_symbol_is_x is_open next_lt_end
-                c.skip_last-end.ensures.passed)),
+                c.skip_last-end.ensures.skipped_are_closed)),
           )
       | else-is_open_at w ↦ (
         next_le_length,
@@ -61,7 +61,7 @@ loop-pairs-preserved g c =
             (λ (qs : List (ℕ × ℕ)). nat_le at (end_of blocks (get_or qs (end - 1) (0, 0)).1)
             ≡ false) pairs_are_ps
             (sym c.is_open_at.ensures ∙ w.if-is_open_at.false)) next_lt_end
-            c.skip_last-end.ensures.passed),
+            c.skip_last-end.ensures.skipped_are_closed),
       )
     ]
 
@@ -77,9 +77,9 @@ returns g c =
     c.as_slice-pairs.ensures.value ∙ ap (λ (i : PairLists). i.pairs) c.disjoint_index.view_is in
     let parted_index = c.count_before-end.ensures in
     let parted = parted_by_values _ ps _ x pairs_are_ps c.number.ensures at start
-    parted_index.within parted_index.before parted_index.after
+    parted_index.result_le_length parted_index.earlier_are_before parted_index.later_are_not_before
     in
-    let last_symbol_ne_x = c.ends_with.ensures.none c.loop-pairs-test.false in
+    let last_symbol_ne_x = c.ends_with.ensures.differs_if_false c.loop-pairs-test.false in
     all_are_added blocks ps c.requires.ordered.rising x at start parted end c.args.into.now.items
     c.loop-pairs.into.items c.loop-pairs.invariant.1
     (λ end_gt_0. other_symbol_by_values _ ps _ x pairs_are_ps c.number-in-loop-pairs.ensures

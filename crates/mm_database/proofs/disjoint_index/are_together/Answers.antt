@@ -14,8 +14,9 @@ use Rattle.mm_database.proofs.disjoint_index.are_together.Goals as goal
 use Rattle.mm_database.proofs.disjoint_index.are_together.Goals.{else-x_statement-y_statement-via-then-x_statement-y_statement+else-is_open_at}
 use Rattle.mm_database.proofs.disjoint_index.are_together.Goals.{else-x_statement-y_statement-via-else-x_statement-y_statement}
 
-pub returns-then-is_open_at-clause-found : goal.returns-then-is_open_at-clause-found
-returns-then-is_open_at-clause-found g c =
+pub returns-then-is_open_at-clause-are_together_if_true :
+    goal.returns-then-is_open_at-clause-are_together_if_true
+returns-then-is_open_at-clause-are_together_if_true g c =
     let blocks = c.args.blocks.now in
     let ps = c.args.disjoint_index.now.pairs in
     let x = c.args.x in
@@ -28,10 +29,10 @@ returns-then-is_open_at-clause-found g c =
     c.as_slice-pairs.ensures.value ∙ ap (λ (i : PairLists). i.pairs) c.disjoint_index.view_is in
     let parted_index = c.count_before-x_end.ensures in
     let parted = parted_by_values _ ps _ x pairs_are_ps c.number.ensures at start
-    parted_index.within parted_index.before parted_index.after
+    parted_index.result_le_length parted_index.earlier_are_before parted_index.later_are_not_before
     in
-    let x_statement = c.ends_with.ensures.some c.loop-pairs-test.true in
-    let y_statement = c.ends_with-in-loop-pairs.ensures.some c.if-ends_with.true in
+    let x_statement = c.ends_with.ensures.ends_if_true c.loop-pairs-test.true in
+    let y_statement = c.ends_with-in-loop-pairs.ensures.ends_if_true c.if-ends_with.true in
     let last_symbol_is_x =
     symbol_by_values _ ps _ x pairs_are_ps c.number-in-loop-pairs.ensures (x_end - 1) x_statement.1
     in
@@ -77,8 +78,8 @@ loop-pairs-preserved-then-x_statement-y_statement-2 g c =
     let pairs_are_ps =
     c.as_slice-pairs.ensures.value
     ∙ ap (λ (invariant : PairLists). invariant.pairs) c.disjoint_index.view_is in
-    let x_statement = c.ends_with.ensures.some c.loop-pairs-test.true in
-    let y_statement = c.ends_with-in-loop-pairs.ensures.some c.if-ends_with.true in
+    let x_statement = c.ends_with.ensures.ends_if_true c.loop-pairs-test.true in
+    let y_statement = c.ends_with-in-loop-pairs.ensures.ends_if_true c.if-ends_with.true in
     let last_symbol_is_x =
     symbol_by_values _ ps _ c.args.x pairs_are_ps c.number-in-loop-pairs.ensures (x_end - 1)
     x_statement.1 in
@@ -86,7 +87,7 @@ loop-pairs-preserved-then-x_statement-y_statement-2 g c =
     (get_or ps (y_end - 1) (0, 0)).1 =
     subst (λ (qs : List (ℕ × ℕ)). (get_or qs (x_end - 1) (0, 0)).1
     < (get_or qs (y_end - 1) (0, 0)).1) pairs_are_ps c.if-x_statement-y_statement-2.true in
-    let next_lt_y_end = c.skip_last-y_end.ensures.less in
+    let next_lt_y_end = c.skip_last-y_end.ensures.result_lt_end in
     let invariant = c.loop-pairs.invariant in
     let y_end_le_start = invariant.y_end_falls in
     let y_end_le_length = invariant.y_end_within in
@@ -100,7 +101,7 @@ loop-pairs-preserved-then-x_statement-y_statement-2 g c =
           x_end y_end c.skip_last-y_end.result invariant.none_in_common
           x_statement.0 invariant.x_end_within
           y_statement.0 y_end_le_length last_symbol_is_x x_statement_lt_y_statement
-          c.skip_last-y_end.ensures.passed;
+          c.skip_last-y_end.ensures.skipped_are_closed;
     }
 
 pub loop-pairs-preserved : goal.loop-pairs-preserved
@@ -113,8 +114,8 @@ loop-pairs-preserved g c =
     let pairs_are_ps =
     c.as_slice-pairs.ensures.value
     ∙ ap (λ (invariant : PairLists). invariant.pairs) c.disjoint_index.view_is in
-    let x_statement = c.ends_with.ensures.some c.loop-pairs-test.true in
-    let y_statement = c.ends_with-in-loop-pairs.ensures.some c.if-ends_with.true in
+    let x_statement = c.ends_with.ensures.ends_if_true c.loop-pairs-test.true in
+    let y_statement = c.ends_with-in-loop-pairs.ensures.ends_if_true c.if-ends_with.true in
     let last_symbol_is_y =
     symbol_by_values _ ps _ c.args.y pairs_are_ps c.number-in-loop-pairs-2.ensures
     (y_end - 1) y_statement.1 in
@@ -138,7 +139,7 @@ loop-pairs-preserved g c =
                 (statements_differ (omega (arith, statement_order, y_statement_le_x_statement)))
           ])
     ] in
-    let next_lt_x_end = c.skip_last-x_end.ensures.less in
+    let next_lt_x_end = c.skip_last-x_end.ensures.result_lt_end in
     let invariant = c.loop-pairs.invariant in
     let x_end_le_start = invariant.x_end_falls in
     let x_end_le_length = invariant.x_end_within in
@@ -152,11 +153,11 @@ loop-pairs-preserved g c =
           y_end c.skip_last-x_end.result invariant.none_in_common x_statement.0 x_end_le_length
           y_statement.0
           invariant.y_end_within last_symbol_is_y later_or_closed
-          c.skip_last-x_end.ensures.passed;
+          c.skip_last-x_end.ensures.skipped_are_closed;
     }
 
-pub returns-else-ends_with-clause-none : goal.returns-else-ends_with-clause-none
-returns-else-ends_with-clause-none g c =
+pub returns-else-ends_with-clause-none_if_false : goal.returns-else-ends_with-clause-none_if_false
+returns-else-ends_with-clause-none_if_false g c =
     let blocks = c.args.blocks.now in
     let ps = c.args.disjoint_index.now.pairs in
     let y = c.args.y in
@@ -167,9 +168,10 @@ returns-else-ends_with-clause-none g c =
     c.as_slice-pairs.ensures.value ∙ ap (λ (i : PairLists). i.pairs) c.disjoint_index.view_is in
     let parted_index = c.count_before-y_end.ensures in
     let parted = parted_by_values _ ps _ y pairs_are_ps c.number-2.ensures at start
-    parted_index.within parted_index.before
-    parted_index.after in
-    let last_symbol_ne_y = c.ends_with-in-loop-pairs.ensures.none c.if-ends_with.false in
+    parted_index.result_le_length parted_index.earlier_are_before
+    parted_index.later_are_not_before in
+    let last_symbol_ne_y =
+    c.ends_with-in-loop-pairs.ensures.differs_if_false c.if-ends_with.false in
     λ result_is_false. none_at_end blocks ps c.requires.ordered.rising c.args.x y at
     c.loop-pairs.x_end y_end
     c.loop-pairs.invariant.none_in_common
@@ -178,8 +180,9 @@ returns-else-ends_with-clause-none g c =
     (λ y_end_gt_0. other_symbol_by_values _ ps _ y pairs_are_ps c.number-in-loop-pairs-2.ensures
     (y_end - 1) (last_symbol_ne_y y_end_gt_0))))
 
-pub returns-after-loop-pairs-clause-none : goal.returns-after-loop-pairs-clause-none
-returns-after-loop-pairs-clause-none g c =
+pub returns-after-loop-pairs-clause-none_if_false :
+    goal.returns-after-loop-pairs-clause-none_if_false
+returns-after-loop-pairs-clause-none_if_false g c =
     let blocks = c.args.blocks.now in
     let ps = c.args.disjoint_index.now.pairs in
     let x = c.args.x in
@@ -190,9 +193,9 @@ returns-after-loop-pairs-clause-none g c =
     c.as_slice-pairs.ensures.value ∙ ap (λ (i : PairLists). i.pairs) c.disjoint_index.view_is in
     let parted_index = c.count_before-x_end.ensures in
     let parted = parted_by_values _ ps _ x pairs_are_ps c.number.ensures at start
-    parted_index.within parted_index.before parted_index.after
+    parted_index.result_le_length parted_index.earlier_are_before parted_index.later_are_not_before
     in
-    let last_symbol_ne_x = c.ends_with.ensures.none c.loop-pairs-test.false in
+    let last_symbol_ne_x = c.ends_with.ensures.differs_if_false c.loop-pairs-test.false in
     λ result_is_false. none_at_end blocks ps c.requires.ordered.rising x c.args.y at x_end
     c.loop-pairs.y_end
     c.loop-pairs.invariant.none_in_common

@@ -9,7 +9,7 @@ loop-last-preserved g c =
     let last = c.loop-last.last in
     let next = get_or c.args.latest.now last 0 in
     let last_lt_at = (c.loop-last.invariant.last_is_found c.loop-last-test.true).0 in
-    let at_le_length = c.requires.at in
+    let at_le_length = c.requires.at_le_length in
     let last_le_length : last ≤ length c.args.statements.now.list =
     omega (arith, last_lt_at, at_le_length) in
     rw c.in_ok-push.ensures.items
@@ -17,7 +17,7 @@ loop-last-preserved g c =
     next
     at_le_length
     c.loop-last.invariant c.loop-last-test.true
-    (c.requires.latest.each_is_latest last last_le_length))
+    (c.requires.are_latest.each_is_latest last last_le_length))
 
 pub returns : goal.returns
 returns g c =

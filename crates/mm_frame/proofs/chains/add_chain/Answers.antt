@@ -18,7 +18,7 @@ loop-number-preserved g c =
     index_lt_length in
     record {
       number_le_length = rw link_is_at_index (let next_le_index =
-          c.requires.linked.next_le_index (n - 1) index_lt_length in omega
+          c.requires.are_linked.next_le_index (n - 1) index_lt_length in omega
           (arith, next_le_index, index_lt_length));
       rest_is_chain = λ statements is_chain. rw (c.in_ok-push.ensures.items, link_is_at_index)
           (rest_after_link links c.args.symbol c.args.pairs.now.items c.loop-number.pairs.items

@@ -6,9 +6,9 @@ use Rattle.mm_frame.proofs.disjoint_index.disjoint_index_of.Goals as goal
 pub skips_of-requires : goal.skips_of-requires
 skips_of-requires g c =
     record {
-      known =
+      all_have_blocks =
           rw (c.blocks-2.ensures.blocks, c.deref.ensures.value)
-          (have_blocks c.args.statements.now.list _ c.blocks-2.ensures.theirs
+          (have_blocks c.args.statements.now.list _ c.blocks-2.ensures.are_blocks
           c.in_ok-pairs.pairs.items c.in_ok-pairs.ensures.members_are);
     }
 
@@ -23,7 +23,7 @@ returns g c =
       ordered = record {
         rising = c.in_ok-pairs.ensures.rising;
         known =
-            have_blocks c.args.statements.now.list b c.blocks-2.ensures.theirs ps
+            have_blocks c.args.statements.now.list b c.blocks-2.ensures.are_blocks ps
             c.in_ok-pairs.ensures.members_are;
         skips_are =
             subst (λ (ps : List (ℕ × ℕ)). AreSkips b ps ss) c.deref.ensures.value

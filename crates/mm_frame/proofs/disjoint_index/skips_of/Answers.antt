@@ -57,16 +57,18 @@ returns g c =
     so_far_are_skips c.args.blocks.now c.args.pairs.now c.loop-index.index c.loop-index.skips.items
     c.loop-index.invariant c.loop-index.auto.index-end c.loop-index-test.false
 
-pub is_covered-requires-clause-pair : goal.is_covered-requires-clause-pair
-is_covered-requires-clause-pair g c =
+pub is_covered-requires-clause-pair_has_block : goal.is_covered-requires-clause-pair_has_block
+is_covered-requires-clause-pair_has_block g c =
     let covered_from_le_index = c.loop-covered_from.invariant.0 in
     let index_lt_end = c.loop-index-test.true in
     let covered_from_gt_0 = c.loop-covered_from-test.true in
-    c.requires.known (c.loop-covered_from.covered_from - 1)
+    c.requires.all_have_blocks (c.loop-covered_from.covered_from - 1)
     (omega (arith, covered_from_le_index, index_lt_end, covered_from_gt_0))
 
-pub is_covered-requires-clause-covering : goal.is_covered-requires-clause-covering
-is_covered-requires-clause-covering g c = c.requires.known c.loop-index.index c.loop-index-test.true
+pub is_covered-requires-clause-covering_has_block :
+    goal.is_covered-requires-clause-covering_has_block
+is_covered-requires-clause-covering_has_block g c =
+    c.requires.all_have_blocks c.loop-index.index c.loop-index-test.true
 
 pub index-covered_from-requires : goal.index-covered_from-requires
 index-covered_from-requires g c =

@@ -9,8 +9,8 @@ returns-clause-rising g c =
     c.sort_unstable.ensures.sorted
     (dedup_is (λ x y. nat_eq x.0 y.0 && nat_eq x.1 y.1) _ _ c.dedup.ensures.filtered)
 
-pub returns-clause-same : goal.returns-clause-same
-returns-clause-same g c =
+pub returns-clause-members_stay : goal.returns-clause-members_stay
+returns-clause-members_stay g c =
     sort_and_dedup_same c.args.pairs.now.items c.sort_unstable.new.self.items c.dedup.new.self.items
     c.sort_unstable.ensures.permutation
     (dedup_is (λ x y. nat_eq x.0 y.0 && nat_eq x.1 y.1) _ _ c.dedup.ensures.filtered)

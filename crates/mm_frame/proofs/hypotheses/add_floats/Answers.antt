@@ -17,38 +17,41 @@ loop-symbol-init g c = λ j. none_so_far (is_member c.args.hyps.now.items j)
 
 pub bounds-last_floats-number : goal.bounds-last_floats-number
 bounds-last_floats-number g c =
-    let symbol_lt_count = c.requires.variables c.loop-symbol.symbol-index c.symbol-item.result
+    let symbol_lt_count =
+    c.requires.variables_lt_count c.loop-symbol.symbol-index c.symbol-item.result
     c.loop-symbol-test.true in
     let symbol_is_item = c.symbol-item.is in
     let number_is_symbol = c.number.ensures in
-    let last_floats_count = c.requires.last_floats.count in
+    let last_floats_count = c.requires.are_last_floats.count in
     omega (arith, symbol_lt_count, symbol_is_item, number_is_symbol, last_floats_count)
 
-pub is_open_at-requires-clause-before : goal.is_open_at-requires-clause-before
-is_open_at-requires-clause-before g c =
-    let symbol_lt_count = c.requires.variables c.loop-symbol.symbol-index c.symbol-item.result
+pub is_open_at-requires-clause-statement_lt_at : goal.is_open_at-requires-clause-statement_lt_at
+is_open_at-requires-clause-statement_lt_at g c =
+    let symbol_lt_count =
+    c.requires.variables_lt_count c.loop-symbol.symbol-index c.symbol-item.result
     c.loop-symbol-test.true in
     let symbol_is_item = c.symbol-item.is in
     let number_is_symbol = c.number.ensures in
     let last_is_typed =
-    c.requires.last_floats.last_is_typed c.number.result
+    c.requires.are_last_floats.last_is_typed c.number.result
     (omega (arith, symbol_lt_count, symbol_is_item, number_is_symbol)) c.if-floating.true
     in
     let last_lt_at = last_is_typed.0 in
     omega (arith, last_lt_at)
 
-pub is_open_at-requires-clause-within : goal.is_open_at-requires-clause-within
-is_open_at-requires-clause-within g c =
-    let symbol_lt_count = c.requires.variables c.loop-symbol.symbol-index c.symbol-item.result
+pub is_open_at-requires-clause-at_le_length : goal.is_open_at-requires-clause-at_le_length
+is_open_at-requires-clause-at_le_length g c =
+    let symbol_lt_count =
+    c.requires.variables_lt_count c.loop-symbol.symbol-index c.symbol-item.result
     c.loop-symbol-test.true in
     let symbol_is_item = c.symbol-item.is in
     let number_is_symbol = c.number.ensures in
     let last_is_typed =
-    c.requires.last_floats.last_is_typed c.number.result
+    c.requires.are_last_floats.last_is_typed c.number.result
     (omega (arith, symbol_lt_count, symbol_is_item, number_is_symbol)) c.if-floating.true
     in
     let last_lt_at = last_is_typed.0 in
-    let at_le_length = c.requires.at in
+    let at_le_length = c.requires.at_le_length in
     omega (arith, last_lt_at, at_le_length)
 
 pub loop-symbol-preserved : goal.loop-symbol-preserved

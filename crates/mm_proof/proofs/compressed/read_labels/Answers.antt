@@ -11,8 +11,8 @@ use Rattle.mm_proof.proofs.LettersLaw.{on_same_err}
 use Rattle.mm_proof.specs.declared.refused.ProofRefused.TheVariants.{Memory}
 use Rattle.mm_proof.proofs.compressed.read_labels.Goals as goal
 
-pub returns-in-None-clause-fault : goal.returns-in-None-clause-fault
-returns-in-None-clause-fault g c =
+pub returns-in-None-clause-fault_is_first : goal.returns-in-None-clause-fault_is_first
+returns-in-None-clause-fault_is_first g c =
     let db = c.args.database.now.statements in
     let text = c.args.database.now.text in
     let words = c.args.words.now in
@@ -37,8 +37,8 @@ returns-in-None-clause-fault g c =
           ∙ first_fault.1,
     )
 
-pub returns-clause-fault : goal.returns-clause-fault
-returns-clause-fault g c =
+pub returns-clause-fault_is_first : goal.returns-clause-fault_is_first
+returns-clause-fault_is_first g c =
     let db = c.args.database.now.statements in
     let text = c.args.database.now.text in
     let words = c.args.words.now in
@@ -54,12 +54,13 @@ returns-clause-fault g c =
           c.loop-n.invariant.labels_are_faultless,
     )
 
-pub returns-in_err-push-in-Some-clause-fault : goal.returns-in_err-push-in-Some-clause-fault
-returns-in_err-push-in-Some-clause-fault g c =
+pub returns-in_err-push-in-Some-clause-fault_is_first :
+    goal.returns-in_err-push-in-Some-clause-fault_is_first
+returns-in_err-push-in-Some-clause-fault_is_first g c =
     on_same_err c.from_residual.result Memory _ c.from_residual.ensures.1 tt
 
-pub returns-then-eq-clause-labels : goal.returns-then-eq-clause-labels
-returns-then-eq-clause-labels g c =
+pub returns-then-eq-clause-reads : goal.returns-then-eq-clause-reads
+returns-then-eq-clause-reads g c =
     let text = c.args.database.now.text in
     let words = c.args.words.now in
     let n = c.loop-n.n in
@@ -84,11 +85,11 @@ returns-then-eq-clause-labels g c =
     }
 
 pub bytes-label-requires-clause-order : goal.bytes-label-requires-clause-order
-bytes-label-requires-clause-order g c = (c.requires.within c.loop-n.n _ c.loop-n-test.true).0
+bytes-label-requires-clause-order g c = (c.requires.words_within c.loop-n.n _ c.loop-n-test.true).0
 
 pub bytes-label-requires-clause-within : goal.bytes-label-requires-clause-within
 bytes-label-requires-clause-within g c =
     let no_word : Word = record { start = 0; end = 0 } in
-    let end_le_length = (c.requires.within c.loop-n.n no_word c.loop-n-test.true).1 in
+    let end_le_length = (c.requires.words_within c.loop-n.n no_word c.loop-n-test.true).1 in
     let lengths_equal = ap length c.text-text.ensures in
     omega (arith, end_le_length, lengths_equal)

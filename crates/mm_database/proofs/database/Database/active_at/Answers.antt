@@ -5,16 +5,17 @@ use Rattle.mm_database.specs.Database.{Contents}
 use Rattle.mm_database.proofs.DatabaseLaw.{as_many_statements}
 use Rattle.mm_database.proofs.database.Database.active_at.Goals as goal
 
-pub is_active-requires-clause-statement : goal.is_active-requires-clause-statement
-is_active-requires-clause-statement g c =
+pub is_active-requires-clause-statement_lt_length :
+    goal.is_active-requires-clause-statement_lt_length
+is_active-requires-clause-statement_lt_length g c =
     let counts_equal = as_many_statements _ _ _ _ _ c.self.view_is in
-    let statement_lt_length = c.requires.statement in
+    let statement_lt_length = c.requires.statement_lt_length in
     omega (arith, counts_equal, statement_lt_length)
 
-pub is_active-requires-clause-at : goal.is_active-requires-clause-at
-is_active-requires-clause-at g c =
+pub is_active-requires-clause-at_le_length : goal.is_active-requires-clause-at_le_length
+is_active-requires-clause-at_le_length g c =
     let counts_equal = as_many_statements _ _ _ _ _ c.self.view_is in
-    let at_le_length = c.requires.at in
+    let at_le_length = c.requires.at_le_length in
     omega (arith, counts_equal, at_le_length)
 
 pub returns : goal.returns

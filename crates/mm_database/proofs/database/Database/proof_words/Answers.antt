@@ -33,7 +33,7 @@ returns-in-Theorem g c =
       words =
           proof_is_retained _ _ _ _ _ c.self.view_is _ c.requires _ c.self.invariant.retained_are
           c.get-words.result.now c.get-words.ensures.is_list theorem;
-      within =
+      words_within =
           proof_within _ _ _ _ _ c.self.view_is _ c.requires _ c.self.invariant.retained_are
           c.get-words.result.now c.get-words.ensures.is_list theorem;
     }
@@ -44,5 +44,5 @@ returns-in_default g c =
       words = no_proof
           (slice_get c.args.self.now.statements c.args.statement) c.kind.result c.kind.ensures
           c.in_default.not-Theorem;
-      within = λ k d index_lt_0. absurd (omega arith);
+      words_within = λ k d index_lt_0. absurd (omega arith);
     }

@@ -12,5 +12,5 @@ returns g c = record {
       ∙ ap (λ (ns : List Bytes). length ns)
       (sym (counted_names c.self.inside.with_open c.self.inside.reading.statements.list)
       ∙ ap (λ (n : Contents). symbol_names n.statements) c.self.view_is);
-  few = c.symbol_count.ensures.few;
+  count_lt_2_31 = c.symbol_count.ensures.count_lt_2_31;
 }

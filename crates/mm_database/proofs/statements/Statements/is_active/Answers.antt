@@ -23,11 +23,11 @@ returns-then-statement-at g c =
     let blocks = fields.blocks in
     let lengths_equal = ap (λ (p : ParsedStatements). length p.list) c.self.view_is in
     let statements_length = length-map os (statement_of fields.text.now ws) in
-    let at_le_length = c.requires.at in
+    let at_le_length = c.requires.at_le_length in
     let k_le_length_os : k ≤ length os =
     omega (arith, lengths_equal, statements_length, at_le_length) in
     let outline_is_there =
-    has_outline fields.text.now ws os blocks _ c.self.view_is j c.requires.statement in
+    has_outline fields.text.now ws os blocks _ c.self.view_is j c.requires.statement_lt_length in
     let is_active_is_kind_active =
     active_test_is_activity fields.text.now ws os blocks c.self.invariant.blocks j k
     outline_is_there

@@ -12,19 +12,20 @@ loop-i-init g c =
     record {
       theorem = refl;
       labels = refl;
-      stands = record { stands = c.requires.stands; begins = c.begin_at.ensures.at };
+      stands =
+          record { stands = c.requires.stands_at; begins = c.begin_at.ensures.begins_at_place };
       reads =
           λ all_letters unread continues. subst
           (λ o. Continues (with_number c.args.self.now o) all_letters
           (word_letters_here ++ unread))
-          (sym c.begin_at.ensures.same) continues;
+          (sym c.begin_at.ensures.begun_stays) continues;
     }
 
 pub returns-in_err-read-clause-refuses : goal.returns-in_err-read-clause-refuses
 returns-in_err-read-clause-refuses g c =
     let letters_begin_with_i =
     letters_begin_with_letter c.args.text.now c.loop-i.i c.args.word.end c.loop-i-test.true
-    c.requires.within in
+    c.requires.end_le_length in
     let reads = rw letters_begin_with_i at c.loop-i.invariant.reads in
     on_same_err c.from_residual.result c.in_err-read.field-0.0
     (RefusesLetters (with_number c.args.self.now (if_begun c.args.number.now))
@@ -40,12 +41,12 @@ pub loop-i-preserved : goal.loop-i-preserved
 loop-i-preserved g c =
     let letters_begin_with_i =
     letters_begin_with_letter c.args.text.now c.loop-i.i c.args.word.end c.loop-i-test.true
-    c.requires.within in
+    c.requires.end_le_length in
     let reads = rw letters_begin_with_i at c.loop-i.invariant.reads in
     record {
       theorem = c.in_ok-read.ensures.reads.theorem ∙ c.loop-i.invariant.theorem;
       labels = c.in_ok-read.ensures.reads.labels ∙ c.loop-i.invariant.labels;
-      stands = c.in_ok-read.ensures.stands;
+      stands = c.in_ok-read.ensures.is_read_after;
       reads = λ all_letters unread continues. c.in_ok-read.ensures.reads.continues all_letters _
           (reads all_letters unread continues);
     }

@@ -33,8 +33,9 @@ invariant_of-self-in-Marked g c =
     (omega (arith, is_earlier, same_length))
     (ap placed_of is_old_entry) refl
 
-pub returns-in_ok-push-in-Marked-clause-ok : goal.returns-in_ok-push-in-Marked-clause-ok
-returns-in_ok-push-in-Marked-clause-ok g c =
+pub returns-in_ok-push-in-Marked-clause-step_is_added :
+    goal.returns-in_ok-push-in-Marked-clause-step_is_added
+returns-in_ok-push-in-Marked-clause-step_is_added g c =
     let stored = c.self.inside.steps.items in
     let pushed = c.push-in-Marked.new.self.items in
     let marked_step = c.in-Marked.number in
