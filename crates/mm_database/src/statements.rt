@@ -9,7 +9,7 @@ ghost use Rattle.mm_spec.specs.Frame.{symbol_names, is_variable_number, is_disjo
 ghost use Rattle.mm_spec.specs.Frame.{is_essential, is_floating, formula_at};
 ghost use Rattle.mm_spec.specs.Citation.{is_assertion};
 ghost use Rattle.mm_outline.specs.Blocks.{IsBlocks};
-ghost use Rattle.mm_outline.specs.Statements.{statements, active_kind};
+ghost use Rattle.mm_outline.specs.Statements.{statements, is_active_kind};
 ghost use Rattle.mm_database.specs.Kinds.{kind_of, is_essential_kind, is_floating_kind};
 ghost use Rattle.mm_database.specs.Kinds.{is_disjoint_kind, is_assertion_kind};
 ghost use Rattle.mm_database.specs.ParsedStatements.{parsed_statements, AreParsedStatements};
@@ -260,7 +260,7 @@ fn is_assertion_kind(kind: Kind) -> bool
 
 /// Whether a statement of this kind is active. `is_open` says whether its block is open.
 fn is_active_kind(kind: Kind, is_open: bool) -> bool
-    ensures { result ≡ active_kind kind is_open }
+    ensures { result ≡ is_active_kind kind is_open }
 {
     match kind {
         Kind::Constants | Kind::Axiom | Kind::Theorem => true,

@@ -143,13 +143,13 @@ module _ (db : List Statement) (s : Statement) (b : BlockLists) (is_blocks : IsB
   -- what becomes of a statement's block
   module _ (ends opens : List ℕ) where
     abbrev IsOpen : ℕ → ℕ → Type 0
-    IsOpen block deep =
-        (get_or ends block 0 ≡ never) × (deep ≤ depth (more db s) (length db + 1))
-        × (get_or opens deep 0 ≡ block)
+    IsOpen block level =
+        (get_or ends block 0 ≡ never) × (level ≤ depth (more db s) (length db + 1))
+        × (get_or opens level 0 ≡ block)
 
     abbrev IsClosed : ℕ → ℕ → Type 0
-    IsClosed block deep =
-        (get_or ends block 0 ≡ length db) × (depth (more db s) (length db + 1) < deep)
+    IsClosed block level =
+        (get_or ends block 0 ≡ length db) × (depth (more db s) (length db + 1) < level)
 
     abbrev Becomes : ℕ → Type 0
     Becomes j =

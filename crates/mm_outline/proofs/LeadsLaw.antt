@@ -19,7 +19,7 @@ use Rattle.mm_outline.specs.declared.parts.Part.{Part}
 use Rattle.mm_outline.specs.declared.parts.Part.TheVariants.{Start, Labelled, Words, Formula, Proof}
 
 pub nothing_read_leads_to_itself : (r : Progress) (us : List Token) → Leads r us [] r us
-nothing_read_leads_to_itself r us = record { statements = refl; stop = refl; rest = refl }
+nothing_read_leads_to_itself r us = record { statements = refl; fault_stays = refl; progress_stays = refl }
 
 pub leads_one_after_other : {r q p : Progress} {us vs ws : List Token}
     {row later_row : List Statement}
@@ -100,7 +100,7 @@ module _ (text : List ℕ) (ws : List Word) (d from i : ℕ) (part : Part) where
             ∙ ap (statements_from (progress text ws d part i))
             (tokens_from_begin_with text ws i i_lt_length)
             ∙ stops.0,
-        has_gone.stop ∙ ap (shape_fault_from (progress text ws d part i))
+        has_gone.fault_stays ∙ ap (shape_fault_from (progress text ws d part i))
             (tokens_from_begin_with text ws i i_lt_length)
             ∙ stops.1
             ∙ ap (λ b. Some
@@ -117,8 +117,8 @@ module _ (text : List ℕ) (ws : List Word) (d from i : ℕ) (part : Part) where
       let no_tokens_left : tokens_from text ws i ≡ [] =
       ap (as_tokens text) (ap (λ k. drop k ws) i_is_length ∙ drop-all ws) in (
         has_gone.statements ∙ ap (statements_from (progress text ws d part i)) no_tokens_left,
-        has_gone.stop ∙ ap (shape_fault_from (progress text ws d part i)) no_tokens_left,
-        has_gone.rest ∙ ap (progress_from (progress text ws d part i)) no_tokens_left
+        has_gone.fault_stays ∙ ap (shape_fault_from (progress text ws d part i)) no_tokens_left,
+        has_gone.progress_stays ∙ ap (progress_from (progress text ws d part i)) no_tokens_left
             ∙ ap (progress text ws d part) i_is_length,
       )
     where

@@ -19,6 +19,7 @@ use Rattle.mm_outline.specs.declared.parts.Part.TheVariants.{Start, Labelled, Wo
 use Rattle.mm_outline.specs.declared.parts.Transition.{Transition}
 use Rattle.mm_outline.specs.declared.parts.Transition.TheVariants.{Stop, Continue, Complete}
 
+-- the class of a token in the table of the laws
 abbrev pub class_of : Class → table.Class
 class_of Constant = table.constant_keyword
 class_of Variable = table.variable_keyword
@@ -45,6 +46,7 @@ token_of text w = token w.start (slice_range text w.start w.end)
 abbrev pub as_tokens : List ℕ → List Word → List Token
 as_tokens text ws = map (token_of text) ws
 
+-- the word with the index i, or an empty one past the end
 abbrev pub nth_word : List Word → ℕ → Word
 nth_word ws i = get_or ws i (record { start = 0; end = 0 })
 
@@ -68,6 +70,7 @@ is_labelled_kind kind.Axiom = true
 is_labelled_kind kind.Theorem = true
 is_labelled_kind _ = false
 
+-- one less, or 0 for 0
 abbrev pub one_less : ℕ → ℕ
 one_less zero = zero
 one_less (suc d) = d
@@ -87,7 +90,7 @@ module _ (text : List ℕ) (ws : List Word) where
   abbrev pub start_of : ℕ → ℕ
   start_of i = (nth_word ws i).start
 
-  -- the statement with these words and this end
+  -- the statement with these words and this end; k is the index of its keyword
   abbrev pub statement_with : Kind → ℕ → List Token → ℕ → Statement
   statement_with kind.Constants k xs d = statement.constants (start_of k) xs d
   statement_with kind.Variables k xs d = statement.variables (start_of k) xs d
@@ -99,10 +102,12 @@ module _ (text : List ℕ) (ws : List Word) where
   statement_with kind.Open k xs d = statement.opening (start_of k)
   statement_with kind.Close k xs d = statement.closing (start_of k)
 
+  -- the `$p` with a keyword and a `$=` at these indices, this proof and this end
   abbrev pub theorem_with : ℕ → ℕ → List Token → ℕ → Statement
   theorem_with k e ps d =
       statement.provable (label_before k) (start_of k) (between text ws (k + 1) e) (start_of e) ps d
 
+  -- the statement with a keyword, a `$=` or end, and an end at these indices
   abbrev pub statement_between : Kind → ℕ → ℕ → ℕ → Statement
   statement_between kind.Theorem k e d = theorem_with k e (between text ws (e + 1) d) (start_of d)
   statement_between kind k e d = statement_with kind k (between text ws (k + 1) e) (start_of e)
@@ -120,6 +125,7 @@ module _ (text : List ℕ) (ws : List Word) where
       table.formula d (label_before k) (start_of k) (between text ws (k + 1) i)
   progress d (Proof k e) i = table.words d (theorem_with k e) (between text ws (e + 1) i)
 
+  -- the transition of the table for what token i does, where d blocks are open
   abbrev pub transition_of : ℕ → ℕ → Transition → table.Transition
   transition_of d i Stop = table.unexpected
   transition_of d i (Continue part) = table.continued (progress d part (i + 1))
@@ -137,6 +143,7 @@ HasWords kind.Open = ⊥
 HasWords kind.Close = ⊥
 HasWords _ = Unit {0}
 
+-- a statement that has a label has it before its keyword, which has the index k
 abbrev pub HasLabel : Kind → ℕ → Type 0
 HasLabel kind.Floating k = 0 < k
 HasLabel kind.Essential k = 0 < k
@@ -171,7 +178,7 @@ IsOutline o =
     HasLabel o.kind o.keyword × IsKeywordBefore o.kind o.keyword o.middle × (o.keyword ≤ o.middle)
     × (o.middle ≤ o.end) × HasEnd o.kind o.keyword o.middle o.end
 
--- what holds after a turn at token i
+-- what holds after a transition at token i
 abbrev pub IsTransitionAt : ℕ → Transition → Type 0
 IsTransitionAt i Stop = Unit {0}
 IsTransitionAt i (Continue part) = IsPartBefore part (i + 1)

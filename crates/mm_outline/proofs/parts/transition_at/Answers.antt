@@ -15,5 +15,6 @@ returns-clause-transition_is c =
     let text = c.args.text.now in
     let ws = c.args.tokens.now in
     c.transition_for.ensures.transition_is
-    ∙ ap (λ k. table.transition (progress text ws c.args.deep c.args.part c.args.at) k
-    (token_at text ws c.args.at)) (c.classify-class.ensures ∙ ap table.class c.bytes-word.ensures)
+    ∙ ap (λ k. table.transition (progress text ws c.args.depth c.args.part c.args.token_index) k
+    (token_at text ws c.args.token_index)) (c.classify-class.ensures ∙ ap table.class
+    c.bytes-word.ensures)

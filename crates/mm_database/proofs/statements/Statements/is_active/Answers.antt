@@ -6,7 +6,7 @@ use Rattle.mm_spec.specs.Lexed.{tokens_of as words_of}
 use Rattle.mm_spec.specs.Scope.{is_active}
 use Rattle.mm_outline.specs.Blocks.{end_of}
 use Rattle.mm_outline.specs.Parts.{statement_of}
-use Rattle.mm_outline.specs.Statements.{active_kind}
+use Rattle.mm_outline.specs.Statements.{is_active_kind}
 use Rattle.mm_outline.proofs.ActiveLaw.{active_test_is_activity}
 use Rattle.mm_database.specs.ParsedStatements.{ParsedStatements}
 use Rattle.mm_database.proofs.DatabaseLaw.{has_outline}
@@ -33,11 +33,11 @@ returns-then-statement-at g c =
     outline_is_there
     k_le_length_os o in
     let test_is_kind_active :
-    (nat_lt j k && active_kind (get_or os j o).kind (nat_le k (end_of blocks j)))
-    ≡ active_kind o.kind (nat_le k (end_of blocks j)) =
-    ap₂ (λ t p. t && active_kind p.kind (nat_le k (end_of blocks j)))
+    (nat_lt j k && is_active_kind (get_or os j o).kind (nat_le k (end_of blocks j)))
+    ≡ is_active_kind o.kind (nat_le k (end_of blocks j)) =
+    ap₂ (λ t p. t && is_active_kind p.kind (nat_le k (end_of blocks j)))
     (lt-ltb j k c.if-statement-at.true)
     (sym c.index.ensures) in
     subst (λ (p : ParsedStatements). c.is_active_kind.result ≡ is_active p.list j k) c.self.view_is
-    (c.is_active_kind.ensures ∙ ap (active_kind o.kind) c.is_open_at.ensures
+    (c.is_active_kind.ensures ∙ ap (is_active_kind o.kind) c.is_open_at.ensures
     ∙ sym test_is_kind_active ∙ is_active_is_kind_active)
