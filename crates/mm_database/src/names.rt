@@ -19,9 +19,9 @@ use std::marker::Model;
 pub struct Symbol<'a> {
     pub is_variable: bool,
     /// The statement that declared the variable last.
-    pub declared: u32,
+    pub declaration: u32,
     /// The last `$f` of the variable.
-    pub typed: u32,
+    pub typing: u32,
     /// The typecode of that `$f`.
     pub typecode: &'a [u8],
 }

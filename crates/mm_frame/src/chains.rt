@@ -116,24 +116,24 @@ fn chains_of<A: Allocator + Copy>(
 fn add_chain<A: Allocator>(
     chains: &Chains<A>,
     symbol: u32,
-    pairs: &mut Vec<(u32, u32), A>,
+    by_symbol: &mut Vec<(u32, u32), A>,
 ) -> Result<(), AllocError>
     requires symbol_lt_count { symbol < length chains.now.heads.items }
     requires are_linked { AreLinked chains.now.heads.items chains.now.links.items }
     ensures { OnOk result
         ((statements : List ℕ) → IsChainOf chains.now symbol statements
-        → pairs.new.items ≡ pairs.old.items ++ map (λ j. (symbol, j)) statements) }
+        → by_symbol.new.items ≡ by_symbol.old.items ++ map (λ j. (symbol, j)) statements) }
 {
     let mut number = chains.heads[symbol as usize];
     while number > 0 {
         let (statement, next) = chains.links[number - 1];
-        pairs.push((symbol, statement))?;
+        by_symbol.push((symbol, statement))?;
         number = next;
     }
     Ok(())
 }
 
-/// Returns each symbol with each `$d` that has it, in ascending order.
+/// Returns for each symbol and each `$d` that has it the two, the symbol first, in ascending order.
 pub(crate) fn pairs_by_symbol<A: Allocator + Copy>(
     alloc: A,
     statements: &Statements<A>,
@@ -143,9 +143,9 @@ pub(crate) fn pairs_by_symbol<A: Allocator + Copy>(
         ≡ has_symbol statements.now.list x j) }
 {
     let chains = chains_of(alloc, statements)?;
-    let mut pairs = Vec::with_capacity(alloc, chains.links.len())?;
+    let mut by_symbol = Vec::with_capacity(alloc, chains.links.len())?;
     for symbol in 0..statements.symbol_count() {
-        add_chain(&chains, symbol, &mut pairs)?;
+        add_chain(&chains, symbol, &mut by_symbol)?;
     }
-    Ok(pairs)
+    Ok(by_symbol)
 }

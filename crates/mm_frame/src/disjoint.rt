@@ -40,7 +40,7 @@ fn add_later_pairs<A: Allocator>(
 }
 
 /// Appends all pairs of variables that are in the same statement, the lower variable first.
-/// `by_statement` has statements, each paired with variables that it has.
+/// `by_statement` has pairs of a statement and a variable that it has.
 fn add_together<A: Allocator>(
     by_statement: &[(u32, u32)],
     pairs: &mut Vec<(u32, u32), A>,
@@ -58,25 +58,25 @@ fn add_together<A: Allocator>(
     Ok(())
 }
 
-/// Appends the `$d` that are active at the statement `at`, each paired with those of the symbols
-/// that it has.
+/// Appends each `$d` that is active at the statement `at`, paired with each of the symbols that it
+/// has: the `$d` first.
 fn add_all_active<A: Allocator>(
     blocks: &Blocks<A>,
     disjoint_index: &DisjointIndex<A>,
     symbols: &[Sym],
     at: u32,
-    into: &mut Vec<(u32, u32), A>,
+    by_statement: &mut Vec<(u32, u32), A>,
 ) -> Result<(), AllocError>
     requires ordered { IsOrdered blocks.now disjoint_index.now }
     ensures { OnOk result
         ((j y : ℕ)
-        → has_pair into.new.items j y
-        ≡ (has_pair into.old.items j y
+        → has_pair by_statement.new.items j y
+        ≡ (has_pair by_statement.old.items j y
         || (is_member symbols.now y
-        && (has_pair disjoint_index.now.pairs y j && is_active_local blocks.now j at)))) }
+        && (has_pair disjoint_index.now.by_symbol y j && is_active_local blocks.now j at)))) }
 {
     for symbol in symbols {
-        add_active(blocks, disjoint_index, *symbol, at, into)?;
+        add_active(blocks, disjoint_index, *symbol, at, by_statement)?;
     }
     Ok(())
 }

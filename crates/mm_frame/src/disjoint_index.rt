@@ -41,15 +41,17 @@ fn is_covered<A: Allocator>(blocks: &Blocks<A>, pair: (u32, u32), covering: (u32
 fn skips_of<A: Allocator + Copy>(
     alloc: A,
     blocks: &Blocks<A>,
-    pairs: &[(u32, u32)],
+    by_symbol: &[(u32, u32)],
 ) -> Result<Vec<usize, A>, AllocError>
-    requires all_have_blocks { HaveBlocks blocks.now pairs.now }
-    ensures { IfOk result (λ v. AreSkips blocks.now pairs.now v.items) }
+    requires all_have_blocks { HaveBlocks blocks.now by_symbol.now }
+    ensures { IfOk result (λ v. AreSkips blocks.now by_symbol.now v.items) }
 {
     let mut skips = Vec::new(alloc);
-    for index in 0..pairs.len() {
+    for index in 0..by_symbol.len() {
         let mut covered_from = index;
-        while covered_from > 0 && is_covered(blocks, pairs[covered_from - 1], pairs[index]) {
+        while covered_from > 0
+            && is_covered(blocks, by_symbol[covered_from - 1], by_symbol[index])
+        {
             covered_from = skips[covered_from - 1];
         }
         skips.push(covered_from)?;
@@ -60,14 +62,14 @@ fn skips_of<A: Allocator + Copy>(
 /// Returns for each symbol up to the last that has pairs the number of pairs of symbols before it.
 fn starts_of<A: Allocator + Copy>(
     alloc: A,
-    pairs: &[(u32, u32)],
+    by_symbol: &[(u32, u32)],
 ) -> Result<Vec<usize, A>, AllocError>
-    requires { AreRising pairs.now }
-    ensures { IfOk result (λ v. AreStarts pairs.now v.items) }
+    requires { AreRising by_symbol.now }
+    ensures { IfOk result (λ v. AreStarts by_symbol.now v.items) }
 {
     let mut starts = Vec::new(alloc);
-    for index in 0..pairs.len() {
-        while starts.len() <= pairs[index].0 as usize {
+    for index in 0..by_symbol.len() {
+        while starts.len() <= by_symbol[index].0 as usize {
             starts.push(index)?;
         }
     }
@@ -82,8 +84,8 @@ pub(crate) fn disjoint_index_of<A: Allocator + Copy>(
     ensures { IfOk result
         (λ m. IsDisjointIndex statements.now.list statements.now.blocks m) }
 {
-    let pairs = pairs_by_symbol(alloc, statements)?;
-    let skips = skips_of(alloc, statements.blocks(), &pairs)?;
-    let starts = starts_of(alloc, &pairs)?;
-    Ok(DisjointIndex::new(pairs, skips, starts))
+    let by_symbol = pairs_by_symbol(alloc, statements)?;
+    let skips = skips_of(alloc, statements.blocks(), &by_symbol)?;
+    let starts = starts_of(alloc, &by_symbol)?;
+    Ok(DisjointIndex::new(by_symbol, skips, starts))
 }

@@ -52,7 +52,7 @@ struct Scratch<A: Allocator> {
     /// The mandatory variables.
     variables: Vec<Sym, A>,
     /// The mandatory hypotheses.
-    hyps: Vec<u32, A>,
+    hypotheses: Vec<u32, A>,
     /// The active `$d` of the mandatory variables, each paired with those of them that it has.
     variables_by_statement: Vec<(u32, u32), A>,
     /// The pairs of mandatory variables that are together in one of these `$d`.
@@ -65,7 +65,7 @@ impl<A: Allocator> Drop for Scratch<A> {
         let Self {
             stamps: _,
             variables: _,
-            hyps: _,
+            hypotheses: _,
             variables_by_statement: _,
             pairs_by_statement: _,
         } = self;
@@ -105,9 +105,9 @@ fn frame_of<A: Allocator + Copy>(
         assertion,
         &mut scratch.stamps,
         &mut scratch.variables,
-        &mut scratch.hyps,
+        &mut scratch.hypotheses,
     )?;
-    let hyps = copied(alloc, &scratch.hyps)?;
+    let hypotheses = copied(alloc, &scratch.hypotheses)?;
     let pairs = mandatory_pairs(
         alloc,
         sources,
@@ -116,7 +116,10 @@ fn frame_of<A: Allocator + Copy>(
         &mut scratch.variables_by_statement,
         &mut scratch.pairs_by_statement,
     )?;
-    Ok(Frame { hyps, pairs })
+    Ok(Frame {
+        hyps: hypotheses,
+        pairs,
+    })
 }
 
 /// Adds a statement, with its frame if it is an assertion.
@@ -169,7 +172,7 @@ pub(crate) fn frames_of<A: Allocator + Copy>(
     let mut scratch = Scratch {
         stamps: filled(alloc, 0, statements.symbol_count())?,
         variables: Vec::new(alloc),
-        hyps: Vec::new(alloc),
+        hypotheses: Vec::new(alloc),
         variables_by_statement: Vec::new(alloc),
         pairs_by_statement: Vec::new(alloc),
     };

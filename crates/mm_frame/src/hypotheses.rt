@@ -125,7 +125,7 @@ fn add_floats<A: Allocator>(
     last_floats: &[u32],
     at: u32,
     variables: &[Sym],
-    hyps: &mut Vec<u32, A>,
+    hypotheses: &mut Vec<u32, A>,
 ) -> Result<(), AllocError>
     requires at_le_length { at ≤ length statements.now.list }
     requires are_last_floats { AreLastFloats statements.now.list at last_floats.now }
@@ -133,15 +133,15 @@ fn add_floats<A: Allocator>(
         (λ s. s < length (symbol_names statements.now.list)) variables.now }
     ensures { OnOk result
         ((j : ℕ)
-        → is_member hyps.new.items j
-        ≡ (is_member hyps.old.items j
+        → is_member hypotheses.new.items j
+        ≡ (is_member hypotheses.old.items j
         || list_any (is_float_of statements.now.list at last_floats.now j) variables.now)) }
 {
     for symbol in variables {
         let floating = last_floats[symbol.number() as usize];
         if floating != NEVER {
             if statements.is_open_at(floating, at) {
-                hyps.push(floating)?;
+                hypotheses.push(floating)?;
             }
         }
     }
@@ -157,7 +157,7 @@ fn sort_and_dedup_numbers<A: Allocator>(numbers: &mut Vec<u32, A>)
     numbers.dedup();
 }
 
-/// Lists the mandatory hypotheses of an assertion in `hyps` and its mandatory variables in
+/// Lists the mandatory hypotheses of an assertion in `hypotheses` and its mandatory variables in
 /// `variables`, and marks these variables. Replaces what the two lists have.
 pub(crate) fn list_hypotheses<A: Allocator>(
     sources: &FrameSources<A>,
@@ -165,7 +165,7 @@ pub(crate) fn list_hypotheses<A: Allocator>(
     assertion: u32,
     stamps: &mut Vec<u32, A>,
     variables: &mut Vec<Sym, A>,
-    hyps: &mut Vec<u32, A>,
+    hypotheses: &mut Vec<u32, A>,
 ) -> Result<(), AllocError>
     requires are_sources { AreSources sources.now }
     requires assertion_lt_length { assertion < length sources.now.statements.now.list }
@@ -179,12 +179,12 @@ pub(crate) fn list_hypotheses<A: Allocator>(
         → is_member variables.new.items x
         ≡ is_member (mandatory_variables sources.now.statements.now.list assertion) x) }
     ensures hypotheses_are_mandatory { OnOk result
-        (hyps.new.items ≡ mandatory_hypotheses sources.now.statements.now.list assertion) }
+        (hypotheses.new.items ≡ mandatory_hypotheses sources.now.statements.now.list assertion) }
 {
     let statements = sources.statements;
-    active_essentials(statements, sources.essentials, assertion, hyps)?;
-    list_mandatory_variables(statements, hyps, assertion, stamps, variables)?;
-    add_floats(statements, last_floats, assertion, variables, hyps)?;
-    sort_and_dedup_numbers(hyps);
+    active_essentials(statements, sources.essentials, assertion, hypotheses)?;
+    list_mandatory_variables(statements, hypotheses, assertion, stamps, variables)?;
+    add_floats(statements, last_floats, assertion, variables, hypotheses)?;
+    sort_and_dedup_numbers(hypotheses);
     Ok(())
 }

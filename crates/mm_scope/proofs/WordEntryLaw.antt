@@ -179,7 +179,7 @@ module _ (db : List Statement) (s : Statement) (w : Bytes) where
             ∙ e_is_entry.constant_is_known;
         variable_is_known = in_flat_map_unchanged variables_of s_is_no_variable
             ∙ e_is_entry.variable_is_known;
-        declaration_is_latest = λ is_variable. latest_unchanged db s variables_of w e.declared
+        declaration_is_latest = λ is_variable. latest_unchanged db s variables_of w e.declaration
             (e_is_entry.declaration_is_latest is_variable) s_is_no_variable;
         typing_is_latest =
             λ is_typed. latest_is_new db s typed_words w s_has_typing w_has_no_active_type;
@@ -207,7 +207,7 @@ module _ (db : List Statement) (s : Statement) (w : Bytes) where
       or_absorbs false b y a_and_b_is_false = refl
 
       -- the typecode that an earlier `$f` gave is this one
-      earlier_typecode_is_c : (d : Bytes) → (t : Bool) → nat_eq e.typed never ≡ t
+      earlier_typecode_is_c : (d : Bytes) → (t : Bool) → nat_eq e.typing never ≡ t
           → (not t && not (bytes_eq c e.typecode)) ≡ false
           → ((not t && not (bytes_eq d e.typecode)) || not (bytes_eq d c)) ≡ not (bytes_eq d c)
       earlier_typecode_is_c d true typed_is_t typecode_is_same = refl
@@ -234,6 +234,6 @@ module _ (db : List Statement) (s : Statement) (w : Bytes) where
           ne_eqb (length db) never
           (λ length_is_never. omega (arith, length_is_never, db_lt_never)) in
           other_typecode_push d ∙ ap₂ (λ a b. a || b) (e_is_entry.other_typecode d) (other_in_s d)
-          ∙ earlier_typecode_is_c d (nat_eq e.typed never) refl (sym (e_is_entry.other_typecode c)
+          ∙ earlier_typecode_is_c d (nat_eq e.typing never) refl (sym (e_is_entry.other_typecode c)
           ∙ no_other_typecode_before)
           ∙ sym (ap (λ b. not b && not (bytes_eq d c)) length_ne_never)

@@ -59,7 +59,7 @@ impl<'a, A: Allocator + Copy> Scope<'a, A> {
     }
 
     /// Returns the first fault of the symbols of a `$c`, `$v` or `$d`.
-    fn declared_fault(
+    fn listed_symbols_fault(
         &self,
         alloc: A,
         text: &'a [u8],
@@ -82,7 +82,7 @@ impl<'a, A: Allocator + Copy> Scope<'a, A> {
             let repeated = is_repeated(&mut seen, is_short, text, tokens, from, token_index)?;
             let token = tokens[token_index as usize];
             let word = token.bytes(text);
-            let code = self.declared_code(kind, word, repeated);
+            let code = self.listed_code(kind, word, repeated);
             least_found = lesser(least_found, fault_with_code(token.start, code));
         }
         Ok(least_found)
@@ -145,12 +145,12 @@ impl<'a, A: Allocator + Copy> Scope<'a, A> {
         if to - keyword != 3 {
             return fault_with_code(tokens[keyword as usize].start, Some(Code::BadFloating));
         }
-        let first = tokens[keyword as usize + 1];
-        let second = tokens[keyword as usize + 2];
-        let typecode = first.bytes(text);
-        let variable = second.bytes(text);
+        let typecode_token = tokens[keyword as usize + 1];
+        let variable_token = tokens[keyword as usize + 2];
+        let typecode = typecode_token.bytes(text);
+        let variable = variable_token.bytes(text);
         match self.typing_code(typecode, variable) {
-            Some(code) => fault_with_code(second.start, code),
+            Some(code) => fault_with_code(variable_token.start, code),
             None => fault_with_code(tokens[keyword as usize].start, Some(Code::BadFloating)),
         }
     }
@@ -174,25 +174,28 @@ impl<'a, A: Allocator + Copy> Scope<'a, A> {
             ++ at_each (listed_codes n outline.kind) []
             (between _text.now tokens.now (outline.keyword + 1) outline.middle)) }
     {
-        let keyword_at = tokens[outline.keyword as usize].start;
-        let end_at = tokens[outline.middle as usize].start;
+        let keyword_place = tokens[outline.keyword as usize].start;
+        let end_place = tokens[outline.middle as usize].start;
         let symbol_count = outline.middle - outline.keyword - 1;
         match outline.kind {
             Kind::Constants => {
                 let block_fault = fault_with_code(
-                    keyword_at,
+                    keyword_place,
                     code_if(depth > 0, Code::ConstantInBlock),
                 );
                 lesser(
                     block_fault,
-                    fault_with_code(end_at, code_if(symbol_count == 0, Code::EmptyDeclaration)),
+                    fault_with_code(
+                        end_place,
+                        code_if(symbol_count == 0, Code::EmptyDeclaration),
+                    ),
                 )
             }
             Kind::Variables => fault_with_code(
-                end_at,
+                end_place,
                 code_if(symbol_count == 0, Code::EmptyDeclaration),
             ),
-            _ => fault_with_code(end_at, code_if(symbol_count < 2, Code::TooFewVariables)),
+            _ => fault_with_code(end_place, code_if(symbol_count < 2, Code::TooFewVariables)),
         }
     }
 
@@ -224,9 +227,9 @@ impl<'a, A: Allocator + Copy> Scope<'a, A> {
         match kind {
             Kind::Open => Ok(None),
             Kind::Close => Ok(None),
-            Kind::Constants => self.declared(alloc, text, tokens, depth, outline),
-            Kind::Variables => self.declared(alloc, text, tokens, depth, outline),
-            Kind::Disjoint => self.declared(alloc, text, tokens, depth, outline),
+            Kind::Constants => self.listing_fault(alloc, text, tokens, depth, outline),
+            Kind::Variables => self.listing_fault(alloc, text, tokens, depth, outline),
+            Kind::Disjoint => self.listing_fault(alloc, text, tokens, depth, outline),
             Kind::Floating => {
                 let fault_of_label = self.label_fault(text, tokens, keyword - 1);
                 Ok(lesser(
@@ -234,15 +237,15 @@ impl<'a, A: Allocator + Copy> Scope<'a, A> {
                     self.floating_fault(text, tokens, keyword, middle),
                 ))
             }
-            Kind::Essential => self.labelled(text, tokens, outline, numbers),
-            Kind::Axiom => self.labelled(text, tokens, outline, numbers),
-            Kind::Theorem => self.labelled(text, tokens, outline, numbers),
+            Kind::Essential => self.labelled_fault(text, tokens, outline, numbers),
+            Kind::Axiom => self.labelled_fault(text, tokens, outline, numbers),
+            Kind::Theorem => self.labelled_fault(text, tokens, outline, numbers),
         }
     }
 
     /// Returns the least fault of a label and a formula, and appends the numbers of the formula's
     /// symbols.
-    fn labelled(
+    fn labelled_fault(
         &self,
         text: &[u8],
         tokens: &[Word],
@@ -272,7 +275,7 @@ impl<'a, A: Allocator + Copy> Scope<'a, A> {
     }
 
     /// Returns the least fault of a `$c`, `$v` or `$d`.
-    fn declared(
+    fn listing_fault(
         &self,
         alloc: A,
         text: &'a [u8],
@@ -288,7 +291,7 @@ impl<'a, A: Allocator + Copy> Scope<'a, A> {
             (λ n. scope_faults n depth (statement_of text.now tokens.now outline))) }
     {
         let from = outline.keyword + 1;
-        let fault_of_symbols = self.declared_fault(
+        let fault_of_symbols = self.listed_symbols_fault(
             alloc,
             text,
             tokens,

@@ -21,14 +21,15 @@ loop-number-preserved g c =
           c.requires.are_linked.next_le_index (n - 1) index_lt_length in omega
           (arith, next_le_index, index_lt_length));
       rest_is_chain = λ statements is_chain. rw (c.in_ok-push.ensures.items, link_is_at_index)
-          (rest_after_link links c.args.symbol c.args.pairs.now.items c.loop-number.pairs.items
+          (rest_after_link links c.args.symbol c.args.by_symbol.now.items
+          c.loop-number.by_symbol.items
           statements
           n number_gt_0 (c.loop-number.invariant.rest_is_chain statements is_chain));
     }
 
 pub returns : goal.returns
 returns g c = λ statements is_chain.
-    no_rest_is_all_added c.args.chains.now.links.items c.args.symbol c.args.pairs.now.items
-    c.loop-number.pairs.items statements c.loop-number.number
+    no_rest_is_all_added c.args.chains.now.links.items c.args.symbol c.args.by_symbol.now.items
+    c.loop-number.by_symbol.items statements c.loop-number.number
     (let number_le_0 = c.loop-number-test.false in omega (arith, number_le_0))
     (c.loop-number.invariant.rest_is_chain statements is_chain)

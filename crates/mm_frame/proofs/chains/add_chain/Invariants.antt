@@ -8,7 +8,7 @@ invariant-loop-number g l = record {
   number_le_length : l.number ≤ length l.chains.links.items;
   rest_is_chain : (statements : List ℕ)
       → IsLinkChain l.chains.links.items (get_or l.chains.heads.items l.symbol 0) statements
-      → IsRest l.chains.links.items l.symbol l.number l.initial.pairs.items l.pairs.items
+      → IsRest l.chains.links.items l.symbol l.number l.initial.by_symbol.items l.by_symbol.items
       statements;
 }
 

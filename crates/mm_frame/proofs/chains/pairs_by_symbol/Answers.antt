@@ -20,6 +20,6 @@ loop-symbol-preserved g c =
     in
     let chain = c.in_ok-chains.ensures.are_chains x x_lt_length_heads in
     pairs_with_symbol c.args.statements.now.list x
-    (get_or heads x 0) links c.loop-symbol.pairs.items
-    c.add_chain.new.pairs.items chain c.loop-symbol.invariant
+    (get_or heads x 0) links c.loop-symbol.by_symbol.items
+    c.add_chain.new.by_symbol.items chain c.loop-symbol.invariant
     (c.in_ok-add_chain.ensures chain.statements chain.chain)

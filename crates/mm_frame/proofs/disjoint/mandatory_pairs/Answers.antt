@@ -15,7 +15,7 @@ returns g c = ok_then c.symbol_pairs.result c.symbol_pairs.ensures (λ v pairs_a
     let k = c.args.assertion in
     let assertion_lt_length = c.requires.assertion_lt_length in
     let k_le_length_db : k ≤ length db = omega (arith, assertion_lt_length) in
-    let ps = c.args.sources.now.disjoint_index.now.pairs in
+    let ps = c.args.sources.now.disjoint_index.now.by_symbol in
     let variables = c.args.variables.now in
     pairs_are_symbol_pairs ∙ ap (map (λ p. pair p.0 p.1)) c.deref-2.ensures.value
     ∙ pairs_are_mandatory_pairs db b c.blocks-2.ensures.are_blocks k k_le_length_db ps

@@ -78,7 +78,7 @@ reading_of-requires g c =
       sound =
           subst (λ (ws : List Word). IsSound (statements text ws os)) words_are_tokens
           (statements_are_sound text ws os _ _ outlined.fault_is_read words_lt_2_31 _ _ _
-          outlined.is_read_so_far.keeps
+          outlined.is_read_so_far.knows
           outlined.few_outlines);
       is_read_so_far =
           subst (λ (ws : List Word). IsReadSoFar (statements text ws os)
@@ -121,7 +121,7 @@ new-requires g c =
       read =
           lent_words_are_read text ws words os _ _ words_are_tokens refl c.requires.fault_of_text
           outlined.fault_is_read;
-      labels = is_read_so_far.keeps.labels_are;
+      labels = is_read_so_far.knows.labels_are;
       names_are = is_read_so_far.names_are;
       frame_tables_are =
           subst (λ (r : Reading _). AreFrameTables r.statements.list r.statements.blocks

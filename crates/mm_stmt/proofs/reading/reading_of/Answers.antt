@@ -12,7 +12,7 @@ into_reading-requires g c =
     let db = statements c.args.text.now (words_of c.args.text.now) outlined.outlines.items in
     let is_read_so_far = c.requires.is_read_so_far in
     let symbols =
-    are_symbols _ _ _ _ is_read_so_far.keeps (names_of outlined.scope.names.symbols)
+    are_symbols _ _ _ _ is_read_so_far.knows (names_of outlined.scope.names.symbols)
     c.in_ok-variable_flags.variable_flags.items is_read_so_far.names_are
     c.in_ok-variable_flags.ensures.count_is
     c.in_ok-variable_flags.ensures.flags_are in
@@ -23,7 +23,7 @@ into_reading-requires g c =
       are_places = is_read_so_far.formulas.are_places;
       are_parsed_statements = record {
         sound = c.requires.sound;
-        blocks = is_read_so_far.keeps.blocks;
+        blocks = is_read_so_far.knows.blocks;
         numbered = rw is_read_so_far.formulas.cut_is_lists (formulas_numbered db);
         few_symbols = omega (arith, symbols_are_few, flag_count_is);
         count = omega (arith, flag_count_is, name_count_is);

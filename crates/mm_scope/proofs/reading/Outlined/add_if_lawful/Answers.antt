@@ -39,7 +39,7 @@ returns-then-is_some g c =
     let fault_is_least =
     c.in_ok-self.ensures.fault_is_least (names_before db (length db))
     (scope_knows_names db (find c.args.self.now.scope.names.symbols)
-    (find c.args.self.now.scope.names.labels) b is_read_so_far.keeps db_lt_never) in
+    (find c.args.self.now.scope.names.labels) b is_read_so_far.knows db_lt_never) in
     let symbols_before = c.args.self.now.symbols.items in
     let symbols_are_unchanged : c.truncate.new.self.items ≡ symbols_before =
     c.truncate.ensures.items
@@ -57,7 +57,7 @@ returns-then-is_some g c =
       if_unlawful = λ is_some. (
         refl,
         record {
-          keeps = is_read_so_far.keeps;
+          knows = is_read_so_far.knows;
           names_are = is_read_so_far.names_are;
           formulas =
               subst
@@ -82,7 +82,7 @@ returns g c =
     let fault_is_least =
     c.in_ok-self.ensures.fault_is_least (names_before db (length db))
     (scope_knows_names db (find c.args.self.now.scope.names.symbols)
-    (find c.args.self.now.scope.names.labels) b is_read_so_far.keeps db_lt_never) in
+    (find c.args.self.now.scope.names.labels) b is_read_so_far.knows db_lt_never) in
     let names_are =
     declared_names_are_symbol_names db s (names_of c.add.new.self.names.symbols)
     (c.in_ok-add.ensures.names_are_declared (declared db) is_read_so_far.names_are) in
@@ -103,8 +103,8 @@ returns g c =
       if_lawful = λ is_none. (
         c.in_ok-push.ensures.items,
         record {
-          keeps =
-              c.in_ok-add.ensures.is_next_scope db is_read_so_far.keeps (
+          knows =
+              c.in_ok-add.ensures.is_next_scope db is_read_so_far.knows (
                 ap (λ d. least (scope_faults (names_before db (length db)) d s))
                     (sym may_take.open_blocks_is_depth) ∙ sym fault_is_least ∙ is_none,
                 may_take.closes_open_block,

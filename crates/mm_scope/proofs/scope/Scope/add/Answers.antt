@@ -29,6 +29,6 @@ returns-clause-is_next_scope g c =
     knows_after_statement text ws db (find s.names.symbols)
     (find s.names.labels) b is_scope_after db_lt_never o.kind o.keyword o.middle o.end may_follow.0
     may_follow.1
-    c.add_names.new.self.blocks blocks_are_pushed c.len-number.result c.len-number.ensures
+    c.add_names.new.self.blocks blocks_are_pushed c.len-statement.result c.len-statement.ensures
     (find c.add_names.new.self.names.symbols) symbols
     (find c.add_names.new.self.names.labels) labels)

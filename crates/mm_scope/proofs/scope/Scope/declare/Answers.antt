@@ -24,14 +24,14 @@ loop-token_index-preserved g c =
           declared_with_next_word c.args.text.now c.args.tokens.now from
           c.loop-token_index.token_index from_le_index
           index_lt_length
-          c.args.is_variable c.args.number c.declared-symbol.result
+          c.args.is_variable c.args.statement c.declared_symbol-symbol.result
           (find c.args.self.now.names.symbols) (find c.loop-token_index.self.names.symbols)
           (find c.set_symbol.new.self.symbols)
           (λ w. c.in_ok-set_symbol.ensures.symbol_is_set w
-          ∙ ap (λ b. if bytes_eq b w then Some c.declared-symbol.result else
+          ∙ ap (λ b. if bytes_eq b w then Some c.declared_symbol-symbol.result else
           find c.loop-token_index.self.names.symbols w) c.bytes-word.ensures)
-          (c.declared-symbol.ensures
-          ∙ ap (λ b. declared_entry c.args.is_variable c.args.number b
+          (c.declared_symbol-symbol.ensures
+          ∙ ap (λ b. declared_entry c.args.is_variable c.args.statement b
           (entry_of (find c.loop-token_index.self.names.symbols b))) c.bytes-word.ensures)
           invariant.symbols;
       blocks = invariant.blocks;

@@ -1,7 +1,7 @@
 use Rattle.std.proofs.Common.{◌-◌, ◌+◌}
 use Rattle.mm_spec.specs.Lawful.{formula_faults, label_faults}
 use Rattle.mm_outline.specs.Parts.{token_at, nth_word, between}
-use Rattle.mm_scope.proofs.scope.Scope.labelled.Goals as goal
+use Rattle.mm_scope.proofs.scope.Scope.labelled_fault.Goals as goal
 
 pub returns-clause-fault_is_least : goal.returns-clause-fault_is_least
 returns-clause-fault_is_least g c = λ n are_names.
