@@ -228,7 +228,7 @@ impl<'a, A: Allocator> Database<'a, A> {
         requires at_le_length { at ≤ length self.now.statements }
         ensures { result ≡ is_active self.now.statements statement at }
     {
-        self.reading.statements.is_active(statement, at)
+        self.reading.statements.active_at(statement, at)
     }
 
     /// Returns the frame of an assertion.

@@ -174,8 +174,10 @@ pub(crate) fn are_together<A: Allocator>(
         → (j : ℕ) × (has_pair disjoint_index.now.by_symbol x j ≡ true)
         × (has_pair disjoint_index.now.by_symbol y j ≡ true)
         × (is_active_local blocks.now j at ≡ true) }
-    ensures none_if_false { result ≡ false → (j : ℕ) → has_pair disjoint_index.now.by_symbol x j ≡ true
-        → has_pair disjoint_index.now.by_symbol y j ≡ true → is_active_local blocks.now j at ≡ false }
+    ensures none_if_false { result ≡ false
+        → (j : ℕ) → has_pair disjoint_index.now.by_symbol x j ≡ true
+        → has_pair disjoint_index.now.by_symbol y j ≡ true
+        → is_active_local blocks.now j at ≡ false }
 {
     let by_symbol = disjoint_index.by_symbol.as_slice();
     let starts = disjoint_index.starts.as_slice();

@@ -212,7 +212,7 @@ impl<'a, A: Allocator> Statements<'a, A> {
 
     /// Whether a statement is active at the statement `at`, or at the end, which is `len()`.
     #[inline(always)]
-    pub fn is_active(&self, statement: u32, at: u32) -> bool
+    pub fn active_at(&self, statement: u32, at: u32) -> bool
         requires statement_lt_length { statement < length self.now.list }
         requires at_le_length { at ≤ length self.now.list }
         ensures { result ≡ is_active self.now.list statement at }

@@ -30,15 +30,15 @@ impl<A: Allocator> Drop for Chains<A> {
     }
 }
 
-/// Whether the chain from a link on begins with the statement.
-fn begins_with(links: &[(u32, usize)], number: usize, statement: u32) -> bool
-    requires { number ≤ length links.now }
+/// Whether the chain from the link with the number `link` on begins with the statement.
+fn begins_with(links: &[(u32, usize)], link: usize, statement: u32) -> bool
+    requires { link ≤ length links.now }
     ensures begins_if_true { result ≡ true
-        → (0 < number) × ((get_or links.now (number - 1) (0, 0)).0 ≡ statement) }
-    ensures differs_if_false { result ≡ false → 0 < number
-        → (get_or links.now (number - 1) (0, 0)).0 ≢ statement }
+        → (0 < link) × ((get_or links.now (link - 1) (0, 0)).0 ≡ statement) }
+    ensures differs_if_false { result ≡ false → 0 < link
+        → (get_or links.now (link - 1) (0, 0)).0 ≢ statement }
 {
-    number > 0 && links[number - 1].0 == statement
+    link > 0 && links[link - 1].0 == statement
 }
 
 /// Puts the statement in front of the symbol's chain, unless it is there already.
@@ -124,11 +124,11 @@ fn add_chain<A: Allocator>(
         ((statements : List ℕ) → IsChainOf chains.now symbol statements
         → by_symbol.new.items ≡ by_symbol.old.items ++ map (λ j. (symbol, j)) statements) }
 {
-    let mut number = chains.heads[symbol as usize];
-    while number > 0 {
-        let (statement, next) = chains.links[number - 1];
+    let mut link = chains.heads[symbol as usize];
+    while link > 0 {
+        let (statement, next) = chains.links[link - 1];
         by_symbol.push((symbol, statement))?;
-        number = next;
+        link = next;
     }
     Ok(())
 }

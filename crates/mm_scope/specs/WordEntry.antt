@@ -9,8 +9,8 @@ use Rattle.mm_outline.specs.Blocks.{never}
 use Rattle.mm_outline.specs.Typed.{has_word, typed_words}
 use Rattle.mm_database.specs.declared.names.Symbol.{Symbol}
 
--- what is known of a symbol: whether it is a variable, the statement that declared it last, the last
--- `$f` that typed it, and its typecode, as bytes
+-- what is known of a symbol: whether it is a variable, the statement that declared it last, the
+-- last `$f` that typed it, and its typecode, as bytes
 pub record WordEntry : Type 0 where
   pub is_variable : Bool
   pub declaration : ℕ

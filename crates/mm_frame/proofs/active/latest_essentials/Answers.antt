@@ -8,8 +8,9 @@ use Rattle.mm_frame.proofs.LatestLaw.{each_latest_with_next}
 use Rattle.mm_frame.proofs.active.latest_essentials.Goals as goal
 use Rattle.mm_frame.proofs.active.latest_essentials.Goals.{then-is_essential, else-is_essential}
 
-pub last_open-last-requires-clause-is_candidate : goal.last_open-last-requires-clause-is_candidate
-last_open-last-requires-clause-is_candidate g c =
+pub latest_essential-essential-requires-clause-is_candidate :
+    goal.latest_essential-essential-requires-clause-is_candidate
+latest_essential-essential-requires-clause-is_candidate g c =
     let k = c.loop-statement.statement in
     let t = is_essential in
     let db = c.args.statements.now.list in
@@ -41,6 +42,7 @@ loop-statement-preserved g c =
     let latest_count = c.loop-statement.invariant.count in
     each_latest_with_next is_essential c.args.statements.now.list c.loop-statement.latest.items
     c.push-in-loop-statement.new.self.items
-    c.last_open-last.result c.loop-statement.statement latest_count c.in_ok-push-2.ensures.items
+    c.latest_essential-essential.result c.loop-statement.statement latest_count
+    c.in_ok-push-2.ensures.items
     c.loop-statement.invariant.each_is_latest
-    c.last_open-last.ensures
+    c.latest_essential-essential.ensures

@@ -10,7 +10,7 @@ use Rattle.mm_outline.specs.Statements.{is_active_kind}
 use Rattle.mm_outline.proofs.ActiveLaw.{active_test_is_activity}
 use Rattle.mm_database.specs.ParsedStatements.{ParsedStatements}
 use Rattle.mm_database.proofs.DatabaseLaw.{has_outline}
-use Rattle.mm_database.proofs.statements.Statements.is_active.Goals as goal
+use Rattle.mm_database.proofs.statements.Statements.active_at.Goals as goal
 
 pub returns-then-statement-at : goal.returns-then-statement-at
 returns-then-statement-at g c =
