@@ -1,7 +1,7 @@
 //! Where statements stop, and what the calls of a database answer.
 
 use crate::databases::database_of;
-use crate::examples::{scopes, shapes};
+use crate::examples::{SCOPES, SHAPES};
 use crate::flags::WITHOUT_OPEN;
 use mm_rule::is_assertion;
 use mm_stmt::{Database, Kind, Sym, Word};
@@ -26,15 +26,15 @@ fn fault_and_count<R: Threads + Sync>(
 
 #[test]
 fn stops_where_a_statement_is_at_fault(rt: HostRuntime) -> Result<(), AllocError> {
-    for example in shapes() {
-        let (fault, before) = fault_and_count(&rt, rt.alloc(), example.text)?;
-        assert_eq!(rt; fault, example.fault);
-        assert_eq!(rt; before as usize, example.before);
+    for (text, statements, fault, _) in SHAPES {
+        let (fault_found, count) = fault_and_count(&rt, rt.alloc(), text)?;
+        assert_eq!(rt; fault_found, fault);
+        assert_eq!(rt; count as usize, statements);
     }
-    for example in scopes() {
-        let (fault, before) = fault_and_count(&rt, rt.alloc(), example.text)?;
-        assert_eq!(rt; fault, example.fault);
-        assert_eq!(rt; before as usize, example.before);
+    for (text, statements, fault, _) in SCOPES {
+        let (fault_found, count) = fault_and_count(&rt, rt.alloc(), text)?;
+        assert_eq!(rt; fault_found, fault);
+        assert_eq!(rt; count as usize, statements);
     }
     Ok(())
 }

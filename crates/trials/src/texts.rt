@@ -41,7 +41,7 @@ pub(crate) const THROUGH_REPORT: &[u8] =
     b"mmdepend 1\naxioms 3\ntheorems 2\nmatrix\na1i:111\na2:111\ncounts\na1i:3\na2:3\nusage\nwi:2:a1i a2\nax-1:2:a1i a2\nax-mp:2:a1i a2\nend\n";
 
 /// A theorem that cites nothing.
-pub(crate) const SAME: &[u8] =
+pub(crate) const NO_CITATIONS: &[u8] =
     b"$c wff |- $. $v p $. wp $f wff p $.\n${ h $e |- p $. same $p |- p $= h $. $}\n";
 
 /// Two theorems whose proofs aren't valid; the first takes longer to check.
@@ -91,7 +91,7 @@ pub(crate) fn add_number(text: &mut Vec<u8>, number: u32) -> Result<(), AllocErr
 }
 
 /// Seventy axioms, and two theorems that rest on some of them.
-pub(crate) fn seventy(alloc: Global) -> Result<Vec<u8>, AllocError> {
+pub(crate) fn seventy_axioms_text(alloc: Global) -> Result<Vec<u8>, AllocError> {
     let mut text = joined(alloc, &[b"$c wff $.\n$v p $.\nwp $f wff p $.\n"])?;
     for k in 0..70 {
         text.push(b'a')?;
@@ -103,7 +103,7 @@ pub(crate) fn seventy(alloc: Global) -> Result<Vec<u8>, AllocError> {
 }
 
 /// A theorem, and 129 more, each of which cites the one before it.
-pub(crate) fn chain(alloc: Global) -> Result<Vec<u8>, AllocError> {
+pub(crate) fn chain_text(alloc: Global) -> Result<Vec<u8>, AllocError> {
     let mut text = joined(
         alloc,
         &[
@@ -121,14 +121,17 @@ pub(crate) fn chain(alloc: Global) -> Result<Vec<u8>, AllocError> {
     Ok(text)
 }
 
-/// How many theorems the text of many theorems has.
-pub(crate) const MANY: u32 = 3000;
+/// How many theorems `many_theorems_text` has.
+pub(crate) const THEOREM_COUNT: u32 = 3000;
 
 /// The theorems of that text whose proofs lack their last step, in tests of its first fault: the
 /// first one and another.
 pub(crate) const FIRST_FAULTY: u32 = 2000;
 
 pub(crate) const ANOTHER_FAULTY: u32 = 2900;
+
+/// That all proofs of that text are valid.
+pub(crate) const NONE_FAULTY: &[u32] = &[];
 
 /// How many bytes `BASE` has.
 const BASE_BYTES: u32 = 118;
@@ -149,11 +152,11 @@ pub(crate) fn add_label(text: &mut Vec<u8>, letter: u8, number: u32) -> Result<(
     Ok(())
 }
 
-/// A text of `MANY` theorems, all with the same formula. The proofs of some of them lack their last
-/// step.
-pub(crate) fn many(alloc: Global, faulty: &[u32]) -> Result<Vec<u8>, AllocError> {
+/// A text of `THEOREM_COUNT` theorems, all with the same formula. The proofs of those whose numbers
+/// are in `faulty` lack their last step.
+pub(crate) fn many_theorems_text(alloc: Global, faulty: &[u32]) -> Result<Vec<u8>, AllocError> {
     let mut text = BASE.to_vec(alloc)?;
-    for k in 0..MANY {
+    for k in 0..THEOREM_COUNT {
         add_label(&mut text, b't', k)?;
         text.extend_from_slice(b" $p wff ( p -> ( q -> p ) ) $= wp wq wp wi")?;
         if !faulty.contains(&k) {

@@ -2,21 +2,21 @@
 //! that come close to one.
 
 use super::{PLAIN, assert_each_writes, writes};
-use crate::examples::{scopes, shapes, words};
+use crate::examples::{SCOPES, SHAPES, WORDS};
 use crate::texts::{A1I_REPORT, A1I_UP_TO_PROOF, AFTER_PROOF, BASE, DETACHMENT, joined};
 use std::alloc::AllocError;
 
 #[test]
 fn faults_of_words_and_statements(rt: HostRuntime) {
     let alloc = rt.alloc();
-    for example in words() {
-        assert!(&rt; writes(&rt, alloc, PLAIN, example.text, example.output));
+    for (text, _, _, output) in WORDS {
+        assert!(&rt; writes(&rt, alloc, PLAIN, text, output));
     }
-    for example in shapes() {
-        assert!(&rt; writes(&rt, alloc, PLAIN, example.text, example.output));
+    for (text, _, _, output) in SHAPES {
+        assert!(&rt; writes(&rt, alloc, PLAIN, text, output));
     }
-    for example in scopes() {
-        assert!(&rt; writes(&rt, alloc, PLAIN, example.text, example.output));
+    for (text, _, _, output) in SCOPES {
+        assert!(&rt; writes(&rt, alloc, PLAIN, text, output));
     }
 }
 

@@ -4,7 +4,8 @@
 use super::{Case, PLAIN, assert_all_write, writes};
 use crate::texts::{
     A1I_PROOF, A1I_REPORT, A1I_UP_TO_PROOF, AFTER_PROOF, BASE, DETACHMENT, FIRST_REPORT,
-    FIRST_TEXT, NOTHING_REPORT, SAME, THROUGH, THROUGH_REPORT, add_number, chain, joined, seventy,
+    FIRST_TEXT, NO_CITATIONS, NOTHING_REPORT, THROUGH, THROUGH_REPORT, add_number, chain_text,
+    joined, seventy_axioms_text,
 };
 use std::alloc::{AllocError, Global};
 
@@ -50,7 +51,7 @@ const SECTIONS: [Case<'static>; 8] = [
     },
     Case {
         words: PLAIN,
-        parts: &[SAME],
+        parts: &[NO_CITATIONS],
         output: b"mmdepend 1\naxioms 0\ntheorems 1\nmatrix\nsame:\ncounts\nsame:0\nusage\nend\n",
     },
     Case {
@@ -167,7 +168,7 @@ const SECOND_FORM_CASES: [Case<'static>; 4] = [
     },
     Case {
         words: &["mmdepend", "--form", "2"],
-        parts: &[SAME],
+        parts: &[NO_CITATIONS],
         output: b"mmdepend 2\naxioms 0\ntheorems 1\nmatrix\nsame:\ncounts\nsame:0\nusage\nend\n",
     },
 ];
@@ -178,7 +179,15 @@ fn the_second_form(rt: HostRuntime) -> Result<(), AllocError> {
     assert_all_write(&rt, alloc, &SECOND_FORM_CASES)?;
     let digits =
         b"mmdepend 2\naxioms 70\ntheorems 2\nmatrix\nt:800000000000000184\nu:c00000000000000184\nend\n";
-    assert!(&rt; writes(&rt, alloc, SECOND_FORM, &seventy(alloc)?, digits));
+    assert!(&rt;
+        writes(
+            &rt,
+            alloc,
+            SECOND_FORM,
+            &seventy_axioms_text(alloc)?,
+            digits
+        )
+    );
     Ok(())
 }
 
@@ -352,7 +361,7 @@ fn seventy_report(alloc: Global) -> Result<Vec<u8>, AllocError> {
 #[test]
 fn rows_of_more_than_a_word(rt: HostRuntime) -> Result<(), AllocError> {
     let alloc = rt.alloc();
-    let text = seventy(alloc)?;
+    let text = seventy_axioms_text(alloc)?;
     let report = seventy_report(alloc)?;
     assert!(&rt; writes(&rt, alloc, PLAIN, &text, &report));
     Ok(())
@@ -361,7 +370,7 @@ fn rows_of_more_than_a_word(rt: HostRuntime) -> Result<(), AllocError> {
 #[test]
 fn a_chain_has_the_same_row_all_along(rt: HostRuntime) -> Result<(), AllocError> {
     let alloc = rt.alloc();
-    let text = chain(alloc)?;
+    let text = chain_text(alloc)?;
     let mut report = joined(alloc, &[b"mmdepend 1\naxioms 2\ntheorems 130\nmatrix\n"])?;
     for k in 0..130 {
         report.push(b't')?;
