@@ -36,11 +36,11 @@ fn read_labels<A: Allocator>(
         (bracketed (as_tokens database.now.text words.now))) e) }
 {
     let text = database.text();
-    for n in 0..words.len() {
-        let word = words[n];
+    for index in 0..words.len() {
+        let word = words[index];
         let label = word.bytes(text);
         if label == b")".as_slice() {
-            return Ok(n);
+            return Ok(index);
         }
         match usable_label(database, theorem, label) {
             None => return Err(refused(word.start, Code::UnusableLabel)),

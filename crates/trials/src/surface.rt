@@ -16,7 +16,7 @@ use mm_check::check;
 use mm_lex::{Cuts, Piece, join, lex, lex_piece};
 use mm_line::line;
 use mm_plan::{Cutting, Plan};
-use mm_proof::{Step, number, read_proof};
+use mm_proof::{Step, read_proof, value_of_letters};
 use mm_report::{write_citations, write_refusal, write_report};
 use mm_rows::{Columns, Matrix, matrix, ones, or_row, waves};
 use mm_rule::is_assertion;
@@ -188,7 +188,7 @@ fn proofs(rt: HostRuntime) -> Result<(), AllocError> {
         }
         Err(_) => assert!(&rt; false),
     }
-    assert!(&rt; number(b"UA") == Some(21));
+    assert!(&rt; value_of_letters(b"UA") == Some(21));
     Ok(())
 }
 
