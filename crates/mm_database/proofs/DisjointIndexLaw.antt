@@ -26,22 +26,22 @@ pub place_of_pair : (ps : List (ℕ × ℕ)) (x y : ℕ) → has_pair ps x y ≡
     → (p : ℕ) × (p < length ps) × ((get_or ps p (0, 0)).0 ≡ x) × ((get_or ps p (0, 0)).1 ≡ y)
 place_of_pair [] x y has_pair_x_y = absurd (true≢false (sym has_pair_x_y))
 place_of_pair (q ∷ qs) x y has_pair_x_y =
-    by_head (nat_eq x q.0 && nat_eq y q.1) refl has_pair_x_y (λ k. place_of_pair qs x y k)
+    has_place (nat_eq x q.0 && nat_eq y q.1) refl has_pair_x_y (λ k. place_of_pair qs x y k)
   where
-    by_head : (b : Bool) → (nat_eq x q.0 && nat_eq y q.1) ≡ b → (b || has_pair qs x y) ≡ true
+    has_place : (b : Bool) → (nat_eq x q.0 && nat_eq y q.1) ≡ b → (b || has_pair qs x y) ≡ true
         → (has_pair qs x y ≡ true
         → (p : ℕ) × (p < length qs) × ((get_or qs p (0, 0)).0 ≡ x)
         × ((get_or qs p (0, 0)).1 ≡ y))
         → (p : ℕ) × (p < length (q ∷ qs)) × ((get_or (q ∷ qs) p (0, 0)).0 ≡ x)
         × ((get_or (q ∷ qs) p (0, 0)).1 ≡ y)
-    by_head true q_is_x_y has_pair_x_y place_in_rest = (
+    has_place true q_is_x_y has_pair_x_y place_in_rest = (
       0,
       omega arith,
       sym (eqb-true x q.0 (and_parts (nat_eq x q.0) (nat_eq y q.1) q_is_x_y).0),
       sym
           (eqb-true y q.1 (and_parts (nat_eq x q.0) (nat_eq y q.1) q_is_x_y).1),
     )
-    by_head false q_is_x_y has_pair_x_y place_in_rest = let place = place_in_rest has_pair_x_y in
+    has_place false q_is_x_y has_pair_x_y place_in_rest = let place = place_in_rest has_pair_x_y in
         let place_lt_length = place.1 in
         (suc place.0, omega (arith, place_lt_length), place.2, place.3)
 
@@ -73,12 +73,12 @@ earlier_is_before (p ∷ ps) are_rising (suc i) (suc j) d i_lt_j j_lt_length =
 
 -- what the test of pairs says, and its converse
 pub is_before_from_test : (p : ℕ × ℕ) (x y : ℕ) → is_pair_before p x y ≡ true → IsBefore p.0 p.1 x y
-is_before_from_test p x y test_is_true = by_symbol (nat_lt p.0 x) refl test_is_true
+is_before_from_test p x y test_is_true = pair_is_before (nat_lt p.0 x) refl test_is_true
   where
-    by_symbol : (b : Bool) → nat_lt p.0 x ≡ b → (b || (nat_eq p.0 x && nat_lt p.1 y)) ≡ true
+    pair_is_before : (b : Bool) → nat_lt p.0 x ≡ b → (b || (nat_eq p.0 x && nat_lt p.1 y)) ≡ true
         → IsBefore p.0 p.1 x y
-    by_symbol true p0_lt_x test_is_true = inl (ltb-true p.0 x p0_lt_x)
-    by_symbol false p0_lt_x test_is_true =
+    pair_is_before true p0_lt_x test_is_true = inl (ltb-true p.0 x p0_lt_x)
+    pair_is_before false p0_lt_x test_is_true =
         inr (
           eqb-true p.0 x (and_parts (nat_eq p.0 x) (nat_lt p.1 y) test_is_true).0,
           ltb-true p.1 y
@@ -106,11 +106,11 @@ before_is_transitive a b c d e f (inr (first_equal, first_lower))
 pub is_partitioned_by_before : (ps : List (ℕ × ℕ)) → AreRising ps → (x y : ℕ)
     → IsPartitionedBy (λ p. is_pair_before p x y) ps
 is_partitioned_by_before ps are_rising x y i j d i_lt_j j_lt_length j_is_before =
-    by_equality (cases_eq i j)
+    i_is_before (cases_eq i j)
   where
-    by_equality : (i ≡ j) ⊎ (i ≢ j) → is_pair_before (get_or ps i d) x y ≡ true
-    by_equality (inl i_is_j) = ap (λ k. is_pair_before (get_or ps k d) x y) i_is_j ∙ j_is_before
-    by_equality (inr i_ne_j) =
+    i_is_before : (i ≡ j) ⊎ (i ≢ j) → is_pair_before (get_or ps i d) x y ≡ true
+    i_is_before (inl i_is_j) = ap (λ k. is_pair_before (get_or ps k d) x y) i_is_j ∙ j_is_before
+    i_is_before (inr i_ne_j) =
         is_pair_before_if (get_or ps i d) x y
         (before_is_transitive (get_or ps i d).0 (get_or ps i d).1 (get_or ps j d).0
         (get_or ps j d).1 x y
@@ -186,13 +186,13 @@ module _ (b : BlockLists) (ps : List (ℕ × ℕ)) (ps_are_rising : AreRising ps
     -- before the place, where the symbol is that
     pub is_before : (p : ℕ) → p < start → (get_or ps p (0, 0)).0 ≡ x → (get_or ps p (0, 0)).1 < at
     is_before p p_lt_start symbol_is_x =
-        by_symbol (is_before_from_test (get_or ps p (0, 0)) x at
+        statement_is_earlier (is_before_from_test (get_or ps p (0, 0)) x at
         (is_parted.earlier_are_before p p_lt_start))
       where
-        by_symbol : IsBefore (get_or ps p (0, 0)).0 (get_or ps p (0, 0)).1 x at
+        statement_is_earlier : IsBefore (get_or ps p (0, 0)).0 (get_or ps p (0, 0)).1 x at
             → (get_or ps p (0, 0)).1 < at
-        by_symbol (inl lower) = absurd (omega (arith, lower, symbol_is_x))
-        by_symbol (inr (symbol_is_x, lower)) = lower
+        statement_is_earlier (inl lower) = absurd (omega (arith, lower, symbol_is_x))
+        statement_is_earlier (inr (symbol_is_x, lower)) = lower
 
     -- a `$d` whose block is open is added
     pub added_open : (end next_end : ℕ) (earlier_pairs pairs_so_far : List (ℕ × ℕ))
@@ -319,7 +319,7 @@ module _ (b : BlockLists) (ps : List (ℕ × ℕ)) (ps_are_rising : AreRising ps
     pub none_before_end : (end : ℕ) → end ≤ start → (0 < end → (get_or ps (end - 1) (0, 0)).0 ≢ x)
         → (p : ℕ) → p < end → (get_or ps p (0, 0)).0 ≡ x → ⊥
     none_before_end end end_le_start last_symbol_ne_x p p_lt_end symbol_is_x =
-        by_equality (cases_eq p (end - 1))
+        no_such_pair (cases_eq p (end - 1))
       where
         symbol_le_x : (q : ℕ) → q < start → (get_or ps q (0, 0)).0 ≤ x
         symbol_le_x q q_lt_start =
@@ -338,10 +338,10 @@ module _ (b : BlockLists) (ps : List (ℕ × ℕ)) (ps_are_rising : AreRising ps
         symbol_ge (inl symbol_lt) = omega (arith, symbol_lt, symbol_is_x)
         symbol_ge (inr (symbols_equal, symbol_lt)) = omega (arith, symbols_equal, symbol_is_x)
 
-        by_equality : (p ≡ end - 1) ⊎ (p ≢ end - 1) → ⊥
-        by_equality (inl p_is_last) = last_symbol_ne_x (omega (arith, p_lt_end))
+        no_such_pair : (p ≡ end - 1) ⊎ (p ≢ end - 1) → ⊥
+        no_such_pair (inl p_is_last) = last_symbol_ne_x (omega (arith, p_lt_end))
             (sym (ap (λ i. (get_or ps i (0, 0)).0) p_is_last) ∙ symbol_is_x)
-        by_equality (inr p_ne_last) =
+        no_such_pair (inr p_ne_last) =
             let start_le_length = is_parted.start_le_length in
             let x_le_last_symbol =
             symbol_ge (earlier_is_before ps ps_are_rising p (end - 1) (0, 0)
@@ -355,11 +355,11 @@ module _ (b : BlockLists) (ps : List (ℕ × ℕ)) (ps_are_rising : AreRising ps
     pub pair_lt_start : (p : ℕ) → p < length ps → (get_or ps p (0, 0)).0 ≡ x
         → (get_or ps p (0, 0)).1 < at
         → p < start
-    pair_lt_start p p_lt_length_ps symbol_is_x statement_lt_at = by_order (cases_lt p start)
+    pair_lt_start p p_lt_length_ps symbol_is_x statement_lt_at = stands_first (cases_lt p start)
       where
-        by_order : (p < start) ⊎ (start ≤ p) → p < start
-        by_order (inl p_order) = p_order
-        by_order (inr p_order) =
+        stands_first : (p < start) ⊎ (start ≤ p) → p < start
+        stands_first (inl p_order) = p_order
+        stands_first (inr p_order) =
             absurd (true≢false
             (sym (is_pair_before_if (get_or ps p (0, 0)) x at (inr (symbol_is_x, statement_lt_at)))
             ∙ is_parted.later_are_not_before p p_order p_lt_length_ps))
@@ -400,14 +400,14 @@ module _ (b : BlockLists) (ps : List (ℕ × ℕ)) (ps_are_rising : AreRising ps
             let j_is_open = (and_parts (nat_lt j at) (nat_le at (end_of b j)) j_is_active).1 in
             let place_lt_start = pair_lt_start p place.1 place.2 (let statement_is_j = place.3 in
             omega (arith, j_lt_at, statement_is_j)) in
-            by_order p place_lt_start place.2 place.3 j_is_open (cases_lt p end)
+            j_found p place_lt_start place.2 place.3 j_is_open (cases_lt p end)
           where
-            by_order : (p : ℕ) → p < start → (get_or ps p (0, 0)).0 ≡ x → (get_or ps p (0, 0)).1 ≡ j
+            j_found : (p : ℕ) → p < start → (get_or ps p (0, 0)).0 ≡ x → (get_or ps p (0, 0)).1 ≡ j
                 → nat_le at (end_of b j) ≡ true → (p < end) ⊎ (end ≤ p)
                 → has_pair pairs_so_far j x ≡ true
-            by_order p p_lt_start p_has_x statement_is_j j_is_open (inl p_order) =
+            j_found p p_lt_start p_has_x statement_is_j j_is_open (inl p_order) =
                 absurd (none_before_end end adds.end_le_start last_symbol_ne_x p p_order p_has_x)
-            by_order p p_lt_start p_has_x statement_is_j j_is_open (inr p_order) =
+            j_found p p_lt_start p_has_x statement_is_j j_is_open (inr p_order) =
                 ap (λ i. has_pair pairs_so_far i x) (sym statement_is_j)
                 ∙ adds.active_pairs_are_added p p_order p_lt_start p_has_x
                 (ap (λ i. nat_le at (end_of b i)) statement_is_j ∙ j_is_open)
@@ -473,13 +473,13 @@ module _ (b : BlockLists) (ps : List (ℕ × ℕ)) (ps_are_rising : AreRising ps
   statements_ascend : (q r : ℕ) → q ≤ r → r < length ps
       → (get_or ps q (0, 0)).0 ≡ (get_or ps r (0, 0)).0
       → (get_or ps q (0, 0)).1 ≤ (get_or ps r (0, 0)).1
-  statements_ascend q r q_le_r r_lt_length_ps symbols_equal = by_equality (cases_eq q r)
+  statements_ascend q r q_le_r r_lt_length_ps symbols_equal = statements_rise (cases_eq q r)
     where
-      by_equality : (q ≡ r) ⊎ (q ≢ r) → (get_or ps q (0, 0)).1 ≤ (get_or ps r (0, 0)).1
-      by_equality (inl q_is_r) = let statements_equal =
+      statements_rise : (q ≡ r) ⊎ (q ≢ r) → (get_or ps q (0, 0)).1 ≤ (get_or ps r (0, 0)).1
+      statements_rise (inl q_is_r) = let statements_equal =
           ap (λ i. (get_or ps i (0, 0)).1) q_is_r in
           omega (arith, statements_equal)
-      by_equality (inr q_ne_r) =
+      statements_rise (inr q_ne_r) =
           statement_le (earlier_is_before ps ps_are_rising q r (0, 0)
           (omega (arith, q_le_r, q_ne_r))
           r_lt_length_ps)
@@ -620,14 +620,14 @@ module _ (b : BlockLists) (ps : List (ℕ × ℕ)) (ps_are_rising : AreRising ps
       none_in_common.common_pairs_are_before_ends place_of_x.0 place_of_y.0 place_of_x.1
       place_of_y.1 place_of_x.2 place_of_y.2 (place_of_x.3
       ∙ sym place_of_y.3) (ap (λ i. is_active_local b i at) place_of_x.3 ∙ j_is_active) in
-      by_exhausted_symbol place_of_x.0 place_of_y.0 both_before_ends.0 both_before_ends.1
+      no_pair_of_both place_of_x.0 place_of_y.0 both_before_ends.0 both_before_ends.1
       place_of_x.2 place_of_y.2 x_or_y_exhausted)
     where
-      by_exhausted_symbol : (p q : ℕ) → p < x_end → q < y_end → (get_or ps p (0, 0)).0 ≡ x
+      no_pair_of_both : (p q : ℕ) → p < x_end → q < y_end → (get_or ps p (0, 0)).0 ≡ x
           → (get_or ps q (0, 0)).0 ≡ y
           → ((p : ℕ) → p < x_end → (get_or ps p (0, 0)).0 ≡ x → ⊥)
           ⊎ ((p : ℕ) → p < y_end → (get_or ps p (0, 0)).0 ≡ y → ⊥) → ⊥
-      by_exhausted_symbol p q p_lt_x_end q_lt_y_end p_has_x q_has_y (inl x_before_end_not) =
+      no_pair_of_both p q p_lt_x_end q_lt_y_end p_has_x q_has_y (inl x_before_end_not) =
           x_before_end_not p p_lt_x_end p_has_x
-      by_exhausted_symbol p q p_lt_x_end q_lt_y_end p_has_x q_has_y (inr y_before_end_not) =
+      no_pair_of_both p q p_lt_x_end q_lt_y_end p_has_x q_has_y (inr y_before_end_not) =
           y_before_end_not q q_lt_y_end q_has_y

@@ -93,16 +93,16 @@ module _ (text : List ℕ) (ws : List Word) where
 
     label_is_within : (o : Outline) → IsOutline o × (o.end < length ws)
         → AreWithin text (label_word ws o)
-    label_is_within o is_outline = by_label (is_labelled_kind o.kind)
+    label_is_within o is_outline = is_within (is_labelled_kind o.kind)
       where
-        by_label : (with_label : Bool)
+        is_within : (with_label : Bool)
             → AreWithin text (if with_label then nth_word ws (o.keyword - 1) ∷ [] else [])
-        by_label true =
+        is_within true =
             let keyword_gt_0 = is_outline.0.2 in let keyword_le_middle = is_outline.0.3 in
             let end_lt_length = is_outline.1 in
             one_word_is_within (o.keyword - 1)
             (omega (arith, keyword_gt_0, keyword_le_middle, end_lt_length))
-        by_label false = λ k d k_lt_0. absurd (omega arith)
+        is_within false = λ k d k_lt_0. absurd (omega arith)
 
     retained_words_are_of_statement : (o : Outline) → IsOutline o × (o.end < length ws)
         → IsRetained text (statement_of text ws o) (retained_words ws o)

@@ -32,13 +32,13 @@ place_where_test_holds : (f : ℕ × ℕ → Bool) (ps : List (ℕ × ℕ)) → 
     → (p : ℕ) × (p < length ps) × (f (get_or ps p (0, 0)) ≡ true)
 place_where_test_holds f [] some_passes = absurd (true≢false (sym some_passes))
 place_where_test_holds f (q ∷ qs) some_passes =
-    by_head (f q) refl some_passes (λ k. place_where_test_holds f qs k)
+    has_place (f q) refl some_passes (λ k. place_where_test_holds f qs k)
   where
-    by_head : (c : Bool) → f q ≡ c → (c || list_any f qs) ≡ true
+    has_place : (c : Bool) → f q ≡ c → (c || list_any f qs) ≡ true
         → (list_any f qs ≡ true → (p : ℕ) × (p < length qs) × (f (get_or qs p (0, 0)) ≡ true))
         → (p : ℕ) × (p < length (q ∷ qs)) × (f (get_or (q ∷ qs) p (0, 0)) ≡ true)
-    by_head true q_is_c some_passes place_in_rest = (0, omega arith, q_is_c)
-    by_head false q_is_c some_passes place_in_rest = let place = place_in_rest some_passes in
+    has_place true q_is_c some_passes place_in_rest = (0, omega arith, q_is_c)
+    has_place false q_is_c some_passes place_in_rest = let place = place_in_rest some_passes in
         let place_lt_length = place.1 in
         (suc place.0, omega (arith, place_lt_length), place.2)
 
@@ -224,7 +224,7 @@ module _ (by_statement : List (ℕ × ℕ)) (pairs_are_rising : AreRising by_sta
           < (get_or by_statement p (0, 0)).1
           → (place < p) × (p < at)
       place_in_range p p_lt_length_by_statement statement_is_j low_lt_variable =
-          (place_lt_p (cases_order place p), by_order (cases_lt p at))
+          (place_lt_p (cases_order place p), p_before_at (cases_lt p at))
         where
           not_before : IsBefore (get_or by_statement p (0, 0)).0
               (get_or by_statement p (0, 0)).1 j low
@@ -269,9 +269,9 @@ module _ (by_statement : List (ℕ × ℕ)) (pairs_are_rising : AreRising by_sta
                   (omega (arith, at_le_p, at_ne_p))
                   p_lt_length_by_statement)
 
-          by_order : (p < at) ⊎ (at ≤ p) → p < at
-          by_order (inl p_order) = p_order
-          by_order (inr p_order) =
+          p_before_at : (p < at) ⊎ (at ≤ p) → p < at
+          p_before_at (inl p_order) = p_order
+          p_before_at (inr p_order) =
               absurd (at_not_before (omega (arith, p_order, p_lt_length_by_statement)) p_order
               (earlier_is_before by_statement pairs_are_rising place at (0, 0) adds.place_lt_at
               (omega (arith, p_order, p_lt_length_by_statement))))
@@ -303,20 +303,20 @@ module _ (by_statement : List (ℕ × ℕ)) (pairs_are_rising : AreRising by_sta
 pub or_with_next_symbol : (o m q r l : Bool) (y s : ℕ) → (y ≡ s → q ≡ r)
     → ((o || (m && (r && l))) || (nat_eq y s && (q && l))) ≡ (o || ((m || nat_eq y s) && (r && l)))
 or_with_next_symbol true m q r l y s q_is_r = refl
-or_with_next_symbol false m q r l y s q_is_r = by_equality (cases_eq y s)
+or_with_next_symbol false m q r l y s q_is_r = tests_agree (cases_eq y s)
   where
     or_absorbs : (m r : Bool) → ((m && r) || r) ≡ ((m || true) && r)
     or_absorbs true true = refl
     or_absorbs true false = refl
     or_absorbs false r = refl
 
-    by_equality : (y ≡ s) ⊎ (y ≢ s)
+    tests_agree : (y ≡ s) ⊎ (y ≢ s)
         → ((m && (r && l)) || (nat_eq y s && (q && l))) ≡ ((m || nat_eq y s) && (r && l))
-    by_equality (inl y_is_s) =
+    tests_agree (inl y_is_s) =
         ap₂ (λ c d. (m && (r && l)) || (c && (d && l))) (eq-eqb y s y_is_s) (q_is_r y_is_s)
         ∙ or_absorbs m (r && l)
         ∙ sym (ap (λ c. (m || c) && (r && l)) (eq-eqb y s y_is_s))
-    by_equality (inr y_ne_s) =
+    tests_agree (inr y_ne_s) =
         ap (λ c. (m && (r && l)) || (c && (q && l))) (ne_eqb y s y_ne_s) ∙ or-false (m && (r && l))
         ∙ sym (ap (λ c. (m || c) && (r && l)) (ne_eqb y s y_ne_s)
         ∙ ap (λ c. c && (r && l)) (or-false m))

@@ -34,7 +34,7 @@ module _ (b : BlockLists) (ps : List (ℕ × ℕ)) where
   covers_before first at s first_positive first_le_at first_covers is_covered s_covers =
       let s_le_previous = s_covers.0 in (
         omega (arith, first_positive, first_le_at, s_le_previous),
-        λ p s_le_p p_le_at. by_order p s_le_p p_le_at
+        λ p s_le_p p_le_at. is_covered_at p s_le_p p_le_at
             (cases_lt p first),
       )
     where
@@ -50,10 +50,10 @@ module _ (b : BlockLists) (ps : List (ℕ × ℕ)) where
       end_le_end : end_of b (pair_at (first - 1)).1 ≤ end_of b (pair_at at).1
       end_le_end = leb-true (end_of b (pair_at (first - 1)).1) (end_of b (pair_at at).1) parts.1
 
-      by_order : (p : ℕ) → s ≤ p → p ≤ at → (p < first) ⊎ (first ≤ p)
+      is_covered_at : (p : ℕ) → s ≤ p → p ≤ at → (p < first) ⊎ (first ≤ p)
           → IsCovered b (pair_at p) (pair_at at)
-      by_order p s_le_p p_le_at (inr p_order) = first_covers p p_order p_le_at
-      by_order p s_le_p p_le_at (inl p_order) =
+      is_covered_at p s_le_p p_le_at (inr p_order) = first_covers p p_order p_le_at
+      is_covered_at p s_le_p p_le_at (inl p_order) =
           let p_is_covered = s_covers.1 p s_le_p (omega (arith, p_order)) in
           let p_end_le = p_is_covered.1 in
           (p_is_covered.0 ∙ symbols_equal, omega (arith, p_end_le, end_le_end))
@@ -73,18 +73,18 @@ module _ (b : BlockLists) (ps : List (ℕ × ℕ)) where
       → (pushed : List ℕ) → pushed ≡ skips ++ s ∷ [] → AreSkipsSoFar (at + 1) pushed
   skips_with_next at s skips are_so_far s_covers pushed more_is_pushed = (
     ap length more_is_pushed ∙ length-append skips (s ∷ []) ∙ ap (λ n. n + 1) are_so_far.0,
-    λ q q_lt_next. by_order q (cases_lt q at) q_lt_next,
+    λ q q_lt_next. is_skip q (cases_lt q at) q_lt_next,
   )
     where
-      by_order : (q : ℕ) → (q < at) ⊎ (at ≤ q) → q < at + 1
+      is_skip : (q : ℕ) → (q < at) ⊎ (at ≤ q) → q < at + 1
           → (get_or pushed q 0 ≤ q) × Covers b ps (get_or pushed q 0) q
-      by_order q (inl q_order) q_lt_next_at =
+      is_skip q (inl q_order) q_lt_next_at =
           let skips_length = are_so_far.0 in
           subst (λ x. (x ≤ q) × Covers b ps x q)
           (sym (ap (λ xs. get_or xs q 0) more_is_pushed
           ∙ get_or_append_left skips (s ∷ []) 0 q (omega (arith, q_order, skips_length))))
           (are_so_far.1 q q_order)
-      by_order q (inr q_order) q_lt_next_at =
+      is_skip q (inr q_order) q_lt_next_at =
           let at_is_q : at ≡ q = omega (arith, q_order, q_lt_next_at) in
           subst (λ j. (get_or pushed j 0 ≤ j) × Covers b ps (get_or pushed j 0) j) at_is_q
           (subst (λ x. (x ≤ at) × Covers b ps x at)

@@ -19,7 +19,8 @@ use Rattle.mm_outline.specs.declared.parts.Part.{Part}
 use Rattle.mm_outline.specs.declared.parts.Part.TheVariants.{Start, Labelled, Words, Formula, Proof}
 
 pub nothing_read_leads_to_itself : (r : Progress) (us : List Token) → Leads r us [] r us
-nothing_read_leads_to_itself r us = record { statements = refl; fault_stays = refl; progress_stays = refl }
+nothing_read_leads_to_itself r us =
+    record { statements = refl; fault_stays = refl; progress_stays = refl }
 
 pub leads_one_after_other : {r q p : Progress} {us vs ws : List Token}
     {row later_row : List Statement}

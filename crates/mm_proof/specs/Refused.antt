@@ -1,5 +1,5 @@
--- What a refusal promises of the faults of a proof: that it tells the first of them, either by place
--- and code, or as the list has them. And what the readers find of a label.
+-- What a refusal promises of the faults of a proof: that it tells the first of them, either by
+-- place and code, or as the list has them. And what the readers find of a label.
 use Rattle.std.specs.Prelude.{◌≡◌, ℕ, true, false, List, [], ◌∷◌, Option, Some, None, bytes_eq}
 use Rattle.std.specs.Prelude.{codes}
 use Rattle.mm_spec.specs.Text.{Token, fault}

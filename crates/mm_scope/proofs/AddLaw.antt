@@ -69,7 +69,7 @@ module _ (db : List Statement) (db_lt_never : length db < never) (w : Bytes) whe
       → IsEntryOf db w x
       → at_each (constant_codes n) [] xs ≡ []
       → IsEntryOf (db ++ constants k xs e ∷ []) w (entry_after (length db) (constants k xs e) w x)
-  entry_after_constants k xs e x x_is_entry no_fault = by_is_in (is_in w (words xs)) refl
+  entry_after_constants k xs e x x_is_entry no_fault = is_entry (is_in w (words xs)) refl
     where
       fresh : (x : Option WordEntry) → IsEntryOf db w x → is_constant_entry x ≡ false
           → is_variable_entry x ≡ false → is_in w (words xs) ≡ true
@@ -80,14 +80,14 @@ module _ (db : List Statement) (db_lt_never : length db < never) (w : Bytes) whe
       fresh (Some o) x_is_entry is_no_constant is_no_variable w_in_xs =
           absurd (true≢false (sym (ap not is_no_variable) ∙ is_no_constant))
 
-      by_is_in : (b : Bool) → is_in w (words xs) ≡ b
+      is_entry : (b : Bool) → is_in w (words xs) ≡ b
           → IsEntryOf (db ++ constants k xs e ∷ []) w
           (if b then declared_entry false (length db) w x else x)
-      by_is_in false w_in_xs =
+      is_entry false w_in_xs =
           entry_is_unchanged db (constants k xs e) w x x_is_entry
           (in_append_nil (words xs) false w_in_xs) refl
           refl
-      by_is_in true w_in_xs =
+      is_entry true w_in_xs =
           let undeclared = faultless_constant_is_new n xs no_fault w w_in_xs in
           fresh x x_is_entry (no_constant_entry x x_is_entry undeclared.0)
           (no_variable_entry x x_is_entry undeclared.1) w_in_xs
@@ -97,15 +97,15 @@ module _ (db : List Statement) (db_lt_never : length db < never) (w : Bytes) whe
       → IsEntryOf db w x
       → at_each (variable_codes n) [] xs ≡ []
       → IsEntryOf (db ++ variables k xs e ∷ []) w (entry_after (length db) (variables k xs e) w x)
-  entry_after_variables k xs e x x_is_entry no_fault = by_is_in (is_in w (words xs)) refl
+  entry_after_variables k xs e x x_is_entry no_fault = is_entry (is_in w (words xs)) refl
     where
-      by_is_in : (b : Bool) → is_in w (words xs) ≡ b
+      is_entry : (b : Bool) → is_in w (words xs) ≡ b
           → IsEntryOf (db ++ variables k xs e ∷ []) w
           (if b then declared_entry true (length db) w x else x)
-      by_is_in false w_in_xs =
+      is_entry false w_in_xs =
           entry_is_unchanged db (variables k xs e) w x x_is_entry refl
           (in_append_nil (words xs) false w_in_xs) refl
-      by_is_in true w_in_xs =
+      is_entry true w_in_xs =
           let undeclared = faultless_variable_is_new n xs no_fault w w_in_xs in
           entry_of_new_variable db (variables k xs e) w x x_is_entry
           (no_constant_entry x x_is_entry undeclared.0) undeclared.1 refl
@@ -116,7 +116,7 @@ module _ (db : List Statement) (db_lt_never : length db < never) (w : Bytes) whe
       → IsEntryOf db w x → floating_faults n k (c ∷ v ∷ []) ≡ []
       → IsEntryOf (db ++ floating l k (c ∷ v ∷ []) e ∷ []) w
       (entry_after (length db) (floating l k (c ∷ v ∷ []) e) w x)
-  entry_after_floating l k c v e x x_is_entry no_fault = by_equality (bytes_eq v.word w) refl
+  entry_after_floating l k c v e x x_is_entry no_fault = is_entry (bytes_eq v.word w) refl
     where
       typed_word_has_entry : (x : Option WordEntry) → IsEntryOf db w x → v.word ≡ w
           → IsEntryOf (db ++ floating l k (c ∷ v ∷ []) e ∷ []) w (typed_entry (length db) c.word x)
@@ -137,13 +137,13 @@ module _ (db : List Statement) (db_lt_never : length db < never) (w : Bytes) whe
           ∙ untyped.2)
           refl refl (ap (λ u. record { typecode = c.word; variable = u } ∷ []) v_is_w)
 
-      by_equality : (b : Bool) → bytes_eq v.word w ≡ b
+      is_entry : (b : Bool) → bytes_eq v.word w ≡ b
           → IsEntryOf (db ++ floating l k (c ∷ v ∷ []) e ∷ []) w
           (if b then typed_entry (length db) c.word x else x)
-      by_equality false v_eq_w =
+      is_entry false v_eq_w =
           entry_is_unchanged db (floating l k (c ∷ v ∷ []) e) w x x_is_entry refl refl
           (ap (λ b. b || false) (bytes_eq_sym w v.word ∙ v_eq_w))
-      by_equality true v_eq_w =
+      is_entry true v_eq_w =
           typed_word_has_entry x x_is_entry ((bytes_eq-Decides v.word w).0 v_eq_w)
 
   -- what is known of the word after a lawful statement
@@ -191,19 +191,19 @@ module _ (db : List Statement) (db_lt_never : length db < never) (w : Bytes) whe
   is_label_after_statement s m o is_label_before =
       in_flat_map_push db s w label_words
       ∙ ap (λ b. b || is_in w (label_words s ++ [])) is_label_before
-      ∙ by_token (label_of s)
+      ∙ is_label_after (label_of s)
     where
-      by_word : (l : Token) (b : Bool) → bytes_eq w l.word ≡ b
+      tests_agree : (l : Token) (b : Bool) → bytes_eq w l.word ≡ b
           → (is_some o || (b || false)) ≡ is_some (if b then Some m else o)
-      by_word l true w_eq_l = or-true (is_some o)
-      by_word l false w_eq_l = or-false (is_some o)
+      tests_agree l true w_eq_l = or-true (is_some o)
+      tests_agree l false w_eq_l = or-false (is_some o)
 
-      by_token : (q : Option Token)
+      is_label_after : (q : Option Token)
           → (is_some o || is_in w (elim q [ None ↦ [] | Some l ↦ l.word ∷ [] ] ++ []))
           ≡ is_some (label_after m q w o)
-      by_token None = or-false (is_some o)
-      by_token (Some l) =
-          by_word l (bytes_eq w l.word) refl
+      is_label_after None = or-false (is_some o)
+      is_label_after (Some l) =
+          tests_agree l (bytes_eq w l.word) refl
           ∙ ap (λ b. is_some (if b then Some m else o)) (bytes_eq_sym w l.word)
 
 module _ (text : List ℕ) (ws : List spec.Word) (db : List Statement) (b : BlockLists)

@@ -32,13 +32,13 @@ use Rattle.mm_scope.proofs.BoundsLaw.{symbol_is_declared_name}
 -- the names of what is declared, with one word more
 pub names_declared : (d : List Bytes) (w : Bytes)
     → with_name w (first_occurrences [] d) ≡ first_occurrences [] (d ++ w ∷ [])
-names_declared d w = by_is_in (is_in w (first_occurrences [] d)) ∙ sym (first_occurrences_push d w)
+names_declared d w = adds_new (is_in w (first_occurrences [] d)) ∙ sym (first_occurrences_push d w)
   where
-    by_is_in : (b : Bool)
+    adds_new : (b : Bool)
         → (if b then first_occurrences [] d else (first_occurrences [] d ++ w ∷ []))
         ≡ first_occurrences [] d ++ if_new b w
-    by_is_in true = sym (append-nil (first_occurrences [] d))
-    by_is_in false = refl
+    adds_new true = sym (append-nil (first_occurrences [] d))
+    adds_new false = refl
 
 -- ---- more names after
 
@@ -47,14 +47,14 @@ pub index_of_in_front : (w : Bytes) (ns added : List Bytes) → is_in w ns ≡ t
     → index_of w (ns ++ added) ≡ index_of w ns
 index_of_in_front w [] added w_in_ns = absurd (true≢false (sym w_in_ns))
 index_of_in_front w (n ∷ ns) added w_in_ns =
-    by_equality (bytes_eq w n) refl (index_of_in_front w ns added)
+    index_stays (bytes_eq w n) refl (index_of_in_front w ns added)
   where
-    by_equality : (b : Bool) → bytes_eq w n ≡ b
+    index_stays : (b : Bool) → bytes_eq w n ≡ b
         → (is_in w ns ≡ true → index_of w (ns ++ added) ≡ index_of w ns)
         → ◌≡◌ {A = ℕ} (elim b [ true ↦ 0 | false ↦ suc (index_of w (ns ++ added)) ])
         (elim b [ true ↦ 0 | false ↦ suc (index_of w ns) ])
-    by_equality true w_eq_n index_in_rest_unchanged = refl
-    by_equality false w_eq_n index_in_rest_unchanged =
+    index_stays true w_eq_n index_in_rest_unchanged = refl
+    index_stays false w_eq_n index_in_rest_unchanged =
         ap suc (index_in_rest_unchanged (sym (ap (λ b. b || is_in w ns) w_eq_n) ∙ w_in_ns))
 
 -- further words add names after those that there are, and change none of them

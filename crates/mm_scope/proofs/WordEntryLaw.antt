@@ -25,15 +25,15 @@ no_typing_no_other_typecode : (c w : Bytes) (ts : List Typing)
     → list_any (gives_other_typecode c w) (ts ++ []) ≡ false
 no_typing_no_other_typecode c w [] w_not_typed = refl
 no_typing_no_other_typecode c w (t ∷ ts) w_not_typed =
-    by_equality (bytes_eq w t.variable) w_not_typed (no_typing_no_other_typecode c w ts)
+    has_no_other (bytes_eq w t.variable) w_not_typed (no_typing_no_other_typecode c w ts)
   where
-    by_equality : (b : Bool) → (b || is_in w (map (λ t. t.variable) ts ++ [])) ≡ false
+    has_no_other : (b : Bool) → (b || is_in w (map (λ t. t.variable) ts ++ [])) ≡ false
         → (is_in w (map (λ t. t.variable) ts ++ []) ≡ false
         → list_any (gives_other_typecode c w) (ts ++ []) ≡ false)
         → ((b && not (bytes_eq c t.typecode)) || list_any (gives_other_typecode c w) (ts ++ []))
         ≡ false
-    by_equality true w_not_typed rest_has_no_other_typecode = absurd (true≢false w_not_typed)
-    by_equality false w_not_typed rest_has_no_other_typecode =
+    has_no_other true w_not_typed rest_has_no_other_typecode = absurd (true≢false w_not_typed)
+    has_no_other false w_not_typed rest_has_no_other_typecode =
         rest_has_no_other_typecode w_not_typed
 
 module _ (db : List Statement) (s : Statement) (w : Bytes) where
@@ -212,11 +212,11 @@ module _ (db : List Statement) (s : Statement) (w : Bytes) where
           → ((not t && not (bytes_eq d e.typecode)) || not (bytes_eq d c)) ≡ not (bytes_eq d c)
       earlier_typecode_is_c d true typed_is_t typecode_is_same = refl
       earlier_typecode_is_c d false typed_is_t typecode_is_same =
-          by_equality (bytes_eq c e.typecode) refl typecode_is_same
+          tests_agree (bytes_eq c e.typecode) refl typecode_is_same
         where
-          by_equality : (b : Bool) → bytes_eq c e.typecode ≡ b → not b ≡ false
+          tests_agree : (b : Bool) → bytes_eq c e.typecode ≡ b → not b ≡ false
               → (not (bytes_eq d e.typecode) || not (bytes_eq d c)) ≡ not (bytes_eq d c)
-          by_equality true equality_is_b typecode_is_same =
+          tests_agree true equality_is_b typecode_is_same =
               ap (λ y. not (bytes_eq d y) || not (bytes_eq d c))
               (sym ((bytes_eq-Decides c e.typecode).0 equality_is_b))
               ∙ or_with_itself (not (bytes_eq d c))
@@ -224,7 +224,7 @@ module _ (db : List Statement) (s : Statement) (w : Bytes) where
               or_with_itself : (y : Bool) → (y || y) ≡ y
               or_with_itself true = refl
               or_with_itself false = refl
-          by_equality false equality_is_b typecode_is_same = absurd (true≢false typecode_is_same)
+          tests_agree false equality_is_b typecode_is_same = absurd (true≢false typecode_is_same)
 
       other_typecode_after : (d : Bytes)
           → list_any (gives_other_typecode d w) (flat_map typings_of (db ++ s ∷ []))
