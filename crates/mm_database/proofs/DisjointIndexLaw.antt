@@ -395,12 +395,13 @@ module _ (b : BlockLists) (ps : List (ℕ × ℕ)) (ps_are_rising : AreRising ps
         active_pair_is_found has_pair_x_j j_is_active =
             let place = place_of_pair ps x j has_pair_x_j in
             let p = place.0 in
-            let j_lt_at = ltb-true j at (and_parts (nat_lt j at) (nat_le at (end_of b j))
-            j_is_active).0 in
-            let j_is_open = (and_parts (nat_lt j at) (nat_le at (end_of b j)) j_is_active).1 in
-            let place_lt_start = pair_lt_start p place.1 place.2 (let statement_is_j = place.3 in
-            omega (arith, j_lt_at, statement_is_j)) in
-            j_found p place_lt_start place.2 place.3 j_is_open (cases_lt p end)
+            let p_has_x = place.2 in
+            let statement_is_j = place.3 in
+            let parts = and_parts (nat_lt j at) (nat_le at (end_of b j)) j_is_active in
+            let j_lt_at = ltb-true j at parts.0 in
+            let p_lt_start = pair_lt_start p place.1 p_has_x (omega (arith, j_lt_at, statement_is_j))
+            in
+            j_found p p_lt_start p_has_x statement_is_j parts.1 (cases_lt p end)
           where
             j_found : (p : ℕ) → p < start → (get_or ps p (0, 0)).0 ≡ x → (get_or ps p (0, 0)).1 ≡ j
                 → nat_le at (end_of b j) ≡ true → (p < end) ⊎ (end ≤ p)

@@ -24,24 +24,24 @@ fn words() -> [u64; 33] {
 fn or_by_lanes_is_the_plain_loop(rt: HostRuntime) {
     for count in 0..34 {
         let mut into = [0x00FF_00FF_00FF_00FFu64; 33];
-        let mut plain = into;
+        let mut expected = into;
         let from = words();
         or_row(&mut into[..count], &from[..count]);
         for i in 0..count {
-            plain[i] |= from[i];
+            expected[i] |= from[i];
         }
-        assert_eq!(rt; into.as_slice(), plain.as_slice());
+        assert_eq!(rt; into.as_slice(), expected.as_slice());
     }
 }
 
 #[test]
 fn ones_by_lanes_are_the_plain_sum(rt: HostRuntime) {
     let row = words();
-    let mut plain = 0u64;
+    let mut expected = 0u64;
     for count in 0..34 {
-        assert_eq!(rt; ones(&row[..count]), plain);
+        assert_eq!(rt; ones(&row[..count]), expected);
         if count < 33 {
-            plain = plain.wrapping_add(u64::from(row[count].count_ones()));
+            expected = expected.wrapping_add(u64::from(row[count].count_ones()));
         }
     }
     assert_eq!(rt; ones(&[u64::MAX; 5]), 320);

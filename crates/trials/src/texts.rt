@@ -33,7 +33,7 @@ pub(crate) const A1I_REPORT: &[u8] =
     b"mmdepend 1\naxioms 3\ntheorems 1\nmatrix\na1i:111\ncounts\na1i:3\nusage\nwi:1:a1i\nax-1:1:a1i\nax-mp:1:a1i\nend\n";
 
 /// A theorem that cites the theorem before it, twice.
-pub(crate) const THROUGH: &[u8] =
+pub(crate) const THROUGH_THEOREM: &[u8] =
     b"${ g $e |- p $. a2 $p |- ( q -> ( q -> p ) ) $= wq wp wi wq wp wq g a1i a1i $. $}\n";
 
 /// The report on a text with that theorem and the one before it.
@@ -44,10 +44,11 @@ pub(crate) const THROUGH_REPORT: &[u8] =
 pub(crate) const NO_CITATIONS: &[u8] =
     b"$c wff |- $. $v p $. wp $f wff p $.\n${ h $e |- p $. same $p |- p $= h $. $}\n";
 
-/// Two theorems whose proofs aren't valid; the first takes longer to check.
-pub(crate) const LONG: &[u8] = b"long $p wff p $= wp wq wp wi wp wi wp wi wp wi $.\n";
+/// A theorem whose proof isn't valid.
+pub(crate) const LONG_PROOF: &[u8] = b"long $p wff p $= wp wq wp wi wp wi wp wi wp wi $.\n";
 
-pub(crate) const SHORT: &[u8] = b"short $p wff p $= wq $.\n";
+/// Another one, whose proof takes less time to check.
+pub(crate) const SHORT_PROOF: &[u8] = b"short $p wff p $= wq $.\n";
 
 /// The report on a text without axioms and theorems.
 pub(crate) const NOTHING_REPORT: &[u8] =
@@ -73,7 +74,7 @@ pub(crate) fn consequent(alloc: Global) -> Result<Vec<u8>, AllocError> {
 /// The same, and a theorem by that theorem.
 pub(crate) fn through_a_theorem(alloc: Global) -> Result<Vec<u8>, AllocError> {
     let mut text = consequent(alloc)?;
-    text.extend_from_slice(THROUGH)?;
+    text.extend_from_slice(THROUGH_THEOREM)?;
     Ok(text)
 }
 
@@ -124,10 +125,10 @@ pub(crate) fn chain_text(alloc: Global) -> Result<Vec<u8>, AllocError> {
 /// How many theorems `many_theorems_text` has.
 pub(crate) const THEOREM_COUNT: u32 = 3000;
 
-/// The theorems of that text whose proofs lack their last step, in tests of its first fault: the
-/// first one and another.
+/// The first theorem of that text whose proof lacks its last step, in tests of its first fault.
 pub(crate) const FIRST_FAULTY: u32 = 2000;
 
+/// Another such theorem.
 pub(crate) const ANOTHER_FAULTY: u32 = 2900;
 
 /// That all proofs of that text are valid.
@@ -141,7 +142,7 @@ const BYTES_OF_EACH: u32 = 54;
 
 /// The place of the first fault of that text: the `$.` of the first theorem whose proof lacks its
 /// last step, 48 bytes from its beginning.
-pub(crate) const MANY_FAULT_AT: u32 = BASE_BYTES + FIRST_FAULTY * BYTES_OF_EACH + 48;
+pub(crate) const FIRST_FAULT_PLACE: u32 = BASE_BYTES + FIRST_FAULTY * BYTES_OF_EACH + 48;
 
 /// Adds a label: a letter, and the four digits of a number below ten thousand.
 pub(crate) fn add_label(text: &mut Vec<u8>, letter: u8, number: u32) -> Result<(), AllocError> {

@@ -6,8 +6,8 @@ ghost use Rattle.std.specs.Prelude.{◌≤◌};
 use crate::databases::database_of;
 use crate::flags::{BY_ALL_NODES, WITHOUT_OPEN};
 use crate::texts::{
-    ANOTHER_FAULTY, BASE, FIRST_FAULTY, LONG, MANY_FAULT_AT, NONE_FAULTY, SHORT, THEOREM_COUNT,
-    joined, many_theorems_text, through_a_theorem,
+    ANOTHER_FAULTY, BASE, FIRST_FAULT_PLACE, FIRST_FAULTY, LONG_PROOF, NONE_FAULTY, SHORT_PROOF,
+    THEOREM_COUNT, joined, many_theorems_text, through_a_theorem,
 };
 use mm_spec::{Code, Fault};
 use mm_work::{Citations, Gate, Judged, Open, check_all};
@@ -66,7 +66,7 @@ fn assert_many_cite_one<R: Abort>(rt: &R, citations: &Citations<Global>) {
 #[test]
 fn two_theorems_by_any_workers(rt: HostRuntime) -> Result<(), AllocError> {
     let valid = through_a_theorem(rt.alloc())?;
-    let faulty = joined(rt.alloc(), &[BASE, LONG, SHORT])?;
+    let faulty = joined(rt.alloc(), &[BASE, LONG_PROOF, SHORT_PROOF])?;
     for workers in [1, 2, 64] {
         match check_proofs(&rt, rt.alloc(), &valid, workers, BY_ALL_NODES, &Open)? {
             Judged::Valid(citations) => assert_cites_through_a_theorem(&rt, &citations),
@@ -88,7 +88,7 @@ fn many_theorems_by_any_workers(rt: HostRuntime) -> Result<(), AllocError> {
             Judged::Faulty(fault) => panic!(&rt; "a fault at {}", fault.at),
         }
         let judged_faulty = check_proofs(&rt, rt.alloc(), &faulty, workers, BY_ALL_NODES, &Open)?;
-        assert!(&rt; is_faulty_at(&judged_faulty, MANY_FAULT_AT, Code::NotOneEntry));
+        assert!(&rt; is_faulty_at(&judged_faulty, FIRST_FAULT_PLACE, Code::NotOneEntry));
     }
     Ok(())
 }
