@@ -147,11 +147,11 @@ pub record IsPartedAt (ps : List (ℕ × ℕ)) (x at start : ℕ) : Type 0 where
 -- the same for a list and a symbol that are equal to these
 module _ (qs ps : List (ℕ × ℕ)) (y x : ℕ) (qs_is_ps : qs ≡ ps) (y_is_x : y ≡ x) where
   -- what is said of the equal list is said of this one
-  pub parted_by_values : (at start : ℕ) → start ≤ length qs
+  pub parted_if_equal : (at start : ℕ) → start ≤ length qs
       → ((p : ℕ) → p < start → is_pair_before (get_or qs p (0, 0)) y at ≡ true)
       → ((p : ℕ) → start ≤ p → p < length qs → is_pair_before (get_or qs p (0, 0)) y at ≡ false)
       → IsPartedAt ps x at start
-  parted_by_values at start start_le_length earlier_are_before later_are_not_before =
+  parted_if_equal at start start_le_length earlier_are_before later_are_not_before =
       rw (← qs_is_ps, ← y_is_x) (record {
         start_le_length = start_le_length;
         earlier_are_before =
@@ -159,11 +159,11 @@ module _ (qs ps : List (ℕ × ℕ)) (y x : ℕ) (qs_is_ps : qs ≡ ps) (y_is_x 
         later_are_not_before = later_are_not_before;
       })
 
-  pub symbol_by_values : (p : ℕ) → (get_or qs p (0, 0)).0 ≡ y → (get_or ps p (0, 0)).0 ≡ x
-  symbol_by_values p symbol_is_y = rw (← qs_is_ps, ← y_is_x) symbol_is_y
+  pub symbol_if_equal : (p : ℕ) → (get_or qs p (0, 0)).0 ≡ y → (get_or ps p (0, 0)).0 ≡ x
+  symbol_if_equal p symbol_is_y = rw (← qs_is_ps, ← y_is_x) symbol_is_y
 
-  pub other_symbol_by_values : (p : ℕ) → (get_or qs p (0, 0)).0 ≢ y → (get_or ps p (0, 0)).0 ≢ x
-  other_symbol_by_values p symbol_ne_y = rw (← qs_is_ps, ← y_is_x) symbol_ne_y
+  pub other_symbol_if_equal : (p : ℕ) → (get_or qs p (0, 0)).0 ≢ y → (get_or ps p (0, 0)).0 ≢ x
+  other_symbol_if_equal p symbol_ne_y = rw (← qs_is_ps, ← y_is_x) symbol_ne_y
 
 -- ---- what is added of one symbol
 
@@ -399,7 +399,8 @@ module _ (b : BlockLists) (ps : List (ℕ × ℕ)) (ps_are_rising : AreRising ps
             let statement_is_j = place.3 in
             let parts = and_parts (nat_lt j at) (nat_le at (end_of b j)) j_is_active in
             let j_lt_at = ltb-true j at parts.0 in
-            let p_lt_start = pair_lt_start p place.1 p_has_x (omega (arith, j_lt_at, statement_is_j))
+            let p_lt_start =
+            pair_lt_start p place.1 p_has_x (omega (arith, j_lt_at, statement_is_j))
             in
             j_found p p_lt_start p_has_x statement_is_j parts.1 (cases_lt p end)
           where

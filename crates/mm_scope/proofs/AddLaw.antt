@@ -253,21 +253,22 @@ pub knows_after_statement : (text : List ℕ) (ws : List spec.Word) (db : List S
     ≡ None
     → (is_closing (statement_between text ws k p m e) ≡ true → 0 < depth db (length db))
     → (c : BlockLists)
-    → c ≡ pushed k b → (number : ℕ) → number ≡ length b.block_of
+    → c ≡ pushed k b → (statement : ℕ) → statement ≡ length b.block_of
     → (new : List ℕ → Option Symbol)
     → ((w : List ℕ)
-    → entry_of (new w) ≡ entry_after number (statement_between text ws k p m e) w
+    → entry_of (new w) ≡ entry_after statement (statement_between text ws k p m e) w
     (entry_of (look w)))
-    → (names : List ℕ → Option ℕ)
+    → (new_labels : List ℕ → Option ℕ)
     → ((w : List ℕ)
-    → names w ≡ label_after number (label_of (statement_between text ws k p m e)) w (labels w))
-    → KnowsStatements (db ++ statement_between text ws k p m e ∷ []) new names c
+    → new_labels w ≡ label_after statement (label_of (statement_between text ws k p m e)) w (labels
+    w))
+    → KnowsStatements (db ++ statement_between text ws k p m e ∷ []) new new_labels c
 knows_after_statement text ws db look labels b knows db_lt_never k p m e no_fault closes_open_block
-    c c_is_pushed number number_is_length new
+    c c_is_pushed statement statement_is_length new
     entries_after
-    names labels_after =
+    new_labels labels_after =
     let s = statement_between text ws k p m e in
-    let number_is_db_length : number ≡ length db = number_is_length ∙ knows.blocks.count in
+    let statement_is_db_length : statement ≡ length db = statement_is_length ∙ knows.blocks.count in
     record {
       blocks =
           subst (IsBlocks (db ++ statement_between text ws k p m e ∷ [])) (sym c_is_pushed)
@@ -275,7 +276,7 @@ knows_after_statement text ws db look labels b knows db_lt_never k p m e no_faul
       symbols =
           λ w. subst (IsEntryOf (db ++ statement_between text ws k p m e ∷ []) w)
           (sym (entries_after w ∙ ap (λ i. entry_after i (statement_between text ws k p m e) w
-          (entry_of (look w))) number_is_db_length))
+          (entry_of (look w))) statement_is_db_length))
           (entry_after_statement db db_lt_never w (statement_between text ws k p m e)
           (depth db (length db))
           (entry_of (look w))
@@ -285,14 +286,15 @@ knows_after_statement text ws db look labels b knows db_lt_never k p m e no_faul
           (statement_between text ws k p m e))
           no_fault));
       labels_known =
-          λ w. is_label_after_statement db db_lt_never w (statement_between text ws k p m e) number
+          λ w. is_label_after_statement db db_lt_never w (statement_between text ws k p m e)
+          statement
           (labels w)
           (knows.labels_known w)
           ∙ ap is_some (sym (labels_after w));
       labels_are =
-          labels_after_statement db s labels names knows.labels_are
+          labels_after_statement db s labels new_labels knows.labels_are
           (λ w. labels_after w
-          ∙ ap (λ i. label_after i (label_of s) w (labels w)) number_is_db_length)
+          ∙ ap (λ i. label_after i (label_of s) w (labels w)) statement_is_db_length)
           (label_stands_for_nothing db labels knows.labels_known (depth db (length db)) s
           (no_least_no_faults (scope_faults (names_before db (length db)) (depth db (length db)) s)
           no_fault));

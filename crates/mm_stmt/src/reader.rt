@@ -28,11 +28,11 @@ pub fn read<'a, A: Allocator + Copy>(
 ) -> Result<Database<'a, A>, AllocError>
     requires tokens_of_text { lexed.now.tokens.items ≡ tokens_of text.now }
     requires fault_of_text { lexed.now.fault ≡ lexical_fault text.now }
-    ensures text { IfOk result (λ database. database.text ≡ text.now) }
-    ensures flag { IfOk result (λ database. database.with_open ≡ with_open) }
-    ensures read { IfOk result
+    ensures text_is { IfOk result (λ database. database.text ≡ text.now) }
+    ensures flag_is { IfOk result (λ database. database.with_open ≡ with_open) }
+    ensures is_read { IfOk result
         (λ database. IsRead (length text.now) (lexed_of text.now) database.read database.fault) }
-    ensures counted { IfOk result
+    ensures are_counted { IfOk result
         (λ database. database.statements ≡ counted with_open database.read) }
 {
     let tokens = lexed.tokens.to_vec(alloc)?;
@@ -53,11 +53,11 @@ pub fn read_owned<'a, A: Allocator + Copy>(
 ) -> Result<Database<'a, A>, AllocError>
     requires tokens_of_text { lexed.tokens.items ≡ tokens_of text.now }
     requires fault_of_text { lexed.fault ≡ lexical_fault text.now }
-    ensures text { IfOk result (λ database. database.text ≡ text.now) }
-    ensures flag { IfOk result (λ database. database.with_open ≡ with_open) }
-    ensures read { IfOk result
+    ensures text_is { IfOk result (λ database. database.text ≡ text.now) }
+    ensures flag_is { IfOk result (λ database. database.with_open ≡ with_open) }
+    ensures is_read { IfOk result
         (λ database. IsRead (length text.now) (lexed_of text.now) database.read database.fault) }
-    ensures counted { IfOk result
+    ensures are_counted { IfOk result
         (λ database. database.statements ≡ counted with_open database.read) }
 {
     let Lexed { tokens, fault } = lexed;

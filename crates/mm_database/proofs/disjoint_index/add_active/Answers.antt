@@ -3,8 +3,8 @@ use Rattle.std.proofs.Common.{true, false, sym, subst, ap, ap₂, ◌∙◌, ari
 use Rattle.mm_outline.specs.Blocks.{end_of}
 use Rattle.mm_database.specs.DisjointIndex.{PairLists}
 use Rattle.mm_database.proofs.DisjointIndexLaw.{added_open, added_closed, all_are_added}
-use Rattle.mm_database.proofs.DisjointIndexLaw.{parted_by_values}
-use Rattle.mm_database.proofs.DisjointIndexLaw.{symbol_by_values, other_symbol_by_values}
+use Rattle.mm_database.proofs.DisjointIndexLaw.{parted_if_equal}
+use Rattle.mm_database.proofs.DisjointIndexLaw.{symbol_if_equal, other_symbol_if_equal}
 use Rattle.mm_database.proofs.disjoint_index.add_active.Goals as goal
 use Rattle.mm_database.proofs.disjoint_index.add_active.Goals.{then-is_open_at+in_ok-push}
 use Rattle.mm_database.proofs.disjoint_index.add_active.Goals.{else-is_open_at}
@@ -21,12 +21,12 @@ loop-by_symbol-preserved g c =
     c.as_slice-by_symbol.ensures.value ∙ ap (λ (i : PairLists). i.by_symbol)
     c.disjoint_index.view_is in
     let parted_index = c.count_before-end.ensures in
-    let parted = parted_by_values _ ps _ x pairs_are_ps c.number.ensures at start
+    let parted = parted_if_equal _ ps _ x pairs_are_ps c.number.ensures at start
     parted_index.result_le_length parted_index.earlier_are_before parted_index.later_are_not_before
     in
     let last_has_symbol = c.ends_with.ensures.ends_if_true c.loop-by_symbol-test.true in
     let last_symbol_is_x =
-    symbol_by_values _ ps _ x pairs_are_ps c.number-in-loop-by_symbol.ensures
+    symbol_if_equal _ ps _ x pairs_are_ps c.number-in-loop-by_symbol.ensures
     (end - 1) last_has_symbol.1 in
     let next_lt_end = c.skip_last-end.ensures.result_lt_end in
     let end_le_length = c.loop-by_symbol.invariant.0 in
@@ -79,12 +79,12 @@ returns g c =
     c.as_slice-by_symbol.ensures.value ∙ ap (λ (i : PairLists). i.by_symbol)
     c.disjoint_index.view_is in
     let parted_index = c.count_before-end.ensures in
-    let parted = parted_by_values _ ps _ x pairs_are_ps c.number.ensures at start
+    let parted = parted_if_equal _ ps _ x pairs_are_ps c.number.ensures at start
     parted_index.result_le_length parted_index.earlier_are_before parted_index.later_are_not_before
     in
     let last_symbol_ne_x = c.ends_with.ensures.differs_if_false c.loop-by_symbol-test.false in
     all_are_added blocks ps c.requires.ordered.rising x at start parted end
     c.args.by_statement.now.items
     c.loop-by_symbol.by_statement.items c.loop-by_symbol.invariant.1
-    (λ end_gt_0. other_symbol_by_values _ ps _ x pairs_are_ps c.number-in-loop-by_symbol.ensures
+    (λ end_gt_0. other_symbol_if_equal _ ps _ x pairs_are_ps c.number-in-loop-by_symbol.ensures
     (end - 1) (last_symbol_ne_x end_gt_0))

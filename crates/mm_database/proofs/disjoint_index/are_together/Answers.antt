@@ -7,9 +7,9 @@ use Rattle.mm_database.specs.DisjointIndex.{PairLists}
 use Rattle.mm_database.proofs.DisjointIndexLaw.{none_before_x_end, none_before_y_end, none_at_end}
 use Rattle.mm_database.proofs.DisjointIndexLaw.{none_before_end}
 use Rattle.mm_database.proofs.DisjointIndexLaw.{is_before}
-use Rattle.mm_database.proofs.DisjointIndexLaw.{has_pair_at_place, parted_by_values}
-use Rattle.mm_database.proofs.DisjointIndexLaw.{symbol_by_values}
-use Rattle.mm_database.proofs.DisjointIndexLaw.{other_symbol_by_values}
+use Rattle.mm_database.proofs.DisjointIndexLaw.{has_pair_at_place, parted_if_equal}
+use Rattle.mm_database.proofs.DisjointIndexLaw.{symbol_if_equal}
+use Rattle.mm_database.proofs.DisjointIndexLaw.{other_symbol_if_equal}
 use Rattle.mm_database.proofs.disjoint_index.are_together.Goals as goal
 use Rattle.mm_database.proofs.disjoint_index.are_together.Goals.{else-x_statement-y_statement-via-then-x_statement-y_statement+else-is_open_at}
 use Rattle.mm_database.proofs.disjoint_index.are_together.Goals.{else-x_statement-y_statement-via-else-x_statement-y_statement}
@@ -29,17 +29,17 @@ returns-then-is_open_at-clause-are_together_if_true g c =
     c.as_slice-by_symbol.ensures.value ∙ ap (λ (i : PairLists). i.by_symbol)
     c.disjoint_index.view_is in
     let parted_index = c.count_before-x_end.ensures in
-    let parted = parted_by_values _ ps _ x pairs_are_ps c.number.ensures at start
+    let parted = parted_if_equal _ ps _ x pairs_are_ps c.number.ensures at start
     parted_index.result_le_length parted_index.earlier_are_before parted_index.later_are_not_before
     in
     let x_statement = c.ends_with.ensures.ends_if_true c.loop-by_symbol-test.true in
     let y_statement = c.ends_with-in-loop-by_symbol.ensures.ends_if_true c.if-ends_with.true in
     let last_symbol_is_x =
-    symbol_by_values _ ps _ x pairs_are_ps c.number-in-loop-by_symbol.ensures (x_end - 1)
+    symbol_if_equal _ ps _ x pairs_are_ps c.number-in-loop-by_symbol.ensures (x_end - 1)
     x_statement.1
     in
     let last_symbol_is_y =
-    symbol_by_values _ ps _ y pairs_are_ps c.number-in-loop-by_symbol-2.ensures (y_end - 1)
+    symbol_if_equal _ ps _ y pairs_are_ps c.number-in-loop-by_symbol-2.ensures (y_end - 1)
     y_statement.1 in
     let statements_equal : (get_or ps (x_end - 1) (0, 0)).1 ≡ (get_or ps (y_end - 1) (0, 0)).1 =
     subst (λ (qs : List (ℕ × ℕ)). (get_or qs (x_end - 1) (0, 0)).1
@@ -83,7 +83,7 @@ loop-by_symbol-preserved-then-x_statement-y_statement-2 g c =
     let x_statement = c.ends_with.ensures.ends_if_true c.loop-by_symbol-test.true in
     let y_statement = c.ends_with-in-loop-by_symbol.ensures.ends_if_true c.if-ends_with.true in
     let last_symbol_is_x =
-    symbol_by_values _ ps _ c.args.x pairs_are_ps c.number-in-loop-by_symbol.ensures (x_end - 1)
+    symbol_if_equal _ ps _ c.args.x pairs_are_ps c.number-in-loop-by_symbol.ensures (x_end - 1)
     x_statement.1 in
     let x_statement_lt_y_statement : (get_or ps (x_end - 1) (0, 0)).1 <
     (get_or ps (y_end - 1) (0, 0)).1 =
@@ -119,7 +119,7 @@ loop-by_symbol-preserved g c =
     let x_statement = c.ends_with.ensures.ends_if_true c.loop-by_symbol-test.true in
     let y_statement = c.ends_with-in-loop-by_symbol.ensures.ends_if_true c.if-ends_with.true in
     let last_symbol_is_y =
-    symbol_by_values _ ps _ c.args.y pairs_are_ps c.number-in-loop-by_symbol-2.ensures
+    symbol_if_equal _ ps _ c.args.y pairs_are_ps c.number-in-loop-by_symbol-2.ensures
     (y_end - 1) y_statement.1 in
     let y_statement_le_x_statement : (get_or ps (y_end - 1) (0, 0)).1 ≤
     (get_or ps (x_end - 1) (0, 0)).1 =
@@ -170,7 +170,7 @@ returns-else-ends_with-clause-none_if_false g c =
     c.as_slice-by_symbol.ensures.value ∙ ap (λ (i : PairLists). i.by_symbol)
     c.disjoint_index.view_is in
     let parted_index = c.count_before-y_end.ensures in
-    let parted = parted_by_values _ ps _ y pairs_are_ps c.number-2.ensures at start
+    let parted = parted_if_equal _ ps _ y pairs_are_ps c.number-2.ensures at start
     parted_index.result_le_length parted_index.earlier_are_before
     parted_index.later_are_not_before in
     let last_symbol_ne_y =
@@ -180,7 +180,7 @@ returns-else-ends_with-clause-none_if_false g c =
     c.loop-by_symbol.invariant.none_in_common
     (inr (none_before_end blocks ps c.requires.ordered.rising y at start parted y_end
     c.loop-by_symbol.invariant.y_end_falls
-    (λ y_end_gt_0. other_symbol_by_values _ ps _ y pairs_are_ps c.number-in-loop-by_symbol-2.ensures
+    (λ y_end_gt_0. other_symbol_if_equal _ ps _ y pairs_are_ps c.number-in-loop-by_symbol-2.ensures
     (y_end - 1) (last_symbol_ne_y y_end_gt_0))))
 
 pub returns-after-loop-by_symbol-clause-none_if_false :
@@ -196,7 +196,7 @@ returns-after-loop-by_symbol-clause-none_if_false g c =
     c.as_slice-by_symbol.ensures.value ∙ ap (λ (i : PairLists). i.by_symbol)
     c.disjoint_index.view_is in
     let parted_index = c.count_before-x_end.ensures in
-    let parted = parted_by_values _ ps _ x pairs_are_ps c.number.ensures at start
+    let parted = parted_if_equal _ ps _ x pairs_are_ps c.number.ensures at start
     parted_index.result_le_length parted_index.earlier_are_before parted_index.later_are_not_before
     in
     let last_symbol_ne_x = c.ends_with.ensures.differs_if_false c.loop-by_symbol-test.false in
@@ -205,5 +205,5 @@ returns-after-loop-by_symbol-clause-none_if_false g c =
     c.loop-by_symbol.invariant.none_in_common
     (inl (none_before_end blocks ps c.requires.ordered.rising x at start parted x_end
     c.loop-by_symbol.invariant.x_end_falls
-    (λ x_end_gt_0. other_symbol_by_values _ ps _ x pairs_are_ps c.number-in-loop-by_symbol.ensures
+    (λ x_end_gt_0. other_symbol_if_equal _ ps _ x pairs_are_ps c.number-in-loop-by_symbol.ensures
     (x_end - 1) (last_symbol_ne_x x_end_gt_0))))

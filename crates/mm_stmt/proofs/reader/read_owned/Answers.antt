@@ -146,14 +146,14 @@ returns g c =
     let reading_is = c.in_ok-reading.ensures in
     let contents_are = c.new.ensures in
     record {
-      text =
+      text_is =
           ap (λ (d : Contents). d.text) contents_are
           ∙ ap (λ (r : Reading _). r.statements.text) reading_is;
-      flag = ap (λ (d : Contents). d.with_open) contents_are;
-      read =
+      flag_is = ap (λ (d : Contents). d.with_open) contents_are;
+      is_read =
           subst (λ (d : Contents). IsRead (length text) (lexed_of text) d.read d.fault)
           (sym contents_are)
           (subst (λ (r : Reading _). IsRead (length text) (lexed_of text)
           r.statements.list r.fault) (sym reading_is) is_read_text);
-      counted = rw contents_are refl;
+      are_counted = rw contents_are refl;
     }
