@@ -2,13 +2,12 @@
 use Rattle.std.proofs.Common.{◌≡◌, ◌≢◌, ℕ, zero, suc, ◌+◌, ◌-◌, ◌<◌, ◌≤◌, Bool, true, false, ◌&&◌}
 use Rattle.std.proofs.Common.{◌||◌, List, [], ◌∷◌, ◌++◌, length, get_or, nat_eq, nat_lt, nat_le}
 use Rattle.std.proofs.Common.{refl, sym, ap, ap₂, ◌∙◌, arith, true≢false, ◌⊎◌, inl, inr}
-use Rattle.std.proofs.lemmas.Bool.{cases_lt, cases_eq, cases_order, lt-ltb, ltb-true}
-use Rattle.std.proofs.lemmas.Bool.{eq-eqb, eqb-true}
+use Rattle.std.proofs.lemmas.Bool.{cases_lt, cases_eq, cases_order, lt-ltb, ltb-true, eq-eqb}
+use Rattle.std.proofs.lemmas.Bool.{eqb-true, and_parts, false_from_ne_true}
 use Rattle.std.proofs.lemmas.List.Folds.{list_any-append}
 use Rattle.std.specs.List.{list_any}
 use Rattle.std.specs.List.Sorted.{IsPartitionedBy}
 use Rattle.std.proofs.Math.Bool.{or-false, or-true}
-use Rattle.std.proofs.lemmas.Bool.{and_parts, false_from_ne_true}
 use Rattle.mm_spec.specs.Statement.{Statement}
 use Rattle.mm_spec.specs.Scope.{statement_at}
 use Rattle.mm_spec.specs.Derivation.{is_member}
@@ -400,8 +399,7 @@ module _ (b : BlockLists) (ps : List (ℕ × ℕ)) (ps_are_rising : AreRising ps
             let parts = and_parts (nat_lt j at) (nat_le at (end_of b j)) j_is_active in
             let j_lt_at = ltb-true j at parts.0 in
             let p_lt_start =
-            pair_lt_start p place.1 p_has_x (omega (arith, j_lt_at, statement_is_j))
-            in
+            pair_lt_start p place.1 p_has_x (omega (arith, j_lt_at, statement_is_j)) in
             j_found p p_lt_start p_has_x statement_is_j parts.1 (cases_lt p end)
           where
             j_found : (p : ℕ) → p < start → (get_or ps p (0, 0)).0 ≡ x → (get_or ps p (0, 0)).1 ≡ j

@@ -1,10 +1,8 @@
 -- The kept words of statements: that they are the tokens of these, and what they answer.
 use Rattle.std.proofs.Common.{◌≡◌, ℕ, zero, suc, ◌+◌, ◌-◌, ◌<◌, ◌≤◌, Bool, true, false, List, []}
 use Rattle.std.proofs.Common.{◌∷◌, ◌++◌, length, map, take, drop, get_or, slice_get, slice_range}
-use Rattle.std.proofs.Common.{All}
-use Rattle.std.proofs.Common.{Option, Some, None, refl, sym, ap, ap₂, ◌∙◌, subst, arith}
-use Rattle.std.proofs.Common.{append_assoc}
-use Rattle.std.proofs.Common.{length-append, if◌then◌else◌}
+use Rattle.std.proofs.Common.{All, Option, Some, None, refl, sym, ap, ap₂, ◌∙◌, subst, arith}
+use Rattle.std.proofs.Common.{append_assoc, length-append, if◌then◌else◌}
 use Rattle.std.specs.Option.{option_map, option_and_then}
 use Rattle.std.proofs.lemmas.List.{length-map}
 use Rattle.std.proofs.lemmas.List.Elements.{All-append, All-take, All-drop}
@@ -18,8 +16,8 @@ use Rattle.mm_spec.specs.declared.Fault.{Fault}
 use Rattle.mm_spec.specs.declared.Word.{Word}
 use Rattle.mm_spec.proofs.OpenedLaw.{counted_got, counted_then, counted_length}
 use Rattle.mm_outline.specs.Parts.{AreWithin, HasEnd, IsOutline, as_tokens, between}
-use Rattle.mm_outline.specs.Parts.{statement_between, nth_word}
-use Rattle.mm_outline.specs.Parts.{statement_of, token_of}
+use Rattle.mm_outline.specs.Parts.{statement_between, nth_word, statement_of, token_of}
+use Rattle.mm_outline.specs.Parts.{is_labelled_kind}
 use Rattle.mm_outline.specs.Statements.{statements}
 use Rattle.mm_outline.specs.declared.parts.Kind.{Kind}
 use Rattle.mm_outline.specs.declared.parts.Kind.TheVariants as kind
@@ -27,7 +25,6 @@ use Rattle.mm_outline.specs.declared.parts.Outline.{Outline}
 use Rattle.mm_outline.proofs.StatementsLaw.{element_of_mapped, statement_of_outline_is}
 use Rattle.mm_database.specs.Database.{Contents, contents, kind_of}
 use Rattle.mm_database.specs.RetainedWords.{AreRetained, IsRetained, retained_words, label_tokens}
-use Rattle.mm_outline.specs.Parts.{is_labelled_kind}
 use Rattle.mm_database.specs.RetainedWords.{label_word, end_at}
 use Rattle.mm_database.proofs.KindsLaw.{counted_theorem_is_theorem}
 

@@ -24,8 +24,7 @@ use Rattle.mm_frame.specs.Together.{has_later}
 use Rattle.mm_frame.proofs.HypothesesLaw.{mandatory_has_name}
 use Rattle.mm_frame.proofs.PairsLaw.{has_mapped_pair, mapped_are_sorted}
 use Rattle.mm_frame.proofs.PairsLaw.{sorted_with_same_members_equal, has_filtered_pair}
-use Rattle.mm_frame.proofs.PairsLaw.{has_pair_in_rows}
-use Rattle.mm_frame.proofs.PairsLaw.{filtered_are_sorted, all_pairs_are_sorted}
+use Rattle.mm_frame.proofs.PairsLaw.{has_pair_in_rows, filtered_are_sorted, all_pairs_are_sorted}
 
 -- if some pair passes a test, there is a place where it does
 place_where_test_holds : (f : ℕ × ℕ → Bool) (ps : List (ℕ × ℕ)) → list_any f ps ≡ true
@@ -261,8 +260,7 @@ module _ (by_statement : List (ℕ × ℕ)) (pairs_are_rising : AreRising by_sta
 
               not_at_or_later : (at ≡ p) ⊎ (at ≢ p) → ⊥
               not_at_or_later (inl at_is_p) =
-                  let statements_equal =
-                  ap (λ i. (get_or by_statement i (0, 0)).0) at_is_p in
+                  let statements_equal = ap (λ i. (get_or by_statement i (0, 0)).0) at_is_p in
                   omega (arith, statements_equal, statement_lt, statement_is_j)
               not_at_or_later (inr at_ne_p) =
                   p_not_before (earlier_is_before by_statement pairs_are_rising at p (0, 0)
@@ -287,8 +285,7 @@ module _ (by_statement : List (ℕ × ℕ)) (pairs_are_rising : AreRising by_sta
           let is_pair_of_j =
           (and_parts (nat_eq x low) (has_pair by_statement j y && nat_lt x y) is_later).1 in
           let place = place_of_pair by_statement j y
-          (and_parts (has_pair by_statement j y) (nat_lt x y) is_pair_of_j).0
-          in
+          (and_parts (has_pair by_statement j y) (nat_lt x y) is_pair_of_j).0 in
           let x_lt_y = ltb-true x y
           (and_parts (has_pair by_statement j y) (nat_lt x y) is_pair_of_j).1 in
           let variable_is_y = place.3 in
@@ -404,8 +401,7 @@ module _ (db : List Statement) (b : BlockLists) (are_blocks : IsBlocks db b) (k 
         let x_lt_y_test = (and_parts (has_pair by_statement j y) (nat_lt x y) is_later_pair).1 in
         let x_lt_y = ltb-true x y x_lt_y_test in
         let x_of_j = paired_is_active_member j x (ap (has_pair by_statement j) x_is_variable
-        ∙ has_pair_at_place by_statement place.0 (0, 0) place.1)
-        in
+        ∙ has_pair_at_place by_statement place.0 (0, 0) place.1) in
         let y_of_j = paired_is_active_member j y
         (and_parts (has_pair by_statement j y) (nat_lt x y) is_later_pair).0 in
         let some_active_has_both =

@@ -212,8 +212,7 @@ module _ (db : List Statement) (is_sound : IsSound db) where
       has_variable (Some (floating l a [] d)) statement_k_is_o k_is_floating =
           absurd (let no_typing_fault = (both_are_empty (label_faults (names_before db k) l)
           (floating_faults (names_before db k) a [])
-          (lawful_has_no_faults k k_lt_length_db (floating l a [] d) statement_k_is_o)).1
-          in
+          (lawful_has_no_faults k k_lt_length_db (floating l a [] d) statement_k_is_o)).1 in
           cc)
       has_variable (Some (floating l a (c ∷ []) d)) statement_k_is_o k_is_floating =
           absurd (let no_typing_fault = (both_are_empty (label_faults (names_before db k) l)

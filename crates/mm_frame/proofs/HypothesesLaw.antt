@@ -207,12 +207,10 @@ module _ (db : List Statement) (k : ℕ) where
           eqb-true j last_float
           (and_parts (nat_eq j last_float)
           (not (nat_eq last_float never) && is_block_open db last_float k)
-          witness.2).0
-          in
+          witness.2).0 in
           let t_is_open = (and_parts (nat_eq j last_float)
           (not (nat_eq last_float never) && is_block_open db last_float k)
-          witness.2).1
-          in
+          witness.2).1 in
           let v_is_mandatory = sym (variables_are v) ∙ witness.1 in
           let t_types_v =
           last_floats.last_is_typed v (mandatory_has_name v v_is_mandatory)

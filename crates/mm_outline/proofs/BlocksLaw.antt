@@ -12,8 +12,7 @@ use Rattle.mm_spec.specs.Statement.{Statement, is_opening, is_closing}
 use Rattle.mm_spec.specs.Scope.{depth, is_block_open}
 use Rattle.mm_spec.proofs.ActivityLaw.{is_block_open_one_later}
 use Rattle.mm_spec.proofs.ShapeLaw.{count_of_list_and_last}
-use Rattle.mm_outline.specs.Blocks.{BlockLists, block_lists, never, innermost, end_of}
-use Rattle.mm_outline.specs.Blocks.{IsBlocks}
+use Rattle.mm_outline.specs.Blocks.{BlockLists, block_lists, never, innermost, end_of, IsBlocks}
 
 -- ---- what stays the same after one statement more
 

@@ -1,17 +1,15 @@
 -- Progress goes on by one token.
 use Rattle.std.proofs.lemmas.Grind.{common_steps}
-use Rattle.std.proofs.Common.{arith}
+use Rattle.std.proofs.Common.{arith, ◌≡◌, ℕ, ◌+◌, ◌<◌, List, [], ◌∷◌, ◌++◌, length, drop, None}
 use Rattle.std.proofs.lemmas.Bool.Decides.{nat_tests}
-use Rattle.std.proofs.Common.{◌≡◌, ℕ, ◌+◌, ◌<◌, List, [], ◌∷◌, ◌++◌, length, drop, None, Some, refl}
-use Rattle.std.proofs.Common.{sym, ap, ◌∙◌, subst, add-one, drop-cons, append_assoc}
+use Rattle.std.proofs.Common.{Some, refl, sym, ap, ◌∙◌, subst, add-one, drop-cons, append_assoc}
 use Rattle.mm_spec.specs.Text.{Token, fault}
 use Rattle.mm_spec.specs.declared.Fault.{Fault}
 use Rattle.mm_spec.specs.Statement.{Statement, shape_code}
 use Rattle.mm_spec.specs.Laws.Table as table
 use Rattle.mm_spec.specs.Laws.Table.{Progress, start, statements_from, shape_fault_from}
-use Rattle.mm_spec.specs.Laws.Table.{progress_from, is_between_statements}
-use Rattle.mm_spec.specs.Laws.Table.{class, Transition, statements_after, shape_fault_after}
-use Rattle.mm_spec.specs.Laws.Table.{progress_after}
+use Rattle.mm_spec.specs.Laws.Table.{progress_from, is_between_statements, class, Transition}
+use Rattle.mm_spec.specs.Laws.Table.{statements_after, shape_fault_after, progress_after}
 use Rattle.mm_spec.specs.declared.Word.{Word}
 use Rattle.mm_outline.specs.Parts.{as_tokens, token_at, nth_word, progress}
 use Rattle.mm_outline.specs.NextStatement.{Leads, tokens_from, is_start}

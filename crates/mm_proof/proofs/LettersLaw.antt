@@ -13,9 +13,7 @@ use Rattle.mm_spec.specs.declared.Fault.{Fault}
 use Rattle.mm_spec.specs.Text.{Bytes, Token, fault}
 use Rattle.mm_spec.specs.Lawful.{when, at}
 use Rattle.mm_spec.specs.Steps as spec
-use Rattle.mm_spec.specs.Steps.{PlacedStep, placed, label}
-use Rattle.mm_spec.specs.Steps as spec
-use Rattle.mm_spec.specs.Steps.{marked}
+use Rattle.mm_spec.specs.Steps.{PlacedStep, placed, label, marked}
 use Rattle.mm_spec.specs.CompressedProof.{Letter, letters_from, letters_of, letter_faults, Group}
 use Rattle.mm_spec.specs.CompressedProof.{is_early, is_last, groups, value, starts_at, step_of}
 use Rattle.mm_spec.specs.CompressedProof.{group_steps, group_faults}

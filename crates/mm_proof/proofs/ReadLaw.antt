@@ -5,13 +5,12 @@ use Rattle.std.proofs.Common.{true≢false, flat_map}
 use Rattle.std.proofs.lemmas.Option.{slice_get_within}
 use Rattle.std.specs.Option.{option_map}
 use Rattle.std.specs.List.{list_any}
-use Rattle.mm_spec.specs.Text.{Token}
+use Rattle.mm_spec.specs.Text.{Token, fault}
 use Rattle.mm_spec.specs.Statement.{Statement, provable, proof_of}
 use Rattle.mm_spec.specs.NormalProof.{normal_faults, normal_steps}
 use Rattle.mm_spec.specs.CompressedProof.{bracketed, compressed_faults, compressed_steps}
 use Rattle.mm_spec.specs.Proof.{reading_faults, steps}
 use Rattle.mm_spec.specs.Citation.{is_theorem, reading_faults_at, steps_at}
-use Rattle.mm_spec.specs.Text.{fault}
 use Rattle.mm_spec.specs.declared.Code.TheVariants.{EmptyProof}
 use Rattle.mm_proof.specs.Refused.{word_faults}
 use Rattle.mm_database.specs.Database.{end_at}

@@ -18,9 +18,8 @@ use Rattle.std.specs.Prelude.{nat_lt}
 use Rattle.std.proofs.Math.Bool.{or-false, or-true}
 use Rattle.mm_spec.proofs.FaultlessLaw.{both_are_empty, no_least_no_faults}
 use Rattle.mm_outline.specs.Blocks.{BlockLists, IsBlocks, never, pushed}
-use Rattle.mm_scope.specs.WordEntry.{WordEntry, entry_of, declared_entry, typed_entry}
-use Rattle.mm_scope.specs.WordEntry.{IsEntryOf, gives_other_typecode, is_constant_entry}
-use Rattle.mm_scope.specs.WordEntry.{is_variable_entry}
+use Rattle.mm_scope.specs.WordEntry.{WordEntry, entry_of, declared_entry, typed_entry, IsEntryOf}
+use Rattle.mm_scope.specs.WordEntry.{gives_other_typecode, is_constant_entry, is_variable_entry}
 use Rattle.mm_scope.specs.WordEntry.{entry_after, label_after}
 use Rattle.mm_outline.specs.Parts.{statement_between}
 use Rattle.mm_scope.specs.ReadSoFar.{KnowsStatements}

@@ -14,10 +14,8 @@ use Rattle.mm_spec.specs.Scope.{constants_of, label_words, typings_of}
 use Rattle.mm_outline.specs.Blocks.{BlockLists, IsBlocks, never, end_in, is_never, is_open_in}
 use Rattle.mm_scope.specs.Knows as judge
 use Rattle.mm_scope.specs.Knows.{Knows, has_other_typecode, is_typed_here}
-use Rattle.mm_scope.specs.WordEntry.{entry_of}
-use Rattle.mm_scope.specs.WordEntry.{IsEntryOf, typed_by, typecode_by, gives_other_typecode}
-use Rattle.mm_scope.specs.WordEntry.{is_constant_entry}
-use Rattle.mm_scope.specs.WordEntry.{is_variable_entry}
+use Rattle.mm_scope.specs.WordEntry.{entry_of, IsEntryOf, typed_by, typecode_by}
+use Rattle.mm_scope.specs.WordEntry.{gives_other_typecode, is_constant_entry, is_variable_entry}
 use Rattle.mm_outline.specs.Typed.{has_word, typed_words}
 use Rattle.mm_scope.specs.ReadSoFar.{KnowsStatements}
 use Rattle.mm_database.specs.Names.{is_constant_in, is_variable_in}

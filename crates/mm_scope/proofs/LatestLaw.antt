@@ -7,8 +7,7 @@ use Rattle.std.specs.List.{list_any, range_with_len}
 use Rattle.mm_spec.specs.Text.{Bytes, is_in}
 use Rattle.mm_spec.specs.Statement.{Statement}
 use Rattle.mm_spec.specs.Scope.{is_active, is_some_still_active, is_global, is_local}
-use Rattle.mm_spec.specs.Scope.{active_statements}
-use Rattle.mm_spec.specs.Scope.{depth, is_block_open}
+use Rattle.mm_spec.specs.Scope.{active_statements, depth, is_block_open}
 use Rattle.mm_spec.proofs.LocalLaw.{get_front, get_at_seam}
 use Rattle.std.proofs.lemmas.Bool.{lt-ltb, cases_lt}
 use Rattle.mm_spec.proofs.FindsLaw.{range_any}

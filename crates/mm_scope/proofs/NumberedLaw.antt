@@ -1,10 +1,9 @@
 -- Symbols keep their numbers when statements are added.
-use Rattle.std.proofs.Common.{◌≡◌, ℕ, suc, ◌+◌, ◌<◌, ◌≤◌}
-use Rattle.std.proofs.Common.{Bool, true, false, ◌||◌, List, [], ◌∷◌, ◌++◌, length, map, flat_map}
-use Rattle.std.proofs.Common.{get_or, slice_get, None, Some}
-use Rattle.std.proofs.Common.{bytes_eq, if◌then◌else◌, refl, sym, ap, ap₂, ◌∙◌, subst, arith}
-use Rattle.std.proofs.Common.{true≢false, append_assoc, append-nil, length-append}
-use Rattle.std.proofs.lemmas.List.{map-append}
+use Rattle.std.proofs.Common.{◌≡◌, ℕ, suc, ◌+◌, ◌<◌, ◌≤◌, Bool, true, false, ◌||◌, List, [], ◌∷◌}
+use Rattle.std.proofs.Common.{◌++◌, length, map, flat_map, get_or, slice_get, None, Some, bytes_eq}
+use Rattle.std.proofs.Common.{if◌then◌else◌, refl, sym, ap, ap₂, ◌∙◌, subst, arith, true≢false}
+use Rattle.std.proofs.Common.{append_assoc, append-nil, length-append}
+use Rattle.std.proofs.lemmas.List.{map-append, length-map}
 use Rattle.std.proofs.lemmas.Grind.{flat_map-append}
 use Rattle.std.proofs.lemmas.Option.{slice_get_within, slice_get-get_or}
 use Rattle.mm_spec.specs.Text.{Bytes, Token, is_in, words}
@@ -22,7 +21,6 @@ use Rattle.mm_lists.specs.Lists.{AreJoined, with_end}
 use Rattle.mm_database.specs.Names.{with_name}
 use Rattle.mm_lists.proofs.ListsLaw.{joined_with_one_more}
 use Rattle.mm_outline.proofs.StatementsLaw.{element_of_mapped}
-use Rattle.std.proofs.lemmas.List.{length-map}
 use Rattle.mm_scope.specs.Formulas.{AreFormulas, numbers_in, judged, unjudged}
 use Rattle.mm_database.proofs.SymbolsLaw.{first_occurrences_push, if_new, bytes_eq_itself}
 use Rattle.mm_scope.proofs.BoundsLaw.{symbol_is_declared_name}

@@ -6,8 +6,7 @@ use Rattle.mm_spec.specs.Text.{Token}
 use Rattle.mm_spec.specs.declared.Word.{Word}
 use Rattle.mm_database.specs.declared.names.Symbol.{Symbol}
 use Rattle.mm_outline.specs.Parts.{between, token_at}
-use Rattle.mm_scope.specs.WordEntry.{WordEntry, entry_of, typed_entry}
-use Rattle.mm_scope.specs.WordEntry.{typed_after}
+use Rattle.mm_scope.specs.WordEntry.{WordEntry, entry_of, typed_entry, typed_after}
 use Rattle.mm_scope.proofs.JudgeLaw.{between_is_two_tokens, length_between}
 
 -- a `$f` that has not two symbols types nothing

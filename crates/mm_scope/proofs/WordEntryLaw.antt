@@ -12,10 +12,9 @@ use Rattle.mm_spec.specs.Text.{Bytes, is_in}
 use Rattle.mm_spec.specs.Statement.{Statement}
 use Rattle.mm_spec.specs.Scope.{Typing, active_statements, variables_of, constants_of, typings_of}
 use Rattle.mm_outline.specs.Blocks.{never}
-use Rattle.mm_scope.specs.WordEntry.{WordEntry, entry, declared_entry, typed_entry}
-use Rattle.mm_scope.specs.WordEntry.{IsEntryOf, Latest, typed_by, typecode_by, declared_by}
-use Rattle.mm_scope.specs.WordEntry.{gives_other_typecode}
-use Rattle.mm_scope.specs.WordEntry.{is_constant_entry, is_variable_entry}
+use Rattle.mm_scope.specs.WordEntry.{WordEntry, entry, declared_entry, typed_entry, IsEntryOf}
+use Rattle.mm_scope.specs.WordEntry.{Latest, typed_by, typecode_by, declared_by}
+use Rattle.mm_scope.specs.WordEntry.{gives_other_typecode, is_constant_entry, is_variable_entry}
 use Rattle.mm_outline.specs.Typed.{typed_words}
 use Rattle.mm_scope.proofs.LatestLaw.{latest_unchanged, latest_is_new}
 

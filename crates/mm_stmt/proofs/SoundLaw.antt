@@ -14,8 +14,7 @@ use Rattle.mm_spec.specs.Lexed.{LexedText}
 use Rattle.mm_spec.specs.Output.{IsRead}
 use Rattle.mm_spec.proofs.LocalLaw.{scope_fault_front}
 use Rattle.mm_outline.specs.Blocks.{BlockLists}
-use Rattle.mm_scope.specs.WordEntry.{WordEntry, entry_of}
-use Rattle.mm_scope.specs.WordEntry.{is_constant_entry, is_variable_entry}
+use Rattle.mm_scope.specs.WordEntry.{WordEntry, entry_of, is_constant_entry, is_variable_entry}
 use Rattle.mm_scope.specs.ReadSoFar.{KnowsStatements}
 use Rattle.mm_database.specs.ParsedStatements.{IsSound}
 use Rattle.mm_database.specs.declared.names.Symbol.{Symbol}

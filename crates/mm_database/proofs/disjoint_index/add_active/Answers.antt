@@ -58,8 +58,7 @@ loop-by_symbol-preserved g c =
         rw w.by_statement-is
             (added_closed blocks ps c.requires.ordered.rising x at start parted end
             c.skip_last-end.result c.args.by_statement.now.items c.loop-by_symbol.by_statement.items
-            c.loop-by_symbol.invariant.1
-            last_has_symbol.0 (subst
+            c.loop-by_symbol.invariant.1 last_has_symbol.0 (subst
             (λ (qs : List (ℕ × ℕ)). nat_le at (end_of blocks (get_or qs (end - 1) (0, 0)).1)
             ≡ false) pairs_are_ps
             (sym c.is_open_at.ensures ∙ w.if-is_open_at.false)) next_lt_end
@@ -84,7 +83,6 @@ returns g c =
     in
     let last_symbol_ne_x = c.ends_with.ensures.differs_if_false c.loop-by_symbol-test.false in
     all_are_added blocks ps c.requires.ordered.rising x at start parted end
-    c.args.by_statement.now.items
-    c.loop-by_symbol.by_statement.items c.loop-by_symbol.invariant.1
+    c.args.by_statement.now.items c.loop-by_symbol.by_statement.items c.loop-by_symbol.invariant.1
     (λ end_gt_0. other_symbol_if_equal _ ps _ x pairs_are_ps c.number-in-loop-by_symbol.ensures
     (end - 1) (last_symbol_ne_x end_gt_0))

@@ -5,10 +5,8 @@ use Rattle.mm_outline.specs.Blocks.{end_of}
 use Rattle.mm_database.specs.Pairs.{has_pair}
 use Rattle.mm_database.specs.DisjointIndex.{PairLists}
 use Rattle.mm_database.proofs.DisjointIndexLaw.{none_before_x_end, none_before_y_end, none_at_end}
-use Rattle.mm_database.proofs.DisjointIndexLaw.{none_before_end}
-use Rattle.mm_database.proofs.DisjointIndexLaw.{is_before}
-use Rattle.mm_database.proofs.DisjointIndexLaw.{has_pair_at_place, parted_if_equal}
-use Rattle.mm_database.proofs.DisjointIndexLaw.{symbol_if_equal}
+use Rattle.mm_database.proofs.DisjointIndexLaw.{none_before_end, is_before, has_pair_at_place}
+use Rattle.mm_database.proofs.DisjointIndexLaw.{parted_if_equal, symbol_if_equal}
 use Rattle.mm_database.proofs.DisjointIndexLaw.{other_symbol_if_equal}
 use Rattle.mm_database.proofs.disjoint_index.are_together.Goals as goal
 use Rattle.mm_database.proofs.disjoint_index.are_together.Goals.{else-x_statement-y_statement-via-then-x_statement-y_statement+else-is_open_at}
@@ -36,8 +34,7 @@ returns-then-is_open_at-clause-are_together_if_true g c =
     let y_statement = c.ends_with-in-loop-by_symbol.ensures.ends_if_true c.if-ends_with.true in
     let last_symbol_is_x =
     symbol_if_equal _ ps _ x pairs_are_ps c.number-in-loop-by_symbol.ensures (x_end - 1)
-    x_statement.1
-    in
+    x_statement.1 in
     let last_symbol_is_y =
     symbol_if_equal _ ps _ y pairs_are_ps c.number-in-loop-by_symbol-2.ensures (y_end - 1)
     y_statement.1 in
@@ -176,8 +173,7 @@ returns-else-ends_with-clause-none_if_false g c =
     let last_symbol_ne_y =
     c.ends_with-in-loop-by_symbol.ensures.differs_if_false c.if-ends_with.false in
     λ result_is_false. none_at_end blocks ps c.requires.ordered.rising c.args.x y at
-    c.loop-by_symbol.x_end y_end
-    c.loop-by_symbol.invariant.none_in_common
+    c.loop-by_symbol.x_end y_end c.loop-by_symbol.invariant.none_in_common
     (inr (none_before_end blocks ps c.requires.ordered.rising y at start parted y_end
     c.loop-by_symbol.invariant.y_end_falls
     (λ y_end_gt_0. other_symbol_if_equal _ ps _ y pairs_are_ps c.number-in-loop-by_symbol-2.ensures
@@ -201,8 +197,7 @@ returns-after-loop-by_symbol-clause-none_if_false g c =
     in
     let last_symbol_ne_x = c.ends_with.ensures.differs_if_false c.loop-by_symbol-test.false in
     λ result_is_false. none_at_end blocks ps c.requires.ordered.rising x c.args.y at x_end
-    c.loop-by_symbol.y_end
-    c.loop-by_symbol.invariant.none_in_common
+    c.loop-by_symbol.y_end c.loop-by_symbol.invariant.none_in_common
     (inl (none_before_end blocks ps c.requires.ordered.rising x at start parted x_end
     c.loop-by_symbol.invariant.x_end_falls
     (λ x_end_gt_0. other_symbol_if_equal _ ps _ x pairs_are_ps c.number-in-loop-by_symbol.ensures

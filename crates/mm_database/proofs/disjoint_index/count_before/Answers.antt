@@ -27,6 +27,5 @@ returns-clause-later_are_not_before c =
     (λ p. nat_lt p.1 c.args.at) _ _ c.partition_point-earlier.ensures.partitioned is_partitioned
     (λ a r q k. search rules) in
     pair_after_point_is_not_before c.args.by_symbol.now c.requires.rising c.args.symbol c.args.at _
-    _
-    c.start_of-from.ensures c.start_of-to.ensures _ c.partition_point-earlier.ensures.bound
+    _ c.start_of-from.ensures c.start_of-to.ensures _ c.partition_point-earlier.ensures.bound
     is_partition_point

@@ -14,10 +14,7 @@ loop-essential-preserved g c =
     omega (arith, last_lt_at, at_le_length) in
     rw c.in_ok-push.ensures.items
     (walked_with_last is_essential c.args.statements.now.list c.args.at c.loop-essential.into.items
-    last
-    next
-    at_le_length
-    c.loop-essential.invariant c.loop-essential-test.true
+    last next at_le_length c.loop-essential.invariant c.loop-essential-test.true
     (c.requires.are_latest.each_is_latest last last_le_length))
 
 pub returns : goal.returns

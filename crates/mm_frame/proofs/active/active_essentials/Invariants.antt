@@ -1,6 +1,5 @@
 use Rattle.mm_spec.specs.Frame.{is_essential}
-use Rattle.mm_frame.proofs.LatestLaw.{IsWalked}
-use Rattle.mm_frame.proofs.LatestLaw.{height}
+use Rattle.mm_frame.proofs.LatestLaw.{IsWalked, height}
 use Rattle.mm_frame.proofs.active.active_essentials.Given as goal
 
 abbrev pub invariant-loop-essential : goal.invariant-loop-essential

@@ -43,6 +43,5 @@ loop-statement-preserved g c =
     each_latest_with_next is_essential c.args.statements.now.list c.loop-statement.latest.items
     c.push-in-loop-statement.new.self.items
     c.latest_essential-essential.result c.loop-statement.statement latest_count
-    c.in_ok-push-2.ensures.items
-    c.loop-statement.invariant.each_is_latest
+    c.in_ok-push-2.ensures.items c.loop-statement.invariant.each_is_latest
     c.latest_essential-essential.ensures

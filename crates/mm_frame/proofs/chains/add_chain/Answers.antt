@@ -22,8 +22,7 @@ loop-link-preserved g c =
           (arith, next_le_index, index_lt_length));
       rest_is_chain = λ statements is_chain. rw (c.in_ok-push.ensures.items, link_is_at_index)
           (rest_after_link links c.args.symbol c.args.by_symbol.now.items
-          c.loop-link.by_symbol.items
-          statements
+          c.loop-link.by_symbol.items statements
           n number_gt_0 (c.loop-link.invariant.rest_is_chain statements is_chain));
     }
 

@@ -16,8 +16,7 @@ loop-symbol-preserved g c =
       end_is_count,
       c.symbol_count-symbol-end.ensures.count,
       c.in_ok-chains.ensures.head_count_is,
-    )
-    in
+    ) in
     let chain = c.in_ok-chains.ensures.are_chains x x_lt_length_heads in
     pairs_with_symbol c.args.statements.now.list x
     (get_or heads x 0) links c.loop-symbol.by_symbol.items

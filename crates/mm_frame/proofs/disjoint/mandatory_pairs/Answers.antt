@@ -19,9 +19,7 @@ returns g c = ok_then c.symbol_pairs.result c.symbol_pairs.ensures (λ v pairs_a
     let variables = c.args.variables.now in
     pairs_are_symbol_pairs ∙ ap (map (λ p. pair p.0 p.1)) c.deref-2.ensures.value
     ∙ pairs_are_mandatory_pairs db b c.blocks-2.ensures.are_blocks k k_le_length_db ps
-    c.requires.are_sources.index_is.members_are
-    variables
-    c.sort_and_dedup_pairs.new.pairs.items
+    c.requires.are_sources.index_is.members_are variables c.sort_and_dedup_pairs.new.pairs.items
     c.requires.are_mandatory
     (λ j y. c.sort_and_dedup_pairs.ensures.members_stay j y
     ∙ rw (← c.blocks-2.ensures.blocks) (c.in_ok-add_all_active.ensures j y)

@@ -1,6 +1,5 @@
 use Rattle.std.proofs.Common.{arith}
-use Rattle.mm_database.proofs.StartsLaw.{starts_push}
-use Rattle.mm_database.proofs.StartsLaw.{starts_of_all_pairs}
+use Rattle.mm_database.proofs.StartsLaw.{starts_push, starts_of_all_pairs}
 use Rattle.mm_frame.proofs.disjoint_index.starts_of.Goals as goal
 
 pub loop-starts-preserved : goal.loop-starts-preserved

@@ -20,8 +20,7 @@ pub loop-statement-init : goal.loop-statement-init
 loop-statement-init g c = record {
   last_floats =
       last_floats_at_start c.args.statements.now.list c.in_ok-last_floats.last_floats.items
-      c.symbol_count.result
-      c.symbol_count.ensures.count c.in_ok-last_floats.ensures.length_is
+      c.symbol_count.result c.symbol_count.ensures.count c.in_ok-last_floats.ensures.length_is
       c.in_ok-last_floats.ensures.each_is_value;
   stamps = record {
     count = c.in_ok-filled.ensures.length_is ∙ c.symbol_count-2.ensures.count;

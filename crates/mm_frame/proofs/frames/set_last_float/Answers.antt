@@ -12,6 +12,5 @@ returns-in-Some g c =
 pub returns-in_default : goal.returns-in_default
 returns-in_default g c =
     last_floats_without_float c.args.statements.now.list c.args.statement
-    c.args.last_floats.now.items
-    c.requires.are_last_floats
+    c.args.last_floats.now.items c.requires.are_last_floats
     (sym c.typed_variable.ensures ∙ c.in_default.is)

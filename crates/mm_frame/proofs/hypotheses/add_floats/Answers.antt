@@ -34,8 +34,7 @@ is_open_at-requires-clause-statement_lt_at g c =
     let number_is_symbol = c.number.ensures in
     let last_is_typed =
     c.requires.are_last_floats.last_is_typed c.number.result
-    (omega (arith, symbol_lt_count, symbol_is_item, number_is_symbol)) c.if-floating.true
-    in
+    (omega (arith, symbol_lt_count, symbol_is_item, number_is_symbol)) c.if-floating.true in
     let last_lt_at = last_is_typed.0 in
     omega (arith, last_lt_at)
 
@@ -48,8 +47,7 @@ is_open_at-requires-clause-at_le_length g c =
     let number_is_symbol = c.number.ensures in
     let last_is_typed =
     c.requires.are_last_floats.last_is_typed c.number.result
-    (omega (arith, symbol_lt_count, symbol_is_item, number_is_symbol)) c.if-floating.true
-    in
+    (omega (arith, symbol_lt_count, symbol_is_item, number_is_symbol)) c.if-floating.true in
     let last_lt_at = last_is_typed.0 in
     let at_le_length = c.requires.at_le_length in
     omega (arith, last_lt_at, at_le_length)

@@ -4,8 +4,7 @@ use Rattle.mm_spec.specs.Frame.{symbol_names, is_variable_number}
 use Rattle.mm_spec.proofs.MemberLaw.{member_push}
 use Rattle.mm_frame.specs.Hypotheses.{AreStamps}
 use Rattle.mm_frame.proofs.StampsLaw.{stamps_with_symbol, stamped_is_member, listed_with_new}
-use Rattle.mm_frame.proofs.StampsLaw.{listed_is_unchanged}
-use Rattle.mm_frame.proofs.StampsLaw.{not_listed_is_unchanged}
+use Rattle.mm_frame.proofs.StampsLaw.{listed_is_unchanged, not_listed_is_unchanged}
 use Rattle.mm_frame.proofs.hypotheses.add_variable.Goals as goal
 
 pub returns-in_ok-push-clause-are_stamps : goal.returns-in_ok-push-clause-are_stamps
@@ -39,8 +38,7 @@ returns-else-index-stamp-clause-variable_is_added g c = λ x.
     (stamped_is_member (length (symbol_names c.args.statements.now.list)) c.args.stamp
     c.args.stamps.now.items variables
     c.args.symbol c.number-index.result c.index.result.now c.requires.are_stamps
-    c.requires.symbol_lt_count
-    c.number-index.ensures c.index.ensures c.if-index-stamp.false)
+    c.requires.symbol_lt_count c.number-index.ensures c.index.ensures c.if-index-stamp.false)
 
 pub returns-else-is_variable-clause-variable_is_added :
     goal.returns-else-is_variable-clause-variable_is_added

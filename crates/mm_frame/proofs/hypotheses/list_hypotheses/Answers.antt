@@ -24,10 +24,8 @@ returns-clause-hypotheses_are_mandatory g c =
     let assertion_lt_length = c.requires.assertion_lt_length in
     let k_le_length_db : k ≤ length db = omega (arith, assertion_lt_length) in
     hypotheses_are_mandatory db k c.requires.are_sources.sound k_le_length_db ts
-    c.requires.are_ready.last_floats_are
-    c.list_mandatory_variables.new.variables.items
-    c.in_ok-list_mandatory_variables.ensures.are_mandatory
-    c.active_essentials.new.into.items
+    c.requires.are_ready.last_floats_are c.list_mandatory_variables.new.variables.items
+    c.in_ok-list_mandatory_variables.ensures.are_mandatory c.active_essentials.new.into.items
     c.sort_and_dedup_numbers.new.numbers.items
     c.in_ok-active_essentials.ensures c.sort_and_dedup_numbers.ensures.increasing
     (λ j. c.sort_and_dedup_numbers.ensures.members_stay j ∙ c.in_ok-add_floats.ensures j

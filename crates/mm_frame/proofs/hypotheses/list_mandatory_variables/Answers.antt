@@ -13,8 +13,7 @@ formula-requires-in-loop-essential g c =
     let assertion_lt_length = c.requires.assertion_lt_length in
     let essential_lt_assertion =
     essential_lt_k c.args.statements.now.list c.args.assertion c.args.essentials.now
-    c.requires.are_active
-    i c.loop-essential-test.true in
+    c.requires.are_active i c.loop-essential-test.true in
     omega (arith, essential_lt_assertion, assertion_lt_length)
 
 pub returns-clause-are_mandatory : goal.returns-clause-are_mandatory

@@ -67,8 +67,7 @@ pub returns-in_err-label_count-clause-fault_is_first :
     goal.returns-in_err-label_count-clause-fault_is_first
 returns-in_err-label_count-clause-fault_is_first g c =
     on_same_err c.from_residual-in_err-label_count.result c.in_err-label_count.field-0.0 _
-    c.from_residual-in_err-label_count.ensures.1
-    c.in_err-label_count.ensures.fault_is_first
+    c.from_residual-in_err-label_count.ensures.1 c.in_err-label_count.ensures.fault_is_first
 
 pub read_all-requires-clause-none_read : goal.read_all-requires-clause-none_read
 read_all-requires-clause-none_read g c =

@@ -27,15 +27,13 @@ returns-in-None-clause-fault_is_first g c =
     let first_fault =
     unusable_label_is_first_fault db c.args.theorem c.args.end earlier_labels (token_of text w)
     (as_tokens text (drop (n + 1) words)) c.loop-index.invariant.labels_are_faultless
-    word_closes_not
-    (ap (usable db c.args.theorem) (sym label_is_word) ∙ c.in-None.ensures) in
+    word_closes_not (ap (usable db c.args.theorem) (sym label_is_word) ∙ c.in-None.ensures) in
     rw c.refused.ensures (
       first_fault.0,
       ap (compressed_faults db c.args.theorem c.args.end)
           (c.loop-index.invariant.bracketed
           ∙ ap (λ ts. with_labels_before earlier_labels (bracketed ts))
-          (tokens_begin_with_word text words n no_word c.loop-index-test.true))
-          ∙ first_fault.1,
+          (tokens_begin_with_word text words n no_word c.loop-index-test.true)) ∙ first_fault.1,
     )
 
 pub returns-clause-fault_is_first : goal.returns-clause-fault_is_first

@@ -11,8 +11,7 @@ returns-in-None g c =
 pub returns-then-active_at : goal.returns-then-active_at
 returns-then-active_at g c =
     active_is_usable c.args.database.now.statements c.args.theorem c.args.label.now
-    c.in-Some.statement
-    c.in-Some.ensures.is_unique c.in-Some.ensures.has_label.1
+    c.in-Some.statement c.in-Some.ensures.is_unique c.in-Some.ensures.has_label.1
     (sym c.active_at.ensures ∙ c.if-active_at.true)
 
 pub returns-else-active_at : goal.returns-else-active_at

@@ -10,9 +10,8 @@ use Rattle.mm_proof.proofs.OrderLaw.{first_fault_is_refusal}
 use Rattle.mm_proof.proofs.BracketsLaw.{in_order_after_first}
 use Rattle.mm_proof.proofs.LettersLaw.{on_err_then}
 use Rattle.mm_proof.proofs.ReadLaw.{theorem_is_provable, theorem_lt_length, dot_is_end}
-use Rattle.mm_proof.proofs.ReadLaw.{compressed_faults_at, normal_faults_at}
-use Rattle.mm_proof.proofs.ReadLaw.{normal_steps_at, compressed_steps_at, empty_proof_faults_at}
-use Rattle.mm_proof.proofs.ReadLaw.{no_words}
+use Rattle.mm_proof.proofs.ReadLaw.{compressed_faults_at, normal_faults_at, normal_steps_at}
+use Rattle.mm_proof.proofs.ReadLaw.{compressed_steps_at, empty_proof_faults_at, no_words}
 use Rattle.mm_outline.proofs.ResultsLaw.{ok_then}
 use Rattle.mm_steps.specs.TheoremSteps.{theorem_steps}
 use Rattle.mm_spec.specs.Lawful.{least}
@@ -33,10 +32,8 @@ read_normal-requires-clause-words_rise g c =
     let is_provable =
     theorem_is_provable db c.args.theorem _ c.requires c.proof_words-words.ensures.words in
     proof_words_rise c.args.database.now.text c.args.database.now.read c.args.database.now.with_open
-    _
-    c.len.ensures.is_read db c.len.ensures.are_counted c.args.theorem is_provable.label
-    is_provable.keyword
-    is_provable.symbols
+    _ c.len.ensures.is_read db c.len.ensures.are_counted c.args.theorem is_provable.label
+    is_provable.keyword is_provable.symbols
     is_provable.equals _ is_provable.dot is_provable.statement_is
 
 pub read_compressed-requires-clause-in_order : goal.read_compressed-requires-clause-in_order
@@ -74,8 +71,7 @@ returns-then-eq-clause-fault_is_first g c =
     db c.len.ensures.are_counted c.args.theorem is_provable.label is_provable.keyword
     is_provable.symbols is_provable.equals _ is_provable.dot is_provable.statement_is) in
     let rest_is_in_order = subst (AreInOrder 0 rest) dot_is_end_place
-    (in_order_after_first text first c.in-Some.rest.now 0 is_provable.dot words_are_in_order)
-    in
+    (in_order_after_first text first c.in-Some.rest.now 0 is_provable.dot words_are_in_order) in
     let label_is_word =
     c.bytes.ensures ∙ ap (λ t. slice_range t first.start first.end)
     c.text.ensures in

@@ -130,8 +130,7 @@ statements-preserved g c =
     let is_read_to_next =
     is_read_to_with_statement text ws db loop.depth loop.token_index loop.invariant.reading
     c.requires.few_tokens
-    blocks
-    loop.invariant.is_read_so_far.knows.blocks outline.kind outline.keyword outline.middle
+    blocks loop.invariant.is_read_so_far.knows.blocks outline.kind outline.keyword outline.middle
     outline.end
     c.in-Whole.ensures.1.from_le_end
     c.in-Whole.ensures.1.end_lt_count c.in-Whole.ensures.1.leads none_is_least in

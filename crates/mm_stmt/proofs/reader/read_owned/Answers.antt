@@ -140,8 +140,7 @@ returns g c =
     let os = c.in_ok-outlined.outlined.outlines.items in
     let is_read_text =
     lent_words_are_read text c.as_slice-words.result.now words os _ _
-    (c.as_slice-words.ensures.value ∙ c.requires.tokens_of_text) refl
-    c.requires.fault_of_text
+    (c.as_slice-words.ensures.value ∙ c.requires.tokens_of_text) refl c.requires.fault_of_text
     c.in_ok-outlined.ensures.fault_is_read in
     let reading_is = c.in_ok-reading.ensures in
     let contents_are = c.new.ensures in

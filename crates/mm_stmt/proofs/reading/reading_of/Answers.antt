@@ -14,8 +14,7 @@ into_reading-requires g c =
     let symbols =
     are_symbols _ _ _ _ is_read_so_far.knows (names_of outlined.scope.names.symbols)
     c.in_ok-variable_flags.variable_flags.items is_read_so_far.names_are
-    c.in_ok-variable_flags.ensures.count_is
-    c.in_ok-variable_flags.ensures.flags_are in
+    c.in_ok-variable_flags.ensures.count_is c.in_ok-variable_flags.ensures.flags_are in
     let name_count_is = ap length is_read_so_far.names_are in
     let symbols_are_few = c.requires.few_symbols in
     let flag_count_is = c.in_ok-variable_flags.ensures.count_is in

@@ -39,8 +39,7 @@ returns-in-Err-Fault g c =
     (is_first_fault db c.theorems-theorems.ensures.few_statements c.len.ensures.are_complete i
     c.in-Err-Fault.fault
     (valid_if_cited db c.theorems-theorems.ensures.few_statements c.len.ensures.are_complete
-    c.args.essential i
-    c.loop-theorem.lists c.loop-theorem.invariant.have_citations) (omega (
+    c.args.essential i c.loop-theorem.lists c.loop-theorem.invariant.have_citations) (omega (
       arith,
       index_lt_length,
       counts_equal,

@@ -1,8 +1,7 @@
 use Rattle.std.proofs.Common.{◌∙◌, Some, ap, slice_get, arith}
 use Rattle.mm_database.proofs.DatabaseLaw.{no_proof}
 use Rattle.mm_database.proofs.RetainedWordsLaw.{k_lt_retained_count, theorem_has_two_words}
-use Rattle.mm_database.proofs.RetainedWordsLaw.{proof_is_retained}
-use Rattle.mm_database.proofs.RetainedWordsLaw.{proof_within}
+use Rattle.mm_database.proofs.RetainedWordsLaw.{proof_is_retained, proof_within}
 use Rattle.mm_database.proofs.database.Database.proof_words.Goals as goal
 
 pub get-words-requires : goal.get-words-requires

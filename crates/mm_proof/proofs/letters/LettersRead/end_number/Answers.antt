@@ -14,8 +14,7 @@ returns-clause-reads g c = λ byte is_last_letter.
       labels = refl;
       continues =
           continues_after_last_letter_of_number s.theorem s.labels s.marks c.args.number s.steps
-          c.args._at byte _
-          c.requires.is_read_up_to.begins is_last_letter.0 is_last_letter.1
+          c.args._at byte _ c.requires.is_read_up_to.begins is_last_letter.0 is_last_letter.1
           (λ n saturated_equal. c.in-Some.ensures.step_is_of_number n
           (c.with_next_digit-begun.ensures.value_is_saturated
           ∙ ap (λ d. saturated (20 * c.args.number.value + d)) is_last_letter.2 ∙ saturated_equal));
@@ -29,5 +28,4 @@ returns-in_err-add_step-clause-refuses g c =
 pub returns-clause-stands_after : goal.returns-clause-stands_after
 returns-clause-stands_after g c =
     stands_at_next_with_step c.args.self.now c.add_step.new.self c.args._at _
-    c.requires.is_read_up_to.stands
-    c.in_ok-add_step.ensures
+    c.requires.is_read_up_to.stands c.in_ok-add_step.ensures

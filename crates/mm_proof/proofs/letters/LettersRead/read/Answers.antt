@@ -106,7 +106,6 @@ returns-in-Early-clause-reads g c =
           continues_after_early_letter_of_number s.theorem s.labels s.marks c.args.number.now
           s.steps c.args.at c.args.byte
           c.with_next_digit.result c.requires.is_read_up_to.begins c.in-Early.ensures.0
-          c.with_next_digit.ensures.place_stays
-          (c.with_next_digit.ensures.value_is_saturated
+          c.with_next_digit.ensures.place_stays (c.with_next_digit.ensures.value_is_saturated
           ∙ ap (λ d. saturated (5 * c.args.number.now.value + d)) c.in-Early.ensures.1);
     }

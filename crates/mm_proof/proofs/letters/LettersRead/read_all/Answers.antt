@@ -12,9 +12,8 @@ use Rattle.mm_proof.specs.Refused.{StartsWith}
 use Rattle.std.proofs.lemmas.List.{drop_more}
 use Rattle.mm_proof.proofs.LettersLaw.{on_same_err, continues_from_start, letter_fault_is_first}
 use Rattle.mm_proof.proofs.LettersLaw.{open_number_is_first_fault, no_fault_at_end}
-use Rattle.mm_proof.proofs.LettersLaw.{continues_at_end}
-use Rattle.mm_proof.proofs.LettersLaw.{steps_are_all_steps, words_have_letters, StandsBefore}
-use Rattle.mm_proof.proofs.LettersLaw.{stands_before_rest}
+use Rattle.mm_proof.proofs.LettersLaw.{continues_at_end, steps_are_all_steps, words_have_letters}
+use Rattle.mm_proof.proofs.LettersLaw.{StandsBefore, stands_before_rest}
 use Rattle.mm_proof.proofs.LettersLaw.{number_with_letters_is_begun}
 use Rattle.mm_proof.proofs.LettersLaw.{number_without_letters_is_not_begun}
 use Rattle.mm_proof.proofs.letters.LettersRead.read_all.Goals as goal

@@ -44,8 +44,7 @@ returns-then-is_some g c =
     let symbols_are_unchanged : c.truncate.new.self.items ≡ symbols_before =
     c.truncate.ensures.items
     ∙ ap₂ take (c.len-number_count.ensures ∙ c.args.self.now.symbols.ok.0)
-    c.in_ok-self.ensures.numbers_are_added
-    ∙ take-append-le (length symbols_before) symbols_before
+    c.in_ok-self.ensures.numbers_are_added ∙ take-append-le (length symbols_before) symbols_before
     (judged (names_in c.args.self.now.scope) s)
     (le_refl (length symbols_before))
     ∙ take_all (length symbols_before) symbols_before (le_refl (length symbols_before)) in
@@ -90,8 +89,7 @@ returns g c =
     taken_numbers db s c.args.self.now.symbols.items c.fault.new.numbers.items
     c.number_others.new.numbers.items (names_of c.args.self.now.scope.names.symbols)
     (names_of c.add.new.self.names.symbols) is_read_so_far.names_are names_are
-    c.in_ok-self.ensures.numbers_are_added
-    c.in_ok-number_others.ensures in
+    c.in_ok-self.ensures.numbers_are_added c.in_ok-number_others.ensures in
     let are_formulas =
     formulas_with_statement db may_take.lawful s c.args.self.now.symbols.items
     c.args.self.now.ends.items is_read_so_far.formulas c.number_others.new.numbers.items

@@ -23,8 +23,7 @@ loop-token_index-preserved g c =
       symbols =
           declared_with_next_word c.args.text.now c.args.tokens.now from
           c.loop-token_index.token_index from_le_index
-          index_lt_length
-          c.args.is_variable c.args.statement c.declared_symbol-symbol.result
+          index_lt_length c.args.is_variable c.args.statement c.declared_symbol-symbol.result
           (find c.args.self.now.names.symbols) (find c.loop-token_index.self.names.symbols)
           (find c.set_symbol.new.self.symbols)
           (λ w. c.in_ok-set_symbol.ensures.symbol_is_set w

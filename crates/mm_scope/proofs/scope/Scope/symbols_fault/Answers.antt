@@ -37,9 +37,7 @@ loop-token_index-preserved g c =
           (c.fault_with_code.ensures
           ∙ c.symbol_code.ensures t.word
           (sym (c.numbered-number.ensures.symbol_is_found ∙ ap (find s.names.symbols)
-          c.bytes.ensures))
-          t.at n are_names)
-          ∙ ap least
+          c.bytes.ensures)) t.at n are_names) ∙ ap least
           (sym (at_each_between_push text ws c.args.from c.loop-token_index.token_index
           from_le_index index_lt_length
           (symbol_codes n)));

@@ -1,5 +1,4 @@
-use Rattle.std.proofs.Common.{[], ◌++◌, ◌+◌, ◌∙◌, sym, ap, arith}
-use Rattle.std.proofs.Common.{nat_lt}
+use Rattle.std.proofs.Common.{[], ◌++◌, ◌+◌, ◌∙◌, sym, ap, arith, nat_lt}
 use Rattle.mm_spec.specs.Lawful.{at, at_each, is_empty, least, scope_faults, when}
 use Rattle.mm_spec.specs.declared.Code.TheVariants.{ConstantInBlock, EmptyDeclaration}
 use Rattle.mm_outline.specs.Parts.{between, statement_between, nth_word}
