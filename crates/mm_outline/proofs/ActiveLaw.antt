@@ -25,11 +25,11 @@ active_kind_is_activity text ws kind.Disjoint w m e b = refl
 active_kind_is_activity text ws kind.Floating w m e b = refl
 active_kind_is_activity text ws kind.Essential w m e b = refl
 
-pub got_of_mapped : {X Y : Type 0} (f : X → Y) (xs : List X) (i : ℕ) (d : X) → i < length xs
+pub get_of_map : {X Y : Type 0} (f : X → Y) (xs : List X) (i : ℕ) (d : X) → i < length xs
     → slice_get (map f xs) i ≡ Some (f (get_or xs i d))
-got_of_mapped f [] i d i_lt_length = absurd (omega arith)
-got_of_mapped f (x ∷ xs) zero d i_lt_length = refl
-got_of_mapped f (x ∷ xs) (suc i) d i_lt_length = got_of_mapped f xs i d (omega arith)
+get_of_map f [] i d i_lt_length = absurd (omega arith)
+get_of_map f (x ∷ xs) zero d i_lt_length = refl
+get_of_map f (x ∷ xs) (suc i) d i_lt_length = get_of_map f xs i d (omega arith)
 
 pub active_test_is_activity : (text : List ℕ) (ws : List Word) (os : List Outline) (b : BlockLists)
     → IsBlocks (statements text ws os) b → (j k : ℕ) → j < length os → k ≤ length os → (d : Outline)
@@ -56,4 +56,4 @@ active_test_is_activity text ws os b is_blocks j k j_lt_length k_le_length d =
         (let length_is = length-map os (statement_of text ws) in
         omega (arith, length_is, k_le_length))))
         ∙ ap (λ q. is_some_still_active q (is_block_open (statements text ws os) j k))
-        (sym (got_of_mapped (statement_of text ws) os j d j_lt_length)))
+        (sym (get_of_map (statement_of text ws) os j d j_lt_length)))

@@ -405,7 +405,7 @@ fn is_repeated<'a, A: Allocator + Copy>(
     }
 }
 
-/// Adds the word to `seen`, and returns whether it was there before.
+/// Adds the word to `seen`, whose values say nothing, and returns whether it was there before.
 fn insert_word<'a, A: Allocator + Copy>(
     seen: &mut NameMap<'a, u32, A>,
     word: &'a [u8],
