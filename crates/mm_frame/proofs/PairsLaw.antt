@@ -146,9 +146,9 @@ same_pair_is_equal p q pairs_are_same =
     (eqb-true p.1 q.1 (and_parts (nat_eq p.0 q.0) (nat_eq p.1 q.1) pairs_are_same).1)
 
 -- sorting and leaving out repetitions keeps the same pairs
-pub sort_and_dedup_keep_pairs : (xs ys zs : List (ℕ × ℕ)) → IsPermutation xs ys → zs ≡ dedup same_pair ys
+pub sorting_keeps_pairs : (xs ys zs : List (ℕ × ℕ)) → IsPermutation xs ys → zs ≡ dedup same_pair ys
     → (x y : ℕ) → has_pair zs x y ≡ has_pair xs x y
-sort_and_dedup_keep_pairs xs ys zs is_permutation zs_are_deduped x y =
+sorting_keeps_pairs xs ys zs is_permutation zs_are_deduped x y =
     ap (λ z. has_pair z x y) zs_are_deduped
     ∙ same_tests _ _
     (λ has_pair_z. has_pair_from_contains xs x y

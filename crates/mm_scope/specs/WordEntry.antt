@@ -35,7 +35,8 @@ gives_other_typecode typecode word typing =
     bytes_eq word typing.variable && not (bytes_eq typecode typing.typecode)
 
 module _ (db : List Statement) (f : Statement → List Bytes) (w : Bytes) where
-  -- the last statement that has the word, the only one that may be active
+  -- the last statement that has the word among those that f gives, the only such statement that
+  -- may be active
   pub record Latest (last : ℕ) : Type 0 where
     pub last_lt_length : last < length db
     pub last_has_word : has_word db f w last ≡ true
