@@ -199,7 +199,7 @@ impl<'a, A: Allocator> Database<'a, A> {
 
     /// Returns the number of symbols. The number of each symbol is less than this.
     pub fn symbol_count(&self) -> u32
-        ensures count { result ≡ length (symbol_names self.now.statements) }
+        ensures count_is { result ≡ length (symbol_names self.now.statements) }
         ensures count_lt_2_31 { result < 2 ^ 31 }
     {
         self.reading.statements.symbol_count()
@@ -264,7 +264,7 @@ impl<'a, A: Allocator> Database<'a, A> {
     /// isn't a theorem.
     pub fn proof_words(&self, statement: u32) -> &[Word]
         requires { statement < length self.now.statements }
-        ensures words { option_map proof_of (slice_get self.now.statements statement)
+        ensures words_are { option_map proof_of (slice_get self.now.statements statement)
             ≡ Some (as_tokens self.now.text result.now) }
         ensures words_within { AreWithin self.now.text result.now }
     {

@@ -98,7 +98,7 @@ impl<'a, A: Allocator> Statements<'a, A> {
     /// Returns the blocks in which the statements are.
     #[inline(always)]
     pub fn blocks(&self) -> &Blocks<A>
-        ensures blocks { result.now ≡ self.now.blocks }
+        ensures blocks_are { result.now ≡ self.now.blocks }
         ensures are_blocks { IsBlocks self.now.list self.now.blocks }
     {
         &self.blocks
@@ -116,7 +116,7 @@ impl<'a, A: Allocator> Statements<'a, A> {
     /// Returns the number of symbols.
     #[inline(always)]
     pub fn symbol_count(&self) -> u32
-        ensures count { result ≡ length (symbol_names self.now.list) }
+        ensures count_is { result ≡ length (symbol_names self.now.list) }
         ensures count_lt_2_31 { result < 2 ^ 31 }
     {
         self.variable_flags.len() as u32

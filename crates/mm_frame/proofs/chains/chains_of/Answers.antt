@@ -20,7 +20,7 @@ loop-statement-init g c =
     record {
       statement_le_length = let len_is_length = c.len-statement.ensures.len in
           omega (arith, len_is_length);
-      count = length_heads_is_n ∙ c.symbol_count.ensures.count;
+      count = length_heads_is_n ∙ c.symbol_count.ensures.count_is;
       linked = rw c.new.ensures.items (no_links_are_linked heads heads_are_0);
       chains = rw (c.new.ensures.items, c.len-statement.ensures.len)
           (no_chains_at_start db heads heads_are_0);

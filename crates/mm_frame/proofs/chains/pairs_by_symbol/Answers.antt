@@ -14,7 +14,7 @@ loop-symbol-preserved g c =
       arith,
       symbol_lt_end,
       end_is_count,
-      c.symbol_count-symbol-end.ensures.count,
+      c.symbol_count-symbol-end.ensures.count_is,
       c.in_ok-chains.ensures.head_count_is,
     ) in
     let chain = c.in_ok-chains.ensures.are_chains x x_lt_length_heads in

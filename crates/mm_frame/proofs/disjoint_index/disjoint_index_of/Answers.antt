@@ -7,7 +7,7 @@ pub skips_of-requires : goal.skips_of-requires
 skips_of-requires g c =
     record {
       all_have_blocks =
-          rw (c.blocks-2.ensures.blocks, c.deref.ensures.value)
+          rw (c.blocks-2.ensures.blocks_are, c.deref.ensures.value)
           (have_blocks c.args.statements.now.list _ c.blocks-2.ensures.are_blocks
           c.in_ok-by_symbol.by_symbol.items c.in_ok-by_symbol.ensures.members_are);
     }
@@ -27,7 +27,7 @@ returns g c =
             c.in_ok-by_symbol.ensures.members_are;
         skips_are =
             subst (λ (ps : List (ℕ × ℕ)). AreSkips b ps ss) c.deref.ensures.value
-            (rw (← c.blocks-2.ensures.blocks) c.in_ok-skips.ensures);
+            (rw (← c.blocks-2.ensures.blocks_are) c.in_ok-skips.ensures);
       };
     } in
     rw c.new.ensures is_disjoint_index

@@ -20,13 +20,13 @@ pub loop-statement-init : goal.loop-statement-init
 loop-statement-init g c = record {
   last_floats =
       last_floats_at_start c.args.statements.now.list c.in_ok-last_floats.last_floats.items
-      c.symbol_count.result c.symbol_count.ensures.count c.in_ok-last_floats.ensures.length_is
+      c.symbol_count.result c.symbol_count.ensures.count_is c.in_ok-last_floats.ensures.length_is
       c.in_ok-last_floats.ensures.each_is_value;
   stamps = record {
-    count = c.in_ok-filled.ensures.length_is ∙ c.symbol_count-2.ensures.count;
+    count = c.in_ok-filled.ensures.length_is ∙ c.symbol_count-2.ensures.count_is;
     stamps_le_stamp =
         λ x x_lt_count.
-        let counts_equal = c.symbol_count-2.ensures.count in
+        let counts_equal = c.symbol_count-2.ensures.count_is in
         let stamp_is_0 =
         c.in_ok-filled.ensures.each_is_value x (omega (arith, x_lt_count, counts_equal)) in
         omega (arith, stamp_is_0);

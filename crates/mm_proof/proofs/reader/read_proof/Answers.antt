@@ -24,13 +24,13 @@ pub read_normal-requires-clause-theorem_lt_length :
 read_normal-requires-clause-theorem_lt_length g c =
     theorem_lt_length c.args.database.now.statements c.args.theorem _
     (theorem_is_provable c.args.database.now.statements c.args.theorem _ c.requires
-    c.proof_words-words.ensures.words)
+    c.proof_words-words.ensures.words_are)
 
 pub read_normal-requires-clause-words_rise : goal.read_normal-requires-clause-words_rise
 read_normal-requires-clause-words_rise g c =
     let db = c.args.database.now.statements in
     let is_provable =
-    theorem_is_provable db c.args.theorem _ c.requires c.proof_words-words.ensures.words in
+    theorem_is_provable db c.args.theorem _ c.requires c.proof_words-words.ensures.words_are in
     proof_words_rise c.args.database.now.text c.args.database.now.read c.args.database.now.with_open
     _ c.len.ensures.is_read db c.len.ensures.are_counted c.args.theorem is_provable.label
     is_provable.keyword is_provable.symbols
@@ -41,7 +41,7 @@ read_compressed-requires-clause-in_order g c =
     let db = c.args.database.now.statements in
     let text = c.args.database.now.text in
     let is_provable =
-    theorem_is_provable db c.args.theorem _ c.requires c.proof_words-words.ensures.words in
+    theorem_is_provable db c.args.theorem _ c.requires c.proof_words-words.ensures.words_are in
     let dot_is_end_place =
     dot_is_end db c.args.theorem c.end_at-end.result _ is_provable c.end_at-end.ensures in
     let words_are_in_order =
@@ -61,7 +61,7 @@ returns-then-eq-clause-fault_is_first g c =
     let first = c.in-Some.first.now in
     let rest = as_tokens text c.in-Some.rest.now in
     let is_provable =
-    theorem_is_provable db c.args.theorem _ c.requires c.proof_words-words.ensures.words in
+    theorem_is_provable db c.args.theorem _ c.requires c.proof_words-words.ensures.words_are in
     let dot_is_end_place =
     dot_is_end db c.args.theorem c.end_at-end.result _ is_provable c.end_at-end.ensures in
     let words_are_in_order =
@@ -93,7 +93,7 @@ returns-clause-steps_are_read g c =
     let db = c.args.database.now.statements in
     let text = c.args.database.now.text in
     let is_provable =
-    theorem_is_provable db c.args.theorem _ c.requires c.proof_words-words.ensures.words in
+    theorem_is_provable db c.args.theorem _ c.requires c.proof_words-words.ensures.words_are in
     let first = c.in-Some.first.now in
     let label_is_word =
     c.bytes.ensures ∙ ap (λ t. slice_range t first.start first.end)
@@ -112,7 +112,7 @@ returns-clause-has_no_fault g c =
     let db = c.args.database.now.statements in
     let text = c.args.database.now.text in
     let is_provable =
-    theorem_is_provable db c.args.theorem _ c.requires c.proof_words-words.ensures.words in
+    theorem_is_provable db c.args.theorem _ c.requires c.proof_words-words.ensures.words_are in
     let first = c.in-Some.first.now in
     let label_is_word =
     c.bytes.ensures ∙ ap (λ t. slice_range t first.start first.end)
@@ -129,7 +129,7 @@ returns-clause-fault_is_first g c =
     let db = c.args.database.now.statements in
     let text = c.args.database.now.text in
     let is_provable =
-    theorem_is_provable db c.args.theorem _ c.requires c.proof_words-words.ensures.words in
+    theorem_is_provable db c.args.theorem _ c.requires c.proof_words-words.ensures.words_are in
     let first = c.in-Some.first.now in
     let label_is_word =
     c.bytes.ensures ∙ ap (λ t. slice_range t first.start first.end)
@@ -147,7 +147,7 @@ returns-then-eq-clause-steps_are_read g c =
     let db = c.args.database.now.statements in
     let text = c.args.database.now.text in
     let is_provable =
-    theorem_is_provable db c.args.theorem _ c.requires c.proof_words-words.ensures.words in
+    theorem_is_provable db c.args.theorem _ c.requires c.proof_words-words.ensures.words_are in
     let first = c.in-Some.first.now in
     let label_is_word =
     c.bytes.ensures ∙ ap (λ t. slice_range t first.start first.end)
@@ -166,7 +166,7 @@ returns-then-eq-clause-has_no_fault g c =
     let db = c.args.database.now.statements in
     let text = c.args.database.now.text in
     let is_provable =
-    theorem_is_provable db c.args.theorem _ c.requires c.proof_words-words.ensures.words in
+    theorem_is_provable db c.args.theorem _ c.requires c.proof_words-words.ensures.words_are in
     let first = c.in-Some.first.now in
     let label_is_word =
     c.bytes.ensures ∙ ap (λ t. slice_range t first.start first.end)
@@ -194,7 +194,8 @@ pub returns-in_default-clause-fault_is_first : goal.returns-in_default-clause-fa
 returns-in_default-clause-fault_is_first g c =
     let db = c.args.database.now.statements in
     let text = c.args.database.now.text in
-    let t = theorem_is_provable db c.args.theorem _ c.requires c.proof_words-words.ensures.words in
+    let t =
+    theorem_is_provable db c.args.theorem _ c.requires c.proof_words-words.ensures.words_are in
     let e = dot_is_end db c.args.theorem c.end_at-end.result _ t c.end_at-end.ensures in
     rw c.refused.ensures
     (ap least

@@ -29,7 +29,7 @@ pub returns-in-Theorem : goal.returns-in-Theorem
 returns-in-Theorem g c =
     let theorem = c.kind.ensures ∙ ap Some c.in-Theorem.is in
     record {
-      words =
+      words_are =
           proof_is_retained _ _ _ _ _ c.self.view_is _ c.requires _ c.self.invariant.retained_are
           c.get-words.result.now c.get-words.ensures.is_list theorem;
       words_within =
@@ -40,7 +40,7 @@ returns-in-Theorem g c =
 pub returns-in_default : goal.returns-in_default
 returns-in_default g c =
     record {
-      words = no_proof
+      words_are = no_proof
           (slice_get c.args.self.now.statements c.args.statement) c.kind.result c.kind.ensures
           c.in_default.not-Theorem;
       words_within = λ k d index_lt_0. absurd (omega arith);
