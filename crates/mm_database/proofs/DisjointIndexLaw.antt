@@ -18,42 +18,42 @@ use Rattle.mm_database.specs.Pairs.{has_pair, IsBefore, is_pair_before, AreRisin
 use Rattle.mm_database.specs.DisjointIndex.{has_symbol, is_active_local, HaveBlocks}
 use Rattle.mm_outline.proofs.StatementsLaw.{passing_lt_length}
 
--- ---- pairs by their places
+-- ---- pairs by their indices
 
 -- a pair of the list stands somewhere in it
-pub place_of_pair : (ps : List (ℕ × ℕ)) (x y : ℕ) → has_pair ps x y ≡ true
+pub index_of_pair : (ps : List (ℕ × ℕ)) (x y : ℕ) → has_pair ps x y ≡ true
     → (p : ℕ) × (p < length ps) × ((get_or ps p (0, 0)).0 ≡ x) × ((get_or ps p (0, 0)).1 ≡ y)
-place_of_pair [] x y has_pair_x_y = absurd (true≢false (sym has_pair_x_y))
-place_of_pair (q ∷ qs) x y has_pair_x_y =
-    has_place (nat_eq x q.0 && nat_eq y q.1) refl has_pair_x_y (λ k. place_of_pair qs x y k)
+index_of_pair [] x y has_pair_x_y = absurd (true≢false (sym has_pair_x_y))
+index_of_pair (q ∷ qs) x y has_pair_x_y =
+    has_index (nat_eq x q.0 && nat_eq y q.1) refl has_pair_x_y (λ k. index_of_pair qs x y k)
   where
-    has_place : (b : Bool) → (nat_eq x q.0 && nat_eq y q.1) ≡ b → (b || has_pair qs x y) ≡ true
+    has_index : (b : Bool) → (nat_eq x q.0 && nat_eq y q.1) ≡ b → (b || has_pair qs x y) ≡ true
         → (has_pair qs x y ≡ true
         → (p : ℕ) × (p < length qs) × ((get_or qs p (0, 0)).0 ≡ x)
         × ((get_or qs p (0, 0)).1 ≡ y))
         → (p : ℕ) × (p < length (q ∷ qs)) × ((get_or (q ∷ qs) p (0, 0)).0 ≡ x)
         × ((get_or (q ∷ qs) p (0, 0)).1 ≡ y)
-    has_place true q_is_x_y has_pair_x_y place_in_rest = (
+    has_index true q_is_x_y has_pair_x_y found_in_rest = (
       0,
       omega arith,
       sym (eqb-true x q.0 (and_parts (nat_eq x q.0) (nat_eq y q.1) q_is_x_y).0),
       sym
           (eqb-true y q.1 (and_parts (nat_eq x q.0) (nat_eq y q.1) q_is_x_y).1),
     )
-    has_place false q_is_x_y has_pair_x_y place_in_rest = let place = place_in_rest has_pair_x_y in
-        let place_lt_length = place.1 in
-        (suc place.0, omega (arith, place_lt_length), place.2, place.3)
+    has_index false q_is_x_y has_pair_x_y found_in_rest = let found = found_in_rest has_pair_x_y in
+        let found_lt_length = found.1 in
+        (suc found.0, omega (arith, found_lt_length), found.2, found.3)
 
 -- the list has each pair that stands in it
-pub has_pair_at_place : (ps : List (ℕ × ℕ)) (p : ℕ) (d : ℕ × ℕ) → p < length ps
+pub has_pair_at_index : (ps : List (ℕ × ℕ)) (p : ℕ) (d : ℕ × ℕ) → p < length ps
     → has_pair ps (get_or ps p d).0 (get_or ps p d).1 ≡ true
-has_pair_at_place [] p d p_lt_length = absurd (omega arith)
-has_pair_at_place (q ∷ qs) zero d p_lt_length =
+has_pair_at_index [] p d p_lt_length = absurd (omega arith)
+has_pair_at_index (q ∷ qs) zero d p_lt_length =
     ap (λ b. b || has_pair qs q.0 q.1)
     (ap₂ (λ a b. a && b) (eq-eqb q.0 q.0 refl) (eq-eqb q.1 q.1 refl))
-has_pair_at_place (q ∷ qs) (suc p) d p_lt_length =
+has_pair_at_index (q ∷ qs) (suc p) d p_lt_length =
     ap (λ b. (nat_eq (get_or qs p d).0 q.0 && nat_eq (get_or qs p d).1 q.1) || b)
-    (has_pair_at_place qs p d (omega arith))
+    (has_pair_at_index qs p d (omega arith))
     ∙ or-true (nat_eq (get_or qs p d).0 q.0 && nat_eq (get_or qs p d).1 q.1)
 
 -- of two pairs in a list in ascending order, the earlier is before the later
@@ -63,7 +63,7 @@ pub earlier_is_before : (ps : List (ℕ × ℕ)) → AreRising ps → (i j : ℕ
 earlier_is_before [] are_rising i j d i_lt_j j_lt_length = absurd (omega arith)
 earlier_is_before (p ∷ ps) are_rising zero zero d i_lt_j j_lt_length = absurd (omega arith)
 earlier_is_before (p ∷ ps) are_rising zero (suc j) d i_lt_j j_lt_length =
-    are_rising.0 (get_or ps j d).0 (get_or ps j d).1 (has_pair_at_place ps j d (omega arith))
+    are_rising.0 (get_or ps j d).0 (get_or ps j d).1 (has_pair_at_index ps j d (omega arith))
 earlier_is_before (p ∷ ps) are_rising (suc i) zero d i_lt_j j_lt_length = absurd (omega arith)
 earlier_is_before (p ∷ ps) are_rising (suc i) (suc j) d i_lt_j j_lt_length =
     earlier_is_before ps are_rising.1 i j d (omega arith) (omega arith)
@@ -124,7 +124,7 @@ pub have_blocks : (db : List Statement) (b : BlockLists) → IsBlocks db b → (
 have_blocks db b blocks ps pairs_are_members p p_lt_length =
     let j = (get_or ps p (0, 0)).1 in
     let x = (get_or ps p (0, 0)).0 in
-    let has_symbol_x_j = sym (pairs_are_members x j) ∙ has_pair_at_place ps p (0, 0) p_lt_length in
+    let has_symbol_x_j = sym (pairs_are_members x j) ∙ has_pair_at_index ps p (0, 0) p_lt_length in
     let j_is_there =
     passing_lt_length is_disjoint_statement db j
     (and_parts (list_any is_disjoint_statement (statement_at db j))
@@ -136,7 +136,7 @@ have_blocks db b blocks ps pairs_are_members p p_lt_length =
 
 -- ---- the pairs before that of a symbol and a statement
 
--- so many pairs stand before that of the symbol and the place
+-- so many pairs stand before that of the symbol and the statement `at`
 pub record IsPartedAt (ps : List (ℕ × ℕ)) (x at start : ℕ) : Type 0 where
   pub start_le_length : start ≤ length ps
   pub earlier_are_before : (p : ℕ) → p < start → is_pair_before (get_or ps p (0, 0)) x at ≡ true
@@ -182,7 +182,7 @@ pub record AddsFromEnd (b : BlockLists) (ps : List (ℕ × ℕ)) (x at start end
 module _ (b : BlockLists) (ps : List (ℕ × ℕ)) (ps_are_rising : AreRising ps) (x at start : ℕ)
     (is_parted : IsPartedAt ps x at start)
   where
-    -- before the place, where the symbol is that
+    -- a pair of the symbol that stands before is of an earlier statement than `at`
     pub is_before : (p : ℕ) → p < start → (get_or ps p (0, 0)).0 ≡ x → (get_or ps p (0, 0)).1 < at
     is_before p p_lt_start symbol_is_x =
         statement_is_earlier (is_before_from_test (get_or ps p (0, 0)) x at
@@ -250,7 +250,7 @@ module _ (b : BlockLists) (ps : List (ℕ × ℕ)) (ps_are_rising : AreRising ps
             inr (
               y_is_x,
               ap₂ (λ u v. has_pair ps u v) (sym last_symbol_is_x) j_is_last_statement
-                  ∙ has_pair_at_place ps (end - 1) (0, 0) (let start_le_length =
+                  ∙ has_pair_at_index ps (end - 1) (0, 0) (let start_le_length =
                   is_parted.start_le_length in
                   omega (arith, last_lt_start, start_le_length)),
               ap₂ (λ u v. u && v)
@@ -392,14 +392,14 @@ module _ (b : BlockLists) (ps : List (ℕ × ℕ)) (ps_are_rising : AreRising ps
         active_pair_is_found : has_pair ps x j ≡ true → is_active_local b j at ≡ true
             → has_pair pairs_so_far j x ≡ true
         active_pair_is_found has_pair_x_j j_is_active =
-            let place = place_of_pair ps x j has_pair_x_j in
-            let p = place.0 in
-            let p_has_x = place.2 in
-            let statement_is_j = place.3 in
+            let found = index_of_pair ps x j has_pair_x_j in
+            let p = found.0 in
+            let p_has_x = found.2 in
+            let statement_is_j = found.3 in
             let parts = and_parts (nat_lt j at) (nat_le at (end_of b j)) j_is_active in
             let j_lt_at = ltb-true j at parts.0 in
             let p_lt_start =
-            pair_lt_start p place.1 p_has_x (omega (arith, j_lt_at, statement_is_j)) in
+            pair_lt_start p found.1 p_has_x (omega (arith, j_lt_at, statement_is_j)) in
             j_found p p_lt_start p_has_x statement_is_j parts.1 (cases_lt p end)
           where
             j_found : (p : ℕ) → p < start → (get_or ps p (0, 0)).0 ≡ x → (get_or ps p (0, 0)).1 ≡ j
@@ -614,14 +614,14 @@ module _ (b : BlockLists) (ps : List (ℕ × ℕ)) (ps_are_rising : AreRising ps
       → (j : ℕ) → has_pair ps x j ≡ true → has_pair ps y j ≡ true → is_active_local b j at ≡ false
   none_at_end x_end y_end none_in_common x_or_y_exhausted j j_has_x j_has_y =
       false_from_ne_true (is_active_local b j at) (λ j_is_active.
-      let place_of_x = place_of_pair ps x j j_has_x in
-      let place_of_y = place_of_pair ps y j j_has_y in
+      let x_found = index_of_pair ps x j j_has_x in
+      let y_found = index_of_pair ps y j j_has_y in
       let both_before_ends =
-      none_in_common.common_pairs_are_before_ends place_of_x.0 place_of_y.0 place_of_x.1
-      place_of_y.1 place_of_x.2 place_of_y.2 (place_of_x.3
-      ∙ sym place_of_y.3) (ap (λ i. is_active_local b i at) place_of_x.3 ∙ j_is_active) in
-      no_pair_of_both place_of_x.0 place_of_y.0 both_before_ends.0 both_before_ends.1
-      place_of_x.2 place_of_y.2 x_or_y_exhausted)
+      none_in_common.common_pairs_are_before_ends x_found.0 y_found.0 x_found.1
+      y_found.1 x_found.2 y_found.2 (x_found.3
+      ∙ sym y_found.3) (ap (λ i. is_active_local b i at) x_found.3 ∙ j_is_active) in
+      no_pair_of_both x_found.0 y_found.0 both_before_ends.0 both_before_ends.1
+      x_found.2 y_found.2 x_or_y_exhausted)
     where
       no_pair_of_both : (p q : ℕ) → p < x_end → q < y_end → (get_or ps p (0, 0)).0 ≡ x
           → (get_or ps q (0, 0)).0 ≡ y

@@ -408,23 +408,23 @@ symbol_lt_symbol_count db sound x j j_has_x =
 
 -- ---- the pairs of one chain
 
--- so far `pairs_so_far` has been made of `earlier_pairs`, and the chain from link `number` on is
+-- so far `pairs_so_far` has been made of `earlier_pairs`, and the chain from link `link` on is
 -- still to be added
-pub record IsRest (links : List (ℕ × ℕ)) (symbol number : ℕ)
+pub record IsRest (links : List (ℕ × ℕ)) (symbol link : ℕ)
     (earlier_pairs pairs_so_far : List (ℕ × ℕ))
     (all_statements : List ℕ) : Type 0 where
   pub remaining : List ℕ
-  pub chain : IsLinkChain links number remaining
+  pub chain : IsLinkChain links link remaining
   pub pairs : earlier_pairs ++ map (λ j. (symbol, j)) all_statements
       ≡ pairs_so_far ++ map (λ j. (symbol, j)) remaining
 
 module _ (links : List (ℕ × ℕ)) (symbol : ℕ) (earlier_pairs pairs_so_far : List (ℕ × ℕ))
     (all_statements : List ℕ) where
   -- before the first link the whole chain remains
-  pub rest_is_all : (number : ℕ) → IsLinkChain links number all_statements
+  pub rest_is_all : (link : ℕ) → IsLinkChain links link all_statements
       → earlier_pairs ≡ pairs_so_far
-      → IsRest links symbol number earlier_pairs pairs_so_far all_statements
-  rest_is_all number is_chain earlier_is_so_far =
+      → IsRest links symbol link earlier_pairs pairs_so_far all_statements
+  rest_is_all link is_chain earlier_is_so_far =
       record {
         remaining = all_statements;
         chain = is_chain;
@@ -433,19 +433,19 @@ module _ (links : List (ℕ × ℕ)) (symbol : ℕ) (earlier_pairs pairs_so_far 
       }
 
   -- after a link the rest of the chain remains
-  pub rest_after_link : (number : ℕ) → 0 < number
-      → IsRest links symbol number earlier_pairs pairs_so_far all_statements
-      → IsRest links symbol (get_or links (number - 1) (0, 0)).1 earlier_pairs
-      (pairs_so_far ++ (symbol, (get_or links (number - 1) (0, 0)).0) ∷ []) all_statements
-  rest_after_link number number_gt_0 is_rest =
+  pub rest_after_link : (link : ℕ) → 0 < link
+      → IsRest links symbol link earlier_pairs pairs_so_far all_statements
+      → IsRest links symbol (get_or links (link - 1) (0, 0)).1 earlier_pairs
+      (pairs_so_far ++ (symbol, (get_or links (link - 1) (0, 0)).0) ∷ []) all_statements
+  rest_after_link link link_gt_0 is_rest =
       is_rest_after is_rest.remaining is_rest.chain is_rest.pairs
     where
-      is_rest_after : (remaining : List ℕ) → IsLinkChain links number remaining
+      is_rest_after : (remaining : List ℕ) → IsLinkChain links link remaining
           → earlier_pairs ++ map (λ j. (symbol, j)) all_statements
           ≡ pairs_so_far ++ map (λ j. (symbol, j)) remaining
-          → IsRest links symbol (get_or links (number - 1) (0, 0)).1 earlier_pairs
-          (pairs_so_far ++ (symbol, (get_or links (number - 1) (0, 0)).0) ∷ []) all_statements
-      is_rest_after [] is_chain pairs_equal = absurd (omega (arith, is_chain, number_gt_0))
+          → IsRest links symbol (get_or links (link - 1) (0, 0)).1 earlier_pairs
+          (pairs_so_far ++ (symbol, (get_or links (link - 1) (0, 0)).0) ∷ []) all_statements
+      is_rest_after [] is_chain pairs_equal = absurd (omega (arith, is_chain, link_gt_0))
       is_rest_after (j ∷ js) is_chain pairs_equal = record {
         remaining = js;
         chain = is_chain.3;
@@ -457,19 +457,19 @@ module _ (links : List (ℕ × ℕ)) (symbol : ℕ) (earlier_pairs pairs_so_far 
       }
 
   -- if nothing remains of the chain, all its statements were added
-  pub no_rest_is_all_added : (number : ℕ) → number ≡ 0
-      → IsRest links symbol number earlier_pairs pairs_so_far all_statements
+  pub no_rest_is_all_added : (link : ℕ) → link ≡ 0
+      → IsRest links symbol link earlier_pairs pairs_so_far all_statements
       → pairs_so_far ≡ earlier_pairs ++ map (λ j. (symbol, j)) all_statements
-  no_rest_is_all_added number number_is_0 is_rest =
+  no_rest_is_all_added link link_is_0 is_rest =
       all_are_added is_rest.remaining is_rest.chain is_rest.pairs
     where
-      all_are_added : (remaining : List ℕ) → IsLinkChain links number remaining
+      all_are_added : (remaining : List ℕ) → IsLinkChain links link remaining
           → earlier_pairs ++ map (λ j. (symbol, j)) all_statements
           ≡ pairs_so_far ++ map (λ j. (symbol, j)) remaining
           → pairs_so_far ≡ earlier_pairs ++ map (λ j. (symbol, j)) all_statements
       all_are_added [] is_chain pairs_equal = sym (pairs_equal ∙ append-nil pairs_so_far)
-      all_are_added (j ∷ js) is_chain pairs_equal = absurd (let number_gt_0 = is_chain.0 in
-          omega (arith, number_gt_0, number_is_0))
+      all_are_added (j ∷ js) is_chain pairs_equal = absurd (let link_gt_0 = is_chain.0 in
+          omega (arith, link_gt_0, link_is_0))
 
 -- ---- the pairs of all chains, symbol after symbol
 

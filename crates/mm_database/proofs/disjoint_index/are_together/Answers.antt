@@ -5,7 +5,7 @@ use Rattle.mm_outline.specs.Blocks.{end_of}
 use Rattle.mm_database.specs.Pairs.{has_pair}
 use Rattle.mm_database.specs.DisjointIndex.{PairLists}
 use Rattle.mm_database.proofs.DisjointIndexLaw.{none_before_x_end, none_before_y_end, none_at_end}
-use Rattle.mm_database.proofs.DisjointIndexLaw.{none_before_end, is_before, has_pair_at_place}
+use Rattle.mm_database.proofs.DisjointIndexLaw.{none_before_end, is_before, has_pair_at_index}
 use Rattle.mm_database.proofs.DisjointIndexLaw.{parted_if_equal, symbol_if_equal}
 use Rattle.mm_database.proofs.DisjointIndexLaw.{other_symbol_if_equal}
 use Rattle.mm_database.proofs.disjoint_index.are_together.Goals as goal
@@ -57,9 +57,9 @@ returns-then-is_open_at-clause-are_together_if_true g c =
     λ result_is_true. (
       j,
       ap (λ z. has_pair ps z j) (sym last_symbol_is_x)
-          ∙ has_pair_at_place ps (x_end - 1) (0, 0) x_last_lt_length,
+          ∙ has_pair_at_index ps (x_end - 1) (0, 0) x_last_lt_length,
       ap₂ (has_pair ps) (sym last_symbol_is_y) statements_equal
-          ∙ has_pair_at_place ps (y_end - 1) (0, 0) y_last_lt_length,
+          ∙ has_pair_at_index ps (y_end - 1) (0, 0) y_last_lt_length,
       ap₂ (λ p q. p && q)
           (lt-ltb j at
           (is_before blocks ps c.requires.ordered.rising x at start parted (x_end - 1)
