@@ -133,7 +133,7 @@ counted_push false db s = refl
 
 -- ---- the kind of one statement
 
--- the test of a kind at a place
+-- the test of the kind with an index
 pub test_at_is_test_of_kind : (test : Kind → Bool) (kinds : List Kind) (j : ℕ) (d : Kind)
     → j < length kinds
     → elim (slice_get kinds j) [ None ↦ false | Some k ↦ test k ] ≡ test (get_or kinds j d)

@@ -70,7 +70,7 @@ missing_number_is_count w es w_is_missing =
     (sym (key_is_name w (keys_of es)) ∙ sym (is_some-lookup (λ k. bytes_eq w k.bytes.now) es)
     ∙ ap is_some w_is_missing)
 
--- a name's place
+-- a name's index
 pub index_of_le_length : (w : Bytes) (ns : List Bytes) → index_of w ns ≤ length ns
 index_of_le_length w [] = omega arith
 index_of_le_length w (n ∷ ns) = index_le_length (bytes_eq w n) (index_of_le_length w ns)

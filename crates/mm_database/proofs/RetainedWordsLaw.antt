@@ -45,7 +45,7 @@ module _ (text : List ℕ) (ws : List Word) where
   label_word_is_label kind.Essential k m e = refl
   label_word_is_label kind.Axiom k m e = refl
 
-  -- no tokens are between two places that are equal
+  -- no tokens are between two indices that are equal
   nothing_between : (m e : ℕ) → m ≡ e → between text ws (m + 1) e ≡ []
   nothing_between m e m_is_e =
       let no_width : e - (m + 1) ≡ 0 = omega arith in

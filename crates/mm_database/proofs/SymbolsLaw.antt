@@ -140,7 +140,7 @@ first_occurrences_push ws w =
     first_occurrences_append ws [] w
     ∙ ap (λ b. first_occurrences [] ws ++ if_new b w) (sym (in_first_occurrences ws [] w refl))
 
--- a name's place
+-- a name's index
 pub name_at_index_of : (ns : List Bytes) (w : Bytes) → is_in w ns ≡ true
     → slice_get ns (index_of w ns) ≡ Some w
 name_at_index_of [] w w_in_ns = absurd (true≢false (sym w_in_ns))
@@ -177,8 +177,8 @@ index_of_element [] e zero w element_is_w = absurd (let none_is_w : None ≡ Som
 index_of_element [] e (suc s) w element_is_w =
     absurd (let none_is_w : None ≡ Some w = element_is_w in cc)
 index_of_element (v ∷ ws) e s w element_is_w =
-    index_is_s (λ place. index_of_element ws e place w)
-    (λ place. index_of_element ws (v ∷ e) place w)
+    index_is_s (λ r. index_of_element ws e r w)
+    (λ r. index_of_element ws (v ∷ e) r w)
     (is_in v e) refl s
     element_is_w
   where
@@ -236,7 +236,7 @@ pub key_is_name : (w : Bytes) (ks : List (Name))
 key_is_name w [] = refl
 key_is_name w (k ∷ ks) = ap (λ b. bytes_eq w k.bytes.now || b) (key_is_name w ks)
 
--- the place of a name that is found, and of one that is not
+-- the index of a name that is found, and of one that is not
 pub position_is_index_of : (w : Bytes) (ks : List (Name)) (n : ℕ)
     → position (λ k. bytes_eq w k.bytes.now) ks ≡ Some n
     → n ≡ index_of w (map (λ k. k.bytes.now) ks)
@@ -281,7 +281,7 @@ right_is_true : (a b : Bool) → (not a && b) ≡ true → b ≡ true
 right_is_true true b both_hold = absurd (true≢false (sym both_hold))
 right_is_true false b both_hold = both_hold
 
--- the place of a name is where it stands
+-- the index of a name is where it stands
 pub index_of_distinct : (ns : List Bytes) → are_distinct ns ≡ true → (i : ℕ) (w : Bytes)
     → slice_get ns i ≡ Some w → i ≡ index_of w ns
 index_of_distinct [] are_distinct_names zero w element_i_is_w =

@@ -1,4 +1,4 @@
--- Which `$d` are active at a place, and whether one of them has two symbols.
+-- Which `$d` are active at a statement, and whether one of them has two symbols.
 use Rattle.std.proofs.Common.{◌≡◌, ℕ, ◌<◌, ◌≤◌, Bool, true, false, ◌&&◌, List, length, nat_lt}
 use Rattle.std.proofs.Common.{nat_le, refl, sym, ap, ap₂, ◌∙◌, true≢false, ◌⊎◌, inl, inr}
 use Rattle.std.proofs.lemmas.Bool.{cases_lt, le-ltb, and_parts}

@@ -1,4 +1,4 @@
--- Which `$d` statements have a symbol, and which of those are active at a place.
+-- Which `$d` statements have a symbol, and which of those are active at a statement.
 use Rattle.std.specs.Prelude.{◌≡◌, ℕ, ◌<◌, ◌≤◌, Bool, ◌&&◌, List, length, get_or, nat_lt, nat_le}
 use Rattle.std.specs.List.{list_any}
 use Rattle.mm_spec.specs.Statement.{Statement}

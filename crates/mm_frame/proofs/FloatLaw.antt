@@ -29,7 +29,7 @@ use Rattle.mm_database.specs.ParsedStatements.{IsSound, typed_variable_at}
 use Rattle.mm_outline.proofs.FaultlessLaw.{faultless_floating_is_new}
 use Rattle.mm_outline.proofs.AmongLaw.{typed_word_is_typing, word_of_active_is_any}
 
--- a word that has a place is there
+-- a word that has an index is there
 pub word_at_index_of : (w : Bytes) (ws : List Bytes) → index_of w ws < length ws
     → slice_get ws (index_of w ws) ≡ Some w
 word_at_index_of w [] index_lt_length = absurd (omega arith)

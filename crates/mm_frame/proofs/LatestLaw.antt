@@ -282,7 +282,7 @@ module _ (test : Statement → Bool) (db : List Statement) where
           walked_has_i (inl in_xs) = in_xs
           walked_has_i (inr (last_ne_never, i_order)) = absurd (last_ne_never last_is_never)
 
--- a list of the latest statements stays such with the one at the next place
+-- a list of the latest statements stays such with that at the next statement
 pub each_latest_with_next : (test : Statement → Bool) (db : List Statement) (xs ys : List ℕ)
     (last k : ℕ)
     → length xs ≡ k + 1 → ys ≡ xs ++ last ∷ []

@@ -111,10 +111,10 @@ listed_row false false t e = refl
 listed_row false true t e = refl
 
 -- a symbol with this stamp has been found
-pub stamped_is_member : (n stamp : ℕ) (stamps variables : List ℕ) (s place r : ℕ)
+pub stamped_is_member : (n stamp : ℕ) (stamps variables : List ℕ) (s index r : ℕ)
     → AreStamps n stamp stamps variables
-    → s < n → place ≡ s → r ≡ get_or stamps place r → r ≡ stamp → is_member variables s ≡ true
-stamped_is_member n stamp stamps variables s place r are_stamps s_lt_n place_is_s r_is_stamp_of_s
+    → s < n → index ≡ s → r ≡ get_or stamps index r → r ≡ stamp → is_member variables s ≡ true
+stamped_is_member n stamp stamps variables s index r are_stamps s_lt_n index_is_s r_is_stamp_of_s
     r_is_stamp =
     sym (are_stamps.marked_is_member s s_lt_n)
     ∙ eq-eqb (get_or stamps s 0) stamp

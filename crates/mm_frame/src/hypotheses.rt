@@ -150,7 +150,7 @@ fn add_floats<A: Allocator>(
 
 /// Sorts the numbers in ascending order, and removes duplicates.
 fn sort_and_dedup_numbers<A: Allocator>(numbers: &mut Vec<u32, A>)
-    ensures increasing { IsStrictlyIncreasing numbers.new.items }
+    ensures rising { IsStrictlyIncreasing numbers.new.items }
     ensures members_stay { (a : ℕ) → is_member numbers.new.items a ≡ is_member numbers.old.items a }
 {
     numbers.sort_unstable();

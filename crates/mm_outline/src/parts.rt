@@ -169,7 +169,7 @@ fn one_token_statement(kind: Kind, token_index: u32) -> Transition
     })
 }
 
-/// Whether the word is a label, in a place where a label is expected.
+/// Whether the word is a label, where a label is expected.
 fn is_label_at(part: Part, word: &[u8]) -> bool
     ensures { IfAtStart part (result ≡ spec_is_label word.now) }
 {

@@ -27,7 +27,7 @@ returns-clause-hypotheses_are_mandatory g c =
     c.requires.are_ready.last_floats_are c.list_mandatory_variables.new.variables.items
     c.in_ok-list_mandatory_variables.ensures.are_mandatory c.active_essentials.new.into.items
     c.sort_and_dedup_numbers.new.numbers.items
-    c.in_ok-active_essentials.ensures c.sort_and_dedup_numbers.ensures.increasing
+    c.in_ok-active_essentials.ensures c.sort_and_dedup_numbers.ensures.rising
     (λ j. c.sort_and_dedup_numbers.ensures.members_stay j ∙ c.in_ok-add_floats.ensures j
     ∙ ap (λ xs. is_member c.active_essentials.new.into.items j
     || list_any (is_float_of db k ts j) xs) c.deref-2.ensures.value)

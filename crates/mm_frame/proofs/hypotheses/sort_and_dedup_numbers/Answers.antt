@@ -5,8 +5,8 @@ use Rattle.std.proofs.lemmas.Map.Keys.{IsStrictlyIncreasing-dedup}
 use Rattle.mm_spec.proofs.ListLaw.{sort_and_dedup_keeps_members}
 use Rattle.mm_frame.proofs.hypotheses.sort_and_dedup_numbers.Goals as goal
 
-pub returns-clause-increasing : goal.returns-clause-increasing
-returns-clause-increasing g c =
+pub returns-clause-rising : goal.returns-clause-rising
+returns-clause-rising g c =
     let numbers_are_deduped : c.dedup.new.self.items ≡ dedup nat_eq c.sort_unstable.new.self.items =
     dedup_is nat_eq _ _ c.dedup.ensures.filtered in
     rw numbers_are_deduped
