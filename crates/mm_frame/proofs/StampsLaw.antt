@@ -120,4 +120,4 @@ stamped_is_member n stamp stamps variables s index r are_stamps s_lt_n index_is_
     ∙ eq-eqb (get_or stamps s 0) stamp
     (sym (get_or_default_zero stamps s r (let stamps_count = are_stamps.count in
     omega (arith, s_lt_n, stamps_count)))
-    ∙ ap (λ i. get_or stamps i r) (sym place_is_s) ∙ sym r_is_stamp_of_s ∙ r_is_stamp)
+    ∙ ap (λ i. get_or stamps i r) (sym index_is_s) ∙ sym r_is_stamp_of_s ∙ r_is_stamp)
