@@ -1,9 +1,8 @@
 //! The database of a text: its statements, and the calls that read them.
 
-ghost use Rattle.std.specs.Prelude.{◌≡◌, ◌<◌, ◌≤◌, ◌^◌, ◌+◌, ◌&&◌, ◌∷◌, ℕ, Option};
-ghost use Rattle.std.specs.Prelude.{Some, None, IfSome, IfNone, IsTrue, All, length, map, flat_map};
-ghost use Rattle.std.specs.Prelude.{slice_get, slice_range, true};
-ghost use Rattle.std.specs.Prelude.{false};
+ghost use Rattle.std.specs.Prelude.{◌≡◌, ◌<◌, ◌≤◌, ◌^◌, ◌+◌, ◌&&◌, ◌∷◌, ℕ, Option, Some, None};
+ghost use Rattle.std.specs.Prelude.{IfSome, IfNone, IsTrue, All, length, map, flat_map, slice_get};
+ghost use Rattle.std.specs.Prelude.{slice_range, true, false};
 ghost use Rattle.std.specs.Option.{option_map, option_copied, option_and_then};
 ghost use Rattle.std.specs.List.{list_any};
 ghost use Rattle.mm_spec.specs.Statement.{label_of, proof_of};
@@ -18,8 +17,7 @@ ghost use Rattle.mm_spec.specs.Laws.Complete.{AreComplete};
 ghost use Rattle.mm_spec.specs.Lexed.{lexed_of};
 ghost use Rattle.mm_spec.specs.Output.{IsRead, theorems, columns, label_at};
 ghost use Rattle.mm_outline.specs.Parts.{as_tokens, AreWithin};
-ghost use Rattle.mm_database.specs.Database.{kind_of, end_at, typecode_of, contents_of};
-ghost use Rattle.mm_database.specs.Database.{IsDatabase};
+ghost use Rattle.mm_database.specs.Database.{kind_of, end_at, typecode_of, contents_of, IsDatabase};
 ghost use Rattle.mm_database.specs.Kinds.{is_axiom_kind, is_theorem_kind};
 
 use crate::disjoint_index::are_together;

@@ -1,12 +1,10 @@
 //! The names before a statement: symbols and labels.
 
-ghost use Rattle.std.specs.Prelude.{◌≡◌, ◌<◌, OnOk, IfOk, IfSome, false, length, slice_get};
-ghost use Rattle.std.specs.Prelude.{get_or};
+ghost use Rattle.std.specs.Prelude.{◌≡◌, ◌<◌, OnOk, IfOk, IfSome, false, length, slice_get, get_or};
 ghost use Rattle.std.specs.Prelude.{ℕ, List, [], is_some, Some, if◌then◌else◌, bytes_eq};
 ghost use Rattle.std.specs.Option.{option_map};
 ghost use Rattle.mm_spec.specs.Frame.{index_of};
-ghost use Rattle.mm_database.specs.Names.{find, known_names, names_of, with_name};
-ghost use Rattle.mm_database.specs.Names.{is_variable_in};
+ghost use Rattle.mm_database.specs.Names.{find, known_names, names_of, with_name, is_variable_in};
 
 use crate::name::Name;
 use indexmap::IndexMap;

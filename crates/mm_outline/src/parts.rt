@@ -3,13 +3,11 @@
 ghost use Rattle.std.specs.Prelude.{◌≡◌, ◌<◌, ◌≤◌, ◌^◌, ℕ, length, false};
 ghost use Rattle.mm_spec.specs.Text.{fault, has_dollar, is_label as spec_is_label};
 ghost use Rattle.mm_spec.specs.Statement.{shape_code};
-ghost use Rattle.mm_outline.specs.NextStatement.{IsNextStatement};
-ghost use Rattle.mm_outline.specs.NextStatement.{is_start as spec_is_start};
+ghost use Rattle.mm_outline.specs.NextStatement.{IsNextStatement, is_start as spec_is_start};
 ghost use Rattle.mm_spec.specs.Laws.Table.{class, transition};
 ghost use Rattle.mm_outline.specs.Parts.{IsPartBefore, IsTransitionAt, IfAtStart, class_of};
-ghost use Rattle.mm_outline.specs.Parts.{outline, progress};
-ghost use Rattle.mm_outline.specs.Parts.{is_labelled_kind};
-ghost use Rattle.mm_outline.specs.Parts.{token_at, transition_of};
+ghost use Rattle.mm_outline.specs.Parts.{outline, progress, is_labelled_kind, token_at};
+ghost use Rattle.mm_outline.specs.Parts.{transition_of};
 ghost use Rattle.mm_outline.specs.declared.parts.Transition.TheVariants.{Complete};
 ghost use Rattle.mm_outline.specs.Passed.{ArePassed};
 ghost use Rattle.mm_outline.specs.Tokens.{AreTokens};

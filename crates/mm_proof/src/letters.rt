@@ -9,8 +9,7 @@ ghost use Rattle.mm_steps.specs.TheoremSteps.{theorem_steps, as_step, IsEarlier}
 ghost use Rattle.mm_proof.specs.Number.{HasLetterKind, saturated};
 ghost use Rattle.mm_proof.specs.declared.digits.LetterKind.TheVariants.{Last};
 ghost use Rattle.mm_proof.specs.Letters.{letters_state, letter, with_number, step_as_list};
-ghost use Rattle.mm_proof.specs.Letters.{if_begun};
-ghost use Rattle.mm_proof.specs.Letters.{AreInOrder, StandsAt, IsReadUpTo, BeginsAt};
+ghost use Rattle.mm_proof.specs.Letters.{if_begun, AreInOrder, StandsAt, IsReadUpTo, BeginsAt};
 ghost use Rattle.mm_proof.specs.Letters.{word_letters, ReadsLetters, ReadsAllLetters};
 ghost use Rattle.mm_proof.specs.Letters.{RefusesLetters};
 ghost use Rattle.mm_proof.specs.Refused.{StartsWith};
@@ -235,8 +234,8 @@ impl<A: Allocator> LettersRead<A> {
             (word_letters text.now word) e) }
     {
         begin_at(number, word.start);
-        for i in word.start as usize..word.end as usize {
-            self.read(number, i as u32, text[i])?;
+        for place in word.start as usize..word.end as usize {
+            self.read(number, place as u32, text[place])?;
         }
         Ok(())
     }

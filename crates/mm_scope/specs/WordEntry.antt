@@ -18,10 +18,10 @@ pub record WordEntry : Type 0 where
   pub typecode : List ℕ
 
 abbrev pub entry : Bool → ℕ → ℕ → List ℕ → WordEntry
-entry is_variable declared typed typecode = record {
+entry is_variable declaration typing typecode = record {
   is_variable = is_variable;
-  declaration = declared;
-  typing = typed;
+  declaration = declaration;
+  typing = typing;
   typecode = typecode;
 }
 

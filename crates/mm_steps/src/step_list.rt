@@ -3,8 +3,7 @@
 ghost use Rattle.std.specs.Prelude.{◌≡◌, ◌<◌, ◌++◌, ◌∷◌, [], length, OnOk, OnErr};
 ghost use Rattle.mm_spec.specs.Steps.{placed};
 ghost use Rattle.mm_steps.specs.TheoremSteps.{TheoremSteps, theorem_steps, as_step, step_at};
-ghost use Rattle.mm_steps.specs.TheoremSteps.{is_marked as marked_in};
-ghost use Rattle.mm_steps.specs.TheoremSteps.{IsEarlier};
+ghost use Rattle.mm_steps.specs.TheoremSteps.{is_marked as marked_in, IsEarlier};
 
 use std::alloc::{AllocError, Allocator};
 use std::marker::Model;
