@@ -20,29 +20,36 @@ use Rattle.mm_outline.proofs.StatementsLaw.{passing_lt_length}
 
 -- ---- pairs by their indices
 
+-- where the pair of x and y stands in the list
+pub record HasIndex (ps : List (ℕ × ℕ)) (x y : ℕ) : Type 0 where
+  pub index : ℕ
+  pub index_lt_length : index < length ps
+  pub first_is_x : (get_or ps index (0, 0)).0 ≡ x
+  pub second_is_y : (get_or ps index (0, 0)).1 ≡ y
+
 -- a pair of the list stands somewhere in it
-pub index_of_pair : (ps : List (ℕ × ℕ)) (x y : ℕ) → has_pair ps x y ≡ true
-    → (p : ℕ) × (p < length ps) × ((get_or ps p (0, 0)).0 ≡ x) × ((get_or ps p (0, 0)).1 ≡ y)
+pub index_of_pair : (ps : List (ℕ × ℕ)) (x y : ℕ) → has_pair ps x y ≡ true → HasIndex ps x y
 index_of_pair [] x y has_pair_x_y = absurd (true≢false (sym has_pair_x_y))
 index_of_pair (q ∷ qs) x y has_pair_x_y =
     has_index (nat_eq x q.0 && nat_eq y q.1) refl has_pair_x_y (λ k. index_of_pair qs x y k)
   where
     has_index : (b : Bool) → (nat_eq x q.0 && nat_eq y q.1) ≡ b → (b || has_pair qs x y) ≡ true
-        → (has_pair qs x y ≡ true
-        → (p : ℕ) × (p < length qs) × ((get_or qs p (0, 0)).0 ≡ x)
-        × ((get_or qs p (0, 0)).1 ≡ y))
-        → (p : ℕ) × (p < length (q ∷ qs)) × ((get_or (q ∷ qs) p (0, 0)).0 ≡ x)
-        × ((get_or (q ∷ qs) p (0, 0)).1 ≡ y)
-    has_index true q_is_x_y has_pair_x_y found_in_rest = (
-      0,
-      omega arith,
-      sym (eqb-true x q.0 (and_parts (nat_eq x q.0) (nat_eq y q.1) q_is_x_y).0),
-      sym
-          (eqb-true y q.1 (and_parts (nat_eq x q.0) (nat_eq y q.1) q_is_x_y).1),
-    )
-    has_index false q_is_x_y has_pair_x_y found_in_rest = let found = found_in_rest has_pair_x_y in
-        let found_lt_length = found.1 in
-        (suc found.0, omega (arith, found_lt_length), found.2, found.3)
+        → (has_pair qs x y ≡ true → HasIndex qs x y) → HasIndex (q ∷ qs) x y
+    has_index true q_is_x_y has_pair_x_y found_in_rest = record {
+      index = 0;
+      index_lt_length = omega arith;
+      first_is_x = sym (eqb-true x q.0 (and_parts (nat_eq x q.0) (nat_eq y q.1) q_is_x_y).0);
+      second_is_y = sym (eqb-true y q.1 (and_parts (nat_eq x q.0) (nat_eq y q.1) q_is_x_y).1);
+    }
+    has_index false q_is_x_y has_pair_x_y found_in_rest =
+        let found = found_in_rest has_pair_x_y in
+        let found_lt_length = found.index_lt_length in
+        record {
+          index = suc found.index;
+          index_lt_length = omega (arith, found_lt_length);
+          first_is_x = found.first_is_x;
+          second_is_y = found.second_is_y;
+        }
 
 -- the list has each pair that stands in it
 pub has_pair_at_index : (ps : List (ℕ × ℕ)) (p : ℕ) (d : ℕ × ℕ) → p < length ps
@@ -393,13 +400,14 @@ module _ (b : BlockLists) (ps : List (ℕ × ℕ)) (ps_are_rising : AreRising ps
             → has_pair pairs_so_far j x ≡ true
         active_pair_is_found has_pair_x_j j_is_active =
             let found = index_of_pair ps x j has_pair_x_j in
-            let p = found.0 in
-            let p_has_x = found.2 in
-            let statement_is_j = found.3 in
+            let p = found.index in
+            let p_has_x = found.first_is_x in
+            let statement_is_j = found.second_is_y in
             let parts = and_parts (nat_lt j at) (nat_le at (end_of b j)) j_is_active in
             let j_lt_at = ltb-true j at parts.0 in
             let p_lt_start =
-            pair_lt_start p found.1 p_has_x (omega (arith, j_lt_at, statement_is_j)) in
+            pair_lt_start p found.index_lt_length p_has_x
+            (omega (arith, j_lt_at, statement_is_j)) in
             j_found p p_lt_start p_has_x statement_is_j parts.1 (cases_lt p end)
           where
             j_found : (p : ℕ) → p < start → (get_or ps p (0, 0)).0 ≡ x → (get_or ps p (0, 0)).1 ≡ j
@@ -617,11 +625,12 @@ module _ (b : BlockLists) (ps : List (ℕ × ℕ)) (ps_are_rising : AreRising ps
       let x_found = index_of_pair ps x j j_has_x in
       let y_found = index_of_pair ps y j j_has_y in
       let both_before_ends =
-      none_in_common.common_pairs_are_before_ends x_found.0 y_found.0 x_found.1
-      y_found.1 x_found.2 y_found.2 (x_found.3
-      ∙ sym y_found.3) (ap (λ i. is_active_local b i at) x_found.3 ∙ j_is_active) in
-      no_pair_of_both x_found.0 y_found.0 both_before_ends.0 both_before_ends.1
-      x_found.2 y_found.2 x_or_y_exhausted)
+      none_in_common.common_pairs_are_before_ends x_found.index y_found.index
+      x_found.index_lt_length y_found.index_lt_length x_found.first_is_x y_found.first_is_x
+      (x_found.second_is_y ∙ sym y_found.second_is_y)
+      (ap (λ i. is_active_local b i at) x_found.second_is_y ∙ j_is_active) in
+      no_pair_of_both x_found.index y_found.index both_before_ends.0 both_before_ends.1
+      x_found.first_is_x y_found.first_is_x x_or_y_exhausted)
     where
       no_pair_of_both : (p q : ℕ) → p < x_end → q < y_end → (get_or ps p (0, 0)).0 ≡ x
           → (get_or ps q (0, 0)).0 ≡ y

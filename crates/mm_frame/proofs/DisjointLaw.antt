@@ -288,11 +288,11 @@ module _ (by_statement : List (ℕ × ℕ)) (pairs_are_rising : AreRising by_sta
           (and_parts (has_pair by_statement j y) (nat_lt x y) is_pair_of_j).0 in
           let x_lt_y = ltb-true x y
           (and_parts (has_pair by_statement j y) (nat_lt x y) is_pair_of_j).1 in
-          let variable_is_y = found.3 in
-          let range = index_in_range found.0 found.1 found.2
+          let variable_is_y = found.second_is_y in
+          let range = index_in_range found.index found.index_lt_length found.first_is_x
           (omega (arith, x_is_low, x_lt_y, variable_is_y)) in
           ap₂ (has_pair pairs_so_far) x_is_low (sym variable_is_y)
-          ∙ adds.later_pairs_are_added found.0 range.0 range.1
+          ∙ adds.later_pairs_are_added found.index range.0 range.1
 
 -- ---- one symbol more
 
@@ -453,11 +453,11 @@ module _ (db : List Statement) (b : BlockLists) (are_blocks : IsBlocks db b) (k 
         (and_parts (is_member (formula_at db j) x)
         (is_member (formula_at db j) y) active_with_both.2).1 active_with_both.1 in
         let x_found = index_of_pair by_statement j x j_has_x in
-        list_any_at (λ p. has_later by_statement p x y) by_statement x_found.0
-        (0, 0) x_found.1
+        list_any_at (λ p. has_later by_statement p x y) by_statement x_found.index
+        (0, 0) x_found.index_lt_length
         (ap₂ (λ a b. a && b)
-        (eq-eqb x (get_or by_statement x_found.0 (0, 0)).1 (sym x_found.3))
-        (ap₂ (λ a b. a && b) (ap (λ i. has_pair by_statement i y) x_found.2
+        (eq-eqb x (get_or by_statement x_found.index (0, 0)).1 (sym x_found.second_is_y))
+        (ap₂ (λ a b. a && b) (ap (λ i. has_pair by_statement i y) x_found.first_is_x
         ∙ j_has_y) x_lt_y_test))
 
     -- rising pairs with the same members are the mandatory pairs of the frame
