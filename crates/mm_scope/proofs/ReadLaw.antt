@@ -108,7 +108,7 @@ module _ (text : List ℕ) (ws : List Word) (len : ℕ) (lexical : Option Fault)
       is_read_at_end no_statement_follows (Some f)
       (ap (λ o. first_fault_of o
       (first_fault_of lexical (fault_at_end len (progress_from (start 0) (as_tokens text ws)))))
-      (is_read_to.leads.stop
+      (is_read_to.leads.fault_stays
       ∙ shape_fault_is_f))
 
   fault_at_end_is_end_fault_of : (part : Part) (i : ℕ) (o : Option Fault)
@@ -136,8 +136,8 @@ module _ (text : List ℕ) (ws : List Word) (len : ℕ) (lexical : Option Fault)
   read_ended part no_statement_follows no_shape_fault progress_is_part f f_is_end_fault =
       is_read_at_end no_statement_follows f
       (ap₂ (λ o q. first_fault_of o (first_fault_of lexical (fault_at_end len q)))
-      (is_read_to.leads.stop ∙ no_shape_fault)
-      (is_read_to.leads.rest ∙ progress_is_part)
+      (is_read_to.leads.fault_stays ∙ no_shape_fault)
+      (is_read_to.leads.progress_stays ∙ progress_is_part)
       ∙ fault_at_end_is_end_fault_of part (length ws) lexical ∙ sym f_is_end_fault)
 
 -- a statement that closes a block stands in one
