@@ -13,7 +13,7 @@ use Rattle.mm_spec.specs.Steps.{Step, label, marked, PlacedStep, placed}
 use Rattle.mm_spec.specs.Statement.{Statement}
 use Rattle.mm_spec.specs.Citation.{context_at}
 use Rattle.mm_spec.specs.Laws.Stack.{IsGoodStep, step_entries, top}
-use Rattle.mm_steps.specs.TheoremSteps.{step_at, is_marked, takes_up}
+use Rattle.mm_steps.specs.TheoremSteps.{step_at, is_marked, repeats}
 use Rattle.mm_machine.specs.State.{MachineState, machine_state, with_mark, reason_of}
 use Rattle.mm_machine.specs.declared.machine.StepRefused.{StepRefused}
 use Rattle.mm_machine.specs.declared.machine.StepRefused.TheVariants.{Fault, Memory}
@@ -72,8 +72,8 @@ end_formulas_push ends (j ∷ marks) (g ∷ formulas) i f are_end_formulas ends_
 repeated_step_is_marked : (steps : List PlacedStep) (i j : ℕ) → i < length steps
     → (step_at steps i).step ≡ marked j → is_marked steps j ≡ true
 repeated_step_is_marked steps i j i_lt_length is_marked_j =
-    list_any_at (λ s. takes_up j s.step) steps i (placed 0 (label 0)) i_lt_length
-    (ap (takes_up j) is_marked_j ∙ eq-eqb j j refl)
+    list_any_at (λ s. repeats j s.step) steps i (placed 0 (label 0)) i_lt_length
+    (ap (repeats j) is_marked_j ∙ eq-eqb j j refl)
 
 module _ (db : List Statement) (t : ℕ) (steps : List PlacedStep) (i : ℕ) (c : CheckerState)
     (has_performed : HasPerformed db t steps i c) (i_lt_length : i < length steps) (a : Step)

@@ -28,12 +28,12 @@ is_disjoint_kind (closing k) kind_is_disjoint = absurd (cc)
 is_disjoint_at : (db : List Statement) (j : ℕ)
     → option_map kind_of (slice_get db j) ≡ Some kind.Disjoint
     → list_any is_disjoint_statement (statement_at db j) ≡ true
-is_disjoint_at db j kind_is_disjoint = by_statement (slice_get db j) kind_is_disjoint
+is_disjoint_at db j kind_is_disjoint = disjoint_if_kind_is (slice_get db j) kind_is_disjoint
   where
-    by_statement : (o : Option Statement) → option_map kind_of o ≡ Some kind.Disjoint
+    disjoint_if_kind_is : (o : Option Statement) → option_map kind_of o ≡ Some kind.Disjoint
         → list_any is_disjoint_statement (elim o [ None ↦ [] | Some s ↦ s ∷ [] ]) ≡ true
-    by_statement None kind_is_disjoint = absurd (cc)
-    by_statement (Some s) kind_is_disjoint = ap (λ b. b || false) (is_disjoint_kind s (cc))
+    disjoint_if_kind_is None kind_is_disjoint = absurd (cc)
+    disjoint_if_kind_is (Some s) kind_is_disjoint = ap (λ b. b || false) (is_disjoint_kind s (cc))
 
 -- an active `$d` that has both symbols makes them stand together
 pub near_are_together : (db : List Statement) (j k x y : ℕ)

@@ -13,8 +13,7 @@ use Rattle.mm_spec.specs.Scope.{depth, is_block_open}
 use Rattle.mm_spec.proofs.ActivityLaw.{is_block_open_one_later}
 use Rattle.mm_spec.proofs.LocalLaw.{depth_front, is_block_open_front}
 use Rattle.mm_spec.proofs.ShapeLaw.{count_of_list_and_last}
-use Rattle.mm_outline.specs.Blocks.{BlockLists, block_lists, never, innermost, end_of}
-use Rattle.mm_outline.specs.Blocks.{IsBlocks}
+use Rattle.mm_outline.specs.Blocks.{BlockLists, block_lists, never, innermost, end_of, IsBlocks}
 
 -- ---- what stays the same after one statement more
 
@@ -123,13 +122,13 @@ module _ (db : List Statement) (s : Statement) (b : BlockLists) (is_blocks : IsB
   -- what becomes of a statement's block
   module _ (ends opens : List ℕ) where
     abbrev IsOpen : ℕ → ℕ → Type 0
-    IsOpen block deep =
-        (get_or ends block 0 ≡ never) × (deep ≤ depth (more db s) (length db + 1))
-        × (get_or opens deep 0 ≡ block)
+    IsOpen block level =
+        (get_or ends block 0 ≡ never) × (level ≤ depth (more db s) (length db + 1))
+        × (get_or opens level 0 ≡ block)
 
     abbrev IsClosed : ℕ → ℕ → Type 0
-    IsClosed block deep =
-        (get_or ends block 0 ≡ length db) × (depth (more db s) (length db + 1) < deep)
+    IsClosed block level =
+        (get_or ends block 0 ≡ length db) × (depth (more db s) (length db + 1) < level)
 
     abbrev Becomes : ℕ → Type 0
     Becomes j =

@@ -13,9 +13,7 @@ use Rattle.mm_spec.specs.declared.Fault.{Fault}
 use Rattle.mm_spec.specs.Text.{Bytes, Token, fault}
 use Rattle.mm_spec.specs.Lawful.{when, at}
 use Rattle.mm_spec.specs.Steps as spec
-use Rattle.mm_spec.specs.Steps.{PlacedStep, placed, label}
-use Rattle.mm_spec.specs.Steps as spec
-use Rattle.mm_spec.specs.Steps.{marked}
+use Rattle.mm_spec.specs.Steps.{PlacedStep, placed, label, marked}
 use Rattle.mm_spec.specs.CompressedProof.{Letter, letters_from, letters_of, letter_faults, Group}
 use Rattle.mm_spec.specs.CompressedProof.{is_early, is_last, groups, value, starts_at, step_of}
 use Rattle.mm_spec.specs.CompressedProof.{group_steps, group_faults}
@@ -118,9 +116,9 @@ named_number_le_count : (labels marks : List ℕ) (n : ℕ) (s : spec.Step)
     → n ≤ length labels + length marks
 named_number_le_count labels marks zero s n_names_s = omega arith
 named_number_le_count labels marks (suc n) s n_names_s =
-    by_entries (slice_get labels n) refl (slice_get marks (n - length labels)) refl n_names_s
+    n_lt_count (slice_get labels n) refl (slice_get marks (n - length labels)) refl n_names_s
   where
-    by_entries : (a : Option ℕ) → slice_get labels n ≡ a → (b : Option ℕ)
+    n_lt_count : (a : Option ℕ) → slice_get labels n ≡ a → (b : Option ℕ)
         → slice_get marks (n - length labels) ≡ b
         → ◌≡◌ {A = List spec.Step}
         (elim a [
@@ -129,23 +127,23 @@ named_number_le_count labels marks (suc n) s n_names_s =
         ]) (s
         ∷ [])
         → suc n ≤ length labels + length marks
-    by_entries (Some j) label_n_is_a b mark_is_b n_names_s = let entry_index_lt_length =
+    n_lt_count (Some j) label_n_is_a b mark_is_b n_names_s = let entry_index_lt_length =
         slice_get_within labels n j label_n_is_a in omega (arith, entry_index_lt_length)
-    by_entries None label_n_is_a (Some i) mark_is_b n_names_s =
+    n_lt_count None label_n_is_a (Some i) mark_is_b n_names_s =
         let entry_index_lt_length = slice_get_within marks (n - length labels) i mark_is_b in
         omega (arith, entry_index_lt_length)
-    by_entries None label_n_is_a None mark_is_b n_names_s = absurd (cc)
+    n_lt_count None label_n_is_a None mark_is_b n_names_s = absurd (cc)
 
 -- the last letter of a number is no `Z`
 last_letter_is_no_mark : (byte : ℕ) → is_last byte ≡ true → (byte == 90) ≡ false
-last_letter_is_no_mark byte byte_is_last = by_equality (byte == 90) refl
+last_letter_is_no_mark byte byte_is_last = byte_is_not_90 (byte == 90) refl
   where
-    by_equality : (b : Bool) → (byte == 90) ≡ b → b ≡ false
-    by_equality true byte_is_90 =
+    byte_is_not_90 : (b : Bool) → (byte == 90) ≡ b → b ≡ false
+    byte_is_not_90 true byte_is_90 =
         let byte_le_84 =
         leb-true byte 84 (and_parts (nat_le 65 byte) (nat_le byte 84) byte_is_last).1 in
         let byte_eq_90 = eqb-true byte 90 byte_is_90 in absurd (omega arith)
-    by_equality false byte_is_90 = refl
+    byte_is_not_90 false byte_is_90 = refl
 
 -- after the last letter of a number the state has its step
 pub continues_after_last_letter : (t : ℕ) (labels marks : List ℕ) (number : Option BegunNumber)
@@ -326,21 +324,22 @@ begun_number at value = record { at = at; value = value }
 -- a number that begins at the place is the number with which the state goes on there
 begun_at_is_number : (b : BegunNumber) (place : ℕ) → BeginsAt b place
     → begun_at (if_begun b) place ≡ b
-begun_at_is_number b place begins_at_place = by_zero (b.value == 0) refl
+begun_at_is_number b place begins_at_place = begun_is_b (b.value == 0) refl
   where
-    by_zero : (t : Bool) → (b.value == 0) ≡ t → begun_at (if t then None else Some b) place ≡ b
-    by_zero true value_is_0 =
+    begun_is_b : (t : Bool) → (b.value == 0) ≡ t → begun_at (if t then None else Some b) place ≡ b
+    begun_is_b true value_is_0 =
         let value_eq_0 = eqb-true b.value 0 value_is_0 in
         ap₂ begun_number (sym (begins_at_place value_eq_0)) (sym value_eq_0)
-    by_zero false value_is_0 = refl
+    begun_is_b false value_is_0 = refl
 
 -- a number whose value isn't 0 has begun
 pub number_with_letters_is_begun : (b : BegunNumber) → 0 < b.value → if_begun b ≡ Some b
-number_with_letters_is_begun b value_gt_0 = by_zero (b.value == 0) refl
+number_with_letters_is_begun b value_gt_0 = is_begun (b.value == 0) refl
   where
-    by_zero : (t : Bool) → (b.value == 0) ≡ t → (if t then None else Some b) ≡ Some b
-    by_zero true value_is_0 = let value_eq_0 = eqb-true b.value 0 value_is_0 in absurd (omega arith)
-    by_zero false value_is_0 = refl
+    is_begun : (t : Bool) → (b.value == 0) ≡ t → (if t then None else Some b) ≡ Some b
+    is_begun true value_is_0 =
+        let value_eq_0 = eqb-true b.value 0 value_is_0 in absurd (omega arith)
+    is_begun false value_is_0 = refl
 
 -- a number whose value is 0 hasn't begun
 pub number_without_letters_is_not_begun : (b : BegunNumber) → b.value ≡ 0 → if_begun b ≡ None
@@ -512,12 +511,12 @@ pub words_have_letters : (from end : ℕ) (text : List ℕ) (ws : List Place)
 words_have_letters from end text [] in_order words_are_some no_letters =
     absurd (true≢false words_are_some)
 words_have_letters from end text (v ∷ ws) in_order words_are_some no_letters =
-    by_first_word (token_of text v).word in_order.1 no_letters
+    has_letters (token_of text v).word in_order.1 no_letters
   where
-    by_first_word : (w : Bytes) → 1 ≤ length w
+    has_letters : (w : Bytes) → 1 ≤ length w
         → ¬ (letters_from v.start w ++ letters_of (as_tokens text ws) ≡ [])
-    by_first_word [] words_are_some no_letters = absurd (omega arith)
-    by_first_word (b ∷ bs) words_are_some no_letters = cc
+    has_letters [] words_are_some no_letters = absurd (omega arith)
+    has_letters (b ∷ bs) words_are_some no_letters = cc
 
 -- a letter without a step
 pub stands_at_next : (s : LettersState) (at : ℕ) → StandsAt s at → StandsAt s (at + 1)

@@ -127,11 +127,11 @@ pub saturated_is_too_large : {E : Type 0} (r : Result ℕ E) (bs : List ℕ) (b 
     → IfNone (result_ok r) ((n : ℕ) → IsNumber (bs ++ b ∷ []) n → 4294967295 < n)
 saturated_is_too_large (Ok x) bs b v w w_fits_not v_is_saturated w_is_saturated = tt
 saturated_is_too_large (Err x) bs b v w w_fits_not v_is_saturated w_is_saturated =
-    λ n is_number. by_size n (number_is_spelled bs b n is_number).value_is
+    λ n is_number. n_is_large n (number_is_spelled bs b n is_number).value_is
     (cases_lt w 4294967296)
   where
-    by_size : (n : ℕ) → early_bytes bs * 20 + (b - 64) ≡ n → (w < 4294967296) ⊎ (4294967296 ≤ w)
+    n_is_large : (n : ℕ) → early_bytes bs * 20 + (b - 64) ≡ n → (w < 4294967296) ⊎ (4294967296 ≤ w)
         → 4294967295 < n
-    by_size n value_is_n (inl w_order) = absurd (w_fits_not w_order)
-    by_size n value_is_n (inr w_order) =
+    n_is_large n value_is_n (inl w_order) = absurd (w_fits_not w_order)
+    n_is_large n value_is_n (inr w_order) =
         omega (arith, value_is_n, w_order, v_is_saturated, w_is_saturated)

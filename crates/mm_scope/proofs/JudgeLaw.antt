@@ -1,9 +1,8 @@
 -- The least of faults, symbol by symbol.
-use Rattle.std.proofs.Common.{◌≡◌, ◌≢◌, ℕ, suc, ◌+◌, ◌-◌, ◌<◌, ◌≤◌, false, ◌||◌}
-use Rattle.std.proofs.Common.{List, [], ◌∷◌, ◌++◌, length, Option, None, Some, refl}
-use Rattle.std.proofs.Common.{ap, ap₂, sym, ◌∙◌, arith, append-nil, append_assoc}
-use Rattle.std.proofs.Common.{bytes_eq, map, if◌then◌else◌, is_some, take, drop, drop-cons, add-one}
-use Rattle.std.proofs.Common.{length-drop, nat_eq}
+use Rattle.std.proofs.Common.{◌≡◌, ◌≢◌, ℕ, suc, ◌+◌, ◌-◌, ◌<◌, ◌≤◌, false, ◌||◌, List, [], ◌∷◌}
+use Rattle.std.proofs.Common.{◌++◌, length, Option, None, Some, refl, ap, ap₂, sym, ◌∙◌, arith}
+use Rattle.std.proofs.Common.{append-nil, append_assoc, bytes_eq, map, if◌then◌else◌, is_some, take}
+use Rattle.std.proofs.Common.{drop, drop-cons, add-one, length-drop, nat_eq}
 use Rattle.std.proofs.lemmas.List.{length-take-le, length-map, map-append}
 use Rattle.std.proofs.lemmas.List.Folds.{list_any-append}
 use Rattle.std.proofs.Math.Bool.{or-false}
@@ -58,12 +57,12 @@ in_before_next : (w : Bytes) (e : List Bytes) (xs : List Token)
 in_before_next w e [] = refl
 in_before_next w e (x ∷ xs) = grind (arith, in_before_next w (x.word ∷ e) xs)
 
-at_each_snoc : (codes : List Bytes → Bytes → List Code) (e : List Bytes) (xs : List Token)
+at_each_push : (codes : List Bytes → Bytes → List Code) (e : List Bytes) (xs : List Token)
     → (t : Token)
     → at_each codes e (xs ++ t ∷ [])
     ≡ at_each codes e xs ++ at t.at (codes (before_next e xs) t.word)
-at_each_snoc codes e [] t = append-nil (at t.at (codes e t.word))
-at_each_snoc codes e (x ∷ xs) t = simp (at_each_snoc codes (x.word ∷ e) xs t, append_assoc)
+at_each_push codes e [] t = append-nil (at t.at (codes e t.word))
+at_each_push codes e (x ∷ xs) t = simp (at_each_push codes (x.word ∷ e) xs t, append_assoc)
 
 module _ (text : List ℕ) (ws : List spec.Word) (from i : ℕ) where
   -- the words before the one at i
@@ -87,7 +86,7 @@ module _ (text : List ℕ) (ws : List spec.Word) (from i : ℕ) where
       ≡ at_each codes [] (between text ws from i)
       ++ at (token_at text ws i).at (codes earlier next_word)
   at_each_between_push from_le_i i_lt_length codes =
-      rw (between_with_one_more text ws from i from_le_i i_lt_length, at_each_snoc) refl
+      rw (between_with_one_more text ws from i from_le_i i_lt_length, at_each_push) refl
 
   -- a word is among the words with one more exactly if it is among the earlier ones or is that one
   pub in_between_push : from ≤ i → i < length ws → (w : Bytes)

@@ -75,7 +75,7 @@ module _ {A : Type 0} where
   IsLeastCode s rule found =
       (place : ℕ) → IsLeastFault s (λ n. at place (rule n)) (fault_at place found)
 
-  -- the symbols are those before and these words, where they are new
+  -- if the symbols were the words d, each once, they are now these and the words ws
   abbrev pub Declares : Scope A → Scope A → List (List ℕ) → Type 0
   Declares old new ws =
       (d : List (List ℕ)) → names_in old ≡ first_occurrences [] d

@@ -14,8 +14,7 @@ use Rattle.mm_spec.specs.Lexed.{LexedText}
 use Rattle.mm_spec.specs.Output.{IsRead}
 use Rattle.mm_spec.proofs.LocalLaw.{scope_fault_front}
 use Rattle.mm_outline.specs.Blocks.{BlockLists}
-use Rattle.mm_scope.specs.WordEntry.{WordEntry, entry_of}
-use Rattle.mm_scope.specs.WordEntry.{is_constant_entry, is_variable_entry}
+use Rattle.mm_scope.specs.WordEntry.{WordEntry, entry_of, is_constant_entry, is_variable_entry}
 use Rattle.mm_scope.specs.ReadSoFar.{KnowsStatements}
 use Rattle.mm_database.specs.ParsedStatements.{IsSound}
 use Rattle.mm_database.specs.declared.names.Symbol.{Symbol}
@@ -60,9 +59,9 @@ pub read_is_sound : (len : ℕ) (x : LexedText) (db : List Statement) (fault : O
     → IsRead len x db fault
     → (look : List ℕ → Option Symbol) (labels : List ℕ → Option ℕ) (b : BlockLists)
     → KnowsStatements db look labels b → length db < 2 ^ 31 → IsSound db
-read_is_sound len x db fault is_read look labels b keeps statements_lt_2_31 =
+read_is_sound len x db fault is_read look labels b knows statements_lt_2_31 =
     let lawful = read_is_lawful len x db fault is_read in
-    known_lawful_is_sound db look labels b keeps statements_lt_2_31 lawful
+    known_lawful_is_sound db look labels b knows statements_lt_2_31 lawful
     (λ k k_lt_length. symbols_have_names db lawful k k_lt_length (get_or db k (opening 0))
     (slice_get-get_or db k (opening 0) k_lt_length))
 

@@ -2,7 +2,7 @@
 
 use crate::databases::database_of;
 use crate::flags::{BY_ALL_NODES, WITHOUT_OPEN};
-use crate::texts::{chain, seventy, through_a_theorem};
+use crate::texts::{chain_text, seventy_axioms_text, through_a_theorem};
 use mm_rows::{Columns, Matrix, matrix, ones, or_row, waves};
 use mm_work::{Judged, Open, check_all};
 use std::alloc::{AllocError, Global};
@@ -24,24 +24,24 @@ fn words() -> [u64; 33] {
 fn or_by_lanes_is_the_plain_loop(rt: HostRuntime) {
     for count in 0..34 {
         let mut into = [0x00FF_00FF_00FF_00FFu64; 33];
-        let mut plain = into;
+        let mut expected = into;
         let from = words();
         or_row(&mut into[..count], &from[..count]);
         for i in 0..count {
-            plain[i] |= from[i];
+            expected[i] |= from[i];
         }
-        assert_eq!(rt; into.as_slice(), plain.as_slice());
+        assert_eq!(rt; into.as_slice(), expected.as_slice());
     }
 }
 
 #[test]
 fn ones_by_lanes_are_the_plain_sum(rt: HostRuntime) {
     let row = words();
-    let mut plain = 0u64;
+    let mut expected = 0u64;
     for count in 0..34 {
-        assert_eq!(rt; ones(&row[..count]), plain);
+        assert_eq!(rt; ones(&row[..count]), expected);
         if count < 33 {
-            plain = plain.wrapping_add(u64::from(row[count].count_ones()));
+            expected = expected.wrapping_add(u64::from(row[count].count_ones()));
         }
     }
     assert_eq!(rt; ones(&[u64::MAX; 5]), 320);
@@ -86,7 +86,7 @@ fn is_row_written_as(table: &Matrix<Global>, row: u32, digits: &[u8; 32]) -> boo
 
 #[test]
 fn digits_of_more_than_a_word(rt: HostRuntime) -> Result<(), AllocError> {
-    let text = seventy(rt.alloc())?;
+    let text = seventy_axioms_text(rt.alloc())?;
     let table = matrix_of(&rt, rt.alloc(), &text)?;
     let digits_of_t = [8, 0, 0, 0, 0, 0, 0, 0, 0, 0, 0, 0, 0, 0, 0, 1, 8, 4];
     assert!(&rt; is_row_of_digits(&table, 0, &digits_of_t));
@@ -113,10 +113,10 @@ fn waves_of<R: Threads + Wait + Sync>(
 #[test]
 fn waves_are_the_longest_chains(rt: HostRuntime) -> Result<(), AllocError> {
     let alloc = rt.alloc();
-    for text in [through_a_theorem(alloc)?, seventy(alloc)?] {
+    for text in [through_a_theorem(alloc)?, seventy_axioms_text(alloc)?] {
         assert_eq!(rt; waves_of(&rt, alloc, &text)?.as_slice(), [0, 1].as_slice());
     }
-    let chained = waves_of(&rt, alloc, &chain(alloc)?)?;
+    let chained = waves_of(&rt, alloc, &chain_text(alloc)?)?;
     assert_eq!(rt; chained.len(), 130);
     for (row, wave) in chained.iter().enumerate() {
         assert_eq!(rt; *wave as usize, row);

@@ -21,4 +21,10 @@ returns-clause-few g c =
     in
     let lengths_equal = ap length (c.as_slice.ensures.value ∙ c.frame.ensures.hypotheses) in
     let hypotheses_le_assertion = hypotheses_le_k db c.args.assertion in
-    omega (arith, assertion_lt_length, lengths_equal, hypotheses_le_assertion, c.frame.ensures.few)
+    omega (
+      arith,
+      assertion_lt_length,
+      lengths_equal,
+      hypotheses_le_assertion,
+      c.frame.ensures.few_statements,
+    )

@@ -6,9 +6,9 @@ use Rattle.mm_outline.specs.Statements.{statements}
 use Rattle.mm_lists.proofs.ListsLaw.{taken_joined_are_all_joined, joined_with_one_more, none_joined}
 use Rattle.mm_stmt.proofs.spaced_labels.spaced_labels_of.Goals as goal
 
-pub label_of-requires-clause-theorem : goal.label_of-requires-clause-theorem
-label_of-requires-clause-theorem g c =
-    c.requires.theorems c.loop-theorem.theorem-index 0 (omega arith)
+pub label_of-requires-clause-is_theorem : goal.label_of-requires-clause-is_theorem
+label_of-requires-clause-is_theorem g c =
+    c.requires.are_theorems c.loop-theorem.theorem-index 0 (omega arith)
 
 pub loop-theorem-preserved : goal.loop-theorem-preserved
 loop-theorem-preserved g c =

@@ -15,7 +15,7 @@ overflow_cast-count g c =
     let db = c.args.database.now.statements in
     let index_lt_limit =
     (filtered_range_is_statement_list (λ j. list_any is_theorem (statement_at db j))
-    (length db) c.theorems-count.ensures.few).few in
+    (length db) c.theorems-count.ensures.few_statements).few in
     let counts_equal = ap (λ (ts : List ℕ). length ts) c.theorems-count.ensures.theorems in
     omega (arith, index_lt_limit, counts_equal)
 
@@ -49,7 +49,7 @@ returns-then-floor-count g c =
     let share_ge = c.if-share-lt-MOST_SEATS.false in omega (arith, share_is, share_le, share_ge) in
     let counts_equal = ap (λ (ts : List ℕ). length ts) c.theorems-count.ensures.theorems in
     let floor_lt = c.if-floor-count.true in
-    is_first_fault db c.theorems-count.ensures.few c.theorems-count.ensures.complete
+    is_first_fault db c.theorems-count.ensures.few_statements c.theorems-count.ensures.are_complete
     c.close-floor.result.0
     c.found_fault.result
     (valid_below_floor _ c.in_ok-gathered.gathered.seat c.in_ok-gathered.gathered.all_findings.items

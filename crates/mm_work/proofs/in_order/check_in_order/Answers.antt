@@ -36,10 +36,10 @@ returns-in-Err-Fault g c =
     let index_lt_length = c.loop-theorem-test.true in
     let counts_equal = ap (λ (ts : List ℕ). length ts) c.theorems-theorems.ensures.theorems in
     subst (λ (f : Fault). IsFirstFault db f) (sym c.in-Err-Fault.fault-is)
-    (is_first_fault db c.theorems-theorems.ensures.few c.len.ensures.complete i
+    (is_first_fault db c.theorems-theorems.ensures.few_statements c.len.ensures.are_complete i
     c.in-Err-Fault.fault
-    (valid_if_cited db c.theorems-theorems.ensures.few c.len.ensures.complete c.args.essential i
-    c.loop-theorem.lists c.loop-theorem.invariant.have_citations) (omega (
+    (valid_if_cited db c.theorems-theorems.ensures.few_statements c.len.ensures.are_complete
+    c.args.essential i c.loop-theorem.lists c.loop-theorem.invariant.have_citations) (omega (
       arith,
       index_lt_length,
       counts_equal,

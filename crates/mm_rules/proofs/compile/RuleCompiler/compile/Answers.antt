@@ -51,7 +51,7 @@ returns-clause-compiled_rule g c =
     f numbers c.compile_hypotheses.new.hypotheses.items c.compile_pairs.new.pairs.items
     c.compile_hypotheses.new.parts.items c.compile_formula.new.parts.items
     c.hyps-hyps.ensures.are c.pairs.ensures.are c.formula.ensures.formula
-    c.formula.ensures.known c.in_ok-compile_hypotheses.ensures are_first_numbers
+    c.formula.ensures.symbols_lt_count c.in_ok-compile_hypotheses.ensures are_first_numbers
     c.in_ok-compile_pairs.ensures
     (made ∙ ap (λ z. z ++ numbered_parts db numbers_at_the_end f) c.empty.ensures ∙ parts_equal))
     c.compile_formula.ensures

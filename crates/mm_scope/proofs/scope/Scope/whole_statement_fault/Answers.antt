@@ -1,5 +1,4 @@
-use Rattle.std.proofs.Common.{[], ◌++◌, ◌+◌, ◌∙◌, sym, ap, arith}
-use Rattle.std.proofs.Common.{nat_lt}
+use Rattle.std.proofs.Common.{[], ◌++◌, ◌+◌, ◌∙◌, sym, ap, arith, nat_lt}
 use Rattle.mm_spec.specs.Lawful.{at, at_each, is_empty, least, scope_faults, when}
 use Rattle.mm_spec.specs.declared.Code.TheVariants.{ConstantInBlock, EmptyDeclaration}
 use Rattle.mm_outline.specs.Parts.{between, statement_between, nth_word}
@@ -13,8 +12,8 @@ returns-in-Constants g c = λ n.
     let ws = c.args.tokens.now in
     let o = c.args.outline in
     let xs = between text ws (o.keyword + 1) o.middle in
-    let end_lt_length = c.requires.among.end_lt_length in
-    let middle_le_end = c.requires.among.outline.3 in
+    let end_lt_length = c.requires.is_among_tokens.end_lt_length in
+    let middle_le_end = c.requires.is_among_tokens.outline.3 in
     let keyword_place = (nth_word ws o.keyword).start in
     let middle_place = (nth_word ws o.middle).start in
     let block_faults = at keyword_place (when (nat_lt 0 c.args.depth) ConstantInBlock) in
@@ -38,8 +37,8 @@ returns-in-Variables g c = λ n.
     let ws = c.args.tokens.now in
     let o = c.args.outline in
     let xs = between text ws (o.keyword + 1) o.middle in
-    let end_lt_length = c.requires.among.end_lt_length in
-    let middle_le_end = c.requires.among.outline.3 in
+    let end_lt_length = c.requires.is_among_tokens.end_lt_length in
+    let middle_le_end = c.requires.is_among_tokens.outline.3 in
     let middle_place = (nth_word ws o.middle).start in
     let empty_faults = at middle_place (when (is_empty n xs) EmptyDeclaration) in (
       empty_faults,

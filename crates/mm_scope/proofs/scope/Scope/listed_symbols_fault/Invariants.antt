@@ -6,7 +6,7 @@ use Rattle.mm_database.specs.Names.{find}
 use Rattle.mm_outline.specs.Parts.{between}
 use Rattle.mm_scope.specs.Knows.{listed_codes}
 use Rattle.mm_scope.specs.Scopes.{AreNamesOf}
-use Rattle.mm_scope.proofs.scope.Scope.declared_fault.Given as goal
+use Rattle.mm_scope.proofs.scope.Scope.listed_symbols_fault.Given as goal
 
 abbrev pub invariant-loop-token_index : goal.invariant-loop-token_index
 invariant-loop-token_index g l = record {

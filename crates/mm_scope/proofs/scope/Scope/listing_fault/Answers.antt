@@ -2,7 +2,7 @@ use Rattle.std.proofs.Common.{[], ◌+◌, ◌∙◌, sym, ap}
 use Rattle.mm_spec.specs.Lawful.{at_each, least}
 use Rattle.mm_outline.specs.Parts.{between}
 use Rattle.mm_scope.specs.Knows.{listed_codes}
-use Rattle.mm_scope.proofs.scope.Scope.declared.Goals as goal
+use Rattle.mm_scope.proofs.scope.Scope.listing_fault.Goals as goal
 
 pub returns : goal.returns
 returns g c = λ n are_names.

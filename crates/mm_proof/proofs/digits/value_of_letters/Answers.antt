@@ -5,17 +5,18 @@ use Rattle.mm_spec.specs.CompressedProof.{is_early}
 use Rattle.mm_proof.specs.Number.{saturated}
 use Rattle.mm_proof.proofs.NumberLaw.{no_number_with_late_byte, saturated_is_number}
 use Rattle.mm_proof.proofs.NumberLaw.{saturated_is_too_large, early_bytes}
-use Rattle.mm_proof.proofs.digits.number.Goals as goal
+use Rattle.mm_proof.proofs.digits.value_of_letters.Goals as goal
 
-pub returns-in_default-letter_of-clause-none : goal.returns-in_default-letter_of-clause-none
-returns-in_default-letter_of-clause-none c =
+pub returns-in_default-letter_of-clause-is_too_large :
+    goal.returns-in_default-letter_of-clause-is_too_large
+returns-in_default-letter_of-clause-is_too_large c =
     rw c.in_ok-last.ensures.cases.0
     (λ n is_number. absurd
     (no_number_with_late_byte _ _ n _ _ _ c.loop-byte-test.true c.letter_of-in-loop-byte.ensures
     c.in_default-letter_of.not-Early is_number))
 
-pub returns-clause-some : goal.returns-clause-some
-returns-clause-some c =
+pub returns-clause-value_is : goal.returns-clause-value_is
+returns-clause-value_is c =
     let bs = c.in_ok-last.early.now in
     let take_is_all : take c.loop-byte.byte-index bs ≡ bs =
     take_all c.loop-byte.byte-index bs c.loop-byte-test.false in
@@ -28,8 +29,8 @@ returns-clause-some c =
     (rw last_has_digit.2 at c.with_digit.ensures)
     (sym (ap (list_all is_early) take_is_all) ∙ c.loop-byte.invariant.early) last_has_digit.1)
 
-pub returns-clause-none : goal.returns-clause-none
-returns-clause-none c =
+pub returns-clause-is_too_large : goal.returns-clause-is_too_large
+returns-clause-is_too_large c =
     let bs = c.in_ok-last.early.now in
     let take_is_all : take c.loop-byte.byte-index bs ≡ bs =
     take_all c.loop-byte.byte-index bs c.loop-byte-test.false in

@@ -4,7 +4,7 @@ use Rattle.mm_spec.specs.Lawful.{at, at_each, least}
 use Rattle.mm_outline.specs.Parts.{between, token_at}
 use Rattle.mm_scope.specs.Knows.{listed_codes}
 use Rattle.mm_scope.proofs.JudgeLaw.{earlier, at_each_between_push, in_between_is_in_earlier}
-use Rattle.mm_scope.proofs.scope.Scope.declared_fault.Goals as goal
+use Rattle.mm_scope.proofs.scope.Scope.listed_symbols_fault.Goals as goal
 
 pub loop-token_index-preserved : goal.loop-token_index-preserved
 loop-token_index-preserved g c =
@@ -19,14 +19,14 @@ loop-token_index-preserved g c =
     let from_le_i : from ≤ i = omega arith in
     let e = earlier text ws from i in
     record {
-      seen = c.in_ok-repeated.ensures.seen;
+      seen = c.in_ok-repeated.ensures.word_is_seen;
       least = λ n are_names.
           let codes = listed_codes n c.args.kind in
           let word_is_bytes = c.bytes-word.ensures in
           c.lesser-least_found.ensures (at_each codes [] (between text ws from i))
           (at t.at (codes e t.word)) (c.loop-token_index.invariant.least n are_names)
           (c.fault_with_code.ensures
-          ∙ c.declared_code-code.ensures e (c.in_ok-repeated.ensures.repeated
+          ∙ c.listed_code-code.ensures e (c.in_ok-repeated.ensures.tells_repeated
           ∙ in_between_is_in_earlier text ws from i t.word
           ∙ ap (λ w. is_in w e) (sym word_is_bytes)) t.at n are_names
           ∙ ap (λ w. least (at t.at (codes e w))) word_is_bytes)
