@@ -7,7 +7,7 @@ use Rattle.std.proofs.lemmas.List.{get_or_append_left, same_from_push}
 use Rattle.mm_spec.specs.Derivation.{Formula, Context, Follows, Trees, none, more, tree, formulas}
 use Rattle.mm_spec.specs.Derivation.{postfix, AreDerivations}
 use Rattle.mm_spec.specs.Steps.{Step, label, marked}
-use Rattle.mm_spec.specs.Valid.{IsLastTree, Adds, Plain, Derives}
+use Rattle.mm_spec.specs.Valid.{IsLastTree, Adds, Expands, Derives}
 use Rattle.mm_spec.specs.Laws.Complete.{HasCompleteFrame}
 use Rattle.mm_spec.proofs.UniqueLaw.{◌⧺◌}
 use Rattle.mm_spec.proofs.CheckedLaw.{same_labels_same_forest}
@@ -151,18 +151,18 @@ module _ (c : Context) where
           row_in_children cut.0 cut.1 (cut_two_ways (postfix cs) (l ∷ []) cut.0 rest_labels cut.2)
           in_children
 
-  -- the plain list only grows
+  -- the expansion only grows
   adds_at_end : (lists : List (List ℕ)) (labels : List ℕ) (s : Step) (new_labels : List ℕ)
       → Adds c lists labels s new_labels → (added : List ℕ) × (new_labels ≡ labels ++ added)
   adds_at_end lists labels (label l) new_labels adds = (l ∷ [], adds)
   adds_at_end lists labels (marked j) new_labels adds = (adds.1, adds.4)
 
-  plain_extends : (steps : List Step) (lists : List (List ℕ)) (labels all_labels : List ℕ)
-      → Plain c lists labels steps all_labels → (added : List ℕ) × (all_labels ≡ labels ++ added)
-  plain_extends [] lists labels all_labels plain = ([], plain ∙ sym (append-nil labels))
-  plain_extends (s ∷ steps) lists labels all_labels plain =
-      let extended = adds_at_end lists labels s plain.0 plain.1 in
-      let extended_again = plain_extends steps (lists ++ plain.0 ∷ []) plain.0 all_labels plain.2 in (
+  expansion_grows : (steps : List Step) (lists : List (List ℕ)) (labels all_labels : List ℕ)
+      → Expands c lists labels steps all_labels → (added : List ℕ) × (all_labels ≡ labels ++ added)
+  expansion_grows [] lists labels all_labels expansion = ([], expansion ∙ sym (append-nil labels))
+  expansion_grows (s ∷ steps) lists labels all_labels expansion =
+      let extended = adds_at_end lists labels s expansion.0 expansion.1 in
+      let extended_again = expansion_grows steps (lists ++ expansion.0 ∷ []) expansion.0 all_labels expansion.2 in (
         extended.0 ++ extended_again.0,
         extended_again.1 ∙ ap (λ z. z ++ extended_again.0) extended.1
             ∙ append_assoc labels extended.0 extended_again.0,
@@ -343,9 +343,9 @@ module _ (c : Context) where
         (forest d : Trees)
         → AreListsOf lists forests → AreDerivations c forest → forest_at forests (length forests)
         ≡ forest
-        → AreDerivations c d → Plain c lists (postfix forest) steps (postfix d)
+        → AreDerivations c d → Expands c lists (postfix forest) steps (postfix d)
         → HasRest forests steps d
-    has_rest_from [] lists forests forest d are_lists derives forest_is d_derives plain =
+    has_rest_from [] lists forests forest d are_lists derives forest_is d_derives expansion =
         let length_is : length forests + 0 ≡ length forests = omega arith in
         record {
           later = [];
@@ -353,16 +353,16 @@ module _ (c : Context) where
           ends_in_d =
               ap (forest_at (forests ++ [])) length_is
               ∙ forest_front forests [] (length forests) (omega arith) ∙ forest_is
-              ∙ sym (same_labels_same_forest c are_complete d forest d_derives derives plain);
+              ∙ sym (same_labels_same_forest c are_complete d forest d_derives derives expansion);
         }
-    has_rest_from (s ∷ steps) lists forests forest d are_lists derives forest_is d_derives plain =
-        let extension = plain_extends steps (lists ++ plain.0 ∷ []) plain.0 (postfix d) plain.2 in
-        let row = row_of_front d plain.0 extension.0 d_derives extension.1 in
-        rest_after_step lists forests forest d s steps are_lists derives forest_is plain.0 plain.1
+    has_rest_from (s ∷ steps) lists forests forest d are_lists derives forest_is d_derives expansion =
+        let extension = expansion_grows steps (lists ++ expansion.0 ∷ []) expansion.0 (postfix d) expansion.2 in
+        let row = row_of_front d expansion.0 extension.0 d_derives extension.1 in
+        rest_after_step lists forests forest d s steps are_lists derives forest_is expansion.0 expansion.1
         row.0 row.1 row.2
-        (λ next_is. has_rest_from steps (lists ++ plain.0 ∷ []) (forests ++ row.0 ∷ []) row.0 d
-        (lists_push lists forests plain.0 row.0 are_lists row.1 row.2) row.1 next_is d_derives
-        (subst (λ z. Plain c (lists ++ plain.0 ∷ []) z steps (postfix d)) (sym row.2) plain.2))
+        (λ next_is. has_rest_from steps (lists ++ expansion.0 ∷ []) (forests ++ row.0 ∷ []) row.0 d
+        (lists_push lists forests expansion.0 row.0 are_lists row.1 row.2) row.1 next_is d_derives
+        (subst (λ z. Expands c (lists ++ expansion.0 ∷ []) z steps (postfix d)) (sym row.2) expansion.2))
 
     -- a proof's forests
     pub proof_has_forests : (steps : List Step) (f : Formula) (d : Trees) → Derives c steps f d

@@ -17,7 +17,7 @@ use Rattle.mm_spec.specs.Derivation.{Formula, Context, Rule, hypothesis, asserti
 use Rattle.mm_spec.specs.Derivation.{postfix, AreDerivations, is_member}
 use Rattle.mm_spec.specs.Steps.{Step, label, marked, PlacedStep}
 use Rattle.mm_spec.specs.Valid as proof
-use Rattle.mm_spec.specs.Valid.{Reason, code_of, Fails, StepFails, StepFault, IsPlain, IsEndCode}
+use Rattle.mm_spec.specs.Valid.{Reason, code_of, Fails, StepFails, StepFault, ExpandTo, IsEndCode}
 use Rattle.mm_spec.specs.Citation.{context_at, steps_at, reading_faults_at, IsValid, RestsOn}
 use Rattle.mm_spec.specs.Frame.{formula_at}
 use Rattle.mm_spec.specs.Report.{Row, CitingRow, report, citation_report, refusal}
@@ -37,7 +37,7 @@ use Rattle.mm_spec.specs.Laws.Complete.{HasCompleteFrame, AreComplete}
 use Rattle.mm_spec.specs.Opened.{counted}
 use Rattle.mm_spec.proofs.CompleteLaw.{reads_complete}
 use Rattle.mm_spec.proofs.OpenedLaw.{counted_complete}
-use Rattle.mm_spec.proofs.CheckedLaw.{same_labels_same_forest, plain_lists_are_equal}
+use Rattle.mm_spec.proofs.CheckedLaw.{same_labels_same_forest, expansions_are_equal}
 use Rattle.mm_laws.proofs.ExcludedLaw.{excludes}
 use Rattle.mm_laws.proofs.JudgedLaw.{stopped_steps, no_step_fault, no_end_fault, no_both_faults}
 use Rattle.mm_spec.proofs.LongestLaw.{longest_is_what_is_read}
@@ -120,9 +120,9 @@ module _ (c : Context) (all_complete : (l : ℕ) → HasCompleteFrame c (c.rule 
   no_later_fault : (ps : List PlacedStep) (f : Fault) (step_fault : StepFault c ps f) (forest :
       Trees)
       → (steps_before zs : List PlacedStep)
-      → AreDerivations c forest → IsPlain c (map (λ p. p.step) steps_before) (postfix forest)
+      → AreDerivations c forest → ExpandTo c (map (λ p. p.step) steps_before) (postfix forest)
       → steps_before ≡ step_fault.before ++ step_fault.first ∷ zs → ⊥
-  no_later_fault ps f step_fault forest steps_before zs derives is_plain steps_are =
+  no_later_fault ps f step_fault forest steps_before zs derives expansion steps_are =
       let fault_before : StepFault c steps_before f =
       record {
         before = step_fault.before;
@@ -131,13 +131,13 @@ module _ (c : Context) (all_complete : (l : ℕ) → HasCompleteFrame c (c.rule 
         splits = steps_are;
         forest = step_fault.forest;
         derivations = step_fault.derivations;
-        plain = step_fault.plain;
+        expansion = step_fault.expansion;
         reason = step_fault.reason;
         fails = step_fault.fails;
         is = step_fault.is;
       } in
       excludes c all_complete (map (λ p. p.step) steps_before) step_fault.reason (postfix forest)
-      (stopped_steps c all_complete steps_before [] 0 f fault_before) is_plain (
+      (stopped_steps c all_complete steps_before [] 0 f fault_before) expansion (
         forest,
         derives,
         refl,
@@ -153,15 +153,15 @@ module _ (c : Context) (all_complete : (l : ℕ) → HasCompleteFrame c (c.rule 
     where
       by_split : Splits faults_f.before faults_f.first faults_g.before faults_g.first → f ≡ g
       by_split (inl splits_equal) =
-          let is_plain = subst (λ x. IsPlain c (map (λ p. p.step) x) (postfix faults_f.forest))
-          splits_equal.0 faults_f.plain in
+          let expansion = subst (λ x. ExpandTo c (map (λ p. p.step) x) (postfix faults_f.forest))
+          splits_equal.0 faults_f.expansion in
           let forests_equal : faults_f.forest ≡ faults_g.forest =
           same_labels_same_forest c all_complete faults_f.forest faults_g.forest
           faults_f.derivations
           faults_g.derivations
-          (plain_lists_are_equal c all_complete (map (λ p. p.step) faults_g.before) [] [] (postfix
+          (expansions_are_equal c all_complete (map (λ p. p.step) faults_g.before) [] [] (postfix
           faults_f.forest)
-          (postfix faults_g.forest) is_plain faults_g.plain) in
+          (postfix faults_g.forest) expansion faults_g.expansion) in
           let fails_by_reason =
           subst (λ x. StepFails c x.step (formulas faults_g.forest) faults_f.reason) splits_equal.1
           (subst (λ r. StepFails c faults_f.first.step (formulas r) faults_f.reason) forests_equal
@@ -172,10 +172,10 @@ module _ (c : Context) (all_complete : (l : ℕ) → HasCompleteFrame c (c.rule 
           ∙ sym faults_g.is
       by_split (inr (inl is_longer)) =
           absurd (no_later_fault ps f faults_f faults_g.forest faults_g.before is_longer.0
-          faults_g.derivations faults_g.plain is_longer.1)
+          faults_g.derivations faults_g.expansion is_longer.1)
       by_split (inr (inr is_longer)) =
           absurd (no_later_fault ps g faults_g faults_f.forest faults_f.before is_longer.0
-          faults_f.derivations faults_f.plain is_longer.1)
+          faults_f.derivations faults_f.expansion is_longer.1)
 
   code_is_unique : (xs : List Formula) (formula : Formula) (a b : Code) → IsEndCode c xs formula a
       → IsEndCode c xs formula b → a ≡ b
@@ -189,8 +189,8 @@ module _ (c : Context) (all_complete : (l : ℕ) → HasCompleteFrame c (c.rule 
       let forests_equal : faults_f.forest ≡ faults_g.forest =
       same_labels_same_forest c all_complete faults_f.forest faults_g.forest faults_f.derivations
       faults_g.derivations
-      (plain_lists_are_equal c all_complete (map (λ p. p.step) ps) [] [] (postfix faults_f.forest)
-      (postfix faults_g.forest) faults_f.plain faults_g.plain) in
+      (expansions_are_equal c all_complete (map (λ p. p.step) ps) [] [] (postfix faults_f.forest)
+      (postfix faults_g.forest) faults_f.expansion faults_g.expansion) in
       faults_f.is ∙ ap (fault end)
       (code_is_unique (formulas faults_g.forest) formula faults_f.code faults_g.code
       (subst (λ r. IsEndCode c (formulas r) formula faults_f.code) forests_equal faults_f.fails)

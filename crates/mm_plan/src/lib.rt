@@ -5,7 +5,7 @@
 #![tactic(auto)]
 
 ghost use Rattle.std.specs.Prelude.{◌≡◌, ◌↔◌, IsTrue, length};
-ghost use Rattle.mm_spec.specs.Request.{plain};
+ghost use Rattle.mm_spec.specs.Request.{without_options};
 ghost use Rattle.mm_plan.specs.Plans.{IsLawfulPlan, IsLawfulCutting, RisesTo, request_of};
 
 use mm_spec::{Choice, Form, PIECE_LIMIT, Request, WORKER_LIMIT};
@@ -74,10 +74,10 @@ impl<A: Allocator> Cutting<A> {
 impl<A: Allocator> Plan<A> {
     /// The plan without options: the whole report of a text that is cut in this way, whose proofs
     /// this many workers check.
-    pub fn plain(cuts: Cutting<A>, workers: u32) -> Self
+    pub fn without_options(cuts: Cutting<A>, workers: u32) -> Self
         ensures cuts { result.cuts ≡ cuts }
         ensures workers { result.workers ≡ workers }
-        ensures request { request_of result ≡ plain }
+        ensures request { request_of result ≡ without_options }
     {
         Plan {
             cuts,

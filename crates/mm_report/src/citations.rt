@@ -180,7 +180,7 @@ pub fn write_citations<'a, W: Write, A: Allocator, C: Allocator, D: Allocator>(
         choice: Choice::Citations,
         form,
         with_open,
-        ..Request::plain()
+        ..Request::without_options()
     };
     write_requested_citations(to, &request, database, chosen, citations)
 }

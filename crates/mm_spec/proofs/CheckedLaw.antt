@@ -1,8 +1,8 @@
--- Labels are those of one forest of derivations at most, and steps stand for one plain list.
+-- Labels are those of one forest of derivations at most, and steps have one expansion.
 use Rattle.std.proofs.Common.{◌≡◌, ℕ, List, [], ◌∷◌, ◌++◌, sym, ap, ◌∙◌, subst, unwrap_or}
 use Rattle.mm_spec.specs.Derivation.{Context, Trees, none, more, postfix, AreDerivations}
 use Rattle.mm_spec.specs.Steps.{Step, label, marked}
-use Rattle.mm_spec.specs.Valid.{IsLastTree, Adds, Plain}
+use Rattle.mm_spec.specs.Valid.{IsLastTree, Adds, Expands}
 use Rattle.mm_spec.proofs.UniqueLaw.{same_labels_same_derivations}
 use Rattle.mm_spec.proofs.StepsLaw.{forest_labels_are_good}
 use Rattle.mm_spec.specs.Laws.Complete.{HasCompleteFrame}
@@ -35,11 +35,11 @@ module _ (c : Context) (all_complete : (l : ℕ) → HasCompleteFrame c (c.rule 
       (subst (λ r. IsLastTree r adds_a.1) forests_equal adds_a.3.3) adds_b.3.3 in
       adds_a.4 ∙ ap (λ z. before ++ z) last_trees_equal ∙ sym adds_b.4
 
-  pub plain_lists_are_equal : (steps : List Step) (lists : List (List ℕ)) (before a b : List ℕ)
-      → Plain c lists before steps a → Plain c lists before steps b → a ≡ b
-  plain_lists_are_equal [] lists before a b a_is_plain b_is_plain = a_is_plain ∙ sym b_is_plain
-  plain_lists_are_equal (s ∷ steps) lists before a b a_is_plain b_is_plain =
+  pub expansions_are_equal : (steps : List Step) (lists : List (List ℕ)) (before a b : List ℕ)
+      → Expands c lists before steps a → Expands c lists before steps b → a ≡ b
+  expansions_are_equal [] lists before a b a_expansion b_expansion = a_expansion ∙ sym b_expansion
+  expansions_are_equal (s ∷ steps) lists before a b a_expansion b_expansion =
       let next_lists_equal =
-      added_lists_are_equal lists before s a_is_plain.0 b_is_plain.0 a_is_plain.1 b_is_plain.1 in
-      plain_lists_are_equal steps (lists ++ b_is_plain.0 ∷ []) b_is_plain.0 a b
-      (subst (λ z. Plain c (lists ++ z ∷ []) z steps a) next_lists_equal a_is_plain.2) b_is_plain.2
+      added_lists_are_equal lists before s a_expansion.0 b_expansion.0 a_expansion.1 b_expansion.1 in
+      expansions_are_equal steps (lists ++ b_expansion.0 ∷ []) b_expansion.0 a b
+      (subst (λ z. Expands c (lists ++ z ∷ []) z steps a) next_lists_equal a_expansion.2) b_expansion.2

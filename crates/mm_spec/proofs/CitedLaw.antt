@@ -12,7 +12,7 @@ use Rattle.mm_spec.specs.Citation.{steps_at, IsProof, Cites}
 use Rattle.mm_spec.specs.Laws.Complete.{AreComplete}
 use Rattle.mm_spec.specs.Output.{is_theorem_at}
 use Rattle.mm_spec.proofs.BoolLaw.{passes_alone}
-use Rattle.mm_spec.proofs.CheckedLaw.{same_labels_same_forest, plain_lists_are_equal}
+use Rattle.mm_spec.proofs.CheckedLaw.{same_labels_same_forest, expansions_are_equal}
 use Rattle.mm_spec.proofs.FindsLaw.{active_lt_place}
 use Rattle.mm_spec.proofs.NodesLaw.{node_label_is_member}
 
@@ -74,4 +74,4 @@ pub two_proofs_are_equal : (db : List Statement) → AreComplete db → (t : ℕ
     → IsProof db t d
     → IsProof db t e → d ≡ e
 two_proofs_are_equal db all_complete t d e d_is_proof e_is_proof =
-    grind (arith, common_steps, plain_lists_are_equal, same_labels_same_forest)
+    grind (arith, common_steps, expansions_are_equal, same_labels_same_forest)

@@ -7,7 +7,7 @@ use Rattle.std.specs.List.{AllZip}
 use Rattle.mm_spec.specs.Derivation.{Formula, Rule, hypothesis, assertion, Context, Follows, Trees}
 use Rattle.mm_spec.specs.Derivation.{none, more, formulas, postfix, AreDerivations}
 use Rattle.mm_spec.specs.Steps.{Step, label, marked}
-use Rattle.mm_spec.specs.Valid.{Reason, StepFails, Adds, Plain}
+use Rattle.mm_spec.specs.Valid.{Reason, StepFails, Adds, Expands}
 use Rattle.mm_spec.specs.Laws.Complete.{HasCompleteFrame}
 use Rattle.mm_spec.proofs.MachineLaw.{RunFailure, proceed, AreGood, StepOutcome, step_has_outcome}
 use Rattle.mm_spec.proofs.MachineLaw.{step_grows_forest}
@@ -86,7 +86,7 @@ module _ (c : Context) where
     pub after : List Step
     pub splits : steps ≡ before ++ first ∷ after
     pub labels : List ℕ
-    pub plain : Plain c lists labels_before before labels
+    pub expansion : Expands c lists labels_before before labels
     pub forest : Trees
     pub derivations : AreDerivations c forest
     pub labels_are : postfix forest ≡ labels
@@ -95,7 +95,7 @@ module _ (c : Context) where
   abbrev pub StepsOutcome : List (List ℕ) → List ℕ → List Step → Result (List Formula) RunFailure
       → Type 0
   StepsOutcome lists labels_before steps (Ok out) =
-      (all : List ℕ) × Plain c lists labels_before steps all × (forest : Trees) × AreDerivations c
+      (all : List ℕ) × Expands c lists labels_before steps all × (forest : Trees) × AreDerivations c
       forest
       × (postfix forest ≡ all) × (formulas forest ≡ out)
   StepsOutcome lists labels_before steps (Err e) = StoppedSteps lists labels_before steps e.reason
@@ -212,7 +212,7 @@ module _ (c : Context) where
         after = later_outcome.after;
         splits = ap (λ x. s ∷ x) later_outcome.splits;
         labels = later_outcome.labels;
-        plain = (labels_after, adds_labels, later_outcome.plain);
+        expansion = (labels_after, adds_labels, later_outcome.expansion);
         forest = later_outcome.forest;
         derivations = later_outcome.derivations;
         labels_are = later_outcome.labels_are;
@@ -233,7 +233,7 @@ module _ (c : Context) where
             after = steps;
             splits = refl;
             labels = postfix forest;
-            plain = refl;
+            expansion = refl;
             forest = forest;
             derivations = are_derivations;
             labels_are = refl;

@@ -16,7 +16,7 @@ fn is_report_with_cuts<R: Threads + Wait + Sync>(
     mut text: &[u8],
     report: &[u8],
 ) -> Result<bool, AllocError> {
-    let plan = Plan::plain(Cutting::Places(places.to_vec(alloc)?), 4);
+    let plan = Plan::without_options(Cutting::Places(places.to_vec(alloc)?), 4);
     let mut written = Vec::new(alloc);
     Ok(
         plan.is_lawful()
