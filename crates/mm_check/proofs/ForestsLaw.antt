@@ -159,13 +159,13 @@ module _ (c : Context) where
 
   expansion_grows : (steps : List Step) (lists : List (List ℕ)) (labels all_labels : List ℕ)
       → Expands c lists labels steps all_labels → (added : List ℕ) × (all_labels ≡ labels ++ added)
-  expansion_grows [] lists labels all_labels expansion = ([], expansion ∙ sym (append-nil labels))
-  expansion_grows (s ∷ steps) lists labels all_labels expansion =
-      let extended = adds_at_end lists labels s expansion.0 expansion.1 in
-      let extended_again = expansion_grows steps (lists ++ expansion.0 ∷ []) expansion.0 all_labels expansion.2 in (
-        extended.0 ++ extended_again.0,
-        extended_again.1 ∙ ap (λ z. z ++ extended_again.0) extended.1
-            ∙ append_assoc labels extended.0 extended_again.0,
+  expansion_grows [] lists labels all_labels expands = ([], expands ∙ sym (append-nil labels))
+  expansion_grows (s ∷ steps) lists labels all_labels expands =
+      let extended = adds_at_end lists labels s expands.0 expands.1 in
+      let rest = expansion_grows steps (lists ++ expands.0 ∷ []) expands.0 all_labels expands.2 in (
+        extended.0 ++ rest.0,
+        rest.1 ∙ ap (λ z. z ++ rest.0) extended.1
+            ∙ append_assoc labels extended.0 rest.0,
       )
 
   -- the lists after the steps so far are those of these forests
@@ -345,7 +345,7 @@ module _ (c : Context) where
         ≡ forest
         → AreDerivations c d → Expands c lists (postfix forest) steps (postfix d)
         → HasRest forests steps d
-    has_rest_from [] lists forests forest d are_lists derives forest_is d_derives expansion =
+    has_rest_from [] lists forests forest d are_lists derives forest_is d_derives expands =
         let length_is : length forests + 0 ≡ length forests = omega arith in
         record {
           later = [];
@@ -353,16 +353,18 @@ module _ (c : Context) where
           ends_in_d =
               ap (forest_at (forests ++ [])) length_is
               ∙ forest_front forests [] (length forests) (omega arith) ∙ forest_is
-              ∙ sym (same_labels_same_forest c are_complete d forest d_derives derives expansion);
+              ∙ sym (same_labels_same_forest c are_complete d forest d_derives derives expands);
         }
-    has_rest_from (s ∷ steps) lists forests forest d are_lists derives forest_is d_derives expansion =
-        let extension = expansion_grows steps (lists ++ expansion.0 ∷ []) expansion.0 (postfix d) expansion.2 in
-        let row = row_of_front d expansion.0 extension.0 d_derives extension.1 in
-        rest_after_step lists forests forest d s steps are_lists derives forest_is expansion.0 expansion.1
-        row.0 row.1 row.2
-        (λ next_is. has_rest_from steps (lists ++ expansion.0 ∷ []) (forests ++ row.0 ∷ []) row.0 d
-        (lists_push lists forests expansion.0 row.0 are_lists row.1 row.2) row.1 next_is d_derives
-        (subst (λ z. Expands c (lists ++ expansion.0 ∷ []) z steps (postfix d)) (sym row.2) expansion.2))
+    has_rest_from (s ∷ steps) lists forests forest d are_lists derives forest_is d_derives expands =
+        let extension =
+        expansion_grows steps (lists ++ expands.0 ∷ []) expands.0 (postfix d) expands.2 in
+        let row = row_of_front d expands.0 extension.0 d_derives extension.1 in
+        rest_after_step lists forests forest d s steps are_lists derives forest_is expands.0
+        expands.1 row.0 row.1 row.2
+        (λ next_is. has_rest_from steps (lists ++ expands.0 ∷ []) (forests ++ row.0 ∷ []) row.0 d
+        (lists_push lists forests expands.0 row.0 are_lists row.1 row.2) row.1 next_is d_derives
+        (subst (λ z. Expands c (lists ++ expands.0 ∷ []) z steps (postfix d)) (sym row.2)
+        expands.2))
 
     -- a proof's forests
     pub proof_has_forests : (steps : List Step) (f : Formula) (d : Trees) → Derives c steps f d

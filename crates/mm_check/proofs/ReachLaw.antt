@@ -183,8 +183,8 @@ module _ (db : List Statement) (t : ℕ) (steps : List PlacedStep) (stack ends :
     (noted : List ℕ) (is_reached : IsReached db t (steps_of steps) stack ends noted) where
   whole_expansion : Expands (context_at db t) [] [] (steps_of steps) (postfix is_reached.forest)
   whole_expansion =
-      subst (λ z. Expands (context_at db t) [] [] z (postfix is_reached.forest)) (append-nil (steps_of
-      steps))
+      subst (λ z. Expands (context_at db t) [] [] z (postfix is_reached.forest)) (append-nil
+      (steps_of steps))
       (is_reached.expands_from_start [] (postfix is_reached.forest) refl)
 
   pub end_derives : (f : Formula) → stack ≡ f ∷ []

@@ -19,13 +19,13 @@ module _ (c : Context) (all_complete : (l : ℕ) → HasCompleteFrame c (c.rule 
 
   expansion_grows : (steps : List Step) (lists : List (List ℕ)) (labels all_labels : List ℕ)
       → Expands c lists labels steps all_labels → (added : List ℕ) × (all_labels ≡ labels ++ added)
-  expansion_grows [] lists labels all_labels expansion = ([], expansion ∙ sym (append-nil labels))
-  expansion_grows (s ∷ steps) lists labels all_labels expansion =
-      let extended = adds_at_end lists labels s expansion.0 expansion.1 in
-      let extended_again = expansion_grows steps (lists ++ expansion.0 ∷ []) expansion.0 all_labels expansion.2 in (
-        extended.0 ++ extended_again.0,
-        extended_again.1 ∙ ap (λ z. z ++ extended_again.0) extended.1
-            ∙ append_assoc labels extended.0 extended_again.0,
+  expansion_grows [] lists labels all_labels expands = ([], expands ∙ sym (append-nil labels))
+  expansion_grows (s ∷ steps) lists labels all_labels expands =
+      let extended = adds_at_end lists labels s expands.0 expands.1 in
+      let rest = expansion_grows steps (lists ++ expands.0 ∷ []) expands.0 all_labels expands.2 in (
+        extended.0 ++ rest.0,
+        rest.1 ∙ ap (λ z. z ++ rest.0) extended.1
+            ∙ append_assoc labels extended.0 rest.0,
       )
 
   -- the expansion of a front
@@ -33,44 +33,44 @@ module _ (c : Context) (all_complete : (l : ℕ) → HasCompleteFrame c (c.rule 
       → Expands c lists labels (front ++ steps) all_labels
       → (mid : List ℕ) × (later_lists : List (List ℕ)) × Expands c lists labels front mid
       × Expands c later_lists mid steps all_labels
-  expansion_splits [] steps lists labels all_labels expansion = (labels, lists, refl, expansion)
-  expansion_splits (s ∷ front) steps lists labels all_labels expansion =
-      let rest_splits = expansion_splits front steps (lists ++ expansion.0 ∷ []) expansion.0 all_labels expansion.2
-      in
-      (rest_splits.0, rest_splits.1, (expansion.0, expansion.1, rest_splits.2), rest_splits.3)
+  expansion_splits [] steps lists labels all_labels expands = (labels, lists, refl, expands)
+  expansion_splits (s ∷ front) steps lists labels all_labels expands =
+      let rest_splits =
+      expansion_splits front steps (lists ++ expands.0 ∷ []) expands.0 all_labels expands.2 in
+      (rest_splits.0, rest_splits.1, (expands.0, expands.1, rest_splits.2), rest_splits.3)
 
   -- a step that fails leaves no forest for the whole
   pub excludes : (steps : List Step) (reason : Reason) (all_labels : List ℕ)
       → StoppedSteps c [] [] steps reason → Expands c [] [] steps all_labels
       → ¬ IsPostfixOfForest c all_labels
-  excludes steps reason all_labels stopped expansion forest = by_step stopped.first stopped.fails
-      expansion_parts.3
+  excludes steps reason all_labels stopped expands forest = by_step stopped.first stopped.fails
+      split.3
     where
-      expansion_parts : (mid : List ℕ) × (later_lists : List (List ℕ)) × Expands c [] [] stopped.before
+      split : (mid : List ℕ) × (later_lists : List (List ℕ)) × Expands c [] [] stopped.before
           mid
           × Expands c later_lists mid (stopped.first ∷ stopped.after) all_labels
-      expansion_parts =
+      split =
           expansion_splits stopped.before (stopped.first ∷ stopped.after) [] [] all_labels
-          (subst (λ x. Expands c [] [] x all_labels) stopped.splits expansion)
+          (subst (λ x. Expands c [] [] x all_labels) stopped.splits expands)
 
       by_step : (first_step : Step) → StepFails c first_step (formulas stopped.forest) reason
-          → Expands c expansion_parts.1 expansion_parts.0 (first_step ∷ stopped.after) all_labels → ⊥
+          → Expands c split.1 split.0 (first_step ∷ stopped.after) all_labels → ⊥
       by_step (marked j) fails rest_expansion = fails
       by_step (label l) fails rest_expansion =
-          let extension = expansion_grows stopped.after (expansion_parts.1 ++ rest_expansion.0 ∷ [])
+          let extension = expansion_grows stopped.after (split.1 ++ rest_expansion.0 ∷ [])
           rest_expansion.0 all_labels rest_expansion.2 in
-          let all_labels_are : all_labels ≡ expansion_parts.0 ++ l ∷ extension.0 =
+          let all_labels_are : all_labels ≡ split.0 ++ l ∷ extension.0 =
           extension.1 ∙ ap (λ z. z ++ extension.0) rest_expansion.1
-          ∙ append_assoc expansion_parts.0 (l ∷ []) extension.0 in
-          let labels_are : postfix stopped.forest ≡ expansion_parts.0 =
+          ∙ append_assoc split.0 (l ∷ []) extension.0 in
+          let labels_are : postfix stopped.forest ≡ split.0 =
           stopped.labels_are
-          ∙ expansions_are_equal c all_complete stopped.before [] [] stopped.labels expansion_parts.0
+          ∙ expansions_are_equal c all_complete stopped.before [] [] stopped.labels split.0
           stopped.expansion
-          expansion_parts.2 in
+          split.2 in
           stopped_no_forest c all_labels reason
           (subst (AreGood c) forest.2 (forest_labels_are_good c all_complete forest.0 forest.1))
           (record {
-            before = expansion_parts.0;
+            before = split.0;
             label = l;
             after = extension.0;
             splits = all_labels_are;

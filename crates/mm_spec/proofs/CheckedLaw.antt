@@ -37,9 +37,9 @@ module _ (c : Context) (all_complete : (l : ℕ) → HasCompleteFrame c (c.rule 
 
   pub expansions_are_equal : (steps : List Step) (lists : List (List ℕ)) (before a b : List ℕ)
       → Expands c lists before steps a → Expands c lists before steps b → a ≡ b
-  expansions_are_equal [] lists before a b a_expansion b_expansion = a_expansion ∙ sym b_expansion
-  expansions_are_equal (s ∷ steps) lists before a b a_expansion b_expansion =
+  expansions_are_equal [] lists before a b a_expands b_expands = a_expands ∙ sym b_expands
+  expansions_are_equal (s ∷ steps) lists before a b a_expands b_expands =
       let next_lists_equal =
-      added_lists_are_equal lists before s a_expansion.0 b_expansion.0 a_expansion.1 b_expansion.1 in
-      expansions_are_equal steps (lists ++ b_expansion.0 ∷ []) b_expansion.0 a b
-      (subst (λ z. Expands c (lists ++ z ∷ []) z steps a) next_lists_equal a_expansion.2) b_expansion.2
+      added_lists_are_equal lists before s a_expands.0 b_expands.0 a_expands.1 b_expands.1 in
+      expansions_are_equal steps (lists ++ b_expands.0 ∷ []) b_expands.0 a b
+      (subst (λ z. Expands c (lists ++ z ∷ []) z steps a) next_lists_equal a_expands.2) b_expands.2

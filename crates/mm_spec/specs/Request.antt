@@ -20,4 +20,5 @@ pub record Request : Type 0 where
 
 -- what is requested where no option is given
 abbrev pub without_options : Request
-without_options = record { only = None; choice = All; form = One; essential = false; with_open = false }
+without_options =
+    record { only = None; choice = All; form = One; essential = false; with_open = false }

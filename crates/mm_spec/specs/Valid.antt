@@ -1,5 +1,5 @@
--- The labels to which the steps of a proof expand, and valid proofs (Metamath book, "Proof
--- Verification" and "Compressed Proofs"); the faults of steps and of the end are this project's own.
+-- The labels to which steps expand, and valid proofs (Metamath book, "Proof Verification" and
+-- "Compressed Proofs"); the faults of steps and of the end are this project's own.
 use Rattle.std.specs.Prelude.{◌≡◌, ◌≢◌, ℕ, ◌-◌, ◌<◌, ◌≤◌, List, [], ◌∷◌, ◌++◌, length, drop, Option}
 use Rattle.std.specs.Prelude.{Some, slice_get, map}
 use Rattle.mm_spec.specs.Text.{Fault, fault}

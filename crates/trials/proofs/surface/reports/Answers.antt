@@ -4,5 +4,5 @@ use Rattle.trials.proofs.surface.reports.Goals as goal
 
 pub are_citations_written-requires : goal.are_citations_written-requires
 are_citations_written-requires g c =
-    are_citations_of c.in_ok-database.database.statements without_options c.in_ok-citations.citations
-    c.in_ok-citations.ensures
+    are_citations_of c.in_ok-database.database.statements without_options
+    c.in_ok-citations.citations c.in_ok-citations.ensures
