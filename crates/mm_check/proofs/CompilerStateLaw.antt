@@ -4,7 +4,7 @@ use Rattle.std.proofs.Common.{Option, None, Some, slice_get, refl, sym, ap, ◌�
 use Rattle.std.proofs.Common.{subst, true≢false}
 use Rattle.std.specs.List.{list_any}
 use Rattle.mm_spec.specs.Statement.{Statement, floating, essential, axiomatic, provable}
-use Rattle.mm_spec.specs.Scope.{is_active}
+use Rattle.mm_spec.specs.Scope.{active_at}
 use Rattle.mm_spec.specs.Frame.{formula_at, frame_at}
 use Rattle.mm_spec.specs.Derivation.{Rule, hypothesis, assertion}
 use Rattle.mm_spec.specs.Citation.{context_at, rule_of, rule_at, is_assertion}
@@ -22,13 +22,13 @@ module _ (db : List Statement) (t j : ℕ) where
     pub rule_is : rule_at db t j ≡ rule_of db j statement
 
   good_label_has_statement : IsCompleteRule (context_at db t) (rule_at db t j) → HasStatement
-  good_label_has_statement is_complete = by_activity (is_active db j t) refl (slice_get db j) refl
+  good_label_has_statement is_complete = by_activity (active_at db j t) refl (slice_get db j) refl
       is_complete
     where
       out : Bool → Option Statement → Option Rule
       out b o = elim b [ false ↦ None | true ↦ elim o [ None ↦ None | Some s ↦ rule_of db j s ] ]
 
-      by_activity : (b : Bool) → is_active db j t ≡ b → (o : Option Statement) → slice_get db j ≡ o
+      by_activity : (b : Bool) → active_at db j t ≡ b → (o : Option Statement) → slice_get db j ≡ o
           → IsCompleteRule (context_at db t) (out b o) → HasStatement
       by_activity false not_active o statement_is is_good = absurd is_good
       by_activity true active_at_t None statement_is is_complete = absurd is_complete

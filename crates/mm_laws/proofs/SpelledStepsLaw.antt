@@ -11,7 +11,7 @@ use Rattle.std.proofs.lemmas.Slice.Eq.{bytes_eq-Decides}
 use Rattle.mm_spec.specs.Text.{Bytes, Token, fault, is_in}
 use Rattle.mm_spec.specs.declared.Fault.{Fault}
 use Rattle.mm_spec.specs.Statement.{Statement, floating, essential, axiomatic, provable, label_of}
-use Rattle.mm_spec.specs.Scope.{Names as KnownNames, names_before, depth, is_active, statement_at}
+use Rattle.mm_spec.specs.Scope.{Names as KnownNames, names_before, depth, active_at, statement_at}
 use Rattle.mm_spec.specs.Scope.{label_words}
 use Rattle.mm_spec.specs.Lawful.{floating_faults, formula_faults, scope_faults, least}
 use Rattle.mm_spec.specs.Lawful.{IsLawful}
@@ -486,14 +486,14 @@ module _ (db : List Statement) (labels_differ : LabelsDiffer db) where
         at_most_once k 0)
       where
         is_usable_at : ℕ → Bool
-        is_usable_at j = is_active db j k && list_any (is_labelled t.word) (statement_at db j)
+        is_usable_at j = active_at db j k && list_any (is_labelled t.word) (statement_at db j)
 
         at_most_once : (i j : ℕ) → is_usable_at i ≡ true → is_usable_at j ≡ true → i ≡ j
         at_most_once i j is_usable_i is_usable_j =
             labels_differ t.word i j
-            (and_parts (is_active db i k) (list_any (is_labelled t.word) (statement_at db i))
+            (and_parts (active_at db i k) (list_any (is_labelled t.word) (statement_at db i))
             is_usable_i).1
-            (and_parts (is_active db j k) (list_any (is_labelled t.word) (statement_at db j))
+            (and_parts (active_at db j k) (list_any (is_labelled t.word) (statement_at db j))
             is_usable_j).1
 
         fault_of : List ℕ → List Fault
@@ -509,7 +509,7 @@ module _ (db : List Statement) (labels_differ : LabelsDiffer db) where
         none_or_one (inl none_is_usable) = absurd (not_none none_is_usable)
         none_or_one (inr one_is_usable) =
             let is_active_and_labelled =
-            and_parts (is_active db one_is_usable.0 k)
+            and_parts (active_at db one_is_usable.0 k)
             (list_any (is_labelled t.word) (statement_at db one_is_usable.0)) one_is_usable.2 in (
               one_is_usable.0,
               one_is_usable.1,

@@ -10,7 +10,7 @@ use Rattle.std.proofs.lemmas.Slice.Eq.{bytes_eq-Decides}
 use Rattle.mm_spec.specs.Text.{Token, fault}
 use Rattle.mm_spec.specs.declared.Fault.{Fault}
 use Rattle.mm_spec.specs.Statement.{Statement}
-use Rattle.mm_spec.specs.Scope.{is_active, statement_at}
+use Rattle.mm_spec.specs.Scope.{active_at, statement_at}
 use Rattle.mm_spec.specs.Lawful.{when, at}
 use Rattle.mm_spec.specs.Opened.{counted}
 use Rattle.mm_spec.specs.Frame.{mandatory_hypotheses}
@@ -474,9 +474,9 @@ usable_label_has_no_fault : (db : List Statement) (k : ℕ) (t : Token) (j : ℕ
 usable_label_has_no_fault db k t j is_usable =
     by_usable (usable db k t.word)
     (λ is_nil. filter_is_not_nil
-    (λ i. is_active db i k && list_any (is_labelled t.word) (statement_at db i)) k 0 j (omega arith)
+    (λ i. active_at db i k && list_any (is_labelled t.word) (statement_at db i)) k 0 j (omega arith)
     (let j_lt_k = active_lt_place db j k is_usable.statement_is_active in omega arith)
-    (and_from (is_active db j k)
+    (and_from (active_at db j k)
     (list_any (is_labelled t.word) (statement_at db j)) is_usable.statement_is_active
     is_usable.statement_has_label) is_nil)
   where

@@ -12,7 +12,7 @@ use Rattle.mm_spec.specs.Text.{Bytes, Fault, fault, is_in, words}
 use Rattle.mm_spec.specs.Output.{IsRead}
 use Rattle.mm_spec.specs.Statement.{Statement, constants, variables, disjoint, floating, essential}
 use Rattle.mm_spec.specs.Statement.{axiomatic, provable, opening, closing, symbols_of}
-use Rattle.mm_spec.specs.Scope.{Typing, names_before, depth, is_active, active, active_statements}
+use Rattle.mm_spec.specs.Scope.{Typing, names_before, depth, active_at, active, active_statements}
 use Rattle.mm_spec.specs.Scope.{statement_at, constants_of, variables_of, typings_of}
 use Rattle.mm_spec.specs.Lawful.{scope_faults, scope_fault, IsLawful}
 use Rattle.mm_spec.specs.Frame.{symbol_names, index_of, formula_of, formula_at, is_variable_number}
@@ -157,7 +157,7 @@ module _ (db : List Statement) (lawful : (k : ℕ) → k < length db → IsLawfu
   pub formula_variable_is_typed : (j x : ℕ) (s : Statement) → slice_get db j ≡ Some s
       → has_formula s ≡ true
       → is_member (formula_at db j) x ≡ true → is_variable_number db x ≡ true
-      → (i : ℕ) × (is_active db i j ≡ true) × Types i x
+      → (i : ℕ) × (active_at db i j ≡ true) × Types i x
   formula_variable_is_typed j x s s_at_j has_formula_s x_in_formula is_variable =
       let word_of_x =
       word_of_member (symbol_names db) (words (symbols_of s)) x
@@ -172,7 +172,7 @@ module _ (db : List Statement) (lawful : (k : ℕ) → k < length db → IsLawfu
       typed_if_known : (word_of_x : Bytes) → x ≡ index_of word_of_x (symbol_names db)
           → is_in word_of_x (flat_map variables_of db) ≡ true → IsKnown (names_before db j)
           word_of_x
-          → (i : ℕ) × (is_active db i j ≡ true) × Types i x
+          → (i : ℕ) × (active_at db i j ≡ true) × Types i x
       typed_if_known word_of_x x_is_number is_declared (inl is_constant) =
           absurd
           (no_constant_is_variable word_of_x
@@ -203,7 +203,7 @@ module _ (db : List Statement) (lawful : (k : ℕ) → k < length db → IsLawfu
   pub mandatory_is_typed : (k x : ℕ) (s : Statement) → slice_get db k ≡ Some s
       → has_formula s ≡ true
       → is_member (mandatory_variables db k) x ≡ true
-      → (i : ℕ) × (is_active db i k ≡ true) × Types i x × (is_variable_number db x ≡ true)
+      → (i : ℕ) × (active_at db i k ≡ true) × Types i x × (is_variable_number db x ≡ true)
   mandatory_is_typed k x s s_at_k has_formula_s x_is_mandatory =
       let essential_symbols = flat_map (formula_at db) (active_of is_essential db k) in
       let variable_and_symbol =
@@ -217,7 +217,7 @@ module _ (db : List Statement) (lawful : (k : ℕ) → k < length db → IsLawfu
       typed_if_symbol : is_variable_number db x ≡ true
           → (is_member (formula_at db k) x ≡ true)
           ⊎ (is_member (flat_map (formula_at db) (active_of is_essential db k)) x ≡ true)
-          → (i : ℕ) × (is_active db i k ≡ true) × Types i x × (is_variable_number db x ≡ true)
+          → (i : ℕ) × (active_at db i k ≡ true) × Types i x × (is_variable_number db x ≡ true)
       typed_if_symbol is_variable (inl x_is_there) =
           let statement_there =
           formula_variable_is_typed k x s s_at_k has_formula_s x_is_there is_variable in
@@ -267,7 +267,7 @@ module _ (db : List Statement) (lawful : (k : ℕ) → k < length db → IsLawfu
       grind (arith, common_steps, filter_member, list_any-append, or_left)
 
   -- each variable of a mandatory hypothesis is a mandatory variable
-  pub hypothesis_variable_is_mandatory : (k j x : ℕ) → is_active db j k ≡ true
+  pub hypothesis_variable_is_mandatory : (k j x : ℕ) → active_at db j k ≡ true
       → is_mandatory db k j ≡ true
       → is_member (formula_at db j) x ≡ true → is_variable_number db x ≡ true
       → is_member (mandatory_variables db k) x ≡ true
@@ -357,7 +357,7 @@ module _ (db : List Statement) (lawful : (k : ℕ) → k < length db → IsLawfu
     frame_hypotheses = map (formula_at db) (mandatory_hypotheses db k)
 
     -- a mandatory hypothesis that binds
-    hypothesis_binds : (x j : ℕ) → is_active db j k ≡ true → is_mandatory db k j ≡ true
+    hypothesis_binds : (x j : ℕ) → active_at db j k ≡ true → is_mandatory db k j ≡ true
         → binds (context_at db m) x (formula_at db j) ≡ true
         → IsBound (context_at db m) frame_hypotheses x
     hypothesis_binds x j j_is_active j_is_mandatory j_binds =
@@ -394,9 +394,9 @@ module _ (db : List Statement) (lawful : (k : ℕ) → k < length db → IsLawfu
           (each_filter
           (λ j. is_mandatory db k j ≡ true
           → AreBound (context_at db m) frame_hypotheses (formula_at db j))
-          (λ j. is_active db j k) (range_with_len 0 k)
+          (λ j. active_at db j k) (range_with_len 0 k)
           (each_any
-          (λ j. is_active db j k ≡ true → is_mandatory db k j ≡ true
+          (λ j. active_at db j k ≡ true → is_mandatory db k j ≡ true
           → AreBound (context_at db m) frame_hypotheses (formula_at db j)) (range_with_len 0 k)
           (λ j j_is_active j_is_mandatory. each_member
           (λ x. is_variable_number db x ≡ true → IsBound (context_at db m) frame_hypotheses x)
@@ -431,7 +431,7 @@ module _ (db : List Statement) (lawful : (k : ℕ) → k < length db → IsLawfu
 
   -- each rule that a lawful statement stands for has all variables that it names in its hypotheses
   pub lawful_complete : AreComplete db
-  lawful_complete m k = complete_if_active (is_active db k m)
+  lawful_complete m k = complete_if_active (active_at db k m)
     where
       complete_statement : (s : Statement) → slice_get db k ≡ Some s
           → HasCompleteFrame (context_at db m) (rule_of db k s)

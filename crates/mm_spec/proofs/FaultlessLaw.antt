@@ -11,7 +11,7 @@ use Rattle.std.proofs.lemmas.Bool.{not-false}
 use Rattle.mm_spec.specs.Text.{Bytes, Token, Fault, fault, is_in, words}
 use Rattle.mm_spec.specs.Statement.{Statement, constants, variables, floating, essential, axiomatic}
 use Rattle.mm_spec.specs.Statement.{provable, symbols_of}
-use Rattle.mm_spec.specs.Scope.{Names, Typing, is_local, is_global, is_active}
+use Rattle.mm_spec.specs.Scope.{Names, Typing, is_local, is_global, active_at}
 use Rattle.mm_spec.specs.Scope.{constants_of, variables_of, typings_of, is_block_open}
 use Rattle.mm_spec.specs.Lawful.{when, at, at_each, symbol_codes}
 use Rattle.mm_spec.specs.Lawful.{is_typed, formula_faults, label_faults, floating_faults}
@@ -295,13 +295,13 @@ essential_is_local_kind _ is_essential_s = absurd (true≢false (sym is_essentia
 
 local_is_active_in_block : (db : List Statement) (i k : ℕ) (s : Statement) → slice_get db i ≡ Some s
     → IsLocal s
-    → is_active db i k ≡ (nat_lt i k && is_block_open db i k)
+    → active_at db i k ≡ (nat_lt i k && is_block_open db i k)
 local_is_active_in_block db i k s s_at_i is_local_s = grind (arith, common_steps)
 
 -- what is active at a statement that is still active, is active too
 pub still_active : (db : List Statement) (i j k : ℕ) (s t : Statement) → slice_get db i ≡ Some s
-    → IsLocal s → slice_get db j ≡ Some t → IsLocal t → is_active db i j ≡ true
-    → is_active db j k ≡ true → is_active db i k ≡ true
+    → IsLocal s → slice_get db j ≡ Some t → IsLocal t → active_at db i j ≡ true
+    → active_at db j k ≡ true → active_at db i k ≡ true
 still_active db i j k s t s_at_i s_is_local t_at_j t_is_local i_active_at_j j_active_at_k =
     grind (
       arith,

@@ -10,7 +10,7 @@ use Rattle.std.specs.List.{list_any, range_with_len, AllByRecursion}
 use Rattle.std.proofs.lemmas.Bool.{or_cases, and_parts, eqb-false}
 use Rattle.mm_spec.specs.Text.{Bytes, Token, Fault, fault}
 use Rattle.mm_spec.specs.Statement.{Statement, floating, essential, axiomatic, provable}
-use Rattle.mm_spec.specs.Scope.{is_active, active, statement_at}
+use Rattle.mm_spec.specs.Scope.{active_at, active, statement_at}
 use Rattle.mm_spec.specs.Lawful.{when, at}
 use Rattle.mm_spec.specs.Frame.{formula_at, is_floating, is_essential, mandatory_variables}
 use Rattle.mm_spec.specs.Frame.{mandatory_hypotheses}
@@ -107,7 +107,7 @@ module _ (db : List Statement) (k : ℕ)
   abbrev IsGoodLabel : ℕ → Type 0
   IsGoodLabel j = IsCompleteRule (context_at db k) (rule_at db k j)
 
-  active_label_is_good : (j : ℕ) (s : Statement) → is_active db j k ≡ true → slice_get db j ≡ Some s
+  active_label_is_good : (j : ℕ) (s : Statement) → active_at db j k ≡ true → slice_get db j ≡ Some s
       → has_rule s ≡ true → IsGoodLabel j
   active_label_is_good j s j_is_active s_at_j has_rule_s = grind (arith, common_steps)
 
@@ -127,12 +127,12 @@ module _ (db : List Statement) (k : ℕ)
   mandatory_labels_are_good : AllByRecursion IsGoodLabel (mandatory_hypotheses db k)
   mandatory_labels_are_good =
       each_filter IsGoodLabel (is_mandatory db k) (active db k)
-      (each_filter (λ j. is_mandatory db k j ≡ true → IsGoodLabel j) (λ j. is_active db j k)
+      (each_filter (λ j. is_mandatory db k j ≡ true → IsGoodLabel j) (λ j. active_at db j k)
       (range_with_len 0 k)
-      (each_any (λ j. is_active db j k ≡ true → is_mandatory db k j ≡ true → IsGoodLabel j)
+      (each_any (λ j. active_at db j k ≡ true → is_mandatory db k j ≡ true → IsGoodLabel j)
       (range_with_len 0 k) active_mandatory_good))
     where
-      active_mandatory_good : (j : ℕ) → is_active db j k ≡ true → is_mandatory db k j ≡ true
+      active_mandatory_good : (j : ℕ) → active_at db j k ≡ true → is_mandatory db k j ≡ true
           → IsGoodLabel j
       active_mandatory_good j j_is_active j_is_mandatory =
           good_by_kind (or_cases (list_any is_essential (statement_at db j))

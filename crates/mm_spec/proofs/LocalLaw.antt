@@ -6,7 +6,7 @@ use Rattle.std.proofs.Common.{slice_get, nat_le, nat_lt, refl, ap₂, arith}
 use Rattle.std.proofs.lemmas.List.{take-append-le}
 use Rattle.std.specs.List.{list_all, range_with_len, filter}
 use Rattle.mm_spec.specs.Statement.{Statement}
-use Rattle.mm_spec.specs.Scope.{names_before, depth, is_active, is_some_still_active}
+use Rattle.mm_spec.specs.Scope.{names_before, depth, active_at, is_some_still_active}
 use Rattle.mm_spec.specs.Scope.{active_statements}
 use Rattle.mm_spec.specs.Lawful.{scope_fault, scope_faults, least}
 
@@ -50,7 +50,7 @@ module _ (db later : List Statement) where
   depth_front i i_le_length = grind (arith, common_steps, take-append-le)
 
   pub is_active_front : (j k : ℕ) → j < k → k ≤ length db
-      → is_active (db ++ later) j k ≡ is_active db j k
+      → active_at (db ++ later) j k ≡ active_at db j k
   is_active_front j k j_lt_k k_le_length =
       ap₂ (λ o b. nat_lt j k && is_some_still_active o b) (get_front db later j (omega arith))
       (list_all_alike (depth (db ++ later) j) (depth db j) (depth (db ++ later)) (depth db) (k - j)

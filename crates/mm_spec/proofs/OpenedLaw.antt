@@ -16,7 +16,7 @@ use Rattle.mm_spec.specs.Text.{Bytes, Token}
 use Rattle.mm_spec.specs.Statement.{Statement, constants, variables, disjoint, floating, essential}
 use Rattle.mm_spec.specs.Statement.{axiomatic, provable, opening, closing}
 use Rattle.mm_spec.specs.Opened.{as_axiom, counted}
-use Rattle.mm_spec.specs.Scope.{depth, is_active, is_still_active, is_some_still_active, active}
+use Rattle.mm_spec.specs.Scope.{depth, active_at, is_still_active, is_some_still_active, active}
 use Rattle.mm_spec.specs.Scope.{statement_at, label_words, is_block_open}
 use Rattle.mm_spec.specs.Derivation.{Formula, Pair, Frame, Context, Rule, hypothesis, assertion}
 use Rattle.mm_spec.specs.Derivation.{is_member}
@@ -108,7 +108,7 @@ module _ (db : List Statement) where
       (λ (f : ℕ → ℕ). list_all (λ i. nat_le (f j) (f i)) (range_with_len (j + 1) (k - j)))
       depth_is_kept))
 
-  activity_is_kept : is_active as_axioms ≡ is_active db
+  activity_is_kept : active_at as_axioms ≡ active_at db
   activity_is_kept = fun_ext (λ j. fun_ext (λ k.
       ap (λ o. nat_lt j k && is_some_still_active o (is_block_open as_axioms j k)) (got_axiom db j)
       ∙ ap (λ b. nat_lt j k && b) (still_active_kept (slice_get db j) (is_block_open as_axioms j k))
@@ -229,7 +229,7 @@ module _ (db : List Statement) where
   rules_are_kept = fun_ext (λ k. fun_ext (λ j.
       ap (λ (t : ℕ → ℕ → Bool). if_active (t j k) (axiom_rule_if_any j (slice_get as_axioms j)))
       activity_is_kept
-      ∙ ap (if_active (is_active db j k))
+      ∙ ap (if_active (active_at db j k))
       (ap (axiom_rule_if_any j) (got_axiom db j) ∙ rule_kept_if_any j (slice_get db j))))
     where
       rule_kept_if_any : (j : ℕ) (o : Option Statement)
@@ -301,8 +301,8 @@ module _ (w : Bool) (db : List Statement) where
   pub counted_stays : is_block_open (counted w db) ≡ is_block_open db
   counted_stays = kept_in_either_case is_block_open open_blocks_are_kept w db
 
-  pub counted_active : is_active (counted w db) ≡ is_active db
-  counted_active = kept_in_either_case is_active activity_is_kept w db
+  pub counted_active : active_at (counted w db) ≡ active_at db
+  counted_active = kept_in_either_case active_at activity_is_kept w db
 
   pub counted_names : symbol_names (counted w db) ≡ symbol_names db
   counted_names = kept_in_either_case symbol_names names_are_kept w db

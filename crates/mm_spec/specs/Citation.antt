@@ -5,7 +5,7 @@ use Rattle.std.specs.Prelude.{slice_get, IsTrue}
 use Rattle.std.specs.List.{list_any}
 use Rattle.mm_spec.specs.Text.{Fault}
 use Rattle.mm_spec.specs.Statement.{Statement, floating, essential, axiomatic, provable}
-use Rattle.mm_spec.specs.Scope.{is_active, statement_at}
+use Rattle.mm_spec.specs.Scope.{active_at, statement_at}
 use Rattle.mm_spec.specs.Frame.{is_variable_number, disjoint_at, formula_at, frame_at}
 use Rattle.mm_spec.specs.Derivation.{Context, Rule, hypothesis, assertion, Trees}
 use Rattle.mm_spec.specs.Nodes.{IsNodeLabel}
@@ -25,7 +25,7 @@ rule_of db j _ = None
 -- what the label of statement j stands for in the proof of statement k
 abbrev pub rule_at : List Statement → ℕ → ℕ → Option Rule
 rule_at db k j =
-    elim (is_active db j k)
+    elim (active_at db j k)
     [ false ↦ None | true ↦ elim (slice_get db j) [ None ↦ None | Some s ↦ rule_of db j s ] ]
 
 -- the context of the proof of statement k
