@@ -21,7 +21,8 @@ use Rattle.mm_spec.specs.Frame.{mandatory_hypotheses}
 use Rattle.mm_spec.specs.Steps.{Step, PlacedStep, placed, label, marked}
 use Rattle.mm_spec.specs.NormalProof.{is_labelled, usable, proof_label_faults, normal_faults}
 use Rattle.mm_spec.specs.NormalProof.{normal_steps}
-use Rattle.mm_spec.specs.CompressedProof.{bracketed, letters_of, Group, is_last, groups, value}
+use Rattle.mm_spec.specs.CompressedProof.{bracketed, letters_of, Group, is_last_letter, groups}
+use Rattle.mm_spec.specs.CompressedProof.{value}
 use Rattle.mm_spec.specs.CompressedProof.{starts_at, step_of, group_steps, letter_faults}
 use Rattle.mm_spec.specs.CompressedProof.{compressed_faults, compressed_steps}
 use Rattle.mm_spec.specs.Proof.{steps, reading_faults}
@@ -318,8 +319,8 @@ module _ (hypotheses labels : List ℕ) where
           → AreFaultless (length hypotheses + length labels) (length marks + 1) count gs
           → AreStepsFrom (items_before ++ mark ∷ []) (map item_of gs)
           (steps_of (group_steps (hypotheses ++ labels) (marks ++ (count - 1) ∷ []) count gs)))
-          → AreStepsFrom items_before (item_by_letter (is_last g.last.byte) ∷ map item_of gs)
-          (steps_of (steps_from_group (is_last g.last.byte)))
+          → AreStepsFrom items_before (item_by_letter (is_last_letter g.last.byte) ∷ map item_of gs)
+          (steps_of (steps_from_group (is_last_letter g.last.byte)))
       number_or_mark (inl is_number_group) after_number after_mark =
           let byte_ge_65 =
           leb-true 65 g.last.byte

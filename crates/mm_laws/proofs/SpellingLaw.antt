@@ -15,7 +15,8 @@ use Rattle.mm_spec.specs.Lawful.{when, at}
 use Rattle.mm_spec.specs.Frame.{mandatory_hypotheses}
 use Rattle.mm_spec.specs.NormalProof.{proof_label_faults, normal_faults}
 use Rattle.mm_spec.specs.CompressedProof.{Compressed, bracketed, with_label, Letter, letters_from}
-use Rattle.mm_spec.specs.CompressedProof.{letters_of, Group, is_early, is_last, groups, value}
+use Rattle.mm_spec.specs.CompressedProof.{letters_of, Group, is_early_letter, is_last_letter}
+use Rattle.mm_spec.specs.CompressedProof.{groups, value}
 use Rattle.mm_spec.specs.CompressedProof.{starts_at, group_faults, letter_faults, compressed_faults}
 use Rattle.mm_spec.specs.Proof.{reading_faults}
 use Rattle.mm_laws.specs.Spelling.{Item, number, mark, IsEarlyDigit, IsLastDigit, AreEarlyDigits}
@@ -310,18 +311,18 @@ abbrev pub bytes_of : List Letter → List ℕ
 bytes_of xs = map (λ x. x.byte) xs
 
 abbrev pub AreEarly : List Letter → Type 0
-AreEarly xs = AllByRecursion (λ x. is_early x.byte ≡ true) xs
+AreEarly xs = AllByRecursion (λ x. is_early_letter x.byte ≡ true) xs
 
 abbrev pub item_of : Group → Item
-item_of g = elim (is_last g.last.byte) [ true ↦ number (value g) | false ↦ mark ]
+item_of g = elim (is_last_letter g.last.byte) [ true ↦ number (value g) | false ↦ mark ]
 
 -- groups that have no fault
 abbrev pub AreFaultless : ℕ → ℕ → ℕ → List Group → Type 0
 AreFaultless label_count marks count [] = Unit {0}
 AreFaultless label_count marks count (g ∷ gs) =
-    ((is_last g.last.byte ≡ true) × (value g ≤ label_count + marks)
+    ((is_last_letter g.last.byte ≡ true) × (value g ≤ label_count + marks)
     × AreFaultless label_count marks (count + 1) gs)
-    ⊎ ((is_last g.last.byte ≡ false) × (g.last.byte ≡ 90) × (g.early ≡ []) × (0 < count)
+    ⊎ ((is_last_letter g.last.byte ≡ false) × (g.last.byte ≡ 90) × (g.early ≡ []) × (0 < count)
     × AreFaultless label_count (marks + 1) count gs)
 
 nil_if_not_positive : (xs : List Letter) → nat_lt 0 (length xs) ≡ false → xs ≡ []
@@ -334,7 +335,7 @@ pub groups_are_faultless : (gs : List Group) (label_count marks count : ℕ)
     → AreFaultless label_count marks count gs
 groups_are_faultless [] label_count marks count no_faults = tt
 groups_are_faultless (g ∷ gs) label_count marks count no_faults =
-    by_letter (is_last g.last.byte) refl (g.last.byte == 90) refl no_faults
+    by_letter (is_last_letter g.last.byte) refl (g.last.byte == 90) refl no_faults
     (λ rest_no_faults. groups_are_faultless gs label_count marks (count + 1) rest_no_faults)
     (λ rest_no_faults. groups_are_faultless gs label_count (marks + 1) count rest_no_faults)
   where
@@ -361,27 +362,27 @@ groups_are_faultless (g ∷ gs) label_count marks count no_faults =
     other_byte_is_fault true is_nil = cc
     other_byte_is_fault false is_nil = cc
 
-    by_letter : (a : Bool) → is_last g.last.byte ≡ a → (b : Bool) → (g.last.byte == 90) ≡ b
+    by_letter : (a : Bool) → is_last_letter g.last.byte ≡ a → (b : Bool) → (g.last.byte == 90) ≡ b
         → faults_of_group a b ++ faults_of_later_groups b ≡ []
         → (group_faults label_count marks (count + 1) gs ≡ []
         → AreFaultless label_count marks (count + 1) gs)
         → (group_faults label_count (marks + 1) count gs ≡ []
         → AreFaultless label_count (marks + 1) count gs)
         → AreFaultless label_count marks count (g ∷ gs)
-    by_letter true is_last_letter true is_mark no_faults after_number after_mark =
+    by_letter true ends_number true is_mark no_faults after_number after_mark =
         let byte_le_84 =
         leb-true g.last.byte 84 (and_parts (nat_le 65 g.last.byte) (nat_le g.last.byte 84)
-        is_last_letter).1 in
+        ends_number).1 in
         let byte_is_90 = eqb-true g.last.byte 90 is_mark in
         absurd (omega arith)
-    by_letter true is_last_letter false not_mark no_faults after_number after_mark =
+    by_letter true ends_number false not_mark no_faults after_number after_mark =
         let not_too_large =
         no_code_if_false (nat_lt (label_count + marks) (value g)) NumberTooLarge
         (no_faults_no_codes (starts_at g) (when
         (nat_lt (label_count + marks) (value g)) NumberTooLarge)
         (both_are_empty (faults_of_group true false) (faults_of_later_groups false) no_faults).0) in
         inl (
-          is_last_letter,
+          ends_number,
           ltb-false (label_count + marks) (value g) not_too_large,
           after_number
               (both_are_empty (faults_of_group true false)
@@ -414,14 +415,14 @@ groups_are_faultless (g ∷ gs) label_count marks count no_faults =
         absurd (other_byte_is_fault (g.last.byte == 63)
         (both_are_empty (faults_of_group false false) (faults_of_later_groups false) no_faults).0)
 
-pub early_byte_is_digit : (b : ℕ) → is_early b ≡ true → IsEarlyDigit b (b - 84)
+pub early_byte_is_digit : (b : ℕ) → is_early_letter b ≡ true → IsEarlyDigit b (b - 84)
 early_byte_is_digit b is_early_byte =
     let bounds = and_parts (nat_le 85 b) (nat_le b 89) is_early_byte in
     let b_ge_85 = leb-true 85 b bounds.0 in
     let b_le_89 = leb-true b 89 bounds.1 in
     record { digit_ge_1 = omega arith; digit_le_5 = omega arith; letter_is = omega arith }
 
-last_byte_is_digit : (b : ℕ) → is_last b ≡ true → IsLastDigit b (b - 64)
+last_byte_is_digit : (b : ℕ) → is_last_letter b ≡ true → IsLastDigit b (b - 64)
 last_byte_is_digit b is_last_byte =
     let bounds = and_parts (nat_le 65 b) (nat_le b 84) is_last_byte in
     let b_ge_65 = leb-true 65 b bounds.0 in
@@ -445,7 +446,7 @@ early_value_exists (x ∷ xs) n are_early =
           (pow-succ' 5 (length (bytes_of xs))),
     )
 
-pub group_spells_its_value : (g : Group) → AreEarly g.early → is_last g.last.byte ≡ true
+pub group_spells_its_value : (g : Group) → AreEarly g.early → is_last_letter g.last.byte ≡ true
     → AreLettersOf (bytes_of g.early ++ g.last.byte ∷ []) (value g)
 group_spells_its_value g are_early is_last_byte =
     let early_value = early_value_exists g.early 0 are_early in
@@ -463,8 +464,8 @@ group_spells_its_value g are_early is_last_byte =
     }
 
 group_is_spelled : (g : Group) → AreEarly g.early
-    → (is_last g.last.byte ≡ true)
-    ⊎ ((is_last g.last.byte ≡ false) × (g.last.byte ≡ 90) × (g.early ≡ []))
+    → (is_last_letter g.last.byte ≡ true)
+    ⊎ ((is_last_letter g.last.byte ≡ false) × (g.last.byte ≡ 90) × (g.early ≡ []))
     → IsSpelled (bytes_of g.early ++ g.last.byte ∷ []) (item_of g)
 group_is_spelled g are_early (inl is_number) =
     subst (λ b. IsSpelled (bytes_of g.early ++ g.last.byte ∷ [])
@@ -475,7 +476,7 @@ group_is_spelled g are_early (inr is_mark) =
     (elim b [ true ↦ number (value g) | false ↦ mark ])) (sym is_mark.0)
     (ap₂ (λ xs b. bytes_of xs ++ b ∷ []) is_mark.2 is_mark.1)
 
-early_push : (early : List Letter) (x : Letter) → AreEarly early → is_early x.byte ≡ true
+early_push : (early : List Letter) (x : Letter) → AreEarly early → is_early_letter x.byte ≡ true
     → AreEarly (early ++ x ∷ [])
 early_push [] x are_early is_early_byte = (is_early_byte, tt)
 early_push (y ∷ early) x are_early is_early_byte = (
@@ -496,7 +497,7 @@ pub groups_spell : (xs early : List Letter) (label_count marks count : ℕ) → 
 groups_spell [] early label_count marks count are_early are_faultless none_left = append-nil
     (bytes_of early) ∙ ap bytes_of none_left
 groups_spell (x ∷ xs) early label_count marks count are_early are_faultless none_left =
-    by_is_early (is_early x.byte) refl are_faultless none_left
+    by_is_early (is_early_letter x.byte) refl are_faultless none_left
     (λ is_early_byte rest_is_faultless rest_none_left. subst (λ bs. Spells bs (map item_of (groups
     (early ++ x ∷ []) xs).0))
     (bytes_of_push early x (bytes_of xs))
@@ -546,9 +547,9 @@ groups_spell (x ∷ xs) early label_count marks count are_early are_faultless no
         )))
         (later_are_spelled (marks + 1) count group_is_faultless.4 none_left)
 
-    by_is_early : (b : Bool) → is_early x.byte ≡ b
+    by_is_early : (b : Bool) → is_early_letter x.byte ≡ b
         → AreFaultless label_count marks count (groups_by_early b).0 → (groups_by_early b).1 ≡ []
-        → (is_early x.byte ≡ true
+        → (is_early_letter x.byte ≡ true
         → AreFaultless label_count marks count (groups (early ++ x ∷ []) xs).0
         → (groups (early ++ x ∷ []) xs).1 ≡ []
         → Spells (bytes_of early ++ x.byte ∷ bytes_of xs)

@@ -15,7 +15,8 @@ use Rattle.mm_spec.specs.Lawful.{when, at}
 use Rattle.mm_spec.specs.Opened.{counted}
 use Rattle.mm_spec.specs.Frame.{mandatory_hypotheses}
 use Rattle.mm_spec.specs.NormalProof.{is_labelled, usable, proof_label_faults, normal_faults}
-use Rattle.mm_spec.specs.CompressedProof.{bracketed, Letter, letters_of, Group, is_early, is_last}
+use Rattle.mm_spec.specs.CompressedProof.{bracketed, Letter, letters_of, Group, is_early_letter}
+use Rattle.mm_spec.specs.CompressedProof.{is_last_letter}
 use Rattle.mm_spec.specs.CompressedProof.{groups, value, starts_at, group_faults, letter_faults}
 use Rattle.mm_spec.specs.CompressedProof.{compressed_faults}
 use Rattle.mm_spec.specs.Proof.{reading_faults}
@@ -67,7 +68,7 @@ faultless_are_meaningful (g ∷ gs) label_count marks count are_faultless =
         → (AreFaultless label_count (marks + 1) count gs
         → AreMeaningful label_count (marks + 1) count (map item_of gs))
         → AreMeaningful label_count marks count
-        (item_by_letter (is_last g.last.byte) ∷ map item_of gs)
+        (item_by_letter (is_last_letter g.last.byte) ∷ map item_of gs)
     number_or_mark (inl group_is_faultless) after_number after_mark =
         subst (λ b. AreMeaningful label_count marks count (item_by_letter b ∷ map item_of gs))
         (sym group_is_faultless.0) (group_is_faultless.1, after_number group_is_faultless.2)
@@ -172,24 +173,24 @@ meaningful_if_each_is (mark ∷ items) label_count marks count numbers_in_range 
 
 -- ---- groups of letters that spell items
 
-digit_is_early : (b d : ℕ) → IsEarlyDigit b d → is_early b ≡ true
+digit_is_early : (b d : ℕ) → IsEarlyDigit b d → is_early_letter b ≡ true
 digit_is_early b d is_early_digit =
     let digit_ge_1 = is_early_digit.digit_ge_1 in
     let digit_le_5 = is_early_digit.digit_le_5 in
     let letter_is = is_early_digit.letter_is in
     and_from (nat_le 85 b) (nat_le b 89) (le-leb 85 b (omega arith)) (le-leb b 89 (omega arith))
 
-digit_is_last : (b d : ℕ) → IsLastDigit b d → is_last b ≡ true
+digit_is_last : (b d : ℕ) → IsLastDigit b d → is_last_letter b ≡ true
 digit_is_last b d is_last_digit =
     let digit_ge_1 = is_last_digit.digit_ge_1 in
     let digit_le_20 = is_last_digit.digit_le_20 in
     let letter_is = is_last_digit.letter_is in
     and_from (nat_le 65 b) (nat_le b 84) (le-leb 65 b (omega arith)) (le-leb b 84 (omega arith))
 
-ending_byte_is_not_early : (b : ℕ) → EndsItem b → is_early b ≡ false
-ending_byte_is_not_early b ends_item = by_is_early (is_early b) refl
+ending_byte_is_not_early : (b : ℕ) → EndsItem b → is_early_letter b ≡ false
+ending_byte_is_not_early b ends_item = by_is_early (is_early_letter b) refl
   where
-    by_is_early : (x : Bool) → is_early b ≡ x → is_early b ≡ false
+    by_is_early : (x : Bool) → is_early_letter b ≡ x → is_early_letter b ≡ false
     by_is_early true is_early_byte = absurd (no_early b (b - 84) ends_item (early_byte_is_digit b
         is_early_byte))
     by_is_early false not_early = not_early
@@ -203,7 +204,7 @@ letters_are_early (x ∷ xs) n are_early_digits = (
 )
 
 group_of_run : (early front : List Letter) (x : Letter) (later : List Letter) → AreEarly front
-    → is_early x.byte ≡ false
+    → is_early_letter x.byte ≡ false
     → groups early (front ++ x ∷ later)
     ≡ (record { early = early ++ front; last = x } ∷ (groups [] later).0, (groups [] later).1)
 group_of_run early [] x later front_is_early not_early =
@@ -315,9 +316,9 @@ spelled_are_faultless (number n ∷ items) xs label_count marks count are_spelle
     letters_of_n.is_last_digit in
     let digit_le_20 = is_last_digit.digit_le_20 in
     let letter_is = is_last_digit.letter_is in
-    let not_early : is_early split.x.byte ≡ false = ending_byte_is_not_early split.x.byte (inl
-    (omega arith)) in
-    let is_last_byte : is_last split.x.byte ≡ true = digit_is_last split.x.byte
+    let not_early : is_early_letter split.x.byte ≡ false =
+    ending_byte_is_not_early split.x.byte (inl (omega arith)) in
+    let is_last_byte : is_last_letter split.x.byte ≡ true = digit_is_last split.x.byte
     letters_of_n.last_digit is_last_digit in
     let g : Group = record { early = split.front; last = split.x } in
     let value_spelled : AreLettersOf are_spelled.0 (value g) =
@@ -347,9 +348,9 @@ spelled_are_faultless (mark ∷ items) xs label_count marks count are_spelled ar
     let front_is_early : AreEarly split.front =
     letters_are_early split.front 0 (subst (λ bs. AreEarlyDigits bs 0) (sym split.front_bytes_are)
     refl) in
-    let not_early : is_early split.x.byte ≡ false = ending_byte_is_not_early split.x.byte (inr
-    (omega arith)) in
-    let not_last : is_last split.x.byte ≡ false = ap is_last byte_is in
+    let not_early : is_early_letter split.x.byte ≡ false =
+    ending_byte_is_not_early split.x.byte (inr (omega arith)) in
+    let not_last : is_last_letter split.x.byte ≡ false = ap is_last_letter byte_is in
     let later_groups =
     spelled_are_faultless items split.later label_count (marks + 1) count
     (subst (λ bs. Spells bs items) (sym split.later_bytes_are) are_spelled.4) are_meaningful.1 in
@@ -413,7 +414,7 @@ no_faults_of_faultless (g ∷ gs) label_count marks count are_faultless =
         → group_faults label_count marks (count + 1) gs ≡ [])
         → (AreFaultless label_count (marks + 1) count gs
         → group_faults label_count (marks + 1) count gs ≡ [])
-        → faults_of_group (is_last g.last.byte) (g.last.byte == 90)
+        → faults_of_group (is_last_letter g.last.byte) (g.last.byte == 90)
         ++ faults_of_later_groups (g.last.byte == 90) ≡ []
     number_or_mark (inl group_is_faultless) after_number after_mark =
         let byte_le_84 =

@@ -8,6 +8,7 @@ use Rattle.mm_spec.specs.Statement.{Statement}
 use Rattle.mm_spec.specs.Scope.{active_at, statement_at}
 use Rattle.mm_spec.specs.Frame.{mandatory_hypotheses}
 use Rattle.mm_spec.specs.NormalProof.{is_labelled}
+use Rattle.mm_spec.specs.CompressedProof.{mark_letter}
 use Rattle.mm_spec.specs.Steps.{Step, label, marked}
 
 -- ---- letters
@@ -49,10 +50,10 @@ pub record AreLettersOf (letters : List ℕ) (n : ℕ) : Type 0 where
   pub is_last_digit : IsLastDigit last_letter last_digit
   pub value_is : n ≡ early_value * 20 + last_digit
 
--- the letters of an item; `Z` is 90
+-- the letters of an item
 abbrev pub IsSpelled : List ℕ → Item → Type 0
 IsSpelled letters (number n) = AreLettersOf letters n
-IsSpelled letters mark = letters ≡ 90 ∷ []
+IsSpelled letters mark = letters ≡ mark_letter ∷ []
 
 -- the letters are those of the items, concatenated
 abbrev pub Spells : List ℕ → List Item → Type 0

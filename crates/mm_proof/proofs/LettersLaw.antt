@@ -17,7 +17,8 @@ use Rattle.mm_spec.specs.Steps.{PlacedStep, placed, label}
 use Rattle.mm_spec.specs.Steps as spec
 use Rattle.mm_spec.specs.Steps.{marked}
 use Rattle.mm_spec.specs.CompressedProof.{Letter, letters_from, letters_of, letter_faults, Group}
-use Rattle.mm_spec.specs.CompressedProof.{is_early, is_last, groups, value, starts_at, step_of}
+use Rattle.mm_spec.specs.CompressedProof.{is_early_letter, is_last_letter, groups, value, starts_at}
+use Rattle.mm_spec.specs.CompressedProof.{step_of}
 use Rattle.mm_spec.specs.CompressedProof.{group_steps, group_faults}
 use Rattle.mm_spec.specs.declared.Code.TheVariants.{OpenNumber, MarkBeforeStep, NumberTooLarge}
 use Rattle.mm_spec.specs.declared.Code.TheVariants.{IncompleteProof, BadLetter}
@@ -137,7 +138,7 @@ named_number_le_count labels marks (suc n) s n_names_s =
     by_entries None label_n_is_a None mark_is_b n_names_s = absurd (cc)
 
 -- the last letter of a number is no `Z`
-last_letter_is_no_mark : (byte : ℕ) → is_last byte ≡ true → (byte == 90) ≡ false
+last_letter_is_no_mark : (byte : ℕ) → is_last_letter byte ≡ true → (byte == 90) ≡ false
 last_letter_is_no_mark byte byte_is_last = by_equality (byte == 90) refl
   where
     by_equality : (b : Bool) → (byte == 90) ≡ b → b ≡ false
@@ -151,7 +152,7 @@ last_letter_is_no_mark byte byte_is_last = by_equality (byte == 90) refl
 pub continues_after_last_letter : (t : ℕ) (labels marks : List ℕ) (number : Option BegunNumber)
     (steps : List PlacedStep)
     → (place byte : ℕ) (s : spec.Step)
-    → is_early byte ≡ false → is_last byte ≡ true
+    → is_early_letter byte ≡ false → is_last_letter byte ≡ true
     → ((n : ℕ) → saturated (20 * (begun_at number place).value + (byte - 64)) ≡ saturated n
     → step_of labels marks n ≡ s ∷ [])
     → (all_letters unread : List Letter)
@@ -253,7 +254,7 @@ continues_after_last_letter t labels marks number steps place byte s byte_is_not
 -- an early letter
 pub continues_after_early_letter : (t : ℕ) (labels marks : List ℕ) (number : Option BegunNumber)
     (steps : List PlacedStep)
-    → (place byte : ℕ) (begun : BegunNumber) → is_early byte ≡ true
+    → (place byte : ℕ) (begun : BegunNumber) → is_early_letter byte ≡ true
     → begun.at ≡ (begun_at number place).at
     → begun.value ≡ saturated (5 * (begun_at number place).value + (byte - 84))
     → (all_letters unread : List Letter)
@@ -311,7 +312,7 @@ continues_after_early_letter t labels marks number steps place byte begun byte_i
         )
 
 -- the digit of an early letter is 1 to 5
-pub early_digit_is_in_range : (byte digit : ℕ) → is_early byte ≡ true → digit ≡ byte - 84
+pub early_digit_is_in_range : (byte digit : ℕ) → is_early_letter byte ≡ true → digit ≡ byte - 84
     → (0 < digit) × (digit ≤ 20)
 early_digit_is_in_range byte digit byte_is_early digit_is =
     let in_range = and_parts (nat_le 85 byte) (nat_le byte 89) byte_is_early in
@@ -351,7 +352,7 @@ number_without_letters_is_not_begun b value_is_0 =
 pub continues_after_last_letter_of_number : (t : ℕ) (labels marks : List ℕ) (number : BegunNumber)
     (steps : List PlacedStep)
     → (place byte : ℕ) (s : spec.Step)
-    → BeginsAt number place → is_early byte ≡ false → is_last byte ≡ true
+    → BeginsAt number place → is_early_letter byte ≡ false → is_last_letter byte ≡ true
     → ((n : ℕ) → saturated (20 * number.value + (byte - 64)) ≡ saturated n
     → step_of labels marks n ≡ s ∷ [])
     → (all_letters unread : List Letter)
@@ -375,7 +376,7 @@ continues_after_last_letter_of_number t labels marks number steps place byte s b
 -- an early letter of this number
 pub continues_after_early_letter_of_number : (t : ℕ) (labels marks : List ℕ) (number : BegunNumber)
     (steps : List PlacedStep)
-    → (place byte : ℕ) (next : BegunNumber) → BeginsAt number place → is_early byte ≡ true
+    → (place byte : ℕ) (next : BegunNumber) → BeginsAt number place → is_early_letter byte ≡ true
     → next.at ≡ number.at → next.value ≡ saturated (5 * number.value + (byte - 84))
     → (all_letters unread : List Letter)
     → Continues (letters_state t labels marks (if_begun number) steps) all_letters
@@ -543,7 +544,7 @@ stands_at_next_with_step s new at x stands new_has_step =
     })
 
 -- the digits of letters
-pub last_digit_is_in_range : (byte digit : ℕ) → is_last byte ≡ true → digit ≡ byte - 64
+pub last_digit_is_in_range : (byte digit : ℕ) → is_last_letter byte ≡ true → digit ≡ byte - 64
     → (0 < digit) × (digit ≤ 20)
 last_digit_is_in_range byte digit byte_is_last digit_is =
     let in_range = and_parts (nat_le 65 byte) (nat_le byte 84) byte_is_last in

@@ -18,7 +18,8 @@ use Rattle.mm_spec.specs.Lawful.{when, at, least, lesser, is_before}
 use Rattle.mm_spec.specs.Frame.{mandatory_hypotheses}
 use Rattle.mm_spec.specs.NormalProof.{usable, proof_label_faults}
 use Rattle.mm_spec.specs.CompressedProof.{Compressed, bracketed, with_label, Letter, letters_from}
-use Rattle.mm_spec.specs.CompressedProof.{letters_of, Group, is_early, is_last, groups, value}
+use Rattle.mm_spec.specs.CompressedProof.{letters_of, Group, is_early_letter, is_last_letter}
+use Rattle.mm_spec.specs.CompressedProof.{groups, value}
 use Rattle.mm_spec.specs.CompressedProof.{starts_at, group_fault, group_faults, letter_faults}
 use Rattle.mm_spec.specs.CompressedProof.{compressed_faults}
 use Rattle.mm_proof.specs.Letters.{AreInOrder}
@@ -221,7 +222,7 @@ module _ (labels end : ℕ) where
       (group_fault labels marks count
       (record { early = early; last = record { at = place; byte = byte } }))
   group_faults_are_run from now place byte early marks count early_is_open now_le_place =
-      by_letter_kind (is_last byte)
+      by_letter_kind (is_last_letter byte)
       (byte == 90)
       (byte == 63)
     where
@@ -298,7 +299,7 @@ module _ (labels end : ℕ) where
       (from_le_end from now early is_open_at are_rising)
       (omega arith)
   remaining_faults_are_run (x ∷ xs) early from now marks count early_is_open are_rising =
-      by_mark (is_early x.byte)
+      by_mark (is_early_letter x.byte)
       (remaining_faults_are_run xs (early ++ x ∷ []) from (x.at + 1) marks count
       (open_with_letter early early_is_open) are_rising.1)
       (group_is_run (x.byte == 90)

@@ -18,7 +18,8 @@ use Rattle.mm_spec.specs.Derivation.{is_member}
 use Rattle.mm_spec.specs.Steps.{Step, PlacedStep, placed, label, marked}
 use Rattle.mm_spec.specs.NormalProof.{is_labelled, usable, normal_steps, normal_faults}
 use Rattle.mm_spec.specs.NormalProof.{proof_label_faults}
-use Rattle.mm_spec.specs.CompressedProof.{Compressed, bracketed, Letter, letters_of, Group, is_last}
+use Rattle.mm_spec.specs.CompressedProof.{Compressed, bracketed, Letter, letters_of, Group}
+use Rattle.mm_spec.specs.CompressedProof.{is_last_letter}
 use Rattle.mm_spec.specs.CompressedProof.{groups, value, starts_at, step_of, group_steps}
 use Rattle.mm_spec.specs.CompressedProof.{group_faults, letter_faults, compressed_faults}
 use Rattle.mm_spec.specs.CompressedProof.{compressed_steps}
@@ -220,7 +221,7 @@ module _ (db : List Statement) (k : ℕ)
       no_faults = tt
   group_steps_are_good (g ∷ gs) labels marks label_count count labels_are_good marks_are_earlier
       enough_labels no_faults =
-      good_by_letter (is_last g.last.byte) refl (g.last.byte == 90) refl no_faults
+      good_by_letter (is_last_letter g.last.byte) refl (g.last.byte == 90) refl no_faults
       (λ no_later_faults. group_steps_are_good gs labels marks label_count (count + 1)
       labels_are_good
       (marks_still_earlier marks marks_are_earlier) enough_labels no_later_faults)
@@ -273,7 +274,8 @@ module _ (db : List Statement) (k : ℕ)
       other_byte_is_fault true no_fault = cc
       other_byte_is_fault false no_fault = cc
 
-      good_by_letter : (a : Bool) → is_last g.last.byte ≡ a → (b : Bool) → (g.last.byte == 90) ≡ b
+      good_by_letter : (a : Bool) → is_last_letter g.last.byte ≡ a
+          → (b : Bool) → (g.last.byte == 90) ≡ b
           → faults_of_group a b ++ faults_of_later_groups b ≡ []
           → (group_faults label_count (length marks) (count + 1) gs ≡ []
           → AreGoodSteps (context_at db k) (count + 1)
@@ -282,16 +284,16 @@ module _ (db : List Statement) (k : ℕ)
           → AreGoodSteps (context_at db k) count
           (steps_of (group_steps labels (marks ++ (count - 1) ∷ []) count gs)))
           → AreGoodSteps (context_at db k) count (steps_of (steps_from_group a))
-      good_by_letter true is_last_letter true is_mark_letter no_faults after_number after_mark =
+      good_by_letter true ends_number true is_mark_letter no_faults after_number after_mark =
           let letter_le_84 =
           leb-true g.last.byte 84
-          (and_parts (nat_le 65 g.last.byte) (nat_le g.last.byte 84) is_last_letter).1 in
+          (and_parts (nat_le 65 g.last.byte) (nat_le g.last.byte 84) ends_number).1 in
           let letter_is_90 = eqb-true g.last.byte 90 is_mark_letter in
           absurd (omega arith)
-      good_by_letter true is_last_letter false is_mark_letter no_faults after_number after_mark =
+      good_by_letter true ends_number false is_mark_letter no_faults after_number after_mark =
           let letter_ge_65 =
           leb-true 65 g.last.byte
-          (and_parts (nat_le 65 g.last.byte) (nat_le g.last.byte 84) is_last_letter).0 in
+          (and_parts (nat_le 65 g.last.byte) (nat_le g.last.byte 84) ends_number).0 in
           let number_is_within =
           no_code_if_false (nat_lt (label_count + length marks) (value g)) NumberTooLarge
           (no_faults_no_codes (starts_at g)
@@ -316,7 +318,7 @@ module _ (db : List Statement) (k : ℕ)
                 (steps_of (group_steps labels marks (count + 1) gs))) (sym suc_is_plus_one)
                 later_are_good,
           )
-      good_by_letter false is_last_letter true is_mark_letter no_faults after_number after_mark =
+      good_by_letter false ends_number true is_mark_letter no_faults after_number after_mark =
           let no_codes =
           no_faults_no_codes g.last.at
           (when (nat_lt 0 (length g.early)) OpenNumber ++ when (count == 0) MarkBeforeStep)
