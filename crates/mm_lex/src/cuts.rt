@@ -3,7 +3,7 @@
 ghost use Rattle.std.specs.Prelude.{◌≡◌, ◌<◌, ◌≤◌, ◌+◌, ◌-◌, ◌*◌, ◌/◌, ◌^◌, ℕ, length, map, IfOk};
 ghost use Rattle.std.specs.Prelude.{IfErr, vec_len};
 ghost use Rattle.std.specs.List.{range_with_len};
-ghost use Rattle.mm_lex.specs.Places.{CutText, cut_text, IsCutText, Rises, IsWithin, IsRefused};
+ghost use Rattle.mm_lex.specs.Places.{CutText, cut_text, IsCutText, AreSorted, IsWithin, IsRefused};
 
 use std::alloc::{AllocError, Allocator};
 use std::marker::Model;
@@ -14,7 +14,7 @@ use thiserror::Error;
 pub enum CutsFault {
     /// A place is less than the one before it.
     #[error("a place is less than the one before it")]
-    NotRising,
+    NotSorted,
     /// A place is above the text's length.
     #[error("a place is past the end of the text")]
     PastEnd,
@@ -55,7 +55,7 @@ impl<A: Allocator + Copy> Cuts<A> {
     }
 
     /// Cuts a text of `len` bytes at the given places, without allocating memory. Fails with
-    /// `NotRising` if a place is less than the one before it, otherwise with `PastEnd` if one is
+    /// `NotSorted` if a place is less than the one before it, otherwise with `PastEnd` if one is
     /// above `len`; then the list is dropped.
     pub fn from_places(places: Vec<u32, A>, len: usize) -> Result<Cuts<A>, CutsFault>
         ensures ok { IfOk result (λ c. c ≡ cut_text places.items len) }
@@ -63,7 +63,7 @@ impl<A: Allocator + Copy> Cuts<A> {
     {
         for i in 1..places.len() {
             if places[i] < places[i - 1] {
-                return Err(CutsFault::NotRising);
+                return Err(CutsFault::NotSorted);
             }
         }
         for place in &places {

@@ -14,7 +14,7 @@ returns-then-to-self-clause-first_beginning c =
     let text = c.args.self.now.text.now in
     let invariant_before = c.loop-self.invariant in
     no_words_between text c.args.self.now.from (scanner.base + 64) c.args.to
-    (omega (arith, invariant_before.from_rises, scanner.from_le_block_end)) c.if-to-self.true
+    (omega (arith, invariant_before.old_from_le_from, scanner.from_le_block_end)) c.if-to-self.true
     (λ i from_le_i i_lt_end i_lt_to. holds_up_to_next_bit
     (λ t k. begins_word t k ≡ false) scanner.text.now text scanner.starts c.args.self.now.from
     scanner.from scanner.base
@@ -31,10 +31,10 @@ loop-self-preserved c =
     let invariant_before = c.loop-self.invariant in
     record {
       texts_equal = c.next_block.ensures.text ∙ invariant_before.texts_equal;
-      from_rises =
+      old_from_le_from =
           omega (
             arith,
-            invariant_before.from_rises,
+            invariant_before.old_from_le_from,
             scanner.from_le_block_end,
             c.next_block.ensures.from,
           );
@@ -62,7 +62,7 @@ returns-then-to-start-clause-first_beginning c =
     c.args.to
     (omega (
       arith,
-      invariant_before.from_rises,
+      invariant_before.old_from_le_from,
       scanner.starts_ge_from
           (trailing_zeros w64 scanner.starts) lowest_bit.0 lowest_bit.1,
     ))
@@ -132,7 +132,7 @@ returns-clause-first_beginning c =
       from_le_start =
           omega (
             arith,
-            invariant_before.from_rises,
+            invariant_before.old_from_le_from,
             scanner.starts_ge_from
                 (trailing_zeros w64 scanner.starts) lowest_bit.0 lowest_bit.1,
           );
