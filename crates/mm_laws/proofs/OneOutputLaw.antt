@@ -29,7 +29,8 @@ use Rattle.mm_spec.specs.declared.Code.{Code}
 use Rattle.mm_spec.specs.Lexed.{LexedText, lexed_of}
 use Rattle.mm_spec.specs.Output.{TextFault, StopsReading, IsRead, ProofFault, proof_end}
 use Rattle.mm_spec.specs.Output.{is_theorem_at, AllAreValid, FirstProofFault, FirstFault}
-use Rattle.mm_spec.specs.Output.{HasNoFault, theorems, columns, open_columns, label_at, IsRowOf}
+use Rattle.mm_spec.specs.Output.{HasNoFault, theorems, columns, open_theorem_count, label_at}
+use Rattle.mm_spec.specs.Output.{IsRowOf}
 use Rattle.mm_spec.specs.Output.{AreCited, IsCitingRowOf, IsReportOf, IsOutput}
 use Rattle.mm_spec.specs.Laws.Stack.{IsCompleteRule}
 use Rattle.mm_laws.proofs.ExactLaw.{step_stops_if_fails}
@@ -632,6 +633,6 @@ output_is_unique_for_text text request a b (inr is_output_a) (inr is_output_b) =
     (reading_is_unique (length text) (lexed_of text) is_output_a.0 is_output_b.0 None None
     is_output_a.1.0 is_output_b.1.0).0 in
     report_is_unique (counted request.with_open is_output_b.0)
-    (open_columns is_output_b.0 request) request request.choice a b
+    (open_theorem_count is_output_b.0 request) request request.choice a b
     (subst (λ d. IsReportOf request.choice (counted request.with_open d)
-    (open_columns d request) request a) databases_equal is_output_a.2) is_output_b.2
+    (open_theorem_count d request) request a) databases_equal is_output_a.2) is_output_b.2

@@ -11,7 +11,7 @@ use Rattle.mm_spec.specs.Output.{label_at, theorems}
 use Rattle.mm_spec.specs.Report.{report}
 use Rattle.mm_spec.specs.Request.{Request}
 use Rattle.mm_rows.specs.Marks.{Marks}
-use Rattle.mm_report.specs.Rows.{row_of, rows_of, open_theorems, report_of}
+use Rattle.mm_report.specs.Rows.{row_of, rows_of, open_theorem_count, report_of}
 
 -- the first line has the number of rows
 pub count_is_rows : (m : Marks) (labels : List Bytes) (n : ℕ) → n ≡ length labels
@@ -23,13 +23,13 @@ count_is_rows m labels n n_is_length labels_as_rows =
 -- what is sent is the report of the database
 pub sent_is_report_of_database : (request : Request) (d : Contents) (columns : List ℕ) (m : Marks)
     → (opened : Option ℕ) (names heads : List Bytes)
-    → opened ≡ open_theorems request.with_open d columns
+    → opened ≡ open_theorem_count request.with_open d columns
     → names ≡ map (label_at d.statements) (theorems d.statements)
     → heads ≡ map (label_at d.statements) columns
     → report request opened heads (rows_of m names) ≡ report_of request d columns m
 sent_is_report_of_database request d columns m opened names heads opened_is names_are heads_are =
     ap (λ (x : Option ℕ). report request x heads (rows_of m names)) opened_is
-    ∙ ap₂ (λ (x y : List Bytes). report request (open_theorems request.with_open d columns) y
+    ∙ ap₂ (λ (x y : List Bytes). report request (open_theorem_count request.with_open d columns) y
     (rows_of m x)) names_are heads_are
 
 -- there are as many labels as rows

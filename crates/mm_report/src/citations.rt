@@ -11,7 +11,7 @@ ghost use Rattle.mm_spec.specs.declared.Choice.TheVariants as choices;
 ghost use Rattle.mm_report.specs.Sent.{Sent};
 
 use crate::labels::{TheoremLabels, label_of};
-use crate::open_columns::open_theorems;
+use crate::open_theorems::open_theorem_count;
 use crate::sections::{send_head, send_line};
 use crate::sink::{Sink, WriteFailed};
 use mm_cites::Citations;
@@ -138,9 +138,9 @@ pub fn write_requested_citations<'a, W: Write, A: Allocator, C: Allocator, D: Al
     let mut sink = Sink::new();
     let labels = TheoremLabels::new(database);
     let axioms = chosen.len() as u64;
-    let open_columns = open_theorems(database, chosen, request.with_open);
+    let open_theorems = open_theorem_count(database, chosen, request.with_open);
     let theorems = citations.rows() as u64;
-    send_head(&mut sink, to, request, axioms, open_columns, theorems);
+    send_head(&mut sink, to, request, axioms, open_theorems, theorems);
     send_line(&mut sink, to, b"citations");
     send_citation_lines(&mut sink, to, database, request.only, &labels, citations);
     send_line(&mut sink, to, b"end");

@@ -8,7 +8,7 @@ use Rattle.mm_spec.specs.Text.{Bytes}
 use Rattle.mm_spec.specs.Output.{label_at, theorems}
 use Rattle.mm_spec.specs.Report.{head, citation_report, citation_line}
 use Rattle.mm_spec.specs.Request.{Request}
-use Rattle.mm_report.specs.Rows.{citing_row, citing_rows, open_theorems, citation_report_of}
+use Rattle.mm_report.specs.Rows.{citing_row, citing_rows, open_theorem_count, citation_report_of}
 use Rattle.mm_report.proofs.SentLaw.{sent_both, sent_equal_text, written_if_finished}
 use Rattle.mm_report.proofs.SentLaw.{prefix_written_if_failed}
 use Rattle.mm_report.proofs.citations.write_requested_citations.Goals as goal
@@ -16,7 +16,7 @@ use Rattle.mm_report.proofs.citations.write_requested_citations.Goals as goal
 -- what is sent is the report of the database
 sent_is_report_of_database : (request : Request) (d : Contents) (columns : List ℕ) (c : Citing)
     → (opened : Option ℕ) (axioms : ℕ) (names : List Bytes)
-    → opened ≡ open_theorems request.with_open d columns → axioms ≡ length columns
+    → opened ≡ open_theorem_count request.with_open d columns → axioms ≡ length columns
     → names ≡ map (label_at d.statements) (theorems d.statements)
     → citation_report request opened axioms (citing_rows d.statements request.only c names)
     ≡ citation_report_of request d columns c
@@ -24,7 +24,7 @@ sent_is_report_of_database request d columns c opened axioms names opened_is axi
     ap (λ (x : Option ℕ). citation_report request x axioms
     (citing_rows d.statements request.only c names)) opened_is
     ∙ ap₂ (λ (k : ℕ) (ls : List Bytes). citation_report request
-    (open_theorems request.with_open d columns) k
+    (open_theorem_count request.with_open d columns) k
     (citing_rows d.statements request.only c ls)) axioms_is names_are
 
 pub send_citation_lines-requires-clause-labels : goal.send_citation_lines-requires-clause-labels
@@ -39,9 +39,9 @@ returns g c =
     let db = c.args.database.now.statements in
     let request = c.args.request.now in
     let opened_is =
-    subst (λ (r : Request). c.open_theorems-open_columns.result
-    ≡ open_theorems r.with_open c.args.database.now c.args.chosen.now) c.request.view_is
-    c.open_theorems-open_columns.ensures in
+    subst (λ (r : Request). c.open_theorem_count-open_theorems.result
+    ≡ open_theorem_count r.with_open c.args.database.now c.args.chosen.now) c.request.view_is
+    c.open_theorem_count-open_theorems.ensures in
     let only = request.only in
     let citing = c.args.citations.now in
     let names = c.new-labels.result in
@@ -50,15 +50,15 @@ returns g c =
     ∙ sym (length-map-range_with_len
     (λ i. citing_row db only citing (slice_index_or names i []) i) 0 (length citing.theorems)) in
     let head_is =
-    ap (λ (n : ℕ). head request.form c.len-axioms.result c.open_theorems-open_columns.result n)
-    theorem_count_is in
+    ap (λ (n : ℕ). head request.form c.len-axioms.result
+    c.open_theorem_count-open_theorems.result n) theorem_count_is in
     let lines_are =
     ap (λ (r : Request). flat_map citation_line (citing_rows db r.only citing names))
     c.request.view_is in
     let report_sent =
     sent_equal_text _
     (sent_is_report_of_database request c.args.database.now c.args.chosen.now citing
-    c.open_theorems-open_columns.result c.len-axioms.result names opened_is
+    c.open_theorem_count-open_theorems.result c.len-axioms.result names opened_is
     c.len-axioms.ensures.len c.new-labels.ensures)
     (sent_both
     (sent_both (sent_equal_text _ head_is c.send_head.ensures)

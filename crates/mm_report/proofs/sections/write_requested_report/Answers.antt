@@ -8,7 +8,7 @@ use Rattle.mm_spec.specs.Report.{has_section, section, head, line, matrix_line, 
 use Rattle.mm_spec.specs.Report.{usage_lines}
 use Rattle.mm_spec.specs.declared.Choice.TheVariants.{Matrix, Counts, Usage}
 use Rattle.mm_rows.specs.Marks.{Marks}
-use Rattle.mm_report.specs.Rows.{rows_of, open_theorems}
+use Rattle.mm_report.specs.Rows.{rows_of, open_theorem_count}
 use Rattle.mm_report.proofs.SentLaw.{sent_both, sent_equal_text, written_if_finished}
 use Rattle.mm_report.proofs.SentLaw.{prefix_written_if_failed}
 use Rattle.mm_report.proofs.TextLaw.{count_is_rows, sent_is_report_of_database}
@@ -37,9 +37,9 @@ returns g c =
     let m = c.args.matrix.now in
     let request = c.args.request.now in
     let opened_is =
-    subst (λ (r : Request). c.open_theorems-open_columns.result
-    ≡ open_theorems r.with_open c.args.database.now c.args.chosen.now) c.request.view_is
-    c.open_theorems-open_columns.ensures in
+    subst (λ (r : Request). c.open_theorem_count-open_theorems.result
+    ≡ open_theorem_count r.with_open c.args.database.now c.args.chosen.now) c.request.view_is
+    c.open_theorem_count-open_theorems.ensures in
     let names = c.new-labels.result in
     let heads = c.new-columns.result in
     let rows = rows_of m names in
@@ -47,7 +47,7 @@ returns g c =
     count_is_rows m names c.len-theorems.result c.len-theorems.ensures
     (labels_as_many_as_rows db m names c.new-labels.ensures c.requires.rows) in
     let head_is =
-    ap₂ (λ (a b : ℕ). head request.form a c.open_theorems-open_columns.result b)
+    ap₂ (λ (a b : ℕ). head request.form a c.open_theorem_count-open_theorems.result b)
     c.len-axioms.ensures theorem_count_is in
     let matrix = λ (x : Marks).
     section (has_section request.choice Matrix) (codes "matrix")
@@ -61,13 +61,13 @@ returns g c =
     c.send_rows.ensures in
     let report_sent =
     sent_equal_text _
-    (sections_regrouped (head request.form (length heads) c.open_theorems-open_columns.result
+    (sections_regrouped (head request.form (length heads) c.open_theorem_count-open_theorems.result
     (length rows)) (matrix m)
     (counts m) (section (has_section request.choice Usage) (codes "usage")
     (usage_lines rows 0 heads))
     (line (codes "end"))
     ∙ sent_is_report_of_database request c.args.database.now c.args.chosen.now m
-    c.open_theorems-open_columns.result names heads opened_is
+    c.open_theorem_count-open_theorems.result names heads opened_is
     c.new-labels.ensures c.new-columns.ensures)
     (sent_both
     (sent_both

@@ -1,7 +1,7 @@
 use Rattle.std.proofs.Common.{◌≡◌, ◌∙◌, ap}
 use Rattle.mm_spec.specs.Request.{Request}
 use Rattle.mm_spec.specs.Output.{columns}
-use Rattle.mm_report.specs.Rows.{citation_report_of, open_theorems}
+use Rattle.mm_report.specs.Rows.{citation_report_of, open_theorem_count}
 use Rattle.mm_run.proofs.CountedLaw.{is_output}
 use Rattle.mm_run.proofs.CitationsLaw.{are_citations_of, is_citation_report}
 use Rattle.mm_run.proofs.output.report_citations.Goals as goal
@@ -15,7 +15,7 @@ pub returns-in-Ok-write_requested_citations : goal.returns-in-Ok-write_requested
 returns-in-Ok-write_requested_citations g c =
     let d = c.args.database.now in
     let request = c.args.request.now in
-    let opened = open_theorems request.with_open d c.in-Ok.columns in
+    let opened = open_theorem_count request.with_open d c.in-Ok.columns in
     let axioms : c.in-Ok.columns ≡ columns d.statements request.only =
     c.in-Ok.ensures ∙ ap (λ (r : Request). columns d.statements r.only) c.request.view_is in (
       (d.read, c.requires.judged.has_no_fault),
@@ -33,7 +33,7 @@ pub returns : goal.returns
 returns g c =
     let d = c.args.database.now in
     let request = c.args.request.now in
-    let opened = open_theorems request.with_open d c.in-Ok.columns in
+    let opened = open_theorem_count request.with_open d c.in-Ok.columns in
     let axioms : c.in-Ok.columns ≡ columns d.statements request.only =
     c.in-Ok.ensures ∙ ap (λ (r : Request). columns d.statements r.only) c.request.view_is in
     let is_prefix = c.in-Err.ensures.err in (
