@@ -101,8 +101,8 @@ fn send_citation_lines<W: Write, D: Allocator, C: Allocator>(
     labels: &TheoremLabels<'_, '_, D>,
     citations: &Citations<C>,
 )
-    requires labels { length labels.now ≡ length citations.now.theorems }
-    requires cited { AreCitationsOf database.now.statements citations.now }
+    requires as_many_labels { length labels.now ≡ length citations.now.theorems }
+    requires are_citations { AreCitationsOf database.now.statements citations.now }
     ensures { Sent (W.contents to.old) (W.contents to.new) sink.old sink.new
         (flat_map citation_line
         (citing_rows database.now.statements (option_copied only.entry) citations.now
@@ -127,10 +127,10 @@ pub fn write_requested_citations<'a, W: Write, A: Allocator, C: Allocator, D: Al
     citations: &Citations<C>,
 ) -> Result<(), WriteFailed>
     requires { AreCitationsOf database.now.statements citations.now }
-    ensures ok { OnOk result
+    ensures report_is_written { OnOk result
         (Appends (W.contents to.old) (W.contents to.new)
         (citation_report_of request.now database.now chosen.now citations.now)) }
-    ensures err { OnErr result
+    ensures prefix_is_written { OnErr result
         ((k : ℕ)
         × Appends (W.contents to.old) (W.contents to.new)
         (take k (citation_report_of request.now database.now chosen.now citations.now))) }
@@ -163,12 +163,12 @@ pub fn write_citations<'a, W: Write, A: Allocator, C: Allocator, D: Allocator>(
     form: Form,
 ) -> Result<(), WriteFailed>
     requires { AreCitationsOf database.now.statements citations.now }
-    ensures ok { OnOk result
+    ensures report_is_written { OnOk result
         (Appends (W.contents to.old) (W.contents to.new)
         (citation_report_of
         (text_request (option_copied only.entry) with_open form choices.Citations)
         database.now chosen.now citations.now)) }
-    ensures err { OnErr result
+    ensures prefix_is_written { OnErr result
         ((k : ℕ)
         × Appends (W.contents to.old) (W.contents to.new)
         (take k (citation_report_of

@@ -27,8 +27,9 @@ sent_is_report_of_database request d columns c opened axioms names opened_is axi
     (open_theorem_count request.with_open d columns) k
     (citing_rows d.statements request.only c ls)) axioms_is names_are
 
-pub send_citation_lines-requires-clause-labels : goal.send_citation_lines-requires-clause-labels
-send_citation_lines-requires-clause-labels g c =
+pub send_citation_lines-requires-clause-as_many_labels :
+    goal.send_citation_lines-requires-clause-as_many_labels
+send_citation_lines-requires-clause-as_many_labels g c =
     let db = c.args.database.now.statements in
     ap (λ (ls : List Bytes). length ls) c.new-labels.ensures
     ∙ length-map (theorems db) (label_at db)
@@ -65,9 +66,9 @@ returns g c =
     (sent_both c.send_line.ensures (sent_equal_text _ lines_are c.send_citation_lines.ensures)))
     c.send_line-2.ensures) in
     record {
-      ok =
+      report_is_written =
           written_if_finished c.finish.result c.new-sink.ensures report_sent c.finish.ensures.sent
-          c.finish.ensures.ok;
-      err = prefix_written_if_failed c.finish.result c.new-sink.ensures report_sent
+          c.finish.ensures.all_is_written;
+      prefix_is_written = prefix_written_if_failed c.finish.result c.new-sink.ensures report_sent
           c.finish.ensures.sent;
     }

@@ -9,5 +9,6 @@ returns g c =
     (sent_both
     (sent_both
     (sent_both
-    (sent_equal_text _ (ap (head_line (codes "mmdepend")) c.version.ensures) c.send_head_line.ensures)
+    (sent_equal_text _ (ap (head_line (codes "mmdepend")) c.version.ensures)
+    c.send_head_line.ensures)
     c.send_head_line-2.ensures) c.send_open.ensures) c.send_head_line-3.ensures)

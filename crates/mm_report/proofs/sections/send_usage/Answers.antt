@@ -19,7 +19,7 @@ loop-column-preserved g c =
     let j = c.loop-column.column in
     let rows = rows_of c.args.matrix.now c.args.labels.now in
     let names : List Bytes = c.args.columns.now in
-    let names_as_columns = c.requires.columns in
+    let names_as_columns = c.requires.as_many_columns in
     let column_lt_names : j < length c.args.columns.now = omega (arith, names_as_columns) in
     let label_is = sym c.label.ensures in
     let lines_with_next = usage_lines_push rows names j column_lt_names in
@@ -34,7 +34,7 @@ pub returns : goal.returns
 returns g c =
     let rows = rows_of c.args.matrix.now c.args.labels.now in
     let names : List Bytes = c.args.columns.now in
-    let names_as_columns = c.requires.columns in
+    let names_as_columns = c.requires.as_many_columns in
     let all_names_taken : take c.loop-column.column names ≡ names =
     take_all c.loop-column.column names (omega (arith, names_as_columns)) in
     sent_equal_text _ (ap (usage_lines rows 0) all_names_taken) c.loop-column.invariant.sent

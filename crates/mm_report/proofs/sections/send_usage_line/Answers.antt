@@ -14,7 +14,8 @@ returns g c =
     let count_is_decimal =
     ap (λ (k : ℕ). decimal k)
     (c.column_count.ensures
-    ∙ users_counted c.args.matrix.now names c.args.column c.requires.column c.args.matrix.now.rows
+    ∙ users_counted c.args.matrix.now names c.args.column c.requires.column_lt_count
+    c.args.matrix.now.rows
     ∙ sym (length-map (users c.args.column (rows_of c.args.matrix.now c.args.labels.now))
     (λ r. r.label))) in
     sent_equal_text _

@@ -19,17 +19,20 @@ pub send_rows-requires : goal.send_rows-requires
 send_rows-requires g c =
     rw c.marked.ensures
     (labels_as_many_as_rows c.args.database.now.statements c.args.matrix.now c.new-labels.result
-    c.new-labels.ensures c.requires.rows)
+    c.new-labels.ensures c.requires.as_many_rows)
 
-pub send_usage_section-requires-clause-labels : goal.send_usage_section-requires-clause-labels
-send_usage_section-requires-clause-labels g c =
+pub send_usage_section-requires-clause-as_many_labels :
+    goal.send_usage_section-requires-clause-as_many_labels
+send_usage_section-requires-clause-as_many_labels g c =
     labels_as_many_as_rows c.args.database.now.statements c.args.matrix.now c.new-labels.result
-    c.new-labels.ensures c.requires.rows
+    c.new-labels.ensures c.requires.as_many_rows
 
-pub send_usage_section-requires-clause-columns : goal.send_usage_section-requires-clause-columns
-send_usage_section-requires-clause-columns g c =
+pub send_usage_section-requires-clause-as_many_columns :
+    goal.send_usage_section-requires-clause-as_many_columns
+send_usage_section-requires-clause-as_many_columns g c =
     ap (λ (ls : List Bytes). length ls) c.new-columns.ensures
-    ∙ length-map c.args.chosen.now (label_at c.args.database.now.statements) ∙ c.requires.width
+    ∙ length-map c.args.chosen.now (label_at c.args.database.now.statements)
+    ∙ c.requires.as_many_columns
 
 pub returns : goal.returns
 returns g c =
@@ -45,7 +48,7 @@ returns g c =
     let rows = rows_of m names in
     let theorem_count_is =
     count_is_rows m names c.len-theorems.result c.len-theorems.ensures
-    (labels_as_many_as_rows db m names c.new-labels.ensures c.requires.rows) in
+    (labels_as_many_as_rows db m names c.new-labels.ensures c.requires.as_many_rows) in
     let head_is =
     ap₂ (λ (a b : ℕ). head request.form a c.open_theorem_count-open_theorems.result b)
     c.len-axioms.ensures theorem_count_is in
@@ -75,9 +78,9 @@ returns g c =
     c.send_usage_section.ensures)
     c.send_line.ensures) in
     record {
-      ok =
+      report_is_written =
           written_if_finished c.finish.result c.new-sink.ensures report_sent c.finish.ensures.sent
-          c.finish.ensures.ok;
-      err = prefix_written_if_failed c.finish.result c.new-sink.ensures report_sent
+          c.finish.ensures.all_is_written;
+      prefix_is_written = prefix_written_if_failed c.finish.result c.new-sink.ensures report_sent
           c.finish.ensures.sent;
     }

@@ -16,7 +16,7 @@ use Rattle.mm_report.proofs.sections.write_rows.Goals as goal
 pub send_rows-requires : goal.send_rows-requires
 send_rows-requires g c =
     labels_as_many_as_rows c.args.database.now.statements c.args.marked.now c.new-labels.result
-    c.new-labels.ensures c.requires.rows
+    c.new-labels.ensures c.requires.as_many_rows
 
 pub returns : goal.returns
 returns g c =
@@ -32,7 +32,7 @@ returns g c =
     let rows = rows_of m names in
     let theorem_count_is =
     count_is_rows m names c.len-theorems.result c.len-theorems.ensures
-    (labels_as_many_as_rows db m names c.new-labels.ensures c.requires.rows) in
+    (labels_as_many_as_rows db m names c.new-labels.ensures c.requires.as_many_rows) in
     let axiom_count_is =
     c.len-axioms.ensures.len ∙ sym (length-map c.args.chosen.now (label_at db)) in
     let head_is = ap₂ (λ (a b : ℕ). head request.form a c.open_theorem_count-open_theorems.result b)
@@ -56,9 +56,9 @@ returns g c =
     (sent_both (sent_both (sent_equal_text _ head_is c.send_head.ensures) c.send_rows.ensures)
     c.send_line.ensures) in
     record {
-      ok =
+      report_is_written =
           written_if_finished c.finish.result c.new-sink.ensures report_sent c.finish.ensures.sent
-          c.finish.ensures.ok;
-      err = prefix_written_if_failed c.finish.result c.new-sink.ensures report_sent
+          c.finish.ensures.all_is_written;
+      prefix_is_written = prefix_written_if_failed c.finish.result c.new-sink.ensures report_sent
           c.finish.ensures.sent;
     }

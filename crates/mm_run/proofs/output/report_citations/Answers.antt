@@ -25,7 +25,7 @@ returns-in-Ok-write_requested_citations g c =
             c.requires.judged.has_no_fault axioms
             (is_citation_report d.statements request c.args.citations.now
             c.requires.judged.have_citations opened c.in-Ok.columns axioms c.requires.choice),
-        c.in-Ok-write_requested_citations.ensures.ok,
+        c.in-Ok-write_requested_citations.ensures.report_is_written,
       ),
     )
 
@@ -36,7 +36,7 @@ returns g c =
     let opened = open_theorem_count request.with_open d c.in-Ok.columns in
     let axioms : c.in-Ok.columns ≡ columns d.statements request.only =
     c.in-Ok.ensures ∙ ap (λ (r : Request). columns d.statements r.only) c.request.view_is in
-    let is_prefix = c.in-Err.ensures.err in (
+    let is_prefix = c.in-Err.ensures.prefix_is_written in (
       citation_report_of request d c.in-Ok.columns c.args.citations.now,
       is_prefix.0,
       is_output request d c.in-Ok.columns _ c.requires.judged.is_counted
