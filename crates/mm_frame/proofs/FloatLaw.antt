@@ -16,7 +16,8 @@ use Rattle.mm_spec.specs.Statement.{axiomatic, provable, opening, closing}
 use Rattle.mm_spec.specs.Scope.{Names, names_before, active_statements, active_at}
 use Rattle.mm_spec.specs.Scope.{is_some_still_active}
 use Rattle.mm_spec.specs.Scope.{depth, constants_of, variables_of, is_block_open}
-use Rattle.mm_spec.specs.Lawful.{scope_faults, least, is_typed, floating_faults, label_faults, at}
+use Rattle.mm_spec.specs.Lawful.{scope_faults, least, is_typed, floating_faults, label_faults}
+use Rattle.mm_spec.specs.Lawful.{faults_at}
 use Rattle.mm_spec.specs.Lawful.{when, is_typed_otherwise}
 use Rattle.mm_spec.specs.declared.Fault.{Fault}
 use Rattle.mm_spec.specs.declared.Code.TheVariants.{BadFloating, TypedBefore, OtherTypecode}
@@ -87,7 +88,7 @@ module _ (db : List Statement) (is_sound : IsSound db) where
       codes : Bool → List Fault
       codes =
           λ b. elim b [
-            | true ↦ at v.at
+            | true ↦ faults_at v.at
                 (when (is_typed n v.word) TypedBefore
                 ++ when (is_typed_otherwise n c.word v.word) OtherTypecode)
             | false ↦ fault keyword BadFloating ∷ []

@@ -11,7 +11,7 @@ use Rattle.std.proofs.lemmas.Slice.Eq.{bytes_eq-Decides}
 use Rattle.mm_spec.specs.Text.{Bytes, Token, fault}
 use Rattle.mm_spec.specs.declared.Fault.{Fault}
 use Rattle.mm_spec.specs.Statement.{Statement}
-use Rattle.mm_spec.specs.Lawful.{when, at}
+use Rattle.mm_spec.specs.Lawful.{when, faults_at}
 use Rattle.mm_spec.specs.Frame.{mandatory_hypotheses}
 use Rattle.mm_spec.specs.NormalProof.{proof_label_faults, normal_faults}
 use Rattle.mm_spec.specs.CompressedProof.{Compressed, bracketed, with_label, Letter, letters_from}
@@ -341,11 +341,12 @@ groups_are_faultless (g ∷ gs) label_count marks count no_faults =
   where
     faults_of_group : Bool → Bool → List Fault
     faults_of_group a b = elim a [
-      | true ↦ at (starts_at g) (when (nat_lt (label_count + marks) (value g)) NumberTooLarge)
+      | true ↦ faults_at (starts_at g)
+          (when (nat_lt (label_count + marks) (value g)) NumberTooLarge)
       | false ↦ elim b [
-        | true ↦ at g.last.at
+        | true ↦ faults_at g.last.at
             (when (nat_lt 0 (length g.early)) OpenNumber ++ when (count == 0) MarkBeforeStep)
-        | false ↦ at g.last.at
+        | false ↦ faults_at g.last.at
             (elim (g.last.byte == 63) [ true ↦ IncompleteProof ∷ [] | false ↦ BadLetter ∷ [] ])
       ]
     ]
@@ -358,7 +359,8 @@ groups_are_faultless (g ∷ gs) label_count marks count no_faults =
         ]
 
     other_byte_is_fault : (b : Bool)
-        → ¬ (at g.last.at (elim b [ true ↦ IncompleteProof ∷ [] | false ↦ BadLetter ∷ [] ]) ≡ [])
+        → ¬ (faults_at g.last.at (elim b [ true ↦ IncompleteProof ∷ [] | false ↦ BadLetter ∷ [] ])
+        ≡ [])
     other_byte_is_fault true is_nil = cc
     other_byte_is_fault false is_nil = cc
 
@@ -592,13 +594,13 @@ letters_are_faultless label_count end (x ∷ xs) no_faults = record {
   has_faultless_groups =
       groups_are_faultless (groups [] (x ∷ xs)).0 label_count 0 0
       (both_are_empty (group_faults label_count 0 0 (groups [] (x ∷ xs)).0)
-      (at end (when (nat_lt 0 (length (groups [] (x ∷ xs)).1)) OpenNumber)) no_faults).0;
+      (faults_at end (when (nat_lt 0 (length (groups [] (x ∷ xs)).1)) OpenNumber)) no_faults).0;
   no_open_group =
       nil_if_not_positive (groups [] (x ∷ xs)).1
       (no_code_if_false (nat_lt 0 (length (groups [] (x ∷ xs)).1)) OpenNumber
       (no_faults_no_codes end (when (nat_lt 0 (length (groups [] (x ∷ xs)).1)) OpenNumber)
       (both_are_empty (group_faults label_count 0 0 (groups [] (x ∷ xs)).0)
-      (at end (when (nat_lt 0 (length (groups [] (x ∷ xs)).1)) OpenNumber)) no_faults).1));
+      (faults_at end (when (nat_lt 0 (length (groups [] (x ∷ xs)).1)) OpenNumber)) no_faults).1));
   has_letters = λ is_nil. cc;
 }
 

@@ -11,7 +11,7 @@ use Rattle.mm_spec.specs.Text.{Token, fault}
 use Rattle.mm_spec.specs.declared.Fault.{Fault}
 use Rattle.mm_spec.specs.Statement.{Statement}
 use Rattle.mm_spec.specs.Scope.{active_at, statement_at}
-use Rattle.mm_spec.specs.Lawful.{when, at}
+use Rattle.mm_spec.specs.Lawful.{when, faults_at}
 use Rattle.mm_spec.specs.Opened.{counted}
 use Rattle.mm_spec.specs.Frame.{mandatory_hypotheses}
 use Rattle.mm_spec.specs.NormalProof.{is_labelled, usable, proof_label_faults, normal_faults}
@@ -389,16 +389,17 @@ no_faults_of_faultless (g ∷ gs) label_count marks count are_faultless =
   where
     faults_without_number : Bool → List Fault
     faults_without_number b = elim b [
-      | true ↦ at g.last.at
+      | true ↦ faults_at g.last.at
           (when (nat_lt 0 (length g.early)) OpenNumber ++ when (count == 0) MarkBeforeStep)
-      | false ↦ at g.last.at
+      | false ↦ faults_at g.last.at
           (elim (g.last.byte == 63) [ true ↦ IncompleteProof ∷ [] | false ↦ BadLetter ∷ [] ])
     ]
 
     faults_of_group : Bool → Bool → List Fault
     faults_of_group a b =
         elim a [
-          | true ↦ at (starts_at g) (when (nat_lt (label_count + marks) (value g)) NumberTooLarge)
+          | true ↦ faults_at (starts_at g)
+              (when (nat_lt (label_count + marks) (value g)) NumberTooLarge)
           | false ↦ faults_without_number b
         ]
 
@@ -423,7 +424,7 @@ no_faults_of_faultless (g ∷ gs) label_count marks count are_faultless =
         let not_mark : (g.last.byte == 90) ≡ false =
         equal_is_false g.last.byte 90 (λ byte_is_90. omega arith) in
         ap₂ (λ a b. faults_of_group a b ++ faults_of_later_groups b) group_is_faultless.0 not_mark
-        ∙ ap₂ (λ b ys. at (starts_at g) (when b NumberTooLarge) ++ ys)
+        ∙ ap₂ (λ b ys. faults_at (starts_at g) (when b NumberTooLarge) ++ ys)
         (less_is_false (value g) (label_count + marks) group_is_faultless.1) (after_number
         group_is_faultless.2)
     number_or_mark (inr group_is_faultless) after_number after_mark =
@@ -432,7 +433,7 @@ no_faults_of_faultless (g ∷ gs) label_count marks count are_faultless =
         let count_gt_0 = group_is_faultless.3 in
         ap₂ (λ a b. faults_of_group a b ++ faults_of_later_groups b) group_is_faultless.0
         is_mark_letter
-        ∙ ap₂ (λ (e : List Letter) (b : Bool). at g.last.at
+        ∙ ap₂ (λ (e : List Letter) (b : Bool). faults_at g.last.at
         (when (nat_lt 0 (length e)) OpenNumber ++ when b MarkBeforeStep)
         ++ group_faults label_count (marks + 1) count gs) group_is_faultless.2 (equal_is_false count
         0 (λ count_is_0. omega arith))
@@ -443,7 +444,8 @@ no_letter_faults : (label_count end : ℕ) (xs : List Letter) → xs ≢ []
     → letter_faults label_count end xs ≡ []
 no_letter_faults label_count end [] not_nil are_faultless_groups = absurd (not_nil refl)
 no_letter_faults label_count end (x ∷ xs) not_nil are_faultless_groups =
-    ap₂ (λ fs (open_ : List Letter). fs ++ at end (when (nat_lt 0 (length open_)) OpenNumber))
+    ap₂ (λ fs (open_ : List Letter). fs
+    ++ faults_at end (when (nat_lt 0 (length open_)) OpenNumber))
     (no_faults_of_faultless (groups [] (x ∷ xs)).0 label_count 0 0 are_faultless_groups.0)
     are_faultless_groups.1
 

@@ -11,7 +11,7 @@ use Rattle.std.proofs.lemmas.Bool.{and_parts, le-ltb, lt-ltb}
 use Rattle.std.proofs.lemmas.Option.{slice_get_within}
 use Rattle.mm_spec.specs.declared.Fault.{Fault}
 use Rattle.mm_spec.specs.Text.{Bytes, Token, fault}
-use Rattle.mm_spec.specs.Lawful.{when, at}
+use Rattle.mm_spec.specs.Lawful.{when, faults_at}
 use Rattle.mm_spec.specs.Steps as spec
 use Rattle.mm_spec.specs.Steps.{PlacedStep, placed, label}
 use Rattle.mm_spec.specs.Steps as spec
@@ -179,7 +179,7 @@ continues_after_last_letter t labels marks number steps place byte s byte_is_not
           ∙ ap (λ r. group_faults (length labels) (length marks) (length steps) r.0) groups_split
           ∙ ap (λ b. faults_of_kind b (byte == 90)) byte_is_last
           ∙ ap (faults_of_kind true) (last_letter_is_no_mark byte byte_is_last)
-          ∙ ap (λ b. at (starts_at g) (when b NumberTooLarge)
+          ∙ ap (λ b. faults_at (starts_at g) (when b NumberTooLarge)
           ++ group_faults (length labels) (length marks) (length steps + 1) gs)
           number_is_not_too_large
           ∙ ap (λ n. group_faults (length labels) (length marks) n gs) (sym one_step_more);
@@ -215,13 +215,13 @@ continues_after_last_letter t labels marks number steps place byte s byte_is_not
     faults_of_kind : Bool → Bool → List Fault
     faults_of_kind a b =
         elim a [
-          | true ↦ at (starts_at g)
+          | true ↦ faults_at (starts_at g)
               (when (nat_lt (length labels + length marks) (value g)) NumberTooLarge)
           | false ↦ elim b [
-            | true ↦ at place
+            | true ↦ faults_at place
                 (when (nat_lt 0 (length continues.early)) OpenNumber
                 ++ when (length steps == 0) MarkBeforeStep)
-            | false ↦ at place
+            | false ↦ faults_at place
                 (elim (byte == 63) [ true ↦ IncompleteProof ∷ [] | false ↦ BadLetter ∷ [] ])
           ]
         ] ++ elim b [
@@ -413,7 +413,7 @@ continues_after_mark t labels marks steps place has_steps all_letters unread con
       faults =
           continues.faults
           ∙ ap (λ r. group_faults (length labels) (length marks) (length steps) r.0) groups_split
-          ∙ ap (λ b. at place (when b MarkBeforeStep)
+          ∙ ap (λ b. faults_at place (when b MarkBeforeStep)
           ++ group_faults (length labels) (length marks + 1) (length steps) gs) has_steps
           ∙ ap (λ n. group_faults (length labels) n (length steps) gs) (sym one_mark_more);
       run = continues.run ∙ ap (λ r. r.1) groups_split;
@@ -445,7 +445,7 @@ letter_fault_is_first n end all_letters Memory starts_with_e = tt
 letter_fault_is_first n end [] (Faulty f) starts_with_e =
     absurd (let nothing_is_f = starts_with_e.1 in cc)
 letter_fault_is_first n end (x ∷ xs) (Faulty f) starts_with_e =
-    let end_fault = at end (when (nat_lt 0 (length (groups [] (x ∷ xs)).1)) OpenNumber) in
+    let end_fault = faults_at end (when (nat_lt 0 (length (groups [] (x ∷ xs)).1)) OpenNumber) in
     (starts_with_e.0 ++ end_fault, ap (λ fs. fs ++ end_fault) starts_with_e.1)
 
 -- after the last letter, where a number is open and where none is
@@ -458,12 +458,13 @@ has_early_letters (Some n) early begins =
 -- of all letters at most a number that is open at the end has a fault
 faults_at_end : (s : LettersState) (end : ℕ) (x : Letter) (xs : List Letter)
     → Continues s (x ∷ xs) []
-    → letter_faults (length s.labels) end (x ∷ xs) ≡ at end (when (is_some s.number) OpenNumber)
+    → letter_faults (length s.labels) end (x ∷ xs)
+    ≡ faults_at end (when (is_some s.number) OpenNumber)
 faults_at_end s end x xs continues =
-    ap (λ fs. fs ++ at end (when (nat_lt 0 (length (groups [] (x ∷ xs)).1)) OpenNumber))
+    ap (λ fs. fs ++ faults_at end (when (nat_lt 0 (length (groups [] (x ∷ xs)).1)) OpenNumber))
     continues.faults
-    ∙ ap (λ es. at end (when (nat_lt 0 (length es)) OpenNumber)) continues.run
-    ∙ ap (λ b. at end (when b OpenNumber))
+    ∙ ap (λ es. faults_at end (when (nat_lt 0 (length es)) OpenNumber)) continues.run
+    ∙ ap (λ b. faults_at end (when b OpenNumber))
     (has_early_letters s.number continues.early continues.begins)
 
 -- a number that is open at the end is the first fault
@@ -474,7 +475,8 @@ pub open_number_is_first_fault : (s : LettersState) (end : ℕ) (all_letters : L
 open_number_is_first_fault s end [] number_is_open letters_are_some continues =
     absurd (letters_are_some refl)
 open_number_is_first_fault s end (x ∷ xs) number_is_open letters_are_some continues =
-    ([], faults_at_end s end x xs continues ∙ ap (λ b. at end (when b OpenNumber)) number_is_open)
+    ([], faults_at_end s end x xs continues
+    ∙ ap (λ b. faults_at end (when b OpenNumber)) number_is_open)
 
 -- if no number is open at the end, the letters have no fault
 pub no_fault_at_end : (s : LettersState) (end : ℕ) (all_letters : List Letter)
@@ -483,7 +485,7 @@ pub no_fault_at_end : (s : LettersState) (end : ℕ) (all_letters : List Letter)
     → letter_faults (length s.labels) end all_letters ≡ []
 no_fault_at_end s end [] number_is_none letters_are_some continues = absurd (letters_are_some refl)
 no_fault_at_end s end (x ∷ xs) number_is_none letters_are_some continues =
-    faults_at_end s end x xs continues ∙ ap (λ b. at end (when b OpenNumber)) number_is_none
+    faults_at_end s end x xs continues ∙ ap (λ b. faults_at end (when b OpenNumber)) number_is_none
 
 -- all letters have been read after the last word
 pub continues_at_end : (s : LettersState) (text : List ℕ) (ws : List Place) (n : ℕ)

@@ -13,7 +13,8 @@ use Rattle.std.proofs.lemmas.Grind.{common_steps}
 use Rattle.mm_spec.specs.Text.{Bytes, Token, fault, is_in, words}
 use Rattle.mm_spec.specs.declared.Fault.{Fault}
 use Rattle.mm_spec.specs.Scope.{Names}
-use Rattle.mm_spec.specs.Lawful.{at, at_each, floating_faults, is_empty, least, lesser}
+use Rattle.mm_spec.specs.Lawful.{faults_at, faults_at_each, floating_faults, is_empty, least}
+use Rattle.mm_spec.specs.Lawful.{lesser}
 use Rattle.mm_spec.specs.declared.Word as spec
 use Rattle.mm_outline.specs.Parts.{between, token_at, token_of, nth_word}
 use Rattle.mm_outline.proofs.TurnsLaw.{between_with_one_more, nothing_between_place_and_itself}
@@ -60,9 +61,9 @@ in_before_next w e (x ∷ xs) = grind (arith, in_before_next w (x.word ∷ e) xs
 
 at_each_snoc : (codes : List Bytes → Bytes → List Code) (e : List Bytes) (xs : List Token)
     → (t : Token)
-    → at_each codes e (xs ++ t ∷ [])
-    ≡ at_each codes e xs ++ at t.at (codes (before_next e xs) t.word)
-at_each_snoc codes e [] t = append-nil (at t.at (codes e t.word))
+    → faults_at_each codes e (xs ++ t ∷ [])
+    ≡ faults_at_each codes e xs ++ faults_at t.at (codes (before_next e xs) t.word)
+at_each_snoc codes e [] t = append-nil (faults_at t.at (codes e t.word))
 at_each_snoc codes e (x ∷ xs) t = simp (at_each_snoc codes (x.word ∷ e) xs t, append_assoc)
 
 module _ (text : List ℕ) (ws : List spec.Word) (from i : ℕ) where
@@ -83,9 +84,9 @@ module _ (text : List ℕ) (ws : List spec.Word) (from i : ℕ) where
   -- the faults of the words with one symbol more are those of the earlier words, followed by those
   -- of the symbol
   pub at_each_between_push : from ≤ i → i < length ws → (codes : List Bytes → Bytes → List Code)
-      → at_each codes [] (between text ws from (i + 1))
-      ≡ at_each codes [] (between text ws from i)
-      ++ at (token_at text ws i).at (codes earlier next_word)
+      → faults_at_each codes [] (between text ws from (i + 1))
+      ≡ faults_at_each codes [] (between text ws from i)
+      ++ faults_at (token_at text ws i).at (codes earlier next_word)
   at_each_between_push from_le_i i_lt_length codes =
       rw (between_with_one_more text ws from i from_le_i i_lt_length, at_each_snoc) refl
 

@@ -11,7 +11,7 @@ use Rattle.std.proofs.lemmas.Bool.{or_cases, and_parts, eqb-false}
 use Rattle.mm_spec.specs.Text.{Bytes, Token, Fault, fault}
 use Rattle.mm_spec.specs.Statement.{Statement, floating, essential, axiomatic, provable}
 use Rattle.mm_spec.specs.Scope.{active_at, active, statement_at}
-use Rattle.mm_spec.specs.Lawful.{when, at}
+use Rattle.mm_spec.specs.Lawful.{when, faults_at}
 use Rattle.mm_spec.specs.Frame.{formula_at, is_floating, is_essential, mandatory_variables}
 use Rattle.mm_spec.specs.Frame.{mandatory_hypotheses}
 use Rattle.mm_spec.specs.Derivation.{is_member}
@@ -245,12 +245,12 @@ module _ (db : List Statement) (k : ℕ)
 
       faults_of_group : Bool → Bool → List Fault
       faults_of_group a b = elim a [
-        | true ↦ at (starts_at g)
+        | true ↦ faults_at (starts_at g)
             (when (nat_lt (label_count + length marks) (value g)) NumberTooLarge)
         | false ↦ elim b [
-          | true ↦ at g.last.at
+          | true ↦ faults_at g.last.at
               (when (nat_lt 0 (length g.early)) OpenNumber ++ when (count == 0) MarkBeforeStep)
-          | false ↦ at g.last.at
+          | false ↦ faults_at g.last.at
               (elim (g.last.byte == 63) [ true ↦ IncompleteProof ∷ [] | false ↦ BadLetter ∷ [] ])
         ]
       ]
@@ -270,7 +270,8 @@ module _ (db : List Statement) (k : ℕ)
       ]
 
       other_byte_is_fault : (b : Bool)
-          → ¬ (at g.last.at (elim b [ true ↦ IncompleteProof ∷ [] | false ↦ BadLetter ∷ [] ]) ≡ [])
+          → ¬ (faults_at g.last.at (elim b [ true ↦ IncompleteProof ∷ [] | false ↦ BadLetter ∷ [] ])
+          ≡ [])
       other_byte_is_fault true no_fault = cc
       other_byte_is_fault false no_fault = cc
 
@@ -383,7 +384,7 @@ module _ (db : List Statement) (k : ℕ)
           group_steps_are_good
           (groups [] (x ∷ xs)).0 labels [] label_count 0 labels_are_good tt enough_labels
           (both_are_empty (group_faults label_count 0 0 (groups [] (x ∷ xs)).0)
-          (at end (when (nat_lt 0 (length (groups [] (x ∷ xs)).1)) OpenNumber)) no_faults).0
+          (faults_at end (when (nat_lt 0 (length (groups [] (x ∷ xs)).1)) OpenNumber)) no_faults).0
 
       good_by_letters : (o : Option (List Token)) → faults_of_letters o ≡ []
           → AreGoodSteps (context_at db k) 0 (steps_of (steps_of_letters o))

@@ -5,7 +5,7 @@ use Rattle.std.specs.Prelude.{◌++◌, map, length, Option, Some, None, nat_lt,
 use Rattle.std.specs.Prelude.{flat_map, slice_get, codes, fold}
 use Rattle.mm_spec.specs.Text.{Bytes, Token, Fault, fault}
 use Rattle.mm_spec.specs.Statement.{Statement}
-use Rattle.mm_spec.specs.Lawful.{when, at}
+use Rattle.mm_spec.specs.Lawful.{when, faults_at}
 use Rattle.mm_spec.specs.Frame.{mandatory_hypotheses}
 use Rattle.mm_spec.specs.Steps.{Step, PlacedStep, placed, label, marked}
 use Rattle.mm_spec.specs.NormalProof.{usable, proof_label_faults}
@@ -99,11 +99,11 @@ group_steps labels marks count (g ∷ gs) = elim (is_last_letter g.last.byte) [
 -- have numbers, `marks` how many `Z` come before the group, and `count` how many other groups do.
 abbrev pub group_fault : ℕ → ℕ → ℕ → Group → List Fault
 group_fault labels marks count g = elim (is_last_letter g.last.byte) [
-  | true ↦ at (starts_at g) (when (nat_lt (labels + marks) (value g)) NumberTooLarge)
+  | true ↦ faults_at (starts_at g) (when (nat_lt (labels + marks) (value g)) NumberTooLarge)
   | false ↦ elim (g.last.byte == mark_letter) [
-    | true ↦ at g.last.at
+    | true ↦ faults_at g.last.at
         (when (nat_lt 0 (length g.early)) OpenNumber ++ when (count == 0) MarkBeforeStep)
-    | false ↦ at g.last.at
+    | false ↦ faults_at g.last.at
         (elim (g.last.byte == unknown_letter)
         [ true ↦ IncompleteProof ∷ [] | false ↦ BadLetter ∷ [] ])
   ]
@@ -122,7 +122,7 @@ group_faults labels marks count (g ∷ gs) =
 abbrev pub letter_faults : ℕ → ℕ → List Letter → List Fault
 letter_faults labels end [] = fault end EmptyProof ∷ []
 letter_faults labels end (x ∷ xs) = let g = groups [] (x ∷ xs) in
-    group_faults labels 0 0 g.0 ++ at end (when (nat_lt 0 (length g.1)) OpenNumber)
+    group_faults labels 0 0 g.0 ++ faults_at end (when (nat_lt 0 (length g.1)) OpenNumber)
 
 -- the letters of the words
 abbrev pub letters_of : List Token → List Letter
