@@ -163,7 +163,7 @@ failing_step_refuses db t steps i stack ends noted reason i_lt_length_steps is_r
     is_good) in
     record {
       before = take i steps;
-      first = s;
+      failing = s;
       after = drop (i + 1) steps;
       splits =
           sym (take-append-drop i steps)
@@ -176,7 +176,7 @@ failing_step_refuses db t steps i stack ends noted reason i_lt_length_steps is_r
           (is_reached.expands_from_start [] (postfix is_reached.forest) refl);
       reason = reason;
       fails = grown;
-      is = refl;
+      fault_is = refl;
     }
 
 module _ (db : List Statement) (t : ℕ) (steps : List PlacedStep) (stack ends : List Formula)
@@ -230,7 +230,7 @@ module _ (db : List Statement) (t : ℕ) (steps : List PlacedStep) (stack ends :
     code = code;
     fails = subst (λ z. IsEndCode (context_at db t) z formula code)
         (sym is_reached.entries_are) is_end_code;
-    is = refl;
+    fault_is = refl;
   }
 
 -- the step at a place is good

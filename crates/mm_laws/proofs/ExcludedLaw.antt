@@ -43,14 +43,14 @@ module _ (c : Context) (all_complete : (l : ℕ) → HasCompleteFrame c (c.rule 
   pub excludes : (steps : List Step) (reason : Reason) (all_labels : List ℕ)
       → StoppedSteps c [] [] steps reason → Expands c [] [] steps all_labels
       → ¬ IsPostfixOfForest c all_labels
-  excludes steps reason all_labels stopped expands forest = by_step stopped.first stopped.fails
+  excludes steps reason all_labels stopped expands forest = by_step stopped.failing stopped.fails
       split.3
     where
       split : (mid : List ℕ) × (later_lists : List (List ℕ)) × Expands c [] [] stopped.before
           mid
-          × Expands c later_lists mid (stopped.first ∷ stopped.after) all_labels
+          × Expands c later_lists mid (stopped.failing ∷ stopped.after) all_labels
       split =
-          expansion_splits stopped.before (stopped.first ∷ stopped.after) [] [] all_labels
+          expansion_splits stopped.before (stopped.failing ∷ stopped.after) [] [] all_labels
           (subst (λ x. Expands c [] [] x all_labels) stopped.splits expands)
 
       by_step : (first_step : Step) → StepFails c first_step (formulas stopped.forest) reason

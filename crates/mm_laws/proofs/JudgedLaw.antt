@@ -81,7 +81,7 @@ module _ (c : Context) (all_complete : (l : ℕ) → HasCompleteFrame c (c.rule 
         expansion = expansion;
         code = NotOneEntry;
         fails = refl;
-        is = refl;
+        fault_is = refl;
       })
   verdict_at_end (more (more ts k h bs) l g cs) derives expansion =
       end_fault (fault end NotOneEntry)
@@ -91,7 +91,7 @@ module _ (c : Context) (all_complete : (l : ℕ) → HasCompleteFrame c (c.rule 
         expansion = expansion;
         code = NotOneEntry;
         fails = not_one_entry (formulas ts) h g;
-        is = refl;
+        fault_is = refl;
       })
     where
       not_one_entry : (xs : List Formula) (h g : Formula)
@@ -122,7 +122,7 @@ module _ (c : Context) (all_complete : (l : ℕ) → HasCompleteFrame c (c.rule 
                   ∙ formulas_differ)),
               refl,
             );
-            is = refl;
+            fault_is = refl;
           })
 
   -- steps that are good have one of the three
@@ -137,11 +137,11 @@ module _ (c : Context) (all_complete : (l : ℕ) → HasCompleteFrame c (c.rule 
           verdict_at_end outcome.2 outcome.3 (subst (λ x. Expands c [] [] (steps_of ps) x) (sym
           outcome.4) outcome.1)
       by_result (Err e) outcome =
-          let split = placed_split outcome.before outcome.after outcome.first ps outcome.splits in
+          let split = placed_split outcome.before outcome.after outcome.failing ps outcome.splits in
           step_fault (fault split.place (code_of e.reason))
           (record {
             before = split.front;
-            first = record { at = split.place; step = outcome.first };
+            failing = record { at = split.place; step = outcome.failing };
             after = split.back;
             splits = split.steps_are;
             forest = outcome.forest;
@@ -152,17 +152,17 @@ module _ (c : Context) (all_complete : (l : ℕ) → HasCompleteFrame c (c.rule 
                 (sym outcome.labels_are) outcome.expansion);
             reason = e.reason;
             fails = outcome.fails;
-            is = refl;
+            fault_is = refl;
           })
 
   pub stopped_steps : (f : Fault) → (step_fault_of_ps : StepFault c ps f)
       → StoppedSteps c [] [] (steps_of ps) step_fault_of_ps.reason
   stopped_steps f step_fault_of_ps = record {
     before = steps_of step_fault_of_ps.before;
-    first = step_fault_of_ps.first.step;
+    failing = step_fault_of_ps.failing.step;
     after = steps_of step_fault_of_ps.after;
     splits = ap steps_of step_fault_of_ps.splits ∙ map_append step_fault_of_ps.before
-        step_fault_of_ps.first step_fault_of_ps.after;
+        step_fault_of_ps.failing step_fault_of_ps.after;
     labels = postfix step_fault_of_ps.forest;
     expansion = step_fault_of_ps.expansion;
     forest = step_fault_of_ps.forest;

@@ -122,12 +122,12 @@ module _ (c : Context) (all_complete : (l : ℕ) → HasCompleteFrame c (c.rule 
       Trees)
       → (steps_before zs : List PlacedStep)
       → AreDerivations c forest → ExpandTo c (map (λ p. p.step) steps_before) (postfix forest)
-      → steps_before ≡ step_fault.before ++ step_fault.first ∷ zs → ⊥
+      → steps_before ≡ step_fault.before ++ step_fault.failing ∷ zs → ⊥
   no_later_fault ps f step_fault forest steps_before zs derives expansion steps_are =
       let fault_before : StepFault c steps_before f =
       record {
         before = step_fault.before;
-        first = step_fault.first;
+        failing = step_fault.failing;
         after = zs;
         splits = steps_are;
         forest = step_fault.forest;
@@ -135,7 +135,7 @@ module _ (c : Context) (all_complete : (l : ℕ) → HasCompleteFrame c (c.rule 
         expansion = step_fault.expansion;
         reason = step_fault.reason;
         fails = step_fault.fails;
-        is = step_fault.is;
+        fault_is = step_fault.fault_is;
       } in
       excludes c all_complete (map (λ p. p.step) steps_before) step_fault.reason (postfix forest)
       (stopped_steps c all_complete steps_before [] 0 f fault_before) expansion (
@@ -149,10 +149,10 @@ module _ (c : Context) (all_complete : (l : ℕ) → HasCompleteFrame c (c.rule 
       → f ≡ g
   step_fault_is_unique ps f g faults_f faults_g =
       by_split (splits_of faults_f.before faults_g.before faults_f.after faults_g.after
-      faults_f.first faults_g.first
+      faults_f.failing faults_g.failing
       (sym faults_f.splits ∙ faults_g.splits))
     where
-      by_split : Splits faults_f.before faults_f.first faults_g.before faults_g.first → f ≡ g
+      by_split : Splits faults_f.before faults_f.failing faults_g.before faults_g.failing → f ≡ g
       by_split (inl splits_equal) =
           let expansion = subst (λ x. ExpandTo c (map (λ p. p.step) x) (postfix faults_f.forest))
           splits_equal.0 faults_f.expansion in
@@ -165,12 +165,12 @@ module _ (c : Context) (all_complete : (l : ℕ) → HasCompleteFrame c (c.rule 
           (postfix faults_g.forest) expansion faults_g.expansion) in
           let fails_by_reason =
           subst (λ x. StepFails c x.step (formulas faults_g.forest) faults_f.reason) splits_equal.1
-          (subst (λ r. StepFails c faults_f.first.step (formulas r) faults_f.reason) forests_equal
+          (subst (λ r. StepFails c faults_f.failing.step (formulas r) faults_f.reason) forests_equal
           faults_f.fails) in
-          faults_f.is ∙ ap₂ (λ p r. fault p.at (code_of r)) splits_equal.1
-          (reason_is_unique faults_g.first.step (formulas faults_g.forest) faults_f.reason
+          faults_f.fault_is ∙ ap₂ (λ p r. fault p.at (code_of r)) splits_equal.1
+          (reason_is_unique faults_g.failing.step (formulas faults_g.forest) faults_f.reason
           faults_g.reason fails_by_reason faults_g.fails)
-          ∙ sym faults_g.is
+          ∙ sym faults_g.fault_is
       by_split (inr (inl is_longer)) =
           absurd (no_later_fault ps f faults_f faults_g.forest faults_g.before is_longer.0
           faults_g.derivations faults_g.expansion is_longer.1)
@@ -192,11 +192,11 @@ module _ (c : Context) (all_complete : (l : ℕ) → HasCompleteFrame c (c.rule 
       faults_g.derivations
       (expansions_are_equal c all_complete (map (λ p. p.step) ps) [] [] (postfix faults_f.forest)
       (postfix faults_g.forest) faults_f.expansion faults_g.expansion) in
-      faults_f.is ∙ ap (fault end)
+      faults_f.fault_is ∙ ap (fault end)
       (code_is_unique (formulas faults_g.forest) formula faults_f.code faults_g.code
       (subst (λ r. IsEndCode c (formulas r) formula faults_f.code) forests_equal faults_f.fails)
       faults_g.fails)
-      ∙ sym faults_g.is
+      ∙ sym faults_g.fault_is
 
 nil_has_no_least : (fs : List Fault) (f : Fault) → fs ≡ [] → least fs ≡ Some f → ⊥
 nil_has_no_least fs f fs_is_nil least_is_f = let none_is_some : None
@@ -341,7 +341,8 @@ shape_fault_is_unique ts f g faults_f faults_g =
     by_split (inl splits_equal) =
         faults_equal faults_g.before faults_g.first
         (subst (λ x. HasShapeCode faults_g.before x f) splits_equal.1
-        (subst (λ b. HasShapeCode b faults_f.first f) splits_equal.0 faults_f.code)) faults_g.code
+        (subst (λ b. HasShapeCode b faults_f.first f) splits_equal.0 faults_f.fault_is))
+        faults_g.fault_is
     by_split (inr (inl is_longer)) =
         absurd (faults_f.no_more (front_begins faults_f.before is_longer.0 faults_f.first (subst
         BeginStatements is_longer.1 faults_g.begins)))
@@ -357,7 +358,7 @@ longest_statements_equal ts a b is_longest_a is_longest_b =
 
 file_end_fault_is_unique : (len : ℕ) (ts : List Token) (f g : Fault) → FileEndFault len ts f
     → FileEndFault len ts g → f ≡ g
-file_end_fault_is_unique len ts f g faults_f faults_g = by_kinds faults_f.code faults_g.code
+file_end_fault_is_unique len ts f g faults_f faults_g = by_kinds faults_f.fault_is faults_g.fault_is
   where
     rests_equal : faults_f.are_statements.rest ≡ faults_g.are_statements.rest
     rests_equal =

@@ -99,7 +99,7 @@ not_disjoint_fault : StepFault (context_at faulty_db 10) (steps_at faulty_db 10)
 unfolding two_hypotheses identity statements
 not_disjoint_fault = record {
   before = placed 183 (label 2) ∷ placed 186 (label 3) ∷ [];
-  first = placed 189 (label 8);
+  failing = placed 189 (label 8);
   after = [];
   splits = refl;
   forest = two_hypotheses;
@@ -107,5 +107,5 @@ not_disjoint_fault = record {
   expansion = (2 ∷ [], refl, (2 ∷ 3 ∷ [], refl, refl));
   reason = not_disjoint;
   fails = (identity, lit≤ tt, refl, λ e. true≢false (sym e));
-  is = refl;
+  fault_is = refl;
 }

@@ -82,15 +82,15 @@ module _ (c : Context) where
   pub record StoppedSteps (lists : List (List ℕ)) (labels_before : List ℕ) (steps : List Step)
       (reason : Reason) : Type 0 where
     pub before : List Step
-    pub first : Step
+    pub failing : Step
     pub after : List Step
-    pub splits : steps ≡ before ++ first ∷ after
+    pub splits : steps ≡ before ++ failing ∷ after
     pub labels : List ℕ
     pub expansion : Expands c lists labels_before before labels
     pub forest : Trees
     pub derivations : AreDerivations c forest
     pub labels_are : postfix forest ≡ labels
-    pub fails : StepFails c first (formulas forest) reason
+    pub fails : StepFails c failing (formulas forest) reason
 
   abbrev pub StepsOutcome : List (List ℕ) → List ℕ → List Step → Result (List Formula) RunFailure
       → Type 0
@@ -208,7 +208,7 @@ module _ (c : Context) where
       )
       outcome_of_rest labels_after adds_labels (Err e) later_outcome = record {
         before = s ∷ later_outcome.before;
-        first = later_outcome.first;
+        failing = later_outcome.failing;
         after = later_outcome.after;
         splits = ap (λ x. s ∷ x) later_outcome.splits;
         labels = later_outcome.labels;
@@ -229,7 +229,7 @@ module _ (c : Context) where
       outcome_by_result (Err reason) forest_grown rest_has_outcome =
           record {
             before = [];
-            first = s;
+            failing = s;
             after = steps;
             splits = refl;
             labels = postfix forest;

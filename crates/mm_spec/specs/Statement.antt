@@ -123,7 +123,7 @@ pub record ShapeFault (tokens : List Token) (f : Fault) : Type 0 where
   pub splits : tokens ≡ before ++ first ∷ after
   pub begins : BeginStatements before
   pub no_more : ¬ BeginStatements (before ++ first ∷ [])
-  pub code : (IsBetween before × (f ≡ fault first.at (shape_code true first.word)))
+  pub fault_is : (IsBetween before × (f ≡ fault first.at (shape_code true first.word)))
       ⊎ ((¬ IsBetween before) × (f ≡ fault first.at (shape_code false first.word)))
 
 -- the longest such list at the beginning of the tokens
@@ -139,7 +139,7 @@ pub record AreLongestStatements (tokens : List Token) (statements : List Stateme
 pub record FileEndFault (len : ℕ) (tokens : List Token) (f : Fault) : Type 0 where
   pub statements : List Statement
   pub are_statements : AreLongestStatements tokens statements
-  pub code : ((are_statements.rest ≢ []) × (f ≡ fault len OpenStatement))
+  pub fault_is : ((are_statements.rest ≢ []) × (f ≡ fault len OpenStatement))
       ⊎ ((are_statements.rest ≡ [])
       × (count_by is_closing statements < count_by is_opening statements)
       × (f ≡ fault len OpenBlock))

@@ -89,15 +89,15 @@ module _ (c : Context) where
   -- and the step fails after that forest.
   pub record StepFault (steps : List PlacedStep) (f : Fault) : Type 0 where
     pub before : List PlacedStep
-    pub first : PlacedStep
+    pub failing : PlacedStep
     pub after : List PlacedStep
-    pub splits : steps ≡ before ++ first ∷ after
+    pub splits : steps ≡ before ++ failing ∷ after
     pub forest : Trees
     pub derivations : AreDerivations c forest
     pub expansion : ExpandTo c (map (λ s. s.step) before) (postfix forest)
     pub reason : Reason
-    pub fails : StepFails first.step (formulas forest) reason
-    pub is : f ≡ fault first.at (code_of reason)
+    pub fails : StepFails failing.step (formulas forest) reason
+    pub fault_is : f ≡ fault failing.at (code_of reason)
 
   -- a forest with these formulas isn't one tree (E37), or is one with another formula (E38)
   abbrev pub IsEndCode : List Formula → Formula → Code → Type 0
@@ -113,4 +113,4 @@ module _ (c : Context) where
     pub expansion : ExpandTo c (map (λ s. s.step) steps) (postfix forest)
     pub code : Code
     pub fails : IsEndCode (formulas forest) formula code
-    pub is : f ≡ fault end code
+    pub fault_is : f ≡ fault end code
