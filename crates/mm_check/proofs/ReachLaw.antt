@@ -221,14 +221,14 @@ module _ (db : List Statement) (t : ℕ) (steps : List PlacedStep) (stack ends :
           (two_entries_not_one (formulas ts) h g stack_is)
 
   pub end_code_is_fault : (end : ℕ) (code : Code) (formula : Formula)
-      → IsEndCode (context_at db t) stack formula code
+      → IsEndCode stack formula code
       → ProofEndFault (context_at db t) steps formula end (fault end code)
   end_code_is_fault end code formula is_end_code = record {
     forest = is_reached.forest;
     derivations = is_reached.are_derivations;
     expansion = whole_expansion;
     code = code;
-    fails = subst (λ z. IsEndCode (context_at db t) z formula code)
+    fails = subst (λ z. IsEndCode z formula code)
         (sym is_reached.entries_are) is_end_code;
     fault_is = refl;
   }

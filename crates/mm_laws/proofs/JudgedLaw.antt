@@ -95,7 +95,7 @@ module _ (c : Context) (all_complete : (l : ℕ) → HasCompleteFrame c (c.rule 
       })
     where
       not_one_entry : (xs : List Formula) (h g : Formula)
-          → IsEndCode c ((xs ++ h ∷ []) ++ g ∷ []) formula NotOneEntry
+          → IsEndCode ((xs ++ h ∷ []) ++ g ∷ []) formula NotOneEntry
       not_one_entry [] h g = refl
       not_one_entry (x ∷ []) h g = refl
       not_one_entry (x ∷ y ∷ xs) h g = refl
@@ -200,5 +200,5 @@ module _ (c : Context) (all_complete : (l : ℕ) → HasCompleteFrame c (c.rule 
       (postfix d) end_fault_of_ps.expansion derives.4) in
       let formula_is_only_entry : formulas end_fault_of_ps.forest
       ≡ formula ∷ [] = ap formulas forests_equal ∙ ap formulas derives.2 in
-      (subst (λ x. IsEndCode c x formula end_fault_of_ps.code) formula_is_only_entry
+      (subst (λ x. IsEndCode x formula end_fault_of_ps.code) formula_is_only_entry
       end_fault_of_ps.fails).0 refl

@@ -178,8 +178,8 @@ module _ (c : Context) (all_complete : (l : ℕ) → HasCompleteFrame c (c.rule 
           absurd (no_later_fault ps g faults_g faults_f.forest faults_f.before is_longer.0
           faults_f.derivations faults_f.expansion is_longer.1)
 
-  code_is_unique : (xs : List Formula) (formula : Formula) (a b : Code) → IsEndCode c xs formula a
-      → IsEndCode c xs formula b → a ≡ b
+  code_is_unique : (xs : List Formula) (formula : Formula) (a b : Code) → IsEndCode xs formula a
+      → IsEndCode xs formula b → a ≡ b
   code_is_unique [] formula a b is_code_a is_code_b = is_code_a ∙ sym is_code_b
   code_is_unique (g ∷ []) formula a b is_code_a is_code_b = is_code_a.1 ∙ sym is_code_b.1
   code_is_unique (g ∷ e ∷ xs) formula a b is_code_a is_code_b = is_code_a ∙ sym is_code_b
@@ -194,7 +194,7 @@ module _ (c : Context) (all_complete : (l : ℕ) → HasCompleteFrame c (c.rule 
       (postfix faults_g.forest) faults_f.expansion faults_g.expansion) in
       faults_f.fault_is ∙ ap (fault end)
       (code_is_unique (formulas faults_g.forest) formula faults_f.code faults_g.code
-      (subst (λ r. IsEndCode c (formulas r) formula faults_f.code) forests_equal faults_f.fails)
+      (subst (λ r. IsEndCode (formulas r) formula faults_f.code) forests_equal faults_f.fails)
       faults_g.fails)
       ∙ sym faults_g.fault_is
 

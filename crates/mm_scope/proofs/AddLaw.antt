@@ -154,11 +154,11 @@ module _ (db : List Statement) (db_lt_never : length db < never) (w : Bytes) whe
       entry_after_constants k xs e x x_is_entry
       (both_are_empty
       (faults_at k (when (nat_lt 0 d) ConstantInBlock)
-      ++ faults_at e (when (is_empty n xs) EmptyDeclaration))
+      ++ faults_at e (when (is_empty xs) EmptyDeclaration))
       (faults_at_each (constant_codes n) [] xs) no_fault).1
   entry_after_statement (variables k xs e) d x x_is_entry no_fault =
       entry_after_variables k xs e x x_is_entry
-      (both_are_empty (faults_at e (when (is_empty n xs) EmptyDeclaration))
+      (both_are_empty (faults_at e (when (is_empty xs) EmptyDeclaration))
       (faults_at_each (variable_codes n) [] xs) no_fault).1
   entry_after_statement (floating l k [] e) d x x_is_entry no_fault =
       absurd (let floating_has_no_fault =

@@ -164,16 +164,16 @@ between_is_two_tokens text ws k j j_le_length width_is_3 =
     )
 
 -- a list without length is empty
-no_length_is_empty : (n : Names) (xs : List Token) → nat_eq (length xs) 0 ≡ is_empty n xs
-no_length_is_empty n [] = refl
-no_length_is_empty n (x ∷ xs) = grind arith
+no_length_is_empty : (xs : List Token) → nat_eq (length xs) 0 ≡ is_empty xs
+no_length_is_empty [] = refl
+no_length_is_empty (x ∷ xs) = grind arith
 
 -- whether there are no words
-pub nothing_between_is_empty : (n : Names) (text : List ℕ) (ws : List spec.Word) (k j : ℕ) → k < j
+pub nothing_between_is_empty : (text : List ℕ) (ws : List spec.Word) (k j : ℕ) → k < j
     → j ≤ length ws
-    → nat_eq (j - k - 1) 0 ≡ is_empty n (between text ws (k + 1) j)
-nothing_between_is_empty n text ws k j k_lt_j j_le_length =
+    → nat_eq (j - k - 1) 0 ≡ is_empty (between text ws (k + 1) j)
+nothing_between_is_empty text ws k j k_lt_j j_le_length =
     let between_length = length_between text ws (k + 1) j (omega arith) j_le_length in
     let count_is_length : j - k - 1 ≡ length (between text ws (k + 1) j) =
     omega (arith, between_length) in
-    rw count_is_length (no_length_is_empty n (between text ws (k + 1) j))
+    rw count_is_length (no_length_is_empty (between text ws (k + 1) j))

@@ -31,6 +31,11 @@ faults_at_each codes earlier [] = []
 faults_at_each codes earlier (t ∷ ts) =
     faults_at t.at (codes earlier t.word) ++ faults_at_each codes (t.word ∷ earlier) ts
 
+-- whether a declaration has no symbols
+abbrev pub is_empty : List Token → Bool
+is_empty [] = true
+is_empty (t ∷ ts) = false
+
 module _ (names : Names) where
   -- A symbol of a `$c` wasn't declared before, as a constant or a variable or in this `$c` (E13),
   -- and is no earlier label (E14).
@@ -64,11 +69,6 @@ module _ (names : Names) where
   symbol_codes earlier w =
       when (not (is_in w names.constants || is_in w names.active_variables)) UndeclaredSymbol
       ++ when (is_in w names.active_variables && not (is_typed w)) UntypedVariable
-
-  -- whether a declaration has no symbols
-  abbrev pub is_empty : List Token → Bool
-  is_empty [] = true
-  is_empty (t ∷ ts) = false
 
   -- A formula, which ends at `end`, begins with a constant (E17).
   abbrev pub formula_faults : List Token → ℕ → List Fault

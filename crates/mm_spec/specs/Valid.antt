@@ -12,6 +12,10 @@ use Rattle.mm_spec.specs.declared.Code.TheVariants.{TooFewEntries, UnmatchedHypo
 use Rattle.mm_spec.specs.declared.Code.TheVariants.{NotOneEntry, OtherFormula, FormulaTooLong}
 use Rattle.mm_spec.specs.declared.Code.{Code}
 
+-- the last n entries
+abbrev pub last_of : ℕ → List Formula → List Formula
+last_of n entries = drop (length entries - n) entries
+
 -- x is the postfix list of the last tree
 abbrev pub IsLastTree : Trees → List ℕ → Type 0
 IsLastTree none x = ⊥
@@ -48,10 +52,6 @@ module _ (c : Context) where
   Derives steps f d =
       (l : ℕ) × (cs : Trees) × (d ≡ tree l f cs) × AreDerivations c d × ExpandTo steps (postfix d)
 
-  -- the last n entries
-  abbrev pub last_of : ℕ → List Formula → List Formula
-  last_of n entries = drop (length entries - n) entries
-
 -- why a step fails: the faults E34, E35, E36 and E39
 pub data Reason : Type 0 where
   too_few unmatched not_disjoint too_long : Reason
@@ -63,6 +63,11 @@ code_of unmatched = UnmatchedHypotheses
 code_of not_disjoint = NotDisjoint
 code_of too_long = FormulaTooLong
 
+-- a forest with these formulas isn't one tree (E37), or is one with another formula (E38)
+abbrev pub IsEndCode : List Formula → Formula → Code → Type 0
+IsEndCode (g ∷ []) formula code = (g ≢ formula) × (code ≡ OtherFormula)
+IsEndCode _ formula code = code ≡ NotOneEntry
+
 module _ (c : Context) where
   -- the step of a label fails after a forest with these formulas, by the first reason that holds
   abbrev pub Fails : Option Rule → List Formula → Reason → Type 0
@@ -70,13 +75,13 @@ module _ (c : Context) where
   Fails (Some (assertion a)) entries too_few = length entries < length a.hypotheses
   Fails (Some (assertion a)) entries unmatched =
       (length a.hypotheses ≤ length entries)
-      × ((σ : Substitution) → ¬ Matches c a (last_of c (length a.hypotheses) entries) σ)
+      × ((σ : Substitution) → ¬ Matches c a (last_of (length a.hypotheses) entries) σ)
   Fails (Some (assertion a)) entries not_disjoint =
       (σ : Substitution) × (length a.hypotheses ≤ length entries)
-      × Matches c a (last_of c (length a.hypotheses) entries) σ × (¬ KeepsDisjoint c a σ)
+      × Matches c a (last_of (length a.hypotheses) entries) σ × (¬ KeepsDisjoint c a σ)
   Fails (Some (assertion a)) entries too_long =
       (σ : Substitution) × (length a.hypotheses ≤ length entries)
-      × Matches c a (last_of c (length a.hypotheses) entries) σ × KeepsDisjoint c a σ
+      × Matches c a (last_of (length a.hypotheses) entries) σ × KeepsDisjoint c a σ
       × (formula_limit < length (substitute c σ a.formula))
   Fails _ entries _ = ⊥
 
@@ -98,11 +103,6 @@ module _ (c : Context) where
     pub reason : Reason
     pub fails : StepFails failing.step (formulas forest) reason
     pub fault_is : f ≡ fault failing.at (code_of reason)
-
-  -- a forest with these formulas isn't one tree (E37), or is one with another formula (E38)
-  abbrev pub IsEndCode : List Formula → Formula → Code → Type 0
-  IsEndCode (g ∷ []) formula code = (g ≢ formula) × (code ≡ OtherFormula)
-  IsEndCode _ formula code = code ≡ NotOneEntry
 
   -- The fault at the end: all steps expand to the postfix list of a forest of derivations, which
   -- isn't one tree with the theorem's formula.

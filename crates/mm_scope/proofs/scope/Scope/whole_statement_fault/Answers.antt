@@ -18,13 +18,13 @@ returns-in-Constants g c = λ n.
     let keyword_place = (nth_word ws o.keyword).start in
     let middle_place = (nth_word ws o.middle).start in
     let block_faults = faults_at keyword_place (when (nat_lt 0 c.args.depth) ConstantInBlock) in
-    let empty_faults = faults_at middle_place (when (is_empty n xs) EmptyDeclaration) in (
+    let empty_faults = faults_at middle_place (when (is_empty xs) EmptyDeclaration) in (
       block_faults ++ empty_faults,
       c.lesser.ensures block_faults empty_faults (c.fault_with_code-block_fault.ensures
           ∙ c.code_if.ensures keyword_place)
           (c.fault_with_code.ensures ∙ c.code_if-in-Constants.ensures middle_place
           ∙ ap (λ b. least (faults_at middle_place (when b EmptyDeclaration)))
-          (nothing_between_is_empty n text ws o.keyword o.middle c.requires.keyword_lt_middle
+          (nothing_between_is_empty text ws o.keyword o.middle c.requires.keyword_lt_middle
           (omega (arith, end_lt_length, middle_le_end)))),
       ap (λ kd. scope_faults n c.args.depth (statement_between text ws kd o.keyword o.middle o.end))
           c.in-Constants.is
@@ -41,11 +41,11 @@ returns-in-Variables g c = λ n.
     let end_lt_length = c.requires.among.end_lt_length in
     let middle_le_end = c.requires.among.outline.3 in
     let middle_place = (nth_word ws o.middle).start in
-    let empty_faults = faults_at middle_place (when (is_empty n xs) EmptyDeclaration) in (
+    let empty_faults = faults_at middle_place (when (is_empty xs) EmptyDeclaration) in (
       empty_faults,
       c.fault_with_code-in-Variables.ensures ∙ c.code_if-in-Variables.ensures middle_place
           ∙ ap (λ b. least (faults_at middle_place (when b EmptyDeclaration)))
-          (nothing_between_is_empty n text ws o.keyword o.middle c.requires.keyword_lt_middle
+          (nothing_between_is_empty text ws o.keyword o.middle c.requires.keyword_lt_middle
           (omega (arith, end_lt_length, middle_le_end))),
       ap (λ kd. scope_faults n c.args.depth (statement_between text ws kd o.keyword o.middle o.end))
           c.in-Variables.is
