@@ -5,7 +5,7 @@ use Rattle.std.proofs.Common.{◌∙◌, arith, eqb-true, eq-eqb, true≢false, 
 use Rattle.std.specs.List.{list_any}
 use Rattle.std.proofs.lemmas.List.{get_or-set_same, get_or-set_other, drop_more}
 use Rattle.mm_spec.specs.Derivation.{Formula}
-use Rattle.mm_spec.specs.Laws.Complete.{binds, IsBound}
+use Rattle.mm_spec.specs.Laws.Complete.{binds, IsBound, variables_context}
 use Rattle.mm_spec.specs.Laws.Stack.{substitution_from, tail}
 use Rattle.mm_spec.specs.Statement.{Statement}
 use Rattle.mm_spec.specs.Frame.{formula_at}
@@ -14,14 +14,14 @@ use Rattle.mm_rule.specs.Rule.{floating_index}
 
 module _ (db : List Statement) where
   -- a variable that is bound has the index of a hypothesis
-  pub floating_index_lt_length : (hs : List Formula) (x : ℕ) → IsBound (context_at db 0) hs x
+  pub floating_index_lt_length : (hs : List Formula) (x : ℕ) → IsBound (variables_context db) hs x
       → floating_index db hs x < length hs
   floating_index_lt_length [] x x_is_bound = absurd (true≢false (sym x_is_bound))
   floating_index_lt_length (h ∷ hs) x x_is_bound =
-      by_binding (binds (context_at db 0) x h) x_is_bound (floating_index_lt_length hs x)
+      by_binding (binds (variables_context db) x h) x_is_bound (floating_index_lt_length hs x)
     where
-      by_binding : (v : Bool) → (v || list_any (binds (context_at db 0) x) hs) ≡ true
-          → (IsBound (context_at db 0) hs x → floating_index db hs x < length hs)
+      by_binding : (v : Bool) → (v || list_any (binds (variables_context db) x) hs) ≡ true
+          → (IsBound (variables_context db) hs x → floating_index db hs x < length hs)
           → cond v 0 (suc (floating_index db hs x)) < suc (length hs)
       by_binding true bound_here_or_in_rest rest_lt_length = omega arith
       by_binding false bound_here_or_in_rest rest_lt_length = let index_lt_length =
@@ -29,18 +29,18 @@ module _ (db : List Statement) where
 
   -- what is found for a variable is what the premise of its first `$f` has after the typecode
   pub substitution_is_tail_at_index : (t : ℕ) (hs ps : List Formula) (x : ℕ) → length ps ≡ length hs
-      → IsBound (context_at db 0) hs x
+      → IsBound (variables_context db) hs x
       → substitution_from (context_at db t) hs ps x ≡ tail (get_or ps (floating_index db hs x) [])
   substitution_is_tail_at_index t [] ps x lengths_equal x_is_bound =
       absurd (true≢false (sym x_is_bound))
   substitution_is_tail_at_index t (h ∷ hs) [] x lengths_equal x_is_bound =
       absurd (omega (arith, lengths_equal))
   substitution_is_tail_at_index t (h ∷ hs) (p ∷ ps) x lengths_equal x_is_bound =
-      by_binding (binds (context_at db 0) x h) x_is_bound
+      by_binding (binds (variables_context db) x h) x_is_bound
       (substitution_is_tail_at_index t hs ps x (omega (arith, lengths_equal)))
     where
-      by_binding : (v : Bool) → (v || list_any (binds (context_at db 0) x) hs) ≡ true
-          → (IsBound (context_at db 0) hs x
+      by_binding : (v : Bool) → (v || list_any (binds (variables_context db) x) hs) ≡ true
+          → (IsBound (variables_context db) hs x
           → substitution_from (context_at db t) hs ps x
           ≡ tail (get_or ps (floating_index db hs x) []))
           → elim v [ true ↦ tail p | false ↦ substitution_from (context_at db t) hs ps x ]
@@ -51,16 +51,17 @@ module _ (db : List Statement) where
   -- the same for the hypotheses from a number on
   abbrev pub PlacedFrom : ℕ → List Formula → List ℕ → Type 0
   PlacedFrom n hs t =
-      (x : ℕ) → IsBound (context_at db 0) hs x → get_or t x 0 ≡ n + floating_index db hs x
+      (x : ℕ) → IsBound (variables_context db) hs x → get_or t x 0 ≡ n + floating_index db hs x
 
   -- before a hypothesis that binds no variable, the places stay as they are
   placed_without_floating : (n : ℕ) (t : List ℕ) (h : Formula) (hs : List Formula)
-      → ((x : ℕ) → binds (context_at db 0) x h ≡ false) → PlacedFrom (suc n) hs t
+      → ((x : ℕ) → binds (variables_context db) x h ≡ false) → PlacedFrom (suc n) hs t
       → PlacedFrom n (h ∷ hs) t
   placed_without_floating n t h hs h_binds_none placed_rest x x_is_bound =
-      by_binding (binds (context_at db 0) x h) (h_binds_none x) x_is_bound
+      by_binding (binds (variables_context db) x h) (h_binds_none x) x_is_bound
     where
-      by_binding : (v : Bool) → v ≡ false → (v || list_any (binds (context_at db 0) x) hs) ≡ true
+      by_binding : (v : Bool) → v ≡ false → (v || list_any (binds (variables_context db) x) hs)
+          ≡ true
           → get_or t x 0 ≡ n + cond v 0 (suc (floating_index db hs x))
       by_binding true binds_is_false x_is_bound = cc
       by_binding false binds_is_false x_is_bound = let x_is_placed = placed_rest x x_is_bound in
@@ -69,12 +70,12 @@ module _ (db : List Statement) where
   -- before the `$f` of a variable, the variable gets its place
   placed_with_floating : (n : ℕ) (t : List ℕ) (h : Formula) (hs : List Formula) (y : ℕ)
       → y < length t
-      → ((x : ℕ) → binds (context_at db 0) x h ≡ nat_eq x y) → PlacedFrom (suc n) hs t
+      → ((x : ℕ) → binds (variables_context db) x h ≡ nat_eq x y) → PlacedFrom (suc n) hs t
       → PlacedFrom n (h ∷ hs) (slice_set t y n)
   placed_with_floating n t h hs y y_lt_length h_binds_y placed_rest x x_is_bound =
-      by_binding (binds (context_at db 0) x h) (h_binds_y x) x_is_bound
+      by_binding (binds (variables_context db) x h) (h_binds_y x) x_is_bound
     where
-      by_binding : (v : Bool) → v ≡ nat_eq x y → (v || list_any (binds (context_at db 0) x) hs)
+      by_binding : (v : Bool) → v ≡ nat_eq x y → (v || list_any (binds (variables_context db) x) hs)
           ≡ true
           → get_or (slice_set t y n) x 0 ≡ n + cond v 0 (suc (floating_index db hs x))
       by_binding true binds_is_equality x_is_bound =
@@ -118,7 +119,7 @@ module _ (db : List Statement) where
           rw next_is_j placed_from_j
 
       pub placed_back_without_floating : ((x : ℕ)
-          → binds (context_at db 0) x (formula_at db (get_or hyps (j - 1) 0)) ≡ false)
+          → binds (variables_context db) x (formula_at db (get_or hyps (j - 1) 0)) ≡ false)
           → PlacedFrom j (hs j) t → PlacedFrom (j - 1) (hs (j - 1)) t
       placed_back_without_floating hypothesis_binds_none placed_from_j =
           rw hypotheses_from_previous
@@ -128,7 +129,7 @@ module _ (db : List Statement) where
 
       pub placed_back_with_floating : (y : ℕ) → y < length t
           → ((x : ℕ)
-          → binds (context_at db 0) x (formula_at db (get_or hyps (j - 1) 0)) ≡ nat_eq x y)
+          → binds (variables_context db) x (formula_at db (get_or hyps (j - 1) 0)) ≡ nat_eq x y)
           → PlacedFrom j (hs j) t → PlacedFrom (j - 1) (hs (j - 1)) (slice_set t y (j - 1))
       placed_back_with_floating y y_lt_length hypothesis_binds_y placed_from_j =
           rw hypotheses_from_previous

@@ -37,6 +37,11 @@ module _ (c : Context) where
   HasCompleteFrame (Some (hypothesis g)) = Unit {0}
   HasCompleteFrame (Some (assertion a)) = IsComplete a
 
+-- the context of the proof of a statement, where it doesn't matter which: that a symbol is a
+-- variable is the same for all
+abbrev pub variables_context : List Statement → Context
+variables_context db = context_at db 0
+
 -- the frame of each assertion for which a label stands is complete
 abbrev pub AreComplete : List Statement → Type 0
 AreComplete db = (k l : ℕ) → HasCompleteFrame (context_at db k) ((context_at db k).rule l)
