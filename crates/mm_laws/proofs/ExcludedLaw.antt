@@ -43,7 +43,8 @@ module _ (c : Context) (all_complete : (l : ℕ) → HasCompleteFrame c (c.rule 
   pub excludes : (steps : List Step) (reason : Reason) (all_labels : List ℕ)
       → StoppedSteps c [] [] steps reason → Expands c [] [] steps all_labels
       → ¬ IsPostfixOfForest c all_labels
-  excludes steps reason all_labels stopped expands forest = by_step stopped.failing stopped.fails
+  excludes steps reason all_labels stopped expands forest = excluded_by_step stopped.failing
+      stopped.fails
       split.3
     where
       split : (mid : List ℕ) × (later_lists : List (List ℕ)) × Expands c [] [] stopped.before
@@ -53,10 +54,11 @@ module _ (c : Context) (all_complete : (l : ℕ) → HasCompleteFrame c (c.rule 
           expansion_splits stopped.before (stopped.failing ∷ stopped.after) [] [] all_labels
           (subst (λ x. Expands c [] [] x all_labels) stopped.splits expands)
 
-      by_step : (first_step : Step) → StepFails c first_step (formulas stopped.forest) reason
+      excluded_by_step : (first_step : Step)
+          → StepFails c first_step (formulas stopped.forest) reason
           → Expands c split.1 split.0 (first_step ∷ stopped.after) all_labels → ⊥
-      by_step (marked j) fails rest_expansion = fails
-      by_step (label l) fails rest_expansion =
+      excluded_by_step (marked j) fails rest_expansion = fails
+      excluded_by_step (label l) fails rest_expansion =
           let extension = expansion_grows stopped.after (split.1 ++ rest_expansion.0 ∷ [])
           rest_expansion.0 all_labels rest_expansion.2 in
           let all_labels_are : all_labels ≡ split.0 ++ l ∷ extension.0 =

@@ -99,10 +99,10 @@ module _ (c : Context) (all_complete : (l : ℕ) → HasCompleteFrame c (c.rule 
       not_one_entry [] h g = refl
       not_one_entry (x ∷ []) h g = refl
       not_one_entry (x ∷ y ∷ xs) h g = refl
-  verdict_at_end (more none l g cs) derives expansion = by_formula (bytes_eq g formula) refl
+  verdict_at_end (more none l g cs) derives expansion = verdict_by_formula (bytes_eq g formula) refl
     where
-      by_formula : (b : Bool) → bytes_eq g formula ≡ b → Verdict
-      by_formula true formulas_equal =
+      verdict_by_formula : (b : Bool) → bytes_eq g formula ≡ b → Verdict
+      verdict_by_formula true formulas_equal =
           valid (more none l g cs) (
             l,
             cs,
@@ -110,7 +110,7 @@ module _ (c : Context) (all_complete : (l : ℕ) → HasCompleteFrame c (c.rule 
             derives,
             expansion,
           )
-      by_formula false formulas_differ =
+      verdict_by_formula false formulas_differ =
           end_fault (fault end OtherFormula)
           (record {
             forest = more none l g cs;
@@ -128,15 +128,16 @@ module _ (c : Context) (all_complete : (l : ℕ) → HasCompleteFrame c (c.rule 
   -- steps that are good have one of the three
   pub verdict : AreGoodSteps c 0 (steps_of ps) → Verdict
   verdict are_good =
-      by_result (run_steps c [] (steps_of ps) [])
+      verdict_by_result (run_steps c [] (steps_of ps) [])
       (steps_have_outcome c (steps_of ps) [] [] none tt tt are_good)
     where
-      by_result : (r : Result (List Formula) RunFailure) → StepsOutcome c [] [] (steps_of ps) r
+      verdict_by_result : (r : Result (List Formula) RunFailure)
+          → StepsOutcome c [] [] (steps_of ps) r
           → Verdict
-      by_result (Ok out) outcome =
+      verdict_by_result (Ok out) outcome =
           verdict_at_end outcome.2 outcome.3 (subst (λ x. Expands c [] [] (steps_of ps) x) (sym
           outcome.4) outcome.1)
-      by_result (Err e) outcome =
+      verdict_by_result (Err e) outcome =
           let split = placed_split outcome.before outcome.after outcome.failing ps outcome.splits in
           step_fault (fault split.place (code_of e.reason))
           (record {

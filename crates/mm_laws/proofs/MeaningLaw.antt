@@ -190,25 +190,25 @@ module _ (db : List Statement) (k : ℕ) where
         no_empty_proof : reading_faults db k end [] ≡ [] → SaysDerivation []
         no_empty_proof no_faults = absurd (cc)
     read_exactly_if_said end (t ∷ ts) =
-        by_bracket (bytes_eq t.word (codes "(")) refl (compressed_read_if_said end t ts)
+        goal_by_bracket (bytes_eq t.word (codes "(")) refl (compressed_read_if_said end t ts)
         (normal_read_if_said end t ts)
       where
         Goal : Type 0
         Goal = IsReadAndDerived end (t ∷ ts) ↔ SaysDerivation (t ∷ ts)
 
-        by_bracket : (b : Bool)
+        goal_by_bracket : (b : Bool)
             → bytes_eq t.word (codes "(") ≡ b → (t.word ≡ codes "(" → Goal)
             → (t.word ≢ codes "(" → Goal) → Goal
-        by_bracket true is_bracket compressed_case normal_case =
+        goal_by_bracket true is_bracket compressed_case normal_case =
             compressed_case (equal_bytes_equal_words t.word
             (codes "(") is_bracket)
-        by_bracket false not_bracket compressed_case normal_case =
+        goal_by_bracket false not_bracket compressed_case normal_case =
             normal_case (λ is_bracket_word. true≢false (sym ((bytes_eq-Decides t.word (codes "(")).1
             is_bracket_word) ∙ not_bracket))
 
     valid_if_proved_and_back : ValidOnTheMeaning db k
     valid_if_proved_and_back is_theorem_k =
-        let read_iff_said = by_statement (slice_get db k) is_theorem_k in (
+        let read_iff_said = meaning_by_statement (slice_get db k) is_theorem_k in (
           valid_is_proved
               read_iff_said.0,
           proved_is_valid read_iff_said.1,
@@ -229,11 +229,13 @@ module _ (db : List Statement) (k : ℕ) where
         statement_if_any : Option Statement → List Statement
         statement_if_any o = elim o [ None ↦ [] | Some s ↦ s ∷ [] ]
 
-        by_statement : (o : Option Statement) → list_any is_theorem (statement_if_any o) ≡ true
+        meaning_by_statement : (o : Option Statement) → list_any is_theorem (statement_if_any o)
+            ≡ true
             → IsValidProof o ↔ SaysDerivation (words o)
-        by_statement None is_theorem_o = absurd (true≢false (sym is_theorem_o))
-        by_statement (Some (provable l p xs e ps d)) is_theorem_o = read_exactly_if_said d ps
-        by_statement (Some _) is_theorem_o = absurd (true≢false (sym is_theorem_o))
+        meaning_by_statement None is_theorem_o = absurd (true≢false (sym is_theorem_o))
+        meaning_by_statement (Some (provable l p xs e ps d)) is_theorem_o = read_exactly_if_said d
+            ps
+        meaning_by_statement (Some _) is_theorem_o = absurd (true≢false (sym is_theorem_o))
 
         valid_is_proved : (IsValidProof (slice_get db k) → SaysDerivation (words (slice_get db k)))
             → IsValid db k

@@ -148,12 +148,13 @@ module _ (c : Context) (all_complete : (l : ℕ) → HasCompleteFrame c (c.rule 
       → StepFault c ps g
       → f ≡ g
   step_fault_is_unique ps f g faults_f faults_g =
-      by_split (splits_of faults_f.before faults_g.before faults_f.after faults_g.after
+      equal_by_split (splits_of faults_f.before faults_g.before faults_f.after faults_g.after
       faults_f.failing faults_g.failing
       (sym faults_f.splits ∙ faults_g.splits))
     where
-      by_split : Splits faults_f.before faults_f.failing faults_g.before faults_g.failing → f ≡ g
-      by_split (inl splits_equal) =
+      equal_by_split : Splits faults_f.before faults_f.failing faults_g.before faults_g.failing
+          → f ≡ g
+      equal_by_split (inl splits_equal) =
           let expansion = subst (λ x. ExpandTo c (map (λ p. p.step) x) (postfix faults_f.forest))
           splits_equal.0 faults_f.expansion in
           let forests_equal : faults_f.forest ≡ faults_g.forest =
@@ -171,10 +172,10 @@ module _ (c : Context) (all_complete : (l : ℕ) → HasCompleteFrame c (c.rule 
           (reason_is_unique faults_g.failing.step (formulas faults_g.forest) faults_f.reason
           faults_g.reason fails_by_reason faults_g.fails)
           ∙ sym faults_g.fault_is
-      by_split (inr (inl is_longer)) =
+      equal_by_split (inr (inl is_longer)) =
           absurd (no_later_fault ps f faults_f faults_g.forest faults_g.before is_longer.0
           faults_g.derivations faults_g.expansion is_longer.1)
-      by_split (inr (inr is_longer)) =
+      equal_by_split (inr (inr is_longer)) =
           absurd (no_later_fault ps g faults_g faults_f.forest faults_f.before is_longer.0
           faults_f.derivations faults_f.expansion is_longer.1)
 
@@ -212,35 +213,36 @@ module _ (db : List Statement) (all_complete : AreComplete db) where
       (reading_faults_at db k) f faults_g.0 faults_f)
   proof_fault_is_unique k end f g (inr faults_f) (inl faults_g) = absurd (nil_has_no_least
       (reading_faults_at db k) g faults_f.0 faults_g)
-  proof_fault_is_unique k end f g (inr faults_f) (inr faults_g) = by_kinds faults_f.1 faults_g.1
+  proof_fault_is_unique k end f g (inr faults_f) (inr faults_g) = equal_by_kinds faults_f.1
+      faults_g.1
     where
-      by_kinds : StepFault (context_at db k) (steps_at db k) f
+      equal_by_kinds : StepFault (context_at db k) (steps_at db k) f
           ⊎ proof.ProofEndFault (context_at db k) (steps_at db k) (formula_at db k) end f
           → StepFault (context_at db k) (steps_at db k) g
           ⊎ proof.ProofEndFault (context_at db k) (steps_at db k) (formula_at db k) end g → f ≡ g
-      by_kinds (inl of_f) (inl of_g) =
+      equal_by_kinds (inl of_f) (inl of_g) =
           step_fault_is_unique (context_at db k) (all_complete k) (steps_at db k) f g of_f of_g
-      by_kinds (inl of_f) (inr of_g) =
+      equal_by_kinds (inl of_f) (inr of_g) =
           absurd (no_both_faults (context_at db k) (all_complete k) (steps_at db k)
           (formula_at db k) end f g of_f of_g)
-      by_kinds (inr of_f) (inl of_g) =
+      equal_by_kinds (inr of_f) (inl of_g) =
           absurd (no_both_faults (context_at db k) (all_complete k) (steps_at db k)
           (formula_at db k) end g f of_g of_f)
-      by_kinds (inr of_f) (inr of_g) =
+      equal_by_kinds (inr of_f) (inr of_g) =
           end_fault_is_unique (context_at db k) (all_complete k) (steps_at db k)
           (formula_at db k) end f g of_f of_g
 
   pub valid_has_no_fault : (k end : ℕ) (f : Fault) → IsValid db k → ProofFault db k end f → ⊥
   valid_has_no_fault k end f is_valid (inl has_fault) = nil_has_no_least (reading_faults_at db k) f
       is_valid.0 has_fault
-  valid_has_no_fault k end f is_valid (inr has_fault) = by_kind has_fault.1
+  valid_has_no_fault k end f is_valid (inr has_fault) = no_fault_by_kind has_fault.1
     where
-      by_kind : StepFault (context_at db k) (steps_at db k) f
+      no_fault_by_kind : StepFault (context_at db k) (steps_at db k) f
           ⊎ proof.ProofEndFault (context_at db k) (steps_at db k) (formula_at db k) end f → ⊥
-      by_kind (inl of_step) =
+      no_fault_by_kind (inl of_step) =
           no_step_fault (context_at db k) (all_complete k) (steps_at db k)
           (formula_at db k) end is_valid.1 is_valid.2 f of_step
-      by_kind (inr of_end) =
+      no_fault_by_kind (inr of_end) =
           no_end_fault (context_at db k) (all_complete k) (steps_at db k)
           (formula_at db k) end is_valid.1 is_valid.2 f of_end
 
@@ -253,16 +255,18 @@ module _ (db : List Statement) (all_complete : AreComplete db) where
   first_proof_fault_is_unique : (j k : ℕ) (f g : Fault) → FirstProofFault db j f
       → FirstProofFault db k g
       → f ≡ g
-  first_proof_fault_is_unique j k f g is_first_f is_first_g = by_order (cases_order j k)
+  first_proof_fault_is_unique j k f g is_first_f is_first_g = equal_by_order (cases_order j k)
     where
-      by_order : (j ≡ k) ⊎ ((j < k) ⊎ (k < j)) → f ≡ g
-      by_order (inl j_is_k) =
+      equal_by_order : (j ≡ k) ⊎ ((j < k) ⊎ (k < j)) → f ≡ g
+      equal_by_order (inl j_is_k) =
           proof_fault_is_unique k (proof_end (slice_get db k)) f g
           (subst (λ n. ProofFault db n (proof_end (slice_get db n)) f) j_is_k is_first_f.2)
           is_first_g.2
-      by_order (inr (inl j_lt_k)) = absurd (no_first_fault_is_earlier j k f g j_lt_k is_first_f
+      equal_by_order (inr (inl j_lt_k)) = absurd
+          (no_first_fault_is_earlier j k f g j_lt_k is_first_f
           is_first_g)
-      by_order (inr (inr k_lt_j)) = absurd (no_first_fault_is_earlier k j g f k_lt_j is_first_g
+      equal_by_order (inr (inr k_lt_j)) = absurd
+          (no_first_fault_is_earlier k j g f k_lt_j is_first_g
           is_first_f)
 
 -- ---- rows of marks
@@ -315,7 +319,8 @@ front_begins tokens_before zs x begins = (
 
 shape_fault_is_unique : (ts : List Token) (f g : Fault) → ShapeFault ts f → ShapeFault ts g → f ≡ g
 shape_fault_is_unique ts f g faults_f faults_g =
-    by_split (splits_of faults_f.before faults_g.before faults_f.after faults_g.after faults_f.first
+    equal_by_split
+    (splits_of faults_f.before faults_g.before faults_f.after faults_g.after faults_f.first
     faults_g.first (sym faults_f.splits ∙ faults_g.splits))
   where
     HasShapeCode : List Token → Token → Fault → Type 0
@@ -337,16 +342,16 @@ shape_fault_is_unique ts f g faults_f faults_g =
     faults_equal tokens_before first_token (inr code_of_f) (inr code_of_g) = code_of_f.1
         ∙ sym code_of_g.1
 
-    by_split : Splits faults_f.before faults_f.first faults_g.before faults_g.first → f ≡ g
-    by_split (inl splits_equal) =
+    equal_by_split : Splits faults_f.before faults_f.first faults_g.before faults_g.first → f ≡ g
+    equal_by_split (inl splits_equal) =
         faults_equal faults_g.before faults_g.first
         (subst (λ x. HasShapeCode faults_g.before x f) splits_equal.1
         (subst (λ b. HasShapeCode b faults_f.first f) splits_equal.0 faults_f.fault_is))
         faults_g.fault_is
-    by_split (inr (inl is_longer)) =
+    equal_by_split (inr (inl is_longer)) =
         absurd (faults_f.no_more (front_begins faults_f.before is_longer.0 faults_f.first (subst
         BeginStatements is_longer.1 faults_g.begins)))
-    by_split (inr (inr is_longer)) =
+    equal_by_split (inr (inr is_longer)) =
         absurd (faults_g.no_more (front_begins faults_g.before is_longer.0 faults_g.first (subst
         BeginStatements is_longer.1 faults_f.begins)))
 
@@ -358,7 +363,8 @@ longest_statements_equal ts a b is_longest_a is_longest_b =
 
 file_end_fault_is_unique : (len : ℕ) (ts : List Token) (f g : Fault) → FileEndFault len ts f
     → FileEndFault len ts g → f ≡ g
-file_end_fault_is_unique len ts f g faults_f faults_g = by_kinds faults_f.fault_is faults_g.fault_is
+file_end_fault_is_unique len ts f g faults_f faults_g = equal_by_kinds faults_f.fault_is
+    faults_g.fault_is
   where
     rests_equal : faults_f.are_statements.rest ≡ faults_g.are_statements.rest
     rests_equal =
@@ -371,7 +377,7 @@ file_end_fault_is_unique len ts f g faults_f faults_g = by_kinds faults_f.fault_
         faults_f.are_statements.splits)
         ∙ faults_g.are_statements.splits)
 
-    by_kinds : ((faults_f.are_statements.rest ≢ []) × (f ≡ fault len OpenStatement))
+    equal_by_kinds : ((faults_f.are_statements.rest ≢ []) × (f ≡ fault len OpenStatement))
         ⊎ ((faults_f.are_statements.rest ≡ [])
         × (count_by is_closing faults_f.statements < count_by is_opening faults_f.statements)
         × (f ≡ fault len OpenBlock))
@@ -380,10 +386,12 @@ file_end_fault_is_unique len ts f g faults_f faults_g = by_kinds faults_f.fault_
         × (count_by is_closing faults_g.statements < count_by is_opening faults_g.statements)
         × (g ≡ fault len OpenBlock))
         → f ≡ g
-    by_kinds (inl code_of_f) (inl code_of_g) = code_of_f.1 ∙ sym code_of_g.1
-    by_kinds (inl code_of_f) (inr code_of_g) = absurd (code_of_f.0 (rests_equal ∙ code_of_g.0))
-    by_kinds (inr code_of_f) (inl code_of_g) = absurd (code_of_g.0 (sym rests_equal ∙ code_of_f.0))
-    by_kinds (inr code_of_f) (inr code_of_g) = code_of_f.2 ∙ sym code_of_g.2
+    equal_by_kinds (inl code_of_f) (inl code_of_g) = code_of_f.1 ∙ sym code_of_g.1
+    equal_by_kinds (inl code_of_f) (inr code_of_g) = absurd
+        (code_of_f.0 (rests_equal ∙ code_of_g.0))
+    equal_by_kinds (inr code_of_f) (inl code_of_g) = absurd
+        (code_of_g.0 (sym rests_equal ∙ code_of_f.0))
+    equal_by_kinds (inr code_of_f) (inr code_of_g) = code_of_f.2 ∙ sym code_of_g.2
 
 text_fault_is_unique : (len : ℕ) (ts : List Token) (o : Option Fault) (f g : Fault)
     → TextFault len (record { tokens = ts; fault = o }) f
@@ -462,13 +470,13 @@ no_reading_is_shorter len x a b f g reads_a reads_b s zs rest_is a_lt_b =
 reading_is_unique : (len : ℕ) (x : LexedText) (a b : List Statement) (f g : Option Fault)
     → IsRead len x a f → IsRead len x b g → (a ≡ b) × (f ≡ g)
 reading_is_unique len x a b f g reads_a reads_b =
-    by_front (fronts_of a b reads_a.rest reads_b.rest
+    equal_by_fronts (fronts_of a b reads_a.rest reads_b.rest
     (sym reads_a.splits ∙ longest_statements_equal x.tokens reads_a.statements reads_b.statements
     reads_a.are_statements
     reads_b.are_statements ∙ reads_b.splits))
   where
-    by_front : Fronts a reads_a.rest b reads_b.rest → (a ≡ b) × (f ≡ g)
-    by_front (inl fronts_equal) = (
+    equal_by_fronts : Fronts a reads_a.rest b reads_b.rest → (a ≡ b) × (f ≡ g)
+    equal_by_fronts (inl fronts_equal) = (
       fronts_equal.0,
       stopping_fault_is_unique len x reads_b.statements b reads_b.rest f g
           (subst (λ r. StopsReading len x r b reads_b.rest f)
@@ -479,9 +487,11 @@ reading_is_unique len x a b f g reads_a reads_b =
           reads_a.stops)))
           reads_b.stops,
     )
-    by_front (inr (inl is_shorter)) = absurd (no_reading_is_shorter len x a b f g reads_a reads_b
+    equal_by_fronts (inr (inl is_shorter)) = absurd
+        (no_reading_is_shorter len x a b f g reads_a reads_b
         is_shorter.0 is_shorter.1 is_shorter.2 is_shorter.3)
-    by_front (inr (inr is_shorter)) = absurd (no_reading_is_shorter len x b a g f reads_b reads_a
+    equal_by_fronts (inr (inr is_shorter)) = absurd
+        (no_reading_is_shorter len x b a g f reads_b reads_a
         is_shorter.0 is_shorter.1 is_shorter.2 is_shorter.3)
 
 -- ---- the output
@@ -520,19 +530,22 @@ module _ (len : ℕ) (x : LexedText) (with_open : Bool) where
   first_fault_is_unique f g faults_f faults_g =
       let readings_equal = reading_is_unique len x faults_f.0 faults_g.0 faults_f.1 faults_g.1
       faults_f.2 faults_g.2 in
-      by_causes
+      equal_by_causes
       (subst (λ d. IsCauseOf d faults_g.1 f) readings_equal.0 (subst (λ o. IsCauseOf faults_f.0 o f)
       readings_equal.1 faults_f.3)) faults_g.3
     where
-      by_causes : IsCauseOf faults_g.0 faults_g.1 f → IsCauseOf faults_g.0 faults_g.1 g → f ≡ g
-      by_causes (inl causes_f) (inl causes_g) =
+      equal_by_causes : IsCauseOf faults_g.0 faults_g.1 f → IsCauseOf faults_g.0 faults_g.1 g
+          → f ≡ g
+      equal_by_causes (inl causes_f) (inl causes_g) =
           first_proof_fault_is_unique (counted with_open faults_g.0) (are_complete faults_g.0
           faults_g.1 faults_g.2) causes_f.0 causes_g.0 f g causes_f.1 causes_g.1
-      by_causes (inl causes_f) (inr causes_g) = absurd (fault_or_all_valid faults_g.0 faults_g.1
+      equal_by_causes (inl causes_f) (inr causes_g) = absurd
+          (fault_or_all_valid faults_g.0 faults_g.1
           faults_g.2 causes_f.0 f causes_f.1 causes_g.0)
-      by_causes (inr causes_f) (inl causes_g) = absurd (fault_or_all_valid faults_g.0 faults_g.1
+      equal_by_causes (inr causes_f) (inl causes_g) = absurd
+          (fault_or_all_valid faults_g.0 faults_g.1
           faults_g.2 causes_g.0 g causes_g.1 causes_f.0)
-      by_causes (inr causes_f) (inr causes_g) = let options_equal : Some f
+      equal_by_causes (inr causes_f) (inr causes_g) = let options_equal : Some f
           ≡ Some g = sym causes_f.1 ∙ causes_g.1 in cc
 
   fault_or_none : (f : Fault) (db : List Statement) → FirstFault len x with_open f
@@ -541,13 +554,15 @@ module _ (len : ℕ) (x : LexedText) (with_open : Bool) where
   fault_or_none f db has_fault has_none =
       let readings_equal = reading_is_unique len x has_fault.0 db has_fault.1 None has_fault.2
       has_none.0 in
-      by_cause (subst (λ d. IsCauseOf d None f) readings_equal.0 (subst (λ o. IsCauseOf has_fault.0
+      no_fault_by_cause
+      (subst (λ d. IsCauseOf d None f) readings_equal.0 (subst (λ o. IsCauseOf has_fault.0
       o f) readings_equal.1 has_fault.3))
     where
-      by_cause : IsCauseOf db None f → ⊥
-      by_cause (inl is_cause) = fault_or_all_valid db None has_none.0 is_cause.0 f is_cause.1
+      no_fault_by_cause : IsCauseOf db None f → ⊥
+      no_fault_by_cause (inl is_cause) = fault_or_all_valid db None has_none.0 is_cause.0 f
+          is_cause.1
           has_none.1
-      by_cause (inr is_cause) = let none_is_some : None ≡ Some f = is_cause.1 in cc
+      no_fault_by_cause (inr is_cause) = let none_is_some : None ≡ Some f = is_cause.1 in cc
 
 -- ---- rows of citations
 

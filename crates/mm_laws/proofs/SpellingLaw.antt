@@ -232,18 +232,18 @@ pub bracketed_splits : (labels : List Token) (closing : Token) (letters : List T
 bracketed_splits [] closing letters is_closing no_label_closes =
     ap (bracketed_by closing letters) ((bytes_eq-Decides closing.word (codes ")")).1 is_closing)
 bracketed_splits (t ∷ labels) closing letters is_closing no_label_closes =
-    by_bracket (bytes_eq t.word (codes ")")) refl (bracketed_splits labels closing letters
+    read_by_bracket (bytes_eq t.word (codes ")")) refl (bracketed_splits labels closing letters
     is_closing no_label_closes.1)
   where
-    by_bracket : (b : Bool) → bytes_eq t.word (codes ")") ≡ b
+    read_by_bracket : (b : Bool) → bytes_eq t.word (codes ")") ≡ b
         → bracketed (labels ++ closing ∷ letters)
         ≡ record { labels = labels; letters = Some letters }
         → bracketed_by t (labels ++ closing ∷ letters) b
         ≡ record { labels = t ∷ labels; letters = Some letters }
-    by_bracket true is_bracket rest_splits = absurd
+    read_by_bracket true is_bracket rest_splits = absurd
         (no_label_closes.0 (equal_bytes_equal_words t.word (codes ")")
         is_bracket))
-    by_bracket false not_bracket rest_splits = ap (with_label t) rest_splits
+    read_by_bracket false not_bracket rest_splits = ap (with_label t) rest_splits
 
 pub parts_are_unique : PartsAreUnique
 parts_are_unique ts labels letters other_labels other_letters is_compressed is_other_compressed =
@@ -275,14 +275,15 @@ pub bracket_parts_of : (ts letters : List Token) → (bracketed ts).letters ≡ 
     → BracketParts ts letters
 bracket_parts_of [] letters letters_are = absurd (cc)
 bracket_parts_of (t ∷ ts) letters letters_are =
-    by_bracket (bytes_eq t.word (codes ")")) refl letters_are (λ rest_letters_are. bracket_parts_of
+    parts_by_bracket (bytes_eq t.word (codes ")")) refl letters_are
+    (λ rest_letters_are. bracket_parts_of
     ts letters rest_letters_are)
   where
-    by_bracket : (b : Bool) → bytes_eq t.word (codes ")") ≡ b
+    parts_by_bracket : (b : Bool) → bytes_eq t.word (codes ")") ≡ b
         → (bracketed_by t ts b).letters ≡ Some letters
         → ((bracketed ts).letters ≡ Some letters → BracketParts ts letters)
         → BracketParts (t ∷ ts) letters
-    by_bracket true is_bracket letters_are parts_of_rest =
+    parts_by_bracket true is_bracket letters_are parts_of_rest =
         let ts_is_letters : ts ≡ letters = cc in
         record {
           labels = [];
@@ -291,7 +292,7 @@ bracket_parts_of (t ∷ ts) letters letters_are =
           closing_is = equal_bytes_equal_words t.word (codes ")") is_bracket;
           no_label_closes = tt;
         }
-    by_bracket false not_bracket letters_are parts_of_rest =
+    parts_by_bracket false not_bracket letters_are parts_of_rest =
         let parts = parts_of_rest letters_are in
         record {
           labels = t ∷ parts.labels;
@@ -335,7 +336,7 @@ pub groups_are_faultless : (gs : List Group) (label_count marks count : ℕ)
     → AreFaultless label_count marks count gs
 groups_are_faultless [] label_count marks count no_faults = tt
 groups_are_faultless (g ∷ gs) label_count marks count no_faults =
-    by_letter (is_last_letter g.last.byte) refl (g.last.byte == 90) refl no_faults
+    faultless_by_letter (is_last_letter g.last.byte) refl (g.last.byte == 90) refl no_faults
     (λ rest_no_faults. groups_are_faultless gs label_count marks (count + 1) rest_no_faults)
     (λ rest_no_faults. groups_are_faultless gs label_count (marks + 1) count rest_no_faults)
   where
@@ -364,20 +365,21 @@ groups_are_faultless (g ∷ gs) label_count marks count no_faults =
     other_byte_is_fault true is_nil = cc
     other_byte_is_fault false is_nil = cc
 
-    by_letter : (a : Bool) → is_last_letter g.last.byte ≡ a → (b : Bool) → (g.last.byte == 90) ≡ b
+    faultless_by_letter : (a : Bool) → is_last_letter g.last.byte ≡ a → (b : Bool)
+        → (g.last.byte == 90) ≡ b
         → faults_of_group a b ++ faults_of_later_groups b ≡ []
         → (group_faults label_count marks (count + 1) gs ≡ []
         → AreFaultless label_count marks (count + 1) gs)
         → (group_faults label_count (marks + 1) count gs ≡ []
         → AreFaultless label_count (marks + 1) count gs)
         → AreFaultless label_count marks count (g ∷ gs)
-    by_letter true ends_number true is_mark no_faults after_number after_mark =
+    faultless_by_letter true ends_number true is_mark no_faults after_number after_mark =
         let byte_le_84 =
         leb-true g.last.byte 84 (and_parts (nat_le 65 g.last.byte) (nat_le g.last.byte 84)
         ends_number).1 in
         let byte_is_90 = eqb-true g.last.byte 90 is_mark in
         absurd (omega arith)
-    by_letter true ends_number false not_mark no_faults after_number after_mark =
+    faultless_by_letter true ends_number false not_mark no_faults after_number after_mark =
         let not_too_large =
         no_code_if_false (nat_lt (label_count + marks) (value g)) NumberTooLarge
         (no_faults_no_codes (starts_at g) (when
@@ -390,7 +392,7 @@ groups_are_faultless (g ∷ gs) label_count marks count no_faults =
               (both_are_empty (faults_of_group true false)
               (faults_of_later_groups false) no_faults).1,
         )
-    by_letter false not_last_letter true is_mark no_faults after_number after_mark =
+    faultless_by_letter false not_last_letter true is_mark no_faults after_number after_mark =
         let no_faults_of_letter =
         no_faults_no_codes g.last.at
         (when (nat_lt 0 (length g.early)) OpenNumber ++ when (count == 0) MarkBeforeStep)
@@ -413,7 +415,7 @@ groups_are_faultless (g ∷ gs) label_count marks count no_faults =
               (both_are_empty (faults_of_group false true)
               (faults_of_later_groups true) no_faults).1,
         )
-    by_letter false not_last_letter false not_mark no_faults after_number after_mark =
+    faultless_by_letter false not_last_letter false not_mark no_faults after_number after_mark =
         absurd (other_byte_is_fault (g.last.byte == 63)
         (both_are_empty (faults_of_group false false) (faults_of_later_groups false) no_faults).0)
 
@@ -499,7 +501,7 @@ pub groups_spell : (xs early : List Letter) (label_count marks count : ℕ) → 
 groups_spell [] early label_count marks count are_early are_faultless none_left = append-nil
     (bytes_of early) ∙ ap bytes_of none_left
 groups_spell (x ∷ xs) early label_count marks count are_early are_faultless none_left =
-    by_is_early (is_early_letter x.byte) refl are_faultless none_left
+    faultless_by_is_early (is_early_letter x.byte) refl are_faultless none_left
     (λ is_early_byte rest_is_faultless rest_none_left. subst (λ bs. Spells bs (map item_of (groups
     (early ++ x ∷ []) xs).0))
     (bytes_of_push early x (bytes_of xs))
@@ -549,7 +551,7 @@ groups_spell (x ∷ xs) early label_count marks count are_early are_faultless no
         )))
         (later_are_spelled (marks + 1) count group_is_faultless.4 none_left)
 
-    by_is_early : (b : Bool) → is_early_letter x.byte ≡ b
+    faultless_by_is_early : (b : Bool) → is_early_letter x.byte ≡ b
         → AreFaultless label_count marks count (groups_by_early b).0 → (groups_by_early b).1 ≡ []
         → (is_early_letter x.byte ≡ true
         → AreFaultless label_count marks count (groups (early ++ x ∷ []) xs).0
@@ -559,9 +561,11 @@ groups_spell (x ∷ xs) early label_count marks count are_early are_faultless no
         → ((m c : ℕ) → AreFaultless label_count m c (groups [] xs).0 → (groups [] xs).1 ≡ []
         → Spells (bytes_of xs) (map item_of (groups [] xs).0))
         → Spells (bytes_of early ++ x.byte ∷ bytes_of xs) (map item_of (groups_by_early b).0)
-    by_is_early true is_early_byte are_faultless none_left run_is_spelled later_are_spelled =
+    faultless_by_is_early true is_early_byte are_faultless none_left run_is_spelled
+        later_are_spelled =
         run_is_spelled is_early_byte are_faultless none_left
-    by_is_early false not_early_byte are_faultless none_left run_is_spelled later_are_spelled =
+    faultless_by_is_early false not_early_byte are_faultless none_left run_is_spelled
+        later_are_spelled =
         at_last_letter are_faultless none_left later_are_spelled
 
 -- ---- the letters of a proof
@@ -616,7 +620,7 @@ pub record IsFaultlessProof (db : List Statement) (k : ℕ) (ts : List Token) : 
 pub proof_is_faultless : (db : List Statement) (k end : ℕ) (t : Token) (ts : List Token)
     → t.word ≡ codes "(" → reading_faults db k end (t ∷ ts) ≡ [] → IsFaultlessProof db k ts
 proof_is_faultless db k end t ts is_opening no_faults =
-    by_letters (bracketed ts).letters refl
+    faultless_by_letters (bracketed ts).letters refl
     (both_are_empty (flat_map (proof_label_faults db k) (bracketed ts).labels)
     (faults_of_letters (bracketed ts).letters) compressed_faultless).1
   where
@@ -641,10 +645,11 @@ proof_is_faultless db k end t ts is_opening no_faults =
     compressed_faultless =
         ap faults_by_bracket (sym ((bytes_eq-Decides t.word (codes "(")).1 is_opening)) ∙ no_faults
 
-    by_letters : (o : Option (List Token)) → (bracketed ts).letters ≡ o → faults_of_letters o ≡ []
+    faultless_by_letters : (o : Option (List Token)) → (bracketed ts).letters ≡ o
+        → faults_of_letters o ≡ []
         → IsFaultlessProof db k ts
-    by_letters None letters_are no_letter_faults = absurd (cc)
-    by_letters (Some letters) letters_are no_letter_faults =
+    faultless_by_letters None letters_are no_letter_faults = absurd (cc)
+    faultless_by_letters (Some letters) letters_are no_letter_faults =
         record {
           letters = letters;
           letters_are = letters_are;

@@ -59,8 +59,8 @@ faultless_are_meaningful (g ∷ gs) label_count marks count are_faultless =
     (λ rest_is_faultless. faultless_are_meaningful gs label_count (marks + 1) count
     rest_is_faultless)
   where
-    item_by_letter : Bool → Item
-    item_by_letter b = elim b [ true ↦ number (value g) | false ↦ mark ]
+    item_if_number : Bool → Item
+    item_if_number b = elim b [ true ↦ number (value g) | false ↦ mark ]
 
     number_or_mark : AreFaultless label_count marks count (g ∷ gs)
         → (AreFaultless label_count marks (count + 1) gs
@@ -68,12 +68,12 @@ faultless_are_meaningful (g ∷ gs) label_count marks count are_faultless =
         → (AreFaultless label_count (marks + 1) count gs
         → AreMeaningful label_count (marks + 1) count (map item_of gs))
         → AreMeaningful label_count marks count
-        (item_by_letter (is_last_letter g.last.byte) ∷ map item_of gs)
+        (item_if_number (is_last_letter g.last.byte) ∷ map item_of gs)
     number_or_mark (inl group_is_faultless) after_number after_mark =
-        subst (λ b. AreMeaningful label_count marks count (item_by_letter b ∷ map item_of gs))
+        subst (λ b. AreMeaningful label_count marks count (item_if_number b ∷ map item_of gs))
         (sym group_is_faultless.0) (group_is_faultless.1, after_number group_is_faultless.2)
     number_or_mark (inr group_is_faultless) after_number after_mark =
-        subst (λ b. AreMeaningful label_count marks count (item_by_letter b ∷ map item_of gs))
+        subst (λ b. AreMeaningful label_count marks count (item_if_number b ∷ map item_of gs))
         (sym group_is_faultless.0)
         (group_is_faultless.3, after_mark group_is_faultless.4)
 
@@ -188,12 +188,13 @@ digit_is_last b d is_last_digit =
     and_from (nat_le 65 b) (nat_le b 84) (le-leb 65 b (omega arith)) (le-leb b 84 (omega arith))
 
 ending_byte_is_not_early : (b : ℕ) → EndsItem b → is_early_letter b ≡ false
-ending_byte_is_not_early b ends_item = by_is_early (is_early_letter b) refl
+ending_byte_is_not_early b ends_item = not_early_by_test (is_early_letter b) refl
   where
-    by_is_early : (x : Bool) → is_early_letter b ≡ x → is_early_letter b ≡ false
-    by_is_early true is_early_byte = absurd (no_early b (b - 84) ends_item (early_byte_is_digit b
+    not_early_by_test : (x : Bool) → is_early_letter b ≡ x → is_early_letter b ≡ false
+    not_early_by_test true is_early_byte = absurd
+        (no_early b (b - 84) ends_item (early_byte_is_digit b
         is_early_byte))
-    by_is_early false not_early = not_early
+    not_early_by_test false not_early = not_early
 
 letters_are_early : (xs : List Letter) (n : ℕ) → AreEarlyDigits (bytes_of xs) n → AreEarly xs
 letters_are_early [] n are_early_digits = tt
@@ -365,18 +366,18 @@ spelled_are_faultless (mark ∷ items) xs label_count marks count are_spelled ar
 -- ---- groups without faults
 
 less_is_false : (n m : ℕ) → n ≤ m → nat_lt m n ≡ false
-less_is_false n m n_le_m = by_less (nat_lt m n) refl
+less_is_false n m n_le_m = not_less_by_test (nat_lt m n) refl
   where
-    by_less : (b : Bool) → nat_lt m n ≡ b → nat_lt m n ≡ false
-    by_less true m_lt_n = absurd (let m_lt_n_holds = ltb-true m n m_lt_n in omega arith)
-    by_less false not_less = not_less
+    not_less_by_test : (b : Bool) → nat_lt m n ≡ b → nat_lt m n ≡ false
+    not_less_by_test true m_lt_n = absurd (let m_lt_n_holds = ltb-true m n m_lt_n in omega arith)
+    not_less_by_test false not_less = not_less
 
 equal_is_false : (m n : ℕ) → (m ≡ n → ⊥) → (m == n) ≡ false
-equal_is_false m n differ = by_equality (m == n) refl
+equal_is_false m n differ = not_equal_by_test (m == n) refl
   where
-    by_equality : (b : Bool) → (m == n) ≡ b → (m == n) ≡ false
-    by_equality true are_equal = absurd (differ (eqb-true m n are_equal))
-    by_equality false not_equal = not_equal
+    not_equal_by_test : (b : Bool) → (m == n) ≡ b → (m == n) ≡ false
+    not_equal_by_test true are_equal = absurd (differ (eqb-true m n are_equal))
+    not_equal_by_test false not_equal = not_equal
 
 no_faults_of_faultless : (gs : List Group) (label_count marks count : ℕ)
     → AreFaultless label_count marks count gs
@@ -455,27 +456,27 @@ filter_is_not_nil : (passes : ℕ → Bool) (n a j : ℕ) → a ≤ j → j < a 
     → filter passes (range_with_len a n) ≡ [] → ⊥
 filter_is_not_nil passes zero a j a_le_j j_lt_end passes_j is_nil = omega arith
 filter_is_not_nil passes (suc m) a j a_le_j j_lt_end passes_j is_nil =
-    by_test (passes a) refl is_nil (λ a_lt_j rest_is_nil. filter_is_not_nil passes m (a + 1) j
+    is_j_by_test (passes a) refl is_nil (λ a_lt_j rest_is_nil. filter_is_not_nil passes m (a + 1) j
     a_lt_j (omega arith) passes_j rest_is_nil)
     (cases_eq a j)
   where
-    by_test : (b : Bool) → passes a ≡ b
+    is_j_by_test : (b : Bool) → passes a ≡ b
         → ◌≡◌ {A = List ℕ}
         (cond b (a ∷ filter passes (range_with_len (a + 1) m))
         (filter passes (range_with_len (a + 1) m))) []
         → (a + 1 ≤ j → filter passes (range_with_len (a + 1) m) ≡ [] → ⊥) → (a ≡ j) ⊎ (a ≡ j → ⊥)
         → ⊥
-    by_test true passes_a is_nil rest_is_not_nil order = cc
-    by_test false not_a is_nil rest_is_not_nil (inl a_is_j) = true≢false (sym passes_j
+    is_j_by_test true passes_a is_nil rest_is_not_nil order = cc
+    is_j_by_test false not_a is_nil rest_is_not_nil (inl a_is_j) = true≢false (sym passes_j
         ∙ sym (ap passes a_is_j) ∙ not_a)
-    by_test false not_a is_nil rest_is_not_nil (inr a_is_not_j) = rest_is_not_nil (omega arith)
+    is_j_by_test false not_a is_nil rest_is_not_nil (inr a_is_not_j) = rest_is_not_nil (omega arith)
         is_nil
 
 usable_label_has_no_fault : (db : List Statement) (k : ℕ) (t : Token) (j : ℕ)
     → IsUsable db k t.word j
     → proof_label_faults db k t ≡ []
 usable_label_has_no_fault db k t j is_usable =
-    by_usable (usable db k t.word)
+    no_fault_if_usable (usable db k t.word)
     (λ is_nil. filter_is_not_nil
     (λ i. active_at db i k && list_any (is_labelled t.word) (statement_at db i)) k 0 j (omega arith)
     (let j_lt_k = active_lt_place db j k is_usable.statement_is_active in omega arith)
@@ -483,10 +484,10 @@ usable_label_has_no_fault db k t j is_usable =
     (list_any (is_labelled t.word) (statement_at db j)) is_usable.statement_is_active
     is_usable.statement_has_label) is_nil)
   where
-    by_usable : (js : List ℕ) → (js ≡ [] → ⊥)
+    no_fault_if_usable : (js : List ℕ) → (js ≡ [] → ⊥)
         → ◌≡◌ {A = List Fault} (elim js [ [] ↦ fault t.at UnusableLabel ∷ [] | j ∷ js ↦ [] ]) []
-    by_usable [] not_nil = absurd (not_nil refl)
-    by_usable (j ∷ js) not_nil = refl
+    no_fault_if_usable [] not_nil = absurd (not_nil refl)
+    no_fault_if_usable (j ∷ js) not_nil = refl
 
 usable_labels_have_no_fault : (db : List Statement) (k : ℕ) (ts : List Token)
     → AllByRecursion (λ t. (j : ℕ) × IsUsable db k t.word j) ts
@@ -636,17 +637,17 @@ module _ (db : List Statement) (differ : LabelsDiffer db) (k end : ℕ) where
       → AllByRecursion IsPlainWord ts
   read_are_plain_words [] no_faults = tt
   read_are_plain_words (t ∷ ts) no_faults = (
-    by_question_mark (bytes_eq t.word (codes "?")) refl
+    plain_by_question_mark (bytes_eq t.word (codes "?")) refl
         (both_are_empty (faults_of_word t) (flat_map faults_of_word ts) no_faults).0,
     read_are_plain_words ts
         (both_are_empty (faults_of_word t) (flat_map faults_of_word ts) no_faults).1,
   )
     where
-      by_question_mark : (b : Bool) → bytes_eq t.word (codes "?") ≡ b
+      plain_by_question_mark : (b : Bool) → bytes_eq t.word (codes "?") ≡ b
           → own_faults db differ k t b ≡ []
           → IsPlainWord t
-      by_question_mark true is_question_mark no_fault = absurd (cc)
-      by_question_mark false not_question_mark no_fault =
+      plain_by_question_mark true is_question_mark no_fault = absurd (cc)
+      plain_by_question_mark false not_question_mark no_fault =
           let usable_statement = one_statement_is_usable db differ k t no_fault in (
             (λ is_question_word. true≢false (sym ((bytes_eq-Decides t.word (codes "?")).1
                 is_question_word) ∙ not_question_mark)),
@@ -657,30 +658,30 @@ module _ (db : List Statement) (differ : LabelsDiffer db) (k end : ℕ) where
       → flat_map faults_of_word ts ≡ []
   plain_words_are_read [] are_plain_words = refl
   plain_words_are_read (t ∷ ts) are_plain_words =
-      ap₂ (λ xs ys. xs ++ ys) (by_question_mark (bytes_eq t.word (codes "?")) refl)
+      ap₂ (λ xs ys. xs ++ ys) (no_fault_by_question_mark (bytes_eq t.word (codes "?")) refl)
       (plain_words_are_read ts are_plain_words.1)
     where
-      by_question_mark : (b : Bool) → bytes_eq t.word (codes "?") ≡ b
+      no_fault_by_question_mark : (b : Bool) → bytes_eq t.word (codes "?") ≡ b
           → own_faults db differ k t b ≡ []
-      by_question_mark true is_question_mark =
+      no_fault_by_question_mark true is_question_mark =
           absurd (are_plain_words.0.0 (equal_bytes_equal_words t.word (codes
           "?") is_question_mark))
-      by_question_mark false not_question_mark = usable_label_has_no_fault db k t
+      no_fault_by_question_mark false not_question_mark = usable_label_has_no_fault db k t
           are_plain_words.0.1.0 are_plain_words.0.1.1
 
   normal_faults_are : (t : Token) (ts : List Token) → t.word ≢ codes "("
       → reading_faults db k end (t ∷ ts) ≡ flat_map faults_of_word (t ∷ ts)
-  normal_faults_are t ts no_bracket = by_bracket (bytes_eq t.word (codes "(")) refl
+  normal_faults_are t ts no_bracket = equal_by_bracket (bytes_eq t.word (codes "(")) refl
     where
-      by_bracket : (b : Bool) → bytes_eq t.word (codes "(") ≡ b
+      equal_by_bracket : (b : Bool) → bytes_eq t.word (codes "(") ≡ b
           → ◌≡◌ {A = List Fault}
           (elim b [
             | true ↦ compressed_faults db k end (bracketed ts)
             | false ↦ normal_faults db k end (t ∷ ts)
           ]) (flat_map faults_of_word (t ∷ ts))
-      by_bracket true is_bracket = absurd (no_bracket
+      equal_by_bracket true is_bracket = absurd (no_bracket
           (equal_bytes_equal_words t.word (codes "(") is_bracket))
-      by_bracket false not_bracket = refl
+      equal_by_bracket false not_bracket = refl
 
 pub normal_is_exact : WhereRead NormalIsExact
 normal_is_exact len x db fault is_read with_open k end t ts no_bracket =

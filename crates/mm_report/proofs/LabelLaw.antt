@@ -17,9 +17,9 @@ selected_lt_bound p n i d i_lt_length =
         → get_or (filter p (range_with_len a m)) i d < a + m
     selected_lt_end zero a i i_lt_length = absurd (omega arith)
     selected_lt_end (suc m) a i i_lt_length =
-        by_test (p a) (selected_lt_end m (a + 1)) i i_lt_length
+        lt_end_by_test (p a) (selected_lt_end m (a + 1)) i i_lt_length
       where
-        by_test : (b : Bool)
+        lt_end_by_test : (b : Bool)
             → ((i : ℕ) → i < length (filter p (range_with_len (a + 1) m))
             → get_or (filter p (range_with_len (a + 1) m)) i d < a + 1 + m)
             → (i : ℕ)
@@ -30,10 +30,10 @@ selected_lt_bound p n i d i_lt_length =
             (cond b (a ∷ filter p (range_with_len (a + 1) m))
             (filter p (range_with_len (a + 1) m))) i d
             < a + suc m
-        by_test true rest_lt_end zero i_lt_length = omega arith
-        by_test true rest_lt_end (suc i) i_lt_length =
+        lt_end_by_test true rest_lt_end zero i_lt_length = omega arith
+        lt_end_by_test true rest_lt_end (suc i) i_lt_length =
             let later_lt_end = rest_lt_end i (omega arith) in omega (arith, later_lt_end)
-        by_test false rest_lt_end i i_lt_length =
+        lt_end_by_test false rest_lt_end i i_lt_length =
             let later_lt_end = rest_lt_end i i_lt_length in omega (arith, later_lt_end)
 
 -- what is looked up of part of a list, each after a space

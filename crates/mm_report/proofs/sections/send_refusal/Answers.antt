@@ -19,12 +19,12 @@ refusal_regrouped a d e u t =
 
 -- past the end of a list there is nothing more to take
 take_at_most_length : (n : ℕ) (xs : List ℕ) → take (min n (length xs)) xs ≡ take n xs
-take_at_most_length n xs = by_length (cases_lt n (length xs))
+take_at_most_length n xs = taken_by_length (cases_lt n (length xs))
   where
-    by_length : (n < length xs) ⊎ (length xs ≤ n) → take (min n (length xs)) xs ≡ take n xs
-    by_length (inl n_lt_length) =
+    taken_by_length : (n < length xs) ⊎ (length xs ≤ n) → take (min n (length xs)) xs ≡ take n xs
+    taken_by_length (inl n_lt_length) =
         let min_is_n : min n (length xs) ≡ n = omega arith in ap (λ k. take k xs) min_is_n
-    by_length (inr length_le_n) = take_all (min n (length xs)) xs (omega arith)
+    taken_by_length (inr length_le_n) = take_all (min n (length xs)) xs (omega arith)
         ∙ sym (take_all n xs length_le_n)
 
 pub returns : goal.returns
