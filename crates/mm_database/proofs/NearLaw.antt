@@ -45,8 +45,7 @@ near_are_together db j k x y j_is_disjoint active_at_k j_has_x j_has_y =
     (active_of is_disjoint_statement db k) j
     (member_filter (λ i. list_any is_disjoint_statement (statement_at db i)) (active db k) j
     ∙ ap₂ (λ p q. p && q) (is_disjoint_at db j j_is_disjoint)
-    (member_filter (λ i. active_at db i k) (range_with_len 0 k) j
-    ∙ ap₂ (λ p q. p && q) active_at_k
+    (member_filter (λ i. active_at db i k) (range_with_len 0 k) j ∙ ap₂ (λ p q. p && q) active_at_k
     (member_range k 0 j (omega arith) ∙ (let zero_plus_k_is_k : 0 + k ≡ k = omega arith in
     ap (nat_lt j) zero_plus_k_is_k)
     ∙ (and_parts (nat_lt j k) _ active_at_k).0)))

@@ -99,8 +99,7 @@ role_outside word = role_outside_by_tests (is_token word) (opens_comment word) r
     role_outside_by_tests true b is_token_word opens = token is_token_word (rw is_token_word refl)
     role_outside_by_tests false true not_token opens = opening opens (rw (not_token, opens) refl)
     role_outside_by_tests false false not_token no_opening = RoleOutside.neither
-        (rw (not_token, no_opening)
-        refl)
+        (rw (not_token, no_opening) refl)
 
 role_inside : (word : List ℕ) → RoleInside word
 unfolding role_of
@@ -110,11 +109,9 @@ role_inside word = role_inside_by_tests (closes_comment word) (is_comment_word w
         → RoleInside word
     role_inside_by_tests true b closes is_comment = closing closes (rw closes refl)
     role_inside_by_tests false true no_closing is_comment = comment is_comment
-        (rw (no_closing, is_comment)
-        refl)
+        (rw (no_closing, is_comment) refl)
     role_inside_by_tests false false no_closing not_comment = RoleInside.neither
-        (rw (no_closing, not_comment)
-        refl)
+        (rw (no_closing, not_comment) refl)
 
 -- ---- a well-begun row is read as its tokens and its open comment
 

@@ -263,11 +263,9 @@ module _ (db : List Statement) (all_complete : AreComplete db) where
           (subst (λ n. ProofFault db n (proof_end (slice_get db n)) f) j_is_k is_first_f.2)
           is_first_g.2
       equal_by_order (inr (inl j_lt_k)) = absurd
-          (no_first_fault_is_earlier j k f g j_lt_k is_first_f
-          is_first_g)
+          (no_first_fault_is_earlier j k f g j_lt_k is_first_f is_first_g)
       equal_by_order (inr (inr k_lt_j)) = absurd
-          (no_first_fault_is_earlier k j g f k_lt_j is_first_g
-          is_first_f)
+          (no_first_fault_is_earlier k j g f k_lt_j is_first_g is_first_f)
 
 -- ---- rows of marks
 
@@ -540,11 +538,9 @@ module _ (len : ℕ) (x : LexedText) (with_open : Bool) where
           first_proof_fault_is_unique (counted with_open faults_g.0) (are_complete faults_g.0
           faults_g.1 faults_g.2) causes_f.0 causes_g.0 f g causes_f.1 causes_g.1
       equal_by_causes (inl causes_f) (inr causes_g) = absurd
-          (fault_or_all_valid faults_g.0 faults_g.1
-          faults_g.2 causes_f.0 f causes_f.1 causes_g.0)
+          (fault_or_all_valid faults_g.0 faults_g.1 faults_g.2 causes_f.0 f causes_f.1 causes_g.0)
       equal_by_causes (inr causes_f) (inl causes_g) = absurd
-          (fault_or_all_valid faults_g.0 faults_g.1
-          faults_g.2 causes_g.0 g causes_g.1 causes_f.0)
+          (fault_or_all_valid faults_g.0 faults_g.1 faults_g.2 causes_g.0 g causes_g.1 causes_f.0)
       equal_by_causes (inr causes_f) (inr causes_g) = let options_equal : Some f
           ≡ Some g = sym causes_f.1 ∙ causes_g.1 in cc
 

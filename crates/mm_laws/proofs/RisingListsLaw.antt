@@ -147,8 +147,7 @@ list_of P each_is_decided i (suc n) = listed_by_decision (each_is_decided i)
           where
             after_i_by_equality : (b : Bool) → (a == i) ≡ b → suc i ≤ a
             after_i_by_equality true a_is_i = absurd
-                (true≢false (sym (decides_P.1 (subst P (eqb-true a i
-                a_is_i) in_range.2))))
+                (true≢false (sym (decides_P.1 (subst P (eqb-true a i a_is_i) in_range.2))))
             after_i_by_equality false a_is_not_i = let i_le_a = in_range.0 in suc_i_le_a i_le_a
               where
                 suc_i_le_a : i ≤ a → suc i ≤ a
@@ -169,8 +168,7 @@ list_of P each_is_decided i (suc n) = listed_by_decision (each_is_decided i)
         member_is_in_range : (a : ℕ) → is_member (i ∷ later_list.0) a ≡ true
             → (i ≤ a) × (a < i + suc n) × P a
         member_is_in_range a is_member_a = in_range_by_equality
-            (or_cases (a == i) (is_member later_list.0 a)
-            is_member_a)
+            (or_cases (a == i) (is_member later_list.0 a) is_member_a)
           where
             in_range_by_equality : ((a == i) ≡ true) ⊎ (is_member later_list.0 a ≡ true)
                 → (i ≤ a) × (a < i + suc n) × P a

@@ -612,8 +612,7 @@ module _ (db : List Statement) (labels_differ : LabelsDiffer db) where
             absurd (no_bracket (equal_bytes_equal_words t.word (codes "(")
             is_bracket))
         labels_by_bracket false not_bracket no_faults = steps_are_labels (t ∷ ts)
-            (labels_are_faultless (t
-            ∷ ts) no_faults)
+            (labels_are_faultless (t ∷ ts) no_faults)
 
     letters_name_steps : (end : ℕ) (labels letters : List Token) (items : List Item)
         → compressed_faults db k end (record { labels = labels; letters = Some letters }) ≡ []

@@ -276,8 +276,7 @@ pub bracket_parts_of : (ts letters : List Token) → (bracketed ts).letters ≡ 
 bracket_parts_of [] letters letters_are = absurd (cc)
 bracket_parts_of (t ∷ ts) letters letters_are =
     parts_by_bracket (bytes_eq t.word (codes ")")) refl letters_are
-    (λ rest_letters_are. bracket_parts_of
-    ts letters rest_letters_are)
+    (λ rest_letters_are. bracket_parts_of ts letters rest_letters_are)
   where
     parts_by_bracket : (b : Bool) → bytes_eq t.word (codes ")") ≡ b
         → (bracketed_by t ts b).letters ≡ Some letters

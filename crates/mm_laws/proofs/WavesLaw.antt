@@ -101,8 +101,7 @@ module _ (db : List Statement) (by_essential : Bool) (all_complete : AreComplete
           → LongestBelow t n
           → LongestBelow t (suc n)
       longest_by_link (inl is_link) wave longest = longest_with_link is_link wave longest
-          (cases_lt wave.0
-          longest.0)
+          (cases_lt wave.0 longest.0)
       longest_by_link (inr not_linked) wave longest = (
         longest.0,
         longest.1,

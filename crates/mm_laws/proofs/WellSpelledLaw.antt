@@ -192,8 +192,7 @@ ending_byte_is_not_early b ends_item = not_early_by_test (is_early_letter b) ref
   where
     not_early_by_test : (x : Bool) → is_early_letter b ≡ x → is_early_letter b ≡ false
     not_early_by_test true is_early_byte = absurd
-        (no_early b (b - 84) ends_item (early_byte_is_digit b
-        is_early_byte))
+        (no_early b (b - 84) ends_item (early_byte_is_digit b is_early_byte))
     not_early_by_test false not_early = not_early
 
 letters_are_early : (xs : List Letter) (n : ℕ) → AreEarlyDigits (bytes_of xs) n → AreEarly xs

@@ -40,8 +40,7 @@ module _ (db : List Statement) where
       (substitution_is_tail_at_index t hs ps x (omega (arith, lengths_equal)))
     where
       by_binding : (v : Bool) → (v || list_any (binds (variables_context db) x) hs) ≡ true
-          → (IsBound (variables_context db) hs x
-          → substitution_from (context_at db t) hs ps x
+          → (IsBound (variables_context db) hs x → substitution_from (context_at db t) hs ps x
           ≡ tail (get_or ps (floating_index db hs x) []))
           → elim v [ true ↦ tail p | false ↦ substitution_from (context_at db t) hs ps x ]
           ≡ tail (get_or (p ∷ ps) (cond v 0 (suc (floating_index db hs x))) [])

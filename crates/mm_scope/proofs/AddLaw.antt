@@ -152,8 +152,7 @@ module _ (db : List Statement) (db_lt_never : length db < never) (w : Bytes) whe
       → scope_faults n d s ≡ [] → IsEntryOf (db ++ s ∷ []) w (entry_after (length db) s w x)
   entry_after_statement (constants k xs e) d x x_is_entry no_fault =
       entry_after_constants k xs e x x_is_entry
-      (both_are_empty
-      (faults_at k (when (nat_lt 0 d) ConstantInBlock)
+      (both_are_empty (faults_at k (when (nat_lt 0 d) ConstantInBlock)
       ++ faults_at e (when (is_empty xs) EmptyDeclaration))
       (faults_at_each (constant_codes n) [] xs) no_fault).1
   entry_after_statement (variables k xs e) d x x_is_entry no_fault =

@@ -29,8 +29,7 @@ module _ (db : List Statement) (f : Statement → List Bytes) (w : Bytes) where
           → (a b : Bool)
           → active_at db j (length db) ≡ a → has_word db f w j ≡ b → (a && b) ≡ false
       no_other_passes last_is_inactive j j_lt_length true true j_is_active j_has_word =
-          absurd (true≢false (sym j_is_active
-          ∙ ap (λ i. active_at db i (length db))
+          absurd (true≢false (sym j_is_active ∙ ap (λ i. active_at db i (length db))
           (latest.active_is_last j j_lt_length j_has_word j_is_active) ∙ last_is_inactive))
       no_other_passes last_is_inactive j j_lt_length true false j_is_active j_has_word = refl
       no_other_passes last_is_inactive j j_lt_length false b j_is_active j_has_word = refl

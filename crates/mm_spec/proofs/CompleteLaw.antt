@@ -395,8 +395,7 @@ module _ (db : List Statement) (lawful : (k : ℕ) → k < length db → IsLawfu
           (λ j. is_mandatory db k j ≡ true
           → AreBound (context_at db m) frame_hypotheses (formula_at db j))
           (λ j. active_at db j k) (range_with_len 0 k)
-          (each_any
-          (λ j. active_at db j k ≡ true → is_mandatory db k j ≡ true
+          (each_any (λ j. active_at db j k ≡ true → is_mandatory db k j ≡ true
           → AreBound (context_at db m) frame_hypotheses (formula_at db j)) (range_with_len 0 k)
           (λ j j_is_active j_is_mandatory. each_member
           (λ x. is_variable_number db x ≡ true → IsBound (context_at db m) frame_hypotheses x)
