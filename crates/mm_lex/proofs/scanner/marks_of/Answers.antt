@@ -3,10 +3,10 @@ use Rattle.mm_lex.proofs.scanner.marks_of.Goals as goal
 
 pub returns-clause-plain : goal.returns-clause-plain
 returns-clause-plain c =
-    no_stop_is_plain c.args.bytes.now _ _ _ c.classes_of-classes.ensures.white
-    c.classes_of-classes.ensures.bad c.dollars_of-dollars.ensures
+    no_stop_is_plain c.args.bytes.now _ _ _ c.classes_of-classes.ensures.white_is
+    c.classes_of-classes.ensures.bad_is c.dollars_of-dollars.ensures
 
 pub returns-clause-not_white : goal.returns-clause-not_white
 returns-clause-not_white c =
-    no_stop_is_not_white c.args.bytes.now _ _ _ c.classes_of-classes.ensures.white
-    c.classes_of-classes.ensures.bad c.dollars_of-dollars.ensures
+    no_stop_is_not_white c.args.bytes.now _ _ _ c.classes_of-classes.ensures.white_is
+    c.classes_of-classes.ensures.bad_is c.dollars_of-dollars.ensures

@@ -35,7 +35,7 @@ invariant_of-result-clause-begins c =
     let marks = c.marks_of-marks.result in
     let white_is =
     subst (λ (bytes : List ℕ). marks.white ≡ mask is_white (take 64 bytes))
-    (taken_dropped_is_all text c.args.base) c.marks_of-marks.ensures.white in
+    (taken_dropped_is_all text c.args.base) c.marks_of-marks.ensures.white_is in
     one_bit_begins_word text c.args.base marks.white c.starts_of.result c.may_begin.result white_is
     c.may_begin.ensures c.starts_of.ensures.first_bit c.starts_of.ensures.next_bits
 
@@ -45,7 +45,7 @@ invariant_of-result-clause-begins_none c i i_lt_64 place_in_text _ =
     let marks = c.marks_of-marks.result in
     let white_is =
     subst (λ (bytes : List ℕ). marks.white ≡ mask is_white (take 64 bytes))
-    (taken_dropped_is_all text c.args.base) c.marks_of-marks.ensures.white in
+    (taken_dropped_is_all text c.args.base) c.marks_of-marks.ensures.white_is in
     zero_bit_begins_none text c.args.base marks.white c.starts_of.result c.may_begin.result white_is
     c.may_begin.ensures c.starts_of.ensures.first_bit c.starts_of.ensures.next_bits i i_lt_64
     place_in_text
