@@ -12,7 +12,7 @@ use Rattle.mm_spec.specs.Opened.{counted}
 use Rattle.mm_spec.specs.Lawful.{IsLawful}
 use Rattle.mm_spec.specs.Frame.{symbol_names, formula_at, is_variable_number, is_floating}
 use Rattle.mm_spec.specs.Frame.{is_essential, active_of, mandatory_variables, mandatory_hypotheses}
-use Rattle.mm_spec.specs.Frame.{mandatory_pairs, pairs_of}
+use Rattle.mm_spec.specs.Frame.{mandatory_pairs, pairs_below}
 use Rattle.mm_spec.specs.Derivation.{Formula, Pair, is_member}
 use Rattle.mm_spec.specs.Citation.{is_assertion}
 use Rattle.mm_laws.specs.Laws.Read.{WhereRead}
@@ -152,7 +152,7 @@ module _ (db : List Statement) (are_lawful : (k : ℕ) → k < length db → IsL
       in_formula_or_rest (or_cases (in_formula x k) (in_hypotheses x || in_pairs x) is_in_frame_x)
     where
       all_pairs : List Pair
-      all_pairs = pairs_of (length (symbol_names db))
+      all_pairs = pairs_below (length (symbol_names db))
 
       pair_symbol_is_mandatory : (p : Pair) → is_mandatory_pair db k p ≡ true
           → ((x == p.low) ≡ true) ⊎ ((x == p.high) ≡ true) → IsMandatory x

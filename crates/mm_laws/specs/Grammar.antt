@@ -1,4 +1,4 @@
--- Rows of tokens and comments, as a grammar: what a reading of words stands for (Metamath book,
+-- Tokens and comments, as a grammar: what a reading of words stands for (Metamath book,
 -- "Preliminaries" and "Preprocessing").
 use Rattle.std.specs.Prelude.{◌≡◌, ℕ, List, [], ◌∷◌, ◌++◌, Option, Some, None, IsTrue, ⊤, is_some}
 use Rattle.std.specs.List.{flat_map, AllByRecursion}
@@ -10,8 +10,8 @@ use Rattle.mm_spec.specs.declared.Fault.{Fault}
 
 -- a token, or a comment: `$(`, words, `$)`
 pub data Lexeme : Type 0 where
-  Single : Word → Lexeme
-  Comment : Word → List Word → Word → Lexeme
+  Single : (token : Word) → Lexeme
+  Comment : (opening : Word) (words : List Word) (closing : Word) → Lexeme
 
 -- a comment that is open at the end: `$(` and words, or none
 abbrev pub LastComment : Type 0
@@ -45,7 +45,7 @@ abbrev pub tokens_in : Lexeme → List Word
 tokens_in (Single w) = w ∷ []
 tokens_in (Comment o ws c) = []
 
--- The words are a row of tokens and comments, at the end of which a comment may be open. `tokens`
+-- The words are a list of tokens and comments, at the end of which a comment may be open. `tokens`
 -- are the tokens, and `open_comment` is the place where that comment begins, if there is one.
 pub record IsWellBegun (text : List ℕ) (ws : List Word) (tokens : List Word)
     (open_comment : Option ℕ) : Type 0 where

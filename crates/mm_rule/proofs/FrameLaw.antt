@@ -12,7 +12,7 @@ use Rattle.mm_spec.specs.Scope.{active_at, active, statement_at, variables_of}
 use Rattle.mm_spec.specs.Derivation.{Pair, is_member}
 use Rattle.mm_spec.specs.Frame.{symbol_names, is_variable_number, is_essential, is_floating}
 use Rattle.mm_spec.specs.Frame.{formula_at, mandatory_variables, mandatory_hypotheses}
-use Rattle.mm_spec.specs.Frame.{mandatory_pairs, disjoint_at, pairs_of}
+use Rattle.mm_spec.specs.Frame.{mandatory_pairs, disjoint_at, pairs_below}
 use Rattle.mm_spec.proofs.FindsLaw.{active_lt_place, each_filter, each_any, member_filter}
 use Rattle.mm_spec.proofs.BoolLaw.{middle_parts}
 use Rattle.mm_rule.specs.Assertions.{as_pairs}
@@ -99,8 +99,8 @@ pairs_lt_symbol_count db k ps ps_are_mandatory =
 
     mandatory_are_low : AllByRecursion IsLow (mandatory_pairs db k)
     mandatory_are_low =
-        each_filter IsLow in_order (pairs_of (length (symbol_names db)))
-        (each_any (λ p. in_order p ≡ true → IsLow p) (pairs_of (length (symbol_names db)))
+        each_filter IsLow in_order (pairs_below (length (symbol_names db)))
+        (each_any (λ p. in_order p ≡ true → IsLow p) (pairs_below (length (symbol_names db)))
         (λ p p_is_in_order. let members =
         middle_parts (nat_lt p.low p.high) (is_member (mandatory_variables db k) p.low)
         (is_member (mandatory_variables db k) p.high)

@@ -17,7 +17,7 @@ use Rattle.mm_spec.specs.Scope.{statement_at, constants_of, variables_of, typing
 use Rattle.mm_spec.specs.Lawful.{scope_faults, scope_fault, IsLawful}
 use Rattle.mm_spec.specs.Frame.{symbol_names, index_of, formula_of, formula_at, is_variable_number}
 use Rattle.mm_spec.specs.Frame.{is_floating, is_essential, active_of, mandatory_variables}
-use Rattle.mm_spec.specs.Frame.{mandatory_hypotheses, frame_at, pairs_of, disjoint_at}
+use Rattle.mm_spec.specs.Frame.{mandatory_hypotheses, frame_at, pairs_below, disjoint_at}
 use Rattle.mm_spec.specs.Derivation.{Formula, Pair, is_member}
 use Rattle.mm_spec.specs.Citation.{context_at, rule_of}
 use Rattle.mm_spec.specs.Laws.Complete.{binds, IsBound, AreBound, IsComplete, HasCompleteFrame}
@@ -413,12 +413,12 @@ module _ (db : List Statement) (lawful : (k : ℕ) → k < length db → IsLawfu
           each_filter
           (λ p. IsBound (context_at db m) frame_hypotheses p.low
           × IsBound (context_at db m) frame_hypotheses p.high) (is_mandatory_pair db k)
-          (pairs_of (length (symbol_names db)))
+          (pairs_below (length (symbol_names db)))
           (each_any
           (λ p. is_mandatory_pair db k p ≡ true
           → IsBound (context_at db m) frame_hypotheses p.low
           × IsBound (context_at db m) frame_hypotheses p.high)
-          (pairs_of (length (symbol_names db))) bound_pair);
+          (pairs_below (length (symbol_names db))) bound_pair);
     }
       where
         bound_pair : (p : Pair) → is_mandatory_pair db k p ≡ true

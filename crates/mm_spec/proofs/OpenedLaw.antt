@@ -23,7 +23,7 @@ use Rattle.mm_spec.specs.Derivation.{is_member}
 use Rattle.mm_spec.specs.Frame.{symbol_names, formula_at}
 use Rattle.mm_spec.specs.Frame.{is_variable_number, is_floating, is_essential}
 use Rattle.mm_spec.specs.Frame.{is_disjoint_statement, active_of, mandatory_variables}
-use Rattle.mm_spec.specs.Frame.{mandatory_hypotheses, mandatory_pairs, disjoint_at, pairs_of}
+use Rattle.mm_spec.specs.Frame.{mandatory_hypotheses, mandatory_pairs, disjoint_at, pairs_below}
 use Rattle.mm_spec.specs.Frame.{frame_at}
 use Rattle.mm_spec.specs.Citation.{rule_of, rule_at, context_at, is_theorem}
 use Rattle.mm_spec.specs.Laws.Complete.{HasCompleteFrame, AreComplete}
@@ -182,12 +182,12 @@ module _ (db : List Statement) where
   pairs_are_kept = fun_ext (λ k.
       ap₂ (λ (m : ℕ → List ℕ) (j : ℕ → ℕ → ℕ → Bool). filter
       (λ p. nat_lt p.low p.high && is_member (m k) p.low && is_member (m k) p.high
-      && j k p.low p.high) (pairs_of (length (symbol_names as_axioms)))) mandatory_are_kept
+      && j k p.low p.high) (pairs_below (length (symbol_names as_axioms)))) mandatory_are_kept
       disjoint_are_kept
       ∙ ap (λ (ns : List Bytes). filter
       (λ p. nat_lt p.low p.high && is_member (mandatory_variables db k) p.low
       && is_member (mandatory_variables db k) p.high && disjoint_at db k p.low p.high)
-      (pairs_of (length ns))) names_are_kept)
+      (pairs_below (length ns))) names_are_kept)
 
   abbrev frame : List Formula → List Pair → Formula → Frame
   frame hs ps f = record { hypotheses = hs; pairs = ps; formula = f }
