@@ -469,7 +469,8 @@ module _ (db : List Statement) (b : BlockLists) (are_blocks : IsBlocks db b) (k 
         → ((x y : ℕ) → has_pair qs x y ≡ together x y)
         → map (λ p. pair p.0 p.1) qs ≡ mandatory_pairs db k
     pairs_are_mandatory_pairs qs rising has_pair_is_together =
-        sorted_with_same_members_equal (map (λ p. pair p.0 p.1) qs) (filter wanted (pairs_below count))
+        sorted_with_same_members_equal (map (λ p. pair p.0 p.1) qs)
+        (filter wanted (pairs_below count))
         (mapped_are_sorted qs rising)
         (filtered_are_sorted wanted (pairs_below count) (all_pairs_are_sorted count))
         (λ x y. has_mapped_pair qs x y ∙ has_pair_is_together x y

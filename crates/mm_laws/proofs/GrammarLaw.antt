@@ -18,7 +18,8 @@ use Rattle.mm_spec.specs.Readings.{Reading, reading, with_tokens, bytes_of}
 use Rattle.mm_spec.specs.Laws.Readings.{append_reading}
 use Rattle.mm_laws.specs.Grammar.{Lexeme, Single, Comment, LastComment, IsLexeme, IsLastComment}
 use Rattle.mm_laws.specs.Grammar.{AreCommentWords}
-use Rattle.mm_laws.specs.Grammar.{words_in, words_in_last_comment, tokens_in, IsWellBegun, IsFirstFaultyWord}
+use Rattle.mm_laws.specs.Grammar.{words_in, words_in_last_comment, tokens_in, IsWellBegun}
+use Rattle.mm_laws.specs.Grammar.{IsFirstFaultyWord}
 use Rattle.mm_laws.specs.Grammar.{IsReading}
 use Rattle.mm_spec.proofs.ReadingsLaw.{reading_opening, reading_closing, reading_comment}
 use Rattle.mm_spec.proofs.ReadingsLaw.{reading_faulty, reading_end, reading_of_token}

@@ -1,4 +1,4 @@
--- Letters spell one row of items at most, and those of a proof without reading faults spell one.
+-- Letters spell one list of items at most, and those of a proof without reading faults spell one.
 use Rattle.std.proofs.Common.{◌≡◌, ◌≢◌, ℕ, suc, ◌+◌, ◌-◌, ◌*◌, ◌^◌, ◌==◌, ◌<◌, ◌≤◌, Bool, true}
 use Rattle.std.proofs.Common.{false, ◌⊎◌, inl, inr, List, [], ◌∷◌, ◌++◌, map, length, fold}
 use Rattle.std.proofs.Common.{flat_map, Option, Some, None, nat_le, nat_lt, bytes_eq, codes, refl}

@@ -12,7 +12,7 @@ pub fn letters_spell_one_row()
     ensures proofs_are_spelled { ProofsAreSpelled }
 {}
 
-/// Each number from 1 on is spelled by one row of letters: 1 by `A`, 20 by `T`, 21 by `UA`, as in
+/// Each number from 1 on is spelled by one list of letters: 1 by `A`, 20 by `T`, 21 by `UA`, as in
 /// the book.
 pub fn numbers_have_one_spelling()
     ensures one_spelling { NumbersHaveOneSpelling }

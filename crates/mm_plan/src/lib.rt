@@ -75,9 +75,9 @@ impl<A: Allocator> Plan<A> {
     /// The plan without options: the whole report of a text that is cut in this way, whose proofs
     /// this many workers check.
     pub fn without_options(cuts: Cutting<A>, workers: u32) -> Self
-        ensures cuts { result.cuts ≡ cuts }
-        ensures workers { result.workers ≡ workers }
-        ensures request { request_of result ≡ without_options }
+        ensures cuts_are { result.cuts ≡ cuts }
+        ensures workers_are { result.workers ≡ workers }
+        ensures requests_no_option { request_of result ≡ without_options }
     {
         Plan {
             cuts,
