@@ -21,7 +21,7 @@ use Rattle.mm_laws.specs.Laws.BareSteps.{bare_steps}
 use Rattle.mm_laws.specs.Laws.NamedSteps.{StepsAreNamed, StepsAreLabels}
 use Rattle.mm_laws.specs.Laws.WellFormed.{CompressedIsExact, NormalIsExact}
 use Rattle.mm_laws.specs.Laws.Meaning.{SaysCompressed, SaysNormal, Says}
-use Rattle.mm_laws.specs.Laws.Meaning.{IsProved, ValidOnTheMeaning}
+use Rattle.mm_laws.specs.Laws.Meaning.{IsProved, ValidIsProved}
 use Rattle.mm_spec.proofs.FindsLaw.{equal_bytes_equal_words}
 use Rattle.mm_laws.proofs.SpelledStepsLaw.{steps_are_named, steps_are_labels_where_read}
 use Rattle.mm_laws.proofs.UniqueStepsLaw.{named_steps_are_unique}
@@ -206,7 +206,7 @@ module _ (db : List Statement) (k : ℕ) where
             normal_case (λ is_bracket_word. true≢false (sym ((bytes_eq-Decides t.word (codes "(")).1
             is_bracket_word) ∙ not_bracket))
 
-    valid_if_proved_and_back : ValidOnTheMeaning db k
+    valid_if_proved_and_back : ValidIsProved db k
     valid_if_proved_and_back is_theorem_k =
         let read_iff_said = meaning_by_statement (slice_get db k) is_theorem_k in (
           valid_is_proved
@@ -264,8 +264,8 @@ module _ (db : List Statement) (k : ℕ) where
               is_read.1.1,
             )
 
-pub valid_on_the_meaning : WhereRead ValidOnTheMeaning
-valid_on_the_meaning len x db fault is_read with_open k =
+pub valid_is_proved : WhereRead ValidIsProved
+valid_is_proved len x db fault is_read with_open k =
     let are_named = steps_are_named len x db fault is_read with_open k in
     let are_labels = steps_are_labels_where_read len x db fault is_read with_open k in
     valid_if_proved_and_back (counted with_open db) k are_named are_labels (compressed_is_exact len

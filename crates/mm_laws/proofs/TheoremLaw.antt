@@ -12,7 +12,7 @@ use Rattle.mm_spec.specs.Output.{ProofFault}
 use Rattle.mm_laws.specs.Laws.Read.{WhereRead}
 use Rattle.mm_laws.specs.Laws.Derivations.{LabelsDetermine, ProofIsUnique}
 use Rattle.mm_laws.specs.Laws.Faults.{IsValidOrFaulty}
-use Rattle.mm_laws.specs.Laws.Faults.{IsNeverBoth, FaultIsUnique}
+use Rattle.mm_laws.specs.Laws.Faults.{ValidHasNoFault, FaultIsUnique}
 use Rattle.mm_spec.proofs.CheckedLaw.{same_labels_same_forest}
 use Rattle.mm_spec.proofs.CitedLaw.{two_proofs_are_equal}
 use Rattle.mm_spec.proofs.GoodStepsLaw.{faultless_steps_are_good}
@@ -82,8 +82,8 @@ theorem_is_valid_or_faulty len x db fault is_read with_open k is_theorem_k =
     is_valid_or_faulty (counted with_open db) (frames_are_complete len x db fault is_read with_open)
     k _
 
-pub theorem_is_never_both : WhereRead IsNeverBoth
-theorem_is_never_both len x db fault is_read with_open k f =
+pub valid_theorem_has_no_fault : WhereRead ValidHasNoFault
+valid_theorem_has_no_fault len x db fault is_read with_open k f =
     valid_has_no_fault (counted with_open db) (frames_are_complete len x db fault is_read with_open)
     k _ f
 

@@ -12,5 +12,5 @@ ghost use Rattle.mm_laws.specs.Laws.Frames.{VariablesAreMandatory};
 pub fn lawful_statements_have_complete_frames()
     ensures frames_are_complete { WhereRead FramesAreComplete }
     ensures variables_are_typed { WhereRead VariablesAreTyped }
-    ensures mandatory { WhereRead VariablesAreMandatory }
+    ensures variables_are_mandatory { WhereRead VariablesAreMandatory }
 {}

@@ -45,5 +45,5 @@ pub record IsProved (db : List Statement) (k : ℕ) : Type 0 where
   pub derives_formula : Derives (context_at db k) steps (formula_at db k) derivation
 
 -- a theorem is valid exactly if it is proved in this sense
-abbrev pub ValidOnTheMeaning : List Statement → ℕ → Type 0
-ValidOnTheMeaning db k = IsTrue (is_theorem_at db k) → IsValid db k ↔ IsProved db k
+abbrev pub ValidIsProved : List Statement → ℕ → Type 0
+ValidIsProved db k = IsTrue (is_theorem_at db k) → IsValid db k ↔ IsProved db k

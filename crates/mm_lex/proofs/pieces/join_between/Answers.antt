@@ -5,7 +5,6 @@ use Rattle.mm_lex.specs.Between.{side}
 use Rattle.mm_lex.specs.Stretches.{joined_word}
 use Rattle.mm_lex.proofs.PiecesLaw.{readings_of_three_lists, append_reading_nil}
 use Rattle.mm_lex.proofs.pieces.join_between.Goals as goal
-use Rattle.mm_lex.proofs.pieces.join_between.Goals.{}
 use Rattle.mm_lex.proofs.pieces.join_between.Goals.{then-before-after+in_ok-read_word+in_ok-read_word-2}
 use Rattle.mm_lex.proofs.pieces.join_between.Goals.{else-before-after}
 

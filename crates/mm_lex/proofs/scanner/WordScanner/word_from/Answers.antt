@@ -8,7 +8,6 @@ use Rattle.mm_lex.proofs.BlockLaw.{plain_bytes_are_plain_word, holds_up_to_next_
 use Rattle.mm_lex.proofs.BlockLaw.{one_bit_is_white}
 use Rattle.mm_lex.proofs.BlockLaw.{zero_bit_is_not_white}
 use Rattle.mm_lex.proofs.scanner.WordScanner.word_from.Goals as goal
-use Rattle.mm_lex.proofs.scanner.WordScanner.word_from.Goals.{}
 use Rattle.mm_lex.proofs.scanner.WordScanner.word_from.Goals.{then-loop-stop-test+else-len-scanner-gt64}
 use Rattle.mm_lex.proofs.scanner.WordScanner.word_from.Goals.{else-loop-stop-test}
 
