@@ -264,8 +264,8 @@ module _ (db : List Statement) (k : ℕ) where
               is_read.1.1,
             )
 
-pub valid_is_proved : WhereRead ValidIsProved
-valid_is_proved len x db fault is_read with_open k =
+pub valid_iff_proved : WhereRead ValidIsProved
+valid_iff_proved len x db fault is_read with_open k =
     let are_named = steps_are_named len x db fault is_read with_open k in
     let are_labels = steps_are_labels_where_read len x db fault is_read with_open k in
     valid_if_proved_and_back (counted with_open db) k are_named are_labels (compressed_is_exact len
