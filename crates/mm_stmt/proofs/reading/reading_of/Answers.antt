@@ -20,7 +20,7 @@ into_reading-requires g c =
     let symbols_are_few = c.requires.few_symbols in
     let flag_count_is = c.in_ok-variable_flags.ensures.count in
     record {
-      ends = is_read_so_far.formulas.are_places;
+      ends = is_read_so_far.formulas.are_bounds;
       parts = record {
         sound = c.requires.sound;
         blocks = is_read_so_far.keeps.blocks;
