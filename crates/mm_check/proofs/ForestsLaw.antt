@@ -69,7 +69,7 @@ module _ (c : Context) where
   abbrev pub IsMove : List Trees → ℕ → Step → Type 0
   IsMove forests n (label l) =
       (ts : Trees) × (f : Formula) × (cs : Trees) × (forest_at forests (suc n) ≡ more ts l f cs)
-      × (forest_at forests n ≡ ts ⧺ cs) × Follows c (c.rule l) (formulas cs) f
+      × (forest_at forests n ≡ ts ⧺ cs) × Follows c (c.referent l) (formulas cs) f
   IsMove forests n (marked j) =
       (j < n) × (l : ℕ) × (f : Formula) × (cs : Trees)
       × (forest_at forests (suc n) ≡ more (forest_at forests n) l f cs)
@@ -198,7 +198,7 @@ module _ (c : Context) where
       let tail_case = list_is_postfix xs ts j list are_lists.1 list_is in let j_lt_length =
       tail_case.0 in (omega (arith, j_lt_length), tail_case.1, tail_case.2)
 
-  module _ (are_complete : (l : ℕ) → HasCompleteFrame c (c.rule l)) where
+  module _ (are_complete : (l : ℕ) → HasCompleteFrame c (c.referent l)) where
     -- one step
     move_label : (forests : List Trees) (n : ℕ) (forest next_forest : Trees) (l : ℕ)
         → AreDerivations c forest

@@ -478,6 +478,5 @@ module _ (db : List Statement) (b : BlockLists) (are_blocks : IsBlocks db b) (k 
         (wanted (pair x y)
         && (is_member (range_with_len 0 count) x && is_member (range_with_len 0 count) y))
         (left_to_right x y) (right_to_left x y)
-        ∙ sym (has_filtered_pair wanted (pairs_below count) x y
-        ∙ ap (λ b. wanted (pair x y) && b)
+        ∙ sym (has_filtered_pair wanted (pairs_below count) x y ∙ ap (λ b. wanted (pair x y) && b)
         (has_pair_in_rows (range_with_len 0 count) (range_with_len 0 count) x y)))

@@ -10,7 +10,7 @@ use Rattle.mm_spec.proofs.StepsLaw.{forest_labels_are_good, StoppedSteps}
 use Rattle.mm_spec.proofs.CheckedLaw.{expansions_are_equal}
 use Rattle.mm_laws.proofs.ExactLaw.{IsPostfixOfForest, stopped_no_forest}
 
-module _ (c : Context) (all_complete : (l : ℕ) → HasCompleteFrame c (c.rule l)) where
+module _ (c : Context) (all_complete : (l : ℕ) → HasCompleteFrame c (c.referent l)) where
   -- the expansion only grows
   adds_at_end : (lists : List (List ℕ)) (labels : List ℕ) (s : Step) (new_labels : List ℕ)
       → Adds c lists labels s new_labels → (added : List ℕ) × (new_labels ≡ labels ++ added)

@@ -60,7 +60,7 @@ placed_split (s ∷ steps_before) steps_after step (p ∷ ps) steps_are =
       front_is = ap₂ (λ x y. x ∷ y) (ap (head_of_steps s) steps_are) split.front_is;
     }
 
-module _ (c : Context) (all_complete : (l : ℕ) → HasCompleteFrame c (c.rule l))
+module _ (c : Context) (all_complete : (l : ℕ) → HasCompleteFrame c (c.referent l))
     (ps : List PlacedStep)
     (formula : Formula) (end : ℕ) where
   -- a derivation of the formula, the fault of a step, or the fault of the end

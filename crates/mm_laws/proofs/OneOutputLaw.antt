@@ -13,7 +13,8 @@ use Rattle.mm_spec.specs.Statement.{Statement, spelling_of, BeginStatements, IsB
 use Rattle.mm_spec.specs.Statement.{AreLongestStatements}
 use Rattle.mm_spec.specs.Statement.{FileEndFault, shape_code, is_closing, is_opening}
 use Rattle.mm_spec.specs.Lawful.{least, scope_fault}
-use Rattle.mm_spec.specs.Derivation.{Formula, Context, Rule, hypothesis, assertion, Trees, formulas}
+use Rattle.mm_spec.specs.Derivation.{Formula, Context, Referent, hypothesis, assertion, Trees}
+use Rattle.mm_spec.specs.Derivation.{formulas}
 use Rattle.mm_spec.specs.Derivation.{postfix, AreDerivations, is_member}
 use Rattle.mm_spec.specs.Steps.{Step, label, marked, PlacedStep}
 use Rattle.mm_spec.specs.Valid as proof
@@ -32,7 +33,7 @@ use Rattle.mm_spec.specs.Output.{is_theorem_at, AllAreValid, FirstProofFault, Fi
 use Rattle.mm_spec.specs.Output.{HasNoFault, theorems, columns, open_theorem_count, label_at}
 use Rattle.mm_spec.specs.Output.{IsRowOf}
 use Rattle.mm_spec.specs.Output.{AreCited, IsCitingRowOf, IsReportOf, IsOutput}
-use Rattle.mm_spec.specs.Laws.Stack.{IsCompleteRule}
+use Rattle.mm_spec.specs.Laws.Stack.{IsCompleteReferent}
 use Rattle.mm_laws.proofs.ExactLaw.{step_stops_if_fails}
 use Rattle.mm_spec.specs.Laws.Complete.{HasCompleteFrame, AreComplete}
 use Rattle.mm_spec.specs.Opened.{counted}
@@ -97,23 +98,24 @@ splits_of (a ∷ xs) (b ∷ ys) us vs x y lists_equal = with_first (splits_of xs
 
 -- ---- faults of steps and of the end
 
-module _ (c : Context) (all_complete : (l : ℕ) → HasCompleteFrame c (c.rule l)) where
-  rule_is_complete : (r : Option Rule) (es : List Formula) (a : Reason) → HasCompleteFrame c r
+module _ (c : Context) (all_complete : (l : ℕ) → HasCompleteFrame c (c.referent l)) where
+  referent_is_complete : (r : Option Referent) (es : List Formula) (a : Reason)
+      → HasCompleteFrame c r
       → Fails c r es a
-      → IsCompleteRule c r
-  rule_is_complete None es a frame_is_complete fails = none_never_fails a fails
+      → IsCompleteReferent c r
+  referent_is_complete None es a frame_is_complete fails = none_never_fails a fails
     where
       none_never_fails : (a : Reason) → Fails c None es a → ⊥
       none_never_fails _ fails = fails
-  rule_is_complete (Some (hypothesis g)) es a frame_is_complete fails = tt
-  rule_is_complete (Some (assertion g)) es a frame_is_complete fails = frame_is_complete
+  referent_is_complete (Some (hypothesis g)) es a frame_is_complete fails = tt
+  referent_is_complete (Some (assertion g)) es a frame_is_complete fails = frame_is_complete
 
   reason_is_unique : (s : Step) (es : List Formula) (a b : Reason) → StepFails c s es a
       → StepFails c s es b → a ≡ b
   reason_is_unique (label l) es a b fails_by_a fails_by_b =
-      let is_complete = rule_is_complete (c.rule l) es a (all_complete l) fails_by_a in
-      let errors_equal : Err a ≡ Err b = sym (step_stops_if_fails c (c.rule l) es a is_complete
-      fails_by_a) ∙ step_stops_if_fails c (c.rule l) es b is_complete fails_by_b in
+      let is_complete = referent_is_complete (c.referent l) es a (all_complete l) fails_by_a in
+      let errors_equal : Err a ≡ Err b = sym (step_stops_if_fails c (c.referent l) es a is_complete
+      fails_by_a) ∙ step_stops_if_fails c (c.referent l) es b is_complete fails_by_b in
       cc
   reason_is_unique (marked j) es a b fails_by_a fails_by_b = absurd fails_by_a
 

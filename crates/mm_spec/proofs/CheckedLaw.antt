@@ -7,7 +7,7 @@ use Rattle.mm_spec.proofs.UniqueLaw.{same_labels_same_derivations}
 use Rattle.mm_spec.proofs.StepsLaw.{forest_labels_are_good}
 use Rattle.mm_spec.specs.Laws.Complete.{HasCompleteFrame}
 
-module _ (c : Context) (all_complete : (l : ℕ) → HasCompleteFrame c (c.rule l)) where
+module _ (c : Context) (all_complete : (l : ℕ) → HasCompleteFrame c (c.referent l)) where
   -- forests with the same labels are one forest
   pub same_labels_same_forest : (r s : Trees) → AreDerivations c r → AreDerivations c s
       → postfix r ≡ postfix s

@@ -19,7 +19,7 @@ use Rattle.mm_spec.specs.Frame.{symbol_names, index_of, formula_of, formula_at, 
 use Rattle.mm_spec.specs.Frame.{is_floating, is_essential, active_of, mandatory_variables}
 use Rattle.mm_spec.specs.Frame.{mandatory_hypotheses, frame_at, pairs_below, disjoint_at}
 use Rattle.mm_spec.specs.Derivation.{Formula, Pair, is_member}
-use Rattle.mm_spec.specs.Citation.{context_at, rule_of}
+use Rattle.mm_spec.specs.Citation.{context_at, referent_of}
 use Rattle.mm_spec.specs.Laws.Complete.{binds, IsBound, AreBound, IsComplete, HasCompleteFrame}
 use Rattle.mm_spec.specs.Laws.Complete.{AreComplete}
 use Rattle.mm_spec.specs.Lexed.{LexedText}
@@ -428,12 +428,12 @@ module _ (db : List Statement) (lawful : (k : ℕ) → k < length db → IsLawfu
             let both_mandatory = pair_is_mandatory k p is_mandatory_p in
             (mandatory_is_bound p.low both_mandatory.0, mandatory_is_bound p.high both_mandatory.1)
 
-  -- each rule that a lawful statement stands for has all variables that it names in its hypotheses
+  -- the frame of each assertion to which a label refers is complete, if the statements are lawful
   pub lawful_complete : AreComplete db
   lawful_complete m k = complete_if_active (active_at db k m)
     where
       complete_statement : (s : Statement) → slice_get db k ≡ Some s
-          → HasCompleteFrame (context_at db m) (rule_of db k s)
+          → HasCompleteFrame (context_at db m) (referent_of db k s)
       complete_statement (axiomatic l p xs d) s_at_k = complete m k (axiomatic l p xs d) s_at_k refl
       complete_statement (provable l p xs q ps d) s_at_k =
           complete m k (provable l p xs q ps d) s_at_k refl
@@ -446,7 +446,8 @@ module _ (db : List Statement) (lawful : (k : ℕ) → k < length db → IsLawfu
       complete_statement (closing p) s_at_k = tt
 
       complete_if_stands : (o : Option Statement) → slice_get db k ≡ o
-          → HasCompleteFrame (context_at db m) (elim o [ None ↦ None | Some s ↦ rule_of db k s ])
+          → HasCompleteFrame (context_at db m)
+          (elim o [ None ↦ None | Some s ↦ referent_of db k s ])
       complete_if_stands None o_at_k = tt
       complete_if_stands (Some s) o_at_k = complete_statement s o_at_k
 
@@ -454,7 +455,7 @@ module _ (db : List Statement) (lawful : (k : ℕ) → k < length db → IsLawfu
           → HasCompleteFrame (context_at db m)
           (elim b [
             | false ↦ None
-            | true ↦ elim (slice_get db k) [ None ↦ None | Some s ↦ rule_of db k s ]
+            | true ↦ elim (slice_get db k) [ None ↦ None | Some s ↦ referent_of db k s ]
           ])
       complete_if_active false = tt
       complete_if_active true = complete_if_stands (slice_get db k) refl

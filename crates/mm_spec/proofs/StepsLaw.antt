@@ -4,14 +4,15 @@ use Rattle.std.proofs.Common.{◌≡◌, ℕ, zero, suc, ◌<◌, List, [], ◌�
 use Rattle.std.proofs.Common.{None, Result, Ok, Err, refl, sym, ap, subst, arith}
 use Rattle.std.proofs.Common.{length-append, slice_get}
 use Rattle.std.specs.List.{AllZip}
-use Rattle.mm_spec.specs.Derivation.{Formula, Rule, hypothesis, assertion, Context, Follows, Trees}
+use Rattle.mm_spec.specs.Derivation.{Formula, Referent, hypothesis, assertion, Context, Follows}
+use Rattle.mm_spec.specs.Derivation.{Trees}
 use Rattle.mm_spec.specs.Derivation.{none, more, formulas, postfix, AreDerivations}
 use Rattle.mm_spec.specs.Steps.{Step, label, marked}
 use Rattle.mm_spec.specs.Valid.{Reason, StepFails, Adds, Expands}
 use Rattle.mm_spec.specs.Laws.Complete.{HasCompleteFrame}
 use Rattle.mm_spec.proofs.MachineLaw.{RunFailure, proceed, AreGood, StepOutcome, step_has_outcome}
 use Rattle.mm_spec.proofs.MachineLaw.{step_grows_forest}
-use Rattle.mm_spec.specs.Laws.Stack.{IsCompleteRule, top, IsLastFormula, EndsInFormula}
+use Rattle.mm_spec.specs.Laws.Stack.{IsCompleteReferent, top, IsLastFormula, EndsInFormula}
 use Rattle.mm_spec.specs.Laws.Stack.{step_entries, IsGoodStep}
 use Rattle.mm_spec.specs.Laws.Stack.{AreGoodSteps}
 
@@ -21,21 +22,21 @@ top_of_appended (g ∷ []) f = refl
 top_of_appended (g ∷ h ∷ fs) f = top_of_appended (h ∷ fs) f
 
 module _ (c : Context) where
-  followed_rule_is_complete : (r : Option Rule) (ps : List Formula) (f : Formula)
+  followed_referent_is_complete : (r : Option Referent) (ps : List Formula) (f : Formula)
       → HasCompleteFrame c r
       → Follows c r ps f
-      → IsCompleteRule c r
-  followed_rule_is_complete None ps f all_complete follows = follows
-  followed_rule_is_complete (Some (hypothesis g)) ps f all_complete follows = tt
-  followed_rule_is_complete (Some (assertion a)) ps f all_complete follows = all_complete
+      → IsCompleteReferent c r
+  followed_referent_is_complete None ps f all_complete follows = follows
+  followed_referent_is_complete (Some (hypothesis g)) ps f all_complete follows = tt
+  followed_referent_is_complete (Some (assertion a)) ps f all_complete follows = all_complete
 
   appended_are_good : (xs ys : List ℕ) → AreGood c xs → AreGood c ys → AreGood c (xs ++ ys)
   appended_are_good [] ys xs_are_good ys_are_good = ys_are_good
   appended_are_good (x ∷ xs) ys xs_are_good ys_are_good =
       (xs_are_good.0, appended_are_good xs ys xs_are_good.1 ys_are_good)
 
-  -- in a forest of derivations each label stands for something
-  pub forest_labels_are_good : ((l : ℕ) → HasCompleteFrame c (c.rule l)) → (forest : Trees)
+  -- in a forest of derivations each label refers to something
+  pub forest_labels_are_good : ((l : ℕ) → HasCompleteFrame c (c.referent l)) → (forest : Trees)
       → AreDerivations c forest
       → AreGood c (postfix forest)
   forest_labels_are_good all_complete none are_derivations = tt
@@ -43,7 +44,7 @@ module _ (c : Context) where
       grind (
         arith,
         common_steps,
-        followed_rule_is_complete,
+        followed_referent_is_complete,
         appended_are_good,
         forest_labels_are_good all_complete ts are_derivations.0,
         forest_labels_are_good all_complete cs are_derivations.1,
@@ -116,7 +117,7 @@ module _ (c : Context) where
 
   label_grows_forest : (lists : List (List ℕ)) (forest : Trees) (l : ℕ)
       (r : Result (List Formula) Reason)
-      → AreDerivations c forest → StepOutcome c (c.rule l) (formulas forest) r
+      → AreDerivations c forest → StepOutcome c (c.referent l) (formulas forest) r
       → GrownForest lists forest (label l) r
   label_grows_forest lists forest l (Err reason) are_derivations outcome = outcome
   label_grows_forest lists forest l (Ok out) are_derivations outcome =

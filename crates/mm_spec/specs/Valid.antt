@@ -3,7 +3,8 @@
 use Rattle.std.specs.Prelude.{◌≡◌, ◌≢◌, ℕ, ◌-◌, ◌<◌, ◌≤◌, List, [], ◌∷◌, ◌++◌, length, drop, Option}
 use Rattle.std.specs.Prelude.{Some, slice_get, map}
 use Rattle.mm_spec.specs.Text.{Fault, fault}
-use Rattle.mm_spec.specs.Derivation.{Context, Rule, hypothesis, assertion, Trees, tree, none, more}
+use Rattle.mm_spec.specs.Derivation.{Context, Referent, hypothesis, assertion, Trees, tree, none}
+use Rattle.mm_spec.specs.Derivation.{more}
 use Rattle.mm_spec.specs.Derivation.{Formula, Substitution, Matches, KeepsDisjoint, substitute}
 use Rattle.mm_spec.specs.Derivation.{AreDerivations, postfix, formulas}
 use Rattle.mm_spec.specs.Limits.{formula_limit}
@@ -70,7 +71,7 @@ IsEndCode _ formula code = code ≡ NotOneEntry
 
 module _ (c : Context) where
   -- the step of a label fails after a forest with these formulas, by the first reason that holds
-  abbrev pub Fails : Option Rule → List Formula → Reason → Type 0
+  abbrev pub Fails : Option Referent → List Formula → Reason → Type 0
   Fails (Some (hypothesis g)) entries too_long = formula_limit < length g
   Fails (Some (assertion a)) entries too_few = length entries < length a.hypotheses
   Fails (Some (assertion a)) entries unmatched =
@@ -87,7 +88,7 @@ module _ (c : Context) where
 
   -- the step fails by the reason; a marked step never does
   abbrev pub StepFails : Step → List Formula → Reason → Type 0
-  StepFails (label l) entries reason = Fails (c.rule l) entries reason
+  StepFails (label l) entries reason = Fails (c.referent l) entries reason
   StepFails (marked j) entries reason = ⊥
 
   -- The fault of a step: the steps before it expand to the postfix list of a forest of derivations,

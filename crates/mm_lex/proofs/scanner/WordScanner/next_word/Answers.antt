@@ -136,8 +136,7 @@ returns-clause-is_next_word c =
     let start_is = sym (found_word_from context).start_is in
     words_begin_with_found text _ c.args.self.now.from c.word_from.result.0.from c.args.to
     (found_word_from context).is_word
-    (subst (IsFirst text c.args.self.now.from c.args.to) start_is
-    c.in_ok-start.ensures.is_first)
+    (subst (IsFirst text c.args.self.now.from c.args.to) start_is c.in_ok-start.ensures.is_first)
     (subst (λ (s : ℕ). IsPassed text s c.word_from.result.0.from) start_is
     (none_passed_to_from context))
 
