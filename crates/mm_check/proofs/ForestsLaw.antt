@@ -223,7 +223,7 @@ module _ (c : Context) where
           next_is ∙ ap (λ x. more ts x f cs) postfixes_equal.1,
           forest_is
               ∙ forest_splits,
-          subst (λ x. Follows c (c.rule x) (formulas cs) f) postfixes_equal.1 next_derives.2,
+          subst (λ x. Follows c (c.referent x) (formulas cs) f) postfixes_equal.1 next_derives.2,
         )
 
     move_marked : (lists : List (List ℕ)) (forests later : List Trees) (forest next_forest : Trees)

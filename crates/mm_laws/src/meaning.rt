@@ -10,7 +10,7 @@ pub fn well_formed_proofs_are_read()
     ensures normal_is_exact { WhereRead NormalIsExact }
 {}
 
-/// A theorem is valid if the words of its proof are well formed and say steps that stand for a
+/// A theorem is valid if the words of its proof are well formed and say steps that expand to a
 /// derivation of its formula, and otherwise not. What the words say is stated in terms of what
 /// letters spell and labels name: the law names no reading from left to right.
 pub fn valid_theorems_are_those_proved()
