@@ -83,11 +83,11 @@ returns-then-eq-clause-labels g c =
       labels_are_faultless = c.loop-n.invariant.labels_are_faultless;
     }
 
-pub bytes-label-requires-clause-order : goal.bytes-label-requires-clause-order
-bytes-label-requires-clause-order g c = (c.requires.within c.loop-n.n _ c.loop-n-test.true).0
+pub bytes-label-requires-clause-start_le_end : goal.bytes-label-requires-clause-start_le_end
+bytes-label-requires-clause-start_le_end g c = (c.requires.within c.loop-n.n _ c.loop-n-test.true).0
 
-pub bytes-label-requires-clause-within : goal.bytes-label-requires-clause-within
-bytes-label-requires-clause-within g c =
+pub bytes-label-requires-clause-end_le_length : goal.bytes-label-requires-clause-end_le_length
+bytes-label-requires-clause-end_le_length g c =
     let no_word : Word = record { start = 0; end = 0 } in
     let end_le_length = (c.requires.within c.loop-n.n no_word c.loop-n-test.true).1 in
     let lengths_equal = ap length c.text-text.ensures in

@@ -50,5 +50,5 @@ returns g c =
     (sent_both c.send.ensures (sent_equal_text _ line_is c.send_number.ensures))
     c.send_byte.ensures)
     (sent_equal_text _ column_is c.send_number-2.ensures)) c.send-2.ensures)
-    (sent_equal_text _ (ap two_digits c.number.ensures.number) c.send_two_digits.ensures))
+    (sent_equal_text _ (ap two_digits c.number.ensures.is_code_number) c.send_two_digits.ensures))
     c.send_byte-2.ensures)
