@@ -46,10 +46,10 @@ spaced_of_mapped f ks from to =
     (sym (ap (take (to - from)) (drop-map f from ks) ∙ take-map f (to - from) (drop from ks)))
 
 -- labels of neighbours, each after a space, are some bytes
-pub spaced_has_bytes : (names : List Bytes) (from to : ℕ) → from < to → to ≤ length names
-    → 0 < length (flat_map (λ (l : Bytes). 32 ∷ l) (slice_range names from to))
-spaced_has_bytes names from to from_lt_to to_le_length =
-    has_bytes (slice_range names from to) (simp (length-take, length-drop) (omega arith))
+pub spaced_has_bytes : (labels : List Bytes) (from to : ℕ) → from < to → to ≤ length labels
+    → 0 < length (flat_map (λ (l : Bytes). 32 ∷ l) (slice_range labels from to))
+spaced_has_bytes labels from to from_lt_to to_le_length =
+    has_bytes (slice_range labels from to) (simp (length-take, length-drop) (omega arith))
   where
     has_bytes : (ls : List Bytes) → 0 < length ls
         → 0 < length (flat_map (λ (l : Bytes). 32 ∷ l) ls)

@@ -43,34 +43,35 @@ returns g c =
     subst (λ (r : Request). c.open_theorem_count-open_theorems.result
     ≡ open_theorem_count r.with_open c.args.database.now c.args.chosen.now) c.request.view_is
     c.open_theorem_count-open_theorems.ensures in
-    let names = c.new-labels.result in
-    let heads = c.new-columns.result in
-    let rows = rows_of m names in
+    let labels = c.new-labels.result in
+    let column_labels = c.new-columns.result in
+    let rows = rows_of m labels in
     let theorem_count_is =
-    count_is_rows m names c.len-theorems.result c.len-theorems.ensures
-    (labels_as_many_as_rows db m names c.new-labels.ensures c.requires.as_many_rows) in
+    count_is_rows m labels c.len-theorems.result c.len-theorems.ensures
+    (labels_as_many_as_rows db m labels c.new-labels.ensures c.requires.as_many_rows) in
     let head_is =
     ap₂ (λ (a b : ℕ). head request.form a c.open_theorem_count-open_theorems.result b)
     c.len-axioms.ensures theorem_count_is in
     let matrix = λ (x : Marks).
     section (has_section request.choice Matrix) (codes "matrix")
-    (flat_map (matrix_line request.form) (rows_of x names)) in
+    (flat_map (matrix_line request.form) (rows_of x labels)) in
     let counts = λ (x : Marks).
     section (has_section request.choice Counts) (codes "counts")
-    (flat_map count_line (rows_of x names)) in
+    (flat_map count_line (rows_of x labels)) in
     let rows_sent =
     sent_equal_text (matrix m ++ counts m)
     (ap (λ (x : Marks). matrix x ++ counts x) c.marked.ensures)
     c.send_rows.ensures in
     let report_sent =
     sent_equal_text _
-    (sections_regrouped (head request.form (length heads) c.open_theorem_count-open_theorems.result
+    (sections_regrouped
+    (head request.form (length column_labels) c.open_theorem_count-open_theorems.result
     (length rows)) (matrix m)
     (counts m) (section (has_section request.choice Usage) (codes "usage")
-    (usage_lines rows 0 heads))
+    (usage_lines rows 0 column_labels))
     (line (codes "end"))
     ∙ sent_is_report_of_database request c.args.database.now c.args.chosen.now m
-    c.open_theorem_count-open_theorems.result names heads opened_is
+    c.open_theorem_count-open_theorems.result labels column_labels opened_is
     c.new-labels.ensures c.new-columns.ensures)
     (sent_both
     (sent_both

@@ -27,31 +27,33 @@ returns g c =
     subst (λ (r : Request). c.open_theorem_count-open_theorems.result
     ≡ open_theorem_count r.with_open c.args.database.now c.args.chosen.now) c.request.view_is
     c.open_theorem_count-open_theorems.ensures in
-    let names = c.new-labels.result in
-    let heads = map (label_at db) c.args.chosen.now in
-    let rows = rows_of m names in
+    let labels = c.new-labels.result in
+    let column_labels = map (label_at db) c.args.chosen.now in
+    let rows = rows_of m labels in
     let theorem_count_is =
-    count_is_rows m names c.len-theorems.result c.len-theorems.ensures
-    (labels_as_many_as_rows db m names c.new-labels.ensures c.requires.as_many_rows) in
+    count_is_rows m labels c.len-theorems.result c.len-theorems.ensures
+    (labels_as_many_as_rows db m labels c.new-labels.ensures c.requires.as_many_rows) in
     let axiom_count_is =
     c.len-axioms.ensures.len ∙ sym (length-map c.args.chosen.now (label_at db)) in
     let head_is = ap₂ (λ (a b : ℕ). head request.form a c.open_theorem_count-open_theorems.result b)
     axiom_count_is
     theorem_count_is in
     let no_usage : section (has_section request.choice Usage) (codes "usage")
-    (usage_lines rows 0 heads)
+    (usage_lines rows 0 column_labels)
     ≡ [] =
-    ap (λ (b : Bool). section b (codes "usage") (usage_lines rows 0 heads)) c.requires.no_usage in
+    ap (λ (b : Bool). section b (codes "usage") (usage_lines rows 0 column_labels))
+        c.requires.no_usage in
     let report_sent =
     sent_equal_text _
-    (without_usage (head request.form (length heads) c.open_theorem_count-open_theorems.result
+    (without_usage
+    (head request.form (length column_labels) c.open_theorem_count-open_theorems.result
     (length rows))
     (section (has_section request.choice Matrix) (codes "matrix")
     (flat_map (matrix_line request.form) rows))
     (section (has_section request.choice Counts) (codes "counts") (flat_map count_line rows)) _
     (line (codes "end")) no_usage
     ∙ sent_is_report_of_database request c.args.database.now c.args.chosen.now m
-    c.open_theorem_count-open_theorems.result names heads opened_is
+    c.open_theorem_count-open_theorems.result labels column_labels opened_is
     c.new-labels.ensures refl)
     (sent_both (sent_both (sent_equal_text _ head_is c.send_head.ensures) c.send_rows.ensures)
     c.send_line.ensures) in
