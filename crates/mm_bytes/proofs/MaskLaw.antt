@@ -45,7 +45,7 @@ all_below_gives_each p (suc n) passes_below_n i i_lt_n =
     holds_by_order below_n_passes (inr (inr n_lt_i)) =
         let absurdity : ⊥ = omega arith in absurd absurdity
 
--- whether two truth values are the same
+-- whether two truth values are equal
 abbrev pub are_equal : Bool → Bool → Bool
 are_equal true b = b
 are_equal false true = false

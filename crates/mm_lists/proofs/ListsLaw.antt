@@ -85,17 +85,17 @@ module _ {X : Type 0} where
       empty_range all from from (omega arith)
   range_is_joined_lists from [] all i (suc j) are_ends i_le_j j_le_count = absurd (omega arith)
   range_is_joined_lists from (e ∷ ends) all zero (suc j) are_ends i_le_j j_le_count =
-      let same_difference : suc j - 0 ≡ suc (j - 0) = omega arith in
+      let differences_equal : suc j - 0 ≡ suc (j - 0) = omega arith in
       range_split all from e (get_or (e ∷ ends) j 0) are_ends.0
       (bounds_are_sorted e ends (length all) 0 j are_ends.1 (omega arith) (omega arith))
       ∙ ap (λ l. slice_range all from e ++ l)
       (range_is_joined_lists e ends all 0 j are_ends.1 (omega arith) (omega arith))
-      ∙ sym (ap (λ n. joined (take n (cut_at from (e ∷ ends) all))) same_difference)
+      ∙ sym (ap (λ n. joined (take n (cut_at from (e ∷ ends) all))) differences_equal)
   range_is_joined_lists from ends all (suc i) zero are_ends i_le_j j_le_count = absurd (omega arith)
   range_is_joined_lists from (e ∷ ends) all (suc i) (suc j) are_ends i_le_j j_le_count =
-      let same_difference : suc j - suc i ≡ j - i = omega arith in
+      let differences_equal : suc j - suc i ≡ j - i = omega arith in
       range_is_joined_lists e ends all i j are_ends.1 (omega arith) (omega arith)
-      ∙ sym (ap (λ n. joined (take n (drop i (cut_at e ends all)))) same_difference)
+      ∙ sym (ap (λ n. joined (take n (drop i (cut_at e ends all)))) differences_equal)
 
   pub next_bound_exists : (bounds : List ℕ) (all : List X) (lists : List (List X))
       → cut bounds all ≡ lists → (i : ℕ) → i < length lists → i + 1 < length bounds
@@ -188,19 +188,19 @@ module _ {X : Type 0} where
   range_of_first_part : (xs ys : List X) (a b : ℕ) → b ≤ length xs
       → slice_range (xs ++ ys) a b ≡ slice_range xs a b
   range_of_first_part xs ys zero b b_le_length =
-      let same_difference : b - 0 ≡ b = omega arith in
-      ap (λ n. take n (xs ++ ys)) same_difference ∙ take-append-le b xs ys b_le_length
-      ∙ sym (ap (λ n. take n xs) same_difference)
+      let differences_equal : b - 0 ≡ b = omega arith in
+      ap (λ n. take n (xs ++ ys)) differences_equal ∙ take-append-le b xs ys b_le_length
+      ∙ sym (ap (λ n. take n xs) differences_equal)
   range_of_first_part [] ys (suc a) b b_le_length =
       empty_range ([] ++ ys) (suc a) b (omega arith) ∙ sym (empty_range [] (suc a) b (omega arith))
   range_of_first_part (x ∷ xs) ys (suc a) zero b_le_length =
       empty_range ((x ∷ xs) ++ ys) (suc a) 0 (omega arith)
       ∙ sym (empty_range (x ∷ xs) (suc a) 0 (omega arith))
   range_of_first_part (x ∷ xs) ys (suc a) (suc b) b_le_length =
-      let same_difference : suc b - suc a ≡ b - a = omega arith in
-      ap (λ n. take n (drop a (xs ++ ys))) same_difference
+      let differences_equal : suc b - suc a ≡ b - a = omega arith in
+      ap (λ n. take n (drop a (xs ++ ys))) differences_equal
       ∙ range_of_first_part xs ys a b (omega arith)
-      ∙ sym (ap (λ n. take n (drop a xs)) same_difference)
+      ∙ sym (ap (λ n. take n (drop a xs)) differences_equal)
 
   range_of_second_part : (xs ys : List X)
       → slice_range (xs ++ ys) (length xs) (length xs + length ys) ≡ ys

@@ -17,9 +17,9 @@ use Rattle.mm_spec.specs.Statement.{Statement, constants, variables, disjoint, f
 use Rattle.mm_spec.specs.Statement.{axiomatic, provable, opening, closing, spelling_of, is_plain}
 use Rattle.mm_spec.specs.Statement.{is_complete, is_opening, is_closing, BeginStatements}
 
--- where the reading stands, with so many blocks open
+-- where the reading stands, with `depth` blocks open
 pub data State : Type 0 where
-  at_start at_label in_symbols in_formula in_proof : ℕ → State
+  at_start at_label in_symbols in_formula in_proof : (depth : ℕ) → State
 
 -- after a `$}`: one block less is open
 abbrev pub start_block : ℕ → Option State

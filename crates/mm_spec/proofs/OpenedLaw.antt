@@ -344,8 +344,8 @@ pub theorem_read : (w : Bool) (db : List Statement) (j : ℕ) (l : Token) (k : �
 theorem_read false db j l k xs e ps d theorem_is_at_j = theorem_is_at_j
 theorem_read true db j l k xs e ps d theorem_is_at_j = grind (arith, common_steps, got_axiom)
 
-pub theorem_still : (w : Bool) (db : List Statement) (j : ℕ)
+pub counted_theorem_is_theorem : (w : Bool) (db : List Statement) (j : ℕ)
     → list_any is_theorem (statement_at (counted w db) j) ≡ true
     → list_any is_theorem (statement_at db j) ≡ true
-theorem_still w db j is_theorem_at_j =
+counted_theorem_is_theorem w db j is_theorem_at_j =
     grind (arith, common_steps, statement_passes, passing_statement, theorem_read)
