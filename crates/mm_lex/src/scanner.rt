@@ -41,7 +41,7 @@ fn dollars_of(bytes: &[u8]) -> u64
 
 /// Masks with a bit for each of the first 64 bytes, or for each byte if there are fewer.
 #[derive(Clone, Copy)]
-struct Marks {
+struct Masks {
     /// White space.
     white: u64,
     /// White space, bad bytes and dollar signs: what ends a word, or keeps it from being plain.
@@ -49,7 +49,7 @@ struct Marks {
 }
 
 #[inline(always)]
-fn marks_of(bytes: &[u8]) -> Marks
+fn masks_of(bytes: &[u8]) -> Masks
     ensures white_is { result.white ≡ mask is_white (take 64 bytes.now) }
     ensures plain { (i : ℕ) → i < 64 → i < length bytes.now → bit_at result.stops i ≡ 0
         → plain_at bytes.now i ≡ true }
@@ -58,7 +58,7 @@ fn marks_of(bytes: &[u8]) -> Marks
 {
     let classes = classes_of(bytes);
     let dollars = dollars_of(bytes);
-    Marks {
+    Masks {
         white: classes.white,
         stops: classes.white | classes.bad | dollars,
     }
@@ -129,14 +129,14 @@ impl<'a> WordScanner<'a> {
         ensures base_is { result.base ≡ base }
         ensures from_is { result.from ≡ base }
     {
-        let marks = marks_of(&text[base..]);
+        let masks = masks_of(&text[base..]);
         WordScanner {
             text,
             from: base,
             base,
-            white: marks.white,
-            stops: marks.stops,
-            starts: starts_of(marks.white, may_begin(text, base)),
+            white: masks.white,
+            stops: masks.stops,
+            starts: starts_of(masks.white, may_begin(text, base)),
         }
     }
 

@@ -255,7 +255,7 @@ beginnings_are_followed ts beginning = followed_by_state (follow (Some (at_start
         × (follow (Some (at_start 0)) (flat_map spelling_of beginning.0) ≡ Some (at_start e))
         × (e + count_by is_closing beginning.0 ≡ 0 + count_by is_opening beginning.0)
     list_followed =
-        statements_are_followed beginning.0 0 beginning.1.whole
+        statements_are_followed beginning.0 0 beginning.1.complete
         (λ n. let closings_le_openings = beginning.1.nested n in
         omega (arith, closings_le_openings))
 

@@ -204,7 +204,7 @@ within_is_not_between : (ts : List Token) (r : Progress) (b : Bool)
     → ¬ IsBetween ts
 within_is_not_between ts r b state_is within_statement is_between =
     let list_followed =
-    statements_are_followed is_between.0 0 is_between.1.whole
+    statements_are_followed is_between.0 0 is_between.1.complete
     (λ n. let closings_le_openings = is_between.1.nested n in
     omega (arith, closings_le_openings)) in
     not_at_start r b

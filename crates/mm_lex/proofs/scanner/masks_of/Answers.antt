@@ -1,5 +1,5 @@
 use Rattle.mm_lex.proofs.BlockLaw.{no_stop_is_not_white, no_stop_is_plain}
-use Rattle.mm_lex.proofs.scanner.marks_of.Goals as goal
+use Rattle.mm_lex.proofs.scanner.masks_of.Goals as goal
 
 pub returns-clause-plain : goal.returns-clause-plain
 returns-clause-plain c =
