@@ -42,7 +42,7 @@ returns g c =
     (usage_lines rows 0 column_labels)
     ≡ [] =
     ap (λ (b : Bool). section b (codes "usage") (usage_lines rows 0 column_labels))
-        c.requires.no_usage in
+    c.requires.no_usage in
     let report_sent =
     sent_equal_text _
     (without_usage

@@ -1,5 +1,5 @@
 use Rattle.mm_report.proofs.SentLaw.{written_if_finished, prefix_written_if_failed}
-use Rattle.mm_report.proofs.sections.write_refusal.Goals as goal
+use Rattle.mm_report.proofs.refusal.write_refusal.Goals as goal
 
 pub returns-clause-refusal_is_written : goal.returns-clause-refusal_is_written
 returns-clause-refusal_is_written g c =

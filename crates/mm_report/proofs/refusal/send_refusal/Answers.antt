@@ -6,7 +6,7 @@ use Rattle.std.proofs.lemmas.Bool.{cases_lt}
 use Rattle.mm_spec.specs.Codes.{code_number}
 use Rattle.mm_spec.specs.Report.{bytes_after_line_feed, two_digits}
 use Rattle.mm_report.proofs.SentLaw.{sent_both, sent_equal_text}
-use Rattle.mm_report.proofs.sections.send_refusal.Goals as goal
+use Rattle.mm_report.proofs.refusal.send_refusal.Goals as goal
 
 -- a refusal, put together piece by piece
 refusal_regrouped : (a d e u t : List ℕ)
