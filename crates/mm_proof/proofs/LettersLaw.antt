@@ -474,9 +474,11 @@ pub open_number_is_first_fault : (s : LettersState) (end : ℕ) (all_letters : L
     → StartsWith (letter_faults (length s.labels) end all_letters) (Faulty (fault end OpenNumber))
 open_number_is_first_fault s end [] number_is_open letters_are_some continues =
     absurd (letters_are_some refl)
-open_number_is_first_fault s end (x ∷ xs) number_is_open letters_are_some continues =
-    ([], faults_at_end s end x xs continues
-    ∙ ap (λ b. faults_at end (when b OpenNumber)) number_is_open)
+open_number_is_first_fault s end (x ∷ xs) number_is_open letters_are_some continues = (
+  [],
+  faults_at_end s end x xs continues
+      ∙ ap (λ b. faults_at end (when b OpenNumber)) number_is_open,
+)
 
 -- if no number is open at the end, the letters have no fault
 pub no_fault_at_end : (s : LettersState) (end : ℕ) (all_letters : List Letter)

@@ -245,7 +245,7 @@ module _ (db : List Statement) where
   contexts_are_kept : context_at as_axioms ≡ context_at db
   contexts_are_kept = fun_ext (λ k.
       ap₂ (λ (v : ℕ → Bool) (r : ℕ → ℕ → Option Referent). context v (disjoint_at as_axioms k)
-          (r k))
+      (r k))
       variables_are_kept referents_are_kept
       ∙ ap (λ (d : ℕ → ℕ → ℕ → Bool). context (is_variable_number db) (d k) (referent_at db k))
       disjoint_are_kept)
