@@ -69,8 +69,7 @@ module _ (c : Context) where
       (nat_le (length (substitute c σ a.formula)) formula_limit)
       (take n es ++ substitute c σ a.formula ∷ []))
       (le-leb (length a.hypotheses) (length es) fails.1)
-      (found_matches_if_any c a ps fails.0 is_complete
-      fails.2)
+      (found_matches_if_any c a ps fails.0 is_complete fails.2)
       ∙ ap (λ k. unless_failed true true k
       (nat_le (length (substitute c σ a.formula)) formula_limit)
       (take n es ++ substitute c σ a.formula ∷ [])) (disjoint_tests_equal
@@ -96,8 +95,7 @@ module _ (c : Context) where
       (nat_le (length (substitute c σ a.formula)) formula_limit)
       (take n es ++ substitute c σ a.formula ∷ []))
       (le-leb (length a.hypotheses) (length es) fails.1)
-      (found_matches_if_any c a ps fails.0 is_complete
-      fails.2)
+      (found_matches_if_any c a ps fails.0 is_complete fails.2)
       ∙ ap₂ (λ k s. unless_failed true true k s (take n es ++ substitute c σ a.formula ∷ []))
       (disjoint_tests_equal ∙ fails.3)
       (ap (λ f. nat_le (length f) formula_limit) formulas_equal ∙ lt-leb _ _ fails.4)

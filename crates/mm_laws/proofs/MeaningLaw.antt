@@ -200,8 +200,7 @@ module _ (db : List Statement) (k : ℕ) where
             → bytes_eq t.word (codes "(") ≡ b → (t.word ≡ codes "(" → Goal)
             → (t.word ≢ codes "(" → Goal) → Goal
         goal_by_bracket true is_bracket compressed_case normal_case =
-            compressed_case (equal_bytes_equal_words t.word
-            (codes "(") is_bracket)
+            compressed_case (equal_bytes_equal_words t.word (codes "(") is_bracket)
         goal_by_bracket false not_bracket compressed_case normal_case =
             normal_case (λ is_bracket_word. true≢false (sym ((bytes_eq-Decides t.word (codes "(")).1
             is_bracket_word) ∙ not_bracket))

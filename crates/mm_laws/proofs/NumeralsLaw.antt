@@ -21,8 +21,7 @@ power_of_push : (es : List ℕ) (b : ℕ) → 5 ^ length (es ++ b ∷ []) ≡ 5 
 power_of_push es b =
     let length_is : length (es ++ b ∷ []) ≡ suc (length es) = omega (
       arith,
-      length-append es (b ∷
-          []),
+      length-append es (b ∷ []),
     ) in
     ap (λ i. 5 ^ i) length_is ∙ pow-succ' 5 (length es)
 

@@ -66,13 +66,11 @@ unfolding head_or tail_of
 splits_of [] [] us vs x y lists_equal = inl (refl, ap (head_or x) lists_equal)
 splits_of [] (b ∷ ys) us vs x y lists_equal = inr (inl (
   ys,
-  ap (λ z. z ∷ ys) (sym (ap (head_or x)
-      lists_equal)),
+  ap (λ z. z ∷ ys) (sym (ap (head_or x) lists_equal)),
 ))
 splits_of (a ∷ xs) [] us vs x y lists_equal = inr (inr (
   xs,
-  ap (λ z. z ∷ xs) (ap (head_or y)
-      lists_equal),
+  ap (λ z. z ∷ xs) (ap (head_or y) lists_equal),
 ))
 splits_of (a ∷ xs) (b ∷ ys) us vs x y lists_equal = with_first (splits_of xs ys us vs x y (ap
     tail_of lists_equal))

@@ -609,8 +609,7 @@ module _ (db : List Statement) (labels_differ : LabelsDiffer db) where
             → AllZip (λ u s. (j : ℕ) × (s ≡ label j) × IsUsable db k u.word j) (t ∷ ts)
             (map (λ p. p.step) (out b))
         labels_by_bracket true is_bracket no_faults =
-            absurd (no_bracket (equal_bytes_equal_words t.word (codes "(")
-            is_bracket))
+            absurd (no_bracket (equal_bytes_equal_words t.word (codes "(") is_bracket))
         labels_by_bracket false not_bracket no_faults = steps_are_labels (t ∷ ts)
             (labels_are_faultless (t ∷ ts) no_faults)
 

@@ -241,8 +241,7 @@ bracketed_splits (t ∷ labels) closing letters is_closing no_label_closes =
         → bracketed_by t (labels ++ closing ∷ letters) b
         ≡ record { labels = t ∷ labels; letters = Some letters }
     read_by_bracket true is_bracket rest_splits = absurd
-        (no_label_closes.0 (equal_bytes_equal_words t.word (codes ")")
-        is_bracket))
+        (no_label_closes.0 (equal_bytes_equal_words t.word (codes ")") is_bracket))
     read_by_bracket false not_bracket rest_splits = ap (with_label t) rest_splits
 
 pub parts_are_unique : PartsAreUnique

@@ -70,8 +70,7 @@ module _ (db : List Statement) (all_complete : AreComplete db) (k : ℕ) where
 pub labels_determine_derivations : WhereRead LabelsDetermine
 labels_determine_derivations len x db fault is_read with_open k =
     same_labels_same_forest (context_at (counted with_open db) k)
-    (frames_are_complete len x db fault is_read
-    with_open k)
+    (frames_are_complete len x db fault is_read with_open k)
 
 pub proof_is_unique : WhereRead ProofIsUnique
 proof_is_unique len x db fault is_read with_open k = two_proofs_are_equal (counted with_open db)

@@ -663,8 +663,7 @@ module _ (db : List Statement) (differ : LabelsDiffer db) (k end : ℕ) where
       no_fault_by_question_mark : (b : Bool) → bytes_eq t.word (codes "?") ≡ b
           → own_faults db differ k t b ≡ []
       no_fault_by_question_mark true is_question_mark =
-          absurd (are_plain_words.0.0 (equal_bytes_equal_words t.word (codes
-          "?") is_question_mark))
+          absurd (are_plain_words.0.0 (equal_bytes_equal_words t.word (codes "?") is_question_mark))
       no_fault_by_question_mark false not_question_mark = usable_label_has_no_fault db k t
           are_plain_words.0.1.0 are_plain_words.0.1.1
 
