@@ -18,7 +18,6 @@ each_label_is_cited db t a = (
     is_label_of_proof.0,
     is_label_of_proof.1,
     is_label_of_proof.2,
-    (node_label_iff_member db
-        is_label_of_proof.1 a).1 is_label_of_proof.3,
+    (node_label_iff_member db is_label_of_proof.1 a).1 is_label_of_proof.3,
   ),
 )

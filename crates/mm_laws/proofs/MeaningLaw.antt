@@ -123,8 +123,7 @@ module _ (db : List Statement) (k : ℕ) where
                 record {
                   is_well_spelled = well_spelled;
                   js = named.0;
-                  labels_name_js
-                      = named.1;
+                  labels_name_js = named.1;
                   are_steps = named.2;
                 },
               ),

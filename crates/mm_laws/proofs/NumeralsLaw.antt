@@ -67,8 +67,7 @@ early_digit_of_remainder : (k : ℕ) → IsEarlyDigit (84 + suc (k % 5)) (suc (k
 early_digit_of_remainder k = record {
   digit_ge_1 = omega arith;
   digit_le_5 = omega arith;
-  letter_is
-      = refl;
+  letter_is = refl;
 }
 
 early_letters_exist : (fuel n : ℕ) → n < fuel → (es : List ℕ) × AreEarlyDigits es n
@@ -209,8 +208,7 @@ book_numbers = (
     early = letters_from 0 (codes "U");
     last = record {
       at = 0;
-      byte
-          = 65;
+      byte = 65;
     };
   })
       (refl, tt) refl,
@@ -218,8 +216,7 @@ book_numbers = (
     early = letters_from 0 (codes "Y");
     last = record {
       at = 0;
-      byte
-          = 84;
+      byte = 84;
     };
   })
       (refl, tt) refl,
@@ -227,8 +224,7 @@ book_numbers = (
     early = letters_from 0 (codes "UU");
     last = record {
       at = 0;
-      byte
-          = 65;
+      byte = 65;
     };
   })
       (refl, (refl, tt)) refl,
@@ -236,8 +232,7 @@ book_numbers = (
     early = letters_from 0 (codes "YY");
     last = record {
       at = 0;
-      byte
-          = 84;
+      byte = 84;
     };
   })
       (refl, (refl, tt)) refl,

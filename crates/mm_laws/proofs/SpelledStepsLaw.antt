@@ -456,8 +456,7 @@ module _ (db : List Statement) (are_lawful : (k : ℕ) → k < length db → IsL
       label_is_new (names_before db j) (depth db j) labelled_j.0 w (statement_is_faultless j
       labelled_j.0 labelled_j.1) labelled_j.2 in
       true≢false (sym (later_place_knows_declared label_words db j i labelled_i.0 w labelled_i.1
-      i_lt_j (label_is_word
-      labelled_i.0 w labelled_i.2)) ∙ is_new)
+      i_lt_j (label_is_word labelled_i.0 w labelled_i.2)) ∙ is_new)
 
   labels_are_distinct : LabelsDiffer db
   labels_are_distinct w i j labels_i labels_j = same_by_order (cases_order i j)

@@ -24,8 +24,7 @@ selected_lt_bound p n i d i_lt_length =
             → get_or (filter p (range_with_len (a + 1) m)) i d < a + 1 + m)
             → (i : ℕ)
             → i < length {A = ℕ}
-            (cond b (a ∷ filter p (range_with_len (a + 1) m))
-            (filter p (range_with_len (a + 1) m)))
+            (cond b (a ∷ filter p (range_with_len (a + 1) m)) (filter p (range_with_len (a + 1) m)))
             → get_or {A = ℕ}
             (cond b (a ∷ filter p (range_with_len (a + 1) m))
             (filter p (range_with_len (a + 1) m))) i d

@@ -17,8 +17,7 @@ pub invariant_of-self-clause-starts_ge_from : goal.invariant_of-self-clause-star
 invariant_of-self-clause-starts_ge_from c i i_lt_64 bit_is_one =
     omega (
       arith,
-      (kept_bit_is_above_k c.args.self.now.starts c.last_one-end.result i i_lt_64
-          bit_is_one).0,
+      (kept_bit_is_above_k c.args.self.now.starts c.last_one-end.result i i_lt_64 bit_is_one).0,
     )
 
 pub invariant_of-self-clause-begins_none : goal.invariant_of-self-clause-begins_none
