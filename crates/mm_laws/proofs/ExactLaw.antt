@@ -1,7 +1,7 @@
 -- The stack is exact in both directions, and the labels determine the forest.
 use Rattle.std.proofs.Common.{◌≡◌, ℕ, suc, ◌+◌, ◌-◌, true, List, [], ◌∷◌, ◌++◌}
 use Rattle.std.proofs.Common.{map, length, take, drop, Option, Some, None, Ok, Err, nat_le}
-use Rattle.std.proofs.Common.{sym, ap, ap₂, ◌∙◌, subst, append-nil, arith, ◌↔◌, le-leb}
+use Rattle.std.proofs.Common.{sym, ap, ap₂, ◌∙◌, subst, append-nil, arith, le-leb}
 use Rattle.std.specs.List.{list_all}
 use Rattle.std.proofs.lemmas.Bool.{false_from_ne_true, lt-leb}
 use Rattle.mm_spec.specs.Derivation.{Formula, Referent, hypothesis, assertion, Context}
@@ -17,8 +17,7 @@ use Rattle.mm_spec.specs.Laws.Stack.{unless_failed}
 use Rattle.mm_spec.specs.Laws.Stack.{unless_too_long}
 use Rattle.mm_spec.proofs.MachineLaw.{proceed, run, AreGood, forest_is_run}
 use Rattle.mm_spec.proofs.MachineLaw.{good_append_is_good_parts, found_matches_if_any}
-use Rattle.mm_spec.proofs.MachineLaw.{run_has_outcome}
-use Rattle.mm_spec.proofs.MachineLaw.{RunOutcome, StoppedRun}
+use Rattle.mm_spec.proofs.MachineLaw.{StoppedRun}
 
 -- the labels are the postfix list of a forest of derivations
 abbrev pub IsPostfixOfForest : Context → List ℕ → Type 0
@@ -108,20 +107,6 @@ module _ (c : Context) where
       in
       ap (λ x. run c 0 x []) (sym labels_are ∙ sym (append-nil (postfix forest)))
       ∙ forest_is_run c forest derives postfix_is_good 0 [] []
-
-  -- a run over the labels succeeds exactly if they are the postfix list of a forest of derivations
-  pub run_succeeds_exactly_on_forests : (ls : List ℕ) → AreGood c ls
-      → IsPostfixOfForest c ls ↔ ((out : List Formula) × (run c 0 ls [] ≡ Ok out))
-  run_succeeds_exactly_on_forests ls are_good = (
-    λ is_postfix. (
-      formulas is_postfix.0,
-      run_of_forest ls are_good is_postfix.0 is_postfix.1
-          is_postfix.2,
-    ),
-    λ runs. let outcome = subst (RunOutcome c none ls) runs.1
-        (run_has_outcome c ls none 0 tt are_good) in
-        (outcome.0, outcome.1, outcome.2),
-  )
 
   -- a run stops exactly where a label fails after a forest of derivations, and that tells the place
   -- and the reason

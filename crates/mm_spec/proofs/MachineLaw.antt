@@ -1,5 +1,5 @@
--- A stack of formulas tells whether labels are the postfix list of a forest of derivations, and if
--- not, at which label and why.
+-- A step on a stack of formulas adds a tree to a forest of derivations, or it fails and that tells
+-- why. The labels of a forest run to its formulas.
 use Rattle.std.proofs.lemmas.Grind.{common_steps}
 use Rattle.std.proofs.Common.{◌≡◌, ℕ, zero, suc, ◌+◌, ◌-◌, ◌≤◌, Bool, true, false, List, [], ◌∷◌}
 use Rattle.std.proofs.Common.{◌++◌, map, length, take, drop, Option, Some, None, Result, Ok, Err}
@@ -213,13 +213,6 @@ module _ (c : Context) where
     pub labels : postfix reached ≡ postfix forest ++ before
     pub fails : Fails c (c.referent label) (formulas reached) reason
 
-  -- what the answer of a run after a forest means
-  abbrev pub RunOutcome : Trees → List ℕ → Result (List Formula) RunFailure → Type 0
-  RunOutcome forest ls (Ok out) =
-      (reached : Trees) × AreDerivations c reached × (postfix reached ≡ postfix forest ++ ls)
-      × (formulas reached ≡ out)
-  RunOutcome forest ls (Err e) = StoppedRun forest ls e.reason
-
   -- a step after a forest gives one more forest
   pub step_grows_forest : (forest : Trees) (l : ℕ) (n : ℕ) (f : Formula) → AreDerivations c forest
       → n ≤ length (formulas forest)
@@ -254,60 +247,3 @@ module _ (c : Context) where
             ∙ ap (λ x. x ++ l ∷ []) (sym parts.all_labels),
         ap (λ x. x ++ f ∷ []) (sym first_formulas_are),
       )
-
-  -- a run after a forest is that of a longer forest, or stops where a label fails
-  pub run_has_outcome : (ls : List ℕ) (forest : Trees) (n : ℕ) → AreDerivations c forest
-      → AreGood ls
-      → RunOutcome forest ls (run n ls (formulas forest))
-  run_has_outcome [] forest n are_derivations are_good =
-      (forest, are_derivations, sym (append-nil (postfix forest)), refl)
-  run_has_outcome (l ∷ ls) forest n are_derivations are_good =
-      outcome_by_result (step c (c.referent l) (formulas forest))
-      (step_has_outcome (c.referent l) (formulas forest) are_good.0)
-      (λ next next_derivations. run_has_outcome ls next (suc n) next_derivations are_good.1)
-    where
-      outcome_of_rest : (next : Trees) → postfix next ≡ postfix forest ++ l ∷ []
-          → (r : Result (List Formula) RunFailure) → RunOutcome next ls r
-          → RunOutcome forest (l ∷ ls) r
-      outcome_of_rest next labels_are (Ok out) outcome_later = (
-        outcome_later.0,
-        outcome_later.1,
-        outcome_later.2 ∙ ap (λ x. x ++ ls) labels_are
-            ∙ append_assoc (postfix forest) (l ∷ []) ls,
-        outcome_later.3,
-      )
-      outcome_of_rest next labels_are (Err x) outcome_later = record {
-        before = l ∷ outcome_later.before;
-        label = outcome_later.label;
-        after = outcome_later.after;
-        splits = ap (λ x. l ∷ x) outcome_later.splits;
-        reached = outcome_later.reached;
-        derivations = outcome_later.derivations;
-        labels =
-            outcome_later.labels ∙ ap (λ x. x ++ outcome_later.before) labels_are
-            ∙ append_assoc (postfix forest) (l ∷ []) outcome_later.before;
-        fails = outcome_later.fails;
-      }
-
-      outcome_by_result : (r : Result (List Formula) Reason)
-          → StepOutcome (c.referent l) (formulas forest) r
-          → ((next : Trees) → AreDerivations c next
-          → RunOutcome next ls (run (suc n) ls (formulas next)))
-          → RunOutcome forest (l ∷ ls) (proceed r n (run (suc n) ls))
-      outcome_by_result (Err x) outcome rest_has_outcome =
-          record {
-            before = [];
-            label = l;
-            after = ls;
-            splits = refl;
-            reached = forest;
-            derivations = are_derivations;
-            labels = sym (append-nil (postfix forest));
-            fails = outcome;
-          }
-      outcome_by_result (Ok out) outcome rest_has_outcome =
-          let next =
-          step_grows_forest forest l outcome.0 outcome.1 are_derivations outcome.2 outcome.3 in
-          outcome_of_rest next.0 next.2 (run (suc n) ls out)
-          (subst (λ x. RunOutcome next.0 ls (run (suc n) ls x)) (next.3 ∙ sym outcome.4)
-          (rest_has_outcome next.0 next.1))
