@@ -140,13 +140,17 @@ reading_lexemes text (Comment o ws c ∷ lexemes) (is_lexeme, are_lexemes) =
 reading_last_comment : (text : List ℕ) (last_comment : LastComment)
     → IsLastComment text last_comment
     → reading text None (words_in_last_comment last_comment)
-    ≡ record { tokens = []; fault = None; open_comment = option_map (λ p. p.0.start) last_comment }
+    ≡ record {
+      tokens = [];
+      fault = None;
+      open_comment = option_map (λ c. c.opening.start) last_comment;
+    }
 reading_last_comment text None is_last_comment = reading_end text None
-reading_last_comment text (Some (o, ws)) is_last_comment =
-    reading_opening text None o ws (role_is_opening _ is_last_comment.0)
-    ∙ ap (reading text (Some o.start)) (sym (append-nil ws))
-    ∙ reading_comment_words text o.start ws [] is_last_comment.1
-    ∙ reading_end text (Some o.start)
+reading_last_comment text (Some c) is_last_comment =
+    reading_opening text None c.opening c.words (role_is_opening _ is_last_comment.0)
+    ∙ ap (reading text (Some c.opening.start)) (sym (append-nil c.words))
+    ∙ reading_comment_words text c.opening.start c.words [] is_last_comment.1
+    ∙ reading_end text (Some c.opening.start)
 
 pub IsWellBegun_reading : (text : List ℕ) (ws ts : List Word) (c : Option ℕ)
     → IsWellBegun text ws ts c
@@ -212,7 +216,7 @@ both_are_begun text [] = record {
       (sym (reading_end text (Some o.start)))
       (λ _. record {
         lexemes = [];
-        last_comment = Some (o, us);
+        last_comment = Some (record { opening = o; words = us });
         are_lexemes = tt;
         is_last_comment = (opens, are_comment_words);
         words_are = ap (λ (vs : List Word). o ∷ vs) (append-nil us);
