@@ -48,27 +48,27 @@ module _ (db : List Statement) (k : ℕ) where
   abbrev IsLabelStep : Token → Step → Type 0
   IsLabelStep u s = (j : ℕ) × (s ≡ label j) × IsUsable db k u.word j
 
-  abbrev IsPlainWord : Token → Type 0
-  IsPlainWord u = (u.word ≢ codes "?") × ((j : ℕ) × IsUsable db k u.word j)
+  abbrev IsUsableWord : Token → Type 0
+  IsUsableWord u = (u.word ≢ codes "?") × ((j : ℕ) × IsUsable db k u.word j)
 
-  says_label_steps : (ts : List Token) (ss : List Step) → AllByRecursion IsPlainWord ts
+  says_label_steps : (ts : List Token) (ss : List Step) → AllByRecursion IsUsableWord ts
       → AllZip IsLabelStep ts ss → SaysNormal db k ts ss
-  says_label_steps [] [] are_plain are_label_steps = tt
-  says_label_steps [] (s ∷ ss) are_plain are_label_steps = absurd are_label_steps
-  says_label_steps (t ∷ ts) [] are_plain are_label_steps = absurd are_label_steps
-  says_label_steps (t ∷ ts) (s ∷ ss) are_plain are_label_steps = (
+  says_label_steps [] [] are_usable are_label_steps = tt
+  says_label_steps [] (s ∷ ss) are_usable are_label_steps = absurd are_label_steps
+  says_label_steps (t ∷ ts) [] are_usable are_label_steps = absurd are_label_steps
+  says_label_steps (t ∷ ts) (s ∷ ss) are_usable are_label_steps = (
     (
-      are_plain.0.0,
+      are_usable.0.0,
       are_label_steps.0,
     ),
-    says_label_steps ts ss are_plain.1 are_label_steps.1,
+    says_label_steps ts ss are_usable.1 are_label_steps.1,
   )
 
-  words_are_plain : (ts : List Token) (ss : List Step) → SaysNormal db k ts ss
-      → AllByRecursion IsPlainWord ts
-  words_are_plain [] ss says_steps = tt
-  words_are_plain (t ∷ ts) [] says_steps = absurd says_steps
-  words_are_plain (t ∷ ts) (s ∷ ss) says_steps = (
+  words_are_usable : (ts : List Token) (ss : List Step) → SaysNormal db k ts ss
+      → AllByRecursion IsUsableWord ts
+  words_are_usable [] ss says_steps = tt
+  words_are_usable (t ∷ ts) [] says_steps = absurd says_steps
+  words_are_usable (t ∷ ts) (s ∷ ss) says_steps = (
     (
       says_steps.0.0,
       (
@@ -76,7 +76,7 @@ module _ (db : List Statement) (k : ℕ) where
         says_steps.0.1.2,
       ),
     ),
-    words_are_plain ts ss says_steps.1,
+    words_are_usable ts ss says_steps.1,
   )
 
   label_steps_are_unique : (ts : List Token) (ss other_steps : List Step) → SaysNormal db k ts ss
@@ -168,7 +168,7 @@ module _ (db : List Statement) (k : ℕ) where
         steps_are_read : (ss : List Step) → SaysNormal db k (t ∷ ts) ss → HasDerivation ss
             → IsReadAndDerived end (t ∷ ts)
         steps_are_read ss says_steps has_derivation =
-            let no_faults = (normal_exact end t ts no_bracket).1 (words_are_plain (t ∷ ts) ss
+            let no_faults = (normal_exact end t ts no_bracket).1 (words_are_usable (t ∷ ts) ss
             says_steps) in
             let steps_equal =
             label_steps_are_unique (t ∷ ts) ss (bare_steps db k (t ∷ ts)) says_steps (are_labels end

@@ -626,46 +626,47 @@ module _ (db : List Statement) (differ : LabelsDiffer db) (k end : ℕ) where
           is_well_spelled.has_items (no_letters_no_items is_well_spelled.items (subst (λ xs. Spells
           (bytes_of xs) is_well_spelled.items) is_nil letters_spell))
 
-  abbrev IsPlainWord : Token → Type 0
-  IsPlainWord u = (u.word ≢ codes "?") × ((j : ℕ) × IsUsable db k u.word j)
+  abbrev IsUsableWord : Token → Type 0
+  IsUsableWord u = (u.word ≢ codes "?") × ((j : ℕ) × IsUsable db k u.word j)
 
   abbrev faults_of_word : Token → List Fault
   faults_of_word u = own_faults db differ k u (bytes_eq u.word (codes "?"))
 
-  read_are_plain_words : (ts : List Token) → flat_map faults_of_word ts ≡ []
-      → AllByRecursion IsPlainWord ts
-  read_are_plain_words [] no_faults = tt
-  read_are_plain_words (t ∷ ts) no_faults = (
-    plain_by_question_mark (bytes_eq t.word (codes "?")) refl
+  read_are_usable_words : (ts : List Token) → flat_map faults_of_word ts ≡ []
+      → AllByRecursion IsUsableWord ts
+  read_are_usable_words [] no_faults = tt
+  read_are_usable_words (t ∷ ts) no_faults = (
+    usable_by_question_mark (bytes_eq t.word (codes "?")) refl
         (both_are_empty (faults_of_word t) (flat_map faults_of_word ts) no_faults).0,
-    read_are_plain_words ts
+    read_are_usable_words ts
         (both_are_empty (faults_of_word t) (flat_map faults_of_word ts) no_faults).1,
   )
     where
-      plain_by_question_mark : (b : Bool) → bytes_eq t.word (codes "?") ≡ b
+      usable_by_question_mark : (b : Bool) → bytes_eq t.word (codes "?") ≡ b
           → own_faults db differ k t b ≡ []
-          → IsPlainWord t
-      plain_by_question_mark true is_question_mark no_fault = absurd (cc)
-      plain_by_question_mark false not_question_mark no_fault =
+          → IsUsableWord t
+      usable_by_question_mark true is_question_mark no_fault = absurd (cc)
+      usable_by_question_mark false not_question_mark no_fault =
           let usable_statement = one_statement_is_usable db differ k t no_fault in (
             (λ is_question_word. true≢false (sym ((bytes_eq-Decides t.word (codes "?")).1
                 is_question_word) ∙ not_question_mark)),
             (usable_statement.0, usable_statement.2),
           )
 
-  plain_words_are_read : (ts : List Token) → AllByRecursion IsPlainWord ts
+  usable_words_are_read : (ts : List Token) → AllByRecursion IsUsableWord ts
       → flat_map faults_of_word ts ≡ []
-  plain_words_are_read [] are_plain_words = refl
-  plain_words_are_read (t ∷ ts) are_plain_words =
+  usable_words_are_read [] are_usable_words = refl
+  usable_words_are_read (t ∷ ts) are_usable_words =
       ap₂ (λ xs ys. xs ++ ys) (no_fault_by_question_mark (bytes_eq t.word (codes "?")) refl)
-      (plain_words_are_read ts are_plain_words.1)
+      (usable_words_are_read ts are_usable_words.1)
     where
       no_fault_by_question_mark : (b : Bool) → bytes_eq t.word (codes "?") ≡ b
           → own_faults db differ k t b ≡ []
       no_fault_by_question_mark true is_question_mark =
-          absurd (are_plain_words.0.0 (equal_bytes_equal_words t.word (codes "?") is_question_mark))
+          absurd
+          (are_usable_words.0.0 (equal_bytes_equal_words t.word (codes "?") is_question_mark))
       no_fault_by_question_mark false not_question_mark = usable_label_has_no_fault db k t
-          are_plain_words.0.1.0 are_plain_words.0.1.1
+          are_usable_words.0.1.0 are_usable_words.0.1.1
 
   normal_faults_are : (t : Token) (ts : List Token) → t.word ≢ codes "("
       → reading_faults db k end (t ∷ ts) ≡ flat_map faults_of_word (t ∷ ts)
@@ -686,10 +687,10 @@ normal_is_exact len x db fault is_read with_open k end t ts no_bracket =
     let labels_are_distinct = labels_differ len x db fault is_read with_open in
     let faults_are = normal_faults_are (counted with_open db) labels_are_distinct k end t ts
     no_bracket in (
-      (λ no_faults. read_are_plain_words (counted with_open db) labels_are_distinct k end (t ∷ ts)
+      (λ no_faults. read_are_usable_words (counted with_open db) labels_are_distinct k end (t ∷ ts)
           (sym faults_are ∙ no_faults)),
-      λ are_plain_words. faults_are ∙ plain_words_are_read (counted with_open db)
-          labels_are_distinct k end (t ∷ ts) are_plain_words,
+      λ are_usable_words. faults_are ∙ usable_words_are_read (counted with_open db)
+          labels_are_distinct k end (t ∷ ts) are_usable_words,
     )
 
 pub compressed_is_exact : WhereRead CompressedIsExact
