@@ -26,7 +26,7 @@ use Rattle.mm_spec.proofs.WordsLaw.{begins_word_boundary, begins_word_not_white}
 use Rattle.mm_spec.proofs.WordsLaw.{word_at_start_is_word}
 use Rattle.mm_spec.proofs.BitLaw.{shifted}
 use Rattle.mm_lex.specs.Plain.{plain_at, IsPlainWord}
-use Rattle.mm_lex.specs.Beginnings.{ArePlain, IsFirst, IsPassed}
+use Rattle.mm_lex.specs.Beginnings.{ArePlain, IsFirstWordStart, IsPassed}
 use Rattle.mm_lex.proofs.MaskLaw.{range_passes_test, one_bit_passes_test, empty_mask_has_none}
 use Rattle.mm_lex.proofs.MaskLaw.{zero_bit_fails_block_test, block_test_in_text, low_bits_are_kept}
 use Rattle.mm_lex.proofs.MaskLaw.{value_one_is_true, value_zero_is_false}
@@ -386,7 +386,7 @@ module _ (text : List ℕ) (start end : ℕ) (begins : begins_word text start �
 
 -- the words that begin from the place `from` on are this one, and those that begin from `upto` on
 pub words_begin_with_found : (text : List ℕ) (w : Word) (from upto to : ℕ) → IsWord text w
-    → IsFirst text from to w.start → IsPassed text w.start upto
+    → IsFirstWordStart text from to w.start → IsPassed text w.start upto
     → words_between text from to ≡ w ∷ words_between text upto to
 words_begin_with_found text w from upto to is_word is_first is_passed =
     words_between_skip_to text from w.start to is_first.from_le_start

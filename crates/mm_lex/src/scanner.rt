@@ -10,7 +10,8 @@ ghost use Rattle.mm_spec.specs.Readings.{bytes_of};
 ghost use Rattle.mm_spec.specs.Words.{begins_word, white_at, words_between};
 ghost use Rattle.mm_spec.specs.Laws.Words.{IsWord};
 ghost use Rattle.mm_lex.specs.Plain.{plain_at, IsPlainWord};
-ghost use Rattle.mm_lex.specs.Beginnings.{ArePlain, IsFirst, IsTaken, IsPassed, IsWordFrom};
+ghost use Rattle.mm_lex.specs.Beginnings.{ArePlain, IsFirstWordStart, IsTaken, IsPassed};
+ghost use Rattle.mm_lex.specs.Beginnings.{IsWordFrom};
 
 use crate::masks::{first_one, last_one};
 use crate::{TEXT_LIMIT, Word};
@@ -204,7 +205,7 @@ impl<'a> WordScanner<'a> {
         ensures text_is { self.new.text.now ≡ self.old.text.now }
         ensures is_first { MatchOption result
             (words_between self.old.text.now self.old.from to ≡ [])
-            (IsFirst self.old.text.now self.old.from to) }
+            (IsFirstWordStart self.old.text.now self.old.from to) }
         ensures none_left { IfNone result (words_between self.old.text.now self.new.from to ≡ []) }
         ensures is_taken { IfSome result (IsTaken self.new.text.now self.new.base self.new.from) }
     {

@@ -4,7 +4,7 @@ use Rattle.std.proofs.lemmas.Nat.Bits.{shr_and_one}
 use Rattle.mm_spec.specs.Words.{white_at}
 use Rattle.mm_spec.specs.Laws.Words.{IsWord}
 use Rattle.mm_lex.specs.Plain.{plain_at}
-use Rattle.mm_lex.specs.Beginnings.{IsFirst, IsPassed, IsWordFrom}
+use Rattle.mm_lex.specs.Beginnings.{IsFirstWordStart, IsPassed, IsWordFrom}
 use Rattle.mm_lex.proofs.BlockLaw.{words_begin_with_found, found_bytes_are_word}
 use Rattle.mm_lex.proofs.BlockLaw.{plain_bytes_are_plain_word, holds_up_to_next_bit}
 use Rattle.mm_lex.proofs.BlockLaw.{one_bit_is_white}
@@ -136,7 +136,8 @@ returns-clause-is_next_word c =
     let start_is = sym (found_word_from context).start_is in
     words_begin_with_found text _ c.args.self.now.from c.word_from.result.0.from c.args.to
     (found_word_from context).is_word
-    (subst (IsFirst text c.args.self.now.from c.args.to) start_is c.in_ok-start.ensures.is_first)
+    (subst (IsFirstWordStart text c.args.self.now.from c.args.to) start_is
+    c.in_ok-start.ensures.is_first)
     (subst (λ (s : ℕ). IsPassed text s c.word_from.result.0.from) start_is
     (none_passed_to_from context))
 
