@@ -1,5 +1,5 @@
 //! How fast a text is read as tokens: `lexing FILE PIECES` writes the number of bytes, of tokens
-//! that `lex` finds, and of words that a plain loop over the bytes keeps; then the nanoseconds of
+//! that `lex` finds, and of words that a simple loop over the bytes keeps; then the nanoseconds of
 //! the loop and of `lex`. The text is read in PIECES equal pieces. `lex` isn't called if PIECES is
 //! 0, and the loop runs only if it is 1. Without arguments the program does nothing. `bench/lexing`
 //! runs it. It isn't part of `mmdepend`, and promises nothing.

@@ -52,9 +52,9 @@ struct Masks {
 #[inline(always)]
 fn masks_of(bytes: &[u8]) -> Masks
     ensures white_is { result.white ≡ mask is_white (take 64 bytes.now) }
-    ensures plain { (i : ℕ) → i < 64 → i < length bytes.now → bit_at result.stops i ≡ 0
+    ensures others_are_plain { (i : ℕ) → i < 64 → i < length bytes.now → bit_at result.stops i ≡ 0
         → plain_at bytes.now i ≡ true }
-    ensures not_white { (i : ℕ) → i < 64 → i < length bytes.now → bit_at result.stops i ≡ 0
+    ensures others_not_white { (i : ℕ) → i < 64 → i < length bytes.now → bit_at result.stops i ≡ 0
         → white_at bytes.now i ≡ false }
 {
     let classes = classes_of(bytes);
@@ -104,9 +104,9 @@ pub struct WordScanner<'a> {
     ghost base_le_from: { base ≤ from },
     ghost from_le_block_end: { from ≤ base + 64 },
     ghost white_is: { white ≡ mask is_white (take 64 (drop base text.now)) },
-    ghost plain: { (i : ℕ) → i < 64 → base + i < length text.now → bit_at stops i ≡ 0
+    ghost others_are_plain: { (i : ℕ) → i < 64 → base + i < length text.now → bit_at stops i ≡ 0
         → plain_at text.now (base + i) ≡ true },
-    ghost not_white: { (i : ℕ) → i < 64 → base + i < length text.now → bit_at stops i ≡ 0
+    ghost others_not_white: { (i : ℕ) → i < 64 → base + i < length text.now → bit_at stops i ≡ 0
         → white_at text.now (base + i) ≡ false },
     ghost begins: { (i : ℕ) → i < 64 → base + i < length text.now → bit_at starts i ≡ 1
         → begins_word text.now (base + i) ≡ true },

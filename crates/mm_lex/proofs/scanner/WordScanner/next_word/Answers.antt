@@ -41,7 +41,8 @@ module _ (c : Then-self-stop-eq1) where
       c.next_start.ensures.text_is c.in_ok-start.ensures.is_taken.base_le_start
       c.first_one-stop.ensures.index_le_64
       (λ k start_le_k k_lt_start _. absurd (omega arith)) c.first_one-stop.ensures.zeros
-      (λ k k_lt_64 place_in_text _. scanner.not_white k k_lt_64 place_in_text) i start_le_i i_lt_end
+      (λ k k_lt_64 place_in_text _. scanner.others_not_white k k_lt_64 place_in_text)
+      i start_le_i i_lt_end
       (omega (arith, (stop_is_white c).0))
 
   plain_to_stop : (i : ℕ) → c.in_ok-start.start ≤ i
@@ -55,7 +56,8 @@ module _ (c : Then-self-stop-eq1) where
       c.next_start.ensures.text_is c.in_ok-start.ensures.is_taken.base_le_start
       c.first_one-stop.ensures.index_le_64
       (λ k start_le_k k_lt_start _. absurd (omega arith)) c.first_one-stop.ensures.zeros
-      (λ k k_lt_64 place_in_text _. scanner.plain k k_lt_64 place_in_text) i start_le_i i_lt_end
+      (λ k k_lt_64 place_in_text _. scanner.others_are_plain k k_lt_64 place_in_text)
+      i start_le_i i_lt_end
       (omega (arith, (stop_is_white c).0))
 
   start_le_stop : c.in_ok-start.start ≤ c.next_start.new.self.base + c.first_one-stop.result

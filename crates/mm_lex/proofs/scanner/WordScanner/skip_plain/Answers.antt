@@ -67,5 +67,5 @@ returns-then-bit-end-clause-are_plain c =
     (skipped_words_are_plain text scanner.base scanner.white scanner.stops first
     c.first_one-special.result
     (omega arith)
-    scanner.white_is scanner.plain c.first_one-special.ensures.zeros end
+    scanner.white_is scanner.others_are_plain c.first_one-special.ensures.zeros end
     (omega (arith, end_le_special, c.min.ensures)) end_lt_64 bit_is_one)

@@ -44,7 +44,7 @@ loop-stop-init c =
           (λ i start_le_i i_lt_stop _. absurd (omega arith))
           (λ i start_le_i i_lt_stop. c.first_one.ensures.zeros i start_le_i
           (omega (arith, stops_equal)))
-          (λ i i_lt_64 place_in_text _. scanner.plain i i_lt_64 place_in_text);
+          (λ i i_lt_64 place_in_text _. scanner.others_are_plain i i_lt_64 place_in_text);
     }
 
 pub loop-stop-preserved-then-is_plain : goal.loop-stop-preserved-then-is_plain
@@ -105,7 +105,7 @@ loop-stop-preserved-then-is_plain c =
           i start_le_i (omega (arith, base_is)) i_in_text)
           (λ i start_le_i i_lt_stop. c.first_one-then-is_plain.ensures.zeros i (omega arith)
           (omega (arith, stops_equal)))
-          (λ i i_lt_64 place_in_text _. scanner_after.plain i i_lt_64 place_in_text);
+          (λ i i_lt_64 place_in_text _. scanner_after.others_are_plain i i_lt_64 place_in_text);
     }
 
 pub loop-stop-preserved : goal.loop-stop-preserved
