@@ -127,31 +127,31 @@ early_letters_are_unique : (fuel n : ℕ) (es fs : List ℕ) → n < fuel → Ar
     → es ≡ fs
 early_letters_are_unique zero n es fs n_lt_fuel es_are_digits fs_are_digits = absurd (omega arith)
 early_letters_are_unique (suc fuel) n es fs n_lt_fuel es_are_digits fs_are_digits =
-    equal_by_last_letters (empty_or_last es) (empty_or_last fs) (λ m gs hs m_lt_fuel.
+    es_is_fs (empty_or_last es) (empty_or_last fs) (λ m gs hs m_lt_fuel.
     early_letters_are_unique fuel m gs hs m_lt_fuel)
   where
-    equal_by_last_letters : (es ≡ []) ⊎ ((ys : List ℕ) × (y : ℕ) × (es ≡ ys ++ y ∷ []))
+    es_is_fs : (es ≡ []) ⊎ ((ys : List ℕ) × (y : ℕ) × (es ≡ ys ++ y ∷ []))
         → (fs ≡ []) ⊎ ((ys : List ℕ) × (y : ℕ) × (fs ≡ ys ++ y ∷ []))
         → ((m : ℕ) (gs hs : List ℕ) → m < fuel → AreEarlyDigits gs m → AreEarlyDigits hs m
         → gs ≡ hs)
         → es ≡ fs
-    equal_by_last_letters (inl es_is_nil) (inl fs_is_nil) unique_for_less = es_is_nil
+    es_is_fs (inl es_is_nil) (inl fs_is_nil) unique_for_less = es_is_nil
         ∙ sym fs_is_nil
-    equal_by_last_letters (inl es_is_nil) (inr fs_splits) unique_for_less =
+    es_is_fs (inl es_is_nil) (inr fs_splits) unique_for_less =
         let n_is_0 : n ≡ 0 = subst (λ xs. AreEarlyDigits xs n) es_is_nil es_are_digits in
         let digits_split = early_digits_split fs_splits.0 fs_splits.1 n (subst (λ xs. AreEarlyDigits
         xs n) fs_splits.2 fs_are_digits) in
         let digit_ge_1 = digits_split.3.digit_ge_1 in
         let n_is = digits_split.4 in
         absurd (omega arith)
-    equal_by_last_letters (inr es_splits) (inl fs_is_nil) unique_for_less =
+    es_is_fs (inr es_splits) (inl fs_is_nil) unique_for_less =
         let n_is_0 : n ≡ 0 = subst (λ xs. AreEarlyDigits xs n) fs_is_nil fs_are_digits in
         let digits_split = early_digits_split es_splits.0 es_splits.1 n (subst (λ xs. AreEarlyDigits
         xs n) es_splits.2 es_are_digits) in
         let digit_ge_1 = digits_split.3.digit_ge_1 in
         let n_is = digits_split.4 in
         absurd (omega arith)
-    equal_by_last_letters (inr es_splits) (inr fs_splits) unique_for_less =
+    es_is_fs (inr es_splits) (inr fs_splits) unique_for_less =
         let es_digits_split = early_digits_split es_splits.0 es_splits.1 n (subst (λ xs.
         AreEarlyDigits xs n) es_splits.2 es_are_digits) in
         let fs_digits_split = early_digits_split fs_splits.0 fs_splits.1 n (subst (λ xs.

@@ -148,13 +148,13 @@ module _ (c : Context) (all_complete : (l : ℕ) → HasCompleteFrame c (c.refer
       → StepFault c ps g
       → f ≡ g
   step_fault_is_unique ps f g faults_f faults_g =
-      equal_by_split (splits_of faults_f.before faults_g.before faults_f.after faults_g.after
+      faults_equal_by_split (splits_of faults_f.before faults_g.before faults_f.after faults_g.after
       faults_f.failing faults_g.failing
       (sym faults_f.splits ∙ faults_g.splits))
     where
-      equal_by_split : Splits faults_f.before faults_f.failing faults_g.before faults_g.failing
-          → f ≡ g
-      equal_by_split (inl splits_equal) =
+      faults_equal_by_split
+          : Splits faults_f.before faults_f.failing faults_g.before faults_g.failing → f ≡ g
+      faults_equal_by_split (inl splits_equal) =
           let expansion = subst (λ x. ExpandTo c (map (λ p. p.step) x) (postfix faults_f.forest))
           splits_equal.0 faults_f.expansion in
           let forests_equal : faults_f.forest ≡ faults_g.forest =
@@ -172,10 +172,10 @@ module _ (c : Context) (all_complete : (l : ℕ) → HasCompleteFrame c (c.refer
           (reason_is_unique faults_g.failing.step (formulas faults_g.forest) faults_f.reason
           faults_g.reason fails_by_reason faults_g.fails)
           ∙ sym faults_g.fault_is
-      equal_by_split (inr (inl is_longer)) =
+      faults_equal_by_split (inr (inl is_longer)) =
           absurd (no_later_fault ps f faults_f faults_g.forest faults_g.before is_longer.0
           faults_g.derivations faults_g.expansion is_longer.1)
-      equal_by_split (inr (inr is_longer)) =
+      faults_equal_by_split (inr (inr is_longer)) =
           absurd (no_later_fault ps g faults_g faults_f.forest faults_f.before is_longer.0
           faults_f.derivations faults_f.expansion is_longer.1)
 
@@ -213,22 +213,22 @@ module _ (db : List Statement) (all_complete : AreComplete db) where
       (reading_faults_at db k) f faults_g.0 faults_f)
   proof_fault_is_unique k end f g (inr faults_f) (inl faults_g) = absurd (nil_has_no_least
       (reading_faults_at db k) g faults_f.0 faults_g)
-  proof_fault_is_unique k end f g (inr faults_f) (inr faults_g) = equal_by_kinds faults_f.1
+  proof_fault_is_unique k end f g (inr faults_f) (inr faults_g) = faults_equal_by_kinds faults_f.1
       faults_g.1
     where
-      equal_by_kinds : StepFault (context_at db k) (steps_at db k) f
+      faults_equal_by_kinds : StepFault (context_at db k) (steps_at db k) f
           ⊎ proof.ProofEndFault (context_at db k) (steps_at db k) (formula_at db k) end f
           → StepFault (context_at db k) (steps_at db k) g
           ⊎ proof.ProofEndFault (context_at db k) (steps_at db k) (formula_at db k) end g → f ≡ g
-      equal_by_kinds (inl of_f) (inl of_g) =
+      faults_equal_by_kinds (inl of_f) (inl of_g) =
           step_fault_is_unique (context_at db k) (all_complete k) (steps_at db k) f g of_f of_g
-      equal_by_kinds (inl of_f) (inr of_g) =
+      faults_equal_by_kinds (inl of_f) (inr of_g) =
           absurd (no_both_faults (context_at db k) (all_complete k) (steps_at db k)
           (formula_at db k) end f g of_f of_g)
-      equal_by_kinds (inr of_f) (inl of_g) =
+      faults_equal_by_kinds (inr of_f) (inl of_g) =
           absurd (no_both_faults (context_at db k) (all_complete k) (steps_at db k)
           (formula_at db k) end g f of_g of_f)
-      equal_by_kinds (inr of_f) (inr of_g) =
+      faults_equal_by_kinds (inr of_f) (inr of_g) =
           end_fault_is_unique (context_at db k) (all_complete k) (steps_at db k)
           (formula_at db k) end f g of_f of_g
 
@@ -255,16 +255,17 @@ module _ (db : List Statement) (all_complete : AreComplete db) where
   first_proof_fault_is_unique : (j k : ℕ) (f g : Fault) → FirstProofFault db j f
       → FirstProofFault db k g
       → f ≡ g
-  first_proof_fault_is_unique j k f g is_first_f is_first_g = equal_by_order (cases_order j k)
+  first_proof_fault_is_unique j k f g is_first_f is_first_g =
+      faults_equal_by_order (cases_order j k)
     where
-      equal_by_order : (j ≡ k) ⊎ ((j < k) ⊎ (k < j)) → f ≡ g
-      equal_by_order (inl j_is_k) =
+      faults_equal_by_order : (j ≡ k) ⊎ ((j < k) ⊎ (k < j)) → f ≡ g
+      faults_equal_by_order (inl j_is_k) =
           proof_fault_is_unique k (proof_end (slice_get db k)) f g
           (subst (λ n. ProofFault db n (proof_end (slice_get db n)) f) j_is_k is_first_f.2)
           is_first_g.2
-      equal_by_order (inr (inl j_lt_k)) = absurd
+      faults_equal_by_order (inr (inl j_lt_k)) = absurd
           (no_first_fault_is_earlier j k f g j_lt_k is_first_f is_first_g)
-      equal_by_order (inr (inr k_lt_j)) = absurd
+      faults_equal_by_order (inr (inr k_lt_j)) = absurd
           (no_first_fault_is_earlier k j g f k_lt_j is_first_g is_first_f)
 
 -- ---- rows of marks
@@ -317,7 +318,7 @@ front_begins tokens_before zs x begins = (
 
 shape_fault_is_unique : (ts : List Token) (f g : Fault) → ShapeFault ts f → ShapeFault ts g → f ≡ g
 shape_fault_is_unique ts f g faults_f faults_g =
-    equal_by_split
+    faults_equal_by_split
     (splits_of faults_f.before faults_g.before faults_f.after faults_g.after faults_f.first
     faults_g.first (sym faults_f.splits ∙ faults_g.splits))
   where
@@ -340,16 +341,17 @@ shape_fault_is_unique ts f g faults_f faults_g =
     faults_equal tokens_before first_token (inr code_of_f) (inr code_of_g) = code_of_f.1
         ∙ sym code_of_g.1
 
-    equal_by_split : Splits faults_f.before faults_f.first faults_g.before faults_g.first → f ≡ g
-    equal_by_split (inl splits_equal) =
+    faults_equal_by_split : Splits faults_f.before faults_f.first faults_g.before faults_g.first
+        → f ≡ g
+    faults_equal_by_split (inl splits_equal) =
         faults_equal faults_g.before faults_g.first
         (subst (λ x. HasShapeCode faults_g.before x f) splits_equal.1
         (subst (λ b. HasShapeCode b faults_f.first f) splits_equal.0 faults_f.fault_is))
         faults_g.fault_is
-    equal_by_split (inr (inl is_longer)) =
+    faults_equal_by_split (inr (inl is_longer)) =
         absurd (faults_f.no_more (front_begins faults_f.before is_longer.0 faults_f.first (subst
         BeginStatements is_longer.1 faults_g.begins)))
-    equal_by_split (inr (inr is_longer)) =
+    faults_equal_by_split (inr (inr is_longer)) =
         absurd (faults_g.no_more (front_begins faults_g.before is_longer.0 faults_g.first (subst
         BeginStatements is_longer.1 faults_f.begins)))
 
@@ -361,7 +363,7 @@ longest_statements_equal ts a b is_longest_a is_longest_b =
 
 file_end_fault_is_unique : (len : ℕ) (ts : List Token) (f g : Fault) → FileEndFault len ts f
     → FileEndFault len ts g → f ≡ g
-file_end_fault_is_unique len ts f g faults_f faults_g = equal_by_kinds faults_f.fault_is
+file_end_fault_is_unique len ts f g faults_f faults_g = faults_equal_by_kinds faults_f.fault_is
     faults_g.fault_is
   where
     rests_equal : faults_f.are_statements.rest ≡ faults_g.are_statements.rest
@@ -375,7 +377,7 @@ file_end_fault_is_unique len ts f g faults_f faults_g = equal_by_kinds faults_f.
         faults_f.are_statements.splits)
         ∙ faults_g.are_statements.splits)
 
-    equal_by_kinds : ((faults_f.are_statements.rest ≢ []) × (f ≡ fault len OpenStatement))
+    faults_equal_by_kinds : ((faults_f.are_statements.rest ≢ []) × (f ≡ fault len OpenStatement))
         ⊎ ((faults_f.are_statements.rest ≡ [])
         × (count_by is_closing faults_f.statements < count_by is_opening faults_f.statements)
         × (f ≡ fault len OpenBlock))
@@ -384,12 +386,12 @@ file_end_fault_is_unique len ts f g faults_f faults_g = equal_by_kinds faults_f.
         × (count_by is_closing faults_g.statements < count_by is_opening faults_g.statements)
         × (g ≡ fault len OpenBlock))
         → f ≡ g
-    equal_by_kinds (inl code_of_f) (inl code_of_g) = code_of_f.1 ∙ sym code_of_g.1
-    equal_by_kinds (inl code_of_f) (inr code_of_g) = absurd
+    faults_equal_by_kinds (inl code_of_f) (inl code_of_g) = code_of_f.1 ∙ sym code_of_g.1
+    faults_equal_by_kinds (inl code_of_f) (inr code_of_g) = absurd
         (code_of_f.0 (rests_equal ∙ code_of_g.0))
-    equal_by_kinds (inr code_of_f) (inl code_of_g) = absurd
+    faults_equal_by_kinds (inr code_of_f) (inl code_of_g) = absurd
         (code_of_g.0 (sym rests_equal ∙ code_of_f.0))
-    equal_by_kinds (inr code_of_f) (inr code_of_g) = code_of_f.2 ∙ sym code_of_g.2
+    faults_equal_by_kinds (inr code_of_f) (inr code_of_g) = code_of_f.2 ∙ sym code_of_g.2
 
 text_fault_is_unique : (len : ℕ) (ts : List Token) (o : Option Fault) (f g : Fault)
     → TextFault len (record { tokens = ts; fault = o }) f
@@ -468,13 +470,13 @@ no_reading_is_shorter len x a b f g reads_a reads_b s zs rest_is a_lt_b =
 reading_is_unique : (len : ℕ) (x : LexedText) (a b : List Statement) (f g : Option Fault)
     → IsRead len x a f → IsRead len x b g → (a ≡ b) × (f ≡ g)
 reading_is_unique len x a b f g reads_a reads_b =
-    equal_by_fronts (fronts_of a b reads_a.rest reads_b.rest
+    both_equal_by_fronts (fronts_of a b reads_a.rest reads_b.rest
     (sym reads_a.splits ∙ longest_statements_equal x.tokens reads_a.statements reads_b.statements
     reads_a.are_statements
     reads_b.are_statements ∙ reads_b.splits))
   where
-    equal_by_fronts : Fronts a reads_a.rest b reads_b.rest → (a ≡ b) × (f ≡ g)
-    equal_by_fronts (inl fronts_equal) = (
+    both_equal_by_fronts : Fronts a reads_a.rest b reads_b.rest → (a ≡ b) × (f ≡ g)
+    both_equal_by_fronts (inl fronts_equal) = (
       fronts_equal.0,
       stopping_fault_is_unique len x reads_b.statements b reads_b.rest f g
           (subst (λ r. StopsReading len x r b reads_b.rest f)
@@ -485,10 +487,10 @@ reading_is_unique len x a b f g reads_a reads_b =
           reads_a.stops)))
           reads_b.stops,
     )
-    equal_by_fronts (inr (inl is_shorter)) = absurd
+    both_equal_by_fronts (inr (inl is_shorter)) = absurd
         (no_reading_is_shorter len x a b f g reads_a reads_b
         is_shorter.0 is_shorter.1 is_shorter.2 is_shorter.3)
-    equal_by_fronts (inr (inr is_shorter)) = absurd
+    both_equal_by_fronts (inr (inr is_shorter)) = absurd
         (no_reading_is_shorter len x b a g f reads_b reads_a
         is_shorter.0 is_shorter.1 is_shorter.2 is_shorter.3)
 
@@ -528,20 +530,20 @@ module _ (len : ℕ) (x : LexedText) (with_open : Bool) where
   first_fault_is_unique f g faults_f faults_g =
       let readings_equal = reading_is_unique len x faults_f.0 faults_g.0 faults_f.1 faults_g.1
       faults_f.2 faults_g.2 in
-      equal_by_causes
+      faults_equal_by_causes
       (subst (λ d. IsCauseOf d faults_g.1 f) readings_equal.0 (subst (λ o. IsCauseOf faults_f.0 o f)
       readings_equal.1 faults_f.3)) faults_g.3
     where
-      equal_by_causes : IsCauseOf faults_g.0 faults_g.1 f → IsCauseOf faults_g.0 faults_g.1 g
+      faults_equal_by_causes : IsCauseOf faults_g.0 faults_g.1 f → IsCauseOf faults_g.0 faults_g.1 g
           → f ≡ g
-      equal_by_causes (inl causes_f) (inl causes_g) =
+      faults_equal_by_causes (inl causes_f) (inl causes_g) =
           first_proof_fault_is_unique (counted with_open faults_g.0) (are_complete faults_g.0
           faults_g.1 faults_g.2) causes_f.0 causes_g.0 f g causes_f.1 causes_g.1
-      equal_by_causes (inl causes_f) (inr causes_g) = absurd
+      faults_equal_by_causes (inl causes_f) (inr causes_g) = absurd
           (fault_or_all_valid faults_g.0 faults_g.1 faults_g.2 causes_f.0 f causes_f.1 causes_g.0)
-      equal_by_causes (inr causes_f) (inl causes_g) = absurd
+      faults_equal_by_causes (inr causes_f) (inl causes_g) = absurd
           (fault_or_all_valid faults_g.0 faults_g.1 faults_g.2 causes_g.0 g causes_g.1 causes_f.0)
-      equal_by_causes (inr causes_f) (inr causes_g) = let options_equal : Some f
+      faults_equal_by_causes (inr causes_f) (inr causes_g) = let options_equal : Some f
           ≡ Some g = sym causes_f.1 ∙ causes_g.1 in cc
 
   fault_or_none : (f : Fault) (db : List Statement) → FirstFault len x with_open f

@@ -459,12 +459,12 @@ module _ (db : List Statement) (are_lawful : (k : ℕ) → k < length db → IsL
       i_lt_j (label_is_word labelled_i.0 w labelled_i.2)) ∙ is_new)
 
   labels_are_distinct : LabelsDiffer db
-  labels_are_distinct w i j labels_i labels_j = same_by_order (cases_order i j)
+  labels_are_distinct w i j labels_i labels_j = i_is_j_by_order (cases_order i j)
     where
-      same_by_order : (i ≡ j) ⊎ ((i < j) ⊎ (j < i)) → i ≡ j
-      same_by_order (inl i_is_j) = i_is_j
-      same_by_order (inr (inl i_lt_j)) = absurd (label_not_twice w i j i_lt_j labels_i labels_j)
-      same_by_order (inr (inr j_lt_i)) = absurd (label_not_twice w j i j_lt_i labels_j labels_i)
+      i_is_j_by_order : (i ≡ j) ⊎ ((i < j) ⊎ (j < i)) → i ≡ j
+      i_is_j_by_order (inl i_is_j) = i_is_j
+      i_is_j_by_order (inr (inl i_lt_j)) = absurd (label_not_twice w i j i_lt_j labels_i labels_j)
+      i_is_j_by_order (inr (inr j_lt_i)) = absurd (label_not_twice w j i j_lt_i labels_j labels_i)
 
 -- the labels of what is read differ, as it counts
 pub labels_differ : (len : ℕ) (x : LexedText) (db : List Statement) (fault : Option Fault)

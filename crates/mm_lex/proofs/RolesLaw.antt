@@ -146,17 +146,18 @@ token_test_is : (word : List ℕ)
     → (is_keyword word || (is_clean word && not (has_dollar word))) ≡ is_token word
 unfolding is_token
 token_test_is word =
-    equal_by_tests (is_keyword word) (is_clean word) (has_dollar word) (keyword_is_clean_word word)
+    conditions_agree (is_keyword word) (is_clean word) (has_dollar word)
+    (keyword_is_clean_word word)
   where
-    equal_by_tests : (k a d : Bool) → (k ≡ true → a ≡ true)
+    conditions_agree : (k a d : Bool) → (k ≡ true → a ≡ true)
         → (k || (a && not d)) ≡ (a && (not d || k))
-    equal_by_tests true true true keyword_is_clean = refl
-    equal_by_tests true true false keyword_is_clean = refl
-    equal_by_tests true false d keyword_is_clean =
+    conditions_agree true true true keyword_is_clean = refl
+    conditions_agree true true false keyword_is_clean = refl
+    conditions_agree true false d keyword_is_clean =
         let is_clean_k = keyword_is_clean refl in absurd (cc)
-    equal_by_tests false true true keyword_is_clean = refl
-    equal_by_tests false true false keyword_is_clean = refl
-    equal_by_tests false false d keyword_is_clean = refl
+    conditions_agree false true true keyword_is_clean = refl
+    conditions_agree false true false keyword_is_clean = refl
+    conditions_agree false false d keyword_is_clean = refl
 
 pub keyword_is_token : (word : List ℕ) → is_keyword word ≡ true → true ≡ is_token word
 keyword_is_token word is_keyword_w =

@@ -69,21 +69,21 @@ module _ (db : List Statement) (lawful : (k : ℕ) → k < length db → IsLawfu
   no_constant_is_variable w is_constant is_variable =
       let constant_place = declaring_statement constants_of db w is_constant in
       let variable_place = declaring_statement variables_of db w is_variable in
-      absurd_by_order constant_place.0 variable_place.0 constant_place.1 variable_place.1
+      not_declared_as_both constant_place.0 variable_place.0 constant_place.1 variable_place.1
       constant_place.2 variable_place.2 constant_place.3 variable_place.3
       (cases_order constant_place.0 variable_place.0)
     where
-      absurd_by_order : (i j : ℕ) (s t : Statement) → slice_get db i ≡ Some s
+      not_declared_as_both : (i j : ℕ) (s t : Statement) → slice_get db i ≡ Some s
           → slice_get db j ≡ Some t
           → is_in w (constants_of s) ≡ true → is_in w (variables_of t) ≡ true
           → (i ≡ j) ⊎ ((i < j) ⊎ (j < i)) → ⊥
-      absurd_by_order i j s t s_at_i t_at_j s_declares_constant t_declares_variable
+      not_declared_as_both i j s t s_at_i t_at_j s_declares_constant t_declares_variable
           (inl i_is_j) =
           let s_is_t : s ≡ t = cc in
           not_constant_and_variable t w
           (subst (λ x. is_in w (constants_of x) ≡ true) s_is_t s_declares_constant)
           t_declares_variable
-      absurd_by_order i j s t s_at_i t_at_j s_declares_constant t_declares_variable
+      not_declared_as_both i j s t s_at_i t_at_j s_declares_constant t_declares_variable
           (inr (inl i_lt_j)) =
           true≢false
           (sym (later_place_knows_declared constants_of db j i s w s_at_i i_lt_j
@@ -91,7 +91,7 @@ module _ (db : List Statement) (lawful : (k : ℕ) → k < length db → IsLawfu
           ∙ variable_is_no_constant_before (names_before db j) (depth db j) t w
           (lawful_is_faultless j t t_at_j)
           t_declares_variable)
-      absurd_by_order i j s t s_at_i t_at_j s_declares_constant t_declares_variable
+      not_declared_as_both i j s t s_at_i t_at_j s_declares_constant t_declares_variable
           (inr (inr j_lt_i)) =
           true≢false
           (sym (later_place_knows_declared variables_of db i j t w t_at_j j_lt_i

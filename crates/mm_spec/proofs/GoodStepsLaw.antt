@@ -324,14 +324,14 @@ module _ (db : List Statement) (k : ℕ)
           no_faults_no_codes g.last.at
           (when (nat_lt 0 (length g.early)) OpenNumber ++ when (count == 0) MarkBeforeStep)
           (both_are_empty (faults_of_group false true) (faults_of_later_groups true) no_faults).0 in
-          let number_is_within =
+          let count_not_zero =
           eqb-false count 0
           (no_code_if_false (count == 0) MarkBeforeStep
           (both_are_empty (when (nat_lt 0 (length g.early)) OpenNumber)
           (when (count == 0) MarkBeforeStep) no_codes).1) in
           after_mark (omega arith)
           (both_are_empty (faults_of_group false true) (faults_of_later_groups true) no_faults).1
-      good_by_letter false is_last_letter false is_mark_letter no_faults after_number after_mark =
+      good_by_letter false ends_number false is_mark_letter no_faults after_number after_mark =
           absurd (other_byte_is_fault (g.last.byte == 63)
           (both_are_empty (faults_of_group false false) (faults_of_later_groups false) no_faults).0)
 

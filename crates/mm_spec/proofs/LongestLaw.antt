@@ -221,12 +221,12 @@ transition_holds (start (suc d)) part t close_block word_has_meaning part_is_rea
   refl,
 )
 transition_holds (start d) part t plain word_has_meaning part_is_read =
-    holds_by_test (is_label t.word) refl
+    label_is_read_by_test (is_label t.word) refl
   where
-    holds_by_test : (b : Bool) → is_label t.word ≡ b
+    label_is_read_by_test : (b : Bool) → is_label t.word ≡ b
         → TransitionHolds d (part ++ t ∷ []) (label_transition b d t)
-    holds_by_test true test_is = (refl, (test_is, ap (λ p. p ++ t ∷ []) part_is_read))
-    holds_by_test false test_is = tt
+    label_is_read_by_test true test_is = (refl, (test_is, ap (λ p. p ++ t ∷ []) part_is_read))
+    label_is_read_by_test false test_is = tt
 transition_holds (labelled d l) part t floating_keyword word_has_meaning part_is_read = (
   refl,
   record {
