@@ -670,17 +670,17 @@ module _ (db : List Statement) (differ : LabelsDiffer db) (k end : ℕ) where
 
   normal_faults_are : (t : Token) (ts : List Token) → t.word ≢ codes "("
       → reading_faults db k end (t ∷ ts) ≡ flat_map faults_of_word (t ∷ ts)
-  normal_faults_are t ts no_bracket = equal_by_bracket (bytes_eq t.word (codes "(")) refl
+  normal_faults_are t ts no_bracket = faults_equal_by_bracket (bytes_eq t.word (codes "(")) refl
     where
-      equal_by_bracket : (b : Bool) → bytes_eq t.word (codes "(") ≡ b
+      faults_equal_by_bracket : (b : Bool) → bytes_eq t.word (codes "(") ≡ b
           → ◌≡◌ {A = List Fault}
           (elim b [
             | true ↦ compressed_faults db k end (bracketed ts)
             | false ↦ normal_faults db k end (t ∷ ts)
           ]) (flat_map faults_of_word (t ∷ ts))
-      equal_by_bracket true is_bracket = absurd (no_bracket
+      faults_equal_by_bracket true is_bracket = absurd (no_bracket
           (equal_bytes_equal_words t.word (codes "(") is_bracket))
-      equal_by_bracket false not_bracket = refl
+      faults_equal_by_bracket false not_bracket = refl
 
 pub normal_is_exact : WhereRead NormalIsExact
 normal_is_exact len x db fault is_read with_open k end t ts no_bracket =
