@@ -22,7 +22,7 @@ use std::thread::Threads;
 /// A plan that cuts the text in this way, checks proofs with `workers` workers, and writes these
 /// sections.
 pub(crate) fn plan_of<A: Allocator>(cuts: Cutting<A>, workers: u32, choice: Choice) -> Plan<A> {
-    let mut plan = Plan::plain(cuts, workers);
+    let mut plan = Plan::without_options(cuts, workers);
     plan.choice = choice;
     plan
 }

@@ -94,7 +94,7 @@ module _ (db : List Statement) (t : ℕ) (steps : List PlacedStep) where
       }
 
     pub end_is_refused : (end : ℕ) (code : Code) → option_map end_at (slice_get db t) ≡ Some end
-        → IsEndCode (context_at db t) c.machine.stack (formula_at db t) code
+        → IsEndCode c.machine.stack (formula_at db t) code
         → ProofFault db t (proof_end (slice_get db t)) (fault end code)
     end_is_refused end code end_is is_end_code =
         let f = formula_at db t in

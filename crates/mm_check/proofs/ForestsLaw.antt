@@ -7,10 +7,10 @@ use Rattle.std.proofs.lemmas.List.{get_or_append_left, same_from_push}
 use Rattle.mm_spec.specs.Derivation.{Formula, Context, Follows, Trees, none, more, tree, formulas}
 use Rattle.mm_spec.specs.Derivation.{postfix, AreDerivations}
 use Rattle.mm_spec.specs.Steps.{Step, label, marked}
-use Rattle.mm_spec.specs.Valid.{IsLastTree, Adds, Plain, Derives}
+use Rattle.mm_spec.specs.Valid.{IsLastTree, Adds, Expands, Derives}
 use Rattle.mm_spec.specs.Laws.Complete.{HasCompleteFrame}
 use Rattle.mm_spec.proofs.UniqueLaw.{◌⧺◌}
-use Rattle.mm_spec.proofs.CheckedLaw.{plain_extends, same_labels_same_forest}
+use Rattle.mm_spec.proofs.CheckedLaw.{expansion_grows, same_labels_same_forest}
 
 -- the forest after the first n steps
 abbrev pub forest_at : List Trees → ℕ → Trees
@@ -69,7 +69,7 @@ module _ (c : Context) where
   abbrev pub IsMove : List Trees → ℕ → Step → Type 0
   IsMove forests n (label l) =
       (ts : Trees) × (f : Formula) × (cs : Trees) × (forest_at forests (suc n) ≡ more ts l f cs)
-      × (forest_at forests n ≡ ts ⧺ cs) × Follows c (c.rule l) (formulas cs) f
+      × (forest_at forests n ≡ ts ⧺ cs) × Follows c (c.referent l) (formulas cs) f
   IsMove forests n (marked j) =
       (j < n) × (l : ℕ) × (f : Formula) × (cs : Trees)
       × (forest_at forests (suc n) ≡ more (forest_at forests n) l f cs)
@@ -181,7 +181,7 @@ module _ (c : Context) where
       let tail_case = list_is_postfix xs ts j list are_lists.1 list_is in let j_lt_length =
       tail_case.0 in (omega (arith, j_lt_length), tail_case.1, tail_case.2)
 
-  module _ (are_complete : (l : ℕ) → HasCompleteFrame c (c.rule l)) where
+  module _ (are_complete : (l : ℕ) → HasCompleteFrame c (c.referent l)) where
     -- one step
     move_label : (forests : List Trees) (n : ℕ) (forest next_forest : Trees) (l : ℕ)
         → AreDerivations c forest
@@ -206,7 +206,7 @@ module _ (c : Context) where
           next_is ∙ ap (λ x. more ts x f cs) postfixes_equal.1,
           forest_is
               ∙ forest_splits,
-          subst (λ x. Follows c (c.rule x) (formulas cs) f) postfixes_equal.1 next_derives.2,
+          subst (λ x. Follows c (c.referent x) (formulas cs) f) postfixes_equal.1 next_derives.2,
         )
 
     move_marked : (lists : List (List ℕ)) (forests later : List Trees) (forest next_forest : Trees)
@@ -326,9 +326,9 @@ module _ (c : Context) where
         (forest d : Trees)
         → AreListsOf lists forests → AreDerivations c forest → forest_at forests (length forests)
         ≡ forest
-        → AreDerivations c d → Plain c lists (postfix forest) steps (postfix d)
+        → AreDerivations c d → Expands c lists (postfix forest) steps (postfix d)
         → HasRest forests steps d
-    has_rest_from [] lists forests forest d are_lists derives forest_is d_derives plain =
+    has_rest_from [] lists forests forest d are_lists derives forest_is d_derives expands =
         let length_is : length forests + 0 ≡ length forests = omega arith in
         record {
           later = [];
@@ -336,16 +336,19 @@ module _ (c : Context) where
           ends_in_d =
               ap (forest_at (forests ++ [])) length_is
               ∙ forest_front forests [] (length forests) (omega arith) ∙ forest_is
-              ∙ sym (same_labels_same_forest c are_complete d forest d_derives derives plain);
+              ∙ sym (same_labels_same_forest c are_complete d forest d_derives derives expands);
         }
-    has_rest_from (s ∷ steps) lists forests forest d are_lists derives forest_is d_derives plain =
-        let extension = plain_extends c steps (lists ++ plain.0 ∷ []) plain.0 (postfix d) plain.2 in
-        let row = row_of_front d plain.0 extension.0 d_derives extension.1 in
-        rest_after_step lists forests forest d s steps are_lists derives forest_is plain.0 plain.1
+    has_rest_from (s ∷ steps) lists forests forest d are_lists derives forest_is d_derives expands =
+        let extension =
+        expansion_grows c steps (lists ++ expands.0 ∷ []) expands.0 (postfix d) expands.2 in
+        let row = row_of_front d expands.0 extension.0 d_derives extension.1 in
+        rest_after_step lists forests forest d s steps are_lists derives forest_is expands.0
+        expands.1
         row.0 row.1 row.2
-        (λ next_is. has_rest_from steps (lists ++ plain.0 ∷ []) (forests ++ row.0 ∷ []) row.0 d
-        (lists_push lists forests plain.0 row.0 are_lists row.1 row.2) row.1 next_is d_derives
-        (subst (λ z. Plain c (lists ++ plain.0 ∷ []) z steps (postfix d)) (sym row.2) plain.2))
+        (λ next_is. has_rest_from steps (lists ++ expands.0 ∷ []) (forests ++ row.0 ∷ []) row.0 d
+        (lists_push lists forests expands.0 row.0 are_lists row.1 row.2) row.1 next_is d_derives
+        (subst (λ z. Expands c (lists ++ expands.0 ∷ []) z steps (postfix d)) (sym row.2)
+        expands.2))
 
     -- a proof's forests
     pub proof_has_forests : (steps : List Step) (f : Formula) (d : Trees) → Derives c steps f d

@@ -9,7 +9,7 @@ use Rattle.mm_spec.specs.Derivation.{Formula, is_member}
 use Rattle.mm_spec.specs.Steps.{label, marked}
 use Rattle.mm_spec.specs.Valid.{Reason}
 use Rattle.mm_spec.specs.Citation.{context_at}
-use Rattle.mm_spec.specs.Laws.Stack.{IsCompleteRule, step}
+use Rattle.mm_spec.specs.Laws.Stack.{IsCompleteReferent, step}
 use Rattle.mm_rule.specs.Assertions.{is_assertion_at}
 use Rattle.mm_machine.specs.State.{MachineState, machine_state, applied}
 use Rattle.mm_machine.specs.Applied.{IsRefusalOf}
@@ -46,7 +46,7 @@ module _ (db : List Statement) (t : ℕ) where
       }
 
   module _ (c : CheckerState) (a : ℕ)
-      (rule_is_complete : IsCompleteRule (context_at db t) ((context_at db t).rule a))
+      (rule_is_complete : IsCompleteReferent (context_at db t) ((context_at db t).referent a))
       (is_assertion : is_assertion_at db a ≡ true) where
     pub applied_step_performs : (m : MachineState) (noted : List ℕ) (cache : List (ℕ × ℕ))
         → applied db t a c.machine.stack ≡ Ok m.stack → m.marks ≡ c.machine.marks

@@ -17,8 +17,8 @@ use Rattle.mm_spec.specs.Nodes.{is_essential_hypothesis}
 use Rattle.mm_spec.specs.Steps.{Step, label, marked, PlacedStep, placed}
 use Rattle.mm_spec.specs.Valid.{Derives}
 use Rattle.mm_spec.specs.Laws.Complete.{AreComplete}
-use Rattle.mm_spec.specs.Citation.{context_at, rule_at, steps_at, IsProof, Cites}
-use Rattle.mm_spec.specs.Laws.Stack.{IsCompleteRule, AreGoodSteps, IsGoodStep}
+use Rattle.mm_spec.specs.Citation.{context_at, referent_at, steps_at, IsProof, Cites}
+use Rattle.mm_spec.specs.Laws.Stack.{IsCompleteReferent, AreGoodSteps, IsGoodStep}
 use Rattle.mm_spec.proofs.CitedLaw.{two_proofs_are_equal}
 use Rattle.mm_spec.proofs.UniqueLaw.{tree_count_formulas}
 use Rattle.mm_steps.specs.TheoremSteps.{step_at, IsEarlier}
@@ -63,8 +63,8 @@ flag_of_premise b e (h ∷ hs) zero = refl
 flag_of_premise b e (h ∷ hs) (suc n) = flag_of_premise b e hs n
 
 module _ (db : List Statement) (t : ℕ) (b : Bool) (l : ℕ) (cs : Trees) (f : Formula)
-    (rule_is_complete : IsCompleteRule (context_at db t) (rule_at db t l))
-    (follows : Follows (context_at db t) (rule_at db t l) (formulas cs) f) where
+    (rule_is_complete : IsCompleteReferent (context_at db t) (referent_at db t l))
+    (follows : Follows (context_at db t) (referent_at db t l) (formulas cs) f) where
   -- there are as many flags as premises, and they are those of the premises for a `$e`
   record AreFlags (vs : List Bool) : Type 0 where
     pub flag_count_is : length vs ≡ tree_count cs

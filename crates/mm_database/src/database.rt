@@ -7,7 +7,7 @@ ghost use Rattle.std.specs.Option.{option_map, option_copied, option_and_then};
 ghost use Rattle.std.specs.List.{list_any};
 ghost use Rattle.mm_spec.specs.Statement.{label_of, proof_of};
 ghost use Rattle.mm_spec.specs.Opened.{counted, is_open_theorem};
-ghost use Rattle.mm_spec.specs.Scope.{is_active, statement_at};
+ghost use Rattle.mm_spec.specs.Scope.{active_at, statement_at};
 ghost use Rattle.mm_spec.specs.Derivation.{pair};
 ghost use Rattle.mm_spec.specs.Frame.{symbol_names, is_variable_number, formula_at};
 ghost use Rattle.mm_spec.specs.Frame.{mandatory_hypotheses, mandatory_pairs, disjoint_at};
@@ -224,7 +224,7 @@ impl<'a, A: Allocator> Database<'a, A> {
     pub fn active_at(&self, statement: u32, at: u32) -> bool
         requires statement_lt_length { statement < length self.now.statements }
         requires at_le_length { at ≤ length self.now.statements }
-        ensures { result ≡ is_active self.now.statements statement at }
+        ensures { result ≡ active_at self.now.statements statement at }
     {
         self.reading.statements.active_at(statement, at)
     }

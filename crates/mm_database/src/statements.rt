@@ -4,7 +4,7 @@ ghost use Rattle.std.specs.Prelude.{◌≡◌, ◌<◌, ◌≤◌, ◌^◌, All,
 ghost use Rattle.std.specs.List.{list_any};
 ghost use Rattle.std.specs.Option.{option_map};
 ghost use Rattle.mm_spec.specs.Lexed.{tokens_of};
-ghost use Rattle.mm_spec.specs.Scope.{statement_at, is_block_open, is_active};
+ghost use Rattle.mm_spec.specs.Scope.{statement_at, is_block_open, active_at};
 ghost use Rattle.mm_spec.specs.Frame.{symbol_names, is_variable_number, is_disjoint_statement};
 ghost use Rattle.mm_spec.specs.Frame.{is_essential, is_floating, formula_at};
 ghost use Rattle.mm_spec.specs.Citation.{is_assertion};
@@ -215,7 +215,7 @@ impl<'a, A: Allocator> Statements<'a, A> {
     pub fn active_at(&self, statement: u32, at: u32) -> bool
         requires statement_lt_length { statement < length self.now.list }
         requires at_le_length { at ≤ length self.now.list }
-        ensures { result ≡ is_active self.now.list statement at }
+        ensures { result ≡ active_at self.now.list statement at }
     {
         let kind = self.outlines[statement as usize].kind;
         statement < at && is_active_kind(kind, self.blocks.is_open_at(statement, at))

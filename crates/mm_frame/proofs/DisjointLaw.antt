@@ -12,7 +12,7 @@ use Rattle.mm_spec.specs.Statement.{Statement}
 use Rattle.mm_spec.specs.Scope.{statement_at}
 use Rattle.mm_spec.specs.Derivation.{Pair, pair, is_member}
 use Rattle.mm_spec.specs.Frame.{symbol_names, is_disjoint_statement, active_of, formula_at}
-use Rattle.mm_spec.specs.Frame.{mandatory_variables, mandatory_pairs, disjoint_at, pairs_of}
+use Rattle.mm_spec.specs.Frame.{mandatory_variables, mandatory_pairs, disjoint_at, pairs_below}
 use Rattle.mm_spec.proofs.BoolLaw.{same_tests}
 use Rattle.mm_spec.proofs.MemberLaw.{passing_has_witness, witness_makes_any, member_range}
 use Rattle.mm_outline.specs.Blocks.{BlockLists, IsBlocks}
@@ -465,14 +465,14 @@ module _ (db : List Statement) (b : BlockLists) (are_blocks : IsBlocks db b) (k 
         → ((x y : ℕ) → has_pair qs x y ≡ together x y)
         → map (λ p. pair p.0 p.1) qs ≡ mandatory_pairs db k
     pairs_are_mandatory_pairs qs rising has_pair_is_together =
-        sorted_with_same_members_equal (map (λ p. pair p.0 p.1) qs) (filter wanted (pairs_of count))
+        sorted_with_same_members_equal (map (λ p. pair p.0 p.1) qs)
+        (filter wanted (pairs_below count))
         (mapped_are_sorted qs rising)
-        (filtered_are_sorted wanted (pairs_of count) (all_pairs_are_sorted count))
+        (filtered_are_sorted wanted (pairs_below count) (all_pairs_are_sorted count))
         (λ x y. has_mapped_pair qs x y ∙ has_pair_is_together x y
         ∙ same_tests (together x y)
         (wanted (pair x y)
         && (is_member (range_with_len 0 count) x && is_member (range_with_len 0 count) y))
         (left_to_right x y) (right_to_left x y)
-        ∙ sym (has_filtered_pair wanted (pairs_of count) x y
-        ∙ ap (λ b. wanted (pair x y) && b)
+        ∙ sym (has_filtered_pair wanted (pairs_below count) x y ∙ ap (λ b. wanted (pair x y) && b)
         (has_pair_in_rows (range_with_len 0 count) (range_with_len 0 count) x y)))

@@ -13,10 +13,11 @@ use Rattle.std.specs.List.{list_any}
 use Rattle.mm_spec.specs.Text.{Bytes, Token, is_in, fault}
 use Rattle.mm_spec.specs.Statement.{Statement, constants, variables, disjoint, floating, essential}
 use Rattle.mm_spec.specs.Statement.{axiomatic, provable, opening, closing}
-use Rattle.mm_spec.specs.Scope.{Names, names_before, active_statements, is_active}
+use Rattle.mm_spec.specs.Scope.{Names, names_before, active_statements, active_at}
 use Rattle.mm_spec.specs.Scope.{is_some_still_active}
 use Rattle.mm_spec.specs.Scope.{depth, constants_of, variables_of, is_block_open}
-use Rattle.mm_spec.specs.Lawful.{scope_faults, least, is_typed, floating_faults, label_faults, at}
+use Rattle.mm_spec.specs.Lawful.{scope_faults, least, is_typed, floating_faults, label_faults}
+use Rattle.mm_spec.specs.Lawful.{faults_at}
 use Rattle.mm_spec.specs.Lawful.{when, is_typed_otherwise}
 use Rattle.mm_spec.specs.declared.Fault.{Fault}
 use Rattle.mm_spec.specs.declared.Code.TheVariants.{BadFloating, TypedBefore, OtherTypecode}
@@ -87,7 +88,7 @@ module _ (db : List Statement) (is_sound : IsSound db) where
       codes : Bool → List Fault
       codes =
           λ b. elim b [
-            | true ↦ at v.at
+            | true ↦ faults_at v.at
                 (when (is_typed n v.word) TypedBefore
                 ++ when (is_typed_otherwise n c.word v.word) OtherTypecode)
             | false ↦ fault keyword BadFloating ∷ []
@@ -271,7 +272,7 @@ module _ (db : List Statement) (is_sound : IsSound db) where
         float.typecode_is_declared)
 
     -- a `$f` is active exactly while its block is open
-    pub float_active_is_block_open : (l : ℕ) → k < l → is_active db k l ≡ is_block_open db k l
+    pub float_active_is_block_open : (l : ℕ) → k < l → active_at db k l ≡ is_block_open db k l
     float_active_is_block_open l k_lt_l =
         ap₂ (λ t o. t && is_some_still_active o (is_block_open db k l))
         (lt-ltb k l k_lt_l) float.statement_is
@@ -296,10 +297,10 @@ module _ (db : List Statement) (is_sound : IsSound db) where
       ∙ ap (λ b. b || false)
       ((bytes_eq-Decides w j_is_float.variable.word).1 (sym variables_equal)) in
       true≢false
-      (sym (range_any (λ j_lt_length. is_active db j_lt_length k && has_word db typed_words w
+      (sym (range_any (λ j_lt_length. active_at db j_lt_length k && has_word db typed_words w
       j_lt_length) k 0 j (omega arith)
       (omega arith) (ap₂ (λ a b. a && b)
       (float_active_is_block_open j v j_lt_length j_is_float k j_lt_k
       ∙ j_is_open) j_types_w))
-      ∙ sym (word_of_active_is_any db typed_words w (λ j_lt_length. is_active db j_lt_length k) k 0)
+      ∙ sym (word_of_active_is_any db typed_words w (λ j_lt_length. active_at db j_lt_length k) k 0)
       ∙ sym (typed_word_is_typing w (active_statements db k)) ∙ k_is_float.variable_is_untyped)

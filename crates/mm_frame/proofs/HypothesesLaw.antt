@@ -12,7 +12,7 @@ use Rattle.std.proofs.Math.Bool.{or-false, or-true}
 use Rattle.mm_spec.specs.Text.{is_in}
 use Rattle.mm_spec.specs.Derivation.{is_member}
 use Rattle.mm_spec.specs.Statement.{Statement}
-use Rattle.mm_spec.specs.Scope.{statement_at, active, is_active, variables_of, is_block_open}
+use Rattle.mm_spec.specs.Scope.{statement_at, active, active_at, variables_of, is_block_open}
 use Rattle.mm_spec.specs.Frame.{symbol_names, index_of, is_variable_number, is_essential}
 use Rattle.mm_spec.specs.Frame.{is_floating, active_of, formula_at, mandatory_variables}
 use Rattle.mm_spec.specs.Frame.{mandatory_hypotheses}
@@ -157,7 +157,7 @@ module _ (db : List Statement) (k : ℕ) where
       -- an active `$f` of a mandatory variable is found
       float_found : (j : ℕ) → j < k → list_any is_floating (statement_at db j) ≡ true
           → list_any (is_member (mandatory_variables db k)) (formula_at db j) ≡ true
-          → is_active db j k ≡ true → list_any (is_float_of db k ts j) variables ≡ true
+          → active_at db j k ≡ true → list_any (is_float_of db k ts j) variables ≡ true
       float_found j j_lt_k j_is_floating j_has_mandatory active_at_k =
           let j_lt_length_db : j < length db = omega arith in
           let floating = floating_is_typed db is_sound j j_lt_length_db j_is_floating in
@@ -197,7 +197,7 @@ module _ (db : List Statement) (k : ℕ) where
 
       -- what is found is an active `$f` of a mandatory variable
       found_is_active_float : (j : ℕ) → list_any (is_float_of db k ts j) variables ≡ true
-          → (is_active db j k ≡ true) × (list_any is_floating (statement_at db j) ≡ true)
+          → (active_at db j k ≡ true) × (list_any is_floating (statement_at db j) ≡ true)
           × (list_any (is_member (mandatory_variables db k)) (formula_at db j) ≡ true) × (j < k)
       found_is_active_float j j_is_found =
           let witness = passing_has_witness (is_float_of db k ts j) variables j_is_found in
@@ -244,8 +244,8 @@ module _ (db : List Statement) (k : ℕ) where
           || list_any (is_float_of db k ts j) variables))
           → xs ≡ mandatory_hypotheses db k
       hypotheses_are_mandatory es xs essentials_are_active xs_are_rising xs_members_are =
-          sym (filter_filter wanted (λ j. is_active db j k) (range_with_len 0 k)
-          ∙ filter_is (λ j. is_active db j k && wanted j) k 0 xs
+          sym (filter_filter wanted (λ j. active_at db j k) (range_with_len 0 k)
+          ∙ filter_is (λ j. active_at db j k && wanted j) k 0 xs
           (rising_from_increasing xs 0 xs_are_rising (λ j_lt_k. omega arith))
           (λ j j_is_in_xs. let j_lt_k = (right_to_left j (sym (xs_members_are j) ∙ j_is_in_xs)).1 in
           omega (arith, j_lt_k))
@@ -253,39 +253,39 @@ module _ (db : List Statement) (k : ℕ) where
         where
           member_is_active_essential : (j : ℕ)
               → is_member es j
-              ≡ (list_any is_essential (statement_at db j) && (is_active db j k && nat_lt j k))
+              ≡ (list_any is_essential (statement_at db j) && (active_at db j k && nat_lt j k))
           member_is_active_essential j =
               essentials_are_active j
               ∙ member_filter (λ j. list_any is_essential (statement_at db j)) (active db k) j
               ∙ ap (λ b. list_any is_essential (statement_at db j) && b)
-              (member_filter (λ j. is_active db j k) (range_with_len 0 k) j
-              ∙ ap (λ b. is_active db j k && b)
+              (member_filter (λ j. active_at db j k) (range_with_len 0 k) j
+              ∙ ap (λ b. active_at db j k && b)
               (member_range k 0 j (omega arith)
               ∙ (let zero_plus_k_is_k : 0 + k ≡ k = omega arith in ap (nat_lt j) zero_plus_k_is_k)))
 
           right_to_left : (j : ℕ) → (is_member es j || list_any (is_float_of db k ts j) variables)
               ≡ true
-              → ((is_active db j k && wanted j) ≡ true) × (j < k)
+              → ((active_at db j k && wanted j) ≡ true) × (j < k)
           right_to_left j is_found = is_wanted (is_member es j) refl is_found
             where
               is_wanted : (b : Bool) → is_member es j ≡ b
                   → (b || list_any (is_float_of db k ts j) variables) ≡ true
-                  → ((is_active db j k && wanted j) ≡ true) × (j < k)
+                  → ((active_at db j k && wanted j) ≡ true) × (j < k)
               is_wanted true j_is_member is_found =
                   let j_is_active_essential = sym (member_is_active_essential j) ∙ j_is_member in
                   let j_is_essential =
                   (and_parts (list_any is_essential (statement_at db j))
-                  (is_active db j k && nat_lt j k) j_is_active_essential).0 in
+                  (active_at db j k && nat_lt j k) j_is_active_essential).0 in
                   let j_is_active_before_k =
                   (and_parts (list_any is_essential (statement_at db j))
-                  (is_active db j k && nat_lt j k) j_is_active_essential).1 in (
+                  (active_at db j k && nat_lt j k) j_is_active_essential).1 in (
                     ap₂ (λ a b. a
                         && (b ||
                         (list_any is_floating (statement_at db j)
                         && list_any (is_member (mandatory_variables db k)) (formula_at db j))))
-                        (and_parts (is_active db j k) (nat_lt j k) j_is_active_before_k).0
+                        (and_parts (active_at db j k) (nat_lt j k) j_is_active_before_k).0
                         j_is_essential,
-                    ltb-true j k (and_parts (is_active db j k) (nat_lt j k) j_is_active_before_k).1,
+                    ltb-true j k (and_parts (active_at db j k) (nat_lt j k) j_is_active_before_k).1,
                   )
               is_wanted false not_member is_found =
                   let active_float = found_is_active_float j is_found in (
@@ -296,14 +296,14 @@ module _ (db : List Statement) (k : ℕ) where
                     active_float.3,
                   )
 
-          left_to_right : (j : ℕ) → j < k → (is_active db j k && wanted j) ≡ true
+          left_to_right : (j : ℕ) → j < k → (active_at db j k && wanted j) ≡ true
               → (is_member es j || list_any (is_float_of db k ts j) variables) ≡ true
           left_to_right j j_lt_k active_and_wanted =
               is_listed (list_any is_essential (statement_at db j)) refl
-              (and_parts (is_active db j k) (wanted j) active_and_wanted).1
+              (and_parts (active_at db j k) (wanted j) active_and_wanted).1
             where
-              j_is_active : is_active db j k ≡ true
-              j_is_active = (and_parts (is_active db j k) (wanted j) active_and_wanted).0
+              j_is_active : active_at db j k ≡ true
+              j_is_active = (and_parts (active_at db j k) (wanted j) active_and_wanted).0
 
               is_listed : (b : Bool) → list_any is_essential (statement_at db j) ≡ b
                   → (b || (list_any is_floating (statement_at db j)
@@ -325,9 +325,9 @@ module _ (db : List Statement) (k : ℕ) where
                   active_and_wanted).1 j_is_active)
                   ∙ or-true (is_member es j)
 
-          wanted_is_member : (j : ℕ) → j < k → (is_active db j k && wanted j) ≡ is_member xs j
+          wanted_is_member : (j : ℕ) → j < k → (active_at db j k && wanted j) ≡ is_member xs j
           wanted_is_member j j_lt_k =
-              same_tests (is_active db j k && wanted j)
+              same_tests (active_at db j k && wanted j)
               (is_member es j || list_any (is_float_of db k ts j) variables)
               (left_to_right j j_lt_k)
               (λ is_found. (right_to_left j is_found).0)

@@ -18,7 +18,7 @@ use Rattle.std.proofs.lemmas.List.Kept.{Contains-from_dedup}
 use Rattle.std.proofs.lemmas.List.Sorted.{Contains-permutation, IsPermutation-sym}
 use Rattle.std.proofs.Math.Bool.{and-false, or-true}
 use Rattle.mm_spec.specs.Derivation.{Pair, pair, is_member}
-use Rattle.mm_spec.specs.Frame.{pairs_of}
+use Rattle.mm_spec.specs.Frame.{pairs_below}
 use Rattle.mm_spec.proofs.BoolLaw.{same_tests}
 use Rattle.mm_database.specs.Pairs.{has_pair, IsBefore, AreRising}
 
@@ -433,5 +433,5 @@ rows_are_sorted m (suc n) a =
     inl (omega (arith, p_is_a, next_le_x)))
 
 -- the list of all pairs of numbers below n is sorted
-pub all_pairs_are_sorted : (n : ℕ) → AreSorted (pairs_of n)
+pub all_pairs_are_sorted : (n : ℕ) → AreSorted (pairs_below n)
 all_pairs_are_sorted n = rows_are_sorted n n 0

@@ -33,7 +33,7 @@ pub use cells::{cells_are_decided, theorems_have_one_wave};
 pub use citations::essential_citations_are_citations;
 pub use derivations::labels_determine_a_derivation;
 pub use frames::lawful_statements_have_complete_frames;
-pub use letters::{letters_spell_one_row, numbers_have_one_spelling};
+pub use letters::{letters_spell_one_list, numbers_have_one_spelling};
 pub use meaning::{valid_theorems_are_those_proved, well_formed_proofs_are_read};
 pub use outputs::{long_texts_have_one_output, output_exists, output_is_unique};
 pub use readings::{every_text_is_read, texts_are_sound_or_faulty};

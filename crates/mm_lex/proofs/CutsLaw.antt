@@ -24,9 +24,9 @@ module _ (text places : List ℕ) (cuts : IsCutText (cut_text places (length tex
       (λ count_le_i. rw (get_or_past places i (length text) count_le_i) (omega arith))
       (cases_lt i (length places))
 
-  pub cut_places_rise : (i : ℕ) → cut_place text places i ≤ cut_place text places (i + 1)
-  cut_places_rise zero = omega arith
-  cut_places_rise (suc i) =
+  pub cut_place_le_next : (i : ℕ) → cut_place text places i ≤ cut_place text places (i + 1)
+  cut_place_le_next zero = omega arith
+  cut_place_le_next (suc i) =
       let next_is_suc : suc i + 1 ≡ suc (suc i) = omega arith in
       let plus_one_is_suc : i + 1 ≡ suc i = omega arith in
       rw next_is_suc
@@ -34,7 +34,7 @@ module _ (text places : List ℕ) (cuts : IsCutText (cut_text places (length tex
       (λ next_lt_count. let i_lt_count : i < length places = omega (arith, next_lt_count) in
       let place_le_next : get_or places i 0 ≤ get_or places (suc i) 0 =
       subst (λ (n : ℕ). get_or places i 0 ≤ get_or places n 0) plus_one_is_suc
-      (cuts.places_rise i (omega (arith, next_lt_count))) in
+      (cuts.places_are_sorted i (omega (arith, next_lt_count))) in
       rw (
         get_or_default_zero places i (length text) i_lt_count,
         get_or_default_zero places (suc i)

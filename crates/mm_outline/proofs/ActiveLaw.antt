@@ -4,7 +4,7 @@ use Rattle.std.proofs.Common.{map, get_or, slice_get, Some, nat_lt, nat_le, refl
 use Rattle.std.proofs.Common.{inl, inr}
 use Rattle.std.proofs.lemmas.List.{length-map}
 use Rattle.std.proofs.lemmas.Bool.{cases_lt, le-ltb}
-use Rattle.mm_spec.specs.Scope.{is_active, is_still_active, is_some_still_active, is_block_open}
+use Rattle.mm_spec.specs.Scope.{active_at, is_still_active, is_some_still_active, is_block_open}
 use Rattle.mm_spec.specs.declared.Word.{Word}
 use Rattle.mm_outline.specs.declared.parts.Kind.{Kind}
 use Rattle.mm_outline.specs.declared.parts.Kind.TheVariants as kind
@@ -34,13 +34,13 @@ get_of_map f (x ∷ xs) (suc i) d i_lt_length = get_of_map f xs i d (omega arith
 pub active_test_is_activity : (text : List ℕ) (ws : List Word) (os : List Outline) (b : BlockLists)
     → IsBlocks (statements text ws os) b → (j k : ℕ) → j < length os → k ≤ length os → (d : Outline)
     → (nat_lt j k && is_active_kind (get_or os j d).kind (nat_le k (end_of b j)))
-    ≡ is_active (statements text ws os) j k
+    ≡ active_at (statements text ws os) j k
 active_test_is_activity text ws os b is_blocks j k j_lt_length k_le_length d =
     active_by_order (cases_lt j k)
   where
     active_by_order : (j < k) ⊎ (k ≤ j)
         → (nat_lt j k && is_active_kind (get_or os j d).kind (nat_le k (end_of b j)))
-        ≡ is_active (statements text ws os) j k
+        ≡ active_at (statements text ws os) j k
     active_by_order (inr k_le_j) =
         ap (λ t. t && is_active_kind (get_or os j d).kind (nat_le k (end_of b j)))
         (le-ltb j k k_le_j)

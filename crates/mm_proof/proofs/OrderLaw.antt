@@ -14,11 +14,12 @@ use Rattle.mm_spec.specs.declared.Code.TheVariants.{UnusableLabel, EmptyProof, O
 use Rattle.mm_spec.specs.declared.Code.TheVariants.{OpenNumber, MarkBeforeStep, NumberTooLarge}
 use Rattle.mm_spec.specs.declared.Code.TheVariants.{IncompleteProof, BadLetter}
 use Rattle.mm_spec.specs.Statement.{Statement}
-use Rattle.mm_spec.specs.Lawful.{when, at, least, lesser, is_before}
+use Rattle.mm_spec.specs.Lawful.{when, faults_at, least, lesser, is_before}
 use Rattle.mm_spec.specs.Frame.{mandatory_hypotheses}
 use Rattle.mm_spec.specs.NormalProof.{usable, proof_label_faults}
 use Rattle.mm_spec.specs.CompressedProof.{Compressed, bracketed, with_label, Letter, letters_from}
-use Rattle.mm_spec.specs.CompressedProof.{letters_of, Group, is_early, is_last, groups, value}
+use Rattle.mm_spec.specs.CompressedProof.{letters_of, Group, is_early_letter, is_last_letter}
+use Rattle.mm_spec.specs.CompressedProof.{groups, value}
 use Rattle.mm_spec.specs.CompressedProof.{starts_at, group_fault, group_faults, letter_faults}
 use Rattle.mm_spec.specs.CompressedProof.{compressed_faults}
 use Rattle.mm_proof.specs.Letters.{AreInOrder}
@@ -106,7 +107,7 @@ run_of_one from to place c from_le_place place_lt_to =
 
 -- a fault that there may be is a run
 run_if : (from to place : ℕ) (b : Bool) (c : Code) → from ≤ place → place < to
-    → IsRun from to (at place (when b c))
+    → IsRun from to (faults_at place (when b c))
 run_if from to place true c from_le_place place_lt_to =
     run_of_one from to place c from_le_place place_lt_to
 run_if from to place false c from_le_place place_lt_to = run_of_none from to
@@ -195,7 +196,7 @@ letters_rise from end (t ∷ ts) in_order =
 
 -- the faults of a mark are a run
 mark_faults_are_run : (from place : ℕ) (a b : Bool) → from ≤ place
-    → IsRun from (place + 1) (at place (when a OpenNumber ++ when b MarkBeforeStep))
+    → IsRun from (place + 1) (faults_at place (when a OpenNumber ++ when b MarkBeforeStep))
 mark_faults_are_run from place true true from_le_place = record {
   from_le_places = (from_le_place, (from_le_place, tt));
   places_lt_to = (omega arith, (omega arith, tt));
@@ -221,7 +222,7 @@ module _ (labels end : ℕ) where
       (group_fault labels marks count
       (record { early = early; last = record { at = place; byte = byte } }))
   group_faults_are_run from now place byte early marks count early_is_open now_le_place =
-      faults_are_run (is_last byte)
+      faults_are_run (is_last_letter byte)
       (byte == 90)
       (byte == 63)
     where
@@ -247,11 +248,12 @@ module _ (labels end : ℕ) where
           omega (arith, from_le_first, first_lt_now, now_le_place)
 
       faults_are_run : (a b c : Bool) → IsRun from (place + 1) (elim a [
-        | true ↦ at (starts_at g) (when (nat_lt (labels + marks) (value g)) NumberTooLarge)
+        | true ↦ faults_at (starts_at g) (when (nat_lt (labels + marks) (value g)) NumberTooLarge)
         | false ↦ elim b [
-          | true ↦ at place
+          | true ↦ faults_at place
               (when (nat_lt 0 (length early)) OpenNumber ++ when (count == 0) MarkBeforeStep)
-          | false ↦ at place (elim c [ true ↦ IncompleteProof ∷ [] | false ↦ BadLetter ∷ [] ])
+          | false ↦ faults_at place
+              (elim c [ true ↦ IncompleteProof ∷ [] | false ↦ BadLetter ∷ [] ])
         ]
       ])
       faults_are_run true b c =
@@ -272,7 +274,7 @@ module _ (labels end : ℕ) where
   abbrev remaining_faults : List Letter → ℕ → ℕ → List Letter → List Fault
   remaining_faults early marks count xs =
       group_faults labels marks count (groups early xs).0
-      ++ at end (when (nat_lt 0 (length (groups early xs).1)) OpenNumber)
+      ++ faults_at end (when (nat_lt 0 (length (groups early xs).1)) OpenNumber)
 
   -- the place where an open number stands isn't past the end
   from_le_end : (from now : ℕ) (early : List Letter) → IsOpenAt from early now → now ≤ end
@@ -298,7 +300,7 @@ module _ (labels end : ℕ) where
       (from_le_end from now early is_open_at are_rising)
       (omega arith)
   remaining_faults_are_run (x ∷ xs) early from now marks count early_is_open are_rising =
-      groups_are_run (is_early x.byte)
+      groups_are_run (is_early_letter x.byte)
       (remaining_faults_are_run xs (early ++ x ∷ []) from (x.at + 1) marks count
       (open_with_letter early early_is_open) are_rising.1)
       (group_is_run (x.byte == 90)
@@ -328,7 +330,7 @@ module _ (labels end : ℕ) where
       later_groups = (groups [] xs).0
 
       end_faults : List Fault
-      end_faults = at end (when (nat_lt 0 (length (groups [] xs).1)) OpenNumber)
+      end_faults = faults_at end (when (nat_lt 0 (length (groups [] xs).1)) OpenNumber)
 
       first_is_run : IsRun from (x.at + 1) (group_fault labels marks count g)
       first_is_run = group_faults_are_run from now x.at x.byte early marks count early_is_open
@@ -385,7 +387,7 @@ module _ (labels end : ℕ) where
       faults_of_groups : Bool → List Fault
       faults_of_groups a =
           let are_rising = groups_of_kind a in
-          group_faults labels marks count are_rising.0 ++ at end
+          group_faults labels marks count are_rising.0 ++ faults_at end
           (when (nat_lt 0 (length are_rising.1)) OpenNumber)
 
       groups_are_run : (a : Bool)

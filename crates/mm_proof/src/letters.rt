@@ -3,7 +3,7 @@
 ghost use Rattle.std.specs.Prelude.{All, IfSome, ◌≡◌, ◌<◌, ◌≤◌, ◌+◌, ◌*◌, ◌∷◌, ◌++◌, [], ℕ, None};
 ghost use Rattle.std.specs.Prelude.{length, IfOk, IfErr, IfNone, OnOk};
 ghost use Rattle.mm_spec.specs.Steps.{placed};
-ghost use Rattle.mm_spec.specs.CompressedProof.{letters_of, letter_faults, step_of};
+ghost use Rattle.mm_spec.specs.CompressedProof.{letters_of, letter_faults, mark_letter, step_of};
 ghost use Rattle.mm_outline.specs.Parts.{as_tokens, AreWithin};
 ghost use Rattle.mm_steps.specs.TheoremSteps.{theorem_steps, as_step, IsEarlier};
 ghost use Rattle.mm_proof.specs.Number.{HasLetterKind, saturated};
@@ -165,10 +165,10 @@ impl<A: Allocator> LettersRead<A> {
         requires stands_at { StandsAt self.old at }
         ensures stands_after { OnOk result (StandsAt self.new (at + 1)) }
         ensures reads { OnOk result
-            (ReadsLetters (with_number self.old None) (letter at 90 ∷ [])
+            (ReadsLetters (with_number self.old None) (letter at mark_letter ∷ [])
             (with_number self.new None)) }
         ensures refuses { IfErr result
-            (λ e. RefusesLetters (with_number self.old None) (letter at 90 ∷ []) e) }
+            (λ e. RefusesLetters (with_number self.old None) (letter at mark_letter ∷ []) e) }
     {
         if self.steps.len() == 0 {
             return Err(refused(at, Code::MarkBeforeStep));

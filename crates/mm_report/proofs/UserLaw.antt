@@ -81,16 +81,16 @@ separated_append (r ∷ rs) ss rs_not_empty =
     ∙ ap (λ z. z ++ spaced ss) (sym (separated_spaced (r ∷ rs)))
 
 -- the spaced labels of neighbours are those of their rows
-pub spaced_run_is_rows : (m : Marks) (names : List Bytes) (from to : ℕ) → from ≤ to
-    → to ≤ length names
-    → flat_map (λ (l : Bytes). 32 ∷ l) (slice_range names from to)
-    ≡ spaced (map (λ i. row_of m (get_or names i []) i) (range_with_len from (to - from)))
-spaced_run_is_rows m names from to from_le_to to_le_length =
+pub spaced_run_is_rows : (m : Marks) (labels : List Bytes) (from to : ℕ) → from ≤ to
+    → to ≤ length labels
+    → flat_map (λ (l : Bytes). 32 ∷ l) (slice_range labels from to)
+    ≡ spaced (map (λ i. row_of m (get_or labels i []) i) (range_with_len from (to - from)))
+spaced_run_is_rows m labels from to from_le_to to_le_length =
     let numbers : List ℕ = range_with_len from (to - from) in
-    let row : ℕ → Row = λ i. row_of m (get_or names i []) i in
+    let row : ℕ → Row = λ i. row_of m (get_or labels i []) i in
     ap (flat_map (λ (l : Bytes). 32 ∷ l))
-    (sym (pick_l-range_with_len [] names from (to - from) (omega arith)))
-    ∙ flat_map-map (λ (l : Bytes). 32 ∷ l) (λ i. get_or names i []) numbers
+    (sym (pick_l-range_with_len [] labels from (to - from) (omega arith)))
+    ∙ flat_map-map (λ (l : Bytes). 32 ∷ l) (λ i. get_or labels i []) numbers
     ∙ sym (flat_map-map (λ (r : Row). 32 ∷ r.label) row numbers)
 
 module _ (m : Marks) (labels : ℕ → Bytes) (j : ℕ) where
@@ -250,13 +250,13 @@ usage_lines_from_push rows a (k ∷ ls) l =
     (usage_line rows (a + suc (length ls)) l))
 
 -- the lines of the first j + 1 columns are those of the first j, and then that of column j
-pub usage_lines_push : (rows : List Row) (names : List Bytes) (j : ℕ) → j < length names
-    → usage_lines rows 0 (take (j + 1) names)
-    ≡ usage_lines rows 0 (take j names) ++ usage_line rows j (get_or names j [])
-usage_lines_push rows names j j_lt_length =
-    let taken_length = length-take-le j names (omega arith) in
-    let next_number_is_j : 0 + length (take j names) ≡ j = omega (arith, taken_length) in
-    ap (usage_lines rows 0) (take_more names j [] j_lt_length)
-    ∙ usage_lines_from_push rows 0 (take j names) (get_or names j [])
-    ∙ ap (λ n. usage_lines rows 0 (take j names) ++ usage_line rows n (get_or names j []))
+pub usage_lines_push : (rows : List Row) (labels : List Bytes) (j : ℕ) → j < length labels
+    → usage_lines rows 0 (take (j + 1) labels)
+    ≡ usage_lines rows 0 (take j labels) ++ usage_line rows j (get_or labels j [])
+usage_lines_push rows labels j j_lt_length =
+    let taken_length = length-take-le j labels (omega arith) in
+    let next_number_is_j : 0 + length (take j labels) ≡ j = omega (arith, taken_length) in
+    ap (usage_lines rows 0) (take_more labels j [] j_lt_length)
+    ∙ usage_lines_from_push rows 0 (take j labels) (get_or labels j [])
+    ∙ ap (λ n. usage_lines rows 0 (take j labels) ++ usage_line rows n (get_or labels j []))
     next_number_is_j

@@ -9,7 +9,7 @@ use Rattle.mm_spec.specs.Statement.{Statement}
 use Rattle.mm_spec.specs.Derivation.{Pair, is_member, are_disjoint}
 use Rattle.mm_spec.specs.Frame.{symbol_names, is_variable_number, formula_at, mandatory_variables}
 use Rattle.mm_spec.specs.Frame.{mandatory_pairs, disjoint_at, active_of, is_disjoint_statement}
-use Rattle.mm_spec.specs.Frame.{pairs_of}
+use Rattle.mm_spec.specs.Frame.{pairs_below}
 use Rattle.mm_spec.specs.Citation.{context_at}
 use Rattle.mm_spec.proofs.FindsLaw.{each_filter, each_any}
 use Rattle.mm_rule.specs.Assertions.{as_pairs}
@@ -88,9 +88,9 @@ module _ (db : List Statement) (k : ℕ) where
 
       all_are_disjoint : AllByRecursion IsDisjointPair (mandatory_pairs db k)
       all_are_disjoint =
-          each_filter IsDisjointPair in_order (pairs_of (length (symbol_names db)))
+          each_filter IsDisjointPair in_order (pairs_below (length (symbol_names db)))
           (each_any (λ p. in_order p ≡ true
-          → IsDisjointPair p) (pairs_of (length (symbol_names db)))
+          → IsDisjointPair p) (pairs_below (length (symbol_names db)))
           (λ p p_is_in_order. disjoint_at_are_disjoint p.low p.high
           (last_holds (nat_lt p.low p.high) (is_member (mandatory_variables db k) p.low)
           (is_member (mandatory_variables db k) p.high)

@@ -3,8 +3,7 @@ use Rattle.std.specs.Prelude.{◌≡◌, ℕ, suc, ◌+◌, ◌<◌, true, List,
 use Rattle.std.specs.Prelude.{All, if◌then◌else◌}
 use Rattle.mm_spec.specs.Statement.{Statement}
 use Rattle.mm_spec.specs.Derivation.{Formula}
-use Rattle.mm_spec.specs.Laws.Complete.{binds, IsComplete}
-use Rattle.mm_spec.specs.Citation.{context_at}
+use Rattle.mm_spec.specs.Laws.Complete.{binds, IsComplete, variables_context}
 use Rattle.mm_spec.specs.Frame.{is_variable_number, symbol_names, frame_at}
 use Rattle.mm_rule.specs.declared.rule.RuleSymbol.{RuleSymbol}
 use Rattle.mm_rule.specs.declared.rule.RuleSymbol.TheVariants.{Constant, Variable}
@@ -16,7 +15,7 @@ use Rattle.mm_rule.specs.Assertions.{is_assertion_at}
 abbrev pub floating_index : List Statement → List Formula → ℕ → ℕ
 floating_index db [] x = 0
 floating_index db (h ∷ hs) x =
-    if binds (context_at db 0) x h then 0 else suc (floating_index db hs x)
+    if binds (variables_context db) x h then 0 else suc (floating_index db hs x)
 
 -- a symbol as a part: a constant, or a variable given by the index of its `$f`
 abbrev pub part_of : List Statement → List Formula → ℕ → RuleSymbol
@@ -82,7 +81,7 @@ compiled_rule k hypotheses pairs parts formula =
 -- the rule is the frame of its assertion, with each variable given by the index of its `$f`
 pub record IsCompiled (db : List Statement) (c : CompiledRule) : Type 0 where
   pub is_assertion : is_assertion_at db c.assertion ≡ true
-  pub complete : IsComplete (context_at db 0) (frame_at db c.assertion)
+  pub complete : IsComplete (variables_context db) (frame_at db c.assertion)
   pub count : total_part_count c.hypotheses ≡ length c.parts
   pub parts_in : All (IsVariableBelow (length c.hypotheses)) c.parts
   pub pairs_in : All (λ (p : ℕ × ℕ). (p.0 < length c.hypotheses) × (p.1 < length c.hypotheses))

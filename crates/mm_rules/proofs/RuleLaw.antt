@@ -9,8 +9,7 @@ use Rattle.std.proofs.lemmas.List.{length-map}
 use Rattle.std.proofs.lemmas.List.Elements.{All-from_recursion, recursion_from_All}
 use Rattle.mm_spec.specs.Statement.{Statement}
 use Rattle.mm_spec.specs.Derivation.{Formula, Pair}
-use Rattle.mm_spec.specs.Laws.Complete.{IsBound, AreBound, IsComplete}
-use Rattle.mm_spec.specs.Citation.{context_at}
+use Rattle.mm_spec.specs.Laws.Complete.{IsBound, AreBound, IsComplete, variables_context}
 use Rattle.mm_spec.specs.Frame.{symbol_names, is_variable_number, formula_at, frame_at}
 use Rattle.mm_spec.specs.Frame.{mandatory_hypotheses, mandatory_pairs}
 use Rattle.mm_rule.specs.declared.rule.RuleSymbol.{RuleSymbol}
@@ -123,15 +122,16 @@ module _ (db : List Statement) (hs : List Formula) where
   parts_below f h =
       All-from_recursion (IsVariableBelow (length hs)) (parts_of db hs f)
       (each_is_below f (recursion_from_All
-      (λ x. is_variable_number db x ≡ true → IsBound (context_at db 0) hs x) f h))
+      (λ x. is_variable_number db x ≡ true → IsBound (variables_context db) hs x) f h))
     where
-      by_is_variable : (s : ℕ) (v : Bool) → (v ≡ true → IsBound (context_at db 0) hs s)
+      by_is_variable : (s : ℕ) (v : Bool) → (v ≡ true → IsBound (variables_context db) hs s)
           → IsVariableBelow (length hs) (cond v (Variable (floating_index db hs s)) (Constant s))
       by_is_variable s true b = floating_index_lt_length db hs s (b refl)
       by_is_variable s false b = tt
 
       each_is_below : (f : Formula)
-          → AllByRecursion (λ x. is_variable_number db x ≡ true → IsBound (context_at db 0) hs x) f
+          → AllByRecursion
+          (λ x. is_variable_number db x ≡ true → IsBound (variables_context db) hs x) f
           → AllByRecursion (IsVariableBelow (length hs)) (parts_of db hs f)
       each_is_below [] h = tt
       each_is_below (s ∷ f) h = (
@@ -160,40 +160,43 @@ module _ (db : List Statement) (hs : List Formula) where
             h.1,
       )
 
-  pub covered : (f : Formula) → AreBound (context_at db 0) hs f → AreCovered db hs f
+  pub covered : (f : Formula) → AreBound (variables_context db) hs f → AreCovered db hs f
   covered f h =
-      All-from_recursion (λ x. is_variable_number db x ≡ true → IsBound (context_at db 0) hs x) f h
+      All-from_recursion (λ x. is_variable_number db x ≡ true → IsBound (variables_context db) hs x)
+      f h
 
   pub covered_all : (hyps : List ℕ)
-      → AllByRecursion (AreBound (context_at db 0) hs) (map (formula_at db) hyps)
+      → AllByRecursion (AreBound (variables_context db) hs) (map (formula_at db) hyps)
       → All (λ h. AreCovered db hs (formula_at db h)) hyps
   covered_all hyps h = All-from_recursion (λ h. AreCovered db hs (formula_at db h)) hyps
       (each_is_covered hyps h)
     where
       each_is_covered : (hyps : List ℕ)
-          → AllByRecursion (AreBound (context_at db 0) hs) (map (formula_at db) hyps)
+          → AllByRecursion (AreBound (variables_context db) hs) (map (formula_at db) hyps)
           → AllByRecursion (λ h. AreCovered db hs (formula_at db h)) hyps
       each_is_covered [] h = tt
       each_is_covered (x ∷ xs) h = (covered (formula_at db x) h.0, each_is_covered xs h.1)
 
   abbrev AreBothBound : Pair → Type 0
-  AreBothBound p = IsBound (context_at db 0) hs p.low × IsBound (context_at db 0) hs p.high
+  AreBothBound p =
+      IsBound (variables_context db) hs p.low × IsBound (variables_context db) hs p.high
 
   -- the numbers of the variables are the places of their `$f`
   pub numbered_parts_are_parts : (numbers : List ℕ) → AreFirstNumbers db hs numbers → (f : Formula)
       → AreCovered db hs f → numbered_parts db numbers f ≡ parts_of db hs f
   numbered_parts_are_parts numbers are_first_numbers f h =
       symbol_by_symbol f (recursion_from_All
-      (λ x. is_variable_number db x ≡ true → IsBound (context_at db 0) hs x) f h)
+      (λ x. is_variable_number db x ≡ true → IsBound (variables_context db) hs x) f h)
     where
-      by_is_variable : (s : ℕ) (v : Bool) → (v ≡ true → IsBound (context_at db 0) hs s)
+      by_is_variable : (s : ℕ) (v : Bool) → (v ≡ true → IsBound (variables_context db) hs s)
           → cond v (Variable (get_or numbers s 0)) (Constant s)
           ≡ cond v (Variable (floating_index db hs s)) (Constant s)
       by_is_variable s true b = ap Variable (are_first_numbers s (b refl))
       by_is_variable s false b = refl
 
       symbol_by_symbol : (f : Formula)
-          → AllByRecursion (λ x. is_variable_number db x ≡ true → IsBound (context_at db 0) hs x) f
+          → AllByRecursion
+          (λ x. is_variable_number db x ≡ true → IsBound (variables_context db) hs x) f
           → numbered_parts db numbers f ≡ parts_of db hs f
       symbol_by_symbol [] h = refl
       symbol_by_symbol (s ∷ f) h =
@@ -238,7 +241,7 @@ module _ (db : List Statement) (hs : List Formula) where
 
 -- what was made is the rule of the assertion
 module _ (db : List Statement) (a : ℕ) (is_assertion : is_assertion_at db a ≡ true)
-    (complete : IsComplete (context_at db 0) (frame_at db a)) where
+    (complete : IsComplete (variables_context db) (frame_at db a)) where
   abbrev frame_hyps : List Formula
   frame_hyps = map (formula_at db) (mandatory_hypotheses db a)
 

@@ -3,8 +3,7 @@ use Rattle.std.specs.Prelude.{◌≡◌, ℕ, ◌+◌, ◌^◌, ◌<◌, ◌≤�
 use Rattle.std.specs.Prelude.{slice_range, All, if◌then◌else◌}
 use Rattle.mm_spec.specs.Statement.{Statement}
 use Rattle.mm_spec.specs.Derivation.{Formula}
-use Rattle.mm_spec.specs.Laws.Complete.{IsBound}
-use Rattle.mm_spec.specs.Citation.{context_at}
+use Rattle.mm_spec.specs.Laws.Complete.{IsBound, variables_context}
 use Rattle.mm_spec.specs.Frame.{is_variable_number, formula_at}
 use Rattle.mm_rule.specs.declared.rule.RuleSymbol.{RuleSymbol}
 use Rattle.mm_rule.specs.declared.rule.RuleSymbol.TheVariants.{Constant, Variable}
@@ -18,7 +17,7 @@ use Rattle.mm_rule.specs.Rule.{total_part_count, IsVariableBelow}
 -- for each variable that has a `$f`, the list has the index of the first one among the hypotheses
 abbrev pub AreFirstNumbers : List Statement → List Formula → List ℕ → Type 0
 AreFirstNumbers db hs numbers =
-    (x : ℕ) → IsBound (context_at db 0) hs x → get_or numbers x 0 ≡ floating_index db hs x
+    (x : ℕ) → IsBound (variables_context db) hs x → get_or numbers x 0 ≡ floating_index db hs x
 
 -- 31 bits are enough for each of the numbers, and for how many there are
 pub record AreShortNumbers (numbers : List ℕ) : Type 0 where
@@ -27,7 +26,8 @@ pub record AreShortNumbers (numbers : List ℕ) : Type 0 where
 
 -- each variable of the formula has a `$f`
 abbrev pub AreCovered : List Statement → List Formula → Formula → Type 0
-AreCovered db hs f = All (λ x. is_variable_number db x ≡ true → IsBound (context_at db 0) hs x) f
+AreCovered db hs f =
+    All (λ x. is_variable_number db x ≡ true → IsBound (variables_context db) hs x) f
 
 -- a symbol as a part: a constant, or a variable given by its number
 abbrev pub numbered_part : List Statement → List ℕ → ℕ → RuleSymbol

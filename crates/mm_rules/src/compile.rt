@@ -4,8 +4,7 @@ ghost use Rattle.std.specs.Prelude.{◌≡◌, ◌<◌, ◌^◌, ◌++◌, ◌�
 ghost use Rattle.std.specs.Prelude.{nat_eq, get_or, slice_set, true, false, IfSome, IfNone, OnOk};
 ghost use Rattle.std.specs.Prelude.{IfOk};
 ghost use Rattle.mm_spec.specs.Frame.{symbol_names, formula_at, frame_at};
-ghost use Rattle.mm_spec.specs.Citation.{context_at};
-ghost use Rattle.mm_spec.specs.Laws.Complete.{binds, IsComplete};
+ghost use Rattle.mm_spec.specs.Laws.Complete.{binds, IsComplete, variables_context};
 ghost use Rattle.mm_rule.specs.Assertions.{is_assertion_at};
 ghost use Rattle.mm_rule.specs.Rule.{IsCompiled};
 ghost use Rattle.mm_rule.specs.declared.rule.RuleSymbol.TheVariants.{Constant, Variable};
@@ -24,12 +23,12 @@ fn variable_of<A: Allocator>(database: &Database<A>, hypothesis: u32) -> Option<
     ensures some { IfSome result
         (λ y. (y < length (symbol_names database.now.statements))
         × ((x : ℕ)
-        → binds (context_at database.now.statements 0) x
+        → binds (variables_context database.now.statements) x
         (formula_at database.now.statements hypothesis)
         ≡ nat_eq x y)) }
     ensures none { IfNone result
         ((x : ℕ)
-        → binds (context_at database.now.statements 0) x
+        → binds (variables_context database.now.statements) x
         (formula_at database.now.statements hypothesis) ≡ false) }
 {
     let formula = database.formula(hypothesis);
@@ -267,7 +266,7 @@ impl<A: Allocator> RuleCompiler<A> {
     /// Compiles the rule of an assertion.
     pub fn compile(&mut self, database: &Database<A>, assertion: u32) -> Result<(), AllocError>
         requires assertion { is_assertion_at database.now.statements assertion ≡ true }
-        requires complete { IsComplete (context_at database.now.statements 0)
+        requires complete { IsComplete (variables_context database.now.statements)
             (frame_at database.now.statements assertion) }
         requires symbol_count { self.old.symbol_count
             ≡ length (symbol_names database.now.statements) }

@@ -17,7 +17,7 @@ use Rattle.mm_database.specs.Database.{Contents}
 use Rattle.mm_spec.proofs.ChainsLaw.{alike_relations_have_alike_chains}
 use Rattle.mm_work.specs.Citing.{Citing, HasCitation, theorem_at}
 use Rattle.mm_rows.specs.Marks.{Marks, mark, IsMatrix}
-use Rattle.mm_report.specs.Rows.{row_of, rows_of, marks_of, open_theorems, report_of}
+use Rattle.mm_report.specs.Rows.{row_of, rows_of, marks_of, open_theorem_count, report_of}
 use Rattle.mm_run.specs.Counted.{IsJudged}
 use Rattle.mm_run.proofs.CountedLaw.{is_output}
 use Rattle.mm_work.specs.Judged.{AllHaveCitations, CitesAsDatabase}
@@ -143,5 +143,5 @@ pub table_is_output : (request : Request) (d : Contents) (c : Citing) (axioms : 
     → IsOutput d.text request (report_of request d axioms m)
 table_is_output request d c axioms m is_judged axioms_are is_matrix not_citations =
     is_output request d axioms _ is_judged.is_counted is_judged.has_no_fault axioms_are
-    (is_report request d.statements (open_theorems request.with_open d axioms) c axioms m
+    (is_report request d.statements (open_theorem_count request.with_open d axioms) c axioms m
     is_judged.have_citations axioms_are is_matrix not_citations)

@@ -38,7 +38,7 @@ pub fn cuts_of<A: Allocator + Copy>(
             places_within.extend_from_slice(&places[..count_within(places, len)])?;
             match Cuts::from_places(places_within, len) {
                 Ok(cuts) => Ok(cuts),
-                Err(_) => unreachable!("the places of a lawful plan rise"),
+                Err(_) => unreachable!("the places of a lawful plan are sorted"),
             }
         }
     }

@@ -10,7 +10,8 @@ use Rattle.mm_spec.specs.Statement.{Statement, constants, variables, disjoint, f
 use Rattle.mm_spec.specs.Statement.{axiomatic, provable, opening, closing, is_closing, label_of}
 use Rattle.mm_spec.specs.Scope.{Names, names_before, depth, active_statements, variables_of}
 use Rattle.mm_spec.specs.Scope.{constants_of, label_words, typings_of}
-use Rattle.mm_spec.specs.Lawful.{least, scope_faults, at, at_each, when, is_empty, constant_codes}
+use Rattle.mm_spec.specs.Lawful.{least, scope_faults, faults_at, faults_at_each, when, is_empty}
+use Rattle.mm_spec.specs.Lawful.{constant_codes}
 use Rattle.mm_spec.specs.Lawful.{variable_codes, label_faults, floating_faults}
 use Rattle.mm_spec.specs.declared.Word as spec
 use Rattle.mm_spec.specs.declared.Code.TheVariants.{ConstantInBlock, EmptyDeclaration}
@@ -66,7 +67,7 @@ module _ (db : List Statement) (db_lt_never : length db < never) (w : Bytes) whe
   -- the entry of a word after a `$c`
   entry_after_constants : (k : ℕ) (xs : List Token) (e : ℕ) (x : Option WordEntry)
       → IsEntryOf db w x
-      → at_each (constant_codes n) [] xs ≡ []
+      → faults_at_each (constant_codes n) [] xs ≡ []
       → IsEntryOf (db ++ constants k xs e ∷ []) w (entry_after (length db) (constants k xs e) w x)
   entry_after_constants k xs e x x_is_entry no_fault = is_entry (is_in w (words xs)) refl
     where
@@ -94,7 +95,7 @@ module _ (db : List Statement) (db_lt_never : length db < never) (w : Bytes) whe
   -- the entry of a word after a `$v`
   entry_after_variables : (k : ℕ) (xs : List Token) (e : ℕ) (x : Option WordEntry)
       → IsEntryOf db w x
-      → at_each (variable_codes n) [] xs ≡ []
+      → faults_at_each (variable_codes n) [] xs ≡ []
       → IsEntryOf (db ++ variables k xs e ∷ []) w (entry_after (length db) (variables k xs e) w x)
   entry_after_variables k xs e x x_is_entry no_fault = is_entry (is_in w (words xs)) refl
     where
@@ -150,13 +151,13 @@ module _ (db : List Statement) (db_lt_never : length db < never) (w : Bytes) whe
       → scope_faults n d s ≡ [] → IsEntryOf (db ++ s ∷ []) w (entry_after (length db) s w x)
   entry_after_statement (constants k xs e) d x x_is_entry no_fault =
       entry_after_constants k xs e x x_is_entry
-      (both_are_empty
-      (at k (when (nat_lt 0 d) ConstantInBlock) ++ at e (when (is_empty n xs) EmptyDeclaration))
-      (at_each (constant_codes n) [] xs) no_fault).1
+      (both_are_empty (faults_at k (when (nat_lt 0 d) ConstantInBlock)
+      ++ faults_at e (when (is_empty xs) EmptyDeclaration))
+      (faults_at_each (constant_codes n) [] xs) no_fault).1
   entry_after_statement (variables k xs e) d x x_is_entry no_fault =
       entry_after_variables k xs e x x_is_entry
-      (both_are_empty (at e (when (is_empty n xs) EmptyDeclaration))
-      (at_each (variable_codes n) [] xs) no_fault).1
+      (both_are_empty (faults_at e (when (is_empty xs) EmptyDeclaration))
+      (faults_at_each (variable_codes n) [] xs) no_fault).1
   entry_after_statement (floating l k [] e) d x x_is_entry no_fault =
       absurd (let floating_has_no_fault =
       (both_are_empty (label_faults n l) (floating_faults n k []) no_fault).1 in cc)

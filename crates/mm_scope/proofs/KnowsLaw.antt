@@ -9,7 +9,7 @@ use Rattle.std.specs.List.{list_any}
 use Rattle.std.proofs.Math.Bool.{and-false}
 use Rattle.mm_spec.specs.Text.{Bytes, is_in}
 use Rattle.mm_spec.specs.Statement.{Statement}
-use Rattle.mm_spec.specs.Scope.{names_before, active_statements, is_active, variables_of}
+use Rattle.mm_spec.specs.Scope.{names_before, active_statements, active_at, variables_of}
 use Rattle.mm_spec.specs.Scope.{constants_of, label_words, typings_of}
 use Rattle.mm_outline.specs.Blocks.{BlockLists, IsBlocks, never, end_in, is_never, is_open_in}
 use Rattle.mm_scope.specs.Knows as judge
@@ -44,11 +44,11 @@ pub no_active_statement_has_word : (db : List Statement) (f : Statement → List
     → is_in w (flat_map f db) ≡ false
     → is_in w (flat_map f (active_statements db (length db))) ≡ false
 no_active_statement_has_word db f w w_not_in_db =
-    word_of_active_is_any db f w (λ j. is_active db j (length db)) (length db) 0
-    ∙ none_passes_no_any (λ j. is_active db j (length db) && has_word db f w j) (length db) 0
-    (λ j j_lt_length. ap (λ b. is_active db j (length db) && b)
+    word_of_active_is_any db f w (λ j. active_at db j (length db)) (length db) 0
+    ∙ none_passes_no_any (λ j. active_at db j (length db) && has_word db f w j) (length db) 0
+    (λ j j_lt_length. ap (λ b. active_at db j (length db) && b)
     (no_statement_has_word db f w w_not_in_db j)
-    ∙ and-false (is_active db j (length db)))
+    ∙ and-false (active_at db j (length db)))
 
 -- no block is open by the number that stands for no statement
 never_is_not_open : (b : BlockLists) → length b.block_of ≤ never → is_open_in b never ≡ false
@@ -140,10 +140,10 @@ scope_knows_names db look labels b knows db_lt_never =
       labels_known = λ w. ap (λ xs. is_in w (flat_map label_words xs)) take_length_is_db
           ∙ knows.labels_known w;
       typed =
-          λ w is_active. typed_word_is_typing w (active_statements db (length db))
+          λ w active_at. typed_word_is_typing w (active_statements db (length db))
           ∙ in_active_is_typed_here db b knows.blocks db_lt_never w (look w) (knows.symbols w);
       other_typecode =
-          λ c w is_active. ap (λ xs. list_any (gives_other_typecode c w) (flat_map typings_of xs))
+          λ c w active_at. ap (λ xs. list_any (gives_other_typecode c w) (flat_map typings_of xs))
           take_length_is_db
           ∙ (knows.symbols w).other_typecode c ∙ other_entry_is_other_typecode c (look w);
     }

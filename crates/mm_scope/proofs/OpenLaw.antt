@@ -8,7 +8,7 @@ use Rattle.std.proofs.lemmas.Option.{slice_get-get_or}
 use Rattle.mm_spec.specs.Text.{Bytes, is_in}
 use Rattle.mm_spec.specs.Statement.{Statement, constants, variables, disjoint, floating, essential}
 use Rattle.mm_spec.specs.Statement.{axiomatic, provable, opening, closing}
-use Rattle.mm_spec.specs.Scope.{is_active, is_some_still_active, is_still_active, variables_of}
+use Rattle.mm_spec.specs.Scope.{active_at, is_some_still_active, is_still_active, variables_of}
 use Rattle.mm_spec.specs.Scope.{is_block_open}
 use Rattle.mm_outline.specs.Blocks.{BlockLists, IsBlocks, end_of, never, end_in, is_never}
 use Rattle.mm_outline.specs.Blocks.{is_open_in}
@@ -72,12 +72,12 @@ typings_are_local w (closing k) b types_w = absurd (true≢false (sym types_w))
 pub latest_active_is_open : (db : List Statement) (b : BlockLists) → IsBlocks db b
     → length db < never
     → (f : Statement → List Bytes) (w : List ℕ) → IsLocal f w → (last : ℕ) → Latest db f w last
-    → is_active db last (length db) ≡ is_open_in b last
+    → active_at db last (length db) ≡ is_open_in b last
 latest_active_is_open db b are_blocks db_lt_never f w is_local last latest =
     active_is_open (slice_get db last) refl
   where
     active_is_open : (o : Option Statement) → slice_get db last ≡ o
-        → is_active db last (length db) ≡ is_open_in b last
+        → active_at db last (length db) ≡ is_open_in b last
     active_is_open None last_statement_is_o =
         absurd (true≢false
         (sym latest.last_has_word

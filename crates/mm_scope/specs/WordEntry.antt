@@ -4,7 +4,7 @@ use Rattle.std.specs.Prelude.{flat_map, nat_eq, bytes_eq, Option, None, Some, if
 use Rattle.std.specs.List.{list_any}
 use Rattle.mm_spec.specs.Text.{Bytes, Token, is_in, words}
 use Rattle.mm_spec.specs.Statement.{Statement, constants, variables, floating}
-use Rattle.mm_spec.specs.Scope.{Typing, is_active, constants_of, variables_of, typings_of}
+use Rattle.mm_spec.specs.Scope.{Typing, active_at, constants_of, variables_of, typings_of}
 use Rattle.mm_outline.specs.Blocks.{never}
 use Rattle.mm_outline.specs.Typed.{has_word, typed_words}
 use Rattle.mm_database.specs.declared.names.Symbol.{Symbol}
@@ -41,7 +41,7 @@ module _ (db : List Statement) (f : Statement → List Bytes) (w : Bytes) where
     pub last_lt_length : last < length db
     pub last_has_word : has_word db f w last ≡ true
     pub active_is_last : (j : ℕ) → j < length db → has_word db f w j ≡ true
-        → is_active db j (length db) ≡ true
+        → active_at db j (length db) ≡ true
         → j ≡ last
 
 abbrev pub is_constant_entry : Option WordEntry → Bool

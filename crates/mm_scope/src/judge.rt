@@ -5,7 +5,7 @@ ghost use Rattle.std.specs.Prelude.{◌+◌, ◌-◌, ℕ, List, is_some, Some, 
 ghost use Rattle.mm_spec.specs.Text.{is_in, words};
 ghost use Rattle.mm_database.specs.Names.{find};
 ghost use Rattle.mm_scope.specs.Formulas.{judged, numbers_in};
-ghost use Rattle.mm_spec.specs.Lawful.{at, at_each, least, when, symbol_codes};
+ghost use Rattle.mm_spec.specs.Lawful.{faults_at, faults_at_each, least, when, symbol_codes};
 ghost use Rattle.mm_spec.specs.Lawful.{formula_faults, floating_faults, label_faults, scope_faults};
 ghost use Rattle.mm_spec.specs.Scope.{Names as DeclaredNames};
 ghost use Rattle.mm_spec.specs.declared.Fault.{Fault as SpecFault};
@@ -39,7 +39,7 @@ impl<'a, A: Allocator + Copy> Scope<'a, A> {
         requires few_names { length (names_in self.now) < 2 ^ 31 }
         ensures fault_is_least { IfOk result
             (IsLeastFault self.now
-            (λ n. at_each (symbol_codes n) [] (between text.now tokens.now from to))) }
+            (λ n. faults_at_each (symbol_codes n) [] (between text.now tokens.now from to))) }
         ensures numbers_are_added { OnOk result
             (numbers.new.items
             ≡ numbers.old.items
@@ -73,7 +73,7 @@ impl<'a, A: Allocator + Copy> Scope<'a, A> {
         requires to_lt_length { to < length tokens.now }
         ensures { IfOk result
             (IsLeastFault self.now
-            (λ n. at_each (listed_codes n kind) [] (between text.now tokens.now from to))) }
+            (λ n. faults_at_each (listed_codes n kind) [] (between text.now tokens.now from to))) }
     {
         let is_short = to - from <= MAX_WORDS_COMPARED;
         let mut seen = IndexMap::new(alloc);
@@ -171,7 +171,7 @@ impl<'a, A: Allocator + Copy> Scope<'a, A> {
             × (result ≡ least faults)
             × (scope_faults n depth (statement_of _text.now tokens.now outline)
             ≡ faults
-            ++ at_each (listed_codes n outline.kind) []
+            ++ faults_at_each (listed_codes n outline.kind) []
             (between _text.now tokens.now (outline.keyword + 1) outline.middle)) }
     {
         let keyword_place = tokens[outline.keyword as usize].start;
@@ -306,7 +306,7 @@ impl<'a, A: Allocator + Copy> Scope<'a, A> {
 
 /// Returns the code if the test holds.
 fn code_if(holds: bool, code: Code) -> Option<Code>
-    ensures { (place : ℕ) → fault_at place result ≡ least (at place (when holds code)) }
+    ensures { (place : ℕ) → fault_at place result ≡ least (faults_at place (when holds code)) }
 {
     if holds { Some(code) } else { None }
 }

@@ -3,7 +3,7 @@
 ghost use Rattle.std.specs.Prelude.{◌≡◌, ◌<◌, ◌^◌, [], None, All, length, OnOk, IfOk};
 ghost use Rattle.mm_spec.specs.Output.{IsRead};
 ghost use Rattle.mm_spec.specs.Lexed.{tokens_of};
-ghost use Rattle.mm_lists.specs.Lists.{ArePlaces};
+ghost use Rattle.mm_lists.specs.Lists.{AreBounds};
 ghost use Rattle.mm_database.specs.ParsedStatements.{AreParsedStatements};
 ghost use Rattle.mm_outline.specs.Parts.{AreWithin, IsOutline, depth_after, statement_of};
 ghost use Rattle.mm_outline.specs.Tokens.{AreTokens};
@@ -51,7 +51,7 @@ impl<'a, A: Allocator> Outlined<'a, A> {
     /// Returns what was read of the text, the names by themselves. `variables` says for each symbol
     /// whether it is a variable.
     pub fn into_reading(self, text: &'a [u8], variables: Vec<bool, A>) -> Reading<'a, A>
-        requires are_places { ArePlaces self.ends.items (length self.symbols.items) }
+        requires are_places { AreBounds self.ends.items (length self.symbols.items) }
         requires are_parsed_statements { AreParsedStatements
             (statements text.now (tokens_of text.now) self.outlines.items) self.scope.blocks
             (formulas_of self) variables.items }

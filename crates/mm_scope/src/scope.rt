@@ -4,7 +4,8 @@ ghost use Rattle.std.specs.Prelude.{◌≡◌, ◌<◌, ◌+◌, ◌-◌, ◌^�
 ghost use Rattle.std.specs.Prelude.{length, not, true, OnOk};
 ghost use Rattle.mm_spec.specs.Text.{is_in, token};
 ghost use Rattle.mm_spec.specs.Statement.{Statement, label_of};
-ghost use Rattle.mm_spec.specs.Lawful.{at, is_typed, is_typed_otherwise, least, when, symbol_codes};
+ghost use Rattle.mm_spec.specs.Lawful.{faults_at, is_typed, is_typed_otherwise, least, when};
+ghost use Rattle.mm_spec.specs.Lawful.{symbol_codes};
 ghost use Rattle.mm_spec.specs.Lawful.{label_faults, floating_faults};
 ghost use Rattle.mm_spec.specs.declared.Code.TheVariants.{BadTypecode, TypedBefore, OtherTypecode};
 ghost use Rattle.mm_outline.specs.Blocks.{is_open_in};
@@ -88,7 +89,7 @@ impl<'a, A: Allocator + Copy> Scope<'a, A> {
     pub(crate) fn typecode_fault_code(word_symbol: Option<Symbol<'a>>) -> Option<Code>
         ensures { (place : ℕ)
             → fault_at place result
-            ≡ least (at place (when (not (is_constant_in word_symbol.entry)) BadTypecode)) }
+            ≡ least (faults_at place (when (not (is_constant_in word_symbol.entry)) BadTypecode)) }
     {
         match word_symbol {
             Some(symbol) if !symbol.is_variable => None,

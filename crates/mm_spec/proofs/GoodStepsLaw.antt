@@ -1,4 +1,4 @@
--- Each step of a proof without reading faults is a label that stands for something, or a mark of an
+-- Each step of a proof without reading faults is a label that refers to something, or a mark of an
 -- earlier step.
 use Rattle.std.proofs.lemmas.Grind.{common_steps}
 use Rattle.std.proofs.Common.{◌≡◌, ℕ, zero, suc, ◌+◌, ◌-◌, ◌*◌, ◌<◌, ◌≤◌, Bool, true, false}
@@ -10,23 +10,24 @@ use Rattle.std.specs.List.{list_any, range_with_len, AllByRecursion}
 use Rattle.std.proofs.lemmas.Bool.{or_cases, and_parts}
 use Rattle.mm_spec.specs.Text.{Bytes, Token, Fault, fault}
 use Rattle.mm_spec.specs.Statement.{Statement, floating, essential, axiomatic, provable}
-use Rattle.mm_spec.specs.Scope.{is_active, active, statement_at}
-use Rattle.mm_spec.specs.Lawful.{when, at}
+use Rattle.mm_spec.specs.Scope.{active_at, active, statement_at}
+use Rattle.mm_spec.specs.Lawful.{when, faults_at}
 use Rattle.mm_spec.specs.Frame.{formula_at, is_floating, is_essential, mandatory_variables}
 use Rattle.mm_spec.specs.Frame.{mandatory_hypotheses}
 use Rattle.mm_spec.specs.Derivation.{is_member}
 use Rattle.mm_spec.specs.Steps.{Step, PlacedStep, placed, label, marked}
 use Rattle.mm_spec.specs.NormalProof.{is_labelled, usable, normal_steps, normal_faults}
 use Rattle.mm_spec.specs.NormalProof.{proof_label_faults}
-use Rattle.mm_spec.specs.CompressedProof.{Compressed, bracketed, Letter, letters_of, Group, is_last}
+use Rattle.mm_spec.specs.CompressedProof.{Compressed, bracketed, Letter, letters_of, Group}
+use Rattle.mm_spec.specs.CompressedProof.{is_last_letter}
 use Rattle.mm_spec.specs.CompressedProof.{groups, value, starts_at, step_of, group_steps}
 use Rattle.mm_spec.specs.CompressedProof.{group_faults, letter_faults, compressed_faults}
 use Rattle.mm_spec.specs.CompressedProof.{compressed_steps}
 use Rattle.mm_spec.specs.Proof.{steps, reading_faults}
-use Rattle.mm_spec.specs.Citation.{rule_at, context_at, steps_at, reading_faults_at}
+use Rattle.mm_spec.specs.Citation.{referent_at, context_at, steps_at, reading_faults_at}
 use Rattle.mm_spec.specs.Laws.Complete.{HasCompleteFrame}
 use Rattle.mm_spec.specs.declared.Code.TheVariants.{OpenBrackets, OpenNumber}
-use Rattle.mm_spec.specs.Laws.Stack.{IsCompleteRule, AreGoodSteps, IsGoodStep}
+use Rattle.mm_spec.specs.Laws.Stack.{IsCompleteReferent, AreGoodSteps, IsGoodStep}
 use Rattle.mm_spec.proofs.CompleteLaw.{is_mandatory}
 use Rattle.mm_spec.proofs.FindsLaw.{each_any, each_filter, passing_statement}
 use Rattle.mm_spec.proofs.FaultlessLaw.{both_are_empty}
@@ -60,27 +61,27 @@ each_of_got P (y ∷ xs) (suc n) x each_of_xs got_x = each_of_got P xs n x each_
 
 -- ---- labels
 
-abbrev has_rule : Statement → Bool
-has_rule (floating l k xs d) = true
-has_rule (essential l k xs d) = true
-has_rule (axiomatic l k xs d) = true
-has_rule (provable l k xs e ps d) = true
-has_rule _ = false
+abbrev has_referent : Statement → Bool
+has_referent (floating l k xs d) = true
+has_referent (essential l k xs d) = true
+has_referent (axiomatic l k xs d) = true
+has_referent (provable l k xs e ps d) = true
+has_referent _ = false
 
-labelled_has_rule : (w : Bytes) (s : Statement) → is_labelled w s ≡ true → has_rule s ≡ true
-labelled_has_rule w (floating l k xs d) is_labelled_s = refl
-labelled_has_rule w (essential l k xs d) is_labelled_s = refl
-labelled_has_rule w (axiomatic l k xs d) is_labelled_s = refl
-labelled_has_rule w (provable l k xs e ps d) is_labelled_s = refl
-labelled_has_rule w _ is_labelled_s = absurd (true≢false (sym is_labelled_s))
+labelled_has_referent : (w : Bytes) (s : Statement) → is_labelled w s ≡ true → has_referent s ≡ true
+labelled_has_referent w (floating l k xs d) is_labelled_s = refl
+labelled_has_referent w (essential l k xs d) is_labelled_s = refl
+labelled_has_referent w (axiomatic l k xs d) is_labelled_s = refl
+labelled_has_referent w (provable l k xs e ps d) is_labelled_s = refl
+labelled_has_referent w _ is_labelled_s = absurd (true≢false (sym is_labelled_s))
 
-floating_has_rule : (s : Statement) → is_floating s ≡ true → has_rule s ≡ true
-floating_has_rule (floating l k xs d) is_floating_s = refl
-floating_has_rule _ is_floating_s = absurd (true≢false (sym is_floating_s))
+floating_has_referent : (s : Statement) → is_floating s ≡ true → has_referent s ≡ true
+floating_has_referent (floating l k xs d) is_floating_s = refl
+floating_has_referent _ is_floating_s = absurd (true≢false (sym is_floating_s))
 
-essential_has_rule : (s : Statement) → is_essential s ≡ true → has_rule s ≡ true
-essential_has_rule (essential l k xs d) is_essential_s = refl
-essential_has_rule _ is_essential_s = absurd (true≢false (sym is_essential_s))
+essential_has_referent : (s : Statement) → is_essential s ≡ true → has_referent s ≡ true
+essential_has_referent (essential l k xs d) is_essential_s = refl
+essential_has_referent _ is_essential_s = absurd (true≢false (sym is_essential_s))
 
 pub group_value_is_positive : (n b : ℕ) → 65 ≤ b → 0 < n * 20 + (b - 64)
 group_value_is_positive n b letter_le_b = omega arith
@@ -102,13 +103,13 @@ faultless_labels_are_usable db k (t ∷ ts) no_faults =
     )
 
 module _ (db : List Statement) (k : ℕ)
-    (all_complete : (l : ℕ) → HasCompleteFrame (context_at db k) (rule_at db k l)) where
+    (all_complete : (l : ℕ) → HasCompleteFrame (context_at db k) (referent_at db k l)) where
   abbrev IsGoodLabel : ℕ → Type 0
-  IsGoodLabel j = IsCompleteRule (context_at db k) (rule_at db k j)
+  IsGoodLabel j = IsCompleteReferent (context_at db k) (referent_at db k j)
 
-  active_label_is_good : (j : ℕ) (s : Statement) → is_active db j k ≡ true → slice_get db j ≡ Some s
-      → has_rule s ≡ true → IsGoodLabel j
-  active_label_is_good j s j_is_active s_at_j has_rule_s = grind (arith, common_steps)
+  active_label_is_good : (j : ℕ) (s : Statement) → active_at db j k ≡ true → slice_get db j ≡ Some s
+      → has_referent s ≡ true → IsGoodLabel j
+  active_label_is_good j s j_is_active s_at_j has_referent_s = grind (arith, common_steps)
 
   usable_labels_are_good : (w : Bytes) → AllByRecursion IsGoodLabel (usable db k w)
   usable_labels_are_good w =
@@ -120,18 +121,18 @@ module _ (db : List Statement) (k : ℕ)
         each_filter,
         passing_statement,
         active_label_is_good,
-        labelled_has_rule,
+        labelled_has_referent,
       )
 
   mandatory_labels_are_good : AllByRecursion IsGoodLabel (mandatory_hypotheses db k)
   mandatory_labels_are_good =
       each_filter IsGoodLabel (is_mandatory db k) (active db k)
-      (each_filter (λ j. is_mandatory db k j ≡ true → IsGoodLabel j) (λ j. is_active db j k)
+      (each_filter (λ j. is_mandatory db k j ≡ true → IsGoodLabel j) (λ j. active_at db j k)
       (range_with_len 0 k)
-      (each_any (λ j. is_active db j k ≡ true → is_mandatory db k j ≡ true → IsGoodLabel j)
+      (each_any (λ j. active_at db j k ≡ true → is_mandatory db k j ≡ true → IsGoodLabel j)
       (range_with_len 0 k) active_mandatory_good))
     where
-      active_mandatory_good : (j : ℕ) → is_active db j k ≡ true → is_mandatory db k j ≡ true
+      active_mandatory_good : (j : ℕ) → active_at db j k ≡ true → is_mandatory db k j ≡ true
           → IsGoodLabel j
       active_mandatory_good j j_is_active j_is_mandatory =
           good_by_kind (or_cases (list_any is_essential (statement_at db j))
@@ -146,14 +147,14 @@ module _ (db : List Statement) (k : ℕ)
           good_by_kind (inl j_is_kind) =
               let statement_at_j = passing_statement db is_essential j j_is_kind in
               active_label_is_good j statement_at_j.0 j_is_active statement_at_j.1
-              (essential_has_rule statement_at_j.0 statement_at_j.2)
+              (essential_has_referent statement_at_j.0 statement_at_j.2)
           good_by_kind (inr j_is_kind) =
               let statement_at_j =
               passing_statement db is_floating j
               (and_parts (list_any is_floating (statement_at db j))
               (list_any (is_member (mandatory_variables db k)) (formula_at db j)) j_is_kind).0 in
               active_label_is_good j statement_at_j.0 j_is_active statement_at_j.1
-              (floating_has_rule statement_at_j.0 statement_at_j.2)
+              (floating_has_referent statement_at_j.0 statement_at_j.2)
 
   -- ---- normal proofs
 
@@ -255,7 +256,7 @@ module _ (db : List Statement) (k : ℕ)
           → (0 < count → AreFaultless label_count (length marks + 1) count gs
           → AreGoodSteps (context_at db k) count
           (steps_of (group_steps labels (marks ++ (count - 1) ∷ []) count gs)))
-          → AreGoodSteps (context_at db k) count (steps_of (steps_from_group (is_last g.last.byte)))
+          → AreGoodSteps (context_at db k) count (steps_of (steps_from_group (is_last_letter g.last.byte)))
       good_number_or_mark (inl (is_number, value_is_within, rest_is_faultless)) after_number
           after_mark =
           let letter_ge_65 =
@@ -337,7 +338,7 @@ module _ (db : List Statement) (k : ℕ)
           (groups [] (x ∷ xs)).0 labels [] label_count 0 labels_are_good tt enough_labels
           (groups_are_faultless (groups [] (x ∷ xs)).0 label_count 0 0
           (both_are_empty (group_faults label_count 0 0 (groups [] (x ∷ xs)).0)
-          (at end (when (nat_lt 0 (length (groups [] (x ∷ xs)).1)) OpenNumber)) no_faults).0)
+          (faults_at end (when (nat_lt 0 (length (groups [] (x ∷ xs)).1)) OpenNumber)) no_faults).0)
 
       good_by_letters : (o : Option (List Token)) → faults_of_letters o ≡ []
           → AreGoodSteps (context_at db k) 0 (steps_of (steps_of_letters o))

@@ -5,8 +5,8 @@ use Rattle.std.proofs.Common.{List, [], ◌∷◌, ◌++◌, length, nat_le, nat
 use Rattle.std.proofs.Common.{ltb-false, eqb-true}
 use Rattle.std.proofs.lemmas.Bool.{and_parts, eqb-false}
 use Rattle.mm_spec.specs.declared.Fault.{Fault}
-use Rattle.mm_spec.specs.Lawful.{when, at}
-use Rattle.mm_spec.specs.CompressedProof.{Letter, Group, is_last, value, starts_at, group_faults}
+use Rattle.mm_spec.specs.Lawful.{when, faults_at}
+use Rattle.mm_spec.specs.CompressedProof.{Letter, Group, is_last_letter, value, starts_at, group_faults}
 use Rattle.mm_spec.specs.declared.Code.TheVariants.{OpenNumber, MarkBeforeStep, NumberTooLarge}
 use Rattle.mm_spec.specs.declared.Code.TheVariants.{IncompleteProof, BadLetter}
 use Rattle.mm_spec.proofs.FaultlessLaw.{both_are_empty, no_faults_no_codes, no_code_if_false}
@@ -15,9 +15,9 @@ use Rattle.mm_spec.proofs.FaultlessLaw.{both_are_empty, no_faults_no_codes, no_c
 abbrev pub AreFaultless : ℕ → ℕ → ℕ → List Group → Type 0
 AreFaultless label_count marks count [] = Unit {0}
 AreFaultless label_count marks count (g ∷ gs) =
-    ((is_last g.last.byte ≡ true) × (value g ≤ label_count + marks)
+    ((is_last_letter g.last.byte ≡ true) × (value g ≤ label_count + marks)
     × AreFaultless label_count marks (count + 1) gs)
-    ⊎ ((is_last g.last.byte ≡ false) × (g.last.byte ≡ 90) × (g.early ≡ []) × (0 < count)
+    ⊎ ((is_last_letter g.last.byte ≡ false) × (g.last.byte ≡ 90) × (g.early ≡ []) × (0 < count)
     × AreFaultless label_count (marks + 1) count gs)
 
 pub nil_if_not_positive : (xs : List Letter) → nat_lt 0 (length xs) ≡ false → xs ≡ []
@@ -30,17 +30,18 @@ pub groups_are_faultless : (gs : List Group) (label_count marks count : ℕ)
     → AreFaultless label_count marks count gs
 groups_are_faultless [] label_count marks count no_faults = tt
 groups_are_faultless (g ∷ gs) label_count marks count no_faults =
-    by_letter (is_last g.last.byte) refl (g.last.byte == 90) refl no_faults
+    faultless_by_letter (is_last_letter g.last.byte) refl (g.last.byte == 90) refl no_faults
     (λ rest_no_faults. groups_are_faultless gs label_count marks (count + 1) rest_no_faults)
     (λ rest_no_faults. groups_are_faultless gs label_count (marks + 1) count rest_no_faults)
   where
     faults_of_group : Bool → Bool → List Fault
     faults_of_group a b = elim a [
-      | true ↦ at (starts_at g) (when (nat_lt (label_count + marks) (value g)) NumberTooLarge)
+      | true ↦ faults_at (starts_at g)
+          (when (nat_lt (label_count + marks) (value g)) NumberTooLarge)
       | false ↦ elim b [
-        | true ↦ at g.last.at
+        | true ↦ faults_at g.last.at
             (when (nat_lt 0 (length g.early)) OpenNumber ++ when (count == 0) MarkBeforeStep)
-        | false ↦ at g.last.at
+        | false ↦ faults_at g.last.at
             (elim (g.last.byte == 63) [ true ↦ IncompleteProof ∷ [] | false ↦ BadLetter ∷ [] ])
       ]
     ]
@@ -53,37 +54,39 @@ groups_are_faultless (g ∷ gs) label_count marks count no_faults =
         ]
 
     other_byte_is_fault : (b : Bool)
-        → ¬ (at g.last.at (elim b [ true ↦ IncompleteProof ∷ [] | false ↦ BadLetter ∷ [] ]) ≡ [])
+        → ¬ (faults_at g.last.at (elim b [ true ↦ IncompleteProof ∷ [] | false ↦ BadLetter ∷ [] ])
+        ≡ [])
     other_byte_is_fault true is_nil = cc
     other_byte_is_fault false is_nil = cc
 
-    by_letter : (a : Bool) → is_last g.last.byte ≡ a → (b : Bool) → (g.last.byte == 90) ≡ b
+    faultless_by_letter : (a : Bool) → is_last_letter g.last.byte ≡ a → (b : Bool)
+        → (g.last.byte == 90) ≡ b
         → faults_of_group a b ++ faults_of_later_groups b ≡ []
         → (group_faults label_count marks (count + 1) gs ≡ []
         → AreFaultless label_count marks (count + 1) gs)
         → (group_faults label_count (marks + 1) count gs ≡ []
         → AreFaultless label_count (marks + 1) count gs)
         → AreFaultless label_count marks count (g ∷ gs)
-    by_letter true is_last_letter true is_mark no_faults after_number after_mark =
+    faultless_by_letter true ends_number true is_mark no_faults after_number after_mark =
         let byte_le_84 =
         leb-true g.last.byte 84 (and_parts (nat_le 65 g.last.byte) (nat_le g.last.byte 84)
-        is_last_letter).1 in
+        ends_number).1 in
         let byte_is_90 = eqb-true g.last.byte 90 is_mark in
         absurd (omega arith)
-    by_letter true is_last_letter false not_mark no_faults after_number after_mark =
+    faultless_by_letter true ends_number false not_mark no_faults after_number after_mark =
         let not_too_large =
         no_code_if_false (nat_lt (label_count + marks) (value g)) NumberTooLarge
         (no_faults_no_codes (starts_at g) (when
         (nat_lt (label_count + marks) (value g)) NumberTooLarge)
         (both_are_empty (faults_of_group true false) (faults_of_later_groups false) no_faults).0) in
         inl (
-          is_last_letter,
+          ends_number,
           ltb-false (label_count + marks) (value g) not_too_large,
           after_number
               (both_are_empty (faults_of_group true false)
               (faults_of_later_groups false) no_faults).1,
         )
-    by_letter false not_last_letter true is_mark no_faults after_number after_mark =
+    faultless_by_letter false not_last_letter true is_mark no_faults after_number after_mark =
         let no_faults_of_letter =
         no_faults_no_codes g.last.at
         (when (nat_lt 0 (length g.early)) OpenNumber ++ when (count == 0) MarkBeforeStep)
@@ -106,6 +109,6 @@ groups_are_faultless (g ∷ gs) label_count marks count no_faults =
               (both_are_empty (faults_of_group false true)
               (faults_of_later_groups true) no_faults).1,
         )
-    by_letter false not_last_letter false not_mark no_faults after_number after_mark =
+    faultless_by_letter false not_last_letter false not_mark no_faults after_number after_mark =
         absurd (other_byte_is_fault (g.last.byte == 63)
         (both_are_empty (faults_of_group false false) (faults_of_later_groups false) no_faults).0)

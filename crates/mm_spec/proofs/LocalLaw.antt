@@ -6,7 +6,7 @@ use Rattle.std.proofs.Common.{slice_get, nat_le, nat_lt, refl, ap₂, arith}
 use Rattle.std.proofs.lemmas.List.{take-append-le}
 use Rattle.std.specs.List.{list_all, range_with_len, filter}
 use Rattle.mm_spec.specs.Statement.{Statement}
-use Rattle.mm_spec.specs.Scope.{names_before, depth, is_block_open, is_active}
+use Rattle.mm_spec.specs.Scope.{names_before, depth, is_block_open, active_at}
 use Rattle.mm_spec.specs.Scope.{is_some_still_active, active_statements}
 use Rattle.mm_spec.specs.Lawful.{scope_fault, scope_faults, least}
 
@@ -57,7 +57,7 @@ module _ (db later : List Statement) where
       (depth_front j (omega arith)) (λ i i_lt_end. depth_front i (omega arith))
 
   is_active_front : (j k : ℕ) → j < k → k ≤ length db
-      → is_active (db ++ later) j k ≡ is_active db j k
+      → active_at (db ++ later) j k ≡ active_at db j k
   is_active_front j k j_lt_k k_le_length =
       ap₂ (λ o b. nat_lt j k && is_some_still_active o b) (get_front db later j (omega arith))
       (is_block_open_front j k j_lt_k k_le_length)

@@ -1,5 +1,5 @@
--- A stack of formulas tells whether labels are the postfix list of a forest of derivations, and if
--- not, at which label and why.
+-- A step on a stack of formulas adds a tree to a forest of derivations, or it fails and that tells
+-- why. The labels of a forest run to its formulas.
 use Rattle.std.proofs.lemmas.Grind.{common_steps}
 use Rattle.std.proofs.Common.{◌≡◌, ℕ, zero, suc, ◌+◌, ◌-◌, ◌≤◌, Bool, true, false, List, [], ◌∷◌}
 use Rattle.std.proofs.Common.{◌++◌, map, length, take, drop, Option, Some, None, Result, Ok, Err}
@@ -8,7 +8,7 @@ use Rattle.std.proofs.Common.{append_assoc, length-append, take_at, drop_at, dro
 use Rattle.std.proofs.Common.{take_all, arith, le-leb, leb-true, leb-false}
 use Rattle.std.proofs.lemmas.List.{length-map}
 use Rattle.std.specs.List.{AllByRecursion}
-use Rattle.mm_spec.specs.Derivation.{Formula, Frame, Rule, hypothesis, assertion, Context}
+use Rattle.mm_spec.specs.Derivation.{Formula, Frame, Referent, hypothesis, assertion, Context}
 use Rattle.mm_spec.specs.Derivation.{Substitution, substitute, Matches, KeepsDisjoint}
 use Rattle.mm_spec.specs.Derivation.{Follows, Trees, none, more, formulas, postfix, AreDerivations}
 use Rattle.mm_spec.specs.Limits.{formula_limit}
@@ -17,7 +17,7 @@ use Rattle.mm_spec.proofs.UnifyLaw.{tested_equal_are_equal, equal_are_tested_equ
 use Rattle.mm_spec.proofs.UnifyLaw.{found_gives_formula, found_gives_formulas}
 use Rattle.mm_spec.proofs.UnifyLaw.{found_keeps_disjoint}
 use Rattle.mm_spec.specs.Laws.Stack.{substitution_from, are_equal, unless_failed, unless_too_long}
-use Rattle.mm_spec.specs.Laws.Stack.{apply, step, IsCompleteRule}
+use Rattle.mm_spec.specs.Laws.Stack.{apply, step, IsCompleteReferent}
 use Rattle.mm_spec.specs.Laws.Complete.{IsComplete}
 
 -- the index of the label at which a run fails, and why it fails
@@ -35,7 +35,7 @@ module _ (c : Context) where
   -- the entries after the steps of the labels, the first of which has the index n
   abbrev pub run : ℕ → List ℕ → List Formula → Result (List Formula) RunFailure
   run n [] es = Ok es
-  run n (l ∷ ls) es = proceed (step c (c.rule l) es) n (run (suc n) ls)
+  run n (l ∷ ls) es = proceed (step c (c.referent l) es) n (run (suc n) ls)
 
   -- a step that a derivation makes is made
   assertion_is_taken : (a : Frame) (es : List Formula) (τ : Substitution) → IsComplete c a
@@ -71,7 +71,8 @@ module _ (c : Context) where
           ap₂ (λ p q. unless_failed true p q r out) p_is_true q_is_true
           ∙ ap (λ r. unless_too_long r out) r_is_true
 
-  pub follows_is_taken : (r : Option Rule) (es ps : List Formula) (f : Formula) → IsCompleteRule c r
+  pub follows_is_taken : (r : Option Referent) (es ps : List Formula) (f : Formula)
+      → IsCompleteReferent c r
       → Follows c r ps f
       → step c r (es ++ ps) ≡ Ok (es ++ f ∷ [])
   follows_is_taken None es ps f is_complete follows = absurd follows
@@ -82,7 +83,7 @@ module _ (c : Context) where
 
   -- each label is good
   abbrev pub AreGood : List ℕ → Type 0
-  AreGood ls = AllByRecursion (λ l. IsCompleteRule c (c.rule l)) ls
+  AreGood ls = AllByRecursion (λ l. IsCompleteReferent c (c.referent l)) ls
 
   pub good_append_is_good_parts : (xs ys : List ℕ) → AreGood (xs ++ ys) → AreGood xs × AreGood ys
   good_append_is_good_parts [] ys all_are_good = (tt, all_are_good)
@@ -113,7 +114,7 @@ module _ (c : Context) where
       ∙ forest_is_run cs are_derivations.1 split_at_label.0 (n + length p) (l ∷ ls)
       (es ++ formulas ts)
       ∙ ap (λ r. proceed r k (run (suc k) ls))
-      (follows_is_taken (c.rule l) (es ++ formulas ts) (formulas cs) f split_at_label.1.0
+      (follows_is_taken (c.referent l) (es ++ formulas ts) (formulas cs) f split_at_label.1.0
       are_derivations.2)
       ∙ ap₂ (λ m x. run m ls x) count_is (append_assoc es (formulas ts) (f ∷ []))
 
@@ -168,7 +169,7 @@ module _ (c : Context) where
 
   -- what the answer of a step means: premises on top of the entries, and a formula that follows
   -- from them; or why the step fails
-  abbrev pub StepOutcome : Option Rule → List Formula → Result (List Formula) Reason → Type 0
+  abbrev pub StepOutcome : Option Referent → List Formula → Result (List Formula) Reason → Type 0
   StepOutcome r es (Ok out) =
       (n : ℕ) × (f : Formula) × (n ≤ length es) × Follows c r (drop (length es - n) es) f
       × (out ≡ take (length es - n) es ++ f ∷ [])
@@ -193,7 +194,7 @@ module _ (c : Context) where
   assertion_has_outcome a es is_complete =
       grind (arith, common_steps, leb-false, leb-true, found_matches_if_any, tested_equal_are_equal)
 
-  pub step_has_outcome : (r : Option Rule) (es : List Formula) → IsCompleteRule c r
+  pub step_has_outcome : (r : Option Referent) (es : List Formula) → IsCompleteReferent c r
       → StepOutcome r es (step c r es)
   step_has_outcome None es is_complete = absurd is_complete
   step_has_outcome (Some (hypothesis g)) es is_complete =
@@ -210,12 +211,12 @@ module _ (c : Context) where
     pub reached : Trees
     pub derivations : AreDerivations c reached
     pub labels : postfix reached ≡ postfix forest ++ before
-    pub fails : Fails c (c.rule label) (formulas reached) reason
+    pub fails : Fails c (c.referent label) (formulas reached) reason
 
   -- a step after a forest gives one more forest
   pub step_grows_forest : (forest : Trees) (l : ℕ) (n : ℕ) (f : Formula) → AreDerivations c forest
       → n ≤ length (formulas forest)
-      → Follows c (c.rule l) (drop (length (formulas forest) - n) (formulas forest)) f
+      → Follows c (c.referent l) (drop (length (formulas forest) - n) (formulas forest)) f
       → (next : Trees) × AreDerivations c next × (postfix next ≡ postfix forest ++ l ∷ [])
       × (formulas next ≡ take (length (formulas forest) - n) (formulas forest) ++ f ∷ [])
   step_grows_forest forest l n f are_derivations n_le_length follows =
@@ -239,7 +240,7 @@ module _ (c : Context) where
         (
           parts.before_derivations,
           parts.last_derivations,
-          subst (λ x. Follows c (c.rule l) x f)
+          subst (λ x. Follows c (c.referent l) x f)
               last_formulas_are follows,
         ),
         sym (append_assoc (postfix parts.before) (postfix parts.last) (l ∷ []))

@@ -343,7 +343,7 @@ fn refusals(rt: HostRuntime) {
 
 #[test]
 fn runs(rt: HostRuntime) {
-    let plan = Plan::plain(Cutting::Places(Vec::new(rt.alloc())), 1);
+    let plan = Plan::without_options(Cutting::Places(Vec::new(rt.alloc())), 1);
     assert!(&rt; plan.is_lawful());
     let mut from = FIRST_TEXT;
     let mut to = Vec::new(rt.alloc());

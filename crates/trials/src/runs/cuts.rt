@@ -17,7 +17,7 @@ fn is_report_with_cuts<R: Threads + Wait + Sync>(
     report: &[u8],
 ) -> Result<bool, AllocError> {
     let workers = 4;
-    let plan = Plan::plain(Cutting::Places(places.to_vec(alloc)?), workers);
+    let plan = Plan::without_options(Cutting::Places(places.to_vec(alloc)?), workers);
     let mut written = Vec::new(alloc);
     Ok(
         plan.is_lawful()

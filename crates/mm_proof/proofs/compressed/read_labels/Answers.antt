@@ -83,12 +83,12 @@ returns-then-eq-clause-reads g c =
       labels_are_faultless = c.loop-index.invariant.labels_are_faultless;
     }
 
-pub bytes-label-requires-clause-order : goal.bytes-label-requires-clause-order
-bytes-label-requires-clause-order g c =
+pub bytes-label-requires-clause-start_le_end : goal.bytes-label-requires-clause-start_le_end
+bytes-label-requires-clause-start_le_end g c =
     (c.requires.words_within c.loop-index.index _ c.loop-index-test.true).0
 
-pub bytes-label-requires-clause-within : goal.bytes-label-requires-clause-within
-bytes-label-requires-clause-within g c =
+pub bytes-label-requires-clause-end_le_length : goal.bytes-label-requires-clause-end_le_length
+bytes-label-requires-clause-end_le_length g c =
     let no_word : Word = record { start = 0; end = 0 } in
     let end_le_length =
     (c.requires.words_within c.loop-index.index no_word c.loop-index-test.true).1 in

@@ -1,7 +1,7 @@
 use Rattle.std.proofs.Common.{◌≡◌, ◌∙◌, ap, sym, take}
 use Rattle.std.specs.List.{list_all}
 use Rattle.std.proofs.lemmas.List.{take_all}
-use Rattle.mm_spec.specs.CompressedProof.{is_early}
+use Rattle.mm_spec.specs.CompressedProof.{is_early_letter}
 use Rattle.mm_proof.specs.Number.{saturated}
 use Rattle.mm_proof.proofs.NumberLaw.{no_number_with_late_byte, saturated_is_number}
 use Rattle.mm_proof.proofs.NumberLaw.{saturated_is_too_large, early_bytes}
@@ -27,7 +27,8 @@ returns-clause-value_is c =
     c.try_from.ensures (c.loop-byte.invariant.value
     ∙ ap (λ z. saturated (early_bytes z)) take_is_all)
     (rw last_has_digit.2 at c.with_digit.ensures)
-    (sym (ap (list_all is_early) take_is_all) ∙ c.loop-byte.invariant.early) last_has_digit.1)
+    (sym (ap (list_all is_early_letter) take_is_all) ∙ c.loop-byte.invariant.early)
+    last_has_digit.1)
 
 pub returns-clause-is_too_large : goal.returns-clause-is_too_large
 returns-clause-is_too_large c =

@@ -22,7 +22,7 @@ pub send_citation_line-requires : goal.send_citation_line-requires
 send_citation_line-requires g c =
     let row_lt_theorems : c.loop-row.row < length c.args.citations.now.theorems = omega arith in
     subst (λ (xs : List ℕ). AreAssertions c.args.database.now.statements xs)
-    (sym c.of.ensures.list) (c.requires.cited.assertions c.loop-row.row row_lt_theorems)
+    (sym c.of.ensures.list) (c.requires.are_citations.assertions c.loop-row.row row_lt_theorems)
 
 pub loop-row-preserved : goal.loop-row-preserved
 loop-row-preserved g c =

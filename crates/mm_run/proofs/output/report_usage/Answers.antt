@@ -12,7 +12,7 @@ returns-in-Ok g c =
         table_is_output request d c.requires.matrix.citations c.args.chosen.now c.args.matrix.now
             c.requires.matrix.is_judged
             c.requires.chosen c.requires.matrix.is_matrix c.requires.choice,
-        c.in-Ok.ensures.ok,
+        c.in-Ok.ensures.report_is_written,
       ),
     )
 
@@ -20,7 +20,7 @@ pub returns-in-Err : goal.returns-in-Err
 returns-in-Err g c =
     let d = c.args.database.now in
     let request = c.args.request.now in
-    let is_prefix = c.in-Err.ensures.err in (
+    let is_prefix = c.in-Err.ensures.prefix_is_written in (
       report_of request d c.args.chosen.now c.args.matrix.now,
       is_prefix.0,
       table_is_output request d c.requires.matrix.citations c.args.chosen.now

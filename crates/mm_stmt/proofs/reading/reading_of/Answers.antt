@@ -19,7 +19,7 @@ into_reading-requires g c =
     let symbols_are_few = c.requires.few_symbols in
     let flag_count_is = c.in_ok-variable_flags.ensures.count_is in
     record {
-      are_places = is_read_so_far.formulas.are_places;
+      are_places = is_read_so_far.formulas.are_bounds;
       are_parsed_statements = record {
         sound = c.requires.sound;
         blocks = is_read_so_far.knows.blocks;

@@ -1,7 +1,7 @@
 use Rattle.std.proofs.Common.{◌≡◌, ◌∙◌, ◌∷◌, ℕ, List, All, IsTrue, map, sym, ap, subst}
 use Rattle.mm_spec.specs.Output.{theorems, is_theorem_at, label_at}
 use Rattle.mm_spec.specs.Opened.{counted}
-use Rattle.mm_spec.proofs.OpenedLaw.{counted_label, theorem_still}
+use Rattle.mm_spec.proofs.OpenedLaw.{counted_label, counted_theorem_is_theorem}
 use Rattle.mm_outline.specs.Statements.{statements}
 use Rattle.mm_database.proofs.KindsLaw.{theorems_by_kind, axioms_by_kind, kinds_lt_2_31}
 use Rattle.mm_database.proofs.SpacedLaw.{theorems_are}
@@ -22,7 +22,8 @@ spaced_labels_of-requires-clause-are_theorems g c =
     ∙ theorems_by_kind (counted w db) c.deref.result.now
     (c.deref.ensures.value ∙ c.in_ok-kinds.ensures) in
     subst (λ (ks : List ℕ). All (λ k. IsTrue (is_theorem_at db k)) ks) (sym theorems_are_listed)
-    (λ i d i_lt_count. theorem_still w db _ (theorems_are (counted w db) i d i_lt_count))
+    (λ i d i_lt_count. counted_theorem_is_theorem w db _
+    (theorems_are (counted w db) i d i_lt_count))
 
 pub returns : goal.returns
 returns g c =

@@ -59,7 +59,7 @@ loop-theorem-preserved g c =
     record {
       made_for = c.in-Ok.ensures.made_for;
       have_citations =
-          rw (c.in_ok-push-in-Ok.ensures.ok, c.cites.ensures)
+          rw (c.in_ok-push-in-Ok.ensures.list_is_added, c.cites.ensures)
           (citations_push db c.args.essential
           (theorems db) i c.loop-theorem.lists c.in-Ok.checked.cites
           c.loop-theorem.invariant.have_citations

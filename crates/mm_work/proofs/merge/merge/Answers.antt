@@ -80,7 +80,7 @@ loop-position-preserved g c =
     c.in_ok-positions.positions.items
     c.deref-position-items.result.now k _ positions_are has_position
     c.index-all_findings-position.result in
-    rw c.in_ok-push.ensures.ok
+    rw c.in_ok-push.ensures.list_is_added
     (citations_push db c.args.essential
     (theorems db) k c.loop-position.lists c.get.result.now c.loop-position.invariant
     (list_has_citations db c.args.essential fs c.requires.are_findings

@@ -1,5 +1,5 @@
 use Rattle.std.proofs.Common.{◌∙◌, ℕ, Bool, sym, ap, arith}
-use Rattle.mm_spec.specs.Scope.{is_active}
+use Rattle.mm_spec.specs.Scope.{active_at}
 use Rattle.mm_spec.proofs.OpenedLaw.{counted_active}
 use Rattle.mm_database.specs.Database.{Contents}
 use Rattle.mm_database.proofs.DatabaseLaw.{as_many_statements}
@@ -23,4 +23,4 @@ returns g c =
     c.active_at.ensures
     ∙ ap (λ (f : ℕ → ℕ → Bool). f c.args.statement c.args.at)
     (sym (counted_active c.self.inside.with_open c.self.inside.reading.statements.list))
-    ∙ ap (λ (n : Contents). is_active n.statements c.args.statement c.args.at) c.self.view_is
+    ∙ ap (λ (n : Contents). active_at n.statements c.args.statement c.args.at) c.self.view_is

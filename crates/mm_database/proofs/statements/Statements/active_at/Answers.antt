@@ -3,7 +3,7 @@ use Rattle.std.proofs.Common.{nat_lt, nat_le, arith}
 use Rattle.std.proofs.lemmas.Bool.{lt-ltb}
 use Rattle.std.proofs.lemmas.List.{length-map}
 use Rattle.mm_spec.specs.Lexed.{tokens_of as words_of}
-use Rattle.mm_spec.specs.Scope.{is_active}
+use Rattle.mm_spec.specs.Scope.{active_at}
 use Rattle.mm_outline.specs.Blocks.{end_of}
 use Rattle.mm_outline.specs.Parts.{statement_of}
 use Rattle.mm_outline.specs.Statements.{is_active_kind}
@@ -38,6 +38,6 @@ returns-then-statement-at g c =
     ap₂ (λ t p. t && is_active_kind p.kind (nat_le k (end_of blocks j)))
     (lt-ltb j k c.if-statement-at.true)
     (sym c.index.ensures) in
-    subst (λ (p : ParsedStatements). c.is_active_kind.result ≡ is_active p.list j k) c.self.view_is
+    subst (λ (p : ParsedStatements). c.is_active_kind.result ≡ active_at p.list j k) c.self.view_is
     (c.is_active_kind.ensures ∙ ap (is_active_kind o.kind) c.is_open_at.ensures
     ∙ sym test_is_kind_active ∙ is_active_is_kind_active)

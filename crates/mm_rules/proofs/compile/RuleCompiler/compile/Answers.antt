@@ -2,8 +2,8 @@ use Rattle.std.proofs.Common.{refl, arith, ◌++◌, map, sym, ap, ◌∙◌, su
 use Rattle.std.specs.List.{AllByRecursion}
 use Rattle.std.proofs.lemmas.Result.{IfOk-from_err, on_ok_weaker}
 use Rattle.mm_spec.specs.Frame.{formula_at, mandatory_hypotheses}
-use Rattle.mm_spec.specs.Citation.{context_at, is_assertion}
-use Rattle.mm_spec.specs.Laws.Complete.{AreBound}
+use Rattle.mm_spec.specs.Citation.{is_assertion}
+use Rattle.mm_spec.specs.Laws.Complete.{AreBound, variables_context}
 use Rattle.mm_outline.proofs.StatementsLaw.{passing_lt_length}
 use Rattle.mm_rules.specs.Rules.{AreFirstNumbers, numbered_parts}
 use Rattle.mm_rules.proofs.RuleLaw.{covered, covered_all, is_compiled_rule, written_back}
@@ -14,7 +14,7 @@ pub compile_hypotheses-requires-clause-bound : goal.compile_hypotheses-requires-
 compile_hypotheses-requires-clause-bound g c =
     let db = c.args.database.now.statements in
     covered_all db (map (formula_at db) c.hyps-hyps.result.now) c.hyps-hyps.result.now
-    (subst (λ h. AllByRecursion (AreBound (context_at db 0) (map (formula_at db) h))
+    (subst (λ h. AllByRecursion (AreBound (variables_context db) (map (formula_at db) h))
     (map (formula_at db) h)) (sym c.hyps-hyps.ensures.are) c.requires.complete.hypotheses)
 
 pub formula-requires : goal.formula-requires
@@ -35,8 +35,9 @@ returns-clause-compiled_rule g c =
     let hs = map (formula_at db) hyps in
     let is_covered =
     covered db hs f
-    (subst (λ h. AreBound (context_at db 0) (map (formula_at db) h) f) (sym c.hyps-hyps.ensures.are)
-    (subst (AreBound (context_at db 0) (map (formula_at db)
+    (subst (λ h. AreBound (variables_context db) (map (formula_at db) h) f)
+    (sym c.hyps-hyps.ensures.are)
+    (subst (AreBound (variables_context db) (map (formula_at db)
     (mandatory_hypotheses db c.args.assertion)))
     (sym c.formula.ensures.formula) c.requires.complete.formula)) in
     let numbers_at_the_end = c.deref-3.result.now in

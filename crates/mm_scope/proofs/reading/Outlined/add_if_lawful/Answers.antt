@@ -111,7 +111,7 @@ returns g c =
           formulas =
               subst
               (λ (ps : List ℕ). AreFormulas (db ++ s ∷ []) c.number_others.new.numbers.items ps)
-              (sym c.in_ok-end_list.ensures.ok) are_formulas;
+              (sym c.in_ok-end_list.ensures.bound_is_added) are_formulas;
         },
       );
       if_unlawful = search rules;

@@ -4,7 +4,8 @@ use Rattle.mm_spec.specs.Frame.{index_of}
 use Rattle.mm_outline.specs.Parts.{token_at, nth_word, between}
 use Rattle.mm_scope.specs.Formulas.{numbers_in}
 use Rattle.mm_spec.specs.Text.{is_in}
-use Rattle.mm_spec.specs.Lawful.{at, at_each, least, when, symbol_codes, formula_faults}
+use Rattle.mm_spec.specs.Lawful.{faults_at, faults_at_each, least, when, symbol_codes}
+use Rattle.mm_spec.specs.Lawful.{formula_faults}
 use Rattle.mm_spec.specs.declared.Code.TheVariants.{BadTypecode}
 use Rattle.mm_database.specs.Names.{find, is_constant_in, names_of}
 use Rattle.mm_scope.proofs.JudgeLaw.{between_first}
@@ -33,10 +34,10 @@ returns-clause-fault_is_least g c = λ n are_names.
     let end_place = (nth_word ws c.args.to).start in
     let symbol_is_found =
     c.numbered-number.ensures.symbol_is_found ∙ ap (find s.names.symbols) c.bytes.ensures in
-    c.lesser.ensures (at t.at (when (not (is_in t.word n.constants)) BadTypecode))
-    (at_each (symbol_codes n) [] (between text ws (c.args.from + 1) c.args.to))
+    c.lesser.ensures (faults_at t.at (when (not (is_in t.word n.constants)) BadTypecode))
+    (faults_at_each (symbol_codes n) [] (between text ws (c.args.from + 1) c.args.to))
     (c.fault_with_code-fault_of_typecode.ensures ∙ c.typecode_fault_code.ensures t.at
-    ∙ ap (λ b. least (at t.at (when (not b) BadTypecode)))
+    ∙ ap (λ b. least (faults_at t.at (when (not b) BadTypecode)))
     (ap is_constant_in symbol_is_found ∙ sym (are_names.constants t.word)))
     (c.in_ok-fault_of_symbols.ensures.fault_is_least n are_names)
     ∙ ap (λ xs. least (formula_faults n xs end_place))

@@ -1,6 +1,6 @@
 use Rattle.std.proofs.Common.{◌<◌, ◌≤◌, ◌∙◌, [], ap, sym, arith, length}
 use Rattle.mm_spec.specs.Text.{is_in}
-use Rattle.mm_spec.specs.Lawful.{at, at_each, least}
+use Rattle.mm_spec.specs.Lawful.{faults_at, faults_at_each, least}
 use Rattle.mm_outline.specs.Parts.{between, token_at}
 use Rattle.mm_scope.specs.Knows.{listed_codes}
 use Rattle.mm_scope.proofs.JudgeLaw.{earlier, at_each_between_push, in_between_is_in_earlier}
@@ -23,12 +23,12 @@ loop-token_index-preserved g c =
       least = λ n are_names.
           let codes = listed_codes n c.args.kind in
           let word_is_bytes = c.bytes-word.ensures in
-          c.lesser-least_found.ensures (at_each codes [] (between text ws from i))
-          (at t.at (codes e t.word)) (c.loop-token_index.invariant.least n are_names)
+          c.lesser-least_found.ensures (faults_at_each codes [] (between text ws from i))
+          (faults_at t.at (codes e t.word)) (c.loop-token_index.invariant.least n are_names)
           (c.fault_with_code.ensures
           ∙ c.listed_code-code.ensures e (c.in_ok-repeated.ensures.tells_repeated
           ∙ in_between_is_in_earlier text ws from i t.word
           ∙ ap (λ w. is_in w e) (sym word_is_bytes)) t.at n are_names
-          ∙ ap (λ w. least (at t.at (codes e w))) word_is_bytes)
+          ∙ ap (λ w. least (faults_at t.at (codes e w))) word_is_bytes)
           ∙ ap least (sym (at_each_between_push text ws from i from_le_i i_lt_length codes));
     }

@@ -1,6 +1,6 @@
 use Rattle.std.proofs.Common.{◌≡◌, [], ℕ, List, is_some, false}
 use Rattle.mm_spec.specs.Text.{is_in, words}
-use Rattle.mm_spec.specs.Lawful.{least, at_each}
+use Rattle.mm_spec.specs.Lawful.{least, faults_at_each}
 use Rattle.mm_spec.specs.Scope.{Names}
 use Rattle.mm_database.specs.Names.{find}
 use Rattle.mm_outline.specs.Parts.{between}
@@ -14,6 +14,6 @@ invariant-loop-token_index g l = record {
       → is_some (find l.seen.entries w)
       ≡ is_in w (words (between l.text l.tokens l.from l.token_index));
   least : (n : Names) → AreNamesOf l.self n
-      → l.least_found ≡ least (at_each (listed_codes n l.kind) []
+      → l.least_found ≡ least (faults_at_each (listed_codes n l.kind) []
       (between l.text l.tokens l.from l.token_index));
 }

@@ -3,7 +3,7 @@ use Rattle.std.proofs.Common.{append_assoc}
 use Rattle.mm_spec.specs.Frame.{index_of}
 use Rattle.mm_scope.specs.Formulas.{numbers_in}
 use Rattle.mm_outline.specs.Parts.{token_at, between}
-use Rattle.mm_spec.specs.Lawful.{at, at_each, least, symbol_codes}
+use Rattle.mm_spec.specs.Lawful.{faults_at, faults_at_each, least, symbol_codes}
 use Rattle.mm_database.specs.Names.{find, names_of}
 use Rattle.mm_scope.proofs.JudgeLaw.{at_each_between_push}
 use Rattle.mm_scope.proofs.NumberedLaw.{numbers_between_push}
@@ -32,8 +32,10 @@ loop-token_index-preserved g c =
       least = λ n are_names.
           let t = token_at text ws c.loop-token_index.token_index in
           c.lesser-least_found.ensures
-          (at_each (symbol_codes n) [] (between text ws c.args.from c.loop-token_index.token_index))
-          (at t.at (symbol_codes n [] t.word)) (c.loop-token_index.invariant.least n are_names)
+          (faults_at_each (symbol_codes n) []
+          (between text ws c.args.from c.loop-token_index.token_index))
+          (faults_at t.at (symbol_codes n [] t.word))
+          (c.loop-token_index.invariant.least n are_names)
           (c.fault_with_code.ensures
           ∙ c.symbol_code.ensures t.word
           (sym (c.numbered-number.ensures.symbol_is_found ∙ ap (find s.names.symbols)

@@ -4,29 +4,32 @@ ghost use Rattle.std.specs.Prelude.{◌≡◌, ◌&&◌, count_by, length};
 ghost use Rattle.std.specs.List.{list_any};
 ghost use Rattle.mm_spec.specs.Opened.{is_open_theorem};
 ghost use Rattle.mm_spec.specs.Scope.{statement_at};
-ghost use Rattle.mm_report.specs.Rows.{open_theorems as spec_open_theorems};
+ghost use Rattle.mm_report.specs.Rows.{open_theorem_count as spec_open_theorem_count};
 
 use mm_database::Database;
 use mm_rows::Columns;
 use std::alloc::Allocator;
 
 /// Returns the number of columns that are open theorems, or `None` if `with_open` isn't set.
-pub(crate) fn open_theorems<A: Allocator, D: Allocator>(
+pub(crate) fn open_theorem_count<A: Allocator, D: Allocator>(
     database: &Database<'_, D>,
     chosen: &Columns<A>,
     with_open: bool,
 ) -> Option<u64>
-    ensures { result ≡ spec_open_theorems with_open database.now chosen.now }
+    ensures { result ≡ spec_open_theorem_count with_open database.now chosen.now }
 {
     if with_open {
-        Some(open_count(database, chosen))
+        Some(count_open_theorems(database, chosen))
     } else {
         None
     }
 }
 
 /// Returns the number of columns that are open theorems.
-fn open_count<A: Allocator, D: Allocator>(database: &Database<'_, D>, chosen: &Columns<A>) -> u64
+fn count_open_theorems<A: Allocator, D: Allocator>(
+    database: &Database<'_, D>,
+    chosen: &Columns<A>,
+) -> u64
     ensures { result
         ≡ count_by
         (λ a. database.now.with_open && list_any is_open_theorem (statement_at database.now.read a))

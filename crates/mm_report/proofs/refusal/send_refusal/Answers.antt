@@ -6,7 +6,7 @@ use Rattle.std.proofs.lemmas.Bool.{cases_lt}
 use Rattle.mm_spec.specs.Codes.{code_number}
 use Rattle.mm_spec.specs.Report.{bytes_after_line_feed, two_digits}
 use Rattle.mm_report.proofs.SentLaw.{sent_both, sent_equal_text}
-use Rattle.mm_report.proofs.sections.send_refusal.Goals as goal
+use Rattle.mm_report.proofs.refusal.send_refusal.Goals as goal
 
 -- a refusal, put together piece by piece
 refusal_regrouped : (a d e u t : List ℕ)
@@ -19,12 +19,12 @@ refusal_regrouped a d e u t =
 
 -- past the end of a list there is nothing more to take
 take_at_most_length : (n : ℕ) (xs : List ℕ) → take (min n (length xs)) xs ≡ take n xs
-take_at_most_length n xs = by_length (cases_lt n (length xs))
+take_at_most_length n xs = taken_by_length (cases_lt n (length xs))
   where
-    by_length : (n < length xs) ⊎ (length xs ≤ n) → take (min n (length xs)) xs ≡ take n xs
-    by_length (inl n_lt_length) =
+    taken_by_length : (n < length xs) ⊎ (length xs ≤ n) → take (min n (length xs)) xs ≡ take n xs
+    taken_by_length (inl n_lt_length) =
         let min_is_n : min n (length xs) ≡ n = omega arith in ap (λ k. take k xs) min_is_n
-    by_length (inr length_le_n) = take_all (min n (length xs)) xs (omega arith)
+    taken_by_length (inr length_le_n) = take_all (min n (length xs)) xs (omega arith)
         ∙ sym (take_all n xs length_le_n)
 
 pub returns : goal.returns
@@ -50,5 +50,5 @@ returns g c =
     (sent_both c.send.ensures (sent_equal_text _ line_is c.send_number.ensures))
     c.send_byte.ensures)
     (sent_equal_text _ column_is c.send_number-2.ensures)) c.send-2.ensures)
-    (sent_equal_text _ (ap two_digits c.number.ensures.number) c.send_two_digits.ensures))
+    (sent_equal_text _ (ap two_digits c.number.ensures.is_code_number) c.send_two_digits.ensures))
     c.send_byte-2.ensures)

@@ -1,6 +1,6 @@
 use Rattle.std.proofs.Common.{◌≤◌, ◌≡◌, drop}
 use Rattle.mm_spec.specs.Report.{bytes_after_line_feed_from, bytes_after_line_feed}
-use Rattle.mm_report.proofs.sections.bytes_after_line_feed.Given as goal
+use Rattle.mm_report.proofs.refusal.bytes_after_line_feed.Given as goal
 
 abbrev pub invariant-loop-b : goal.invariant-loop-b
 invariant-loop-b l =

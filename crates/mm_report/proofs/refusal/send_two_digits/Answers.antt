@@ -1,7 +1,7 @@
 use Rattle.mm_spec.specs.Report.{two_digits}
 use Rattle.mm_report.proofs.SentLaw.{sent_both, sent_equal_text, two_digits_below_ten}
 use Rattle.mm_report.proofs.SentLaw.{two_digits_from_ten}
-use Rattle.mm_report.proofs.sections.send_two_digits.Goals as goal
+use Rattle.mm_report.proofs.refusal.send_two_digits.Goals as goal
 
 pub returns-then-n-lt10 : goal.returns-then-n-lt10
 returns-then-n-lt10 g c =

@@ -4,8 +4,8 @@ use Rattle.std.specs.List.{list_any}
 use Rattle.std.proofs.lemmas.List.Sums.{count_by_more_yes, count_by_more_no}
 use Rattle.mm_spec.specs.Opened.{is_open_theorem}
 use Rattle.mm_spec.specs.Scope.{statement_at}
-use Rattle.mm_report.proofs.open_columns.open_count.Goals as goal
-use Rattle.mm_report.proofs.open_columns.open_count.Goals.{then-is_open, else-is_open}
+use Rattle.mm_report.proofs.open_theorems.count_open_theorems.Goals as goal
+use Rattle.mm_report.proofs.open_theorems.count_open_theorems.Goals.{then-is_open, else-is_open}
 
 pub loop-statement-preserved : goal.loop-statement-preserved
 loop-statement-preserved g c =
