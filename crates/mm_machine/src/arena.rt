@@ -110,8 +110,8 @@ pub fn build<A: Allocator>(
     formula: &[PackedSymbol],
     list: &mut Vec<Sym, A>,
 ) -> Result<bool, AllocError>
-    requires premises { All (IsIn symbols.now) premises.now }
-    requires formula { All (IsVariableBelow (length premises.now)) formula.now }
+    requires premises_in_arena { All (IsIn symbols.now) premises.now }
+    requires variables_in_range { All (IsVariableBelow (length premises.now)) formula.now }
     ensures tells_length_le_limit { IfOk result
         (λ b. b ≡ nat_le (length (replaced symbols.now premises.now formula.now)) formula_limit) }
     ensures list_is_formula { IfOk result

@@ -156,11 +156,11 @@ impl<A: Allocator> Machine<A> {
     #[inline(always)]
     pub fn push(&mut self, formula: &[Sym]) -> Result<(), AllocError>
         requires { All (λ s. s < self.old.symbol_count) formula.now }
-        ensures ok { OnOk result
+        ensures pushes_formula { OnOk result
             (self.new
             ≡ machine_state (self.old.stack ++ formula.now ∷ []) self.old.marks self.old.formulas
             self.old.symbol_count) }
-        ensures symbol_count { self.new.symbol_count ≡ self.old.symbol_count }
+        ensures symbol_count_stays { self.new.symbol_count ≡ self.old.symbol_count }
     {
         push_unmarked(formula, &mut self.unmarked, &mut self.stack)
     }
@@ -168,8 +168,8 @@ impl<A: Allocator> Machine<A> {
     /// Pushes the formula of the earlier, marked step again.
     pub fn repeat(&mut self, step: u32) -> Result<(), AllocError>
         requires { Contains self.old.marks step }
-        ensures ok { OnOk result (Repeats step self.old self.new) }
-        ensures symbol_count { self.new.symbol_count ≡ self.old.symbol_count }
+        ensures repeats_step { OnOk result (Repeats step self.old self.new) }
+        ensures symbol_count_stays { self.new.symbol_count ≡ self.old.symbol_count }
     {
         let index = index_of_mark(&self.marks, step as usize, &self.slots);
         self.stack.push(self.marked_spans[index])?;
@@ -178,10 +178,10 @@ impl<A: Allocator> Machine<A> {
 
     /// Adds the top formula, with which this step ended, to those of the marked steps.
     pub fn mark(&mut self, step: usize) -> Result<(), AllocError>
-        requires entry { 0 < length self.old.stack }
+        requires has_entry { 0 < length self.old.stack }
         requires marks_lt_step { All (λ j. j < step) self.old.marks }
-        ensures ok { OnOk result (self.new ≡ with_mark true step self.old) }
-        ensures symbol_count { self.new.symbol_count ≡ self.old.symbol_count }
+        ensures marks_step { OnOk result (self.new ≡ with_mark true step self.old) }
+        ensures symbol_count_stays { self.new.symbol_count ≡ self.old.symbol_count }
     {
         let span = move_to_marked(&mut self.unmarked, &mut self.marked, &mut self.stack)?;
         self.marked_spans.push(span)?;
@@ -199,12 +199,12 @@ impl<A: Allocator> Machine<A> {
         rule: &Rule,
         cache: &mut DisjointCache<A>,
     ) -> Result<(), StepRefused>
-        requires theorem { theorem < length database.now.statements }
-        requires rule { IsCompiled database.now.statements rule.now }
-        requires symbol_count { self.old.symbol_count
+        requires theorem_lt_length { theorem < length database.now.statements }
+        requires is_compiled { IsCompiled database.now.statements rule.now }
+        requires symbol_count_is { self.old.symbol_count
             ≡ length (symbol_names database.now.statements) }
-        requires cache { AreDisjointAt database.now.statements theorem cache.old }
-        ensures cache { AreDisjointAt database.now.statements theorem cache.new }
+        requires cached_are_disjoint { AreDisjointAt database.now.statements theorem cache.old }
+        ensures cached_are_disjoint { AreDisjointAt database.now.statements theorem cache.new }
         ensures is_applied { IsApplied database.now.statements theorem rule.now.assertion self.old
             self.new
             result }
@@ -224,9 +224,9 @@ impl<A: Allocator> Machine<A> {
         _theorem: u32,
         rule: &Rule,
     ) -> Result<(), StepRefused>
-        requires rule { IsCompiled database.now.statements rule.now }
+        requires is_compiled { IsCompiled database.now.statements rule.now }
         requires no_hypotheses { length rule.now.hypotheses ≡ 0 }
-        requires symbol_count { self.old.symbol_count
+        requires symbol_count_is { self.old.symbol_count
             ≡ length (symbol_names database.now.statements) }
         ensures is_applied { IsApplied database.now.statements _theorem rule.now.assertion self.old
             self.new
@@ -251,12 +251,12 @@ impl<A: Allocator> Machine<A> {
         rule: &Rule,
         cache: &mut DisjointCache<A>,
     ) -> Result<(), StepRefused>
-        requires theorem { theorem < length database.now.statements }
-        requires rule { IsCompiled database.now.statements rule.now }
-        requires symbol_count { self.old.symbol_count
+        requires theorem_lt_length { theorem < length database.now.statements }
+        requires is_compiled { IsCompiled database.now.statements rule.now }
+        requires symbol_count_is { self.old.symbol_count
             ≡ length (symbol_names database.now.statements) }
-        requires cache { AreDisjointAt database.now.statements theorem cache.old }
-        ensures cache { AreDisjointAt database.now.statements theorem cache.new }
+        requires cached_are_disjoint { AreDisjointAt database.now.statements theorem cache.old }
+        ensures cached_are_disjoint { AreDisjointAt database.now.statements theorem cache.new }
         ensures is_applied { IsApplied database.now.statements theorem rule.now.assertion self.old
             self.new
             result }
@@ -303,11 +303,11 @@ fn push_unmarked<A: Allocator>(
     unmarked: &mut SymbolList<A>,
     stack: &mut Vec<Span, A>,
 ) -> Result<(), AllocError>
-    ensures unmarked { OnOk result (unmarked.new ≡ unmarked.old ++ formula.now) }
-    ensures stack { OnOk result
+    ensures appends_symbols { OnOk result (unmarked.new ≡ unmarked.old ++ formula.now) }
+    ensures pushes_entry { OnOk result
         (stack.new.items ≡ stack.old.items ++ appended_span unmarked.old formula.now ∷ []) }
-    ensures same_unmarked { OnErr result (unmarked.new ≡ unmarked.old) }
-    ensures same_stack { OnErr result (stack.new.items ≡ stack.old.items) }
+    ensures unmarked_stays_if_err { OnErr result (unmarked.new ≡ unmarked.old) }
+    ensures stack_stays_if_err { OnErr result (stack.new.items ≡ stack.old.items) }
 {
     let start = unmarked.len();
     unmarked.append(formula)?;
@@ -342,8 +342,8 @@ fn first_unmarked(stack: &[Span], end: usize) -> usize
 /// `unmarked`.
 fn remove_from<A: Allocator>(below: usize, unmarked: &mut SymbolList<A>, stack: &mut Vec<Span, A>)
     requires { below ≤ vec_len stack.old }
-    ensures stack { stack.new.items ≡ take below stack.old.items }
-    ensures unmarked { unmarked.new
+    ensures entries_are_removed { stack.new.items ≡ take below stack.old.items }
+    ensures symbols_are_removed { unmarked.new
         ≡ take (first_unmarked_of (drop below stack.old.items) (length unmarked.old)) unmarked.old }
 {
     let end = first_unmarked(&stack[below..], unmarked.len());
@@ -357,13 +357,13 @@ fn move_to_marked<A: Allocator>(
     marked: &mut SymbolList<A>,
     stack: &mut Vec<Span, A>,
 ) -> Result<Span, AllocError>
-    requires entry { 0 < length stack.old.items }
-    requires stack { IsStack unmarked.old marked.old stack.old.items }
-    ensures stack { IsStack unmarked.new marked.new stack.new.items }
-    ensures formulas { span_formulas (arena unmarked.new marked.new) stack.new.items
+    requires has_entry { 0 < length stack.old.items }
+    requires is_stack { IsStack unmarked.old marked.old stack.old.items }
+    ensures is_stack { IsStack unmarked.new marked.new stack.new.items }
+    ensures formulas_stay { span_formulas (arena unmarked.new marked.new) stack.new.items
         ≡ span_formulas (arena unmarked.old marked.old) stack.old.items }
     ensures moves_symbols { Moves unmarked.old marked.old unmarked.new marked.new }
-    ensures entry_is { IfOk result
+    ensures returns_top_formula { IfOk result
         (λ e. IsMarkedEntry marked.new e
         × (span_formula (arena [] marked.new) e
         ≡ top (span_formulas (arena unmarked.old marked.old) stack.old.items))) }
@@ -399,16 +399,17 @@ fn replace_by_formula<A: Allocator>(
     short: &mut [Sym],
     long: &mut Vec<Sym, A>,
 ) -> Result<(), StepRefused>
-    requires below { below ≤ vec_len stack.old }
-    requires formula { All (IsVariableBelow (length (drop below stack.old.items))) formula.now }
-    requires stack { IsStack unmarked.old marked.now stack.old.items }
-    ensures stack { (w : ℕ) → All (IsConstantBelow w) formula.now
+    requires below_le_length { below ≤ vec_len stack.old }
+    requires variables_in_range { All (IsVariableBelow (length (drop below stack.old.items)))
+        formula.now }
+    requires is_stack { IsStack unmarked.old marked.now stack.old.items }
+    ensures stays_stack { (w : ℕ) → All (IsConstantBelow w) formula.now
         → IsStackOf w unmarked.old marked.now stack.old.items
         → IsStackOf w unmarked.new marked.now stack.new.items }
-    ensures entries { OnOk result
+    ensures entries_are { OnOk result
         (entries_after (arena unmarked.old marked.now) stack.old.items below formula.now
         ≡ Ok (span_formulas (arena unmarked.new marked.now) stack.new.items)) }
-    ensures refused { IfErr result
+    ensures refusal_is_right { IfErr result
         (λ e. IsRefusalOf e
         (entries_after (arena unmarked.old marked.now) stack.old.items below formula.now)) }
 {
@@ -435,16 +436,17 @@ fn replace_by_long_formula<A: Allocator>(
     stack: &mut Vec<Span, A>,
     long: &mut Vec<Sym, A>,
 ) -> Result<(), StepRefused>
-    requires below { below ≤ vec_len stack.old }
-    requires formula { All (IsVariableBelow (length (drop below stack.old.items))) formula.now }
-    requires stack { IsStack unmarked.old marked.now stack.old.items }
-    ensures stack { (w : ℕ) → All (IsConstantBelow w) formula.now
+    requires below_le_length { below ≤ vec_len stack.old }
+    requires variables_in_range { All (IsVariableBelow (length (drop below stack.old.items)))
+        formula.now }
+    requires is_stack { IsStack unmarked.old marked.now stack.old.items }
+    ensures stays_stack { (w : ℕ) → All (IsConstantBelow w) formula.now
         → IsStackOf w unmarked.old marked.now stack.old.items
         → IsStackOf w unmarked.new marked.now stack.new.items }
-    ensures entries { OnOk result
+    ensures entries_are { OnOk result
         (entries_after (arena unmarked.old marked.now) stack.old.items below formula.now
         ≡ Ok (span_formulas (arena unmarked.new marked.now) stack.new.items)) }
-    ensures refused { IfErr result
+    ensures refusal_is_right { IfErr result
         (λ e. IsRefusalOf e
         (entries_after (arena unmarked.old marked.now) stack.old.items below formula.now)) }
 {
@@ -472,11 +474,11 @@ fn replace_from<A: Allocator>(
     stack: &mut Vec<Span, A>,
 ) -> Result<(), AllocError>
     requires { below ≤ vec_len stack.old }
-    ensures stack { (w : ℕ) (marked : List ℕ) → All (λ s. s < w) formula.now
+    ensures stays_stack { (w : ℕ) (marked : List ℕ) → All (λ s. s < w) formula.now
         → IsStackOf w unmarked.old marked stack.old.items
         → IsStackOf w unmarked.new marked stack.new.items }
-    ensures formulas { OnOk result ((marked : List ℕ) → IsStack unmarked.old marked stack.old.items
-        → span_formulas (arena unmarked.new marked) stack.new.items
+    ensures formulas_are { OnOk result ((marked : List ℕ) → IsStack unmarked.old marked
+        stack.old.items → span_formulas (arena unmarked.new marked) stack.new.items
         ≡ take below (span_formulas (arena unmarked.old marked) stack.old.items)
         ++ formula.now ∷ []) }
 {

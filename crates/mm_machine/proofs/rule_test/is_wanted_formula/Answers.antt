@@ -28,7 +28,7 @@ returns-then-not-begins_with c =
     ap (replaced_part arena es) (sym c.symbol.ensures ∙ c.in-Variable.is)
     ∙ sym (ap (span_formula arena) c.replacement_of-span.ensures) in
     let begins_is_false : starts_with nat_eq (slice_range xs a e) (span_formula arena p) ≡ false =
-    sym c.begins_with.ensures.value ∙ c.if-not-begins_with.true in
+    sym c.begins_with.ensures ∙ c.if-not-begins_with.true in
     sym (c.loop-part.invariant.test_is_rest_test
     ∙ fit_splits arena es xs w i a e i_lt_length_w c.part-item.result (span_formula arena p)
     (sym c.part-item.is) replaced_part_is
@@ -53,15 +53,16 @@ loop-part-preserved c =
           ∙ sym (ap (span_formula arena) b.replacement_of-span.ensures) in
           let begins_is_true : starts_with nat_eq (slice_range xs a e) (span_formula arena p)
           ≡ true =
-          sym b.begins_with.ensures.value ∙ b.if-not-begins_with.false in
+          sym b.begins_with.ensures ∙ b.if-not-begins_with.false in
           let part_end_le_e : a + length (span_formula arena p) ≤ e =
           begins_with_length xs a e (span_formula arena p) c.loop-part.invariant.at_le_end
           begins_is_true in
           let formula_length_is : length (span_formula arena p) ≡ p.end - p.start =
           length_formula arena p
           (variable_replacement_is_in arena es w i c.part-item.result b.in-Variable.number p
-          c.requires.premises
-          c.requires.wanted i_lt_length_w c.part-item.is (sym c.symbol.ensures ∙ b.in-Variable.is)
+          c.requires.premises_in_arena
+          c.requires.variables_in_range i_lt_length_w c.part-item.is (sym c.symbol.ensures ∙
+          b.in-Variable.is)
           b.replacement_of-span.ensures) in
           rw b.at-is (record {
             start_le_at = omega (arith, c.loop-part.invariant.start_le_at);
@@ -79,7 +80,7 @@ loop-part-preserved c =
       | in-Constant+else-at-premise+else-ne b ↦
           let s = b.in-Constant.symbol in
           let a_lt_e : a < e = b.if-at-premise.false in
-          let e_le_length : e ≤ length xs = c.requires.premise.end_le_length in
+          let e_le_length : e ≤ length xs = c.requires.premise_in_arena.end_le_length in
           let r = b.index-list-at.result in
           let r_is_first_symbol : r ≡ get_or xs a 0 =
           b.index-list-at.is ∙ ap (λ z. get_or z a r) c.list-list.ensures
@@ -100,12 +101,12 @@ loop-part-preserved c =
           })
     ]
 
-pub begins_with-requires-clause-span : goal.begins_with-requires-clause-span
-begins_with-requires-clause-span c =
+pub begins_with-requires-clause-span_in_arena : goal.begins_with-requires-clause-span_in_arena
+begins_with-requires-clause-span_in_arena c =
     variable_replacement_is_in c.args.symbols.now c.args.premises.now c.args.wanted.now
     c.loop-part.part-index
-    c.part-item.result c.in-Variable.number c.replacement_of-span.result c.requires.premises
-    c.requires.wanted
+    c.part-item.result c.in-Variable.number c.replacement_of-span.result
+    c.requires.premises_in_arena c.requires.variables_in_range
     c.loop-part-test.true c.part-item.is (sym c.symbol.ensures ∙ c.in-Variable.is)
     c.replacement_of-span.ensures
 

@@ -22,7 +22,7 @@ returns-in_err-apply-clause-at_theorem g c =
     record {
       made_for = rw c.apply.ensures.is_applied.symbol_count_stays is_at_theorem.made_for;
       theorem_lt_length = is_at_theorem.theorem_lt_length;
-      pairs_are_disjoint = c.apply.ensures.cache;
+      pairs_are_disjoint = c.apply.ensures.cached_are_disjoint;
     }
 
 pub returns-in_err-apply-clause-refused : goal.returns-in_err-apply-clause-refused
@@ -47,7 +47,7 @@ returns-clause-at_theorem g c =
     record {
       made_for = rw c.apply.ensures.is_applied.symbol_count_stays is_at_theorem.made_for;
       theorem_lt_length = is_at_theorem.theorem_lt_length;
-      pairs_are_disjoint = c.apply.ensures.cache;
+      pairs_are_disjoint = c.apply.ensures.cached_are_disjoint;
     }
 
 pub returns-clause-performs : goal.returns-clause-performs

@@ -32,7 +32,7 @@ returns-in_ok-mark-clause-performed g c =
     c.in_default.ensures.performs)
     (subst (λ (s : CheckerState). IsAtTheorem db t s) (sym c.self.view_is)
     c.perform.ensures.at_theorem)
-    c.in_ok-mark.ensures.ok c.mark.ensures.symbol_count
+    c.in_ok-mark.ensures.marks_step c.mark.ensures.symbol_count_stays
 
 pub returns-else-is_marked-clause-performed : goal.returns-else-is_marked-clause-performed
 returns-else-is_marked-clause-performed g c =

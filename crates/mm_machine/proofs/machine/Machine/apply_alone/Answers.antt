@@ -15,7 +15,7 @@ returns-then-symbols-gt-FORMULA_LIMIT g c =
       is_applied = record {
         applies_if_ok = tt;
         refusal_is_right =
-            applied_alone_is_too_long db c.args._theorem c.args.rule.now c.requires.rule
+            applied_alone_is_too_long db c.args._theorem c.args.rule.now c.requires.is_compiled
             c.requires.no_hypotheses
             c.args.self.now.stack (omega (arith, length_is, c.if-symbols-gt-FORMULA_LIMIT.true));
         symbol_count_stays = refl;
@@ -37,10 +37,10 @@ returns-in-Ok g c =
       is_applied = record {
         applies_if_ok =
             subst (Applies db c.args._theorem c.args.rule.now.assertion state_before)
-            (sym c.in-Ok.ensures.ok)
+            (sym c.in-Ok.ensures.pushes_formula)
             (record {
               entries_are =
-                  applied_alone_is_ok db c.args._theorem c.args.rule.now c.requires.rule
+                  applied_alone_is_ok db c.args._theorem c.args.rule.now c.requires.is_compiled
                   c.requires.no_hypotheses
                   es
                   (omega (arith, length_is, c.if-symbols-gt-FORMULA_LIMIT.false))
@@ -50,6 +50,6 @@ returns-in-Ok g c =
               formulas_stay = refl;
             });
         refusal_is_right = tt;
-        symbol_count_stays = c.in-Ok.ensures.symbol_count;
+        symbol_count_stays = c.in-Ok.ensures.symbol_count_stays;
       };
     }

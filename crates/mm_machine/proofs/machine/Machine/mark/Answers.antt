@@ -15,7 +15,7 @@ invariant_of-self g c =
     i.symbol_count
     new_lists.unmarked new_lists.marked new_lists.stack.items c.self.invariant
     c.move_to_marked.ensures.moves_symbols
-    c.move_to_marked.ensures.stack
+    c.move_to_marked.ensures.is_stack
 
 pub invariant_of-self-in_err-push : goal.invariant_of-self-in_err-push
 invariant_of-self-in_err-push g c =
@@ -26,7 +26,7 @@ invariant_of-self-in_err-push g c =
     i.symbol_count
     new_lists.unmarked new_lists.marked new_lists.stack.items c.self.invariant
     c.move_to_marked.ensures.moves_symbols
-    c.move_to_marked.ensures.stack)
+    c.move_to_marked.ensures.is_stack)
 
 pub invariant_of-self-in_err-push-2 : goal.invariant_of-self-in_err-push-2
 invariant_of-self-in_err-push-2 g c =
@@ -40,7 +40,7 @@ invariant_of-self-in_err-push-2 g c =
     i.symbol_count
     new_lists.unmarked new_lists.marked new_lists.stack.items c.self.invariant
     c.move_to_marked.ensures.moves_symbols
-    c.move_to_marked.ensures.stack) c.in_ok-span.ensures.entry_is.0)
+    c.move_to_marked.ensures.is_stack) c.in_ok-span.ensures.returns_top_formula.0)
 
 pub invariant_of-self-2 : goal.invariant_of-self-2
 invariant_of-self-2 g c =
@@ -58,10 +58,10 @@ invariant_of-self-2 g c =
     i.symbol_count
     new_lists.unmarked new_lists.marked new_lists.stack.items c.self.invariant
     c.move_to_marked.ensures.moves_symbols
-    c.move_to_marked.ensures.stack) c.in_ok-span.ensures.entry_is.0 marks_lt_step)
+    c.move_to_marked.ensures.is_stack) c.in_ok-span.ensures.returns_top_formula.0 marks_lt_step)
 
-pub returns-clause-ok : goal.returns-clause-ok
-returns-clause-ok g c =
+pub returns-clause-marks_step : goal.returns-clause-marks_step
+returns-clause-marks_step g c =
     let i = c.self.inside in
     let new_lists = c.move_to_marked.new in
     let old_entries = span_formulas (arena i.unmarked i.marked) i.stack.items in
@@ -72,14 +72,14 @@ returns-clause-ok g c =
     i.marked_spans.items
     c.in_ok-span.span
     (top old_entries) c.move_to_marked.ensures.moves_symbols c.self.invariant.spans_are_marked
-    c.in_ok-span.ensures.entry_is.1 in
+    c.in_ok-span.ensures.returns_top_formula.1 in
     ap (λ z. machine_state z c.push-2.new.self.items
     (span_formulas (arena [] new_lists.marked) c.push.new.self.items) i.symbol_count)
-    c.move_to_marked.ensures.formulas
+    c.move_to_marked.ensures.formulas_stay
     ∙ ap₂ (λ m f. machine_state old_entries m f i.symbol_count) c.in_ok-push-2.ensures.items
     marked_formulas_are
     ∙ ap (λ s. machine_state s.stack (s.marks ++ c.args.step ∷ [])
     (s.formulas ++ top s.stack ∷ []) s.symbol_count) c.self.view_is
 
-pub move_to_marked-requires-clause-entry : goal.move_to_marked-requires-clause-entry
-move_to_marked-requires-clause-entry g c = grind (arith, common_steps)
+pub move_to_marked-requires-clause-has_entry : goal.move_to_marked-requires-clause-has_entry
+move_to_marked-requires-clause-has_entry g c = grind (arith, common_steps)

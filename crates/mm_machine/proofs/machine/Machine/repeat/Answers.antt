@@ -35,5 +35,5 @@ invariant_of-self-2 g c =
       enough_spans = is_machine.enough_spans;
     }
 
-pub returns-clause-ok : goal.returns-clause-ok
-returns-clause-ok g c = grind (arith, common_steps)
+pub returns-clause-repeats_step : goal.returns-clause-repeats_step
+returns-clause-repeats_step g c = grind (arith, common_steps)
