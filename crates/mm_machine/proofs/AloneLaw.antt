@@ -27,9 +27,9 @@ empty_of_length_0 (x ∷ xs) length_is_0 = absurd (omega (arith, length_is_0))
 no_pairs : (ps : List (ℕ × ℕ)) → All (λ (p : ℕ × ℕ). (p.0 < 0) × (p.1 < 0)) ps → length ps ≡ 0
 no_pairs [] all_below_0 = refl
 no_pairs (p ∷ ps) all_below_0 =
-    absurd (let number_lt_0 = (recursion_from_All (λ (p : ℕ × ℕ). (p.0 < 0) × (p.1 < 0)) (p ∷ ps)
+    absurd (let index_lt_0 = (recursion_from_All (λ (p : ℕ × ℕ). (p.0 < 0) × (p.1 < 0)) (p ∷ ps)
     all_below_0).0.0 in
-    omega (arith, number_lt_0))
+    omega (arith, index_lt_0))
 
 -- a frame without hypotheses and pairs, whose formula has no variables
 module _ (c : Context) (a : Frame) (hypotheses_are_nil : a.hypotheses

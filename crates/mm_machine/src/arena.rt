@@ -82,12 +82,12 @@ fn span_without_first(span: Span) -> Span
     }
 }
 
-/// What replaces the variable of the hypothesis with this number.
-pub fn replacement_of(premises: &[Span], number: u32) -> Span
-    requires { number < length premises.now }
-    ensures { result ≡ without_first (get_or premises.now number no_symbols) }
+/// What replaces the variable whose `$f` has this index among the hypotheses.
+pub fn replacement_of(premises: &[Span], floating_index: u32) -> Span
+    requires { floating_index < length premises.now }
+    ensures { result ≡ without_first (get_or premises.now floating_index no_symbols) }
 {
-    span_without_first(premises[number as usize])
+    span_without_first(premises[floating_index as usize])
 }
 
 /// Appends what replaces a variable to a list. A single symbol is pushed without a copy.
@@ -120,8 +120,11 @@ pub fn build<A: Allocator>(
     list.clear();
     for part in formula {
         match part.symbol() {
-            RuleSymbol::Variable(number) => {
-                append_symbols(symbols.formula(replacement_of(premises, number)), list)?;
+            RuleSymbol::Variable(floating_index) => {
+                append_symbols(
+                    symbols.formula(replacement_of(premises, floating_index)),
+                    list,
+                )?;
                 if list.len() > FORMULA_LIMIT {
                     return Ok(false);
                 }

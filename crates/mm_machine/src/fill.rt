@@ -145,8 +145,8 @@ pub fn fill(
     let mut spare = list.len().checked_sub(formula.len())?;
     for part in formula {
         match part.symbol() {
-            RuleSymbol::Variable(number) => {
-                let replacement = symbols.formula(replacement_of(premises, number));
+            RuleSymbol::Variable(floating_index) => {
+                let replacement = symbols.formula(replacement_of(premises, floating_index));
                 if replacement.len() > spare + 1 {
                     return None;
                 }

@@ -27,7 +27,7 @@ use mm_spec::FORMULA_LIMIT;
 use std::alloc::{AllocError, Allocator};
 use std::marker::Model;
 
-/// The number of slots that say where marks are. The slot of a mark is its number modulo this.
+/// How many slots say where marks are. The slot of a mark is the index of its step modulo this.
 const MARK_SLOTS: usize = 4_096;
 
 /// The maximum number of symbols of a short formula.
@@ -96,22 +96,22 @@ impl<A: Allocator> Model for Machine<A> {
         m.marked_spans.items m.symbol_count };
 }
 
-/// The index of `number` among `numbers`, which are in ascending order: where the slots say, or
+/// The index of `mark` among `marks`, which are in ascending order: where the slots say, or
 /// otherwise by binary search.
-fn index_of_mark(numbers: &[usize], number: usize, slots: &[u32]) -> usize
-    requires numbers_rise { IsRising numbers.now }
-    requires has_number { Contains numbers.now number }
-    ensures index_lt_length { result < length numbers.now }
-    ensures finds_number { get_or numbers.now result 0 ≡ number }
+fn index_of_mark(marks: &[usize], mark: usize, slots: &[u32]) -> usize
+    requires marks_rise { IsRising marks.now }
+    requires has_mark { Contains marks.now mark }
+    ensures index_lt_length { result < length marks.now }
+    ensures finds_mark { get_or marks.now result 0 ≡ mark }
 {
-    let slot = number % MARK_SLOTS;
+    let slot = mark % MARK_SLOTS;
     if slot < slots.len() {
         let index = slots[slot] as usize;
-        if index < numbers.len() && numbers[index] == number {
+        if index < marks.len() && marks[index] == mark {
             return index;
         }
     }
-    match numbers.binary_search(&number) {
+    match marks.binary_search(&mark) {
         Ok(found) => found,
         Err(gap) => gap,
     }

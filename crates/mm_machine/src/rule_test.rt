@@ -58,25 +58,25 @@ fn is_wanted_formula(
         (replaced symbols.now premises.now wanted.now) }
 {
     let list = symbols.list(premise.store);
-    let mut at = premise.start;
+    let mut index = premise.start;
     for part in wanted {
         match part.symbol() {
-            RuleSymbol::Variable(number) => {
-                let span = replacement_of(premises, number);
-                if !begins_with(symbols, premise.store, at, premise.end, span) {
+            RuleSymbol::Variable(floating_index) => {
+                let span = replacement_of(premises, floating_index);
+                if !begins_with(symbols, premise.store, index, premise.end, span) {
                     return false;
                 }
-                at += span.end - span.start;
+                index += span.end - span.start;
             }
             RuleSymbol::Constant(symbol) => {
-                if at >= premise.end || list[at] != symbol {
+                if index >= premise.end || list[index] != symbol {
                     return false;
                 }
-                at += 1;
+                index += 1;
             }
         }
     }
-    at == premise.end
+    index == premise.end
 }
 
 /// Whether an entry begins with the typecode.

@@ -89,49 +89,49 @@ module _ (db : List Statement) where
           omega (arith, x_is_placed) in
           get_or-set_other t y x n 0 x_not_y ∙ x_is_after_n
 
-  module _ (hyps : List ℕ) where
+  module _ (mandatory : List ℕ) where
     -- the formulas of the hypotheses from number `j` on
     abbrev pub hs : ℕ → List Formula
-    hs j = map (formula_at db) (drop j hyps)
+    hs j = map (formula_at db) (drop j mandatory)
 
     drop_length_is_nil : (xs : List ℕ) → drop (length xs) xs ≡ []
     drop_length_is_nil [] = refl
     drop_length_is_nil (x ∷ xs) = drop_length_is_nil xs
 
     -- past the last hypothesis no variable needs a place
-    pub placed_at_end : (t : List ℕ) → PlacedFrom (length hyps) (hs (length hyps)) t
+    pub placed_at_end : (t : List ℕ) → PlacedFrom (length mandatory) (hs (length mandatory)) t
     placed_at_end t =
-        subst (λ d. PlacedFrom (length hyps) (map (formula_at db) d) t)
-        (sym (drop_length_is_nil hyps))
+        subst (λ d. PlacedFrom (length mandatory) (map (formula_at db) d) t)
+        (sym (drop_length_is_nil mandatory))
         (λ x x_is_bound. absurd (true≢false (sym x_is_bound)))
 
-    module _ (j : ℕ) (t : List ℕ) (j_gt_0 : 0 < j) (j_le_length : j ≤ length hyps) where
-      hypotheses_from_previous : hs (j - 1) ≡ formula_at db (get_or hyps (j - 1) 0) ∷ hs j
+    module _ (j : ℕ) (t : List ℕ) (j_gt_0 : 0 < j) (j_le_length : j ≤ length mandatory) where
+      hypotheses_from_previous : hs (j - 1) ≡ formula_at db (get_or mandatory (j - 1) 0) ∷ hs j
       hypotheses_from_previous =
           let previous_plus_1_is_j : j - 1 + 1 ≡ j = omega arith in
           ap (map (formula_at db))
-          (drop_more hyps (j - 1) 0 (omega arith)
-          ∙ ap (λ m. get_or hyps (j - 1) 0 ∷ drop m hyps) previous_plus_1_is_j)
+          (drop_more mandatory (j - 1) 0 (omega arith)
+          ∙ ap (λ m. get_or mandatory (j - 1) 0 ∷ drop m mandatory) previous_plus_1_is_j)
 
       placed_from_next : PlacedFrom j (hs j) t → PlacedFrom (suc (j - 1)) (hs j) t
       placed_from_next placed_from_j = let next_is_j : suc (j - 1) ≡ j = omega arith in
           rw next_is_j placed_from_j
 
       pub placed_back_without_floating : ((x : ℕ)
-          → binds (context_at db 0) x (formula_at db (get_or hyps (j - 1) 0)) ≡ false)
+          → binds (context_at db 0) x (formula_at db (get_or mandatory (j - 1) 0)) ≡ false)
           → PlacedFrom j (hs j) t → PlacedFrom (j - 1) (hs (j - 1)) t
       placed_back_without_floating hypothesis_binds_none placed_from_j =
           rw hypotheses_from_previous
-          (placed_without_floating (j - 1) t (formula_at db (get_or hyps (j - 1) 0))
+          (placed_without_floating (j - 1) t (formula_at db (get_or mandatory (j - 1) 0))
           (hs j) hypothesis_binds_none
           (placed_from_next placed_from_j))
 
       pub placed_back_with_floating : (y : ℕ) → y < length t
           → ((x : ℕ)
-          → binds (context_at db 0) x (formula_at db (get_or hyps (j - 1) 0)) ≡ nat_eq x y)
+          → binds (context_at db 0) x (formula_at db (get_or mandatory (j - 1) 0)) ≡ nat_eq x y)
           → PlacedFrom j (hs j) t → PlacedFrom (j - 1) (hs (j - 1)) (slice_set t y (j - 1))
       placed_back_with_floating y y_lt_length hypothesis_binds_y placed_from_j =
           rw hypotheses_from_previous
-          (placed_with_floating (j - 1) t (formula_at db (get_or hyps (j - 1) 0))
+          (placed_with_floating (j - 1) t (formula_at db (get_or mandatory (j - 1) 0))
           (hs j) y y_lt_length hypothesis_binds_y
           (placed_from_next placed_from_j))

@@ -1,4 +1,4 @@
--- What an assertion requires and what it yields, in terms of the numbers of its hypotheses.
+-- What an assertion requires and what it yields, in terms of the indices of its hypotheses.
 use Rattle.std.specs.Prelude.{◌≡◌, ℕ, suc, ◌+◌, ◌<◌, true, List, [], ◌∷◌, map, take, drop, length}
 use Rattle.std.specs.Prelude.{All, if◌then◌else◌}
 use Rattle.mm_spec.specs.Statement.{Statement}
@@ -36,7 +36,7 @@ abbrev pub hypothesis_parts : List RuleSymbol → ℕ → Hypothesis → List Ru
 hypothesis_parts parts j (Floating t) = Constant t ∷ Variable j ∷ []
 hypothesis_parts parts j (Essential n) = take n parts
 
--- the parts of hypotheses that are numbered from `j` on
+-- the parts of hypotheses whose indices are `j` and on
 abbrev pub all_parts : List RuleSymbol → ℕ → List Hypothesis → List (List RuleSymbol)
 all_parts parts j [] = []
 all_parts parts j (a ∷ more) =

@@ -1,4 +1,4 @@
-//! What an assertion requires and what it yields, in terms of the numbers of its hypotheses.
+//! What an assertion requires and what it yields, in terms of the indices of its hypotheses.
 
 ghost use Rattle.std.specs.Prelude.{◌≡◌, ◌<◌, ◌^◌};
 ghost use Rattle.mm_rule.specs.declared.rule.RuleSymbol.TheVariants.{Constant, Variable};
@@ -11,14 +11,14 @@ use std::marker::Model;
 pub enum RuleSymbol {
     /// A constant.
     Constant(Sym),
-    /// A variable, by the number of its `$f` among the mandatory hypotheses, from 0.
+    /// A variable, by the index of its `$f` among the mandatory hypotheses.
     Variable(u32),
 }
 
 /// A number from here on stands for a variable, and a smaller one for a constant.
 const FIRST_VARIABLE: u32 = 2_147_483_648;
 
-/// A [`RuleSymbol`] in four bytes: the number of a constant, or 2^31 and the number of a variable.
+/// A [`RuleSymbol`] in four bytes: the number of a constant, or 2^31 and the index of a `$f`.
 /// Rules have millions of symbols, and each step reads those of a rule.
 #[derive(Clone, Copy, Drop)]
 pub struct PackedSymbol(u32);
@@ -53,12 +53,12 @@ impl PackedSymbol {
         PackedSymbol(symbol.number())
     }
 
-    /// A variable, by the number of its `$f`.
-    pub fn variable(number: u32) -> PackedSymbol
-        requires { number < 2 ^ 31 }
-        ensures { result ≡ Variable number }
+    /// A variable, by the index of its `$f`.
+    pub fn variable(floating_index: u32) -> PackedSymbol
+        requires { floating_index < 2 ^ 31 }
+        ensures { result ≡ Variable floating_index }
     {
-        PackedSymbol(FIRST_VARIABLE + number)
+        PackedSymbol(FIRST_VARIABLE + floating_index)
     }
 
     /// The symbol.
@@ -84,7 +84,7 @@ pub enum Hypothesis {
     Essential(u32),
 }
 
-/// What an assertion requires and yields: its frame, with each variable given by the number of its
+/// What an assertion requires and yields: its frame, with each variable given by the index of its
 /// `$f` among the mandatory hypotheses.
 #[derive(Drop)]
 pub struct Rule<'a> {
@@ -92,7 +92,7 @@ pub struct Rule<'a> {
     pub assertion: u32,
     /// The mandatory hypotheses, in order.
     pub hypotheses: &'a [Hypothesis],
-    /// The mandatory pairs of disjoint variables, each by the numbers of their `$f`.
+    /// The mandatory pairs of disjoint variables, each by the indices of their `$f`.
     pub pairs: &'a [(u32, u32)],
     /// The symbols of those hypotheses that aren't the first `$f` of a variable.
     pub parts: &'a [PackedSymbol],

@@ -20,8 +20,8 @@ use Rattle.mm_rule.specs.declared.rule.Hypothesis.TheVariants.{Floating, Essenti
 use Rattle.mm_rule.specs.Rule.{floating_index, parts_of, part_count, hypothesis_parts, all_parts}
 use Rattle.mm_rule.specs.Rule.{total_part_count, IsVariableBelow, IsConstantBelow}
 use Rattle.mm_rule.specs.Rule.{compiled_rule, IsCompiled}
-use Rattle.mm_rules.specs.Rules.{AreCovered, AreFirstNumbers, AreCompiled, numbered_parts}
-use Rattle.mm_rules.specs.Rules.{numbered_pairs, AreShortNumbers}
+use Rattle.mm_rules.specs.Rules.{AreCovered, AreFloatingIndices, AreCompiled, indexed_parts}
+use Rattle.mm_rules.specs.Rules.{indexed_pairs, AreShortIndices}
 use Rattle.mm_rule.specs.Assertions.{as_pairs}
 use Rattle.mm_rule.specs.Assertions.{is_assertion_at}
 use Rattle.mm_rule.proofs.FirstLaw.{floating_index_lt_length}
@@ -64,11 +64,11 @@ all_parts_push : (parts added : List RuleSymbol) (n : ℕ) (xs : List Hypothesis
     → all_parts (parts ++ added) n (xs ++ a ∷ [])
     ≡ all_parts parts n xs ++ hypothesis_parts added (n + length xs) a ∷ []
 all_parts_push parts added n [] a part_count_is =
-    let number_is : n ≡ n + 0 = omega arith in
+    let index_is : n ≡ n + 0 = omega arith in
     ap (λ z. hypothesis_parts (z ++ added) n a ∷ []) (empty_if_zero parts part_count_is)
-    ∙ ap (λ m. hypothesis_parts added m a ∷ []) number_is
+    ∙ ap (λ m. hypothesis_parts added m a ∷ []) index_is
 all_parts_push parts added n (x ∷ xs) a part_count_is =
-    let number_is : suc n + length xs ≡ n + suc (length xs) = omega arith in
+    let index_is : suc n + length xs ≡ n + suc (length xs) = omega arith in
     let count_le_length : part_count x ≤ length parts = omega (arith, part_count_is) in
     let later_parts = drop (part_count x) parts in
     let later_count_is : total_part_count xs ≡ length later_parts =
@@ -77,7 +77,7 @@ all_parts_push parts added n (x ∷ xs) a part_count_is =
     (ap (λ z. all_parts z (suc n) (xs ++ a ∷ []))
     (drop-append-le (part_count x) parts added count_le_length)
     ∙ all_parts_push later_parts added (suc n) xs a later_count_is
-    ∙ ap (λ m. all_parts later_parts (suc n) xs ++ hypothesis_parts added m a ∷ []) number_is)
+    ∙ ap (λ m. all_parts later_parts (suc n) xs ++ hypothesis_parts added m a ∷ []) index_is)
 
 total_part_count_push : (xs : List Hypothesis) (a : Hypothesis)
     → total_part_count (xs ++ a ∷ []) ≡ total_part_count xs + part_count a
@@ -91,10 +91,10 @@ pub all_parts_push_floating : (parts : List RuleSymbol) (xs : List Hypothesis) (
     → length xs ≡ j → total_part_count xs ≡ length parts → all_parts parts 0 xs ≡ us
     → all_parts parts 0 (xs ++ Floating t ∷ []) ≡ us ++ (Constant t ∷ Variable j ∷ []) ∷ []
 all_parts_push_floating parts xs j t us length_is part_count_is parts_are =
-    let number_is : 0 + length xs ≡ j = omega (arith, length_is) in
+    let index_is : 0 + length xs ≡ j = omega (arith, length_is) in
     ap (λ z. all_parts z 0 (xs ++ Floating t ∷ [])) (sym (append-nil parts))
     ∙ all_parts_push parts [] 0 xs (Floating t) part_count_is
-    ∙ ap₂ (λ u m. u ++ hypothesis_parts [] m (Floating t) ∷ []) parts_are number_is
+    ∙ ap₂ (λ u m. u ++ hypothesis_parts [] m (Floating t) ∷ []) parts_are index_is
 
 pub part_count_push_floating : (parts : List RuleSymbol) (xs : List Hypothesis) (t : ℕ)
     → total_part_count xs ≡ length parts → total_part_count (xs ++ Floating t ∷ []) ≡ length parts
@@ -164,52 +164,52 @@ module _ (db : List Statement) (hs : List Formula) where
   covered f h =
       All-from_recursion (λ x. is_variable_number db x ≡ true → IsBound (context_at db 0) hs x) f h
 
-  pub covered_all : (hyps : List ℕ)
-      → AllByRecursion (AreBound (context_at db 0) hs) (map (formula_at db) hyps)
-      → All (λ h. AreCovered db hs (formula_at db h)) hyps
-  covered_all hyps h = All-from_recursion (λ h. AreCovered db hs (formula_at db h)) hyps
-      (each_is_covered hyps h)
+  pub covered_all : (mandatory : List ℕ)
+      → AllByRecursion (AreBound (context_at db 0) hs) (map (formula_at db) mandatory)
+      → All (λ h. AreCovered db hs (formula_at db h)) mandatory
+  covered_all mandatory h = All-from_recursion (λ h. AreCovered db hs (formula_at db h)) mandatory
+      (each_is_covered mandatory h)
     where
-      each_is_covered : (hyps : List ℕ)
-          → AllByRecursion (AreBound (context_at db 0) hs) (map (formula_at db) hyps)
-          → AllByRecursion (λ h. AreCovered db hs (formula_at db h)) hyps
+      each_is_covered : (mandatory : List ℕ)
+          → AllByRecursion (AreBound (context_at db 0) hs) (map (formula_at db) mandatory)
+          → AllByRecursion (λ h. AreCovered db hs (formula_at db h)) mandatory
       each_is_covered [] h = tt
       each_is_covered (x ∷ xs) h = (covered (formula_at db x) h.0, each_is_covered xs h.1)
 
   abbrev AreBothBound : Pair → Type 0
   AreBothBound p = IsBound (context_at db 0) hs p.low × IsBound (context_at db 0) hs p.high
 
-  -- the numbers of the variables are the places of their `$f`
-  pub numbered_parts_are_parts : (numbers : List ℕ) → AreFirstNumbers db hs numbers → (f : Formula)
-      → AreCovered db hs f → numbered_parts db numbers f ≡ parts_of db hs f
-  numbered_parts_are_parts numbers are_first_numbers f h =
+  -- parts by the indices of the variables' `$f` are those of the formula
+  pub indexed_parts_are_parts : (indices : List ℕ) → AreFloatingIndices db hs indices
+      → (f : Formula) → AreCovered db hs f → indexed_parts db indices f ≡ parts_of db hs f
+  indexed_parts_are_parts indices are_floating_indices f h =
       symbol_by_symbol f (recursion_from_All
       (λ x. is_variable_number db x ≡ true → IsBound (context_at db 0) hs x) f h)
     where
       by_is_variable : (s : ℕ) (v : Bool) → (v ≡ true → IsBound (context_at db 0) hs s)
-          → cond v (Variable (get_or numbers s 0)) (Constant s)
+          → cond v (Variable (get_or indices s 0)) (Constant s)
           ≡ cond v (Variable (floating_index db hs s)) (Constant s)
-      by_is_variable s true b = ap Variable (are_first_numbers s (b refl))
+      by_is_variable s true b = ap Variable (are_floating_indices s (b refl))
       by_is_variable s false b = refl
 
       symbol_by_symbol : (f : Formula)
           → AllByRecursion (λ x. is_variable_number db x ≡ true → IsBound (context_at db 0) hs x) f
-          → numbered_parts db numbers f ≡ parts_of db hs f
+          → indexed_parts db indices f ≡ parts_of db hs f
       symbol_by_symbol [] h = refl
       symbol_by_symbol (s ∷ f) h =
           ap₂ (λ (p : RuleSymbol) (ps : List RuleSymbol). p ∷ ps)
           (by_is_variable s (is_variable_number db s) h.0) (symbol_by_symbol f h.1)
 
-  numbered_pairs_are_floating_indices : (numbers : List ℕ) → AreFirstNumbers db hs numbers
+  indexed_pairs_are_floating_indices : (indices : List ℕ) → AreFloatingIndices db hs indices
       → (ps : List (ℕ × ℕ))
       → AllByRecursion AreBothBound (as_pairs ps)
-      → numbered_pairs numbers ps
+      → indexed_pairs indices ps
       ≡ map {B = ℕ × ℕ} (λ (p : ℕ × ℕ). (floating_index db hs p.0, floating_index db hs p.1)) ps
-  numbered_pairs_are_floating_indices numbers are_first_numbers [] h = refl
-  numbered_pairs_are_floating_indices numbers are_first_numbers (p ∷ ps) h =
+  indexed_pairs_are_floating_indices indices are_floating_indices [] h = refl
+  indexed_pairs_are_floating_indices indices are_floating_indices (p ∷ ps) h =
       ap₂ (λ (u : ℕ × ℕ) (us : List (ℕ × ℕ)). u ∷ us)
-      (ap₂ (λ (a b : ℕ). (a, b)) (are_first_numbers p.0 h.0.0) (are_first_numbers p.1 h.0.1))
-      (numbered_pairs_are_floating_indices numbers are_first_numbers ps h.1)
+      (ap₂ (λ (a b : ℕ). (a, b)) (are_floating_indices p.0 h.0.0) (are_floating_indices p.1 h.0.1))
+      (indexed_pairs_are_floating_indices indices are_floating_indices ps h.1)
 
   pairs_below : (ps : List Pair) → AllByRecursion AreBothBound ps
       → All (λ (p : ℕ × ℕ). (p.0 < length hs) × (p.1 < length hs))
@@ -239,39 +239,45 @@ module _ (db : List Statement) (hs : List Formula) where
 -- what was made is the rule of the assertion
 module _ (db : List Statement) (a : ℕ) (is_assertion : is_assertion_at db a ≡ true)
     (complete : IsComplete (context_at db 0) (frame_at db a)) where
-  abbrev frame_hyps : List Formula
-  frame_hyps = map (formula_at db) (mandatory_hypotheses db a)
+  abbrev frame_formulas : List Formula
+  frame_formulas = map (formula_at db) (mandatory_hypotheses db a)
 
-  made_rule_is_compiled : (symbol_pairs : List (ℕ × ℕ)) (f : Formula) (numbers : List ℕ)
+  made_rule_is_compiled : (symbol_pairs : List (ℕ × ℕ)) (f : Formula) (indices : List ℕ)
       (hypotheses : List Hypothesis)
       (pairs : List (ℕ × ℕ))
       → (parts formula : List RuleSymbol)
       → as_pairs symbol_pairs ≡ mandatory_pairs db a → f ≡ formula_at db a
       → All (λ s. s < length (symbol_names db)) f
       → AreCompiled db (mandatory_hypotheses db a) hypotheses parts
-      → AreFirstNumbers db frame_hyps numbers → pairs ≡ numbered_pairs numbers symbol_pairs
-      → formula ≡ parts_of db frame_hyps f
+      → AreFloatingIndices db frame_formulas indices → pairs ≡ indexed_pairs indices symbol_pairs
+      → formula ≡ parts_of db frame_formulas f
       → IsCompiled db (compiled_rule a hypotheses pairs parts formula)
-  made_rule_is_compiled symbol_pairs f numbers hypotheses pairs parts formula pairs_is f_is
-      symbols_known compiled_parts are_first_numbers
+  made_rule_is_compiled symbol_pairs f indices hypotheses pairs parts formula pairs_is f_is
+      symbols_known compiled_parts are_floating_indices
       pairs_made formula_made =
-      let lengths_equal : length hypotheses ≡ length frame_hyps =
+      let lengths_equal : length hypotheses ≡ length frame_formulas =
       compiled_parts.count ∙ sym (length-map (mandatory_hypotheses db a) (formula_at db)) in
-      let are_bound = subst (λ (ps : List Pair). AllByRecursion (AreBothBound db frame_hyps) ps)
+      let are_bound = subst (λ (ps : List Pair). AllByRecursion (AreBothBound db frame_formulas) ps)
       (sym pairs_is)
       complete.pairs in
       let pairs_are : pairs
       ≡ map {B = ℕ × ℕ}
-      (λ (p : Pair). (floating_index db frame_hyps p.low, floating_index db frame_hyps p.high))
+      (λ (p : Pair). (
+        floating_index db frame_formulas p.low,
+        floating_index db frame_formulas p.high,
+      ))
       (mandatory_pairs db a) = pairs_made
-      ∙ numbered_pairs_are_floating_indices db frame_hyps numbers are_first_numbers symbol_pairs
-      are_bound
-      ∙ symbol_pairs_as_pairs db frame_hyps symbol_pairs
+      ∙ indexed_pairs_are_floating_indices db frame_formulas indices are_floating_indices
+      symbol_pairs are_bound
+      ∙ symbol_pairs_as_pairs db frame_formulas symbol_pairs
       ∙ ap (map {B = ℕ × ℕ}
-      (λ (p : Pair). (floating_index db frame_hyps p.low, floating_index db frame_hyps p.high)))
+      (λ (p : Pair). (
+        floating_index db frame_formulas p.low,
+        floating_index db frame_formulas p.high,
+      )))
       pairs_is in
-      let formula_is : formula ≡ parts_of db frame_hyps (formula_at db a) =
-      formula_made ∙ ap (parts_of db frame_hyps) f_is in
+      let formula_is : formula ≡ parts_of db frame_formulas (formula_at db a) =
+      formula_made ∙ ap (parts_of db frame_formulas) f_is in
       record {
         is_assertion = is_assertion;
         complete = complete;
@@ -279,56 +285,56 @@ module _ (db : List Statement) (a : ℕ) (is_assertion : is_assertion_at db a �
         parts_in = subst (λ n. All (IsVariableBelow n) parts) (sym compiled_parts.count)
             compiled_parts.below;
         pairs_in =
-            rw (pairs_are, lengths_equal) (pairs_below db frame_hyps
+            rw (pairs_are, lengths_equal) (pairs_below db frame_formulas
             (mandatory_pairs db a) complete.pairs);
         formula_in =
             rw (formula_is, lengths_equal)
-            (parts_below db frame_hyps (formula_at db a)
-            (covered db frame_hyps (formula_at db a) complete.formula));
+            (parts_below db frame_formulas (formula_at db a)
+            (covered db frame_formulas (formula_at db a) complete.formula));
         formula_known =
-            rw formula_made (constants_below db frame_hyps
+            rw formula_made (constants_below db frame_formulas
             (length (symbol_names db)) f symbols_known);
         hypotheses_are = compiled_parts.parts_are;
         pairs_are = pairs_are;
         formula_is = formula_is;
       }
 
-  pub is_compiled_rule : (hyps : List ℕ) (symbol_pairs : List (ℕ × ℕ)) (f : Formula)
-      (numbers : List ℕ)
+  pub is_compiled_rule : (mandatory : List ℕ) (symbol_pairs : List (ℕ × ℕ)) (f : Formula)
+      (indices : List ℕ)
       → (hypotheses : List Hypothesis) (pairs : List (ℕ × ℕ)) (parts formula : List RuleSymbol)
-      → hyps ≡ mandatory_hypotheses db a → as_pairs symbol_pairs ≡ mandatory_pairs db a → f
+      → mandatory ≡ mandatory_hypotheses db a → as_pairs symbol_pairs ≡ mandatory_pairs db a → f
       ≡ formula_at db a
       → All (λ s. s < length (symbol_names db)) f
-      → AreCompiled db hyps hypotheses parts
-      → AreFirstNumbers db (map (formula_at db) hyps) numbers → pairs
-      ≡ numbered_pairs numbers symbol_pairs
-      → formula ≡ parts_of db (map (formula_at db) hyps) f
+      → AreCompiled db mandatory hypotheses parts
+      → AreFloatingIndices db (map (formula_at db) mandatory) indices → pairs
+      ≡ indexed_pairs indices symbol_pairs
+      → formula ≡ parts_of db (map (formula_at db) mandatory) f
       → IsCompiled db (compiled_rule a hypotheses pairs parts formula)
-  is_compiled_rule hyps symbol_pairs f numbers hypotheses pairs parts formula hyps_is pairs_is f_is
+  is_compiled_rule mandatory symbol_pairs f indices hypotheses pairs parts formula mandatory_is
+      pairs_is f_is symbols_known compiled_parts are_floating_indices pairs_made formula_made =
+      made_rule_is_compiled symbol_pairs f indices hypotheses pairs parts formula pairs_is f_is
       symbols_known
-      compiled_parts are_first_numbers pairs_made formula_made =
-      made_rule_is_compiled symbol_pairs f numbers hypotheses pairs parts formula pairs_is f_is
-      symbols_known
-      (subst (λ (h : List ℕ). AreCompiled db h hypotheses parts) hyps_is compiled_parts)
-      (subst (λ (h : List ℕ). AreFirstNumbers db (map (formula_at db) h) numbers) hyps_is
-      are_first_numbers)
+      (subst (λ (h : List ℕ). AreCompiled db h hypotheses parts) mandatory_is compiled_parts)
+      (subst (λ (h : List ℕ). AreFloatingIndices db (map (formula_at db) h) indices) mandatory_is
+      are_floating_indices)
       pairs_made
-      (subst (λ (h : List ℕ). formula ≡ parts_of db (map (formula_at db) h) f) hyps_is formula_made)
+      (subst (λ (h : List ℕ). formula ≡ parts_of db (map (formula_at db) h) f) mandatory_is
+      formula_made)
 
--- numbers stay short if one of them is set to a short one
-pub short_numbers_set : (numbers : List ℕ) (symbol number : ℕ) → number < 2 ^ 31
-    → AreShortNumbers numbers → AreShortNumbers (slice_set numbers symbol number)
-short_numbers_set numbers symbol number number_is_short numbers_are_short = record {
-  few = omega (arith, numbers_are_short.few, length-set numbers symbol number);
+-- indices stay short if one of them is set to a short one
+pub short_indices_set : (indices : List ℕ) (symbol index : ℕ) → index < 2 ^ 31
+    → AreShortIndices indices → AreShortIndices (slice_set indices symbol index)
+short_indices_set indices symbol index index_is_short indices_are_short = record {
+  few = omega (arith, indices_are_short.few, length-set indices symbol index);
   each_is_short =
-      All-set (λ n. n < 2 ^ 31) numbers symbol number number_is_short
-      numbers_are_short.each_is_short;
+      All-set (λ n. n < 2 ^ 31) indices symbol index index_is_short
+      indices_are_short.each_is_short;
 }
 
--- the numbers in a list to which they were written back
+-- the indices in a list to which they were written back
 pub written_back : (db : List Statement) (hs : List Formula) (new old : List ℕ) (n : ℕ)
     (current : List ℕ) → current ≡ take n (new ++ drop (length new) old) → length new ≡ n
-    → AreFirstNumbers db hs new → AreFirstNumbers db hs current
-written_back db hs new old n current current_is length_is are_first_numbers =
-    subst (AreFirstNumbers db hs) (sym (current_is
-    ∙ take_at new (drop (length new) old) n length_is)) are_first_numbers
+    → AreFloatingIndices db hs new → AreFloatingIndices db hs current
+written_back db hs new old n current current_is length_is are_floating_indices =
+    subst (AreFloatingIndices db hs) (sym (current_is
+    ∙ take_at new (drop (length new) old) n length_is)) are_floating_indices

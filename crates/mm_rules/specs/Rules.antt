@@ -16,40 +16,40 @@ use Rattle.mm_rule.specs.Rule.{all_parts}
 use Rattle.mm_rule.specs.Rule.{total_part_count, IsVariableBelow}
 
 -- for each variable that has a `$f`, the list has the index of the first one among the hypotheses
-abbrev pub AreFirstNumbers : List Statement → List Formula → List ℕ → Type 0
-AreFirstNumbers db hs numbers =
-    (x : ℕ) → IsBound (context_at db 0) hs x → get_or numbers x 0 ≡ floating_index db hs x
+abbrev pub AreFloatingIndices : List Statement → List Formula → List ℕ → Type 0
+AreFloatingIndices db hs indices =
+    (x : ℕ) → IsBound (context_at db 0) hs x → get_or indices x 0 ≡ floating_index db hs x
 
--- 31 bits are enough for each of the numbers, and for how many there are
-pub record AreShortNumbers (numbers : List ℕ) : Type 0 where
-  pub few : length numbers < 2 ^ 31
-  pub each_is_short : All (λ n. n < 2 ^ 31) numbers
+-- 31 bits are enough for each of the indices, and for how many there are
+pub record AreShortIndices (indices : List ℕ) : Type 0 where
+  pub few : length indices < 2 ^ 31
+  pub each_is_short : All (λ n. n < 2 ^ 31) indices
 
 -- each variable of the formula has a `$f`
 abbrev pub AreCovered : List Statement → List Formula → Formula → Type 0
 AreCovered db hs f = All (λ x. is_variable_number db x ≡ true → IsBound (context_at db 0) hs x) f
 
--- a symbol as a part: a constant, or a variable given by its number
-abbrev pub numbered_part : List Statement → List ℕ → ℕ → RuleSymbol
-numbered_part db numbers s =
-    if is_variable_number db s then Variable (get_or numbers s 0) else Constant s
+-- a symbol as a part: a constant, or a variable given by the index that the list has for it
+abbrev pub indexed_part : List Statement → List ℕ → ℕ → RuleSymbol
+indexed_part db indices s =
+    if is_variable_number db s then Variable (get_or indices s 0) else Constant s
 
-abbrev pub numbered_parts : List Statement → List ℕ → Formula → List RuleSymbol
-numbered_parts db numbers f = map (numbered_part db numbers) f
+abbrev pub indexed_parts : List Statement → List ℕ → Formula → List RuleSymbol
+indexed_parts db indices f = map (indexed_part db indices) f
 
--- the pairs of symbols as pairs of their numbers
-abbrev pub numbered_pairs : List ℕ → List (ℕ × ℕ) → List (ℕ × ℕ)
-numbered_pairs numbers ps = map (λ (p : ℕ × ℕ). (get_or numbers p.0 0, get_or numbers p.1 0)) ps
+-- the pairs of symbols as pairs of the indices that the list has for them
+abbrev pub indexed_pairs : List ℕ → List (ℕ × ℕ) → List (ℕ × ℕ)
+indexed_pairs indices ps = map (λ (p : ℕ × ℕ). (get_or indices p.0 0, get_or indices p.1 0)) ps
 
--- The lists have what the hypotheses `hyps` require: for each of them the parts of its formula, in
--- which a variable is given by the index of its `$f`.
-pub record AreCompiled (db : List Statement) (hyps : List ℕ) (hypotheses : List Hypothesis)
+-- The lists have what the mandatory hypotheses require: for each of them the parts of its formula,
+-- in which a variable is given by the index of its `$f`.
+pub record AreCompiled (db : List Statement) (mandatory : List ℕ) (hypotheses : List Hypothesis)
     (parts : List RuleSymbol) : Type 0 where
   pub parts_are : all_parts parts 0 hypotheses
-      ≡ map (parts_of db (map (formula_at db) hyps)) (map (formula_at db) hyps)
-  pub count : length hypotheses ≡ length hyps
+      ≡ map (parts_of db (map (formula_at db) mandatory)) (map (formula_at db) mandatory)
+  pub count : length hypotheses ≡ length mandatory
   pub part_count_is : total_part_count hypotheses ≡ length parts
-  pub below : All (IsVariableBelow (length hyps)) parts
+  pub below : All (IsVariableBelow (length mandatory)) parts
 
 -- a compiler of rules: how many symbols it knows, and the rule that it compiled last
 pub record CompilerState : Type 0 where
@@ -123,10 +123,10 @@ abbrev pub no_ranges : RuleRanges
 no_ranges =
     rule_ranges 0 (index_range 0 0) (index_range 0 0) (index_range 0 0) (index_range 0 0)
 
--- `n` is the number of the rule of assertion `a`
-pub record IsRuleNumber (l : RuleLists) (n a : ℕ) : Type 0 where
-  pub inside : n < length l.ranges
-  pub assertion_is : (get_or l.ranges n no_ranges).assertion ≡ a
+-- the rule of assertion `a` has the index `i` among the ranges
+pub record IsRuleIndex (l : RuleLists) (i a : ℕ) : Type 0 where
+  pub index_lt_count : i < length l.ranges
+  pub assertion_is : (get_or l.ranges i no_ranges).assertion ≡ a
 
 -- the rule is that of assertion `a`
 pub record IsRuleOf (db : List Statement) (c : CompiledRule) (a : ℕ) : Type 0 where

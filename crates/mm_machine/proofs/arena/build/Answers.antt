@@ -38,8 +38,8 @@ pub formula-requires : goal.formula-requires
 formula-requires g c =
     variable_replacement_is_in c.args.symbols.now c.args.premises.now c.args.formula.now
     c.loop-part.part-index
-    c.part-item.result c.in-Variable.number c.replacement_of.result c.requires.premises_in_arena
-    c.requires.variables_in_range
+    c.part-item.result c.in-Variable.floating_index c.replacement_of.result
+    c.requires.premises_in_arena c.requires.variables_in_range
     c.loop-part-test.true c.part-item.is (sym c.symbol.ensures ∙ c.in-Variable.is)
     c.replacement_of.ensures
 

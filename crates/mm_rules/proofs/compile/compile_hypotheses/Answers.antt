@@ -6,12 +6,12 @@ use Rattle.mm_spec.specs.Frame.{formula_at}
 use Rattle.mm_rule.specs.declared.rule.RuleSymbol.TheVariants.{Constant, Variable}
 use Rattle.mm_rule.specs.declared.rule.Hypothesis.TheVariants.{Floating, Essential}
 use Rattle.mm_rule.specs.Rule.{part_of, parts_of, IsVariableBelow}
-use Rattle.mm_rules.specs.Rules.{AreCovered, numbered_parts}
+use Rattle.mm_rules.specs.Rules.{AreCovered, indexed_parts}
 use Rattle.mm_rules.proofs.RuleLaw.{map_take_more, map_push, all_parts_push_floating}
 use Rattle.mm_rules.proofs.RuleLaw.{part_count_push_floating}
 use Rattle.mm_rules.proofs.RuleLaw.{all_parts_push_essential, part_count_push_essential}
 use Rattle.mm_rules.proofs.RuleLaw.{parts_below}
-use Rattle.mm_rules.proofs.RuleLaw.{numbered_parts_are_parts}
+use Rattle.mm_rules.proofs.RuleLaw.{indexed_parts_are_parts}
 use Rattle.mm_rules.proofs.compile.compile_hypotheses.Goals.{then-is_first_floating+in_ok-push}
 use Rattle.mm_rules.proofs.compile.compile_hypotheses.Goals.{else-is_first_floating+in_ok-compile_formula+in_ok-push-2}
 use Rattle.mm_rules.proofs.compile.compile_hypotheses.Goals as goal
@@ -19,26 +19,26 @@ use Rattle.mm_rules.proofs.compile.compile_hypotheses.Goals as goal
 pub loop-index-preserved : goal.loop-index-preserved
 loop-index-preserved g c =
     let db = c.args.database.now.statements in
-    let hyps = c.args.hyps.now in
-    let hs = map (formula_at db) hyps in
+    let mandatory = c.args.mandatory.now in
+    let hs = map (formula_at db) mandatory in
     let v = c.loop-index.invariant in
     let j = c.loop-index.index in
     let hypotheses = c.loop-index.hypotheses.items in
     let parts = c.loop-index.parts.items in
-    let j_lt_length_hyps : j < length hyps = c.loop-index-test.true in
-    let h = get_or hyps j 0 in
+    let j_lt_length : j < length mandatory = c.loop-index-test.true in
+    let h = get_or mandatory j 0 in
     let f = c.formula-formula.result.now in
     let formula_is : f ≡ formula_at db h = c.formula-formula.ensures.formula in
-    let us = map (parts_of db hs) (map (formula_at db) (take j hyps)) in
-    let parts_with_this_are : map (parts_of db hs) (map (formula_at db) (take (j + 1) hyps))
+    let us = map (parts_of db hs) (map (formula_at db) (take j mandatory)) in
+    let parts_with_this_are : map (parts_of db hs) (map (formula_at db) (take (j + 1) mandatory))
     ≡ us ++ parts_of db hs f ∷ [] =
-    ap (map (parts_of db hs)) (map_take_more (formula_at db) hyps j 0 j_lt_length_hyps)
-    ∙ map_push (parts_of db hs) (map (formula_at db) (take j hyps)) (formula_at db h)
+    ap (map (parts_of db hs)) (map_take_more (formula_at db) mandatory j 0 j_lt_length)
+    ∙ map_push (parts_of db hs) (map (formula_at db) (take j mandatory)) (formula_at db h)
     ∙ ap (λ z. us ++ parts_of db hs z ∷ []) (sym formula_is) in
     let covered : AreCovered db hs f =
-    subst (AreCovered db hs) (sym formula_is) (c.requires.bound j 0 j_lt_length_hyps) in
-    let parts_equal : numbered_parts db c.args.numbers.now f ≡ parts_of db hs f =
-    numbered_parts_are_parts db hs c.args.numbers.now c.requires.placed f covered in
+    subst (AreCovered db hs) (sym formula_is) (c.requires.variables_are_bound j 0 j_lt_length) in
+    let parts_equal : indexed_parts db c.args.indices.now f ≡ parts_of db hs f =
+    indexed_parts_are_parts db hs c.args.indices.now c.requires.indices_are f covered in
     elim c.if-is_first_floating.branch [
       | then-is_first_floating+in_ok-push w ↦
           let t = w.index-formula-0.result in
@@ -75,8 +75,8 @@ loop-index-preserved g c =
             part_count_is = part_count_push_essential parts added hypotheses n n_is_length
                 v.part_count_is;
             below =
-                All-append (IsVariableBelow (length hyps)) parts added v.below
-                (subst (λ n. All (IsVariableBelow n) added) (length-map hyps (formula_at db))
+                All-append (IsVariableBelow (length mandatory)) parts added v.below
+                (subst (λ n. All (IsVariableBelow n) added) (length-map mandatory (formula_at db))
                 (parts_below db hs f covered));
           })
     ]
@@ -86,12 +86,12 @@ bounds-formula-0 g c = (c.is_first_floating.ensures c.if-is_first_floating.true)
 
 pub returns : goal.returns
 returns g c = let db = c.args.database.now.statements in
-    let hs = map (formula_at db) c.args.hyps.now in
+    let hs = map (formula_at db) c.args.mandatory.now in
     record {
       parts_are =
           c.loop-index.invariant.parts_are
           ∙ ap (λ z. map (parts_of db hs) (map (formula_at db) z))
-          (take_all c.loop-index.index c.args.hyps.now c.loop-index-test.false);
+          (take_all c.loop-index.index c.args.mandatory.now c.loop-index-test.false);
       count =
           let n = c.loop-index.invariant.count in let l = c.loop-index-test.false in
           omega (arith, n, l);

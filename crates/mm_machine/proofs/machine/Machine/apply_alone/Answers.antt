@@ -9,7 +9,8 @@ use Rattle.mm_machine.proofs.machine.Machine.apply_alone.Goals as goal
 pub returns-then-symbols-gt-FORMULA_LIMIT : goal.returns-then-symbols-gt-FORMULA_LIMIT
 returns-then-symbols-gt-FORMULA_LIMIT g c =
     let db = c.args.database.now.statements in
-    let symbols_are = c.formula-symbols.ensures.are ∙ ap (formula_at db) c.assertion.ensures in
+    let symbols_are = c.formula-symbols.ensures.formula_is ∙ ap (formula_at db) c.assertion.ensures
+    in
     let length_is = ap length symbols_are in
     record {
       is_applied = record {
@@ -28,7 +29,8 @@ returns-in-Ok g c =
     let state_before = c.args.self.now in
     let es = state_before.stack in
     let symbols = c.formula-symbols.result.now in
-    let symbols_are = c.formula-symbols.ensures.are ∙ ap (formula_at db) c.assertion.ensures in
+    let symbols_are = c.formula-symbols.ensures.formula_is ∙ ap (formula_at db) c.assertion.ensures
+    in
     let length_is = ap length symbols_are in
     let state_after = machine_state (es ++ symbols ∷ []) state_before.marks state_before.formulas
     state_before.symbol_count
