@@ -20,8 +20,8 @@ fn fill_in_order<A: Allocator>(
     columns: &StatementIndices<A>,
     bits: &mut [u64],
 )
-    requires theorems { theorems.now ≡ citations.now.theorems }
-    requires size { length bits.old
+    requires theorems_are { theorems.now ≡ citations.now.theorems }
+    requires size_is { length bits.old
         ≡ length citations.now.theorems * words_for (length columns.now) }
     ensures { AreBitRows citations.now columns.now (length citations.now.theorems) bits.new }
 {

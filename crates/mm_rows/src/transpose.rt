@@ -15,10 +15,10 @@ use std::simd::prelude::*;
 /// Sets in `has_mark` the bits of the columns in which a row of band w has a mark, and no others.
 /// There are at most 2 ^ 26 words in a row, so that its bits have numbers of 32 bits.
 fn mark_columns(has_mark: &mut [u64], bits: &[u64], rows: usize, w: usize)
-    requires size { length bits.now ≡ rows * length has_mark.old }
+    requires size_is { length bits.now ≡ rows * length has_mark.old }
     requires few_rows { rows < 2 ^ 31 }
     requires few_words { length has_mark.old ≤ 2 ^ 26 }
-    requires band { 64 * w < rows }
+    requires band_has_row { 64 * w < rows }
     ensures { (k j : ℕ) → k < 64 → j < 64 * length has_mark.old
         → bit_in_rows rows (length has_mark.old) bits.now (64 * w + k) j ≡ true
         → is_bit has_mark.new j ≡ true }
@@ -32,11 +32,11 @@ fn mark_columns(has_mark: &mut [u64], bits: &[u64], rows: usize, w: usize)
 
 /// Returns byte `at` of each row of band w, and zeros past the last row.
 fn row_bytes(bits: &[u64], across: usize, rows: usize, w: usize, at: usize) -> [u8; 64]
-    requires size { length bits.now ≡ rows * across }
+    requires size_is { length bits.now ≡ rows * across }
     requires few_rows { rows < 2 ^ 31 }
     requires few_words { across ≤ 2 ^ 26 }
-    requires band { 64 * w < rows }
-    requires at_lt_row_bytes { at < 8 * across }
+    requires band_has_row { 64 * w < rows }
+    requires byte_lt_row { at < 8 * across }
     ensures { AreRowBytes rows across bits.now w at result }
 {
     let mut bytes = [0u8; 64];
@@ -66,10 +66,10 @@ fn write_columns(
     w: usize,
     at: usize,
 )
-    requires table { IsTable rows columns bits.now }
-    requires band { 64 * w < rows }
-    requires at_lt_row_bytes { at < 8 * words_for columns }
-    requires written { ColumnsWritten rows columns bits.now transposed.old w (8 * at) }
+    requires is_table { IsTable rows columns bits.now }
+    requires band_has_row { 64 * w < rows }
+    requires byte_lt_row { at < 8 * words_for columns }
+    requires columns_written { ColumnsWritten rows columns bits.now transposed.old w (8 * at) }
     ensures { ColumnsWritten rows columns bits.now transposed.new w (8 * at + 8) }
 {
     let down = rows.div_ceil(64);
@@ -93,10 +93,10 @@ fn transpose_band(
     columns: usize,
     w: usize,
 )
-    requires table { IsTable rows columns bits.now }
-    requires band { 64 * w < rows }
-    requires width { length has_mark.old ≡ words_for columns }
-    requires written { ColumnsWritten rows columns bits.now transposed.old w 0 }
+    requires is_table { IsTable rows columns bits.now }
+    requires band_has_row { 64 * w < rows }
+    requires width_is { length has_mark.old ≡ words_for columns }
+    requires columns_written { ColumnsWritten rows columns bits.now transposed.old w 0 }
     ensures { ColumnsWritten rows columns bits.now transposed.new (w + 1) 0 }
 {
     mark_columns(has_mark, bits, rows, w);
@@ -115,10 +115,10 @@ fn transpose_bands(
     rows: usize,
     columns: usize,
 )
-    requires table { IsTable rows columns bits.now }
-    requires width { length has_mark.old ≡ words_for columns }
-    requires size { length transposed.old ≡ columns * words_for rows }
-    requires empty { (k : ℕ) → slice_index transposed.old k ≡ 0 }
+    requires is_table { IsTable rows columns bits.now }
+    requires width_is { length has_mark.old ≡ words_for columns }
+    requires size_is { length transposed.old ≡ columns * words_for rows }
+    requires is_zero { (k : ℕ) → slice_index transposed.old k ≡ 0 }
     ensures { AreTransposed rows columns bits.now transposed.new }
 {
     for w in 0..rows.div_ceil(64) {

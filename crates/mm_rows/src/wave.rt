@@ -27,10 +27,10 @@ fn wave_of_theorem<A: Allocator>(
     waves: &[u32],
     theorem_index: u32,
 ) -> u32
-    requires theorems { theorems.now ≡ citations.now.theorems }
+    requires theorems_are { theorems.now ≡ citations.now.theorems }
     requires index_lt_theorems { theorem_index < length citations.now.theorems }
-    requires waves { AreWaves citations.now theorem_index waves.now }
-    ensures wave { IsWave (HasCitation citations.now) (IsCitingTheorem citations.now)
+    requires are_waves { AreWaves citations.now theorem_index waves.now }
+    ensures is_wave { IsWave (HasCitation citations.now) (IsCitingTheorem citations.now)
         (theorem_at citations.now theorem_index) result }
     ensures wave_le_index { result ≤ theorem_index }
 {
@@ -96,7 +96,7 @@ fn rows_by_wave<A: Allocator + Copy>(alloc: A, waves: &[u32]) -> Result<Vec<u32,
 /// Returns where the wave of the row at `from` ends, in a list of rows by wave.
 fn wave_end(waves: &[u32], rows: &[u32], from: usize) -> usize
     requires rows_exist { All (λ r. r < length waves.now) rows.now }
-    requires from { from < length rows.now }
+    requires from_lt_rows { from < length rows.now }
     ensures from_lt_result { from < result }
     ensures result_le_rows { result ≤ length rows.now }
     ensures one_wave { (p : ℕ) → from ≤ p → p < result
@@ -114,8 +114,8 @@ fn wave_end(waves: &[u32], rows: &[u32], from: usize) -> usize
 fn store(bits: &mut [u64], width: usize, row_index: u32, row: &[u64])
     requires row_fits { row_index * width + width ≤ length bits.old }
     requires row_has_words { length row.now ≡ width }
-    ensures written { row_at bits.new width row_index ≡ row.now }
-    ensures others_kept { (r : ℕ) → (r ≡ row_index → ⊥)
+    ensures row_is_written { row_at bits.new width row_index ≡ row.now }
+    ensures others_stay { (r : ℕ) → (r ≡ row_index → ⊥)
         → row_at bits.new width r ≡ row_at bits.old width r }
 {
     let begin = row_index as usize * width;
@@ -132,8 +132,8 @@ fn bit_rows<R: Threads + Sync, A: Allocator + Copy + Send + Sync>(
     bits: &[u64],
     rows: &[u32],
 ) -> Result<Vec<Result<Vec<u64, A>, AllocError>, A>, AllocError>
-    requires theorems { theorems.now ≡ citations.now.theorems }
-    requires ready { All
+    requires theorems_are { theorems.now ≡ citations.now.theorems }
+    requires have_cited_rows { All
         (λ i. (i < length citations.now.theorems)
         × HasCitedRows citations.now columns.now bits.now i) rows.now }
     ensures { IfOk result
@@ -148,8 +148,8 @@ fn bit_rows<R: Threads + Sync, A: Allocator + Copy + Send + Sync>(
         .map(
             |k: usize| -> Result<Vec<u64, A>, AllocError>
                 requires k_lt_rows { k < length rows.now }
-                requires theorems { theorems.now ≡ citations.now.theorems }
-                requires ready { All
+                requires theorems_are { theorems.now ≡ citations.now.theorems }
+                requires have_cited_rows { All
                     (λ i. (i < length citations.now.theorems)
                     × HasCitedRows citations.now columns.now bits.now i) rows.now }
                 ensures { IfOk result
@@ -171,10 +171,10 @@ fn fill_side_by_side<R: Threads + Sync, A: Allocator + Copy + Send + Sync>(
     rows: &[u32],
     bits: &mut [u64],
 ) -> Result<(), AllocError>
-    requires theorems { theorems.now ≡ citations.now.theorems }
-    requires size { length bits.old
+    requires theorems_are { theorems.now ≡ citations.now.theorems }
+    requires size_is { length bits.old
         ≡ length citations.now.theorems * words_for (length columns.now) }
-    requires ready { All
+    requires have_cited_rows { All
         (λ i. (i < length citations.now.theorems)
         × HasCitedRows citations.now columns.now bits.old i) rows.now }
     ensures { OnOk result
@@ -199,10 +199,10 @@ fn fill_in_turn<A: Allocator>(
     rows: &[u32],
     bits: &mut [u64],
 )
-    requires theorems { theorems.now ≡ citations.now.theorems }
-    requires size { length bits.old
+    requires theorems_are { theorems.now ≡ citations.now.theorems }
+    requires size_is { length bits.old
         ≡ length citations.now.theorems * words_for (length columns.now) }
-    requires ready { All
+    requires have_cited_rows { All
         (λ i. (i < length citations.now.theorems)
         × HasCitedRows citations.now columns.now bits.old i) rows.now }
     ensures { AreFilled citations.now columns.now rows.now (length rows.now) bits.old bits.new }
@@ -225,10 +225,10 @@ fn fill_wave<R: Threads + Sync, A: Allocator + Copy + Send + Sync>(
     rows: &[u32],
     bits: &mut [u64],
 ) -> Result<(), AllocError>
-    requires theorems { theorems.now ≡ citations.now.theorems }
-    requires size { length bits.old
+    requires theorems_are { theorems.now ≡ citations.now.theorems }
+    requires size_is { length bits.old
         ≡ length citations.now.theorems * words_for (length columns.now) }
-    requires ready { All
+    requires have_cited_rows { All
         (λ i. (i < length citations.now.theorems)
         × HasCitedRows citations.now columns.now bits.old i) rows.now }
     ensures { OnOk result
@@ -252,10 +252,10 @@ fn fill_waves<R: Threads + Sync, A: Allocator + Copy + Send + Sync>(
     waves: &[u32],
     bits: &mut [u64],
 ) -> Result<(), AllocError>
-    requires theorems { theorems.now ≡ citations.now.theorems }
+    requires theorems_are { theorems.now ≡ citations.now.theorems }
     requires waves_lt_2_31 { length waves.now < 2 ^ 31 }
-    requires waves { AreWaves citations.now (length citations.now.theorems) waves.now }
-    requires size { length bits.old
+    requires are_waves { AreWaves citations.now (length citations.now.theorems) waves.now }
+    requires size_is { length bits.old
         ≡ length citations.now.theorems * words_for (length columns.now) }
     ensures { OnOk result
         (AreBitRows citations.now columns.now (length citations.now.theorems) bits.new) }

@@ -21,8 +21,8 @@ loop-word-init c =
           (c.type_inv.row _).fits);
     }
 
-pub returns-then-word-ne0-clause-some : goal.returns-then-word-ne0-clause-some
-returns-then-word-ne0-clause-some c =
+pub returns-then-word-ne0-clause-is_first : goal.returns-then-word-ne0-clause-is_first
+returns-then-word-ne0-clause-is_first c =
     let row = c.args.row.now in
     let set = c.args.set in
     let at_in_row = c.loop-word.invariant.at_lt_length in
@@ -42,8 +42,8 @@ returns-then-word-ne0-clause-some c =
           (found_bit.2 k from_le_k k_lt_end),
     )
 
-pub returns-then-row-at-2-clause-none : goal.returns-then-row-at-2-clause-none
-returns-then-row-at-2-clause-none c = λ k from_le_k k_lt_end.
+pub returns-then-row-at-2-clause-none_is_there : goal.returns-then-row-at-2-clause-none_is_there
+returns-then-row-at-2-clause-none_is_there c = λ k from_le_k k_lt_end.
     let row = c.args.row.now in
     let row_ends_at = c.if-row-at-2.true in
     is_not_sought c.args.set row k (omega (arith, k_lt_end)) (c.type_inv.row _).fits

@@ -30,10 +30,10 @@ bounds-bits-w c =
     let end_is = c.min-k-end.ensures in
     let row_lt_rows : 64 * c.args.w + c.loop-k.k < c.args.rows =
     omega (arith, k_is_before_end, end_is) in
-    let column_in_row = c.requires.at_lt_row_bytes in
+    let column_in_row = c.requires.byte_lt_row in
     let word_lt_length =
     row_word_lt_length c.args.rows c.args.across (64 * c.args.w + c.loop-k.k) (c.args.at / 8)
-    (length c.args.bits.now) c.requires.size row_lt_rows (omega (arith, column_in_row)) in
+    (length c.args.bits.now) c.requires.size_is row_lt_rows (omega (arith, column_in_row)) in
     omega (arith, word_lt_length)
 
 pub offset_bounds-bits-w : goal.offset_bounds-bits-w
@@ -42,10 +42,10 @@ offset_bounds-bits-w c =
     let end_is = c.min-k-end.ensures in
     let row_lt_rows : 64 * c.args.w + c.loop-k.k < c.args.rows =
     omega (arith, k_is_before_end, end_is) in
-    let column_in_row = c.requires.at_lt_row_bytes in
+    let column_in_row = c.requires.byte_lt_row in
     let word_lt_length =
     row_word_lt_length c.args.rows c.args.across (64 * c.args.w + c.loop-k.k) (c.args.at / 8)
-    (length c.args.bits.now) c.requires.size row_lt_rows (omega (arith, column_in_row)) in
+    (length c.args.bits.now) c.requires.size_is row_lt_rows (omega (arith, column_in_row)) in
     omega (arith, word_lt_length)
 
 pub overflow_add-word-in-loop-k : goal.overflow_add-word-in-loop-k
@@ -54,10 +54,10 @@ overflow_add-word-in-loop-k c =
     let end_is = c.min-k-end.ensures in
     let row_lt_rows : 64 * c.args.w + c.loop-k.k < c.args.rows =
     omega (arith, k_is_before_end, end_is) in
-    let column_in_row = c.requires.at_lt_row_bytes in
+    let column_in_row = c.requires.byte_lt_row in
     let word_lt_length =
     row_word_lt_length c.args.rows c.args.across (64 * c.args.w + c.loop-k.k) (c.args.at / 8)
-    (length c.args.bits.now) c.requires.size row_lt_rows (omega (arith, column_in_row)) in
+    (length c.args.bits.now) c.requires.size_is row_lt_rows (omega (arith, column_in_row)) in
     omega (arith, word_lt_length)
 
 pub overflow_mul-word-in-loop-k : goal.overflow_mul-word-in-loop-k
@@ -66,8 +66,8 @@ overflow_mul-word-in-loop-k c =
     let end_is = c.min-k-end.ensures in
     let row_lt_rows : 64 * c.args.w + c.loop-k.k < c.args.rows =
     omega (arith, k_is_before_end, end_is) in
-    let column_in_row = c.requires.at_lt_row_bytes in
+    let column_in_row = c.requires.byte_lt_row in
     let word_lt_length =
     row_word_lt_length c.args.rows c.args.across (64 * c.args.w + c.loop-k.k) (c.args.at / 8)
-    (length c.args.bits.now) c.requires.size row_lt_rows (omega (arith, column_in_row)) in
+    (length c.args.bits.now) c.requires.size_is row_lt_rows (omega (arith, column_in_row)) in
     omega (arith, word_lt_length)

@@ -20,7 +20,7 @@ loop-j-preserved c =
     let first_le_j : 8 * c.args.at ≤ j = invariant_before.from in
     let j_lt_columns : j < columns = omega (arith, j_lt_end, end_is) in
     let j_lt_last : j < 8 * c.args.at + 8 = omega (arith, j_lt_end, end_is) in
-    let w_lt_words : w < words_for rows = let band_lt_words = c.requires.band in
+    let w_lt_words : w < words_for rows = let band_lt_words = c.requires.band_has_row in
     omega (arith, band_lt_words) in
     let are_row_bytes =
     subst (λ (x : ℕ). AreRowBytes rows x bits w c.args.at c.row_bytes-bytes.result)
@@ -53,7 +53,7 @@ pub returns : goal.returns
 returns c =
     let end_is = c.min-j-end.ensures in
     let end_le_j = c.loop-j-test.false in
-    let band_lt_words = c.requires.band in
+    let band_lt_words = c.requires.band_has_row in
     let w_lt_words : c.args.w < words_for c.args.rows = omega (arith, band_lt_words) in
     zero_words_are_written c.args.rows c.args.columns c.args.bits.now c.loop-j.transposed c.args.w
     c.loop-j.j
@@ -66,7 +66,7 @@ pub bounds-transposed-j : goal.bounds-transposed-j
 bounds-transposed-j c =
     let j_lt_end = c.loop-j-test.true in
     let end_is = c.min-j-end.ensures in
-    let band_lt_words = c.requires.band in
+    let band_lt_words = c.requires.band_has_row in
     let j_lt_columns : c.loop-j.j < c.args.columns = omega (arith, j_lt_end, end_is) in
     let w_lt_words : c.args.w < words_for c.args.rows = omega (arith, band_lt_words) in
     let word_lt_length =
@@ -79,7 +79,7 @@ pub offset_bounds-transposed-j : goal.offset_bounds-transposed-j
 offset_bounds-transposed-j c =
     let j_lt_end = c.loop-j-test.true in
     let end_is = c.min-j-end.ensures in
-    let band_lt_words = c.requires.band in
+    let band_lt_words = c.requires.band_has_row in
     let j_lt_columns : c.loop-j.j < c.args.columns = omega (arith, j_lt_end, end_is) in
     let w_lt_words : c.args.w < words_for c.args.rows = omega (arith, band_lt_words) in
     let word_lt_length =
@@ -92,7 +92,7 @@ pub overflow_add-transposed : goal.overflow_add-transposed
 overflow_add-transposed c =
     let j_lt_end = c.loop-j-test.true in
     let end_is = c.min-j-end.ensures in
-    let band_lt_words = c.requires.band in
+    let band_lt_words = c.requires.band_has_row in
     let j_lt_columns : c.loop-j.j < c.args.columns = omega (arith, j_lt_end, end_is) in
     let w_lt_words : c.args.w < words_for c.args.rows = omega (arith, band_lt_words) in
     let word_lt_length =
@@ -105,7 +105,7 @@ pub overflow_mul-transposed : goal.overflow_mul-transposed
 overflow_mul-transposed c =
     let j_lt_end = c.loop-j-test.true in
     let end_is = c.min-j-end.ensures in
-    let band_lt_words = c.requires.band in
+    let band_lt_words = c.requires.band_has_row in
     let j_lt_columns : c.loop-j.j < c.args.columns = omega (arith, j_lt_end, end_is) in
     let w_lt_words : c.args.w < words_for c.args.rows = omega (arith, band_lt_words) in
     let word_lt_length =
@@ -116,15 +116,14 @@ overflow_mul-transposed c =
 
 pub row_bytes-bytes-requires-clause-few_words : goal.row_bytes-bytes-requires-clause-few_words
 row_bytes-bytes-requires-clause-few_words c =
-    let columns_lt_2_31 = c.requires.table.few_columns in let width_is = c.div_ceil.ensures in
+    let columns_lt_2_31 = c.requires.is_table.few_columns in let width_is = c.div_ceil.ensures in
     omega (arith, columns_lt_2_31, width_is)
 
-pub row_bytes-bytes-requires-clause-size : goal.row_bytes-bytes-requires-clause-size
-row_bytes-bytes-requires-clause-size c =
-    c.requires.table.size ∙ ap (λ n. c.args.rows * n) (sym c.div_ceil.ensures)
+pub row_bytes-bytes-requires-clause-size_is : goal.row_bytes-bytes-requires-clause-size_is
+row_bytes-bytes-requires-clause-size_is c =
+    c.requires.is_table.size ∙ ap (λ n. c.args.rows * n) (sym c.div_ceil.ensures)
 
-pub row_bytes-bytes-requires-clause-at_lt_row_bytes :
-    goal.row_bytes-bytes-requires-clause-at_lt_row_bytes
-row_bytes-bytes-requires-clause-at_lt_row_bytes c =
-    let columns_fit_row = c.requires.at_lt_row_bytes in let width_is = c.div_ceil.ensures in
+pub row_bytes-bytes-requires-clause-byte_lt_row : goal.row_bytes-bytes-requires-clause-byte_lt_row
+row_bytes-bytes-requires-clause-byte_lt_row c =
+    let columns_fit_row = c.requires.byte_lt_row in let width_is = c.div_ceil.ensures in
     omega (arith, columns_fit_row, width_is)

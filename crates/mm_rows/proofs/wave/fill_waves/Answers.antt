@@ -6,8 +6,8 @@ use Rattle.mm_rows.proofs.WaveLaw.{wave_rows_can_be_filled, filled_with_wave, al
 use Rattle.mm_rows.proofs.WaveLaw.{range_has_length, range_element_is}
 use Rattle.mm_rows.proofs.wave.fill_waves.Goals as goal
 
-pub fill_wave-requires-clause-ready : goal.fill_wave-requires-clause-ready
-fill_wave-requires-clause-ready g c κs k_lt_part = λ k d k_lt_part_length.
+pub fill_wave-requires-clause-have_cited_rows : goal.fill_wave-requires-clause-have_cited_rows
+fill_wave-requires-clause-have_cited_rows g c κs k_lt_part = λ k d k_lt_part_length.
     let rows = c.in_ok-rows.rows.items in
     let waves = c.args.waves.now in
     let from = c.loop-from.from in
@@ -33,8 +33,8 @@ fill_wave-requires-clause-ready g c κs k_lt_part = λ k d k_lt_part_length.
     let row_can_be_filled =
     wave_rows_can_be_filled c.args.citations.now c.args.columns.now waves rows from to
     c.loop-from.bits
-    c.requires.waves c.in_ok-rows.ensures c.loop-from.invariant (omega arith) to_le_rows one_wave
-    (from + k)
+    c.requires.are_waves c.in_ok-rows.ensures c.loop-from.invariant (omega arith) to_le_rows
+    one_wave (from + k)
     (omega arith) (omega (arith, k_lt_wave)) in
     subst (λ (i : ℕ). (i < length c.args.citations.now.theorems)
     × HasCitedRows c.args.citations.now c.args.columns.now c.loop-from.bits i) (sym part_row_is)
@@ -60,5 +60,5 @@ pub returns : goal.returns
 returns g c =
     all_rows_are_filled c.args.citations.now c.args.columns.now c.args.waves.now
     c.in_ok-rows.rows.items
-    c.loop-from.bits c.loop-from.from c.requires.waves c.in_ok-rows.ensures c.loop-from.invariant
-    (omega arith)
+    c.loop-from.bits c.loop-from.from c.requires.are_waves c.in_ok-rows.ensures
+    c.loop-from.invariant (omega arith)
