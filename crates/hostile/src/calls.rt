@@ -49,9 +49,10 @@ pub(crate) fn checked<A: Allocator + Copy>(
     theorem: u32,
     steps: &Steps<A>,
 ) -> Result<Checked<A>, CheckRefused>
-    requires theorem { IsTrue (is_theorem_at database.now.statements theorem) }
-    requires steps { steps.now ≡ theorem_steps theorem (steps_at database.now.statements theorem) }
-    requires sound { reading_faults_at database.now.statements theorem ≡ [] }
+    requires is_theorem { IsTrue (is_theorem_at database.now.statements theorem) }
+    requires steps_are_read { steps.now ≡ theorem_steps theorem (steps_at database.now.statements
+        theorem) }
+    requires no_reading_faults { reading_faults_at database.now.statements theorem ≡ [] }
 {
     check(alloc, database, theorem, steps, BY_ALL_NODES)
 }
@@ -65,9 +66,10 @@ pub(crate) fn checked_by<A: Allocator + Copy>(
     steps: &Steps<A>,
 ) -> Result<Checked<A>, CheckRefused>
     requires made_for { IsMadeFor database.now.statements checker.old }
-    requires theorem { IsTrue (is_theorem_at database.now.statements theorem) }
-    requires steps { steps.now ≡ theorem_steps theorem (steps_at database.now.statements theorem) }
-    requires sound { reading_faults_at database.now.statements theorem ≡ [] }
+    requires is_theorem { IsTrue (is_theorem_at database.now.statements theorem) }
+    requires steps_are_read { steps.now ≡ theorem_steps theorem (steps_at database.now.statements
+        theorem) }
+    requires no_reading_faults { reading_faults_at database.now.statements theorem ≡ [] }
     ensures made_for { IsMadeFor database.now.statements checker.new }
 {
     checker.check(alloc, database, theorem, steps, BY_ALL_NODES)

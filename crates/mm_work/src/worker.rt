@@ -96,7 +96,7 @@ fn check_theorem<A: Allocator + Copy>(
     findings: &mut Findings<A>,
     index: u32,
 ) -> bool
-    requires index { index < length (theorems job.now.database.now.statements) }
+    requires index_lt_count { index < length (theorems job.now.database.now.statements) }
     requires made_for { IsMadeFor job.now.database.now.statements checker.old }
     ensures made_for { IsMadeFor job.now.database.now.statements checker.new }
     ensures memory_lasted { findings.new.short_of_memory ≡ false
@@ -156,7 +156,7 @@ pub(crate) fn work<A: Allocator + Copy, G: Gate>(
     seat: Seat,
     worker: u32,
 ) -> WorkerState<A>
-    requires job { IsOfDatabase job.now }
+    requires is_of_database { IsOfDatabase job.now }
     requires seat_is_fresh { IsFreshSeat job.now.board.now seat }
     ensures { IsDone job.now result }
 {

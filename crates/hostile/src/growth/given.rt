@@ -27,8 +27,8 @@ fn lexed_in<'h, R: Threads + Sync>(
     heap: &'h Refusing<&'h LocalHeap>,
     text: &[u8],
 ) -> Result<Lexed<&'h Refusing<&'h LocalHeap>>, AllocError>
-    ensures tokens { IfOk result (λ lexed. lexed.tokens.items ≡ tokens_of text.now) }
-    ensures fault { IfOk result (λ lexed. lexed.fault ≡ lexical_fault text.now) }
+    ensures tokens_are { IfOk result (λ lexed. lexed.tokens.items ≡ tokens_of text.now) }
+    ensures fault_is { IfOk result (λ lexed. lexed.fault ≡ lexical_fault text.now) }
 {
     if text.len() > TEXT_LIMIT {
         return Err(AllocError);

@@ -182,9 +182,10 @@ fn checked_in_turn<'h, R: Abort>(
     theorem: u32,
     steps: &Steps<&'h Refusing<Global>>,
 ) -> bool
-    requires theorem { IsTrue (is_theorem_at database.now.statements theorem) }
-    requires steps { steps.now ≡ theorem_steps theorem (steps_at database.now.statements theorem) }
-    requires sound { reading_faults_at database.now.statements theorem ≡ [] }
+    requires is_theorem { IsTrue (is_theorem_at database.now.statements theorem) }
+    requires steps_are_read { steps.now ≡ theorem_steps theorem (steps_at database.now.statements
+        theorem) }
+    requires no_reading_faults { reading_faults_at database.now.statements theorem ≡ [] }
 {
     for number in 1..MOST_GROWTHS {
         heap.refuse(number);
@@ -211,9 +212,10 @@ fn checker_refused<'h, R: Abort>(
     steps: &Steps<&'h Refusing<Global>>,
     number: u64,
 ) -> Option<bool>
-    requires theorem { IsTrue (is_theorem_at database.now.statements theorem) }
-    requires steps { steps.now ≡ theorem_steps theorem (steps_at database.now.statements theorem) }
-    requires sound { reading_faults_at database.now.statements theorem ≡ [] }
+    requires is_theorem { IsTrue (is_theorem_at database.now.statements theorem) }
+    requires steps_are_read { steps.now ≡ theorem_steps theorem (steps_at database.now.statements
+        theorem) }
+    requires no_reading_faults { reading_faults_at database.now.statements theorem ≡ [] }
 {
     let rules = Rules::none(heap);
     let Ok(mut checker) = Checker::new(heap, database, &rules) else {
@@ -235,9 +237,10 @@ fn checkers_in_turn<'h, R: Abort>(
     theorem: u32,
     steps: &Steps<&'h Refusing<Global>>,
 ) -> bool
-    requires theorem { IsTrue (is_theorem_at database.now.statements theorem) }
-    requires steps { steps.now ≡ theorem_steps theorem (steps_at database.now.statements theorem) }
-    requires sound { reading_faults_at database.now.statements theorem ≡ [] }
+    requires is_theorem { IsTrue (is_theorem_at database.now.statements theorem) }
+    requires steps_are_read { steps.now ≡ theorem_steps theorem (steps_at database.now.statements
+        theorem) }
+    requires no_reading_faults { reading_faults_at database.now.statements theorem ≡ [] }
 {
     for number in 1..MOST_GROWTHS {
         match checker_refused(rt, heap, database, theorem, steps, number) {

@@ -15,7 +15,7 @@ write_output-requires-then-with_citations g c =
       judged =
           subst
           (λ (r : Request). IsJudgedText c.args.text.now r.essential r.with_open
-          c.args.judged.now) (sym c.citing.ensures) c.requires.judged;
+          c.args.judged.now) (sym c.citing.ensures) c.requires.is_judged;
     }
 
 pub returns : goal.returns
