@@ -23,7 +23,7 @@ pub filtered_range_is_statement_list : (p : ℕ → Bool) (n : ℕ) → n < 2 ^ 
     → IsStatementList (filter p (range_with_len 0 n))
 filtered_range_is_statement_list p n n_lt_2_31 =
     record {
-      few = let selection_le_n = selection_no_longer p n 0 in
+      count_lt_2_31 = let selection_le_n = selection_no_longer p n 0 in
           omega (arith, selection_le_n, n_lt_2_31);
       rises = λ i j i_lt_j j_lt_length. selection_rises p n 0 i j i_lt_j j_lt_length;
     }

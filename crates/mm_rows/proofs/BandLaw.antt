@@ -260,7 +260,7 @@ next_word_is_written rows columns bits transposed w j word w_lt_words j_lt_colum
     word_is_column_word
     written_before =
     record {
-      size = length-set transposed place_of_word word ∙ written_before.size;
+      size_is = length-set transposed place_of_word word ∙ written_before.size_is;
       earlier_bands =
           λ l v l_lt_columns v_lt_w v_lt_words. subst
           (IsColumnWord rows (words_for columns) bits v l)
@@ -299,7 +299,7 @@ next_word_is_written rows columns bits transposed w j word w_lt_words j_lt_colum
         (sym (get_or-set_same transposed place_of_word word 0
         (word_place_lt_length columns (words_for rows) j w (length transposed) j_lt_columns
         w_lt_words
-        written_before.size))) word_is_column_word)
+        written_before.size_is))) word_is_column_word)
     word_of_column l l_lt_columns l_lt_next (inr l_is_not_j) =
         subst (IsColumnWord rows (words_for columns) bits w l)
         (sym (other_words_are_kept l w w_lt_words (λ l_is_j v_is_w. l_is_not_j l_is_j)))
@@ -316,7 +316,7 @@ pub zero_words_are_written : (rows columns : ℕ) (bits transposed : List ℕ) (
 zero_words_are_written rows columns bits transposed w from to w_lt_words none_is_marked from_le_to
     written_before =
     record {
-      size = written_before.size;
+      size_is = written_before.size_is;
       earlier_bands = written_before.earlier_bands;
       written_below =
           λ j j_lt_columns j_lt_to. word_of_column j j_lt_columns j_lt_to (cases_lt j from);
@@ -380,7 +380,7 @@ pub next_band_is_begun : (rows columns : ℕ) (bits transposed : List ℕ) (w fr
     → ColumnsWritten rows columns bits transposed w from
     → ColumnsWritten rows columns bits transposed (w + 1) 0
 next_band_is_begun rows columns bits transposed w from columns_le_from written_before = record {
-  size = written_before.size;
+  size_is = written_before.size_is;
   earlier_bands =
       λ j v j_lt_columns v_lt_next v_lt_words. word_of_band j v j_lt_columns v_lt_next v_lt_words
       (cases_eq v w);
@@ -408,7 +408,7 @@ pub all_bands_are_transposed : (rows columns : ℕ) (bits transposed : List ℕ)
     → words_for rows ≤ w
     → ColumnsWritten rows columns bits transposed w 0 → AreTransposed rows columns bits transposed
 all_bands_are_transposed rows columns bits transposed w words_le_w all_written = record {
-  size = all_written.size;
+  size_is = all_written.size_is;
   bits_are_transposed = λ i j i_in_range j_in_range. bit_is_of_row i j (omega arith) j_in_range
       ∙ bit_in_rows_is_bit rows (words_for columns) bits i j i_in_range;
   none_past_rows =

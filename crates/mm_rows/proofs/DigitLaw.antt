@@ -285,7 +285,7 @@ module _ (m : Marks) (rows columns : ℕ) (words : List ℕ)
   part_has_width i part i_lt_marks part_is_row =
       let i_lt_rows = subst (λ (x : Marks). i < x.rows) marks_are i_lt_marks in
       ap length part_is_row ∙ row_has_width_words words (words_for columns) i rows i_lt_rows
-      is_table.size
+      is_table.size_is
 
   -- the digits that were written from word `word` of a row on are those of its columns
   pub written_are_row_digits : (i word : ℕ) (part into into_before : List ℕ) → i < m.rows

@@ -21,16 +21,16 @@ lower_row_ends_before width i r r_lt_i =
     omega (arith, products_ordered, product_of_sum)
 
 -- the rows that a theorem needs stand before its own
-pub cited_rows_stand_before : (c : Citing) (columns bits before rest : List ℕ) (i : ℕ)
+pub cited_rows_stand_before : (c : Citing) (axioms bits before rest : List ℕ) (i : ℕ)
     → IsFileOrder c
-    → i < length c.theorems → before ++ rest ≡ bits → length before ≡ i * words_for (length columns)
-    → HasCitedRows c columns bits i → HasCitedRows c columns before i
-cited_rows_stand_before c columns bits before rest i is_file_order i_lt_theorems parts_are_bits
+    → i < length c.theorems → before ++ rest ≡ bits → length before ≡ i * words_for (length axioms)
+    → HasCitedRows c axioms bits i → HasCitedRows c axioms before i
+cited_rows_stand_before c axioms bits before rest i is_file_order i_lt_theorems parts_are_bits
     before_has_length cited_rows_are_known = λ r k r_lt_theorems listed theorem_is_cited.
-    let width = words_for (length columns) in
+    let width = words_for (length axioms) in
     let row_end_le_before = lower_row_ends_before width i r
     (earlier_row c i r k is_file_order i_lt_theorems listed r_lt_theorems theorem_is_cited) in
-    subst (IsBitRow c columns _)
+    subst (IsBitRow c axioms _)
     (ap (λ xs. row_at xs width r) (sym parts_are_bits)
     ∙ row_of_longer_is_kept before rest width r
     (omega (arith, row_end_le_before, before_has_length)))

@@ -22,7 +22,7 @@ AreRowBytes rows across bits w at bytes =
 -- columns that are being written: the bands below w are written, and band w is written in the
 -- columns below `from`; all else is zero
 pub record ColumnsWritten (rows columns : ℕ) (bits transposed : List ℕ) (w from : ℕ) : Type 0 where
-  pub size : length transposed ≡ columns * words_for rows
+  pub size_is : length transposed ≡ columns * words_for rows
   pub earlier_bands : (j v : ℕ) → j < columns → v < w → v < words_for rows
       → IsColumnWord rows (words_for columns) bits v j
       (slice_index transposed (j * words_for rows + v))

@@ -16,8 +16,8 @@ use std::simd::prelude::*;
 /// There are at most 2 ^ 26 words in a row, so that its bits have numbers of 32 bits.
 fn mark_columns(has_mark: &mut [u64], bits: &[u64], rows: usize, w: usize)
     requires size_is { length bits.now ≡ rows * length has_mark.old }
-    requires few_rows { rows < 2 ^ 31 }
-    requires few_words { length has_mark.old ≤ 2 ^ 26 }
+    requires rows_lt_2_31 { rows < 2 ^ 31 }
+    requires words_le_2_26 { length has_mark.old ≤ 2 ^ 26 }
     requires band_has_row { 64 * w < rows }
     ensures { (k j : ℕ) → k < 64 → j < 64 * length has_mark.old
         → bit_in_rows rows (length has_mark.old) bits.now (64 * w + k) j ≡ true
@@ -33,8 +33,8 @@ fn mark_columns(has_mark: &mut [u64], bits: &[u64], rows: usize, w: usize)
 /// Returns byte `at` of each row of band w, and zeros past the last row.
 fn row_bytes(bits: &[u64], across: usize, rows: usize, w: usize, at: usize) -> [u8; 64]
     requires size_is { length bits.now ≡ rows * across }
-    requires few_rows { rows < 2 ^ 31 }
-    requires few_words { across ≤ 2 ^ 26 }
+    requires rows_lt_2_31 { rows < 2 ^ 31 }
+    requires words_le_2_26 { across ≤ 2 ^ 26 }
     requires band_has_row { 64 * w < rows }
     requires byte_lt_row { at < 8 * across }
     ensures { AreRowBytes rows across bits.now w at result }

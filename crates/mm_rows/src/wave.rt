@@ -128,18 +128,18 @@ fn bit_rows<R: Threads + Sync, A: Allocator + Copy + Send + Sync>(
     alloc: A,
     citations: &Citations<A>,
     theorems: &StatementIndices<A>,
-    columns: &StatementIndices<A>,
+    axioms: &StatementIndices<A>,
     bits: &[u64],
     rows: &[u32],
 ) -> Result<Vec<Result<Vec<u64, A>, AllocError>, A>, AllocError>
     requires theorems_are { theorems.now ≡ citations.now.theorems }
     requires have_cited_rows { All
         (λ i. (i < length citations.now.theorems)
-        × HasCitedRows citations.now columns.now bits.now i) rows.now }
+        × HasCitedRows citations.now axioms.now bits.now i) rows.now }
     ensures { IfOk result
         (λ v. AllZip
         (λ k r. IfOk r
-        (λ w. IsBitRow citations.now columns.now
+        (λ w. IsBitRow citations.now axioms.now
         (theorem_at citations.now (slice_index rows.now k)) w.items))
         (range_with_len 0 (length rows.now)) v.items) }
 {
@@ -151,11 +151,11 @@ fn bit_rows<R: Threads + Sync, A: Allocator + Copy + Send + Sync>(
                 requires theorems_are { theorems.now ≡ citations.now.theorems }
                 requires have_cited_rows { All
                     (λ i. (i < length citations.now.theorems)
-                    × HasCitedRows citations.now columns.now bits.now i) rows.now }
+                    × HasCitedRows citations.now axioms.now bits.now i) rows.now }
                 ensures { IfOk result
-                    (λ w. IsBitRow citations.entry.now columns.entry.now
+                    (λ w. IsBitRow citations.entry.now axioms.entry.now
                     (theorem_at citations.entry.now (slice_index rows.entry.now k)) w.items) }
-            { bit_row(alloc, citations, theorems, columns, bits, rows[k]) },
+            { bit_row(alloc, citations, theorems, axioms, bits, rows[k]) },
         )
         .with_min_len(1)
         .collect(rt, alloc)
@@ -167,21 +167,21 @@ fn fill_side_by_side<R: Threads + Sync, A: Allocator + Copy + Send + Sync>(
     alloc: A,
     citations: &Citations<A>,
     theorems: &StatementIndices<A>,
-    columns: &StatementIndices<A>,
+    axioms: &StatementIndices<A>,
     rows: &[u32],
     bits: &mut [u64],
 ) -> Result<(), AllocError>
     requires theorems_are { theorems.now ≡ citations.now.theorems }
     requires size_is { length bits.old
-        ≡ length citations.now.theorems * words_for (length columns.now) }
+        ≡ length citations.now.theorems * words_for (length axioms.now) }
     requires have_cited_rows { All
         (λ i. (i < length citations.now.theorems)
-        × HasCitedRows citations.now columns.now bits.old i) rows.now }
+        × HasCitedRows citations.now axioms.now bits.old i) rows.now }
     ensures { OnOk result
-        (AreFilled citations.now columns.now rows.now (length rows.now) bits.old bits.new) }
+        (AreFilled citations.now axioms.now rows.now (length rows.now) bits.old bits.new) }
 {
-    let width = columns.words();
-    let new_rows = bit_rows(rt, alloc, citations, theorems, columns, bits, rows)?;
+    let width = axioms.words();
+    let new_rows = bit_rows(rt, alloc, citations, theorems, axioms, bits, rows)?;
     for k in 0..rows.len() {
         match &new_rows[k] {
             Ok(row) => store(bits, width, rows[k], row),
@@ -195,20 +195,20 @@ fn fill_side_by_side<R: Threads + Sync, A: Allocator + Copy + Send + Sync>(
 fn fill_in_turn<A: Allocator>(
     citations: &Citations<A>,
     theorems: &StatementIndices<A>,
-    columns: &StatementIndices<A>,
+    axioms: &StatementIndices<A>,
     rows: &[u32],
     bits: &mut [u64],
 )
     requires theorems_are { theorems.now ≡ citations.now.theorems }
     requires size_is { length bits.old
-        ≡ length citations.now.theorems * words_for (length columns.now) }
+        ≡ length citations.now.theorems * words_for (length axioms.now) }
     requires have_cited_rows { All
         (λ i. (i < length citations.now.theorems)
-        × HasCitedRows citations.now columns.now bits.old i) rows.now }
-    ensures { AreFilled citations.now columns.now rows.now (length rows.now) bits.old bits.new }
+        × HasCitedRows citations.now axioms.now bits.old i) rows.now }
+    ensures { AreFilled citations.now axioms.now rows.now (length rows.now) bits.old bits.new }
 {
     for k in 0..rows.len() {
-        fill_in_place(citations, theorems, columns, rows[k], bits);
+        fill_in_place(citations, theorems, axioms, rows[k], bits);
     }
 }
 
@@ -221,24 +221,24 @@ fn fill_wave<R: Threads + Sync, A: Allocator + Copy + Send + Sync>(
     alloc: A,
     citations: &Citations<A>,
     theorems: &StatementIndices<A>,
-    columns: &StatementIndices<A>,
+    axioms: &StatementIndices<A>,
     rows: &[u32],
     bits: &mut [u64],
 ) -> Result<(), AllocError>
     requires theorems_are { theorems.now ≡ citations.now.theorems }
     requires size_is { length bits.old
-        ≡ length citations.now.theorems * words_for (length columns.now) }
+        ≡ length citations.now.theorems * words_for (length axioms.now) }
     requires have_cited_rows { All
         (λ i. (i < length citations.now.theorems)
-        × HasCitedRows citations.now columns.now bits.old i) rows.now }
+        × HasCitedRows citations.now axioms.now bits.old i) rows.now }
     ensures { OnOk result
-        (AreFilled citations.now columns.now rows.now (length rows.now) bits.old bits.new) }
+        (AreFilled citations.now axioms.now rows.now (length rows.now) bits.old bits.new) }
 {
     if rows.len() < FEWEST_FOR_THREADS {
-        fill_in_turn(citations, theorems, columns, rows, bits);
+        fill_in_turn(citations, theorems, axioms, rows, bits);
         Ok(())
     } else {
-        fill_side_by_side(rt, alloc, citations, theorems, columns, rows, bits)
+        fill_side_by_side(rt, alloc, citations, theorems, axioms, rows, bits)
     }
 }
 
@@ -248,7 +248,7 @@ fn fill_waves<R: Threads + Sync, A: Allocator + Copy + Send + Sync>(
     alloc: A,
     citations: &Citations<A>,
     theorems: &StatementIndices<A>,
-    columns: &StatementIndices<A>,
+    axioms: &StatementIndices<A>,
     waves: &[u32],
     bits: &mut [u64],
 ) -> Result<(), AllocError>
@@ -256,9 +256,9 @@ fn fill_waves<R: Threads + Sync, A: Allocator + Copy + Send + Sync>(
     requires waves_lt_2_31 { length waves.now < 2 ^ 31 }
     requires are_waves { AreWaves citations.now (length citations.now.theorems) waves.now }
     requires size_is { length bits.old
-        ≡ length citations.now.theorems * words_for (length columns.now) }
+        ≡ length citations.now.theorems * words_for (length axioms.now) }
     ensures { OnOk result
-        (AreBitRows citations.now columns.now (length citations.now.theorems) bits.new) }
+        (AreBitRows citations.now axioms.now (length citations.now.theorems) bits.new) }
 {
     let rows = rows_by_wave(alloc, waves)?;
     let mut from = 0;
@@ -269,7 +269,7 @@ fn fill_waves<R: Threads + Sync, A: Allocator + Copy + Send + Sync>(
             alloc,
             citations,
             theorems,
-            columns,
+            axioms,
             &rows[from..to],
             bits,
         )?;
@@ -283,18 +283,18 @@ fn all_rows<R: Threads + Sync, A: Allocator + Copy + Send + Sync>(
     rt: &R,
     alloc: A,
     citations: &Citations<A>,
-    columns: &[u32],
+    axioms: &[u32],
 ) -> Result<Vec<u64, A>, AllocError>
-    requires { IsStatementList columns.now }
+    requires { IsStatementList axioms.now }
     ensures { IfOk result
-        (λ v. AreBitRows citations.now columns.now (length citations.now.theorems) v.items) }
+        (λ v. AreBitRows citations.now axioms.now (length citations.now.theorems) v.items) }
 {
     let theorems = StatementIndices::new(alloc, citations.theorems())?;
-    let columns = StatementIndices::new(alloc, columns)?;
+    let axioms = StatementIndices::new(alloc, axioms)?;
     let waves = waves_of(alloc, citations, &theorems)?;
     let mut bits = Vec::new(alloc);
-    bits.resize(citations.rows() as usize * columns.words(), 0u64)?;
-    fill_waves(rt, alloc, citations, &theorems, &columns, &waves, &mut bits)?;
+    bits.resize(citations.rows() as usize * axioms.words(), 0u64)?;
+    fill_waves(rt, alloc, citations, &theorems, &axioms, &waves, &mut bits)?;
     Ok(bits)
 }
 

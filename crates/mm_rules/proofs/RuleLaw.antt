@@ -325,7 +325,7 @@ module _ (db : List Statement) (a : ℕ) (is_assertion : is_assertion_at db a �
 pub short_indices_set : (indices : List ℕ) (symbol index : ℕ) → index < 2 ^ 31
     → AreShortIndices indices → AreShortIndices (slice_set indices symbol index)
 short_indices_set indices symbol index index_is_short indices_are_short = record {
-  few = omega (arith, indices_are_short.few, length-set indices symbol index);
+  count_lt_2_31 = omega (arith, indices_are_short.count_lt_2_31, length-set indices symbol index);
   each_is_short =
       All-set (λ n. n < 2 ^ 31) indices symbol index index_is_short
       indices_are_short.each_is_short;

@@ -22,7 +22,7 @@ AreFloatingIndices db hs indices =
 
 -- 31 bits are enough for each of the indices, and for how many there are
 pub record AreShortIndices (indices : List ℕ) : Type 0 where
-  pub few : length indices < 2 ^ 31
+  pub count_lt_2_31 : length indices < 2 ^ 31
   pub each_is_short : All (λ n. n < 2 ^ 31) indices
 
 -- each variable of the formula has a `$f`

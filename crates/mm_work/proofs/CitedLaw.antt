@@ -116,9 +116,9 @@ module _ (db : List Statement) (length_lt_limit : length db < 2 ^ 31) (are_compl
 
       pub is_file_order : IsFileOrder c
       is_file_order = record {
-        rising = theorems_rise;
-        each = have_citations.list_count_is;
-        earlier =
+        theorems_rise = theorems_rise;
+        each_has_list = have_citations.list_count_is;
+        cited_are_earlier =
             λ i k i_lt_count k_lt_length. cited_lt_theorem db by_essential
             (get_or (theorems db) i 0) _
             (((have_citations.each_has_citations i i_lt_count).is_checked.cites_are_exact (get_or
@@ -138,11 +138,11 @@ module _ (db : List Statement) (length_lt_limit : length db < 2 ^ 31) (are_compl
           cites_if_has_citation t a has_citation =
               let l = get_or lists has_citation.row [] in
               let b = get_or l has_citation.list_index 0 in
-              subst (λ y. proof.Cites db by_essential t y) has_citation.cited
-              (subst (λ y. proof.Cites db by_essential y b) has_citation.theorem
+              subst (λ y. proof.Cites db by_essential t y) has_citation.cited_is
+              (subst (λ y. proof.Cites db by_essential y b) has_citation.theorem_is
               (((have_citations.each_has_citations has_citation.row
-              has_citation.within).is_checked.cites_are_exact b).0
-              (element_is_member l has_citation.list_index 0 has_citation.listed)))
+              has_citation.row_lt_count).is_checked.cites_are_exact b).0
+              (element_is_member l has_citation.list_index 0 has_citation.index_lt_length)))
 
           has_citation_if_cites : (t a : ℕ) → proof.Cites db by_essential t a → HasCitation c t a
           has_citation_if_cites t a cites_a =
@@ -156,8 +156,8 @@ module _ (db : List Statement) (length_lt_limit : length db < 2 ^ 31) (are_compl
               record {
                 row = indexed.0;
                 list_index = member_index.0;
-                within = indexed.1;
-                listed = member_index.1;
-                theorem = indexed.2;
-                cited = member_index.2;
+                row_lt_count = indexed.1;
+                index_lt_length = member_index.1;
+                theorem_is = indexed.2;
+                cited_is = member_index.2;
               }

@@ -9,7 +9,7 @@ use Rattle.mm_rows.proofs.rows.fill_in_place.Goals as goal
 pub fill_row-requires-clause-has_cited_rows : goal.fill_row-requires-clause-has_cited_rows
 fill_row-requires-clause-has_cited_rows g c =
     let i = c.args.theorem_index in
-    cited_rows_stand_before c.args.citations.now c.args.columns.now c.args.bits.now
+    cited_rows_stand_before c.args.citations.now c.args.axioms.now c.args.bits.now
     c.split_at_mut-before.result.0.now c.split_at_mut-before.result.1.now i
     c.rows.ensures.is_file_order
     c.requires.index_lt_theorems (sym c.split_at_mut-before.ensures.value)
@@ -21,16 +21,16 @@ returns-clause-is_bit_row g c =
     let i = c.args.theorem_index in
     let front_has_length =
     c.split_at_mut-before.ensures.front_len ∙ ap (λ w. i * w) c.words-width.ensures in
-    subst (IsBitRow c.args.citations.now c.args.columns.now (theorem_at c.args.citations.now i))
+    subst (IsBitRow c.args.citations.now c.args.axioms.now (theorem_at c.args.citations.now i))
     (sym (written_row_is c.split_at_mut-before.result.0.now c.fill_row.new.row
     (drop c.words-width.result c.split_at_mut-before.result.1.now)
-    (words_for (length c.args.columns.now)) i front_has_length c.fill_row.ensures.has_words))
+    (words_for (length c.args.axioms.now)) i front_has_length c.fill_row.ensures.has_words))
     c.fill_row.ensures
 
 pub returns-clause-others_stay : goal.returns-clause-others_stay
 returns-clause-others_stay g c = λ r r_is_not_i.
     let i = c.args.theorem_index in
-    let width = words_for (length c.args.columns.now) in
+    let width = words_for (length c.args.axioms.now) in
     let before = c.split_at_mut-before.result.0.now in
     let rest = c.split_at_mut-before.result.1.now in
     let front_has_length =

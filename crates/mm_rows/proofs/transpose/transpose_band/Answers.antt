@@ -53,14 +53,14 @@ loop-j-preserved c = record {
       c.args.w n) (omega arith) c.write_columns.ensures;
 }
 
-pub mark_columns-requires-clause-few_words : goal.mark_columns-requires-clause-few_words
-mark_columns-requires-clause-few_words c =
-    let width_is = c.requires.width_is in let columns_lt_2_31 = c.requires.is_table.few_columns in
-    omega (arith, width_is, columns_lt_2_31)
+pub mark_columns-requires-clause-words_le_2_26 : goal.mark_columns-requires-clause-words_le_2_26
+mark_columns-requires-clause-words_le_2_26 c =
+    let width_is = c.requires.width_is in let columns_lt_2_31 = c.requires.is_table.columns_lt_2_31
+    in omega (arith, width_is, columns_lt_2_31)
 
 pub mark_columns-requires-clause-size_is : goal.mark_columns-requires-clause-size_is
 mark_columns-requires-clause-size_is c =
-    c.requires.is_table.size ∙ ap (λ n. c.args.rows * n) (sym c.requires.width_is)
+    c.requires.is_table.size_is ∙ ap (λ n. c.args.rows * n) (sym c.requires.width_is)
 
 pub write_columns-requires-clause-byte_lt_row : goal.write_columns-requires-clause-byte_lt_row
 write_columns-requires-clause-byte_lt_row c =

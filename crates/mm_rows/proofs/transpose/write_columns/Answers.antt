@@ -71,7 +71,7 @@ bounds-transposed-j c =
     let w_lt_words : c.args.w < words_for c.args.rows = omega (arith, band_lt_words) in
     let word_lt_length =
     row_word_lt_length c.args.columns (words_for c.args.rows) c.loop-j.j c.args.w
-    (length c.loop-j.transposed) c.loop-j.invariant.written.size j_lt_columns w_lt_words in
+    (length c.loop-j.transposed) c.loop-j.invariant.written.size_is j_lt_columns w_lt_words in
     let products_equal = ap (λ n. c.loop-j.j * n) c.div_ceil-down.ensures in
     omega (arith, word_lt_length, products_equal)
 
@@ -84,7 +84,7 @@ offset_bounds-transposed-j c =
     let w_lt_words : c.args.w < words_for c.args.rows = omega (arith, band_lt_words) in
     let word_lt_length =
     row_word_lt_length c.args.columns (words_for c.args.rows) c.loop-j.j c.args.w
-    (length c.loop-j.transposed) c.loop-j.invariant.written.size j_lt_columns w_lt_words in
+    (length c.loop-j.transposed) c.loop-j.invariant.written.size_is j_lt_columns w_lt_words in
     let products_equal = ap (λ n. c.loop-j.j * n) c.div_ceil-down.ensures in
     omega (arith, word_lt_length, products_equal)
 
@@ -97,7 +97,7 @@ overflow_add-transposed c =
     let w_lt_words : c.args.w < words_for c.args.rows = omega (arith, band_lt_words) in
     let word_lt_length =
     row_word_lt_length c.args.columns (words_for c.args.rows) c.loop-j.j c.args.w
-    (length c.loop-j.transposed) c.loop-j.invariant.written.size j_lt_columns w_lt_words in
+    (length c.loop-j.transposed) c.loop-j.invariant.written.size_is j_lt_columns w_lt_words in
     let products_equal = ap (λ n. c.loop-j.j * n) c.div_ceil-down.ensures in
     omega (arith, word_lt_length, products_equal)
 
@@ -110,18 +110,19 @@ overflow_mul-transposed c =
     let w_lt_words : c.args.w < words_for c.args.rows = omega (arith, band_lt_words) in
     let word_lt_length =
     row_word_lt_length c.args.columns (words_for c.args.rows) c.loop-j.j c.args.w
-    (length c.loop-j.transposed) c.loop-j.invariant.written.size j_lt_columns w_lt_words in
+    (length c.loop-j.transposed) c.loop-j.invariant.written.size_is j_lt_columns w_lt_words in
     let products_equal = ap (λ n. c.loop-j.j * n) c.div_ceil-down.ensures in
     omega (arith, word_lt_length, products_equal)
 
-pub row_bytes-bytes-requires-clause-few_words : goal.row_bytes-bytes-requires-clause-few_words
-row_bytes-bytes-requires-clause-few_words c =
-    let columns_lt_2_31 = c.requires.is_table.few_columns in let width_is = c.div_ceil.ensures in
-    omega (arith, columns_lt_2_31, width_is)
+pub row_bytes-bytes-requires-clause-words_le_2_26 :
+    goal.row_bytes-bytes-requires-clause-words_le_2_26
+row_bytes-bytes-requires-clause-words_le_2_26 c =
+    let columns_lt_2_31 = c.requires.is_table.columns_lt_2_31 in let width_is = c.div_ceil.ensures
+    in omega (arith, columns_lt_2_31, width_is)
 
 pub row_bytes-bytes-requires-clause-size_is : goal.row_bytes-bytes-requires-clause-size_is
 row_bytes-bytes-requires-clause-size_is c =
-    c.requires.is_table.size ∙ ap (λ n. c.args.rows * n) (sym c.div_ceil.ensures)
+    c.requires.is_table.size_is ∙ ap (λ n. c.args.rows * n) (sym c.div_ceil.ensures)
 
 pub row_bytes-bytes-requires-clause-byte_lt_row : goal.row_bytes-bytes-requires-clause-byte_lt_row
 row_bytes-bytes-requires-clause-byte_lt_row c =

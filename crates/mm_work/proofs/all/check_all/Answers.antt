@@ -15,7 +15,7 @@ overflow_cast-count g c =
     let db = c.args.database.now.statements in
     let index_lt_limit =
     (filtered_range_is_statement_list (λ j. list_any is_theorem (statement_at db j))
-    (length db) c.theorems-count.ensures.few).few in
+    (length db) c.theorems-count.ensures.few).count_lt_2_31 in
     let counts_equal = ap (λ (ts : List ℕ). length ts) c.theorems-count.ensures.theorems in
     omega (arith, index_lt_limit, counts_equal)
 
